@@ -1,0 +1,2 @@
+pub mod HasImage
+pub mod Certificates

@@ -1,0 +1,137 @@
+-- What may be wrong with a file, and which of it is told.
+use Rattle.std.specs.Prelude.{ℕ, ◌+◌, ◌*◌, ◌%◌, ◌==◌, ◌&&◌, ◌||◌, not, nat_lt, nat_le, nat_eq, Bool, false, List, [], ◌∷◌, ◌++◌, length, bit_and, Option, find}
+use Rattle.std.specs.List.{list_any, sum_by, starts_with, slice_index}
+use Rattle.elf_image.specs.declared.error.ElfError.{ElfError}
+use Rattle.elf_image.specs.declared.error.ElfError.TheVariants.{TooShort, BadMagic, BadClass, BadType, BadMachine, BadFlags, BadHeaderTable, NotStatic, SegmentOutOfFile, SegmentOutOfPlace, SegmentsOverlap, WriteAndExecute, TooLarge, EntryNotCode, TwoCertificates, NoMemory}
+use Rattle.elf_image.specs.declared.header.ProgramHeader.{ProgramHeader}
+use Rattle.elf_image.specs.File.{certificates_of, e_type, e_machine, e_version, e_entry, e_phoff, e_flags, e_ehsize, e_phentsize, e_phnum, program_headers, segment_headers, is_load, is_note, is_executable, is_writable}
+
+-- fewer bytes than an ELF header has
+abbrev pub is_too_short : List ℕ → Bool
+is_too_short file = nat_lt (length file) 52
+
+-- e_ident doesn't begin with 7f, E, L, F
+unfoldable pub has_bad_magic : List ℕ → Bool
+has_bad_magic file = not (starts_with nat_eq file (0x7f ∷ 0x45 ∷ 0x4c ∷ 0x46 ∷ []))
+
+-- EI_CLASS isn't ELFCLASS32, EI_DATA isn't ELFDATA2LSB, or EI_VERSION isn't EV_CURRENT
+unfoldable pub has_bad_class : List ℕ → Bool
+has_bad_class file = not (slice_index file 4 == 1) || not (slice_index file 5 == 1) || not (slice_index file 6 == 1)
+
+-- e_type isn't ET_EXEC, or e_version isn't EV_CURRENT
+unfoldable pub has_bad_type : List ℕ → Bool
+has_bad_type file = not (e_type file == 2) || not (e_version file == 1)
+
+-- e_machine isn't EM_RISCV
+unfoldable pub has_bad_machine : List ℕ → Bool
+has_bad_machine file = not (e_machine file == 243)
+
+-- e_flags has a bit of EF_RISCV_RVC (1), EF_RISCV_FLOAT_ABI (6) or EF_RISCV_RVE (8)
+unfoldable pub has_bad_flags : List ℕ → Bool
+has_bad_flags file = not (bit_and (e_flags file) 0xf == 0)
+
+-- the sizes of the headers aren't the standard's for 32 bits, there is no program header or there are more
+-- than 64, or their table doesn't lie inside the file
+unfoldable pub has_bad_header_table : List ℕ → Bool
+has_bad_header_table file = not (e_ehsize file == 52) || not (e_phentsize file == 32)
+    || e_phnum file == 0 || nat_lt 64 (e_phnum file) || nat_lt (length file) (e_phoff file + 32 * e_phnum file)
+
+-- a program header of type PT_DYNAMIC, PT_INTERP or PT_TLS
+abbrev pub is_dynamic : ProgramHeader → Bool
+is_dynamic h = h.p_type == 2 || h.p_type == 3 || h.p_type == 7
+
+-- some program header is
+unfoldable pub is_not_static : List ProgramHeader → Bool
+is_not_static headers = list_any is_dynamic headers
+
+-- bytes of a loadable or note segment that are not in a file of this size, or more in the file than in
+-- memory
+abbrev pub is_out_of_file : ℕ → ProgramHeader → Bool
+is_out_of_file size h =
+    (is_load h || is_note h) && nat_lt 0 h.p_filesz && nat_lt size (h.p_offset + h.p_filesz)
+    || is_load h && nat_lt h.p_memsz h.p_filesz
+
+-- some program header has such bytes
+unfoldable pub has_out_of_file : ℕ → List ProgramHeader → Bool
+has_out_of_file size headers = list_any (is_out_of_file size) headers
+
+-- the bytes in memory lie from low on and below high
+abbrev pub is_between : ℕ → ℕ → ProgramHeader → Bool
+is_between low high h = nat_le low h.p_vaddr && nat_le (h.p_vaddr + h.p_memsz) high
+
+-- they lie neither in [0x1000, 0x2000_0000) nor in [0x8000_0000, 0xC000_0000)
+abbrev pub is_out_of_place : ProgramHeader → Bool
+is_out_of_place h = not (is_between 0x1000 0x2000_0000 h || is_between 0x8000_0000 0xC000_0000 h)
+
+unfoldable pub has_out_of_place : List ProgramHeader → Bool
+has_out_of_place segments = list_any is_out_of_place segments
+
+-- some address lies in both, of two segments that have bytes
+abbrev pub overlap : ProgramHeader → ProgramHeader → Bool
+overlap g h = nat_lt g.p_vaddr (h.p_vaddr + h.p_memsz) && nat_lt h.p_vaddr (g.p_vaddr + g.p_memsz)
+
+-- some two of them overlap
+unfoldable pub has_overlap : List ProgramHeader → Bool
+has_overlap [] = false
+has_overlap (h ∷ hs) = list_any (overlap h) hs || has_overlap hs
+
+-- a segment that may be written and executed
+abbrev pub is_write_and_execute : ProgramHeader → Bool
+is_write_and_execute h = is_writable h && is_executable h
+
+unfoldable pub has_write_and_execute : List ProgramHeader → Bool
+has_write_and_execute segments = list_any is_write_and_execute segments
+
+-- more than 4 MiB of file, 16 segments or 16 MiB of memory
+unfoldable pub is_too_large : ℕ → List ProgramHeader → Bool
+is_too_large size segments = nat_lt 0x40_0000 size || nat_lt 16 (length segments)
+    || nat_lt 0x100_0000 (sum_by (λ h. h.p_memsz) segments)
+
+-- the word at the address lies in a segment that may be executed
+abbrev pub has_word : ℕ → ProgramHeader → Bool
+has_word address h = is_executable h && nat_le h.p_vaddr address && nat_le (address + 4) (h.p_vaddr + h.p_memsz)
+
+-- the entry isn't a multiple of 4, or its word isn't in such a segment
+unfoldable pub is_not_code : ℕ → List ProgramHeader → Bool
+is_not_code entry segments = not (entry % 4 == 0) || not (list_any (has_word entry) segments)
+
+-- the note segments have more than one certificate
+unfoldable pub has_two_certificates : List ℕ → Bool
+has_two_certificates file = nat_lt 1 (length (certificates_of file))
+
+-- whether this is wrong with the file
+abbrev pub holds : ElfError → List ℕ → Bool
+holds TooShort file = is_too_short file
+holds BadMagic file = has_bad_magic file
+holds BadClass file = has_bad_class file
+holds BadType file = has_bad_type file
+holds BadMachine file = has_bad_machine file
+holds BadFlags file = has_bad_flags file
+holds BadHeaderTable file = has_bad_header_table file
+holds NotStatic file = is_not_static (program_headers file)
+holds SegmentOutOfFile file = has_out_of_file (length file) (program_headers file)
+holds SegmentOutOfPlace file = has_out_of_place (segment_headers file)
+holds SegmentsOverlap file = has_overlap (segment_headers file)
+holds WriteAndExecute file = has_write_and_execute (segment_headers file)
+holds TooLarge file = is_too_large (length file) (segment_headers file)
+holds EntryNotCode file = is_not_code (e_entry file) (segment_headers file)
+holds TwoCertificates file = has_two_certificates file
+holds NoMemory file = false
+
+-- the order in which they are told: those of the header, of the segments, of the notes
+abbrev pub header_faults : List ElfError
+header_faults = TooShort ∷ BadMagic ∷ BadClass ∷ BadType ∷ BadMachine ∷ BadFlags ∷ BadHeaderTable ∷ []
+
+abbrev pub segment_faults : List ElfError
+segment_faults = NotStatic ∷ SegmentOutOfFile ∷ SegmentOutOfPlace ∷ SegmentsOverlap ∷ WriteAndExecute ∷ TooLarge ∷ EntryNotCode ∷ []
+
+abbrev pub note_faults : List ElfError
+note_faults = TwoCertificates ∷ []
+
+-- the first of a list that is wrong with the file
+abbrev pub first_of : List ElfError → List ℕ → Option ElfError
+first_of faults file = find (λ e. holds e file) faults
+
+-- what a file is refused for, if anything is wrong with it
+unfoldable pub fault_of : List ℕ → Option ElfError
+fault_of file = first_of (header_faults ++ segment_faults ++ note_faults) file

@@ -1,0 +1,6 @@
+pub mod Words
+pub mod Notes
+pub mod Image
+pub mod File
+pub mod Faults
+pub use Rattle.byteorder.specs.Endian

@@ -1,0 +1,10 @@
+-- The little-endian numbers of which a file of the ELF standard is made.
+use Rattle.std.specs.Prelude.{ℕ, List, drop}
+use Rattle.byteorder.specs.Endian.{little_number}
+
+-- the number in the two bytes at an offset (Elf32_Half), and in the four (Elf32_Word)
+unfoldable pub half_at : ℕ → List ℕ → ℕ
+half_at offset file = little_number 2 (drop offset file)
+
+unfoldable pub word_at : ℕ → List ℕ → ℕ
+word_at offset file = little_number 4 (drop offset file)

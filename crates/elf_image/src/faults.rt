@@ -1,0 +1,273 @@
+//! What may be wrong with a file.
+
+ghost use Rattle.std.specs.Prelude.{◌≡◌, ◌≤◌, false, IfNone, length};
+ghost use Rattle.std.specs.List.{list_any};
+ghost use Rattle.elf_image.specs.File.{HasTable, program_headers, segment_headers};
+ghost use Rattle.elf_image.specs.Faults.{has_bad_class, has_bad_flags, has_bad_header_table, has_bad_machine, has_bad_magic, has_bad_type, has_out_of_file, has_out_of_place, has_overlap, has_write_and_execute, is_not_code, is_not_static, is_out_of_file, is_out_of_place, is_too_large, is_too_short, overlap, is_between, is_dynamic, is_write_and_execute, has_word, first_of, header_faults, segment_faults};
+
+use crate::error::ElfError;
+use crate::header;
+use crate::header::{HeaderTable, ProgramHeader, half_at, word_at};
+
+const MAGIC: [u8; 4] = [0x7f, b'E', b'L', b'F'];
+
+const ELFCLASS32: u8 = 1;
+
+const ELFDATA2LSB: u8 = 1;
+
+const EV_CURRENT: u8 = 1;
+
+const ET_EXEC: u16 = 2;
+
+const EM_RISCV: u16 = 243;
+/// EF_RISCV_RVC, EF_RISCV_FLOAT_ABI and EF_RISCV_RVE.
+const EXTENSION_FLAGS: u32 = 0xf;
+
+const ELF_HEADER_SIZE: usize = 52;
+
+const PROGRAM_HEADER_SIZE: u16 = 32;
+
+const MAX_PROGRAM_HEADERS: u16 = 64;
+
+const MAX_FILE_SIZE: usize = 4 << 20;
+
+const MAX_SEGMENTS: usize = 16;
+
+const MAX_MEMORY_SIZE: u64 = 16 << 20;
+
+fn is_too_short(file: &[u8]) -> bool
+    ensures { result ≡ is_too_short file.now }
+{
+    file.len() < ELF_HEADER_SIZE
+}
+
+#[tactic(auto, unfolding(crate::specs::Faults::has_bad_magic))]
+fn has_bad_magic(file: &[u8]) -> bool
+    ensures { result ≡ has_bad_magic file.now }
+{
+    !file.starts_with(&MAGIC)
+}
+
+#[tactic(auto, unfolding(crate::specs::Faults::has_bad_class))]
+fn has_bad_class(file: &[u8]) -> bool
+    requires { 52 ≤ length file.now }
+    ensures { result ≡ has_bad_class file.now }
+{
+    file[4] != ELFCLASS32 || file[5] != ELFDATA2LSB || file[6] != EV_CURRENT
+}
+
+#[tactic(auto, unfolding(crate::specs::Faults::has_bad_type))]
+fn has_bad_type(file: &[u8]) -> bool
+    requires { 52 ≤ length file.now }
+    ensures { result ≡ has_bad_type file.now }
+{
+    half_at(header::E_TYPE, file) != ET_EXEC
+        || word_at(header::E_VERSION, file) != u32::from(EV_CURRENT)
+}
+
+#[tactic(auto, unfolding(crate::specs::Faults::has_bad_machine))]
+fn has_bad_machine(file: &[u8]) -> bool
+    requires { 52 ≤ length file.now }
+    ensures { result ≡ has_bad_machine file.now }
+{
+    half_at(header::E_MACHINE, file) != EM_RISCV
+}
+
+#[tactic(auto, unfolding(crate::specs::Faults::has_bad_flags))]
+fn has_bad_flags(file: &[u8]) -> bool
+    requires { 52 ≤ length file.now }
+    ensures { result ≡ has_bad_flags file.now }
+{
+    word_at(header::E_FLAGS, file) & EXTENSION_FLAGS != 0
+}
+
+#[tactic(auto, unfolding(crate::specs::Faults::has_bad_header_table))]
+fn has_bad_header_table(file: &[u8]) -> bool
+    requires { 52 ≤ length file.now }
+    ensures value { result ≡ has_bad_header_table file.now }
+    ensures table { result ≡ false → HasTable file.now }
+{
+    let count = half_at(header::E_PHNUM, file);
+    let end = u64::from(word_at(header::E_PHOFF, file)) + 32 * u64::from(count);
+    half_at(header::E_EHSIZE, file) as usize != ELF_HEADER_SIZE
+        || half_at(header::E_PHENTSIZE, file) != PROGRAM_HEADER_SIZE
+        || count == 0
+        || count > MAX_PROGRAM_HEADERS
+        || (file.len() as u64) < end
+}
+
+/// The first fault of the ELF header.
+pub fn header_fault(file: &[u8]) -> Option<ElfError>
+    ensures value { result ≡ first_of header_faults file.now }
+    ensures table { IfNone result (HasTable file.now) }
+{
+    if is_too_short(file) {
+        return Some(ElfError::TooShort);
+    }
+    if has_bad_magic(file) {
+        return Some(ElfError::BadMagic);
+    }
+    if has_bad_class(file) {
+        return Some(ElfError::BadClass);
+    }
+    if has_bad_type(file) {
+        return Some(ElfError::BadType);
+    }
+    if has_bad_machine(file) {
+        return Some(ElfError::BadMachine);
+    }
+    if has_bad_flags(file) {
+        return Some(ElfError::BadFlags);
+    }
+    if has_bad_header_table(file) {
+        return Some(ElfError::BadHeaderTable);
+    }
+    None
+}
+
+fn is_dynamic(h: &ProgramHeader) -> bool
+    ensures { result ≡ is_dynamic h.now }
+{
+    h.p_type == header::PT_DYNAMIC || h.p_type == header::PT_INTERP || h.p_type == header::PT_TLS
+}
+
+#[tactic(auto, unfolding(crate::specs::Faults::is_not_static))]
+fn is_not_static(headers: &[ProgramHeader]) -> bool
+    ensures { result ≡ is_not_static headers.now }
+{
+    headers.iter().any(|h| is_dynamic(h))
+}
+
+fn is_out_of_file(size: u64, h: &ProgramHeader) -> bool
+    ensures { result ≡ is_out_of_file size h.now }
+{
+    let end = u64::from(h.p_offset) + u64::from(h.p_filesz);
+    (h.is_load() || h.is_note()) && 0 < h.p_filesz && size < end
+        || h.is_load() && h.p_memsz < h.p_filesz
+}
+
+#[tactic(auto, unfolding(crate::specs::Faults::has_out_of_file))]
+fn has_out_of_file(size: u64, headers: &[ProgramHeader]) -> bool
+    ensures { result ≡ has_out_of_file size headers.now }
+{
+    headers.iter().any(|h| is_out_of_file(size, h))
+}
+
+fn is_between(low: u64, high: u64, h: &ProgramHeader) -> bool
+    ensures { result ≡ is_between low high h.now }
+{
+    low <= u64::from(h.p_vaddr) && h.end() <= high
+}
+
+fn is_out_of_place(h: &ProgramHeader) -> bool
+    ensures { result ≡ is_out_of_place h.now }
+{
+    !(is_between(0x1000, 0x2000_0000, h) || is_between(0x8000_0000, 0xC000_0000, h))
+}
+
+#[tactic(auto, unfolding(crate::specs::Faults::has_out_of_place))]
+fn has_out_of_place(segments: &[ProgramHeader]) -> bool
+    ensures { result ≡ has_out_of_place segments.now }
+{
+    segments.iter().any(|h| is_out_of_place(h))
+}
+
+fn overlap(g: &ProgramHeader, h: &ProgramHeader) -> bool
+    ensures { result ≡ overlap g.now h.now }
+{
+    u64::from(g.p_vaddr) < h.end() && u64::from(h.p_vaddr) < g.end()
+}
+
+fn overlaps_one_of(h: &ProgramHeader, others: &[ProgramHeader]) -> bool
+    ensures { result ≡ list_any (overlap h.now) others.now }
+{
+    others.iter().any(|other| overlap(h, other))
+}
+
+#[tactic(auto, unfolding(crate::specs::Faults::has_overlap))]
+fn has_overlap(segments: &[ProgramHeader]) -> bool
+    ensures { result ≡ has_overlap segments.now }
+{
+    let mut rest = segments;
+    while let Some((first, others)) = rest.split_first() {
+        if overlaps_one_of(first, others) {
+            return true;
+        }
+        rest = others;
+    }
+    false
+}
+
+fn is_write_and_execute(h: &ProgramHeader) -> bool
+    ensures { result ≡ is_write_and_execute h.now }
+{
+    h.is_writable() && h.is_executable()
+}
+
+#[tactic(auto, unfolding(crate::specs::Faults::has_write_and_execute))]
+fn has_write_and_execute(segments: &[ProgramHeader]) -> bool
+    ensures { result ≡ has_write_and_execute segments.now }
+{
+    segments.iter().any(|h| is_write_and_execute(h))
+}
+
+#[tactic(auto, unfolding(crate::specs::Faults::is_too_large))]
+fn is_too_large(size: usize, segments: &[ProgramHeader]) -> bool
+    requires { length segments.now ≤ 64 }
+    ensures { result ≡ is_too_large size segments.now }
+{
+    let memory: u64 = segments.iter().map(|h| u64::from(h.p_memsz)).sum();
+    size > MAX_FILE_SIZE || segments.len() > MAX_SEGMENTS || memory > MAX_MEMORY_SIZE
+}
+
+fn has_word(address: u32, h: &ProgramHeader) -> bool
+    ensures { result ≡ has_word address h.now }
+{
+    h.is_executable() && h.p_vaddr <= address && u64::from(address) + 4 <= h.end()
+}
+
+fn has_code_at(address: u32, segments: &[ProgramHeader]) -> bool
+    ensures { result ≡ list_any (has_word address) segments.now }
+{
+    segments.iter().any(|h| has_word(address, h))
+}
+
+#[tactic(auto, unfolding(crate::specs::Faults::is_not_code))]
+fn is_not_code(entry: u32, segments: &[ProgramHeader]) -> bool
+    ensures { result ≡ is_not_code entry segments.now }
+{
+    entry % 4 != 0 || !has_code_at(entry, segments)
+}
+
+/// The first fault of the program headers.
+pub fn segment_fault(file: &[u8], headers: &HeaderTable, segments: &HeaderTable) -> Option<ElfError>
+    requires header { HasTable file.now }
+    requires headers { headers.now ≡ program_headers file.now }
+    requires segments { segments.now ≡ segment_headers file.now }
+    ensures { result ≡ first_of segment_faults file.now }
+{
+    let size = file.len();
+    if is_not_static(headers.as_slice()) {
+        return Some(ElfError::NotStatic);
+    }
+    if has_out_of_file(size as u64, headers.as_slice()) {
+        return Some(ElfError::SegmentOutOfFile);
+    }
+    let segments = segments.as_slice();
+    if has_out_of_place(segments) {
+        return Some(ElfError::SegmentOutOfPlace);
+    }
+    if has_overlap(segments) {
+        return Some(ElfError::SegmentsOverlap);
+    }
+    if has_write_and_execute(segments) {
+        return Some(ElfError::WriteAndExecute);
+    }
+    if is_too_large(size, segments) {
+        return Some(ElfError::TooLarge);
+    }
+    if is_not_code(word_at(header::E_ENTRY, file), segments) {
+        return Some(ElfError::EntryNotCode);
+    }
+    None
+}

@@ -1,0 +1,234 @@
+//! The ELF header and the program headers of a file.
+
+ghost use Rattle.std.specs.Prelude.{◌≡◌, ◌≤◌, ◌+◌, ◌*◌, ◌++◌, ◌∷◌, [], ◌<◌, length, take, drop, filter};
+ghost use Rattle.elf_image.specs.Words.{half_at, word_at};
+ghost use Rattle.elf_image.specs.File.{HasTable, program_header_at, program_headers, is_load, is_note, is_segment, is_executable, is_writable, is_readable, file_part};
+
+use byteorder::{ByteOrder, LittleEndian};
+use std::marker::Model;
+
+/// Where the fields of the ELF header lie (`Elf32_Ehdr`).
+pub const E_TYPE: usize = 16;
+
+pub const E_MACHINE: usize = 18;
+
+pub const E_VERSION: usize = 20;
+
+pub const E_ENTRY: usize = 24;
+
+pub const E_PHOFF: usize = 28;
+
+pub const E_FLAGS: usize = 36;
+
+pub const E_EHSIZE: usize = 40;
+
+pub const E_PHENTSIZE: usize = 42;
+
+pub const E_PHNUM: usize = 44;
+
+/// Types of program headers.
+pub const PT_LOAD: u32 = 1;
+
+pub const PT_DYNAMIC: u32 = 2;
+
+pub const PT_INTERP: u32 = 3;
+
+pub const PT_NOTE: u32 = 4;
+
+pub const PT_TLS: u32 = 7;
+
+/// Flags of segments.
+pub const PF_X: u32 = 1;
+
+pub const PF_W: u32 = 2;
+
+pub const PF_R: u32 = 4;
+
+/// The number in the two bytes at an offset.
+#[tactic(auto, unfolding(crate::specs::Words::half_at))]
+pub fn half_at(offset: usize, file: &[u8]) -> u16
+    requires { offset + 2 ≤ length file.now }
+    ensures { result ≡ half_at offset file.now }
+{
+    LittleEndian::read_u16(&file[offset..])
+}
+
+/// The number in the four bytes at an offset.
+#[tactic(auto, unfolding(crate::specs::Words::word_at))]
+pub fn word_at(offset: usize, file: &[u8]) -> u32
+    requires { offset + 4 ≤ length file.now }
+    ensures { result ≡ word_at offset file.now }
+{
+    LittleEndian::read_u32(&file[offset..])
+}
+
+/// So many bytes from an offset on.
+pub fn part_of(bytes: &[u8], offset: usize, size: usize) -> &[u8]
+    requires { 0 < size → offset + size ≤ length bytes.now }
+    ensures { result.now ≡ take size (drop offset bytes.now) }
+{
+    if size == 0 {
+        return &[];
+    }
+    &bytes[offset..offset + size]
+}
+
+/// A program header (`Elf32_Phdr`), without the fields that play no part.
+#[derive(Clone, Copy)]
+pub struct ProgramHeader {
+    pub p_type: u32,
+    pub p_offset: u32,
+    pub p_vaddr: u32,
+    pub p_filesz: u32,
+    pub p_memsz: u32,
+    pub p_flags: u32,
+}
+
+impl ProgramHeader {
+    const ZERO: ProgramHeader = ProgramHeader {
+        p_type: 0,
+        p_offset: 0,
+        p_vaddr: 0,
+        p_filesz: 0,
+        p_memsz: 0,
+        p_flags: 0,
+    };
+
+    pub fn is_load(&self) -> bool
+        ensures { result ≡ is_load self.now }
+    {
+        self.p_type == PT_LOAD
+    }
+
+    pub fn is_note(&self) -> bool
+        ensures { result ≡ is_note self.now }
+    {
+        self.p_type == PT_NOTE
+    }
+
+    /// Whether it is that of a loadable segment with bytes in memory.
+    pub fn is_segment(&self) -> bool
+        ensures { result ≡ is_segment self.now }
+    {
+        self.is_load() && 0 < self.p_memsz
+    }
+
+    pub fn is_executable(&self) -> bool
+        ensures { result ≡ is_executable self.now }
+    {
+        self.p_flags & PF_X != 0
+    }
+
+    pub fn is_writable(&self) -> bool
+        ensures { result ≡ is_writable self.now }
+    {
+        self.p_flags & PF_W != 0
+    }
+
+    pub fn is_readable(&self) -> bool
+        ensures { result ≡ is_readable self.now }
+    {
+        self.p_flags & PF_R != 0
+    }
+
+    /// The bytes of the file that are the segment's.
+    pub fn file_part<'a>(&self, file: &'a [u8]) -> &'a [u8]
+        requires { 0 < self.now.p_filesz → self.now.p_offset + self.now.p_filesz ≤ length file.now }
+        ensures { result.now ≡ file_part file.now self.now }
+    {
+        part_of(file, self.p_offset as usize, self.p_filesz as usize)
+    }
+
+    /// The address after its last byte in memory.
+    pub fn end(&self) -> u64
+        ensures { result ≡ self.now.p_vaddr + self.now.p_memsz }
+    {
+        u64::from(self.p_vaddr) + u64::from(self.p_memsz)
+    }
+}
+
+fn program_header_at(offset: usize, file: &[u8]) -> ProgramHeader
+    requires { offset + 32 ≤ length file.now }
+    ensures { result ≡ program_header_at offset file.now }
+{
+    ProgramHeader {
+        p_type: word_at(offset, file),
+        p_offset: word_at(offset + 4, file),
+        p_vaddr: word_at(offset + 8, file),
+        p_filesz: word_at(offset + 16, file),
+        p_memsz: word_at(offset + 20, file),
+        p_flags: word_at(offset + 24, file),
+    }
+}
+
+/// At most 64 program headers, in a table of fixed size.
+#[derive(Drop)]
+pub struct HeaderTable {
+    entries: [ProgramHeader; 64],
+    count: usize,
+}
+
+impl Model for HeaderTable {
+    ghost use Rattle.std.specs.Prelude.{List, take, ◌≤◌};
+    ghost use Rattle.elf_image.specs.declared.header.ProgramHeader.{ProgramHeader};
+
+    ghost Value = { List ProgramHeader };
+
+    ghost view = { λ a. take a.count a.entries };
+
+    ghost invariant = { λ a. a.count ≤ 64 };
+}
+
+impl HeaderTable {
+    fn new() -> Self
+        ensures { result ≡ [] }
+    {
+        HeaderTable {
+            entries: [ProgramHeader::ZERO; 64],
+            count: 0,
+        }
+    }
+
+    fn push(&mut self, header: ProgramHeader)
+        requires { length self.old < 64 }
+        ensures { self.new ≡ self.old ++ header ∷ [] }
+    {
+        self.entries[self.count] = header;
+        self.count += 1;
+    }
+
+    pub fn as_slice(&self) -> &[ProgramHeader]
+        ensures value { result.now ≡ self.now }
+        ensures bound { length self.now ≤ 64 }
+    {
+        &self.entries[..self.count]
+    }
+
+    /// The program headers of a file.
+    #[tactic(auto, unfolding(crate::specs::File::program_headers))]
+    pub fn read(file: &[u8]) -> HeaderTable
+        requires { HasTable file.now }
+        ensures { result ≡ program_headers file.now }
+    {
+        let first = word_at(E_PHOFF, file) as usize;
+        let count = half_at(E_PHNUM, file) as usize;
+        let mut table = HeaderTable::new();
+        for i in 0..count {
+            table.push(program_header_at(first + 32 * i, file));
+        }
+        table
+    }
+
+    /// The headers of the segments among them, in their order.
+    pub fn segments(&self) -> HeaderTable
+        ensures { result ≡ filter is_segment self.now }
+    {
+        let mut table = HeaderTable::new();
+        for header in self.as_slice() {
+            if header.is_segment() {
+                table.push(*header);
+            }
+        }
+        table
+    }
+}

@@ -1,0 +1,125 @@
+//! What a file becomes in memory.
+
+ghost use Rattle.std.specs.Prelude.{◌≡◌, All, IfOk, map, position, option_map, option_copied, slice_get};
+ghost use Rattle.elf_image.specs.Image.{IsImage, holds_address};
+ghost use Rattle.elf_image.specs.File.{HasTable, HasImage, IsLoadable, segment_of, segment_headers, certificates_of, image_of};
+
+use crate::header::{E_ENTRY, ProgramHeader, word_at};
+use crate::segment::Segment;
+use std::alloc::{AllocError, Global};
+use std::marker::Model;
+
+/// What a file becomes in memory: its entry, its segments in the order of their program headers, and its
+/// certificate.
+#[derive(Debug, Drop)]
+pub struct Image {
+    entry: u32,
+    segments: Vec<Segment>,
+    certificate: Option<Vec<u8>>,
+}
+
+impl Model for Image {
+    ghost use Rattle.std.specs.Prelude.{option_map};
+    ghost use Rattle.elf_image.specs.Image.{ImageView, IsImage};
+
+    ghost Value = { ImageView };
+
+    ghost view = { λ a. record {
+      entry = a.entry;
+      segments = a.segments.items;
+      certificate = option_map (λ v. v.items) a.certificate;
+    } };
+
+    ghost invariant = { λ a. IsImage (record {
+      entry = a.entry;
+      segments = a.segments.items;
+      certificate = option_map (λ v. v.items) a.certificate;
+    }) };
+}
+
+fn load_segments(
+    alloc: Global,
+    file: &[u8],
+    headers: &[ProgramHeader],
+) -> Result<Vec<Segment>, AllocError>
+    requires { All (IsLoadable file.now) headers.now }
+    ensures { IfOk result (λ segments. segments.items ≡ map (segment_of file.now) headers.now) }
+{
+    let mut segments = Vec::with_capacity(alloc, headers.len())?;
+    for header in headers {
+        segments.push(Segment::load(alloc, file, header)?)?;
+    }
+    Ok(segments)
+}
+
+fn copy_certificate(
+    alloc: Global,
+    certificate: Option<&[u8]>,
+) -> Result<Option<Vec<u8>>, AllocError>
+    ensures { IfOk result (λ c. option_map (λ v. v.items) c ≡ option_copied certificate.entry) }
+{
+    match certificate {
+        Some(bytes) => Ok(Some(Vec::from_slice(alloc, bytes)?)),
+        None => Ok(None),
+    }
+}
+
+impl Image {
+    /// The image of a file of which these are the headers of the segments and the certificate.
+    #[tactic(auto, unfolding(crate::specs::File::image_of))]
+    pub(crate) fn load(
+        alloc: Global,
+        file: &[u8],
+        headers: &[ProgramHeader],
+        certificate: Option<&[u8]>,
+    ) -> Result<Image, AllocError>
+        requires table { HasTable file.now }
+        requires image { HasImage file.now }
+        requires headers { headers.now ≡ segment_headers file.now }
+        requires certificate { option_copied certificate ≡ slice_get (certificates_of file.now) 0 }
+        ensures { IfOk result (λ image. image ≡ image_of file.now) }
+    {
+        let segments = load_segments(alloc, file, headers)?;
+        let certificate = copy_certificate(alloc, certificate)?;
+        Ok(Image {
+            entry: word_at(E_ENTRY, file),
+            segments,
+            certificate,
+        })
+    }
+
+    /// The address of the first instruction (`e_entry`).
+    pub fn entry(&self) -> u32
+        ensures value { result ≡ self.now.entry }
+        // What is true of each image.
+        ensures image { IsImage self.now }
+    {
+        self.entry
+    }
+
+    /// The segments, in the order of their program headers.
+    pub fn segments(&self) -> &[Segment]
+        ensures value { result.now ≡ self.now.segments }
+        // What is true of each image.
+        ensures image { IsImage self.now }
+    {
+        self.segments.as_slice()
+    }
+
+    /// The certificate, if the file has one.
+    pub fn certificate(&self) -> Option<&[u8]>
+        ensures { option_map (λ bytes. bytes.now) result ≡ self.now.certificate }
+    {
+        match &self.certificate {
+            Some(bytes) => Some(bytes.as_slice()),
+            None => None,
+        }
+    }
+
+    /// The place, in `segments`, of the segment in which an address lies. There is at most one.
+    pub fn segment_at(&self, address: u32) -> Option<usize>
+        ensures { result ≡ position (holds_address address) self.now.segments }
+    {
+        self.segments.iter().position(|s| s.contains(address))
+    }
+}

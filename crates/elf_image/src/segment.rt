@@ -1,0 +1,126 @@
+//! One segment of an image.
+
+ghost use Rattle.std.specs.Prelude.{◌≡◌, IfOk};
+ghost use Rattle.elf_image.specs.Image.{IsSegment, holds_address};
+ghost use Rattle.elf_image.specs.File.{IsLoadable, segment_of};
+
+use crate::header::ProgramHeader;
+use std::alloc::{AllocError, Global};
+use std::marker::Model;
+
+/// What may be done with the bytes of a segment.
+#[derive(Clone, Copy, Debug, PartialEq, Eq)]
+pub struct Rights {
+    pub read: bool,
+    pub write: bool,
+    pub execute: bool,
+}
+
+/// A segment: where it lies in memory, its bytes that come from the file, and its rights. Its bytes past
+/// those of the file are 0.
+#[derive(Debug, Drop)]
+pub struct Segment {
+    address: u32,
+    bytes: Vec<u8>,
+    memory_size: u32,
+    rights: Rights,
+}
+
+impl Model for Segment {
+    ghost use Rattle.elf_image.specs.Image.{SegmentView, IsSegment};
+
+    ghost Value = { SegmentView };
+
+    ghost view = { λ a. record {
+      address = a.address;
+      bytes = a.bytes.items;
+      memory_size = a.memory_size;
+      read = a.rights.read;
+      write = a.rights.write;
+      execute = a.rights.execute;
+    } };
+
+    ghost invariant = { λ a. IsSegment (record {
+      address = a.address;
+      bytes = a.bytes.items;
+      memory_size = a.memory_size;
+      read = a.rights.read;
+      write = a.rights.write;
+      execute = a.rights.execute;
+    }) };
+}
+
+impl Segment {
+    /// The segment of a program header, with its bytes copied from the file.
+    #[tactic(auto, unfolding(crate::specs::File::segment_of))]
+    pub(crate) fn load(
+        alloc: Global,
+        file: &[u8],
+        header: &ProgramHeader,
+    ) -> Result<Segment, AllocError>
+        requires { IsLoadable file.now header.now }
+        ensures { IfOk result (λ segment. segment ≡ segment_of file.now header.now) }
+    {
+        let bytes = Vec::from_slice(alloc, header.file_part(file))?;
+        Ok(Segment {
+            address: header.p_vaddr,
+            bytes,
+            memory_size: header.p_memsz,
+            rights: Rights {
+                read: header.is_readable(),
+                write: header.is_writable(),
+                execute: header.is_executable(),
+            },
+        })
+    }
+
+    /// The address of the first byte (`p_vaddr`).
+    pub fn address(&self) -> u32
+        ensures value { result ≡ self.now.address }
+        // What is true of each segment.
+        ensures segment { IsSegment self.now }
+    {
+        self.address
+    }
+
+    /// The bytes that come from the file, from the first on.
+    pub fn bytes(&self) -> &[u8]
+        ensures value { result.now ≡ self.now.bytes }
+        // What is true of each segment.
+        ensures segment { IsSegment self.now }
+    {
+        self.bytes.as_slice()
+    }
+
+    /// How many bytes the segment has in memory (`p_memsz`).
+    pub fn memory_size(&self) -> u32
+        ensures value { result ≡ self.now.memory_size }
+        // What is true of each segment.
+        ensures segment { IsSegment self.now }
+    {
+        self.memory_size
+    }
+
+    /// What may be done with its bytes (`p_flags`).
+    pub fn rights(&self) -> Rights
+        ensures read { result.read ≡ self.now.read }
+        ensures write { result.write ≡ self.now.write }
+        ensures execute { result.execute ≡ self.now.execute }
+        // What is true of each segment.
+        ensures segment { IsSegment self.now }
+    {
+        self.rights
+    }
+
+    /// Whether an address lies in the segment.
+    pub fn contains(&self, address: u32) -> bool
+        ensures { result ≡ holds_address address self.now }
+    {
+        let Segment {
+            address: first,
+            memory_size: size,
+            ..
+        } = self;
+        *first <= address && address - *first < *size
+    }
+}
