@@ -1,0 +1,4 @@
+pub mod Places
+pub mod Fields
+pub mod Meanings
+pub mod Encoded

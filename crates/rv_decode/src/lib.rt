@@ -1,0 +1,61 @@
+//! The instructions of RV32IM and of the vector extension for integers, and the table of the words that encode them.
+#![tactic(auto)]
+
+ghost use Rattle.std.specs.Prelude.{◌≡◌, option_to_list};
+ghost use Rattle.rv_decode.specs.Rows.{meanings};
+ghost use Rattle.rv_decode.specs.Decode.{table, meaning_of};
+
+mod arith_words;
+mod extents;
+mod instructions;
+pub mod laws;
+mod scalar_words;
+mod system_words;
+#[cfg(test)]
+mod tests;
+#[cfg(test)]
+mod vector_tests;
+mod vector_words;
+mod word;
+
+pub use extents::{Count, Eew, Extent, Operand, Operands, Sharing, needs};
+pub use instructions::{
+    CarryOp, CarryOutOp, CompareOp, Condition, CsrAction, CsrInsn, CsrName, CsrSource, Direction,
+    ImmediateOp, Insn, IntOp, LoadKind, MultiplyAddOp, Place, Reg, RegisterOp, ScalarInsn, ShiftOp,
+    Source, VArith, VMem, VSet, Width,
+};
+use scalar_words::{
+    decode_auipc, decode_branch, decode_fence, decode_immediate, decode_jal, decode_jalr,
+    decode_load, decode_lui, decode_register, decode_store,
+};
+use system_words::decode_system;
+use vector_words::{decode_vector, decode_vector_load, decode_vector_store};
+use word::bits;
+
+/// The instruction that `word` encodes, or `None` for a word that encodes none.
+///
+/// The table of words is that of the RISC-V Unprivileged ISA ("RV32/64G Instruction Set Listings") and of the "V"
+/// extension 1.0 ("Vector Instruction Listing"), as far as this crate has instructions for them.
+#[tactic(auto, unfolding(crate::specs::Decode::meaning_of, crate::specs::Decode::table))]
+pub fn decode(word: u32) -> Option<Insn>
+    ensures meaning { result ≡ meaning_of word }
+    ensures unique { option_to_list result ≡ meanings table word }
+{
+    match bits(word, 0, 7) {
+        0x03 => decode_load(word),
+        0x07 => decode_vector_load(word),
+        0x0f => decode_fence(word),
+        0x13 => decode_immediate(word),
+        0x17 => decode_auipc(word),
+        0x23 => decode_store(word),
+        0x27 => decode_vector_store(word),
+        0x33 => decode_register(word),
+        0x37 => decode_lui(word),
+        0x57 => decode_vector(word),
+        0x63 => decode_branch(word),
+        0x67 => decode_jalr(word),
+        0x6f => decode_jal(word),
+        0x73 => decode_system(word),
+        _ => None,
+    }
+}
