@@ -1,0 +1,75 @@
+-- A list that is overwritten from the front: the first i elements are those of `new`, the rest those of `old`.
+use Rattle.std.proofs.Common.{◌≡◌, ℕ, ◌+◌, ◌<◌, ◌≤◌, List, [], ◌∷◌, ◌++◌, zero, suc, length, get_or, set, take, drop, refl, ap, sym, ◌∙◌, arith, add-one, append-nil}
+use lib.Lanes.{zip2}
+use Rattle.std.proofs.lemmas.Simd.{length-zip2, get_or-zip2}
+use Rattle.std.proofs.lemmas.List.{take_all, drop_all}
+use Rattle.lane_int.specs.Lists.{zip3}
+
+abbrev pub overlaid : {X : Type 0} → ℕ → List X → List X → List X
+overlaid i new old = take i new ++ drop i old
+
+overlaid-suc : {X : Type 0} (i : ℕ) (new old : List X) (y : X) → i < length old → length new ≡ length old → get_or new i y ≡ y → set (overlaid i new old) i y ≡ overlaid (suc i) new old
+overlaid-suc i [] [] y lt same is = absurd (omega arith)
+overlaid-suc i [] (o ∷ os) y lt same is = absurd (omega arith)
+overlaid-suc i (n ∷ ns) [] y lt same is = absurd (omega arith)
+overlaid-suc zero (n ∷ ns) (o ∷ os) y lt same is = ap (λ z. z ∷ os) (sym is)
+overlaid-suc (suc i) (n ∷ ns) (o ∷ os) y lt same is = ap (λ zs. n ∷ zs) (overlaid-suc i ns os y (omega arith) (omega arith) is)
+
+-- one more element is written
+pub overlaid_more : {X : Type 0} (i : ℕ) (new old now : List X) (y : X) → now ≡ overlaid i new old → i < length old → length new ≡ length old → get_or new i y ≡ y → set now i y ≡ overlaid (i + 1) new old
+overlaid_more i new old now y e lt same is = rw (e, add-one) (overlaid-suc i new old y lt same is)
+
+-- what is not written yet is old
+pub get_or-overlaid : {X : Type 0} (i : ℕ) (new old : List X) (d : X) → i < length old → length new ≡ length old → get_or (overlaid i new old) i d ≡ get_or old i d
+get_or-overlaid i [] [] d lt same = absurd (omega arith)
+get_or-overlaid i [] (o ∷ os) d lt same = absurd (omega arith)
+get_or-overlaid i (n ∷ ns) [] d lt same = absurd (omega arith)
+get_or-overlaid zero (n ∷ ns) (o ∷ os) d lt same = refl
+get_or-overlaid (suc i) (n ∷ ns) (o ∷ os) d lt same = get_or-overlaid i ns os d (omega arith) (omega arith)
+
+pub overlaid_all : {X : Type 0} (i : ℕ) (new old now : List X) → now ≡ overlaid i new old → length old ≤ i → length new ≡ length old → now ≡ new
+overlaid_all i new old now e end same = rw (e, take_all i new (omega arith), drop_all i old (omega arith), append-nil)
+
+pub length-zip3 : {A B C D : Type 0} (f : A → B → C → D) (xs : List A) (ys : List B) (zs : List C) → length ys ≡ length xs → length zs ≡ length xs → length (zip3 f xs ys zs) ≡ length xs
+length-zip3 f [] ys zs p q = refl
+length-zip3 f (x ∷ xs) [] zs p q = absurd (omega arith)
+length-zip3 f (x ∷ xs) (y ∷ ys) [] p q = absurd (omega arith)
+length-zip3 f (x ∷ xs) (y ∷ ys) (z ∷ zs) p q = ap suc (length-zip3 f xs ys zs (omega arith) (omega arith))
+
+pub get_or-zip3 : {A B C D : Type 0} (f : A → B → C → D) (xs : List A) (ys : List B) (zs : List C) (i : ℕ) (a : A) (b : B) (c : C) (e : D) → i < length xs → i < length ys → i < length zs → get_or (zip3 f xs ys zs) i e ≡ f (get_or xs i a) (get_or ys i b) (get_or zs i c)
+get_or-zip3 f [] ys zs i a b c e p q r = absurd (omega arith)
+get_or-zip3 f (x ∷ xs) [] zs i a b c e p q r = absurd (omega arith)
+get_or-zip3 f (x ∷ xs) (y ∷ ys) [] i a b c e p q r = absurd (omega arith)
+get_or-zip3 f (x ∷ xs) (y ∷ ys) (z ∷ zs) zero a b c e p q r = refl
+get_or-zip3 f (x ∷ xs) (y ∷ ys) (z ∷ zs) (suc i) a b c e p q r = get_or-zip3 f xs ys zs i a b c e (omega arith) (omega arith) (omega arith)
+
+-- a kernel writes one more element: over vs2's
+pub zip2_more : {A B : Type 0} (f : A → B → A) (xs now : List A) (ys : List B) (i : ℕ) (x : A) (y : B) (z : A) → now ≡ overlaid i (zip2 f xs ys) xs → i < length xs → length ys ≡ length xs → x ≡ get_or now i x → y ≡ get_or ys i y → z ≡ f x y → set now i z ≡ overlaid (i + 1) (zip2 f xs ys) xs
+zip2_more f xs now ys i x y z e lt same is_x is_y is_z =
+    let long = length-zip2 f xs ys (sym same) in
+    let at : get_or (zip2 f xs ys) i z ≡ f (get_or xs i x) (get_or ys i y) = get_or-zip2 f xs ys i x y z lt (omega arith) in
+    let old : get_or now i x ≡ get_or xs i x = rw e (get_or-overlaid i (zip2 f xs ys) xs x lt long) in
+    overlaid_more i (zip2 f xs ys) xs now z e lt long cc
+
+-- over something else
+pub zip2_more_into : {A B C : Type 0} (f : A → B → C) (xs : List A) (ys : List B) (old now : List C) (i : ℕ) (x : A) (y : B) (z : C) → now ≡ overlaid i (zip2 f xs ys) old → i < length old → length xs ≡ length old → length ys ≡ length old → x ≡ get_or xs i x → y ≡ get_or ys i y → z ≡ f x y → set now i z ≡ overlaid (i + 1) (zip2 f xs ys) old
+zip2_more_into f xs ys old now i x y z e lt same_x same_y is_x is_y is_z =
+    let long = length-zip2 f xs ys (same_x ∙ sym same_y) in
+    let at : get_or (zip2 f xs ys) i z ≡ f (get_or xs i x) (get_or ys i y) = get_or-zip2 f xs ys i x y z (omega arith) (omega arith) in
+    overlaid_more i (zip2 f xs ys) old now z e lt (long ∙ same_x) cc
+
+-- over vs2's, with a third list
+pub zip3_more_first : {A B C : Type 0} (f : A → B → C → A) (xs now : List A) (ys : List B) (zs : List C) (i : ℕ) (x : A) (y : B) (z : C) (r : A) → now ≡ overlaid i (zip3 f xs ys zs) xs → i < length xs → length ys ≡ length xs → length zs ≡ length xs → x ≡ get_or now i x → y ≡ get_or ys i y → z ≡ get_or zs i z → r ≡ f x y z → set now i r ≡ overlaid (i + 1) (zip3 f xs ys zs) xs
+zip3_more_first f xs now ys zs i x y z r e lt same_y same_z is_x is_y is_z is_r =
+    let long = length-zip3 f xs ys zs same_y same_z in
+    let at : get_or (zip3 f xs ys zs) i r ≡ f (get_or xs i x) (get_or ys i y) (get_or zs i z) = get_or-zip3 f xs ys zs i x y z r lt (omega arith) (omega arith) in
+    let old : get_or now i x ≡ get_or xs i x = rw e (get_or-overlaid i (zip3 f xs ys zs) xs x lt long) in
+    overlaid_more i (zip3 f xs ys zs) xs now r e lt long cc
+
+-- over the third list
+pub zip3_more_third : {A B C : Type 0} (f : A → B → C → C) (xs : List A) (ys : List B) (zs now : List C) (i : ℕ) (x : A) (y : B) (z : C) (r : C) → now ≡ overlaid i (zip3 f xs ys zs) zs → i < length zs → length xs ≡ length zs → length ys ≡ length zs → x ≡ get_or xs i x → y ≡ get_or ys i y → z ≡ get_or now i z → r ≡ f x y z → set now i r ≡ overlaid (i + 1) (zip3 f xs ys zs) zs
+zip3_more_third f xs ys zs now i x y z r e lt same_x same_y is_x is_y is_z is_r =
+    let long = length-zip3 f xs ys zs (same_y ∙ sym same_x) (sym same_x) ∙ same_x in
+    let at : get_or (zip3 f xs ys zs) i r ≡ f (get_or xs i x) (get_or ys i y) (get_or zs i z) = get_or-zip3 f xs ys zs i x y z r (omega arith) (omega arith) (omega arith) in
+    let old : get_or now i z ≡ get_or zs i z = rw e (get_or-overlaid i (zip3 f xs ys zs) zs z lt long) in
+    overlaid_more i (zip3 f xs ys zs) zs now r e lt long cc

@@ -1,0 +1,213 @@
+// The widths that the kernels work on.
+ghost use Rattle.std.specs.Prelude.{◌≡◌, ℕ, Bool};
+
+use crate::operations::{CarryOp, CompareOp, IntOp, MultiplyAddOp};
+use crate::{bytes, halves, words};
+
+/// An element of one width: `u8`, `u16` or `u32`.
+pub trait Lane: Copy {
+    ghost use Rattle.std.specs.Prelude.{ℕ, Bool, ◌≡◌};
+    ghost use Rattle.std.specs.Int.{Width};
+    ghost use Rattle.lane_int.specs.Integer.{element, compares, carried, carries, multiply_added};
+    ghost use Rattle.lane_int.specs.declared.operations.IntOp.{IntOp};
+    ghost use Rattle.lane_int.specs.declared.operations.CompareOp.{CompareOp};
+    ghost use Rattle.lane_int.specs.declared.operations.CarryOp.{CarryOp};
+    ghost use Rattle.lane_int.specs.declared.operations.MultiplyAddOp.{MultiplyAddOp};
+
+    // the width, and the number that an element holds
+    ghost width: { Width };
+
+    ghost number: { Self → ℕ };
+
+    // what the methods below answer
+    ghost result_of: { IntOp → Self → Self → Self };
+
+    ghost test_of: { CompareOp → Self → Self → Bool };
+
+    ghost carried_of: { CarryOp → Self → Self → Bool → Self };
+
+    ghost carry_of: { CarryOp → Self → Self → Bool → Bool };
+
+    ghost added_of: { MultiplyAddOp → Self → Self → Self → Self };
+
+    /// What `op` makes of vs2's element `a` and of `b`.
+    fn int_result(op: IntOp, a: Self, b: Self) -> Self
+        ensures { result ≡ result_of op a b };
+
+    /// Whether `op` holds of vs2's element `a` and of `b`.
+    fn int_test(op: CompareOp, a: Self, b: Self) -> bool
+        ensures { result ≡ test_of op a b };
+
+    /// The sum with a carry, or the difference with a borrow.
+    fn carry_result(op: CarryOp, a: Self, b: Self, carry: bool) -> Self
+        ensures { result ≡ carried_of op a b carry };
+
+    /// The carry out of that sum, or the borrow of that difference.
+    fn carry_out(op: CarryOp, a: Self, b: Self, carry: bool) -> bool
+        ensures { result ≡ carry_of op a b carry };
+
+    /// What `op` makes of vs2's element `a`, of `b` and of vd's old element `d`.
+    fn multiply_add(op: MultiplyAddOp, a: Self, b: Self, d: Self) -> Self
+        ensures { result ≡ added_of op a b d };
+
+    // each answer is the instruction's number, as `specs/Integer.antt` has it
+    ghost result_is: { (op : IntOp) (a b : Self) → number (result_of op a b) ≡ element op width (number a) (number b) };
+
+    ghost test_is: { (op : CompareOp) (a b : Self) → test_of op a b ≡ compares op width (number a) (number b) };
+
+    ghost carried_is: { (op : CarryOp) (a b : Self) (c : Bool) → number (carried_of op a b c) ≡ carried op width (number a) (number b) c };
+
+    ghost carry_is: { (op : CarryOp) (a b : Self) (c : Bool) → carry_of op a b c ≡ carries op width (number a) (number b) c };
+
+    ghost added_is: { (op : MultiplyAddOp) (a b d : Self) → number (added_of op a b d) ≡ multiply_added op width (number a) (number b) (number d) };
+}
+
+impl Lane for u8 {
+    ghost use Rattle.std.specs.Prelude.{refl};
+    ghost use Rattle.std.specs.Int.{w8};
+    ghost use Rattle.lane_int.specs.Integer.{element, compares, carried, carries, multiply_added};
+
+    ghost width = { w8 };
+
+    ghost number = { λ a. a };
+
+    ghost result_of = { λ op a b. element op w8 a b };
+
+    ghost test_of = { λ op a b. compares op w8 a b };
+
+    ghost carried_of = { λ op a b c. carried op w8 a b c };
+
+    ghost carry_of = { λ op a b c. carries op w8 a b c };
+
+    ghost added_of = { λ op a b d. multiply_added op w8 a b d };
+
+    fn int_result(op: IntOp, a: u8, b: u8) -> u8 {
+        bytes::int_result(op, a, b)
+    }
+
+    fn int_test(op: CompareOp, a: u8, b: u8) -> bool {
+        bytes::int_test(op, a, b)
+    }
+
+    fn carry_result(op: CarryOp, a: u8, b: u8, carry: bool) -> u8 {
+        bytes::carry_result(op, a, b, carry)
+    }
+
+    fn carry_out(op: CarryOp, a: u8, b: u8, carry: bool) -> bool {
+        bytes::carry_out(op, a, b, carry)
+    }
+
+    fn multiply_add(op: MultiplyAddOp, a: u8, b: u8, d: u8) -> u8 {
+        bytes::multiply_add(op, a, b, d)
+    }
+
+    ghost result_is = { λ op a b. refl };
+
+    ghost test_is = { λ op a b. refl };
+
+    ghost carried_is = { λ op a b c. refl };
+
+    ghost carry_is = { λ op a b c. refl };
+
+    ghost added_is = { λ op a b d. refl };
+}
+
+impl Lane for u16 {
+    ghost use Rattle.std.specs.Prelude.{refl};
+    ghost use Rattle.std.specs.Int.{w16};
+    ghost use Rattle.lane_int.specs.Integer.{element, compares, carried, carries, multiply_added};
+
+    ghost width = { w16 };
+
+    ghost number = { λ a. a };
+
+    ghost result_of = { λ op a b. element op w16 a b };
+
+    ghost test_of = { λ op a b. compares op w16 a b };
+
+    ghost carried_of = { λ op a b c. carried op w16 a b c };
+
+    ghost carry_of = { λ op a b c. carries op w16 a b c };
+
+    ghost added_of = { λ op a b d. multiply_added op w16 a b d };
+
+    fn int_result(op: IntOp, a: u16, b: u16) -> u16 {
+        halves::int_result(op, a, b)
+    }
+
+    fn int_test(op: CompareOp, a: u16, b: u16) -> bool {
+        halves::int_test(op, a, b)
+    }
+
+    fn carry_result(op: CarryOp, a: u16, b: u16, carry: bool) -> u16 {
+        halves::carry_result(op, a, b, carry)
+    }
+
+    fn carry_out(op: CarryOp, a: u16, b: u16, carry: bool) -> bool {
+        halves::carry_out(op, a, b, carry)
+    }
+
+    fn multiply_add(op: MultiplyAddOp, a: u16, b: u16, d: u16) -> u16 {
+        halves::multiply_add(op, a, b, d)
+    }
+
+    ghost result_is = { λ op a b. refl };
+
+    ghost test_is = { λ op a b. refl };
+
+    ghost carried_is = { λ op a b c. refl };
+
+    ghost carry_is = { λ op a b c. refl };
+
+    ghost added_is = { λ op a b d. refl };
+}
+
+impl Lane for u32 {
+    ghost use Rattle.std.specs.Prelude.{refl};
+    ghost use Rattle.std.specs.Int.{w32};
+    ghost use Rattle.lane_int.specs.Integer.{element, compares, carried, carries, multiply_added};
+
+    ghost width = { w32 };
+
+    ghost number = { λ a. a };
+
+    ghost result_of = { λ op a b. element op w32 a b };
+
+    ghost test_of = { λ op a b. compares op w32 a b };
+
+    ghost carried_of = { λ op a b c. carried op w32 a b c };
+
+    ghost carry_of = { λ op a b c. carries op w32 a b c };
+
+    ghost added_of = { λ op a b d. multiply_added op w32 a b d };
+
+    fn int_result(op: IntOp, a: u32, b: u32) -> u32 {
+        words::int_result(op, a, b)
+    }
+
+    fn int_test(op: CompareOp, a: u32, b: u32) -> bool {
+        words::int_test(op, a, b)
+    }
+
+    fn carry_result(op: CarryOp, a: u32, b: u32, carry: bool) -> u32 {
+        words::carry_result(op, a, b, carry)
+    }
+
+    fn carry_out(op: CarryOp, a: u32, b: u32, carry: bool) -> bool {
+        words::carry_out(op, a, b, carry)
+    }
+
+    fn multiply_add(op: MultiplyAddOp, a: u32, b: u32, d: u32) -> u32 {
+        words::multiply_add(op, a, b, d)
+    }
+
+    ghost result_is = { λ op a b. refl };
+
+    ghost test_is = { λ op a b. refl };
+
+    ghost carried_is = { λ op a b c. refl };
+
+    ghost carry_is = { λ op a b c. refl };
+
+    ghost added_is = { λ op a b d. refl };
+}

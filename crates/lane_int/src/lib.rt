@@ -1,0 +1,15 @@
+#![tactic(auto)]
+
+mod bytes;
+mod halves;
+mod kernels;
+mod lane;
+mod operations;
+mod words;
+
+pub use kernels::{compare, compute, compute_carried, compute_carries, multiply_add};
+pub use lane::Lane;
+pub use operations::{CarryOp, CompareOp, IntOp, MultiplyAddOp};
+
+#[cfg(test)]
+mod tests;
