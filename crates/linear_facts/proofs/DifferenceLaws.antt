@@ -1,0 +1,223 @@
+-- Differences of multiples of forms: their steps, and why their lower bounds hold.
+use Rattle.std.proofs.Common.{◌≡◌, ℕ, ◌+◌, ◌-◌, ◌*◌, ◌/◌, ◌%◌, ◌^◌, ◌<◌, ◌≤◌, inl, inr, List, [], ◌∷◌, ◌++◌, map, length, take, drop, get_or, refl, ap, sym, ◌∙◌, subst, arith, Bool, true, false, ◌&&◌, is_some}
+use Rattle.std.proofs.lemmas.Bool.{cases_eq, leb-true}
+use Rattle.std.proofs.lemmas.List.{drop_more, drop_all, length-map}
+use Rattle.std.proofs.lemmas.List.{take_all}
+use Rattle.std.proofs.lemmas.Grind.{common_steps, take_at_read}
+use Rattle.linear_facts.specs.declared.forms.Term.{Term}
+use Rattle.linear_facts.specs.declared.sums.WholeTerm.{WholeTerm}
+use Rattle.linear_facts.specs.declared.sums.Interval.{Interval}
+use Rattle.linear_facts.specs.declared.differences.Side.{Side}
+use Rattle.linear_facts.specs.declared.differences.Side.TheVariants.{Added, Taken}
+use Rattle.linear_facts.specs.Forms.{Linear, IsForm, value}
+use Rattle.linear_facts.specs.declared.ranges.End.TheVariants.{Lo, Hi}
+use Rattle.linear_facts.specs.Ranges.{AtomTable, AgreesWith}
+use Rattle.linear_facts.specs.Sums.{with_term, signed_term, joined, ends, form_interval, range_within, range_of_form}
+use Rattle.linear_facts.specs.Differences.{Product, WholeSum, multiple_term, with_number, with_multiples, base_of, with_product, with_products, AreForms, have_ranges, total_of, is_positive, difference_of}
+use Rattle.linear_facts.proofs.SumLaws.{signed_at_most}
+use Rattle.linear_facts.proofs.RangeLaws.{sum_at, sum_over, sum_over-nil, sum_over-with_term, gain_part, loss_part, gain_joins, loss_joins, net-sums, gains-le, losses-le, losses-bound, at_least, at_most, form-encloses, sum_at-value, within-none}
+
+pub multiples-more : (side : Side) (k : ℕ) (so_far ts : List WholeTerm) (i : ℕ) (d : WholeTerm) → i < length ts
+    → with_multiples side k so_far (drop i ts)
+    ≡ with_multiples side k (with_term so_far (multiple_term side k (get_or ts i d))) (drop (i + 1) ts)
+unfolding with_multiples
+multiples-more side k so_far ts i d inside = ap (λ l. with_multiples side k so_far l) (drop_more ts i d inside)
+
+pub multiples-done : (side : Side) (k : ℕ) (so_far ts : List WholeTerm) (i : ℕ) → length ts ≤ i
+    → with_multiples side k so_far (drop i ts) ≡ so_far
+unfolding with_multiples
+multiples-done side k so_far ts i done = ap (λ l. with_multiples side k so_far l) (drop_all i ts done)
+
+pub products-more : (table : AtomTable) (side : Side) (sum : WholeSum) (ms : List Product) (i : ℕ) (d : Product) → i < length ms
+    → with_products table side sum (drop i ms)
+    ≡ with_products table side (with_product table side sum (get_or ms i d)) (drop (i + 1) ms)
+unfolding with_products
+products-more table side sum ms i d inside = ap (λ l. with_products table side sum l) (drop_more ms i d inside)
+
+pub products-done : (table : AtomTable) (side : Side) (sum : WholeSum) (ms : List Product) (i : ℕ) → length ms ≤ i
+    → with_products table side sum (drop i ms) ≡ sum
+unfolding with_products
+products-done table side sum ms i done = ap (λ l. with_products table side sum l) (drop_all i ms done)
+
+-- one more product is of a form
+AreForms-append : (xs ys : List Product) → AreForms xs → AreForms ys → AreForms (xs ++ ys)
+AreForms-append [] ys h k = k
+AreForms-append (x ∷ xs) ys h k = (h.0, AreForms-append xs ys h.1 k)
+
+pub AreForms-more : (ms : List Product) (i : ℕ) (d m : Product) → i < length ms → m ≡ get_or ms i m
+    → AreForms (take i ms) → IsForm 8 m.form → AreForms (take (i + 1) ms)
+AreForms-more ms i d m inside is h k =
+    subst (λ (l : List Product). AreForms l) (sym (take_at_read ms i m inside).1)
+    (AreForms-append (take i ms) (get_or ms i m ∷ []) h (subst (λ (p : Product). IsForm 8 p.form) is k, tt))
+
+pub AreForms-all : (ms : List Product) (i : ℕ) → length ms ≤ i → AreForms (take i ms) → AreForms ms
+AreForms-all ms i done h = subst (λ (l : List Product). AreForms l) (take_all i ms done) h
+
+-- the sum with a product, by its parts
+module _ (table : AtomTable) (side : Side) (k a : ℕ) (xs : List Term) (f : Linear) (m : Product)
+    (is_f : record { constant = a; terms = xs } ≡ f) (is_m : record { factor = k; form = f } ≡ m) where
+  pub product-parts : (p q : ℕ) (ts us : List WholeTerm) (sum : WholeSum) (base c plus minus : ℕ) (signed slice : List WholeTerm)
+      → record { plus = p; minus = q; terms = ts } ≡ sum → base ≡ base_of table f → c ≡ a
+      → plus ≡ 2 ^ 112 - base → minus ≡ base - 2 ^ 112 → signed ≡ map signed_term xs → slice ≡ signed
+      → us ≡ with_multiples side k ts slice
+      → with_number side k (c + plus) minus record { plus = p; minus = q; terms = us } ≡ with_product table side sum m
+  unfolding with_product
+  product-parts p q ts us sum base c plus minus signed slice is_sum is_base is_c is_plus is_minus is_signed is_slice is_us =
+      cc (
+        ap (λ (n : Product). n.factor) is_m,
+        ap (λ (n : Product). n.form) is_m,
+        ap (λ (g : Linear). g.constant) is_f,
+        ap (λ (g : Linear). g.terms) is_f,
+        ap (λ (s : WholeSum). s.plus) is_sum,
+        ap (λ (s : WholeSum). s.minus) is_sum,
+        ap (λ (s : WholeSum). s.terms) is_sum,
+      )
+
+-- a number changes no term
+pub terms_kept : (side : Side) (k plus minus : ℕ) (sum : WholeSum) → (with_number side k plus minus sum).terms ≡ sum.terms
+terms_kept Added k plus minus sum = refl
+terms_kept Taken k plus minus sum = refl
+
+and_first : (a b : Bool) → (a && b) ≡ true → a ≡ true
+and_first a b e = grind (arith, common_steps)
+
+and_rest : (a b : Bool) → (a && b) ≡ true → b ≡ true
+and_rest a b e = grind (arith, common_steps)
+
+-- what is added to and taken from a sum, where atom a is the number v a
+abbrev up : (ℕ → ℕ) → WholeSum → ℕ
+up v s = s.plus + sum_over (gain_part v) s.terms
+
+abbrev down : (ℕ → ℕ) → WholeSum → ℕ
+down v s = s.minus + sum_over (loss_part v) s.terms
+
+-- k times each term
+module _ (f h : WholeTerm → ℕ) (joins : (u t : WholeTerm) → u.atom ≡ t.atom → f (joined u t) ≡ f u + f t)
+    (side : Side) (k : ℕ) (times : (t : WholeTerm) → f (multiple_term side k t) ≡ k * h t) where
+  sum_over-with_multiples : (so_far ts : List WholeTerm)
+      → sum_over f (with_multiples side k so_far ts) ≡ sum_over f so_far + k * sum_over h ts
+  unfolding with_multiples sum_over
+  sum_over-with_multiples so_far [] = omega arith
+  sum_over-with_multiples so_far (t ∷ ts) =
+      omega (
+        arith,
+        sum_over-with_multiples (with_term so_far (multiple_term side k t)) ts,
+        sum_over-with_term f joins so_far (multiple_term side k t),
+        times t,
+      )
+
+module _ (v : ℕ → ℕ) (k : ℕ) (so_far ts : List WholeTerm) where
+  added_gains : sum_over (gain_part v) (with_multiples Added k so_far ts) ≡ sum_over (gain_part v) so_far + k * sum_over (gain_part v) ts
+  added_gains = sum_over-with_multiples (gain_part v) (gain_part v) (gain_joins v) Added k (λ t. omega arith) so_far ts
+
+  added_losses : sum_over (loss_part v) (with_multiples Added k so_far ts) ≡ sum_over (loss_part v) so_far + k * sum_over (loss_part v) ts
+  added_losses = sum_over-with_multiples (loss_part v) (loss_part v) (loss_joins v) Added k (λ t. omega arith) so_far ts
+
+  taken_gains : sum_over (gain_part v) (with_multiples Taken k so_far ts) ≡ sum_over (gain_part v) so_far + k * sum_over (loss_part v) ts
+  taken_gains = sum_over-with_multiples (gain_part v) (loss_part v) (gain_joins v) Taken k (λ t. omega arith) so_far ts
+
+  taken_losses : sum_over (loss_part v) (with_multiples Taken k so_far ts) ≡ sum_over (loss_part v) so_far + k * sum_over (gain_part v) ts
+  taken_losses = sum_over-with_multiples (loss_part v) (gain_part v) (loss_joins v) Taken k (λ t. omega arith) so_far ts
+
+-- a number is the multiple of 2^32 below it and its rest
+quotient : (lo n hi : ℕ) → lo ≤ n → n ≤ hi → lo / 4294967296 ≡ hi / 4294967296 → lo / 4294967296 * 4294967296 + n % 4294967296 ≡ n
+quotient lo n hi le le' e = omega arith
+
+-- an interval with a range has one multiple of 2^32
+one_multiple : (i : Interval) → is_some (range_within i) ≡ true → i.lo / 2 ^ 32 ≡ i.hi / 2 ^ 32
+one_multiple i there =
+    elim (cases_eq (i.lo / 2 ^ 32) (i.hi / 2 ^ 32)) [
+      | inl one ↦ one
+      | inr other ↦ absurd (nothing (sym (ap is_some (within-none i other)) ∙ there))
+    ]
+  where
+    nothing : false ≡ true → ⊥
+    nothing e = cc
+
+has_range : (table : AtomTable) (f : Linear) → is_some (range_of_form table f) ≡ true → is_some (range_within (form_interval table f)) ≡ true
+unfolding range_of_form
+has_range table f there = there
+
+module _ (table : AtomTable) (v : ℕ → ℕ) (agrees : AgreesWith table v) where
+  -- a form's value is its sum less the multiple of 2^32 by which its range was found
+  value_parts : (f : Linear) → IsForm 8 f → is_some (range_of_form table f) ≡ true
+      → f.constant + (2 ^ 112 - base_of table f) + sum_over (gain_part v) (map signed_term f.terms)
+      ≡ base_of table f - 2 ^ 112 + sum_over (loss_part v) (map signed_term f.terms) + value v f
+  unfolding base_of
+  value_parts f is_form there =
+      let ts = map signed_term f.terms in
+      let inside = form-encloses table v agrees f in
+      let whole = quotient (form_interval table f).lo (sum_at v f.constant ts) (form_interval table f).hi inside.0 inside.1
+      (one_multiple (form_interval table f) (has_range table f there)) in
+      omega (
+        arith,
+        whole,
+        sum_at-value v f agrees.fits is_form.rises is_form.has_room,
+        net-sums v ts,
+        losses-bound v ts agrees.fits (signed_at_most f.terms),
+        length-map f.terms signed_term,
+        is_form.has_room,
+      )
+
+  added-product : (sum : WholeSum) (m : Product) → IsForm 8 m.form → is_some (range_of_form table m.form) ≡ true
+      → up v (with_product table Added sum m) + down v sum ≡ up v sum + down v (with_product table Added sum m) + m.factor * value v m.form
+  unfolding with_product
+  added-product sum m is_form there =
+      omega (
+        arith,
+        ap (λ n. m.factor * n) (value_parts m.form is_form there),
+        added_gains v m.factor sum.terms (map signed_term m.form.terms),
+        added_losses v m.factor sum.terms (map signed_term m.form.terms),
+      )
+
+  taken-product : (sum : WholeSum) (m : Product) → IsForm 8 m.form → is_some (range_of_form table m.form) ≡ true
+      → up v (with_product table Taken sum m) + down v sum + m.factor * value v m.form ≡ up v sum + down v (with_product table Taken sum m)
+  unfolding with_product
+  taken-product sum m is_form there =
+      omega (
+        arith,
+        ap (λ n. m.factor * n) (value_parts m.form is_form there),
+        taken_gains v m.factor sum.terms (map signed_term m.form.terms),
+        taken_losses v m.factor sum.terms (map signed_term m.form.terms),
+      )
+
+  added-products : (sum : WholeSum) (ms : List Product) → AreForms ms → have_ranges table ms ≡ true
+      → up v (with_products table Added sum ms) + down v sum ≡ up v sum + down v (with_products table Added sum ms) + total_of v ms
+  unfolding with_products
+  added-products sum [] forms there = omega arith
+  added-products sum (m ∷ ms) forms there =
+      omega (arith, added-product sum m forms.0 (and_first _ _ there), added-products (with_product table Added sum m) ms forms.1 (and_rest _ _ there))
+
+  taken-products : (sum : WholeSum) (ms : List Product) → AreForms ms → have_ranges table ms ≡ true
+      → up v (with_products table Taken sum ms) + down v sum + total_of v ms ≡ up v sum + down v (with_products table Taken sum ms)
+  unfolding with_products
+  taken-products sum [] forms there = omega arith
+  taken-products sum (m ∷ ms) forms there =
+      omega (arith, taken-product sum m forms.0 (and_first _ _ there), taken-products (with_product table Taken sum m) ms forms.1 (and_rest _ _ there))
+
+  positive-holds : (sum : WholeSum) → is_positive table sum ≡ true → down v sum ≤ up v sum
+  unfolding is_positive
+  positive-holds sum e =
+      omega (
+        arith,
+        leb-true _ _ e,
+        net-sums v sum.terms,
+        gains-le (ends table Lo) v (at_least table v agrees) sum.terms,
+        losses-le v (ends table Hi) (at_most table v agrees) sum.terms,
+      )
+
+  -- a difference whose lower bound is at least 0 is not negative
+  pub difference-holds : (more less : ℕ) (ms ls : List Product) → AreForms ms → AreForms ls
+      → have_ranges table ms ≡ true → have_ranges table ls ≡ true → is_positive table (difference_of table more ms less ls) ≡ true
+      → less + total_of v ls ≤ more + total_of v ms
+  unfolding difference_of
+  difference-holds more less ms ls forms forms' there there' positive =
+      let start : WholeSum = record { plus = more; minus = less; terms = [] } in
+      omega (
+        arith,
+        positive-holds _ positive,
+        added-products start ms forms there,
+        taken-products (with_products table Added start ms) ls forms' there',
+        sum_over-nil (gain_part v),
+        sum_over-nil (loss_part v),
+      )

@@ -1,0 +1,178 @@
+-- Sums in whole numbers: their terms one by one, their bounds, and what they come to.
+use Rattle.std.proofs.Common.{◌≡◌, ℕ, ◌+◌, ◌-◌, ◌*◌, ◌^◌, ◌<◌, ◌≤◌, ◌==◌, inl, inr, zero, suc, List, [], ◌∷◌, ◌++◌, map, length, drop, get_or, position, slice_set, refl, ap, sym, ◌∙◌, subst, arith, length-append, append-nil, Option, Some, None}
+use Rattle.std.proofs.lemmas.Bool.{cases_lt}
+use Rattle.std.proofs.lemmas.List.{drop_more, drop_all, get_or_default, length-set}
+use Rattle.std.proofs.lemmas.List.Quantifiers.{position-Some}
+use Rattle.std.proofs.lemmas.Grind.{common_steps}
+use Rattle.std.proofs.lemmas.Nat.{mul-le}
+use Rattle.std.specs.List.{refill}
+use Rattle.arrayvec.proofs.ArrayVecLemmas.{items-with_items}
+use Rattle.linear_facts.specs.declared.forms.Term.{Term}
+use Rattle.linear_facts.specs.declared.sums.WholeTerm.{WholeTerm}
+use Rattle.linear_facts.specs.declared.ranges.Split.{Split}
+use Rattle.linear_facts.specs.Ranges.{AtomTable, split_at}
+use Rattle.linear_facts.specs.Sums.{AllAtMost, signed_term, joined, with_term, with_term_at, with_parts, with_split, gains, losses}
+
+-- one term's parts
+pub at_most_at : (n : ℕ) (ts : List WholeTerm) (i : ℕ) (d : WholeTerm) → AllAtMost n ts → i < length ts
+    → ((get_or ts i d).plus ≤ n) × ((get_or ts i d).minus ≤ n)
+at_most_at n [] i d h inside = absurd (omega arith)
+at_most_at n (t ∷ ts) zero d h inside = (h.0, h.1)
+at_most_at n (t ∷ ts) (suc i) d h inside = at_most_at n ts i d h.2 (omega arith)
+
+pub gains-more : (r : ℕ → ℕ) (ts : List WholeTerm) (i : ℕ) (d : WholeTerm) → i < length ts
+    → gains r (drop i ts) ≡ ((get_or ts i d).plus - (get_or ts i d).minus) * r (get_or ts i d).atom + gains r (drop (i + 1) ts)
+unfolding gains
+gains-more r ts i d inside = ap (λ l. gains r l) (drop_more ts i d inside)
+
+pub gains-done : (r : ℕ → ℕ) (ts : List WholeTerm) (i : ℕ) → length ts ≤ i → gains r (drop i ts) ≡ 0
+unfolding gains
+gains-done r ts i done = ap (λ l. gains r l) (drop_all i ts done)
+
+pub losses-more : (r : ℕ → ℕ) (ts : List WholeTerm) (i : ℕ) (d : WholeTerm) → i < length ts
+    → losses r (drop i ts) ≡ ((get_or ts i d).minus - (get_or ts i d).plus) * r (get_or ts i d).atom + losses r (drop (i + 1) ts)
+unfolding losses
+losses-more r ts i d inside = ap (λ l. losses r l) (drop_more ts i d inside)
+
+pub losses-done : (r : ℕ → ℕ) (ts : List WholeTerm) (i : ℕ) → length ts ≤ i → losses r (drop i ts) ≡ 0
+unfolding losses
+losses-done r ts i done = ap (λ l. losses r l) (drop_all i ts done)
+
+-- a term's share of a sum
+pub share_bound : (n p m k x : ℕ) → p ≤ n → k ≡ p - m → x < 2 ^ 32 → k * x ≤ n * 2 ^ 32
+share_bound n p m k x le is lt = mul-le k x n (2 ^ 32) (omega arith) (omega arith)
+
+-- one more share is added
+pub next_share : (sum k k' x x' rest front whole : ℕ) → k ≡ k' → x ≡ x' → front ≡ k' * x' + rest → sum + front ≡ whole
+    → sum + k * x + rest ≡ whole
+next_share sum k k' x x' rest front whole is_k is_x is_front so_far =
+    omega (arith, so_far, is_front, ap (λ n. n * x) is_k, ap (λ n. k' * n) is_x)
+
+-- the place of an atom's term is where its term is put
+pub with_term-there : (ts : List WholeTerm) (t : WholeTerm) (i : ℕ) → position (λ u. u.atom == t.atom) ts ≡ Some i
+    → with_term ts t ≡ slice_set ts i (joined (get_or ts i t) t)
+unfolding with_term
+with_term-there ts t i e = ap (λ p. with_term_at p ts t) e
+
+pub with_term-new : (ts : List WholeTerm) (t : WholeTerm) → position (λ u. u.atom == t.atom) ts ≡ None
+    → with_term ts t ≡ ts ++ t ∷ []
+unfolding with_term
+with_term-new ts t e = ap (λ p. with_term_at p ts t) e
+
+-- the place that was found for an atom holds one of the terms
+module _ (now read items : List WholeTerm) (i : ℕ) (t : WholeTerm) (is_now : now ≡ items) (is_read : read ≡ items)
+    (found : position (λ u. u.atom == t.atom) now ≡ Some i) where
+  pub place_inside : i < length items
+  place_inside = subst (λ (l : List WholeTerm). i < length l) is_now (position-Some (λ u. u.atom == t.atom) now i t found).0
+
+  pub place_fits : AllAtMost (2 ^ 100) items
+      → ((get_or read i record { atom = 0; plus = 0; minus = 0 }).plus ≤ 2 ^ 100) × ((get_or read i record { atom = 0; plus = 0; minus = 0 }).minus ≤ 2 ^ 100)
+  place_fits small =
+      subst (λ (l : List WholeTerm). ((get_or l i record { atom = 0; plus = 0; minus = 0 }).plus ≤ 2 ^ 100) × ((get_or l i record { atom = 0; plus = 0; minus = 0 }).minus ≤ 2 ^ 100))
+      (sym is_read) (at_most_at (2 ^ 100) items i record { atom = 0; plus = 0; minus = 0 } small place_inside)
+
+  -- what is written there is the sum of both
+  pub set_there : (lent : List WholeTerm) → lent ≡ items
+      → refill (length items) items (slice_set lent i (joined (get_or read i record { atom = 0; plus = 0; minus = 0 }) t)) ≡ with_term items t
+  set_there lent is_lent =
+      ap (λ l. refill (length items) items (slice_set l i (joined (get_or read i record { atom = 0; plus = 0; minus = 0 }) t))) is_lent
+      ∙ (items-with_items (record { items = items }) (slice_set items i (joined (get_or read i record { atom = 0; plus = 0; minus = 0 }) t))
+      (length-set items i (joined (get_or read i record { atom = 0; plus = 0; minus = 0 }) t))
+      ∙ (ap (λ l. slice_set items i (joined (get_or l i record { atom = 0; plus = 0; minus = 0 }) t)) is_read
+      ∙ (ap (λ u. slice_set items i (joined u t)) (get_or_default items i record { atom = 0; plus = 0; minus = 0 } t place_inside)
+      ∙ sym (with_term-there items t i (ap (position (λ (u : WholeTerm). u.atom == t.atom)) (sym is_now) ∙ found)))))
+
+-- bounds of coefficients
+pub at_most_more : (m n : ℕ) (ts : List WholeTerm) → m ≤ n → AllAtMost m ts → AllAtMost n ts
+at_most_more m n [] le h = tt
+at_most_more m n (t ∷ ts) le h = (omega arith, omega arith, at_most_more m n ts le h.2)
+
+at_most-append : (n : ℕ) (xs ys : List WholeTerm) → AllAtMost n xs → AllAtMost n ys → AllAtMost n (xs ++ ys)
+at_most-append n [] ys h k = k
+at_most-append n (x ∷ xs) ys h k = (h.0, h.1, at_most-append n xs ys h.2 k)
+
+at_most-set : (n : ℕ) (ts : List WholeTerm) (i : ℕ) (u : WholeTerm) → AllAtMost n ts → u.plus ≤ n → u.minus ≤ n
+    → AllAtMost n (slice_set ts i u)
+at_most-set n [] i u h p m = tt
+at_most-set n (t ∷ ts) zero u h p m = (p, m, h.2)
+at_most-set n (t ∷ ts) (suc i) u h p m = (h.0, h.1, at_most-set n ts i u h.2 p m)
+
+module _ (n k : ℕ) (ts : List WholeTerm) (t : WholeTerm) (small : AllAtMost n ts) (plus : t.plus ≤ k) (minus : t.minus ≤ k) where
+  at_most_by_place : (o : Option ℕ) → position (λ u. u.atom == t.atom) ts ≡ o → AllAtMost (n + k) (with_term_at o ts t)
+  at_most_by_place None e = at_most-append (n + k) ts (t ∷ []) (at_most_more n (n + k) ts (omega arith) small) (omega arith, omega arith, tt)
+  at_most_by_place (Some i) e =
+      let inside = (position-Some (λ u. u.atom == t.atom) ts i t e).0 in
+      let old = at_most_at n ts i t small inside in
+      at_most-set (n + k) ts i (joined (get_or ts i t) t) (at_most_more n (n + k) ts (omega arith) small)
+      (omega (arith, old.0)) (omega (arith, old.1))
+
+  -- one more term adds its coefficient at most
+  pub at_most-with_term : AllAtMost (n + k) (with_term ts t)
+  unfolding with_term
+  at_most-with_term = at_most_by_place (position (λ u. u.atom == t.atom) ts) refl
+
+length_by_place : (ts : List WholeTerm) (t : WholeTerm) (o : Option ℕ) → length (with_term_at o ts t) ≤ length ts + 1
+length_by_place ts t None = omega (arith, length-append ts (t ∷ []))
+length_by_place ts t (Some i) = omega (arith, length-set ts i (joined (get_or ts i t) t))
+
+-- one more term makes the list one longer at most
+pub length-with_term : (ts : List WholeTerm) (t : WholeTerm) → length (with_term ts t) ≤ length ts + 1
+unfolding with_term
+length-with_term ts t = length_by_place ts t (position (λ u. u.atom == t.atom) ts)
+
+module _ (ts : List WholeTerm) (t : WholeTerm) where
+  pub length-with_parts : (o : Option Split) → length (with_parts o ts t) ≤ length ts + 2
+  length-with_parts None = omega (arith, length-with_term ts t)
+  length-with_parts (Some s) =
+      omega (
+        arith,
+        length-with_term ts record { atom = s.first; plus = t.plus; minus = t.minus },
+        length-with_term (with_term ts record { atom = s.first; plus = t.plus; minus = t.minus }) record { atom = s.second; plus = t.plus; minus = t.minus },
+      )
+
+  pub at_most-with_parts : (n k : ℕ) (o : Option Split) → AllAtMost n ts → t.plus ≤ k → t.minus ≤ k
+      → AllAtMost (n + 2 * k) (with_parts o ts t)
+  at_most-with_parts n k None small plus minus =
+      at_most_more (n + k) (n + 2 * k) (with_term ts t) (omega arith) (at_most-with_term n k ts t small plus minus)
+  at_most-with_parts n k (Some s) small plus minus =
+      at_most_more (n + k + k) (n + 2 * k) _ (omega arith)
+      (at_most-with_term (n + k) k (with_term ts record { atom = s.first; plus = t.plus; minus = t.minus }) record { atom = s.second; plus = t.plus; minus = t.minus }
+      (at_most-with_term n k ts record { atom = s.first; plus = t.plus; minus = t.minus } small plus minus) plus minus)
+
+-- a coefficient as a signed number
+pub signed-low : (t : Term) → t.coefficient < 2 ^ 31 → signed_term t ≡ record { atom = t.atom; plus = t.coefficient; minus = 0 }
+unfolding signed_term
+signed-low t low = grind (arith, common_steps)
+
+pub signed-high : (t : Term) → 2 ^ 31 ≤ t.coefficient → signed_term t ≡ record { atom = t.atom; plus = 0; minus = 2 ^ 32 - t.coefficient }
+unfolding signed_term
+signed-high t high = grind (arith, common_steps)
+
+signed_small : (t : Term) → ((signed_term t).plus ≤ 2 ^ 32) × ((signed_term t).minus ≤ 2 ^ 32)
+signed_small t =
+    elim (cases_lt t.coefficient (2 ^ 31)) [
+      | inl low ↦ subst (λ (u : WholeTerm). (u.plus ≤ 2 ^ 32) × (u.minus ≤ 2 ^ 32)) (sym (signed-low t low)) (omega arith, omega arith)
+      | inr high ↦ subst (λ (u : WholeTerm). (u.plus ≤ 2 ^ 32) × (u.minus ≤ 2 ^ 32)) (sym (signed-high t high)) (omega arith, omega arith)
+    ]
+
+-- coefficients as signed numbers are small
+pub signed_at_most : (ts : List Term) → AllAtMost (2 ^ 32) (map signed_term ts)
+signed_at_most [] = tt
+signed_at_most (t ∷ ts) = ((signed_small t).0, (signed_small t).1, signed_at_most ts)
+
+-- once all is signed, nothing lacks
+pub signed-done : (items : List WholeTerm) (ts : List Term) (i : ℕ)
+    → length ts ≤ i → items ++ map signed_term (drop i ts) ≡ map signed_term ts → items ≡ map signed_term ts
+signed-done items ts i done so_far =
+    sym (append-nil items) ∙ (ap (λ l. items ++ map signed_term l) (sym (drop_all i ts done)) ∙ so_far)
+
+pub split-more : (table : AtomTable) (so_far ts : List WholeTerm) (i : ℕ) (d : WholeTerm) → i < length ts
+    → with_split table so_far (drop i ts)
+    ≡ with_split table (with_parts (split_at table (get_or ts i d).atom) so_far (get_or ts i d)) (drop (i + 1) ts)
+unfolding with_split
+split-more table so_far ts i d inside = ap (λ l. with_split table so_far l) (drop_more ts i d inside)
+
+pub split-done : (table : AtomTable) (so_far ts : List WholeTerm) (i : ℕ) → length ts ≤ i
+    → with_split table so_far (drop i ts) ≡ so_far
+unfolding with_split
+split-done table so_far ts i done = ap (λ l. with_split table so_far l) (drop_all i ts done)

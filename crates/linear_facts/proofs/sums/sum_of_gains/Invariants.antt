@@ -1,0 +1,11 @@
+-- The sum so far, and the sum of what is left, make the whole sum.
+use Rattle.std.proofs.Common.{◌≡◌, ◌+◌, ◌*◌, ◌^◌, ◌≤◌, drop}
+use Rattle.linear_facts.specs.Sums.{AllAtMost, gains, ends}
+use Rattle.linear_facts.proofs.sums.sum_of_gains.Given as goal
+
+abbrev pub invariant-loop-term : goal.invariant-loop-term
+invariant-loop-term l = record {
+  rest : l.sum + gains (ends l.atoms l.end) (drop l.term-index l.terms) ≡ gains (ends l.atoms l.end) l.terms;
+  bound : l.sum ≤ l.term-index * 2 ^ 104;
+  close : AllAtMost (2 ^ 40) l.terms → l.sum ≤ l.term-index * 2 ^ 72;
+}

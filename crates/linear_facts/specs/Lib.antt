@@ -1,0 +1,4 @@
+pub mod Forms
+pub mod Ranges
+pub mod Sums
+pub mod Differences

@@ -1,0 +1,17 @@
+//! Linear forms over unknown numbers, and the ranges in which their values lie.
+//!
+//! A form is a constant and terms, each a coefficient times an atom: an unknown number that is known by its number
+//! alone. What a form means is a number modulo 2^32, as registers of 32 bits hold it.
+#![tactic(auto)]
+
+mod differences;
+mod forms;
+mod ranges;
+mod sums;
+
+pub use differences::{Multiple, is_at_least};
+pub use forms::{Form, Term};
+pub use ranges::{Atom, Atoms, Change, End, Range, Split};
+
+#[cfg(test)]
+mod tests;

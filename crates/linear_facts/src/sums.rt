@@ -1,0 +1,264 @@
+//! Sums in whole numbers, and the ranges of forms.
+//!
+//! A coefficient is `plus - minus`, and both ends of an interval are given with 2^112 added, so that all
+//! numbers are natural ones.
+ghost use Rattle.std.specs.Prelude.{◌≡◌, ℕ, ◌+◌, ◌-◌, ◌*◌, ◌/◌, ◌%◌, ◌^◌, ◌<◌, ◌≤◌, List, [], ◌∷◌, map, length, position, ◌==◌, IfSome};
+ghost use Rattle.linear_facts.specs.Forms.{value};
+ghost use Rattle.linear_facts.specs.Ranges.{AgreesWith, IsIn, split_at};
+ghost use Rattle.linear_facts.specs.Sums.{AllAtMost, IsClose, signed_term, joined, with_term, with_parts, with_split, nonzero_count, gains, losses, ends, interval_of, met_or_own, form_interval, range_within, range_of_form};
+
+use crate::forms::{Form, Term};
+use crate::ranges::{Atoms, End, Range};
+use arrayvec::ArrayVec;
+
+/// A coefficient, `plus - minus`, times an atom.
+#[derive(Clone, Copy, Debug, Default, PartialEq, Eq)]
+pub(crate) struct WholeTerm {
+    pub(crate) atom: u16,
+    pub(crate) plus: u128,
+    pub(crate) minus: u128,
+}
+
+/// The whole numbers from `lo` to `hi`, both with 2^112 added.
+#[derive(Clone, Copy, Debug, PartialEq, Eq)]
+pub(crate) struct Interval {
+    pub(crate) lo: u128,
+    pub(crate) hi: u128,
+}
+
+/// 2^112.
+pub(crate) const OFFSET: u128 = 0x1_0000_0000_0000_0000_0000_0000_0000;
+
+impl From<Term> for WholeTerm {
+    ghost from_gives = { λ t u. u ≡ signed_term t };
+
+    /// The term with its coefficient as a signed number of 32 bits.
+    #[tactic(auto, unfolding(crate::specs::Sums::signed_term))]
+    fn from(term: Term) -> WholeTerm {
+        let coefficient = u128::from(term.coefficient);
+        if coefficient < 1 << 31 {
+            WholeTerm {
+                atom: term.atom,
+                plus: coefficient,
+                minus: 0,
+            }
+        } else {
+            WholeTerm {
+                atom: term.atom,
+                plus: 0,
+                minus: (1 << 32) - coefficient,
+            }
+        }
+    }
+}
+
+/// The terms with their coefficients as signed numbers of 32 bits.
+pub(crate) fn signed_terms(terms: &[Term]) -> ArrayVec<WholeTerm, 32>
+    requires { length terms.now ≤ 8 }
+    ensures terms { result.items ≡ map signed_term terms.now }
+    ensures small { AllAtMost (2 ^ 32) result.items }
+{
+    let mut signed = ArrayVec::new();
+    for term in terms {
+        signed.push(WholeTerm::from(*term));
+    }
+    signed
+}
+
+/// The place of the first term of this atom.
+fn place_of(terms: &[WholeTerm], atom: u16) -> Option<usize>
+    ensures { result ≡ position (λ t. t.atom == atom) terms.now }
+{
+    terms.iter().position(|term| term.atom == atom)
+}
+
+/// Adds a term, to the one of its atom where there is one.
+pub(crate) fn add_term(terms: &mut ArrayVec<WholeTerm, 32>, term: WholeTerm)
+    requires room { length terms.old.items < 32 }
+    requires small { AllAtMost (2 ^ 100) terms.old.items }
+    requires plus { term.plus ≤ 2 ^ 100 }
+    requires minus { term.minus ≤ 2 ^ 100 }
+    ensures { terms.new.items ≡ with_term terms.old.items term }
+{
+    match place_of(terms.as_slice(), term.atom) {
+        Some(i) => {
+            let other = terms.as_slice()[i];
+            terms.as_mut_slice()[i] = WholeTerm {
+                atom: other.atom,
+                plus: other.plus + term.plus,
+                minus: other.minus + term.minus,
+            };
+        }
+        None => terms.push(term),
+    }
+}
+
+/// How many terms are not 0.
+fn nonzero_terms(terms: &[WholeTerm]) -> usize
+    ensures { result ≡ nonzero_count terms.now }
+{
+    terms.iter().filter(|term| term.plus != term.minus).count()
+}
+
+/// An end of an atom's range.
+fn end_of_range(atoms: &Atoms, atom: u16, end: End) -> u128
+    ensures value { result ≡ ends atoms.now end atom }
+    ensures fits { result < 2 ^ 32 }
+{
+    u128::from(atoms.range(atom).end(end))
+}
+
+/// What the terms with positive coefficients come to where each atom is at this end of its range.
+pub(crate) fn sum_of_gains(terms: &[WholeTerm], atoms: &Atoms, end: End) -> u128
+    requires few { length terms.now ≤ 64 }
+    requires small { AllAtMost (2 ^ 72) terms.now }
+    ensures sum { result ≡ gains (ends atoms.now end) terms.now }
+    ensures bound { result ≤ 2 ^ 110 }
+    ensures close { AllAtMost (2 ^ 40) terms.now → result ≤ 2 ^ 78 }
+{
+    let mut sum = 0;
+    for term in terms {
+        let coefficient = term.plus.saturating_sub(term.minus);
+        sum += coefficient * end_of_range(atoms, term.atom, end);
+    }
+    sum
+}
+
+/// What the terms with negative coefficients take away where each atom is at this end of its range.
+pub(crate) fn sum_of_losses(terms: &[WholeTerm], atoms: &Atoms, end: End) -> u128
+    requires few { length terms.now ≤ 64 }
+    requires small { AllAtMost (2 ^ 72) terms.now }
+    ensures sum { result ≡ losses (ends atoms.now end) terms.now }
+    ensures bound { result ≤ 2 ^ 110 }
+    ensures close { AllAtMost (2 ^ 40) terms.now → result ≤ 2 ^ 78 }
+{
+    let mut sum = 0;
+    for term in terms {
+        let coefficient = term.minus.saturating_sub(term.plus);
+        sum += coefficient * end_of_range(atoms, term.atom, end);
+    }
+    sum
+}
+
+/// The interval of `plus - minus` and the terms, by interval arithmetic.
+#[tactic(auto, unfolding(crate::specs::Sums::interval_of))]
+fn interval_by_ends(plus: u128, minus: u128, terms: &[WholeTerm], atoms: &Atoms) -> Interval
+    requires few { length terms.now ≤ 64 }
+    requires small { AllAtMost (2 ^ 72) terms.now }
+    requires plus { plus ≤ 2 ^ 110 }
+    requires minus { minus ≤ 2 ^ 110 }
+    ensures interval { result ≡ interval_of atoms.now plus minus terms.now }
+    ensures close { AllAtMost (2 ^ 40) terms.now → plus ≤ 2 ^ 40 → minus ≡ 0 → IsClose result }
+{
+    let low_gains = sum_of_gains(terms, atoms, End::Lo);
+    let high_gains = sum_of_gains(terms, atoms, End::Hi);
+    let low_losses = sum_of_losses(terms, atoms, End::Lo);
+    let high_losses = sum_of_losses(terms, atoms, End::Hi);
+    Interval {
+        lo: OFFSET + plus + low_gains - (minus + high_losses),
+        hi: OFFSET + plus + high_gains - (minus + low_losses),
+    }
+}
+
+/// What lies in both intervals, or the first where they don't meet.
+#[tactic(auto, unfolding(crate::specs::Sums::met_or_own))]
+fn met(own: Interval, other: Interval) -> Interval
+    ensures met { result ≡ met_or_own own other }
+    ensures close { IsClose own → IsClose other → IsClose result }
+{
+    let lo = own.lo.max(other.lo);
+    let hi = own.hi.min(other.hi);
+    if lo <= hi { Interval { lo, hi } } else { own }
+}
+
+/// The interval less one multiple of 2^32, where that leaves numbers of 32 bits.
+#[tactic(auto, unfolding(crate::specs::Sums::range_within))]
+fn range_in(interval: Interval) -> Option<Range>
+    ensures { result ≡ range_within interval }
+{
+    let modulus = 1u128 << 32;
+    if interval.lo / modulus == interval.hi / modulus {
+        Some(Range {
+            lo: (interval.lo % modulus) as u32,
+            hi: (interval.hi % modulus) as u32,
+        })
+    } else {
+        None
+    }
+}
+
+/// Adds the two parts of a term whose atom is split, else the term.
+fn add_parts(terms: &mut ArrayVec<WholeTerm, 32>, term: WholeTerm, atoms: &Atoms)
+    requires room { length terms.old.items ≤ 30 }
+    requires small { AllAtMost (2 ^ 63) terms.old.items }
+    requires plus { term.plus ≤ 2 ^ 63 }
+    requires minus { term.minus ≤ 2 ^ 63 }
+    ensures { terms.new.items ≡ with_parts (split_at atoms.now term.atom) terms.old.items term }
+{
+    match atoms.split(term.atom) {
+        Some(split) => {
+            let first = WholeTerm {
+                atom: split.first,
+                plus: term.plus,
+                minus: term.minus,
+            };
+            let second = WholeTerm {
+                atom: split.second,
+                plus: term.plus,
+                minus: term.minus,
+            };
+            add_term(terms, first);
+            add_term(terms, second);
+        }
+        None => add_term(terms, term),
+    }
+}
+
+/// The terms with each split atom replaced by the sum of its two parts, all at once.
+fn split_terms(terms: &[WholeTerm], atoms: &Atoms) -> ArrayVec<WholeTerm, 32>
+    requires few { length terms.now ≤ 8 }
+    requires small { AllAtMost (2 ^ 32) terms.now }
+    ensures terms { result.items ≡ with_split atoms.now [] terms.now }
+    ensures small { AllAtMost (2 ^ 40) result.items }
+    ensures few { length result.items ≤ 32 }
+{
+    let mut replaced = ArrayVec::new();
+    for term in terms {
+        add_parts(&mut replaced, *term, atoms);
+    }
+    replaced
+}
+
+impl Form<8> {
+    /// The range in which the form's value lies wherever the atoms lie in theirs, if it is known.
+    ///
+    /// The form's sum in whole numbers, with coefficients as signed numbers of 32 bits, lies in an interval.
+    /// That is met with the interval of the sum in which each split atom is replaced by its two parts, where
+    /// that has at most eight terms. Where the interval less one multiple of 2^32 holds numbers of 32 bits
+    /// alone, that is the range.
+    #[tactic(auto, unfolding(crate::specs::Sums::range_of_form, crate::specs::Sums::form_interval))]
+    pub fn range_of(&self, atoms: &Atoms) -> Option<Range>
+        ensures rule { result ≡ range_of_form atoms.now self.now }
+        ensures holds { (v : ℕ → ℕ) → AgreesWith atoms.now v
+            → IfSome result (λ r. IsIn r (value v self.now)) }
+    {
+        range_in(interval_of_terms(self.constant, self.terms.as_slice(), atoms))
+    }
+}
+
+/// The interval of a form's sum, met with the one after each split atom is replaced by its two parts.
+pub(crate) fn interval_of_terms(constant: u32, terms: &[Term], atoms: &Atoms) -> Interval
+    requires { length terms.now ≤ 8 }
+    ensures interval { result ≡ form_interval atoms.now record { constant = constant; terms = terms.now } }
+    ensures close { IsClose result }
+{
+    let constant = u128::from(constant);
+    let signed = signed_terms(terms);
+    let split = split_terms(signed.as_slice(), atoms);
+    let own = interval_by_ends(constant, 0, signed.as_slice(), atoms);
+    if nonzero_terms(split.as_slice()) <= 8 {
+        met(own, interval_by_ends(constant, 0, split.as_slice(), atoms))
+    } else {
+        own
+    }
+}
