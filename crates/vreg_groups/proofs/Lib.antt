@@ -1,0 +1,5 @@
+pub mod Places
+pub mod Ranges
+pub mod Sizes
+pub mod Writes
+pub mod Rooms

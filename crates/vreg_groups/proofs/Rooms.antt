@@ -1,0 +1,38 @@
+-- That groups of registers, and the elements in them, lie in the registers.
+use Rattle.std.proofs.Common.{ℕ, ◌+◌, ◌*◌, ◌/◌, ◌<◌, ◌≤◌, ◌≡◌, ◌⊎◌, inl, inr, arith}
+use Rattle.std.proofs.Math.Nat.{mul-le-mul_left, mul-div-le}
+use Rattle.std.proofs.lemmas.Nat.{le-div}
+
+-- a group ends within the registers, and its elements within the group
+pub group_within : (vlenb size first count len : ℕ) → (vlenb ≡ 16) ⊎ (vlenb ≡ 32) → (size ≡ 1) ⊎ (size ≡ 2) ⊎ (size ≡ 4) →
+    first + count ≤ 32 → len ≡ 32 * vlenb → first * vlenb + size * (count * vlenb / size) ≤ len
+group_within vlenb size first count len v s group registers =
+    let elements = mul-div-le (count * vlenb) size in
+    let all : vlenb * (first + count) ≤ vlenb * 32 = mul-le-mul_left vlenb group in
+    omega arith
+
+pub element_within : (vlenb size count i : ℕ) → (size ≡ 1) ⊎ (size ≡ 2) ⊎ (size ≡ 4) → size * i + size ≤ count * vlenb →
+    i < count * vlenb / size
+element_within vlenb size count i s h =
+    let positive : 0 < size = omega arith in
+    let elements : (i + 1) * size ≤ count * vlenb = omega arith in
+    let within : i + 1 ≤ count * vlenb / size = le-div (i + 1) (count * vlenb) size positive elements in
+    omega arith
+
+-- what lies outside a group
+pub group_outside : (vlenb size first count k : ℕ) → (size ≡ 1) ⊎ (size ≡ 2) ⊎ (size ≡ 4) →
+    (k < first * vlenb) ⊎ ((first + count) * vlenb ≤ k) →
+    (k < first * vlenb) ⊎ (first * vlenb + size * (count * vlenb / size) ≤ k)
+group_outside vlenb size first count k s (inl below) = inl below
+group_outside vlenb size first count k s (inr past) = let elements = mul-div-le (count * vlenb) size in inr (omega arith)
+
+-- a register lies within the registers
+pub register_within : (vlenb register len : ℕ) → register < 32 → len ≡ 32 * vlenb → register * vlenb + vlenb ≤ len
+register_within vlenb register len r registers =
+    let all : vlenb * (register + 1) ≤ vlenb * 32 = mul-le-mul_left vlenb (omega arith) in
+    omega arith
+
+pub register_outside : (vlenb register k : ℕ) → (k < register * vlenb) ⊎ ((register + 1) * vlenb ≤ k) →
+    (k < register * vlenb) ⊎ (register * vlenb + 1 * vlenb ≤ k)
+register_outside vlenb register k (inl below) = inl below
+register_outside vlenb register k (inr past) = inr (omega arith)

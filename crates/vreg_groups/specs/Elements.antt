@@ -1,0 +1,46 @@
+-- Elements and mask bits of the vector registers ("Mapping of Vector Elements to Vector Register State"). A `file` is
+-- the bytes of the 32 registers end to end, `vlenb` of them for each register.
+use Rattle.std.specs.Prelude.{Bool, true, ℕ, zero, suc, ◌+◌, ◌*◌, ◌/◌, ◌%◌, ◌^◌, ◌==◌, if◌then◌else◌, List, [], ◌∷◌, map, replicate, slice_index}
+use Rattle.std.specs.List.{range_with_len}
+
+-- the little-endian number of the `size` bytes from place `at` on
+unfoldable pub number_at : ℕ → ℕ → List ℕ → ℕ
+number_at zero at bytes = 0
+number_at (suc n) at bytes = slice_index bytes at + 256 * number_at n (at + 1) bytes
+
+-- the `size` bytes of a number, the lowest first
+unfoldable pub bytes_of : ℕ → ℕ → List ℕ
+bytes_of zero number = []
+bytes_of (suc n) number = number % 256 ∷ bytes_of n (number / 256)
+
+-- element i, of `size` bytes, of the group that begins at place `at`: its registers lie end to end
+unfoldable pub element_at : ℕ → ℕ → List ℕ → ℕ → ℕ
+element_at size at bytes i = number_at size (at + size * i) bytes
+
+-- the first `count` elements, of `size` bytes, of the group that begins at register `first`
+unfoldable pub elements_of : ℕ → ℕ → ℕ → ℕ → List ℕ → List ℕ
+elements_of vlenb size first count file = map (element_at size (first * vlenb) file) (range_with_len 0 count)
+
+-- bit k of a byte, the lowest first
+unfoldable pub bit_of : ℕ → ℕ → Bool
+bit_of byte k = byte / 2 ^ k % 2 == 1
+
+-- bit i of the bytes from place `at` on
+unfoldable pub bit_at : ℕ → List ℕ → ℕ → Bool
+bit_at at bytes i = bit_of (slice_index bytes (at + i / 8)) (i % 8)
+
+-- the number whose lowest n bits are those of `bit`
+unfoldable pub number_of_bits : ℕ → (ℕ → Bool) → ℕ
+number_of_bits zero bit = 0
+number_of_bits (suc n) bit = number_of_bits n bit + (if bit n then 2 ^ n else 0)
+
+-- mask bit i of a register, and its first `count` mask bits
+unfoldable pub mask_bit : ℕ → ℕ → List ℕ → ℕ → Bool
+mask_bit vlenb register file i = bit_at (register * vlenb) file i
+
+unfoldable pub mask_bits : ℕ → ℕ → ℕ → List ℕ → List Bool
+mask_bits vlenb register count file = map (bit_at (register * vlenb) file) (range_with_len 0 count)
+
+-- which of the first `count` elements are active: the bits of v0 where the instruction is masked, else all
+unfoldable pub active_of : ℕ → Bool → ℕ → List ℕ → List Bool
+active_of vlenb masked count file = if masked then mask_bits vlenb 0 count file else replicate count true

@@ -1,0 +1,21 @@
+//! The vector registers: the vector type and length, the elements of register groups, and which vector instructions
+//! are legal.
+#![tactic(auto)]
+
+mod elements;
+mod groups;
+pub mod laws;
+mod legality;
+mod policies;
+mod registers;
+#[cfg(test)]
+mod tests;
+mod vector_length;
+mod vector_type;
+
+pub use elements::Element;
+pub use legality::legal;
+pub use policies::{Agnostic, Policy};
+pub use registers::VregFile;
+pub use vector_length::{Avl, Vconfig, vset};
+pub use vector_type::{Lmul, Vtype};

@@ -1,0 +1,161 @@
+//! The 32 vector registers.
+
+ghost use Rattle.std.specs.Prelude.{◌≡◌, ℕ, ◌+◌, ◌*◌, ◌/◌, ◌<◌, ◌≤◌, ◌⊎◌, length, map, replicate, take, slice_index};
+ghost use Rattle.vreg_groups.specs.Elements.{mask_bit, elements_of, mask_bits, active_of};
+ghost use Rattle.vreg_groups.specs.NewElements.{write_of, mask_write_of};
+
+use crate::elements::Element;
+use crate::groups::{bit_at, read_bits, read_elements, write_bits, write_elements};
+use crate::policies::Policy;
+use rv_decode::Reg;
+use std::marker::Model;
+
+/// The 32 vector registers, of `VLENB` bytes each: 16 or 32. Register n begins at byte n * VLENB.
+#[derive(Drop)]
+pub struct VregFile<const VLENB: usize> {
+    bytes: [u8; 1024],
+}
+
+impl<const VLENB: usize> Model for VregFile<VLENB> {
+    ghost use Rattle.std.specs.Prelude.{List, ℕ, ◌*◌, ◌≡◌, ◌⊎◌, take};
+
+    ghost Value = { List ℕ };
+
+    ghost view = { λ f. take (32 * VLENB) f.bytes };
+
+    ghost invariant = { λ f. (VLENB ≡ 16) ⊎ (VLENB ≡ 32) };
+}
+
+impl<const VLENB: usize> VregFile<VLENB> {
+    /// Registers that hold zeros.
+    pub fn new() -> VregFile<VLENB>
+        requires { (VLENB ≡ 16) ⊎ (VLENB ≡ 32) }
+        ensures { result ≡ replicate (32 * VLENB) 0 }
+    {
+        VregFile { bytes: [0; 1024] }
+    }
+
+    /// Byte `i` of a register.
+    pub fn byte(&self, register: Reg, i: usize) -> u8
+        requires { i < VLENB }
+        ensures meaning { result ≡ slice_index self.now (register * VLENB + i) }
+        ensures shape { length self.now ≡ 32 * VLENB }
+    {
+        let bytes = &self.bytes;
+        let bytes = &bytes[..32 * VLENB];
+        bytes[place_of(register, VLENB) + i]
+    }
+
+    /// Mask bit `i` of a register ("Mask Register Layout").
+    #[tactic(auto, unfolding(crate::specs::Elements::mask_bit))]
+    pub fn bit(&self, register: Reg, i: usize) -> bool
+        requires { i < 8 * VLENB }
+        ensures meaning { result ≡ mask_bit VLENB register self.now i }
+        ensures shape { length self.now ≡ 32 * VLENB }
+    {
+        let bytes = &self.bytes;
+        let bytes = &bytes[..32 * VLENB];
+        bit_at(bytes, place_of(register, VLENB), i)
+    }
+
+    /// Reads as many elements as `out` has room for, from the group that begins at `first`.
+    ///
+    /// The registers of a group lie end to end, and elements are little-endian ("Mapping of Vector Elements to Vector
+    /// Register State").
+    #[tactic(auto, unfolding(crate::specs::Elements::elements_of))]
+    pub fn read_group<E: Element>(&self, first: Reg, out: &mut [E])
+        requires { first * VLENB + E.SIZE * length out.old ≤ 32 * VLENB }
+        ensures meaning { map E.number out.new ≡ elements_of VLENB E.SIZE first (length out.old) self.now }
+        ensures shape { length self.now ≡ 32 * VLENB }
+    {
+        let bytes = &self.bytes;
+        let bytes = &bytes[..32 * VLENB];
+        read_elements(bytes, place_of(first, VLENB), out);
+    }
+
+    /// Reads as many mask bits as `out` has room for.
+    #[tactic(auto, unfolding(crate::specs::Elements::mask_bits))]
+    pub fn read_mask(&self, register: Reg, out: &mut [bool])
+        requires { length out.old ≤ 8 * VLENB }
+        ensures meaning { out.new ≡ mask_bits VLENB register (length out.old) self.now }
+        ensures shape { length self.now ≡ 32 * VLENB }
+    {
+        let bytes = &self.bytes;
+        let bytes = &bytes[..32 * VLENB];
+        read_bits(bytes, place_of(register, VLENB), out);
+    }
+
+    /// Tells which elements are active, as many as `active` has room for: those whose bit of v0 is set where the
+    /// instruction is masked, else all.
+    #[tactic(auto, unfolding(crate::specs::Elements::active_of))]
+    pub fn read_active(&self, masked: bool, active: &mut [bool])
+        requires { length active.old ≤ 8 * VLENB }
+        ensures meaning { active.new ≡ active_of VLENB masked (length active.old) self.now }
+        ensures shape { length self.now ≡ 32 * VLENB }
+    {
+        let _ = &self.bytes;
+        if masked {
+            self.read_mask(Reg::new(0), active);
+        } else {
+            active.fill(true);
+        }
+    }
+
+    /// Writes results to the group of `count` registers that begins at `first`.
+    ///
+    /// The body has as many elements as `values`: an active element becomes its value, and the others are inactive. All
+    /// later elements, to the end of the last register, are the tail. `policy` says what inactive elements and the
+    /// tail become. Where vl is 0, no result is written at all, and the caller makes no call.
+    #[tactic(auto, unfolding(crate::specs::NewElements::write_of))]
+    pub fn write_group<E: Element>(
+        &mut self,
+        first: Reg,
+        count: usize,
+        values: &[E],
+        active: &[bool],
+        policy: Policy,
+    )
+        requires { first + count ≤ 32 }
+        ensures meaning { self.new ≡ write_of VLENB E.SIZE first count policy (map E.number values.now) active.now self.old }
+        ensures shape { length self.new ≡ 32 * VLENB }
+    {
+        let _ = &self.bytes;
+        let bytes = &mut self.bytes[..32 * VLENB];
+        write_elements(
+            bytes,
+            place_of(first, VLENB),
+            count * VLENB / E::SIZE,
+            values,
+            active,
+            policy,
+        );
+    }
+
+    /// Writes a mask to a register: bit `i` becomes result `i` where it is below the number of results and active. Its
+    /// tail goes to the last bit of the register.
+    #[tactic(auto, unfolding(crate::specs::NewElements::mask_write_of))]
+    pub fn write_mask(&mut self, register: Reg, values: &[bool], active: &[bool], policy: Policy)
+        ensures meaning { self.new ≡ mask_write_of VLENB register policy values.now active.now self.old }
+        ensures shape { length self.new ≡ 32 * VLENB }
+    {
+        let _ = &self.bytes;
+        let bytes = &mut self.bytes[..32 * VLENB];
+        write_bits(
+            bytes,
+            place_of(register, VLENB),
+            VLENB,
+            values,
+            active,
+            policy,
+        );
+    }
+}
+
+// Where a register begins.
+fn place_of(register: Reg, vlenb: usize) -> usize
+    requires { vlenb ≤ 32 }
+    ensures meaning { result ≡ register * vlenb }
+    ensures within { result + vlenb ≤ 32 * vlenb }
+{
+    usize::from(register.number()) * vlenb
+}

@@ -1,0 +1,164 @@
+//! The vector type, vtype: the width of elements, the size of register groups, and what becomes of elements that no
+//! result is written to.
+
+ghost use Rattle.std.specs.Prelude.{◌≡◌, ℕ, ◌*◌, ◌<◌, ◌≤◌, ◌⊎◌};
+ghost use Rattle.vreg_groups.specs.Legality.{eew_bits, emul_eighths, group_count};
+ghost use Rattle.vreg_groups.specs.VectorType.{bits_of_width, eighths_of, sew_of, lmul_of, is_supported, vtype_of, vlmax_of};
+
+use rv_decode::{Eew, Width};
+
+/// How many vector registers a group has, or which part of one: LMUL.
+#[derive(Clone, Copy, PartialEq, Eq, Debug)]
+pub enum Lmul {
+    Quarter,
+    Half,
+    One,
+    Two,
+    Four,
+    Eight,
+}
+
+/// A supported vector type.
+///
+/// `sew` is the width of an element, `lmul` the size of a register group, `vta` whether the elements past the vector
+/// length are agnostic, `vma` whether those that the mask leaves out are.
+#[derive(Clone, Copy, PartialEq, Eq, Debug)]
+pub struct Vtype {
+    pub sew: Width,
+    pub lmul: Lmul,
+    pub vta: bool,
+    pub vma: bool,
+}
+
+impl Vtype {
+    /// The vector type that the bits of the register vtype stand for, or `None` where it is not supported.
+    ///
+    /// Not supported are SEW above 32, LMUL 1/8, a fractional LMUL with SEW above LMUL * 32, the reserved values, and
+    /// any of the bits 31 to 8 ("Vector Type Register, vtype").
+    #[tactic(auto, unfolding(crate::specs::VectorType::vtype_of))]
+    pub fn from_bits(bits: u32) -> Option<Vtype>
+        ensures meaning { result ≡ vtype_of bits }
+    {
+        if bits >= 256 {
+            return None;
+        }
+        let sew = sew_of((bits >> 3) % 8)?;
+        let lmul = lmul_of(bits % 8)?;
+        if !is_supported(sew, lmul) {
+            return None;
+        }
+        Some(Vtype {
+            sew,
+            lmul,
+            vta: (bits >> 6) % 2 == 1,
+            vma: (bits >> 7) % 2 == 1,
+        })
+    }
+
+    /// The greatest vector length, VLMAX = LMUL * VLEN / SEW, where a vector register has `vlenb` bytes.
+    #[tactic(auto, unfolding(crate::specs::VectorType::vlmax_of))]
+    pub fn vlmax(&self, vlenb: usize) -> u32
+        requires { (vlenb ≡ 16) ⊎ (vlenb ≡ 32) }
+        ensures meaning { result ≡ vlmax_of vlenb self.now }
+        ensures bound { result ≤ 256 }
+    {
+        (eighths(self.lmul) * vlenb / bits_of(self.sew)) as u32
+    }
+
+    /// How many registers a group has whose elements have this width: EMUL = EEW / SEW * LMUL of them, or one where EMUL
+    /// is a fraction.
+    #[tactic(auto, unfolding(crate::specs::Legality::group_count))]
+    pub fn group_count(&self, eew: Eew) -> usize
+        ensures meaning { result ≡ group_count self.now eew }
+        ensures positive { 0 < result }
+        ensures bound { result ≤ 64 }
+        ensures room { (vlenb vl : ℕ) → vl ≤ vlmax_of vlenb self.now → eew_bits self.now.sew eew * vl ≤ 8 * (result * vlenb) }
+    {
+        (emul_eighths(self, eew) / 8).max(1)
+    }
+}
+
+// EMUL = EEW / SEW * LMUL, in eighths.
+#[tactic(auto, unfolding(crate::specs::Legality::emul_eighths))]
+pub(crate) fn emul_eighths(vtype: &Vtype, eew: Eew) -> usize
+    ensures meaning { result ≡ emul_eighths vtype.now eew }
+    ensures bound { result ≤ 512 }
+{
+    eew_bits(vtype.sew, eew) * eighths(vtype.lmul) / bits_of(vtype.sew)
+}
+
+// EEW, in bits.
+pub(crate) fn eew_bits(sew: Width, eew: Eew) -> usize
+    ensures meaning { result ≡ eew_bits sew eew }
+    ensures bound { result ≤ 64 }
+{
+    match eew {
+        Eew::Quarter => bits_of(sew) / 4,
+        Eew::Half => bits_of(sew) / 2,
+        Eew::Same => bits_of(sew),
+        Eew::Double => 2 * bits_of(sew),
+        Eew::Fixed(width) => bits_of(width),
+    }
+}
+
+// LMUL, counted in eighths.
+pub(crate) fn eighths(lmul: Lmul) -> usize
+    ensures meaning { result ≡ eighths_of lmul }
+    ensures bound { result ≤ 64 }
+{
+    match lmul {
+        Lmul::Quarter => 2,
+        Lmul::Half => 4,
+        Lmul::One => 8,
+        Lmul::Two => 16,
+        Lmul::Four => 32,
+        Lmul::Eight => 64,
+    }
+}
+
+// How many bits an element of this width has.
+pub(crate) fn bits_of(width: Width) -> usize
+    ensures meaning { result ≡ bits_of_width width }
+    ensures bound { (result ≡ 8) ⊎ (result ≡ 16) ⊎ (result ≡ 32) }
+{
+    match width {
+        Width::W8 => 8,
+        Width::W16 => 16,
+        Width::W32 => 32,
+    }
+}
+
+#[tactic(auto, unfolding(crate::specs::VectorType::sew_of))]
+fn sew_of(vsew: u32) -> Option<Width>
+    ensures { result ≡ sew_of vsew }
+{
+    match vsew {
+        0 => Some(Width::W8),
+        1 => Some(Width::W16),
+        2 => Some(Width::W32),
+        _ => None,
+    }
+}
+
+#[tactic(auto, unfolding(crate::specs::VectorType::lmul_of))]
+fn lmul_of(vlmul: u32) -> Option<Lmul>
+    ensures { result ≡ lmul_of vlmul }
+{
+    match vlmul {
+        0 => Some(Lmul::One),
+        1 => Some(Lmul::Two),
+        2 => Some(Lmul::Four),
+        3 => Some(Lmul::Eight),
+        6 => Some(Lmul::Quarter),
+        7 => Some(Lmul::Half),
+        _ => None,
+    }
+}
+
+// SEW is at most LMUL * 32.
+#[tactic(auto, unfolding(crate::specs::VectorType::is_supported))]
+fn is_supported(sew: Width, lmul: Lmul) -> bool
+    ensures { result ≡ is_supported sew lmul }
+{
+    8 * bits_of(sew) <= 32 * eighths(lmul)
+}
