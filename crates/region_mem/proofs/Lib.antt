@@ -1,0 +1,6 @@
+pub mod Rooms
+pub mod Writes
+pub mod Order
+pub mod Matching
+pub mod Lists
+pub mod Apart

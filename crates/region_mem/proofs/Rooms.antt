@@ -1,0 +1,33 @@
+-- How much room buffers take.
+use Rattle.std.proofs.Common.{◌≡◌, ℕ, zero, suc, ◌+◌, ◌*◌, ◌/◌, ◌<◌, ◌≤◌, ◌^◌, Bool, true, false, ◌&&◌, List, [], ◌∷◌, length, take, leb, arith, sum_by}
+use Rattle.std.specs.List.{list_all}
+use Rattle.std.proofs.lemmas.List.Sums.{sum_by-cons}
+use Rattle.std.proofs.lemmas.Bool.Decides.{nat_tests}
+use Rattle.region_mem.specs.Parameter.{is_valid, room_of}
+use Rattle.region_mem.specs.declared.parameter.Param.{Param}
+use Rattle.region_mem.specs.declared.parameter.Param.TheVariants as parameter
+
+-- A valid parameter takes at most 16 MiB and a page.
+pub room_of_valid : (param : Param) → is_valid param ≡ true → room_of param ≤ 16781312
+unfolding is_valid room_of
+room_of_valid parameter.None h = omega arith
+room_of_valid (parameter.Scalar lo hi) h = omega arith
+room_of_valid (parameter.Buffer mode size) h = grind (arith, nat_tests)
+
+pub and_first : (a b : Bool) → (a && b) ≡ true → a ≡ true
+and_first true b h = cc
+and_first false b h = h
+
+pub and_second : (a b : Bool) → (a && b) ≡ true → b ≡ true
+and_second true b h = h
+and_second false b h = absurd (cc)
+
+pub sum_by_rooms : (place : ℕ) (params : List Param) → list_all is_valid params ≡ true → sum_by room_of (take place params) ≤ place * 16781312
+sum_by_rooms zero params h = omega arith
+sum_by_rooms (suc place) [] h = omega arith
+sum_by_rooms (suc place) (param ∷ params) h =
+    omega (arith, sum_by-cons room_of param (take place params), room_of_valid param (and_first _ _ h), sum_by_rooms place params (and_second _ _ h))
+
+-- The room before each of eight places.
+pub sum_by_room : (place : ℕ) (params : List Param) → list_all is_valid params ≡ true → place < length params → length params ≤ 8 → sum_by room_of (take place params) < 2 ^ 30
+sum_by_room place params h below eight = omega (arith, sum_by_rooms place params h)

@@ -1,0 +1,56 @@
+-- Areas of memory, as a list in the order of their first addresses: the byte at an address, what an access may do, and
+-- what a write leaves. An address is a number without limit here, so that none wraps.
+use Rattle.std.specs.Prelude.{ℕ, zero, suc, ◌+◌, ◌*◌, ◌-◌, ◌/◌, ◌%◌, ◌^◌, Bool, true, false, ◌&&◌, nat_le, nat_lt, List, [], ◌∷◌, length, map, find, Option, Some, None, unwrap_or, slice_index, slice_set, if◌then◌else◌}
+use Rattle.std.specs.List.{list_any, list_all, range_with_len}
+use Rattle.std.specs.Option.{option_map}
+use Rattle.region_mem.specs.declared.faults.Right.{Right}
+use Rattle.region_mem.specs.declared.faults.Right.TheVariants.{Read, Write, Fetch}
+
+-- bytes from an address on, and what may be done with them
+pub record Area : Type 0 where
+  pub first : ℕ
+  pub bytes : List ℕ
+  pub read : Bool
+  pub write : Bool
+  pub fetch : Bool
+
+-- The byte at this address is the area's.
+unfoldable pub holds : ℕ → Area → Bool
+holds address area = nat_le area.first address && nat_lt address (area.first + length area.bytes)
+
+unfoldable pub has_right : Right → Area → Bool
+has_right Read area = area.read
+has_right Write area = area.write
+has_right Fetch area = area.fetch
+
+-- The byte at this address lies in an area with the right.
+unfoldable pub is_open : Right → List Area → ℕ → Bool
+is_open right areas address = list_any (λ area. holds address area && has_right right area) areas
+
+-- An access is permitted where each of its bytes lies in an area with the right, and none past the last address.
+unfoldable pub is_open_from : Right → ℕ → ℕ → List Area → Bool
+is_open_from right address size areas = nat_le (address + size) (2 ^ 32) && list_all (is_open right areas) (range_with_len address size)
+
+-- the byte at an address, where an area holds it
+unfoldable pub byte_at : ℕ → List Area → Option ℕ
+byte_at address areas = option_map (λ area. slice_index area.bytes (address - area.first)) (find (holds address) areas)
+
+-- the number of which these are the bytes, the lowest first
+unfoldable pub number_of : List ℕ → ℕ
+number_of [] = 0
+number_of (byte ∷ bytes) = byte + 256 * number_of bytes
+
+-- the number in the n bytes from an address on
+unfoldable pub number_at : ℕ → ℕ → List Area → ℕ
+number_at address n areas = number_of (map (λ at. unwrap_or (byte_at at areas) 0) (range_with_len address n))
+
+-- the areas with this byte at an address
+unfoldable pub with_byte : ℕ → ℕ → List Area → List Area
+with_byte address byte [] = []
+with_byte address byte (area ∷ areas) =
+    if holds address area then record area { bytes = slice_set area.bytes (address - area.first) byte } ∷ areas else area ∷ with_byte address byte areas
+
+-- the areas with the n lowest bytes of a number from an address on
+unfoldable pub with_number : ℕ → ℕ → ℕ → List Area → List Area
+with_number address zero value areas = areas
+with_number address (suc n) value areas = with_number (address + 1) n (value / 256) (with_byte address (value % 256) areas)

@@ -1,0 +1,5 @@
+pub mod Parameter
+pub mod Area
+pub mod Memory
+pub mod Start
+pub mod Order

@@ -1,0 +1,64 @@
+-- The memory of a run, and what loads, stores and fetches do with it.
+use Rattle.std.specs.Prelude.{◌≡◌, ◌⊎◌, ℕ, ◌≤◌, Bool, true, false, ◌&&◌, nat_le, nat_lt, List, [], ◌∷◌, map, filter, Option, Some, None, if◌then◌else◌}
+use Rattle.region_mem.specs.declared.faults.Right.{Right}
+use Rattle.region_mem.specs.declared.faults.Right.TheVariants.{Read, Write, Fetch}
+use Rattle.region_mem.specs.declared.arguments.Arg.{Arg}
+use Rattle.region_mem.specs.declared.arguments.Arg.TheVariants as argument
+use Rattle.region_mem.specs.declared.arguments.Passed.{Passed}
+use Rattle.region_mem.specs.declared.arguments.Passed.TheVariants as passed
+use Rattle.region_mem.specs.Area.{Area, byte_at, is_open_from, number_at, with_number}
+
+-- The areas stand in the order of their first addresses; what was passed stands by place.
+pub record Memory : Type 0 where
+  pub areas : List Area
+  pub passed : List Passed
+
+-- the byte at an address, whatever the rights, where an area holds it
+unfoldable pub byte_of : ℕ → Memory → Option ℕ
+byte_of address memory = byte_at address memory.areas
+
+-- Each byte of the access lies in an area with the right, and none past the last address.
+unfoldable pub is_permitted : Right → ℕ → ℕ → Memory → Bool
+is_permitted right address size memory = is_open_from right address size memory.areas
+
+-- A load, a store and a fetch are of one, two or four bytes.
+abbrev pub IsAccessSize : ℕ → Type 0
+IsAccessSize n = (n ≡ 1) ⊎ (n ≡ 2) ⊎ (n ≡ 4)
+
+-- what a load of n bytes gives, the lowest byte first
+unfoldable pub load_of : ℕ → ℕ → Memory → Option ℕ
+load_of address n memory = if is_permitted Read address n memory then Some (number_at address n memory.areas) else None
+
+-- what a store of the n lowest bytes of a value leaves
+unfoldable pub store_of : ℕ → ℕ → ℕ → Memory → Option Memory
+store_of address n value memory = if is_permitted Write address n memory then Some (record memory { areas = with_number address n value memory.areas }) else None
+
+-- the word that a fetch gives
+unfoldable pub fetch_of : ℕ → Memory → Option ℕ
+fetch_of pc memory = if is_permitted Fetch pc 4 memory then Some (number_at pc 4 memory.areas) else None
+
+-- the area is a buffer's: buffers alone lie here
+unfoldable pub is_buffer_area : Area → Bool
+is_buffer_area area = nat_le 0x4000_0000 area.first && nat_lt area.first 0x8000_0000
+
+-- what a place gets of the buffers that are left, and the buffers that are left after it
+unfoldable pub arg_with : Passed → List Area → Arg
+arg_with passed.None buffers = argument.None
+arg_with (passed.Scalar value) buffers = argument.Scalar value
+arg_with passed.Buffer [] = argument.None
+arg_with passed.Buffer (buffer ∷ buffers) = argument.Buffer buffer.bytes
+
+unfoldable pub left_after : Passed → List Area → List Area
+left_after passed.None buffers = buffers
+left_after (passed.Scalar value) buffers = buffers
+left_after passed.Buffer [] = []
+left_after passed.Buffer (buffer ∷ buffers) = buffers
+
+-- The buffers stand in the order of their places.
+unfoldable pub args_with : List Passed → List Area → List Arg
+args_with [] buffers = []
+args_with (place ∷ places) buffers = arg_with place buffers ∷ args_with places (left_after place buffers)
+
+-- the arguments as they stand: the buffers' bytes, and all else as it was passed
+unfoldable pub args_of : Memory → List Arg
+args_of memory = args_with memory.passed (filter is_buffer_area memory.areas)

@@ -1,0 +1,78 @@
+-- The memory that a run starts with.
+use Rattle.std.specs.Prelude.{◌≡◌, ℕ, zero, suc, ◌+◌, ◌-◌, Bool, true, false, nat_lt, List, [], ◌∷◌, ◌++◌, length, map, replicate, Option, Some, None, unwrap_or, if◌then◌else◌}
+use Rattle.std.specs.List.{slice_get}
+use Rattle.elf_image.specs.Image.{SegmentView, ImageView}
+use Rattle.region_mem.specs.declared.parameter.Mode.{Mode}
+use Rattle.region_mem.specs.declared.parameter.Mode.TheVariants.{Read, ReadWrite}
+use Rattle.region_mem.specs.declared.parameter.Param.{Param}
+use Rattle.region_mem.specs.declared.parameter.Param.TheVariants as parameter
+use Rattle.region_mem.specs.declared.arguments.Arg.{Arg}
+use Rattle.region_mem.specs.declared.arguments.Arg.TheVariants as argument
+use Rattle.region_mem.specs.declared.arguments.Passed.{Passed}
+use Rattle.region_mem.specs.declared.arguments.Passed.TheVariants as passed
+use Rattle.region_mem.specs.Parameter.{address_of}
+use Rattle.region_mem.specs.Area.{Area}
+use Rattle.region_mem.specs.Memory.{Memory}
+
+unfoldable pub zeros : ℕ → List ℕ
+zeros n = replicate n 0
+
+-- A segment's bytes from the file, then zeros, with the rights of its flags.
+unfoldable pub segment_area : SegmentView → Area
+segment_area segment = record {
+  first = segment.address;
+  bytes = segment.bytes ++ zeros (segment.memory_size - length segment.bytes);
+  read = segment.read;
+  write = segment.write;
+  fetch = segment.execute;
+}
+
+-- The stack: 64 KiB of zeros.
+unfoldable pub stack_area : Area
+stack_area = record { first = 0x2FFF_0000; bytes = zeros 65536; read = true; write = true; fetch = false }
+
+-- The place has a buffer that may be written.
+unfoldable pub is_writable : Param → Bool
+is_writable (parameter.Buffer ReadWrite size) = true
+is_writable other = false
+
+-- the area of a buffer at a place
+unfoldable pub buffer_area : List Param → ℕ → List ℕ → Area
+buffer_area params place bytes = record {
+  first = unwrap_or (address_of place params) 0;
+  bytes = bytes;
+  read = true;
+  write = is_writable (unwrap_or (slice_get params place) parameter.None);
+  fetch = false;
+}
+
+-- the areas of the buffers at the places from one on
+unfoldable pub buffer_areas : List Param → ℕ → List Arg → List Area
+buffer_areas params place [] = []
+buffer_areas params place (argument.None ∷ args) = buffer_areas params (place + 1) args
+buffer_areas params place (argument.Scalar value ∷ args) = buffer_areas params (place + 1) args
+buffer_areas params place (argument.Buffer bytes ∷ args) = buffer_area params place bytes ∷ buffer_areas params (place + 1) args
+
+-- the areas with one more, in front of those that begin above it
+unfoldable pub insert_area : Area → List Area → List Area
+insert_area area [] = area ∷ []
+insert_area area (other ∷ areas) = if nat_lt area.first other.first then area ∷ other ∷ areas else other ∷ insert_area area areas
+
+-- the areas of the second list with those of the first
+unfoldable pub insert_areas : List Area → List Area → List Area
+insert_areas [] areas = areas
+insert_areas (area ∷ others) areas = insert_areas others (insert_area area areas)
+
+-- segments, stack and buffers, in the order of their first addresses
+unfoldable pub start_areas : ImageView → List Param → List Arg → List Area
+start_areas image params args = insert_areas (buffer_areas params 0 args) (insert_area stack_area (insert_areas (map segment_area image.segments) []))
+
+-- what a place was passed, without a buffer's bytes
+unfoldable pub passed_of : Arg → Passed
+passed_of argument.None = passed.None
+passed_of (argument.Scalar value) = passed.Scalar value
+passed_of (argument.Buffer bytes) = passed.Buffer
+
+-- the memory at the start of a run of an image with these parameters and arguments
+unfoldable pub start_memory : ImageView → List Param → List Arg → Memory
+start_memory image params args = record { areas = start_areas image params args; passed = map passed_of args }

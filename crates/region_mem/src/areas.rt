@@ -1,0 +1,262 @@
+//! A region of memory, and accesses to a list of them.
+ghost use Rattle.std.specs.Prelude.{unwrap_or, ◌≡◌, ◌+◌, ◌<◌, ◌-◌, ◌≤◌, ◌^◌, ◌&&◌, IsTrue, length, slice_index, slice_set, find, position};
+ghost use Rattle.std.specs.List.{list_any, list_all, range_with_len};
+ghost use Rattle.std.specs.Option.{option_copied};
+
+use crate::arguments::Bytes;
+use crate::faults::Right;
+use std::marker::Model;
+
+/// Bytes from an address on, and what may be done with them.
+#[derive(Debug, Drop)]
+pub struct Region {
+    first: u64,
+    bytes: Bytes,
+    read: bool,
+    write: bool,
+    fetch: bool,
+}
+
+impl Model for Region {
+    ghost use Rattle.std.specs.Prelude.{◌+◌, ◌≤◌, ◌^◌, length};
+    ghost use Rattle.region_mem.specs.Area.{Area};
+
+    ghost Value = { Area };
+
+    ghost view = { λ r. record { first = r.first; bytes = r.bytes; read = r.read; write = r.write; fetch = r.fetch } };
+
+    ghost invariant = { λ r. r.first + length r.bytes ≤ 2 ^ 32 };
+}
+
+impl Region {
+    ghost use Rattle.region_mem.specs.Area.{Area, holds, has_right};
+    ghost use Rattle.region_mem.specs.Memory.{is_buffer_area};
+
+    pub(crate) fn new(first: u64, bytes: Bytes, read: bool, write: bool, fetch: bool) -> Region
+        requires { first + length bytes ≤ 2 ^ 32 }
+        ensures { result ≡ record { first = first; bytes = bytes; read = read; write = write; fetch = fetch } }
+    {
+        Region {
+            first,
+            bytes,
+            read,
+            write,
+            fetch,
+        }
+    }
+
+    pub(crate) fn first(&self) -> u64
+        ensures { result ≡ self.now.first }
+    {
+        self.first
+    }
+
+    pub(crate) fn into_bytes(self) -> Bytes
+        ensures { result ≡ self.bytes }
+    {
+        let Region {
+            first: _,
+            bytes,
+            read: _,
+            write: _,
+            fetch: _,
+        } = self;
+        bytes
+    }
+
+    #[tactic(auto, unfolding(crate::specs::Memory::is_buffer_area))]
+    pub(crate) fn is_buffer(&self) -> bool
+        ensures { result ≡ is_buffer_area self.now }
+    {
+        0x4000_0000 <= self.first && self.first < 0x8000_0000
+    }
+
+    #[tactic(auto, unfolding(crate::specs::Area::holds))]
+    fn holds(&self, address: u64) -> bool
+        ensures { result ≡ holds address self.now }
+    {
+        self.first <= address && address < self.first + self.bytes.len() as u64
+    }
+
+    #[tactic(auto, unfolding(crate::specs::Area::has_right))]
+    fn has_right(&self, right: Right) -> bool
+        ensures { result ≡ has_right right self.now }
+    {
+        match right {
+            Right::Read => self.read,
+            Right::Write => self.write,
+            Right::Fetch => self.fetch,
+        }
+    }
+
+    #[tactic(auto, unfolding(crate::specs::Area::holds))]
+    fn byte(&self, address: u64) -> u8
+        requires { IsTrue (holds address self.now) }
+        ensures { result ≡ slice_index self.now.bytes (address - self.now.first) }
+    {
+        self.bytes.as_slice()[(address - self.first) as usize]
+    }
+
+    #[tactic(auto, unfolding(crate::specs::Area::holds))]
+    fn set_byte(&mut self, address: u64, byte: u8)
+        requires { IsTrue (holds address self.old) }
+        ensures { self.new ≡ record self.old { bytes = slice_set self.old.bytes (address - self.old.first) byte } }
+    {
+        self.bytes.set((address - self.first) as usize, byte);
+    }
+}
+
+ghost use Rattle.region_mem.specs.Memory.{IsAccessSize};
+ghost use Rattle.region_mem.specs.Area.{Area, holds, has_right, is_open, is_open_from, byte_at, number_at, number_of, with_byte, with_number};
+
+#[tactic(auto, unfolding(crate::specs::Area::is_open))]
+fn is_open(regions: &[Region], right: Right, address: u64) -> bool
+    ensures { result ≡ is_open right regions.now address }
+{
+    regions
+        .iter()
+        .any(|region| region.holds(address) && region.has_right(right))
+}
+
+/// Whether each byte of an access lies in a region with the right, and none past the last address.
+#[tactic(auto, unfolding(crate::specs::Area::is_open_from))]
+pub(crate) fn permits(regions: &[Region], right: Right, address: u64, size: u64) -> bool
+    requires first { address < 2 ^ 32 }
+    requires fits { size < 2 ^ 63 }
+    ensures { result ≡ is_open_from right address size regions.now }
+{
+    address + size <= 1 << 32 && all_open(regions, right, address, size)
+}
+
+fn all_open(regions: &[Region], right: Right, address: u64, size: u64) -> bool
+    requires { address + size < 2 ^ 64 }
+    ensures { result ≡ list_all (is_open right regions.now) (range_with_len address size) }
+{
+    (address..address + size).all(|at| is_open(regions, right, at))
+}
+
+/// The byte at an address, whatever the rights.
+#[tactic(auto, unfolding(crate::specs::Area::byte_at))]
+pub(crate) fn byte(regions: &[Region], address: u64) -> Option<u8>
+    ensures { result ≡ byte_at address regions.now }
+{
+    let region = regions.iter().find(|region| region.holds(address))?;
+    Some(region.byte(address))
+}
+
+#[tactic(auto, using(crate::proofs::Writes::with_byte_first, crate::proofs::Writes::with_byte_none, crate::proofs::Writes::holds_first))]
+fn set_byte(regions: &mut [Region], address: u64, byte: u8)
+    ensures { regions.new ≡ with_byte address byte regions.old }
+{
+    if let Some(place) = place_of(regions, address) {
+        regions[place].set_byte(address, byte);
+    }
+}
+
+/// The place of the first region that holds the byte at an address.
+fn place_of(regions: &[Region], address: u64) -> Option<usize>
+    ensures { result ≡ position (holds address) regions.now }
+{
+    regions.iter().position(|region| region.holds(address))
+}
+
+#[tactic(auto, unfolding(crate::specs::Area::number_at))]
+fn byte_or_zero(regions: &[Region], address: u64) -> u32
+    ensures value { result ≡ unwrap_or (byte_at address regions.now) 0 }
+    ensures small { result < 256 }
+{
+    match byte(regions, address) {
+        Some(byte) => u32::from(byte),
+        None => 0,
+    }
+}
+
+#[tactic(auto, unfolding(crate::specs::Area::number_at, crate::specs::Area::number_of))]
+fn byte_number(regions: &[Region], address: u64) -> u32
+    ensures { result ≡ number_at address 1 regions.now }
+{
+    byte_or_zero(regions, address)
+}
+
+#[tactic(auto, unfolding(crate::specs::Area::number_at, crate::specs::Area::number_of))]
+fn half_number(regions: &[Region], address: u64) -> u32
+    requires { address < 2 ^ 32 }
+    ensures { result ≡ number_at address 2 regions.now }
+{
+    let high = byte_or_zero(regions, address + 1);
+    byte_or_zero(regions, address) + 256 * high
+}
+
+/// The number in the four bytes from an address on, the lowest first.
+#[tactic(auto, unfolding(crate::specs::Area::number_at, crate::specs::Area::number_of))]
+pub(crate) fn word_number(regions: &[Region], address: u64) -> u32
+    requires { address < 2 ^ 32 }
+    ensures { result ≡ number_at address 4 regions.now }
+{
+    let second = address + 1;
+    let third = second + 1;
+    let highest = byte_or_zero(regions, third + 1);
+    let high = byte_or_zero(regions, third) + 256 * highest;
+    let upper = byte_or_zero(regions, second) + 256 * high;
+    byte_or_zero(regions, address) + 256 * upper
+}
+
+/// The number in the n bytes from an address on, the lowest first.
+pub(crate) fn number(regions: &[Region], address: u64, n: usize) -> u32
+    requires address { address < 2 ^ 32 }
+    requires size { IsAccessSize n }
+    ensures { result ≡ number_at address n regions.now }
+{
+    match n {
+        1 => byte_number(regions, address),
+        2 => half_number(regions, address),
+        _ => word_number(regions, address),
+    }
+}
+
+#[tactic(auto, unfolding(crate::specs::Area::with_number))]
+fn set_lowest(regions: &mut [Region], address: u64, value: u32)
+    ensures { regions.new ≡ with_number address 1 value regions.old }
+{
+    set_byte(regions, address, (value % 256) as u8);
+}
+
+#[tactic(auto, unfolding(crate::specs::Area::with_number))]
+fn set_half(regions: &mut [Region], address: u64, value: u32)
+    requires { address < 2 ^ 34 }
+    ensures { regions.new ≡ with_number address 2 value regions.old }
+{
+    set_byte(regions, address, (value % 256) as u8);
+    set_lowest(regions, address + 1, value / 256);
+}
+
+#[tactic(auto, unfolding(crate::specs::Area::with_number))]
+fn set_three(regions: &mut [Region], address: u64, value: u32)
+    requires { address < 2 ^ 33 }
+    ensures { regions.new ≡ with_number address 3 value regions.old }
+{
+    set_byte(regions, address, (value % 256) as u8);
+    set_half(regions, address + 1, value / 256);
+}
+
+#[tactic(auto, unfolding(crate::specs::Area::with_number))]
+fn set_word(regions: &mut [Region], address: u64, value: u32)
+    requires { address < 2 ^ 32 }
+    ensures { regions.new ≡ with_number address 4 value regions.old }
+{
+    set_byte(regions, address, (value % 256) as u8);
+    set_three(regions, address + 1, value / 256);
+}
+
+/// Writes the n lowest bytes of a value from an address on.
+pub(crate) fn set_number(regions: &mut [Region], address: u64, n: usize, value: u32)
+    requires address { address < 2 ^ 32 }
+    requires size { IsAccessSize n }
+    ensures { regions.new ≡ with_number address n value regions.old }
+{
+    match n {
+        1 => set_lowest(regions, address, value),
+        2 => set_half(regions, address, value),
+        _ => set_word(regions, address, value),
+    }
+}

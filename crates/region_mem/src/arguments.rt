@@ -1,0 +1,85 @@
+//! The caller's eight arguments.
+ghost use Rattle.std.specs.Prelude.{◌≡◌, ◌<◌, length, slice_set, ◌==◌};
+
+use std::marker::Model;
+
+/// The bytes of a buffer, in a vector that is moved in and out and never copied.
+#[derive(Debug, Drop)]
+pub struct Bytes {
+    items: Vec<u8>,
+}
+
+impl Model for Bytes {
+    ghost use Rattle.std.specs.Prelude.{List, ℕ};
+
+    ghost Value = { List ℕ };
+
+    ghost view = { λ b. b.items.items };
+}
+
+impl Bytes {
+    /// These bytes.
+    pub fn new(items: Vec<u8>) -> Bytes
+        ensures { result ≡ items.items }
+    {
+        Bytes { items }
+    }
+
+    /// The vector that holds the bytes.
+    pub fn into_vec(self) -> Vec<u8>
+        ensures { result.items ≡ self }
+    {
+        let Bytes { items: vector } = self;
+        vector
+    }
+
+    /// The bytes in order.
+    pub fn as_slice(&self) -> &[u8]
+        ensures { result.now ≡ self.now }
+    {
+        self.items.as_slice()
+    }
+
+    /// How many bytes there are.
+    pub fn len(&self) -> usize
+        ensures { result ≡ length self.now }
+    {
+        self.items.len()
+    }
+
+    /// Whether there is no byte.
+    pub fn is_empty(&self) -> bool
+        ensures { result ≡ (length self.now == 0) }
+    {
+        self.items.is_empty()
+    }
+
+    pub(crate) fn set(&mut self, index: usize, byte: u8)
+        requires { index < length self.old }
+        ensures { self.new ≡ slice_set self.old index byte }
+    {
+        self.items[index] = byte;
+    }
+}
+
+/// What a caller passes at one place.
+#[derive(Debug, Drop)]
+pub enum Arg {
+    None,
+    Scalar(u32),
+    Buffer(Bytes),
+}
+
+/// What a caller passes, by place. Place `n` is handed over in register a`n`.
+#[derive(Debug, Drop)]
+pub struct Args {
+    pub places: [Arg; 8],
+}
+
+/// What a place was passed, without a buffer's bytes.
+#[derive(Clone, Copy, Debug, PartialEq, Eq)]
+pub enum Passed {
+    None,
+    Scalar(u32),
+    Buffer,
+}

@@ -1,0 +1,40 @@
+//! What stops a run, and the rights that an access asks for.
+use std::error::Error;
+use std::fmt;
+
+/// What an access asks of each byte.
+#[derive(Clone, Copy, Debug, PartialEq, Eq)]
+pub enum Right {
+    Read,
+    Write,
+    Fetch,
+}
+
+/// Why an instruction could not be executed. An instruction that faults changes nothing.
+#[derive(Clone, Copy, Debug, PartialEq, Eq)]
+pub enum Fault {
+    /// The word at pc means nothing, or is not legal in this state.
+    Illegal(u32),
+    /// The word at this pc may not be fetched.
+    FetchFault(u32),
+    /// A load from this address is not permitted.
+    LoadFault(u32),
+    /// A store to this address is not permitted.
+    StoreFault(u32),
+    /// A jump was taken to this address, which is no multiple of 4.
+    JumpMisaligned(u32),
+}
+
+impl fmt::Display for Fault {
+    fn fmt<W: fmt::Write>(&self, f: &mut fmt::Formatter<W>) -> fmt::Result {
+        match self {
+            Fault::Illegal(word) => write!(f, "illegal instruction {word:08x}"),
+            Fault::FetchFault(pc) => write!(f, "no instruction may be fetched at {pc:08x}"),
+            Fault::LoadFault(address) => write!(f, "no load is permitted at {address:08x}"),
+            Fault::StoreFault(address) => write!(f, "no store is permitted at {address:08x}"),
+            Fault::JumpMisaligned(target) => write!(f, "a jump to {target:08x}"),
+        }
+    }
+}
+
+impl Error for Fault {}

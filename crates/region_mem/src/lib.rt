@@ -1,0 +1,21 @@
+//! The memory of a kernel's run: the image's segments, the stack and the caller's buffers, each a region with its
+//! rights, behind loads, stores and fetches that test every byte.
+//!
+//! Contracts see `Regions` as a `Memory`: a list of areas in the order of their first addresses, and what the eight
+//! places were passed.
+#![tactic(auto)]
+
+mod areas;
+mod arguments;
+mod faults;
+mod memory;
+mod parameter;
+mod start;
+
+pub use arguments::{Arg, Args, Bytes, Passed};
+pub use faults::{Fault, Right};
+pub use memory::{Regions, starts_in_order};
+pub use parameter::{ArgError, Mode, Param, Parameters};
+
+#[cfg(test)]
+mod tests;

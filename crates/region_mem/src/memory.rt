@@ -1,0 +1,134 @@
+//! The memory of a run.
+ghost use Rattle.std.specs.Prelude.{◌≡◌, ◌<◌, ◌^◌, Some, None, false, if◌then◌else◌, IfOk, IfErr};
+ghost use Rattle.region_mem.specs.Order.{StartsInOrder};
+
+use crate::areas::{self, Region};
+use crate::arguments::{Args, Passed};
+use crate::faults::Right;
+use crate::parameter::Parameters;
+use crate::start;
+use elf_image::Image;
+use std::alloc::{AllocError, Global};
+use std::marker::Model;
+
+/// The memory of a run.
+#[derive(Drop)]
+pub struct Regions {
+    regions: Vec<Region>,
+    passed: [Passed; 8],
+}
+
+impl Model for Regions {
+    ghost use Rattle.region_mem.specs.Memory.{Memory};
+
+    ghost Value = { Memory };
+
+    ghost view = { λ r. record { areas = r.regions.items; passed = r.passed } };
+}
+
+impl Regions {
+    ghost use Rattle.region_mem.specs.Memory.{Memory, byte_of, is_permitted, load_of, store_of, fetch_of, args_of, IsAccessSize};
+    ghost use Rattle.region_mem.specs.Start.{start_memory};
+    ghost use Rattle.region_mem.specs.Parameter.{AreArguments};
+
+    /// The memory that a run of the image starts with: its segments, the stack and the buffers of the arguments, which
+    /// are moved in. Where memory is refused the arguments come back as they were.
+    #[tactic(auto, unfolding(crate::specs::Start::start_memory, crate::specs::Start::start_areas))]
+    pub fn new(
+        alloc: Global,
+        image: &Image,
+        parameters: &Parameters,
+        args: Args,
+    ) -> Result<Regions, (AllocError, Args)>
+        requires { AreArguments parameters.now args.places }
+        ensures start { IfOk result (λ regions. regions ≡ start_memory image.now parameters.now args.places) }
+        ensures back { IfErr result (λ e. e.1 ≡ args) }
+    {
+        match start::fixed_regions(alloc, image) {
+            Ok(mut regions) => {
+                parameters.bound_sizes(&args);
+                let passed = start::passed(&args);
+                start::put_all(&mut regions, parameters, args);
+                Ok(Regions { regions, passed })
+            }
+            Err(error) => Err((error, args)),
+        }
+    }
+
+    /// The arguments: the buffers as they stand, moved out, and all else as it was passed.
+    #[tactic(auto, unfolding(crate::specs::Memory::args_of))]
+    pub fn into_args(self) -> Args
+        ensures { result.places ≡ args_of self }
+    {
+        let Regions { regions, passed } = self;
+        start::args_with(passed, regions.into_iter())
+    }
+
+    /// The byte at an address, whatever the rights; None where no region holds it.
+    #[tactic(auto, unfolding(crate::specs::Memory::byte_of))]
+    pub fn byte(&self, address: u32) -> Option<u8>
+        ensures { result ≡ byte_of address self.now }
+    {
+        areas::byte(self.regions.as_slice(), u64::from(address))
+    }
+
+    /// Whether each byte of an access lies in a region with the right, and none past the last address.
+    #[tactic(auto, unfolding(crate::specs::Memory::is_permitted))]
+    pub fn permits(&self, right: Right, address: u32, size: usize) -> bool
+        requires { size < 2 ^ 63 }
+        ensures { result ≡ is_permitted right address size self.now }
+    {
+        areas::permits(
+            self.regions.as_slice(),
+            right,
+            u64::from(address),
+            size as u64,
+        )
+    }
+
+    /// The number in the n bytes from an address on, the lowest first; None where one of them may not be read. n is 1,
+    /// 2 or 4.
+    #[tactic(auto, unfolding(crate::specs::Memory::load_of))]
+    pub fn load(&self, address: u32, n: usize) -> Option<u32>
+        requires { IsAccessSize n }
+        ensures { result ≡ load_of address n self.now }
+    {
+        if self.permits(Right::Read, address, n) {
+            Some(areas::number(self.regions.as_slice(), u64::from(address), n))
+        } else {
+            None
+        }
+    }
+
+    /// The word at pc, the lowest byte first; None where one of its bytes may not be fetched.
+    #[tactic(auto, unfolding(crate::specs::Memory::fetch_of))]
+    pub fn fetch(&self, pc: u32) -> Option<u32>
+        ensures { result ≡ fetch_of pc self.now }
+    {
+        if self.permits(Right::Fetch, pc, 4) {
+            Some(areas::word_number(self.regions.as_slice(), u64::from(pc)))
+        } else {
+            None
+        }
+    }
+
+    /// Writes the n lowest bytes of a value from an address on, and tells whether each of them may be written. Where one
+    /// may not, nothing is. n is 1, 2 or 4.
+    #[tactic(auto, unfolding(crate::specs::Memory::store_of))]
+    pub fn store(&mut self, address: u32, n: usize, value: u32) -> bool
+        requires { IsAccessSize n }
+        ensures meaning { (if result then Some self.new else None) ≡ store_of address n value self.old }
+        ensures refused { result ≡ false → self.new ≡ self.old }
+    {
+        if !self.permits(Right::Write, address, n) {
+            return false;
+        }
+        areas::set_number(self.regions.as_mut_slice(), u64::from(address), n, value);
+        true
+    }
+}
+
+/// The regions that a run starts with stand in the order of their first addresses, and no address lies in two of them.
+pub fn starts_in_order()
+    ensures { StartsInOrder }
+{}
