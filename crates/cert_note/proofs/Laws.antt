@@ -1,0 +1,348 @@
+-- The two laws of each part of a certificate: what is read is spelled so and is valid, and what is valid is read from its
+-- spelling, whatever follows.
+use Rattle.std.proofs.Common.{◌≡◌, ◌==◌, ℕ, zero, suc, ◌+◌, ◌*◌, ◌%◌, ◌^◌, ◌<◌, ◌≤◌, ◌⊎◌, Bool, true, false, not, ◌&&◌, cond, ltb, leb, eqb, List, [], ◌∷◌, ◌++◌, length, Option, Some, None, Result, Ok, Err, refl, sym, ap, subst, ◌∙◌, append_assoc, arith, inl, inr}
+use Rattle.std.specs.List.{flat_map}
+use Rattle.std.proofs.lemmas.Bool.{eqb-true}
+use Rattle.std.proofs.lemmas.Bool.Decides.{nat_tests}
+use Rattle.region_mem.specs.declared.parameter.Mode.{Mode}
+use Rattle.region_mem.specs.declared.parameter.Mode.TheVariants.{Read, ReadWrite}
+use Rattle.region_mem.specs.declared.parameter.Param.{Param}
+use Rattle.region_mem.specs.declared.parameter.Param.TheVariants as parameter
+use Rattle.cert_note.specs.declared.refusals.CertError.{CertError}
+use Rattle.cert_note.specs.declared.refusals.CertError.TheVariants as error
+use Rattle.cert_note.specs.declared.values.Vlen.{Vlen}
+use Rattle.cert_note.specs.declared.values.Vlen.TheVariants.{V128, V256}
+use Rattle.cert_note.specs.declared.values.Term.{Term}
+use Rattle.cert_note.specs.declared.values.Budget.{Budget}
+use Rattle.cert_note.specs.declared.values.VectorFact.{VectorFact}
+use Rattle.cert_note.specs.declared.values.Group.{Group}
+use Rattle.cert_note.specs.Certificate.{EqualityView, RegisterFactView, BlockView, CertificateView, is_atom, is_full, is_budget, is_supported, is_width, is_group, is_count, is_interval, are_free, AllFrom, after_term, after_fact, after_vector, after_block, IsTerm, IsEquality, SaysMore, IsRegisterFact, IsVectorFact, IsBudgetOf, IsVtype, IsBlock, IsParameter, IsCertificate}
+use Rattle.cert_note.specs.Spelling.{half, word, vlen_code, header, parameter_of, mode_code, spelled_parameter, spelled_term, spelled_equality, spelled_fact, spelled_vector, spelled_budget, spelled_vtype, counts, spelled_block, spelling}
+use Rattle.cert_note.specs.Reading.{◌>>=◌, expect, byte_at, number_at, zero_at, zeros_at, vlen_of, header_at, mode_of, is_first_number, is_second_number, param_of, parameter_at, parameters_at, term_at, terms_at, sum_at, none_at, some_at, equality_at, fact_at, facts_at, group_at, vector_at, vectors_at, budget_at, known_vtype, vtype_at, counts_at, block_at, blocks_at, count_at, certificate_of}
+use Rattle.cert_note.proofs.Loop.{Many, IsManyOf}
+use Rattle.cert_note.proofs.Lists.{terms_many, facts_many, vectors_many, blocks_many}
+use Rattle.cert_note.proofs.Numbers.{IsBytes, bind_ok, expected, found, ok_is, Takes, Takes-then, byte_takes, byte_again, half_takes, half_again, word_takes, word_again, zero_takes, zero_again, zeros_takes, zeros_again, many_takes, many_again}
+
+pub chosen : {A : Type 0} (b : Bool) (x y z : A) → cond b x y ≡ z → ((b ≡ true) × (x ≡ z)) ⊎ ((b ≡ false) × (y ≡ z))
+chosen true x y z e = inl (refl, e)
+chosen false x y z e = inr (refl, e)
+
+-- ---- terms
+
+pub term_takes : (params : List Param) (from : ℕ) (bytes : List ℕ) (x : Term) (rest : List ℕ) → IsBytes bytes → term_at params from bytes ≡ Ok (x, rest) → Takes bytes (spelled_term x) rest × IsTerm params from x
+unfolding term_at spelled_term
+term_takes params from bytes x rest fits e =
+    let a = bind_ok (byte_at bytes) _ (x, rest) e in
+    let p = expected _ _ _ (x, rest) a.2 in
+    let b = bind_ok (number_at _ a.0.1) _ (x, rest) p.1 in
+    let q = expected _ _ _ (x, rest) b.2 in
+    let t0 = byte_takes bytes a.0.0 a.0.1 fits a.1 in
+    let t1 = word_takes a.0.1 b.0.0 b.0.1 t0.0.rest_fits b.1 in
+    let made : Term × List ℕ = (record { atom = a.0.0; coefficient = b.0.0 }, b.0.1) in
+    subst (λ (y : Term × List ℕ). Takes bytes ((y.0.atom ∷ []) ++ word y.0.coefficient) y.1 × IsTerm params from y.0) (ok_is made (x, rest) q.1)
+    (Takes-then bytes (a.0.0 ∷ []) a.0.1 (word b.0.0) b.0.1 t0.0 t1.0, record { atom = p.0; coefficient = q.0; fits = t1.1 })
+
+pub term_again : (params : List Param) (from : ℕ) (x : Term) (rest : List ℕ) → IsTerm params from x → term_at params from (spelled_term x ++ rest) ≡ Ok (x, rest)
+unfolding term_at spelled_term byte_at
+term_again params from x rest is = rw (is.atom, word_again x.coefficient rest is.fits, is.coefficient) refl
+
+-- ---- equalities
+
+pub sum_takes : (params : List Param) (count : ℕ) (bytes : List ℕ) (x : EqualityView) (rest : List ℕ) → IsBytes bytes → sum_at params count bytes ≡ Ok (x, rest) →
+    Takes bytes (word x.constant ++ flat_map spelled_term x.terms) rest × (length x.terms ≡ count) × IsEquality params x
+unfolding sum_at
+sum_takes params count bytes x rest fits e =
+    let p = expected _ _ _ (x, rest) e in
+    let a = bind_ok (number_at _ bytes) _ (x, rest) p.1 in
+    let b = bind_ok (terms_at params count 1 a.0.1) _ (x, rest) a.2 in
+    let held : leb count 8 ≡ true = p.0 in
+    let few : count ≤ 8 = grind (arith, nat_tests, held) in
+    let t0 = word_takes bytes a.0.0 a.0.1 fits a.1 in
+    let t1 = many_takes (terms_at params) (term_at params) after_term spelled_term (IsTerm params) (terms_many params) (term_takes params) count 1 a.0.1 b.0.0 b.0.1 t0.0.rest_fits b.1 in
+    let made : EqualityView × List ℕ = (record { constant = a.0.0; terms = b.0.0 }, b.0.1) in
+    subst (λ (y : EqualityView × List ℕ). Takes bytes (word y.0.constant ++ flat_map spelled_term y.0.terms) y.1 × (length y.0.terms ≡ count) × IsEquality params y.0) (ok_is made (x, rest) b.2)
+    (Takes-then bytes (word a.0.0) a.0.1 (flat_map spelled_term b.0.0) b.0.1 t0.0 t1.0, t1.1, record { few = omega (arith, t1.1); constant = t0.1; terms = t1.2 })
+
+pub sum_again : (params : List Param) (x : EqualityView) (rest : List ℕ) → IsEquality params x → sum_at params (length x.terms) ((word x.constant ++ flat_map spelled_term x.terms) ++ rest) ≡ Ok (x, rest)
+unfolding sum_at
+sum_again params x rest is =
+    let few : leb (length x.terms) 8 ≡ true = grind (arith, nat_tests, is.few) in
+    let regrouped : (word x.constant ++ flat_map spelled_term x.terms) ++ rest ≡ word x.constant ++ (flat_map spelled_term x.terms ++ rest) = append_assoc (word x.constant) (flat_map spelled_term x.terms) rest in
+    ap (sum_at params (length x.terms)) regrouped
+    ∙ rw (few, word_again x.constant (flat_map spelled_term x.terms ++ rest) is.constant, many_again (terms_at params) (term_at params) after_term spelled_term (IsTerm params) (terms_many params) (term_again params) 1 x.terms rest is.terms) refl
+
+pub equality_takes : (params : List Param) (low high : ℕ) (bytes : List ℕ) (x : Option EqualityView) (rest : List ℕ) → IsBytes bytes → equality_at params low high bytes ≡ Ok (x, rest) →
+    Takes bytes (spelled_equality x) rest × SaysMore params low high x
+unfolding equality_at none_at some_at spelled_equality
+equality_takes params low high bytes x rest fits e =
+    let a = bind_ok (byte_at bytes) (λ count. cond (eqb count.0 255) (none_at low high count.1) (some_at params count.0 count.1)) (x, rest) e in
+    let t0 = byte_takes bytes a.0.0 a.0.1 fits a.1 in
+    elim (chosen (eqb a.0.0 255) (none_at low high a.0.1) (some_at params a.0.0 a.0.1) (Ok (x, rest)) a.2) [
+      | inl h ↦
+          let p = expected _ _ _ (x, rest) h.1 in
+          let last : a.0.0 ≡ 255 = eqb-true _ _ h.0 in
+          subst (λ (y : Option EqualityView × List ℕ). Takes bytes (spelled_equality y.0) y.1 × SaysMore params low high y.0) (ok_is (None, a.0.1) (x, rest) p.1)
+          (subst (λ (n : ℕ). Takes bytes (n ∷ []) a.0.1) last t0.0, p.0)
+      | inr h ↦
+          let b = bind_ok (sum_at params a.0.0 a.0.1) _ (x, rest) h.1 in
+          let t1 = sum_takes params a.0.0 a.0.1 b.0.0 b.0.1 t0.0.rest_fits b.1 in
+          let both = Takes-then bytes (a.0.0 ∷ []) a.0.1 (word b.0.0.constant ++ flat_map spelled_term b.0.0.terms) b.0.1 t0.0 t1.0 in
+          subst (λ (y : Option EqualityView × List ℕ). Takes bytes (spelled_equality y.0) y.1 × SaysMore params low high y.0) (ok_is (Some b.0.0, b.0.1) (x, rest) b.2)
+          (subst (λ (n : ℕ). Takes bytes ((n ∷ []) ++ (word b.0.0.constant ++ flat_map spelled_term b.0.0.terms)) b.0.1) (sym t1.1) both, t1.2)
+    ]
+
+pub equality_again : (params : List Param) (low high : ℕ) (x : Option EqualityView) (rest : List ℕ) → SaysMore params low high x → equality_at params low high (spelled_equality x ++ rest) ≡ Ok (x, rest)
+unfolding equality_at none_at some_at spelled_equality byte_at
+equality_again params low high None rest says = rw says refl
+equality_again params low high (Some x) rest says =
+    let short : eqb (length x.terms) 255 ≡ false = grind (arith, nat_tests, says.few) in
+    rw (short, sum_again params x rest says) refl
+
+-- ---- facts on registers
+
+regroup3 : (a b c rest : List ℕ) → ((a ++ b) ++ c) ++ rest ≡ a ++ (b ++ (c ++ rest))
+regroup3 a b c rest = simp append_assoc
+
+regroup4 : (a b c d rest : List ℕ) → (((a ++ b) ++ c) ++ d) ++ rest ≡ a ++ (b ++ (c ++ (d ++ rest)))
+regroup4 a b c d rest = simp append_assoc
+
+regroup6 : (a b c d e f rest : List ℕ) → (((((a ++ b) ++ c) ++ d) ++ e) ++ f) ++ rest ≡ a ++ (b ++ (c ++ (d ++ (e ++ (f ++ rest)))))
+regroup6 a b c d e f rest = simp append_assoc
+
+pub fact_takes : (params : List Param) (from : ℕ) (bytes : List ℕ) (x : RegisterFactView) (rest : List ℕ) → IsBytes bytes → fact_at params from bytes ≡ Ok (x, rest) → Takes bytes (spelled_fact x) rest × IsRegisterFact params from x
+unfolding fact_at spelled_fact
+fact_takes params from bytes x rest fits e =
+    let a = bind_ok (byte_at bytes) _ (x, rest) e in
+    let p = expected _ _ _ (x, rest) a.2 in
+    let b = bind_ok (number_at _ a.0.1) _ (x, rest) p.1 in
+    let c = bind_ok (number_at _ b.0.1) _ (x, rest) b.2 in
+    let q = expected _ _ _ (x, rest) c.2 in
+    let d = bind_ok (equality_at params b.0.0 c.0.0 c.0.1) _ (x, rest) q.1 in
+    let t0 = byte_takes bytes a.0.0 a.0.1 fits a.1 in
+    let t1 = word_takes a.0.1 b.0.0 b.0.1 t0.0.rest_fits b.1 in
+    let t2 = word_takes b.0.1 c.0.0 c.0.1 t1.0.rest_fits c.1 in
+    let t3 = equality_takes params b.0.0 c.0.0 c.0.1 d.0.0 d.0.1 t2.0.rest_fits d.1 in
+    let e1 = Takes-then bytes (a.0.0 ∷ []) a.0.1 (word b.0.0) b.0.1 t0.0 t1.0 in
+    let e2 = Takes-then bytes ((a.0.0 ∷ []) ++ word b.0.0) b.0.1 (word c.0.0) c.0.1 e1 t2.0 in
+    let e3 = Takes-then bytes (((a.0.0 ∷ []) ++ word b.0.0) ++ word c.0.0) c.0.1 (spelled_equality d.0.0) d.0.1 e2 t3.0 in
+    let made : RegisterFactView × List ℕ = (record { number = a.0.0; low = b.0.0; high = c.0.0; equality = d.0.0 }, d.0.1) in
+    subst (λ (y : RegisterFactView × List ℕ). Takes bytes (spelled_fact y.0) y.1 × IsRegisterFact params from y.0) (ok_is made (x, rest) d.2)
+    (e3, record { number = p.0; low = t1.1; high = t2.1; interval = q.0; says = t3.1 })
+
+pub fact_again : (params : List Param) (from : ℕ) (x : RegisterFactView) (rest : List ℕ) → IsRegisterFact params from x → fact_at params from (spelled_fact x ++ rest) ≡ Ok (x, rest)
+unfolding fact_at spelled_fact byte_at
+fact_again params from x rest is =
+    ap (λ (t : List ℕ). fact_at params from (x.number ∷ t)) (regroup3 (word x.low) (word x.high) (spelled_equality x.equality) rest)
+    ∙ rw (is.number, word_again x.low (word x.high ++ (spelled_equality x.equality ++ rest)) is.low, word_again x.high (spelled_equality x.equality ++ rest) is.high, is.interval, equality_again params x.low x.high x.equality rest is.says) refl
+
+-- ---- facts on groups
+
+abbrev IsGroupFrom : ℕ → Group → Type 0
+IsGroupFrom from g = ((leb from g.register && leb g.register 31) ≡ true) × (is_width g.width ≡ true) × (is_group g.register g.registers ≡ true)
+
+abbrev spelled_group : Group → List ℕ
+spelled_group g = g.register ∷ g.width ∷ g.registers ∷ 0 ∷ []
+
+group_takes : (from : ℕ) (bytes : List ℕ) (x : Group) (rest : List ℕ) → IsBytes bytes → group_at from bytes ≡ Ok (x, rest) → Takes bytes (spelled_group x) rest × IsGroupFrom from x
+unfolding group_at
+group_takes from bytes x rest fits e =
+    let a = bind_ok (byte_at bytes) _ (x, rest) e in
+    let p = expected _ _ _ (x, rest) a.2 in
+    let b = bind_ok (byte_at a.0.1) _ (x, rest) p.1 in
+    let q = expected _ _ _ (x, rest) b.2 in
+    let c = bind_ok (byte_at b.0.1) _ (x, rest) q.1 in
+    let r = expected _ _ _ (x, rest) c.2 in
+    let d = bind_ok (zero_at error.Fact c.0.1) _ (x, rest) r.1 in
+    let t0 = byte_takes bytes a.0.0 a.0.1 fits a.1 in
+    let t1 = byte_takes a.0.1 b.0.0 b.0.1 t0.0.rest_fits b.1 in
+    let t2 = byte_takes b.0.1 c.0.0 c.0.1 t1.0.rest_fits c.1 in
+    let t3 = zero_takes error.Fact c.0.1 d.0 t2.0.rest_fits d.1 in
+    let e1 = Takes-then bytes (a.0.0 ∷ []) a.0.1 (b.0.0 ∷ []) b.0.1 t0.0 t1.0 in
+    let e2 = Takes-then bytes (a.0.0 ∷ b.0.0 ∷ []) b.0.1 (c.0.0 ∷ []) c.0.1 e1 t2.0 in
+    let e3 = Takes-then bytes (a.0.0 ∷ b.0.0 ∷ c.0.0 ∷ []) c.0.1 (0 ∷ []) d.0 e2 t3 in
+    let made : Group × List ℕ = (record { register = a.0.0; width = b.0.0; registers = c.0.0 }, d.0) in
+    subst (λ (y : Group × List ℕ). Takes bytes (spelled_group y.0) y.1 × IsGroupFrom from y.0) (ok_is made (x, rest) d.2) (e3, (p.0, q.0, r.0))
+
+group_again : (from : ℕ) (x : Group) (rest : List ℕ) → IsGroupFrom from x → group_at from (spelled_group x ++ rest) ≡ Ok (x, rest)
+unfolding group_at byte_at zero_at
+group_again from x rest is = rw (is.0, is.1, is.2) refl
+
+pub vector_takes : (vlen : Vlen) (from : ℕ) (bytes : List ℕ) (x : VectorFact) (rest : List ℕ) → IsBytes bytes → vector_at vlen from bytes ≡ Ok (x, rest) → Takes bytes (spelled_vector x) rest × IsVectorFact vlen from x
+unfolding vector_at spelled_vector
+vector_takes vlen from bytes x rest fits e =
+    let a = bind_ok (group_at from bytes) _ (x, rest) e in
+    let b = bind_ok (number_at _ a.0.1) _ (x, rest) a.2 in
+    let p = expected _ _ _ (x, rest) b.2 in
+    let c = bind_ok (zeros_at error.Fact b.0.1) _ (x, rest) p.1 in
+    let d = bind_ok (number_at _ c.0) _ (x, rest) c.2 in
+    let f = bind_ok (number_at _ d.0.1) _ (x, rest) d.2 in
+    let q = expected _ _ _ (x, rest) f.2 in
+    let t0 = group_takes from bytes a.0.0 a.0.1 fits a.1 in
+    let t1 = half_takes a.0.1 b.0.0 b.0.1 t0.0.rest_fits b.1 in
+    let t2 = zeros_takes error.Fact b.0.1 c.0 t1.0.rest_fits c.1 in
+    let t3 = word_takes c.0 d.0.0 d.0.1 t2.rest_fits d.1 in
+    let t4 = word_takes d.0.1 f.0.0 f.0.1 t3.0.rest_fits f.1 in
+    let g = spelled_group a.0.0 in
+    let e1 = Takes-then bytes g a.0.1 (half b.0.0) b.0.1 t0.0 t1.0 in
+    let e2 = Takes-then bytes (g ++ half b.0.0) b.0.1 (half 0) c.0 e1 t2 in
+    let e3 = Takes-then bytes ((g ++ half b.0.0) ++ half 0) c.0 (word d.0.0) d.0.1 e2 t3.0 in
+    let e4 = Takes-then bytes (((g ++ half b.0.0) ++ half 0) ++ word d.0.0) d.0.1 (word f.0.0) f.0.1 e3 t4.0 in
+    let made : VectorFact × List ℕ = (record { register = a.0.0.register; width = a.0.0.width; registers = a.0.0.registers; count = b.0.0; low = d.0.0; high = f.0.0 }, f.0.1) in
+    subst (λ (y : VectorFact × List ℕ). Takes bytes (spelled_vector y.0) y.1 × IsVectorFact vlen from y.0) (ok_is made (x, rest) q.1)
+    (e4, record { register = t0.1.0; width = t0.1.1; group = t0.1.2; count = p.0; count_fits = t1.1; low = t3.1; high = t4.1; interval = q.0 })
+
+pub vector_again : (vlen : Vlen) (from : ℕ) (x : VectorFact) (rest : List ℕ) → IsVectorFact vlen from x → vector_at vlen from (spelled_vector x ++ rest) ≡ Ok (x, rest)
+unfolding vector_at spelled_vector
+vector_again vlen from x rest is =
+    let g : Group = record { register = x.register; width = x.width; registers = x.registers } in
+    let front : group_at from (spelled_group g ++ (half x.count ++ (half 0 ++ (word x.low ++ (word x.high ++ rest))))) ≡ Ok (g, half x.count ++ (half 0 ++ (word x.low ++ (word x.high ++ rest)))) =
+    group_again from g (half x.count ++ (half 0 ++ (word x.low ++ (word x.high ++ rest)))) (is.register, is.width, is.group) in
+    ap (λ (t : List ℕ). vector_at vlen from (x.register ∷ x.width ∷ x.registers ∷ 0 ∷ t)) (regroup4 (half x.count) (half 0) (word x.low) (word x.high) rest)
+    ∙ rw (front, half_again x.count (half 0 ++ (word x.low ++ (word x.high ++ rest))) is.count_fits, is.count, zeros_again error.Fact (word x.low ++ (word x.high ++ rest)), word_again x.low (word x.high ++ rest) is.low, word_again x.high rest is.high, is.interval) refl
+
+-- ---- budgets, vector types, counts
+
+pub budget_takes : (bytes : List ℕ) (x : Budget) (rest : List ℕ) → IsBytes bytes → budget_at bytes ≡ Ok (x, rest) → Takes bytes (spelled_budget x) rest × IsBudgetOf x
+unfolding budget_at spelled_budget
+budget_takes bytes x rest fits e =
+    let a = bind_ok (number_at _ bytes) _ (x, rest) e in
+    let b = bind_ok (number_at _ a.0.1) _ (x, rest) a.2 in
+    let c = bind_ok (byte_at b.0.1) _ (x, rest) b.2 in
+    let p = expected _ _ _ (x, rest) c.2 in
+    let t0 = word_takes bytes a.0.0 a.0.1 fits a.1 in
+    let t1 = word_takes a.0.1 b.0.0 b.0.1 t0.0.rest_fits b.1 in
+    let t2 = byte_takes b.0.1 c.0.0 c.0.1 t1.0.rest_fits c.1 in
+    let e1 = Takes-then bytes (word a.0.0) a.0.1 (word b.0.0) b.0.1 t0.0 t1.0 in
+    let e2 = Takes-then bytes (word a.0.0 ++ word b.0.0) b.0.1 (c.0.0 ∷ []) c.0.1 e1 t2.0 in
+    let made : Budget × List ℕ = (record { constant = a.0.0; factor = b.0.0; register = c.0.0 }, c.0.1) in
+    subst (λ (y : Budget × List ℕ). Takes bytes (spelled_budget y.0) y.1 × IsBudgetOf y.0) (ok_is made (x, rest) p.1)
+    (e2, record { constant = t0.1; factor = t1.1; register = p.0 })
+
+pub budget_again : (x : Budget) (rest : List ℕ) → IsBudgetOf x → budget_at (spelled_budget x ++ rest) ≡ Ok (x, rest)
+unfolding budget_at spelled_budget
+budget_again x rest is =
+    ap budget_at (regroup3 (word x.constant) (word x.factor) (x.register ∷ []) rest)
+    ∙ rw (word_again x.constant (word x.factor ++ ((x.register ∷ []) ++ rest)) is.constant, word_again x.factor ((x.register ∷ []) ++ rest) is.factor, byte_again x.register rest, is.register) refl
+
+abbrev pub there : {A : Type 0} → A → Option A
+there x = Some x
+
+pub some_is : {A : Type 0} (x y : A) → there x ≡ there y → x ≡ y
+some_is x y e = cc
+
+known_is : (known bits : ℕ) (v : Option ℕ) → leb known 1 ≡ true → known_vtype known bits ≡ Some v → (known ∷ bits ∷ [] ≡ spelled_vtype v) × IsVtype v
+unfolding known_vtype spelled_vtype
+known_is zero bits v le e =
+    elim (chosen (eqb bits 0) (Some None) None (Some v) e) [
+      | inl h ↦ subst (λ (w : Option ℕ). (0 ∷ bits ∷ [] ≡ spelled_vtype w) × IsVtype w) (some_is None v h.1) (ap (λ (n : ℕ). 0 ∷ n ∷ []) (eqb-true bits 0 h.0), tt)
+      | inr h ↦ absurd (let f = h.1 in cc)
+    ]
+known_is (suc zero) bits v le e =
+    elim (chosen (is_supported bits) (Some (Some bits)) None (Some v) e) [
+      | inl h ↦ subst (λ (w : Option ℕ). (1 ∷ bits ∷ [] ≡ spelled_vtype w) × IsVtype w) (some_is (Some bits) v h.1) (refl, h.0)
+      | inr h ↦ absurd (let f = h.1 in cc)
+    ]
+known_is (suc (suc known)) bits v le e = absurd (grind (arith, nat_tests, le))
+
+pub vtype_takes : (bytes : List ℕ) (x : Option ℕ) (rest : List ℕ) → IsBytes bytes → vtype_at bytes ≡ Ok (x, rest) → Takes bytes (spelled_vtype x) rest × IsVtype x
+unfolding vtype_at
+vtype_takes bytes x rest fits e =
+    let a = bind_ok (byte_at bytes) _ (x, rest) e in
+    let p = expected (leb a.0.0 1) _ _ (x, rest) a.2 in
+    let b = bind_ok (byte_at a.0.1) _ (x, rest) p.1 in
+    let c = found (known_vtype a.0.0 b.0.0) _ _ (x, rest) b.2 in
+    let k = known_is a.0.0 b.0.0 c.0 p.0 c.1 in
+    let t0 = byte_takes bytes a.0.0 a.0.1 fits a.1 in
+    let t1 = byte_takes a.0.1 b.0.0 b.0.1 t0.0.rest_fits b.1 in
+    let e1 = Takes-then bytes (a.0.0 ∷ []) a.0.1 (b.0.0 ∷ []) b.0.1 t0.0 t1.0 in
+    subst (λ (y : Option ℕ × List ℕ). Takes bytes (spelled_vtype y.0) y.1 × IsVtype y.0) (ok_is (c.0, b.0.1) (x, rest) c.2)
+    (subst (λ (t : List ℕ). Takes bytes t b.0.1) k.0 e1, k.1)
+
+pub vtype_again : (x : Option ℕ) (rest : List ℕ) → IsVtype x → vtype_at (spelled_vtype x ++ rest) ≡ Ok (x, rest)
+unfolding vtype_at spelled_vtype byte_at known_vtype
+vtype_again None rest is = refl
+vtype_again (Some vtype) rest is = rw is refl
+
+pub counts_takes : (bytes : List ℕ) (registers vectors : ℕ) (rest : List ℕ) → IsBytes bytes → counts_at bytes ≡ Ok ((registers, vectors), rest) →
+    Takes bytes (counts registers vectors) rest × (registers ≤ 32) × (vectors ≤ 32)
+unfolding counts_at counts
+counts_takes bytes registers vectors rest fits e =
+    let a = bind_ok (byte_at bytes) _ ((registers, vectors), rest) e in
+    let p = expected (leb a.0.0 32) _ _ ((registers, vectors), rest) a.2 in
+    let b = bind_ok (byte_at a.0.1) _ ((registers, vectors), rest) p.1 in
+    let q = expected (leb b.0.0 32) _ _ ((registers, vectors), rest) b.2 in
+    let c = bind_ok (zero_at error.TooMany b.0.1) _ ((registers, vectors), rest) q.1 in
+    let d = bind_ok (zero_at error.TooMany c.0) _ ((registers, vectors), rest) c.2 in
+    let f = bind_ok (zero_at error.TooMany d.0) _ ((registers, vectors), rest) d.2 in
+    let t0 = byte_takes bytes a.0.0 a.0.1 fits a.1 in
+    let t1 = byte_takes a.0.1 b.0.0 b.0.1 t0.0.rest_fits b.1 in
+    let t2 = zero_takes error.TooMany b.0.1 c.0 t1.0.rest_fits c.1 in
+    let t3 = zero_takes error.TooMany c.0 d.0 t2.rest_fits d.1 in
+    let t4 = zero_takes error.TooMany d.0 f.0 t3.rest_fits f.1 in
+    let e1 = Takes-then bytes (a.0.0 ∷ []) a.0.1 (b.0.0 ∷ []) b.0.1 t0.0 t1.0 in
+    let e2 = Takes-then bytes (a.0.0 ∷ b.0.0 ∷ []) b.0.1 (0 ∷ []) c.0 e1 t2 in
+    let e3 = Takes-then bytes (a.0.0 ∷ b.0.0 ∷ 0 ∷ []) c.0 (0 ∷ []) d.0 e2 t3 in
+    let e4 = Takes-then bytes (a.0.0 ∷ b.0.0 ∷ 0 ∷ 0 ∷ []) d.0 (0 ∷ []) f.0 e3 t4 in
+    let first : a.0.0 ≤ 32 = grind (arith, nat_tests, p.0) in
+    let second : b.0.0 ≤ 32 = grind (arith, nat_tests, q.0) in
+    let made : (ℕ × ℕ) × List ℕ = ((a.0.0, b.0.0), f.0) in
+    subst (λ (y : (ℕ × ℕ) × List ℕ). Takes bytes (y.0.0 ∷ y.0.1 ∷ 0 ∷ 0 ∷ 0 ∷ []) y.1 × (y.0.0 ≤ 32) × (y.0.1 ≤ 32)) (ok_is made ((registers, vectors), rest) f.2) (e4, first, second)
+
+pub counts_again : (registers vectors : ℕ) (rest : List ℕ) → registers ≤ 32 → vectors ≤ 32 → counts_at (counts registers vectors ++ rest) ≡ Ok ((registers, vectors), rest)
+unfolding counts_at counts byte_at zero_at
+counts_again registers vectors rest r v =
+    let a : leb registers 32 ≡ true = grind (arith, nat_tests, r) in
+    let b : leb vectors 32 ≡ true = grind (arith, nat_tests, v) in
+    rw (a, b) refl
+
+-- ---- blocks
+
+few_along : (n m : ℕ) → n ≡ m → m ≤ 32 → n ≤ 32
+few_along n m e h = omega arith
+
+pub block_takes : (vlen : Vlen) (params : List Param) (from : ℕ) (bytes : List ℕ) (x : BlockView) (rest : List ℕ) → IsBytes bytes → block_at vlen params from bytes ≡ Ok (x, rest) → Takes bytes (spelled_block x) rest × IsBlock vlen params from x
+unfolding block_at spelled_block
+block_takes vlen params from bytes x rest fits e =
+    let a = bind_ok (number_at _ bytes) _ (x, rest) e in
+    let p = expected _ _ _ (x, rest) a.2 in
+    let b = bind_ok (budget_at a.0.1) _ (x, rest) p.1 in
+    let c = bind_ok (vtype_at b.0.1) _ (x, rest) b.2 in
+    let d = bind_ok (counts_at c.0.1) _ (x, rest) c.2 in
+    let f = bind_ok (facts_at params d.0.0.0 1 d.0.1) _ (x, rest) d.2 in
+    let g = bind_ok (vectors_at vlen d.0.0.1 0 f.0.1) _ (x, rest) f.2 in
+    let q = expected _ _ _ (x, rest) g.2 in
+    let t0 = word_takes bytes a.0.0 a.0.1 fits a.1 in
+    let t1 = budget_takes a.0.1 b.0.0 b.0.1 t0.0.rest_fits b.1 in
+    let t2 = vtype_takes b.0.1 c.0.0 c.0.1 t1.0.rest_fits c.1 in
+    let t3 = counts_takes c.0.1 d.0.0.0 d.0.0.1 d.0.1 t2.0.rest_fits d.1 in
+    let t4 = many_takes (facts_at params) (fact_at params) after_fact spelled_fact (IsRegisterFact params) (facts_many params) (fact_takes params) d.0.0.0 1 d.0.1 f.0.0 f.0.1 t3.0.rest_fits f.1 in
+    let t5 = many_takes (vectors_at vlen) (vector_at vlen) after_vector spelled_vector (IsVectorFact vlen) (vectors_many vlen) (vector_takes vlen) d.0.0.1 0 f.0.1 g.0.0 g.0.1 t4.0.rest_fits g.1 in
+    let counted : Takes c.0.1 (counts (length f.0.0) (length g.0.0)) d.0.1 = rw (t4.1, t5.1) t3.0 in
+    let w = word a.0.0 in
+    let e1 = Takes-then bytes w a.0.1 (spelled_budget b.0.0) b.0.1 t0.0 t1.0 in
+    let e2 = Takes-then bytes (w ++ spelled_budget b.0.0) b.0.1 (spelled_vtype c.0.0) c.0.1 e1 t2.0 in
+    let e3 = Takes-then bytes ((w ++ spelled_budget b.0.0) ++ spelled_vtype c.0.0) c.0.1 (counts (length f.0.0) (length g.0.0)) d.0.1 e2 counted in
+    let e4 = Takes-then bytes (((w ++ spelled_budget b.0.0) ++ spelled_vtype c.0.0) ++ counts (length f.0.0) (length g.0.0)) d.0.1 (flat_map spelled_fact f.0.0) f.0.1 e3 t4.0 in
+    let e5 = Takes-then bytes ((((w ++ spelled_budget b.0.0) ++ spelled_vtype c.0.0) ++ counts (length f.0.0) (length g.0.0)) ++ flat_map spelled_fact f.0.0) f.0.1 (flat_map spelled_vector g.0.0) g.0.1 e4 t5.0 in
+    let made : BlockView × List ℕ = (record { start = a.0.0; budget = b.0.0; vtype = c.0.0; registers = f.0.0; vectors = g.0.0 }, g.0.1) in
+    subst (λ (y : BlockView × List ℕ). Takes bytes (spelled_block y.0) y.1 × IsBlock vlen params from y.0) (ok_is made (x, rest) q.1)
+    (e5, record { start = p.0; start_fits = t0.1; budget = t1.1; vtype = t2.1; few_registers = few_along (length f.0.0) d.0.0.0 t4.1 t3.1; few_vectors = few_along (length g.0.0) d.0.0.1 t5.1 t3.2; registers = t4.2; vectors = t5.2; free = q.0 })
+
+pub block_again : (vlen : Vlen) (params : List Param) (from : ℕ) (x : BlockView) (rest : List ℕ) → IsBlock vlen params from x → block_at vlen params from (spelled_block x ++ rest) ≡ Ok (x, rest)
+unfolding block_at spelled_block
+block_again vlen params from x rest is =
+    let vectors = flat_map spelled_vector x.vectors ++ rest in
+    let facts = flat_map spelled_fact x.registers ++ vectors in
+    let counted = counts (length x.registers) (length x.vectors) ++ facts in
+    let typed = spelled_vtype x.vtype ++ counted in
+    ap (block_at vlen params from) (regroup6 (word x.start) (spelled_budget x.budget) (spelled_vtype x.vtype) (counts (length x.registers) (length x.vectors)) (flat_map spelled_fact x.registers) (flat_map spelled_vector x.vectors) rest)
+    ∙ rw (
+      word_again x.start (spelled_budget x.budget ++ typed) is.start_fits,
+      is.start,
+      budget_again x.budget typed is.budget,
+      vtype_again x.vtype counted is.vtype,
+      counts_again (length x.registers) (length x.vectors) facts is.few_registers is.few_vectors,
+      many_again (facts_at params) (fact_at params) after_fact spelled_fact (IsRegisterFact params) (facts_many params) (fact_again params) 1 x.registers vectors is.registers,
+      many_again (vectors_at vlen) (vector_at vlen) after_vector spelled_vector (IsVectorFact vlen) (vectors_many vlen) (vector_again vlen) 0 x.vectors rest is.vectors,
+      is.free,
+    ) refl

@@ -1,0 +1,244 @@
+-- The two laws of a whole certificate.
+use Rattle.std.proofs.Common.{◌≡◌, ◌==◌, ℕ, zero, suc, ◌+◌, ◌^◌, ◌<◌, ◌≤◌, ◌⊎◌, Bool, true, false, not, ◌&&◌, cond, ltb, leb, eqb, List, [], ◌∷◌, ◌++◌, length, Option, Some, None, Result, Ok, Err, refl, sym, ap, subst, ◌∙◌, append_assoc, arith, inl, inr}
+use Rattle.std.specs.List.{flat_map, list_all, AllByRecursion}
+use Rattle.std.proofs.lemmas.Bool.{eqb-true}
+use Rattle.std.proofs.lemmas.Bool.Decides.{nat_tests}
+use Rattle.std.proofs.lemmas.List.{append-nil, nil_from_length}
+use Rattle.region_mem.specs.Parameter.{is_valid, parameters_of}
+use Rattle.region_mem.specs.declared.parameter.Mode.{Mode}
+use Rattle.region_mem.specs.declared.parameter.Mode.TheVariants.{Read, ReadWrite}
+use Rattle.region_mem.specs.declared.parameter.Param.{Param}
+use Rattle.region_mem.specs.declared.parameter.Param.TheVariants as parameter
+use Rattle.cert_note.specs.declared.refusals.CertError.{CertError}
+use Rattle.cert_note.specs.declared.refusals.CertError.TheVariants as error
+use Rattle.cert_note.specs.declared.values.Vlen.{Vlen}
+use Rattle.cert_note.specs.declared.values.Vlen.TheVariants.{V128, V256}
+use Rattle.cert_note.specs.Certificate.{BlockView, CertificateView, AllFrom, after_block, IsBlock, IsParameter, IsCertificate}
+use Rattle.cert_note.specs.Spelling.{half, word, vlen_code, header, parameter_of, mode_code, spelled_parameter, spelled_block, spelling}
+use Rattle.cert_note.specs.Reading.{◌>>=◌, expect, byte_at, number_at, zero_at, zeros_at, vlen_of, header_at, mode_of, is_first_number, is_second_number, param_of, parameter_at, parameters_at, block_at, blocks_at, count_at, certificate_of}
+use Rattle.cert_note.proofs.Lists.{blocks_many, parameters_many, parameters_from, parameter_from, after_parameter}
+use Rattle.cert_note.proofs.Numbers.{IsBytes, bind_ok, expected, found, ok_is, Takes, Takes-then, byte_takes, byte_again, half_takes, half_again, word_takes, word_again, zero_takes, zero_again, zeros_takes, zeros_again, many_takes, many_again}
+use Rattle.cert_note.proofs.Laws.{chosen, there, some_is, block_takes, block_again}
+
+-- ---- the header
+
+vlen_is : (code : ℕ) (vlen : Vlen) → vlen_of code ≡ Some vlen → code ≡ vlen_code vlen
+unfolding vlen_of
+vlen_is code vlen e =
+    elim (chosen (eqb code 1) (Some V128) (cond (eqb code 2) (Some V256) None) (Some vlen) e) [
+      | inl h ↦ subst (λ (v : Vlen). code ≡ vlen_code v) (some_is V128 vlen h.1) (eqb-true code 1 h.0)
+      | inr h ↦
+          elim (chosen (eqb code 2) (Some V256) None (Some vlen) h.1) [
+            | inl k ↦ subst (λ (v : Vlen). code ≡ vlen_code v) (some_is V256 vlen k.1) (eqb-true code 2 k.0)
+            | inr k ↦ absurd (let f = k.1 in cc)
+          ]
+    ]
+
+vlen_back : (vlen : Vlen) → vlen_of (vlen_code vlen) ≡ Some vlen
+unfolding vlen_of
+vlen_back V128 = refl
+vlen_back V256 = refl
+
+header_takes : (bytes : List ℕ) (x : Vlen) (rest : List ℕ) → IsBytes bytes → header_at bytes ≡ Ok (x, rest) → Takes bytes (header x) rest
+unfolding header_at header
+header_takes bytes x rest fits e =
+    let a = bind_ok (number_at _ bytes) _ (x, rest) e in
+    let p = expected (eqb a.0.0 1) _ _ (x, rest) a.2 in
+    let b = bind_ok (byte_at a.0.1) _ (x, rest) p.1 in
+    let c = found (vlen_of b.0.0) _ _ (x, rest) b.2 in
+    let d = bind_ok (zero_at error.Version b.0.1) _ (x, rest) c.2 in
+    let t0 = half_takes bytes a.0.0 a.0.1 fits a.1 in
+    let t1 = byte_takes a.0.1 b.0.0 b.0.1 t0.0.rest_fits b.1 in
+    let t2 = zero_takes error.Version b.0.1 d.0 t1.0.rest_fits d.1 in
+    let e1 = Takes-then a.0.1 (b.0.0 ∷ []) b.0.1 (0 ∷ []) d.0 t1.0 t2 in
+    let e2 = Takes-then bytes (half a.0.0) a.0.1 (b.0.0 ∷ 0 ∷ []) d.0 t0.0 e1 in
+    let whole : Takes bytes (half 1 ++ (vlen_code c.0 ∷ 0 ∷ [])) d.0 =
+    subst (λ (n : ℕ). Takes bytes (half 1 ++ (n ∷ 0 ∷ [])) d.0) (vlen_is b.0.0 c.0 c.1) (subst (λ (n : ℕ). Takes bytes (half n ++ (b.0.0 ∷ 0 ∷ [])) d.0) (eqb-true a.0.0 1 p.0) e2) in
+    subst (λ (y : Vlen × List ℕ). Takes bytes (half 1 ++ (vlen_code y.0 ∷ 0 ∷ [])) y.1) (ok_is (c.0, d.0) (x, rest) d.2) whole
+
+header_again : (x : Vlen) (rest : List ℕ) → header_at (header x ++ rest) ≡ Ok (x, rest)
+unfolding header_at header
+header_again x rest =
+    ap header_at (append_assoc (half 1) (vlen_code x ∷ 0 ∷ []) rest)
+    ∙ rw (half_again 1 ((vlen_code x ∷ 0 ∷ []) ++ rest) (omega arith), byte_again (vlen_code x) ((0 ∷ []) ++ rest), vlen_back x, zero_again error.Version rest) refl
+
+-- ---- parameters
+
+-- what a kind, a mode and two numbers stand for
+record Means (kind code a b : ℕ) (param : Param) : Type 0 where
+  spelled : parameter_of kind code a b ≡ spelled_parameter param
+  valid : IsParameter param
+
+means : (kind code a b : ℕ) (mode : Option Mode) → leb kind 2 ≡ true → mode_of kind code ≡ Some mode → is_first_number kind a ≡ true → is_second_number kind a b ≡ true → b < 2 ^ 32 → Means kind code a b (param_of kind mode a b)
+unfolding mode_of is_first_number is_second_number param_of spelled_parameter
+means zero code a b mode le m first second small =
+    elim (chosen (eqb code 0) (Some None) None (Some mode) m) [
+      | inl h ↦ subst (λ (w : Option Mode). Means 0 code a b (param_of 0 w a b)) (some_is None mode h.1)
+          (record { spelled = rw (eqb-true code 0 h.0, eqb-true a 0 first, eqb-true b 0 second) refl; valid = tt })
+      | inr h ↦ absurd (let f = h.1 in cc)
+    ]
+means (suc zero) code a b mode le m first second small =
+    elim (chosen (eqb code 0) (Some None) None (Some mode) m) [
+      | inl h ↦ subst (λ (w : Option Mode). Means 1 code a b (param_of 1 w a b)) (some_is None mode h.1)
+          (record { spelled = rw (eqb-true code 0 h.0) refl; valid = (grind (arith, nat_tests, second), small) })
+      | inr h ↦ absurd (let f = h.1 in cc)
+    ]
+means (suc (suc zero)) code a b mode le m first second small =
+    let few : a ≤ 16777216 = grind (arith, nat_tests, first) in
+    elim (chosen (eqb code 1) (Some (Some Read)) (cond (eqb code 3) (Some (Some ReadWrite)) None) (Some mode) m) [
+      | inl h ↦ subst (λ (w : Option Mode). Means 2 code a b (param_of 2 w a b)) (some_is (Some Read) mode h.1)
+          (record { spelled = rw (eqb-true code 1 h.0, eqb-true b 0 second) refl; valid = few })
+      | inr h ↦
+          elim (chosen (eqb code 3) (Some (Some ReadWrite)) None (Some mode) h.1) [
+            | inl k ↦ subst (λ (w : Option Mode). Means 2 code a b (param_of 2 w a b)) (some_is (Some ReadWrite) mode k.1)
+                (record { spelled = rw (eqb-true code 3 k.0, eqb-true b 0 second) refl; valid = few })
+            | inr k ↦ absurd (let f = k.1 in cc)
+          ]
+    ]
+means (suc (suc (suc kind))) code a b mode le m first second small = absurd (grind (arith, nat_tests, le))
+
+parameter_takes : (bytes : List ℕ) (x : Param) (rest : List ℕ) → IsBytes bytes → parameter_at bytes ≡ Ok (x, rest) → Takes bytes (spelled_parameter x) rest × IsParameter x
+unfolding parameter_at parameter_of
+parameter_takes bytes x rest fits e =
+    let a = bind_ok (byte_at bytes) _ (x, rest) e in
+    let p = expected (leb a.0.0 2) _ _ (x, rest) a.2 in
+    let b = bind_ok (byte_at a.0.1) _ (x, rest) p.1 in
+    let c = found (mode_of a.0.0 b.0.0) _ _ (x, rest) b.2 in
+    let d = bind_ok (zeros_at error.Parameter b.0.1) _ (x, rest) c.2 in
+    let f = bind_ok (number_at _ d.0) _ (x, rest) d.2 in
+    let q = expected (is_first_number a.0.0 f.0.0) _ _ (x, rest) f.2 in
+    let g = bind_ok (number_at _ f.0.1) _ (x, rest) q.1 in
+    let r = expected (is_second_number a.0.0 f.0.0 g.0.0) _ _ (x, rest) g.2 in
+    let t0 = byte_takes bytes a.0.0 a.0.1 fits a.1 in
+    let t1 = byte_takes a.0.1 b.0.0 b.0.1 t0.0.rest_fits b.1 in
+    let t2 = zeros_takes error.Parameter b.0.1 d.0 t1.0.rest_fits d.1 in
+    let t3 = word_takes d.0 f.0.0 f.0.1 t2.rest_fits f.1 in
+    let t4 = word_takes f.0.1 g.0.0 g.0.1 t3.0.rest_fits g.1 in
+    let k = a.0.0 ∷ b.0.0 ∷ [] in
+    let e1 = Takes-then bytes (a.0.0 ∷ []) a.0.1 (b.0.0 ∷ []) b.0.1 t0.0 t1.0 in
+    let e2 = Takes-then bytes k b.0.1 (half 0) d.0 e1 t2 in
+    let e3 = Takes-then bytes (k ++ half 0) d.0 (word f.0.0) f.0.1 e2 t3.0 in
+    let e4 = Takes-then bytes ((k ++ half 0) ++ word f.0.0) f.0.1 (word g.0.0) g.0.1 e3 t4.0 in
+    let m = means a.0.0 b.0.0 f.0.0 g.0.0 c.0 p.0 c.1 q.0 r.0 t4.1 in
+    subst (λ (y : Param × List ℕ). Takes bytes (spelled_parameter y.0) y.1 × IsParameter y.0) (ok_is (param_of a.0.0 c.0 f.0.0 g.0.0, g.0.1) (x, rest) r.1)
+    (subst (λ (t : List ℕ). Takes bytes t g.0.1) m.spelled e4, m.valid)
+
+regroup3 : (a b c rest : List ℕ) → ((a ++ b) ++ c) ++ rest ≡ a ++ (b ++ (c ++ rest))
+regroup3 a b c rest = simp append_assoc
+
+numbers_again : (kind code a b : ℕ) (mode : Option Mode) (rest : List ℕ) → leb kind 2 ≡ true → mode_of kind code ≡ Some mode → is_first_number kind a ≡ true → is_second_number kind a b ≡ true → a < 2 ^ 32 → b < 2 ^ 32 →
+    parameter_at (parameter_of kind code a b ++ rest) ≡ Ok (param_of kind mode a b, rest)
+unfolding parameter_at parameter_of byte_at
+numbers_again kind code a b mode rest le m first second small less =
+    ap (λ (t : List ℕ). parameter_at (kind ∷ code ∷ t)) (regroup3 (half 0) (word a) (word b) rest)
+    ∙ rw (le, m, zeros_again error.Parameter (word a ++ (word b ++ rest)), word_again a (word b ++ rest) small, first, word_again b rest less, second) refl
+
+parameter_again : (x : Param) (rest : List ℕ) → IsParameter x → parameter_at (spelled_parameter x ++ rest) ≡ Ok (x, rest)
+unfolding spelled_parameter mode_of is_first_number is_second_number param_of
+parameter_again parameter.None rest is = numbers_again 0 0 0 0 None rest refl refl refl refl (omega arith) (omega arith)
+parameter_again (parameter.Scalar lo hi) rest is =
+    let le : leb lo hi ≡ true = grind (arith, nat_tests, is.0) in
+    numbers_again 1 0 lo hi None rest refl refl refl le (omega (arith, is.0, is.1)) is.1
+parameter_again (parameter.Buffer Read size) rest is =
+    let le : leb size 16777216 ≡ true = grind (arith, nat_tests, is) in
+    numbers_again 2 1 size 0 (Some Read) rest refl refl le refl (omega (arith, is)) (omega arith)
+parameter_again (parameter.Buffer ReadWrite size) rest is =
+    let le : leb size 16777216 ≡ true = grind (arith, nat_tests, is) in
+    numbers_again 2 3 size 0 (Some ReadWrite) rest refl refl le refl (omega (arith, is)) (omega arith)
+
+all_from : (params : List Param) → AllFrom (λ from p. IsParameter p) after_parameter 0 params → AllByRecursion IsParameter params
+all_from [] all = tt
+all_from (p ∷ params) all = (all.0, all_from params all.1)
+
+from_all : (params : List Param) → AllByRecursion IsParameter params → AllFrom (λ from p. IsParameter p) after_parameter 0 params
+from_all [] all = tt
+from_all (p ∷ params) all = (all.0, from_all params all.1)
+
+valid_one : (p : Param) → IsParameter p → is_valid p ≡ true
+unfolding is_valid
+valid_one parameter.None is = refl
+valid_one (parameter.Scalar lo hi) is = grind (arith, nat_tests, is.0)
+valid_one (parameter.Buffer mode size) is = grind (arith, nat_tests, is)
+
+valid_all : (params : List Param) → AllByRecursion IsParameter params → list_all is_valid params ≡ true
+valid_all [] is = refl
+valid_all (p ∷ params) is = rw (valid_one p is.0) (valid_all params is.1)
+
+-- ---- the count of blocks
+
+count_takes : (bytes : List ℕ) (x : ℕ) (rest : List ℕ) → IsBytes bytes → count_at bytes ≡ Ok (x, rest) → Takes bytes (half x ++ half 0) rest × (x ≤ 1024)
+unfolding count_at
+count_takes bytes x rest fits e =
+    let a = bind_ok (number_at _ bytes) _ (x, rest) e in
+    let p = expected (leb a.0.0 1024) _ _ (x, rest) a.2 in
+    let b = bind_ok (zeros_at error.TooMany a.0.1) _ (x, rest) p.1 in
+    let few : a.0.0 ≤ 1024 = grind (arith, nat_tests, p.0) in
+    let t0 = half_takes bytes a.0.0 a.0.1 fits a.1 in
+    let t1 = zeros_takes error.TooMany a.0.1 b.0 t0.0.rest_fits b.1 in
+    subst (λ (y : ℕ × List ℕ). Takes bytes (half y.0 ++ half 0) y.1 × (y.0 ≤ 1024)) (ok_is (a.0.0, b.0) (x, rest) b.2) (Takes-then bytes (half a.0.0) a.0.1 (half 0) b.0 t0.0 t1, few)
+
+count_again : (x : ℕ) (rest : List ℕ) → x ≤ 1024 → count_at (half x ++ (half 0 ++ rest)) ≡ Ok (x, rest)
+unfolding count_at
+count_again x rest few =
+    let le : leb x 1024 ≡ true = grind (arith, nat_tests, few) in
+    rw (half_again x (half 0 ++ rest) (omega arith), le, zeros_again error.TooMany rest) refl
+
+-- ---- the whole
+
+same_params : (params found_params : List Param) → parameters_of params ≡ Some found_params → params ≡ found_params
+unfolding parameters_of
+same_params params found_params e =
+    elim (chosen (list_all is_valid params) (Some params) None (Some found_params) e) [
+      | inl h ↦ some_is params found_params h.1
+      | inr h ↦ absurd (let f = h.1 in cc)
+    ]
+
+few_blocks : (n m : ℕ) → n ≡ m → m ≤ 1024 → n ≤ 1024
+few_blocks n m e h = omega arith
+
+pub certificate_takes : (bytes : List ℕ) (x : CertificateView) → IsBytes bytes → certificate_of bytes ≡ Ok x → IsCertificate x × (bytes ≡ spelling x)
+unfolding certificate_of spelling
+certificate_takes bytes x fits e =
+    let a = bind_ok (header_at bytes) _ x e in
+    let b = bind_ok (parameters_at 8 a.0.1) _ x a.2 in
+    let c = found (parameters_of b.0.0) _ _ x b.2 in
+    let d = bind_ok (count_at b.0.1) _ x c.2 in
+    let f = bind_ok (blocks_at a.0.0 c.0 d.0.0 0 d.0.1) _ x d.2 in
+    let p = expected (eqb (length f.0.1) 0) _ _ x f.2 in
+    let same = same_params b.0.0 c.0 c.1 in
+    let t0 = header_takes bytes a.0.0 a.0.1 fits a.1 in
+    let t1 = many_takes parameters_from parameter_from after_parameter spelled_parameter (λ from q. IsParameter q) parameters_many (λ from bs q r h k. parameter_takes bs q r h k) 8 0 a.0.1 b.0.0 b.0.1 t0.rest_fits b.1 in
+    let t2 = count_takes b.0.1 d.0.0 d.0.1 t1.0.rest_fits d.1 in
+    let t3 = many_takes (blocks_at a.0.0 c.0) (block_at a.0.0 c.0) after_block spelled_block (IsBlock a.0.0 c.0) (blocks_many a.0.0 c.0) (block_takes a.0.0 c.0) d.0.0 0 d.0.1 f.0.0 f.0.1 t2.0.rest_fits f.1 in
+    let nothing : f.0.1 ≡ [] = nil_from_length f.0.1 (eqb-true (length f.0.1) 0 p.0) in
+    let named : Takes a.0.1 (flat_map spelled_parameter c.0) b.0.1 = subst (λ (ps : List Param). Takes a.0.1 (flat_map spelled_parameter ps) b.0.1) same t1.0 in
+    let counted : Takes b.0.1 (half (length f.0.0) ++ half 0) d.0.1 = subst (λ (n : ℕ). Takes b.0.1 (half n ++ half 0) d.0.1) (sym t3.1) t2.0 in
+    let e1 = Takes-then bytes (header a.0.0) a.0.1 (flat_map spelled_parameter c.0) b.0.1 t0 named in
+    let e2 = Takes-then bytes (header a.0.0 ++ flat_map spelled_parameter c.0) b.0.1 (half (length f.0.0) ++ half 0) d.0.1 e1 counted in
+    let e3 = Takes-then bytes ((header a.0.0 ++ flat_map spelled_parameter c.0) ++ (half (length f.0.0) ++ half 0)) d.0.1 (flat_map spelled_block f.0.0) f.0.1 e2 t3.0 in
+    let front = (header a.0.0 ++ flat_map spelled_parameter c.0) ++ (half (length f.0.0) ++ half 0) in
+    let ended : bytes ≡ front ++ flat_map spelled_block f.0.0 = e3.parts ∙ ap (λ (r : List ℕ). (front ++ flat_map spelled_block f.0.0) ++ r) nothing ∙ append-nil (front ++ flat_map spelled_block f.0.0) in
+    let whole = ended ∙ ap (λ (t : List ℕ). t ++ flat_map spelled_block f.0.0) (sym (append_assoc (header a.0.0 ++ flat_map spelled_parameter c.0) (half (length f.0.0)) (half 0))) in
+    let made : CertificateView = record { vlen = a.0.0; parameters = c.0; blocks = f.0.0 } in
+    subst (λ (y : CertificateView). IsCertificate y × (bytes ≡ spelling y)) (ok_is made x p.1)
+    (record { eight = subst (λ (ps : List Param). length ps ≡ 8) same t1.1; parameters = subst (λ (ps : List Param). AllByRecursion IsParameter ps) same (all_from b.0.0 t1.2); few = few_blocks (length f.0.0) d.0.0 t3.1 t2.1; blocks = t3.2 }, whole)
+
+regroup5 : (a b c d e : List ℕ) → (((a ++ b) ++ c) ++ d) ++ e ≡ a ++ (b ++ (c ++ (d ++ e)))
+regroup5 a b c d e = simp append_assoc
+
+pub certificate_again : (x : CertificateView) → IsCertificate x → certificate_of (spelling x) ≡ Ok x
+unfolding certificate_of spelling parameters_of
+certificate_again x is =
+    let blocks = flat_map spelled_block x.blocks in
+    let counted = half (length x.blocks) ++ (half 0 ++ blocks) in
+    let read : parameters_at 8 (flat_map spelled_parameter x.parameters ++ counted) ≡ Ok (x.parameters, counted) =
+    subst (λ (n : ℕ). parameters_at n (flat_map spelled_parameter x.parameters ++ counted) ≡ Ok (x.parameters, counted)) is.eight
+    (many_again parameters_from parameter_from after_parameter spelled_parameter (λ from q. IsParameter q) parameters_many (λ from q r h. parameter_again q r h) 0 x.parameters counted (from_all x.parameters is.parameters)) in
+    let last : blocks_at x.vlen x.parameters (length x.blocks) 0 blocks ≡ Ok (x.blocks, []) =
+    ap (blocks_at x.vlen x.parameters (length x.blocks) 0) (sym (append-nil blocks)) ∙ many_again (blocks_at x.vlen x.parameters) (block_at x.vlen x.parameters) after_block spelled_block (IsBlock x.vlen x.parameters) (blocks_many x.vlen x.parameters) (block_again x.vlen x.parameters) 0 x.blocks [] is.blocks in
+    ap certificate_of (regroup5 (header x.vlen) (flat_map spelled_parameter x.parameters) (half (length x.blocks)) (half 0) blocks)
+    ∙ rw (header_again x.vlen (flat_map spelled_parameter x.parameters ++ counted), read, valid_all x.parameters is.parameters, count_again (length x.blocks) blocks is.few, last) refl
+
+-- Two certificates of one spelling are one.
+pub one_certificate : (c d : CertificateView) → IsCertificate c → IsCertificate d → spelling c ≡ spelling d → c ≡ d
+one_certificate c d is it same = ok_is c d (sym (certificate_again c is) ∙ ap certificate_of same ∙ certificate_again d it)

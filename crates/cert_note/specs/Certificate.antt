@@ -1,0 +1,198 @@
+-- What a certificate states, without where it lies in memory, and what makes it one.
+use Rattle.std.specs.Prelude.{ℕ, ◌+◌, ◌*◌, ◌-◌, ◌/◌, ◌%◌, ◌^◌, ◌==◌, Bool, true, false, ◌&&◌, ◌||◌, not, nat_le, nat_lt, is_some, List, [], ◌∷◌, length, map, Option, Some, None, if◌then◌else◌}
+use Rattle.std.specs.Prelude.{◌≡◌, ◌<◌, ◌≤◌, IsTrue}
+use Rattle.std.specs.List.{list_all, list_any, slice_get, AllByRecursion}
+use Rattle.std.specs.Option.{option_map, option_map_or}
+use Rattle.region_mem.specs.declared.parameter.Param.{Param}
+use Rattle.region_mem.specs.declared.parameter.Param.TheVariants as parameter
+use Rattle.cert_note.specs.declared.values.Vlen.{Vlen}
+use Rattle.cert_note.specs.declared.values.Vlen.TheVariants.{V128, V256}
+use Rattle.cert_note.specs.declared.values.Term.{Term}
+use Rattle.cert_note.specs.declared.values.Budget.{Budget}
+use Rattle.cert_note.specs.declared.values.VectorFact.{VectorFact}
+use Rattle.cert_note.specs.declared.values.Equality.{Equality}
+use Rattle.cert_note.specs.declared.values.RegisterFact.{RegisterFact}
+use Rattle.cert_note.specs.declared.values.Block.{Block}
+use Rattle.cert_note.specs.declared.values.Contents.{Contents}
+
+pub record EqualityView : Type 0 where
+  pub constant : ℕ
+  pub terms : List Term
+
+pub record RegisterFactView : Type 0 where
+  pub number : ℕ
+  pub low : ℕ
+  pub high : ℕ
+  pub equality : Option EqualityView
+
+pub record BlockView : Type 0 where
+  pub start : ℕ
+  pub budget : Budget
+  pub vtype : Option ℕ
+  pub registers : List RegisterFactView
+  pub vectors : List VectorFact
+
+pub record CertificateView : Type 0 where
+  pub vlen : Vlen
+  pub parameters : List Param
+  pub blocks : List BlockView
+
+abbrev pub view_equality : Equality → EqualityView
+view_equality e = record { constant = e.constant; terms = e.terms.items }
+
+abbrev pub view_fact : RegisterFact → RegisterFactView
+view_fact f = record { number = f.number; low = f.low; high = f.high; equality = option_map view_equality f.equality }
+
+abbrev pub view_facts : List RegisterFact → List RegisterFactView
+view_facts fs = map view_fact fs
+
+abbrev pub view_block : Block → BlockView
+view_block b = record { start = b.start; budget = b.budget; vtype = b.vtype; registers = view_facts b.registers.items; vectors = b.vectors.items }
+
+abbrev pub view_blocks : List Block → List BlockView
+view_blocks bs = map view_block bs
+
+abbrev pub view : Contents → CertificateView
+view c = record { vlen = c.vlen; parameters = c.parameters; blocks = view_blocks c.blocks.items }
+
+-- the bits of a vector register
+unfoldable pub bits_of : Vlen → ℕ
+bits_of V128 = 128
+bits_of V256 = 256
+
+-- The place has a scalar.
+unfoldable pub is_scalar : Param → Bool
+is_scalar parameter.None = false
+is_scalar (parameter.Scalar lo hi) = true
+is_scalar (parameter.Buffer mode size) = false
+
+-- A register or vl at the block's start, or the entry value of a scalar.
+unfoldable pub is_atom : List Param → ℕ → Bool
+is_atom params atom = (nat_le 1 atom && nat_le atom 32) || (nat_le 33 atom && nat_lt atom 41 && option_map_or is_scalar (slice_get params (atom - 33)) false)
+
+-- The interval holds every number of this many bits.
+unfoldable pub is_full : ℕ → ℕ → ℕ → Bool
+is_full bits low high = (low == 0) && (high == 2 ^ bits - 1)
+
+-- A register is named exactly where the factor is not 0.
+unfoldable pub is_budget : ℕ → ℕ → Bool
+is_budget factor register = if factor == 0 then register == 0 else (nat_le 1 register && nat_le register 31)
+
+-- A vector type: elements of 8, 16 or 32 bits (bits 5 to 3), in groups of 1, 2, 4 or 8 registers (bits 2 to 0), or of a
+-- half or a quarter of one, in which an element has at most 16 or 8 bits.
+unfoldable pub is_supported : ℕ → Bool
+is_supported vtype =
+    let sew = vtype / 8 % 8 in
+    let lmul = vtype % 8 in
+    nat_lt vtype 256 && nat_le sew 2 && (nat_lt lmul 4 || (lmul == 7 && nat_le sew 1) || (lmul == 6 && sew == 0))
+
+-- 8, 16 or 32 bits
+unfoldable pub is_width : ℕ → Bool
+is_width width = (width == 8) || (width == 16) || (width == 32)
+
+-- 1, 2, 4 or 8 registers from a multiple of that number on
+unfoldable pub is_group : ℕ → ℕ → Bool
+is_group register registers = ((registers == 1) || (registers == 2) || (registers == 4) || (registers == 8)) && (register % registers == 0)
+
+-- at most as many elements as the group has
+unfoldable pub is_count : Vlen → ℕ → ℕ → ℕ → Bool
+is_count vlen width registers count = nat_le (count * width) (registers * bits_of vlen)
+
+-- an interval of numbers of this many bits, that is not all of them
+unfoldable pub is_interval : ℕ → ℕ → ℕ → Bool
+is_interval width low high = nat_le low high && nat_lt high (2 ^ width) && not (is_full width low high)
+
+-- The register of this number has a fact with an equality.
+unfoldable pub is_equated : List RegisterFactView → ℕ → Bool
+is_equated facts number = list_any (λ fact. (fact.number == number) && is_some fact.equality) facts
+
+-- No atom of the equality is a register that has an equality itself.
+unfoldable pub is_free : List RegisterFactView → Option EqualityView → Bool
+is_free facts None = true
+is_free facts (Some equality) = list_all (λ term. not (is_equated facts term.atom)) equality.terms
+
+unfoldable pub are_free : List RegisterFactView → Bool
+are_free facts = list_all (λ fact. is_free facts fact.equality) facts
+
+-- Each item is valid from the number that the one before it leaves.
+abbrev pub AllFrom : {A : Type 0} → (ℕ → A → Type 0) → (A → ℕ) → ℕ → List A → Type 0
+AllFrom Valid next from [] = Unit {0}
+AllFrom Valid next from (x ∷ xs) = Valid from x × AllFrom Valid next (next x) xs
+
+-- Terms rise by their atoms, facts on registers by their numbers, facts on groups by their registers, blocks by their starts.
+abbrev pub after_term : Term → ℕ
+after_term term = term.atom + 1
+
+abbrev pub after_fact : RegisterFactView → ℕ
+after_fact fact = fact.number + 1
+
+abbrev pub after_vector : VectorFact → ℕ
+after_vector fact = fact.register + fact.registers
+
+abbrev pub after_block : BlockView → ℕ
+after_block block = block.start + 1
+
+pub record IsTerm (params : List Param) (from : ℕ) (term : Term) : Type 0 where
+  pub atom : IsTrue (nat_le from term.atom && is_atom params term.atom)
+  pub coefficient : IsTrue (nat_lt 0 term.coefficient)
+  pub fits : term.coefficient < 2 ^ 32
+
+pub record IsEquality (params : List Param) (equality : EqualityView) : Type 0 where
+  pub few : length equality.terms ≤ 8
+  pub constant : equality.constant < 2 ^ 32
+  pub terms : AllFrom (IsTerm params) after_term 1 equality.terms
+
+-- Where no equality is stated the interval says something.
+abbrev pub SaysMore : List Param → ℕ → ℕ → Option EqualityView → Type 0
+SaysMore params low high None = IsTrue (not (is_full 32 low high))
+SaysMore params low high (Some equality) = IsEquality params equality
+
+pub record IsRegisterFact (params : List Param) (from : ℕ) (fact : RegisterFactView) : Type 0 where
+  pub number : IsTrue (nat_le from fact.number && nat_le fact.number 32)
+  pub low : fact.low < 2 ^ 32
+  pub high : fact.high < 2 ^ 32
+  pub interval : IsTrue (nat_le fact.low fact.high)
+  pub says : SaysMore params fact.low fact.high fact.equality
+
+pub record IsVectorFact (vlen : Vlen) (from : ℕ) (fact : VectorFact) : Type 0 where
+  pub register : IsTrue (nat_le from fact.register && nat_le fact.register 31)
+  pub width : IsTrue (is_width fact.width)
+  pub group : IsTrue (is_group fact.register fact.registers)
+  pub count : IsTrue (is_count vlen fact.width fact.registers fact.count)
+  pub count_fits : fact.count < 2 ^ 16
+  pub low : fact.low < 2 ^ 32
+  pub high : fact.high < 2 ^ 32
+  pub interval : IsTrue (is_interval fact.width fact.low fact.high)
+
+pub record IsBudgetOf (budget : Budget) : Type 0 where
+  pub constant : budget.constant < 2 ^ 32
+  pub factor : budget.factor < 2 ^ 32
+  pub register : IsTrue (is_budget budget.factor budget.register)
+
+abbrev pub IsVtype : Option ℕ → Type 0
+IsVtype None = Unit {0}
+IsVtype (Some vtype) = IsTrue (is_supported vtype)
+
+pub record IsBlock (vlen : Vlen) (params : List Param) (from : ℕ) (block : BlockView) : Type 0 where
+  pub start : IsTrue (nat_le from block.start && (block.start % 4 == 0))
+  pub start_fits : block.start < 2 ^ 32
+  pub budget : IsBudgetOf block.budget
+  pub vtype : IsVtype block.vtype
+  pub few_registers : length block.registers ≤ 32
+  pub few_vectors : length block.vectors ≤ 32
+  pub registers : AllFrom (IsRegisterFact params) after_fact 1 block.registers
+  pub vectors : AllFrom (IsVectorFact vlen) after_vector 0 block.vectors
+  pub free : IsTrue (are_free block.registers)
+
+-- A scalar's interval is not empty, and a buffer has at most 16 MiB.
+abbrev pub IsParameter : Param → Type 0
+IsParameter parameter.None = Unit {0}
+IsParameter (parameter.Scalar lo hi) = (lo ≤ hi) × (hi < 2 ^ 32)
+IsParameter (parameter.Buffer mode size) = size ≤ 16777216
+
+-- what makes these values a certificate
+pub record IsCertificate (certificate : CertificateView) : Type 0 where
+  pub eight : length certificate.parameters ≡ 8
+  pub parameters : AllByRecursion IsParameter certificate.parameters
+  pub few : length certificate.blocks ≤ 1024
+  pub blocks : AllFrom (IsBlock certificate.vlen certificate.parameters) after_block 0 certificate.blocks

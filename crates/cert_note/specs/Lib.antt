@@ -1,0 +1,3 @@
+pub mod Certificate
+pub mod Spelling
+pub mod Reading

@@ -1,0 +1,275 @@
+-- Reading from the first byte to the last, with the first fault that is met.
+use Rattle.std.specs.Prelude.{◌≡◌, ◌⊎◌, ℕ, zero, suc, ◌+◌, ◌*◌, ◌-◌, ◌%◌, ◌==◌, Bool, true, false, ◌&&◌, ◌||◌, not, nat_le, nat_lt, List, [], ◌∷◌, length, take, drop, Option, Some, None, Result, Ok, Err, if◌then◌else◌, ok_or}
+use Rattle.std.specs.Int.{Width, w16, w32, byte_len, from_le_bytes}
+use Rattle.region_mem.specs.Parameter.{parameters_of}
+use Rattle.region_mem.specs.declared.parameter.Mode.{Mode}
+use Rattle.region_mem.specs.declared.parameter.Mode.TheVariants.{Read, ReadWrite}
+use Rattle.region_mem.specs.declared.parameter.Param.{Param}
+use Rattle.region_mem.specs.declared.parameter.Param.TheVariants as parameter
+use Rattle.cert_note.specs.declared.refusals.CertError.{CertError}
+use Rattle.cert_note.specs.declared.refusals.CertError.TheVariants as error
+use Rattle.cert_note.specs.declared.refusals.ReadError.{ReadError}
+use Rattle.cert_note.specs.declared.refusals.ReadError.TheVariants.{Memory, Fault}
+use Rattle.cert_note.specs.declared.values.Vlen.{Vlen}
+use Rattle.cert_note.specs.declared.values.Vlen.TheVariants.{V128, V256}
+use Rattle.cert_note.specs.declared.values.Term.{Term}
+use Rattle.cert_note.specs.declared.values.Budget.{Budget}
+use Rattle.cert_note.specs.declared.values.VectorFact.{VectorFact}
+use Rattle.cert_note.specs.declared.values.Group.{Group}
+use Rattle.cert_note.specs.Certificate.{EqualityView, RegisterFactView, BlockView, CertificateView, is_atom, is_full, is_budget, is_supported, is_width, is_group, is_count, is_interval, are_free}
+
+infixl 10 ◌>>=◌
+abbrev pub ◌>>=◌ : {A B : Type 0} → Result A CertError → (A → Result B CertError) → Result B CertError
+(Ok x) >>= f = f x
+(Err e) >>= f = Err e
+
+-- What a function returned, seen by view, is what reading gives, unless memory ran out.
+abbrev pub Fails : {Y : Type 0} → ReadError → Result Y CertError → Type 0
+Fails Memory read = Unit {0}
+Fails (Fault e) read = read ≡ Err e
+
+abbrev pub Gives : {X Y : Type 0} → (X → Y) → Result X ReadError → Result Y CertError → Type 0
+Gives view (Ok x) read = read ≡ Ok (view x)
+Gives view (Err e) read = Fails e read
+
+-- a condition, and the fault where it does not hold
+abbrev pub expect : Bool → CertError → Result (Unit {0}) CertError
+expect true fault = Ok tt
+expect false fault = Err fault
+
+-- A field is a value and the bytes behind it.
+unfoldable pub byte_at : List ℕ → Result (ℕ × List ℕ) CertError
+byte_at [] = Err error.Short
+byte_at (byte ∷ rest) = Ok (byte, rest)
+
+unfoldable pub number_at : Width → List ℕ → Result (ℕ × List ℕ) CertError
+number_at w bytes = if nat_lt (length bytes) (byte_len w) then Err error.Short else Ok (from_le_bytes w (take (byte_len w) bytes), drop (byte_len w) bytes)
+
+-- a byte of zero, and the bytes behind it
+unfoldable pub zero_at : CertError → List ℕ → Result (List ℕ) CertError
+zero_at fault bytes = do
+  byte ← byte_at bytes
+  _ ← expect (byte.0 == 0) fault
+  Ok byte.1
+
+-- two bytes of zeros
+unfoldable pub zeros_at : CertError → List ℕ → Result (List ℕ) CertError
+zeros_at fault bytes = do
+  number ← number_at w16 bytes
+  _ ← expect (number.0 == 0) fault
+  Ok number.1
+
+unfoldable pub vlen_of : ℕ → Option Vlen
+vlen_of code = if code == 1 then Some V128 else (if code == 2 then Some V256 else None)
+
+unfoldable pub header_at : List ℕ → Result (Vlen × List ℕ) CertError
+header_at bytes = do
+  version ← number_at w16 bytes
+  _ ← expect (version.0 == 1) error.Version
+  code ← byte_at version.1
+  vlen ← ok_or (vlen_of code.0) error.Version
+  rest ← zero_at error.Version code.1
+  Ok (vlen, rest)
+
+-- the parameter of a kind, a mode and two numbers, where they are one
+unfoldable pub mode_of : ℕ → ℕ → Option (Option Mode)
+mode_of kind mode =
+    if kind == 2 then (if mode == 1 then Some (Some Read) else (if mode == 3 then Some (Some ReadWrite) else None))
+    else (if (nat_lt kind 2) && (mode == 0) then Some None else None)
+
+unfoldable pub is_first_number : ℕ → ℕ → Bool
+is_first_number kind a = if kind == 0 then a == 0 else (if kind == 2 then nat_le a 16777216 else true)
+
+unfoldable pub is_second_number : ℕ → ℕ → ℕ → Bool
+is_second_number kind a b = if kind == 1 then nat_le a b else b == 0
+
+unfoldable pub param_of : ℕ → Option Mode → ℕ → ℕ → Param
+param_of kind (Some mode) a b = parameter.Buffer mode a
+param_of kind None a b = if kind == 1 then parameter.Scalar a b else parameter.None
+
+unfoldable pub parameter_at : List ℕ → Result (Param × List ℕ) CertError
+parameter_at bytes = do
+  kind ← byte_at bytes
+  _ ← expect (nat_le kind.0 2) error.Parameter
+  code ← byte_at kind.1
+  mode ← ok_or (mode_of kind.0 code.0) error.Parameter
+  rest ← zeros_at error.Parameter code.1
+  a ← number_at w32 rest
+  _ ← expect (is_first_number kind.0 a.0) error.Parameter
+  b ← number_at w32 a.1
+  _ ← expect (is_second_number kind.0 a.0 b.0) error.Parameter
+  Ok (param_of kind.0 mode a.0 b.0, b.1)
+
+-- this many parameters
+unfoldable pub parameters_at : ℕ → List ℕ → Result (List Param × List ℕ) CertError
+parameters_at zero bytes = Ok ([], bytes)
+parameters_at (suc n) bytes = do
+  first ← parameter_at bytes
+  others ← parameters_at n first.1
+  Ok (first.0 ∷ others.0, others.1)
+
+-- a term whose atom is not below a number
+unfoldable pub term_at : List Param → ℕ → List ℕ → Result (Term × List ℕ) CertError
+term_at params from bytes = do
+  atom ← byte_at bytes
+  _ ← expect (nat_le from atom.0 && is_atom params atom.0) error.Equality
+  coefficient ← number_at w32 atom.1
+  _ ← expect (nat_lt 0 coefficient.0) error.Equality
+  Ok (record { atom = atom.0; coefficient = coefficient.0 }, coefficient.1)
+
+-- terms by rising atom
+unfoldable pub terms_at : List Param → ℕ → ℕ → List ℕ → Result (List Term × List ℕ) CertError
+terms_at params zero from bytes = Ok ([], bytes)
+terms_at params (suc n) from bytes = do
+  first ← term_at params from bytes
+  others ← terms_at params n (first.0.atom + 1) first.1
+  Ok (first.0 ∷ others.0, others.1)
+
+-- an equality of this many terms
+unfoldable pub sum_at : List Param → ℕ → List ℕ → Result (EqualityView × List ℕ) CertError
+sum_at params count bytes = do
+  _ ← expect (nat_le count 8) error.Equality
+  constant ← number_at w32 bytes
+  terms ← terms_at params count 1 constant.1
+  Ok (record { constant = constant.0; terms = terms.0 }, terms.1)
+
+-- no equality, where the interval says something
+unfoldable pub none_at : ℕ → ℕ → List ℕ → Result (Option EqualityView × List ℕ) CertError
+none_at low high bytes = do
+  _ ← expect (not (is_full 32 low high)) error.Fact
+  Ok (None, bytes)
+
+unfoldable pub some_at : List Param → ℕ → List ℕ → Result (Option EqualityView × List ℕ) CertError
+some_at params count bytes = do
+  sum ← sum_at params count bytes
+  Ok (Some sum.0, sum.1)
+
+unfoldable pub equality_at : List Param → ℕ → ℕ → List ℕ → Result (Option EqualityView × List ℕ) CertError
+equality_at params low high bytes = do
+  count ← byte_at bytes
+  if count.0 == 255 then none_at low high count.1 else some_at params count.0 count.1
+
+-- a fact on a register whose number is not below one
+unfoldable pub fact_at : List Param → ℕ → List ℕ → Result (RegisterFactView × List ℕ) CertError
+fact_at params from bytes = do
+  number ← byte_at bytes
+  _ ← expect (nat_le from number.0 && nat_le number.0 32) error.Fact
+  low ← number_at w32 number.1
+  high ← number_at w32 low.1
+  _ ← expect (nat_le low.0 high.0) error.Fact
+  equality ← equality_at params low.0 high.0 high.1
+  Ok (record { number = number.0; low = low.0; high = high.0; equality = equality.0 }, equality.1)
+
+-- facts by rising register
+unfoldable pub facts_at : List Param → ℕ → ℕ → List ℕ → Result (List RegisterFactView × List ℕ) CertError
+facts_at params zero from bytes = Ok ([], bytes)
+facts_at params (suc n) from bytes = do
+  first ← fact_at params from bytes
+  others ← facts_at params n (first.0.number + 1) first.1
+  Ok (first.0 ∷ others.0, others.1)
+
+-- a group whose first register is not below one
+unfoldable pub group_at : ℕ → List ℕ → Result (Group × List ℕ) CertError
+group_at from bytes = do
+  register ← byte_at bytes
+  _ ← expect (nat_le from register.0 && nat_le register.0 31) error.Fact
+  width ← byte_at register.1
+  _ ← expect (is_width width.0) error.Fact
+  registers ← byte_at width.1
+  _ ← expect (is_group register.0 registers.0) error.Fact
+  rest ← zero_at error.Fact registers.1
+  Ok (record { register = register.0; width = width.0; registers = registers.0 }, rest)
+
+unfoldable pub vector_at : Vlen → ℕ → List ℕ → Result (VectorFact × List ℕ) CertError
+vector_at vlen from bytes = do
+  group ← group_at from bytes
+  count ← number_at w16 group.1
+  _ ← expect (is_count vlen group.0.width group.0.registers count.0) error.Fact
+  rest ← zeros_at error.Fact count.1
+  low ← number_at w32 rest
+  high ← number_at w32 low.1
+  _ ← expect (is_interval group.0.width low.0 high.0) error.Fact
+  Ok (record { register = group.0.register; width = group.0.width; registers = group.0.registers; count = count.0; low = low.0; high = high.0 }, high.1)
+
+-- facts on groups, each behind the one before it
+unfoldable pub vectors_at : Vlen → ℕ → ℕ → List ℕ → Result (List VectorFact × List ℕ) CertError
+vectors_at vlen zero from bytes = Ok ([], bytes)
+vectors_at vlen (suc n) from bytes = do
+  first ← vector_at vlen from bytes
+  others ← vectors_at vlen n (first.0.register + first.0.registers) first.1
+  Ok (first.0 ∷ others.0, others.1)
+
+unfoldable pub budget_at : List ℕ → Result (Budget × List ℕ) CertError
+budget_at bytes = do
+  constant ← number_at w32 bytes
+  factor ← number_at w32 constant.1
+  register ← byte_at factor.1
+  _ ← expect (is_budget factor.0 register.0) error.Budget
+  Ok (record { constant = constant.0; factor = factor.0; register = register.0 }, register.1)
+
+unfoldable pub known_vtype : ℕ → ℕ → Option (Option ℕ)
+known_vtype known vtype = if known == 1 then (if is_supported vtype then Some (Some vtype) else None) else (if vtype == 0 then Some None else None)
+
+unfoldable pub vtype_at : List ℕ → Result (Option ℕ × List ℕ) CertError
+vtype_at bytes = do
+  known ← byte_at bytes
+  _ ← expect (nat_le known.0 1) error.Fact
+  bits ← byte_at known.1
+  vtype ← ok_or (known_vtype known.0 bits.0) error.Fact
+  Ok (vtype, bits.1)
+
+-- how many facts there are on registers, and on groups
+unfoldable pub counts_at : List ℕ → Result ((ℕ × ℕ) × List ℕ) CertError
+counts_at bytes = do
+  registers ← byte_at bytes
+  _ ← expect (nat_le registers.0 32) error.TooMany
+  vectors ← byte_at registers.1
+  _ ← expect (nat_le vectors.0 32) error.TooMany
+  one ← zero_at error.TooMany vectors.1
+  two ← zero_at error.TooMany one
+  rest ← zero_at error.TooMany two
+  Ok ((registers.0, vectors.0), rest)
+
+-- a block whose start is not below an address
+unfoldable pub block_at : Vlen → List Param → ℕ → List ℕ → Result (BlockView × List ℕ) CertError
+block_at vlen params from bytes = do
+  start ← number_at w32 bytes
+  _ ← expect (nat_le from start.0 && (start.0 % 4 == 0)) error.BlockOrder
+  budget ← budget_at start.1
+  vtype ← vtype_at budget.1
+  counts ← counts_at vtype.1
+  registers ← facts_at params counts.0.0 1 counts.1
+  vectors ← vectors_at vlen counts.0.1 0 registers.1
+  _ ← expect (are_free registers.0) error.Equality
+  Ok (record { start = start.0; budget = budget.0; vtype = vtype.0; registers = registers.0; vectors = vectors.0 }, vectors.1)
+
+-- blocks by rising start
+unfoldable pub blocks_at : Vlen → List Param → ℕ → ℕ → List ℕ → Result (List BlockView × List ℕ) CertError
+blocks_at vlen params zero from bytes = Ok ([], bytes)
+blocks_at vlen params (suc n) from bytes = do
+  first ← block_at vlen params from bytes
+  others ← blocks_at vlen params n (first.0.start + 1) first.1
+  Ok (first.0 ∷ others.0, others.1)
+
+unfoldable pub count_at : List ℕ → Result (ℕ × List ℕ) CertError
+count_at bytes = do
+  count ← number_at w16 bytes
+  _ ← expect (nat_le count.0 1024) error.TooMany
+  rest ← zeros_at error.TooMany count.1
+  Ok (count.0, rest)
+
+-- the certificate that is spelled by all of the bytes
+unfoldable pub certificate_of : List ℕ → Result CertificateView CertError
+certificate_of bytes = do
+  vlen ← header_at bytes
+  params ← parameters_at 8 vlen.1
+  parameters ← ok_or (parameters_of params.0) error.Parameter
+  count ← count_at params.1
+  blocks ← blocks_at vlen.0 parameters count.0 0 count.1
+  _ ← expect (length blocks.1 == 0) error.TrailingBytes
+  Ok (record { vlen = vlen.0; parameters = parameters; blocks = blocks.0 })
+
+-- What read answers is what reading gives, unless memory ran out.
+abbrev pub Answers : {X : Type 0} → (X → CertificateView) → Result X CertError → Result CertificateView CertError → Type 0
+Answers view (Ok x) read = read ≡ Ok (view x)
+Answers view (Err e) read = (e ≡ error.NoMemory) ⊎ (read ≡ Err e)

@@ -1,0 +1,95 @@
+-- The one spelling of a certificate: fields of 8, 16 and 32 bits, the lowest byte first.
+use Rattle.std.specs.Prelude.{ℕ, zero, suc, ◌+◌, List, [], ◌∷◌, ◌++◌, length, map, Option, Some, None}
+use Rattle.std.specs.Prelude.{◌<◌, ◌^◌}
+use Rattle.std.specs.List.{flat_map, All}
+use Rattle.std.specs.Option.{option_map}
+use Rattle.cert_note.specs.declared.values.Block.{Block}
+use Rattle.cert_note.specs.declared.values.Contents.{Contents}
+use Rattle.std.specs.Int.{w16, w32, to_le_bytes}
+use Rattle.region_mem.specs.declared.parameter.Mode.{Mode}
+use Rattle.region_mem.specs.declared.parameter.Mode.TheVariants.{Read, ReadWrite}
+use Rattle.region_mem.specs.declared.parameter.Param.{Param}
+use Rattle.region_mem.specs.declared.parameter.Param.TheVariants as parameter
+use Rattle.cert_note.specs.declared.values.Vlen.{Vlen}
+use Rattle.cert_note.specs.declared.values.Vlen.TheVariants.{V128, V256}
+use Rattle.cert_note.specs.declared.values.Term.{Term}
+use Rattle.cert_note.specs.declared.values.Budget.{Budget}
+use Rattle.cert_note.specs.declared.values.VectorFact.{VectorFact}
+use Rattle.cert_note.specs.Certificate.{view_equality, EqualityView, RegisterFactView, BlockView, CertificateView}
+
+unfoldable pub half : ℕ → List ℕ
+half n = to_le_bytes w16 n
+
+unfoldable pub word : ℕ → List ℕ
+word n = to_le_bytes w32 n
+
+-- version 1, the vector length, and a zero
+abbrev pub vlen_code : Vlen → ℕ
+vlen_code V128 = 1
+vlen_code V256 = 2
+
+unfoldable pub header : Vlen → List ℕ
+header vlen = half 1 ++ (vlen_code vlen ∷ 0 ∷ [])
+
+-- a kind, a mode, two bytes of zeros, and two numbers
+unfoldable pub parameter_of : ℕ → ℕ → ℕ → ℕ → List ℕ
+parameter_of kind mode a b = (kind ∷ mode ∷ []) ++ half 0 ++ word a ++ word b
+
+abbrev pub mode_code : Mode → ℕ
+mode_code Read = 1
+mode_code ReadWrite = 3
+
+unfoldable pub spelled_parameter : Param → List ℕ
+spelled_parameter parameter.None = parameter_of 0 0 0 0
+spelled_parameter (parameter.Scalar lo hi) = parameter_of 1 0 lo hi
+spelled_parameter (parameter.Buffer mode size) = parameter_of 2 (mode_code mode) size 0
+
+unfoldable pub spelled_term : Term → List ℕ
+spelled_term term = (term.atom ∷ []) ++ word term.coefficient
+
+-- 255 where no equality is stated, else the number of terms, the constant and the terms
+unfoldable pub spelled_equality : Option EqualityView → List ℕ
+spelled_equality None = 255 ∷ []
+spelled_equality (Some equality) = (length equality.terms ∷ []) ++ word equality.constant ++ flat_map spelled_term equality.terms
+
+unfoldable pub spelled_fact : RegisterFactView → List ℕ
+spelled_fact fact = (fact.number ∷ []) ++ word fact.low ++ word fact.high ++ spelled_equality fact.equality
+
+unfoldable pub spelled_vector : VectorFact → List ℕ
+spelled_vector fact = (fact.register ∷ fact.width ∷ fact.registers ∷ 0 ∷ []) ++ half fact.count ++ half 0 ++ word fact.low ++ word fact.high
+
+unfoldable pub spelled_budget : Budget → List ℕ
+spelled_budget budget = word budget.constant ++ word budget.factor ++ (budget.register ∷ [])
+
+-- whether the vector type is known, and its bits
+unfoldable pub spelled_vtype : Option ℕ → List ℕ
+spelled_vtype None = 0 ∷ 0 ∷ []
+spelled_vtype (Some vtype) = 1 ∷ vtype ∷ []
+
+-- how many facts there are on registers and on groups, and three zeros
+unfoldable pub counts : ℕ → ℕ → List ℕ
+counts registers vectors = registers ∷ vectors ∷ 0 ∷ 0 ∷ 0 ∷ []
+
+unfoldable pub spelled_block : BlockView → List ℕ
+spelled_block block =
+    word block.start ++ spelled_budget block.budget ++ spelled_vtype block.vtype ++ counts (length block.registers) (length block.vectors)
+    ++ flat_map spelled_fact block.registers ++ flat_map spelled_vector block.vectors
+
+unfoldable pub spelling : CertificateView → List ℕ
+spelling certificate =
+    header certificate.vlen ++ flat_map spelled_parameter certificate.parameters
+    ++ half (length certificate.blocks) ++ half 0 ++ flat_map spelled_block certificate.blocks
+
+-- Each count fits its field.
+abbrev pub HasFewTerms : Option EqualityView → Type 0
+HasFewTerms None = Unit {0}
+HasFewTerms (Some equality) = length equality.terms < 256
+
+pub record HasFewFacts (block : Block) : Type 0 where
+  pub registers : length block.registers.items < 256
+  pub vectors : length block.vectors.items < 256
+  pub terms : All (λ fact. HasFewTerms (option_map view_equality fact.equality)) block.registers.items
+
+pub record HasFewBlocks (certificate : Contents) : Type 0 where
+  pub blocks : length certificate.blocks.items < 2 ^ 16
+  pub facts : All HasFewFacts certificate.blocks.items

@@ -1,0 +1,439 @@
+//! Fields of a certificate that need no memory.
+ghost use Rattle.std.specs.Prelude.{◌≡◌, ◌≤◌, ◌+◌, ◌^◌, IsTrue, IfOk, ok_or};
+ghost use Rattle.region_mem.specs.Parameter.{parameters_of};
+ghost use Rattle.cert_note.specs.declared.refusals.CertError.TheVariants.{Parameter};
+ghost use Rattle.std.specs.Int.{w16, w32};
+ghost use Rattle.cert_note.specs.Certificate.{is_supported, is_width, is_group, is_count, is_interval, is_full, is_budget, is_atom, is_scalar, bits_of};
+ghost use Rattle.cert_note.specs.Reading.{Gives, expect, byte_at, number_at, zero_at, zeros_at, vlen_of, header_at, mode_of, is_first_number, is_second_number, param_of, parameter_at, parameters_at, term_at, group_at, vector_at, budget_at, known_vtype, vtype_at, counts_at, count_at};
+
+use crate::refusals::{CertError, ReadError};
+use crate::values::{Budget, Group, Term, VectorFact, Vlen};
+use region_mem::{Mode, Param, Parameters};
+
+pub(crate) fn expect(test: bool, fault: CertError) -> Result<(), ReadError>
+    ensures { Gives (λ x. x) result (expect test fault) }
+{
+    if test {
+        Ok(())
+    } else {
+        Err(ReadError::Fault(fault))
+    }
+}
+
+#[tactic(auto, unfolding(crate::specs::Reading::byte_at))]
+pub(crate) fn byte_at(bytes: &[u8]) -> Result<(u8, &[u8]), ReadError>
+    ensures { Gives (λ x. (x.0, x.1.now)) result (byte_at bytes.now) }
+{
+    match bytes {
+        [] => Err(ReadError::Fault(CertError::Short)),
+        [byte, rest @ ..] => Ok((*byte, rest)),
+    }
+}
+
+#[tactic(auto, unfolding(crate::specs::Reading::number_at))]
+pub(crate) fn half_at(bytes: &[u8]) -> Result<(u16, &[u8]), ReadError>
+    ensures { Gives (λ x. (x.0, x.1.now)) result (number_at w16 bytes.now) }
+{
+    if bytes.len() < 2 {
+        return Err(ReadError::Fault(CertError::Short));
+    }
+    let (front, rest) = bytes.split_at(2);
+    let number = u16::from_le_bytes([front[0], front[1]]);
+    Ok((number, rest))
+}
+
+#[tactic(auto, unfolding(crate::specs::Reading::number_at))]
+pub(crate) fn word_at(bytes: &[u8]) -> Result<(u32, &[u8]), ReadError>
+    ensures { Gives (λ x. (x.0, x.1.now)) result (number_at w32 bytes.now) }
+{
+    if bytes.len() < 4 {
+        return Err(ReadError::Fault(CertError::Short));
+    }
+    let (front, rest) = bytes.split_at(4);
+    let number = u32::from_le_bytes([front[0], front[1], front[2], front[3]]);
+    Ok((number, rest))
+}
+
+#[tactic(auto, unfolding(crate::specs::Reading::zero_at))]
+fn zero_at(fault: CertError, bytes: &[u8]) -> Result<&[u8], ReadError>
+    ensures { Gives (λ x. x.now) result (zero_at fault bytes.now) }
+{
+    let (byte, rest) = byte_at(bytes)?;
+    expect(byte == 0, fault)?;
+    Ok(rest)
+}
+
+#[tactic(auto, unfolding(crate::specs::Reading::zeros_at))]
+fn zeros_at(fault: CertError, bytes: &[u8]) -> Result<&[u8], ReadError>
+    ensures { Gives (λ x. x.now) result (zeros_at fault bytes.now) }
+{
+    let (number, rest) = half_at(bytes)?;
+    expect(number == 0, fault)?;
+    Ok(rest)
+}
+
+#[tactic(auto, unfolding(crate::specs::Reading::vlen_of))]
+fn vlen_of(code: u8) -> Option<Vlen>
+    ensures { result ≡ vlen_of code }
+{
+    if code == 1 {
+        Some(Vlen::V128)
+    } else if code == 2 {
+        Some(Vlen::V256)
+    } else {
+        None
+    }
+}
+
+#[tactic(auto, unfolding(crate::specs::Reading::header_at))]
+pub(crate) fn header_at(bytes: &[u8]) -> Result<(Vlen, &[u8]), ReadError>
+    ensures { Gives (λ x. (x.0, x.1.now)) result (header_at bytes.now) }
+{
+    let (version, rest) = half_at(bytes)?;
+    expect(version == 1, CertError::Version)?;
+    let (code, rest) = byte_at(rest)?;
+    let vlen = vlen_of(code).ok_or(ReadError::Fault(CertError::Version))?;
+    let rest = zero_at(CertError::Version, rest)?;
+    Ok((vlen, rest))
+}
+
+#[tactic(auto, unfolding(crate::specs::Reading::mode_of))]
+fn mode_of(kind: u8, mode: u8) -> Option<Option<Mode>>
+    ensures { result ≡ mode_of kind mode }
+{
+    if kind == 2 {
+        if mode == 1 {
+            Some(Some(Mode::Read))
+        } else if mode == 3 {
+            Some(Some(Mode::ReadWrite))
+        } else {
+            None
+        }
+    } else if kind < 2 && mode == 0 {
+        Some(None)
+    } else {
+        None
+    }
+}
+
+#[tactic(auto, unfolding(crate::specs::Reading::is_first_number))]
+fn is_first_number(kind: u8, a: u32) -> bool
+    ensures { result ≡ is_first_number kind a }
+{
+    if kind == 0 {
+        a == 0
+    } else if kind == 2 {
+        a <= 16_777_216
+    } else {
+        true
+    }
+}
+
+#[tactic(auto, unfolding(crate::specs::Reading::is_second_number))]
+fn is_second_number(kind: u8, a: u32, b: u32) -> bool
+    ensures { result ≡ is_second_number kind a b }
+{
+    if kind == 1 { a <= b } else { b == 0 }
+}
+
+#[tactic(auto, unfolding(crate::specs::Reading::param_of))]
+fn param_of(kind: u8, mode: Option<Mode>, a: u32, b: u32) -> Param
+    ensures { result ≡ param_of kind mode a b }
+{
+    match mode {
+        Some(mode) => Param::Buffer { mode, size: a },
+        None => {
+            if kind == 1 {
+                Param::Scalar { lo: a, hi: b }
+            } else {
+                Param::None
+            }
+        }
+    }
+}
+
+#[tactic(auto, unfolding(crate::specs::Reading::parameter_at))]
+fn parameter_at(bytes: &[u8]) -> Result<(Param, &[u8]), ReadError>
+    ensures { Gives (λ x. (x.0, x.1.now)) result (parameter_at bytes.now) }
+{
+    let (kind, rest) = byte_at(bytes)?;
+    expect(kind <= 2, CertError::Parameter)?;
+    let (code, rest) = byte_at(rest)?;
+    let mode = mode_of(kind, code).ok_or(ReadError::Fault(CertError::Parameter))?;
+    let rest = zeros_at(CertError::Parameter, rest)?;
+    let (a, rest) = word_at(rest)?;
+    expect(is_first_number(kind, a), CertError::Parameter)?;
+    let (b, rest) = word_at(rest)?;
+    expect(is_second_number(kind, a, b), CertError::Parameter)?;
+    Ok((param_of(kind, mode, a, b), rest))
+}
+
+pub(crate) fn parameters_at(bytes: &[u8]) -> Result<([Param; 8], &[u8]), ReadError>
+    ensures { Gives (λ x. (x.0, x.1.now)) result (parameters_at 8 bytes.now) }
+{
+    let mut params = [Param::None; 8];
+    let mut rest = bytes;
+    for place in 0..8 {
+        let (param, after) = parameter_at(rest)?;
+        params[place] = param;
+        rest = after;
+    }
+    Ok((params, rest))
+}
+
+pub(crate) fn parameters(params: [Param; 8]) -> Result<Parameters, ReadError>
+    ensures { Gives (λ x. x) result (ok_or (parameters_of params) Parameter) }
+{
+    Parameters::new(params).ok_or(ReadError::Fault(CertError::Parameter))
+}
+
+#[tactic(auto, unfolding(crate::specs::Certificate::is_scalar))]
+fn is_scalar(param: Param) -> bool
+    ensures { result ≡ is_scalar param }
+{
+    match param {
+        Param::Scalar { lo: _, hi: _ } => true,
+        Param::None | Param::Buffer { mode: _, size: _ } => false,
+    }
+}
+
+#[tactic(auto, unfolding(crate::specs::Certificate::is_atom))]
+fn is_atom(parameters: &Parameters, atom: u8) -> bool
+    ensures { result ≡ is_atom parameters.now atom }
+{
+    if atom <= 32 {
+        return 1 <= atom;
+    }
+    if atom < 41 {
+        return is_scalar(parameters.param(atom as usize - 33));
+    }
+    false
+}
+
+#[tactic(auto, unfolding(crate::specs::Reading::term_at))]
+pub(crate) fn term_at<'a>(
+    parameters: &Parameters,
+    from: u16,
+    bytes: &'a [u8],
+) -> Result<(Term, &'a [u8]), ReadError>
+    ensures { Gives (λ x. (x.0, x.1.now)) result (term_at parameters.now from bytes.now) }
+{
+    let (atom, rest) = byte_at(bytes)?;
+    expect(
+        from <= u16::from(atom) && is_atom(parameters, atom),
+        CertError::Equality,
+    )?;
+    let (coefficient, rest) = word_at(rest)?;
+    expect(0 < coefficient, CertError::Equality)?;
+    Ok((Term { atom, coefficient }, rest))
+}
+
+#[tactic(auto, unfolding(crate::specs::Certificate::is_full))]
+pub(crate) fn is_full_word(low: u32, high: u32) -> bool
+    ensures { result ≡ is_full 32 low high }
+{
+    low == 0 && high == u32::MAX
+}
+
+#[tactic(auto, unfolding(crate::specs::Certificate::is_width))]
+fn is_width(width: u8) -> bool
+    ensures { result ≡ is_width width }
+{
+    width == 8 || width == 16 || width == 32
+}
+
+#[tactic(auto, unfolding(crate::specs::Certificate::is_group))]
+fn is_group(register: u8, registers: u8) -> bool
+    ensures { result ≡ is_group register registers }
+{
+    (registers == 1 || registers == 2 || registers == 4 || registers == 8)
+        && register % registers == 0
+}
+
+#[tactic(auto, unfolding(crate::specs::Certificate::bits_of))]
+fn bits_of(vlen: Vlen) -> u32
+    ensures value { result ≡ bits_of vlen }
+    ensures small { result ≤ 256 }
+{
+    match vlen {
+        Vlen::V128 => 128,
+        Vlen::V256 => 256,
+    }
+}
+
+#[tactic(auto, unfolding(crate::specs::Certificate::is_count))]
+fn is_count(vlen: Vlen, width: u8, registers: u8, count: u16) -> bool
+    ensures { result ≡ is_count vlen width registers count }
+{
+    u32::from(count) * u32::from(width) <= u32::from(registers) * bits_of(vlen)
+}
+
+/// The greatest number of 8, 16 or 32 bits.
+#[tactic(auto, unfolding(crate::specs::Certificate::is_width))]
+fn greatest(width: u8) -> u32
+    requires { IsTrue (is_width width) }
+    ensures { result + 1 ≡ 2 ^ width }
+{
+    if width == 8 {
+        0xff
+    } else if width == 16 {
+        0xffff
+    } else {
+        0xffff_ffff
+    }
+}
+
+#[tactic(auto, unfolding(crate::specs::Certificate::is_interval, crate::specs::Certificate::is_full))]
+fn is_interval(width: u8, low: u32, high: u32) -> bool
+    requires { IsTrue (is_width width) }
+    ensures { result ≡ is_interval width low high }
+{
+    let greatest = greatest(width);
+    low <= high && high <= greatest && !(low == 0 && high == greatest)
+}
+
+#[tactic(auto, unfolding(crate::specs::Reading::group_at))]
+fn group_at(from: u16, bytes: &[u8]) -> Result<(Group, &[u8]), ReadError>
+    ensures value { Gives (λ x. (x.0, x.1.now)) result (group_at from bytes.now) }
+    ensures width { IfOk result (λ x. IsTrue (is_width x.0.width)) }
+{
+    let (register, rest) = byte_at(bytes)?;
+    expect(
+        from <= u16::from(register) && register <= 31,
+        CertError::Fact,
+    )?;
+    let (width, rest) = byte_at(rest)?;
+    expect(is_width(width), CertError::Fact)?;
+    let (registers, rest) = byte_at(rest)?;
+    expect(is_group(register, registers), CertError::Fact)?;
+    let rest = zero_at(CertError::Fact, rest)?;
+    Ok((
+        Group {
+            register,
+            width,
+            registers,
+        },
+        rest,
+    ))
+}
+
+#[tactic(auto, unfolding(crate::specs::Reading::vector_at))]
+pub(crate) fn vector_at(
+    vlen: Vlen,
+    from: u16,
+    bytes: &[u8],
+) -> Result<(VectorFact, &[u8]), ReadError>
+    ensures { Gives (λ x. (x.0, x.1.now)) result (vector_at vlen from bytes.now) }
+{
+    let (group, rest) = group_at(from, bytes)?;
+    let Group {
+        register,
+        width,
+        registers,
+    } = group;
+    let (count, rest) = half_at(rest)?;
+    expect(is_count(vlen, width, registers, count), CertError::Fact)?;
+    let rest = zeros_at(CertError::Fact, rest)?;
+    let (low, rest) = word_at(rest)?;
+    let (high, rest) = word_at(rest)?;
+    expect(is_interval(width, low, high), CertError::Fact)?;
+    let fact = VectorFact {
+        register,
+        width,
+        registers,
+        count,
+        low,
+        high,
+    };
+    Ok((fact, rest))
+}
+
+#[tactic(auto, unfolding(crate::specs::Certificate::is_budget))]
+fn is_budget(factor: u32, register: u8) -> bool
+    ensures { result ≡ is_budget factor register }
+{
+    if factor == 0 {
+        register == 0
+    } else {
+        1 <= register && register <= 31
+    }
+}
+
+#[tactic(auto, unfolding(crate::specs::Reading::budget_at))]
+pub(crate) fn budget_at(bytes: &[u8]) -> Result<(Budget, &[u8]), ReadError>
+    ensures { Gives (λ x. (x.0, x.1.now)) result (budget_at bytes.now) }
+{
+    let (constant, rest) = word_at(bytes)?;
+    let (factor, rest) = word_at(rest)?;
+    let (register, rest) = byte_at(rest)?;
+    expect(is_budget(factor, register), CertError::Budget)?;
+    Ok((
+        Budget {
+            constant,
+            factor,
+            register,
+        },
+        rest,
+    ))
+}
+
+#[tactic(auto, unfolding(crate::specs::Certificate::is_supported))]
+fn is_supported(vtype: u8) -> bool
+    ensures { result ≡ is_supported vtype }
+{
+    let sew = vtype / 8 % 8;
+    let lmul = vtype % 8;
+    sew <= 2 && (lmul < 4 || (lmul == 7 && sew <= 1) || (lmul == 6 && sew == 0))
+}
+
+#[tactic(auto, unfolding(crate::specs::Reading::known_vtype))]
+fn known_vtype(known: u8, vtype: u8) -> Option<Option<u8>>
+    ensures { result ≡ known_vtype known vtype }
+{
+    if known == 1 {
+        if is_supported(vtype) {
+            Some(Some(vtype))
+        } else {
+            None
+        }
+    } else if vtype == 0 {
+        Some(None)
+    } else {
+        None
+    }
+}
+
+#[tactic(auto, unfolding(crate::specs::Reading::vtype_at))]
+pub(crate) fn vtype_at(bytes: &[u8]) -> Result<(Option<u8>, &[u8]), ReadError>
+    ensures { Gives (λ x. (x.0, x.1.now)) result (vtype_at bytes.now) }
+{
+    let (known, rest) = byte_at(bytes)?;
+    expect(known <= 1, CertError::Fact)?;
+    let (bits, rest) = byte_at(rest)?;
+    let vtype = known_vtype(known, bits).ok_or(ReadError::Fault(CertError::Fact))?;
+    Ok((vtype, rest))
+}
+
+#[tactic(auto, unfolding(crate::specs::Reading::counts_at))]
+pub(crate) fn counts_at(bytes: &[u8]) -> Result<((u8, u8), &[u8]), ReadError>
+    ensures { Gives (λ x. (x.0, x.1.now)) result (counts_at bytes.now) }
+{
+    let (registers, rest) = byte_at(bytes)?;
+    expect(registers <= 32, CertError::TooMany)?;
+    let (vectors, rest) = byte_at(rest)?;
+    expect(vectors <= 32, CertError::TooMany)?;
+    let rest = zero_at(CertError::TooMany, rest)?;
+    let rest = zero_at(CertError::TooMany, rest)?;
+    let rest = zero_at(CertError::TooMany, rest)?;
+    Ok(((registers, vectors), rest))
+}
+
+#[tactic(auto, unfolding(crate::specs::Reading::count_at))]
+pub(crate) fn count_at(bytes: &[u8]) -> Result<(u16, &[u8]), ReadError>
+    ensures { Gives (λ x. (x.0, x.1.now)) result (count_at bytes.now) }
+{
+    let (count, rest) = half_at(bytes)?;
+    expect(count <= 1024, CertError::TooMany)?;
+    let rest = zeros_at(CertError::TooMany, rest)?;
+    Ok((count, rest))
+}

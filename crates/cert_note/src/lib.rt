@@ -1,0 +1,18 @@
+//! Certificates of vector kernels: what they state, how they are spelled in bytes, and why bytes spell none.
+#![tactic(auto)]
+
+mod fields;
+mod reading;
+mod refusals;
+mod values;
+mod writing;
+
+pub use reading::{one_spelling, read};
+pub use refusals::CertError;
+pub use values::{
+    Block, Budget, Certificate, Contents, Equality, RegisterFact, Term, VectorFact, Vlen,
+};
+pub use writing::write;
+
+#[cfg(test)]
+mod tests;

@@ -1,0 +1,285 @@
+//! Reading a certificate from its bytes.
+ghost use Rattle.std.specs.Prelude.{◌≡◌, ◌==◌, ◌&&◌, not, is_some, IfOk, Ok};
+ghost use Rattle.cert_note.specs.Spelling.{spelling};
+ghost use Rattle.std.specs.List.{list_all, list_any};
+ghost use Rattle.cert_note.specs.Certificate.{view_equality, view_fact, view_facts, view_block, view_blocks, view, CertificateView, IsCertificate, is_equated, is_free, are_free};
+ghost use Rattle.cert_note.specs.Reading.{Gives, Answers, terms_at, sum_at, none_at, some_at, equality_at, fact_at, facts_at, vectors_at, block_at, blocks_at, certificate_of};
+ghost use Rattle.std.specs.Option.{option_map};
+
+use crate::fields;
+use crate::fields::{byte_at, expect, word_at};
+use crate::refusals::{CertError, ReadError};
+use crate::values::{Block, Certificate, Contents, Equality, RegisterFact, Term, VectorFact, Vlen};
+use region_mem::Parameters;
+use std::alloc::Global;
+
+fn terms_at<'a>(
+    alloc: Global,
+    parameters: &Parameters,
+    count: u8,
+    bytes: &'a [u8],
+) -> Result<(Vec<Term>, &'a [u8]), ReadError>
+    ensures { Gives (λ x. (x.0.items, x.1.now)) result (terms_at parameters.now count 1 bytes.now) }
+{
+    let mut terms = Vec::new(alloc);
+    let mut from = 1;
+    let mut rest = bytes;
+    for _ in 0..count {
+        let (term, after) = fields::term_at(parameters, from, rest)?;
+        terms.push(term)?;
+        from = term.atom as u16 + 1;
+        rest = after;
+    }
+    Ok((terms, rest))
+}
+
+#[tactic(auto, unfolding(crate::specs::Reading::sum_at))]
+fn sum_at<'a>(
+    alloc: Global,
+    parameters: &Parameters,
+    count: u8,
+    bytes: &'a [u8],
+) -> Result<(Equality, &'a [u8]), ReadError>
+    ensures { Gives (λ x. (view_equality x.0, x.1.now)) result (sum_at parameters.now count bytes.now) }
+{
+    expect(count <= 8, CertError::Equality)?;
+    let (constant, rest) = word_at(bytes)?;
+    let (terms, rest) = terms_at(alloc, parameters, count, rest)?;
+    Ok((Equality { constant, terms }, rest))
+}
+
+#[tactic(auto, unfolding(crate::specs::Reading::none_at))]
+fn none_at(low: u32, high: u32, bytes: &[u8]) -> Result<(Option<Equality>, &[u8]), ReadError>
+    ensures { Gives (λ x. (option_map view_equality x.0, x.1.now)) result (none_at low high bytes.now) }
+{
+    expect(!fields::is_full_word(low, high), CertError::Fact)?;
+    Ok((None, bytes))
+}
+
+#[tactic(auto, unfolding(crate::specs::Reading::some_at))]
+fn some_at<'a>(
+    alloc: Global,
+    parameters: &Parameters,
+    count: u8,
+    bytes: &'a [u8],
+) -> Result<(Option<Equality>, &'a [u8]), ReadError>
+    ensures { Gives (λ x. (option_map view_equality x.0, x.1.now)) result (some_at parameters.now count bytes.now) }
+{
+    let (sum, rest) = sum_at(alloc, parameters, count, bytes)?;
+    Ok((Some(sum), rest))
+}
+
+#[tactic(auto, unfolding(crate::specs::Reading::equality_at))]
+fn equality_at<'a>(
+    alloc: Global,
+    parameters: &Parameters,
+    low: u32,
+    high: u32,
+    bytes: &'a [u8],
+) -> Result<(Option<Equality>, &'a [u8]), ReadError>
+    ensures { Gives (λ x. (option_map view_equality x.0, x.1.now)) result (equality_at parameters.now low high bytes.now) }
+{
+    let (count, rest) = byte_at(bytes)?;
+    if count == 255 {
+        none_at(low, high, rest)
+    } else {
+        some_at(alloc, parameters, count, rest)
+    }
+}
+
+#[tactic(auto, unfolding(crate::specs::Reading::fact_at))]
+fn fact_at<'a>(
+    alloc: Global,
+    parameters: &Parameters,
+    from: u16,
+    bytes: &'a [u8],
+) -> Result<(RegisterFact, &'a [u8]), ReadError>
+    ensures { Gives (λ x. (view_fact x.0, x.1.now)) result (fact_at parameters.now from bytes.now) }
+{
+    let (number, rest) = byte_at(bytes)?;
+    expect(from <= number as u16 && number <= 32, CertError::Fact)?;
+    let (low, rest) = word_at(rest)?;
+    let (high, rest) = word_at(rest)?;
+    expect(low <= high, CertError::Fact)?;
+    let (equality, rest) = equality_at(alloc, parameters, low, high, rest)?;
+    let fact = RegisterFact {
+        number,
+        low,
+        high,
+        equality,
+    };
+    Ok((fact, rest))
+}
+
+fn facts_at<'a>(
+    alloc: Global,
+    parameters: &Parameters,
+    count: u8,
+    bytes: &'a [u8],
+) -> Result<(Vec<RegisterFact>, &'a [u8]), ReadError>
+    ensures { Gives (λ x. (view_facts x.0.items, x.1.now)) result (facts_at parameters.now count 1 bytes.now) }
+{
+    let mut facts = Vec::new(alloc);
+    let mut from = 1;
+    let mut rest = bytes;
+    for _ in 0..count {
+        let (fact, after) = fact_at(alloc, parameters, from, rest)?;
+        from = fact.number as u16 + 1;
+        facts.push(fact)?;
+        rest = after;
+    }
+    Ok((facts, rest))
+}
+
+fn vectors_at(
+    alloc: Global,
+    vlen: Vlen,
+    count: u8,
+    bytes: &[u8],
+) -> Result<(Vec<VectorFact>, &[u8]), ReadError>
+    ensures { Gives (λ x. (x.0.items, x.1.now)) result (vectors_at vlen count 0 bytes.now) }
+{
+    let mut facts = Vec::new(alloc);
+    let mut from = 0;
+    let mut rest = bytes;
+    for _ in 0..count {
+        let (fact, after) = fields::vector_at(vlen, from, rest)?;
+        from = fact.register as u16 + fact.registers as u16;
+        facts.push(fact)?;
+        rest = after;
+    }
+    Ok((facts, rest))
+}
+
+fn is_equated(facts: &[RegisterFact], number: u8) -> bool
+    ensures { result ≡ is_equated (view_facts facts.now) number }
+{
+    any_equated(facts, number)
+}
+
+fn any_equated(facts: &[RegisterFact], number: u8) -> bool
+    ensures { result ≡ list_any (λ fact. (fact.number == number) && is_some fact.equality) facts.now }
+{
+    facts
+        .iter()
+        .any(|fact| fact.number == number && fact.equality.is_some())
+}
+
+#[tactic(auto, unfolding(crate::specs::Certificate::is_free))]
+fn is_free(facts: &[RegisterFact], equality: &Option<Equality>) -> bool
+    ensures { result ≡ is_free (view_facts facts.now) (option_map view_equality equality.now) }
+{
+    match equality {
+        None => true,
+        Some(equality) => all_unequated(facts, equality.terms.as_slice()),
+    }
+}
+
+fn all_unequated(facts: &[RegisterFact], terms: &[Term]) -> bool
+    ensures { result ≡ list_all (λ term. not (is_equated (view_facts facts.now) term.atom)) terms.now }
+{
+    terms.iter().all(|term| !is_equated(facts, term.atom))
+}
+
+fn all_free(facts: &[RegisterFact], some: &[RegisterFact]) -> bool
+    ensures { result ≡ list_all (λ fact. is_free (view_facts facts.now) (option_map view_equality fact.equality)) some.now }
+{
+    some.iter().all(|fact| is_free(facts, &fact.equality))
+}
+
+/// Whether no atom of an equality is a register that has an equality itself.
+fn are_free(facts: &[RegisterFact]) -> bool
+    ensures { result ≡ are_free (view_facts facts.now) }
+{
+    all_free(facts, facts)
+}
+
+#[tactic(auto, unfolding(crate::specs::Reading::block_at))]
+fn block_at<'a>(
+    alloc: Global,
+    vlen: Vlen,
+    parameters: &Parameters,
+    from: u64,
+    bytes: &'a [u8],
+) -> Result<(Block, &'a [u8]), ReadError>
+    ensures { Gives (λ x. (view_block x.0, x.1.now)) result (block_at vlen parameters.now from bytes.now) }
+{
+    let (start, rest) = word_at(bytes)?;
+    expect(
+        from <= start as u64 && start % 4 == 0,
+        CertError::BlockOrder,
+    )?;
+    let (budget, rest) = fields::budget_at(rest)?;
+    let (vtype, rest) = fields::vtype_at(rest)?;
+    let (counts, rest) = fields::counts_at(rest)?;
+    let (registers, rest) = facts_at(alloc, parameters, counts.0, rest)?;
+    let (vectors, rest) = vectors_at(alloc, vlen, counts.1, rest)?;
+    expect(are_free(registers.as_slice()), CertError::Equality)?;
+    let block = Block {
+        start,
+        budget,
+        vtype,
+        registers,
+        vectors,
+    };
+    Ok((block, rest))
+}
+
+fn blocks_at<'a>(
+    alloc: Global,
+    vlen: Vlen,
+    parameters: &Parameters,
+    count: u16,
+    bytes: &'a [u8],
+) -> Result<(Vec<Block>, &'a [u8]), ReadError>
+    ensures { Gives (λ x. (view_blocks x.0.items, x.1.now)) result (blocks_at vlen parameters.now count 0 bytes.now) }
+{
+    let mut blocks = Vec::new(alloc);
+    let mut from = 0;
+    let mut rest = bytes;
+    for _ in 0..count {
+        let (block, after) = block_at(alloc, vlen, parameters, from, rest)?;
+        from = block.start as u64 + 1;
+        blocks.push(block)?;
+        rest = after;
+    }
+    Ok((blocks, rest))
+}
+
+#[tactic(auto, unfolding(crate::specs::Reading::certificate_of))]
+fn contents_of(alloc: Global, bytes: &[u8]) -> Result<Contents, ReadError>
+    ensures { Gives view result (certificate_of bytes.now) }
+{
+    let (vlen, rest) = fields::header_at(bytes)?;
+    let (params, rest) = fields::parameters_at(rest)?;
+    let parameters = fields::parameters(params)?;
+    let (count, rest) = fields::count_at(rest)?;
+    let (blocks, rest) = blocks_at(alloc, vlen, &parameters, count, rest)?;
+    expect(rest.is_empty(), CertError::TrailingBytes)?;
+    Ok(Contents {
+        vlen,
+        parameters,
+        blocks,
+    })
+}
+
+/// The certificate that the bytes spell, all of them; else the first fault in their order.
+pub fn read(alloc: Global, bytes: &[u8]) -> Result<Certificate, CertError>
+    // What is read is a certificate, and is spelled so.
+    ensures found { IfOk result (λ c. IsCertificate c × (bytes.now ≡ spelling c)) }
+    // What is spelled so is read, unless memory runs out.
+    ensures only { (c : CertificateView) → IsCertificate c → bytes.now ≡ spelling c → Answers (λ x. x) result (Ok c) }
+    // Which fault it is.
+    ensures exact { Answers (λ x. x) result (certificate_of bytes.now) }
+{
+    match contents_of(alloc, bytes) {
+        Ok(contents) => Ok(Certificate::new(contents)),
+        Err(ReadError::Memory) => Err(CertError::NoMemory),
+        Err(ReadError::Fault(error)) => Err(error),
+    }
+}
+
+/// No bytes spell two certificates, and no certificate has two spellings.
+pub fn one_spelling()
+    ensures { (c d : CertificateView) → IsCertificate c → IsCertificate d → spelling c ≡ spelling d → c ≡ d }
+{}

@@ -1,0 +1,229 @@
+//! Writing a certificate's bytes.
+ghost use Rattle.std.specs.Prelude.{◌≡◌, ◌<◌, ◌≤◌, ◌^◌, ◌++◌, length, OnOk, IfOk};
+ghost use Rattle.std.specs.List.{flat_map, All};
+ghost use Rattle.std.specs.Option.{option_map};
+ghost use Rattle.cert_note.specs.Certificate.{view_equality, view_fact, view_facts, view_block, view_blocks, view, IsCertificate};
+ghost use Rattle.cert_note.specs.Spelling.{half, word, counts, header, parameter_of, mode_code, HasFewTerms, HasFewFacts, HasFewBlocks, spelled_parameter, spelled_term, spelled_equality, spelled_fact, spelled_vector, spelled_budget, spelled_vtype, spelled_block, spelling};
+
+use crate::values::{
+    Block, Budget, Certificate, Contents, Equality, RegisterFact, Term, VectorFact, Vlen,
+};
+use region_mem::{Mode, Param};
+use std::alloc::{AllocError, Global};
+
+#[tactic(auto, unfolding(crate::specs::Spelling::half))]
+fn put_half(out: &mut Vec<u8>, number: u16) -> Result<(), AllocError>
+    ensures { OnOk result (out.new.items ≡ out.old.items ++ half number) }
+{
+    out.extend_from_slice(&number.to_le_bytes())?;
+    Ok(())
+}
+
+#[tactic(auto, unfolding(crate::specs::Spelling::word))]
+fn put_word(out: &mut Vec<u8>, number: u32) -> Result<(), AllocError>
+    ensures { OnOk result (out.new.items ≡ out.old.items ++ word number) }
+{
+    out.extend_from_slice(&number.to_le_bytes())?;
+    Ok(())
+}
+
+#[tactic(auto, unfolding(crate::specs::Spelling::header))]
+fn put_header(out: &mut Vec<u8>, vlen: Vlen) -> Result<(), AllocError>
+    ensures { OnOk result (out.new.items ≡ out.old.items ++ header vlen) }
+{
+    put_half(out, 1)?;
+    match vlen {
+        Vlen::V128 => out.extend_from_slice(&[1, 0])?,
+        Vlen::V256 => out.extend_from_slice(&[2, 0])?,
+    }
+    Ok(())
+}
+
+#[tactic(auto, unfolding(crate::specs::Spelling::spelled_term))]
+fn put_term(out: &mut Vec<u8>, term: Term) -> Result<(), AllocError>
+    ensures { OnOk result (out.new.items ≡ out.old.items ++ spelled_term term) }
+{
+    out.push(term.atom)?;
+    put_word(out, term.coefficient)?;
+    Ok(())
+}
+
+#[tactic(auto, unfolding(crate::specs::Spelling::spelled_budget))]
+fn put_budget(out: &mut Vec<u8>, budget: Budget) -> Result<(), AllocError>
+    ensures { OnOk result (out.new.items ≡ out.old.items ++ spelled_budget budget) }
+{
+    put_word(out, budget.constant)?;
+    put_word(out, budget.factor)?;
+    out.push(budget.register)?;
+    Ok(())
+}
+
+#[tactic(auto, unfolding(crate::specs::Spelling::parameter_of))]
+fn put_numbers(out: &mut Vec<u8>, kind: u8, mode: u8, a: u32, b: u32) -> Result<(), AllocError>
+    ensures { OnOk result (out.new.items ≡ out.old.items ++ parameter_of kind mode a b) }
+{
+    out.extend_from_slice(&[kind, mode])?;
+    put_half(out, 0)?;
+    put_word(out, a)?;
+    put_word(out, b)?;
+    Ok(())
+}
+
+fn mode_code(mode: Mode) -> u8
+    ensures { result ≡ mode_code mode }
+{
+    match mode {
+        Mode::Read => 1,
+        Mode::ReadWrite => 3,
+    }
+}
+
+#[tactic(auto, unfolding(crate::specs::Spelling::spelled_parameter))]
+fn put_parameter(out: &mut Vec<u8>, param: Param) -> Result<(), AllocError>
+    ensures { OnOk result (out.new.items ≡ out.old.items ++ spelled_parameter param) }
+{
+    match param {
+        Param::None => put_numbers(out, 0, 0, 0, 0),
+        Param::Scalar { lo, hi } => put_numbers(out, 1, 0, lo, hi),
+        Param::Buffer { mode, size } => put_numbers(out, 2, mode_code(mode), size, 0),
+    }
+}
+
+fn put_terms(out: &mut Vec<u8>, terms: &[Term]) -> Result<(), AllocError>
+    ensures { OnOk result (out.new.items ≡ out.old.items ++ flat_map spelled_term terms.now) }
+{
+    for term in terms {
+        put_term(out, *term)?;
+    }
+    Ok(())
+}
+
+#[tactic(auto, unfolding(crate::specs::Spelling::spelled_equality))]
+fn put_equality(out: &mut Vec<u8>, equality: &Option<Equality>) -> Result<(), AllocError>
+    requires { HasFewTerms (option_map view_equality equality.now) }
+    ensures { OnOk result (out.new.items ≡ out.old.items ++ spelled_equality (option_map view_equality equality.now)) }
+{
+    match equality {
+        None => out.push(255)?,
+        Some(equality) => {
+            out.push(equality.terms.len() as u8)?;
+            put_word(out, equality.constant)?;
+            put_terms(out, equality.terms.as_slice())?;
+        }
+    }
+    Ok(())
+}
+
+#[tactic(auto, unfolding(crate::specs::Spelling::spelled_fact))]
+fn put_fact(out: &mut Vec<u8>, fact: &RegisterFact) -> Result<(), AllocError>
+    requires { HasFewTerms (option_map view_equality fact.now.equality) }
+    ensures { OnOk result (out.new.items ≡ out.old.items ++ spelled_fact (view_fact fact.now)) }
+{
+    out.push(fact.number)?;
+    put_word(out, fact.low)?;
+    put_word(out, fact.high)?;
+    put_equality(out, &fact.equality)
+}
+
+fn put_facts(out: &mut Vec<u8>, facts: &[RegisterFact]) -> Result<(), AllocError>
+    requires { All (λ fact. HasFewTerms (option_map view_equality fact.equality)) facts.now }
+    ensures { OnOk result (out.new.items ≡ out.old.items ++ flat_map spelled_fact (view_facts facts.now)) }
+{
+    for fact in facts {
+        put_fact(out, fact)?;
+    }
+    Ok(())
+}
+
+#[tactic(auto, unfolding(crate::specs::Spelling::spelled_vector))]
+fn put_vector(out: &mut Vec<u8>, fact: VectorFact) -> Result<(), AllocError>
+    ensures { OnOk result (out.new.items ≡ out.old.items ++ spelled_vector fact) }
+{
+    out.extend_from_slice(&[fact.register, fact.width, fact.registers, 0])?;
+    put_half(out, fact.count)?;
+    put_half(out, 0)?;
+    put_word(out, fact.low)?;
+    put_word(out, fact.high)?;
+    Ok(())
+}
+
+fn put_vectors(out: &mut Vec<u8>, facts: &[VectorFact]) -> Result<(), AllocError>
+    ensures { OnOk result (out.new.items ≡ out.old.items ++ flat_map spelled_vector facts.now) }
+{
+    for fact in facts {
+        put_vector(out, *fact)?;
+    }
+    Ok(())
+}
+
+#[tactic(auto, unfolding(crate::specs::Spelling::spelled_vtype))]
+fn put_vtype(out: &mut Vec<u8>, vtype: Option<u8>) -> Result<(), AllocError>
+    ensures { OnOk result (out.new.items ≡ out.old.items ++ spelled_vtype vtype) }
+{
+    match vtype {
+        None => out.extend_from_slice(&[0, 0])?,
+        Some(vtype) => out.extend_from_slice(&[1, vtype])?,
+    }
+    Ok(())
+}
+
+#[tactic(auto, unfolding(crate::specs::Spelling::counts))]
+fn put_counts(out: &mut Vec<u8>, registers: u8, vectors: u8) -> Result<(), AllocError>
+    ensures { OnOk result (out.new.items ≡ out.old.items ++ counts registers vectors) }
+{
+    out.extend_from_slice(&[registers, vectors, 0, 0, 0])?;
+    Ok(())
+}
+
+#[tactic(auto, unfolding(crate::specs::Spelling::spelled_block))]
+fn put_block(out: &mut Vec<u8>, block: &Block) -> Result<(), AllocError>
+    requires { HasFewFacts block.now }
+    ensures { OnOk result (out.new.items ≡ out.old.items ++ spelled_block (view_block block.now)) }
+{
+    put_word(out, block.start)?;
+    put_budget(out, block.budget)?;
+    put_vtype(out, block.vtype)?;
+    put_counts(out, block.registers.len() as u8, block.vectors.len() as u8)?;
+    put_facts(out, block.registers.as_slice())?;
+    put_vectors(out, block.vectors.as_slice())
+}
+
+fn put_blocks(out: &mut Vec<u8>, blocks: &[Block]) -> Result<(), AllocError>
+    requires { All HasFewFacts blocks.now }
+    ensures { OnOk result (out.new.items ≡ out.old.items ++ flat_map spelled_block (view_blocks blocks.now)) }
+{
+    for block in blocks {
+        put_block(out, block)?;
+    }
+    Ok(())
+}
+
+fn put_parameters(out: &mut Vec<u8>, params: &[Param]) -> Result<(), AllocError>
+    ensures { OnOk result (out.new.items ≡ out.old.items ++ flat_map spelled_parameter params.now) }
+{
+    for param in params {
+        put_parameter(out, *param)?;
+    }
+    Ok(())
+}
+
+#[tactic(auto, unfolding(crate::specs::Spelling::spelling))]
+fn spelled(alloc: Global, certificate: &Contents) -> Result<Vec<u8>, AllocError>
+    requires { HasFewBlocks certificate.now }
+    ensures { IfOk result (λ v. v.items ≡ spelling (view certificate.now)) }
+{
+    let mut out = Vec::new(alloc);
+    put_header(&mut out, certificate.vlen)?;
+    put_parameters(&mut out, &certificate.parameters.to_array())?;
+    put_half(&mut out, certificate.blocks.len() as u16)?;
+    put_half(&mut out, 0)?;
+    put_blocks(&mut out, certificate.blocks.as_slice())?;
+    Ok(out)
+}
+
+/// The one spelling of a certificate, or want of memory.
+pub fn write(alloc: Global, certificate: &Certificate) -> Result<Vec<u8>, AllocError>
+    ensures { IfOk result (λ v. v.items ≡ spelling certificate.now) }
+{
+    spelled(alloc, certificate.contents())
+}
