@@ -1,0 +1,3 @@
+pub mod Division
+pub mod States
+pub mod UpperHalf

@@ -1,0 +1,6 @@
+-- By cases on the instruction, in `proofs/States.antt`.
+use Rattle.scalar_core.proofs.States.{scalar_step-is_hart}
+use Rattle.scalar_core.proofs.laws.steps_keep_harts.Goals as goal
+
+pub returns : goal.returns
+returns c = scalar_step-is_hart

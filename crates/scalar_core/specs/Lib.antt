@@ -1,0 +1,5 @@
+pub mod Arithmetic
+pub mod Csr
+pub mod Hart
+pub mod Laws
+pub mod Step

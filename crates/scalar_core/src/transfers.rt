@@ -1,0 +1,101 @@
+//! Loads and stores ("Load and Store Instructions"). An address need not be a multiple of the
+//! access's size.
+
+ghost use Rattle.std.specs.Prelude.{◌≡◌, Ok, Err, OnOk, IfErr, OnErr};
+ghost use Rattle.region_mem.specs.Memory.{IsAccessSize};
+ghost use Rattle.scalar_core.specs.Step.{load_step, loaded as loaded_of, store_step};
+ghost use Rattle.scalar_core.specs.Step.{size_of_load as size_of_load_of};
+ghost use Rattle.scalar_core.specs.Step.{size_of_store as size_of_store_of};
+
+use crate::hart::Scalar;
+use region_mem::{Fault, Regions};
+use rv_decode::{LoadKind, Reg, Width};
+
+/// A load from rs1 and an offset into `rd`.
+#[tactic(auto, unfolding(crate::specs::Step::load_step, crate::specs::Step::load_from))]
+pub(crate) fn load(
+    scalar: &mut Scalar,
+    kind: LoadKind,
+    rd: Reg,
+    rs1: Reg,
+    offset: i32,
+    memory: &Regions,
+) -> Result<(), Fault>
+    ensures ok { OnOk result (load_step kind rd rs1 offset scalar.old memory.now ≡ Ok scalar.new) }
+    ensures err { IfErr result
+        (λ fault. load_step kind rd rs1 offset scalar.old memory.now ≡ Err fault) }
+    ensures kept { OnErr result (scalar.new ≡ scalar.old) }
+{
+    let address = scalar.reg(rs1).wrapping_add_signed(offset);
+    match memory.load(address, size_of_load(kind)) {
+        None => Err(Fault::LoadFault(address)),
+        Some(number) => {
+            scalar.set_reg(rd, loaded(kind, number));
+            scalar.advance();
+            Ok(())
+        }
+    }
+}
+
+/// How many bytes a load reads.
+#[tactic(auto, unfolding(crate::specs::Step::size_of_load))]
+fn size_of_load(kind: LoadKind) -> usize
+    ensures value { result ≡ size_of_load_of kind }
+    ensures size { IsAccessSize result }
+{
+    match kind {
+        LoadKind::Byte | LoadKind::ByteUnsigned => 1,
+        LoadKind::Half | LoadKind::HalfUnsigned => 2,
+        LoadKind::Word => 4,
+    }
+}
+
+/// What a load puts into its register: the number, extended to 32 bits by its sign or by zeros.
+#[tactic(auto, unfolding(crate::specs::Step::loaded))]
+fn loaded(kind: LoadKind, number: u32) -> u32
+    ensures { result ≡ loaded_of kind number }
+{
+    match kind {
+        LoadKind::Byte => i32::from(((number % 256) as u8).cast_signed()).cast_unsigned(),
+        LoadKind::Half => i32::from(((number % 65536) as u16).cast_signed()).cast_unsigned(),
+        LoadKind::Word | LoadKind::ByteUnsigned | LoadKind::HalfUnsigned => number,
+    }
+}
+
+/// A store of rs2's low bytes at rs1 and an offset.
+#[tactic(auto, unfolding(crate::specs::Step::store_step, crate::specs::Step::store_from))]
+pub(crate) fn store(
+    scalar: &mut Scalar,
+    size: Width,
+    rs1: Reg,
+    rs2: Reg,
+    offset: i32,
+    memory: &mut Regions,
+) -> Result<(), Fault>
+    ensures ok { OnOk result
+        (store_step size rs1 rs2 offset scalar.old memory.old ≡ Ok (scalar.new, memory.new)) }
+    ensures err { IfErr result
+        (λ fault. store_step size rs1 rs2 offset scalar.old memory.old ≡ Err fault) }
+    ensures kept { OnErr result ((scalar.new ≡ scalar.old) × (memory.new ≡ memory.old)) }
+{
+    let address = scalar.reg(rs1).wrapping_add_signed(offset);
+    let stored = memory.store(address, size_of_store(size), scalar.reg(rs2));
+    if !stored {
+        return Err(Fault::StoreFault(address));
+    }
+    scalar.advance();
+    Ok(())
+}
+
+/// How many bytes a store writes.
+#[tactic(auto, unfolding(crate::specs::Step::size_of_store))]
+fn size_of_store(size: Width) -> usize
+    ensures value { result ≡ size_of_store_of size }
+    ensures size { IsAccessSize result }
+{
+    match size {
+        Width::W8 => 1,
+        Width::W16 => 2,
+        Width::W32 => 4,
+    }
+}
