@@ -1,0 +1,4 @@
+pub mod AccessSteps
+pub mod Bounds
+pub mod Fits
+pub mod Numbers

@@ -1,0 +1,10 @@
+pub mod Accesses
+pub mod Arithmetic
+pub mod Configuration
+pub mod Operations
+pub mod Room
+pub mod Step
+pub mod Vectors
+pub use Rattle.region_mem.specs.Memory
+pub use Rattle.scalar_core.specs.Hart
+pub use Rattle.vreg_groups.specs.VectorLength

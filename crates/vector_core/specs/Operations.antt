@@ -1,0 +1,66 @@
+-- The operation of the lanes for each instruction's.
+use Rattle.rv_decode.specs.declared.instructions.IntOp as int
+use Rattle.rv_decode.specs.declared.instructions.IntOp.TheVariants as int_op
+use Rattle.rv_decode.specs.declared.instructions.MultiplyAddOp as multiply_add
+use Rattle.rv_decode.specs.declared.instructions.MultiplyAddOp.TheVariants as multiply_add_op
+use Rattle.rv_decode.specs.declared.instructions.CarryOp as carry
+use Rattle.rv_decode.specs.declared.instructions.CarryOp.TheVariants as carry_op
+use Rattle.rv_decode.specs.declared.instructions.CarryOutOp as carry_out
+use Rattle.rv_decode.specs.declared.instructions.CarryOutOp.TheVariants as carry_out_op
+use Rattle.rv_decode.specs.declared.instructions.CompareOp as compare
+use Rattle.rv_decode.specs.declared.instructions.CompareOp.TheVariants as compare_op
+use Rattle.lane_int.specs.declared.operations.IntOp.{IntOp}
+use Rattle.lane_int.specs.declared.operations.IntOp.TheVariants.{Add, Sub, ReverseSub, MinU, Min, MaxU, Max, And, Or, Xor, ShiftLeft, ShiftRight, ShiftRightSigned, Mul, MulHighU, MulHighSignedU, MulHigh, DivU, Div, RemU, Rem}
+use Rattle.lane_int.specs.declared.operations.CompareOp.{CompareOp}
+use Rattle.lane_int.specs.declared.operations.CompareOp.TheVariants.{Equal, NotEqual, LessU, Less, LessEqualU, LessEqual, GreaterU, Greater}
+use Rattle.lane_int.specs.declared.operations.CarryOp.{CarryOp}
+use Rattle.lane_int.specs.declared.operations.CarryOp.TheVariants.{AddCarry, SubBorrow}
+use Rattle.lane_int.specs.declared.operations.MultiplyAddOp.{MultiplyAddOp}
+use Rattle.lane_int.specs.declared.operations.MultiplyAddOp.TheVariants.{Macc, Nmsac, Madd, Nmsub}
+
+unfoldable pub int_lanes : int.IntOp → IntOp
+int_lanes int_op.Add = Add
+int_lanes int_op.Sub = Sub
+int_lanes int_op.Rsub = ReverseSub
+int_lanes int_op.Minu = MinU
+int_lanes int_op.Min = Min
+int_lanes int_op.Maxu = MaxU
+int_lanes int_op.Max = Max
+int_lanes int_op.And = And
+int_lanes int_op.Or = Or
+int_lanes int_op.Xor = Xor
+int_lanes int_op.Sll = ShiftLeft
+int_lanes int_op.Srl = ShiftRight
+int_lanes int_op.Sra = ShiftRightSigned
+int_lanes int_op.Mul = Mul
+int_lanes int_op.Mulh = MulHigh
+int_lanes int_op.Mulhu = MulHighU
+int_lanes int_op.Mulhsu = MulHighSignedU
+int_lanes int_op.Divu = DivU
+int_lanes int_op.Div = Div
+int_lanes int_op.Remu = RemU
+int_lanes int_op.Rem = Rem
+
+unfoldable pub multiply_add_lanes : multiply_add.MultiplyAddOp → MultiplyAddOp
+multiply_add_lanes multiply_add_op.Madd = Madd
+multiply_add_lanes multiply_add_op.Nmsub = Nmsub
+multiply_add_lanes multiply_add_op.Macc = Macc
+multiply_add_lanes multiply_add_op.Nmsac = Nmsac
+
+unfoldable pub carry_lanes : carry.CarryOp → CarryOp
+carry_lanes carry_op.Adc = AddCarry
+carry_lanes carry_op.Sbc = SubBorrow
+
+unfoldable pub carry_out_lanes : carry_out.CarryOutOp → CarryOp
+carry_out_lanes carry_out_op.Madc = AddCarry
+carry_out_lanes carry_out_op.Msbc = SubBorrow
+
+unfoldable pub compare_lanes : compare.CompareOp → CompareOp
+compare_lanes compare_op.Eq = Equal
+compare_lanes compare_op.Ne = NotEqual
+compare_lanes compare_op.Ltu = LessU
+compare_lanes compare_op.Lt = Less
+compare_lanes compare_op.Leu = LessEqualU
+compare_lanes compare_op.Le = LessEqual
+compare_lanes compare_op.Gtu = GreaterU
+compare_lanes compare_op.Gt = Greater

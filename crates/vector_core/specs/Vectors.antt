@@ -1,0 +1,20 @@
+-- The vector half of a hart's state.
+use Rattle.std.specs.Prelude.{◌≡◌, ◌⊎◌, ℕ, ◌*◌, List, replicate}
+use Rattle.vreg_groups.specs.VectorLength.{no_config, IsConfig}
+use Rattle.vreg_groups.specs.declared.policies.Agnostic.{Agnostic}
+use Rattle.vreg_groups.specs.declared.vector_length.Vconfig.{Vconfig}
+
+-- the bytes of the 32 registers end to end, vtype and vl, and what becomes of agnostic elements throughout the run
+pub record Vectors : Type 0 where
+  pub registers : List ℕ
+  pub config : Vconfig
+  pub agnostic : Agnostic
+
+-- where a run starts: registers of `vlenb` zero bytes, vill set, vl 0
+abbrev pub new_vectors : ℕ → Agnostic → Vectors
+new_vectors vlenb agnostic = record { registers = replicate (32 * vlenb) 0; config = no_config; agnostic = agnostic }
+
+-- what holds of every state: VLEN is 128 or 256, and vl is at most VLMAX, or 0 where vill is set
+pub record IsVectors (vlenb : ℕ) (v : Vectors) : Type 0 where
+  pub vlenb_is : (vlenb ≡ 16) ⊎ (vlenb ≡ 32)
+  pub config : IsConfig vlenb v.config

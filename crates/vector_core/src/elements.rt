@@ -1,0 +1,81 @@
+//! Elements that lie in registers and that the lanes work on.
+
+ghost use Rattle.std.specs.Prelude.{◌≡◌, ◌%◌, ◌^◌};
+
+use lane_int::Lane;
+use vreg_groups::Element;
+
+/// An element of a register group on which the lanes work.
+pub trait VectorElement: Element + Lane {
+    ghost use Rattle.std.specs.Prelude.{◌≡◌};
+    ghost use Rattle.rv_decode.specs.declared.instructions.Width.{Width};
+    ghost use Rattle.vreg_groups.specs.VectorType.{bytes_of_width};
+    ghost use Rattle.vector_core.specs.Arithmetic.{lane_width, scalar_element};
+
+    // SEW
+    ghost sew: { Width };
+
+    /// The element in the low bits of a number.
+    fn low_bits(n: u32) -> Self
+        ensures { Self.Element.number result ≡ scalar_element sew n };
+
+    ghost size_is: { Self.SIZE ≡ bytes_of_width sew };
+
+    ghost width_is: { Self.width ≡ lane_width sew };
+
+    ghost number_is: { (a : Self) → Self.Lane.number a ≡ Self.Element.number a };
+}
+
+impl VectorElement for u8 {
+    ghost use Rattle.std.specs.Prelude.{refl};
+    ghost use Rattle.rv_decode.specs.declared.instructions.Width.TheVariants.{W8};
+
+    ghost sew = { W8 };
+
+    #[tactic(auto, unfolding(crate::specs::Arithmetic::scalar_element))]
+    fn low_bits(n: u32) -> u8 {
+        (n % 256) as u8
+    }
+
+    ghost size_is = { refl };
+
+    ghost width_is = { refl };
+
+    ghost number_is = { λ a. refl };
+}
+
+impl VectorElement for u16 {
+    ghost use Rattle.std.specs.Prelude.{refl};
+    ghost use Rattle.rv_decode.specs.declared.instructions.Width.TheVariants.{W16};
+
+    ghost sew = { W16 };
+
+    #[tactic(auto, unfolding(crate::specs::Arithmetic::scalar_element))]
+    fn low_bits(n: u32) -> u16 {
+        (n % 65536) as u16
+    }
+
+    ghost size_is = { refl };
+
+    ghost width_is = { refl };
+
+    ghost number_is = { λ a. refl };
+}
+
+impl VectorElement for u32 {
+    ghost use Rattle.std.specs.Prelude.{refl};
+    ghost use Rattle.rv_decode.specs.declared.instructions.Width.TheVariants.{W32};
+
+    ghost sew = { W32 };
+
+    #[tactic(auto, unfolding(crate::specs::Arithmetic::scalar_element))]
+    fn low_bits(n: u32) -> u32 {
+        n
+    }
+
+    ghost size_is = { refl };
+
+    ghost width_is = { refl };
+
+    ghost number_is = { λ a. refl };
+}

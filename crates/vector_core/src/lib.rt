@@ -1,0 +1,23 @@
+//! The vector half of a RISC-V hart: the vector registers with vtype and vl, and one step of the vector instructions of
+//! the "V" extension that are decoded so far.
+//!
+//! Contracts see a `VectorState` as a record of the registers' bytes, vtype and vl, and the setting for agnostic elements.
+#![tactic(auto)]
+
+mod accesses;
+mod arithmetic;
+mod configuration;
+mod elements;
+mod memory;
+mod operands;
+mod operations;
+mod results;
+mod setup;
+mod sources;
+mod state;
+mod step;
+#[cfg(test)]
+mod tests;
+
+pub use state::VectorState;
+pub use step::step_vector;

@@ -1,0 +1,83 @@
+//! The operation of the lanes for each instruction's.
+
+ghost use Rattle.std.specs.Prelude.{◌≡◌};
+ghost use Rattle.vector_core.specs.Operations.{int_lanes, multiply_add_lanes, carry_lanes, carry_out_lanes, compare_lanes};
+
+use lane_int::{CarryOp, CompareOp, IntOp, MultiplyAddOp};
+
+#[tactic(auto, unfolding(crate::specs::Operations::int_lanes))]
+pub fn int_lanes(op: rv_decode::IntOp) -> IntOp
+    ensures { result ≡ int_lanes op }
+{
+    match op {
+        rv_decode::IntOp::Add => IntOp::Add,
+        rv_decode::IntOp::Sub => IntOp::Sub,
+        rv_decode::IntOp::Rsub => IntOp::ReverseSub,
+        rv_decode::IntOp::Minu => IntOp::MinU,
+        rv_decode::IntOp::Min => IntOp::Min,
+        rv_decode::IntOp::Maxu => IntOp::MaxU,
+        rv_decode::IntOp::Max => IntOp::Max,
+        rv_decode::IntOp::And => IntOp::And,
+        rv_decode::IntOp::Or => IntOp::Or,
+        rv_decode::IntOp::Xor => IntOp::Xor,
+        rv_decode::IntOp::Sll => IntOp::ShiftLeft,
+        rv_decode::IntOp::Srl => IntOp::ShiftRight,
+        rv_decode::IntOp::Sra => IntOp::ShiftRightSigned,
+        rv_decode::IntOp::Mul => IntOp::Mul,
+        rv_decode::IntOp::Mulh => IntOp::MulHigh,
+        rv_decode::IntOp::Mulhu => IntOp::MulHighU,
+        rv_decode::IntOp::Mulhsu => IntOp::MulHighSignedU,
+        rv_decode::IntOp::Divu => IntOp::DivU,
+        rv_decode::IntOp::Div => IntOp::Div,
+        rv_decode::IntOp::Remu => IntOp::RemU,
+        rv_decode::IntOp::Rem => IntOp::Rem,
+    }
+}
+
+#[tactic(auto, unfolding(crate::specs::Operations::multiply_add_lanes))]
+pub fn multiply_add_lanes(op: rv_decode::MultiplyAddOp) -> MultiplyAddOp
+    ensures { result ≡ multiply_add_lanes op }
+{
+    match op {
+        rv_decode::MultiplyAddOp::Madd => MultiplyAddOp::Madd,
+        rv_decode::MultiplyAddOp::Nmsub => MultiplyAddOp::Nmsub,
+        rv_decode::MultiplyAddOp::Macc => MultiplyAddOp::Macc,
+        rv_decode::MultiplyAddOp::Nmsac => MultiplyAddOp::Nmsac,
+    }
+}
+
+#[tactic(auto, unfolding(crate::specs::Operations::carry_lanes))]
+pub fn carry_lanes(op: rv_decode::CarryOp) -> CarryOp
+    ensures { result ≡ carry_lanes op }
+{
+    match op {
+        rv_decode::CarryOp::Adc => CarryOp::AddCarry,
+        rv_decode::CarryOp::Sbc => CarryOp::SubBorrow,
+    }
+}
+
+#[tactic(auto, unfolding(crate::specs::Operations::carry_out_lanes))]
+pub fn carry_out_lanes(op: rv_decode::CarryOutOp) -> CarryOp
+    ensures { result ≡ carry_out_lanes op }
+{
+    match op {
+        rv_decode::CarryOutOp::Madc => CarryOp::AddCarry,
+        rv_decode::CarryOutOp::Msbc => CarryOp::SubBorrow,
+    }
+}
+
+#[tactic(auto, unfolding(crate::specs::Operations::compare_lanes))]
+pub fn compare_lanes(op: rv_decode::CompareOp) -> CompareOp
+    ensures { result ≡ compare_lanes op }
+{
+    match op {
+        rv_decode::CompareOp::Eq => CompareOp::Equal,
+        rv_decode::CompareOp::Ne => CompareOp::NotEqual,
+        rv_decode::CompareOp::Ltu => CompareOp::LessU,
+        rv_decode::CompareOp::Lt => CompareOp::Less,
+        rv_decode::CompareOp::Leu => CompareOp::LessEqualU,
+        rv_decode::CompareOp::Le => CompareOp::LessEqual,
+        rv_decode::CompareOp::Gtu => CompareOp::GreaterU,
+        rv_decode::CompareOp::Gt => CompareOp::Greater,
+    }
+}
