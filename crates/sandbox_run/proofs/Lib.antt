@@ -1,0 +1,3 @@
+pub mod RunLemmas
+pub mod Refusals
+pub mod StartLemmas

@@ -1,0 +1,35 @@
+-- What a run answers.
+use Rattle.std.specs.Prelude.{ℕ, List}
+use Rattle.region_mem.specs.Memory.{args_of}
+use Rattle.sandbox_run.specs.Machine.{Machine}
+use Rattle.sandbox_run.specs.Run.{Stop, Ended, Trapped, OutOfSteps}
+use Rattle.sandbox_run.specs.declared.outcome.Registers.{Registers}
+use Rattle.sandbox_run.specs.declared.outcome.Final.{Final}
+use Rattle.sandbox_run.specs.declared.outcome.Outcome.{Outcome}
+use Rattle.sandbox_run.specs.declared.outcome.Outcome.TheVariants as outcome
+
+-- the registers of a machine
+abbrev pub registers_of : Machine → Registers
+registers_of m = record {
+  pc = m.hart.pc;
+  x = m.hart.x;
+  vl = m.vectors.config.vl;
+  vtype = m.vectors.config.vtype;
+  vxrm = m.hart.vxrm;
+  vxsat = m.hart.vxsat;
+}
+
+-- a machine in which so many steps were done, as a run hands it out
+abbrev pub final_of : (vlenb : ℕ) → ℕ → Machine → Final vlenb
+final_of vlenb steps m = record {
+  steps = steps;
+  registers = registers_of m;
+  vectors = m.vectors.registers;
+  args = record { places = args_of m.memory };
+}
+
+-- the answer of a run that stops so
+abbrev pub answer_of : (vlenb : ℕ) → Stop → Outcome vlenb
+answer_of vlenb (Ended steps m) = outcome.Ended (final_of vlenb steps m)
+answer_of vlenb (Trapped fault steps m) = outcome.Trapped fault (final_of vlenb steps m)
+answer_of vlenb (OutOfSteps steps m) = outcome.OutOfSteps (final_of vlenb steps m)

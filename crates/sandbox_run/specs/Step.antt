@@ -1,0 +1,45 @@
+-- One step: fetch, decode, and what the instruction does.
+use Rattle.std.specs.Prelude.{ℕ, Option, Some, None, Result, Ok, Err}
+use Rattle.rv_decode.specs.declared.instructions.Insn.{Insn}
+use Rattle.rv_decode.specs.declared.instructions.Insn.TheVariants.{Scalar, Csr, VSet, VArith, VMem}
+use Rattle.rv_decode.specs.Decode.{meaning_of}
+use Rattle.region_mem.specs.declared.faults.Fault.{Fault}
+use Rattle.region_mem.specs.declared.faults.Fault.TheVariants.{Illegal, FetchFault}
+use Rattle.region_mem.specs.Memory.{Memory, fetch_of}
+use Rattle.scalar_core.specs.Hart.{Hart}
+use Rattle.scalar_core.specs.Step.{scalar_step}
+use Rattle.vector_core.specs.Vectors.{Vectors}
+use Rattle.vector_core.specs.Step.{vector_step}
+use Rattle.sandbox_run.specs.Machine.{Machine}
+
+-- the machine with what a scalar step made of its hart and memory
+abbrev pub with_scalar : Machine → Result (Hart × Memory) Fault → Result Machine Fault
+with_scalar m (Ok (hart, memory)) = Ok (record m { hart = hart; memory = memory })
+with_scalar m (Err fault) = Err fault
+
+-- the machine that a vector step made
+abbrev pub with_vector : Result (Hart × Vectors × Memory) Fault → Result Machine Fault
+with_vector (Ok (hart, vectors, memory)) = Ok (record { hart = hart; vectors = vectors; memory = memory })
+with_vector (Err fault) = Err fault
+
+-- The instruction is carried out by its class.
+unfoldable pub carry_out : ℕ → ℕ → Machine → Insn → Result Machine Fault
+carry_out vlenb word m (Scalar insn) = with_scalar m (scalar_step vlenb (Scalar insn) m.vectors.config m.hart m.memory)
+carry_out vlenb word m (Csr insn) = with_scalar m (scalar_step vlenb (Csr insn) m.vectors.config m.hart m.memory)
+carry_out vlenb word m (VSet insn) = with_vector (vector_step vlenb (VSet insn) word m.hart m.vectors m.memory)
+carry_out vlenb word m (VArith insn) = with_vector (vector_step vlenb (VArith insn) word m.hart m.vectors m.memory)
+carry_out vlenb word m (VMem insn) = with_vector (vector_step vlenb (VMem insn) word m.hart m.vectors m.memory)
+
+-- A word that means nothing is illegal.
+abbrev pub decoded : ℕ → ℕ → Machine → Option Insn → Result Machine Fault
+decoded vlenb word m None = Err (Illegal word)
+decoded vlenb word m (Some insn) = carry_out vlenb word m insn
+
+-- The four bytes at pc have to be ones that may be fetched.
+abbrev pub fetched : ℕ → Machine → Option ℕ → Result Machine Fault
+fetched vlenb m None = Err (FetchFault m.hart.pc)
+fetched vlenb m (Some word) = decoded vlenb word m (meaning_of word)
+
+-- the machine after one step, or the fault
+unfoldable pub step : ℕ → Machine → Result Machine Fault
+step vlenb m = fetched vlenb m (fetch_of m.hart.pc m.memory)

@@ -1,0 +1,16 @@
+//! Whole runs of an image on a caller's buffers.
+//!
+//! A run steps from the first state until it ends, is out of steps, or meets a fault. What each step does is said by the
+//! crates below; here a step is put together from fetch, decode and the two halves of the machine.
+#![tactic(auto)]
+
+mod machine;
+mod outcome;
+mod run;
+mod start;
+
+pub use outcome::{Final, OpenError, Outcome, Registers};
+pub use run::{outcome_is_first, runs_go_on, try_run};
+
+#[cfg(test)]
+mod tests;

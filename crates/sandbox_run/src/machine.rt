@@ -1,0 +1,81 @@
+//! The state of a run, and one step.
+
+ghost use Rattle.std.specs.Prelude.{◌≡◌, ◌⊎◌, ◌==◌, Ok, Err, OnOk, OnErr, IfErr};
+ghost use Rattle.region_mem.specs.declared.faults.Fault.{Fault};
+ghost use Rattle.scalar_core.specs.Hart.{exit};
+
+use region_mem::{Fault, Regions};
+use rv_decode::{Insn, decode};
+use scalar_core::{Scalar, step_scalar};
+use std::marker::Model;
+use vector_core::{VectorState, step_vector};
+
+/// The scalar registers, the vector registers, and memory.
+#[derive(Drop)]
+pub(crate) struct Machine<const VLENB: usize> {
+    pub(crate) hart: Scalar,
+    pub(crate) vectors: VectorState<VLENB>,
+    pub(crate) memory: Regions,
+}
+
+impl<const VLENB: usize> Model for Machine<VLENB> {
+    ghost use Rattle.sandbox_run.specs.Machine.{Machine};
+
+    ghost Value = { Machine };
+
+    ghost view = { λ m. record { hart = m.hart; vectors = m.vectors; memory = m.memory } };
+}
+
+impl<const VLENB: usize> Machine<VLENB> {
+    ghost use Rattle.sandbox_run.specs.Run.{has_ended as has_ended_of};
+    ghost use Rattle.sandbox_run.specs.Step.{carry_out as carry_out_of, step as step_of};
+
+    /// Whether the run has ended, which is where pc is EXIT.
+    pub(crate) fn has_ended(&self) -> bool
+        ensures { result ≡ has_ended_of self.now }
+    {
+        self.hart.has_ended()
+    }
+
+    /// Fetches the word at pc, decodes it and carries it out. A fault changes nothing.
+    #[tactic(auto, unfolding(crate::specs::Step::step))]
+    pub(crate) fn step(&mut self) -> Result<(), Fault>
+        ensures ok { OnOk result (step_of VLENB self.old ≡ Ok self.new) }
+        ensures err { IfErr result (λ fault. step_of VLENB self.old ≡ Err fault) }
+        ensures kept { OnErr result (self.new ≡ self.old) }
+    {
+        let pc = self.hart.pc();
+        let Some(word) = self.memory.fetch(pc) else {
+            return Err(Fault::FetchFault(pc));
+        };
+        let Some(insn) = decode(word) else {
+            return Err(Fault::Illegal(word));
+        };
+        self.carry_out(word, insn)
+    }
+
+    /// Carries an instruction out, by its class.
+    #[tactic(auto, unfolding(crate::specs::Step::carry_out))]
+    fn carry_out(&mut self, word: u32, insn: Insn) -> Result<(), Fault>
+        ensures ok { OnOk result (carry_out_of VLENB word self.old insn ≡ Ok self.new) }
+        ensures err { IfErr result (λ fault. carry_out_of VLENB word self.old insn ≡ Err fault) }
+        ensures kept { OnErr result (self.new ≡ self.old) }
+    {
+        match insn {
+            Insn::Scalar(_) | Insn::Csr(_) => {
+                self.vectors.state_law();
+                let config = self.vectors.config();
+                step_scalar(&mut self.hart, insn, &mut self.memory, &config, VLENB)
+            }
+            Insn::VSet(_) | Insn::VArith(_) | Insn::VMem(_) => {
+                step_vector(
+                    &mut self.vectors,
+                    &mut self.hart,
+                    word,
+                    insn,
+                    &mut self.memory,
+                )
+            }
+        }
+    }
+}

@@ -1,0 +1,94 @@
+//! What a run answers.
+
+ghost use Rattle.std.specs.Prelude.{◌≡◌};
+ghost use Rattle.sandbox_run.specs.Errors.{open_error_of};
+
+use region_mem::{ArgError, Args, Fault};
+use std::error::Error;
+use std::fmt;
+use vreg_groups::VregFile;
+
+/// The registers at the end of a run.
+#[derive(Clone, Copy, Debug, PartialEq, Eq)]
+pub struct Registers {
+    /// The program counter.
+    pub pc: u32,
+    /// x0 to x31.
+    pub x: [u32; 32],
+    /// The vector length.
+    pub vl: u32,
+    /// The vector type, with vill at bit 31.
+    pub vtype: u32,
+    /// The rounding mode of fixed-point instructions.
+    pub vxrm: u32,
+    /// The saturation flag.
+    pub vxsat: u32,
+}
+
+/// The last state of a run.
+#[derive(Drop)]
+pub struct Final<const VLENB: usize> {
+    /// How many steps were done; one that faults is not counted.
+    pub steps: u64,
+    /// The registers.
+    pub registers: Registers,
+    /// The vector registers.
+    pub vectors: VregFile<VLENB>,
+    /// The arguments: buffers as they stand, scalars as they were passed.
+    pub args: Args,
+}
+
+/// How a run stopped, and its last state.
+#[derive(Drop)]
+pub enum Outcome<const VLENB: usize> {
+    /// pc is EXIT.
+    Ended(Final<VLENB>),
+    /// The next step is this fault.
+    Trapped(Fault, Final<VLENB>),
+    /// All steps that were allowed are done, and the run has not ended.
+    OutOfSteps(Final<VLENB>),
+}
+
+/// Why a run was not started.
+#[derive(Clone, Copy, Debug, PartialEq, Eq)]
+pub enum OpenError {
+    /// The argument at this place is of another kind than the parameter.
+    WrongKind(usize),
+    /// The scalar at this place is outside its parameter's interval.
+    ScalarOutOfInterval(usize),
+    /// The buffer at this place has another size than the parameter says.
+    WrongSize(usize),
+    /// Memory was refused.
+    NoMemory,
+}
+
+impl From<ArgError> for OpenError {
+    ghost from_gives = { λ error result. result ≡ open_error_of error };
+
+    fn from(error: ArgError) -> OpenError {
+        match error {
+            ArgError::WrongKind(place) => OpenError::WrongKind(place),
+            ArgError::ScalarOutOfInterval(place) => OpenError::ScalarOutOfInterval(place),
+            ArgError::WrongSize(place) => OpenError::WrongSize(place),
+        }
+    }
+}
+
+impl fmt::Display for OpenError {
+    fn fmt<W: fmt::Write>(&self, f: &mut fmt::Formatter<W>) -> fmt::Result {
+        match self {
+            OpenError::WrongKind(place) => {
+                write!(f, "the argument at place {place} is of the wrong kind")
+            }
+            OpenError::ScalarOutOfInterval(place) => {
+                write!(f, "the scalar at place {place} is outside its interval")
+            }
+            OpenError::WrongSize(place) => {
+                write!(f, "the buffer at place {place} is of the wrong size")
+            }
+            OpenError::NoMemory => write!(f, "out of memory"),
+        }
+    }
+}
+
+impl Error for OpenError {}

@@ -1,0 +1,107 @@
+//! Whole runs.
+
+ghost use Rattle.std.specs.Prelude.{◌≡◌, ◌⊎◌, None, IfOk, IfErr, IfSome, IsErrAnd};
+ghost use Rattle.region_mem.specs.Parameter.{AreArguments, argument_error};
+ghost use Rattle.sandbox_run.specs.Answer.{answer_of, final_of};
+ghost use Rattle.sandbox_run.specs.Errors.{open_error_of};
+ghost use Rattle.sandbox_run.specs.Run.{outcome, OutcomeIsFirst, RunsGoOn};
+ghost use Rattle.sandbox_run.specs.Start.{start as start_of};
+
+use crate::machine::Machine;
+use crate::outcome::{Final, OpenError, Outcome, Registers};
+use crate::start::start;
+use elf_image::Image;
+use region_mem::{Args, Parameters};
+use std::alloc::Global;
+use vreg_groups::Agnostic;
+
+/// Runs an image, accepted or not, with every test at each step, for at most `max` steps.
+///
+/// The answer is the outcome of the run from the first state: ended, out of steps or trapped, whichever comes first and in
+/// this order at one state, with the registers, the vector registers and the arguments of the state in which it stops. A
+/// fault changes nothing and is not counted as a step.
+///
+/// VLENB, the length of a vector register in bytes, is 16 or 32.
+///
+/// # Errors
+/// Arguments that do not match the parameters, in the order of [`Parameters::matches`]; `NoMemory` where memory for the
+/// run was refused. The arguments come back as they were.
+pub fn try_run<const VLENB: usize>(
+    alloc: Global,
+    image: &Image,
+    parameters: &Parameters,
+    args: Args,
+    agnostic: Agnostic,
+    max: u64,
+) -> Result<Outcome<VLENB>, (OpenError, Args)>
+    requires { (VLENB ≡ 16) ⊎ (VLENB ≡ 32) }
+    ensures outcome { IfOk result (λ answer. answer ≡ answer_of VLENB (outcome VLENB max (start_of VLENB agnostic image.now parameters.now args.places))) }
+    ensures refused { IfSome (argument_error parameters.now args.places) (λ error. IsErrAnd result (λ e. e.0 ≡ open_error_of error)) }
+    ensures memory { AreArguments parameters.now args.places → IfErr result (λ e. e.0 ≡ OpenError.NoMemory) }
+    ensures back { IfErr result (λ e. e.1 ≡ args) }
+{
+    if let Err(error) = parameters.matches(&args) {
+        return Err((OpenError::from(error), args));
+    }
+    match start::<VLENB>(alloc, image, parameters, args, agnostic) {
+        Ok(machine) => Ok(run(machine, max)),
+        Err((_, args)) => Err((OpenError::NoMemory, args)),
+    }
+}
+
+/// The run from a state on, with at most `max` steps.
+#[tactic(auto, unfolding(crate::specs::Run::outcome))]
+fn run<const VLENB: usize>(mut machine: Machine<VLENB>, max: u64) -> Outcome<VLENB>
+    ensures { result ≡ answer_of VLENB (outcome VLENB max machine.entry) }
+{
+    let mut steps = 0u64;
+    'stepping: loop {
+        if machine.has_ended() {
+            return Outcome::Ended(finish(machine, steps));
+        }
+        if steps == max {
+            return Outcome::OutOfSteps(finish(machine, steps));
+        }
+        if let Err(fault) = machine.step() {
+            return Outcome::Trapped(fault, finish(machine, steps));
+        }
+        steps += 1;
+    }
+}
+
+/// The last state of a run, taken apart.
+fn finish<const VLENB: usize>(machine: Machine<VLENB>, steps: u64) -> Final<VLENB>
+    ensures { result ≡ final_of VLENB steps machine.entry }
+{
+    let Machine {
+        hart,
+        vectors,
+        memory,
+    } = machine;
+    let config = vectors.config();
+    let registers = Registers {
+        pc: hart.pc(),
+        x: hart.registers(),
+        vl: config.vl,
+        vtype: config.vtype,
+        vxrm: hart.vxrm(),
+        vxsat: hart.vxsat(),
+    };
+    Final {
+        steps,
+        registers,
+        vectors: vectors.into_registers(),
+        args: memory.into_args(),
+    }
+}
+
+/// A law, which does nothing when it runs: the outcome of a run is the first of these, in this order at one state: it has
+/// ended, it has done `max` steps, its next step is a fault.
+pub fn outcome_is_first()
+    ensures { OutcomeIsFirst }
+{}
+
+/// A law, which does nothing when it runs: a run from the state after j steps goes on as the run does.
+pub fn runs_go_on()
+    ensures { RunsGoOn }
+{}

@@ -1,0 +1,70 @@
+//! The first state of a run.
+
+ghost use Rattle.std.specs.Prelude.{◌≡◌, ◌≤◌, ◌⊎◌, length, IfOk, IfErr};
+ghost use Rattle.region_mem.specs.Parameter.{AreArguments};
+ghost use Rattle.sandbox_run.specs.Start.{passed_number as passed_number_of, start_hart as start_hart_of, start as start_of};
+
+use crate::machine::Machine;
+use elf_image::Image;
+use region_mem::{Arg, Args, Parameters, Regions};
+use rv_decode::Reg;
+use scalar_core::{EXIT, Scalar};
+use std::alloc::{AllocError, Global};
+use vector_core::VectorState;
+use vreg_groups::Agnostic;
+
+/// Where the stack ends, which sp holds at the start.
+const STACK_END: u32 = 0x3000_0000;
+
+/// What the argument register of a place holds.
+#[tactic(auto, unfolding(crate::specs::Start::passed_number))]
+fn passed_number(parameters: &Parameters, place: usize, arg: &Arg) -> u32
+    ensures { result ≡ passed_number_of parameters.now place arg.now }
+{
+    match arg {
+        Arg::None => 0,
+        Arg::Scalar(value) => *value,
+        Arg::Buffer(_) => parameters.address(place).unwrap_or(0),
+    }
+}
+
+/// The scalar registers at the start: the arguments in a0 to a7, EXIT in ra, and the stack's end in sp.
+#[tactic(auto, unfolding(crate::specs::Start::start_hart))]
+fn start_hart(entry: u32, parameters: &Parameters, places: &[Arg]) -> Scalar
+    requires { length places.now ≤ 8 }
+    ensures { result ≡ start_hart_of entry parameters.now places.now }
+{
+    let mut hart = Scalar::new(entry);
+    hart.set_reg(Reg::new(1), EXIT);
+    hart.set_reg(Reg::new(2), STACK_END);
+    for (place, arg) in places.iter().enumerate() {
+        hart.set_reg(
+            Reg::new(10 + place as u8),
+            passed_number(parameters, place, arg),
+        );
+    }
+    hart
+}
+
+/// The machine at the start, or want of memory, with the arguments as they came.
+#[tactic(auto, unfolding(crate::specs::Start::start))]
+pub(crate) fn start<const VLENB: usize>(
+    alloc: Global,
+    image: &Image,
+    parameters: &Parameters,
+    args: Args,
+    agnostic: Agnostic,
+) -> Result<Machine<VLENB>, (AllocError, Args)>
+    requires length { (VLENB ≡ 16) ⊎ (VLENB ≡ 32) }
+    requires matching { AreArguments parameters.now args.places }
+    ensures start { IfOk result (λ m. m ≡ start_of VLENB agnostic image.now parameters.now args.places) }
+    ensures back { IfErr result (λ e. e.1 ≡ args) }
+{
+    let hart = start_hart(image.entry(), parameters, &args.places);
+    let memory = Regions::new(alloc, image, parameters, args)?;
+    Ok(Machine {
+        hart,
+        vectors: VectorState::new(agnostic),
+        memory,
+    })
+}
