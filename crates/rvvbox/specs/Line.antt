@@ -1,0 +1,48 @@
+-- The command line: which words name which subcommand and paths, over `clap`'s own account of a command.
+use Rattle.std.specs.Prelude.{◌≡◌, List, [], Option, Some, None, option_and_then, if◌then◌else◌, codes, true}
+use Rattle.std.specs.Str.{bytes_eq}
+use Rattle.clap.specs.Words.{App, Row, Rule, Shape, Text, fault_of, first_of, kind_of, new_app, new_rule, subcommand_of, with_rule, with_subcommand, IsAmong}
+use Rattle.clap.specs.Simple.{new_shape}
+use Rattle.clap.specs.declared.builder.action.ArgAction.TheVariants.{Set}
+use Rattle.rvvbox.specs.declared.line.asked.Line.{Line}
+use Rattle.rvvbox.specs.declared.line.asked.Line.TheVariants.{Try}
+use Rattle.rvvbox.specs.declared.line.asked.LineError.{LineError}
+use Rattle.rvvbox.specs.declared.line.asked.LineError.TheVariants.{Usage, NoMemory}
+
+-- a path, an argument without a dash that has to be there
+abbrev pub path_rule : Text → Rule
+path_rule id = record (new_rule id) { action = Some Set; required = true; value_names = 1 }
+
+-- `try JOB`
+abbrev pub try_shape : Shape
+try_shape = (with_rule (new_app (codes "try")) (path_rule (codes "job"))).top
+
+-- `rvvbox` with no subcommand yet
+abbrev pub bare_app : App
+bare_app = record {
+  top = record (new_shape (codes "rvvbox")) {
+    subcommand_required = true;
+    disable_help_subcommand = true;
+    has_version = true;
+  };
+  subs = [];
+}
+
+-- `rvvbox` as `clap` sees it
+abbrev pub app : App
+app = with_subcommand bare_app try_shape
+
+-- the path that matches of a subcommand hold under an id, where the subcommand has this name
+abbrev pub path_of : Text → Text → Option (Text × List Row) → Option Text
+path_of name id entered =
+    option_and_then (λ p. if bytes_eq p.0 name then first_of id p.1 else None) entered
+
+-- `clap` takes the words, and its matches give this subcommand and these paths
+abbrev pub IsLineOf : List Text → Line → Type 0
+IsLineOf words (Try job) = (fault_of app words ≡ [])
+    × (path_of (codes "try") (codes "job") (subcommand_of app words) ≡ Some job.now)
+
+-- a fault of usage is one that `clap` finds in the words, of the kind that the error shows
+abbrev pub IsFaultOf : List Text → LineError → Type 0
+IsFaultOf words (Usage e) = IsAmong (kind_of e) (fault_of app words)
+IsFaultOf words NoMemory = Unit {0}

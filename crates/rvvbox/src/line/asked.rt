@@ -1,0 +1,32 @@
+//! What a command line asks for.
+ghost use Rattle.std.specs.Prelude.{◌≡◌};
+ghost use Rattle.rvvbox.specs.declared.line.asked.LineError.TheVariants.{NoMemory};
+
+use std::alloc::AllocError;
+use thiserror::Error;
+
+/// What a command line asks for: a subcommand with its paths.
+#[derive(Clone, Copy, Debug, PartialEq, Eq)]
+pub enum Line<'a> {
+    /// Runs the image of the job at `job` with every test at each step.
+    Try { job: &'a str },
+}
+
+/// Why a command line asks for nothing that can be done.
+#[derive(Debug, Drop, Error)]
+pub enum LineError {
+    /// `clap` refused the words, or they ask for help or the version. The text is `clap`'s.
+    #[error("{0}")]
+    Usage(clap::Error),
+    /// Memory ran out.
+    #[error("out of memory")]
+    NoMemory,
+}
+
+impl From<AllocError> for LineError {
+    ghost from_gives = { λ _ e. e ≡ NoMemory };
+
+    fn from(_error: AllocError) -> LineError {
+        LineError::NoMemory
+    }
+}

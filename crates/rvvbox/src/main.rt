@@ -1,0 +1,47 @@
+//! `rvvbox` runs RISC-V vector kernels in a sandbox. `rvvbox try JOB` runs the image that a job file
+//! names on the job's buffers, with every test at each step, and prints how the run ended.
+#![tactic(auto)]
+
+mod job;
+mod line;
+mod program;
+mod stop;
+mod store;
+mod trial;
+
+pub use program::perform;
+use std::alloc::Global;
+use std::io::ErrorKind;
+use std::process::ExitCode;
+use std::{env, io};
+use stop::{Status, Stop};
+use store::Disk;
+
+fn main(rt: HostRuntime) -> ExitCode {
+    let status = match answer(&rt) {
+        Ok(status) => status,
+        Err(error) if error.kind() == ErrorKind::OutOfMemory => {
+            Stop::Memory.tell(&mut rt.stdout(), &mut rt.stderr())
+        }
+        Err(_) => Status::Usage,
+    };
+    ExitCode::from(status.code())
+}
+
+/// Performs the command line that the system passed on, which has to be UTF-8.
+fn answer(rt: &HostRuntime) -> io::Result<Status> {
+    let alloc = rt.alloc();
+    let texts: Vec<String> = env::args(rt)?.collect(alloc)?;
+    let mut words: Vec<&str> = Vec::with_capacity(alloc, texts.len())?;
+    for text in &texts {
+        words.push(text.as_str())?;
+    }
+    Ok(perform(
+        alloc,
+        words.as_slice(),
+        &mut Disk::new(rt),
+        &mut rt.reader(),
+        &mut rt.stdout(),
+        &mut rt.stderr(),
+    ))
+}

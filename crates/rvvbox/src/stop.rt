@@ -1,0 +1,157 @@
+//! How the program ends.
+ghost use Rattle.std.specs.Prelude.{◌≡◌};
+ghost use Rattle.rvvbox.specs.Ending.{code_of, status_of};
+
+use crate::job::values::JobError;
+use crate::line::asked::LineError;
+use crate::store::StoreError;
+use elf_image::ElfError;
+use sandbox_run::OpenError;
+use std::alloc::AllocError;
+use std::borrow::CowStr;
+use std::io::Write;
+use thiserror::Error;
+
+/// What the program's exit status says.
+#[derive(Clone, Copy, Debug, PartialEq, Eq)]
+pub enum Status {
+    /// All was done.
+    Done,
+    /// The image was refused.
+    Refused,
+    /// The command line or the job was refused.
+    Usage,
+    /// A file was not read or written, or standard output took no text.
+    File,
+    /// Memory ran out.
+    Memory,
+    /// The run met a fault, or did as many steps as it was allowed.
+    Stopped,
+}
+
+impl Status {
+    /// The exit status.
+    pub fn code(self) -> u8
+        ensures { result ≡ code_of self }
+    {
+        match self {
+            Status::Done => 0,
+            Status::Refused => 1,
+            Status::Usage => 2,
+            Status::File => 3,
+            Status::Memory => 4,
+            Status::Stopped => 5,
+        }
+    }
+}
+
+/// Why the program ends before all is done. What it shows is told on standard error, but for a
+/// request for help or the version, which is answered on standard output.
+#[derive(Debug, Drop, Error)]
+pub enum Stop<'a> {
+    #[error("{0}")]
+    Usage(clap::Error),
+    #[error("job: {0}\n")]
+    Job(JobError),
+    #[error("file: {0}\n")]
+    File(CowStr<'a>),
+    #[error("refused: {0:?}\n")]
+    Image(ElfError),
+    #[error("refused: {}\n", open_error_name(.0))]
+    Open(OpenError),
+    #[error("out of memory\n")]
+    Memory,
+    #[error("")]
+    Output,
+}
+
+impl Stop<'_> {
+    /// Tells why, and answers the status. Where standard output takes no text, nothing more is told.
+    pub fn tell<O: Write, E: Write>(&self, output: &mut O, errors: &mut E) -> Status {
+        match self {
+            Stop::Output => Status::File,
+            Stop::Usage(error) if !error.use_stderr() => match write!(output, "{error}") {
+                Ok(()) => Status::Done,
+                Err(_) => Status::File,
+            },
+            _ => {
+                // Where standard error takes no text, the status alone tells.
+                let _ = write!(errors, "{self}");
+                self.status()
+            }
+        }
+    }
+
+    fn status(&self) -> Status
+        ensures { result ≡ status_of self.now }
+    {
+        match self {
+            Stop::Usage(_) | Stop::Job(_) => Status::Usage,
+            Stop::File(_) | Stop::Output => Status::File,
+            Stop::Image(_) | Stop::Open(_) => Status::Refused,
+            Stop::Memory => Status::Memory,
+        }
+    }
+}
+
+impl From<AllocError> for Stop<'_> {
+    fn from(_error: AllocError) -> Self {
+        Stop::Memory
+    }
+}
+
+impl From<LineError> for Stop<'_> {
+    fn from(error: LineError) -> Self {
+        match error {
+            LineError::Usage(error) => Stop::Usage(error),
+            LineError::NoMemory => Stop::Memory,
+        }
+    }
+}
+
+impl From<JobError> for Stop<'_> {
+    fn from(error: JobError) -> Self {
+        match error {
+            JobError::NoMemory => Stop::Memory,
+            _ => Stop::Job(error),
+        }
+    }
+}
+
+impl From<ElfError> for Stop<'_> {
+    fn from(error: ElfError) -> Self {
+        match error {
+            ElfError::NoMemory => Stop::Memory,
+            _ => Stop::Image(error),
+        }
+    }
+}
+
+impl From<OpenError> for Stop<'_> {
+    fn from(error: OpenError) -> Self {
+        match error {
+            OpenError::NoMemory => Stop::Memory,
+            _ => Stop::Open(error),
+        }
+    }
+}
+
+/// The name of an error, without its place.
+fn open_error_name(error: &OpenError) -> &'static str {
+    match error {
+        OpenError::WrongKind(_) => "WrongKind",
+        OpenError::ScalarOutOfInterval(_) => "ScalarOutOfInterval",
+        OpenError::WrongSize(_) => "WrongSize",
+        OpenError::NoMemory => "NoMemory",
+    }
+}
+
+impl<'a> Stop<'a> {
+    /// The file at `path` was not read or written.
+    pub fn at_file(error: StoreError, path: CowStr<'a>) -> Stop<'a> {
+        match error {
+            StoreError::Failed => Stop::File(path),
+            StoreError::NoMemory => Stop::Memory,
+        }
+    }
+}

@@ -1,0 +1,85 @@
+//! Where a job's files are read and written.
+use std::alloc::{AllocError, AllocFailed, Global};
+use std::io::{ErrorKind, Read, Write};
+use std::rt::Files;
+use std::{fs, io};
+use thiserror::Error;
+
+/// How often a file is read from before it counts as one that never ends.
+const MOST_READS: u64 = 1 << 32;
+
+/// Why a file was not read or written.
+#[derive(Clone, Copy, Debug, PartialEq, Eq, Error)]
+pub enum StoreError {
+    #[error("the file was not read or written")]
+    Failed,
+    #[error("out of memory")]
+    NoMemory,
+}
+
+impl From<AllocError> for StoreError {
+    fn from(_error: AllocError) -> StoreError {
+        StoreError::NoMemory
+    }
+}
+
+impl From<io::Error> for StoreError {
+    fn from(error: io::Error) -> StoreError {
+        match error.kind() {
+            ErrorKind::OutOfMemory => StoreError::NoMemory,
+            _ => StoreError::Failed,
+        }
+    }
+}
+
+/// Files by their paths.
+pub trait Store {
+    /// The bytes of the file at `path`.
+    fn read(&mut self, alloc: Global, path: &str) -> Result<Vec<u8>, StoreError>;
+
+    /// Makes a file at `path` that has these bytes, in place of what was there.
+    fn write(&mut self, path: &str, bytes: &[u8]) -> Result<(), StoreError>;
+}
+
+/// The files of the system. A path that is not absolute starts at the working directory.
+#[derive(Drop)]
+pub struct Disk<'a, R> {
+    rt: &'a R,
+}
+
+impl<'a, R> Disk<'a, R> {
+    pub fn new(rt: &'a R) -> Disk<'a, R> {
+        Disk { rt }
+    }
+}
+
+impl<'a, R: Files> Store for Disk<'a, R> {
+    fn read(&mut self, alloc: Global, path: &str) -> Result<Vec<u8>, StoreError> {
+        let mut file = fs::open(self.rt, path)?;
+        read_all(alloc, &mut file, MOST_READS)
+    }
+
+    fn write(&mut self, path: &str, bytes: &[u8]) -> Result<(), StoreError> {
+        let mut file = fs::create(self.rt, path)?;
+        file.write_all(bytes)?;
+        Ok(())
+    }
+}
+
+/// All bytes that the reader gives, in at most `reads` reads.
+fn read_all<R: Read>(alloc: Global, reader: &mut R, reads: u64) -> Result<Vec<u8>, StoreError> {
+    let mut bytes = Vec::new(alloc);
+    let mut chunk = [0u8; 4096];
+    for _ in 0..reads {
+        match reader.read(&mut chunk) {
+            Ok(0) => return Ok(bytes),
+            Ok(n) => bytes.extend_from_slice(&chunk[..n])?,
+            Err(error) if error.kind() == ErrorKind::Interrupted => {}
+            Err(error) => return Err(StoreError::from(error)),
+        }
+    }
+    Err(StoreError::Failed)
+}
+
+#[cfg(test)]
+mod tests;
