@@ -6,19 +6,19 @@ ghost use Rattle.elf_image.specs.File.{HasTable, HasImage, IsLoadable, segment_o
 
 use crate::header::{E_ENTRY, ProgramHeader, word_at};
 use crate::segment::Segment;
-use std::alloc::{AllocError, Global};
+use std::alloc::{AllocError, Allocator, Global};
 use std::marker::Model;
 
 /// What a file becomes in memory: its entry, its segments in the order of their program headers, and its
 /// certificate.
 #[derive(Debug, Drop)]
-pub struct Image {
+pub struct Image<A: Allocator = Global> {
     entry: u32,
-    segments: Vec<Segment>,
-    certificate: Option<Vec<u8>>,
+    segments: Vec<Segment<A>, A>,
+    certificate: Option<Vec<u8, A>>,
 }
 
-impl Model for Image {
+impl<A: Allocator> Model for Image<A> {
     ghost use Rattle.std.specs.Prelude.{option_map};
     ghost use Rattle.elf_image.specs.Image.{ImageView, IsImage};
 
@@ -37,11 +37,11 @@ impl Model for Image {
     }) };
 }
 
-fn load_segments(
-    alloc: Global,
+fn load_segments<A: Allocator + Copy>(
+    alloc: A,
     file: &[u8],
     headers: &[ProgramHeader],
-) -> Result<Vec<Segment>, AllocError>
+) -> Result<Vec<Segment<A>, A>, AllocError>
     requires { All (IsLoadable file.now) headers.now }
     ensures { IfOk result (λ segments. segments.items ≡ map (segment_of file.now) headers.now) }
 {
@@ -52,10 +52,10 @@ fn load_segments(
     Ok(segments)
 }
 
-fn copy_certificate(
-    alloc: Global,
+fn copy_certificate<A: Allocator>(
+    alloc: A,
     certificate: Option<&[u8]>,
-) -> Result<Option<Vec<u8>>, AllocError>
+) -> Result<Option<Vec<u8, A>>, AllocError>
     ensures { IfOk result (λ c. option_map (λ v. v.items) c ≡ option_copied certificate.entry) }
 {
     match certificate {
@@ -64,15 +64,15 @@ fn copy_certificate(
     }
 }
 
-impl Image {
+impl<A: Allocator + Copy> Image<A> {
     /// The image of a file of which these are the headers of the segments and the certificate.
     #[tactic(auto, unfolding(crate::specs::File::image_of))]
     pub(crate) fn load(
-        alloc: Global,
+        alloc: A,
         file: &[u8],
         headers: &[ProgramHeader],
         certificate: Option<&[u8]>,
-    ) -> Result<Image, AllocError>
+    ) -> Result<Image<A>, AllocError>
         requires table { HasTable file.now }
         requires image { HasImage file.now }
         requires headers { headers.now ≡ segment_headers file.now }
@@ -87,7 +87,9 @@ impl Image {
             certificate,
         })
     }
+}
 
+impl<A: Allocator> Image<A> {
     /// The address of the first instruction (`e_entry`).
     pub fn entry(&self) -> u32
         ensures value { result ≡ self.now.entry }
@@ -98,7 +100,7 @@ impl Image {
     }
 
     /// The segments, in the order of their program headers.
-    pub fn segments(&self) -> &[Segment]
+    pub fn segments(&self) -> &[Segment<A>]
         ensures value { result.now ≡ self.now.segments }
         // What is true of each image.
         ensures image { IsImage self.now }

@@ -9,7 +9,7 @@ use crate::faults::{header_fault, segment_fault};
 use crate::header::HeaderTable;
 use crate::image::Image;
 use crate::note::certificate;
-use std::alloc::Global;
+use std::alloc::Allocator;
 
 /// Reads an executable file: its entry, its segments with their bytes, and its certificate. The layout
 /// is that of the ELF standard, "ELF Header", "Program Header" and "Note Section", at 32 bits.
@@ -19,7 +19,7 @@ use std::alloc::Global;
 ///
 /// The certificate is the descriptor of the note of type 1 whose name is `RVVBOX` with its zero byte.
 #[tactic(auto, unfolding(crate::specs::Faults::fault_of))]
-pub fn read(alloc: Global, file: &[u8]) -> Result<Image, ElfError>
+pub fn read<A: Allocator + Copy>(alloc: A, file: &[u8]) -> Result<Image<A>, ElfError>
     // The first fault of the file is told.
     ensures refused { IfSome (fault_of file.now) (λ e. result ≡ Err e) }
     // A file without fault is read as the image that it has, unless memory runs out.

@@ -5,7 +5,7 @@ ghost use Rattle.elf_image.specs.Image.{IsSegment, holds_address};
 ghost use Rattle.elf_image.specs.File.{IsLoadable, segment_of};
 
 use crate::header::ProgramHeader;
-use std::alloc::{AllocError, Global};
+use std::alloc::{AllocError, Allocator, Global};
 use std::marker::Model;
 
 /// What may be done with the bytes of a segment.
@@ -19,14 +19,14 @@ pub struct Rights {
 /// A segment: where it lies in memory, its bytes that come from the file, and its rights. Its bytes past
 /// those of the file are 0.
 #[derive(Debug, Drop)]
-pub struct Segment {
+pub struct Segment<A: Allocator = Global> {
     address: u32,
-    bytes: Vec<u8>,
+    bytes: Vec<u8, A>,
     memory_size: u32,
     rights: Rights,
 }
 
-impl Model for Segment {
+impl<A: Allocator> Model for Segment<A> {
     ghost use Rattle.elf_image.specs.Image.{SegmentView, IsSegment};
 
     ghost Value = { SegmentView };
@@ -50,14 +50,14 @@ impl Model for Segment {
     }) };
 }
 
-impl Segment {
+impl<A: Allocator> Segment<A> {
     /// The segment of a program header, with its bytes copied from the file.
     #[tactic(auto, unfolding(crate::specs::File::segment_of))]
     pub(crate) fn load(
-        alloc: Global,
+        alloc: A,
         file: &[u8],
         header: &ProgramHeader,
-    ) -> Result<Segment, AllocError>
+    ) -> Result<Segment<A>, AllocError>
         requires { IsLoadable file.now header.now }
         ensures { IfOk result (λ segment. segment ≡ segment_of file.now header.now) }
     {

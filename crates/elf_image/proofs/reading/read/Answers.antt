@@ -2,8 +2,8 @@ use Rattle.elf_image.proofs.HasImage.{has_image}
 use Rattle.elf_image.proofs.reading.read.Goals as goal
 
 pub certificate-requires-clause-inside : goal.certificate-requires-clause-inside
-certificate-requires-clause-inside c =
+certificate-requires-clause-inside g c =
     rw (c.as_slice.ensures.value, c.read-headers.ensures) ((has_image c.args.file.now c.in_default-segment_fault.ensures).notes)
 
 pub load-requires-clause-image : goal.load-requires-clause-image
-load-requires-clause-image c = has_image c.args.file.now c.in_default-segment_fault.ensures
+load-requires-clause-image g c = has_image c.args.file.now c.in_default-segment_fault.ensures
