@@ -1,21 +1,19 @@
 -- The areas that a run starts with lie apart, and stand in order.
-use Rattle.std.proofs.Common.{◌≡◌, ◌⊎◌, inl, inr, ℕ, zero, suc, ◌+◌, ◌-◌, ◌*◌, ◌<◌, ◌≤◌, Bool, true, false, not, ◌&&◌, cond, List, [], ◌∷◌, ◌++◌, length, map, take, drop, ltb, Option, Some, None, unwrap_or, arith, sym, ap, refl, rules, ◌∙◌, sum_by, replicate, length-append}
+use Rattle.std.proofs.Common.{◌≡◌, ◌⊎◌, inl, inr, ℕ, ◌+◌, ◌-◌, ◌*◌, ◌<◌, ◌≤◌, Bool, true, false, cond, List, [], ◌∷◌, ◌++◌, length, map, take, ltb, Some, arith, sym, ap, refl, rules, ◌∙◌, sum_by, length-append}
 use Rattle.std.specs.List.{AllByRecursion, list_all, slice_get, zip}
 use Rattle.std.proofs.lemmas.Bool.Decides.{nat_tests}
-use Rattle.std.proofs.lemmas.Grind.{common_steps}
 use Rattle.std.proofs.lemmas.List.{length-replicate}
 use Rattle.std.proofs.lemmas.List.Sums.{sum_by-cons, sum_by-append}
 use Rattle.std.proofs.Common.{append_assoc}
-use Rattle.region_mem.proofs.Matching.{NonePasses, none_passes, nothing_wrong}
+use Rattle.region_mem.proofs.Matching.{NonePasses, nothing_wrong}
 use Rattle.region_mem.proofs.Rooms.{and_first, and_second, room_of_valid}
-use Rattle.elf_image.specs.Image.{SegmentView, ImageView, IsSegment, IsImage, IsApart, AreApart, IsInPlace, IsBetween}
+use Rattle.elf_image.specs.Image.{SegmentView, IsSegment, IsApart, AreApart, IsInPlace}
 use Rattle.region_mem.specs.Area.{Area}
 use Rattle.region_mem.specs.Start.{zeros, segment_area, stack_area, buffer_area, buffer_areas, insert_area, insert_areas, start_areas, start_memory}
 use Rattle.region_mem.specs.Order.{AreInOrder, StartsInOrder}
-use Rattle.region_mem.specs.Parameter.{is_valid, room_of, is_buffer, address_of, is_wrong_kind, is_wrong_size, argument_error, AreArguments}
+use Rattle.region_mem.specs.Parameter.{Argument, is_valid, room_of, is_buffer, address_of, is_wrong_kind, is_wrong_size}
 use Rattle.region_mem.specs.declared.parameter.Param.{Param}
 use Rattle.region_mem.specs.declared.parameter.Param.TheVariants as parameter
-use Rattle.region_mem.specs.declared.arguments.Arg.{Arg}
 use Rattle.region_mem.specs.declared.arguments.Arg.TheVariants as argument
 
 abbrev pub end_of : Area → ℕ
@@ -158,7 +156,7 @@ buffer_room parameter.None bytes kind size = absurd (cc)
 buffer_room (parameter.Scalar lo hi) bytes kind size = absurd (cc)
 buffer_room (parameter.Buffer mode n) bytes kind size = (refl, grind (arith, nat_tests))
 
-rising_step : (param : Param) (arg : Arg) (args : List Arg) (params : List Param) (place low high : ℕ) →
+rising_step : (param : Param) (arg : Argument) (args : List Argument) (params : List Param) (place low high : ℕ) →
     is_wrong_kind (param, arg) ≡ false → is_wrong_size (param, arg) ≡ false →
     ((bytes : List ℕ) → is_buffer param ≡ true → (buffer_area params place bytes).first ≡ low) → low + room_of param ≤ high →
     IsRising (low + room_of param) high (buffer_areas params (place + 1) args) → IsRising low high (buffer_areas params place (arg ∷ args))
@@ -170,7 +168,7 @@ rising_step param (argument.Buffer bytes) args params place low high kind size f
     let begins = first bytes room.0 in
     (omega (arith, begins), omega (arith, begins, room.1), rising_from _ _ _ _ (omega (arith, begins, room.1)) next)
 
-rising : (done todo : List Param) (args : List Arg) (params : List Param) (place low high : ℕ) → params ≡ done ++ todo → place ≡ length done →
+rising : (done todo : List Param) (args : List Argument) (params : List Param) (place low high : ℕ) → params ≡ done ++ todo → place ≡ length done →
     low ≡ 0x4000_0000 + sum_by room_of done → high ≡ low + sum_by room_of todo → length args ≤ length todo →
     NonePasses is_wrong_kind (zip todo args) → NonePasses is_wrong_size (zip todo args) → IsRising low high (buffer_areas params place args)
 unfolding buffer_areas

@@ -1,13 +1,11 @@
 -- What arguments that match are like.
-use Rattle.std.proofs.Common.{◌≡◌, ◌==◌, ℕ, zero, suc, ◌+◌, ◌<◌, ◌≤◌, Bool, true, false, not, ◌&&◌, cond, List, [], ◌∷◌, length, Option, Some, None, ltb, leb, eqb, arith, sym, ap, refl, rules, ◌∙◌}
+use Rattle.std.proofs.Common.{◌≡◌, ℕ, suc, ◌+◌, ◌≤◌, Bool, true, false, not, cond, List, [], ◌∷◌, length, Option, Some, None, ltb, arith, refl}
 use Rattle.std.specs.List.{list_all, zip, position, position_or_len, AllByRecursion}
 use Rattle.std.specs.Option.{option_map, option_or}
 use Rattle.std.proofs.lemmas.Bool.Decides.{nat_tests}
-use Rattle.std.proofs.lemmas.Grind.{common_steps}
-use Rattle.region_mem.specs.Parameter.{is_valid, is_wrong_kind, is_wrong_size, is_out_of_interval, argument_error, size_of}
+use Rattle.region_mem.specs.Parameter.{Argument, is_valid, is_wrong_kind, is_wrong_size, argument_error, size_of}
 use Rattle.region_mem.specs.declared.parameter.Param.{Param}
 use Rattle.region_mem.specs.declared.parameter.Param.TheVariants as parameter
-use Rattle.region_mem.specs.declared.arguments.Arg.{Arg}
 use Rattle.region_mem.specs.declared.arguments.Arg.TheVariants as argument
 use Rattle.region_mem.proofs.Rooms.{and_first, and_second}
 
@@ -34,7 +32,7 @@ map_none : {X Y : Type 0} (f : X → Y) (o : Option X) → option_map f o ≡ No
 map_none f None h = refl
 map_none f (Some x) h = absurd (cc)
 
-size_small : (param : Param) (arg : Arg) → is_valid param ≡ true → is_wrong_kind (param, arg) ≡ false → is_wrong_size (param, arg) ≡ false → size_of arg ≤ 16777216
+size_small : (param : Param) (arg : Argument) → is_valid param ≡ true → is_wrong_kind (param, arg) ≡ false → is_wrong_size (param, arg) ≡ false → size_of arg ≤ 16777216
 unfolding is_valid is_wrong_kind is_wrong_size size_of
 size_small param argument.None v k s = omega arith
 size_small param (argument.Scalar value) v k s = omega arith
@@ -42,7 +40,7 @@ size_small parameter.None (argument.Buffer bytes) v k s = absurd (cc)
 size_small (parameter.Scalar lo hi) (argument.Buffer bytes) v k s = absurd (cc)
 size_small (parameter.Buffer mode size) (argument.Buffer bytes) v k s = grind (arith, nat_tests)
 
-pub sizes_small : (params : List Param) (args : List Arg) → list_all is_valid params ≡ true → length args ≤ length params →
+pub sizes_small : (params : List Param) (args : List Argument) → list_all is_valid params ≡ true → length args ≤ length params →
     NonePasses is_wrong_kind (zip params args) → NonePasses is_wrong_size (zip params args) → AllByRecursion (λ arg. size_of arg ≤ 16777216) args
 sizes_small params [] v few kinds sizes = tt
 sizes_small [] (arg ∷ args) v few kinds sizes = absurd (omega arith)
@@ -51,7 +49,7 @@ sizes_small (param ∷ params) (arg ∷ args) v few kinds sizes =
     (size_small param arg (and_first _ _ v) kinds.0 sizes.0, sizes_small params args (and_second _ _ v) less kinds.1 sizes.1)
 
 -- Of arguments that match no kind and no size is wrong.
-pub nothing_wrong : (params : List Param) (args : List Arg) → argument_error params args ≡ None →
+pub nothing_wrong : (params : List Param) (args : List Argument) → argument_error params args ≡ None →
     NonePasses is_wrong_kind (zip params args) × NonePasses is_wrong_size (zip params args)
 unfolding argument_error
 nothing_wrong params args h =
@@ -60,7 +58,7 @@ nothing_wrong params args h =
     (none_passes _ _ (map_none _ _ kind.0), none_passes _ _ (map_none _ _ rest.1))
 
 -- Buffers that match have at most 16 MiB.
-pub sizes_of_matching : (params : List Param) (args : List Arg) → list_all is_valid params ≡ true → length args ≤ length params →
+pub sizes_of_matching : (params : List Param) (args : List Argument) → list_all is_valid params ≡ true → length args ≤ length params →
     argument_error params args ≡ None → AllByRecursion (λ arg. size_of arg ≤ 16777216) args
 sizes_of_matching params args v few h =
     let wrong = nothing_wrong params args h in sizes_small params args v few wrong.0 wrong.1

@@ -1,9 +1,9 @@
 -- Areas in the order of their first addresses.
-use Rattle.std.proofs.Common.{◌≡◌, ℕ, zero, suc, ◌+◌, ◌-◌, ◌<◌, ◌≤◌, Bool, true, false, not, cond, List, [], ◌∷◌, ◌++◌, length, take, drop, ltb, arith, sym, ap, refl, rules, ◌∙◌}
+use Rattle.std.proofs.Common.{◌≡◌, ℕ, suc, ◌+◌, ◌<◌, ◌≤◌, Bool, true, false, not, cond, List, [], ◌∷◌, length, drop, ltb, arith, sym, ap, refl, ◌∙◌}
 use Rattle.std.specs.List.{position, position_or_len, insert}
 use Rattle.std.proofs.lemmas.Grind.{common_steps}
 use Rattle.region_mem.proofs.Lists.{eight_found}
-use Rattle.std.proofs.Common.{Option, Some, None}
+use Rattle.std.proofs.Common.{None}
 use Rattle.std.proofs.Math.Numerals.{one-add}
 use Rattle.region_mem.specs.Area.{Area}
 use Rattle.std.proofs.Common.{get_or, map, drop-cons, add-one}
@@ -11,7 +11,7 @@ use Rattle.std.proofs.lemmas.List.{drop_all}
 use Rattle.elf_image.specs.Image.{SegmentView}
 use Rattle.region_mem.specs.Start.{segment_area, insert_area, insert_areas, buffer_areas}
 use Rattle.region_mem.specs.declared.parameter.Param.{Param}
-use Rattle.region_mem.specs.declared.arguments.Arg.{Arg}
+use Rattle.region_mem.specs.Parameter.{Argument}
 use Rattle.region_mem.specs.declared.arguments.Arg.TheVariants as argument
 
 insert_step : (area other : Area) (areas : List Area) (b : Bool) (n : ℕ) → insert_area area areas ≡ insert areas n area →
@@ -55,7 +55,7 @@ pub position_none : (address : ℕ) (areas : List Area) → position (λ other. 
 position_none address areas none = grind (arith, common_steps, length_position address areas)
 
 -- A place's buffer is inserted before those of the places behind it.
-pub insert_buffer : (params : List Param) (place : ℕ) (arg : Arg) (args : List Arg) (areas : List Area) →
+pub insert_buffer : (params : List Param) (place : ℕ) (arg : Argument) (args : List Argument) (areas : List Area) →
     insert_areas (buffer_areas params place (arg ∷ args)) areas ≡ insert_areas (buffer_areas params (place + 1) args) (insert_areas (buffer_areas params place (arg ∷ [])) areas)
 unfolding insert_areas buffer_areas
 insert_buffer params place argument.None args areas = refl
@@ -63,13 +63,13 @@ insert_buffer params place (argument.Scalar value) args areas = refl
 insert_buffer params place (argument.Buffer bytes) args areas = refl
 
 -- one place after another
-pub insert_buffer_step : (params : List Param) (place : ℕ) (arg : Arg) (args : List Arg) (areas next : List Area) →
+pub insert_buffer_step : (params : List Param) (place : ℕ) (arg : Argument) (args : List Argument) (areas next : List Area) →
     next ≡ insert_areas (buffer_areas params place (arg ∷ [])) areas →
     insert_areas (buffer_areas params place (arg ∷ args)) areas ≡ insert_areas (buffer_areas params (place + 1) args) next
 insert_buffer_step params place arg args areas next h = rw h (insert_buffer params place arg args areas)
 
 -- all eight places
-pub insert_eight : (params : List Param) (args : List Arg) (areas r1 r2 r3 r4 r5 r6 r7 r8 : List Area) (a b c d e f g h : Arg) →
+pub insert_eight : (params : List Param) (args : List Argument) (areas r1 r2 r3 r4 r5 r6 r7 r8 : List Area) (a b c d e f g h : Argument) →
     r1 ≡ insert_areas (buffer_areas params 0 (a ∷ [])) areas →
     r2 ≡ insert_areas (buffer_areas params 1 (b ∷ [])) r1 →
     r3 ≡ insert_areas (buffer_areas params 2 (c ∷ [])) r2 →

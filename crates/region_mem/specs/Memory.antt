@@ -1,8 +1,8 @@
 -- The memory of a run, and what loads, stores and fetches do with it.
-use Rattle.std.specs.Prelude.{◌≡◌, ◌⊎◌, ℕ, ◌≤◌, Bool, true, false, ◌&&◌, nat_le, nat_lt, List, [], ◌∷◌, map, filter, Option, Some, None, if◌then◌else◌}
+use Rattle.std.specs.Prelude.{◌≡◌, ◌⊎◌, ℕ, Bool, ◌&&◌, nat_le, nat_lt, List, [], ◌∷◌, filter, Option, Some, None, if◌then◌else◌}
 use Rattle.region_mem.specs.declared.faults.Right.{Right}
 use Rattle.region_mem.specs.declared.faults.Right.TheVariants.{Read, Write, Fetch}
-use Rattle.region_mem.specs.declared.arguments.Arg.{Arg}
+use Rattle.region_mem.specs.Parameter.{Argument}
 use Rattle.region_mem.specs.declared.arguments.Arg.TheVariants as argument
 use Rattle.region_mem.specs.declared.arguments.Passed.{Passed}
 use Rattle.region_mem.specs.declared.arguments.Passed.TheVariants as passed
@@ -42,7 +42,7 @@ unfoldable pub is_buffer_area : Area → Bool
 is_buffer_area area = nat_le 0x4000_0000 area.first && nat_lt area.first 0x8000_0000
 
 -- what a place gets of the buffers that are left, and the buffers that are left after it
-unfoldable pub arg_with : Passed → List Area → Arg
+unfoldable pub arg_with : Passed → List Area → Argument
 arg_with passed.None buffers = argument.None
 arg_with (passed.Scalar value) buffers = argument.Scalar value
 arg_with passed.Buffer [] = argument.None
@@ -55,10 +55,10 @@ left_after passed.Buffer [] = []
 left_after passed.Buffer (buffer ∷ buffers) = buffers
 
 -- The buffers stand in the order of their places.
-unfoldable pub args_with : List Passed → List Area → List Arg
+unfoldable pub args_with : List Passed → List Area → List Argument
 args_with [] buffers = []
 args_with (place ∷ places) buffers = arg_with place buffers ∷ args_with places (left_after place buffers)
 
 -- the arguments as they stand: the buffers' bytes, and all else as it was passed
-unfoldable pub args_of : Memory → List Arg
+unfoldable pub args_of : Memory → List Argument
 args_of memory = args_with memory.passed (filter is_buffer_area memory.areas)

@@ -1,14 +1,17 @@
 -- What a kernel's eight parameters say, where its buffers lie, and which arguments match them.
-use Rattle.std.specs.Prelude.{◌≡◌, ℕ, ◌+◌, ◌*◌, ◌/◌, ◌==◌, Bool, true, false, ◌&&◌, not, nat_le, nat_lt, List, length, take, sum_by, position, Option, Some, None, Result, Ok, Err, if◌then◌else◌}
+use Rattle.std.specs.Prelude.{◌≡◌, ℕ, ◌+◌, ◌*◌, ◌/◌, ◌==◌, Bool, true, false, ◌&&◌, not, nat_le, List, length, take, sum_by, position, Option, Some, None, Result, Ok, Err, if◌then◌else◌}
 use Rattle.std.specs.List.{list_all, zip, slice_get}
 use Rattle.std.specs.Option.{option_map, option_and_then, option_or}
-use Rattle.region_mem.specs.declared.parameter.Mode.{Mode}
 use Rattle.region_mem.specs.declared.parameter.Param.{Param}
 use Rattle.region_mem.specs.declared.parameter.Param.TheVariants as parameter
 use Rattle.region_mem.specs.declared.arguments.Arg.{Arg}
 use Rattle.region_mem.specs.declared.arguments.Arg.TheVariants as argument
 use Rattle.region_mem.specs.declared.parameter.ArgError.{ArgError}
 use Rattle.region_mem.specs.declared.parameter.ArgError.TheVariants.{WrongKind, ScalarOutOfInterval, WrongSize}
+
+-- an argument, with the bytes of a buffer
+abbrev pub Argument : Type 0
+Argument = Arg (List ℕ)
 
 -- A scalar's interval is not empty, and a buffer has at most 16 MiB.
 unfoldable pub is_valid : Param → Bool
@@ -36,24 +39,24 @@ unfoldable pub address_of : ℕ → List Param → Option ℕ
 address_of place params = option_and_then (λ param. if is_buffer param then Some (0x4000_0000 + sum_by room_of (take place params)) else None) (slice_get params place)
 
 -- The argument is of another kind than the parameter.
-unfoldable pub is_wrong_kind : Param × Arg → Bool
+unfoldable pub is_wrong_kind : Param × Argument → Bool
 is_wrong_kind (parameter.None, argument.None) = false
 is_wrong_kind (parameter.Scalar lo hi, argument.Scalar value) = false
 is_wrong_kind (parameter.Buffer mode size, argument.Buffer bytes) = false
 is_wrong_kind other = true
 
 -- The argument is a scalar outside the parameter's interval.
-unfoldable pub is_out_of_interval : Param × Arg → Bool
+unfoldable pub is_out_of_interval : Param × Argument → Bool
 is_out_of_interval (parameter.Scalar lo hi, argument.Scalar value) = not (nat_le lo value && nat_le value hi)
 is_out_of_interval other = false
 
 -- The argument is a buffer of another size than the parameter's.
-unfoldable pub is_wrong_size : Param × Arg → Bool
+unfoldable pub is_wrong_size : Param × Argument → Bool
 is_wrong_size (parameter.Buffer mode size, argument.Buffer bytes) = not (length bytes == size)
 is_wrong_size other = false
 
 -- what is wrong with the arguments: a kind before an interval before a size, and the lowest place of each
-unfoldable pub argument_error : List Param → List Arg → Option ArgError
+unfoldable pub argument_error : List Param → List Argument → Option ArgError
 argument_error params args =
     let pairs = zip params args in
     option_or (option_map WrongKind (position is_wrong_kind pairs)) (option_or (option_map ScalarOutOfInterval (position is_out_of_interval pairs)) (option_map WrongSize (position is_wrong_size pairs)))
@@ -64,11 +67,11 @@ refused_by None = Ok tt
 refused_by (Some error) = Err error
 
 -- The arguments are what the parameters ask for.
-abbrev pub AreArguments : List Param → List Arg → Type 0
+abbrev pub AreArguments : List Param → List Argument → Type 0
 AreArguments params args = argument_error params args ≡ None
 
 -- how many bytes an argument brings
-unfoldable pub size_of : Arg → ℕ
+unfoldable pub size_of : Argument → ℕ
 size_of argument.None = 0
 size_of (argument.Scalar value) = 0
 size_of (argument.Buffer bytes) = length bytes

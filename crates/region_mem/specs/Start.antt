@@ -1,16 +1,14 @@
 -- The memory that a run starts with.
-use Rattle.std.specs.Prelude.{◌≡◌, ℕ, zero, suc, ◌+◌, ◌-◌, Bool, true, false, nat_lt, List, [], ◌∷◌, ◌++◌, length, map, replicate, Option, Some, None, unwrap_or, if◌then◌else◌}
+use Rattle.std.specs.Prelude.{ℕ, ◌+◌, ◌-◌, Bool, true, false, nat_lt, List, [], ◌∷◌, ◌++◌, length, map, replicate, unwrap_or, if◌then◌else◌}
 use Rattle.std.specs.List.{slice_get}
 use Rattle.elf_image.specs.Image.{SegmentView, ImageView}
-use Rattle.region_mem.specs.declared.parameter.Mode.{Mode}
-use Rattle.region_mem.specs.declared.parameter.Mode.TheVariants.{Read, ReadWrite}
+use Rattle.region_mem.specs.declared.parameter.Mode.TheVariants.{ReadWrite}
 use Rattle.region_mem.specs.declared.parameter.Param.{Param}
 use Rattle.region_mem.specs.declared.parameter.Param.TheVariants as parameter
-use Rattle.region_mem.specs.declared.arguments.Arg.{Arg}
 use Rattle.region_mem.specs.declared.arguments.Arg.TheVariants as argument
 use Rattle.region_mem.specs.declared.arguments.Passed.{Passed}
 use Rattle.region_mem.specs.declared.arguments.Passed.TheVariants as passed
-use Rattle.region_mem.specs.Parameter.{address_of}
+use Rattle.region_mem.specs.Parameter.{Argument, address_of}
 use Rattle.region_mem.specs.Area.{Area}
 use Rattle.region_mem.specs.Memory.{Memory}
 
@@ -47,7 +45,7 @@ buffer_area params place bytes = record {
 }
 
 -- the areas of the buffers at the places from one on
-unfoldable pub buffer_areas : List Param → ℕ → List Arg → List Area
+unfoldable pub buffer_areas : List Param → ℕ → List Argument → List Area
 buffer_areas params place [] = []
 buffer_areas params place (argument.None ∷ args) = buffer_areas params (place + 1) args
 buffer_areas params place (argument.Scalar value ∷ args) = buffer_areas params (place + 1) args
@@ -64,15 +62,15 @@ insert_areas [] areas = areas
 insert_areas (area ∷ others) areas = insert_areas others (insert_area area areas)
 
 -- segments, stack and buffers, in the order of their first addresses
-unfoldable pub start_areas : ImageView → List Param → List Arg → List Area
+unfoldable pub start_areas : ImageView → List Param → List Argument → List Area
 start_areas image params args = insert_areas (buffer_areas params 0 args) (insert_area stack_area (insert_areas (map segment_area image.segments) []))
 
 -- what a place was passed, without a buffer's bytes
-unfoldable pub passed_of : Arg → Passed
+unfoldable pub passed_of : Argument → Passed
 passed_of argument.None = passed.None
 passed_of (argument.Scalar value) = passed.Scalar value
 passed_of (argument.Buffer bytes) = passed.Buffer
 
 -- the memory at the start of a run of an image with these parameters and arguments
-unfoldable pub start_memory : ImageView → List Param → List Arg → Memory
+unfoldable pub start_memory : ImageView → List Param → List Argument → Memory
 start_memory image params args = record { areas = start_areas image params args; passed = map passed_of args }

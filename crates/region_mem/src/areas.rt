@@ -5,19 +5,20 @@ ghost use Rattle.std.specs.Option.{option_copied};
 
 use crate::arguments::Bytes;
 use crate::faults::Right;
+use std::alloc::{Allocator, Global};
 use std::marker::Model;
 
 /// Bytes from an address on, and what may be done with them.
 #[derive(Debug, Drop)]
-pub struct Region {
+pub struct Region<A: Allocator = Global> {
     first: u64,
-    bytes: Bytes,
+    bytes: Bytes<A>,
     read: bool,
     write: bool,
     fetch: bool,
 }
 
-impl Model for Region {
+impl<A: Allocator> Model for Region<A> {
     ghost use Rattle.std.specs.Prelude.{◌+◌, ◌≤◌, ◌^◌, length};
     ghost use Rattle.region_mem.specs.Area.{Area};
 
@@ -28,11 +29,17 @@ impl Model for Region {
     ghost invariant = { λ r. r.first + length r.bytes ≤ 2 ^ 32 };
 }
 
-impl Region {
+impl<A: Allocator> Region<A> {
     ghost use Rattle.region_mem.specs.Area.{Area, holds, has_right};
     ghost use Rattle.region_mem.specs.Memory.{is_buffer_area};
 
-    pub(crate) fn new(first: u64, bytes: Bytes, read: bool, write: bool, fetch: bool) -> Region
+    pub(crate) fn new(
+        first: u64,
+        bytes: Bytes<A>,
+        read: bool,
+        write: bool,
+        fetch: bool,
+    ) -> Region<A>
         requires { first + length bytes ≤ 2 ^ 32 }
         ensures { result ≡ record { first = first; bytes = bytes; read = read; write = write; fetch = fetch } }
     {
@@ -51,7 +58,7 @@ impl Region {
         self.first
     }
 
-    pub(crate) fn into_bytes(self) -> Bytes
+    pub(crate) fn into_bytes(self) -> Bytes<A>
         ensures { result ≡ self.bytes }
     {
         let Region {
@@ -110,7 +117,7 @@ ghost use Rattle.region_mem.specs.Memory.{IsAccessSize};
 ghost use Rattle.region_mem.specs.Area.{Area, holds, has_right, is_open, is_open_from, byte_at, number_at, number_of, with_byte, with_number};
 
 #[tactic(auto, unfolding(crate::specs::Area::is_open))]
-fn is_open(regions: &[Region], right: Right, address: u64) -> bool
+fn is_open<A: Allocator>(regions: &[Region<A>], right: Right, address: u64) -> bool
     ensures { result ≡ is_open right regions.now address }
 {
     regions
@@ -120,7 +127,7 @@ fn is_open(regions: &[Region], right: Right, address: u64) -> bool
 
 /// Whether each byte of an access lies in a region with the right, and none past the last address.
 #[tactic(auto, unfolding(crate::specs::Area::is_open_from))]
-pub(crate) fn permits(regions: &[Region], right: Right, address: u64, size: u64) -> bool
+pub(crate) fn permits<A: Allocator>(regions: &[Region<A>], right: Right, address: u64, size: u64) -> bool
     requires first { address < 2 ^ 32 }
     requires fits { size < 2 ^ 63 }
     ensures { result ≡ is_open_from right address size regions.now }
@@ -128,7 +135,7 @@ pub(crate) fn permits(regions: &[Region], right: Right, address: u64, size: u64)
     address + size <= 1 << 32 && all_open(regions, right, address, size)
 }
 
-fn all_open(regions: &[Region], right: Right, address: u64, size: u64) -> bool
+fn all_open<A: Allocator>(regions: &[Region<A>], right: Right, address: u64, size: u64) -> bool
     requires { address + size < 2 ^ 64 }
     ensures { result ≡ list_all (is_open right regions.now) (range_with_len address size) }
 {
@@ -137,7 +144,7 @@ fn all_open(regions: &[Region], right: Right, address: u64, size: u64) -> bool
 
 /// The byte at an address, whatever the rights.
 #[tactic(auto, unfolding(crate::specs::Area::byte_at))]
-pub(crate) fn byte(regions: &[Region], address: u64) -> Option<u8>
+pub(crate) fn byte<A: Allocator>(regions: &[Region<A>], address: u64) -> Option<u8>
     ensures { result ≡ byte_at address regions.now }
 {
     let region = regions.iter().find(|region| region.holds(address))?;
@@ -145,7 +152,7 @@ pub(crate) fn byte(regions: &[Region], address: u64) -> Option<u8>
 }
 
 #[tactic(auto, using(crate::proofs::Writes::with_byte_first, crate::proofs::Writes::with_byte_none, crate::proofs::Writes::holds_first))]
-fn set_byte(regions: &mut [Region], address: u64, byte: u8)
+fn set_byte<A: Allocator>(regions: &mut [Region<A>], address: u64, byte: u8)
     ensures { regions.new ≡ with_byte address byte regions.old }
 {
     if let Some(place) = place_of(regions, address) {
@@ -154,14 +161,14 @@ fn set_byte(regions: &mut [Region], address: u64, byte: u8)
 }
 
 /// The place of the first region that holds the byte at an address.
-fn place_of(regions: &[Region], address: u64) -> Option<usize>
+fn place_of<A: Allocator>(regions: &[Region<A>], address: u64) -> Option<usize>
     ensures { result ≡ position (holds address) regions.now }
 {
     regions.iter().position(|region| region.holds(address))
 }
 
 #[tactic(auto, unfolding(crate::specs::Area::number_at))]
-fn byte_or_zero(regions: &[Region], address: u64) -> u32
+fn byte_or_zero<A: Allocator>(regions: &[Region<A>], address: u64) -> u32
     ensures value { result ≡ unwrap_or (byte_at address regions.now) 0 }
     ensures small { result < 256 }
 {
@@ -172,14 +179,14 @@ fn byte_or_zero(regions: &[Region], address: u64) -> u32
 }
 
 #[tactic(auto, unfolding(crate::specs::Area::number_at, crate::specs::Area::number_of))]
-fn byte_number(regions: &[Region], address: u64) -> u32
+fn byte_number<A: Allocator>(regions: &[Region<A>], address: u64) -> u32
     ensures { result ≡ number_at address 1 regions.now }
 {
     byte_or_zero(regions, address)
 }
 
 #[tactic(auto, unfolding(crate::specs::Area::number_at, crate::specs::Area::number_of))]
-fn half_number(regions: &[Region], address: u64) -> u32
+fn half_number<A: Allocator>(regions: &[Region<A>], address: u64) -> u32
     requires { address < 2 ^ 32 }
     ensures { result ≡ number_at address 2 regions.now }
 {
@@ -189,7 +196,7 @@ fn half_number(regions: &[Region], address: u64) -> u32
 
 /// The number in the four bytes from an address on, the lowest first.
 #[tactic(auto, unfolding(crate::specs::Area::number_at, crate::specs::Area::number_of))]
-pub(crate) fn word_number(regions: &[Region], address: u64) -> u32
+pub(crate) fn word_number<A: Allocator>(regions: &[Region<A>], address: u64) -> u32
     requires { address < 2 ^ 32 }
     ensures { result ≡ number_at address 4 regions.now }
 {
@@ -202,7 +209,7 @@ pub(crate) fn word_number(regions: &[Region], address: u64) -> u32
 }
 
 /// The number in the n bytes from an address on, the lowest first.
-pub(crate) fn number(regions: &[Region], address: u64, n: usize) -> u32
+pub(crate) fn number<A: Allocator>(regions: &[Region<A>], address: u64, n: usize) -> u32
     requires address { address < 2 ^ 32 }
     requires size { IsAccessSize n }
     ensures { result ≡ number_at address n regions.now }
@@ -215,14 +222,14 @@ pub(crate) fn number(regions: &[Region], address: u64, n: usize) -> u32
 }
 
 #[tactic(auto, unfolding(crate::specs::Area::with_number))]
-fn set_lowest(regions: &mut [Region], address: u64, value: u32)
+fn set_lowest<A: Allocator>(regions: &mut [Region<A>], address: u64, value: u32)
     ensures { regions.new ≡ with_number address 1 value regions.old }
 {
     set_byte(regions, address, (value % 256) as u8);
 }
 
 #[tactic(auto, unfolding(crate::specs::Area::with_number))]
-fn set_half(regions: &mut [Region], address: u64, value: u32)
+fn set_half<A: Allocator>(regions: &mut [Region<A>], address: u64, value: u32)
     requires { address < 2 ^ 34 }
     ensures { regions.new ≡ with_number address 2 value regions.old }
 {
@@ -231,7 +238,7 @@ fn set_half(regions: &mut [Region], address: u64, value: u32)
 }
 
 #[tactic(auto, unfolding(crate::specs::Area::with_number))]
-fn set_three(regions: &mut [Region], address: u64, value: u32)
+fn set_three<A: Allocator>(regions: &mut [Region<A>], address: u64, value: u32)
     requires { address < 2 ^ 33 }
     ensures { regions.new ≡ with_number address 3 value regions.old }
 {
@@ -240,7 +247,7 @@ fn set_three(regions: &mut [Region], address: u64, value: u32)
 }
 
 #[tactic(auto, unfolding(crate::specs::Area::with_number))]
-fn set_word(regions: &mut [Region], address: u64, value: u32)
+fn set_word<A: Allocator>(regions: &mut [Region<A>], address: u64, value: u32)
     requires { address < 2 ^ 32 }
     ensures { regions.new ≡ with_number address 4 value regions.old }
 {
@@ -249,7 +256,7 @@ fn set_word(regions: &mut [Region], address: u64, value: u32)
 }
 
 /// Writes the n lowest bytes of a value from an address on.
-pub(crate) fn set_number(regions: &mut [Region], address: u64, n: usize, value: u32)
+pub(crate) fn set_number<A: Allocator>(regions: &mut [Region<A>], address: u64, n: usize, value: u32)
     requires address { address < 2 ^ 32 }
     requires size { IsAccessSize n }
     ensures { regions.new ≡ with_number address n value regions.old }

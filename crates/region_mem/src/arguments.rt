@@ -1,15 +1,16 @@
 //! The caller's eight arguments.
 ghost use Rattle.std.specs.Prelude.{◌≡◌, ◌<◌, length, slice_set, ◌==◌};
 
+use std::alloc::{Allocator, Global};
 use std::marker::Model;
 
 /// The bytes of a buffer, in a vector that is moved in and out and never copied.
 #[derive(Debug, Drop)]
-pub struct Bytes {
-    items: Vec<u8>,
+pub struct Bytes<A: Allocator = Global> {
+    items: Vec<u8, A>,
 }
 
-impl Model for Bytes {
+impl<A: Allocator> Model for Bytes<A> {
     ghost use Rattle.std.specs.Prelude.{List, ℕ};
 
     ghost Value = { List ℕ };
@@ -17,16 +18,16 @@ impl Model for Bytes {
     ghost view = { λ b. b.items.items };
 }
 
-impl Bytes {
+impl<A: Allocator> Bytes<A> {
     /// These bytes.
-    pub fn new(items: Vec<u8>) -> Bytes
+    pub fn new(items: Vec<u8, A>) -> Bytes<A>
         ensures { result ≡ items.items }
     {
         Bytes { items }
     }
 
     /// The vector that holds the bytes.
-    pub fn into_vec(self) -> Vec<u8>
+    pub fn into_vec(self) -> Vec<u8, A>
         ensures { result.items ≡ self }
     {
         let Bytes { items: vector } = self;
@@ -64,16 +65,16 @@ impl Bytes {
 
 /// What a caller passes at one place.
 #[derive(Debug, Drop)]
-pub enum Arg {
+pub enum Arg<B = Bytes> {
     None,
     Scalar(u32),
-    Buffer(Bytes),
+    Buffer(B),
 }
 
 /// What a caller passes, by place. Place `n` is handed over in register a`n`.
 #[derive(Debug, Drop)]
-pub struct Args {
-    pub places: [Arg; 8],
+pub struct Args<B = Bytes> {
+    pub places: [Arg<B>; 8],
 }
 
 /// What a place was passed, without a buffer's bytes.

@@ -3,22 +3,22 @@ ghost use Rattle.std.specs.Prelude.{◌≡◌, ◌<◌, ◌^◌, Some, None, fal
 ghost use Rattle.region_mem.specs.Order.{StartsInOrder};
 
 use crate::areas::{self, Region};
-use crate::arguments::{Args, Passed};
+use crate::arguments::{Args, Bytes, Passed};
 use crate::faults::Right;
 use crate::parameter::Parameters;
 use crate::start;
 use elf_image::Image;
-use std::alloc::{AllocError, Global};
+use std::alloc::{AllocError, Allocator, Global};
 use std::marker::Model;
 
 /// The memory of a run.
 #[derive(Drop)]
-pub struct Regions {
-    regions: Vec<Region>,
+pub struct Regions<A: Allocator = Global> {
+    regions: Vec<Region<A>, A>,
     passed: [Passed; 8],
 }
 
-impl Model for Regions {
+impl<A: Allocator> Model for Regions<A> {
     ghost use Rattle.region_mem.specs.Memory.{Memory};
 
     ghost Value = { Memory };
@@ -26,7 +26,7 @@ impl Model for Regions {
     ghost view = { λ r. record { areas = r.regions.items; passed = r.passed } };
 }
 
-impl Regions {
+impl<A: Allocator> Regions<A> {
     ghost use Rattle.region_mem.specs.Memory.{Memory, byte_of, is_permitted, load_of, store_of, fetch_of, args_of, IsAccessSize};
     ghost use Rattle.region_mem.specs.Start.{start_memory};
     ghost use Rattle.region_mem.specs.Parameter.{AreArguments};
@@ -34,12 +34,14 @@ impl Regions {
     /// The memory that a run of the image starts with: its segments, the stack and the buffers of the arguments, which
     /// are moved in. Where memory is refused the arguments come back as they were.
     #[tactic(auto, unfolding(crate::specs::Start::start_memory, crate::specs::Start::start_areas))]
-    pub fn new(
-        alloc: Global,
-        image: &Image,
+    pub fn new<B: Allocator>(
+        alloc: A,
+        image: &Image<B>,
         parameters: &Parameters,
-        args: Args,
-    ) -> Result<Regions, (AllocError, Args)>
+        args: Args<Bytes<A>>,
+    ) -> Result<Regions<A>, (AllocError, Args<Bytes<A>>)>
+    where
+        A: Copy,
         requires { AreArguments parameters.now args.places }
         ensures start { IfOk result (λ regions. regions ≡ start_memory image.now parameters.now args.places) }
         ensures back { IfErr result (λ e. e.1 ≡ args) }
@@ -57,7 +59,7 @@ impl Regions {
 
     /// The arguments: the buffers as they stand, moved out, and all else as it was passed.
     #[tactic(auto, unfolding(crate::specs::Memory::args_of))]
-    pub fn into_args(self) -> Args
+    pub fn into_args(self) -> Args<Bytes<A>>
         ensures { result.places ≡ args_of self }
     {
         let Regions { regions, passed } = self;

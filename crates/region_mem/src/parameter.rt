@@ -5,7 +5,8 @@ ghost use Rattle.std.specs.List.{slice_get, list_all, zip, AllByRecursion};
 ghost use Rattle.std.specs.Option.{option_map};
 ghost use Rattle.region_mem.specs.Parameter.{is_valid, parameters_of, is_buffer, room_of, address_of, is_wrong_kind, is_out_of_interval, is_wrong_size, argument_error, refused_by, size_of, AreArguments};
 
-use crate::arguments::{Arg, Args};
+use crate::arguments::{Arg, Args, Bytes};
+use std::alloc::Allocator;
 use std::error::Error;
 use std::fmt;
 use std::marker::Model;
@@ -169,7 +170,7 @@ impl Parameters {
 
     /// The buffers of arguments that match have at most 16 MiB.
     #[tactic(auto, using(crate::proofs::Matching::sizes_of_matching))]
-    pub(crate) fn bound_sizes(&self, args: &Args)
+    pub(crate) fn bound_sizes<A: Allocator>(&self, args: &Args<Bytes<A>>)
         requires { AreArguments self.now args.now.places }
         ensures { AllByRecursion (λ arg. size_of arg ≤ 16777216) args.now.places }
     {
@@ -180,7 +181,7 @@ impl Parameters {
     /// Whether the arguments are of the parameters' kinds, then whether each scalar lies in its interval, then whether
     /// each buffer has its parameter's size. The first of these that fails is told, at the lowest place where it does.
     #[tactic(auto, unfolding(crate::specs::Parameter::argument_error, crate::specs::Parameter::refused_by))]
-    pub fn matches(&self, args: &Args) -> Result<(), ArgError>
+    pub fn matches<A: Allocator>(&self, args: &Args<Bytes<A>>) -> Result<(), ArgError>
         ensures meaning { result ≡ refused_by (argument_error self.now args.now.places) }
         ensures matching { OnOk result (AreArguments self.now args.now.places) }
     {
@@ -197,7 +198,7 @@ impl Parameters {
     }
 }
 
-fn wrong_kind(params: &[Param], args: &[Arg]) -> Option<usize>
+fn wrong_kind<A: Allocator>(params: &[Param], args: &[Arg<Bytes<A>>]) -> Option<usize>
     ensures { result ≡ position is_wrong_kind (zip params.now args.now) }
 {
     params
@@ -206,7 +207,7 @@ fn wrong_kind(params: &[Param], args: &[Arg]) -> Option<usize>
         .position(|(param, arg)| is_wrong_kind(param, arg))
 }
 
-fn out_of_interval(params: &[Param], args: &[Arg]) -> Option<usize>
+fn out_of_interval<A: Allocator>(params: &[Param], args: &[Arg<Bytes<A>>]) -> Option<usize>
     ensures { result ≡ position is_out_of_interval (zip params.now args.now) }
 {
     params
@@ -215,7 +216,7 @@ fn out_of_interval(params: &[Param], args: &[Arg]) -> Option<usize>
         .position(|(param, arg)| is_out_of_interval(param, arg))
 }
 
-fn wrong_size(params: &[Param], args: &[Arg]) -> Option<usize>
+fn wrong_size<A: Allocator>(params: &[Param], args: &[Arg<Bytes<A>>]) -> Option<usize>
     ensures { result ≡ position is_wrong_size (zip params.now args.now) }
 {
     params
@@ -225,7 +226,7 @@ fn wrong_size(params: &[Param], args: &[Arg]) -> Option<usize>
 }
 
 #[tactic(auto, unfolding(crate::specs::Parameter::is_wrong_kind))]
-fn is_wrong_kind(param: &Param, arg: &Arg) -> bool
+fn is_wrong_kind<A: Allocator>(param: &Param, arg: &Arg<Bytes<A>>) -> bool
     ensures { result ≡ is_wrong_kind (param.now, arg.now) }
 {
     match (param, arg) {
@@ -237,7 +238,7 @@ fn is_wrong_kind(param: &Param, arg: &Arg) -> bool
 }
 
 #[tactic(auto, unfolding(crate::specs::Parameter::is_out_of_interval))]
-fn is_out_of_interval(param: &Param, arg: &Arg) -> bool
+fn is_out_of_interval<A: Allocator>(param: &Param, arg: &Arg<Bytes<A>>) -> bool
     ensures { result ≡ is_out_of_interval (param.now, arg.now) }
 {
     match (param, arg) {
@@ -247,7 +248,7 @@ fn is_out_of_interval(param: &Param, arg: &Arg) -> bool
 }
 
 #[tactic(auto, unfolding(crate::specs::Parameter::is_wrong_size))]
-fn is_wrong_size(param: &Param, arg: &Arg) -> bool
+fn is_wrong_size<A: Allocator>(param: &Param, arg: &Arg<Bytes<A>>) -> bool
     ensures { result ≡ is_wrong_size (param.now, arg.now) }
 {
     match (param, arg) {

@@ -15,12 +15,12 @@ use crate::areas::Region;
 use crate::arguments::{Arg, Args, Bytes, Passed};
 use crate::parameter::{Mode, Param, Parameters};
 use elf_image::{Image, Segment};
-use std::alloc::{AllocError, Global};
+use std::alloc::{AllocError, Allocator};
 use std::vec::IntoIter;
 
 /// Puts a region in front of those that begin above it.
 #[tactic(auto, using(crate::proofs::Order::insert_area_at))]
-pub(crate) fn insert(regions: &mut Vec<Region>, region: Region)
+pub(crate) fn insert<A: Allocator>(regions: &mut Vec<Region<A>, A>, region: Region<A>)
     requires { vec_len regions.old < vec_capacity regions.old }
     ensures items { regions.new.items ≡ insert_area region regions.old.items }
     ensures len { vec_len regions.new ≡ vec_len regions.old + 1 }
@@ -31,7 +31,7 @@ pub(crate) fn insert(regions: &mut Vec<Region>, region: Region)
 }
 
 /// The place of the first region that begins above an address, or the end.
-fn place_for(regions: &[Region], address: u64) -> usize
+fn place_for<A: Allocator>(regions: &[Region<A>], address: u64) -> usize
     ensures value { result ≡ position_or_len (λ other. nat_lt address other.first) regions.now }
     ensures inside { result ≤ length regions.now }
 {
@@ -41,7 +41,7 @@ fn place_for(regions: &[Region], address: u64) -> usize
     }
 }
 
-fn first_above(regions: &[Region], address: u64) -> Option<usize>
+fn first_above<A: Allocator>(regions: &[Region<A>], address: u64) -> Option<usize>
     ensures { result ≡ position (λ other. nat_lt address other.first) regions.now }
 {
     regions.iter().position(|other| address < other.first())
@@ -49,7 +49,10 @@ fn first_above(regions: &[Region], address: u64) -> Option<usize>
 
 /// A segment's bytes from the file, then zeros.
 #[tactic(auto, unfolding(crate::specs::Start::segment_area, crate::specs::Start::zeros))]
-fn segment_region(alloc: Global, segment: &Segment) -> Result<Region, AllocError>
+fn segment_region<A: Allocator, B: Allocator>(
+    alloc: A,
+    segment: &Segment<B>,
+) -> Result<Region<A>, AllocError>
     ensures { IfOk result (λ region. region ≡ segment_area segment.now) }
 {
     let size = segment.memory_size() as usize;
@@ -67,7 +70,7 @@ fn segment_region(alloc: Global, segment: &Segment) -> Result<Region, AllocError
 }
 
 #[tactic(auto, unfolding(crate::specs::Start::zeros))]
-fn zeros(alloc: Global, n: usize) -> Result<Bytes, AllocError>
+fn zeros<A: Allocator>(alloc: A, n: usize) -> Result<Bytes<A>, AllocError>
     ensures bytes { IfOk result (λ bytes. bytes ≡ zeros n) }
     ensures len { IfOk result (λ bytes. length bytes ≡ n) }
 {
@@ -76,7 +79,7 @@ fn zeros(alloc: Global, n: usize) -> Result<Bytes, AllocError>
 }
 
 #[tactic(auto, unfolding(crate::specs::Start::stack_area))]
-fn stack_region(alloc: Global) -> Result<Region, AllocError>
+fn stack_region<A: Allocator>(alloc: A) -> Result<Region<A>, AllocError>
     ensures { IfOk result (λ region. region ≡ stack_area) }
 {
     let bytes = zeros(alloc, 65_536)?;
@@ -84,7 +87,10 @@ fn stack_region(alloc: Global) -> Result<Region, AllocError>
 }
 
 /// The segments' regions and the stack's, with room for eight buffers more.
-pub(crate) fn fixed_regions(alloc: Global, image: &Image) -> Result<Vec<Region>, AllocError>
+pub(crate) fn fixed_regions<A: Allocator + Copy, B: Allocator>(
+    alloc: A,
+    image: &Image<B>,
+) -> Result<Vec<Region<A>, A>, AllocError>
     ensures items { IfOk result (λ v. v.items ≡ insert_area stack_area (insert_areas (map segment_area image.now.segments) [])) }
     ensures room { IfOk result (λ v. vec_len v + 8 ≤ vec_capacity v) }
 {
@@ -94,7 +100,10 @@ pub(crate) fn fixed_regions(alloc: Global, image: &Image) -> Result<Vec<Region>,
 }
 
 #[tactic(auto, using(crate::proofs::Order::insert_areas_more, crate::proofs::Order::insert_areas_all))]
-fn segment_regions(alloc: Global, segments: &[Segment]) -> Result<Vec<Region>, AllocError>
+fn segment_regions<A: Allocator + Copy, B: Allocator>(
+    alloc: A,
+    segments: &[Segment<B>],
+) -> Result<Vec<Region<A>, A>, AllocError>
     requires { length segments.now ≤ 16 }
     ensures items { IfOk result (λ v. v.items ≡ insert_areas (map segment_area segments.now) []) }
     ensures room { IfOk result (λ v. vec_len v + 9 ≤ vec_capacity v) }
@@ -121,7 +130,11 @@ fn is_writable(param: Param) -> bool
 }
 
 #[tactic(auto, unfolding(crate::specs::Start::buffer_area))]
-fn buffer_region(parameters: &Parameters, place: usize, bytes: Bytes) -> Region
+fn buffer_region<A: Allocator>(
+    parameters: &Parameters,
+    place: usize,
+    bytes: Bytes<A>,
+) -> Region<A>
     requires place { place < 8 }
     requires small { length bytes ≤ 16777216 }
     ensures { result ≡ buffer_area parameters.now place bytes }
@@ -132,7 +145,12 @@ fn buffer_region(parameters: &Parameters, place: usize, bytes: Bytes) -> Region
 }
 
 #[tactic(auto, unfolding(crate::specs::Start::buffer_areas, crate::specs::Start::insert_areas, crate::specs::Parameter::size_of))]
-fn put(regions: &mut Vec<Region>, parameters: &Parameters, place: usize, arg: Arg)
+fn put<A: Allocator>(
+    regions: &mut Vec<Region<A>, A>,
+    parameters: &Parameters,
+    place: usize,
+    arg: Arg<Bytes<A>>,
+)
     requires room { vec_len regions.old < vec_capacity regions.old }
     requires place { place < 8 }
     requires small { size_of arg ≤ 16777216 }
@@ -146,7 +164,11 @@ fn put(regions: &mut Vec<Region>, parameters: &Parameters, place: usize, arg: Ar
     }
 }
 
-pub(crate) fn put_all(regions: &mut Vec<Region>, parameters: &Parameters, args: Args)
+pub(crate) fn put_all<A: Allocator>(
+    regions: &mut Vec<Region<A>, A>,
+    parameters: &Parameters,
+    args: Args<Bytes<A>>,
+)
     requires room { vec_len regions.old + 8 ≤ vec_capacity regions.old }
     requires small { AllByRecursion (λ arg. size_of arg ≤ 16777216) args.places }
     ensures { regions.new.items ≡ insert_areas (buffer_areas parameters.now 0 args.places) regions.old.items }
@@ -165,7 +187,7 @@ pub(crate) fn put_all(regions: &mut Vec<Region>, parameters: &Parameters, args: 
 }
 
 #[tactic(auto, unfolding(crate::specs::Start::passed_of))]
-fn passed_of(arg: &Arg) -> Passed
+fn passed_of<A: Allocator>(arg: &Arg<Bytes<A>>) -> Passed
     ensures { result ≡ passed_of arg.now }
 {
     match arg {
@@ -176,7 +198,7 @@ fn passed_of(arg: &Arg) -> Passed
 }
 
 /// What the places were passed, without the buffers' bytes.
-pub(crate) fn passed(args: &Args) -> [Passed; 8]
+pub(crate) fn passed<A: Allocator>(args: &Args<Bytes<A>>) -> [Passed; 8]
     ensures { result ≡ map passed_of args.now.places }
 {
     let [a, b, c, d, e, f, g, h] = &args.places;
@@ -193,8 +215,7 @@ pub(crate) fn passed(args: &Args) -> [Passed; 8]
 }
 
 /// The next of the regions that is a buffer's.
-
-fn next_buffer(regions: &mut IntoIter<Region>) -> Option<Region>
+fn next_buffer<A: Allocator>(regions: &mut IntoIter<Region<A>, A>) -> Option<Region<A>>
     ensures next { filter is_buffer_area (into_iter_items regions.old) ≡ option_to_list result ++ filter is_buffer_area (into_iter_items regions.new) }
     ensures none { IfNone result (filter is_buffer_area (into_iter_items regions.old) ≡ []) }
 {
@@ -208,7 +229,7 @@ fn next_buffer(regions: &mut IntoIter<Region>) -> Option<Region>
 
 /// What a place gets of the buffers that are left.
 #[tactic(auto, unfolding(crate::specs::Memory::arg_with, crate::specs::Memory::left_after))]
-fn arg_with(place: Passed, regions: &mut IntoIter<Region>) -> Arg
+fn arg_with<A: Allocator>(place: Passed, regions: &mut IntoIter<Region<A>, A>) -> Arg<Bytes<A>>
     ensures value { result ≡ arg_with place (filter is_buffer_area (into_iter_items regions.old)) }
     ensures left { filter is_buffer_area (into_iter_items regions.new) ≡ left_after place (filter is_buffer_area (into_iter_items regions.old)) }
 {
@@ -224,7 +245,10 @@ fn arg_with(place: Passed, regions: &mut IntoIter<Region>) -> Arg
 
 /// The arguments of which these regions hold the buffers, in the order of their places.
 #[tactic(auto, unfolding(crate::specs::Memory::args_with))]
-pub(crate) fn args_with(passed: [Passed; 8], mut regions: IntoIter<Region>) -> Args
+pub(crate) fn args_with<A: Allocator>(
+    passed: [Passed; 8],
+    mut regions: IntoIter<Region<A>, A>,
+) -> Args<Bytes<A>>
     ensures { result.places ≡ args_with passed (filter is_buffer_area (into_iter_items regions)) }
 {
     let [a, b, c, d, e, f, g, h] = passed;

@@ -1,5 +1,5 @@
 -- Laws of runs.
-use Rattle.std.proofs.Common.{◌≡◌, ℕ, zero, suc, ◌+◌, ◌-◌, ◌<◌, ◌≤◌, Bool, true, false, Result, Ok, Err, refl, ap, arith, add-zero, add-one, zero-add, add-suc, below_more, if◌then◌else◌}
+use Rattle.std.proofs.Common.{◌≡◌, ℕ, zero, suc, ◌+◌, ◌-◌, ◌<◌, Bool, true, false, Result, Ok, Err, refl, ap, arith, add-zero, add-one, zero-add, add-suc, below_more, if◌then◌else◌}
 use Rattle.region_mem.specs.declared.faults.Fault.{Fault}
 use Rattle.sandbox_run.specs.Machine.{Machine}
 use Rattle.sandbox_run.specs.Step.{step}

@@ -20,7 +20,7 @@ registers_of m = record {
 }
 
 -- a machine in which so many steps were done, as a run hands it out
-abbrev pub final_of : (vlenb : ℕ) → ℕ → Machine → Final vlenb
+abbrev pub final_of : (vlenb : ℕ) → ℕ → Machine → Final vlenb (List ℕ)
 final_of vlenb steps m = record {
   steps = steps;
   registers = registers_of m;
@@ -29,7 +29,7 @@ final_of vlenb steps m = record {
 }
 
 -- the answer of a run that stops so
-abbrev pub answer_of : (vlenb : ℕ) → Stop → Outcome vlenb
+abbrev pub answer_of : (vlenb : ℕ) → Stop → Outcome vlenb (List ℕ)
 answer_of vlenb (Ended steps m) = outcome.Ended (final_of vlenb steps m)
 answer_of vlenb (Trapped fault steps m) = outcome.Trapped fault (final_of vlenb steps m)
 answer_of vlenb (OutOfSteps steps m) = outcome.OutOfSteps (final_of vlenb steps m)

@@ -4,5 +4,6 @@ pub mod Step
 pub mod Run
 pub mod Answer
 pub mod Errors
+pub mod Rooms
 pub use Rattle.region_mem.specs.Parameter
 pub use Rattle.region_mem.specs.Memory

@@ -10,7 +10,7 @@ mod run;
 mod start;
 
 pub use outcome::{Final, OpenError, Outcome, Registers};
-pub use run::{outcome_is_first, runs_go_on, try_run};
+pub use run::{outcome_is_first, runs_go_on, try_run, try_run_in};
 
 #[cfg(test)]
 mod tests;

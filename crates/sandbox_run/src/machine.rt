@@ -7,18 +7,19 @@ ghost use Rattle.scalar_core.specs.Hart.{exit};
 use region_mem::{Fault, Regions};
 use rv_decode::{Insn, decode};
 use scalar_core::{Scalar, step_scalar};
+use std::alloc::{Allocator, Global};
 use std::marker::Model;
 use vector_core::{VectorState, step_vector};
 
 /// The scalar registers, the vector registers, and memory.
 #[derive(Drop)]
-pub(crate) struct Machine<const VLENB: usize> {
+pub(crate) struct Machine<const VLENB: usize, A: Allocator = Global> {
     pub(crate) hart: Scalar,
     pub(crate) vectors: VectorState<VLENB>,
-    pub(crate) memory: Regions,
+    pub(crate) memory: Regions<A>,
 }
 
-impl<const VLENB: usize> Model for Machine<VLENB> {
+impl<const VLENB: usize, A: Allocator> Model for Machine<VLENB, A> {
     ghost use Rattle.sandbox_run.specs.Machine.{Machine};
 
     ghost Value = { Machine };
@@ -26,7 +27,7 @@ impl<const VLENB: usize> Model for Machine<VLENB> {
     ghost view = { λ m. record { hart = m.hart; vectors = m.vectors; memory = m.memory } };
 }
 
-impl<const VLENB: usize> Machine<VLENB> {
+impl<const VLENB: usize, A: Allocator> Machine<VLENB, A> {
     ghost use Rattle.sandbox_run.specs.Run.{has_ended as has_ended_of};
     ghost use Rattle.sandbox_run.specs.Step.{carry_out as carry_out_of, step as step_of};
 

@@ -3,7 +3,7 @@
 ghost use Rattle.std.specs.Prelude.{◌≡◌};
 ghost use Rattle.sandbox_run.specs.Errors.{open_error_of};
 
-use region_mem::{ArgError, Args, Fault};
+use region_mem::{ArgError, Args, Bytes, Fault};
 use std::error::Error;
 use std::fmt;
 use vreg_groups::VregFile;
@@ -27,7 +27,7 @@ pub struct Registers {
 
 /// The last state of a run.
 #[derive(Drop)]
-pub struct Final<const VLENB: usize> {
+pub struct Final<const VLENB: usize, B = Bytes> {
     /// How many steps were done; one that faults is not counted.
     pub steps: u64,
     /// The registers.
@@ -35,18 +35,18 @@ pub struct Final<const VLENB: usize> {
     /// The vector registers.
     pub vectors: VregFile<VLENB>,
     /// The arguments: buffers as they stand, scalars as they were passed.
-    pub args: Args,
+    pub args: Args<B>,
 }
 
 /// How a run stopped, and its last state.
 #[derive(Drop)]
-pub enum Outcome<const VLENB: usize> {
+pub enum Outcome<const VLENB: usize, B = Bytes> {
     /// pc is EXIT.
-    Ended(Final<VLENB>),
+    Ended(Final<VLENB, B>),
     /// The next step is this fault.
-    Trapped(Fault, Final<VLENB>),
+    Trapped(Fault, Final<VLENB, B>),
     /// All steps that were allowed are done, and the run has not ended.
-    OutOfSteps(Final<VLENB>),
+    OutOfSteps(Final<VLENB, B>),
 }
 
 /// Why a run was not started.

@@ -6,13 +6,14 @@ ghost use Rattle.sandbox_run.specs.Answer.{answer_of, final_of};
 ghost use Rattle.sandbox_run.specs.Errors.{open_error_of};
 ghost use Rattle.sandbox_run.specs.Run.{outcome, OutcomeIsFirst, RunsGoOn};
 ghost use Rattle.sandbox_run.specs.Start.{start as start_of};
+ghost use Rattle.sandbox_run.specs.Rooms.{StateFitsInMemory};
 
 use crate::machine::Machine;
 use crate::outcome::{Final, OpenError, Outcome, Registers};
 use crate::start::start;
 use elf_image::Image;
-use region_mem::{Args, Parameters};
-use std::alloc::Global;
+use region_mem::{Args, Bytes, Parameters};
+use std::alloc::{Allocator, Global};
 use vreg_groups::Agnostic;
 
 /// Runs an image, accepted or not, with every test at each step, for at most `max` steps.
@@ -21,7 +22,7 @@ use vreg_groups::Agnostic;
 /// this order at one state, with the registers, the vector registers and the arguments of the state in which it stops. A
 /// fault changes nothing and is not counted as a step.
 ///
-/// VLENB, the length of a vector register in bytes, is 16 or 32.
+/// VLENB, the length of a vector register in bytes, is 16 or 32. Memory for the run is taken at its start alone.
 ///
 /// # Errors
 /// Arguments that do not match the parameters, in the order of [`Parameters::matches`]; `NoMemory` where memory for the
@@ -40,10 +41,30 @@ pub fn try_run<const VLENB: usize>(
     ensures memory { AreArguments parameters.now args.places → IfErr result (λ e. e.0 ≡ OpenError.NoMemory) }
     ensures back { IfErr result (λ e. e.1 ≡ args) }
 {
+    try_run_in(alloc, image, parameters, args, agnostic, max)
+}
+
+/// As [`try_run`], with the run's memory and the buffers of the arguments from any allocator, whose values are small enough
+/// for the state of a run, which holds some, to fit in memory.
+pub fn try_run_in<const VLENB: usize, A: Allocator + Copy, B: Allocator>(
+    alloc: A,
+    image: &Image<B>,
+    parameters: &Parameters,
+    args: Args<Bytes<A>>,
+    agnostic: Agnostic,
+    max: u64,
+) -> Result<Outcome<VLENB, Bytes<A>>, (OpenError, Args<Bytes<A>>)>
+    requires length { (VLENB ≡ 16) ⊎ (VLENB ≡ 32) }
+    requires fits { StateFitsInMemory VLENB.row A.row A.Allocator }
+    ensures outcome { IfOk result (λ answer. answer ≡ answer_of VLENB (outcome VLENB max (start_of VLENB agnostic image.now parameters.now args.places))) }
+    ensures refused { IfSome (argument_error parameters.now args.places) (λ error. IsErrAnd result (λ e. e.0 ≡ open_error_of error)) }
+    ensures memory { AreArguments parameters.now args.places → IfErr result (λ e. e.0 ≡ OpenError.NoMemory) }
+    ensures back { IfErr result (λ e. e.1 ≡ args) }
+{
     if let Err(error) = parameters.matches(&args) {
         return Err((OpenError::from(error), args));
     }
-    match start::<VLENB>(alloc, image, parameters, args, agnostic) {
+    match start::<VLENB, A, B>(alloc, image, parameters, args, agnostic) {
         Ok(machine) => Ok(run(machine, max)),
         Err((_, args)) => Err((OpenError::NoMemory, args)),
     }
@@ -51,8 +72,11 @@ pub fn try_run<const VLENB: usize>(
 
 /// The run from a state on, with at most `max` steps.
 #[tactic(auto, unfolding(crate::specs::Run::outcome))]
-fn run<const VLENB: usize>(mut machine: Machine<VLENB>, max: u64) -> Outcome<VLENB>
-    ensures { result ≡ answer_of VLENB (outcome VLENB max machine.entry) }
+fn run<const VLENB: usize, A: Allocator>(
+    mut machine: Machine<VLENB, A>,
+    max: u64,
+) -> Outcome<VLENB, Bytes<A>>
+    ensures { result ≡ answer_of VLENB (outcome VLENB max machine) }
 {
     let mut steps = 0u64;
     'stepping: loop {
@@ -70,8 +94,11 @@ fn run<const VLENB: usize>(mut machine: Machine<VLENB>, max: u64) -> Outcome<VLE
 }
 
 /// The last state of a run, taken apart.
-fn finish<const VLENB: usize>(machine: Machine<VLENB>, steps: u64) -> Final<VLENB>
-    ensures { result ≡ final_of VLENB steps machine.entry }
+fn finish<const VLENB: usize, A: Allocator>(
+    machine: Machine<VLENB, A>,
+    steps: u64,
+) -> Final<VLENB, Bytes<A>>
+    ensures { result ≡ final_of VLENB steps machine }
 {
     let Machine {
         hart,

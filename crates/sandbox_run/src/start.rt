@@ -6,10 +6,10 @@ ghost use Rattle.sandbox_run.specs.Start.{passed_number as passed_number_of, sta
 
 use crate::machine::Machine;
 use elf_image::Image;
-use region_mem::{Arg, Args, Parameters, Regions};
+use region_mem::{Arg, Args, Bytes, Parameters, Regions};
 use rv_decode::Reg;
 use scalar_core::{EXIT, Scalar};
-use std::alloc::{AllocError, Global};
+use std::alloc::{AllocError, Allocator};
 use vector_core::VectorState;
 use vreg_groups::Agnostic;
 
@@ -18,7 +18,7 @@ const STACK_END: u32 = 0x3000_0000;
 
 /// What the argument register of a place holds.
 #[tactic(auto, unfolding(crate::specs::Start::passed_number))]
-fn passed_number(parameters: &Parameters, place: usize, arg: &Arg) -> u32
+fn passed_number<A: Allocator>(parameters: &Parameters, place: usize, arg: &Arg<Bytes<A>>) -> u32
     ensures { result ≡ passed_number_of parameters.now place arg.now }
 {
     match arg {
@@ -30,7 +30,11 @@ fn passed_number(parameters: &Parameters, place: usize, arg: &Arg) -> u32
 
 /// The scalar registers at the start: the arguments in a0 to a7, EXIT in ra, and the stack's end in sp.
 #[tactic(auto, unfolding(crate::specs::Start::start_hart))]
-fn start_hart(entry: u32, parameters: &Parameters, places: &[Arg]) -> Scalar
+fn start_hart<A: Allocator>(
+    entry: u32,
+    parameters: &Parameters,
+    places: &[Arg<Bytes<A>>],
+) -> Scalar
     requires { length places.now ≤ 8 }
     ensures { result ≡ start_hart_of entry parameters.now places.now }
 {
@@ -48,13 +52,13 @@ fn start_hart(entry: u32, parameters: &Parameters, places: &[Arg]) -> Scalar
 
 /// The machine at the start, or want of memory, with the arguments as they came.
 #[tactic(auto, unfolding(crate::specs::Start::start))]
-pub(crate) fn start<const VLENB: usize>(
-    alloc: Global,
-    image: &Image,
+pub(crate) fn start<const VLENB: usize, A: Allocator + Copy, B: Allocator>(
+    alloc: A,
+    image: &Image<B>,
     parameters: &Parameters,
-    args: Args,
+    args: Args<Bytes<A>>,
     agnostic: Agnostic,
-) -> Result<Machine<VLENB>, (AllocError, Args)>
+) -> Result<Machine<VLENB, A>, (AllocError, Args<Bytes<A>>)>
     requires length { (VLENB ≡ 16) ⊎ (VLENB ≡ 32) }
     requires matching { AreArguments parameters.now args.places }
     ensures start { IfOk result (λ m. m ≡ start_of VLENB agnostic image.now parameters.now args.places) }

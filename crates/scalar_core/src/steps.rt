@@ -11,6 +11,7 @@ use crate::jumps::{branch, jal, jalr};
 use crate::transfers::{load, store};
 use region_mem::{Fault, Regions};
 use rv_decode::{Insn, ScalarInsn};
+use std::alloc::Allocator;
 use vreg_groups::Vconfig;
 
 /// One step by an instruction of the classes Scalar and Csr, as the meaning of the word at pc. One of
@@ -21,10 +22,10 @@ use vreg_groups::Vconfig;
 /// address. A step that faults changes nothing. `config` gives what vl and vtype read as, and `vlenb`
 /// what vlenb reads as, VLEN / 8 ("RV32I Base Integer Instruction Set", "M Extension for Integer
 /// Multiplication and Division", "Zicsr Extension for Control and Status Register Instructions").
-pub fn step_scalar(
+pub fn step_scalar<A: Allocator>(
     scalar: &mut Scalar,
     insn: Insn,
-    memory: &mut Regions,
+    memory: &mut Regions<A>,
     config: &Vconfig,
     vlenb: usize,
 ) -> Result<(), Fault>
@@ -43,10 +44,10 @@ pub fn step_scalar(
 
 /// The step of an instruction of either class.
 #[tactic(auto, unfolding(crate::specs::Step::scalar_step))]
-fn step_class(
+fn step_class<A: Allocator>(
     scalar: &mut Scalar,
     insn: Insn,
-    memory: &mut Regions,
+    memory: &mut Regions<A>,
     config: &Vconfig,
     vlenb: usize,
 ) -> Result<(), Fault>
@@ -69,7 +70,11 @@ fn step_class(
 
 /// The step of an instruction of RV32I or M.
 #[tactic(auto, unfolding(crate::specs::Step::rv32im_step, crate::specs::Step::beside))]
-fn step_rv32im(scalar: &mut Scalar, insn: ScalarInsn, memory: &mut Regions) -> Result<(), Fault>
+fn step_rv32im<A: Allocator>(
+    scalar: &mut Scalar,
+    insn: ScalarInsn,
+    memory: &mut Regions<A>,
+) -> Result<(), Fault>
     ensures ok { OnOk result
         (rv32im_step insn scalar.old memory.old ≡ Ok (scalar.new, memory.new)) }
     ensures err { IfErr result (λ fault. rv32im_step insn scalar.old memory.old ≡ Err fault) }

@@ -10,16 +10,17 @@ ghost use Rattle.scalar_core.specs.Step.{size_of_store as size_of_store_of};
 use crate::hart::Scalar;
 use region_mem::{Fault, Regions};
 use rv_decode::{LoadKind, Reg, Width};
+use std::alloc::Allocator;
 
 /// A load from rs1 and an offset into `rd`.
 #[tactic(auto, unfolding(crate::specs::Step::load_step, crate::specs::Step::load_from))]
-pub(crate) fn load(
+pub(crate) fn load<A: Allocator>(
     scalar: &mut Scalar,
     kind: LoadKind,
     rd: Reg,
     rs1: Reg,
     offset: i32,
-    memory: &Regions,
+    memory: &Regions<A>,
 ) -> Result<(), Fault>
     ensures ok { OnOk result (load_step kind rd rs1 offset scalar.old memory.now ≡ Ok scalar.new) }
     ensures err { IfErr result
@@ -64,13 +65,13 @@ fn loaded(kind: LoadKind, number: u32) -> u32
 
 /// A store of rs2's low bytes at rs1 and an offset.
 #[tactic(auto, unfolding(crate::specs::Step::store_step, crate::specs::Step::store_from))]
-pub(crate) fn store(
+pub(crate) fn store<A: Allocator>(
     scalar: &mut Scalar,
     size: Width,
     rs1: Reg,
     rs2: Reg,
     offset: i32,
-    memory: &mut Regions,
+    memory: &mut Regions<A>,
 ) -> Result<(), Fault>
     ensures ok { OnOk result
         (store_step size rs1 rs2 offset scalar.old memory.old ≡ Ok (scalar.new, memory.new)) }

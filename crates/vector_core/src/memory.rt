@@ -8,16 +8,17 @@ use crate::accesses::{load, refused, store};
 use crate::operands::Setup;
 use region_mem::{Regions, Right};
 use rv_decode::Reg;
+use std::alloc::Allocator;
 use vreg_groups::VregFile;
 
 /// The address of the lowest-numbered active element that may not be accessed, where there is one.
-pub fn refused_element<const VLENB: usize>(
+pub fn refused_element<const VLENB: usize, A: Allocator>(
     registers: &VregFile<VLENB>,
     vl: usize,
     masked: bool,
     right: Right,
     base: u32,
-    memory: &Regions,
+    memory: &Regions<A>,
 ) -> Option<u32>
     requires vlenb { (VLENB ≡ 16) ⊎ (VLENB ≡ 32) }
     requires few { vl ≤ 8 * VLENB }
@@ -31,13 +32,13 @@ pub fn refused_element<const VLENB: usize>(
 
 /// Loads the active elements of the body, which is not empty, to the group of `vd`.
 #[tactic(auto, unfolding(crate::specs::Accesses::load_of))]
-pub fn load_group<const VLENB: usize>(
+pub fn load_group<const VLENB: usize, A: Allocator>(
     registers: &mut VregFile<VLENB>,
     setup: Setup,
     masked: bool,
     vd: Reg,
     base: u32,
-    memory: &Regions,
+    memory: &Regions<A>,
 )
     requires vlenb { (VLENB ≡ 16) ⊎ (VLENB ≡ 32) }
     requires few { setup.vl ≤ 8 * VLENB }
@@ -54,13 +55,13 @@ pub fn load_group<const VLENB: usize>(
 }
 
 /// Stores the active elements of the body, of the group of `vs3`.
-pub fn store_group<const VLENB: usize>(
+pub fn store_group<const VLENB: usize, A: Allocator>(
     registers: &VregFile<VLENB>,
     vl: usize,
     masked: bool,
     vs3: Reg,
     base: u32,
-    memory: &mut Regions,
+    memory: &mut Regions<A>,
 )
     requires vlenb { (VLENB ≡ 16) ⊎ (VLENB ≡ 32) }
     requires few { vl ≤ 8 * VLENB }

@@ -15,6 +15,7 @@ use crate::setup::setup_for;
 use crate::state::VectorState;
 use region_mem::{Fault, Regions, Right};
 use rv_decode::{Direction, Eew, Insn, Place, Reg, VArith, VMem, Width};
+use std::alloc::Allocator;
 use scalar_core::Scalar;
 use vreg_groups::{Vtype, legal};
 
@@ -60,14 +61,14 @@ fn step_arith<const VLENB: usize>(
 
 /// A load of bytes to the group of `vd`. The lowest-numbered element that may not be read is its fault.
 #[tactic(auto, unfolding(crate::specs::Step::unit_step, crate::specs::Step::finish_load, crate::specs::Step::load_registers))]
-fn step_load<const VLENB: usize>(
+fn step_load<const VLENB: usize, A: Allocator>(
     vectors: &mut VectorState<VLENB>,
     scalar: &mut Scalar,
     t: &Vtype,
     masked: bool,
     vd: Reg,
     base: u32,
-    memory: &Regions,
+    memory: &Regions<A>,
 ) -> Result<(), Fault>
     requires { BytesFit VLENB vectors.old.config t.now vd }
     ensures ok { OnOk result (unit_step Direction.Load VLENB t.now masked vd base scalar.old vectors.old memory.now ≡ Ok (scalar.new, vectors.new, memory.now)) }
@@ -95,14 +96,14 @@ fn step_load<const VLENB: usize>(
 /// A store of the bytes of the group of `vs3`. The lowest-numbered element that may not be written is its fault, and then
 /// none is.
 #[tactic(auto, unfolding(crate::specs::Step::unit_step, crate::specs::Step::finish_store))]
-fn step_store<const VLENB: usize>(
+fn step_store<const VLENB: usize, A: Allocator>(
     vectors: &VectorState<VLENB>,
     scalar: &mut Scalar,
     t: &Vtype,
     masked: bool,
     vs3: Reg,
     base: u32,
-    memory: &mut Regions,
+    memory: &mut Regions<A>,
 ) -> Result<(), Fault>
     requires { BytesFit VLENB vectors.now.config t.now vs3 }
     ensures ok { OnOk result (unit_step Direction.Store VLENB t.now masked vs3 base scalar.old vectors.now memory.old ≡ Ok (scalar.new, vectors.now, memory.new)) }
@@ -126,13 +127,13 @@ fn step_store<const VLENB: usize>(
 }
 
 /// An access of bytes, by its direction.
-fn step_bytes<const VLENB: usize>(
+fn step_bytes<const VLENB: usize, A: Allocator>(
     vectors: &mut VectorState<VLENB>,
     scalar: &mut Scalar,
     t: &Vtype,
     masked: bool,
     insn: &VMem,
-    memory: &mut Regions,
+    memory: &mut Regions<A>,
 ) -> Result<(), Fault>
     requires { BytesFit VLENB vectors.old.config t.now insn.now.values }
     ensures ok { OnOk result (unit_step insn.now.direction VLENB t.now masked insn.now.values (reg_of insn.now.rs1 scalar.old) scalar.old vectors.old memory.old ≡ Ok (scalar.new, vectors.new, memory.new)) }
@@ -149,7 +150,7 @@ fn step_bytes<const VLENB: usize>(
 
 /// A unit-stride access by the width of its elements: only bytes have words so far.
 #[tactic(auto, unfolding(crate::specs::Step::access_step))]
-fn step_unit<const VLENB: usize>(
+fn step_unit<const VLENB: usize, A: Allocator>(
     vectors: &mut VectorState<VLENB>,
     scalar: &mut Scalar,
     word: u32,
@@ -157,7 +158,7 @@ fn step_unit<const VLENB: usize>(
     width: Width,
     masked: bool,
     insn: &VMem,
-    memory: &mut Regions,
+    memory: &mut Regions<A>,
 ) -> Result<(), Fault>
     requires place { insn.now.place ≡ Place.Unit width masked }
     requires typed { vtype_of vectors.old.config.vtype ≡ Some t.now }
@@ -175,12 +176,12 @@ fn step_unit<const VLENB: usize>(
 
 /// A vector load or store.
 #[tactic(auto, unfolding(crate::specs::Step::memory_step))]
-fn step_memory<const VLENB: usize>(
+fn step_memory<const VLENB: usize, A: Allocator>(
     vectors: &mut VectorState<VLENB>,
     scalar: &mut Scalar,
     word: u32,
     insn: &VMem,
-    memory: &mut Regions,
+    memory: &mut Regions<A>,
 ) -> Result<(), Fault>
     requires { AreInside vectors.old.config (Insn.VMem insn.now) }
     ensures ok { OnOk result (memory_step VLENB word (vtype_of vectors.old.config.vtype) insn.now scalar.old vectors.old memory.old ≡ Ok (scalar.new, vectors.new, memory.new)) }
@@ -200,12 +201,12 @@ fn step_memory<const VLENB: usize>(
 
 /// The step of an instruction that is legal.
 #[tactic(auto, unfolding(crate::specs::Step::legal_step))]
-fn step_legal<const VLENB: usize>(
+fn step_legal<const VLENB: usize, A: Allocator>(
     vectors: &mut VectorState<VLENB>,
     scalar: &mut Scalar,
     word: u32,
     insn: &Insn,
-    memory: &mut Regions,
+    memory: &mut Regions<A>,
 ) -> Result<(), Fault>
     requires { AreInside vectors.old.config insn.now }
     ensures ok { OnOk result (legal_step VLENB insn.now word scalar.old vectors.old memory.old ≡ Ok (scalar.new, vectors.new, memory.new)) }
@@ -229,12 +230,12 @@ fn step_legal<const VLENB: usize>(
 /// with the address of the lowest-numbered active element that is not permitted. A step that faults changes nothing; any
 /// other moves pc on to the next word.
 #[tactic(auto, unfolding(crate::specs::Step::vector_step))]
-pub fn step_vector<const VLENB: usize>(
+pub fn step_vector<const VLENB: usize, A: Allocator>(
     vectors: &mut VectorState<VLENB>,
     scalar: &mut Scalar,
     word: u32,
     insn: Insn,
-    memory: &mut Regions,
+    memory: &mut Regions<A>,
 ) -> Result<(), Fault>
     ensures ok { OnOk result (vector_step VLENB insn word scalar.old vectors.old memory.old ≡ Ok (scalar.new, vectors.new, memory.new)) }
     ensures err { IfErr result (λ fault. vector_step VLENB insn word scalar.old vectors.old memory.old ≡ Err fault) }

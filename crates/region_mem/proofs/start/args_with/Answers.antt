@@ -1,13 +1,9 @@
 -- Place by place.
-use Rattle.std.proofs.Common.{arith, rules, sym, ◌∙◌, ap}
-use Rattle.std.proofs.lemmas.Grind.{common_steps}
-use Rattle.std.specs.Vec.Iter.{into_iter_items}
-use Rattle.std.specs.Prelude.{filter}
-use Rattle.region_mem.specs.Memory.{args_with, is_buffer_area}
+use Rattle.std.proofs.Common.{rules}
 use Rattle.region_mem.specs.declared.arguments.Passed.TheVariants as passed
-use Rattle.region_mem.proofs.Lists.{eight}
+use Rattle.region_mem.proofs.Returned.{args_eight}
 use Rattle.region_mem.proofs.start.args_with.Goals as goal
 
 pub returns : goal.returns
-unfolding args_with
-returns c = rw (eight c.args.passed passed.None (search rules)) (cc)
+returns g c =
+    args_eight c.args.passed passed.None _ _ _ _ _ _ _ _ _ _ _ _ _ _ _ _ (search rules) c.arg_with-a.ensures.value c.arg_with-a.ensures.left c.arg_with-b.ensures.value c.arg_with-b.ensures.left c.arg_with-c.ensures.value c.arg_with-c.ensures.left c.arg_with-d.ensures.value c.arg_with-d.ensures.left c.arg_with-e.ensures.value c.arg_with-e.ensures.left c.arg_with-f.ensures.value c.arg_with-f.ensures.left c.arg_with-g.ensures.value c.arg_with-g.ensures.left c.arg_with-h.ensures.value

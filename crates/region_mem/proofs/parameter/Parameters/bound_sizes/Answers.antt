@@ -5,7 +5,7 @@ use Rattle.region_mem.proofs.Matching.{sizes_of_matching}
 use Rattle.region_mem.proofs.parameter.Parameters.bound_sizes.Goals as goal
 
 pub returns : goal.returns
-returns c =
+returns g c =
     let v : list_all is_valid c.args.self.now ≡ true = rw (← c.self.view_is) c.self.invariant in
     let eight : length c.args.args.now.places ≡ 8 = search rules in
     let more : length c.self.inside.params ≡ 8 = search rules in

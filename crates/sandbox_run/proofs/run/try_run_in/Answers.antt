@@ -1,15 +1,12 @@
-use Rattle.std.proofs.Common.{sym, lit<}
+use Rattle.std.proofs.Common.{sym}
 use Rattle.sandbox_run.proofs.Refusals.{refused_by-err}
-use Rattle.sandbox_run.proofs.run.try_run.Goals as goal
+use Rattle.sandbox_run.proofs.run.try_run_in.Goals as goal
 
 pub returns-in-Err-clause-refused : goal.returns-in-Err-clause-refused
 returns-in-Err-clause-refused g c = rw (refused_by-err _ _ (sym c.in-Err.ensures.meaning)) c.from.ensures
 
 pub returns-in-Err-clause-memory : goal.returns-in-Err-clause-memory
 returns-in-Err-clause-memory g c = λ none. cc (refused_by-err _ _ (sym c.in-Err.ensures.meaning))
-
-pub start-requires : goal.start-requires
-start-requires g c = (lit< tt, (c.requires, c.in_default.ensures.matching))
 
 pub returns-in-Ok-clause-refused : goal.returns-in-Ok-clause-refused
 returns-in-Ok-clause-refused g c = rw c.in_default.ensures.matching tt
