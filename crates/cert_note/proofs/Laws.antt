@@ -1,27 +1,21 @@
 -- The two laws of each part of a certificate: what is read is spelled so and is valid, and what is valid is read from its
 -- spelling, whatever follows.
-use Rattle.std.proofs.Common.{◌≡◌, ◌==◌, ℕ, zero, suc, ◌+◌, ◌*◌, ◌%◌, ◌^◌, ◌<◌, ◌≤◌, ◌⊎◌, Bool, true, false, not, ◌&&◌, cond, ltb, leb, eqb, List, [], ◌∷◌, ◌++◌, length, Option, Some, None, Result, Ok, Err, refl, sym, ap, subst, ◌∙◌, append_assoc, arith, inl, inr}
+use Rattle.std.proofs.Common.{◌≡◌, ℕ, zero, suc, ◌≤◌, ◌⊎◌, Bool, true, false, ◌&&◌, cond, leb, eqb, List, [], ◌∷◌, ◌++◌, length, Option, Some, None, Ok, refl, sym, ap, subst, ◌∙◌, append_assoc, arith, inl, inr}
 use Rattle.std.specs.List.{flat_map}
 use Rattle.std.proofs.lemmas.Bool.{eqb-true}
 use Rattle.std.proofs.lemmas.Bool.Decides.{nat_tests}
-use Rattle.region_mem.specs.declared.parameter.Mode.{Mode}
-use Rattle.region_mem.specs.declared.parameter.Mode.TheVariants.{Read, ReadWrite}
 use Rattle.region_mem.specs.declared.parameter.Param.{Param}
-use Rattle.region_mem.specs.declared.parameter.Param.TheVariants as parameter
-use Rattle.cert_note.specs.declared.refusals.CertError.{CertError}
 use Rattle.cert_note.specs.declared.refusals.CertError.TheVariants as error
 use Rattle.cert_note.specs.declared.values.Vlen.{Vlen}
-use Rattle.cert_note.specs.declared.values.Vlen.TheVariants.{V128, V256}
 use Rattle.cert_note.specs.declared.values.Term.{Term}
 use Rattle.cert_note.specs.declared.values.Budget.{Budget}
 use Rattle.cert_note.specs.declared.values.VectorFact.{VectorFact}
 use Rattle.cert_note.specs.declared.values.Group.{Group}
-use Rattle.cert_note.specs.Certificate.{EqualityView, RegisterFactView, BlockView, CertificateView, is_atom, is_full, is_budget, is_supported, is_width, is_group, is_count, is_interval, are_free, AllFrom, after_term, after_fact, after_vector, after_block, IsTerm, IsEquality, SaysMore, IsRegisterFact, IsVectorFact, IsBudgetOf, IsVtype, IsBlock, IsParameter, IsCertificate}
-use Rattle.cert_note.specs.Spelling.{half, word, vlen_code, header, parameter_of, mode_code, spelled_parameter, spelled_term, spelled_equality, spelled_fact, spelled_vector, spelled_budget, spelled_vtype, counts, spelled_block, spelling}
-use Rattle.cert_note.specs.Reading.{◌>>=◌, expect, byte_at, number_at, zero_at, zeros_at, vlen_of, header_at, mode_of, is_first_number, is_second_number, param_of, parameter_at, parameters_at, term_at, terms_at, sum_at, none_at, some_at, equality_at, fact_at, facts_at, group_at, vector_at, vectors_at, budget_at, known_vtype, vtype_at, counts_at, block_at, blocks_at, count_at, certificate_of}
-use Rattle.cert_note.proofs.Loop.{Many, IsManyOf}
-use Rattle.cert_note.proofs.Lists.{terms_many, facts_many, vectors_many, blocks_many}
-use Rattle.cert_note.proofs.Numbers.{IsBytes, bind_ok, expected, found, ok_is, Takes, Takes-then, byte_takes, byte_again, half_takes, half_again, word_takes, word_again, zero_takes, zero_again, zeros_takes, zeros_again, many_takes, many_again}
+use Rattle.cert_note.specs.Certificate.{EqualityView, RegisterFactView, BlockView, is_supported, is_width, is_group, after_term, after_fact, after_vector, IsTerm, IsEquality, SaysMore, IsRegisterFact, IsVectorFact, IsBudgetOf, IsVtype, IsBlock}
+use Rattle.cert_note.specs.Spelling.{half, word, spelled_term, spelled_equality, spelled_fact, spelled_vector, spelled_budget, spelled_vtype, counts, spelled_block}
+use Rattle.cert_note.specs.Reading.{byte_at, number_at, zero_at, zeros_at, term_at, terms_at, sum_at, none_at, some_at, equality_at, fact_at, facts_at, group_at, vector_at, vectors_at, budget_at, known_vtype, vtype_at, counts_at, block_at}
+use Rattle.cert_note.proofs.Lists.{terms_many, facts_many, vectors_many}
+use Rattle.cert_note.proofs.Numbers.{IsBytes, bind_ok, expected, found, ok_is, Takes, Takes-then, byte_takes, byte_again, half_takes, half_again, word_takes, word_again, zero_takes, zeros_takes, zeros_again, many_takes, many_again}
 
 pub chosen : {A : Type 0} (b : Bool) (x y z : A) → cond b x y ≡ z → ((b ≡ true) × (x ≡ z)) ⊎ ((b ≡ false) × (y ≡ z))
 chosen true x y z e = inl (refl, e)

@@ -1,5 +1,5 @@
 -- The two laws of a whole certificate.
-use Rattle.std.proofs.Common.{◌≡◌, ◌==◌, ℕ, zero, suc, ◌+◌, ◌^◌, ◌<◌, ◌≤◌, ◌⊎◌, Bool, true, false, not, ◌&&◌, cond, ltb, leb, eqb, List, [], ◌∷◌, ◌++◌, length, Option, Some, None, Result, Ok, Err, refl, sym, ap, subst, ◌∙◌, append_assoc, arith, inl, inr}
+use Rattle.std.proofs.Common.{◌≡◌, ℕ, zero, suc, ◌^◌, ◌<◌, ◌≤◌, true, cond, leb, eqb, List, [], ◌∷◌, ◌++◌, length, Option, Some, None, Ok, refl, sym, ap, subst, ◌∙◌, append_assoc, arith, inl, inr}
 use Rattle.std.specs.List.{flat_map, list_all, AllByRecursion}
 use Rattle.std.proofs.lemmas.Bool.{eqb-true}
 use Rattle.std.proofs.lemmas.Bool.Decides.{nat_tests}
@@ -9,16 +9,15 @@ use Rattle.region_mem.specs.declared.parameter.Mode.{Mode}
 use Rattle.region_mem.specs.declared.parameter.Mode.TheVariants.{Read, ReadWrite}
 use Rattle.region_mem.specs.declared.parameter.Param.{Param}
 use Rattle.region_mem.specs.declared.parameter.Param.TheVariants as parameter
-use Rattle.cert_note.specs.declared.refusals.CertError.{CertError}
 use Rattle.cert_note.specs.declared.refusals.CertError.TheVariants as error
 use Rattle.cert_note.specs.declared.values.Vlen.{Vlen}
 use Rattle.cert_note.specs.declared.values.Vlen.TheVariants.{V128, V256}
-use Rattle.cert_note.specs.Certificate.{BlockView, CertificateView, AllFrom, after_block, IsBlock, IsParameter, IsCertificate}
-use Rattle.cert_note.specs.Spelling.{half, word, vlen_code, header, parameter_of, mode_code, spelled_parameter, spelled_block, spelling}
-use Rattle.cert_note.specs.Reading.{◌>>=◌, expect, byte_at, number_at, zero_at, zeros_at, vlen_of, header_at, mode_of, is_first_number, is_second_number, param_of, parameter_at, parameters_at, block_at, blocks_at, count_at, certificate_of}
+use Rattle.cert_note.specs.Certificate.{CertificateView, AllFrom, after_block, IsBlock, IsParameter, IsCertificate}
+use Rattle.cert_note.specs.Spelling.{half, word, vlen_code, header, parameter_of, spelled_parameter, spelled_block, spelling}
+use Rattle.cert_note.specs.Reading.{byte_at, number_at, zero_at, zeros_at, vlen_of, header_at, mode_of, is_first_number, is_second_number, param_of, parameter_at, parameters_at, block_at, blocks_at, count_at, certificate_of}
 use Rattle.cert_note.proofs.Lists.{blocks_many, parameters_many, parameters_from, parameter_from, after_parameter}
 use Rattle.cert_note.proofs.Numbers.{IsBytes, bind_ok, expected, found, ok_is, Takes, Takes-then, byte_takes, byte_again, half_takes, half_again, word_takes, word_again, zero_takes, zero_again, zeros_takes, zeros_again, many_takes, many_again}
-use Rattle.cert_note.proofs.Laws.{chosen, there, some_is, block_takes, block_again}
+use Rattle.cert_note.proofs.Laws.{chosen, some_is, block_takes, block_again}
 
 -- ---- the header
 

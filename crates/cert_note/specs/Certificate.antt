@@ -37,22 +37,22 @@ pub record CertificateView : Type 0 where
   pub parameters : List Param
   pub blocks : List BlockView
 
-abbrev pub view_equality : Equality → EqualityView
+abbrev pub view_equality : {A : Type 0} → Equality A → EqualityView
 view_equality e = record { constant = e.constant; terms = e.terms.items }
 
-abbrev pub view_fact : RegisterFact → RegisterFactView
+abbrev pub view_fact : {A : Type 0} → RegisterFact A → RegisterFactView
 view_fact f = record { number = f.number; low = f.low; high = f.high; equality = option_map view_equality f.equality }
 
-abbrev pub view_facts : List RegisterFact → List RegisterFactView
+abbrev pub view_facts : {A : Type 0} → List (RegisterFact A) → List RegisterFactView
 view_facts fs = map view_fact fs
 
-abbrev pub view_block : Block → BlockView
+abbrev pub view_block : {A : Type 0} → Block A → BlockView
 view_block b = record { start = b.start; budget = b.budget; vtype = b.vtype; registers = view_facts b.registers.items; vectors = b.vectors.items }
 
-abbrev pub view_blocks : List Block → List BlockView
+abbrev pub view_blocks : {A : Type 0} → List (Block A) → List BlockView
 view_blocks bs = map view_block bs
 
-abbrev pub view : Contents → CertificateView
+abbrev pub view : {A : Type 0} → Contents A → CertificateView
 view c = record { vlen = c.vlen; parameters = c.parameters; blocks = view_blocks c.blocks.items }
 
 -- the bits of a vector register

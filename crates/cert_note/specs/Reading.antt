@@ -1,5 +1,5 @@
 -- Reading from the first byte to the last, with the first fault that is met.
-use Rattle.std.specs.Prelude.{◌≡◌, ◌⊎◌, ℕ, zero, suc, ◌+◌, ◌*◌, ◌-◌, ◌%◌, ◌==◌, Bool, true, false, ◌&&◌, ◌||◌, not, nat_le, nat_lt, List, [], ◌∷◌, length, take, drop, Option, Some, None, Result, Ok, Err, if◌then◌else◌, ok_or}
+use Rattle.std.specs.Prelude.{◌≡◌, ◌⊎◌, ℕ, zero, suc, ◌+◌, ◌%◌, ◌==◌, Bool, true, false, ◌&&◌, not, nat_le, nat_lt, List, [], ◌∷◌, length, take, drop, Option, Some, None, Result, Ok, Err, if◌then◌else◌, ok_or}
 use Rattle.std.specs.Int.{Width, w16, w32, byte_len, from_le_bytes}
 use Rattle.region_mem.specs.Parameter.{parameters_of}
 use Rattle.region_mem.specs.declared.parameter.Mode.{Mode}

@@ -1,5 +1,5 @@
 -- The one spelling of a certificate: fields of 8, 16 and 32 bits, the lowest byte first.
-use Rattle.std.specs.Prelude.{ℕ, zero, suc, ◌+◌, List, [], ◌∷◌, ◌++◌, length, map, Option, Some, None}
+use Rattle.std.specs.Prelude.{ℕ, List, [], ◌∷◌, ◌++◌, length, Option, Some, None}
 use Rattle.std.specs.Prelude.{◌<◌, ◌^◌}
 use Rattle.std.specs.List.{flat_map, All}
 use Rattle.std.specs.Option.{option_map}
@@ -85,11 +85,11 @@ abbrev pub HasFewTerms : Option EqualityView → Type 0
 HasFewTerms None = Unit {0}
 HasFewTerms (Some equality) = length equality.terms < 256
 
-pub record HasFewFacts (block : Block) : Type 0 where
+pub record HasFewFacts {A : Type 0} (block : Block A) : Type 0 where
   pub registers : length block.registers.items < 256
   pub vectors : length block.vectors.items < 256
   pub terms : All (λ fact. HasFewTerms (option_map view_equality fact.equality)) block.registers.items
 
-pub record HasFewBlocks (certificate : Contents) : Type 0 where
+pub record HasFewBlocks {A : Type 0} (certificate : Contents A) : Type 0 where
   pub blocks : length certificate.blocks.items < 2 ^ 16
   pub facts : All HasFewFacts certificate.blocks.items

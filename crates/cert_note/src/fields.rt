@@ -1,5 +1,5 @@
 //! Fields of a certificate that need no memory.
-ghost use Rattle.std.specs.Prelude.{◌≡◌, ◌≤◌, ◌+◌, ◌^◌, IsTrue, IfOk, ok_or};
+ghost use Rattle.std.specs.Prelude.{◌≡◌, ◌==◌, ◌&&◌, ◌≤◌, ◌+◌, ◌%◌, ◌^◌, nat_le, IsTrue, IfOk, ok_or};
 ghost use Rattle.region_mem.specs.Parameter.{parameters_of};
 ghost use Rattle.cert_note.specs.declared.refusals.CertError.TheVariants.{Parameter};
 ghost use Rattle.std.specs.Int.{w16, w32};
@@ -346,6 +346,13 @@ pub(crate) fn vector_at(
         high,
     };
     Ok((fact, rest))
+}
+
+/// Whether a block may begin at this start, where the one before it leaves `from` as the least.
+pub(crate) fn is_start(from: u64, start: u32) -> bool
+    ensures { result ≡ (nat_le from start && (start % 4 == 0)) }
+{
+    from <= u64::from(start) && start % 4 == 0
 }
 
 #[tactic(auto, unfolding(crate::specs::Certificate::is_budget))]

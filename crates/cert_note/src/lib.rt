@@ -1,4 +1,6 @@
 //! Certificates of vector kernels: what they state, how they are spelled in bytes, and why bytes spell none.
+//!
+//! What holds memory has its allocator as a type parameter, and a plain name, as `Certificate`, is for `Global`.
 #![tactic(auto)]
 
 mod fields;

@@ -11,14 +11,14 @@ use crate::fields::{byte_at, expect, word_at};
 use crate::refusals::{CertError, ReadError};
 use crate::values::{Block, Certificate, Contents, Equality, RegisterFact, Term, VectorFact, Vlen};
 use region_mem::Parameters;
-use std::alloc::Global;
+use std::alloc::Allocator;
 
-fn terms_at<'a>(
-    alloc: Global,
+fn terms_at<'a, A: Allocator>(
+    alloc: A,
     parameters: &Parameters,
     count: u8,
     bytes: &'a [u8],
-) -> Result<(Vec<Term>, &'a [u8]), ReadError>
+) -> Result<(Vec<Term, A>, &'a [u8]), ReadError>
     ensures { Gives (λ x. (x.0.items, x.1.now)) result (terms_at parameters.now count 1 bytes.now) }
 {
     let mut terms = Vec::new(alloc);
@@ -34,12 +34,12 @@ fn terms_at<'a>(
 }
 
 #[tactic(auto, unfolding(crate::specs::Reading::sum_at))]
-fn sum_at<'a>(
-    alloc: Global,
+fn sum_at<'a, A: Allocator>(
+    alloc: A,
     parameters: &Parameters,
     count: u8,
     bytes: &'a [u8],
-) -> Result<(Equality, &'a [u8]), ReadError>
+) -> Result<(Equality<A>, &'a [u8]), ReadError>
     ensures { Gives (λ x. (view_equality x.0, x.1.now)) result (sum_at parameters.now count bytes.now) }
 {
     expect(count <= 8, CertError::Equality)?;
@@ -49,7 +49,11 @@ fn sum_at<'a>(
 }
 
 #[tactic(auto, unfolding(crate::specs::Reading::none_at))]
-fn none_at(low: u32, high: u32, bytes: &[u8]) -> Result<(Option<Equality>, &[u8]), ReadError>
+fn none_at<A: Allocator>(
+    low: u32,
+    high: u32,
+    bytes: &[u8],
+) -> Result<(Option<Equality<A>>, &[u8]), ReadError>
     ensures { Gives (λ x. (option_map view_equality x.0, x.1.now)) result (none_at low high bytes.now) }
 {
     expect(!fields::is_full_word(low, high), CertError::Fact)?;
@@ -57,12 +61,12 @@ fn none_at(low: u32, high: u32, bytes: &[u8]) -> Result<(Option<Equality>, &[u8]
 }
 
 #[tactic(auto, unfolding(crate::specs::Reading::some_at))]
-fn some_at<'a>(
-    alloc: Global,
+fn some_at<'a, A: Allocator>(
+    alloc: A,
     parameters: &Parameters,
     count: u8,
     bytes: &'a [u8],
-) -> Result<(Option<Equality>, &'a [u8]), ReadError>
+) -> Result<(Option<Equality<A>>, &'a [u8]), ReadError>
     ensures { Gives (λ x. (option_map view_equality x.0, x.1.now)) result (some_at parameters.now count bytes.now) }
 {
     let (sum, rest) = sum_at(alloc, parameters, count, bytes)?;
@@ -70,13 +74,13 @@ fn some_at<'a>(
 }
 
 #[tactic(auto, unfolding(crate::specs::Reading::equality_at))]
-fn equality_at<'a>(
-    alloc: Global,
+fn equality_at<'a, A: Allocator>(
+    alloc: A,
     parameters: &Parameters,
     low: u32,
     high: u32,
     bytes: &'a [u8],
-) -> Result<(Option<Equality>, &'a [u8]), ReadError>
+) -> Result<(Option<Equality<A>>, &'a [u8]), ReadError>
     ensures { Gives (λ x. (option_map view_equality x.0, x.1.now)) result (equality_at parameters.now low high bytes.now) }
 {
     let (count, rest) = byte_at(bytes)?;
@@ -88,12 +92,12 @@ fn equality_at<'a>(
 }
 
 #[tactic(auto, unfolding(crate::specs::Reading::fact_at))]
-fn fact_at<'a>(
-    alloc: Global,
+fn fact_at<'a, A: Allocator>(
+    alloc: A,
     parameters: &Parameters,
     from: u16,
     bytes: &'a [u8],
-) -> Result<(RegisterFact, &'a [u8]), ReadError>
+) -> Result<(RegisterFact<A>, &'a [u8]), ReadError>
     ensures { Gives (λ x. (view_fact x.0, x.1.now)) result (fact_at parameters.now from bytes.now) }
 {
     let (number, rest) = byte_at(bytes)?;
@@ -111,12 +115,12 @@ fn fact_at<'a>(
     Ok((fact, rest))
 }
 
-fn facts_at<'a>(
-    alloc: Global,
+fn facts_at<'a, A: Allocator + Copy>(
+    alloc: A,
     parameters: &Parameters,
     count: u8,
     bytes: &'a [u8],
-) -> Result<(Vec<RegisterFact>, &'a [u8]), ReadError>
+) -> Result<(Vec<RegisterFact<A>, A>, &'a [u8]), ReadError>
     ensures { Gives (λ x. (view_facts x.0.items, x.1.now)) result (facts_at parameters.now count 1 bytes.now) }
 {
     let mut facts = Vec::new(alloc);
@@ -131,12 +135,12 @@ fn facts_at<'a>(
     Ok((facts, rest))
 }
 
-fn vectors_at(
-    alloc: Global,
+fn vectors_at<A: Allocator>(
+    alloc: A,
     vlen: Vlen,
     count: u8,
     bytes: &[u8],
-) -> Result<(Vec<VectorFact>, &[u8]), ReadError>
+) -> Result<(Vec<VectorFact, A>, &[u8]), ReadError>
     ensures { Gives (λ x. (x.0.items, x.1.now)) result (vectors_at vlen count 0 bytes.now) }
 {
     let mut facts = Vec::new(alloc);
@@ -151,13 +155,13 @@ fn vectors_at(
     Ok((facts, rest))
 }
 
-fn is_equated(facts: &[RegisterFact], number: u8) -> bool
+fn is_equated<A: Allocator>(facts: &[RegisterFact<A>], number: u8) -> bool
     ensures { result ≡ is_equated (view_facts facts.now) number }
 {
     any_equated(facts, number)
 }
 
-fn any_equated(facts: &[RegisterFact], number: u8) -> bool
+fn any_equated<A: Allocator>(facts: &[RegisterFact<A>], number: u8) -> bool
     ensures { result ≡ list_any (λ fact. (fact.number == number) && is_some fact.equality) facts.now }
 {
     facts
@@ -166,7 +170,7 @@ fn any_equated(facts: &[RegisterFact], number: u8) -> bool
 }
 
 #[tactic(auto, unfolding(crate::specs::Certificate::is_free))]
-fn is_free(facts: &[RegisterFact], equality: &Option<Equality>) -> bool
+fn is_free<A: Allocator>(facts: &[RegisterFact<A>], equality: &Option<Equality<A>>) -> bool
     ensures { result ≡ is_free (view_facts facts.now) (option_map view_equality equality.now) }
 {
     match equality {
@@ -175,40 +179,37 @@ fn is_free(facts: &[RegisterFact], equality: &Option<Equality>) -> bool
     }
 }
 
-fn all_unequated(facts: &[RegisterFact], terms: &[Term]) -> bool
+fn all_unequated<A: Allocator>(facts: &[RegisterFact<A>], terms: &[Term]) -> bool
     ensures { result ≡ list_all (λ term. not (is_equated (view_facts facts.now) term.atom)) terms.now }
 {
     terms.iter().all(|term| !is_equated(facts, term.atom))
 }
 
-fn all_free(facts: &[RegisterFact], some: &[RegisterFact]) -> bool
+fn all_free<A: Allocator>(facts: &[RegisterFact<A>], some: &[RegisterFact<A>]) -> bool
     ensures { result ≡ list_all (λ fact. is_free (view_facts facts.now) (option_map view_equality fact.equality)) some.now }
 {
     some.iter().all(|fact| is_free(facts, &fact.equality))
 }
 
 /// Whether no atom of an equality is a register that has an equality itself.
-fn are_free(facts: &[RegisterFact]) -> bool
+fn are_free<A: Allocator>(facts: &[RegisterFact<A>]) -> bool
     ensures { result ≡ are_free (view_facts facts.now) }
 {
     all_free(facts, facts)
 }
 
 #[tactic(auto, unfolding(crate::specs::Reading::block_at))]
-fn block_at<'a>(
-    alloc: Global,
+fn block_at<'a, A: Allocator + Copy>(
+    alloc: A,
     vlen: Vlen,
     parameters: &Parameters,
     from: u64,
     bytes: &'a [u8],
-) -> Result<(Block, &'a [u8]), ReadError>
+) -> Result<(Block<A>, &'a [u8]), ReadError>
     ensures { Gives (λ x. (view_block x.0, x.1.now)) result (block_at vlen parameters.now from bytes.now) }
 {
     let (start, rest) = word_at(bytes)?;
-    expect(
-        from <= start as u64 && start % 4 == 0,
-        CertError::BlockOrder,
-    )?;
+    expect(fields::is_start(from, start), CertError::BlockOrder)?;
     let (budget, rest) = fields::budget_at(rest)?;
     let (vtype, rest) = fields::vtype_at(rest)?;
     let (counts, rest) = fields::counts_at(rest)?;
@@ -225,13 +226,13 @@ fn block_at<'a>(
     Ok((block, rest))
 }
 
-fn blocks_at<'a>(
-    alloc: Global,
+fn blocks_at<'a, A: Allocator + Copy>(
+    alloc: A,
     vlen: Vlen,
     parameters: &Parameters,
     count: u16,
     bytes: &'a [u8],
-) -> Result<(Vec<Block>, &'a [u8]), ReadError>
+) -> Result<(Vec<Block<A>, A>, &'a [u8]), ReadError>
     ensures { Gives (λ x. (view_blocks x.0.items, x.1.now)) result (blocks_at vlen parameters.now count 0 bytes.now) }
 {
     let mut blocks = Vec::new(alloc);
@@ -247,7 +248,7 @@ fn blocks_at<'a>(
 }
 
 #[tactic(auto, unfolding(crate::specs::Reading::certificate_of))]
-fn contents_of(alloc: Global, bytes: &[u8]) -> Result<Contents, ReadError>
+fn contents_of<A: Allocator + Copy>(alloc: A, bytes: &[u8]) -> Result<Contents<A>, ReadError>
     ensures { Gives view result (certificate_of bytes.now) }
 {
     let (vlen, rest) = fields::header_at(bytes)?;
@@ -263,8 +264,32 @@ fn contents_of(alloc: Global, bytes: &[u8]) -> Result<Contents, ReadError>
     })
 }
 
-/// The certificate that the bytes spell, all of them; else the first fault in their order.
-pub fn read(alloc: Global, bytes: &[u8]) -> Result<Certificate, CertError>
+/// The certificate that `bytes` spell, from the first of them to the last. `alloc` gives the memory of its lists. The
+/// layout of the bytes stands in docs/CERTIFICATES.md; numbers are little-endian.
+///
+/// # Errors
+/// The fields are read in the order of the bytes, and the first one that is missing or wrong is told: `Short` where the
+/// bytes end before or within it, and else the error that is listed here beside it.
+///
+/// 1. The version, the vector length and a byte of zero: `Version`.
+/// 2. Eight parameters: `Parameter`; a buffer's size at the parameter's first number, a scalar's interval at the
+///    second.
+/// 3. The count of blocks and two bytes of zero: `TooMany`.
+/// 4. Block by block:
+///    - the start: `BlockOrder`;
+///    - the budget: `Budget`, at its register;
+///    - whether the vector type is known, and the vector type: `Fact`;
+///    - the counts of facts on registers and on vector registers, and three bytes of zero: `TooMany`;
+///    - each fact on a register: `Fact` at its number, at its high, or at the 255 that stands for no equality;
+///      `Equality` at the count of its equality's terms, and at each atom and each coefficient;
+///    - each fact on vector registers: `Fact`, its interval at its high;
+///    - and once the block's last byte is read, `Equality` where an atom is a register, or vl, that has an equality
+///      itself in this block.
+/// 5. Bytes behind the last block: `TrailingBytes`.
+///
+/// `NoMemory` comes only where an allocation was refused. Memory is asked for as the items of a list are read, and
+/// reading stops where it is refused: nothing was to be told before, and what stands behind is not looked at.
+pub fn read<A: Allocator + Copy>(alloc: A, bytes: &[u8]) -> Result<Certificate<A>, CertError>
     // What is read is a certificate, and is spelled so.
     ensures found { IfOk result (λ c. IsCertificate c × (bytes.now ≡ spelling c)) }
     // What is spelled so is read, unless memory runs out.
@@ -279,7 +304,8 @@ pub fn read(alloc: Global, bytes: &[u8]) -> Result<Certificate, CertError>
     }
 }
 
-/// No bytes spell two certificates, and no certificate has two spellings.
+/// A law, which does nothing when it runs: no bytes spell two certificates. (That no certificate has two spellings is
+/// clear, since `spelling` is a function, and `read` takes nothing but that.)
 pub fn one_spelling()
     ensures { (c d : CertificateView) → IsCertificate c → IsCertificate d → spelling c ≡ spelling d → c ≡ d }
 {}

@@ -6,28 +6,44 @@ use std::alloc::{AllocError, AllocFailed};
 use std::error::Error;
 use std::fmt;
 
-/// Why bytes are no certificate: the first fault in their order.
+/// Why bytes are no certificate: the first field in their order that is missing or wrong. The order of the fields
+/// stands at [`crate::read`]. `NoMemory` alone says nothing of the bytes.
 #[derive(Clone, Copy, Debug, PartialEq, Eq)]
 pub enum CertError {
-    /// The bytes end within a field.
+    /// The bytes end before or within a field.
     Short,
-    /// The version or the vector length is not one that is known.
+    /// The version is not 1, the vector length is neither 1 (128 bits) nor 2 (256 bits), or the byte behind it is not
+    /// 0.
     Version,
-    /// A parameter is wrong.
+    /// A parameter's kind is above 2; its mode is not 1 or 3 for a buffer, or not 0 for anything else; the two bytes
+    /// behind them are not 0; a buffer's size is above 16 MiB; a scalar's low is above its high; or a number that the
+    /// kind has no use for is not 0.
     Parameter,
-    /// A block's start is no multiple of 4, or not above the one before it.
+    /// A block's start is no multiple of 4, or not above the start of the block before it.
     BlockOrder,
-    /// A vector type, a register, an interval or a vector fact is wrong.
+    /// Whether the vector type is known is neither 0 nor 1, or the vector type is not one that is supported, or not 0
+    /// where it is not known.
+    ///
+    /// Or in a fact on a register: its number is not 1 to 32, or not above that of the fact before it; its low is above
+    /// its high; or its interval is that of all numbers and it has no equality.
+    ///
+    /// Or in a fact on vector registers: the group is not 1, 2, 4 or 8 registers from a multiple of that number on, or
+    /// not behind the group of the fact before it; the width is not 8, 16 or 32 bits; the count is above the elements
+    /// of the group; a byte that has to be 0 is not; the low is above the high; the high does not fit the width; or the
+    /// interval is that of all numbers of that width.
     Fact,
-    /// The terms of an equality are wrong.
+    /// An equality has more than 8 terms; an atom is neither a register from 1 on, vl nor the place of a scalar
+    /// parameter, or is not above the atom before it; a coefficient is 0; or an atom is a register, or vl, that has an
+    /// equality itself in the same block.
     Equality,
-    /// The register of a budget is wrong.
+    /// A budget's register is not 0 though its factor is 0, or is not 1 to 31 though its factor is not 0.
     Budget,
     /// Bytes stand behind the last block.
     TrailingBytes,
-    /// There are more blocks or facts than the limits allow.
+    /// There are more than 1,024 blocks, or more than 32 facts of one kind in a block, or a byte behind these counts is
+    /// not 0.
     TooMany,
-    /// Memory was refused.
+    /// An allocation was refused.
     NoMemory,
 }
 
@@ -51,7 +67,7 @@ impl fmt::Display for CertError {
 
 impl Error for CertError {}
 
-/// Why reading stopped.
+/// Why reading stopped: memory was refused, or a field is missing or wrong.
 #[derive(Debug, Drop)]
 pub enum ReadError {
     Memory,

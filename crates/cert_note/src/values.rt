@@ -1,74 +1,112 @@
 //! What a certificate states.
 use region_mem::Parameters;
+use std::alloc::{Allocator, Global};
 use std::marker::Model;
 
 /// The length of a vector register that a certificate is for.
 #[derive(Clone, Copy, Debug, PartialEq, Eq)]
 pub enum Vlen {
+    /// 128 bits.
     V128,
+    /// 256 bits.
     V256,
 }
 
-/// A multiple of an atom: a register at the block's start (1 to 31), vl there (32), or the entry value of parameter j
-/// (33 + j).
+/// A multiple of an atom, which is a value that an equality may speak of.
 #[derive(Clone, Copy, Debug, PartialEq, Eq)]
 pub struct Term {
+    /// Where the block begins, the value of a register (1 to 31: x1 to x31) or of vl (32); or the value at the start of
+    /// the run of the parameter at place j, counted from 0 (33 + j, so 33 to 40), which has to be a scalar.
     pub atom: u8,
+    /// What the atom is multiplied by, modulo 2^32: 2^32 - 4 stands for -4. It is not 0 in a certificate.
     pub coefficient: u32,
 }
 
-/// A constant and multiples of atoms, added modulo 2^32.
+/// A sum: a constant and multiples of atoms, added modulo 2^32. `A` is the allocator of its terms.
 #[derive(Debug, Drop)]
-pub struct Equality {
+pub struct Equality<A: Allocator = Global> {
+    /// What the sum is where there are no terms.
     pub constant: u32,
-    pub terms: Vec<Term>,
+    /// In a certificate at most 8, by rising atom, and of no register and no vl that has an equality in the same block.
+    pub terms: Vec<Term, A>,
 }
 
-/// A register (1 to 31) or vl (32) lies between two numbers, both included, and is equal to a sum, if one is stated.
+/// A register, or vl, lies between two numbers where a block begins, and is equal to a sum, if one is stated. `A` is
+/// the allocator of the sum's terms.
 #[derive(Debug, Drop)]
-pub struct RegisterFact {
+pub struct RegisterFact<A: Allocator = Global> {
+    /// A register (1 to 31: x1 to x31) or vl (32).
     pub number: u8,
+    /// The least value that it may have, unsigned.
     pub low: u32,
+    /// The greatest value that it may have, itself included, unsigned. In a certificate it is not below `low`.
     pub high: u32,
-    pub equality: Option<Equality>,
+    /// The sum that it is equal to modulo 2^32. In a certificate there is one wherever the interval is 0 to 2^32 - 1,
+    /// which by itself says nothing.
+    pub equality: Option<Equality<A>>,
 }
 
-/// The first elements of a group of vector registers lie between two numbers, both included: `count` of them, or vl of
-/// them where `count` is 0, as far as the group has them. `width` is that of an element in bits.
+/// The first elements of a group of vector registers lie between two numbers, both included, where a block begins.
 #[derive(Clone, Copy, Debug, PartialEq, Eq)]
 pub struct VectorFact {
+    /// The group's first register, 0 to 31. In a certificate it is a multiple of `registers`.
     pub register: u8,
+    /// The width of an element in bits. In a certificate it is 8, 16 or 32.
     pub width: u8,
+    /// How many registers the group has. In a certificate they are 1, 2, 4 or 8.
     pub registers: u8,
+    /// How many elements the fact speaks of, from the first on. 0 stands for vl of them, as far as the group has them.
+    /// In a certificate they are at most the elements of the group.
     pub count: u16,
+    /// The least value that they may have, unsigned.
     pub low: u32,
+    /// The greatest value that they may have, itself included, unsigned. In a certificate it is not below `low` and is
+    /// below 2^`width`, and the interval is not all of 0 to 2^`width` - 1.
     pub high: u32,
 }
 
-/// At most `constant + factor * x[register]` instructions are executed from here to the end.
+/// How long a run may still be: where a block begins, at most `constant + factor * x[register]` instructions are
+/// executed from there to the end of the run. These are whole numbers: the sum does not wrap, and the register is
+/// unsigned.
 #[derive(Clone, Copy, Debug, PartialEq, Eq)]
 pub struct Budget {
+    /// The number of instructions that does not depend on a register.
     pub constant: u32,
+    /// How many instructions there are for each one in the register's value.
     pub factor: u32,
+    /// The register, as its value is where the block begins. In a certificate it is 0 where `factor` is 0, and else 1
+    /// to 31 (x1 to x31).
     pub register: u8,
 }
 
-/// What holds wherever a block begins: its vector type where that is known, and its facts.
+/// What holds wherever a block of the code begins: how long a run may still be, the vector type where that is known,
+/// and facts. `A` is the allocator of its lists.
 #[derive(Debug, Drop)]
-pub struct Block {
+pub struct Block<A: Allocator = Global> {
+    /// The address of the block's first instruction. In a certificate it is a multiple of 4.
     pub start: u32,
+    /// How long a run may still be.
     pub budget: Budget,
+    /// Bits 7 to 0 of vtype, if they are known. In a certificate they are of a vector type that is supported: elements
+    /// of 8, 16 or 32 bits in groups of 1, 2, 4 or 8 registers or of a half or a quarter of one, the element at most 16
+    /// bits in a half and 8 bits in a quarter; with any policy for the elements that are not written.
     pub vtype: Option<u8>,
-    pub registers: Vec<RegisterFact>,
-    pub vectors: Vec<VectorFact>,
+    /// Facts on registers and vl. In a certificate they are at most 32, by rising number.
+    pub registers: Vec<RegisterFact<A>, A>,
+    /// Facts on vector registers. In a certificate they are at most 32, by rising register, of groups that share none.
+    pub vectors: Vec<VectorFact, A>,
 }
 
-/// What a certificate states of an image, whether it meets the conditions on certificates or not.
+/// What a certificate states of an image, whether it meets the conditions on certificates or not. `A` is the allocator
+/// of its lists.
 #[derive(Debug, Drop)]
-pub struct Contents {
+pub struct Contents<A: Allocator = Global> {
+    /// The length of a vector register.
     pub vlen: Vlen,
+    /// What the image's code takes, by place.
     pub parameters: Parameters,
-    pub blocks: Vec<Block>,
+    /// What holds where each block begins. In a certificate they are at most 1,024, by rising start.
+    pub blocks: Vec<Block<A>, A>,
 }
 
 /// A group of vector registers, and the width of its elements in bits.
@@ -79,13 +117,14 @@ pub struct Group {
     pub registers: u8,
 }
 
-/// A certificate: contents that meet all conditions on certificates. Contracts see it as its contents.
+/// A certificate: contents that meet all conditions on certificates, which the fields of [`Contents`] and of its parts
+/// name. Contracts see it as its contents, without where they lie in memory. `A` is the allocator of its lists.
 #[derive(Debug, Drop)]
-pub struct Certificate {
-    contents: Contents,
+pub struct Certificate<A: Allocator = Global> {
+    contents: Contents<A>,
 }
 
-impl Model for Certificate {
+impl<A: Allocator> Model for Certificate<A> {
     ghost use Rattle.cert_note.specs.Certificate.{CertificateView, IsCertificate, view as view_of};
 
     ghost Value = { CertificateView };
@@ -95,20 +134,21 @@ impl Model for Certificate {
     ghost invariant = { λ c. IsCertificate (view_of c.contents) };
 }
 
-impl Certificate {
+impl<A: Allocator> Certificate<A> {
     ghost use Rattle.std.specs.Prelude.{◌≡◌};
     ghost use Rattle.cert_note.specs.Certificate.{IsCertificate, view};
 
-    /// The certificate with these contents, which have to meet the conditions.
-    pub fn new(contents: Contents) -> Certificate
+    /// The certificate with these contents, which have to meet the conditions on certificates. It takes no memory: the
+    /// contents are moved in.
+    pub fn new(contents: Contents<A>) -> Certificate<A>
         requires { IsCertificate (view contents) }
         ensures { result ≡ view contents }
     {
         Certificate { contents }
     }
 
-    /// What the certificate states.
-    pub fn contents(&self) -> &Contents
+    /// What the certificate states. It meets the conditions on certificates.
+    pub fn contents(&self) -> &Contents<A>
         ensures value { view result.now ≡ self.now }
         ensures certificate { IsCertificate self.now }
     {

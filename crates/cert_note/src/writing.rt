@@ -9,10 +9,10 @@ use crate::values::{
     Block, Budget, Certificate, Contents, Equality, RegisterFact, Term, VectorFact, Vlen,
 };
 use region_mem::{Mode, Param};
-use std::alloc::{AllocError, Global};
+use std::alloc::{AllocError, Allocator};
 
 #[tactic(auto, unfolding(crate::specs::Spelling::half))]
-fn put_half(out: &mut Vec<u8>, number: u16) -> Result<(), AllocError>
+fn put_half<A: Allocator>(out: &mut Vec<u8, A>, number: u16) -> Result<(), AllocError>
     ensures { OnOk result (out.new.items ≡ out.old.items ++ half number) }
 {
     out.extend_from_slice(&number.to_le_bytes())?;
@@ -20,7 +20,7 @@ fn put_half(out: &mut Vec<u8>, number: u16) -> Result<(), AllocError>
 }
 
 #[tactic(auto, unfolding(crate::specs::Spelling::word))]
-fn put_word(out: &mut Vec<u8>, number: u32) -> Result<(), AllocError>
+fn put_word<A: Allocator>(out: &mut Vec<u8, A>, number: u32) -> Result<(), AllocError>
     ensures { OnOk result (out.new.items ≡ out.old.items ++ word number) }
 {
     out.extend_from_slice(&number.to_le_bytes())?;
@@ -28,7 +28,7 @@ fn put_word(out: &mut Vec<u8>, number: u32) -> Result<(), AllocError>
 }
 
 #[tactic(auto, unfolding(crate::specs::Spelling::header))]
-fn put_header(out: &mut Vec<u8>, vlen: Vlen) -> Result<(), AllocError>
+fn put_header<A: Allocator>(out: &mut Vec<u8, A>, vlen: Vlen) -> Result<(), AllocError>
     ensures { OnOk result (out.new.items ≡ out.old.items ++ header vlen) }
 {
     put_half(out, 1)?;
@@ -40,7 +40,7 @@ fn put_header(out: &mut Vec<u8>, vlen: Vlen) -> Result<(), AllocError>
 }
 
 #[tactic(auto, unfolding(crate::specs::Spelling::spelled_term))]
-fn put_term(out: &mut Vec<u8>, term: Term) -> Result<(), AllocError>
+fn put_term<A: Allocator>(out: &mut Vec<u8, A>, term: Term) -> Result<(), AllocError>
     ensures { OnOk result (out.new.items ≡ out.old.items ++ spelled_term term) }
 {
     out.push(term.atom)?;
@@ -49,7 +49,7 @@ fn put_term(out: &mut Vec<u8>, term: Term) -> Result<(), AllocError>
 }
 
 #[tactic(auto, unfolding(crate::specs::Spelling::spelled_budget))]
-fn put_budget(out: &mut Vec<u8>, budget: Budget) -> Result<(), AllocError>
+fn put_budget<A: Allocator>(out: &mut Vec<u8, A>, budget: Budget) -> Result<(), AllocError>
     ensures { OnOk result (out.new.items ≡ out.old.items ++ spelled_budget budget) }
 {
     put_word(out, budget.constant)?;
@@ -59,7 +59,13 @@ fn put_budget(out: &mut Vec<u8>, budget: Budget) -> Result<(), AllocError>
 }
 
 #[tactic(auto, unfolding(crate::specs::Spelling::parameter_of))]
-fn put_numbers(out: &mut Vec<u8>, kind: u8, mode: u8, a: u32, b: u32) -> Result<(), AllocError>
+fn put_numbers<A: Allocator>(
+    out: &mut Vec<u8, A>,
+    kind: u8,
+    mode: u8,
+    a: u32,
+    b: u32,
+) -> Result<(), AllocError>
     ensures { OnOk result (out.new.items ≡ out.old.items ++ parameter_of kind mode a b) }
 {
     out.extend_from_slice(&[kind, mode])?;
@@ -79,7 +85,7 @@ fn mode_code(mode: Mode) -> u8
 }
 
 #[tactic(auto, unfolding(crate::specs::Spelling::spelled_parameter))]
-fn put_parameter(out: &mut Vec<u8>, param: Param) -> Result<(), AllocError>
+fn put_parameter<A: Allocator>(out: &mut Vec<u8, A>, param: Param) -> Result<(), AllocError>
     ensures { OnOk result (out.new.items ≡ out.old.items ++ spelled_parameter param) }
 {
     match param {
@@ -89,7 +95,7 @@ fn put_parameter(out: &mut Vec<u8>, param: Param) -> Result<(), AllocError>
     }
 }
 
-fn put_terms(out: &mut Vec<u8>, terms: &[Term]) -> Result<(), AllocError>
+fn put_terms<A: Allocator>(out: &mut Vec<u8, A>, terms: &[Term]) -> Result<(), AllocError>
     ensures { OnOk result (out.new.items ≡ out.old.items ++ flat_map spelled_term terms.now) }
 {
     for term in terms {
@@ -99,7 +105,10 @@ fn put_terms(out: &mut Vec<u8>, terms: &[Term]) -> Result<(), AllocError>
 }
 
 #[tactic(auto, unfolding(crate::specs::Spelling::spelled_equality))]
-fn put_equality(out: &mut Vec<u8>, equality: &Option<Equality>) -> Result<(), AllocError>
+fn put_equality<A: Allocator, B: Allocator>(
+    out: &mut Vec<u8, A>,
+    equality: &Option<Equality<B>>,
+) -> Result<(), AllocError>
     requires { HasFewTerms (option_map view_equality equality.now) }
     ensures { OnOk result (out.new.items ≡ out.old.items ++ spelled_equality (option_map view_equality equality.now)) }
 {
@@ -115,7 +124,10 @@ fn put_equality(out: &mut Vec<u8>, equality: &Option<Equality>) -> Result<(), Al
 }
 
 #[tactic(auto, unfolding(crate::specs::Spelling::spelled_fact))]
-fn put_fact(out: &mut Vec<u8>, fact: &RegisterFact) -> Result<(), AllocError>
+fn put_fact<A: Allocator, B: Allocator>(
+    out: &mut Vec<u8, A>,
+    fact: &RegisterFact<B>,
+) -> Result<(), AllocError>
     requires { HasFewTerms (option_map view_equality fact.now.equality) }
     ensures { OnOk result (out.new.items ≡ out.old.items ++ spelled_fact (view_fact fact.now)) }
 {
@@ -125,7 +137,10 @@ fn put_fact(out: &mut Vec<u8>, fact: &RegisterFact) -> Result<(), AllocError>
     put_equality(out, &fact.equality)
 }
 
-fn put_facts(out: &mut Vec<u8>, facts: &[RegisterFact]) -> Result<(), AllocError>
+fn put_facts<A: Allocator, B: Allocator>(
+    out: &mut Vec<u8, A>,
+    facts: &[RegisterFact<B>],
+) -> Result<(), AllocError>
     requires { All (λ fact. HasFewTerms (option_map view_equality fact.equality)) facts.now }
     ensures { OnOk result (out.new.items ≡ out.old.items ++ flat_map spelled_fact (view_facts facts.now)) }
 {
@@ -136,7 +151,7 @@ fn put_facts(out: &mut Vec<u8>, facts: &[RegisterFact]) -> Result<(), AllocError
 }
 
 #[tactic(auto, unfolding(crate::specs::Spelling::spelled_vector))]
-fn put_vector(out: &mut Vec<u8>, fact: VectorFact) -> Result<(), AllocError>
+fn put_vector<A: Allocator>(out: &mut Vec<u8, A>, fact: VectorFact) -> Result<(), AllocError>
     ensures { OnOk result (out.new.items ≡ out.old.items ++ spelled_vector fact) }
 {
     out.extend_from_slice(&[fact.register, fact.width, fact.registers, 0])?;
@@ -147,7 +162,7 @@ fn put_vector(out: &mut Vec<u8>, fact: VectorFact) -> Result<(), AllocError>
     Ok(())
 }
 
-fn put_vectors(out: &mut Vec<u8>, facts: &[VectorFact]) -> Result<(), AllocError>
+fn put_vectors<A: Allocator>(out: &mut Vec<u8, A>, facts: &[VectorFact]) -> Result<(), AllocError>
     ensures { OnOk result (out.new.items ≡ out.old.items ++ flat_map spelled_vector facts.now) }
 {
     for fact in facts {
@@ -157,7 +172,7 @@ fn put_vectors(out: &mut Vec<u8>, facts: &[VectorFact]) -> Result<(), AllocError
 }
 
 #[tactic(auto, unfolding(crate::specs::Spelling::spelled_vtype))]
-fn put_vtype(out: &mut Vec<u8>, vtype: Option<u8>) -> Result<(), AllocError>
+fn put_vtype<A: Allocator>(out: &mut Vec<u8, A>, vtype: Option<u8>) -> Result<(), AllocError>
     ensures { OnOk result (out.new.items ≡ out.old.items ++ spelled_vtype vtype) }
 {
     match vtype {
@@ -168,7 +183,11 @@ fn put_vtype(out: &mut Vec<u8>, vtype: Option<u8>) -> Result<(), AllocError>
 }
 
 #[tactic(auto, unfolding(crate::specs::Spelling::counts))]
-fn put_counts(out: &mut Vec<u8>, registers: u8, vectors: u8) -> Result<(), AllocError>
+fn put_counts<A: Allocator>(
+    out: &mut Vec<u8, A>,
+    registers: u8,
+    vectors: u8,
+) -> Result<(), AllocError>
     ensures { OnOk result (out.new.items ≡ out.old.items ++ counts registers vectors) }
 {
     out.extend_from_slice(&[registers, vectors, 0, 0, 0])?;
@@ -176,7 +195,10 @@ fn put_counts(out: &mut Vec<u8>, registers: u8, vectors: u8) -> Result<(), Alloc
 }
 
 #[tactic(auto, unfolding(crate::specs::Spelling::spelled_block))]
-fn put_block(out: &mut Vec<u8>, block: &Block) -> Result<(), AllocError>
+fn put_block<A: Allocator, B: Allocator>(
+    out: &mut Vec<u8, A>,
+    block: &Block<B>,
+) -> Result<(), AllocError>
     requires { HasFewFacts block.now }
     ensures { OnOk result (out.new.items ≡ out.old.items ++ spelled_block (view_block block.now)) }
 {
@@ -188,7 +210,10 @@ fn put_block(out: &mut Vec<u8>, block: &Block) -> Result<(), AllocError>
     put_vectors(out, block.vectors.as_slice())
 }
 
-fn put_blocks(out: &mut Vec<u8>, blocks: &[Block]) -> Result<(), AllocError>
+fn put_blocks<A: Allocator, B: Allocator>(
+    out: &mut Vec<u8, A>,
+    blocks: &[Block<B>],
+) -> Result<(), AllocError>
     requires { All HasFewFacts blocks.now }
     ensures { OnOk result (out.new.items ≡ out.old.items ++ flat_map spelled_block (view_blocks blocks.now)) }
 {
@@ -198,7 +223,7 @@ fn put_blocks(out: &mut Vec<u8>, blocks: &[Block]) -> Result<(), AllocError>
     Ok(())
 }
 
-fn put_parameters(out: &mut Vec<u8>, params: &[Param]) -> Result<(), AllocError>
+fn put_parameters<A: Allocator>(out: &mut Vec<u8, A>, params: &[Param]) -> Result<(), AllocError>
     ensures { OnOk result (out.new.items ≡ out.old.items ++ flat_map spelled_parameter params.now) }
 {
     for param in params {
@@ -208,7 +233,10 @@ fn put_parameters(out: &mut Vec<u8>, params: &[Param]) -> Result<(), AllocError>
 }
 
 #[tactic(auto, unfolding(crate::specs::Spelling::spelling))]
-fn spelled(alloc: Global, certificate: &Contents) -> Result<Vec<u8>, AllocError>
+fn spelled<A: Allocator, B: Allocator>(
+    alloc: A,
+    certificate: &Contents<B>,
+) -> Result<Vec<u8, A>, AllocError>
     requires { HasFewBlocks certificate.now }
     ensures { IfOk result (λ v. v.items ≡ spelling (view certificate.now)) }
 {
@@ -221,8 +249,16 @@ fn spelled(alloc: Global, certificate: &Contents) -> Result<Vec<u8>, AllocError>
     Ok(out)
 }
 
-/// The one spelling of a certificate, or want of memory.
-pub fn write(alloc: Global, certificate: &Certificate) -> Result<Vec<u8>, AllocError>
+/// The one spelling of a certificate: the bytes that `read` takes for it, and no others. `alloc` gives the memory of
+/// the bytes; the certificate may lie in that of another allocator, and stays as it is. The layout of the bytes stands
+/// in docs/CERTIFICATES.md.
+///
+/// # Errors
+/// An error comes only where an allocation was refused.
+pub fn write<A: Allocator, B: Allocator>(
+    alloc: A,
+    certificate: &Certificate<B>,
+) -> Result<Vec<u8, A>, AllocError>
     ensures { IfOk result (λ v. v.items ≡ spelling certificate.now) }
 {
     spelled(alloc, certificate.contents())

@@ -1,8 +1,8 @@
-use Rattle.std.proofs.Common.{◌≡◌, ◌+◌, ◌++◌, ◌∷◌, [], ◌<◌, ◌≤◌, take, set, length, arith, rules, add-one, ◌∙◌, ap}
+use Rattle.std.proofs.Common.{◌≡◌, ◌+◌, ◌++◌, ◌∷◌, [], ◌<◌, take, set, length, arith, add-one}
 use Rattle.std.proofs.lemmas.Result.{err_from_is_err_and}
 use Rattle.std.proofs.lemmas.List.{length-set, take_all}
 use Rattle.std.proofs.Math.Seq.{take-suc-set}
-use Rattle.cert_note.specs.Reading.{parameters_at, parameter_at}
+use Rattle.cert_note.specs.Reading.{parameters_at}
 use Rattle.cert_note.proofs.Loop.{goes_on, ends, is_done}
 use Rattle.cert_note.proofs.Lists.{parameters_many, parameters_from, parameter_from, after_parameter}
 use Rattle.cert_note.proofs.fields.parameters_at.Goals as goal

@@ -5,6 +5,6 @@ use Rattle.cert_note.proofs.reading.are_free.Goals as goal
 
 pub returns : goal.returns
 unfolding are_free
-returns c =
+returns g c =
     let facts = c.args.facts.now in
     c.all_free.ensures ∙ sym (list_all-map (λ fact. is_free (view_facts facts) fact.equality) view_fact facts)

@@ -1,8 +1,7 @@
 use Rattle.std.proofs.Common.{◌≡◌, ◌-◌}
-use Rattle.cert_note.specs.Certificate.{view_facts, view_blocks}
 use Rattle.cert_note.specs.Reading.{terms_at}
 use Rattle.cert_note.proofs.Loop.{with_front}
 use Rattle.cert_note.proofs.reading.terms_at.Given as goal
 
 abbrev pub invariant-loop : goal.invariant-loop
-invariant-loop l = with_front l.terms.items (terms_at l.parameters (l.count - l.counter) l.from l.rest) ≡ terms_at l.parameters l.count 1 l.bytes
+invariant-loop g l = with_front l.terms.items (terms_at l.parameters (l.count - l.counter) l.from l.rest) ≡ terms_at l.parameters l.count 1 l.bytes

@@ -1,7 +1,4 @@
-use Rattle.std.proofs.Common.{◌≡◌, ◌++◌, ◌∷◌, []}
 use Rattle.std.proofs.lemmas.Result.{err_from_is_err_and}
-use Rattle.std.proofs.lemmas.List.{map_push}
-use Rattle.cert_note.specs.Certificate.{view_fact, view_facts, view_block, view_blocks}
 use Rattle.cert_note.specs.Reading.{vectors_at, vector_at}
 use Rattle.cert_note.proofs.Loop.{goes_on, ends, is_done}
 use Rattle.cert_note.proofs.Lists.{vectors_many}
@@ -9,17 +6,17 @@ use Rattle.cert_note.specs.Certificate.{after_vector}
 use Rattle.cert_note.proofs.reading.vectors_at.Goals as goal
 
 pub returns-in_err-fact : goal.returns-in_err-fact
-returns-in_err-fact c =
+returns-in_err-fact g c =
     let p = err_from_is_err_and c.from_residual.result c.from_residual.ensures.1 in
     rw (p.1, p.2)
     (ends (vectors_at c.args.vlen) (vector_at c.args.vlen) after_vector (vectors_many c.args.vlen) c.in_err-fact.field-0.0 c.loop.facts.items c.args.count c.loop.counter c.loop.from c.loop.rest.now (vectors_at c.args.vlen c.args.count 0 c.args.bytes.now) c.loop-test.true c.in_err-fact.ensures c.loop.invariant)
 
 pub loop-preserved : goal.loop-preserved
-loop-preserved c =
+loop-preserved g c =
     let n = c.in_ok-fact.fact in
     rw c.in_ok-push.ensures.items
     (goes_on (vectors_at c.args.vlen) (vector_at c.args.vlen) after_vector (vectors_many c.args.vlen) c.loop.facts.items c.args.count c.loop.counter c.loop.from c.loop.rest.now n c.in_ok-fact.after.now (vectors_at c.args.vlen c.args.count 0 c.args.bytes.now) c.loop-test.true c.in_ok-fact.ensures c.loop.invariant)
 
 pub returns : goal.returns
-returns c =
+returns g c =
     is_done (vectors_at c.args.vlen) (vector_at c.args.vlen) after_vector (vectors_many c.args.vlen) c.loop.facts.items c.args.count c.loop.counter c.loop.from c.loop.rest.now (vectors_at c.args.vlen c.args.count 0 c.args.bytes.now) c.loop-test.false c.loop.invariant

@@ -1,7 +1,5 @@
-use Rattle.std.proofs.Common.{subst}
-use Rattle.cert_note.specs.Certificate.{IsCertificate}
 use Rattle.cert_note.proofs.Few.{few_from}
 use Rattle.cert_note.proofs.writing.write.Goals as goal
 
 pub spelled-requires : goal.spelled-requires
-spelled-requires c = few_from c.contents.result.now (rw c.contents.ensures.value c.contents.ensures.certificate)
+spelled-requires g c = few_from c.contents.result.now (rw c.contents.ensures.value c.contents.ensures.certificate)
