@@ -5,9 +5,13 @@
 mod job;
 mod line;
 mod program;
+#[cfg(test)]
+mod refusing;
 mod stop;
 mod store;
 mod trial;
+#[cfg(test)]
+mod want_of_memory;
 
 pub use program::perform;
 use std::alloc::Global;
