@@ -10,7 +10,7 @@ use std::alloc::{AllocError, Allocator, Global};
 use std::marker::Model;
 
 /// What a file becomes in memory: its entry, its segments in the order of their program headers, and its
-/// certificate.
+/// certificate. `A` is the allocator of their bytes.
 #[derive(Debug, Drop)]
 pub struct Image<A: Allocator = Global> {
     entry: u32,

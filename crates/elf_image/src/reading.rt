@@ -18,6 +18,8 @@ use std::alloc::Allocator;
 /// says when. Every reason but `NoMemory` is looked for before any memory is asked for.
 ///
 /// The certificate is the descriptor of the note of type 1 whose name is `RVVBOX` with its zero byte.
+///
+/// `alloc` gives the memory for the list of segments, the bytes of each, and those of the certificate.
 #[tactic(auto, unfolding(crate::specs::Faults::fault_of))]
 pub fn read<A: Allocator + Copy>(alloc: A, file: &[u8]) -> Result<Image<A>, ElfError>
     // The first fault of the file is told.

@@ -17,7 +17,7 @@ pub struct Rights {
 }
 
 /// A segment: where it lies in memory, its bytes that come from the file, and its rights. Its bytes past
-/// those of the file are 0.
+/// those of the file are 0. `A` is the allocator of its bytes.
 #[derive(Debug, Drop)]
 pub struct Segment<A: Allocator = Global> {
     address: u32,

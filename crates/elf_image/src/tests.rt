@@ -414,23 +414,6 @@ fn reads_notes_in_a_row(rt: HostRuntime) -> Result<(), Fail> {
     Ok(())
 }
 
-/// Run with each allocation refused in turn (`rt try --test --fail-alloc N`), `read` answers `NoMemory`
-/// and reads the file when it is called again; what is refused for the file is told all the same.
-#[test]
-fn answers_want_of_memory(rt: HostRuntime) {
-    let file = with(&rt, &[(FLAGS, 1)]);
-    assert_eq!(rt; refusal(rt.alloc(), &file), Some(ElfError::BadFlags));
-    let first = refusal(rt.alloc(), &FILE);
-    assert!(rt;
-        first.is_none() || first == Some(ElfError::NoMemory),
-        "{first:?}"
-    );
-    if first.is_some() {
-        assert_eq!(rt; refusal(rt.alloc(), &FILE), None);
-    }
-    assert_eq!(rt; refusal(rt.alloc(), &file), Some(ElfError::BadFlags));
-}
-
 #[test]
 fn prints_reasons(rt: HostRuntime) -> Result<(), Fail> {
     let text = format!(in rt.alloc(); "{}", ElfError::BadMachine)?;

@@ -16,20 +16,20 @@ const MANY: u64 = 40;
 
 /// The ELF header of an executable with three program headers, the flags of an ABI, and the entry 10000.
 fn header(flags: u32) -> [u32; 13] {
-    let ident = [0x464c_457f, 0x0001_0101, 0, 0];
-    let [a, b, c, d] = ident;
+    let machine = 0x00f3_0002;
+    let sizes = 0x0020_0034;
     [
-        a,
-        b,
-        c,
-        d,
-        0x00f3_0002,
+        0x464c_457f,
+        0x0001_0101,
+        0,
+        0,
+        machine,
         1,
         0x1_0000,
         52,
         0,
         flags,
-        0x0020_0034,
+        sizes,
         3,
         0,
     ]
