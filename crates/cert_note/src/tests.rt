@@ -1,5 +1,6 @@
-use crate::{Budget, CertError, Term, Vlen, read, write};
-use region_mem::{Mode, Param};
+mod example;
+
+use crate::{CertError, read, write};
 use std::alloc::{AllocError, Global};
 use std::test::Fail;
 
@@ -34,54 +35,16 @@ fn changed(alloc: Global, place: usize, byte: u8) -> Result<Vec<u8>, AllocError>
 }
 
 #[test]
-fn reads_and_writes(rt: HostRuntime) -> Result<(), Fail> {
-    let certificate = read(rt.alloc(), &BYTES)?;
-    let contents = certificate.contents();
-    assert_eq!(rt; contents.vlen, Vlen::V128);
-    assert_eq!(rt;
-        contents.parameters.param(0),
-        Param::Buffer {
-            mode: Mode::ReadWrite,
-            size: 4096
-        }
-    );
-    assert_eq!(rt; contents.blocks.len(), 3);
-    let block = &contents.blocks[1];
-    assert_eq!(rt; block.start, 0x1_0004);
-    assert_eq!(rt;
-        block.budget,
-        Budget {
-            constant: 1,
-            factor: 8,
-            register: 11
-        }
-    );
-    assert_eq!(rt; block.vtype, None);
-    assert_eq!(rt; block.registers.len(), 3);
-    let fact = &block.registers[1];
-    assert_eq!(rt;
-        (fact.number, fact.low, fact.high),
-        (10, 0x4000_0000, 0x4000_1000)
-    );
-    match &fact.equality {
-        Some(equality) => {
-            assert_eq!(rt; equality.constant, 0x4000_0000);
-            let wanted = [
-                Term {
-                    atom: 11,
-                    coefficient: 0xffff_fffc,
-                },
-                Term {
-                    atom: 34,
-                    coefficient: 4,
-                },
-            ];
-            assert!(rt; equality.terms.as_slice() == wanted.as_slice());
-        }
-        None => panic!(rt; "the second fact has an equality"),
-    }
-    let written = write(rt.alloc(), &certificate)?;
+fn writes_and_reads_the_example(rt: HostRuntime) -> Result<(), Fail> {
+    let alloc = rt.alloc();
+    let certificate = example::certificate(alloc)?;
+    let written = write(alloc, &certificate)?;
     assert!(rt; written.as_slice() == BYTES.as_slice());
+    let read_back = read(alloc, &BYTES)?;
+    assert_eq!(rt;
+        format!(in alloc; "{read_back:?}")?,
+        format!(in alloc; "{certificate:?}")?
+    );
     Ok(())
 }
 
