@@ -1,5 +1,24 @@
--- How the program ends: the status of each reason to stop, and each status as a number.
-use Rattle.std.specs.Prelude.{ℕ}
+-- How the program ends: the reason to stop that each error is, the status of each reason, and each status as a number.
+use Rattle.std.specs.Prelude.{ℕ, Bool, true, false}
+use Rattle.clap.specs.Words.{kind_of}
+use Rattle.clap.specs.declared.error.kind.ErrorKind.{ErrorKind}
+use Rattle.clap.specs.declared.error.kind.ErrorKind.TheVariants.{DisplayHelp, DisplayVersion}
+use Rattle.elf_image.specs.declared.error.ElfError.{ElfError}
+use Rattle.elf_image.specs.declared.error.ElfError.TheVariants as image_error
+use Rattle.sandbox_run.specs.declared.outcome.OpenError.{OpenError}
+use Rattle.sandbox_run.specs.declared.outcome.OpenError.TheVariants as open_error
+use Rattle.std.specs.declared.borrow.CowStr.{CowStr}
+use Rattle.std.specs.declared.io.ErrorKind.{ErrorKind as IoErrorKind}
+use Rattle.std.specs.declared.io.ErrorKind.TheVariants.{OutOfMemory}
+use Rattle.std.specs.declared.alloc.Global.{Global}
+use Rattle.rvvbox.specs.declared.job.values.JobError.{JobError}
+use Rattle.rvvbox.specs.declared.job.values.JobError.TheVariants as job_error
+use Rattle.rvvbox.specs.declared.line.asked.LineError.{LineError}
+use Rattle.rvvbox.specs.declared.line.asked.LineError.TheVariants as line_error
+use Rattle.rvvbox.specs.declared.store.StoreError.{StoreError}
+use Rattle.rvvbox.specs.declared.store.StoreError.TheVariants as store_error
+use Rattle.rvvbox.specs.declared.trial.End.{End}
+use Rattle.rvvbox.specs.declared.trial.End.TheVariants as end
 use Rattle.rvvbox.specs.declared.stop.Status.{Status}
 use Rattle.rvvbox.specs.declared.stop.Status.TheVariants as status
 use Rattle.rvvbox.specs.declared.stop.Stop.{Stop}
@@ -23,3 +42,47 @@ status_of (stop.Image error) = status.Refused
 status_of (stop.Open error) = status.Refused
 status_of stop.Memory = status.Memory
 status_of stop.Output = status.File
+
+-- the reason to stop that an error is: want of memory is always Memory
+
+abbrev pub stop_of_line : LineError → Stop
+stop_of_line (line_error.Usage error) = stop.Usage error
+stop_of_line line_error.NoMemory = stop.Memory
+
+abbrev pub stop_of_job : JobError → Stop
+stop_of_job job_error.NoMemory = stop.Memory
+stop_of_job error = stop.Job error
+
+abbrev pub stop_of_image : ElfError → Stop
+stop_of_image image_error.NoMemory = stop.Memory
+stop_of_image error = stop.Image error
+
+abbrev pub stop_of_open : OpenError → Stop
+stop_of_open open_error.NoMemory = stop.Memory
+stop_of_open error = stop.Open error
+
+-- want of memory apart from all else that a file may meet
+abbrev pub store_error_of : IoErrorKind → StoreError
+store_error_of OutOfMemory = store_error.NoMemory
+store_error_of _ = store_error.Failed
+
+abbrev pub stop_at_file : StoreError → CowStr Global → Stop
+stop_at_file store_error.Failed path = stop.File path
+stop_at_file store_error.NoMemory path = stop.Memory
+
+-- the status of a run that was printed
+abbrev pub status_of_end : End → Status
+status_of_end end.Ended = status.Done
+status_of_end (end.Trapped fault) = status.Stopped
+status_of_end end.OutOfSteps = status.Stopped
+
+-- help or the version
+abbrev pub is_help : ErrorKind → Bool
+is_help DisplayHelp = true
+is_help DisplayVersion = true
+is_help other = false
+
+-- a request for help or the version, which is answered on standard output
+abbrev pub is_request : Stop → Bool
+is_request (stop.Usage error) = is_help (kind_of error)
+is_request other = false

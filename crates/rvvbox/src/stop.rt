@@ -1,6 +1,8 @@
 //! How the program ends.
-ghost use Rattle.std.specs.Prelude.{◌≡◌};
-ghost use Rattle.rvvbox.specs.Ending.{code_of, status_of};
+ghost use Rattle.std.specs.Prelude.{◌≡◌, ◌⊎◌, true, false};
+ghost use Rattle.rvvbox.specs.Ending.{code_of, is_request, status_of, stop_at_file, stop_of_image};
+ghost use Rattle.rvvbox.specs.Ending.{stop_of_job, stop_of_line, stop_of_open};
+ghost use Rattle.rvvbox.specs.declared.stop.Stop.TheVariants.{Memory};
 
 use crate::job::values::JobError;
 use crate::line::asked::LineError;
@@ -67,7 +69,10 @@ pub enum Stop<'a> {
 
 impl Stop<'_> {
     /// Tells why, and answers the status. Where standard output takes no text, nothing more is told.
-    pub fn tell<O: Write, E: Write>(&self, output: &mut O, errors: &mut E) -> Status {
+    pub fn tell<O: Write, E: Write>(&self, output: &mut O, errors: &mut E) -> Status
+        ensures told { is_request self.now ≡ false → result ≡ status_of self.now }
+        ensures answered { is_request self.now ≡ true → (result ≡ Status.Done) ⊎ (result ≡ Status.File) }
+    {
         match self {
             Stop::Output => Status::File,
             Stop::Usage(error) if !error.use_stderr() => match write!(output, "{error}") {
@@ -95,12 +100,16 @@ impl Stop<'_> {
 }
 
 impl From<AllocError> for Stop<'_> {
+    ghost from_gives = { λ _ stop. stop ≡ Memory };
+
     fn from(_error: AllocError) -> Self {
         Stop::Memory
     }
 }
 
 impl From<LineError> for Stop<'_> {
+    ghost from_gives = { λ error stop. stop ≡ stop_of_line error };
+
     fn from(error: LineError) -> Self {
         match error {
             LineError::Usage(error) => Stop::Usage(error),
@@ -110,6 +119,8 @@ impl From<LineError> for Stop<'_> {
 }
 
 impl From<JobError> for Stop<'_> {
+    ghost from_gives = { λ error stop. stop ≡ stop_of_job error };
+
     fn from(error: JobError) -> Self {
         match error {
             JobError::NoMemory => Stop::Memory,
@@ -119,6 +130,8 @@ impl From<JobError> for Stop<'_> {
 }
 
 impl From<ElfError> for Stop<'_> {
+    ghost from_gives = { λ error stop. stop ≡ stop_of_image error };
+
     fn from(error: ElfError) -> Self {
         match error {
             ElfError::NoMemory => Stop::Memory,
@@ -128,6 +141,8 @@ impl From<ElfError> for Stop<'_> {
 }
 
 impl From<OpenError> for Stop<'_> {
+    ghost from_gives = { λ error stop. stop ≡ stop_of_open error };
+
     fn from(error: OpenError) -> Self {
         match error {
             OpenError::NoMemory => Stop::Memory,
@@ -148,7 +163,9 @@ fn open_error_name(error: &OpenError) -> &'static str {
 
 impl<'a> Stop<'a> {
     /// The file at `path` was not read or written.
-    pub fn at_file(error: StoreError, path: CowStr<'a>) -> Stop<'a> {
+    pub fn at_file(error: StoreError, path: CowStr<'a>) -> Stop<'a>
+        ensures { result ≡ stop_at_file error path.entry }
+    {
         match error {
             StoreError::Failed => Stop::File(path),
             StoreError::NoMemory => Stop::Memory,

@@ -1,4 +1,9 @@
 //! Where a job's files are read and written.
+ghost use Rattle.std.specs.Prelude.{◌≡◌};
+ghost use Rattle.std.specs.IoError.{error_kind};
+ghost use Rattle.rvvbox.specs.Ending.{store_error_of};
+ghost use Rattle.rvvbox.specs.declared.store.StoreError.TheVariants as store_error;
+
 use std::alloc::{AllocError, AllocFailed, Global};
 use std::io::{ErrorKind, Read, Write};
 use std::rt::Files;
@@ -18,12 +23,16 @@ pub enum StoreError {
 }
 
 impl From<AllocError> for StoreError {
+    ghost from_gives = { λ _ reason. reason ≡ store_error.NoMemory };
+
     fn from(_error: AllocError) -> StoreError {
         StoreError::NoMemory
     }
 }
 
 impl From<io::Error> for StoreError {
+    ghost from_gives = { λ error reason. reason ≡ store_error_of (error_kind error) };
+
     fn from(error: io::Error) -> StoreError {
         match error.kind() {
             ErrorKind::OutOfMemory => StoreError::NoMemory,

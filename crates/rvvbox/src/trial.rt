@@ -1,5 +1,11 @@
 //! `try`: runs a job's image, accepted or not, with every test at each step.
-ghost use Rattle.std.specs.Prelude.{◌≡◌, ◌⊎◌};
+ghost use Rattle.std.specs.Prelude.{◌≡◌, ◌⊎◌, IfErr, IfOk, IfSome, IsErrAnd, replicate};
+ghost use Rattle.region_mem.specs.Parameter.{AreArguments, argument_error};
+ghost use Rattle.sandbox_run.specs.Errors.{open_error_of};
+ghost use Rattle.sandbox_run.specs.Start.{start};
+ghost use Rattle.rvvbox.specs.Ending.{status_of_end};
+ghost use Rattle.rvvbox.specs.Trial.{IsGiven, number_of, trial_from, vlenb_of};
+ghost use Rattle.rvvbox.specs.declared.stop.Stop.TheVariants as stop;
 
 use crate::job::values::{Job, JobError, Sub, Vlen};
 use crate::job::{job, values};
@@ -46,10 +52,7 @@ pub fn try_job<'a, S: Store, O: Write>(
     let Some(parameters) = Parameters::new(params) else {
         return Err(Stop::Job(JobError::BadKey));
     };
-    let trial = match vlen {
-        Vlen::V128 => run::<16>(alloc, &image, &parameters, args, agnostic, max)?,
-        Vlen::V256 => run::<32>(alloc, &image, &parameters, args, agnostic, max)?,
-    };
+    let trial = run(alloc, &image, &parameters, args, vlen, agnostic, max)?;
     write_buffers(&mut job, &trial.args, store)?;
     match print(&trial, output) {
         Ok(()) => Ok(status_of(trial.end)),
@@ -101,7 +104,9 @@ fn read_arguments<'a, S: Store>(
     Ok((params, Args { places }))
 }
 
-fn no_args() -> [Arg; 8] {
+fn no_args() -> [Arg; 8]
+    ensures { result ≡ replicate 8 Arg.None }
+{
     [
         Arg::None,
         Arg::None,
@@ -120,7 +125,9 @@ fn read_argument<'a, S: Store>(
     alloc: Global,
     param: &mut values::Param,
     store: &mut S,
-) -> Result<(Param, Arg), Stop<'a>> {
+) -> Result<(Param, Arg), Stop<'a>>
+    ensures { IfOk result (IsGiven param.old) }
+{
     match param {
         values::Param::None => Ok((Param::None, Arg::None)),
         values::Param::Scalar { value, .. } => {
@@ -144,7 +151,27 @@ fn read_argument<'a, S: Store>(
     }
 }
 
-fn run<'a, const VLENB: usize>(
+/// Runs the image at the job's length of vector registers.
+fn run<'a>(
+    alloc: Global,
+    image: &Image,
+    parameters: &Parameters,
+    args: Args,
+    vlen: Vlen,
+    agnostic: Agnostic,
+    max: u64,
+) -> Result<Trial, Stop<'a>>
+    ensures trial { IfOk result (λ trial. trial ≡ trial_from (vlenb_of vlen) max (start (vlenb_of vlen) agnostic image.now parameters.now args.places)) }
+    ensures refused { IfSome (argument_error parameters.now args.places) (λ error. IsErrAnd result (λ reason. reason ≡ stop.Open (open_error_of error))) }
+    ensures memory { AreArguments parameters.now args.places → IfErr result (λ reason. reason ≡ stop.Memory) }
+{
+    match vlen {
+        Vlen::V128 => run_at::<16>(alloc, image, parameters, args, agnostic, max),
+        Vlen::V256 => run_at::<32>(alloc, image, parameters, args, agnostic, max),
+    }
+}
+
+fn run_at<'a, const VLENB: usize>(
     alloc: Global,
     image: &Image,
     parameters: &Parameters,
@@ -153,6 +180,9 @@ fn run<'a, const VLENB: usize>(
     max: u64,
 ) -> Result<Trial, Stop<'a>>
     requires { (VLENB ≡ 16) ⊎ (VLENB ≡ 32) }
+    ensures trial { IfOk result (λ trial. trial ≡ trial_from VLENB max (start VLENB agnostic image.now parameters.now args.places)) }
+    ensures refused { IfSome (argument_error parameters.now args.places) (λ error. IsErrAnd result (λ reason. reason ≡ stop.Open (open_error_of error))) }
+    ensures memory { AreArguments parameters.now args.places → IfErr result (λ reason. reason ≡ stop.Memory) }
 {
     match try_run::<VLENB>(alloc, image, parameters, args, agnostic, max) {
         Ok(Outcome::Ended(last)) => Ok(trial_of(End::Ended, last)),
@@ -162,7 +192,9 @@ fn run<'a, const VLENB: usize>(
     }
 }
 
-fn trial_of<const VLENB: usize>(end: End, last: Final<VLENB>) -> Trial {
+fn trial_of<const VLENB: usize>(end: End, last: Final<VLENB>) -> Trial
+    ensures { result ≡ record { end = end; steps = last.entry.steps; args = last.entry.args } }
+{
     let Final { steps, args, .. } = last;
     Trial { end, steps, args }
 }
@@ -195,7 +227,9 @@ fn print<O: Write>(trial: &Trial, output: &mut O) -> io::Result<()> {
 }
 
 /// A fault's name, with its word or address.
-fn shown(fault: Fault) -> (&'static str, u32) {
+fn shown(fault: Fault) -> (&'static str, u32)
+    ensures { result.1 ≡ number_of fault }
+{
     match fault {
         Fault::Illegal(word) => ("Illegal", word),
         Fault::FetchFault(pc) => ("FetchFault", pc),
@@ -205,7 +239,9 @@ fn shown(fault: Fault) -> (&'static str, u32) {
     }
 }
 
-fn status_of(end: End) -> Status {
+fn status_of(end: End) -> Status
+    ensures { result ≡ status_of_end end }
+{
     match end {
         End::Ended => Status::Done,
         End::Trapped(_) | End::OutOfSteps => Status::Stopped,
