@@ -42,8 +42,8 @@ fn writes_and_reads_the_example(rt: HostRuntime) -> Result<(), Fail> {
     assert!(rt; written.as_slice() == BYTES.as_slice());
     let read_back = read(alloc, &BYTES)?;
     assert_eq!(rt;
-        format!(in alloc; "{read_back:?}")?,
-        format!(in alloc; "{certificate:?}")?
+        format!(in alloc; "{:?}", read_back.contents())?,
+        format!(in alloc; "{:?}", certificate.contents())?
     );
     Ok(())
 }
@@ -76,6 +76,29 @@ fn refuses(rt: HostRuntime) -> Result<(), Fail> {
             Some(error),
             "at {place}"
         );
+    }
+    Ok(())
+}
+
+#[test]
+fn prints_reasons(rt: HostRuntime) -> Result<(), Fail> {
+    let alloc = rt.alloc();
+    for (error, text) in [
+        (CertError::Short, "the certificate is cut off"),
+        (CertError::Version, "the certificate's version is not known"),
+        (CertError::Parameter, "a parameter is wrong"),
+        (CertError::BlockOrder, "the blocks are out of order"),
+        (CertError::Fact, "a fact is wrong"),
+        (CertError::Equality, "an equality is wrong"),
+        (CertError::Budget, "a budget is wrong"),
+        (
+            CertError::TrailingBytes,
+            "bytes stand behind the certificate",
+        ),
+        (CertError::TooMany, "there are too many blocks or facts"),
+        (CertError::NoMemory, "out of memory"),
+    ] {
+        assert_eq!(rt; format!(in alloc; "{error}")?.as_str(), text);
     }
     Ok(())
 }

@@ -127,7 +127,12 @@ fn is_open<A: Allocator>(regions: &[Region<A>], right: Right, address: u64) -> b
 
 /// Whether each byte of an access lies in a region with the right, and none past the last address.
 #[tactic(auto, unfolding(crate::specs::Area::is_open_from))]
-pub(crate) fn permits<A: Allocator>(regions: &[Region<A>], right: Right, address: u64, size: u64) -> bool
+pub(crate) fn permits<A: Allocator>(
+    regions: &[Region<A>],
+    right: Right,
+    address: u64,
+    size: u64,
+) -> bool
     requires first { address < 2 ^ 32 }
     requires fits { size < 2 ^ 63 }
     ensures { result ≡ is_open_from right address size regions.now }
@@ -256,7 +261,12 @@ fn set_word<A: Allocator>(regions: &mut [Region<A>], address: u64, value: u32)
 }
 
 /// Writes the n lowest bytes of a value from an address on.
-pub(crate) fn set_number<A: Allocator>(regions: &mut [Region<A>], address: u64, n: usize, value: u32)
+pub(crate) fn set_number<A: Allocator>(
+    regions: &mut [Region<A>],
+    address: u64,
+    n: usize,
+    value: u32,
+)
     requires address { address < 2 ^ 32 }
     requires size { IsAccessSize n }
     ensures { regions.new ≡ with_number address n value regions.old }

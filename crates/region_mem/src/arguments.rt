@@ -4,7 +4,7 @@ ghost use Rattle.std.specs.Prelude.{◌≡◌, ◌<◌, length, slice_set, ◌==
 use std::alloc::{Allocator, Global};
 use std::marker::Model;
 
-/// The bytes of a buffer, in a vector that is moved in and out and never copied.
+/// The bytes of a buffer, in a vector that is moved in and out and never copied. `A` is its allocator.
 #[derive(Debug, Drop)]
 pub struct Bytes<A: Allocator = Global> {
     items: Vec<u8, A>,
@@ -63,7 +63,7 @@ impl<A: Allocator> Bytes<A> {
     }
 }
 
-/// What a caller passes at one place.
+/// What a caller passes at one place, a buffer as `B`.
 #[derive(Debug, Drop)]
 pub enum Arg<B = Bytes> {
     None,

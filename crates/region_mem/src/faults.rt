@@ -32,7 +32,7 @@ impl fmt::Display for Fault {
             Fault::FetchFault(pc) => write!(f, "no instruction may be fetched at {pc:08x}"),
             Fault::LoadFault(address) => write!(f, "no load is permitted at {address:08x}"),
             Fault::StoreFault(address) => write!(f, "no store is permitted at {address:08x}"),
-            Fault::JumpMisaligned(target) => write!(f, "a jump to {target:08x}"),
+            Fault::JumpMisaligned(target) => write!(f, "no jump is permitted to {target:08x}"),
         }
     }
 }

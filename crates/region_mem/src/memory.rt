@@ -11,7 +11,7 @@ use elf_image::Image;
 use std::alloc::{AllocError, Allocator, Global};
 use std::marker::Model;
 
-/// The memory of a run.
+/// The memory of a run, all of it from the allocator `A`.
 #[derive(Drop)]
 pub struct Regions<A: Allocator = Global> {
     regions: Vec<Region<A>, A>,
@@ -32,7 +32,8 @@ impl<A: Allocator> Regions<A> {
     ghost use Rattle.region_mem.specs.Parameter.{AreArguments};
 
     /// The memory that a run of the image starts with: its segments, the stack and the buffers of the arguments, which
-    /// are moved in. Where memory is refused the arguments come back as they were.
+    /// are moved in. `alloc` gives the memory of the segments and the stack. Where it is refused the arguments come back
+    /// as they were.
     #[tactic(auto, unfolding(crate::specs::Start::start_memory, crate::specs::Start::start_areas))]
     pub fn new<B: Allocator>(
         alloc: A,

@@ -130,11 +130,7 @@ fn is_writable(param: Param) -> bool
 }
 
 #[tactic(auto, unfolding(crate::specs::Start::buffer_area))]
-fn buffer_region<A: Allocator>(
-    parameters: &Parameters,
-    place: usize,
-    bytes: Bytes<A>,
-) -> Region<A>
+fn buffer_region<A: Allocator>(parameters: &Parameters, place: usize, bytes: Bytes<A>) -> Region<A>
     requires place { place < 8 }
     requires small { length bytes ≤ 16777216 }
     ensures { result ≡ buffer_area parameters.now place bytes }

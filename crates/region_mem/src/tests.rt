@@ -1,4 +1,4 @@
-use crate::{Arg, ArgError, Args, Bytes, Mode, Param, Parameters, Regions, Right};
+use crate::{Arg, ArgError, Args, Bytes, Fault, Mode, Param, Parameters, Regions, Right};
 use elf_image::Image;
 use std::alloc::{AllocError, Global};
 use std::process::Abort;
@@ -220,5 +220,39 @@ fn parameters_and_places(rt: HostRuntime) -> Result<(), Fail> {
     assert_eq!(rt; parameters.matches(&given), Err(ArgError::WrongKind(6)));
     given.places[2] = Arg::None;
     assert_eq!(rt; parameters.matches(&given), Err(ArgError::WrongKind(2)));
+    Ok(())
+}
+
+#[test]
+fn prints_reasons(rt: HostRuntime) -> Result<(), Fail> {
+    let alloc = rt.alloc();
+    for (fault, text) in [
+        (Fault::Illegal(0xc202_a573), "illegal instruction c202a573"),
+        (
+            Fault::FetchFault(0x20),
+            "no instruction may be fetched at 00000020",
+        ),
+        (
+            Fault::LoadFault(0x4000_1000),
+            "no load is permitted at 40001000",
+        ),
+        (Fault::StoreFault(1), "no store is permitted at 00000001"),
+        (Fault::JumpMisaligned(2), "no jump is permitted to 00000002"),
+    ] {
+        assert_eq!(rt; format!(in alloc; "{fault}")?.as_str(), text);
+    }
+    for (error, text) in [
+        (ArgError::WrongKind(0), "argument 0 is of the wrong kind"),
+        (
+            ArgError::ScalarOutOfInterval(1),
+            "argument 1 is out of its interval",
+        ),
+        (
+            ArgError::WrongSize(7),
+            "argument 7 is a buffer of the wrong size",
+        ),
+    ] {
+        assert_eq!(rt; format!(in alloc; "{error}")?.as_str(), text);
+    }
     Ok(())
 }

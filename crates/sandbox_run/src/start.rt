@@ -30,11 +30,7 @@ fn passed_number<A: Allocator>(parameters: &Parameters, place: usize, arg: &Arg<
 
 /// The scalar registers at the start: the arguments in a0 to a7, EXIT in ra, and the stack's end in sp.
 #[tactic(auto, unfolding(crate::specs::Start::start_hart))]
-fn start_hart<A: Allocator>(
-    entry: u32,
-    parameters: &Parameters,
-    places: &[Arg<Bytes<A>>],
-) -> Scalar
+fn start_hart<A: Allocator>(entry: u32, parameters: &Parameters, places: &[Arg<Bytes<A>>]) -> Scalar
     requires { length places.now ≤ 8 }
     ensures { result ≡ start_hart_of entry parameters.now places.now }
 {

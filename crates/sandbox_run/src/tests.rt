@@ -295,49 +295,25 @@ fn hands_arguments_back(rt: HostRuntime) -> Result<(), Fail> {
     Ok(())
 }
 
-/// The file of the image above, the image, or nothing where memory was refused.
-fn add_bytes_image(alloc: Global) -> Option<Image> {
-    let mut file = Vec::new(alloc);
-    for word in HEADERS {
-        push_word(&mut file, word).ok()?;
-    }
-    for word in [24, 24, 5, 4] {
-        push_word(&mut file, word).ok()?;
-    }
-    for word in ADD_BYTES {
-        push_word(&mut file, word).ok()?;
-    }
-    read(alloc, &file).ok()
-}
-
-fn assert_returned(rt: &impl Abort, args: &Args) {
-    match &args.places[1] {
-        Arg::Buffer(bytes) => assert_eq!(rt; bytes.as_slice(), [1, 1, 0xff].as_slice()),
-        _ => assert!(rt; false, "a1 is no buffer"),
-    }
-    assert!(rt; matches!(&args.places[2], Arg::Scalar(3)), "a2 comes back");
-}
-
-/// Where memory is refused the arguments come back as they were. Meant for runs in which the Nth allocation fails, for N from
-/// 1 on; with ample memory it is one more run that ends.
 #[test]
-fn answers_want_of_memory(rt: HostRuntime) {
+fn prints_reasons(rt: HostRuntime) -> Result<(), Fail> {
     let alloc = rt.alloc();
-    let Some(image) = add_bytes_image(alloc) else {
-        return;
-    };
-    let Some(parameters) = byte_parameters() else {
-        return;
-    };
-    let args = match byte_args(alloc) {
-        Ok(args) => args,
-        Err(_) => return,
-    };
-    match try_run::<16>(alloc, &image, &parameters, args, Agnostic::Keep, 10) {
-        Ok(outcome) => assert!(rt; matches!(&outcome, Outcome::Ended(_)), "the run ends"),
-        Err(refusal) => {
-            assert_eq!(rt; refusal.0, OpenError::NoMemory);
-            assert_returned(&rt, &refusal.1);
-        }
+    for (error, text) in [
+        (
+            OpenError::WrongKind(0),
+            "the argument at place 0 is of the wrong kind",
+        ),
+        (
+            OpenError::ScalarOutOfInterval(7),
+            "the scalar at place 7 is outside its interval",
+        ),
+        (
+            OpenError::WrongSize(2),
+            "the buffer at place 2 is of the wrong size",
+        ),
+        (OpenError::NoMemory, "out of memory"),
+    ] {
+        assert_eq!(rt; format!(in alloc; "{error}")?.as_str(), text);
     }
+    Ok(())
 }

@@ -10,7 +10,12 @@ use std::alloc::Allocator;
 /// The address of the lowest-numbered active element that may not be accessed, where there is one. Element i lies at
 /// `base` plus i, modulo 2^32.
 #[tactic(auto, using(crate::proofs::AccessSteps::refused_more, crate::proofs::AccessSteps::refused_end))]
-pub fn refused<A: Allocator>(regions: &Regions<A>, right: Right, base: u32, active: &[bool]) -> Option<u32>
+pub fn refused<A: Allocator>(
+    regions: &Regions<A>,
+    right: Right,
+    base: u32,
+    active: &[bool],
+) -> Option<u32>
     ensures { result ≡ refused_address right base active.now regions.now }
 {
     let mut address = base;

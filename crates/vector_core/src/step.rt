@@ -15,8 +15,8 @@ use crate::setup::setup_for;
 use crate::state::VectorState;
 use region_mem::{Fault, Regions, Right};
 use rv_decode::{Direction, Eew, Insn, Place, Reg, VArith, VMem, Width};
-use std::alloc::Allocator;
 use scalar_core::Scalar;
+use std::alloc::Allocator;
 use vreg_groups::{Vtype, legal};
 
 /// What an instruction that computes does to the registers: nothing where vl is 0.
