@@ -5,7 +5,7 @@ mod machine_cases;
 
 use crate::{VectorState, step_vector};
 use elf_image::read;
-use machine_cases::{CASES, Case, REGISTERS};
+use machine_cases::{Case, REGISTERS, on_bytes, on_halves, on_words};
 use region_mem::{Arg, Args, Fault, Param, Parameters, Regions};
 use rv_decode::{Direction, Insn, Place, Reg, VMem, Width, decode};
 use scalar_core::Scalar;
@@ -122,13 +122,19 @@ fn check_case(rt: &impl Abort, memory: &mut Regions, case: &Case) -> Result<(), 
     Ok(())
 }
 
+fn check_cases(rt: &impl Abort, memory: &mut Regions, cases: &[Case]) -> Result<(), Fail> {
+    for case in cases {
+        check_case(rt, memory, case)?;
+    }
+    Ok(())
+}
+
 #[test]
 fn computes_as_a_machine_does(rt: HostRuntime) -> Result<(), Fail> {
     let mut memory = memory(rt.alloc())?;
-    for case in &CASES {
-        check_case(&rt, &mut memory, case)?;
-    }
-    Ok(())
+    check_cases(&rt, &mut memory, on_bytes::CASES.as_slice())?;
+    check_cases(&rt, &mut memory, on_halves::CASES.as_slice())?;
+    check_cases(&rt, &mut memory, on_words::CASES.as_slice())
 }
 
 /// A word, x5, x6, and vl, vtype and x7 after it. Each works on what those before it left.
