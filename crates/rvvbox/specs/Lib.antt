@@ -1,4 +1,5 @@
 pub mod Ending
 pub mod Job
 pub mod Line
+pub mod Program
 pub mod Trial
