@@ -15,7 +15,7 @@ IsStopFor kinds (stop.Usage error) = (kinds ≡ []) ⊎ IsAmong (kind_of error) 
 IsStopFor kinds stop.Memory = Unit {0}
 IsStopFor kinds other = kinds ≡ []
 
--- a status, where `clap` finds these faults in the words, one at least: no image is looked at
+-- a status, where `clap` finds these faults in the words, one at least
 abbrev pub IsRefusal : Kinds → Status → Type 0
 IsRefusal kinds status.Usage = list_any (λ kind. not (is_help kind)) kinds ≡ true
 IsRefusal kinds status.Done = list_any is_help kinds ≡ true

@@ -16,8 +16,8 @@ use std::io::{Read, Write};
 /// in `store`, prints what came of it to `output`, and why it was refused or failed to `errors`.
 /// Nothing is read from the input yet.
 ///
-/// Words that `clap` refuses start nothing: the status is then `Usage`, and for help or the version `Done` (or `File`,
-/// where standard output takes no text), unless memory runs out.
+/// Where `clap` refuses the words, the status is `Usage`, and for help or the version `Done` (or `File`, where standard
+/// output takes no text), unless memory runs out.
 pub fn perform<'a, S: Store, I: Read, O: Write, E: Write>(
     alloc: Global,
     words: &'a [&'a str],

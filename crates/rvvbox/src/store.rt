@@ -57,6 +57,7 @@ pub struct Disk<'a, R> {
 }
 
 impl<'a, R> Disk<'a, R> {
+    /// The files that the handle `rt` opens.
     pub fn new(rt: &'a R) -> Disk<'a, R> {
         Disk { rt }
     }
