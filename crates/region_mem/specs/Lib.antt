@@ -1,3 +1,4 @@
+pub mod Faults
 pub mod Parameter
 pub mod Area
 pub mod Memory

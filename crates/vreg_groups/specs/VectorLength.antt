@@ -1,10 +1,20 @@
 -- The vector length that the vset instructions give ("AVL encoding", "Constraints on Setting vl").
-use Rattle.std.specs.Prelude.{◌≡◌, ℕ, ◌≤◌, ◌==◌, min, if◌then◌else◌, Option, Some, None, MatchOption}
+use Rattle.std.specs.Prelude.{◌≡◌, ◌⊎◌, ℕ, ◌≤◌, ◌==◌, min, if◌then◌else◌, Option, Some, None, MatchOption}
 use Rattle.vreg_groups.specs.VectorType.{vill, vtype_of, vlmax_of}
 use Rattle.vreg_groups.specs.declared.vector_type.Vtype.{Vtype}
 use Rattle.vreg_groups.specs.declared.vector_length.Vconfig.{Vconfig}
 use Rattle.vreg_groups.specs.declared.vector_length.Avl.{Avl}
 use Rattle.vreg_groups.specs.declared.vector_length.Avl.TheVariants.{Keep, Greatest, Of}
+use Rattle.vreg_groups.specs.declared.vector_length.Vlen.{Vlen}
+use Rattle.vreg_groups.specs.declared.vector_length.Vlen.TheVariants.{V128, V256}
+
+-- the number of bytes of a vector register, VLEN / 8: VLEN is 128 or 256
+abbrev pub IsVlenb : ℕ → Type 0
+IsVlenb vlenb = (vlenb ≡ 16) ⊎ (vlenb ≡ 32)
+
+abbrev pub vlenb_of : Vlen → ℕ
+vlenb_of V128 = 16
+vlenb_of V256 = 32
 
 -- vtype and vl where the request is not supported
 abbrev pub no_config : Vconfig

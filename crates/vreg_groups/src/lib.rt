@@ -17,5 +17,5 @@ pub use elements::Element;
 pub use legality::legal;
 pub use policies::{Agnostic, Policy};
 pub use registers::VregFile;
-pub use vector_length::{Avl, Vconfig, vset};
+pub use vector_length::{Avl, Vconfig, Vlen, vset};
 pub use vector_type::{Lmul, Vtype};

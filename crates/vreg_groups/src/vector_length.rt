@@ -2,9 +2,31 @@
 
 ghost use Rattle.std.specs.Prelude.{◌≡◌, ◌≤◌, ◌⊎◌, ℕ, min, IfSome, ◌*◌};
 ghost use Rattle.vreg_groups.specs.VectorType.{vtype_of, vlmax_of};
-ghost use Rattle.vreg_groups.specs.VectorLength.{no_config, supported_vset, vset_of, IsConfig};
+ghost use Rattle.vreg_groups.specs.VectorLength.{IsVlenb, vlenb_of, no_config, supported_vset, vset_of, IsConfig};
 
 use crate::vector_type::Vtype;
+
+/// VLEN, the number of bits of a vector register.
+#[derive(Clone, Copy, Debug, PartialEq, Eq)]
+pub enum Vlen {
+    /// 128 bits.
+    V128,
+    /// 256 bits.
+    V256,
+}
+
+impl Vlen {
+    /// The number of bytes of a vector register, which the CSR vlenb reads as.
+    pub fn bytes(self) -> usize
+        ensures meaning { result ≡ vlenb_of self }
+        ensures length { IsVlenb result }
+    {
+        match self {
+            Vlen::V128 => 16,
+            Vlen::V256 => 32,
+        }
+    }
+}
 
 /// The registers vtype and vl.
 #[derive(Clone, Copy, PartialEq, Eq, Debug)]
@@ -55,7 +77,7 @@ pub enum Avl {
 /// ("Vector Configuration-Setting Instructions").
 #[tactic(auto, unfolding(crate::specs::VectorLength::vset_of, crate::specs::VectorLength::requested_vset, crate::specs::VectorLength::supported_vset, crate::specs::VectorLength::IsConfig))]
 pub fn vset(vlenb: usize, config: Vconfig, avl: Avl, bits: u32) -> Vconfig
-    requires { (vlenb ≡ 16) ⊎ (vlenb ≡ 32) }
+    requires { IsVlenb vlenb }
     ensures meaning { result ≡ vset_of vlenb config avl bits }
     ensures kept { IsConfig vlenb config → IsConfig vlenb result }
     ensures length { IfSome (vtype_of bits) (λ t. (n : ℕ) → avl ≡ Avl.Of n → result.vl ≡ min n (vlmax_of vlenb t)) }
@@ -68,7 +90,7 @@ pub fn vset(vlenb: usize, config: Vconfig, avl: Avl, bits: u32) -> Vconfig
 
 #[tactic(auto, unfolding(crate::specs::VectorLength::supported_vset))]
 fn supported_vset(vlenb: usize, config: Vconfig, avl: Avl, bits: u32, vlmax: u32) -> Vconfig
-    requires { (vlenb ≡ 16) ⊎ (vlenb ≡ 32) }
+    requires { IsVlenb vlenb }
     ensures meaning { result ≡ supported_vset vlenb config (vtype_of config.vtype) avl bits vlmax }
 {
     match avl {
