@@ -10,7 +10,7 @@ use Rattle.region_mem.proofs.Rooms.{and_first, and_second, room_of_valid}
 use Rattle.elf_image.specs.Image.{SegmentView, IsSegment, IsApart, AreApart, IsInPlace}
 use Rattle.region_mem.specs.Area.{Area}
 use Rattle.region_mem.specs.Start.{zeros, segment_area, stack_area, buffer_area, buffer_areas, insert_area, insert_areas, start_areas, start_memory}
-use Rattle.region_mem.specs.Order.{AreInOrder, StartsInOrder}
+use Rattle.region_mem.specs.Laws.{AreInOrder, StartsInOrder}
 use Rattle.region_mem.specs.Parameter.{Argument, is_valid, room_of, is_buffer, address_of, is_wrong_kind, is_wrong_size}
 use Rattle.region_mem.specs.declared.parameter.Param.{Param}
 use Rattle.region_mem.specs.declared.parameter.Param.TheVariants as parameter
@@ -78,11 +78,11 @@ inserts_in_order (area ∷ others) areas order beside all =
     inserts_in_order others (insert_area area areas) (insert_in_order 0 area areas (omega arith) order all.0) beside.1 (keep_beside area others areas beside.0 all.1)
 
 -- A segment's area has its size in memory.
-length_zeros : (n : ℕ) → length (zeros n) ≡ n
+pub length_zeros : (n : ℕ) → length (zeros n) ≡ n
 unfolding zeros
 length_zeros n = search (rules, length-replicate)
 
-length_segment : (s : SegmentView) → IsSegment s → length (segment_area s).bytes ≡ s.memory_size
+pub length_segment : (s : SegmentView) → IsSegment s → length (segment_area s).bytes ≡ s.memory_size
 unfolding segment_area
 length_segment s is = omega (arith, is.file_part, length-append s.bytes (zeros (s.memory_size - length s.bytes)), length_zeros (s.memory_size - length s.bytes))
 
@@ -168,7 +168,7 @@ rising_step param (argument.Buffer bytes) args params place low high kind size f
     let begins = first bytes room.0 in
     (omega (arith, begins), omega (arith, begins, room.1), rising_from _ _ _ _ (omega (arith, begins, room.1)) next)
 
-rising : (done todo : List Param) (args : List Argument) (params : List Param) (place low high : ℕ) → params ≡ done ++ todo → place ≡ length done →
+pub rising : (done todo : List Param) (args : List Argument) (params : List Param) (place low high : ℕ) → params ≡ done ++ todo → place ≡ length done →
     low ≡ 0x4000_0000 + sum_by room_of done → high ≡ low + sum_by room_of todo → length args ≤ length todo →
     NonePasses is_wrong_kind (zip todo args) → NonePasses is_wrong_size (zip todo args) → IsRising low high (buffer_areas params place args)
 unfolding buffer_areas
@@ -184,7 +184,7 @@ rising done (param ∷ todo) (arg ∷ args) params place low high whole at lows 
     (λ bytes is. rw (whole, at, lows) (buffer_first done todo param bytes is))
     (omega (arith, highs, sum_by-cons room_of param todo)) next
 
-sum_by_all : (params : List Param) → list_all is_valid params ≡ true → sum_by room_of params ≤ length params * 16781312
+pub sum_by_all : (params : List Param) → list_all is_valid params ≡ true → sum_by room_of params ≤ length params * 16781312
 sum_by_all [] h = omega arith
 sum_by_all (param ∷ params) h =
     omega (arith, sum_by-cons room_of param params, room_of_valid param (and_first _ _ h), sum_by_all params (and_second _ _ h))

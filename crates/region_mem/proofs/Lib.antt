@@ -5,3 +5,5 @@ pub mod Matching
 pub mod Returned
 pub mod Lists
 pub mod Apart
+pub mod StartLemmas
+pub mod ExtentLemmas

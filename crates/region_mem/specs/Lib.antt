@@ -3,4 +3,4 @@ pub mod Parameter
 pub mod Area
 pub mod Memory
 pub mod Start
-pub mod Order
+pub mod Laws

@@ -8,13 +8,15 @@
 mod areas;
 mod arguments;
 mod faults;
+mod laws;
 mod memory;
 mod parameter;
 mod start;
 
 pub use arguments::{Arg, Args, Bytes, Passed};
 pub use faults::{Fault, Right};
-pub use memory::{Regions, starts_in_order};
+pub use laws::{fetches_nothing_above, gives_arguments_back, starts_in_order, stores_keep_extents};
+pub use memory::Regions;
 pub use parameter::{ArgError, Mode, Param, Parameters};
 
 #[cfg(test)]

@@ -1,6 +1,5 @@
 //! The memory of a run.
 ghost use Rattle.std.specs.Prelude.{◌≡◌, ◌<◌, ◌^◌, Some, None, false, if◌then◌else◌, IfOk, IfErr};
-ghost use Rattle.region_mem.specs.Order.{StartsInOrder};
 
 use crate::areas::{self, Region};
 use crate::arguments::{Args, Bytes, Passed};
@@ -130,8 +129,3 @@ impl<A: Allocator> Regions<A> {
         true
     }
 }
-
-/// The regions that a run starts with stand in the order of their first addresses, and no address lies in two of them.
-pub fn starts_in_order()
-    ensures { StartsInOrder }
-{}

@@ -1,5 +1,5 @@
 use Rattle.region_mem.proofs.Apart.{starts_in_order}
-use Rattle.region_mem.proofs.memory.starts_in_order.Goals as goal
+use Rattle.region_mem.proofs.laws.starts_in_order.Goals as goal
 
 pub returns : goal.returns
 returns c = starts_in_order

@@ -1,0 +1,112 @@
+-- Where areas lie, whatever is stored, and that none lies above the segments.
+use Rattle.std.proofs.Common.{◌≡◌, inl, inr, ℕ, zero, suc, ◌+◌, ◌-◌, ◌/◌, ◌%◌, ◌≤◌, Bool, true, false, ◌&&◌, cond, List, [], ◌∷◌, map, Some, None, arith, ap, refl, ◌∙◌, sum_by, set, length-set}
+use Rattle.std.specs.List.{AllByRecursion}
+use Rattle.std.proofs.lemmas.Bool.Decides.{nat_tests}
+use Rattle.region_mem.proofs.Matching.{nothing_wrong}
+use Rattle.region_mem.proofs.Apart.{IsRising, end_of, all_insert, all_inserts, rising, sum_by_all, length_zeros, length_segment}
+use Rattle.elf_image.specs.Image.{SegmentView, IsSegment, IsInPlace}
+use Rattle.region_mem.specs.declared.faults.Right.{Right}
+use Rattle.region_mem.specs.declared.faults.Right.TheVariants.{Write, Fetch}
+use Rattle.region_mem.specs.Area.{Area, holds, is_open, is_open_from, with_byte, with_number}
+use Rattle.region_mem.specs.Memory.{Memory, is_permitted, store_of, fetch_of}
+use Rattle.region_mem.specs.Start.{segment_area, stack_area, buffer_areas, insert_area, insert_areas, start_areas, start_memory}
+use Rattle.region_mem.specs.Laws.{Extent, extent_of, StoresKeepExtents, FetchesNothingAbove}
+use Rattle.region_mem.specs.Parameter.{room_of}
+
+set_keeps : (area : Area) (i byte : ℕ) → extent_of (record area { bytes = set area.bytes i byte }) ≡ extent_of area
+unfolding extent_of
+set_keeps area i byte = rw (length-set area.bytes i byte) refl
+
+byte_step : (address byte : ℕ) (area : Area) (areas : List Area) (b : Bool) → map extent_of (with_byte address byte areas) ≡ map extent_of areas →
+    map extent_of (cond b (record area { bytes = set area.bytes (address - area.first) byte } ∷ areas) (area ∷ with_byte address byte areas)) ≡ map extent_of (area ∷ areas)
+byte_step address byte area areas true rest = ap (λ e. e ∷ map extent_of areas) (set_keeps area (address - area.first) byte)
+byte_step address byte area areas false rest = ap (λ es. extent_of area ∷ es) rest
+
+pub byte_keeps : (address byte : ℕ) (areas : List Area) → map extent_of (with_byte address byte areas) ≡ map extent_of areas
+unfolding with_byte
+byte_keeps address byte [] = refl
+byte_keeps address byte (area ∷ areas) = byte_step address byte area areas (holds address area) (byte_keeps address byte areas)
+
+pub number_keeps : (address n value : ℕ) (areas : List Area) → map extent_of (with_number address n value areas) ≡ map extent_of areas
+unfolding with_number
+number_keeps address zero value areas = refl
+number_keeps address (suc n) value areas =
+    number_keeps (address + 1) n (value / 256) (with_byte address (value % 256) areas) ∙ byte_keeps address (value % 256) areas
+
+keep_step : (address n value : ℕ) (memory stored : Memory) (b : Bool) → cond b (Some (record memory { areas = with_number address n value memory.areas })) None ≡ Some stored →
+    (map extent_of stored.areas ≡ map extent_of memory.areas) × (stored.passed ≡ memory.passed)
+keep_step address n value memory stored false e = absurd (cc)
+keep_step address n value memory stored true e =
+    let same : record memory { areas = with_number address n value memory.areas } ≡ stored = cc in
+    (rw (← same) (number_keeps address n value memory.areas), rw (← same) refl)
+
+pub stores_keep_extents : StoresKeepExtents
+unfolding store_of
+stores_keep_extents address n value memory stored e =
+    keep_step address n value memory stored (is_permitted Write address n memory) e
+
+-- No area lies above the segments.
+abbrev pub EndsBelow : Area → Type 0
+EndsBelow area = end_of area ≤ 0xC000_0000
+
+abbrev pub ExtentEndsBelow : Extent → Type 0
+ExtentEndsBelow e = e.first + e.size ≤ 0xC000_0000
+
+to_extents : (areas : List Area) → AllByRecursion EndsBelow areas → AllByRecursion ExtentEndsBelow (map extent_of areas)
+unfolding extent_of
+to_extents [] all = tt
+to_extents (area ∷ areas) all = (all.0, to_extents areas all.1)
+
+from_extents : (areas : List Area) → AllByRecursion ExtentEndsBelow (map extent_of areas) → AllByRecursion EndsBelow areas
+unfolding extent_of
+from_extents [] all = tt
+from_extents (area ∷ areas) all = (all.0, from_extents areas all.1)
+
+segment_ends_step : (s : SegmentView) → IsSegment s → IsInPlace s.address s.memory_size → EndsBelow (segment_area s)
+unfolding segment_area
+segment_ends_step s is (inl place) = omega (arith, place.1, length_segment s is)
+segment_ends_step s is (inr place) = omega (arith, place.1, length_segment s is)
+
+segments_end : (ss : List SegmentView) → AllByRecursion IsSegment ss → AllByRecursion EndsBelow (map segment_area ss)
+segments_end [] all = tt
+segments_end (s ∷ ss) all = (segment_ends_step s all.0 all.0.in_place, segments_end ss all.1)
+
+rising_end : (low high : ℕ) (areas : List Area) → high ≤ 0xC000_0000 → IsRising low high areas → AllByRecursion EndsBelow areas
+rising_end low high [] le rising = tt
+rising_end low high (a ∷ areas) le rising = (omega (arith, rising.1), rising_end (end_of a + 1) high areas le rising.2)
+
+stack_ends : EndsBelow stack_area
+unfolding stack_area
+stack_ends = omega (arith, length_zeros 65536)
+
+-- None of them is open there.
+holds_none : (address : ℕ) (area : Area) → 0xC000_0000 ≤ address → EndsBelow area → holds address area ≡ false
+unfolding holds
+holds_none address area above below = grind (arith, nat_tests)
+
+open_none : (right : Right) (address : ℕ) (areas : List Area) → 0xC000_0000 ≤ address → AllByRecursion EndsBelow areas → is_open right areas address ≡ false
+unfolding is_open
+open_none right address [] above all = refl
+open_none right address (area ∷ areas) above all =
+    rw (holds_none address area above all.0) (open_none right address areas above all.1)
+
+and_none : (a b c : Bool) → b ≡ false → (a && (b && c)) ≡ false
+and_none true b c e = rw e refl
+and_none false b c e = refl
+
+fetch_none : (pc : ℕ) (memory : Memory) → 0xC000_0000 ≤ pc → AllByRecursion EndsBelow memory.areas → fetch_of pc memory ≡ None
+unfolding fetch_of is_permitted is_open_from
+fetch_none pc memory above all = rw (and_none _ _ _ (open_none Fetch pc memory.areas above all)) refl
+
+pub fetches_nothing_above : FetchesNothingAbove
+unfolding start_memory start_areas
+fetches_nothing_above image params args is valid eight places matching memory same pc above =
+    let segments = map segment_area image.segments in
+    let wrong = nothing_wrong params args matching in
+    let high : ℕ = 0x4000_0000 + sum_by room_of params in
+    let buffers = rising [] params args params 0 0x4000_0000 high refl refl (omega arith) refl (omega arith) wrong.0 wrong.1 in
+    let bound : high ≤ 0xC000_0000 = omega (arith, sum_by_all params valid) in
+    let fixed = all_insert EndsBelow stack_area (insert_areas segments []) stack_ends (all_inserts EndsBelow segments [] (segments_end image.segments is.each) tt) in
+    let all = all_inserts EndsBelow (buffer_areas params 0 args) (insert_area stack_area (insert_areas segments [])) (rising_end 0x4000_0000 high (buffer_areas params 0 args) bound buffers) fixed in
+    let here : AllByRecursion ExtentEndsBelow (map extent_of memory.areas) = rw (same.0) (to_extents _ all) in
+    fetch_none pc memory above (from_extents memory.areas here)

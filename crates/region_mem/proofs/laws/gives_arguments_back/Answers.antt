@@ -1,0 +1,5 @@
+use Rattle.region_mem.proofs.StartLemmas.{gives_arguments_back}
+use Rattle.region_mem.proofs.laws.gives_arguments_back.Goals as goal
+
+pub returns : goal.returns
+returns c = gives_arguments_back

@@ -1,0 +1,5 @@
+use Rattle.region_mem.proofs.ExtentLemmas.{stores_keep_extents}
+use Rattle.region_mem.proofs.laws.stores_keep_extents.Goals as goal
+
+pub returns : goal.returns
+returns c = stores_keep_extents

@@ -1,0 +1,67 @@
+-- Laws of memory: what its definitions give, whatever the image, the parameters and the arguments that match them.
+use Rattle.std.specs.Prelude.{◌≡◌, ℕ, ◌+◌, ◌≤◌, Bool, true, List, [], ◌∷◌, length, map, Some, None}
+use Rattle.std.specs.List.{list_all}
+use Rattle.elf_image.specs.Image.{ImageView, IsImage}
+use Rattle.region_mem.specs.declared.parameter.Param.{Param}
+use Rattle.region_mem.specs.Parameter.{Argument, is_valid, AreArguments}
+use Rattle.region_mem.specs.Area.{Area}
+use Rattle.region_mem.specs.Memory.{Memory, args_of, fetch_of, store_of}
+use Rattle.region_mem.specs.Start.{start_memory}
+
+-- what is so of each image, each eight valid parameters, and the arguments that match them
+abbrev pub ForEachStart : (ImageView → List Param → List Argument → Type 0) → Type 0
+ForEachStart P =
+    (image : ImageView) (params : List Param) (args : List Argument) → IsImage image →
+    list_all is_valid params ≡ true → length params ≡ 8 → length args ≡ 8 →
+    AreArguments params args → P image params args
+
+-- Each area begins where the one before it has ended, or later: they stand in the order of their first addresses, and no
+-- address lies in two of them.
+unfoldable pub AreInOrder : ℕ → List Area → Type 0
+AreInOrder from [] = Unit {0}
+AreInOrder from (area ∷ areas) =
+    (from ≤ area.first) × AreInOrder (area.first + length area.bytes) areas
+
+-- The areas that a run starts with stand in order.
+abbrev pub StartsInOrder : Type 0
+StartsInOrder =
+    ForEachStart (λ image params args. AreInOrder 0 (start_memory image params args).areas)
+
+-- The memory that a run starts with gives back what it was passed.
+abbrev pub GivesArgumentsBack : Type 0
+GivesArgumentsBack =
+    ForEachStart (λ image params args. args_of (start_memory image params args) ≡ args)
+
+-- where an area lies and what may be done with it, whatever its bytes
+pub record Extent : Type 0 where
+  pub first : ℕ
+  pub size : ℕ
+  pub read : Bool
+  pub write : Bool
+  pub fetch : Bool
+
+unfoldable pub extent_of : Area → Extent
+extent_of area = record {
+  first = area.first;
+  size = length area.bytes;
+  read = area.read;
+  write = area.write;
+  fetch = area.fetch;
+}
+
+-- The areas lie in the same places with the same rights, and the same was passed.
+abbrev pub HasExtentsOf : Memory → Memory → Type 0
+HasExtentsOf memory other =
+    (map extent_of memory.areas ≡ map extent_of other.areas) × (memory.passed ≡ other.passed)
+
+-- A store moves no area, and changes no right and nothing of what was passed.
+abbrev pub StoresKeepExtents : Type 0
+StoresKeepExtents =
+    (address n value : ℕ) (memory stored : Memory) → store_of address n value memory ≡ Some stored →
+    HasExtentsOf stored memory
+
+-- No word is fetched from C000_0000 on, at the start or after any stores: EXIT lies there.
+abbrev pub FetchesNothingAbove : Type 0
+FetchesNothingAbove =
+    ForEachStart (λ image params args. (memory : Memory) → HasExtentsOf memory (start_memory image params args) →
+    (pc : ℕ) → 0xC000_0000 ≤ pc → fetch_of pc memory ≡ None)
