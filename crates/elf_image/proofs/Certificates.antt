@@ -8,19 +8,20 @@ use Rattle.std.specs.List.{flat_map}
 use Rattle.std.proofs.lemmas.List.Folds.{length-flat_map-take}
 use Rattle.elf_image.specs.declared.header.ProgramHeader.{ProgramHeader}
 use Rattle.elf_image.specs.File.{certificates_at, file_part, is_note}
+use Rattle.elf_image.specs.declared.note.TheConstants.{NOTE_HEADER_SIZE}
 use Rattle.elf_image.specs.Notes.{listed, n_namesz, n_descsz, note_size, padded, has_note, note_of, after_note, notes_within, notes_of, is_certificate, certificates_in}
 
 -- less is left after a note
 shorter : (bytes : List ℕ) → has_note bytes ≡ true → length (after_note bytes) < length bytes
 unfolding has_note after_note
 shorter bytes h =
-    let p = and_parts (leb 12 (length bytes)) (leb (note_size bytes) (length bytes)) h in
-    let some : 12 ≤ length bytes = leb-true _ _ p.0 in
-    omega (arith, length-drop (12 + padded (n_namesz bytes) + padded (n_descsz bytes)) bytes)
+    let p = and_parts (leb NOTE_HEADER_SIZE (length bytes)) (leb (note_size bytes) (length bytes)) h in
+    let some : NOTE_HEADER_SIZE ≤ length bytes = leb-true _ _ p.0 in
+    omega (arith, length-drop (NOTE_HEADER_SIZE + padded (n_namesz bytes) + padded (n_descsz bytes)) bytes)
 
 no_note : (bytes : List ℕ) → length bytes ≤ 0 → has_note bytes ≡ false
 unfolding has_note
-no_note bytes h = and_left (leb 12 (length bytes)) (leb (note_size bytes) (length bytes)) (lt-leb _ _ (omega arith))
+no_note bytes h = and_left (leb NOTE_HEADER_SIZE (length bytes)) (leb (note_size bytes) (length bytes)) (lt-leb _ _ (omega arith))
 
 -- a larger limit gives no more notes, once it is as large as the bytes are many
 enough : (n m : ℕ) (bytes : List ℕ) → length bytes ≤ n → length bytes ≤ m → notes_within n bytes ≡ notes_within m bytes

@@ -6,6 +6,7 @@ use Rattle.std.proofs.lemmas.List.{length-take, length-map}
 use Rattle.std.proofs.lemmas.List.Elements.{All-from_recursion}
 use Rattle.std.proofs.lemmas.List.Sums.{sum_by-cons}
 use Rattle.elf_image.specs.declared.header.ProgramHeader.{ProgramHeader}
+use Rattle.elf_image.specs.declared.layout.TheConstants.{LOW_SEGMENTS, LOW_SEGMENTS_END, HIGH_SEGMENTS, HIGH_SEGMENTS_END, MAX_FILE_SIZE, MAX_SEGMENTS, MAX_MEMORY_SIZE}
 use Rattle.elf_image.specs.Image.{SegmentView, IsSegment, IsInPlace, IsApart, AreApart, IsImage, holds_code}
 use Rattle.elf_image.specs.File.{e_entry, is_load, is_note, is_segment, is_writable, is_executable, program_headers, segment_headers, segment_of, image_of, IsInside, IsLoadable, HasImage}
 use Rattle.elf_image.specs.Faults.{is_out_of_file, has_out_of_file, is_between, is_out_of_place, has_out_of_place, overlap, has_overlap, is_write_and_execute, has_write_and_execute, is_too_large, has_word, is_not_code, first_of, segment_faults}
@@ -36,9 +37,9 @@ either_right false y e = e
 
 is_in_place : (h : ProgramHeader) → is_out_of_place h ≡ false → IsInPlace h.p_vaddr h.p_memsz
 is_in_place h e =
-    elim (or_cases (is_between 0x1000 0x2000_0000 h) (is_between 0x8000_0000 0xC000_0000 h) (not-false _ e)) [
-      | inl t ↦ let p = and_parts (leb 0x1000 h.p_vaddr) (leb (h.p_vaddr + h.p_memsz) 0x2000_0000) t in inl (leb-true _ _ p.0, leb-true _ _ p.1)
-      | inr t ↦ let p = and_parts (leb 0x8000_0000 h.p_vaddr) (leb (h.p_vaddr + h.p_memsz) 0xC000_0000) t in inr (leb-true _ _ p.0, leb-true _ _ p.1)
+    elim (or_cases (is_between LOW_SEGMENTS LOW_SEGMENTS_END h) (is_between HIGH_SEGMENTS HIGH_SEGMENTS_END h) (not-false _ e)) [
+      | inl t ↦ let p = and_parts (leb LOW_SEGMENTS h.p_vaddr) (leb (h.p_vaddr + h.p_memsz) LOW_SEGMENTS_END) t in inl (leb-true _ _ p.0, leb-true _ _ p.1)
+      | inr t ↦ let p = and_parts (leb HIGH_SEGMENTS h.p_vaddr) (leb (h.p_vaddr + h.p_memsz) HIGH_SEGMENTS_END) t in inr (leb-true _ _ p.0, leb-true _ _ p.1)
     ]
 
 -- a header of which no fault holds can be loaded
@@ -125,8 +126,8 @@ is_image : (file : List ℕ) → AllByRecursion (IsLoadable file) (segment_heade
 unfolding image_of is_too_large is_not_code
 is_image file each apart large code =
     let hs = segment_headers file in
-    let l = neither (ltb 0x40_0000 (length file) || ltb 16 (length hs)) (ltb 0x100_0000 (sum_by (λ h. h.p_memsz) hs)) large in
-    let m = neither (ltb 0x40_0000 (length file)) (ltb 16 (length hs)) l.0 in
+    let l = neither (ltb MAX_FILE_SIZE (length file) || ltb MAX_SEGMENTS (length hs)) (ltb MAX_MEMORY_SIZE (sum_by (λ h. h.p_memsz) hs)) large in
+    let m = neither (ltb MAX_FILE_SIZE (length file)) (ltb MAX_SEGMENTS (length hs)) l.0 in
     let c = neither (not (eqb (e_entry file % 4) 0)) (not (list_any (has_word (e_entry file)) hs)) code in
     record {
       each = each_segment file hs each;

@@ -4,41 +4,48 @@ use Rattle.std.specs.List.{list_any, sum_by, starts_with, slice_index}
 use Rattle.elf_image.specs.declared.error.ElfError.{ElfError}
 use Rattle.elf_image.specs.declared.error.ElfError.TheVariants.{TooShort, BadMagic, BadClass, BadType, BadMachine, BadFlags, BadHeaderTable, NotStatic, SegmentOutOfFile, SegmentOutOfPlace, SegmentsOverlap, WriteAndExecute, TooLarge, EntryNotCode, TwoCertificates, NoMemory}
 use Rattle.elf_image.specs.declared.header.ProgramHeader.{ProgramHeader}
+use Rattle.elf_image.specs.declared.faults.TheConstants.{ELF_HEADER_SIZE, MAGIC, EI_CLASS, EI_DATA, EI_VERSION, ELFCLASS32, ELFDATA2LSB, EV_CURRENT, ET_EXEC, EM_RISCV, EXTENSION_FLAGS}
+use Rattle.elf_image.specs.declared.header.TheConstants.{PROGRAM_HEADER_SIZE, MAX_PROGRAM_HEADERS, PT_DYNAMIC, PT_INTERP, PT_TLS}
+use Rattle.elf_image.specs.declared.layout.TheConstants.{LOW_SEGMENTS, LOW_SEGMENTS_END, HIGH_SEGMENTS, HIGH_SEGMENTS_END, MAX_FILE_SIZE, MAX_SEGMENTS, MAX_MEMORY_SIZE}
 use Rattle.elf_image.specs.File.{certificates_of, e_type, e_machine, e_version, e_entry, e_phoff, e_flags, e_ehsize, e_phentsize, e_phnum, program_headers, segment_headers, is_load, is_note, is_executable, is_writable}
 
 -- fewer bytes than an ELF header has
 abbrev pub is_too_short : List ℕ → Bool
-is_too_short file = nat_lt (length file) 52
+is_too_short file = nat_lt (length file) ELF_HEADER_SIZE
 
--- e_ident doesn't begin with 7f, E, L, F
+-- e_ident doesn't begin with 0x7f, E, L, F
 unfoldable pub has_bad_magic : List ℕ → Bool
-has_bad_magic file = not (starts_with nat_eq file (0x7f ∷ 0x45 ∷ 0x4c ∷ 0x46 ∷ []))
+has_bad_magic file = not (starts_with nat_eq file MAGIC)
 
 -- EI_CLASS isn't ELFCLASS32, EI_DATA isn't ELFDATA2LSB, or EI_VERSION isn't EV_CURRENT
 unfoldable pub has_bad_class : List ℕ → Bool
-has_bad_class file = not (slice_index file 4 == 1) || not (slice_index file 5 == 1) || not (slice_index file 6 == 1)
+has_bad_class file =
+    not (slice_index file EI_CLASS == ELFCLASS32) || not (slice_index file EI_DATA == ELFDATA2LSB)
+    || not (slice_index file EI_VERSION == EV_CURRENT)
 
 -- e_type isn't ET_EXEC, or e_version isn't EV_CURRENT
 unfoldable pub has_bad_type : List ℕ → Bool
-has_bad_type file = not (e_type file == 2) || not (e_version file == 1)
+has_bad_type file = not (e_type file == ET_EXEC) || not (e_version file == EV_CURRENT)
 
 -- e_machine isn't EM_RISCV
 unfoldable pub has_bad_machine : List ℕ → Bool
-has_bad_machine file = not (e_machine file == 243)
+has_bad_machine file = not (e_machine file == EM_RISCV)
 
--- e_flags has a bit of EF_RISCV_RVC (1), EF_RISCV_FLOAT_ABI (6) or EF_RISCV_RVE (8)
+-- e_flags has a bit of EF_RISCV_RVC, EF_RISCV_FLOAT_ABI or EF_RISCV_RVE
 unfoldable pub has_bad_flags : List ℕ → Bool
-has_bad_flags file = not (bit_and (e_flags file) 0xf == 0)
+has_bad_flags file = not (bit_and (e_flags file) EXTENSION_FLAGS == 0)
 
--- the sizes of the headers aren't the standard's for 32 bits, there is no program header or there are more
--- than 64, or their table doesn't lie inside the file
+-- the sizes of the headers aren't the standard's for 32 bits, there is no program header or there are too
+-- many, or their table doesn't lie inside the file
 unfoldable pub has_bad_header_table : List ℕ → Bool
-has_bad_header_table file = not (e_ehsize file == 52) || not (e_phentsize file == 32)
-    || e_phnum file == 0 || nat_lt 64 (e_phnum file) || nat_lt (length file) (e_phoff file + 32 * e_phnum file)
+has_bad_header_table file =
+    not (e_ehsize file == ELF_HEADER_SIZE) || not (e_phentsize file == PROGRAM_HEADER_SIZE)
+    || e_phnum file == 0 || nat_lt MAX_PROGRAM_HEADERS (e_phnum file)
+    || nat_lt (length file) (e_phoff file + PROGRAM_HEADER_SIZE * e_phnum file)
 
 -- a program header of type PT_DYNAMIC, PT_INTERP or PT_TLS
 abbrev pub is_dynamic : ProgramHeader → Bool
-is_dynamic h = h.p_type == 2 || h.p_type == 3 || h.p_type == 7
+is_dynamic h = h.p_type == PT_DYNAMIC || h.p_type == PT_INTERP || h.p_type == PT_TLS
 
 -- some program header is
 unfoldable pub is_not_static : List ProgramHeader → Bool
@@ -59,9 +66,10 @@ has_out_of_file size headers = list_any (is_out_of_file size) headers
 abbrev pub is_between : ℕ → ℕ → ProgramHeader → Bool
 is_between low high h = nat_le low h.p_vaddr && nat_le (h.p_vaddr + h.p_memsz) high
 
--- they lie neither in [0x1000, 0x2000_0000) nor in [0x8000_0000, 0xC000_0000)
+-- they lie in neither of the two parts of memory that are for segments
 abbrev pub is_out_of_place : ProgramHeader → Bool
-is_out_of_place h = not (is_between 0x1000 0x2000_0000 h || is_between 0x8000_0000 0xC000_0000 h)
+is_out_of_place h =
+    not (is_between LOW_SEGMENTS LOW_SEGMENTS_END h || is_between HIGH_SEGMENTS HIGH_SEGMENTS_END h)
 
 unfoldable pub has_out_of_place : List ProgramHeader → Bool
 has_out_of_place segments = list_any is_out_of_place segments
@@ -82,14 +90,15 @@ is_write_and_execute h = is_writable h && is_executable h
 unfoldable pub has_write_and_execute : List ProgramHeader → Bool
 has_write_and_execute segments = list_any is_write_and_execute segments
 
--- more than 4 MiB of file, 16 segments or 16 MiB of memory
+-- too many bytes of file, segments or bytes of memory
 unfoldable pub is_too_large : ℕ → List ProgramHeader → Bool
-is_too_large size segments = nat_lt 0x40_0000 size || nat_lt 16 (length segments)
-    || nat_lt 0x100_0000 (sum_by (λ h. h.p_memsz) segments)
+is_too_large size segments = nat_lt MAX_FILE_SIZE size || nat_lt MAX_SEGMENTS (length segments)
+    || nat_lt MAX_MEMORY_SIZE (sum_by (λ h. h.p_memsz) segments)
 
 -- the word at the address lies in a segment that may be executed
 abbrev pub has_word : ℕ → ProgramHeader → Bool
-has_word address h = is_executable h && nat_le h.p_vaddr address && nat_le (address + 4) (h.p_vaddr + h.p_memsz)
+has_word address h =
+    is_executable h && nat_le h.p_vaddr address && nat_le (address + 4) (h.p_vaddr + h.p_memsz)
 
 -- the entry isn't a multiple of 4, or its word isn't in such a segment
 unfoldable pub is_not_code : ℕ → List ProgramHeader → Bool
@@ -120,10 +129,13 @@ holds NoMemory file = false
 
 -- the order in which they are told: those of the header, of the segments, of the notes
 abbrev pub header_faults : List ElfError
-header_faults = TooShort ∷ BadMagic ∷ BadClass ∷ BadType ∷ BadMachine ∷ BadFlags ∷ BadHeaderTable ∷ []
+header_faults =
+    TooShort ∷ BadMagic ∷ BadClass ∷ BadType ∷ BadMachine ∷ BadFlags ∷ BadHeaderTable ∷ []
 
 abbrev pub segment_faults : List ElfError
-segment_faults = NotStatic ∷ SegmentOutOfFile ∷ SegmentOutOfPlace ∷ SegmentsOverlap ∷ WriteAndExecute ∷ TooLarge ∷ EntryNotCode ∷ []
+segment_faults =
+    NotStatic ∷ SegmentOutOfFile ∷ SegmentOutOfPlace ∷ SegmentsOverlap ∷ WriteAndExecute ∷ TooLarge
+    ∷ EntryNotCode ∷ []
 
 abbrev pub note_faults : List ElfError
 note_faults = TwoCertificates ∷ []

@@ -5,63 +5,67 @@ use Rattle.std.specs.List.{range_with_len, flat_map, slice_get}
 use Rattle.elf_image.specs.Words.{half_at, word_at}
 use Rattle.elf_image.specs.Notes.{certificates_in}
 use Rattle.elf_image.specs.declared.header.ProgramHeader.{ProgramHeader}
+use Rattle.elf_image.specs.declared.header.TheConstants.{E_TYPE, E_MACHINE, E_VERSION, E_ENTRY, E_PHOFF, E_FLAGS, E_EHSIZE, E_PHENTSIZE, E_PHNUM, PROGRAM_HEADER_SIZE, P_TYPE, P_OFFSET, P_VADDR, P_FILESZ, P_MEMSZ, P_FLAGS, MAX_PROGRAM_HEADERS, PT_LOAD, PT_NOTE, PF_X, PF_W, PF_R}
+use Rattle.elf_image.specs.declared.faults.TheConstants.{ELF_HEADER_SIZE}
 use Rattle.elf_image.specs.Image.{SegmentView, ImageView, IsSegment, IsImage}
 
 -- the fields of the ELF header
 abbrev pub e_type : List ℕ → ℕ
-e_type file = half_at 16 file
+e_type file = half_at E_TYPE file
 
 abbrev pub e_machine : List ℕ → ℕ
-e_machine file = half_at 18 file
+e_machine file = half_at E_MACHINE file
 
 abbrev pub e_version : List ℕ → ℕ
-e_version file = word_at 20 file
+e_version file = word_at E_VERSION file
 
 abbrev pub e_entry : List ℕ → ℕ
-e_entry file = word_at 24 file
+e_entry file = word_at E_ENTRY file
 
 abbrev pub e_phoff : List ℕ → ℕ
-e_phoff file = word_at 28 file
+e_phoff file = word_at E_PHOFF file
 
 abbrev pub e_flags : List ℕ → ℕ
-e_flags file = word_at 36 file
+e_flags file = word_at E_FLAGS file
 
 abbrev pub e_ehsize : List ℕ → ℕ
-e_ehsize file = half_at 40 file
+e_ehsize file = half_at E_EHSIZE file
 
 abbrev pub e_phentsize : List ℕ → ℕ
-e_phentsize file = half_at 42 file
+e_phentsize file = half_at E_PHENTSIZE file
 
 abbrev pub e_phnum : List ℕ → ℕ
-e_phnum file = half_at 44 file
+e_phnum file = half_at E_PHNUM file
 
 -- the program header at an offset; p_paddr and p_align play no part
 abbrev pub program_header_at : ℕ → List ℕ → ProgramHeader
 program_header_at offset file = record {
-  p_type = word_at offset file;
-  p_offset = word_at (offset + 4) file;
-  p_vaddr = word_at (offset + 8) file;
-  p_filesz = word_at (offset + 16) file;
-  p_memsz = word_at (offset + 20) file;
-  p_flags = word_at (offset + 24) file;
+  p_type = word_at (offset + P_TYPE) file;
+  p_offset = word_at (offset + P_OFFSET) file;
+  p_vaddr = word_at (offset + P_VADDR) file;
+  p_filesz = word_at (offset + P_FILESZ) file;
+  p_memsz = word_at (offset + P_MEMSZ) file;
+  p_flags = word_at (offset + P_FLAGS) file;
 }
 
--- the table: e_phnum program headers of 32 bytes each, one after the other from e_phoff on
+-- the table: e_phnum program headers, one after the other from e_phoff on
 unfoldable pub program_headers : List ℕ → List ProgramHeader
-program_headers file = map (λ i. program_header_at (e_phoff file + 32 * i) file) (range_with_len 0 (e_phnum file))
+program_headers file =
+    map (λ i. program_header_at (e_phoff file + PROGRAM_HEADER_SIZE * i) file)
+    (range_with_len 0 (e_phnum file))
 
--- the ELF header and the table are inside the file, and the table has at most 64 entries
+-- the ELF header and the table are inside the file, and the table isn't too long
 pub record HasTable (file : List ℕ) : Type 0 where
-  pub header : 52 ≤ length file
-  pub count : e_phnum file ≤ 64
-  pub inside : e_phoff file + 32 * e_phnum file ≤ length file
+  pub header : ELF_HEADER_SIZE ≤ length file
+  pub count : e_phnum file ≤ MAX_PROGRAM_HEADERS
+  pub inside : e_phoff file + PROGRAM_HEADER_SIZE * e_phnum file ≤ length file
 
--- PT_LOAD and PT_NOTE
+-- a header's type
 abbrev pub is_load : ProgramHeader → Bool
-is_load h = h.p_type == 1
+is_load h = h.p_type == PT_LOAD
 
 abbrev pub is_note : ProgramHeader → Bool
-is_note h = h.p_type == 4
+is_note h = h.p_type == PT_NOTE
 
 -- a loadable segment that has bytes in memory
 abbrev pub is_segment : ProgramHeader → Bool
@@ -71,15 +75,15 @@ is_segment h = is_load h && nat_lt 0 h.p_memsz
 abbrev pub segment_headers : List ℕ → List ProgramHeader
 segment_headers file = filter is_segment (program_headers file)
 
--- PF_X, PF_W and PF_R
+-- a header's flags
 abbrev pub is_executable : ProgramHeader → Bool
-is_executable h = not (bit_and h.p_flags 1 == 0)
+is_executable h = not (bit_and h.p_flags PF_X == 0)
 
 abbrev pub is_writable : ProgramHeader → Bool
-is_writable h = not (bit_and h.p_flags 2 == 0)
+is_writable h = not (bit_and h.p_flags PF_W == 0)
 
 abbrev pub is_readable : ProgramHeader → Bool
-is_readable h = not (bit_and h.p_flags 4 == 0)
+is_readable h = not (bit_and h.p_flags PF_R == 0)
 
 -- the bytes of the file that are a segment's
 abbrev pub file_part : List ℕ → ProgramHeader → List ℕ

@@ -1,6 +1,7 @@
 -- What an executable file becomes in memory: its entry, its segments, its certificate.
 use Rattle.std.specs.Prelude.{◌≡◌, ℕ, ◌+◌, ◌%◌, ◌<◌, ◌≤◌, ◌⊎◌, Bool, true, false, ◌&&◌, nat_lt, nat_le, List, [], ◌∷◌, length, Option}
 use Rattle.std.specs.List.{AllByRecursion, sum_by, list_any}
+use Rattle.elf_image.specs.declared.layout.TheConstants.{LOW_SEGMENTS, LOW_SEGMENTS_END, HIGH_SEGMENTS, HIGH_SEGMENTS_END, MAX_SEGMENTS, MAX_MEMORY_SIZE}
 
 -- A segment: the address of its first byte, the bytes that come from the file, and how many bytes it
 -- has in memory. Those past the file's bytes are 0.
@@ -24,7 +25,9 @@ IsBetween low high address size = (low ≤ address) × (address + size ≤ high)
 
 -- size bytes from address on lie in one of the two parts of memory that are for segments
 abbrev pub IsInPlace : ℕ → ℕ → Type 0
-IsInPlace address size = IsBetween 0x1000 0x2000_0000 address size ⊎ IsBetween 0x8000_0000 0xC000_0000 address size
+IsInPlace address size =
+    IsBetween LOW_SEGMENTS LOW_SEGMENTS_END address size
+    ⊎ IsBetween HIGH_SEGMENTS HIGH_SEGMENTS_END address size
 
 -- what is true of each segment by itself
 pub record IsSegment (s : SegmentView) : Type 0 where
@@ -48,13 +51,14 @@ holds_address address s = nat_le s.address address && nat_lt address (s.address 
 
 -- the segment may be executed, and the four bytes from the address on lie in it
 abbrev pub holds_code : ℕ → SegmentView → Bool
-holds_code address s = s.execute && nat_le s.address address && nat_le (address + 4) (s.address + s.memory_size)
+holds_code address s =
+    s.execute && nat_le s.address address && nat_le (address + 4) (s.address + s.memory_size)
 
 -- what is true of each image
 pub record IsImage (image : ImageView) : Type 0 where
   pub each : AllByRecursion IsSegment image.segments
   pub apart : AreApart image.segments
-  pub count : length image.segments ≤ 16
-  pub size : sum_by (λ s. s.memory_size) image.segments ≤ 0x100_0000
+  pub count : length image.segments ≤ MAX_SEGMENTS
+  pub size : sum_by (λ s. s.memory_size) image.segments ≤ MAX_MEMORY_SIZE
   pub entry_aligned : image.entry % 4 ≡ 0
   pub entry_is_code : list_any (holds_code image.entry) image.segments ≡ true

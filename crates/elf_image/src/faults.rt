@@ -7,9 +7,22 @@ ghost use Rattle.elf_image.specs.Faults.{has_bad_class, has_bad_flags, has_bad_h
 
 use crate::error::ElfError;
 use crate::header;
-use crate::header::{HeaderTable, ProgramHeader, half_at, word_at};
+use crate::header::{
+    HeaderTable, MAX_PROGRAM_HEADERS, PROGRAM_HEADER_SIZE, ProgramHeader, half_at, word_at,
+};
+use crate::layout::{
+    HIGH_SEGMENTS, HIGH_SEGMENTS_END, LOW_SEGMENTS, LOW_SEGMENTS_END, MAX_FILE_SIZE,
+    MAX_MEMORY_SIZE, MAX_SEGMENTS,
+};
 
+/// What `e_ident` begins with (`ELFMAG`), and where its next bytes lie.
 const MAGIC: [u8; 4] = [0x7f, b'E', b'L', b'F'];
+
+const EI_CLASS: usize = 4;
+
+const EI_DATA: usize = 5;
+
+const EI_VERSION: usize = 6;
 
 const ELFCLASS32: u8 = 1;
 
@@ -23,17 +36,8 @@ const EM_RISCV: u16 = 243;
 /// EF_RISCV_RVC, EF_RISCV_FLOAT_ABI and EF_RISCV_RVE.
 const EXTENSION_FLAGS: u32 = 0xf;
 
+/// The size of an ELF header.
 const ELF_HEADER_SIZE: usize = 52;
-
-const PROGRAM_HEADER_SIZE: u16 = 32;
-
-const MAX_PROGRAM_HEADERS: u16 = 64;
-
-const MAX_FILE_SIZE: usize = 4 << 20;
-
-const MAX_SEGMENTS: usize = 16;
-
-const MAX_MEMORY_SIZE: u64 = 16 << 20;
 
 fn is_too_short(file: &[u8]) -> bool
     ensures { result ≡ is_too_short file.now }
@@ -50,15 +54,15 @@ fn has_bad_magic(file: &[u8]) -> bool
 
 #[tactic(auto, unfolding(crate::specs::Faults::has_bad_class))]
 fn has_bad_class(file: &[u8]) -> bool
-    requires { 52 ≤ length file.now }
+    requires { ELF_HEADER_SIZE ≤ length file.now }
     ensures { result ≡ has_bad_class file.now }
 {
-    file[4] != ELFCLASS32 || file[5] != ELFDATA2LSB || file[6] != EV_CURRENT
+    file[EI_CLASS] != ELFCLASS32 || file[EI_DATA] != ELFDATA2LSB || file[EI_VERSION] != EV_CURRENT
 }
 
 #[tactic(auto, unfolding(crate::specs::Faults::has_bad_type))]
 fn has_bad_type(file: &[u8]) -> bool
-    requires { 52 ≤ length file.now }
+    requires { ELF_HEADER_SIZE ≤ length file.now }
     ensures { result ≡ has_bad_type file.now }
 {
     half_at(header::E_TYPE, file) != ET_EXEC
@@ -67,7 +71,7 @@ fn has_bad_type(file: &[u8]) -> bool
 
 #[tactic(auto, unfolding(crate::specs::Faults::has_bad_machine))]
 fn has_bad_machine(file: &[u8]) -> bool
-    requires { 52 ≤ length file.now }
+    requires { ELF_HEADER_SIZE ≤ length file.now }
     ensures { result ≡ has_bad_machine file.now }
 {
     half_at(header::E_MACHINE, file) != EM_RISCV
@@ -75,7 +79,7 @@ fn has_bad_machine(file: &[u8]) -> bool
 
 #[tactic(auto, unfolding(crate::specs::Faults::has_bad_flags))]
 fn has_bad_flags(file: &[u8]) -> bool
-    requires { 52 ≤ length file.now }
+    requires { ELF_HEADER_SIZE ≤ length file.now }
     ensures { result ≡ has_bad_flags file.now }
 {
     word_at(header::E_FLAGS, file) & EXTENSION_FLAGS != 0
@@ -83,16 +87,17 @@ fn has_bad_flags(file: &[u8]) -> bool
 
 #[tactic(auto, unfolding(crate::specs::Faults::has_bad_header_table))]
 fn has_bad_header_table(file: &[u8]) -> bool
-    requires { 52 ≤ length file.now }
+    requires { ELF_HEADER_SIZE ≤ length file.now }
     ensures value { result ≡ has_bad_header_table file.now }
     ensures table { result ≡ false → HasTable file.now }
 {
     let count = half_at(header::E_PHNUM, file);
-    let end = u64::from(word_at(header::E_PHOFF, file)) + 32 * u64::from(count);
+    let end = u64::from(word_at(header::E_PHOFF, file))
+        + u64::from(PROGRAM_HEADER_SIZE) * u64::from(count);
     half_at(header::E_EHSIZE, file) as usize != ELF_HEADER_SIZE
         || half_at(header::E_PHENTSIZE, file) != PROGRAM_HEADER_SIZE
         || count == 0
-        || count > MAX_PROGRAM_HEADERS
+        || usize::from(count) > MAX_PROGRAM_HEADERS
         || (file.len() as u64) < end
 }
 
@@ -153,16 +158,17 @@ fn has_out_of_file(size: u64, headers: &[ProgramHeader]) -> bool
     headers.iter().any(|h| is_out_of_file(size, h))
 }
 
-fn is_between(low: u64, high: u64, h: &ProgramHeader) -> bool
+fn is_between(low: u32, high: u32, h: &ProgramHeader) -> bool
     ensures { result ≡ is_between low high h.now }
 {
-    low <= u64::from(h.p_vaddr) && h.end() <= high
+    low <= h.p_vaddr && h.end() <= u64::from(high)
 }
 
 fn is_out_of_place(h: &ProgramHeader) -> bool
     ensures { result ≡ is_out_of_place h.now }
 {
-    !(is_between(0x1000, 0x2000_0000, h) || is_between(0x8000_0000, 0xC000_0000, h))
+    !(is_between(LOW_SEGMENTS, LOW_SEGMENTS_END, h)
+        || is_between(HIGH_SEGMENTS, HIGH_SEGMENTS_END, h))
 }
 
 #[tactic(auto, unfolding(crate::specs::Faults::has_out_of_place))]
@@ -213,7 +219,7 @@ fn has_write_and_execute(segments: &[ProgramHeader]) -> bool
 
 #[tactic(auto, unfolding(crate::specs::Faults::is_too_large))]
 fn is_too_large(size: usize, segments: &[ProgramHeader]) -> bool
-    requires { length segments.now ≤ 64 }
+    requires { length segments.now ≤ MAX_PROGRAM_HEADERS }
     ensures { result ≡ is_too_large size segments.now }
 {
     let memory: u64 = segments.iter().map(|h| u64::from(h.p_memsz)).sum();

@@ -26,6 +26,24 @@ pub const E_PHENTSIZE: usize = 42;
 
 pub const E_PHNUM: usize = 44;
 
+/// The size of a program header, and where its fields lie (`Elf32_Phdr`).
+pub const PROGRAM_HEADER_SIZE: u16 = 32;
+
+pub const P_TYPE: usize = 0;
+
+pub const P_OFFSET: usize = 4;
+
+pub const P_VADDR: usize = 8;
+
+pub const P_FILESZ: usize = 16;
+
+pub const P_MEMSZ: usize = 20;
+
+pub const P_FLAGS: usize = 24;
+
+/// How many program headers a file has at most.
+pub const MAX_PROGRAM_HEADERS: usize = 64;
+
 /// Types of program headers.
 pub const PT_LOAD: u32 = 1;
 
@@ -148,35 +166,36 @@ impl ProgramHeader {
 }
 
 fn program_header_at(offset: usize, file: &[u8]) -> ProgramHeader
-    requires { offset + 32 ≤ length file.now }
+    requires { offset + PROGRAM_HEADER_SIZE ≤ length file.now }
     ensures { result ≡ program_header_at offset file.now }
 {
     ProgramHeader {
-        p_type: word_at(offset, file),
-        p_offset: word_at(offset + 4, file),
-        p_vaddr: word_at(offset + 8, file),
-        p_filesz: word_at(offset + 16, file),
-        p_memsz: word_at(offset + 20, file),
-        p_flags: word_at(offset + 24, file),
+        p_type: word_at(offset + P_TYPE, file),
+        p_offset: word_at(offset + P_OFFSET, file),
+        p_vaddr: word_at(offset + P_VADDR, file),
+        p_filesz: word_at(offset + P_FILESZ, file),
+        p_memsz: word_at(offset + P_MEMSZ, file),
+        p_flags: word_at(offset + P_FLAGS, file),
     }
 }
 
-/// At most 64 program headers, in a table of fixed size.
+/// Program headers, in a table of fixed size.
 #[derive(Drop)]
 pub struct HeaderTable {
-    entries: [ProgramHeader; 64],
+    entries: [ProgramHeader; MAX_PROGRAM_HEADERS],
     count: usize,
 }
 
 impl Model for HeaderTable {
     ghost use Rattle.std.specs.Prelude.{List, take, ◌≤◌};
     ghost use Rattle.elf_image.specs.declared.header.ProgramHeader.{ProgramHeader};
+    ghost use Rattle.elf_image.specs.declared.header.TheConstants.{MAX_PROGRAM_HEADERS};
 
     ghost Value = { List ProgramHeader };
 
     ghost view = { λ a. take a.count a.entries };
 
-    ghost invariant = { λ a. a.count ≤ 64 };
+    ghost invariant = { λ a. a.count ≤ MAX_PROGRAM_HEADERS };
 }
 
 impl HeaderTable {
@@ -184,13 +203,13 @@ impl HeaderTable {
         ensures { result ≡ [] }
     {
         HeaderTable {
-            entries: [ProgramHeader::ZERO; 64],
+            entries: [ProgramHeader::ZERO; MAX_PROGRAM_HEADERS],
             count: 0,
         }
     }
 
     fn push(&mut self, header: ProgramHeader)
-        requires { length self.old < 64 }
+        requires { length self.old < MAX_PROGRAM_HEADERS }
         ensures { self.new ≡ self.old ++ header ∷ [] }
     {
         self.entries[self.count] = header;
@@ -199,7 +218,7 @@ impl HeaderTable {
 
     pub fn as_slice(&self) -> &[ProgramHeader]
         ensures value { result.now ≡ self.now }
-        ensures bound { length self.now ≤ 64 }
+        ensures bound { length self.now ≤ MAX_PROGRAM_HEADERS }
     {
         &self.entries[..self.count]
     }
@@ -214,7 +233,7 @@ impl HeaderTable {
         let count = half_at(E_PHNUM, file) as usize;
         let mut table = HeaderTable::new();
         for i in 0..count {
-            table.push(program_header_at(first + 32 * i, file));
+            table.push(program_header_at(first + PROGRAM_HEADER_SIZE as usize * i, file));
         }
         table
     }

@@ -6,12 +6,17 @@ mod error;
 mod faults;
 mod header;
 mod image;
+mod layout;
 mod note;
 mod reading;
 mod segment;
 
 pub use error::ElfError;
 pub use image::Image;
+pub use layout::{
+    HIGH_SEGMENTS, HIGH_SEGMENTS_END, LOW_SEGMENTS, LOW_SEGMENTS_END, MAX_FILE_SIZE,
+    MAX_MEMORY_SIZE, MAX_SEGMENTS,
+};
 pub use reading::read;
 pub use segment::{Rights, Segment};
 

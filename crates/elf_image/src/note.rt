@@ -1,8 +1,8 @@
 //! The notes of a note segment.
 
-ghost use Rattle.std.specs.Prelude.{◌≡◌, ◌<◌, ◌++◌, All, IfOk, IfErr, OnErr, is_err, option_copied, slice_get, ◌^◌, ◌+◌, ◌==◌, ◌∷◌, [], true, false, IfSome, IfNone, MatchOption, length, drop, if◌then◌else◌};
+ghost use Rattle.std.specs.Prelude.{◌≡◌, ◌<◌, ◌++◌, All, IfOk, IfErr, OnErr, is_err, option_copied, slice_get, ◌^◌, ◌+◌, ◌∷◌, [], true, false, IfSome, IfNone, MatchOption, length, drop};
 ghost use Rattle.std.specs.List.{flat_map};
-ghost use Rattle.elf_image.specs.Notes.{padded, has_note, note_of, after_note, is_certificate, certificates_in, listed};
+ghost use Rattle.elf_image.specs.Notes.{padded, note_size_of, has_note, note_of, after_note, is_certificate, certificates_in, listed};
 ghost use Rattle.elf_image.specs.File.{is_note, IsInside, program_headers, certificates_at, certificates_of};
 ghost use Rattle.elf_image.specs.Faults.{has_two_certificates};
 
@@ -16,6 +16,12 @@ const NAME: [u8; 7] = *b"RVVBOX\0";
 const CERTIFICATE: u32 = 1;
 /// The size of a note's header: `namesz`, `descsz` and `type`.
 const NOTE_HEADER_SIZE: usize = 12;
+/// Where its fields lie.
+const N_NAMESZ: usize = 0;
+
+const N_DESCSZ: usize = 4;
+
+const N_TYPE: usize = 8;
 
 /// A note: its name, its descriptor, and its type.
 #[derive(Drop)]
@@ -59,7 +65,7 @@ fn padded(n: usize) -> usize
 fn note_size(name_size: usize, descriptor_size: usize) -> usize
     requires name { name_size < 2 ^ 32 }
     requires descriptor { descriptor_size < 2 ^ 32 }
-    ensures { result ≡ (if descriptor_size == 0 then 12 + name_size else 12 + padded name_size + descriptor_size) }
+    ensures { result ≡ note_size_of name_size descriptor_size }
 {
     if descriptor_size == 0 {
         NOTE_HEADER_SIZE + name_size
@@ -90,8 +96,8 @@ fn split_note(bytes: &[u8]) -> Option<(Note<'_>, &[u8])>
     if bytes.len() < NOTE_HEADER_SIZE {
         return None;
     }
-    let name_size = word_at(0, bytes) as usize;
-    let descriptor_size = word_at(4, bytes) as usize;
+    let name_size = word_at(N_NAMESZ, bytes) as usize;
+    let descriptor_size = word_at(N_DESCSZ, bytes) as usize;
     if bytes.len() < note_size(name_size, descriptor_size) {
         return None;
     }
@@ -99,7 +105,7 @@ fn split_note(bytes: &[u8]) -> Option<(Note<'_>, &[u8])>
     let note = Note {
         name: part_of(bytes, NOTE_HEADER_SIZE, name_size),
         descriptor: part_of(bytes, descriptor_at, descriptor_size),
-        kind: word_at(8, bytes),
+        kind: word_at(N_TYPE, bytes),
     };
     Some((
         note,
@@ -110,7 +116,8 @@ fn split_note(bytes: &[u8]) -> Option<(Note<'_>, &[u8])>
 /// The first certificate, and the bytes after its note.
 #[tactic(auto, using(crate::proofs::Certificates::certificate_first, crate::proofs::Certificates::certificate_later, crate::proofs::Certificates::certificate_none))]
 fn first_certificate(bytes: &[u8]) -> Option<(&[u8], &[u8])>
-    ensures { MatchOption result (certificates_in bytes.now ≡ []) (λ p. certificates_in bytes.now ≡ p.0.now ∷ certificates_in p.1.now) }
+    ensures { MatchOption result (certificates_in bytes.now ≡ [])
+        (λ p. certificates_in bytes.now ≡ p.0.now ∷ certificates_in p.1.now) }
 {
     let mut rest = bytes;
     while let Some((note, after)) = split_note(rest) {

@@ -25,7 +25,8 @@ pub fn read<A: Allocator + Copy>(alloc: A, file: &[u8]) -> Result<Image<A>, ElfE
     // The first fault of the file is told.
     ensures refused { IfSome (fault_of file.now) (λ e. result ≡ Err e) }
     // A file without fault is read as the image that it has, unless memory runs out.
-    ensures image { IfNone (fault_of file.now) (MatchResult result (λ image. image ≡ image_of file.now) (λ e. e ≡ ElfError.NoMemory)) }
+    ensures image { IfNone (fault_of file.now)
+        (MatchResult result (λ image. image ≡ image_of file.now) (λ e. e ≡ ElfError.NoMemory)) }
 {
     if let Some(fault) = header_fault(file) {
         return Err(fault);
