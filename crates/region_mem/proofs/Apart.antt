@@ -5,6 +5,7 @@ use Rattle.std.proofs.lemmas.Bool.Decides.{nat_tests}
 use Rattle.std.proofs.lemmas.List.{length-replicate}
 use Rattle.std.proofs.lemmas.List.Sums.{sum_by-cons, sum_by-append}
 use Rattle.std.proofs.Common.{append_assoc}
+use Rattle.region_mem.specs.declared.layout.TheConstants.{BUFFERS, BUFFERS_END, STACK, STACK_SIZE, MAX_BUFFER_SIZE, PAGE_SIZE}
 use Rattle.region_mem.proofs.Matching.{NonePasses, nothing_wrong}
 use Rattle.region_mem.proofs.Rooms.{and_first, and_second, room_of_valid}
 use Rattle.elf_image.specs.Image.{SegmentView, IsSegment, IsApart, AreApart, IsInPlace}
@@ -101,7 +102,7 @@ segments_beside (s ∷ ss) all apart = (segment_beside s ss all.0 all.1 apart.0,
 
 -- An area lies between the two parts of memory that are for segments.
 abbrev pub IsBetweenSegments : Area → Type 0
-IsBetweenSegments area = (0x2FFF_0000 ≤ area.first) × (end_of area ≤ 0x7FFF_0000)
+IsBetweenSegments area = (STACK ≤ area.first) × (end_of area < BUFFERS_END)
 
 between_beside_step : (area : Area) (s : SegmentView) → IsBetweenSegments area → IsSegment s → IsInPlace s.address s.memory_size → IsBeside area (segment_area s)
 unfolding segment_area
@@ -130,7 +131,7 @@ rising_beside : (low high : ℕ) (areas : List Area) → IsRising low high areas
 rising_beside low high [] rising = tt
 rising_beside low high (a ∷ areas) rising = (rising_above a (end_of a + 1) high areas (omega arith) rising.2, rising_beside (end_of a + 1) high areas rising.2)
 
-rising_between : (low high : ℕ) (areas : List Area) → 0x2FFF_0000 ≤ low → high ≤ 0x7FFF_0000 → IsRising low high areas → AllByRecursion IsBetweenSegments areas
+rising_between : (low high : ℕ) (areas : List Area) → STACK ≤ low → high < BUFFERS_END → IsRising low high areas → AllByRecursion IsBetweenSegments areas
 rising_between low high [] above below rising = tt
 rising_between low high (a ∷ areas) above below rising =
     ((omega (arith, rising.0), omega (arith, rising.1)), rising_between (end_of a + 1) high areas (omega (arith, rising.0)) below rising.2)
@@ -145,12 +146,12 @@ take_middle [] rest = refl
 take_middle (other ∷ done) rest = ap (λ xs. other ∷ xs) (take_middle done rest)
 
 buffer_first : (done todo : List Param) (param : Param) (bytes : List ℕ) → is_buffer param ≡ true →
-    (buffer_area (done ++ param ∷ todo) (length done) bytes).first ≡ 0x4000_0000 + sum_by room_of done
+    (buffer_area (done ++ param ∷ todo) (length done) bytes).first ≡ BUFFERS + sum_by room_of done
 unfolding buffer_area address_of
 buffer_first done todo param bytes is = rw (at_middle done todo param, is, take_middle done (param ∷ todo)) refl
 
 buffer_room : (param : Param) (bytes : List ℕ) → is_wrong_kind (param, argument.Buffer bytes) ≡ false → is_wrong_size (param, argument.Buffer bytes) ≡ false →
-    (is_buffer param ≡ true) × (length bytes + 4096 ≤ room_of param)
+    (is_buffer param ≡ true) × (length bytes + PAGE_SIZE ≤ room_of param)
 unfolding is_wrong_kind is_wrong_size is_buffer room_of
 buffer_room parameter.None bytes kind size = absurd (cc)
 buffer_room (parameter.Scalar lo hi) bytes kind size = absurd (cc)
@@ -169,7 +170,7 @@ rising_step param (argument.Buffer bytes) args params place low high kind size f
     (omega (arith, begins), omega (arith, begins, room.1), rising_from _ _ _ _ (omega (arith, begins, room.1)) next)
 
 pub rising : (done todo : List Param) (args : List Argument) (params : List Param) (place low high : ℕ) → params ≡ done ++ todo → place ≡ length done →
-    low ≡ 0x4000_0000 + sum_by room_of done → high ≡ low + sum_by room_of todo → length args ≤ length todo →
+    low ≡ BUFFERS + sum_by room_of done → high ≡ low + sum_by room_of todo → length args ≤ length todo →
     NonePasses is_wrong_kind (zip todo args) → NonePasses is_wrong_size (zip todo args) → IsRising low high (buffer_areas params place args)
 unfolding buffer_areas
 rising done todo [] params place low high whole at lows highs few kinds sizes = tt
@@ -184,20 +185,20 @@ rising done (param ∷ todo) (arg ∷ args) params place low high whole at lows 
     (λ bytes is. rw (whole, at, lows) (buffer_first done todo param bytes is))
     (omega (arith, highs, sum_by-cons room_of param todo)) next
 
-pub sum_by_all : (params : List Param) → list_all is_valid params ≡ true → sum_by room_of params ≤ length params * 16781312
+pub sum_by_all : (params : List Param) → list_all is_valid params ≡ true → sum_by room_of params ≤ length params * (MAX_BUFFER_SIZE + PAGE_SIZE)
 sum_by_all [] h = omega arith
 sum_by_all (param ∷ params) h =
     omega (arith, sum_by-cons room_of param params, room_of_valid param (and_first _ _ h), sum_by_all params (and_second _ _ h))
 
 stack_between : IsBetweenSegments stack_area
 unfolding stack_area
-stack_between = (omega arith, omega (arith, length_zeros 65536))
+stack_between = (omega arith, omega (arith, length_zeros STACK_SIZE))
 
-stack_beside : (low high : ℕ) (areas : List Area) → 0x4000_0000 ≤ low → IsRising low high areas → AllByRecursion (λ a. IsBeside a stack_area) areas
+stack_beside : (low high : ℕ) (areas : List Area) → BUFFERS ≤ low → IsRising low high areas → AllByRecursion (λ a. IsBeside a stack_area) areas
 unfolding stack_area
 stack_beside low high [] le rising = tt
 stack_beside low high (a ∷ areas) le rising =
-    (inr (omega (arith, rising.0), omega (arith, rising.0, length_zeros 65536)), stack_beside (end_of a + 1) high areas (omega (arith, rising.0)) rising.2)
+    (inr (omega (arith, rising.0), omega (arith, rising.0, length_zeros STACK_SIZE)), stack_beside (end_of a + 1) high areas (omega (arith, rising.0)) rising.2)
 
 swap_beside : (others : List Area) (a : Area) → AllByRecursion (λ o. IsBeside o a) others → AllByRecursion (IsBeside a) others
 swap_beside [] a all = tt
@@ -224,14 +225,14 @@ unfolding start_memory start_areas AreInOrder
 starts_in_order image params args is valid eight places matching =
     let segments = map segment_area image.segments in
     let wrong = nothing_wrong params args matching in
-    let high : ℕ = 0x4000_0000 + sum_by room_of params in
-    let buffers = rising [] params args params 0 0x4000_0000 high refl refl (omega arith) refl (omega arith) wrong.0 wrong.1 in
-    let bound : high ≤ 0x7FFF_0000 = omega (arith, sum_by_all params valid) in
-    let between = rising_between 0x4000_0000 high (buffer_areas params 0 args) (omega arith) bound buffers in
+    let high : ℕ = BUFFERS + sum_by room_of params in
+    let buffers = rising [] params args params 0 BUFFERS high refl refl (omega arith) refl (omega arith) wrong.0 wrong.1 in
+    let bound : high < BUFFERS_END = omega (arith, sum_by_all params valid) in
+    let between = rising_between BUFFERS high (buffer_areas params 0 args) (omega arith) bound buffers in
     let base = inserts_in_order segments [] tt (segments_beside image.segments is.each is.apart) (nothing_beside segments) in
     let with_stack = insert_in_order 0 stack_area (insert_areas segments []) (omega arith) base
     (all_inserts (IsBeside stack_area) segments [] (between_beside stack_area image.segments stack_between is.each) tt) in
     inserts_in_order (buffer_areas params 0 args) (insert_area stack_area (insert_areas segments [])) with_stack
-    (rising_beside 0x4000_0000 high (buffer_areas params 0 args) buffers)
+    (rising_beside BUFFERS high (buffer_areas params 0 args) buffers)
     (beside_inserted (buffer_areas params 0 args) segments (all_between_beside (buffer_areas params 0 args) image.segments between is.each)
-    (stack_beside 0x4000_0000 high (buffer_areas params 0 args) (omega arith) buffers))
+    (stack_beside BUFFERS high (buffer_areas params 0 args) (omega arith) buffers))

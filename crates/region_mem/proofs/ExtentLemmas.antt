@@ -2,6 +2,8 @@
 use Rattle.std.proofs.Common.{◌≡◌, inl, inr, ℕ, zero, suc, ◌+◌, ◌-◌, ◌/◌, ◌%◌, ◌≤◌, Bool, true, false, ◌&&◌, cond, List, [], ◌∷◌, map, Some, None, arith, ap, refl, ◌∙◌, sum_by, set, length-set}
 use Rattle.std.specs.List.{AllByRecursion}
 use Rattle.std.proofs.lemmas.Bool.Decides.{nat_tests}
+use Rattle.elf_image.specs.declared.layout.TheConstants.{HIGH_SEGMENTS_END}
+use Rattle.region_mem.specs.declared.layout.TheConstants.{BUFFERS, STACK_SIZE}
 use Rattle.region_mem.proofs.Matching.{nothing_wrong}
 use Rattle.region_mem.proofs.Apart.{IsRising, end_of, all_insert, all_inserts, rising, sum_by_all, length_zeros, length_segment}
 use Rattle.elf_image.specs.Image.{SegmentView, IsSegment, IsInPlace}
@@ -47,10 +49,10 @@ stores_keep_extents address n value memory stored e =
 
 -- No area lies above the segments.
 abbrev pub EndsBelow : Area → Type 0
-EndsBelow area = end_of area ≤ 0xC000_0000
+EndsBelow area = end_of area ≤ HIGH_SEGMENTS_END
 
 abbrev pub ExtentEndsBelow : Extent → Type 0
-ExtentEndsBelow e = e.first + e.size ≤ 0xC000_0000
+ExtentEndsBelow e = e.first + e.size ≤ HIGH_SEGMENTS_END
 
 to_extents : (areas : List Area) → AllByRecursion EndsBelow areas → AllByRecursion ExtentEndsBelow (map extent_of areas)
 unfolding extent_of
@@ -71,20 +73,20 @@ segments_end : (ss : List SegmentView) → AllByRecursion IsSegment ss → AllBy
 segments_end [] all = tt
 segments_end (s ∷ ss) all = (segment_ends_step s all.0 all.0.in_place, segments_end ss all.1)
 
-rising_end : (low high : ℕ) (areas : List Area) → high ≤ 0xC000_0000 → IsRising low high areas → AllByRecursion EndsBelow areas
+rising_end : (low high : ℕ) (areas : List Area) → high ≤ HIGH_SEGMENTS_END → IsRising low high areas → AllByRecursion EndsBelow areas
 rising_end low high [] le rising = tt
 rising_end low high (a ∷ areas) le rising = (omega (arith, rising.1), rising_end (end_of a + 1) high areas le rising.2)
 
 stack_ends : EndsBelow stack_area
 unfolding stack_area
-stack_ends = omega (arith, length_zeros 65536)
+stack_ends = omega (arith, length_zeros STACK_SIZE)
 
 -- None of them is open there.
-holds_none : (address : ℕ) (area : Area) → 0xC000_0000 ≤ address → EndsBelow area → holds address area ≡ false
+holds_none : (address : ℕ) (area : Area) → HIGH_SEGMENTS_END ≤ address → EndsBelow area → holds address area ≡ false
 unfolding holds
 holds_none address area above below = grind (arith, nat_tests)
 
-open_none : (right : Right) (address : ℕ) (areas : List Area) → 0xC000_0000 ≤ address → AllByRecursion EndsBelow areas → is_open right areas address ≡ false
+open_none : (right : Right) (address : ℕ) (areas : List Area) → HIGH_SEGMENTS_END ≤ address → AllByRecursion EndsBelow areas → is_open right areas address ≡ false
 unfolding is_open
 open_none right address [] above all = refl
 open_none right address (area ∷ areas) above all =
@@ -94,7 +96,7 @@ and_none : (a b c : Bool) → b ≡ false → (a && (b && c)) ≡ false
 and_none true b c e = rw e refl
 and_none false b c e = refl
 
-fetch_none : (pc : ℕ) (memory : Memory) → 0xC000_0000 ≤ pc → AllByRecursion EndsBelow memory.areas → fetch_of pc memory ≡ None
+fetch_none : (pc : ℕ) (memory : Memory) → HIGH_SEGMENTS_END ≤ pc → AllByRecursion EndsBelow memory.areas → fetch_of pc memory ≡ None
 unfolding fetch_of is_permitted is_open_from
 fetch_none pc memory above all = rw (and_none _ _ _ (open_none Fetch pc memory.areas above all)) refl
 
@@ -103,10 +105,10 @@ unfolding start_memory start_areas
 fetches_nothing_above image params args is valid eight places matching memory same pc above =
     let segments = map segment_area image.segments in
     let wrong = nothing_wrong params args matching in
-    let high : ℕ = 0x4000_0000 + sum_by room_of params in
-    let buffers = rising [] params args params 0 0x4000_0000 high refl refl (omega arith) refl (omega arith) wrong.0 wrong.1 in
-    let bound : high ≤ 0xC000_0000 = omega (arith, sum_by_all params valid) in
+    let high : ℕ = BUFFERS + sum_by room_of params in
+    let buffers = rising [] params args params 0 BUFFERS high refl refl (omega arith) refl (omega arith) wrong.0 wrong.1 in
+    let bound : high ≤ HIGH_SEGMENTS_END = omega (arith, sum_by_all params valid) in
     let fixed = all_insert EndsBelow stack_area (insert_areas segments []) stack_ends (all_inserts EndsBelow segments [] (segments_end image.segments is.each) tt) in
-    let all = all_inserts EndsBelow (buffer_areas params 0 args) (insert_area stack_area (insert_areas segments [])) (rising_end 0x4000_0000 high (buffer_areas params 0 args) bound buffers) fixed in
+    let all = all_inserts EndsBelow (buffer_areas params 0 args) (insert_area stack_area (insert_areas segments [])) (rising_end BUFFERS high (buffer_areas params 0 args) bound buffers) fixed in
     let here : AllByRecursion ExtentEndsBelow (map extent_of memory.areas) = rw (same.0) (to_extents _ all) in
     fetch_none pc memory above (from_extents memory.areas here)

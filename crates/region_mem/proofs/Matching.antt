@@ -3,6 +3,7 @@ use Rattle.std.proofs.Common.{◌≡◌, ℕ, suc, ◌+◌, ◌≤◌, Bool, tru
 use Rattle.std.specs.List.{list_all, zip, position, position_or_len, AllByRecursion}
 use Rattle.std.specs.Option.{option_map, option_or}
 use Rattle.std.proofs.lemmas.Bool.Decides.{nat_tests}
+use Rattle.region_mem.specs.declared.layout.TheConstants.{MAX_BUFFER_SIZE}
 use Rattle.region_mem.specs.Parameter.{Argument, is_valid, is_wrong_kind, is_wrong_size, argument_error, size_of}
 use Rattle.region_mem.specs.declared.parameter.Param.{Param}
 use Rattle.region_mem.specs.declared.parameter.Param.TheVariants as parameter
@@ -32,7 +33,7 @@ map_none : {X Y : Type 0} (f : X → Y) (o : Option X) → option_map f o ≡ No
 map_none f None h = refl
 map_none f (Some x) h = absurd (cc)
 
-size_small : (param : Param) (arg : Argument) → is_valid param ≡ true → is_wrong_kind (param, arg) ≡ false → is_wrong_size (param, arg) ≡ false → size_of arg ≤ 16777216
+size_small : (param : Param) (arg : Argument) → is_valid param ≡ true → is_wrong_kind (param, arg) ≡ false → is_wrong_size (param, arg) ≡ false → size_of arg ≤ MAX_BUFFER_SIZE
 unfolding is_valid is_wrong_kind is_wrong_size size_of
 size_small param argument.None v k s = omega arith
 size_small param (argument.Scalar value) v k s = omega arith
@@ -41,7 +42,7 @@ size_small (parameter.Scalar lo hi) (argument.Buffer bytes) v k s = absurd (cc)
 size_small (parameter.Buffer mode size) (argument.Buffer bytes) v k s = grind (arith, nat_tests)
 
 pub sizes_small : (params : List Param) (args : List Argument) → list_all is_valid params ≡ true → length args ≤ length params →
-    NonePasses is_wrong_kind (zip params args) → NonePasses is_wrong_size (zip params args) → AllByRecursion (λ arg. size_of arg ≤ 16777216) args
+    NonePasses is_wrong_kind (zip params args) → NonePasses is_wrong_size (zip params args) → AllByRecursion (λ arg. size_of arg ≤ MAX_BUFFER_SIZE) args
 sizes_small params [] v few kinds sizes = tt
 sizes_small [] (arg ∷ args) v few kinds sizes = absurd (omega arith)
 sizes_small (param ∷ params) (arg ∷ args) v few kinds sizes =
@@ -59,6 +60,6 @@ nothing_wrong params args h =
 
 -- Buffers that match have at most 16 MiB.
 pub sizes_of_matching : (params : List Param) (args : List Argument) → list_all is_valid params ≡ true → length args ≤ length params →
-    argument_error params args ≡ None → AllByRecursion (λ arg. size_of arg ≤ 16777216) args
+    argument_error params args ≡ None → AllByRecursion (λ arg. size_of arg ≤ MAX_BUFFER_SIZE) args
 sizes_of_matching params args v few h =
     let wrong = nothing_wrong params args h in sizes_small params args v few wrong.0 wrong.1

@@ -1,14 +1,15 @@
 -- How much room buffers take.
-use Rattle.std.proofs.Common.{◌≡◌, ℕ, zero, suc, ◌*◌, ◌<◌, ◌≤◌, ◌^◌, Bool, true, false, ◌&&◌, List, [], ◌∷◌, length, take, arith, sum_by}
+use Rattle.std.proofs.Common.{◌≡◌, ℕ, zero, suc, ◌+◌, ◌*◌, ◌<◌, ◌≤◌, ◌^◌, Bool, true, false, ◌&&◌, List, [], ◌∷◌, length, take, arith, sum_by}
 use Rattle.std.specs.List.{list_all}
 use Rattle.std.proofs.lemmas.List.Sums.{sum_by-cons}
 use Rattle.std.proofs.lemmas.Bool.Decides.{nat_tests}
+use Rattle.region_mem.specs.declared.layout.TheConstants.{MAX_BUFFER_SIZE, PAGE_SIZE}
 use Rattle.region_mem.specs.Parameter.{is_valid, room_of}
 use Rattle.region_mem.specs.declared.parameter.Param.{Param}
 use Rattle.region_mem.specs.declared.parameter.Param.TheVariants as parameter
 
 -- A valid parameter takes at most 16 MiB and a page.
-pub room_of_valid : (param : Param) → is_valid param ≡ true → room_of param ≤ 16781312
+pub room_of_valid : (param : Param) → is_valid param ≡ true → room_of param ≤ (MAX_BUFFER_SIZE + PAGE_SIZE)
 unfolding is_valid room_of
 room_of_valid parameter.None h = omega arith
 room_of_valid (parameter.Scalar lo hi) h = omega arith
@@ -22,7 +23,7 @@ pub and_second : (a b : Bool) → (a && b) ≡ true → b ≡ true
 and_second true b h = h
 and_second false b h = absurd (cc)
 
-pub sum_by_rooms : (place : ℕ) (params : List Param) → list_all is_valid params ≡ true → sum_by room_of (take place params) ≤ place * 16781312
+pub sum_by_rooms : (place : ℕ) (params : List Param) → list_all is_valid params ≡ true → sum_by room_of (take place params) ≤ place * (MAX_BUFFER_SIZE + PAGE_SIZE)
 sum_by_rooms zero params h = omega arith
 sum_by_rooms (suc place) [] h = omega arith
 sum_by_rooms (suc place) (param ∷ params) h =

@@ -3,6 +3,7 @@ use Rattle.std.proofs.Common.{◌≡◌, inl, inr, ℕ, ◌+◌, ◌<◌, ◌≤
 use Rattle.std.specs.List.{AllByRecursion}
 use Rattle.std.proofs.lemmas.Bool.Decides.{nat_tests}
 use Rattle.std.proofs.Common.{append_assoc, append-nil}
+use Rattle.region_mem.specs.declared.layout.TheConstants.{BUFFERS, BUFFERS_END}
 use Rattle.region_mem.proofs.Matching.{nothing_wrong}
 use Rattle.region_mem.proofs.Apart.{IsRising, end_of, all_insert, all_inserts, rising, sum_by_all}
 use Rattle.elf_image.specs.Image.{SegmentView, IsSegment, IsInPlace}
@@ -92,12 +93,12 @@ below_more : (low high : ℕ) (areas : List Area) → low ≤ high → AllByRecu
 below_more low high [] le all = tt
 below_more low high (a ∷ areas) le all = ((λ is. omega (arith, all.0 is)), below_more low high areas le all.1)
 
-is_buffer_from : (a : Area) → 0x4000_0000 ≤ a.first → a.first < 0x8000_0000 → is_buffer_area a ≡ true
+is_buffer_from : (a : Area) → BUFFERS ≤ a.first → a.first < BUFFERS_END → is_buffer_area a ≡ true
 unfolding is_buffer_area
 is_buffer_from a low high = grind (arith, nat_tests)
 
 -- Buffers that rise come after those that were there.
-inserts_last : (low high : ℕ) (others areas : List Area) → 0x4000_0000 ≤ low → high < 0x8000_0000 → IsRising low high others → AreSorted areas →
+inserts_last : (low high : ℕ) (others areas : List Area) → BUFFERS ≤ low → high < BUFFERS_END → IsRising low high others → AreSorted areas →
     AllByRecursion (IsBelow low) areas → filter is_buffer_area (insert_areas others areas) ≡ filter is_buffer_area areas ++ others
 unfolding insert_areas
 inserts_last low high [] areas above below rising sorted less = sym (append-nil _)
@@ -139,11 +140,11 @@ unfolding start_memory start_areas args_of
 gives_arguments_back image params args is valid eight places matching =
     let segments = map segment_area image.segments in
     let wrong = nothing_wrong params args matching in
-    let high : ℕ = 0x4000_0000 + sum_by room_of params in
-    let buffers = rising [] params args params 0 0x4000_0000 high refl refl (omega arith) refl (omega arith) wrong.0 wrong.1 in
-    let bound : high < 0x8000_0000 = omega (arith, sum_by_all params valid) in
+    let high : ℕ = BUFFERS + sum_by room_of params in
+    let buffers = rising [] params args params 0 BUFFERS high refl refl (omega arith) refl (omega arith) wrong.0 wrong.1 in
+    let bound : high < BUFFERS_END = omega (arith, sum_by_all params valid) in
     let base = insert_area stack_area (insert_areas segments []) in
     let none = all_insert IsNone stack_area (insert_areas segments []) none_stack (all_inserts IsNone segments [] (none_segments image.segments is.each) tt) in
-    let found = inserts_last 0x4000_0000 high (buffer_areas params 0 args) base (omega arith) bound buffers
-    (insert_sorted stack_area (insert_areas segments []) (inserts_sorted segments [] tt)) (none_below 0x4000_0000 base none) in
+    let found = inserts_last BUFFERS high (buffer_areas params 0 args) base (omega arith) bound buffers
+    (insert_sorted stack_area (insert_areas segments []) (inserts_sorted segments [] tt)) (none_below BUFFERS base none) in
     rw (found, none_filtered base none) (args_back params 0 args)

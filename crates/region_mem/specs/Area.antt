@@ -29,11 +29,13 @@ is_open right areas address = list_any (λ area. holds address area && has_right
 
 -- An access is permitted where each of its bytes lies in an area with the right, and none past the last address.
 unfoldable pub is_open_from : Right → ℕ → ℕ → List Area → Bool
-is_open_from right address size areas = nat_le (address + size) (2 ^ 32) && list_all (is_open right areas) (range_with_len address size)
+is_open_from right address size areas =
+    nat_le (address + size) (2 ^ 32) && list_all (is_open right areas) (range_with_len address size)
 
 -- the byte at an address, where an area holds it
 unfoldable pub byte_at : ℕ → List Area → Option ℕ
-byte_at address areas = option_map (λ area. slice_index area.bytes (address - area.first)) (find (holds address) areas)
+byte_at address areas =
+    option_map (λ area. slice_index area.bytes (address - area.first)) (find (holds address) areas)
 
 -- the number of which these are the bytes, the lowest first
 unfoldable pub number_of : List ℕ → ℕ
@@ -42,15 +44,19 @@ number_of (byte ∷ bytes) = byte + 256 * number_of bytes
 
 -- the number in the n bytes from an address on
 unfoldable pub number_at : ℕ → ℕ → List Area → ℕ
-number_at address n areas = number_of (map (λ at. unwrap_or (byte_at at areas) 0) (range_with_len address n))
+number_at address n areas =
+    number_of (map (λ at. unwrap_or (byte_at at areas) 0) (range_with_len address n))
 
 -- the areas with this byte at an address
 unfoldable pub with_byte : ℕ → ℕ → List Area → List Area
 with_byte address byte [] = []
 with_byte address byte (area ∷ areas) =
-    if holds address area then record area { bytes = slice_set area.bytes (address - area.first) byte } ∷ areas else area ∷ with_byte address byte areas
+    if holds address area
+    then record area { bytes = slice_set area.bytes (address - area.first) byte } ∷ areas
+    else area ∷ with_byte address byte areas
 
 -- the areas with the n lowest bytes of a number from an address on
 unfoldable pub with_number : ℕ → ℕ → ℕ → List Area → List Area
 with_number address zero value areas = areas
-with_number address (suc n) value areas = with_number (address + 1) n (value / 256) (with_byte address (value % 256) areas)
+with_number address (suc n) value areas =
+    with_number (address + 1) n (value / 256) (with_byte address (value % 256) areas)

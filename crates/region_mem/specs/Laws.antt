@@ -1,6 +1,7 @@
 -- Laws of memory: what its definitions give, whatever the image, the parameters and the arguments that match them.
 use Rattle.std.specs.Prelude.{◌≡◌, ℕ, ◌+◌, ◌≤◌, Bool, true, List, [], ◌∷◌, length, map, Some, None}
 use Rattle.std.specs.List.{list_all}
+use Rattle.elf_image.specs.declared.layout.TheConstants.{HIGH_SEGMENTS_END}
 use Rattle.elf_image.specs.Image.{ImageView, IsImage}
 use Rattle.region_mem.specs.declared.parameter.Param.{Param}
 use Rattle.region_mem.specs.Parameter.{Argument, is_valid, AreArguments}
@@ -60,8 +61,9 @@ StoresKeepExtents =
     (address n value : ℕ) (memory stored : Memory) → store_of address n value memory ≡ Some stored →
     HasExtentsOf stored memory
 
--- No word is fetched from C000_0000 on, at the start or after any stores: EXIT lies there.
+-- No word is fetched from the end of the segments' places on, at the start or after any stores: EXIT lies there.
 abbrev pub FetchesNothingAbove : Type 0
 FetchesNothingAbove =
-    ForEachStart (λ image params args. (memory : Memory) → HasExtentsOf memory (start_memory image params args) →
-    (pc : ℕ) → 0xC000_0000 ≤ pc → fetch_of pc memory ≡ None)
+    ForEachStart (λ image params args. (memory : Memory) →
+    HasExtentsOf memory (start_memory image params args) →
+    (pc : ℕ) → HIGH_SEGMENTS_END ≤ pc → fetch_of pc memory ≡ None)

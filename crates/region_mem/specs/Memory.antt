@@ -1,5 +1,6 @@
 -- The memory of a run, and what loads, stores and fetches do with it.
 use Rattle.std.specs.Prelude.{◌≡◌, ◌⊎◌, ℕ, Bool, ◌&&◌, nat_le, nat_lt, List, [], ◌∷◌, filter, Option, Some, None, if◌then◌else◌}
+use Rattle.region_mem.specs.declared.layout.TheConstants.{BUFFERS, BUFFERS_END}
 use Rattle.region_mem.specs.declared.faults.Right.{Right}
 use Rattle.region_mem.specs.declared.faults.Right.TheVariants.{Read, Write, Fetch}
 use Rattle.region_mem.specs.Parameter.{Argument}
@@ -27,19 +28,23 @@ IsAccessSize n = (n ≡ 1) ⊎ (n ≡ 2) ⊎ (n ≡ 4)
 
 -- what a load of n bytes gives, the lowest byte first
 unfoldable pub load_of : ℕ → ℕ → Memory → Option ℕ
-load_of address n memory = if is_permitted Read address n memory then Some (number_at address n memory.areas) else None
+load_of address n memory =
+    if is_permitted Read address n memory then Some (number_at address n memory.areas) else None
 
 -- what a store of the n lowest bytes of a value leaves
 unfoldable pub store_of : ℕ → ℕ → ℕ → Memory → Option Memory
-store_of address n value memory = if is_permitted Write address n memory then Some (record memory { areas = with_number address n value memory.areas }) else None
+store_of address n value memory =
+    if is_permitted Write address n memory
+    then Some (record memory { areas = with_number address n value memory.areas }) else None
 
 -- the word that a fetch gives
 unfoldable pub fetch_of : ℕ → Memory → Option ℕ
-fetch_of pc memory = if is_permitted Fetch pc 4 memory then Some (number_at pc 4 memory.areas) else None
+fetch_of pc memory =
+    if is_permitted Fetch pc 4 memory then Some (number_at pc 4 memory.areas) else None
 
 -- the area is a buffer's: buffers alone lie here
 unfoldable pub is_buffer_area : Area → Bool
-is_buffer_area area = nat_le 0x4000_0000 area.first && nat_lt area.first 0x8000_0000
+is_buffer_area area = nat_le BUFFERS area.first && nat_lt area.first BUFFERS_END
 
 -- what a place gets of the buffers that are left, and the buffers that are left after it
 unfoldable pub arg_with : Passed → List Area → Argument
@@ -57,7 +62,8 @@ left_after passed.Buffer (buffer ∷ buffers) = buffers
 -- The buffers stand in the order of their places.
 unfoldable pub args_with : List Passed → List Area → List Argument
 args_with [] buffers = []
-args_with (place ∷ places) buffers = arg_with place buffers ∷ args_with places (left_after place buffers)
+args_with (place ∷ places) buffers =
+    arg_with place buffers ∷ args_with places (left_after place buffers)
 
 -- the arguments as they stand: the buffers' bytes, and all else as it was passed
 unfoldable pub args_of : Memory → List Argument

@@ -1,7 +1,8 @@
 -- What a kernel's eight parameters say, where its buffers lie, and which arguments match them.
-use Rattle.std.specs.Prelude.{◌≡◌, ℕ, ◌+◌, ◌*◌, ◌/◌, ◌==◌, Bool, true, false, ◌&&◌, not, nat_le, List, length, take, sum_by, position, Option, Some, None, Result, Ok, Err, if◌then◌else◌}
+use Rattle.std.specs.Prelude.{◌≡◌, ℕ, ◌+◌, ◌*◌, ◌-◌, ◌/◌, ◌==◌, Bool, true, false, ◌&&◌, not, nat_le, List, length, take, sum_by, position, Option, Some, None, Result, Ok, Err, if◌then◌else◌}
 use Rattle.std.specs.List.{list_all, zip, slice_get}
 use Rattle.std.specs.Option.{option_map, option_and_then, option_or}
+use Rattle.region_mem.specs.declared.layout.TheConstants.{BUFFERS, MAX_BUFFER_SIZE, PAGE_SIZE}
 use Rattle.region_mem.specs.declared.parameter.Param.{Param}
 use Rattle.region_mem.specs.declared.parameter.Param.TheVariants as parameter
 use Rattle.region_mem.specs.declared.arguments.Arg.{Arg}
@@ -13,30 +14,34 @@ use Rattle.region_mem.specs.declared.parameter.ArgError.TheVariants.{WrongKind, 
 abbrev pub Argument : Type 0
 Argument = Arg (List ℕ)
 
--- A scalar's interval is not empty, and a buffer has at most 16 MiB.
+-- A scalar's interval is not empty, and a buffer is not too large.
 unfoldable pub is_valid : Param → Bool
 is_valid parameter.None = true
 is_valid (parameter.Scalar lo hi) = nat_le lo hi
-is_valid (parameter.Buffer mode size) = nat_le size 16777216
+is_valid (parameter.Buffer mode size) = nat_le size MAX_BUFFER_SIZE
 
 -- the parameters, where each is valid
 unfoldable pub parameters_of : List Param → Option (List Param)
 parameters_of params = if list_all is_valid params then Some params else None
 
--- from a buffer's address to the next one's: its size rounded up to whole pages of 4096 bytes, and one page more
+-- from a buffer's address to the next one's: its size rounded up to whole pages, and one page more
 unfoldable pub room_of : Param → ℕ
 room_of parameter.None = 0
 room_of (parameter.Scalar lo hi) = 0
-room_of (parameter.Buffer mode size) = (size + 4095) / 4096 * 4096 + 4096
+room_of (parameter.Buffer mode size) =
+    (size + PAGE_SIZE - 1) / PAGE_SIZE * PAGE_SIZE + PAGE_SIZE
 
 unfoldable pub is_buffer : Param → Bool
 is_buffer parameter.None = false
 is_buffer (parameter.Scalar lo hi) = false
 is_buffer (parameter.Buffer mode size) = true
 
--- The buffers lie one after another from 4000_0000 on.
+-- The buffers lie one after another.
 unfoldable pub address_of : ℕ → List Param → Option ℕ
-address_of place params = option_and_then (λ param. if is_buffer param then Some (0x4000_0000 + sum_by room_of (take place params)) else None) (slice_get params place)
+address_of place params =
+    option_and_then (λ param.
+    if is_buffer param then Some (BUFFERS + sum_by room_of (take place params)) else None)
+    (slice_get params place)
 
 -- The argument is of another kind than the parameter.
 unfoldable pub is_wrong_kind : Param × Argument → Bool
@@ -47,7 +52,8 @@ is_wrong_kind other = true
 
 -- The argument is a scalar outside the parameter's interval.
 unfoldable pub is_out_of_interval : Param × Argument → Bool
-is_out_of_interval (parameter.Scalar lo hi, argument.Scalar value) = not (nat_le lo value && nat_le value hi)
+is_out_of_interval (parameter.Scalar lo hi, argument.Scalar value) =
+    not (nat_le lo value && nat_le value hi)
 is_out_of_interval other = false
 
 -- The argument is a buffer of another size than the parameter's.
@@ -59,7 +65,9 @@ is_wrong_size other = false
 unfoldable pub argument_error : List Param → List Argument → Option ArgError
 argument_error params args =
     let pairs = zip params args in
-    option_or (option_map WrongKind (position is_wrong_kind pairs)) (option_or (option_map ScalarOutOfInterval (position is_out_of_interval pairs)) (option_map WrongSize (position is_wrong_size pairs)))
+    option_or (option_map WrongKind (position is_wrong_kind pairs))
+    (option_or (option_map ScalarOutOfInterval (position is_out_of_interval pairs))
+    (option_map WrongSize (position is_wrong_size pairs)))
 
 -- the answer of a test that found this error, or none
 unfoldable pub refused_by : {E : Type 0} → Option E → Result (Unit {0}) E

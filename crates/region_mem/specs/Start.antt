@@ -2,6 +2,7 @@
 use Rattle.std.specs.Prelude.{ℕ, ◌+◌, ◌-◌, Bool, true, false, nat_lt, List, [], ◌∷◌, ◌++◌, length, map, replicate, unwrap_or, if◌then◌else◌}
 use Rattle.std.specs.List.{slice_get}
 use Rattle.elf_image.specs.Image.{SegmentView, ImageView}
+use Rattle.region_mem.specs.declared.layout.TheConstants.{STACK, STACK_SIZE}
 use Rattle.region_mem.specs.declared.parameter.Mode.TheVariants.{ReadWrite}
 use Rattle.region_mem.specs.declared.parameter.Param.{Param}
 use Rattle.region_mem.specs.declared.parameter.Param.TheVariants as parameter
@@ -25,9 +26,15 @@ segment_area segment = record {
   fetch = segment.execute;
 }
 
--- The stack: 64 KiB of zeros.
+-- The stack: zeros.
 unfoldable pub stack_area : Area
-stack_area = record { first = 0x2FFF_0000; bytes = zeros 65536; read = true; write = true; fetch = false }
+stack_area = record {
+  first = STACK;
+  bytes = zeros STACK_SIZE;
+  read = true;
+  write = true;
+  fetch = false;
+}
 
 -- The place has a buffer that may be written.
 unfoldable pub is_writable : Param → Bool
@@ -49,12 +56,14 @@ unfoldable pub buffer_areas : List Param → ℕ → List Argument → List Area
 buffer_areas params place [] = []
 buffer_areas params place (argument.None ∷ args) = buffer_areas params (place + 1) args
 buffer_areas params place (argument.Scalar value ∷ args) = buffer_areas params (place + 1) args
-buffer_areas params place (argument.Buffer bytes ∷ args) = buffer_area params place bytes ∷ buffer_areas params (place + 1) args
+buffer_areas params place (argument.Buffer bytes ∷ args) =
+    buffer_area params place bytes ∷ buffer_areas params (place + 1) args
 
 -- the areas with one more, in front of those that begin above it
 unfoldable pub insert_area : Area → List Area → List Area
 insert_area area [] = area ∷ []
-insert_area area (other ∷ areas) = if nat_lt area.first other.first then area ∷ other ∷ areas else other ∷ insert_area area areas
+insert_area area (other ∷ areas) =
+    if nat_lt area.first other.first then area ∷ other ∷ areas else other ∷ insert_area area areas
 
 -- the areas of the second list with those of the first
 unfoldable pub insert_areas : List Area → List Area → List Area
@@ -63,7 +72,9 @@ insert_areas (area ∷ others) areas = insert_areas others (insert_area area are
 
 -- segments, stack and buffers, in the order of their first addresses
 unfoldable pub start_areas : ImageView → List Param → List Argument → List Area
-start_areas image params args = insert_areas (buffer_areas params 0 args) (insert_area stack_area (insert_areas (map segment_area image.segments) []))
+start_areas image params args =
+    insert_areas (buffer_areas params 0 args)
+    (insert_area stack_area (insert_areas (map segment_area image.segments) []))
 
 -- what a place was passed, without a buffer's bytes
 unfoldable pub passed_of : Argument → Passed
@@ -73,4 +84,7 @@ passed_of (argument.Buffer bytes) = passed.Buffer
 
 -- the memory at the start of a run of an image with these parameters and arguments
 unfoldable pub start_memory : ImageView → List Param → List Argument → Memory
-start_memory image params args = record { areas = start_areas image params args; passed = map passed_of args }
+start_memory image params args = record {
+  areas = start_areas image params args;
+  passed = map passed_of args;
+}

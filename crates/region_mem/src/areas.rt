@@ -5,6 +5,7 @@ ghost use Rattle.std.specs.Option.{option_copied};
 
 use crate::arguments::Bytes;
 use crate::faults::Right;
+use crate::layout::{BUFFERS, BUFFERS_END};
 use std::alloc::{Allocator, Global};
 use std::marker::Model;
 
@@ -75,7 +76,7 @@ impl<A: Allocator> Region<A> {
     pub(crate) fn is_buffer(&self) -> bool
         ensures { result ≡ is_buffer_area self.now }
     {
-        0x4000_0000 <= self.first && self.first < 0x8000_0000
+        u64::from(BUFFERS) <= self.first && self.first < u64::from(BUFFERS_END)
     }
 
     #[tactic(auto, unfolding(crate::specs::Area::holds))]

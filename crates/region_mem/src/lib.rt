@@ -9,6 +9,7 @@ mod areas;
 mod arguments;
 mod faults;
 mod laws;
+mod layout;
 mod memory;
 mod parameter;
 mod start;
@@ -16,6 +17,7 @@ mod start;
 pub use arguments::{Arg, Args, Bytes, Passed};
 pub use faults::{Fault, Right};
 pub use laws::{fetches_nothing_above, gives_arguments_back, starts_in_order, stores_keep_extents};
+pub use layout::{BUFFERS, BUFFERS_END, MAX_BUFFER_SIZE, PAGE_SIZE, STACK, STACK_END, STACK_SIZE};
 pub use memory::Regions;
 pub use parameter::{ArgError, Mode, Param, Parameters};
 

@@ -6,6 +6,7 @@ ghost use Rattle.std.specs.Option.{option_map};
 ghost use Rattle.region_mem.specs.Parameter.{is_valid, parameters_of, is_buffer, room_of, address_of, is_wrong_kind, is_out_of_interval, is_wrong_size, argument_error, refused_by, size_of, AreArguments};
 
 use crate::arguments::{Arg, Args, Bytes};
+use crate::layout::{BUFFERS, BUFFERS_END, MAX_BUFFER_SIZE, PAGE_SIZE};
 use std::alloc::Allocator;
 use std::error::Error;
 use std::fmt;
@@ -36,7 +37,7 @@ impl Param {
         match self {
             Param::None => true,
             Param::Scalar { lo, hi } => lo <= hi,
-            Param::Buffer { mode: _, size } => size <= 16_777_216,
+            Param::Buffer { mode: _, size } => size <= MAX_BUFFER_SIZE,
         }
     }
 
@@ -57,7 +58,10 @@ impl Param {
         match self {
             Param::None => 0,
             Param::Scalar { lo: _, hi: _ } => 0,
-            Param::Buffer { mode: _, size } => (u64::from(size) + 4095) / 4096 * 4096 + 4096,
+            Param::Buffer { mode: _, size } => {
+                let page = u64::from(PAGE_SIZE);
+                (u64::from(size) + page - 1) / page * page + page
+            }
         }
     }
 }
@@ -158,11 +162,11 @@ impl Parameters {
     #[tactic(auto, using(crate::proofs::Rooms::sum_by_room), unfolding(crate::specs::Parameter::address_of))]
     pub fn address(&self, place: usize) -> Option<u32>
         ensures value { result ≡ address_of place self.now }
-        ensures low { IfSome result (λ address. address < 0x8000_0000) }
+        ensures low { IfSome result (λ address. address < BUFFERS_END) }
     {
         let param = *self.params.get(place)?;
         if param.is_buffer() {
-            Some(0x4000_0000 + room_before(&self.params[..place]) as u32)
+            Some(BUFFERS + room_before(&self.params[..place]) as u32)
         } else {
             None
         }
@@ -172,7 +176,7 @@ impl Parameters {
     #[tactic(auto, using(crate::proofs::Matching::sizes_of_matching))]
     pub(crate) fn bound_sizes<A: Allocator>(&self, args: &Args<Bytes<A>>)
         requires { AreArguments self.now args.now.places }
-        ensures { AllByRecursion (λ arg. size_of arg ≤ 16777216) args.now.places }
+        ensures { AllByRecursion (λ arg. size_of arg ≤ MAX_BUFFER_SIZE) args.now.places }
     {
         let _param = &self.params[7];
         let _arg = &args.places[7];

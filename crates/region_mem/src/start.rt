@@ -13,6 +13,7 @@ ghost use Rattle.region_mem.specs.Parameter.{size_of};
 
 use crate::areas::Region;
 use crate::arguments::{Arg, Args, Bytes, Passed};
+use crate::layout::{MAX_BUFFER_SIZE, STACK, STACK_SIZE};
 use crate::parameter::{Mode, Param, Parameters};
 use elf_image::{Image, Segment};
 use std::alloc::{AllocError, Allocator};
@@ -82,8 +83,8 @@ fn zeros<A: Allocator>(alloc: A, n: usize) -> Result<Bytes<A>, AllocError>
 fn stack_region<A: Allocator>(alloc: A) -> Result<Region<A>, AllocError>
     ensures { IfOk result (λ region. region ≡ stack_area) }
 {
-    let bytes = zeros(alloc, 65_536)?;
-    Ok(Region::new(0x2FFF_0000, bytes, true, true, false))
+    let bytes = zeros(alloc, STACK_SIZE as usize)?;
+    Ok(Region::new(u64::from(STACK), bytes, true, true, false))
 }
 
 /// The segments' regions and the stack's, with room for eight buffers more.
@@ -132,7 +133,7 @@ fn is_writable(param: Param) -> bool
 #[tactic(auto, unfolding(crate::specs::Start::buffer_area))]
 fn buffer_region<A: Allocator>(parameters: &Parameters, place: usize, bytes: Bytes<A>) -> Region<A>
     requires place { place < 8 }
-    requires small { length bytes ≤ 16777216 }
+    requires small { length bytes ≤ MAX_BUFFER_SIZE }
     ensures { result ≡ buffer_area parameters.now place bytes }
 {
     let first = parameters.address(place).unwrap_or(0);
@@ -149,7 +150,7 @@ fn put<A: Allocator>(
 )
     requires room { vec_len regions.old < vec_capacity regions.old }
     requires place { place < 8 }
-    requires small { size_of arg ≤ 16777216 }
+    requires small { size_of arg ≤ MAX_BUFFER_SIZE }
     ensures items { regions.new.items ≡ insert_areas (buffer_areas parameters.now place (arg ∷ [])) regions.old.items }
     ensures len { vec_len regions.new ≤ vec_len regions.old + 1 }
     ensures capacity { vec_capacity regions.old ≤ vec_capacity regions.new }
@@ -166,7 +167,7 @@ pub(crate) fn put_all<A: Allocator>(
     args: Args<Bytes<A>>,
 )
     requires room { vec_len regions.old + 8 ≤ vec_capacity regions.old }
-    requires small { AllByRecursion (λ arg. size_of arg ≤ 16777216) args.places }
+    requires small { AllByRecursion (λ arg. size_of arg ≤ MAX_BUFFER_SIZE) args.places }
     ensures { regions.new.items ≡ insert_areas (buffer_areas parameters.now 0 args.places) regions.old.items }
 {
     let Args {
