@@ -2,7 +2,6 @@
 use Rattle.std.proofs.Common.{◌≡◌, ℕ, ◌+◌, ◌*◌, ◌^◌, ◌<◌, refl, Some, arith, ℤ}
 use Rattle.rv_decode.specs.Bits.{bits, immediate_i, immediate_s, immediate_b, immediate_u, immediate_j}
 use Rattle.rv_decode.specs.Decode.{meaning_of, table}
-use Rattle.rv_decode.specs.Scalar.{fence_groups}
 use Rattle.rv_decode.specs.System.{system_groups}
 use Rattle.rv_decode.specs.Encode.{modulo, encode_i, encode_s, encode_b, encode_u, encode_j, encode_r, low_fields, middle_fields, encode, IsEncodable}
 use Rattle.rv_decode.specs.Encode.{f3_of_condition, f3_of_load, f3_of_store, f3_of_immediate, codes_of_shift, codes_of_register}
@@ -23,11 +22,11 @@ use Rattle.rv_decode.specs.declared.instructions.RegisterOp.{RegisterOp}
 use Rattle.rv_decode.specs.declared.instructions.RegisterOp.TheVariants.{Add, Sub, Sll, Slt, Sltu, Xor, Srl, Sra, Or, And, Mul, Mulh, Mulhsu, Mulhu, Div, Divu, Rem, Remu}
 use Rattle.rv_decode.proofs.Places.{back_i, back_s, back_b, back_u, back_j}
 use Rattle.rv_decode.proofs.Fields.{opcode_of, rd_at, f3_at, rs1_at, rs2_at, f7_at}
-use Rattle.rv_decode.proofs.Meanings.{means_lui, means_auipc, means_jal, means_jalr, means_branch, means_load, means_store, means_immediate, means_shift, means_register}
+use Rattle.rv_decode.proofs.Meanings.{means_lui, means_auipc, means_jal, means_jalr, means_branch, means_load, means_store, means_immediate, means_shift, means_register, means_fence}
 
-means_fence : meaning_of 0x0ff0000f ≡ Some (Scalar Fence)
-unfolding meaning_of table fence_groups bits
-means_fence = refl
+plain_fence : meaning_of 0x0ff0000f ≡ Some (Scalar Fence)
+unfolding bits
+plain_fence = means_fence 0x0ff0000f refl refl
 
 means_ecall : meaning_of 0x00000073 ≡ Some (Scalar Ecall)
 unfolding meaning_of table system_groups bits
@@ -223,5 +222,5 @@ encoded (Register op rd rs1 rs2) h =
     register_from op rd rs1 rs2 _
     (low_r 0x33 rd (codes_of_register op).0 rs1 rs2 (codes_of_register op).1 (omega arith) h.0 f.0 h.1)
     (high_of 0x33 rd (codes_of_register op).0 rs1 rs2 (codes_of_register op).1 (omega arith) h.0 f.0 h.1 h.2 f.1)
-encoded Fence h = means_fence
+encoded Fence h = plain_fence
 encoded Ecall h = means_ecall

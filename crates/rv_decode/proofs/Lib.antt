@@ -2,3 +2,9 @@ pub mod Places
 pub mod Fields
 pub mod Meanings
 pub mod Encoded
+pub mod Wholes
+pub mod TableLaw
+pub mod ScalarLaw
+pub mod SystemLaw
+pub mod VectorLaw
+pub mod MeaningLaw

@@ -2,9 +2,11 @@
 use Rattle.std.proofs.Common.{◌≡◌, ℕ, refl, Some}
 use Rattle.rv_decode.specs.Bits.{bits}
 use Rattle.rv_decode.specs.Decode.{meaning_of, table}
-use Rattle.rv_decode.specs.Scalar.{lui_groups, auipc_groups, jal_groups, jalr_groups, branch_groups, load_groups, store_groups, immediate_groups, register_groups, base_rows, multiply_rows}
+use Rattle.rv_decode.specs.Scalar.{lui_groups, auipc_groups, jal_groups, jalr_groups, branch_groups, load_groups, store_groups, immediate_groups, register_groups, base_rows, multiply_rows, fence_groups}
 use Rattle.rv_decode.specs.Scalar.{lui, auipc, jal, jalr, branch, load, store, immediate, shift, register}
 use Rattle.rv_decode.specs.Encode.{f3_of_condition, f3_of_load, f3_of_store, f3_of_immediate, codes_of_shift, codes_of_register}
+use Rattle.rv_decode.specs.declared.instructions.Insn.TheVariants.{Scalar}
+use Rattle.rv_decode.specs.declared.instructions.ScalarInsn.TheVariants.{Fence}
 use Rattle.rv_decode.specs.declared.instructions.Condition.{Condition}
 use Rattle.rv_decode.specs.declared.instructions.Condition.TheVariants.{Eq, Ne, Lt, Ge, Ltu, Geu}
 use Rattle.rv_decode.specs.declared.instructions.LoadKind.{LoadKind}
@@ -92,3 +94,7 @@ means_register Div word e f g = rw (e, f, g) refl
 means_register Divu word e f g = rw (e, f, g) refl
 means_register Rem word e f g = rw (e, f, g) refl
 means_register Remu word e f g = rw (e, f, g) refl
+
+pub means_fence : (word : ℕ) → bits 0 7 word ≡ 0x0f → bits 12 3 word ≡ 0 → meaning_of word ≡ Some (Scalar Fence)
+unfolding meaning_of table fence_groups
+means_fence word e f = rw (e, f) refl

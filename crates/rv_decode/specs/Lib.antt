@@ -6,3 +6,6 @@ pub mod Vector
 pub mod Decode
 pub mod Needs
 pub mod Encode
+pub mod EncodeSystem
+pub mod EncodeVector
+pub mod Encodings

@@ -1,9 +1,11 @@
 //! Laws of encodings: what the places of a format hold is read back as it was. Each law is a function's contract.
 
 ghost use Rattle.std.specs.Prelude.{Some, ◌≡◌, ◌+◌, ◌*◌, ◌^◌, ◌<◌, ◌%◌, ◌≤ℤ◌, pos, negsuc};
-ghost use Rattle.rv_decode.specs.Bits.{immediate_i, immediate_s, immediate_b, immediate_u, immediate_j};
+ghost use Rattle.std.specs.Option.{IfSome};
+ghost use Rattle.rv_decode.specs.Bits.{bits, immediate_i, immediate_s, immediate_b, immediate_u, immediate_j};
 ghost use Rattle.rv_decode.specs.Decode.{meaning_of};
 ghost use Rattle.rv_decode.specs.Encode.{modulo, encode_i, encode_s, encode_b, encode_u, encode_j, encode, IsEncodable};
+ghost use Rattle.rv_decode.specs.Encodings.{IsWordOf, FieldsFit};
 
 use crate::{Insn, ScalarInsn};
 
@@ -54,4 +56,18 @@ pub fn immediate_j_is_read_back(imm: i32, low: u32)
 pub fn encoding_is_read_back(insn: ScalarInsn)
     requires { IsEncodable insn }
     ensures { meaning_of (encode insn) ≡ Some (Insn.Scalar insn) }
+{}
+
+/// Each word of opcode 0f with f3 0 is a fence, whatever its other fields say.
+pub fn fences_differ_in_ignored_fields(word: u32)
+    requires opcode { bits 0 7 word ≡ 0x0f }
+    requires f3 { bits 12 3 word ≡ 0 }
+    ensures { meaning_of word ≡ Some (Insn.Scalar ScalarInsn.Fence) }
+{}
+
+/// A word means an instruction only where it is the encoding of this instruction, whose fields fit: registers are below
+/// 32, immediates and shift amounts in range, and the form is one that there is.
+pub fn words_are_encodings(word: u32)
+    ensures encoded { IfSome (meaning_of word) (λ insn. IsWordOf insn word) }
+    ensures fits { IfSome (meaning_of word) FieldsFit }
 {}

@@ -13,8 +13,6 @@ mod scalar_words;
 mod system_words;
 #[cfg(test)]
 mod tests;
-#[cfg(test)]
-mod vector_tests;
 mod vector_words;
 mod word;
 

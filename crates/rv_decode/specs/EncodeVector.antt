@@ -1,0 +1,194 @@
+-- The word of a vector instruction, as "Vector Instruction Formats" lays it out, with the codes of the "V" extension's
+-- "Vector Instruction Listing".
+use Rattle.std.specs.Prelude.{◌≡◌, ◌⊎◌, ℕ, ◌+◌, ◌*◌, ◌^◌, ◌<◌, pos, ◌≤ℤ◌, Bool, true, false, List}
+use Rattle.std.specs.List.{list_any}
+use Rattle.rv_decode.specs.Encode.{modulo, low_fields, encode_r, IsRegister, IsSigned}
+use Rattle.rv_decode.specs.Vector.{Form, V, X, I, U, VXI, VXU, VX, XI, vectors, scalars}
+use Rattle.rv_decode.specs.declared.instructions.VSet.{VSet}
+use Rattle.rv_decode.specs.declared.instructions.VSet.TheVariants.{Vsetvli, Vsetivli, Vsetvl}
+use Rattle.rv_decode.specs.declared.instructions.VArith.{VArith}
+use Rattle.rv_decode.specs.declared.instructions.VArith.TheVariants.{Int, MultiplyAdd, Carry, CarryOut, Merge, Copy, Compare}
+use Rattle.rv_decode.specs.declared.instructions.IntOp.{IntOp}
+use Rattle.rv_decode.specs.declared.instructions.IntOp.TheVariants.{Add, Sub, Rsub, Minu, Min, Maxu, Max, And, Or, Xor, Sll, Srl, Sra, Mul, Mulh, Mulhu, Mulhsu, Divu, Div, Remu, Rem}
+use Rattle.rv_decode.specs.declared.instructions.MultiplyAddOp.{MultiplyAddOp}
+use Rattle.rv_decode.specs.declared.instructions.MultiplyAddOp.TheVariants.{Madd, Nmsub, Macc, Nmsac}
+use Rattle.rv_decode.specs.declared.instructions.CarryOp.{CarryOp}
+use Rattle.rv_decode.specs.declared.instructions.CarryOp.TheVariants.{Adc, Sbc}
+use Rattle.rv_decode.specs.declared.instructions.CarryOutOp.{CarryOutOp}
+use Rattle.rv_decode.specs.declared.instructions.CarryOutOp.TheVariants.{Madc, Msbc}
+use Rattle.rv_decode.specs.declared.instructions.CompareOp.{CompareOp}
+use Rattle.rv_decode.specs.declared.instructions.CompareOp.TheVariants.{Eq, Ne, Ltu, Lt, Leu, Le, Gtu, Gt}
+use Rattle.rv_decode.specs.declared.instructions.Source.{Source}
+use Rattle.rv_decode.specs.declared.instructions.Source.TheVariants.{Vector, Scalar, Immediate}
+use Rattle.rv_decode.specs.declared.instructions.VMem.{VMem}
+use Rattle.rv_decode.specs.declared.instructions.Place.{Place}
+use Rattle.rv_decode.specs.declared.instructions.Place.TheVariants.{Unit}
+use Rattle.rv_decode.specs.declared.instructions.Direction.{Direction}
+use Rattle.rv_decode.specs.declared.instructions.Direction.TheVariants.{Load, Store}
+use Rattle.rv_decode.specs.declared.instructions.Width.{Width}
+use Rattle.rv_decode.specs.declared.instructions.Width.TheVariants.{W8, W16, W32}
+
+-- OPIVV, OPIVX and OPIVI, or OPMVV and OPMVX
+pub data Category : Type 0 where
+  OPI : Category
+  OPM : Category
+
+-- an operation's category, its funct6, and the second operands that it has words for
+pub record Code : Type 0 where
+  pub category : Category
+  pub funct6 : ℕ
+  pub forms : List Form
+
+abbrev pub code : Category → ℕ → List Form → Code
+code category funct6 forms = record { category = category; funct6 = funct6; forms = forms }
+
+abbrev pub code_of_int : IntOp → Code
+code_of_int Add = code OPI 0x00 VXI
+code_of_int Sub = code OPI 0x02 VX
+code_of_int Rsub = code OPI 0x03 XI
+code_of_int Minu = code OPI 0x04 VX
+code_of_int Min = code OPI 0x05 VX
+code_of_int Maxu = code OPI 0x06 VX
+code_of_int Max = code OPI 0x07 VX
+code_of_int And = code OPI 0x09 VXI
+code_of_int Or = code OPI 0x0a VXI
+code_of_int Xor = code OPI 0x0b VXI
+code_of_int Sll = code OPI 0x25 VXU
+code_of_int Srl = code OPI 0x28 VXU
+code_of_int Sra = code OPI 0x29 VXU
+code_of_int Divu = code OPM 0x20 VX
+code_of_int Div = code OPM 0x21 VX
+code_of_int Remu = code OPM 0x22 VX
+code_of_int Rem = code OPM 0x23 VX
+code_of_int Mulhu = code OPM 0x24 VX
+code_of_int Mul = code OPM 0x25 VX
+code_of_int Mulhsu = code OPM 0x26 VX
+code_of_int Mulh = code OPM 0x27 VX
+
+abbrev pub code_of_multiply_add : MultiplyAddOp → Code
+code_of_multiply_add Madd = code OPM 0x29 VX
+code_of_multiply_add Nmsub = code OPM 0x2b VX
+code_of_multiply_add Macc = code OPM 0x2d VX
+code_of_multiply_add Nmsac = code OPM 0x2f VX
+
+abbrev pub code_of_carry : CarryOp → Code
+code_of_carry Adc = code OPI 0x10 VXI
+code_of_carry Sbc = code OPI 0x12 VX
+
+abbrev pub code_of_carry_out : CarryOutOp → Code
+code_of_carry_out Madc = code OPI 0x11 VXI
+code_of_carry_out Msbc = code OPI 0x13 VX
+
+-- vmerge, and vmv.v with vm 1 and vs2 0
+abbrev pub code_of_merge : Code
+code_of_merge = code OPI 0x17 VXI
+
+abbrev pub code_of_compare : CompareOp → Code
+code_of_compare Eq = code OPI 0x18 VXI
+code_of_compare Ne = code OPI 0x19 VXI
+code_of_compare Ltu = code OPI 0x1a VX
+code_of_compare Lt = code OPI 0x1b VX
+code_of_compare Leu = code OPI 0x1c VXI
+code_of_compare Le = code OPI 0x1d VXI
+code_of_compare Gtu = code OPI 0x1e XI
+code_of_compare Gt = code OPI 0x1f XI
+
+-- f3, by the category and the second operand
+abbrev pub f3_of : Category → Source → ℕ
+f3_of OPI (Vector vs1) = 0
+f3_of OPM (Vector vs1) = 2
+f3_of OPI (Immediate imm) = 3
+f3_of OPM (Immediate imm) = 3
+f3_of OPI (Scalar rs1) = 4
+f3_of OPM (Scalar rs1) = 6
+
+-- what stands in bits 19:15
+abbrev pub number_of_operand : Source → ℕ
+number_of_operand (Vector vs1) = vs1
+number_of_operand (Scalar rs1) = rs1
+number_of_operand (Immediate imm) = modulo 32 imm
+
+-- vm, by whether the mask governs
+abbrev pub vm_of : Bool → ℕ
+vm_of false = 1
+vm_of true = 0
+
+unfoldable pub encode_v : Code → ℕ → ℕ → ℕ → Source → ℕ
+encode_v c vd vm vs2 b =
+    c.funct6 * 2 ^ 26 + vm * 2 ^ 25 + vs2 * 2 ^ 20 + low_fields 0x57 vd (f3_of c.category b) (number_of_operand b)
+
+unfoldable pub encode_arith : VArith → ℕ
+encode_arith (Int op vd vs2 b masked) = encode_v (code_of_int op) vd (vm_of masked) vs2 b
+encode_arith (MultiplyAdd op vd vs2 b masked) = encode_v (code_of_multiply_add op) vd (vm_of masked) vs2 b
+encode_arith (Carry op vd vs2 b) = encode_v (code_of_carry op) vd 0 vs2 b
+encode_arith (CarryOut op vd vs2 b with_carry) = encode_v (code_of_carry_out op) vd (vm_of with_carry) vs2 b
+encode_arith (Merge vd vs2 b) = encode_v code_of_merge vd 0 vs2 b
+encode_arith (Copy vd b) = encode_v code_of_merge vd 1 0 b
+encode_arith (Compare op vd vs2 b masked) = encode_v (code_of_compare op) vd (vm_of masked) vs2 b
+
+unfoldable pub encode_vset : VSet → ℕ
+encode_vset (Vsetvli rd rs1 vtype) = vtype * 2 ^ 20 + low_fields 0x57 rd 7 rs1
+encode_vset (Vsetivli rd avl vtype) = 3 * 2 ^ 30 + vtype * 2 ^ 20 + low_fields 0x57 rd 7 avl
+encode_vset (Vsetvl rd rs1 rs2) = encode_r 0x57 rd 7 rs1 rs2 0x40
+
+abbrev pub opcode_of_direction : Direction → ℕ
+opcode_of_direction Load = 0x07
+opcode_of_direction Store = 0x27
+
+-- the width field of an access
+abbrev pub f3_of_width : Width → ℕ
+f3_of_width W8 = 0
+f3_of_width W16 = 5
+f3_of_width W32 = 6
+
+-- nf, mew, mop and lumop are 0
+abbrev pub encode_place : Place → ℕ → ℕ → ℕ → ℕ
+encode_place (Unit width masked) opcode values rs1 =
+    vm_of masked * 2 ^ 25 + low_fields opcode values (f3_of_width width) rs1
+
+unfoldable pub encode_access : VMem → ℕ
+encode_access access = encode_place access.place (opcode_of_direction access.direction) access.values access.rs1
+
+-- fields in range, and second operands that the operation has words for
+
+abbrev pub takes_signed : Form → Bool
+takes_signed V = false
+takes_signed X = false
+takes_signed I = true
+takes_signed U = false
+
+abbrev pub takes_unsigned : Form → Bool
+takes_unsigned V = false
+takes_unsigned X = false
+takes_unsigned I = false
+takes_unsigned U = true
+
+abbrev pub OperandFits : List Form → Source → Type 0
+OperandFits forms (Vector vs1) = (list_any vectors forms ≡ true) × IsRegister vs1
+OperandFits forms (Scalar rs1) = (list_any scalars forms ≡ true) × IsRegister rs1
+OperandFits forms (Immediate imm) =
+    ((list_any takes_signed forms ≡ true) × IsSigned 16 imm) ⊎
+    ((list_any takes_unsigned forms ≡ true) × (pos 0 ≤ℤ imm) × (imm ≤ℤ pos 31))
+
+abbrev pub ArithFits : VArith → Type 0
+ArithFits (Int op vd vs2 b masked) = IsRegister vd × IsRegister vs2 × OperandFits (code_of_int op).forms b
+ArithFits (MultiplyAdd op vd vs2 b masked) =
+    IsRegister vd × IsRegister vs2 × OperandFits (code_of_multiply_add op).forms b
+ArithFits (Carry op vd vs2 b) = IsRegister vd × IsRegister vs2 × OperandFits (code_of_carry op).forms b
+ArithFits (CarryOut op vd vs2 b with_carry) =
+    IsRegister vd × IsRegister vs2 × OperandFits (code_of_carry_out op).forms b
+ArithFits (Merge vd vs2 b) = IsRegister vd × IsRegister vs2 × OperandFits code_of_merge.forms b
+ArithFits (Copy vd b) = IsRegister vd × OperandFits code_of_merge.forms b
+ArithFits (Compare op vd vs2 b masked) = IsRegister vd × IsRegister vs2 × OperandFits (code_of_compare op).forms b
+
+abbrev pub VSetFits : VSet → Type 0
+VSetFits (Vsetvli rd rs1 vtype) = IsRegister rd × IsRegister rs1 × (vtype < 2 ^ 11)
+VSetFits (Vsetivli rd avl vtype) = IsRegister rd × (avl < 32) × (vtype < 2 ^ 10)
+VSetFits (Vsetvl rd rs1 rs2) = IsRegister rd × IsRegister rs1 × IsRegister rs2
+
+-- the accesses that have words: of bytes, unmasked
+abbrev pub PlaceFits : Place → Type 0
+PlaceFits (Unit width masked) = (width ≡ W8) × (masked ≡ false)
+
+abbrev pub AccessFits : VMem → Type 0
+AccessFits access = IsRegister access.values × IsRegister access.rs1 × PlaceFits access.place

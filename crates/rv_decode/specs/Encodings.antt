@@ -1,0 +1,40 @@
+-- The words that encode an instruction, and the instructions that have one.
+use Rattle.std.specs.Prelude.{◌≡◌, ℕ}
+use Rattle.rv_decode.specs.Bits.{bits}
+use Rattle.rv_decode.specs.Encode.{encode, IsEncodable}
+use Rattle.rv_decode.specs.EncodeSystem.{encode_csr, CsrFits}
+use Rattle.rv_decode.specs.EncodeVector.{encode_arith, encode_vset, encode_access, ArithFits, VSetFits, AccessFits}
+use Rattle.rv_decode.specs.declared.instructions.Insn.{Insn}
+use Rattle.rv_decode.specs.declared.instructions.Insn.TheVariants.{Scalar, Csr, VSet, VArith, VMem}
+use Rattle.rv_decode.specs.declared.instructions.ScalarInsn.{ScalarInsn}
+use Rattle.rv_decode.specs.declared.instructions.ScalarInsn.TheVariants.{Lui, Auipc, Jal, Jalr, Branch, Load, Store, Immediate, ShiftImmediate, Register, Fence, Ecall}
+
+-- each instruction has one word, but for fence: opcode 0f with f3 0, whatever the other fields say
+abbrev pub IsScalarWord : ScalarInsn → ℕ → Type 0
+IsScalarWord Fence word = (bits 0 7 word ≡ 0x0f) × (bits 12 3 word ≡ 0)
+IsScalarWord (Lui rd imm) word = word ≡ encode (Lui rd imm)
+IsScalarWord (Auipc rd imm) word = word ≡ encode (Auipc rd imm)
+IsScalarWord (Jal rd offset) word = word ≡ encode (Jal rd offset)
+IsScalarWord (Jalr rd rs1 offset) word = word ≡ encode (Jalr rd rs1 offset)
+IsScalarWord (Branch condition rs1 rs2 offset) word = word ≡ encode (Branch condition rs1 rs2 offset)
+IsScalarWord (Load kind rd rs1 offset) word = word ≡ encode (Load kind rd rs1 offset)
+IsScalarWord (Store size rs1 rs2 offset) word = word ≡ encode (Store size rs1 rs2 offset)
+IsScalarWord (Immediate op rd rs1 imm) word = word ≡ encode (Immediate op rd rs1 imm)
+IsScalarWord (ShiftImmediate op rd rs1 amount) word = word ≡ encode (ShiftImmediate op rd rs1 amount)
+IsScalarWord (Register op rd rs1 rs2) word = word ≡ encode (Register op rd rs1 rs2)
+IsScalarWord Ecall word = word ≡ encode Ecall
+
+abbrev pub IsWordOf : Insn → ℕ → Type 0
+IsWordOf (Scalar s) word = IsScalarWord s word
+IsWordOf (Csr c) word = word ≡ encode_csr c
+IsWordOf (VSet v) word = word ≡ encode_vset v
+IsWordOf (VArith a) word = word ≡ encode_arith a
+IsWordOf (VMem m) word = word ≡ encode_access m
+
+-- fields that a word has room for, in a form that there is
+abbrev pub FieldsFit : Insn → Type 0
+FieldsFit (Scalar s) = IsEncodable s
+FieldsFit (Csr c) = CsrFits c
+FieldsFit (VSet v) = VSetFits v
+FieldsFit (VArith a) = ArithFits a
+FieldsFit (VMem m) = AccessFits m
