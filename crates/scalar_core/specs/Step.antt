@@ -121,4 +121,6 @@ rv32im_step Ecall h m = Ok (at_pc exit h, m)
 unfoldable pub scalar_step : ℕ → Insn → Vconfig → Hart → Memory → Result (Hart × Memory) Fault
 scalar_step vlenb (class.Scalar insn) config h m = rv32im_step insn h m
 scalar_step vlenb (class.Csr insn) config h m = Ok (csr_step insn vlenb config h, m)
-scalar_step vlenb _ config h m = Ok (h, m)
+scalar_step vlenb (class.VSet insn) config h m = Ok (h, m)
+scalar_step vlenb (class.VArith insn) config h m = Ok (h, m)
+scalar_step vlenb (class.VMem insn) config h m = Ok (h, m)

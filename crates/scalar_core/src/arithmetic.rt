@@ -141,6 +141,3 @@ pub(crate) fn is_taken(condition: Condition, a: u32, b: u32) -> bool
         Condition::Geu => a >= b,
     }
 }
-
-#[cfg(test)]
-mod tests;

@@ -1,7 +1,7 @@
 //! Jumps and branches ("Control Transfer Instructions"). A target that is not a multiple of four is
 //! refused before anything is written.
 
-ghost use Rattle.std.specs.Prelude.{◌≡◌, Ok, Err, OnOk, IfErr, OnErr};
+ghost use Rattle.region_mem.specs.Faults.{Steps};
 ghost use Rattle.scalar_core.specs.Step.{branch_step, branch_to as branch_to_of};
 ghost use Rattle.scalar_core.specs.Step.{jal_step, jalr_step, jump_and_link as jump_and_link_of};
 
@@ -13,9 +13,7 @@ use rv_decode::{Condition, Reg};
 /// jal: jumps by an offset from pc.
 #[tactic(auto, unfolding(crate::specs::Step::jal_step))]
 pub(crate) fn jal(scalar: &mut Scalar, rd: Reg, offset: i32) -> Result<(), Fault>
-    ensures ok { OnOk result (jal_step rd offset scalar.old ≡ Ok scalar.new) }
-    ensures err { IfErr result (λ fault. jal_step rd offset scalar.old ≡ Err fault) }
-    ensures kept { OnErr result (scalar.new ≡ scalar.old) }
+    ensures { Steps (jal_step rd offset scalar.old) scalar.old scalar.new result }
 {
     let target = scalar.pc().wrapping_add_signed(offset);
     jump_and_link(scalar, rd, target)
@@ -24,9 +22,7 @@ pub(crate) fn jal(scalar: &mut Scalar, rd: Reg, offset: i32) -> Result<(), Fault
 /// jalr: jumps by an offset from rs1, with bit 0 of the target cleared.
 #[tactic(auto, unfolding(crate::specs::Step::jalr_step))]
 pub(crate) fn jalr(scalar: &mut Scalar, rd: Reg, rs1: Reg, offset: i32) -> Result<(), Fault>
-    ensures ok { OnOk result (jalr_step rd rs1 offset scalar.old ≡ Ok scalar.new) }
-    ensures err { IfErr result (λ fault. jalr_step rd rs1 offset scalar.old ≡ Err fault) }
-    ensures kept { OnErr result (scalar.new ≡ scalar.old) }
+    ensures { Steps (jalr_step rd rs1 offset scalar.old) scalar.old scalar.new result }
 {
     let target = scalar.reg(rs1).wrapping_add_signed(offset);
     jump_and_link(scalar, rd, target - target % 2)
@@ -35,9 +31,7 @@ pub(crate) fn jalr(scalar: &mut Scalar, rd: Reg, rs1: Reg, offset: i32) -> Resul
 /// Jumps to the target, and leaves the next word's address in `rd`.
 #[tactic(auto, unfolding(crate::specs::Step::jump_to, crate::specs::Step::jump_and_link))]
 fn jump_and_link(scalar: &mut Scalar, rd: Reg, target: u32) -> Result<(), Fault>
-    ensures ok { OnOk result (jump_and_link_of rd target scalar.old ≡ Ok scalar.new) }
-    ensures err { IfErr result (λ fault. jump_and_link_of rd target scalar.old ≡ Err fault) }
-    ensures kept { OnErr result (scalar.new ≡ scalar.old) }
+    ensures { Steps (jump_and_link_of rd target scalar.old) scalar.old scalar.new result }
 {
     if target % 4 != 0 {
         return Err(Fault::JumpMisaligned(target));
@@ -57,10 +51,7 @@ pub(crate) fn branch(
     rs2: Reg,
     offset: i32,
 ) -> Result<(), Fault>
-    ensures ok { OnOk result (branch_step condition rs1 rs2 offset scalar.old ≡ Ok scalar.new) }
-    ensures err { IfErr result
-        (λ fault. branch_step condition rs1 rs2 offset scalar.old ≡ Err fault) }
-    ensures kept { OnErr result (scalar.new ≡ scalar.old) }
+    ensures { Steps (branch_step condition rs1 rs2 offset scalar.old) scalar.old scalar.new result }
 {
     let taken = is_taken(condition, scalar.reg(rs1), scalar.reg(rs2));
     let target = scalar.pc().wrapping_add_signed(offset);
@@ -70,9 +61,7 @@ pub(crate) fn branch(
 /// Jumps to the target where the branch is taken, and else goes to the next word.
 #[tactic(auto, unfolding(crate::specs::Step::jump_to, crate::specs::Step::branch_to))]
 fn branch_to(scalar: &mut Scalar, taken: bool, target: u32) -> Result<(), Fault>
-    ensures ok { OnOk result (branch_to_of taken target scalar.old ≡ Ok scalar.new) }
-    ensures err { IfErr result (λ fault. branch_to_of taken target scalar.old ≡ Err fault) }
-    ensures kept { OnErr result (scalar.new ≡ scalar.old) }
+    ensures { Steps (branch_to_of taken target scalar.old) scalar.old scalar.new result }
 {
     if !taken {
         scalar.advance();

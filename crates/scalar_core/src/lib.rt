@@ -11,6 +11,8 @@ mod hart;
 mod jumps;
 mod laws;
 mod steps;
+#[cfg(test)]
+mod tests;
 mod transfers;
 
 pub use hart::{EXIT, Scalar};

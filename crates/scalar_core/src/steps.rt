@@ -1,6 +1,7 @@
 //! One step of the scalar half of a hart.
 
-ghost use Rattle.std.specs.Prelude.{◌≡◌, ◌<◌, ◌^◌, Ok, Err, OnOk, IfErr, OnErr};
+ghost use Rattle.std.specs.Prelude.{◌<◌, ◌^◌};
+ghost use Rattle.region_mem.specs.Faults.{Steps};
 ghost use Rattle.scalar_core.specs.Hart.{IsHart};
 ghost use Rattle.scalar_core.specs.Step.{rv32im_step, scalar_step};
 
@@ -30,11 +31,8 @@ pub fn step_scalar<A: Allocator>(
     vlenb: usize,
 ) -> Result<(), Fault>
     requires { vlenb < 2 ^ 32 }
-    ensures ok { OnOk result
-        (scalar_step vlenb insn config.now scalar.old memory.old ≡ Ok (scalar.new, memory.new)) }
-    ensures err { IfErr result
-        (λ fault. scalar_step vlenb insn config.now scalar.old memory.old ≡ Err fault) }
-    ensures kept { OnErr result ((scalar.new ≡ scalar.old) × (memory.new ≡ memory.old)) }
+    ensures step { Steps (scalar_step vlenb insn config.now scalar.old memory.old)
+        (scalar.old, memory.old) (scalar.new, memory.new) result }
     ensures state { IsHart scalar.new }
 {
     let outcome = step_class(scalar, insn, memory, config, vlenb);
@@ -52,11 +50,8 @@ fn step_class<A: Allocator>(
     vlenb: usize,
 ) -> Result<(), Fault>
     requires { vlenb < 2 ^ 32 }
-    ensures ok { OnOk result
-        (scalar_step vlenb insn config.now scalar.old memory.old ≡ Ok (scalar.new, memory.new)) }
-    ensures err { IfErr result
-        (λ fault. scalar_step vlenb insn config.now scalar.old memory.old ≡ Err fault) }
-    ensures kept { OnErr result ((scalar.new ≡ scalar.old) × (memory.new ≡ memory.old)) }
+    ensures { Steps (scalar_step vlenb insn config.now scalar.old memory.old)
+        (scalar.old, memory.old) (scalar.new, memory.new) result }
 {
     match insn {
         Insn::Scalar(insn) => step_rv32im(scalar, insn, memory),
@@ -64,7 +59,7 @@ fn step_class<A: Allocator>(
             step_csr(scalar, insn, config, vlenb);
             Ok(())
         }
-        _ => Ok(()),
+        Insn::VSet(_) | Insn::VArith(_) | Insn::VMem(_) => Ok(()),
     }
 }
 
@@ -75,10 +70,8 @@ fn step_rv32im<A: Allocator>(
     insn: ScalarInsn,
     memory: &mut Regions<A>,
 ) -> Result<(), Fault>
-    ensures ok { OnOk result
-        (rv32im_step insn scalar.old memory.old ≡ Ok (scalar.new, memory.new)) }
-    ensures err { IfErr result (λ fault. rv32im_step insn scalar.old memory.old ≡ Err fault) }
-    ensures kept { OnErr result ((scalar.new ≡ scalar.old) × (memory.new ≡ memory.old)) }
+    ensures { Steps (rv32im_step insn scalar.old memory.old)
+        (scalar.old, memory.old) (scalar.new, memory.new) result }
 {
     match insn {
         ScalarInsn::Jal { rd, offset } => return jal(scalar, rd, offset),
@@ -116,6 +109,3 @@ fn step_rv32im<A: Allocator>(
     }
     Ok(())
 }
-
-#[cfg(test)]
-mod tests;

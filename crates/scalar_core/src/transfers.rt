@@ -1,7 +1,8 @@
 //! Loads and stores ("Load and Store Instructions"). An address need not be a multiple of the
 //! access's size.
 
-ghost use Rattle.std.specs.Prelude.{◌≡◌, Ok, Err, OnOk, IfErr, OnErr};
+ghost use Rattle.std.specs.Prelude.{◌≡◌};
+ghost use Rattle.region_mem.specs.Faults.{Steps};
 ghost use Rattle.region_mem.specs.Memory.{IsAccessSize};
 ghost use Rattle.scalar_core.specs.Step.{load_step, loaded as loaded_of, store_step};
 ghost use Rattle.scalar_core.specs.Step.{size_of_load as size_of_load_of};
@@ -22,10 +23,8 @@ pub(crate) fn load<A: Allocator>(
     offset: i32,
     memory: &Regions<A>,
 ) -> Result<(), Fault>
-    ensures ok { OnOk result (load_step kind rd rs1 offset scalar.old memory.now ≡ Ok scalar.new) }
-    ensures err { IfErr result
-        (λ fault. load_step kind rd rs1 offset scalar.old memory.now ≡ Err fault) }
-    ensures kept { OnErr result (scalar.new ≡ scalar.old) }
+    ensures { Steps (load_step kind rd rs1 offset scalar.old memory.now)
+        scalar.old scalar.new result }
 {
     let address = scalar.reg(rs1).wrapping_add_signed(offset);
     match memory.load(address, size_of_load(kind)) {
@@ -73,11 +72,8 @@ pub(crate) fn store<A: Allocator>(
     offset: i32,
     memory: &mut Regions<A>,
 ) -> Result<(), Fault>
-    ensures ok { OnOk result
-        (store_step size rs1 rs2 offset scalar.old memory.old ≡ Ok (scalar.new, memory.new)) }
-    ensures err { IfErr result
-        (λ fault. store_step size rs1 rs2 offset scalar.old memory.old ≡ Err fault) }
-    ensures kept { OnErr result ((scalar.new ≡ scalar.old) × (memory.new ≡ memory.old)) }
+    ensures { Steps (store_step size rs1 rs2 offset scalar.old memory.old)
+        (scalar.old, memory.old) (scalar.new, memory.new) result }
 {
     let address = scalar.reg(rs1).wrapping_add_signed(offset);
     let stored = memory.store(address, size_of_store(size), scalar.reg(rs2));
