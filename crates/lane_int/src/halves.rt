@@ -1,4 +1,4 @@
-// One element of 16 bits.
+//! One element of 16 bits.
 ghost use Rattle.std.specs.Prelude.{◌≡◌, ◌^◌, ◌<◌, ◌*◌, ◌%◌};
 ghost use Rattle.std.specs.Int.{w16};
 ghost use Rattle.lane_int.specs.Integer.{element, compares, carried, carries, multiply_added, extended, high_half};

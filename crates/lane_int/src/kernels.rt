@@ -1,4 +1,4 @@
-// The kernels: one operation over whole slices.
+//! The kernels: one operation over whole slices.
 ghost use Rattle.std.specs.Prelude.{◌≡◌, length};
 ghost use lib.Lanes.{zip2};
 ghost use Rattle.lane_int.specs.Lists.{zip3};

@@ -1,4 +1,4 @@
-// The widths that the kernels work on.
+//! The widths that the kernels work on.
 ghost use Rattle.std.specs.Prelude.{◌≡◌, ℕ, Bool};
 
 use crate::operations::{CarryOp, CompareOp, IntOp, MultiplyAddOp};

@@ -1,3 +1,5 @@
+//! The integer operations of the vector extension on slices of elements of 8, 16 or 32 bits ("Vector Integer Arithmetic
+//! Instructions" of the "V" extension).
 #![tactic(auto)]
 
 mod bytes;

@@ -1,4 +1,4 @@
-// The operations of the kernels, by the names of the instructions that use them.
+//! The operations of the kernels, by the names of the instructions that use them.
 
 /// An integer operation on two elements of one width.
 #[derive(Clone, Copy, PartialEq, Eq, Debug)]

@@ -1,4 +1,4 @@
-// One element of 32 bits.
+//! One element of 32 bits.
 ghost use Rattle.std.specs.Prelude.{◌≡◌, ◌^◌, ◌<◌, ◌*◌, ◌%◌};
 ghost use Rattle.std.specs.Int.{w32};
 ghost use Rattle.lane_int.specs.Integer.{element, compares, carried, carries, multiply_added, extended, high_half};
