@@ -1,6 +1,7 @@
 pub mod Accesses
 pub mod Arithmetic
 pub mod Configuration
+pub mod Laws
 pub mod Operations
 pub mod Room
 pub mod Step

@@ -8,6 +8,7 @@ mod accesses;
 mod arithmetic;
 mod configuration;
 mod elements;
+pub mod laws;
 mod memory;
 mod operands;
 mod operations;
