@@ -5,7 +5,7 @@ use Rattle.std.specs.Option.{option_map}
 use Rattle.std.proofs.lemmas.List.{length-map}
 use Rattle.std.proofs.lemmas.List.Elements.{All-from_recursion}
 use Rattle.region_mem.specs.declared.parameter.Param.{Param}
-use Rattle.cert_note.specs.declared.values.Vlen.{Vlen}
+use Rattle.vreg_groups.specs.declared.vector_length.Vlen.{Vlen}
 use Rattle.cert_note.specs.declared.values.Equality.{Equality}
 use Rattle.cert_note.specs.declared.values.RegisterFact.{RegisterFact}
 use Rattle.cert_note.specs.declared.values.Block.{Block}

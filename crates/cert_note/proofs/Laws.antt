@@ -6,12 +6,14 @@ use Rattle.std.proofs.lemmas.Bool.{eqb-true}
 use Rattle.std.proofs.lemmas.Bool.Decides.{nat_tests}
 use Rattle.region_mem.specs.declared.parameter.Param.{Param}
 use Rattle.cert_note.specs.declared.refusals.CertError.TheVariants as error
-use Rattle.cert_note.specs.declared.values.Vlen.{Vlen}
+use Rattle.vreg_groups.specs.declared.vector_length.Vlen.{Vlen}
 use Rattle.cert_note.specs.declared.values.Term.{Term}
 use Rattle.cert_note.specs.declared.values.Budget.{Budget}
 use Rattle.cert_note.specs.declared.values.VectorFact.{VectorFact}
 use Rattle.cert_note.specs.declared.values.Group.{Group}
-use Rattle.cert_note.specs.Certificate.{EqualityView, RegisterFactView, BlockView, is_supported, is_width, is_group, after_term, after_fact, after_vector, IsTerm, IsEquality, SaysMore, IsRegisterFact, IsVectorFact, IsBudgetOf, IsVtype, IsBlock}
+use Rattle.cert_note.specs.Certificate.{EqualityView, RegisterFactView, BlockView, is_width, is_group, after_term, after_fact, after_vector, IsTerm, IsEquality, SaysMore, IsRegisterFact, IsVectorFact, IsBudgetOf, IsVtype, IsBlock}
+use Rattle.vreg_groups.specs.VectorType.{vtype_of}
+use Rattle.std.specs.Prelude.{is_some}
 use Rattle.cert_note.specs.Spelling.{half, word, spelled_term, spelled_equality, spelled_fact, spelled_vector, spelled_budget, spelled_vtype, counts, spelled_block}
 use Rattle.cert_note.specs.Reading.{byte_at, number_at, zero_at, zeros_at, term_at, terms_at, sum_at, none_at, some_at, equality_at, fact_at, facts_at, group_at, vector_at, vectors_at, budget_at, known_vtype, vtype_at, counts_at, block_at}
 use Rattle.cert_note.proofs.Lists.{terms_many, facts_many, vectors_many}
@@ -232,7 +234,7 @@ known_is zero bits v le e =
       | inr h ↦ absurd (let f = h.1 in cc)
     ]
 known_is (suc zero) bits v le e =
-    elim (chosen (is_supported bits) (Some (Some bits)) None (Some v) e) [
+    elim (chosen (is_some (vtype_of bits)) (Some (Some bits)) None (Some v) e) [
       | inl h ↦ subst (λ (w : Option ℕ). (1 ∷ bits ∷ [] ≡ spelled_vtype w) × IsVtype w) (some_is (Some bits) v h.1) (refl, h.0)
       | inr h ↦ absurd (let f = h.1 in cc)
     ]

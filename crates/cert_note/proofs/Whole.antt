@@ -10,8 +10,8 @@ use Rattle.region_mem.specs.declared.parameter.Mode.TheVariants.{Read, ReadWrite
 use Rattle.region_mem.specs.declared.parameter.Param.{Param}
 use Rattle.region_mem.specs.declared.parameter.Param.TheVariants as parameter
 use Rattle.cert_note.specs.declared.refusals.CertError.TheVariants as error
-use Rattle.cert_note.specs.declared.values.Vlen.{Vlen}
-use Rattle.cert_note.specs.declared.values.Vlen.TheVariants.{V128, V256}
+use Rattle.vreg_groups.specs.declared.vector_length.Vlen.{Vlen}
+use Rattle.vreg_groups.specs.declared.vector_length.Vlen.TheVariants.{V128, V256}
 use Rattle.cert_note.specs.Certificate.{CertificateView, AllFrom, after_block, IsBlock, IsParameter, IsCertificate}
 use Rattle.cert_note.specs.Spelling.{half, word, vlen_code, header, parameter_of, spelled_parameter, spelled_block, spelling}
 use Rattle.cert_note.specs.Reading.{byte_at, number_at, zero_at, zeros_at, vlen_of, header_at, mode_of, is_first_number, is_second_number, param_of, parameter_at, parameters_at, block_at, blocks_at, count_at, certificate_of}

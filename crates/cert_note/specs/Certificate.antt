@@ -1,12 +1,13 @@
 -- What a certificate states, without where it lies in memory, and what makes it one.
-use Rattle.std.specs.Prelude.{ℕ, ◌+◌, ◌*◌, ◌-◌, ◌/◌, ◌%◌, ◌^◌, ◌==◌, Bool, true, false, ◌&&◌, ◌||◌, not, nat_le, nat_lt, is_some, List, [], ◌∷◌, length, map, Option, Some, None, if◌then◌else◌}
+use Rattle.std.specs.Prelude.{ℕ, ◌+◌, ◌*◌, ◌-◌, ◌%◌, ◌^◌, ◌==◌, Bool, true, false, ◌&&◌, ◌||◌, not, nat_le, nat_lt, is_some, List, [], ◌∷◌, length, map, Option, Some, None, if◌then◌else◌}
 use Rattle.std.specs.Prelude.{◌≡◌, ◌<◌, ◌≤◌, IsTrue}
 use Rattle.std.specs.List.{list_all, list_any, slice_get, AllByRecursion}
 use Rattle.std.specs.Option.{option_map, option_map_or}
 use Rattle.region_mem.specs.declared.parameter.Param.{Param}
 use Rattle.region_mem.specs.declared.parameter.Param.TheVariants as parameter
-use Rattle.cert_note.specs.declared.values.Vlen.{Vlen}
-use Rattle.cert_note.specs.declared.values.Vlen.TheVariants.{V128, V256}
+use Rattle.vreg_groups.specs.declared.vector_length.Vlen.{Vlen}
+use Rattle.vreg_groups.specs.VectorLength.{vlenb_of}
+use Rattle.vreg_groups.specs.VectorType.{vtype_of}
 use Rattle.cert_note.specs.declared.values.Term.{Term}
 use Rattle.cert_note.specs.declared.values.Budget.{Budget}
 use Rattle.cert_note.specs.declared.values.VectorFact.{VectorFact}
@@ -55,11 +56,6 @@ view_blocks bs = map view_block bs
 abbrev pub view : {A : Type 0} → Contents A → CertificateView
 view c = record { vlen = c.vlen; parameters = c.parameters; blocks = view_blocks c.blocks.items }
 
--- the bits of a vector register
-unfoldable pub bits_of : Vlen → ℕ
-bits_of V128 = 128
-bits_of V256 = 256
-
 -- The place has a scalar.
 unfoldable pub is_scalar : Param → Bool
 is_scalar parameter.None = false
@@ -78,14 +74,6 @@ is_full bits low high = (low == 0) && (high == 2 ^ bits - 1)
 unfoldable pub is_budget : ℕ → ℕ → Bool
 is_budget factor register = if factor == 0 then register == 0 else (nat_le 1 register && nat_le register 31)
 
--- A vector type: elements of 8, 16 or 32 bits (bits 5 to 3), in groups of 1, 2, 4 or 8 registers (bits 2 to 0), or of a
--- half or a quarter of one, in which an element has at most 16 or 8 bits.
-unfoldable pub is_supported : ℕ → Bool
-is_supported vtype =
-    let sew = vtype / 8 % 8 in
-    let lmul = vtype % 8 in
-    nat_lt vtype 256 && nat_le sew 2 && (nat_lt lmul 4 || (lmul == 7 && nat_le sew 1) || (lmul == 6 && sew == 0))
-
 -- 8, 16 or 32 bits
 unfoldable pub is_width : ℕ → Bool
 is_width width = (width == 8) || (width == 16) || (width == 32)
@@ -96,7 +84,7 @@ is_group register registers = ((registers == 1) || (registers == 2) || (register
 
 -- at most as many elements as the group has
 unfoldable pub is_count : Vlen → ℕ → ℕ → ℕ → Bool
-is_count vlen width registers count = nat_le (count * width) (registers * bits_of vlen)
+is_count vlen width registers count = nat_le (count * width) (registers * (8 * vlenb_of vlen))
 
 -- an interval of numbers of this many bits, that is not all of them
 unfoldable pub is_interval : ℕ → ℕ → ℕ → Bool
@@ -171,7 +159,7 @@ pub record IsBudgetOf (budget : Budget) : Type 0 where
 
 abbrev pub IsVtype : Option ℕ → Type 0
 IsVtype None = Unit {0}
-IsVtype (Some vtype) = IsTrue (is_supported vtype)
+IsVtype (Some vtype) = IsTrue (is_some (vtype_of vtype))
 
 pub record IsBlock (vlen : Vlen) (params : List Param) (from : ℕ) (block : BlockView) : Type 0 where
   pub start : IsTrue (nat_le from block.start && (block.start % 4 == 0))

@@ -1,5 +1,5 @@
 -- Reading from the first byte to the last, with the first fault that is met.
-use Rattle.std.specs.Prelude.{◌≡◌, ◌⊎◌, ℕ, zero, suc, ◌+◌, ◌%◌, ◌==◌, Bool, true, false, ◌&&◌, not, nat_le, nat_lt, List, [], ◌∷◌, length, take, drop, Option, Some, None, Result, Ok, Err, if◌then◌else◌, ok_or}
+use Rattle.std.specs.Prelude.{◌≡◌, ◌⊎◌, ℕ, zero, suc, ◌+◌, ◌%◌, ◌==◌, Bool, true, false, ◌&&◌, not, nat_le, nat_lt, List, [], ◌∷◌, length, take, drop, Option, Some, None, is_some, Result, Ok, Err, if◌then◌else◌, ok_or}
 use Rattle.std.specs.Int.{Width, w16, w32, byte_len, from_le_bytes}
 use Rattle.region_mem.specs.Parameter.{parameters_of}
 use Rattle.region_mem.specs.declared.parameter.Mode.{Mode}
@@ -10,13 +10,14 @@ use Rattle.cert_note.specs.declared.refusals.CertError.{CertError}
 use Rattle.cert_note.specs.declared.refusals.CertError.TheVariants as error
 use Rattle.cert_note.specs.declared.refusals.ReadError.{ReadError}
 use Rattle.cert_note.specs.declared.refusals.ReadError.TheVariants.{Memory, Fault}
-use Rattle.cert_note.specs.declared.values.Vlen.{Vlen}
-use Rattle.cert_note.specs.declared.values.Vlen.TheVariants.{V128, V256}
+use Rattle.vreg_groups.specs.declared.vector_length.Vlen.{Vlen}
+use Rattle.vreg_groups.specs.declared.vector_length.Vlen.TheVariants.{V128, V256}
 use Rattle.cert_note.specs.declared.values.Term.{Term}
 use Rattle.cert_note.specs.declared.values.Budget.{Budget}
 use Rattle.cert_note.specs.declared.values.VectorFact.{VectorFact}
 use Rattle.cert_note.specs.declared.values.Group.{Group}
-use Rattle.cert_note.specs.Certificate.{EqualityView, RegisterFactView, BlockView, CertificateView, is_atom, is_full, is_budget, is_supported, is_width, is_group, is_count, is_interval, are_free}
+use Rattle.vreg_groups.specs.VectorType.{vtype_of}
+use Rattle.cert_note.specs.Certificate.{EqualityView, RegisterFactView, BlockView, CertificateView, is_atom, is_full, is_budget, is_width, is_group, is_count, is_interval, are_free}
 
 infixl 10 ◌>>=◌
 abbrev pub ◌>>=◌ : {A B : Type 0} → Result A CertError → (A → Result B CertError) → Result B CertError
@@ -208,7 +209,7 @@ budget_at bytes = do
   Ok (record { constant = constant.0; factor = factor.0; register = register.0 }, register.1)
 
 unfoldable pub known_vtype : ℕ → ℕ → Option (Option ℕ)
-known_vtype known vtype = if known == 1 then (if is_supported vtype then Some (Some vtype) else None) else (if vtype == 0 then Some None else None)
+known_vtype known vtype = if known == 1 then (if is_some (vtype_of vtype) then Some (Some vtype) else None) else (if vtype == 0 then Some None else None)
 
 unfoldable pub vtype_at : List ℕ → Result (Option ℕ × List ℕ) CertError
 vtype_at bytes = do

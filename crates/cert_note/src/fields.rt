@@ -3,12 +3,13 @@ ghost use Rattle.std.specs.Prelude.{◌≡◌, ◌==◌, ◌&&◌, ◌≤◌, �
 ghost use Rattle.region_mem.specs.Parameter.{parameters_of};
 ghost use Rattle.cert_note.specs.declared.refusals.CertError.TheVariants.{Parameter};
 ghost use Rattle.std.specs.Int.{w16, w32};
-ghost use Rattle.cert_note.specs.Certificate.{is_supported, is_width, is_group, is_count, is_interval, is_full, is_budget, is_atom, is_scalar, bits_of};
+ghost use Rattle.cert_note.specs.Certificate.{is_width, is_group, is_count, is_interval, is_full, is_budget, is_atom, is_scalar};
 ghost use Rattle.cert_note.specs.Reading.{Gives, expect, byte_at, number_at, zero_at, zeros_at, vlen_of, header_at, mode_of, is_first_number, is_second_number, param_of, parameter_at, parameters_at, term_at, group_at, vector_at, budget_at, known_vtype, vtype_at, counts_at, count_at};
 
 use crate::refusals::{CertError, ReadError};
-use crate::values::{Budget, Group, Term, VectorFact, Vlen};
+use crate::values::{Budget, Group, Term, VectorFact};
 use region_mem::{Mode, Param, Parameters};
+use vreg_groups::{Vlen, Vtype};
 
 pub(crate) fn expect(test: bool, fault: CertError) -> Result<(), ReadError>
     ensures { Gives (λ x. x) result (expect test fault) }
@@ -250,22 +251,11 @@ fn is_group(register: u8, registers: u8) -> bool
         && register % registers == 0
 }
 
-#[tactic(auto, unfolding(crate::specs::Certificate::bits_of))]
-fn bits_of(vlen: Vlen) -> u32
-    ensures value { result ≡ bits_of vlen }
-    ensures small { result ≤ 256 }
-{
-    match vlen {
-        Vlen::V128 => 128,
-        Vlen::V256 => 256,
-    }
-}
-
 #[tactic(auto, unfolding(crate::specs::Certificate::is_count))]
 fn is_count(vlen: Vlen, width: u8, registers: u8, count: u16) -> bool
     ensures { result ≡ is_count vlen width registers count }
 {
-    u32::from(count) * u32::from(width) <= u32::from(registers) * bits_of(vlen)
+    usize::from(count) * usize::from(width) <= usize::from(registers) * (8 * vlen.bytes())
 }
 
 /// The greatest number of 8, 16 or 32 bits.
@@ -384,21 +374,12 @@ pub(crate) fn budget_at(bytes: &[u8]) -> Result<(Budget, &[u8]), ReadError>
     ))
 }
 
-#[tactic(auto, unfolding(crate::specs::Certificate::is_supported))]
-fn is_supported(vtype: u8) -> bool
-    ensures { result ≡ is_supported vtype }
-{
-    let sew = vtype / 8 % 8;
-    let lmul = vtype % 8;
-    sew <= 2 && (lmul < 4 || (lmul == 7 && sew <= 1) || (lmul == 6 && sew == 0))
-}
-
 #[tactic(auto, unfolding(crate::specs::Reading::known_vtype))]
 fn known_vtype(known: u8, vtype: u8) -> Option<Option<u8>>
     ensures { result ≡ known_vtype known vtype }
 {
     if known == 1 {
-        if is_supported(vtype) {
+        if Vtype::from_bits(u32::from(vtype)).is_some() {
             Some(Some(vtype))
         } else {
             None

@@ -11,9 +11,8 @@ mod writing;
 
 pub use reading::{one_spelling, read};
 pub use refusals::CertError;
-pub use values::{
-    Block, Budget, Certificate, Contents, Equality, RegisterFact, Term, VectorFact, Vlen,
-};
+pub use values::{Block, Budget, Certificate, Contents, Equality, RegisterFact, Term, VectorFact};
+pub use vreg_groups::Vlen;
 pub use writing::write;
 
 #[cfg(test)]

@@ -9,9 +9,10 @@ ghost use Rattle.std.specs.Option.{option_map};
 use crate::fields;
 use crate::fields::{byte_at, expect, word_at};
 use crate::refusals::{CertError, ReadError};
-use crate::values::{Block, Certificate, Contents, Equality, RegisterFact, Term, VectorFact, Vlen};
+use crate::values::{Block, Certificate, Contents, Equality, RegisterFact, Term, VectorFact};
 use region_mem::Parameters;
 use std::alloc::Allocator;
+use vreg_groups::Vlen;
 
 fn terms_at<'a, A: Allocator>(
     alloc: A,

@@ -2,15 +2,7 @@
 use region_mem::Parameters;
 use std::alloc::{Allocator, Global};
 use std::marker::Model;
-
-/// The length of a vector register that a certificate is for.
-#[derive(Clone, Copy, Debug, PartialEq, Eq)]
-pub enum Vlen {
-    /// 128 bits.
-    V128,
-    /// 256 bits.
-    V256,
-}
+use vreg_groups::Vlen;
 
 /// A multiple of an atom, which is a value that an equality may speak of.
 #[derive(Clone, Copy, Debug, PartialEq, Eq)]

@@ -6,10 +6,11 @@ ghost use Rattle.cert_note.specs.Certificate.{view_equality, view_fact, view_fac
 ghost use Rattle.cert_note.specs.Spelling.{half, word, counts, header, parameter_of, mode_code, HasFewTerms, HasFewFacts, HasFewBlocks, spelled_parameter, spelled_term, spelled_equality, spelled_fact, spelled_vector, spelled_budget, spelled_vtype, spelled_block, spelling};
 
 use crate::values::{
-    Block, Budget, Certificate, Contents, Equality, RegisterFact, Term, VectorFact, Vlen,
+    Block, Budget, Certificate, Contents, Equality, RegisterFact, Term, VectorFact,
 };
 use region_mem::{Mode, Param};
 use std::alloc::{AllocError, Allocator};
+use vreg_groups::Vlen;
 
 #[tactic(auto, unfolding(crate::specs::Spelling::half))]
 fn put_half<A: Allocator>(out: &mut Vec<u8, A>, number: u16) -> Result<(), AllocError>
