@@ -11,7 +11,10 @@ use Rattle.cert_note.specs.declared.values.Term.{Term}
 use Rattle.cert_note.specs.declared.values.Budget.{Budget}
 use Rattle.cert_note.specs.declared.values.VectorFact.{VectorFact}
 use Rattle.cert_note.specs.declared.values.Group.{Group}
-use Rattle.cert_note.specs.Certificate.{EqualityView, RegisterFactView, BlockView, is_width, is_group, after_term, after_fact, after_vector, IsTerm, IsEquality, SaysMore, IsRegisterFact, IsVectorFact, IsBudgetOf, IsVtype, IsBlock}
+use Rattle.cert_note.specs.declared.values.Equality.{Equality}
+use Rattle.cert_note.specs.declared.values.RegisterFact.{RegisterFact}
+use Rattle.cert_note.specs.declared.values.Block.{Block}
+use Rattle.cert_note.specs.Certificate.{is_width, is_group, after_term, after_fact, after_vector, IsTerm, IsEquality, SaysMore, IsRegisterFact, IsVectorFact, IsBudgetOf, IsVtype, IsBlock}
 use Rattle.vreg_groups.specs.VectorType.{vtype_of}
 use Rattle.std.specs.Prelude.{is_some}
 use Rattle.cert_note.specs.Spelling.{half, word, spelled_term, spelled_equality, spelled_fact, spelled_vector, spelled_budget, spelled_vtype, counts, spelled_block}
@@ -44,8 +47,8 @@ term_again params from x rest is = rw (is.atom, word_again x.coefficient rest is
 
 -- ---- equalities
 
-pub sum_takes : (params : List Param) (count : ℕ) (bytes : List ℕ) (x : EqualityView) (rest : List ℕ) → IsBytes bytes → sum_at params count bytes ≡ Ok (x, rest) →
-    Takes bytes (word x.constant ++ flat_map spelled_term x.terms) rest × (length x.terms ≡ count) × IsEquality params x
+pub sum_takes : (params : List Param) (count : ℕ) (bytes : List ℕ) (x : Equality) (rest : List ℕ) → IsBytes bytes → sum_at params count bytes ≡ Ok (x, rest) →
+    Takes bytes (word x.constant ++ flat_map spelled_term x.terms.items) rest × (length x.terms.items ≡ count) × IsEquality params x
 unfolding sum_at
 sum_takes params count bytes x rest fits e =
     let p = expected _ _ _ (x, rest) e in
@@ -55,19 +58,19 @@ sum_takes params count bytes x rest fits e =
     let few : count ≤ 8 = grind (arith, nat_tests, held) in
     let t0 = word_takes bytes a.0.0 a.0.1 fits a.1 in
     let t1 = many_takes (terms_at params) (term_at params) after_term spelled_term (IsTerm params) (terms_many params) (term_takes params) count 1 a.0.1 b.0.0 b.0.1 t0.0.rest_fits b.1 in
-    let made : EqualityView × List ℕ = (record { constant = a.0.0; terms = b.0.0 }, b.0.1) in
-    subst (λ (y : EqualityView × List ℕ). Takes bytes (word y.0.constant ++ flat_map spelled_term y.0.terms) y.1 × (length y.0.terms ≡ count) × IsEquality params y.0) (ok_is made (x, rest) b.2)
+    let made : Equality × List ℕ = (record { constant = a.0.0; terms = record { items = b.0.0 } }, b.0.1) in
+    subst (λ (y : Equality × List ℕ). Takes bytes (word y.0.constant ++ flat_map spelled_term y.0.terms.items) y.1 × (length y.0.terms.items ≡ count) × IsEquality params y.0) (ok_is made (x, rest) b.2)
     (Takes-then bytes (word a.0.0) a.0.1 (flat_map spelled_term b.0.0) b.0.1 t0.0 t1.0, t1.1, record { few = omega (arith, t1.1); constant = t0.1; terms = t1.2 })
 
-pub sum_again : (params : List Param) (x : EqualityView) (rest : List ℕ) → IsEquality params x → sum_at params (length x.terms) ((word x.constant ++ flat_map spelled_term x.terms) ++ rest) ≡ Ok (x, rest)
+pub sum_again : (params : List Param) (x : Equality) (rest : List ℕ) → IsEquality params x → sum_at params (length x.terms.items) ((word x.constant ++ flat_map spelled_term x.terms.items) ++ rest) ≡ Ok (x, rest)
 unfolding sum_at
 sum_again params x rest is =
-    let few : leb (length x.terms) 8 ≡ true = grind (arith, nat_tests, is.few) in
-    let regrouped : (word x.constant ++ flat_map spelled_term x.terms) ++ rest ≡ word x.constant ++ (flat_map spelled_term x.terms ++ rest) = append_assoc (word x.constant) (flat_map spelled_term x.terms) rest in
-    ap (sum_at params (length x.terms)) regrouped
-    ∙ rw (few, word_again x.constant (flat_map spelled_term x.terms ++ rest) is.constant, many_again (terms_at params) (term_at params) after_term spelled_term (IsTerm params) (terms_many params) (term_again params) 1 x.terms rest is.terms) refl
+    let few : leb (length x.terms.items) 8 ≡ true = grind (arith, nat_tests, is.few) in
+    let regrouped : (word x.constant ++ flat_map spelled_term x.terms.items) ++ rest ≡ word x.constant ++ (flat_map spelled_term x.terms.items ++ rest) = append_assoc (word x.constant) (flat_map spelled_term x.terms.items) rest in
+    ap (sum_at params (length x.terms.items)) regrouped
+    ∙ rw (few, word_again x.constant (flat_map spelled_term x.terms.items ++ rest) is.constant, many_again (terms_at params) (term_at params) after_term spelled_term (IsTerm params) (terms_many params) (term_again params) 1 x.terms.items rest is.terms) refl
 
-pub equality_takes : (params : List Param) (low high : ℕ) (bytes : List ℕ) (x : Option EqualityView) (rest : List ℕ) → IsBytes bytes → equality_at params low high bytes ≡ Ok (x, rest) →
+pub equality_takes : (params : List Param) (low high : ℕ) (bytes : List ℕ) (x : Option Equality) (rest : List ℕ) → IsBytes bytes → equality_at params low high bytes ≡ Ok (x, rest) →
     Takes bytes (spelled_equality x) rest × SaysMore params low high x
 unfolding equality_at none_at some_at spelled_equality
 equality_takes params low high bytes x rest fits e =
@@ -77,21 +80,21 @@ equality_takes params low high bytes x rest fits e =
       | inl h ↦
           let p = expected _ _ _ (x, rest) h.1 in
           let last : a.0.0 ≡ 255 = eqb-true _ _ h.0 in
-          subst (λ (y : Option EqualityView × List ℕ). Takes bytes (spelled_equality y.0) y.1 × SaysMore params low high y.0) (ok_is (None, a.0.1) (x, rest) p.1)
+          subst (λ (y : Option Equality × List ℕ). Takes bytes (spelled_equality y.0) y.1 × SaysMore params low high y.0) (ok_is (None, a.0.1) (x, rest) p.1)
           (subst (λ (n : ℕ). Takes bytes (n ∷ []) a.0.1) last t0.0, p.0)
       | inr h ↦
           let b = bind_ok (sum_at params a.0.0 a.0.1) _ (x, rest) h.1 in
           let t1 = sum_takes params a.0.0 a.0.1 b.0.0 b.0.1 t0.0.rest_fits b.1 in
-          let both = Takes-then bytes (a.0.0 ∷ []) a.0.1 (word b.0.0.constant ++ flat_map spelled_term b.0.0.terms) b.0.1 t0.0 t1.0 in
-          subst (λ (y : Option EqualityView × List ℕ). Takes bytes (spelled_equality y.0) y.1 × SaysMore params low high y.0) (ok_is (Some b.0.0, b.0.1) (x, rest) b.2)
-          (subst (λ (n : ℕ). Takes bytes ((n ∷ []) ++ (word b.0.0.constant ++ flat_map spelled_term b.0.0.terms)) b.0.1) (sym t1.1) both, t1.2)
+          let both = Takes-then bytes (a.0.0 ∷ []) a.0.1 (word b.0.0.constant ++ flat_map spelled_term b.0.0.terms.items) b.0.1 t0.0 t1.0 in
+          subst (λ (y : Option Equality × List ℕ). Takes bytes (spelled_equality y.0) y.1 × SaysMore params low high y.0) (ok_is (Some b.0.0, b.0.1) (x, rest) b.2)
+          (subst (λ (n : ℕ). Takes bytes ((n ∷ []) ++ (word b.0.0.constant ++ flat_map spelled_term b.0.0.terms.items)) b.0.1) (sym t1.1) both, t1.2)
     ]
 
-pub equality_again : (params : List Param) (low high : ℕ) (x : Option EqualityView) (rest : List ℕ) → SaysMore params low high x → equality_at params low high (spelled_equality x ++ rest) ≡ Ok (x, rest)
+pub equality_again : (params : List Param) (low high : ℕ) (x : Option Equality) (rest : List ℕ) → SaysMore params low high x → equality_at params low high (spelled_equality x ++ rest) ≡ Ok (x, rest)
 unfolding equality_at none_at some_at spelled_equality byte_at
 equality_again params low high None rest says = rw says refl
 equality_again params low high (Some x) rest says =
-    let short : eqb (length x.terms) 255 ≡ false = grind (arith, nat_tests, says.few) in
+    let short : eqb (length x.terms.items) 255 ≡ false = grind (arith, nat_tests, says.few) in
     rw (short, sum_again params x rest says) refl
 
 -- ---- facts on registers
@@ -105,7 +108,7 @@ regroup4 a b c d rest = simp append_assoc
 regroup6 : (a b c d e f rest : List ℕ) → (((((a ++ b) ++ c) ++ d) ++ e) ++ f) ++ rest ≡ a ++ (b ++ (c ++ (d ++ (e ++ (f ++ rest)))))
 regroup6 a b c d e f rest = simp append_assoc
 
-pub fact_takes : (params : List Param) (from : ℕ) (bytes : List ℕ) (x : RegisterFactView) (rest : List ℕ) → IsBytes bytes → fact_at params from bytes ≡ Ok (x, rest) → Takes bytes (spelled_fact x) rest × IsRegisterFact params from x
+pub fact_takes : (params : List Param) (from : ℕ) (bytes : List ℕ) (x : RegisterFact) (rest : List ℕ) → IsBytes bytes → fact_at params from bytes ≡ Ok (x, rest) → Takes bytes (spelled_fact x) rest × IsRegisterFact params from x
 unfolding fact_at spelled_fact
 fact_takes params from bytes x rest fits e =
     let a = bind_ok (byte_at bytes) _ (x, rest) e in
@@ -121,11 +124,11 @@ fact_takes params from bytes x rest fits e =
     let e1 = Takes-then bytes (a.0.0 ∷ []) a.0.1 (word b.0.0) b.0.1 t0.0 t1.0 in
     let e2 = Takes-then bytes ((a.0.0 ∷ []) ++ word b.0.0) b.0.1 (word c.0.0) c.0.1 e1 t2.0 in
     let e3 = Takes-then bytes (((a.0.0 ∷ []) ++ word b.0.0) ++ word c.0.0) c.0.1 (spelled_equality d.0.0) d.0.1 e2 t3.0 in
-    let made : RegisterFactView × List ℕ = (record { number = a.0.0; low = b.0.0; high = c.0.0; equality = d.0.0 }, d.0.1) in
-    subst (λ (y : RegisterFactView × List ℕ). Takes bytes (spelled_fact y.0) y.1 × IsRegisterFact params from y.0) (ok_is made (x, rest) d.2)
+    let made : RegisterFact × List ℕ = (record { number = a.0.0; low = b.0.0; high = c.0.0; equality = d.0.0 }, d.0.1) in
+    subst (λ (y : RegisterFact × List ℕ). Takes bytes (spelled_fact y.0) y.1 × IsRegisterFact params from y.0) (ok_is made (x, rest) d.2)
     (e3, record { number = p.0; low = t1.1; high = t2.1; interval = q.0; says = t3.1 })
 
-pub fact_again : (params : List Param) (from : ℕ) (x : RegisterFactView) (rest : List ℕ) → IsRegisterFact params from x → fact_at params from (spelled_fact x ++ rest) ≡ Ok (x, rest)
+pub fact_again : (params : List Param) (from : ℕ) (x : RegisterFact) (rest : List ℕ) → IsRegisterFact params from x → fact_at params from (spelled_fact x ++ rest) ≡ Ok (x, rest)
 unfolding fact_at spelled_fact byte_at
 fact_again params from x rest is =
     ap (λ (t : List ℕ). fact_at params from (x.number ∷ t)) (regroup3 (word x.low) (word x.high) (spelled_equality x.equality) rest)
@@ -296,7 +299,7 @@ counts_again registers vectors rest r v =
 few_along : (n m : ℕ) → n ≡ m → m ≤ 32 → n ≤ 32
 few_along n m e h = omega arith
 
-pub block_takes : (vlen : Vlen) (params : List Param) (from : ℕ) (bytes : List ℕ) (x : BlockView) (rest : List ℕ) → IsBytes bytes → block_at vlen params from bytes ≡ Ok (x, rest) → Takes bytes (spelled_block x) rest × IsBlock vlen params from x
+pub block_takes : (vlen : Vlen) (params : List Param) (from : ℕ) (bytes : List ℕ) (x : Block) (rest : List ℕ) → IsBytes bytes → block_at vlen params from bytes ≡ Ok (x, rest) → Takes bytes (spelled_block x) rest × IsBlock vlen params from x
 unfolding block_at spelled_block
 block_takes vlen params from bytes x rest fits e =
     let a = bind_ok (number_at _ bytes) _ (x, rest) e in
@@ -320,25 +323,25 @@ block_takes vlen params from bytes x rest fits e =
     let e3 = Takes-then bytes ((w ++ spelled_budget b.0.0) ++ spelled_vtype c.0.0) c.0.1 (counts (length f.0.0) (length g.0.0)) d.0.1 e2 counted in
     let e4 = Takes-then bytes (((w ++ spelled_budget b.0.0) ++ spelled_vtype c.0.0) ++ counts (length f.0.0) (length g.0.0)) d.0.1 (flat_map spelled_fact f.0.0) f.0.1 e3 t4.0 in
     let e5 = Takes-then bytes ((((w ++ spelled_budget b.0.0) ++ spelled_vtype c.0.0) ++ counts (length f.0.0) (length g.0.0)) ++ flat_map spelled_fact f.0.0) f.0.1 (flat_map spelled_vector g.0.0) g.0.1 e4 t5.0 in
-    let made : BlockView × List ℕ = (record { start = a.0.0; budget = b.0.0; vtype = c.0.0; registers = f.0.0; vectors = g.0.0 }, g.0.1) in
-    subst (λ (y : BlockView × List ℕ). Takes bytes (spelled_block y.0) y.1 × IsBlock vlen params from y.0) (ok_is made (x, rest) q.1)
+    let made : Block × List ℕ = (record { start = a.0.0; budget = b.0.0; vtype = c.0.0; registers = record { items = f.0.0 }; vectors = record { items = g.0.0 } }, g.0.1) in
+    subst (λ (y : Block × List ℕ). Takes bytes (spelled_block y.0) y.1 × IsBlock vlen params from y.0) (ok_is made (x, rest) q.1)
     (e5, record { start = p.0; start_fits = t0.1; budget = t1.1; vtype = t2.1; few_registers = few_along (length f.0.0) d.0.0.0 t4.1 t3.1; few_vectors = few_along (length g.0.0) d.0.0.1 t5.1 t3.2; registers = t4.2; vectors = t5.2; free = q.0 })
 
-pub block_again : (vlen : Vlen) (params : List Param) (from : ℕ) (x : BlockView) (rest : List ℕ) → IsBlock vlen params from x → block_at vlen params from (spelled_block x ++ rest) ≡ Ok (x, rest)
+pub block_again : (vlen : Vlen) (params : List Param) (from : ℕ) (x : Block) (rest : List ℕ) → IsBlock vlen params from x → block_at vlen params from (spelled_block x ++ rest) ≡ Ok (x, rest)
 unfolding block_at spelled_block
 block_again vlen params from x rest is =
-    let vectors = flat_map spelled_vector x.vectors ++ rest in
-    let facts = flat_map spelled_fact x.registers ++ vectors in
-    let counted = counts (length x.registers) (length x.vectors) ++ facts in
+    let vectors = flat_map spelled_vector x.vectors.items ++ rest in
+    let facts = flat_map spelled_fact x.registers.items ++ vectors in
+    let counted = counts (length x.registers.items) (length x.vectors.items) ++ facts in
     let typed = spelled_vtype x.vtype ++ counted in
-    ap (block_at vlen params from) (regroup6 (word x.start) (spelled_budget x.budget) (spelled_vtype x.vtype) (counts (length x.registers) (length x.vectors)) (flat_map spelled_fact x.registers) (flat_map spelled_vector x.vectors) rest)
+    ap (block_at vlen params from) (regroup6 (word x.start) (spelled_budget x.budget) (spelled_vtype x.vtype) (counts (length x.registers.items) (length x.vectors.items)) (flat_map spelled_fact x.registers.items) (flat_map spelled_vector x.vectors.items) rest)
     ∙ rw (
       word_again x.start (spelled_budget x.budget ++ typed) is.start_fits,
       is.start,
       budget_again x.budget typed is.budget,
       vtype_again x.vtype counted is.vtype,
-      counts_again (length x.registers) (length x.vectors) facts is.few_registers is.few_vectors,
-      many_again (facts_at params) (fact_at params) after_fact spelled_fact (IsRegisterFact params) (facts_many params) (fact_again params) 1 x.registers vectors is.registers,
-      many_again (vectors_at vlen) (vector_at vlen) after_vector spelled_vector (IsVectorFact vlen) (vectors_many vlen) (vector_again vlen) 0 x.vectors rest is.vectors,
+      counts_again (length x.registers.items) (length x.vectors.items) facts is.few_registers is.few_vectors,
+      many_again (facts_at params) (fact_at params) after_fact spelled_fact (IsRegisterFact params) (facts_many params) (fact_again params) 1 x.registers.items vectors is.registers,
+      many_again (vectors_at vlen) (vector_at vlen) after_vector spelled_vector (IsVectorFact vlen) (vectors_many vlen) (vector_again vlen) 0 x.vectors.items rest is.vectors,
       is.free,
     ) refl

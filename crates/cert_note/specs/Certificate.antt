@@ -1,8 +1,8 @@
 -- What a certificate states, without where it lies in memory, and what makes it one.
-use Rattle.std.specs.Prelude.{ℕ, ◌+◌, ◌*◌, ◌-◌, ◌%◌, ◌^◌, ◌==◌, Bool, true, false, ◌&&◌, ◌||◌, not, nat_le, nat_lt, is_some, List, [], ◌∷◌, length, map, Option, Some, None, if◌then◌else◌}
+use Rattle.std.specs.Prelude.{ℕ, ◌+◌, ◌*◌, ◌-◌, ◌%◌, ◌^◌, ◌==◌, Bool, true, false, ◌&&◌, ◌||◌, not, nat_le, nat_lt, is_some, List, [], ◌∷◌, length, Option, Some, None, if◌then◌else◌}
 use Rattle.std.specs.Prelude.{◌≡◌, ◌<◌, ◌≤◌, IsTrue}
 use Rattle.std.specs.List.{list_all, list_any, slice_get, AllByRecursion}
-use Rattle.std.specs.Option.{option_map, option_map_or}
+use Rattle.std.specs.Option.{option_map_or}
 use Rattle.region_mem.specs.declared.parameter.Param.{Param}
 use Rattle.region_mem.specs.declared.parameter.Param.TheVariants as parameter
 use Rattle.vreg_groups.specs.declared.vector_length.Vlen.{Vlen}
@@ -16,45 +16,13 @@ use Rattle.cert_note.specs.declared.values.RegisterFact.{RegisterFact}
 use Rattle.cert_note.specs.declared.values.Block.{Block}
 use Rattle.cert_note.specs.declared.values.Contents.{Contents}
 
-pub record EqualityView : Type 0 where
-  pub constant : ℕ
-  pub terms : List Term
-
-pub record RegisterFactView : Type 0 where
-  pub number : ℕ
-  pub low : ℕ
-  pub high : ℕ
-  pub equality : Option EqualityView
-
-pub record BlockView : Type 0 where
-  pub start : ℕ
-  pub budget : Budget
-  pub vtype : Option ℕ
-  pub registers : List RegisterFactView
-  pub vectors : List VectorFact
-
 pub record CertificateView : Type 0 where
   pub vlen : Vlen
   pub parameters : List Param
-  pub blocks : List BlockView
-
-abbrev pub view_equality : {A : Type 0} → Equality A → EqualityView
-view_equality e = record { constant = e.constant; terms = e.terms.items }
-
-abbrev pub view_fact : {A : Type 0} → RegisterFact A → RegisterFactView
-view_fact f = record { number = f.number; low = f.low; high = f.high; equality = option_map view_equality f.equality }
-
-abbrev pub view_facts : {A : Type 0} → List (RegisterFact A) → List RegisterFactView
-view_facts fs = map view_fact fs
-
-abbrev pub view_block : {A : Type 0} → Block A → BlockView
-view_block b = record { start = b.start; budget = b.budget; vtype = b.vtype; registers = view_facts b.registers.items; vectors = b.vectors.items }
-
-abbrev pub view_blocks : {A : Type 0} → List (Block A) → List BlockView
-view_blocks bs = map view_block bs
+  pub blocks : List Block
 
 abbrev pub view : {A : Type 0} → Contents A → CertificateView
-view c = record { vlen = c.vlen; parameters = c.parameters; blocks = view_blocks c.blocks.items }
+view c = record { vlen = c.vlen; parameters = c.parameters; blocks = c.blocks.items }
 
 -- The place has a scalar.
 unfoldable pub is_scalar : Param → Bool
@@ -91,15 +59,15 @@ unfoldable pub is_interval : ℕ → ℕ → ℕ → Bool
 is_interval width low high = nat_le low high && nat_lt high (2 ^ width) && not (is_full width low high)
 
 -- The register of this number has a fact with an equality.
-unfoldable pub is_equated : List RegisterFactView → ℕ → Bool
+unfoldable pub is_equated : List RegisterFact → ℕ → Bool
 is_equated facts number = list_any (λ fact. (fact.number == number) && is_some fact.equality) facts
 
 -- No atom of the equality is a register that has an equality itself.
-unfoldable pub is_free : List RegisterFactView → Option EqualityView → Bool
+unfoldable pub is_free : List RegisterFact → Option Equality → Bool
 is_free facts None = true
-is_free facts (Some equality) = list_all (λ term. not (is_equated facts term.atom)) equality.terms
+is_free facts (Some equality) = list_all (λ term. not (is_equated facts term.atom)) equality.terms.items
 
-unfoldable pub are_free : List RegisterFactView → Bool
+unfoldable pub are_free : List RegisterFact → Bool
 are_free facts = list_all (λ fact. is_free facts fact.equality) facts
 
 -- Each item is valid from the number that the one before it leaves.
@@ -111,13 +79,13 @@ AllFrom Valid next from (x ∷ xs) = Valid from x × AllFrom Valid next (next x)
 abbrev pub after_term : Term → ℕ
 after_term term = term.atom + 1
 
-abbrev pub after_fact : RegisterFactView → ℕ
+abbrev pub after_fact : RegisterFact → ℕ
 after_fact fact = fact.number + 1
 
 abbrev pub after_vector : VectorFact → ℕ
 after_vector fact = fact.register + fact.registers
 
-abbrev pub after_block : BlockView → ℕ
+abbrev pub after_block : Block → ℕ
 after_block block = block.start + 1
 
 pub record IsTerm (params : List Param) (from : ℕ) (term : Term) : Type 0 where
@@ -125,17 +93,17 @@ pub record IsTerm (params : List Param) (from : ℕ) (term : Term) : Type 0 wher
   pub coefficient : IsTrue (nat_lt 0 term.coefficient)
   pub fits : term.coefficient < 2 ^ 32
 
-pub record IsEquality (params : List Param) (equality : EqualityView) : Type 0 where
-  pub few : length equality.terms ≤ 8
+pub record IsEquality (params : List Param) (equality : Equality) : Type 0 where
+  pub few : length equality.terms.items ≤ 8
   pub constant : equality.constant < 2 ^ 32
-  pub terms : AllFrom (IsTerm params) after_term 1 equality.terms
+  pub terms : AllFrom (IsTerm params) after_term 1 equality.terms.items
 
 -- Where no equality is stated the interval says something.
-abbrev pub SaysMore : List Param → ℕ → ℕ → Option EqualityView → Type 0
+abbrev pub SaysMore : List Param → ℕ → ℕ → Option Equality → Type 0
 SaysMore params low high None = IsTrue (not (is_full 32 low high))
 SaysMore params low high (Some equality) = IsEquality params equality
 
-pub record IsRegisterFact (params : List Param) (from : ℕ) (fact : RegisterFactView) : Type 0 where
+pub record IsRegisterFact (params : List Param) (from : ℕ) (fact : RegisterFact) : Type 0 where
   pub number : IsTrue (nat_le from fact.number && nat_le fact.number 32)
   pub low : fact.low < 2 ^ 32
   pub high : fact.high < 2 ^ 32
@@ -161,16 +129,16 @@ abbrev pub IsVtype : Option ℕ → Type 0
 IsVtype None = Unit {0}
 IsVtype (Some vtype) = IsTrue (is_some (vtype_of vtype))
 
-pub record IsBlock (vlen : Vlen) (params : List Param) (from : ℕ) (block : BlockView) : Type 0 where
+pub record IsBlock (vlen : Vlen) (params : List Param) (from : ℕ) (block : Block) : Type 0 where
   pub start : IsTrue (nat_le from block.start && (block.start % 4 == 0))
   pub start_fits : block.start < 2 ^ 32
   pub budget : IsBudgetOf block.budget
   pub vtype : IsVtype block.vtype
-  pub few_registers : length block.registers ≤ 32
-  pub few_vectors : length block.vectors ≤ 32
-  pub registers : AllFrom (IsRegisterFact params) after_fact 1 block.registers
-  pub vectors : AllFrom (IsVectorFact vlen) after_vector 0 block.vectors
-  pub free : IsTrue (are_free block.registers)
+  pub few_registers : length block.registers.items ≤ 32
+  pub few_vectors : length block.vectors.items ≤ 32
+  pub registers : AllFrom (IsRegisterFact params) after_fact 1 block.registers.items
+  pub vectors : AllFrom (IsVectorFact vlen) after_vector 0 block.vectors.items
+  pub free : IsTrue (are_free block.registers.items)
 
 -- A scalar's interval is not empty, and a buffer has at most 16 MiB.
 abbrev pub IsParameter : Param → Type 0

@@ -8,30 +8,32 @@ use Rattle.region_mem.specs.declared.parameter.Param.{Param}
 use Rattle.region_mem.specs.declared.parameter.Param.TheVariants as parameter
 use Rattle.cert_note.specs.declared.refusals.CertError.{CertError}
 use Rattle.cert_note.specs.declared.refusals.CertError.TheVariants as error
-use Rattle.cert_note.specs.declared.refusals.ReadError.{ReadError}
-use Rattle.cert_note.specs.declared.refusals.ReadError.TheVariants.{Memory, Fault}
 use Rattle.vreg_groups.specs.declared.vector_length.Vlen.{Vlen}
 use Rattle.vreg_groups.specs.declared.vector_length.Vlen.TheVariants.{V128, V256}
 use Rattle.cert_note.specs.declared.values.Term.{Term}
 use Rattle.cert_note.specs.declared.values.Budget.{Budget}
 use Rattle.cert_note.specs.declared.values.VectorFact.{VectorFact}
 use Rattle.cert_note.specs.declared.values.Group.{Group}
+use Rattle.cert_note.specs.declared.values.Equality.{Equality}
+use Rattle.cert_note.specs.declared.values.RegisterFact.{RegisterFact}
+use Rattle.cert_note.specs.declared.values.Block.{Block}
 use Rattle.vreg_groups.specs.VectorType.{vtype_of}
-use Rattle.cert_note.specs.Certificate.{EqualityView, RegisterFactView, BlockView, CertificateView, is_atom, is_full, is_budget, is_width, is_group, is_count, is_interval, are_free}
+use Rattle.cert_note.specs.Certificate.{CertificateView, is_atom, is_full, is_budget, is_width, is_group, is_count, is_interval, are_free}
 
 infixl 10 ◌>>=◌
 abbrev pub ◌>>=◌ : {A B : Type 0} → Result A CertError → (A → Result B CertError) → Result B CertError
 (Ok x) >>= f = f x
 (Err e) >>= f = Err e
 
--- What a function returned, seen by view, is what reading gives, unless memory ran out.
-abbrev pub Fails : {Y : Type 0} → ReadError → Result Y CertError → Type 0
-Fails Memory read = Unit {0}
-Fails (Fault e) read = read ≡ Err e
-
-abbrev pub Gives : {X Y : Type 0} → (X → Y) → Result X ReadError → Result Y CertError → Type 0
+-- What a function returned, seen by view, is what reading gives.
+abbrev pub Gives : {X Y : Type 0} → (X → Y) → Result X CertError → Result Y CertError → Type 0
 Gives view (Ok x) read = read ≡ Ok (view x)
-Gives view (Err e) read = Fails e read
+Gives view (Err e) read = read ≡ Err e
+
+-- The same, unless memory ran out.
+abbrev pub GivesOrNoMemory : {X Y : Type 0} → (X → Y) → Result X CertError → Result Y CertError → Type 0
+GivesOrNoMemory view (Ok x) read = read ≡ Ok (view x)
+GivesOrNoMemory view (Err e) read = (e ≡ error.NoMemory) ⊎ (read ≡ Err e)
 
 -- a condition, and the fault where it does not hold
 abbrev pub expect : Bool → CertError → Result (Unit {0}) CertError
@@ -127,31 +129,31 @@ terms_at params (suc n) from bytes = do
   Ok (first.0 ∷ others.0, others.1)
 
 -- an equality of this many terms
-unfoldable pub sum_at : List Param → ℕ → List ℕ → Result (EqualityView × List ℕ) CertError
+unfoldable pub sum_at : List Param → ℕ → List ℕ → Result (Equality × List ℕ) CertError
 sum_at params count bytes = do
   _ ← expect (nat_le count 8) error.Equality
   constant ← number_at w32 bytes
   terms ← terms_at params count 1 constant.1
-  Ok (record { constant = constant.0; terms = terms.0 }, terms.1)
+  Ok (record { constant = constant.0; terms = record { items = terms.0 } }, terms.1)
 
 -- no equality, where the interval says something
-unfoldable pub none_at : ℕ → ℕ → List ℕ → Result (Option EqualityView × List ℕ) CertError
+unfoldable pub none_at : ℕ → ℕ → List ℕ → Result (Option Equality × List ℕ) CertError
 none_at low high bytes = do
   _ ← expect (not (is_full 32 low high)) error.Fact
   Ok (None, bytes)
 
-unfoldable pub some_at : List Param → ℕ → List ℕ → Result (Option EqualityView × List ℕ) CertError
+unfoldable pub some_at : List Param → ℕ → List ℕ → Result (Option Equality × List ℕ) CertError
 some_at params count bytes = do
   sum ← sum_at params count bytes
   Ok (Some sum.0, sum.1)
 
-unfoldable pub equality_at : List Param → ℕ → ℕ → List ℕ → Result (Option EqualityView × List ℕ) CertError
+unfoldable pub equality_at : List Param → ℕ → ℕ → List ℕ → Result (Option Equality × List ℕ) CertError
 equality_at params low high bytes = do
   count ← byte_at bytes
   if count.0 == 255 then none_at low high count.1 else some_at params count.0 count.1
 
 -- a fact on a register whose number is not below one
-unfoldable pub fact_at : List Param → ℕ → List ℕ → Result (RegisterFactView × List ℕ) CertError
+unfoldable pub fact_at : List Param → ℕ → List ℕ → Result (RegisterFact × List ℕ) CertError
 fact_at params from bytes = do
   number ← byte_at bytes
   _ ← expect (nat_le from number.0 && nat_le number.0 32) error.Fact
@@ -162,7 +164,7 @@ fact_at params from bytes = do
   Ok (record { number = number.0; low = low.0; high = high.0; equality = equality.0 }, equality.1)
 
 -- facts by rising register
-unfoldable pub facts_at : List Param → ℕ → ℕ → List ℕ → Result (List RegisterFactView × List ℕ) CertError
+unfoldable pub facts_at : List Param → ℕ → ℕ → List ℕ → Result (List RegisterFact × List ℕ) CertError
 facts_at params zero from bytes = Ok ([], bytes)
 facts_at params (suc n) from bytes = do
   first ← fact_at params from bytes
@@ -232,7 +234,7 @@ counts_at bytes = do
   Ok ((registers.0, vectors.0), rest)
 
 -- a block whose start is not below an address
-unfoldable pub block_at : Vlen → List Param → ℕ → List ℕ → Result (BlockView × List ℕ) CertError
+unfoldable pub block_at : Vlen → List Param → ℕ → List ℕ → Result (Block × List ℕ) CertError
 block_at vlen params from bytes = do
   start ← number_at w32 bytes
   _ ← expect (nat_le from start.0 && (start.0 % 4 == 0)) error.BlockOrder
@@ -242,10 +244,10 @@ block_at vlen params from bytes = do
   registers ← facts_at params counts.0.0 1 counts.1
   vectors ← vectors_at vlen counts.0.1 0 registers.1
   _ ← expect (are_free registers.0) error.Equality
-  Ok (record { start = start.0; budget = budget.0; vtype = vtype.0; registers = registers.0; vectors = vectors.0 }, vectors.1)
+  Ok (record { start = start.0; budget = budget.0; vtype = vtype.0; registers = record { items = registers.0 }; vectors = record { items = vectors.0 } }, vectors.1)
 
 -- blocks by rising start
-unfoldable pub blocks_at : Vlen → List Param → ℕ → ℕ → List ℕ → Result (List BlockView × List ℕ) CertError
+unfoldable pub blocks_at : Vlen → List Param → ℕ → ℕ → List ℕ → Result (List Block × List ℕ) CertError
 blocks_at vlen params zero from bytes = Ok ([], bytes)
 blocks_at vlen params (suc n) from bytes = do
   first ← block_at vlen params from bytes
@@ -270,7 +272,6 @@ certificate_of bytes = do
   _ ← expect (length blocks.1 == 0) error.TrailingBytes
   Ok (record { vlen = vlen.0; parameters = parameters; blocks = blocks.0 })
 
--- What read answers is what reading gives, unless memory ran out.
-abbrev pub Answers : {X : Type 0} → (X → CertificateView) → Result X CertError → Result CertificateView CertError → Type 0
-Answers view (Ok x) read = read ≡ Ok (view x)
-Answers view (Err e) read = (e ≡ error.NoMemory) ⊎ (read ≡ Err e)
+-- the bytes behind what was read
+abbrev pub rest_of : {A : Type 0} → Result (A × List ℕ) CertError → Result (List ℕ) CertError
+rest_of read = read >>= λ x. Ok x.1

@@ -1,10 +1,9 @@
 -- The one spelling of a certificate: fields of 8, 16 and 32 bits, the lowest byte first.
 use Rattle.std.specs.Prelude.{ℕ, List, [], ◌∷◌, ◌++◌, length, Option, Some, None}
-use Rattle.std.specs.Prelude.{◌<◌, ◌^◌}
-use Rattle.std.specs.List.{flat_map, All}
-use Rattle.std.specs.Option.{option_map}
+use Rattle.std.specs.List.{flat_map}
 use Rattle.cert_note.specs.declared.values.Block.{Block}
-use Rattle.cert_note.specs.declared.values.Contents.{Contents}
+use Rattle.cert_note.specs.declared.values.Equality.{Equality}
+use Rattle.cert_note.specs.declared.values.RegisterFact.{RegisterFact}
 use Rattle.std.specs.Int.{w16, w32, to_le_bytes}
 use Rattle.region_mem.specs.declared.parameter.Mode.{Mode}
 use Rattle.region_mem.specs.declared.parameter.Mode.TheVariants.{Read, ReadWrite}
@@ -15,7 +14,7 @@ use Rattle.vreg_groups.specs.declared.vector_length.Vlen.TheVariants.{V128, V256
 use Rattle.cert_note.specs.declared.values.Term.{Term}
 use Rattle.cert_note.specs.declared.values.Budget.{Budget}
 use Rattle.cert_note.specs.declared.values.VectorFact.{VectorFact}
-use Rattle.cert_note.specs.Certificate.{view_equality, EqualityView, RegisterFactView, BlockView, CertificateView}
+use Rattle.cert_note.specs.Certificate.{CertificateView}
 
 unfoldable pub half : ℕ → List ℕ
 half n = to_le_bytes w16 n
@@ -48,11 +47,11 @@ unfoldable pub spelled_term : Term → List ℕ
 spelled_term term = (term.atom ∷ []) ++ word term.coefficient
 
 -- 255 where no equality is stated, else the number of terms, the constant and the terms
-unfoldable pub spelled_equality : Option EqualityView → List ℕ
+unfoldable pub spelled_equality : Option Equality → List ℕ
 spelled_equality None = 255 ∷ []
-spelled_equality (Some equality) = (length equality.terms ∷ []) ++ word equality.constant ++ flat_map spelled_term equality.terms
+spelled_equality (Some equality) = (length equality.terms.items ∷ []) ++ word equality.constant ++ flat_map spelled_term equality.terms.items
 
-unfoldable pub spelled_fact : RegisterFactView → List ℕ
+unfoldable pub spelled_fact : RegisterFact → List ℕ
 spelled_fact fact = (fact.number ∷ []) ++ word fact.low ++ word fact.high ++ spelled_equality fact.equality
 
 unfoldable pub spelled_vector : VectorFact → List ℕ
@@ -70,26 +69,12 @@ spelled_vtype (Some vtype) = 1 ∷ vtype ∷ []
 unfoldable pub counts : ℕ → ℕ → List ℕ
 counts registers vectors = registers ∷ vectors ∷ 0 ∷ 0 ∷ 0 ∷ []
 
-unfoldable pub spelled_block : BlockView → List ℕ
+unfoldable pub spelled_block : Block → List ℕ
 spelled_block block =
-    word block.start ++ spelled_budget block.budget ++ spelled_vtype block.vtype ++ counts (length block.registers) (length block.vectors)
-    ++ flat_map spelled_fact block.registers ++ flat_map spelled_vector block.vectors
+    word block.start ++ spelled_budget block.budget ++ spelled_vtype block.vtype ++ counts (length block.registers.items) (length block.vectors.items)
+    ++ flat_map spelled_fact block.registers.items ++ flat_map spelled_vector block.vectors.items
 
 unfoldable pub spelling : CertificateView → List ℕ
 spelling certificate =
     header certificate.vlen ++ flat_map spelled_parameter certificate.parameters
     ++ half (length certificate.blocks) ++ half 0 ++ flat_map spelled_block certificate.blocks
-
--- Each count fits its field.
-abbrev pub HasFewTerms : Option EqualityView → Type 0
-HasFewTerms None = Unit {0}
-HasFewTerms (Some equality) = length equality.terms < 256
-
-pub record HasFewFacts {A : Type 0} (block : Block A) : Type 0 where
-  pub registers : length block.registers.items < 256
-  pub vectors : length block.vectors.items < 256
-  pub terms : All (λ fact. HasFewTerms (option_map view_equality fact.equality)) block.registers.items
-
-pub record HasFewBlocks {A : Type 0} (certificate : Contents A) : Type 0 where
-  pub blocks : length certificate.blocks.items < 2 ^ 16
-  pub facts : All HasFewFacts certificate.blocks.items

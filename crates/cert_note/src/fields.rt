@@ -6,37 +6,33 @@ ghost use Rattle.std.specs.Int.{w16, w32};
 ghost use Rattle.cert_note.specs.Certificate.{is_width, is_group, is_count, is_interval, is_full, is_budget, is_atom, is_scalar};
 ghost use Rattle.cert_note.specs.Reading.{Gives, expect, byte_at, number_at, zero_at, zeros_at, vlen_of, header_at, mode_of, is_first_number, is_second_number, param_of, parameter_at, parameters_at, term_at, group_at, vector_at, budget_at, known_vtype, vtype_at, counts_at, count_at};
 
-use crate::refusals::{CertError, ReadError};
+use crate::refusals::CertError;
 use crate::values::{Budget, Group, Term, VectorFact};
 use region_mem::{Mode, Param, Parameters};
 use vreg_groups::{Vlen, Vtype};
 
-pub(crate) fn expect(test: bool, fault: CertError) -> Result<(), ReadError>
+pub(crate) fn expect(test: bool, fault: CertError) -> Result<(), CertError>
     ensures { Gives (λ x. x) result (expect test fault) }
 {
-    if test {
-        Ok(())
-    } else {
-        Err(ReadError::Fault(fault))
-    }
+    if test { Ok(()) } else { Err(fault) }
 }
 
 #[tactic(auto, unfolding(crate::specs::Reading::byte_at))]
-pub(crate) fn byte_at(bytes: &[u8]) -> Result<(u8, &[u8]), ReadError>
+pub(crate) fn byte_at(bytes: &[u8]) -> Result<(u8, &[u8]), CertError>
     ensures { Gives (λ x. (x.0, x.1.now)) result (byte_at bytes.now) }
 {
     match bytes {
-        [] => Err(ReadError::Fault(CertError::Short)),
+        [] => Err(CertError::Short),
         [byte, rest @ ..] => Ok((*byte, rest)),
     }
 }
 
 #[tactic(auto, unfolding(crate::specs::Reading::number_at))]
-pub(crate) fn half_at(bytes: &[u8]) -> Result<(u16, &[u8]), ReadError>
+pub(crate) fn half_at(bytes: &[u8]) -> Result<(u16, &[u8]), CertError>
     ensures { Gives (λ x. (x.0, x.1.now)) result (number_at w16 bytes.now) }
 {
     if bytes.len() < 2 {
-        return Err(ReadError::Fault(CertError::Short));
+        return Err(CertError::Short);
     }
     let (front, rest) = bytes.split_at(2);
     let number = u16::from_le_bytes([front[0], front[1]]);
@@ -44,11 +40,11 @@ pub(crate) fn half_at(bytes: &[u8]) -> Result<(u16, &[u8]), ReadError>
 }
 
 #[tactic(auto, unfolding(crate::specs::Reading::number_at))]
-pub(crate) fn word_at(bytes: &[u8]) -> Result<(u32, &[u8]), ReadError>
+pub(crate) fn word_at(bytes: &[u8]) -> Result<(u32, &[u8]), CertError>
     ensures { Gives (λ x. (x.0, x.1.now)) result (number_at w32 bytes.now) }
 {
     if bytes.len() < 4 {
-        return Err(ReadError::Fault(CertError::Short));
+        return Err(CertError::Short);
     }
     let (front, rest) = bytes.split_at(4);
     let number = u32::from_le_bytes([front[0], front[1], front[2], front[3]]);
@@ -56,7 +52,7 @@ pub(crate) fn word_at(bytes: &[u8]) -> Result<(u32, &[u8]), ReadError>
 }
 
 #[tactic(auto, unfolding(crate::specs::Reading::zero_at))]
-fn zero_at(fault: CertError, bytes: &[u8]) -> Result<&[u8], ReadError>
+fn zero_at(fault: CertError, bytes: &[u8]) -> Result<&[u8], CertError>
     ensures { Gives (λ x. x.now) result (zero_at fault bytes.now) }
 {
     let (byte, rest) = byte_at(bytes)?;
@@ -65,7 +61,7 @@ fn zero_at(fault: CertError, bytes: &[u8]) -> Result<&[u8], ReadError>
 }
 
 #[tactic(auto, unfolding(crate::specs::Reading::zeros_at))]
-fn zeros_at(fault: CertError, bytes: &[u8]) -> Result<&[u8], ReadError>
+fn zeros_at(fault: CertError, bytes: &[u8]) -> Result<&[u8], CertError>
     ensures { Gives (λ x. x.now) result (zeros_at fault bytes.now) }
 {
     let (number, rest) = half_at(bytes)?;
@@ -87,13 +83,13 @@ fn vlen_of(code: u8) -> Option<Vlen>
 }
 
 #[tactic(auto, unfolding(crate::specs::Reading::header_at))]
-pub(crate) fn header_at(bytes: &[u8]) -> Result<(Vlen, &[u8]), ReadError>
+pub(crate) fn header_at(bytes: &[u8]) -> Result<(Vlen, &[u8]), CertError>
     ensures { Gives (λ x. (x.0, x.1.now)) result (header_at bytes.now) }
 {
     let (version, rest) = half_at(bytes)?;
     expect(version == 1, CertError::Version)?;
     let (code, rest) = byte_at(rest)?;
-    let vlen = vlen_of(code).ok_or(ReadError::Fault(CertError::Version))?;
+    let vlen = vlen_of(code).ok_or(CertError::Version)?;
     let rest = zero_at(CertError::Version, rest)?;
     Ok((vlen, rest))
 }
@@ -154,13 +150,13 @@ fn param_of(kind: u8, mode: Option<Mode>, a: u32, b: u32) -> Param
 }
 
 #[tactic(auto, unfolding(crate::specs::Reading::parameter_at))]
-fn parameter_at(bytes: &[u8]) -> Result<(Param, &[u8]), ReadError>
+fn parameter_at(bytes: &[u8]) -> Result<(Param, &[u8]), CertError>
     ensures { Gives (λ x. (x.0, x.1.now)) result (parameter_at bytes.now) }
 {
     let (kind, rest) = byte_at(bytes)?;
     expect(kind <= 2, CertError::Parameter)?;
     let (code, rest) = byte_at(rest)?;
-    let mode = mode_of(kind, code).ok_or(ReadError::Fault(CertError::Parameter))?;
+    let mode = mode_of(kind, code).ok_or(CertError::Parameter)?;
     let rest = zeros_at(CertError::Parameter, rest)?;
     let (a, rest) = word_at(rest)?;
     expect(is_first_number(kind, a), CertError::Parameter)?;
@@ -169,7 +165,7 @@ fn parameter_at(bytes: &[u8]) -> Result<(Param, &[u8]), ReadError>
     Ok((param_of(kind, mode, a, b), rest))
 }
 
-pub(crate) fn parameters_at(bytes: &[u8]) -> Result<([Param; 8], &[u8]), ReadError>
+pub(crate) fn parameters_at(bytes: &[u8]) -> Result<([Param; 8], &[u8]), CertError>
     ensures { Gives (λ x. (x.0, x.1.now)) result (parameters_at 8 bytes.now) }
 {
     let mut params = [Param::None; 8];
@@ -182,10 +178,10 @@ pub(crate) fn parameters_at(bytes: &[u8]) -> Result<([Param; 8], &[u8]), ReadErr
     Ok((params, rest))
 }
 
-pub(crate) fn parameters(params: [Param; 8]) -> Result<Parameters, ReadError>
+pub(crate) fn parameters(params: [Param; 8]) -> Result<Parameters, CertError>
     ensures { Gives (λ x. x) result (ok_or (parameters_of params) Parameter) }
 {
-    Parameters::new(params).ok_or(ReadError::Fault(CertError::Parameter))
+    Parameters::new(params).ok_or(CertError::Parameter)
 }
 
 #[tactic(auto, unfolding(crate::specs::Certificate::is_scalar))]
@@ -216,7 +212,7 @@ pub(crate) fn term_at<'a>(
     parameters: &Parameters,
     from: u16,
     bytes: &'a [u8],
-) -> Result<(Term, &'a [u8]), ReadError>
+) -> Result<(Term, &'a [u8]), CertError>
     ensures { Gives (λ x. (x.0, x.1.now)) result (term_at parameters.now from bytes.now) }
 {
     let (atom, rest) = byte_at(bytes)?;
@@ -283,7 +279,7 @@ fn is_interval(width: u8, low: u32, high: u32) -> bool
 }
 
 #[tactic(auto, unfolding(crate::specs::Reading::group_at))]
-fn group_at(from: u16, bytes: &[u8]) -> Result<(Group, &[u8]), ReadError>
+fn group_at(from: u16, bytes: &[u8]) -> Result<(Group, &[u8]), CertError>
     ensures value { Gives (λ x. (x.0, x.1.now)) result (group_at from bytes.now) }
     ensures width { IfOk result (λ x. IsTrue (is_width x.0.width)) }
 {
@@ -312,7 +308,7 @@ pub(crate) fn vector_at(
     vlen: Vlen,
     from: u16,
     bytes: &[u8],
-) -> Result<(VectorFact, &[u8]), ReadError>
+) -> Result<(VectorFact, &[u8]), CertError>
     ensures { Gives (λ x. (x.0, x.1.now)) result (vector_at vlen from bytes.now) }
 {
     let (group, rest) = group_at(from, bytes)?;
@@ -357,7 +353,7 @@ fn is_budget(factor: u32, register: u8) -> bool
 }
 
 #[tactic(auto, unfolding(crate::specs::Reading::budget_at))]
-pub(crate) fn budget_at(bytes: &[u8]) -> Result<(Budget, &[u8]), ReadError>
+pub(crate) fn budget_at(bytes: &[u8]) -> Result<(Budget, &[u8]), CertError>
     ensures { Gives (λ x. (x.0, x.1.now)) result (budget_at bytes.now) }
 {
     let (constant, rest) = word_at(bytes)?;
@@ -392,19 +388,20 @@ fn known_vtype(known: u8, vtype: u8) -> Option<Option<u8>>
 }
 
 #[tactic(auto, unfolding(crate::specs::Reading::vtype_at))]
-pub(crate) fn vtype_at(bytes: &[u8]) -> Result<(Option<u8>, &[u8]), ReadError>
+pub(crate) fn vtype_at(bytes: &[u8]) -> Result<(Option<u8>, &[u8]), CertError>
     ensures { Gives (λ x. (x.0, x.1.now)) result (vtype_at bytes.now) }
 {
     let (known, rest) = byte_at(bytes)?;
     expect(known <= 1, CertError::Fact)?;
     let (bits, rest) = byte_at(rest)?;
-    let vtype = known_vtype(known, bits).ok_or(ReadError::Fault(CertError::Fact))?;
+    let vtype = known_vtype(known, bits).ok_or(CertError::Fact)?;
     Ok((vtype, rest))
 }
 
 #[tactic(auto, unfolding(crate::specs::Reading::counts_at))]
-pub(crate) fn counts_at(bytes: &[u8]) -> Result<((u8, u8), &[u8]), ReadError>
-    ensures { Gives (λ x. (x.0, x.1.now)) result (counts_at bytes.now) }
+pub(crate) fn counts_at(bytes: &[u8]) -> Result<((u8, u8), &[u8]), CertError>
+    ensures counts { Gives (λ x. (x.0, x.1.now)) result (counts_at bytes.now) }
+    ensures few { IfOk result (λ x. (x.0.0 ≤ 32) × (x.0.1 ≤ 32)) }
 {
     let (registers, rest) = byte_at(bytes)?;
     expect(registers <= 32, CertError::TooMany)?;
@@ -417,7 +414,7 @@ pub(crate) fn counts_at(bytes: &[u8]) -> Result<((u8, u8), &[u8]), ReadError>
 }
 
 #[tactic(auto, unfolding(crate::specs::Reading::count_at))]
-pub(crate) fn count_at(bytes: &[u8]) -> Result<(u16, &[u8]), ReadError>
+pub(crate) fn count_at(bytes: &[u8]) -> Result<(u16, &[u8]), CertError>
     ensures { Gives (λ x. (x.0, x.1.now)) result (count_at bytes.now) }
 {
     let (count, rest) = half_at(bytes)?;

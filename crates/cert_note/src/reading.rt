@@ -1,33 +1,33 @@
 //! Reading a certificate from its bytes.
-ghost use Rattle.std.specs.Prelude.{◌≡◌, ◌==◌, ◌&&◌, not, is_some, IfOk, Ok};
+ghost use Rattle.std.specs.Prelude.{◌≡◌, ◌≤◌, ◌==◌, ◌&&◌, not, is_some, IfOk, IfErr, IsOk, MatchResult, Err};
 ghost use Rattle.cert_note.specs.Spelling.{spelling};
 ghost use Rattle.std.specs.List.{list_all, list_any};
-ghost use Rattle.cert_note.specs.Certificate.{view_equality, view_fact, view_facts, view_block, view_blocks, view, CertificateView, IsCertificate, is_equated, is_free, are_free};
-ghost use Rattle.cert_note.specs.Reading.{Gives, Answers, terms_at, sum_at, none_at, some_at, equality_at, fact_at, facts_at, vectors_at, block_at, blocks_at, certificate_of};
-ghost use Rattle.std.specs.Option.{option_map};
+ghost use Rattle.cert_note.specs.Certificate.{view, CertificateView, IsCertificate, is_equated, is_free, are_free};
+ghost use Rattle.cert_note.specs.Reading.{Gives, GivesOrNoMemory, rest_of, terms_at, sum_at, none_at, some_at, equality_at, fact_at, facts_at, vectors_at, block_at, blocks_at, certificate_of};
 
 use crate::fields;
 use crate::fields::{byte_at, expect, word_at};
-use crate::refusals::{CertError, ReadError};
+use crate::refusals::CertError;
 use crate::values::{Block, Certificate, Contents, Equality, RegisterFact, Term, VectorFact};
+use arrayvec::ArrayVec;
 use region_mem::Parameters;
 use std::alloc::Allocator;
 use vreg_groups::Vlen;
 
-fn terms_at<'a, A: Allocator>(
-    alloc: A,
+fn terms_at<'a>(
     parameters: &Parameters,
     count: u8,
     bytes: &'a [u8],
-) -> Result<(Vec<Term, A>, &'a [u8]), ReadError>
+) -> Result<(ArrayVec<Term, 8>, &'a [u8]), CertError>
+    requires { count ≤ 8 }
     ensures { Gives (λ x. (x.0.items, x.1.now)) result (terms_at parameters.now count 1 bytes.now) }
 {
-    let mut terms = Vec::new(alloc);
+    let mut terms = ArrayVec::new();
     let mut from = 1;
     let mut rest = bytes;
     for _ in 0..count {
         let (term, after) = fields::term_at(parameters, from, rest)?;
-        terms.push(term)?;
+        terms.push(term);
         from = term.atom as u16 + 1;
         rest = after;
     }
@@ -35,78 +35,70 @@ fn terms_at<'a, A: Allocator>(
 }
 
 #[tactic(auto, unfolding(crate::specs::Reading::sum_at))]
-fn sum_at<'a, A: Allocator>(
-    alloc: A,
+fn sum_at<'a>(
     parameters: &Parameters,
     count: u8,
     bytes: &'a [u8],
-) -> Result<(Equality<A>, &'a [u8]), ReadError>
-    ensures { Gives (λ x. (view_equality x.0, x.1.now)) result (sum_at parameters.now count bytes.now) }
+) -> Result<(Equality, &'a [u8]), CertError>
+    ensures { Gives (λ x. (x.0, x.1.now)) result (sum_at parameters.now count bytes.now) }
 {
     expect(count <= 8, CertError::Equality)?;
     let (constant, rest) = word_at(bytes)?;
-    let (terms, rest) = terms_at(alloc, parameters, count, rest)?;
+    let (terms, rest) = terms_at(parameters, count, rest)?;
     Ok((Equality { constant, terms }, rest))
 }
 
 #[tactic(auto, unfolding(crate::specs::Reading::none_at))]
-fn none_at<A: Allocator>(
-    low: u32,
-    high: u32,
-    bytes: &[u8],
-) -> Result<(Option<Equality<A>>, &[u8]), ReadError>
-    ensures { Gives (λ x. (option_map view_equality x.0, x.1.now)) result (none_at low high bytes.now) }
+fn none_at(low: u32, high: u32, bytes: &[u8]) -> Result<(Option<Equality>, &[u8]), CertError>
+    ensures { Gives (λ x. (x.0, x.1.now)) result (none_at low high bytes.now) }
 {
     expect(!fields::is_full_word(low, high), CertError::Fact)?;
     Ok((None, bytes))
 }
 
 #[tactic(auto, unfolding(crate::specs::Reading::some_at))]
-fn some_at<'a, A: Allocator>(
-    alloc: A,
+fn some_at<'a>(
     parameters: &Parameters,
     count: u8,
     bytes: &'a [u8],
-) -> Result<(Option<Equality<A>>, &'a [u8]), ReadError>
-    ensures { Gives (λ x. (option_map view_equality x.0, x.1.now)) result (some_at parameters.now count bytes.now) }
+) -> Result<(Option<Equality>, &'a [u8]), CertError>
+    ensures { Gives (λ x. (x.0, x.1.now)) result (some_at parameters.now count bytes.now) }
 {
-    let (sum, rest) = sum_at(alloc, parameters, count, bytes)?;
+    let (sum, rest) = sum_at(parameters, count, bytes)?;
     Ok((Some(sum), rest))
 }
 
 #[tactic(auto, unfolding(crate::specs::Reading::equality_at))]
-fn equality_at<'a, A: Allocator>(
-    alloc: A,
+fn equality_at<'a>(
     parameters: &Parameters,
     low: u32,
     high: u32,
     bytes: &'a [u8],
-) -> Result<(Option<Equality<A>>, &'a [u8]), ReadError>
-    ensures { Gives (λ x. (option_map view_equality x.0, x.1.now)) result (equality_at parameters.now low high bytes.now) }
+) -> Result<(Option<Equality>, &'a [u8]), CertError>
+    ensures { Gives (λ x. (x.0, x.1.now)) result (equality_at parameters.now low high bytes.now) }
 {
     let (count, rest) = byte_at(bytes)?;
     if count == 255 {
         none_at(low, high, rest)
     } else {
-        some_at(alloc, parameters, count, rest)
+        some_at(parameters, count, rest)
     }
 }
 
 #[tactic(auto, unfolding(crate::specs::Reading::fact_at))]
-fn fact_at<'a, A: Allocator>(
-    alloc: A,
+fn fact_at<'a>(
     parameters: &Parameters,
     from: u16,
     bytes: &'a [u8],
-) -> Result<(RegisterFact<A>, &'a [u8]), ReadError>
-    ensures { Gives (λ x. (view_fact x.0, x.1.now)) result (fact_at parameters.now from bytes.now) }
+) -> Result<(RegisterFact, &'a [u8]), CertError>
+    ensures { Gives (λ x. (x.0, x.1.now)) result (fact_at parameters.now from bytes.now) }
 {
     let (number, rest) = byte_at(bytes)?;
     expect(from <= number as u16 && number <= 32, CertError::Fact)?;
     let (low, rest) = word_at(rest)?;
     let (high, rest) = word_at(rest)?;
     expect(low <= high, CertError::Fact)?;
-    let (equality, rest) = equality_at(alloc, parameters, low, high, rest)?;
+    let (equality, rest) = equality_at(parameters, low, high, rest)?;
     let fact = RegisterFact {
         number,
         low,
@@ -116,54 +108,49 @@ fn fact_at<'a, A: Allocator>(
     Ok((fact, rest))
 }
 
-fn facts_at<'a, A: Allocator + Copy>(
-    alloc: A,
+fn facts_at<'a>(
     parameters: &Parameters,
     count: u8,
     bytes: &'a [u8],
-) -> Result<(Vec<RegisterFact<A>, A>, &'a [u8]), ReadError>
-    ensures { Gives (λ x. (view_facts x.0.items, x.1.now)) result (facts_at parameters.now count 1 bytes.now) }
+) -> Result<(ArrayVec<RegisterFact, 32>, &'a [u8]), CertError>
+    requires { count ≤ 32 }
+    ensures { Gives (λ x. (x.0.items, x.1.now)) result (facts_at parameters.now count 1 bytes.now) }
 {
-    let mut facts = Vec::new(alloc);
+    let mut facts = ArrayVec::new();
     let mut from = 1;
     let mut rest = bytes;
     for _ in 0..count {
-        let (fact, after) = fact_at(alloc, parameters, from, rest)?;
+        let (fact, after) = fact_at(parameters, from, rest)?;
         from = fact.number as u16 + 1;
-        facts.push(fact)?;
+        facts.push(fact);
         rest = after;
     }
     Ok((facts, rest))
 }
 
-fn vectors_at<A: Allocator>(
-    alloc: A,
+fn vectors_at(
     vlen: Vlen,
     count: u8,
     bytes: &[u8],
-) -> Result<(Vec<VectorFact, A>, &[u8]), ReadError>
+) -> Result<(ArrayVec<VectorFact, 32>, &[u8]), CertError>
+    requires { count ≤ 32 }
     ensures { Gives (λ x. (x.0.items, x.1.now)) result (vectors_at vlen count 0 bytes.now) }
 {
-    let mut facts = Vec::new(alloc);
+    let mut facts = ArrayVec::new();
     let mut from = 0;
     let mut rest = bytes;
     for _ in 0..count {
         let (fact, after) = fields::vector_at(vlen, from, rest)?;
         from = fact.register as u16 + fact.registers as u16;
-        facts.push(fact)?;
+        facts.push(fact);
         rest = after;
     }
     Ok((facts, rest))
 }
 
-fn is_equated<A: Allocator>(facts: &[RegisterFact<A>], number: u8) -> bool
-    ensures { result ≡ is_equated (view_facts facts.now) number }
-{
-    any_equated(facts, number)
-}
-
-fn any_equated<A: Allocator>(facts: &[RegisterFact<A>], number: u8) -> bool
-    ensures { result ≡ list_any (λ fact. (fact.number == number) && is_some fact.equality) facts.now }
+#[tactic(auto, unfolding(crate::specs::Certificate::is_equated))]
+fn is_equated(facts: &[RegisterFact], number: u8) -> bool
+    ensures { result ≡ is_equated facts.now number }
 {
     facts
         .iter()
@@ -171,8 +158,8 @@ fn any_equated<A: Allocator>(facts: &[RegisterFact<A>], number: u8) -> bool
 }
 
 #[tactic(auto, unfolding(crate::specs::Certificate::is_free))]
-fn is_free<A: Allocator>(facts: &[RegisterFact<A>], equality: &Option<Equality<A>>) -> bool
-    ensures { result ≡ is_free (view_facts facts.now) (option_map view_equality equality.now) }
+fn is_free(facts: &[RegisterFact], equality: &Option<Equality>) -> bool
+    ensures { result ≡ is_free facts.now equality.now }
 {
     match equality {
         None => true,
@@ -180,42 +167,36 @@ fn is_free<A: Allocator>(facts: &[RegisterFact<A>], equality: &Option<Equality<A
     }
 }
 
-fn all_unequated<A: Allocator>(facts: &[RegisterFact<A>], terms: &[Term]) -> bool
-    ensures { result ≡ list_all (λ term. not (is_equated (view_facts facts.now) term.atom)) terms.now }
+fn all_unequated(facts: &[RegisterFact], terms: &[Term]) -> bool
+    ensures { result ≡ list_all (λ term. not (is_equated facts.now term.atom)) terms.now }
 {
     terms.iter().all(|term| !is_equated(facts, term.atom))
 }
 
-fn all_free<A: Allocator>(facts: &[RegisterFact<A>], some: &[RegisterFact<A>]) -> bool
-    ensures { result ≡ list_all (λ fact. is_free (view_facts facts.now) (option_map view_equality fact.equality)) some.now }
-{
-    some.iter().all(|fact| is_free(facts, &fact.equality))
-}
-
 /// Whether no atom of an equality is a register that has an equality itself.
-fn are_free<A: Allocator>(facts: &[RegisterFact<A>]) -> bool
-    ensures { result ≡ are_free (view_facts facts.now) }
+#[tactic(auto, unfolding(crate::specs::Certificate::are_free))]
+fn are_free(facts: &[RegisterFact]) -> bool
+    ensures { result ≡ are_free facts.now }
 {
-    all_free(facts, facts)
+    facts.iter().all(|fact| is_free(facts, &fact.equality))
 }
 
 #[tactic(auto, unfolding(crate::specs::Reading::block_at))]
-fn block_at<'a, A: Allocator + Copy>(
-    alloc: A,
+fn block_at<'a>(
     vlen: Vlen,
     parameters: &Parameters,
     from: u64,
     bytes: &'a [u8],
-) -> Result<(Block<A>, &'a [u8]), ReadError>
-    ensures { Gives (λ x. (view_block x.0, x.1.now)) result (block_at vlen parameters.now from bytes.now) }
+) -> Result<(Block, &'a [u8]), CertError>
+    ensures { Gives (λ x. (x.0, x.1.now)) result (block_at vlen parameters.now from bytes.now) }
 {
     let (start, rest) = word_at(bytes)?;
     expect(fields::is_start(from, start), CertError::BlockOrder)?;
     let (budget, rest) = fields::budget_at(rest)?;
     let (vtype, rest) = fields::vtype_at(rest)?;
     let (counts, rest) = fields::counts_at(rest)?;
-    let (registers, rest) = facts_at(alloc, parameters, counts.0, rest)?;
-    let (vectors, rest) = vectors_at(alloc, vlen, counts.1, rest)?;
+    let (registers, rest) = facts_at(parameters, counts.0, rest)?;
+    let (vectors, rest) = vectors_at(vlen, counts.1, rest)?;
     expect(are_free(registers.as_slice()), CertError::Equality)?;
     let block = Block {
         start,
@@ -227,20 +208,40 @@ fn block_at<'a, A: Allocator + Copy>(
     Ok((block, rest))
 }
 
-fn blocks_at<'a, A: Allocator + Copy>(
+/// The bytes behind the blocks, or the first fault in them. It takes no memory: of a block only its start is kept.
+fn behind_blocks<'a>(
+    vlen: Vlen,
+    parameters: &Parameters,
+    count: u16,
+    bytes: &'a [u8],
+) -> Result<&'a [u8], CertError>
+    ensures { Gives (λ x. x.now) result (rest_of (blocks_at vlen parameters.now count 0 bytes.now)) }
+{
+    let mut from = 0;
+    let mut rest = bytes;
+    for _ in 0..count {
+        let (block, after) = block_at(vlen, parameters, from, rest)?;
+        from = block.start as u64 + 1;
+        rest = after;
+    }
+    Ok(rest)
+}
+
+fn blocks_at<'a, A: Allocator>(
     alloc: A,
     vlen: Vlen,
     parameters: &Parameters,
     count: u16,
     bytes: &'a [u8],
-) -> Result<(Vec<Block<A>, A>, &'a [u8]), ReadError>
-    ensures { Gives (λ x. (view_blocks x.0.items, x.1.now)) result (blocks_at vlen parameters.now count 0 bytes.now) }
+) -> Result<(Vec<Block, A>, &'a [u8]), CertError>
+    ensures { GivesOrNoMemory (λ x. (x.0.items, x.1.now)) result
+        (blocks_at vlen parameters.now count 0 bytes.now) }
 {
     let mut blocks = Vec::new(alloc);
     let mut from = 0;
     let mut rest = bytes;
     for _ in 0..count {
-        let (block, after) = block_at(alloc, vlen, parameters, from, rest)?;
+        let (block, after) = block_at(vlen, parameters, from, rest)?;
         from = block.start as u64 + 1;
         blocks.push(block)?;
         rest = after;
@@ -248,9 +249,23 @@ fn blocks_at<'a, A: Allocator + Copy>(
     Ok((blocks, rest))
 }
 
+/// Whether the bytes spell a certificate, and else the first fault in them. It takes no memory.
 #[tactic(auto, unfolding(crate::specs::Reading::certificate_of))]
-fn contents_of<A: Allocator + Copy>(alloc: A, bytes: &[u8]) -> Result<Contents<A>, ReadError>
-    ensures { Gives view result (certificate_of bytes.now) }
+fn check(bytes: &[u8]) -> Result<(), CertError>
+    ensures { MatchResult result (λ _. IsOk (certificate_of bytes.now))
+        (λ e. certificate_of bytes.now ≡ Err e) }
+{
+    let (vlen, rest) = fields::header_at(bytes)?;
+    let (params, rest) = fields::parameters_at(rest)?;
+    let parameters = fields::parameters(params)?;
+    let (count, rest) = fields::count_at(rest)?;
+    let rest = behind_blocks(vlen, &parameters, count, rest)?;
+    expect(rest.is_empty(), CertError::TrailingBytes)
+}
+
+#[tactic(auto, unfolding(crate::specs::Reading::certificate_of))]
+fn contents_of<A: Allocator>(alloc: A, bytes: &[u8]) -> Result<Contents<A>, CertError>
+    ensures { GivesOrNoMemory view result (certificate_of bytes.now) }
 {
     let (vlen, rest) = fields::header_at(bytes)?;
     let (params, rest) = fields::parameters_at(rest)?;
@@ -265,7 +280,7 @@ fn contents_of<A: Allocator + Copy>(alloc: A, bytes: &[u8]) -> Result<Contents<A
     })
 }
 
-/// The certificate that `bytes` spell, from the first of them to the last. `alloc` gives the memory of its lists. The
+/// The certificate that `bytes` spell, from the first of them to the last. `alloc` gives the memory of its blocks. The
 /// layout of the bytes stands in docs/CERTIFICATES.md; numbers are little-endian.
 ///
 /// # Errors
@@ -288,21 +303,23 @@ fn contents_of<A: Allocator + Copy>(alloc: A, bytes: &[u8]) -> Result<Contents<A
 ///      itself in this block.
 /// 5. Bytes behind the last block: `TrailingBytes`.
 ///
-/// `NoMemory` comes only where an allocation was refused. Memory is asked for as the items of a list are read, and
-/// reading stops where it is refused: nothing was to be told before, and what stands behind is not looked at.
-pub fn read<A: Allocator + Copy>(alloc: A, bytes: &[u8]) -> Result<Certificate<A>, CertError>
+/// `NoMemory` comes only where an allocation was refused and the bytes spell a certificate: all of them are looked at
+/// before any memory is asked for.
+pub fn read<A: Allocator>(alloc: A, bytes: &[u8]) -> Result<Certificate<A>, CertError>
     // What is read is a certificate, and is spelled so.
     ensures found { IfOk result (λ c. IsCertificate c × (bytes.now ≡ spelling c)) }
     // What is spelled so is read, unless memory runs out.
-    ensures only { (c : CertificateView) → IsCertificate c → bytes.now ≡ spelling c → Answers (λ x. x) result (Ok c) }
-    // Which fault it is.
-    ensures exact { Answers (λ x. x) result (certificate_of bytes.now) }
+    ensures only { (c : CertificateView) → IsCertificate c → bytes.now ≡ spelling c →
+        MatchResult result (λ r. r ≡ c) (λ e. e ≡ CertError.NoMemory) }
+    // The first fault of the bytes is told, whatever the memory.
+    ensures refused { IfErr (certificate_of bytes.now) (λ e. result ≡ Err e) }
+    // Bytes without fault are read as what they spell, unless memory runs out.
+    ensures read { IfOk (certificate_of bytes.now) (λ c.
+        MatchResult result (λ r. r ≡ c) (λ e. e ≡ CertError.NoMemory)) }
 {
-    match contents_of(alloc, bytes) {
-        Ok(contents) => Ok(Certificate::new(contents)),
-        Err(ReadError::Memory) => Err(CertError::NoMemory),
-        Err(ReadError::Fault(error)) => Err(error),
-    }
+    check(bytes)?;
+    let contents = contents_of(alloc, bytes)?;
+    Ok(Certificate::new(contents))
 }
 
 /// A law, which does nothing when it runs: no bytes spell two certificates. (That no certificate has two spellings is

@@ -1,6 +1,6 @@
 //! Why bytes are no certificate.
 ghost use Rattle.std.specs.Prelude.{◌≡◌};
-ghost use Rattle.cert_note.specs.declared.refusals.ReadError.TheVariants.{Memory};
+ghost use Rattle.cert_note.specs.declared.refusals.CertError.TheVariants.{NoMemory};
 
 use std::alloc::{AllocError, AllocFailed};
 use std::error::Error;
@@ -67,25 +67,18 @@ impl fmt::Display for CertError {
 
 impl Error for CertError {}
 
-/// Why reading stopped: memory was refused, or a field is missing or wrong.
-#[derive(Debug, Drop)]
-pub enum ReadError {
-    Memory,
-    Fault(CertError),
-}
+impl From<AllocError> for CertError {
+    ghost from_gives = { λ _ e. e ≡ NoMemory };
 
-impl From<AllocError> for ReadError {
-    ghost from_gives = { λ _ e. e ≡ Memory };
-
-    fn from(_e: AllocError) -> ReadError {
-        ReadError::Memory
+    fn from(_e: AllocError) -> CertError {
+        CertError::NoMemory
     }
 }
 
-impl<T: Drop> From<AllocFailed<T>> for ReadError {
-    ghost from_gives = { λ _ e. e ≡ Memory };
+impl<T: Drop> From<AllocFailed<T>> for CertError {
+    ghost from_gives = { λ _ e. e ≡ NoMemory };
 
-    fn from(_e: AllocFailed<T>) -> ReadError {
-        ReadError::Memory
+    fn from(_e: AllocFailed<T>) -> CertError {
+        CertError::NoMemory
     }
 }

@@ -1,11 +1,12 @@
 //! What a certificate states.
+use arrayvec::ArrayVec;
 use region_mem::Parameters;
 use std::alloc::{Allocator, Global};
 use std::marker::Model;
 use vreg_groups::Vlen;
 
 /// A multiple of an atom, which is a value that an equality may speak of.
-#[derive(Clone, Copy, Debug, PartialEq, Eq)]
+#[derive(Clone, Copy, Debug, Default, PartialEq, Eq)]
 pub struct Term {
     /// Where the block begins, the value of a register (1 to 31: x1 to x31) or of vl (32); or the value at the start of
     /// the run of the parameter at place j, counted from 0 (33 + j, so 33 to 40), which has to be a scalar.
@@ -14,19 +15,18 @@ pub struct Term {
     pub coefficient: u32,
 }
 
-/// A sum: a constant and multiples of atoms, added modulo 2^32. `A` is the allocator of its terms.
+/// A sum: a constant and multiples of atoms, added modulo 2^32.
 #[derive(Debug, Drop)]
-pub struct Equality<A: Allocator = Global> {
+pub struct Equality {
     /// What the sum is where there are no terms.
     pub constant: u32,
-    /// In a certificate at most 8, by rising atom, and of no register and no vl that has an equality in the same block.
-    pub terms: Vec<Term, A>,
+    /// In a certificate by rising atom, and of no register and no vl that has an equality in the same block.
+    pub terms: ArrayVec<Term, 8>,
 }
 
-/// A register, or vl, lies between two numbers where a block begins, and is equal to a sum, if one is stated. `A` is
-/// the allocator of the sum's terms.
-#[derive(Debug, Drop)]
-pub struct RegisterFact<A: Allocator = Global> {
+/// A register, or vl, lies between two numbers where a block begins, and is equal to a sum, if one is stated.
+#[derive(Debug, Default, Drop)]
+pub struct RegisterFact {
     /// A register (1 to 31: x1 to x31) or vl (32).
     pub number: u8,
     /// The least value that it may have, unsigned.
@@ -35,11 +35,11 @@ pub struct RegisterFact<A: Allocator = Global> {
     pub high: u32,
     /// The sum that it is equal to modulo 2^32. In a certificate there is one wherever the interval is 0 to 2^32 - 1,
     /// which by itself says nothing.
-    pub equality: Option<Equality<A>>,
+    pub equality: Option<Equality>,
 }
 
 /// The first elements of a group of vector registers lie between two numbers, both included, where a block begins.
-#[derive(Clone, Copy, Debug, PartialEq, Eq)]
+#[derive(Clone, Copy, Debug, Default, PartialEq, Eq)]
 pub struct VectorFact {
     /// The group's first register, 0 to 31. In a certificate it is a multiple of `registers`.
     pub register: u8,
@@ -72,9 +72,9 @@ pub struct Budget {
 }
 
 /// What holds wherever a block of the code begins: how long a run may still be, the vector type where that is known,
-/// and facts. `A` is the allocator of its lists.
+/// and facts.
 #[derive(Debug, Drop)]
-pub struct Block<A: Allocator = Global> {
+pub struct Block {
     /// The address of the block's first instruction. In a certificate it is a multiple of 4.
     pub start: u32,
     /// How long a run may still be.
@@ -83,14 +83,14 @@ pub struct Block<A: Allocator = Global> {
     /// of 8, 16 or 32 bits in groups of 1, 2, 4 or 8 registers or of a half or a quarter of one, the element at most 16
     /// bits in a half and 8 bits in a quarter; with any policy for the elements that are not written.
     pub vtype: Option<u8>,
-    /// Facts on registers and vl. In a certificate they are at most 32, by rising number.
-    pub registers: Vec<RegisterFact<A>, A>,
-    /// Facts on vector registers. In a certificate they are at most 32, by rising register, of groups that share none.
-    pub vectors: Vec<VectorFact, A>,
+    /// Facts on registers and vl, in a certificate by rising number.
+    pub registers: ArrayVec<RegisterFact, 32>,
+    /// Facts on vector registers, in a certificate by rising register, of groups that share none.
+    pub vectors: ArrayVec<VectorFact, 32>,
 }
 
 /// What a certificate states of an image, whether it meets the conditions on certificates or not. `A` is the allocator
-/// of its lists.
+/// of its blocks.
 #[derive(Debug, Drop)]
 pub struct Contents<A: Allocator = Global> {
     /// The length of a vector register.
@@ -98,7 +98,7 @@ pub struct Contents<A: Allocator = Global> {
     /// What the image's code takes, by place.
     pub parameters: Parameters,
     /// What holds where each block begins. In a certificate they are at most 1,024, by rising start.
-    pub blocks: Vec<Block<A>, A>,
+    pub blocks: Vec<Block, A>,
 }
 
 /// A group of vector registers, and the width of its elements in bits.
@@ -110,7 +110,7 @@ pub struct Group {
 }
 
 /// A certificate: contents that meet all conditions on certificates, which the fields of [`Contents`] and of its parts
-/// name. Contracts see it as its contents, without where they lie in memory. `A` is the allocator of its lists.
+/// name. Contracts see it as its contents, without where they lie in memory. `A` is the allocator of its blocks.
 #[derive(Debug, Drop)]
 pub struct Certificate<A: Allocator = Global> {
     contents: Contents<A>,

@@ -1,9 +1,8 @@
 //! Writing a certificate's bytes.
 ghost use Rattle.std.specs.Prelude.{◌≡◌, ◌<◌, ◌≤◌, ◌^◌, ◌++◌, length, OnOk, IfOk};
-ghost use Rattle.std.specs.List.{flat_map, All};
-ghost use Rattle.std.specs.Option.{option_map};
-ghost use Rattle.cert_note.specs.Certificate.{view_equality, view_fact, view_facts, view_block, view_blocks, view, IsCertificate};
-ghost use Rattle.cert_note.specs.Spelling.{half, word, counts, header, parameter_of, mode_code, HasFewTerms, HasFewFacts, HasFewBlocks, spelled_parameter, spelled_term, spelled_equality, spelled_fact, spelled_vector, spelled_budget, spelled_vtype, spelled_block, spelling};
+ghost use Rattle.std.specs.List.{flat_map};
+ghost use Rattle.cert_note.specs.Certificate.{view};
+ghost use Rattle.cert_note.specs.Spelling.{half, word, counts, header, parameter_of, mode_code, spelled_parameter, spelled_term, spelled_equality, spelled_fact, spelled_vector, spelled_budget, spelled_vtype, spelled_block, spelling};
 
 use crate::values::{
     Block, Budget, Certificate, Contents, Equality, RegisterFact, Term, VectorFact,
@@ -106,12 +105,11 @@ fn put_terms<A: Allocator>(out: &mut Vec<u8, A>, terms: &[Term]) -> Result<(), A
 }
 
 #[tactic(auto, unfolding(crate::specs::Spelling::spelled_equality))]
-fn put_equality<A: Allocator, B: Allocator>(
+fn put_equality<A: Allocator>(
     out: &mut Vec<u8, A>,
-    equality: &Option<Equality<B>>,
+    equality: &Option<Equality>,
 ) -> Result<(), AllocError>
-    requires { HasFewTerms (option_map view_equality equality.now) }
-    ensures { OnOk result (out.new.items ≡ out.old.items ++ spelled_equality (option_map view_equality equality.now)) }
+    ensures { OnOk result (out.new.items ≡ out.old.items ++ spelled_equality equality.now) }
 {
     match equality {
         None => out.push(255)?,
@@ -125,12 +123,8 @@ fn put_equality<A: Allocator, B: Allocator>(
 }
 
 #[tactic(auto, unfolding(crate::specs::Spelling::spelled_fact))]
-fn put_fact<A: Allocator, B: Allocator>(
-    out: &mut Vec<u8, A>,
-    fact: &RegisterFact<B>,
-) -> Result<(), AllocError>
-    requires { HasFewTerms (option_map view_equality fact.now.equality) }
-    ensures { OnOk result (out.new.items ≡ out.old.items ++ spelled_fact (view_fact fact.now)) }
+fn put_fact<A: Allocator>(out: &mut Vec<u8, A>, fact: &RegisterFact) -> Result<(), AllocError>
+    ensures { OnOk result (out.new.items ≡ out.old.items ++ spelled_fact fact.now) }
 {
     out.push(fact.number)?;
     put_word(out, fact.low)?;
@@ -138,12 +132,8 @@ fn put_fact<A: Allocator, B: Allocator>(
     put_equality(out, &fact.equality)
 }
 
-fn put_facts<A: Allocator, B: Allocator>(
-    out: &mut Vec<u8, A>,
-    facts: &[RegisterFact<B>],
-) -> Result<(), AllocError>
-    requires { All (λ fact. HasFewTerms (option_map view_equality fact.equality)) facts.now }
-    ensures { OnOk result (out.new.items ≡ out.old.items ++ flat_map spelled_fact (view_facts facts.now)) }
+fn put_facts<A: Allocator>(out: &mut Vec<u8, A>, facts: &[RegisterFact]) -> Result<(), AllocError>
+    ensures { OnOk result (out.new.items ≡ out.old.items ++ flat_map spelled_fact facts.now) }
 {
     for fact in facts {
         put_fact(out, fact)?;
@@ -196,12 +186,8 @@ fn put_counts<A: Allocator>(
 }
 
 #[tactic(auto, unfolding(crate::specs::Spelling::spelled_block))]
-fn put_block<A: Allocator, B: Allocator>(
-    out: &mut Vec<u8, A>,
-    block: &Block<B>,
-) -> Result<(), AllocError>
-    requires { HasFewFacts block.now }
-    ensures { OnOk result (out.new.items ≡ out.old.items ++ spelled_block (view_block block.now)) }
+fn put_block<A: Allocator>(out: &mut Vec<u8, A>, block: &Block) -> Result<(), AllocError>
+    ensures { OnOk result (out.new.items ≡ out.old.items ++ spelled_block block.now) }
 {
     put_word(out, block.start)?;
     put_budget(out, block.budget)?;
@@ -211,12 +197,8 @@ fn put_block<A: Allocator, B: Allocator>(
     put_vectors(out, block.vectors.as_slice())
 }
 
-fn put_blocks<A: Allocator, B: Allocator>(
-    out: &mut Vec<u8, A>,
-    blocks: &[Block<B>],
-) -> Result<(), AllocError>
-    requires { All HasFewFacts blocks.now }
-    ensures { OnOk result (out.new.items ≡ out.old.items ++ flat_map spelled_block (view_blocks blocks.now)) }
+fn put_blocks<A: Allocator>(out: &mut Vec<u8, A>, blocks: &[Block]) -> Result<(), AllocError>
+    ensures { OnOk result (out.new.items ≡ out.old.items ++ flat_map spelled_block blocks.now) }
 {
     for block in blocks {
         put_block(out, block)?;
@@ -238,7 +220,7 @@ fn spelled<A: Allocator, B: Allocator>(
     alloc: A,
     certificate: &Contents<B>,
 ) -> Result<Vec<u8, A>, AllocError>
-    requires { HasFewBlocks certificate.now }
+    requires { length certificate.now.blocks.items ≤ 1024 }
     ensures { IfOk result (λ v. v.items ≡ spelling (view certificate.now)) }
 {
     let mut out = Vec::new(alloc);
