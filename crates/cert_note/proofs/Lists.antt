@@ -1,7 +1,6 @@
 -- The lists of a certificate, read item by item.
 use Rattle.std.proofs.Common.{ℕ, List, Result, refl}
-use Rattle.region_mem.specs.declared.parameter.Param.{Param}
-use Rattle.vreg_groups.specs.declared.vector_length.Vlen.{Vlen}
+use Rattle.cert_note.specs.Words.{Param, Vlen}
 use Rattle.cert_note.specs.Certificate.{after_term, after_fact, after_vector, after_block}
 use Rattle.cert_note.specs.Reading.{parameter_at, parameters_at, term_at, terms_at, fact_at, facts_at, vector_at, vectors_at, block_at, blocks_at}
 use Rattle.cert_note.specs.declared.refusals.CertError.{CertError}

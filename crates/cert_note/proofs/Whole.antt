@@ -5,12 +5,10 @@ use Rattle.std.proofs.lemmas.Bool.{eqb-true}
 use Rattle.std.proofs.lemmas.Bool.Decides.{nat_tests}
 use Rattle.std.proofs.lemmas.List.{append-nil, nil_from_length}
 use Rattle.region_mem.specs.Parameter.{is_valid, parameters_of}
-use Rattle.region_mem.specs.declared.parameter.Mode.{Mode}
+use Rattle.cert_note.specs.Words.{Mode, Param, Vlen}
 use Rattle.region_mem.specs.declared.parameter.Mode.TheVariants.{Read, ReadWrite}
-use Rattle.region_mem.specs.declared.parameter.Param.{Param}
 use Rattle.region_mem.specs.declared.parameter.Param.TheVariants as parameter
 use Rattle.cert_note.specs.declared.refusals.CertError.TheVariants as error
-use Rattle.vreg_groups.specs.declared.vector_length.Vlen.{Vlen}
 use Rattle.vreg_groups.specs.declared.vector_length.Vlen.TheVariants.{V128, V256}
 use Rattle.cert_note.specs.Certificate.{CertificateView, AllFrom, after_block, IsBlock, IsParameter, IsCertificate}
 use Rattle.cert_note.specs.Spelling.{half, word, vlen_code, header, parameter_of, spelled_parameter, spelled_block, spelling}

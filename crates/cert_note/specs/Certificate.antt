@@ -3,18 +3,10 @@ use Rattle.std.specs.Prelude.{ℕ, ◌+◌, ◌*◌, ◌-◌, ◌%◌, ◌^◌, 
 use Rattle.std.specs.Prelude.{◌≡◌, ◌<◌, ◌≤◌, IsTrue}
 use Rattle.std.specs.List.{list_all, list_any, slice_get, AllByRecursion}
 use Rattle.std.specs.Option.{option_map_or}
-use Rattle.region_mem.specs.declared.parameter.Param.{Param}
+use Rattle.cert_note.specs.Words.{Param, Vlen, Term, Budget, VectorFact, Equality, RegisterFact, Block, Contents}
 use Rattle.region_mem.specs.declared.parameter.Param.TheVariants as parameter
-use Rattle.vreg_groups.specs.declared.vector_length.Vlen.{Vlen}
 use Rattle.vreg_groups.specs.VectorLength.{vlenb_of}
 use Rattle.vreg_groups.specs.VectorType.{vtype_of}
-use Rattle.cert_note.specs.declared.values.Term.{Term}
-use Rattle.cert_note.specs.declared.values.Budget.{Budget}
-use Rattle.cert_note.specs.declared.values.VectorFact.{VectorFact}
-use Rattle.cert_note.specs.declared.values.Equality.{Equality}
-use Rattle.cert_note.specs.declared.values.RegisterFact.{RegisterFact}
-use Rattle.cert_note.specs.declared.values.Block.{Block}
-use Rattle.cert_note.specs.declared.values.Contents.{Contents}
 
 pub record CertificateView : Type 0 where
   pub vlen : Vlen
@@ -32,7 +24,9 @@ is_scalar (parameter.Buffer mode size) = false
 
 -- A register or vl at the block's start, or the entry value of a scalar.
 unfoldable pub is_atom : List Param → ℕ → Bool
-is_atom params atom = (nat_le 1 atom && nat_le atom 32) || (nat_le 33 atom && nat_lt atom 41 && option_map_or is_scalar (slice_get params (atom - 33)) false)
+is_atom params atom =
+    (nat_le 1 atom && nat_le atom 32)
+    || (nat_le 33 atom && nat_lt atom 41 && option_map_or is_scalar (slice_get params (atom - 33)) false)
 
 -- The interval holds every number of this many bits.
 unfoldable pub is_full : ℕ → ℕ → ℕ → Bool
@@ -40,7 +34,8 @@ is_full bits low high = (low == 0) && (high == 2 ^ bits - 1)
 
 -- A register is named exactly where the factor is not 0.
 unfoldable pub is_budget : ℕ → ℕ → Bool
-is_budget factor register = if factor == 0 then register == 0 else (nat_le 1 register && nat_le register 31)
+is_budget factor register =
+    if factor == 0 then register == 0 else (nat_le 1 register && nat_le register 31)
 
 -- 8, 16 or 32 bits
 unfoldable pub is_width : ℕ → Bool
@@ -48,7 +43,9 @@ is_width width = (width == 8) || (width == 16) || (width == 32)
 
 -- 1, 2, 4 or 8 registers from a multiple of that number on
 unfoldable pub is_group : ℕ → ℕ → Bool
-is_group register registers = ((registers == 1) || (registers == 2) || (registers == 4) || (registers == 8)) && (register % registers == 0)
+is_group register registers =
+    ((registers == 1) || (registers == 2) || (registers == 4) || (registers == 8))
+    && (register % registers == 0)
 
 -- at most as many elements as the group has
 unfoldable pub is_count : Vlen → ℕ → ℕ → ℕ → Bool
@@ -56,7 +53,8 @@ is_count vlen width registers count = nat_le (count * width) (registers * (8 * v
 
 -- an interval of numbers of this many bits, that is not all of them
 unfoldable pub is_interval : ℕ → ℕ → ℕ → Bool
-is_interval width low high = nat_le low high && nat_lt high (2 ^ width) && not (is_full width low high)
+is_interval width low high =
+    nat_le low high && nat_lt high (2 ^ width) && not (is_full width low high)
 
 -- The register of this number has a fact with an equality.
 unfoldable pub is_equated : List RegisterFact → ℕ → Bool
@@ -65,7 +63,8 @@ is_equated facts number = list_any (λ fact. (fact.number == number) && is_some 
 -- No atom of the equality is a register that has an equality itself.
 unfoldable pub is_free : List RegisterFact → Option Equality → Bool
 is_free facts None = true
-is_free facts (Some equality) = list_all (λ term. not (is_equated facts term.atom)) equality.terms.items
+is_free facts (Some equality) =
+    list_all (λ term. not (is_equated facts term.atom)) equality.terms.items
 
 unfoldable pub are_free : List RegisterFact → Bool
 are_free facts = list_all (λ fact. is_free facts fact.equality) facts
@@ -151,4 +150,5 @@ pub record IsCertificate (certificate : CertificateView) : Type 0 where
   pub eight : length certificate.parameters ≡ 8
   pub parameters : AllByRecursion IsParameter certificate.parameters
   pub few : length certificate.blocks ≤ 1024
-  pub blocks : AllFrom (IsBlock certificate.vlen certificate.parameters) after_block 0 certificate.blocks
+  pub blocks :
+      AllFrom (IsBlock certificate.vlen certificate.parameters) after_block 0 certificate.blocks

@@ -1,3 +1,4 @@
+pub mod Words
 pub mod Certificate
 pub mod Spelling
 pub mod Reading

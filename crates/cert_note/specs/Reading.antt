@@ -2,26 +2,18 @@
 use Rattle.std.specs.Prelude.{◌≡◌, ◌⊎◌, ℕ, zero, suc, ◌+◌, ◌%◌, ◌==◌, Bool, true, false, ◌&&◌, not, nat_le, nat_lt, List, [], ◌∷◌, length, take, drop, Option, Some, None, is_some, Result, Ok, Err, if◌then◌else◌, ok_or}
 use Rattle.std.specs.Int.{Width, w16, w32, byte_len, from_le_bytes}
 use Rattle.region_mem.specs.Parameter.{parameters_of}
-use Rattle.region_mem.specs.declared.parameter.Mode.{Mode}
+use Rattle.cert_note.specs.Words.{Mode, Param, Vlen, Term, Budget, VectorFact, Group, Equality, RegisterFact, Block}
 use Rattle.region_mem.specs.declared.parameter.Mode.TheVariants.{Read, ReadWrite}
-use Rattle.region_mem.specs.declared.parameter.Param.{Param}
 use Rattle.region_mem.specs.declared.parameter.Param.TheVariants as parameter
 use Rattle.cert_note.specs.declared.refusals.CertError.{CertError}
 use Rattle.cert_note.specs.declared.refusals.CertError.TheVariants as error
-use Rattle.vreg_groups.specs.declared.vector_length.Vlen.{Vlen}
 use Rattle.vreg_groups.specs.declared.vector_length.Vlen.TheVariants.{V128, V256}
-use Rattle.cert_note.specs.declared.values.Term.{Term}
-use Rattle.cert_note.specs.declared.values.Budget.{Budget}
-use Rattle.cert_note.specs.declared.values.VectorFact.{VectorFact}
-use Rattle.cert_note.specs.declared.values.Group.{Group}
-use Rattle.cert_note.specs.declared.values.Equality.{Equality}
-use Rattle.cert_note.specs.declared.values.RegisterFact.{RegisterFact}
-use Rattle.cert_note.specs.declared.values.Block.{Block}
 use Rattle.vreg_groups.specs.VectorType.{vtype_of}
 use Rattle.cert_note.specs.Certificate.{CertificateView, is_atom, is_full, is_budget, is_width, is_group, is_count, is_interval, are_free}
 
 infixl 10 ◌>>=◌
-abbrev pub ◌>>=◌ : {A B : Type 0} → Result A CertError → (A → Result B CertError) → Result B CertError
+abbrev pub ◌>>=◌ :
+    {A B : Type 0} → Result A CertError → (A → Result B CertError) → Result B CertError
 (Ok x) >>= f = f x
 (Err e) >>= f = Err e
 
@@ -31,7 +23,8 @@ Gives view (Ok x) read = read ≡ Ok (view x)
 Gives view (Err e) read = read ≡ Err e
 
 -- The same, unless memory ran out.
-abbrev pub GivesOrNoMemory : {X Y : Type 0} → (X → Y) → Result X CertError → Result Y CertError → Type 0
+abbrev pub GivesOrNoMemory :
+    {X Y : Type 0} → (X → Y) → Result X CertError → Result Y CertError → Type 0
 GivesOrNoMemory view (Ok x) read = read ≡ Ok (view x)
 GivesOrNoMemory view (Err e) read = (e ≡ error.NoMemory) ⊎ (read ≡ Err e)
 
@@ -46,7 +39,9 @@ byte_at [] = Err error.Short
 byte_at (byte ∷ rest) = Ok (byte, rest)
 
 unfoldable pub number_at : Width → List ℕ → Result (ℕ × List ℕ) CertError
-number_at w bytes = if nat_lt (length bytes) (byte_len w) then Err error.Short else Ok (from_le_bytes w (take (byte_len w) bytes), drop (byte_len w) bytes)
+number_at w bytes =
+    if nat_lt (length bytes) (byte_len w) then Err error.Short
+    else Ok (from_le_bytes w (take (byte_len w) bytes), drop (byte_len w) bytes)
 
 -- a byte of zero, and the bytes behind it
 unfoldable pub zero_at : CertError → List ℕ → Result (List ℕ) CertError
@@ -77,11 +72,13 @@ header_at bytes = do
 -- the parameter of a kind, a mode and two numbers, where they are one
 unfoldable pub mode_of : ℕ → ℕ → Option (Option Mode)
 mode_of kind mode =
-    if kind == 2 then (if mode == 1 then Some (Some Read) else (if mode == 3 then Some (Some ReadWrite) else None))
+    if kind == 2 then (if mode == 1 then Some (Some Read)
+    else (if mode == 3 then Some (Some ReadWrite) else None))
     else (if (nat_lt kind 2) && (mode == 0) then Some None else None)
 
 unfoldable pub is_first_number : ℕ → ℕ → Bool
-is_first_number kind a = if kind == 0 then a == 0 else (if kind == 2 then nat_le a 16777216 else true)
+is_first_number kind a =
+    if kind == 0 then a == 0 else (if kind == 2 then nat_le a 16777216 else true)
 
 unfoldable pub is_second_number : ℕ → ℕ → ℕ → Bool
 is_second_number kind a b = if kind == 1 then nat_le a b else b == 0
@@ -147,7 +144,8 @@ some_at params count bytes = do
   sum ← sum_at params count bytes
   Ok (Some sum.0, sum.1)
 
-unfoldable pub equality_at : List Param → ℕ → ℕ → List ℕ → Result (Option Equality × List ℕ) CertError
+unfoldable pub equality_at :
+    List Param → ℕ → ℕ → List ℕ → Result (Option Equality × List ℕ) CertError
 equality_at params low high bytes = do
   count ← byte_at bytes
   if count.0 == 255 then none_at low high count.1 else some_at params count.0 count.1
@@ -164,7 +162,8 @@ fact_at params from bytes = do
   Ok (record { number = number.0; low = low.0; high = high.0; equality = equality.0 }, equality.1)
 
 -- facts by rising register
-unfoldable pub facts_at : List Param → ℕ → ℕ → List ℕ → Result (List RegisterFact × List ℕ) CertError
+unfoldable pub facts_at :
+    List Param → ℕ → ℕ → List ℕ → Result (List RegisterFact × List ℕ) CertError
 facts_at params zero from bytes = Ok ([], bytes)
 facts_at params (suc n) from bytes = do
   first ← fact_at params from bytes
@@ -192,7 +191,17 @@ vector_at vlen from bytes = do
   low ← number_at w32 rest
   high ← number_at w32 low.1
   _ ← expect (is_interval group.0.width low.0 high.0) error.Fact
-  Ok (record { register = group.0.register; width = group.0.width; registers = group.0.registers; count = count.0; low = low.0; high = high.0 }, high.1)
+  Ok (
+    record {
+      register = group.0.register;
+      width = group.0.width;
+      registers = group.0.registers;
+      count = count.0;
+      low = low.0;
+      high = high.0;
+    },
+    high.1,
+  )
 
 -- facts on groups, each behind the one before it
 unfoldable pub vectors_at : Vlen → ℕ → ℕ → List ℕ → Result (List VectorFact × List ℕ) CertError
@@ -211,7 +220,9 @@ budget_at bytes = do
   Ok (record { constant = constant.0; factor = factor.0; register = register.0 }, register.1)
 
 unfoldable pub known_vtype : ℕ → ℕ → Option (Option ℕ)
-known_vtype known vtype = if known == 1 then (if is_some (vtype_of vtype) then Some (Some vtype) else None) else (if vtype == 0 then Some None else None)
+known_vtype known vtype =
+    if known == 1 then (if is_some (vtype_of vtype) then Some (Some vtype) else None)
+    else (if vtype == 0 then Some None else None)
 
 unfoldable pub vtype_at : List ℕ → Result (Option ℕ × List ℕ) CertError
 vtype_at bytes = do
@@ -244,10 +255,20 @@ block_at vlen params from bytes = do
   registers ← facts_at params counts.0.0 1 counts.1
   vectors ← vectors_at vlen counts.0.1 0 registers.1
   _ ← expect (are_free registers.0) error.Equality
-  Ok (record { start = start.0; budget = budget.0; vtype = vtype.0; registers = record { items = registers.0 }; vectors = record { items = vectors.0 } }, vectors.1)
+  Ok (
+    record {
+      start = start.0;
+      budget = budget.0;
+      vtype = vtype.0;
+      registers = record { items = registers.0 };
+      vectors = record { items = vectors.0 };
+    },
+    vectors.1,
+  )
 
 -- blocks by rising start
-unfoldable pub blocks_at : Vlen → List Param → ℕ → ℕ → List ℕ → Result (List Block × List ℕ) CertError
+unfoldable pub blocks_at :
+    Vlen → List Param → ℕ → ℕ → List ℕ → Result (List Block × List ℕ) CertError
 blocks_at vlen params zero from bytes = Ok ([], bytes)
 blocks_at vlen params (suc n) from bytes = do
   first ← block_at vlen params from bytes

@@ -1,19 +1,11 @@
 -- The one spelling of a certificate: fields of 8, 16 and 32 bits, the lowest byte first.
 use Rattle.std.specs.Prelude.{ℕ, List, [], ◌∷◌, ◌++◌, length, Option, Some, None}
 use Rattle.std.specs.List.{flat_map}
-use Rattle.cert_note.specs.declared.values.Block.{Block}
-use Rattle.cert_note.specs.declared.values.Equality.{Equality}
-use Rattle.cert_note.specs.declared.values.RegisterFact.{RegisterFact}
+use Rattle.cert_note.specs.Words.{Block, Equality, RegisterFact, Mode, Param, Vlen, Term, Budget, VectorFact}
 use Rattle.std.specs.Int.{w16, w32, to_le_bytes}
-use Rattle.region_mem.specs.declared.parameter.Mode.{Mode}
 use Rattle.region_mem.specs.declared.parameter.Mode.TheVariants.{Read, ReadWrite}
-use Rattle.region_mem.specs.declared.parameter.Param.{Param}
 use Rattle.region_mem.specs.declared.parameter.Param.TheVariants as parameter
-use Rattle.vreg_groups.specs.declared.vector_length.Vlen.{Vlen}
 use Rattle.vreg_groups.specs.declared.vector_length.Vlen.TheVariants.{V128, V256}
-use Rattle.cert_note.specs.declared.values.Term.{Term}
-use Rattle.cert_note.specs.declared.values.Budget.{Budget}
-use Rattle.cert_note.specs.declared.values.VectorFact.{VectorFact}
 use Rattle.cert_note.specs.Certificate.{CertificateView}
 
 unfoldable pub half : ℕ → List ℕ
@@ -49,13 +41,18 @@ spelled_term term = (term.atom ∷ []) ++ word term.coefficient
 -- 255 where no equality is stated, else the number of terms, the constant and the terms
 unfoldable pub spelled_equality : Option Equality → List ℕ
 spelled_equality None = 255 ∷ []
-spelled_equality (Some equality) = (length equality.terms.items ∷ []) ++ word equality.constant ++ flat_map spelled_term equality.terms.items
+spelled_equality (Some equality) =
+    (length equality.terms.items ∷ []) ++ word equality.constant
+    ++ flat_map spelled_term equality.terms.items
 
 unfoldable pub spelled_fact : RegisterFact → List ℕ
-spelled_fact fact = (fact.number ∷ []) ++ word fact.low ++ word fact.high ++ spelled_equality fact.equality
+spelled_fact fact =
+    (fact.number ∷ []) ++ word fact.low ++ word fact.high ++ spelled_equality fact.equality
 
 unfoldable pub spelled_vector : VectorFact → List ℕ
-spelled_vector fact = (fact.register ∷ fact.width ∷ fact.registers ∷ 0 ∷ []) ++ half fact.count ++ half 0 ++ word fact.low ++ word fact.high
+spelled_vector fact =
+    (fact.register ∷ fact.width ∷ fact.registers ∷ 0 ∷ [])
+    ++ half fact.count ++ half 0 ++ word fact.low ++ word fact.high
 
 unfoldable pub spelled_budget : Budget → List ℕ
 spelled_budget budget = word budget.constant ++ word budget.factor ++ (budget.register ∷ [])
@@ -71,7 +68,8 @@ counts registers vectors = registers ∷ vectors ∷ 0 ∷ 0 ∷ 0 ∷ []
 
 unfoldable pub spelled_block : Block → List ℕ
 spelled_block block =
-    word block.start ++ spelled_budget block.budget ++ spelled_vtype block.vtype ++ counts (length block.registers.items) (length block.vectors.items)
+    word block.start ++ spelled_budget block.budget ++ spelled_vtype block.vtype
+    ++ counts (length block.registers.items) (length block.vectors.items)
     ++ flat_map spelled_fact block.registers.items ++ flat_map spelled_vector block.vectors.items
 
 unfoldable pub spelling : CertificateView → List ℕ

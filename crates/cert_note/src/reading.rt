@@ -215,7 +215,8 @@ fn behind_blocks<'a>(
     count: u16,
     bytes: &'a [u8],
 ) -> Result<&'a [u8], CertError>
-    ensures { Gives (λ x. x.now) result (rest_of (blocks_at vlen parameters.now count 0 bytes.now)) }
+    ensures { Gives (λ x. x.now) result
+        (rest_of (blocks_at vlen parameters.now count 0 bytes.now)) }
 {
     let mut from = 0;
     let mut rest = bytes;
@@ -325,5 +326,6 @@ pub fn read<A: Allocator>(alloc: A, bytes: &[u8]) -> Result<Certificate<A>, Cert
 /// A law, which does nothing when it runs: no bytes spell two certificates. (That no certificate has two spellings is
 /// clear, since `spelling` is a function, and `read` takes nothing but that.)
 pub fn one_spelling()
-    ensures { (c d : CertificateView) → IsCertificate c → IsCertificate d → spelling c ≡ spelling d → c ≡ d }
+    ensures { (c d : CertificateView) → IsCertificate c → IsCertificate d
+        → spelling c ≡ spelling d → c ≡ d }
 {}

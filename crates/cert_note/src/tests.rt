@@ -1,5 +1,5 @@
 //! How certificates are read, written and made.
-use crate::{CertError, Certificate, Contents, Term, Vlen, read, write};
+use crate::{CertError, Certificate, Contents, Vlen, read, write};
 use region_mem::{Param, Parameters};
 use std::alloc::Global;
 use std::test::Fail;
@@ -25,6 +25,14 @@ const BYTES: [u8; 261] = [
     0xf0, 0xff, 0xff, 0xff, 0xff,
 ];
 
+/// The block of the loop: x10 is 0x40000000 - 4 * x11 + 4 * n, where n is parameter 1.
+const LOOP: &str = "Block { start: 65540, budget: Budget { constant: 1, factor: 8, register: 11 }, \
+vtype: None, registers: [RegisterFact { number: 1, low: 4294967280, high: 4294967280, equality: None }, \
+RegisterFact { number: 10, low: 1073741824, high: 1073745920, equality: Some(Equality { \
+constant: 1073741824, terms: [Term { atom: 11, coefficient: 4294967292 }, \
+Term { atom: 34, coefficient: 4 }] }) }, \
+RegisterFact { number: 11, low: 1, high: 1024, equality: None }], vectors: [] }";
+
 #[test]
 fn reads_and_writes_the_example(rt: HostRuntime) -> Result<(), Fail> {
     let alloc = rt.alloc();
@@ -33,19 +41,7 @@ fn reads_and_writes_the_example(rt: HostRuntime) -> Result<(), Fail> {
     assert_eq!(rt; contents.vlen, Vlen::V128);
     assert_eq!(rt; contents.blocks.len(), 3);
     let block = contents.blocks.get(1).expect(&rt, "the loop's block");
-    assert_eq!(rt; block.start, 0x1_0004);
-    let fact = block
-        .registers
-        .as_slice()
-        .get(1)
-        .expect(&rt, "the fact on x10");
-    assert_eq!(rt; fact.high, 0x4000_1000);
-    let equality = fact.equality.as_ref().expect(&rt, "its equality");
-    let left = Term {
-        atom: 11,
-        coefficient: 0xffff_fffc,
-    };
-    assert_eq!(rt; equality.terms.as_slice().first(), Some(&left));
+    assert_eq!(rt; format!(in alloc; "{block:?}")?.as_str(), LOOP);
     assert!(rt; write(alloc, &certificate)?.as_slice() == BYTES.as_slice());
     Ok(())
 }
@@ -53,7 +49,12 @@ fn reads_and_writes_the_example(rt: HostRuntime) -> Result<(), Fail> {
 #[test]
 fn refuses_bytes_that_spell_none(rt: HostRuntime) -> Result<(), Fail> {
     let alloc = rt.alloc();
+    assert_eq!(rt; read(alloc, &[]).err(), Some(CertError::Short));
     assert_eq!(rt; read(alloc, &BYTES[..260]).err(), Some(CertError::Short));
+    let mut without_term = BYTES;
+    without_term[217] = 0;
+    let fault = read(alloc, &without_term).err();
+    assert_eq!(rt; fault, Some(CertError::Equality), "the coefficient 4 of n");
     let mut longer = Vec::from_slice(alloc, &BYTES)?;
     longer.push(0)?;
     let fault = read(alloc, longer.as_slice()).err();
