@@ -1,0 +1,83 @@
+-- Numbers that are overwritten from the front, and whether an active one of them saturates.
+use Rattle.std.proofs.Common.{◌≡◌, ℕ, ◌+◌, ◌<◌, ◌≤◌, Bool, true, false, ◌&&◌, ◌||◌, List, [], ◌∷◌, ◌++◌, zero, suc, length, get_or, set, take, drop, map, refl, ap, sym, ◌∙◌, arith, add-one, append-nil}
+use lib.Lanes.{zip2}
+use Rattle.std.specs.List.{list_any}
+use Rattle.std.proofs.lemmas.Simd.{length-zip2, get_or-zip2}
+use Rattle.std.proofs.lemmas.List.Folds.{list_any-append}
+use Rattle.std.proofs.lemmas.List.{take_more, take_all, drop_all, get_or-map, map-set}
+use Rattle.lane_fixed.specs.FixedPoint.{any_active}
+
+or_false : (b : Bool) → (b || false) ≡ b
+or_false true = refl
+or_false false = refl
+
+-- the first i are those of `new`, the rest those of `old`
+abbrev pub overlaid : {X : Type 0} → ℕ → List X → List X → List X
+overlaid i new old = take i new ++ drop i old
+
+overlaid-suc : {X : Type 0} (i : ℕ) (new old : List X) (y : X) → i < length old → length new ≡ length old → get_or new i y ≡ y → set (overlaid i new old) i y ≡ overlaid (suc i) new old
+overlaid-suc i [] [] y lt same is = absurd (omega arith)
+overlaid-suc i [] (o ∷ os) y lt same is = absurd (omega arith)
+overlaid-suc i (n ∷ ns) [] y lt same is = absurd (omega arith)
+overlaid-suc zero (n ∷ ns) (o ∷ os) y lt same is = ap (λ z. z ∷ os) (sym is)
+overlaid-suc (suc i) (n ∷ ns) (o ∷ os) y lt same is = ap (λ zs. n ∷ zs) (overlaid-suc i ns os y (omega arith) (omega arith) is)
+
+get_or-overlaid : {X : Type 0} (i : ℕ) (new old : List X) (d : X) → i < length old → length new ≡ length old → get_or (overlaid i new old) i d ≡ get_or old i d
+get_or-overlaid i [] [] d lt same = absurd (omega arith)
+get_or-overlaid i [] (o ∷ os) d lt same = absurd (omega arith)
+get_or-overlaid i (n ∷ ns) [] d lt same = absurd (omega arith)
+get_or-overlaid zero (n ∷ ns) (o ∷ os) d lt same = refl
+get_or-overlaid (suc i) (n ∷ ns) (o ∷ os) d lt same = get_or-overlaid i ns os d (omega arith) (omega arith)
+
+pub overlaid_all : {X : Type 0} (i : ℕ) (new old now : List X) → now ≡ overlaid i new old → length old ≤ i → length new ≡ length old → now ≡ new
+overlaid_all i new old now e end same = rw (e, take_all i new (omega arith), drop_all i old (omega arith), append-nil)
+
+-- the number of an element that was read
+pub number_at : {X : Type 0} (f : X → ℕ) (xs : List X) (i : ℕ) (r : X) → i < length xs → r ≡ get_or xs i r → f r ≡ get_or (map f xs) i (f r)
+number_at f xs i r lt is = ap f is ∙ sym (get_or-map f xs i r (f r) lt)
+
+-- one more number is written: over those that are read, and over others
+pub written_into : {X : Type 0} (number : X → ℕ) (f : ℕ → ℕ → ℕ) (xs ys old : List ℕ) (now : List X) (i x y : ℕ) (z : X) → map number now ≡ overlaid i (zip2 f xs ys) old → i < length old → length xs ≡ length old → length ys ≡ length old → x ≡ get_or xs i x → y ≡ get_or ys i y → number z ≡ f x y → map number (set now i z) ≡ overlaid (i + 1) (zip2 f xs ys) old
+written_into number f xs ys old now i x y z e lt same_x same_y is_x is_y is_z =
+    let long = length-zip2 f xs ys (same_x ∙ sym same_y) in
+    let at : get_or (zip2 f xs ys) i (number z) ≡ f (get_or xs i x) (get_or ys i y) = get_or-zip2 f xs ys i x y (number z) (omega arith) (omega arith) in
+    let is : get_or (zip2 f xs ys) i (number z) ≡ number z = cc in
+    rw (map-set number now i z, e, add-one) (overlaid-suc i (zip2 f xs ys) old (number z) lt (long ∙ same_x) is)
+
+pub written_over : {X : Type 0} (number : X → ℕ) (f : ℕ → ℕ → ℕ) (xs ys : List ℕ) (now : List X) (i x y : ℕ) (z : X) → map number now ≡ overlaid i (zip2 f xs ys) xs → i < length xs → length ys ≡ length xs → x ≡ get_or xs i x → y ≡ get_or ys i y → number z ≡ f x y → map number (set now i z) ≡ overlaid (i + 1) (zip2 f xs ys) xs
+written_over number f xs ys now i x y z e lt same is_x is_y is_z = written_into number f xs ys xs now i x y z e lt refl same is_x is_y is_z
+
+-- an element that is not written yet
+pub still_old : {X : Type 0} (number : X → ℕ) (new old : List ℕ) (now : List X) (i : ℕ) (r : X) → map number now ≡ overlaid i new old → i < length old → length new ≡ length old → i < length now → r ≡ get_or now i r → number r ≡ get_or old i (number r)
+still_old number new old now i r e lt same inside is =
+    number_at number now i r inside is ∙ ap (λ zs. get_or zs i (number r)) e ∙ get_or-overlaid i new old (number r) lt same
+
+abbrev flags_of : (ℕ → ℕ → Bool) → List ℕ → List ℕ → List Bool → List Bool
+flags_of test xs ys active = zip2 (λ is_active saturates. is_active && saturates) active (zip2 test xs ys)
+
+-- whether one of the first i active elements saturates
+abbrev pub any_before : ℕ → (ℕ → ℕ → Bool) → List ℕ → List ℕ → List Bool → Bool
+any_before i test xs ys active = list_any (λ is. is) (take i (flags_of test xs ys active))
+
+-- one more flag
+any_more : (flags : List Bool) (i : ℕ) (flag : Bool) → i < length flags → get_or flags i flag ≡ flag → list_any (λ is. is) (take (i + 1) flags) ≡ (list_any (λ is. is) (take i flags) || flag)
+any_more flags i flag lt is =
+    rw (take_more flags i flag lt, is, list_any-append (λ b. b) (take i flags) (flag ∷ [])) (ap (λ b. list_any (λ c. c) (take i flags) || b) (or_false flag))
+
+pub one_more : (test : ℕ → ℕ → Bool) (xs ys : List ℕ) (active : List Bool) (i x y : ℕ) (m flag new : Bool) → i < length xs → length ys ≡ length xs → length active ≡ length xs → x ≡ get_or xs i x → y ≡ get_or ys i y → m ≡ get_or active i false → flag ≡ any_before i test xs ys active → new ≡ (flag || (m && test x y)) → new ≡ any_before (i + 1) test xs ys active
+one_more test xs ys active i x y m flag new lt same_y same_m is_x is_y is_m e is_new =
+    let long : length (zip2 test xs ys) ≡ length xs = length-zip2 test xs ys (sym same_y) in
+    let whole : length (flags_of test xs ys active) ≡ length active = length-zip2 (λ a s. a && s) active (zip2 test xs ys) (same_m ∙ sym long) in
+    let at : get_or (zip2 test xs ys) i true ≡ test (get_or xs i x) (get_or ys i y) = get_or-zip2 test xs ys i x y true lt (omega arith) in
+    let flagged : get_or (flags_of test xs ys active) i (m && test x y) ≡ (get_or active i false && get_or (zip2 test xs ys) i true) =
+    get_or-zip2 (λ a s. a && s) active (zip2 test xs ys) i false true (m && test x y) (omega arith) (omega arith) in
+    let is : get_or (flags_of test xs ys active) i (m && test x y) ≡ (m && test x y) = cc in
+    let more = any_more (flags_of test xs ys active) i (m && test x y) (omega arith) is in
+    is_new ∙ ap (λ b. b || (m && test x y)) e ∙ sym more
+
+pub any_all : (test : ℕ → ℕ → Bool) (xs ys : List ℕ) (active : List Bool) (i : ℕ) (flag : Bool) → length xs ≤ i → length ys ≡ length xs → length active ≡ length xs → flag ≡ any_before i test xs ys active → flag ≡ any_active test xs ys active
+unfolding any_active
+any_all test xs ys active i flag end same_y same_m e =
+    let long : length (zip2 test xs ys) ≡ length xs = length-zip2 test xs ys (sym same_y) in
+    let whole : length (flags_of test xs ys active) ≡ length active = length-zip2 (λ a s. a && s) active (zip2 test xs ys) (same_m ∙ sym long) in
+    e ∙ ap (λ flags. list_any (λ is. is) flags) (take_all i (flags_of test xs ys active) (omega arith))

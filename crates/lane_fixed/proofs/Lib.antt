@@ -1,0 +1,2 @@
+pub mod KernelLemmas
+pub mod RoundingLemmas

@@ -1,0 +1,159 @@
+//! One element.
+ghost use Rattle.std.specs.Prelude.{◌≡◌, ◌≤◌, ◌<◌, ◌+◌, ◌*◌, ◌^◌, ◌%◌, ℤ, pos, unsigned_abs, ◌+ℤ◌, ◌-ℤ◌, ◌*ℤ◌};
+ghost use Rattle.std.specs.Int.{cast_signed};
+ghost use mir.Val.{bits};
+ghost use Rattle.lane_fixed.specs.FixedPoint.{clip_element, clip_exact, clip_saturates, clip_to, clipped, dropped, element, exact, saturates};
+
+use crate::lane::Lane;
+use crate::operations::{ClipOp, FixedOp, RoundingMode};
+use crate::rounding::rounded;
+
+fn unsigned_sum<T: Lane>(a: T, b: T) -> i64
+    ensures value { result ≡ pos (T.number a) +ℤ pos (T.number b) }
+    ensures room { unsigned_abs result ≤ 2 ^ 62 }
+{
+    i64::from(a.unsigned()) + i64::from(b.unsigned())
+}
+
+fn signed_sum<T: Lane>(a: T, b: T) -> i64
+    ensures value { result ≡ cast_signed T.width (T.number a) +ℤ cast_signed T.width (T.number b) }
+    ensures room { unsigned_abs result ≤ 2 ^ 62 }
+{
+    i64::from(a.signed()) + i64::from(b.signed())
+}
+
+fn unsigned_difference<T: Lane>(a: T, b: T) -> i64
+    ensures value { result ≡ pos (T.number a) -ℤ pos (T.number b) }
+    ensures room { unsigned_abs result ≤ 2 ^ 62 }
+{
+    i64::from(a.unsigned()) - i64::from(b.unsigned())
+}
+
+fn signed_difference<T: Lane>(a: T, b: T) -> i64
+    ensures value { result ≡ cast_signed T.width (T.number a) -ℤ cast_signed T.width (T.number b) }
+    ensures room { unsigned_abs result ≤ 2 ^ 62 }
+{
+    i64::from(a.signed()) - i64::from(b.signed())
+}
+
+fn signed_product<T: Lane>(a: T, b: T) -> i64
+    ensures value { result ≡ cast_signed T.width (T.number a) *ℤ cast_signed T.width (T.number b) }
+    ensures room { unsigned_abs result ≤ 2 ^ 62 }
+{
+    product(a.signed(), b.signed())
+}
+
+fn product(a: i32, b: i32) -> i64
+    ensures value { result ≡ a *ℤ b }
+    ensures room { unsigned_abs result ≤ 2 ^ 62 }
+{
+    i64::from(a) * i64::from(b)
+}
+
+/// The element of an unsigned operation.
+fn unsigned_value<T: Lane>(a: T) -> i64
+    ensures value { result ≡ pos (T.number a) }
+    ensures room { unsigned_abs result ≤ 2 ^ 62 }
+{
+    i64::from(a.unsigned())
+}
+
+fn signed_value<T: Lane>(a: T) -> i64
+    ensures value { result ≡ cast_signed T.width (T.number a) }
+    ensures room { unsigned_abs result ≤ 2 ^ 62 }
+{
+    i64::from(a.signed())
+}
+
+/// The exact number of an operation.
+#[tactic(auto, unfolding(crate::specs::FixedPoint::exact))]
+fn exact<T: Lane>(op: FixedOp, a: T, b: T) -> i64
+    ensures value { result ≡ exact op T.width (T.number a) (T.number b) }
+    ensures room { unsigned_abs result ≤ 2 ^ 62 }
+{
+    match op {
+        FixedOp::SatAddU | FixedOp::AverageAddU => unsigned_sum(a, b),
+        FixedOp::SatAdd | FixedOp::AverageAdd => signed_sum(a, b),
+        FixedOp::SatSubU | FixedOp::AverageSubU => unsigned_difference(a, b),
+        FixedOp::SatSub | FixedOp::AverageSub => signed_difference(a, b),
+        FixedOp::Mul => signed_product(a, b),
+        FixedOp::ShiftRight => unsigned_value(a),
+        FixedOp::ShiftRightSigned => signed_value(a),
+    }
+}
+
+/// How many of its lowest bits are rounded off.
+#[tactic(auto, unfolding(crate::specs::FixedPoint::dropped))]
+fn dropped<T: Lane>(op: FixedOp, b: T) -> u32
+    ensures value { result ≡ dropped op T.width (T.number b) }
+    ensures few { result ≤ 32 }
+{
+    match op {
+        FixedOp::SatAddU | FixedOp::SatAdd | FixedOp::SatSubU | FixedOp::SatSub => 0,
+        FixedOp::AverageAddU | FixedOp::AverageAdd | FixedOp::AverageSubU | FixedOp::AverageSub =>
+            1,
+        FixedOp::Mul => T::bits() - 1,
+        FixedOp::ShiftRight | FixedOp::ShiftRightSigned => b.unsigned() % T::bits(),
+    }
+}
+
+/// The number after it was clipped.
+#[tactic(auto, unfolding(crate::specs::FixedPoint::clipped))]
+fn clipped<T: Lane>(op: FixedOp, value: i64) -> i64
+    ensures { result ≡ clipped op T.width value }
+{
+    match op {
+        FixedOp::SatAddU | FixedOp::SatSubU => T::clip_unsigned(value),
+        FixedOp::SatAdd | FixedOp::SatSub | FixedOp::Mul => T::clip_signed(value),
+        FixedOp::AverageAddU
+        | FixedOp::AverageAdd
+        | FixedOp::AverageSubU
+        | FixedOp::AverageSub
+        | FixedOp::ShiftRight
+        | FixedOp::ShiftRightSigned => value,
+    }
+}
+
+/// What `op` makes of vs2's element `a` and of `b`, and whether it saturates.
+#[tactic(auto, unfolding(crate::specs::FixedPoint::element, crate::specs::FixedPoint::saturates, crate::specs::FixedPoint::unclipped))]
+pub fn fixed<T: Lane>(op: FixedOp, mode: RoundingMode, a: T, b: T) -> (T, bool)
+    ensures value { T.number result.0 ≡ element op mode T.width (T.number a) (T.number b) }
+    ensures saturated { result.1 ≡ saturates op mode T.width (T.number a) (T.number b) }
+{
+    let value = rounded(mode, exact(op, a, b), dropped(op, b));
+    let clipped = clipped::<T>(op, value);
+    (T::low(clipped), clipped != value)
+}
+
+/// The number that is clipped.
+#[tactic(auto, unfolding(crate::specs::FixedPoint::clip_exact))]
+fn clip_exact<W: Lane>(op: ClipOp, a: W) -> i64
+    ensures value { result ≡ clip_exact op W.width (W.number a) }
+    ensures room { unsigned_abs result ≤ 2 ^ 62 }
+{
+    match op {
+        ClipOp::ClipU => unsigned_value(a),
+        ClipOp::Clip => signed_value(a),
+    }
+}
+
+#[tactic(auto, unfolding(crate::specs::FixedPoint::clip_to))]
+fn clip_to<N: Lane>(op: ClipOp, value: i64) -> i64
+    ensures { result ≡ clip_to op N.width value }
+{
+    match op {
+        ClipOp::ClipU => N::clip_unsigned(value),
+        ClipOp::Clip => N::clip_signed(value),
+    }
+}
+
+/// What `op` makes of vs2's wide element `a` and of `b`, and whether it saturates.
+#[tactic(auto, unfolding(crate::specs::FixedPoint::clip_element, crate::specs::FixedPoint::clip_saturates, crate::specs::FixedPoint::clip_unclipped))]
+pub fn narrowed<W: Lane, N: Lane>(op: ClipOp, mode: RoundingMode, a: W, b: N) -> (N, bool)
+    ensures value { N.number result.0 ≡ clip_element op mode W.width N.width (W.number a) (N.number b) }
+    ensures saturated { result.1 ≡ clip_saturates op mode W.width N.width (W.number a) (N.number b) }
+{
+    let value = rounded(mode, clip_exact(op, a), b.unsigned() % W::bits());
+    let clipped = clip_to::<N>(op, value);
+    (N::low(clipped), clipped != value)
+}

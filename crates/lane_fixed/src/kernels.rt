@@ -1,0 +1,69 @@
+//! The kernels: one operation over whole slices.
+ghost use Rattle.std.specs.Prelude.{◌≡◌, ◌&&◌, ◌||◌, length, map};
+ghost use lib.Lanes.{zip2};
+ghost use Rattle.lane_fixed.specs.FixedPoint.{any_active, clip_element, clip_saturates, element, saturates};
+
+use crate::elements::{fixed, narrowed};
+use crate::lane::Lane;
+use crate::operations::{ClipOp, FixedOp, RoundingMode};
+
+/// Whether an element saturated so far, where one more is clipped or not.
+fn or_active(so_far: bool, is_active: bool, is_clipped: bool) -> bool
+    ensures { result ≡ (so_far || (is_active && is_clipped)) }
+{
+    so_far || (is_active && is_clipped)
+}
+
+/// Writes over each element of `values`, which are vs2's, what `op` makes of it and of `b`'s element, and answers whether an
+/// active element saturated ("Vector Single-Width Saturating Add and Subtract", "Vector Single-Width Averaging Add and
+/// Subtract", "Vector Single-Width Fractional Multiply with Rounding and Saturation", "Vector Single-Width Scaling Shift
+/// Instructions").
+pub fn compute<T: Lane>(
+    op: FixedOp,
+    mode: RoundingMode,
+    values: &mut [T],
+    b: &[T],
+    active: &[bool],
+) -> bool
+    requires b_len { length b.now ≡ length values.old }
+    requires active_len { length active.now ≡ length values.old }
+    ensures results { map T.number values.new
+        ≡ zip2 (element op mode T.width) (map T.number values.old) (map T.number b.now) }
+    ensures saturated { result
+        ≡ any_active (saturates op mode T.width) (map T.number values.old) (map T.number b.now) active.now }
+{
+    let mut is_saturated = false;
+    for i in 0..values.len() {
+        let (value, is_clipped) = fixed(op, mode, values[i], b[i]);
+        values[i] = value;
+        is_saturated = or_active(is_saturated, active[i], is_clipped);
+    }
+    is_saturated
+}
+
+/// Writes into `results` what `op` makes of each wide element of `a`, which are vs2's, and of `b`'s element, and answers
+/// whether an active element saturated ("Vector Narrowing Fixed-Point Clip Instructions").
+pub fn clip<W: Lane, N: Lane>(
+    op: ClipOp,
+    mode: RoundingMode,
+    a: &[W],
+    b: &[N],
+    active: &[bool],
+    results: &mut [N],
+) -> bool
+    requires a_len { length a.now ≡ length results.old }
+    requires b_len { length b.now ≡ length results.old }
+    requires active_len { length active.now ≡ length results.old }
+    ensures results { map N.number results.new
+        ≡ zip2 (clip_element op mode W.width N.width) (map W.number a.now) (map N.number b.now) }
+    ensures saturated { result
+        ≡ any_active (clip_saturates op mode W.width N.width) (map W.number a.now) (map N.number b.now) active.now }
+{
+    let mut is_saturated = false;
+    for i in 0..results.len() {
+        let (value, is_clipped) = narrowed(op, mode, a[i], b[i]);
+        results[i] = value;
+        is_saturated = or_active(is_saturated, active[i], is_clipped);
+    }
+    is_saturated
+}

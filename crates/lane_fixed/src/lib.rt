@@ -1,0 +1,16 @@
+//! Fixed-point lanes: saturating sums and differences, averages, rounded products and shifts, and clips, each over whole
+//! slices of elements of 8, 16 or 32 bits. A kernel that can saturate tells whether an active element did.
+#![tactic(auto)]
+
+mod elements;
+mod kernels;
+mod lane;
+mod operations;
+mod rounding;
+
+pub use kernels::{clip, compute};
+pub use lane::Lane;
+pub use operations::{ClipOp, FixedOp, RoundingMode};
+
+#[cfg(test)]
+mod tests;
