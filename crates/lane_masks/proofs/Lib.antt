@@ -1,0 +1,2 @@
+pub mod FoldLemmas
+pub mod OverlayLemmas
