@@ -7,6 +7,7 @@ import re
 import subprocess
 import sys
 
+import model
 from table import ALL, CSRS, NOT_YET, ORDER, READ_ONLY, SCALAR, VECTOR
 
 EVERYTHING = '--all' in sys.argv
@@ -273,6 +274,10 @@ def main():
         else:
             text = read_though_refused(w) or 'illegal'
             by_hand = text != 'illegal'
+        # A table made by hand from the manuals (table.py, model.py) says the same.
+        mine = model.decode(w)
+        mine = 'illegal' if mine is None or not mine[0].is_decoded(mine[1].get('vm'), EVERYTHING) else model.text_of(w)
+        assert mine == text, ('%08x' % w, text, mine)
         rows.append('%08x %s' % (w, text))
         kind = ('illegal' if text == 'illegal' else 'with a meaning') + (', by hand' if by_hand else '')
         counts[kind] = counts.get(kind, 0) + 1
