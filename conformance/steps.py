@@ -162,9 +162,13 @@ def by_hand(c, qemu, mine):
         return 'a misaligned target (docs/DECISIONS.md, The scalar machine: Jumps)'
     if qemu.startswith('fault') and mine.startswith('fault') and qemu.split()[1] == mine.split()[1] != 'Illegal':
         told, first = int(mine.split()[2], 16), int(qemu.split()[2], 16)
-        size = i.width // 8
+        size = sew_of(c.vtype) // 8 if i.shape.endswith('_indexed') else i.width // 8
         if (first - told & M32) < size and first != told:
             return 'the address told is that of the access, not of its first byte that is refused (docs/MACHINE.md, Steps and faults)'
+    if i.name == 'vmv.s.x' and c.ones and c.vtype >> 6 & 1:
+        return 'vmv.s.x: the elements past the first are tail ("Integer Scalar Move Instructions"); qemu keeps them'
+    if i.stem == 'vslidedown' and f['vm'] == 0 and c.ones and c.vtype >> 7 & 1:
+        return 'vslidedown: inactive elements whose source lies past VLMAX are agnostic as others are (docs/DECISIONS.md, Vectors: Agnostic elements); qemu keeps them'
     if i.shape == 'vset' and i.name != 'vsetivli' and f['rd'] == 0 and f['rs1'] == 0 and mine != qemu:
         return 'the keep form with another VLMAX (docs/DECISIONS.md, Vectors: vset keeps vl)'
     return None
@@ -496,4 +500,5 @@ def main():
         sys.exit('qemu and the model differ, and no rule says why')
 
 
-main()
+if __name__ == '__main__':
+    main()
