@@ -1,0 +1,49 @@
+//! Tables of cases: text files with a case in each line.
+
+use std::alloc::{AllocError, Global};
+use std::rt::Files;
+use std::{fs, io};
+
+/// How many rows that differ are shown.
+const MOST_SHOWN: u64 = 10;
+
+/// What the rows of a table are tried on.
+pub trait Table {
+    /// Tries one row: None where it came out as expected, else what came in place of what.
+    fn difference(&mut self, alloc: Global, row: &str) -> Result<Option<String>, AllocError>;
+}
+
+/// Whether a line is a row: neither empty nor a comment.
+fn is_row(line: &str) -> bool {
+    !line.is_empty() && !line.starts_with('#')
+}
+
+/// Tries each row of the file at `path`, and prints the first rows that differ, by their lines, and how many rows came
+/// out as expected. Tells whether all did.
+pub fn run_table<R: Files + AllocGlobal + Print, T: Table>(
+    rt: &R,
+    name: &str,
+    path: &str,
+    table: &mut T,
+) -> io::Result<bool> {
+    let text = fs::read_to_string(rt, path)?;
+    let mut rows = 0u64;
+    let mut differing = 0u64;
+    for (index, line) in text.as_str().lines().enumerate() {
+        if !is_row(line) {
+            continue;
+        }
+        rows = rows.saturating_add(1);
+        if let Some(difference) = table.difference(rt.alloc(), line)? {
+            differing = differing.saturating_add(1);
+            if differing <= MOST_SHOWN {
+                println!(rt; "{path}:{}: {difference}", index.saturating_add(1))?;
+            }
+        }
+    }
+    println!(rt;
+        "{name}: {} of {rows} as expected",
+        rows.saturating_sub(differing)
+    )?;
+    Ok(differing == 0)
+}
