@@ -2,15 +2,27 @@
 //! came out as expected, and what the first few others gave. The tables are read from the working directory.
 #![tactic(auto)]
 
+mod arguments;
+mod draws;
+mod fields;
+mod legality;
 mod listing;
+mod memory;
+mod state;
+mod step;
+mod steps;
 mod table;
 mod words;
 
-use std::io;
+use anyhow::Result;
+use legality::Legality;
+use steps::Steps;
 use table::run_table;
 use words::Words;
 
-fn main(rt: HostRuntime) -> io::Result<()> {
+fn main(rt: HostRuntime) -> Result<()> {
     run_table(&rt, "words", "words.txt", &mut Words)?;
+    run_table(&rt, "legality", "legality.txt", &mut Legality)?;
+    run_table(&rt, "steps", "steps.txt", &mut Steps::new(rt.alloc())?)?;
     Ok(())
 }

@@ -1,5 +1,6 @@
 //! Tables of cases: text files with a case in each line.
 
+use crate::fields::RowError;
 use std::alloc::{AllocError, Global};
 use std::rt::Files;
 use std::{fs, io};
@@ -10,12 +11,21 @@ const MOST_SHOWN: u64 = 10;
 /// What the rows of a table are tried on.
 pub trait Table {
     /// Tries one row: None where it came out as expected, else what came in place of what.
-    fn difference(&mut self, alloc: Global, row: &str) -> Result<Option<String>, AllocError>;
+    fn difference(&mut self, alloc: Global, row: &str) -> Result<Option<String>, RowError>;
 }
 
 /// Whether a line is a row: neither empty nor a comment.
 fn is_row(line: &str) -> bool {
     !line.is_empty() && !line.starts_with('#')
+}
+
+/// What is told of a row, None where it came out as expected.
+fn told<T: Table>(alloc: Global, table: &mut T, row: &str) -> Result<Option<String>, AllocError> {
+    match table.difference(alloc, row) {
+        Ok(difference) => Ok(difference),
+        Err(RowError::NoMemory) => Err(AllocError),
+        Err(error) => Ok(Some(error.to_string(alloc)?)),
+    }
 }
 
 /// Tries each row of the file at `path`, and prints the first rows that differ, by their lines, and how many rows came
@@ -34,7 +44,7 @@ pub fn run_table<R: Files + AllocGlobal + Print, T: Table>(
             continue;
         }
         rows = rows.saturating_add(1);
-        if let Some(difference) = table.difference(rt.alloc(), line)? {
+        if let Some(difference) = told(rt.alloc(), table, line)? {
             differing = differing.saturating_add(1);
             if differing <= MOST_SHOWN {
                 println!(rt; "{path}:{}: {difference}", index.saturating_add(1))?;

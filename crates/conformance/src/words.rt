@@ -1,5 +1,6 @@
 //! Rows `WORD TEXT`: what a word means.
 
+use crate::fields::{RowError, hex};
 use crate::listing::Listing;
 use crate::table::Table;
 use rv_decode::decode;
@@ -13,19 +14,14 @@ const ADDRESS: u32 = 0x1_0000;
 pub struct Words;
 
 impl Table for Words {
-    fn difference(&mut self, alloc: Global, row: &str) -> Result<Option<String>, AllocError> {
-        let Some((word, expected)) = row.split_once(' ') else {
-            return Ok(Some(format!(in alloc; "no row")?));
-        };
-        let Ok(word) = u32::from_str_radix(word, 16) else {
-            return Ok(Some(format!(in alloc; "no word")?));
-        };
+    fn difference(&mut self, alloc: Global, row: &str) -> Result<Option<String>, RowError> {
+        let (word, expected) = row.split_once(' ').ok_or(RowError::NoRow)?;
+        let word = hex(word)?;
         let came = text_of(alloc, word)?;
         if came.as_str() == expected {
-            Ok(None)
-        } else {
-            Ok(Some(format!(in alloc; "{word:08x} is {expected}, came {came}")?))
+            return Ok(None);
         }
+        Ok(Some(format!(in alloc; "{word:08x} should be {expected}, came {came}")?))
     }
 }
 
