@@ -39,9 +39,11 @@ impl<T: Drop> From<AllocFailed<T>> for RowError {
     }
 }
 
-/// The next of a row's fields.
-pub fn next<'a>(fields: &mut std::str::Split<'a, char>) -> Result<&'a str, RowError> {
-    fields.next().ok_or(RowError::NoRow)
+/// Takes the next field off a row.
+pub fn next<'a>(row: &mut &'a str) -> &'a str {
+    let (field, rest) = row.split_once(' ').unwrap_or((*row, ""));
+    *row = rest;
+    field
 }
 
 /// A number in hex digits.

@@ -12,13 +12,13 @@ pub struct Legality;
 
 impl Table for Legality {
     fn difference(&mut self, alloc: Global, row: &str) -> Result<Option<String>, RowError> {
-        let mut fields = row.split(' ');
+        let mut fields = row;
         let config = Vconfig {
-            vtype: hex(next(&mut fields)?)?,
+            vtype: hex(next(&mut fields))?,
             vl: 0,
         };
-        let word = hex(next(&mut fields)?)?;
-        let expected = flag(next(&mut fields)?)?;
+        let word = hex(next(&mut fields))?;
+        let expected = flag(next(&mut fields))?;
         let Some(insn) = decode(word) else {
             return Ok(Some(format!(in alloc; "{word:08x} means nothing")?));
         };

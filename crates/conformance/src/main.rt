@@ -8,6 +8,7 @@ mod fields;
 mod legality;
 mod listing;
 mod memory;
+mod runs;
 mod state;
 mod step;
 mod steps;
@@ -16,6 +17,7 @@ mod words;
 
 use anyhow::Result;
 use legality::Legality;
+use runs::Runs;
 use steps::Steps;
 use table::run_table;
 use words::Words;
@@ -24,5 +26,6 @@ fn main(rt: HostRuntime) -> Result<()> {
     run_table(&rt, "words", "words.txt", &mut Words)?;
     run_table(&rt, "legality", "legality.txt", &mut Legality)?;
     run_table(&rt, "steps", "steps.txt", &mut Steps::new(rt.alloc())?)?;
+    run_table(&rt, "runs", "runs.txt", &mut Runs)?;
     Ok(())
 }

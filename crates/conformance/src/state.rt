@@ -186,7 +186,7 @@ fn register_number(text: &str) -> Result<usize, RowError>
 }
 
 /// The bytes of all vector registers, and zeros behind them.
-fn vector_bytes<const VLENB: usize>(registers: &VregFile<VLENB>) -> [u8; 1024]
+pub fn vector_bytes<const VLENB: usize>(registers: &VregFile<VLENB>) -> [u8; 1024]
     requires { (VLENB ≡ 16) ⊎ (VLENB ≡ 32) }
 {
     let mut bytes = [0; 1024];
@@ -209,6 +209,9 @@ pub enum Part {
     Vxrm,
     Vxsat,
     Memory(u32),
+    /// How long the buffer at a place is.
+    Length(usize),
+    Argument { place: usize, byte: usize },
 }
 
 impl fmt::Display for Part {
@@ -221,6 +224,8 @@ impl fmt::Display for Part {
             Part::Vtype => write!(f, "vtype"),
             Part::Vxrm => write!(f, "vxrm"),
             Part::Vxsat => write!(f, "vxsat"),
+            Part::Length(place) => write!(f, "the length of a{place}"),
+            Part::Argument { place, byte } => write!(f, "byte {byte} of a{place}"),
             Part::Memory(address) => write!(f, "the byte at {address:#010x}"),
         }
     }

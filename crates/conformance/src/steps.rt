@@ -10,7 +10,6 @@ use crate::step::{Named, step, vectors};
 use crate::table::Table;
 use region_mem::{Fault, Regions};
 use std::alloc::Global;
-use std::str::Split;
 use vreg_groups::{Agnostic, Vconfig, Vlen};
 
 /// The table of steps.
@@ -140,17 +139,17 @@ fn end_difference(
 
 /// The case of a row.
 fn read_case<'a>(alloc: Global, row: &'a str) -> Result<Case<'a>, RowError> {
-    let (given, after) = row.split_once(" =").ok_or(RowError::NoRow)?;
-    let mut fields = given.split(' ');
-    let vlen = vlen(next(&mut fields)?)?;
-    let agnostic = setting(next(&mut fields)?)?;
-    let config = config(&mut fields)?;
-    let draws = Draws::new(hex(next(&mut fields)?)?);
-    let word = hex(next(&mut fields)?)?;
+    let (mut fields, after) = row.split_once(" =").ok_or(RowError::NoRow)?;
+    let vlen = vlen(next(&mut fields))?;
+    let agnostic = setting(next(&mut fields))?;
+    let vtype = hex(next(&mut fields))?;
+    let vl = decimal(next(&mut fields))?;
+    let draws = Draws::new(hex(next(&mut fields))?);
+    let word = hex(next(&mut fields))?;
     let mut before = State::new(CODE);
-    before.config = config;
+    before.config = Vconfig { vtype, vl };
     before.fill(draws, vlen.bytes());
-    for field in fields {
+    for field in fields.split(' ').filter(|field| !field.is_empty()) {
         let (name, value) = field.split_once('=').ok_or(RowError::NoRow)?;
         if !before.set(alloc, vlen.bytes(), name, value)? {
             return Err(RowError::NoRow);
@@ -163,10 +162,4 @@ fn read_case<'a>(alloc: Global, row: &'a str) -> Result<Case<'a>, RowError> {
         word,
         after,
     })
-}
-
-fn config(fields: &mut Split<'_, char>) -> Result<Vconfig, RowError> {
-    let vtype = hex(next(fields)?)?;
-    let vl = decimal(next(fields)?)?;
-    Ok(Vconfig { vtype, vl })
 }

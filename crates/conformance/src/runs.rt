@@ -1,0 +1,222 @@
+//! Rows `VLENB SETTING MAX IMAGE A0 .. A7 = END STEPS OUT..`: what whole runs answer.
+
+ghost use Rattle.std.specs.Prelude.{◌≡◌, ◌⊎◌};
+
+use crate::arguments::Given;
+use crate::fields::{RowError, bytes, hex, next, setting, vlen};
+use crate::state::{Difference, Part, State, differ, vector_bytes};
+use crate::step::Named;
+use crate::table::Table;
+use region_mem::{Arg, Args, Mode, Parameters};
+use sandbox_run::{Final, Outcome, try_run};
+use scalar_core::EXIT;
+use std::alloc::Global;
+use vreg_groups::{Agnostic, Vconfig, Vlen};
+
+/// Where the stack ends.
+const STACK_END: u32 = 0x3000_0000;
+
+/// The table of runs.
+#[derive(Drop)]
+pub struct Runs;
+
+/// A row: what is run on what, and the text of what comes after.
+#[derive(Clone, Copy)]
+struct Case<'a> {
+    vlen: Vlen,
+    agnostic: Agnostic,
+    max: u64,
+    image: &'a str,
+    /// The texts of the arguments, by place.
+    arguments: &'a str,
+    after: &'a str,
+}
+
+impl Table for Runs {
+    fn difference(&mut self, alloc: Global, row: &str) -> Result<Option<String>, RowError> {
+        let case = read_case(row)?;
+        match case.vlen {
+            Vlen::V128 => run::<16>(alloc, &case),
+            Vlen::V256 => run::<32>(alloc, &case),
+        }
+    }
+}
+
+/// The case of a row.
+fn read_case(row: &str) -> Result<Case<'_>, RowError> {
+    let (mut fields, after) = row.split_once(" =").ok_or(RowError::NoRow)?;
+    Ok(Case {
+        vlen: vlen(next(&mut fields))?,
+        agnostic: setting(next(&mut fields))?,
+        max: next(&mut fields).parse().map_err(|_| RowError::NoRow)?,
+        image: next(&mut fields),
+        arguments: fields,
+        after,
+    })
+}
+
+/// The text of a buffer's bytes, with its mode, where the argument is a buffer.
+fn buffer_text(argument: &str) -> Option<(Mode, &str)> {
+    if let Some(text) = argument.strip_prefix('r') {
+        return Some((Mode::Read, text));
+    }
+    let text = argument.strip_prefix('w')?;
+    Some((Mode::ReadWrite, text))
+}
+
+/// The arguments.
+fn given(alloc: Global, arguments: &str) -> Result<Given, RowError> {
+    let mut given = Given::none();
+    for (place, argument) in arguments.split(' ').enumerate() {
+        if place >= 8 {
+            return Err(RowError::NoRow);
+        }
+        if let Some((mode, text)) = buffer_text(argument) {
+            given.put_buffer(place, mode, bytes(alloc, text)?);
+        } else if let Some(number) = argument.strip_prefix('s') {
+            given.put_scalar(place, hex(number)?);
+        }
+    }
+    Ok(given)
+}
+
+/// The state in which a run starts, but for pc.
+fn start(parameters: &Parameters, given: &Given) -> State {
+    let mut state = State::new(0);
+    state.x[1] = EXIT;
+    state.x[2] = STACK_END;
+    for place in 0..8 {
+        state.x[10 + place] = match &given.args.places[place] {
+            Arg::None => 0,
+            Arg::Scalar(value) => *value,
+            Arg::Buffer(_) => parameters.address(place).unwrap_or(0),
+        };
+    }
+    state
+}
+
+fn run<const VLENB: usize>(alloc: Global, case: &Case<'_>) -> Result<Option<String>, RowError>
+    requires { (VLENB ≡ 16) ⊎ (VLENB ≡ 32) }
+{
+    let file = bytes(alloc, case.image)?;
+    let image = match elf_image::read(alloc, file.as_slice()) {
+        Ok(image) => image,
+        Err(error) => return Ok(Some(error.to_string(alloc)?)),
+    };
+    let given = given(alloc, case.arguments)?;
+    let parameters = Parameters::new(given.params).ok_or(RowError::NoRow)?;
+    let expected = start(&parameters, &given);
+    let Given { params: _, args } = given;
+    let agnostic = case.agnostic;
+    let (end, last) = match try_run::<VLENB>(alloc, &image, &parameters, args, agnostic, case.max) {
+        Ok(Outcome::Ended(last)) => (format!(in alloc; " ended {}", last.steps)?, last),
+        Ok(Outcome::OutOfSteps(last)) => (format!(in alloc; " steps {}", last.steps)?, last),
+        Ok(Outcome::Trapped(fault, last)) => {
+            let fault = Named(fault);
+            (format!(in alloc; " trapped {fault} {}", last.steps)?, last)
+        }
+        Err((error, _)) => return Ok(Some(error.to_string(alloc)?)),
+    };
+    let Some(outs) = case.after.strip_prefix(end.as_str()) else {
+        let after = case.after;
+        return Ok(Some(format!(in alloc; "should be{after}, came{end}")?));
+    };
+    match difference::<VLENB>(alloc, expected, case.arguments, outs, last)? {
+        Some(difference) => Ok(Some(format!(in alloc; "{difference}")?)),
+        None => Ok(None),
+    }
+}
+
+/// The registers in the end.
+fn last_state<const VLENB: usize>(last: &Final<VLENB>) -> State
+    requires { (VLENB ≡ 16) ⊎ (VLENB ≡ 32) }
+{
+    let registers = &last.registers;
+    State {
+        pc: registers.pc,
+        x: registers.x,
+        config: Vconfig {
+            vtype: registers.vtype,
+            vl: registers.vl,
+        },
+        vxrm: registers.vxrm,
+        vxsat: registers.vxsat,
+        v: vector_bytes(&last.vectors),
+    }
+}
+
+/// In what the last state is not as the row says.
+fn difference<const VLENB: usize>(
+    alloc: Global,
+    mut expected: State,
+    arguments: &str,
+    outs: &str,
+    last: Final<VLENB>,
+) -> Result<Option<Difference>, RowError>
+    requires { (VLENB ≡ 16) ⊎ (VLENB ≡ 32) }
+{
+    for field in outs.split(' ').filter(|field| !field.is_empty()) {
+        let (name, value) = field.split_once('=').ok_or(RowError::NoRow)?;
+        if !name.starts_with('a') && !expected.set(alloc, VLENB, name, value)? {
+            return Err(RowError::NoRow);
+        }
+    }
+    if let Some(difference) = expected.difference(&last_state(&last), VLENB) {
+        return Ok(Some(difference));
+    }
+    arguments_difference(alloc, arguments, outs, &last.args)
+}
+
+/// The first byte of the buffers that is not as the row says.
+fn arguments_difference(
+    alloc: Global,
+    arguments: &str,
+    outs: &str,
+    came: &Args,
+) -> Result<Option<Difference>, RowError> {
+    let places = came.places.as_slice();
+    for (place, (came, argument)) in places.iter().zip(arguments.split(' ')).enumerate() {
+        if let Some((_, before)) = buffer_text(argument) {
+            let expected = bytes(alloc, after_of(outs, place).unwrap_or(before))?;
+            if let Some(difference) = argument_difference(place, expected.as_slice(), came) {
+                return Ok(Some(difference));
+            }
+        }
+    }
+    Ok(None)
+}
+
+/// The text of the bytes that a buffer has in the end, where the row tells it.
+fn after_of(outs: &str, place: usize) -> Option<&str> {
+    for field in outs.split(' ') {
+        if let Some(field) = field.strip_prefix('a')
+            && let Some((number, value)) = field.split_once('=')
+            && number.parse() == Ok(place)
+        {
+            return Some(value);
+        }
+    }
+    None
+}
+
+/// The first byte in which an argument is not the expected buffer.
+fn argument_difference(place: usize, expected: &[u8], came: &Arg) -> Option<Difference> {
+    let came = match came {
+        Arg::None | Arg::Scalar(_) => &[],
+        Arg::Buffer(came) => came.as_slice(),
+    };
+    if expected.len() != came.len() {
+        return differ(
+            Part::Length(place),
+            u32::try_from(expected.len()).unwrap_or(u32::MAX),
+            u32::try_from(came.len()).unwrap_or(u32::MAX),
+        );
+    }
+    for (byte, (expected, came)) in expected.iter().zip(came).enumerate() {
+        if expected != came {
+            let part = Part::Argument { place, byte };
+            return differ(part, u32::from(*expected), u32::from(*came));
+        }
+    }
+    None
+}
