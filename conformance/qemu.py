@@ -65,12 +65,12 @@ class Batch:
         self.sizes.append(size)
         return len(self.sizes) - 1
 
-    def answers(self):
+    def answers(self, options=()):
         self.command(0)
         flag = 'true' if self.ones else 'false'
         cpu = ('rv32,v=true,vext_spec=v1.0,elen=32,zba=false,zbb=false,zbc=false,zbs=false,vlen=%d,rvv_ta_all_1s=%s,rvv_ma_all_1s=%s'
                % (self.vlenb * 8, flag, flag))
-        done = subprocess.run(['qemu-riscv32', '-cpu', cpu, harness()], input=b''.join(self.input), capture_output=True)
+        done = subprocess.run(['qemu-riscv32', '-cpu', cpu, *options, harness()], input=b''.join(self.input), capture_output=True)
         assert done.returncode == 0, (done.returncode, done.stderr[-500:], len(done.stdout))
         out, at = [], 0
         for n in self.sizes:
