@@ -1,8 +1,7 @@
 //! The state of a run, and one step.
 
-ghost use Rattle.std.specs.Prelude.{◌≡◌, ◌⊎◌, ◌==◌, Ok, Err, OnOk, OnErr, IfErr};
-ghost use Rattle.region_mem.specs.declared.faults.Fault.{Fault};
-ghost use Rattle.scalar_core.specs.Hart.{exit};
+ghost use Rattle.std.specs.Prelude.{◌≡◌};
+ghost use Rattle.region_mem.specs.Faults.{Steps};
 
 use region_mem::{Fault, Regions};
 use rv_decode::{Insn, decode};
@@ -41,9 +40,7 @@ impl<const VLENB: usize, A: Allocator> Machine<VLENB, A> {
     /// Fetches the word at pc, decodes it and carries it out. A fault changes nothing.
     #[tactic(auto, unfolding(crate::specs::Step::step))]
     pub(crate) fn step(&mut self) -> Result<(), Fault>
-        ensures ok { OnOk result (step_of VLENB self.old ≡ Ok self.new) }
-        ensures err { IfErr result (λ fault. step_of VLENB self.old ≡ Err fault) }
-        ensures kept { OnErr result (self.new ≡ self.old) }
+        ensures { Steps (step_of VLENB self.old) self.old self.new result }
     {
         let pc = self.hart.pc();
         let Some(word) = self.memory.fetch(pc) else {
@@ -58,9 +55,7 @@ impl<const VLENB: usize, A: Allocator> Machine<VLENB, A> {
     /// Carries an instruction out, by its class.
     #[tactic(auto, unfolding(crate::specs::Step::carry_out))]
     fn carry_out(&mut self, word: u32, insn: Insn) -> Result<(), Fault>
-        ensures ok { OnOk result (carry_out_of VLENB word self.old insn ≡ Ok self.new) }
-        ensures err { IfErr result (λ fault. carry_out_of VLENB word self.old insn ≡ Err fault) }
-        ensures kept { OnErr result (self.new ≡ self.old) }
+        ensures { Steps (carry_out_of VLENB word self.old insn) self.old self.new result }
     {
         match insn {
             Insn::Scalar(_) | Insn::Csr(_) => {

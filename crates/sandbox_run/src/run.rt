@@ -7,6 +7,7 @@ ghost use Rattle.sandbox_run.specs.Errors.{open_error_of};
 ghost use Rattle.sandbox_run.specs.Run.{outcome, OutcomeIsFirst, RunsGoOn};
 ghost use Rattle.sandbox_run.specs.Start.{start as start_of};
 ghost use Rattle.sandbox_run.specs.Rooms.{StateFitsInMemory};
+ghost use Rattle.vreg_groups.specs.VectorLength.{IsVlenb};
 
 use crate::machine::Machine;
 use crate::outcome::{Final, OpenError, Outcome, Registers};
@@ -54,11 +55,14 @@ pub fn try_run_in<const VLENB: usize, A: Allocator + Copy, B: Allocator>(
     agnostic: Agnostic,
     max: u64,
 ) -> Result<Outcome<VLENB, Bytes<A>>, (OpenError, Args<Bytes<A>>)>
-    requires length { (VLENB ≡ 16) ⊎ (VLENB ≡ 32) }
+    requires length { IsVlenb VLENB }
     requires fits { StateFitsInMemory VLENB.row A.row A.Allocator }
-    ensures outcome { IfOk result (λ answer. answer ≡ answer_of VLENB (outcome VLENB max (start_of VLENB agnostic image.now parameters.now args.places))) }
-    ensures refused { IfSome (argument_error parameters.now args.places) (λ error. IsErrAnd result (λ e. e.0 ≡ open_error_of error)) }
-    ensures memory { AreArguments parameters.now args.places → IfErr result (λ e. e.0 ≡ OpenError.NoMemory) }
+    ensures outcome { IfOk result (λ answer. answer ≡ answer_of VLENB
+        (outcome VLENB max (start_of VLENB agnostic image.now parameters.now args.places))) }
+    ensures refused { IfSome (argument_error parameters.now args.places)
+        (λ error. IsErrAnd result (λ e. e.0 ≡ open_error_of error)) }
+    ensures memory { AreArguments parameters.now args.places
+        → IfErr result (λ e. e.0 ≡ OpenError.NoMemory) }
     ensures back { IfErr result (λ e. e.1 ≡ args) }
 {
     if let Err(error) = parameters.matches(&args) {

@@ -1,8 +1,10 @@
 //! The first state of a run.
 
-ghost use Rattle.std.specs.Prelude.{◌≡◌, ◌≤◌, ◌⊎◌, length, IfOk, IfErr};
+ghost use Rattle.std.specs.Prelude.{◌≡◌, ◌≤◌, length, IfOk, IfErr};
 ghost use Rattle.region_mem.specs.Parameter.{AreArguments};
-ghost use Rattle.sandbox_run.specs.Start.{passed_number as passed_number_of, start_hart as start_hart_of, start as start_of};
+ghost use Rattle.sandbox_run.specs.Start.{passed_number as passed_number_of};
+ghost use Rattle.sandbox_run.specs.Start.{start as start_of, start_hart as start_hart_of};
+ghost use Rattle.vreg_groups.specs.VectorLength.{IsVlenb};
 
 use crate::machine::Machine;
 use elf_image::Image;
@@ -55,9 +57,10 @@ pub(crate) fn start<const VLENB: usize, A: Allocator + Copy, B: Allocator>(
     args: Args<Bytes<A>>,
     agnostic: Agnostic,
 ) -> Result<Machine<VLENB, A>, (AllocError, Args<Bytes<A>>)>
-    requires length { (VLENB ≡ 16) ⊎ (VLENB ≡ 32) }
+    requires length { IsVlenb VLENB }
     requires matching { AreArguments parameters.now args.places }
-    ensures start { IfOk result (λ m. m ≡ start_of VLENB agnostic image.now parameters.now args.places) }
+    ensures start { IfOk result
+        (λ m. m ≡ start_of VLENB agnostic image.now parameters.now args.places) }
     ensures back { IfErr result (λ e. e.1 ≡ args) }
 {
     let hart = start_hart(image.entry(), parameters, &args.places);

@@ -1,11 +1,11 @@
-//! Runs of small kernels. The words come from the LLVM assembler; what a kernel leaves is worked out by hand from the
-//! instruction manuals.
+//! How a run is called, and what it hands back. The words come from the LLVM assembler; what the kernel leaves is
+//! worked out by hand from the instruction manuals.
 
-ghost use Rattle.std.specs.Prelude.{◌≡◌, ◌⊎◌};
+ghost use Rattle.vreg_groups.specs.VectorLength.{IsVlenb};
 
 use crate::{Final, OpenError, Outcome, try_run};
 use elf_image::{Image, read};
-use region_mem::{Arg, Args, Bytes, Fault, Mode, Param, Parameters};
+use region_mem::{Arg, Args, Bytes, Mode, Param, Parameters};
 use std::alloc::{AllocError, Global};
 use std::process::Abort;
 use std::test::Fail;
@@ -21,7 +21,7 @@ const ADD_BYTES: [u32; 6] = [
     0x0000_0073,
 ];
 
-/// The headers of an executable of one segment at 10000, which may be read and executed, as words.
+/// The headers of an executable of one segment at 0x10000, which may be read and executed, as words.
 const HEADERS: [u32; 17] = [
     0x464c_457f,
     0x0001_0101,
@@ -46,7 +46,7 @@ fn push_word(file: &mut Vec<u8>, word: u32) -> Result<(), AllocError> {
     file.extend_from_slice(&word.to_le_bytes())
 }
 
-/// An image with these words at 10000, which is its entry.
+/// An image with these words at 0x10000, which is its entry.
 fn image_of(alloc: Global, words: &[u32]) -> Result<Image, Fail> {
     let size = words.len().min(1000) as u32 * 4;
     let mut file = Vec::new(alloc);
@@ -81,22 +81,9 @@ fn args_of(a: Arg, b: Arg, c: Arg) -> Args {
     }
 }
 
-fn parameters_of(a: Param, b: Param, c: Param) -> Option<Parameters> {
-    Parameters::new([
-        a,
-        b,
-        c,
-        Param::None,
-        Param::None,
-        Param::None,
-        Param::None,
-        Param::None,
-    ])
-}
-
 /// Two buffers of three bytes and the number of bytes.
 fn byte_parameters() -> Option<Parameters> {
-    parameters_of(
+    Parameters::new([
         Param::Buffer {
             mode: Mode::ReadWrite,
             size: 3,
@@ -106,7 +93,12 @@ fn byte_parameters() -> Option<Parameters> {
             size: 3,
         },
         Param::Scalar { lo: 0, hi: 3 },
-    )
+        Param::None,
+        Param::None,
+        Param::None,
+        Param::None,
+        Param::None,
+    ])
 }
 
 fn byte_args(alloc: Global) -> Result<Args, AllocError> {
@@ -116,7 +108,7 @@ fn byte_args(alloc: Global) -> Result<Args, AllocError> {
 }
 
 fn add_bytes<const VLENB: usize>(alloc: Global, max: u64) -> Result<Outcome<VLENB>, Fail>
-    requires { (VLENB ≡ 16) ⊎ (VLENB ≡ 32) }
+    requires { IsVlenb VLENB }
 {
     let image = image_of(alloc, &ADD_BYTES)?;
     let parameters = byte_parameters().ok_or("the parameters are in order")?;
@@ -145,124 +137,6 @@ fn adds_bytes(rt: HostRuntime) -> Result<(), Fail> {
     match add_bytes::<32>(rt.alloc(), 1000)? {
         Outcome::Ended(last) => assert_sum(&rt, &last, 6, 0xffff_fff0),
         _ => assert!(rt; false, "at 32 bytes"),
-    }
-    Ok(())
-}
-
-#[test]
-fn stops_when_it_is_out_of_steps(rt: HostRuntime) -> Result<(), Fail> {
-    match add_bytes::<16>(rt.alloc(), 5)? {
-        Outcome::OutOfSteps(last) => assert_sum(&rt, &last, 5, 0x1_0014),
-        _ => assert!(rt; false, "after five steps"),
-    }
-    match add_bytes::<16>(rt.alloc(), 0)? {
-        Outcome::OutOfSteps(last) => {
-            assert_eq!(rt; last.steps, 0);
-            assert_eq!(rt; last.registers.vtype, 0x8000_0000);
-            assert_eq!(rt; last.registers.x[1], 0xffff_fff0);
-            assert_eq!(rt; last.registers.x[2], 0x3000_0000);
-            assert_eq!(rt; last.registers.x[10], 0x4000_0000);
-            assert_eq!(rt; last.registers.x[11], 0x4000_2000);
-            assert_eq!(rt; last.registers.x[12], 3);
-        }
-        _ => assert!(rt; false, "with no step"),
-    }
-    Ok(())
-}
-
-#[test]
-fn adds_no_bytes(rt: HostRuntime) -> Result<(), Fail> {
-    let alloc = rt.alloc();
-    let image = image_of(alloc, &ADD_BYTES)?;
-    let empty = Param::Buffer {
-        mode: Mode::ReadWrite,
-        size: 0,
-    };
-    let parameters = parameters_of(empty, empty, Param::Scalar { lo: 0, hi: 0 }).ok_or("in order")?;
-    let args = args_of(buffer(alloc, &[])?, buffer(alloc, &[])?, Arg::Scalar(0));
-    let outcome = try_run::<16>(alloc, &image, &parameters, args, Agnostic::Keep, 100).map_err(
-        |_| Fail::from("refused"),
-    )?;
-    match outcome {
-        Outcome::Ended(last) => {
-            assert_eq!(rt; last.steps, 6);
-            assert_eq!(rt; last.registers.vl, 0);
-        }
-        _ => assert!(rt; false, "no bytes"),
-    }
-    Ok(())
-}
-
-/// A run of these words without arguments.
-fn run_words(alloc: Global, words: &[u32]) -> Result<Outcome<16>, Fail> {
-    let image = image_of(alloc, words)?;
-    let parameters = parameters_of(Param::None, Param::None, Param::None).ok_or("in order")?;
-    let args = args_of(Arg::None, Arg::None, Arg::None);
-    try_run::<16>(alloc, &image, &parameters, args, Agnostic::Keep, 1000).map_err(|_| Fail::from(
-        "refused",
-    ))
-}
-
-/// lui a1,0x80000; li t0,-1; div a2,a1,t0; rem a3,a1,t0; divu a4,a1,x0; remu a5,a1,x0; ret
-#[test]
-fn divides_at_the_ends(rt: HostRuntime) -> Result<(), Fail> {
-    let words = [
-        0x8000_05b7,
-        0xfff0_0293,
-        0x0255_c633,
-        0x0255_e6b3,
-        0x0205_d733,
-        0x0205_f7b3,
-        0x0000_8067,
-    ];
-    match run_words(rt.alloc(), &words)? {
-        Outcome::Ended(last) => {
-            assert_eq!(rt; last.steps, 7);
-            assert_eq!(rt; last.registers.x[12], 0x8000_0000);
-            assert_eq!(rt; last.registers.x[13], 0);
-            assert_eq!(rt; last.registers.x[14], 0xffff_ffff);
-            assert_eq!(rt; last.registers.x[15], 0x8000_0000);
-        }
-        _ => assert!(rt; false, "ends"),
-    }
-    Ok(())
-}
-
-/// csrwi vcsr,7; csrrci a1,vxrm,1; csrr a2,vcsr; csrrs a0,vl,t0
-#[test]
-fn traps_at_a_write_to_vl(rt: HostRuntime) -> Result<(), Fail> {
-    let words = [0x00f3_d073, 0x00a0_f5f3, 0x00f0_2673, 0xc202_a573];
-    match run_words(rt.alloc(), &words)? {
-        Outcome::Trapped(fault, last) => {
-            assert_eq!(rt; fault, Fault::Illegal(0xc202_a573));
-            assert_eq!(rt; last.steps, 3);
-            assert_eq!(rt; last.registers.x[11], 3);
-            assert_eq!(rt; last.registers.x[12], 5);
-            assert_eq!(rt; last.registers.vxrm, 2);
-            assert_eq!(rt; last.registers.vxsat, 1);
-        }
-        _ => assert!(rt; false, "traps"),
-    }
-    Ok(())
-}
-
-/// jalr ra,2(x0), and a word past the end of the code
-#[test]
-fn traps_at_a_jump(rt: HostRuntime) -> Result<(), Fail> {
-    match run_words(rt.alloc(), &[0x0020_00e7])? {
-        Outcome::Trapped(fault, last) => {
-            assert_eq!(rt; fault, Fault::JumpMisaligned(2));
-            assert_eq!(rt; last.steps, 0);
-            assert_eq!(rt; last.registers.x[1], 0xffff_fff0);
-        }
-        _ => assert!(rt; false, "a jump to 2"),
-    }
-    match run_words(rt.alloc(), &[0x0000_0013])? {
-        Outcome::Trapped(fault, last) => {
-            assert_eq!(rt; fault, Fault::FetchFault(0x1_0004));
-            assert_eq!(rt; last.steps, 1);
-        }
-        _ => assert!(rt; false, "past the code"),
     }
     Ok(())
 }

@@ -16,8 +16,8 @@ returns-then-steps-max g c =
 
 pub returns-in-Err : goal.returns-in-Err
 returns-in-Err g c =
-    ap (Trapped c.in-Err.fault) (c.finish-in-Err.ensures ∙ ap (final_of g.row.VLENB c.stepping.steps) c.in-Err.ensures.kept)
-    ∙ ap (answer_of g.row.VLENB) (sym (outcome_from-trap _ _ _ _ _ (omega arith) (sym c.if-has_ended.ensures) c.in-Err.ensures.err) ∙ c.stepping.invariant.1)
+    ap (Trapped c.in-Err.fault) (c.finish-in-Err.ensures ∙ ap (final_of g.row.VLENB c.stepping.steps) c.in-Err.ensures.1)
+    ∙ ap (answer_of g.row.VLENB) (sym (outcome_from-trap _ _ _ _ _ (omega arith) (sym c.if-has_ended.ensures) c.in-Err.ensures.0) ∙ c.stepping.invariant.1)
 
 pub stepping-preserved : goal.stepping-preserved
 stepping-preserved g c =
