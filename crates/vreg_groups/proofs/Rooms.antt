@@ -2,9 +2,10 @@
 use Rattle.std.proofs.Common.{ℕ, ◌+◌, ◌*◌, ◌/◌, ◌<◌, ◌≤◌, ◌≡◌, ◌⊎◌, inl, inr, arith}
 use Rattle.std.proofs.Math.Nat.{mul-le-mul_left, mul-div-le}
 use Rattle.std.proofs.lemmas.Nat.{le-div}
+use Rattle.vreg_groups.specs.VectorLength.{IsVlenb}
 
 -- a group ends within the registers, and its elements within the group
-pub group_within : (vlenb size first count len : ℕ) → (vlenb ≡ 16) ⊎ (vlenb ≡ 32) → (size ≡ 1) ⊎ (size ≡ 2) ⊎ (size ≡ 4) →
+pub group_within : (vlenb size first count len : ℕ) → IsVlenb vlenb → (size ≡ 1) ⊎ (size ≡ 2) ⊎ (size ≡ 4) →
     first + count ≤ 32 → len ≡ 32 * vlenb → first * vlenb + size * (count * vlenb / size) ≤ len
 group_within vlenb size first count len v s group registers =
     let elements = mul-div-le (count * vlenb) size in

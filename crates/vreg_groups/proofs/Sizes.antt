@@ -102,10 +102,6 @@ group_ends t e first below multiple =
     let whole = both _ _ (fits t.sew t.lmul e) in
     ends_within first (group_count t e) (group_count_positive t e) ((Decides-eqb (32 % group_count t e) 0).0 whole) multiple below
 
-pub group_small : (t : Vtype) (e : Eew) → emul_eighths t e ≤ 64 → group_count t e ≤ 8
-unfolding group_count
-group_small t e h = omega arith
-
 second : (a b : Bool) → (a && b) ≡ true → b ≡ true
 second true b h = h
 second false b h = cc
@@ -138,6 +134,12 @@ unfolding group_count emul_eighths
 group_room t e vlenb vl h =
     room_of (bits_of_width t.sew) (eew_bits t.sew e) (eighths_of t.lmul) (group_count t e) vlenb vl (width_positive t.sew)
     (is_at_most _ _ (second _ _ (fits t.sew t.lmul e))) (body_fits t vlenb vl h)
+
+-- what fits by its bits fits by its bytes
+pub bytes_fit : (bits vl room : ℕ) → bits * vl ≤ 8 * room → bits / 8 * vl ≤ room
+bytes_fit bits vl room h =
+    let whole : vl * (8 * (bits / 8)) ≤ vl * bits = mul-le-mul_left vl (mul-div-le bits 8) in
+    omega (arith, whole, h)
 
 eighths_small : (l : Lmul) → eighths_of l ≤ 64
 eighths_small Quarter = omega arith

@@ -1,5 +1,5 @@
 -- The fields of vtype ("Vector Type Register, vtype"), and VLMAX.
-use Rattle.std.specs.Prelude.{Bool, ℕ, ◌*◌, ◌/◌, ◌%◌, ◌==◌, nat_le, if◌then◌else◌, Option, Some, None}
+use Rattle.std.specs.Prelude.{Bool, false, ℕ, ◌*◌, ◌/◌, ◌%◌, ◌==◌, nat_le, if◌then◌else◌, Option, Some, None}
 use Rattle.std.specs.Option.{option_and_then}
 use Rattle.rv_decode.specs.declared.instructions.Width.{Width}
 use Rattle.rv_decode.specs.declared.instructions.Width.TheVariants.{W8, W16, W32}
@@ -18,9 +18,7 @@ bits_of_width W16 = 16
 bits_of_width W32 = 32
 
 abbrev pub bytes_of_width : Width → ℕ
-bytes_of_width W8 = 1
-bytes_of_width W16 = 2
-bytes_of_width W32 = 4
+bytes_of_width width = bits_of_width width / 8
 
 -- LMUL in eighths
 abbrev pub eighths_of : Lmul → ℕ
@@ -55,6 +53,12 @@ vtype_of bits =
     then Some (record { sew = sew; lmul = lmul; vta = bits / 64 % 2 == 1; vma = bits / 128 % 2 == 1 })
     else None)
     (lmul_of (bits % 8))) (sew_of (bits / 8 % 8))
+
+-- the type that an instruction works under. With vill set there is none, and any will do: only whole-register forms are
+-- legal then.
+abbrev pub type_in : Option Vtype → Vtype
+type_in (Some t) = t
+type_in None = record { sew = W8; lmul = One; vta = false; vma = false }
 
 -- VLMAX = LMUL * VLEN / SEW, where VLEN is 8 * vlenb
 unfoldable pub vlmax_of : ℕ → Vtype → ℕ

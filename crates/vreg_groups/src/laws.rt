@@ -2,6 +2,7 @@
 
 ghost use Rattle.std.specs.Prelude.{◌≡◌, ◌+◌, ◌*◌, ◌^◌, ◌<◌, ◌≤◌, ◌⊎◌, length, slice_index, All};
 ghost use Rattle.vreg_groups.specs.NewElements.{write_of, mask_write_of};
+ghost use Rattle.vreg_groups.specs.VectorLength.{IsVlenb};
 ghost use Rattle.vreg_groups.specs.Laws.{ElementIsNew, MaskBitIsNew};
 
 use crate::policies::Policy;
@@ -20,7 +21,7 @@ pub fn each_element_is_new(
     file: &[u8],
     i: usize,
 )
-    requires vlenb_is { (vlenb ≡ 16) ⊎ (vlenb ≡ 32) }
+    requires vlenb_is { IsVlenb vlenb }
     requires size_is { (size ≡ 1) ⊎ (size ≡ 2) ⊎ (size ≡ 4) }
     requires group { first + count ≤ 32 }
     requires registers { length file.now ≡ 32 * vlenb }
@@ -43,7 +44,7 @@ pub fn other_bytes_stay(
     file: &[u8],
     k: usize,
 )
-    requires vlenb_is { (vlenb ≡ 16) ⊎ (vlenb ≡ 32) }
+    requires vlenb_is { IsVlenb vlenb }
     requires size_is { (size ≡ 1) ⊎ (size ≡ 2) ⊎ (size ≡ 4) }
     requires group { first + count ≤ 32 }
     requires registers { length file.now ≡ 32 * vlenb }
@@ -63,7 +64,7 @@ pub fn each_mask_bit_is_new(
     file: &[u8],
     i: usize,
 )
-    requires vlenb_is { (vlenb ≡ 16) ⊎ (vlenb ≡ 32) }
+    requires vlenb_is { IsVlenb vlenb }
     requires registers { length file.now ≡ 32 * vlenb }
     requires within { i < 8 * vlenb }
     ensures { MaskBitIsNew vlenb register policy results.now active.now file.now i }
@@ -81,7 +82,7 @@ pub fn other_registers_stay(
     file: &[u8],
     k: usize,
 )
-    requires vlenb_is { (vlenb ≡ 16) ⊎ (vlenb ≡ 32) }
+    requires vlenb_is { IsVlenb vlenb }
     requires registers { length file.now ≡ 32 * vlenb }
     requires outside { (k < register * vlenb) ⊎ ((register + 1) * vlenb ≤ k) }
     ensures { slice_index (mask_write_of vlenb register policy results.now active.now file.now) k ≡ slice_index file.now k }

@@ -1,12 +1,14 @@
 //! Which vector instructions are legal under a vector type.
 
-ghost use Rattle.std.specs.Prelude.{◌≡◌, ◌+◌, ◌^◌, ◌≤◌, ◌<◌, ◌⊎◌, Option, Some, None, true, IfSome};
+ghost use Rattle.std.specs.Prelude.{◌≡◌, ◌+◌, ◌^◌, ◌≤◌, ◌<◌, ◌⊎◌, Option, Some, None, true, IfSome, if◌then◌else◌, ℕ};
 ghost use Rattle.std.specs.List.{range_with_len};
-ghost use Rattle.vreg_groups.specs.VectorType.{vtype_of};
+ghost use Rattle.rv_decode.specs.Needs.{needs_of};
+ghost use Rattle.vreg_groups.specs.VectorLength.{IsConfig};
+ghost use Rattle.vreg_groups.specs.VectorType.{type_in, vlmax_of, vtype_of};
 ghost use Rattle.vreg_groups.specs.Legality.{eew_bits, emul_eighths, group_count, whole_count, count_of, registers_of, is_among, are_apart, is_width, is_group_legal, is_operand_legal, element_bits, is_emul_whole, may_overlap, is_overlap_legal, is_grouped, is_pair_legal, keeps_mask, is_mask_legal, is_present_legal, is_source_legal, is_destination_legal, are_operands_legal, is_legal, AreInside, AreAllInside, IsInside};
 
 use crate::vector_length::Vconfig;
-use crate::vector_type::{Vtype, eew_bits, emul_eighths};
+use crate::vector_type::{Vtype, eew_bits, emul_eighths, type_in};
 use rv_decode::{Count, Eew, Extent, Insn, Operand, Operands, Sharing, needs};
 
 /// Tells whether an instruction is legal under `config`.
@@ -22,10 +24,27 @@ pub fn legal(config: &Vconfig, insn: &Insn) -> bool
     are_operands_legal(config.vector_type(), &needs(insn))
 }
 
+/// The vector type that a legal instruction works under, or `None` where it is not legal.
+///
+/// Its operands are inside the registers, and vl is at most the type's VLMAX.
+#[tactic(auto, unfolding(crate::specs::Legality::is_legal))]
+pub fn legal_type(config: &Vconfig, insn: &Insn) -> Option<Vtype>
+    ensures meaning { result ≡ (if is_legal config.now insn.now then Some (type_in (vtype_of config.now.vtype)) else None) }
+    ensures inside { IfSome result (λ t. AreAllInside t (needs_of insn.now)) }
+    ensures length { IfSome result (λ t. (vlenb : ℕ) → IsConfig vlenb config.now → config.now.vl ≤ vlmax_of vlenb t) }
+{
+    let vtype = config.vector_type();
+    if are_operands_legal(vtype, &needs(insn)) {
+        Some(type_in(vtype))
+    } else {
+        None
+    }
+}
+
 #[tactic(auto, unfolding(crate::specs::Legality::are_operands_legal))]
 pub(crate) fn are_operands_legal(vtype: Option<Vtype>, operands: &Operands) -> bool
     ensures meaning { result ≡ are_operands_legal vtype operands.now }
-    ensures inside { result ≡ true → AreAllInside vtype operands.now }
+    ensures inside { result ≡ true → AreAllInside (type_in vtype) operands.now }
 {
     is_present_legal(vtype, &operands.destination)
         && is_present_legal(vtype, &operands.vs2)
@@ -35,7 +54,7 @@ pub(crate) fn are_operands_legal(vtype: Option<Vtype>, operands: &Operands) -> b
 
 fn is_present_legal(vtype: Option<Vtype>, operand: &Option<Operand>) -> bool
     ensures meaning { result ≡ is_present_legal vtype operand.now }
-    ensures inside { result ≡ true → IfSome operand.now (IsInside vtype) }
+    ensures inside { result ≡ true → IfSome operand.now (IsInside (type_in vtype)) }
 {
     match operand {
         None => true,
@@ -47,7 +66,7 @@ fn is_present_legal(vtype: Option<Vtype>, operand: &Option<Operand>) -> bool
 #[tactic(auto, unfolding(crate::specs::Legality::is_operand_legal, crate::specs::Legality::count_of, crate::specs::Legality::element_bits))]
 fn is_operand_legal(vtype: Option<Vtype>, operand: &Operand) -> bool
     ensures meaning { result ≡ is_operand_legal vtype operand.now.extent operand.now.first }
-    ensures inside { result ≡ true → IsInside vtype operand.now }
+    ensures inside { result ≡ true → IsInside (type_in vtype) operand.now }
 {
     let first = usize::from(operand.first.number());
     let extent = operand.extent;
@@ -66,11 +85,11 @@ fn is_operand_legal(vtype: Option<Vtype>, operand: &Operand) -> bool
 }
 
 // EEW and EMUL are in range, and the group stands at a multiple of its size.
-#[tactic(auto, using(crate::proofs::Sizes::group_ends, crate::proofs::Sizes::group_small))]
+#[tactic(auto, using(crate::proofs::Sizes::group_ends))]
 fn is_group_legal(vtype: &Vtype, eew: Eew, first: usize) -> bool
     requires { first < 32 }
     ensures meaning { result ≡ is_group_legal vtype.now eew first }
-    ensures inside { result ≡ true → (first + group_count vtype.now eew ≤ 32) × (eew_bits vtype.now.sew eew ≤ 32) × (group_count vtype.now eew ≤ 8) }
+    ensures inside { result ≡ true → (first + group_count vtype.now eew ≤ 32) × (eew_bits vtype.now.sew eew ≤ 32) }
 {
     is_width(eew_bits(vtype.sew, eew))
         && emul_eighths(vtype, eew) <= 64

@@ -2,8 +2,9 @@
 //! are legal.
 #![tactic(auto)]
 
+mod bytes;
 mod elements;
-mod groups;
+mod group;
 pub mod laws;
 mod legality;
 mod policies;
@@ -14,8 +15,9 @@ mod vector_length;
 mod vector_type;
 
 pub use elements::Element;
-pub use legality::legal;
+pub use group::Group;
+pub use legality::{legal, legal_type};
 pub use policies::{Agnostic, Policy};
 pub use registers::VregFile;
 pub use vector_length::{Avl, Vconfig, Vlen, vset};
-pub use vector_type::{Lmul, Vtype};
+pub use vector_type::{Lmul, MOST_ELEMENTS, Vtype};

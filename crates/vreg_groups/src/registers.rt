@@ -2,10 +2,11 @@
 
 ghost use Rattle.std.specs.Prelude.{◌≡◌, ℕ, ◌+◌, ◌*◌, ◌/◌, ◌<◌, ◌≤◌, ◌⊎◌, length, map, replicate, take, slice_index};
 ghost use Rattle.vreg_groups.specs.Elements.{mask_bit, elements_of, mask_bits, active_of};
+ghost use Rattle.vreg_groups.specs.VectorLength.{IsVlenb};
 ghost use Rattle.vreg_groups.specs.NewElements.{write_of, mask_write_of};
 
 use crate::elements::Element;
-use crate::groups::{bit_at, read_bits, read_elements, write_bits, write_elements};
+use crate::bytes::{bit_at, read_bits, read_elements, write_bits, write_elements};
 use crate::policies::Policy;
 use rv_decode::Reg;
 use std::marker::Model;
@@ -17,19 +18,20 @@ pub struct VregFile<const VLENB: usize> {
 }
 
 impl<const VLENB: usize> Model for VregFile<VLENB> {
-    ghost use Rattle.std.specs.Prelude.{List, ℕ, ◌*◌, ◌≡◌, ◌⊎◌, take};
+    ghost use Rattle.std.specs.Prelude.{List, ℕ, ◌*◌, take};
+    ghost use Rattle.vreg_groups.specs.VectorLength.{IsVlenb};
 
     ghost Value = { List ℕ };
 
     ghost view = { λ f. take (32 * VLENB) f.bytes };
 
-    ghost invariant = { λ f. (VLENB ≡ 16) ⊎ (VLENB ≡ 32) };
+    ghost invariant = { λ f. IsVlenb VLENB };
 }
 
 impl<const VLENB: usize> VregFile<VLENB> {
     /// Registers that hold zeros.
     pub fn new() -> VregFile<VLENB>
-        requires { (VLENB ≡ 16) ⊎ (VLENB ≡ 32) }
+        requires { IsVlenb VLENB }
         ensures { result ≡ replicate (32 * VLENB) 0 }
     {
         VregFile { bytes: [0; 1024] }

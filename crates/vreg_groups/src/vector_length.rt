@@ -1,7 +1,7 @@
 //! The vector length, vl, as the vset instructions set it.
 
 ghost use Rattle.std.specs.Prelude.{◌≡◌, ◌≤◌, ◌⊎◌, ℕ, min, IfSome, ◌*◌};
-ghost use Rattle.vreg_groups.specs.VectorType.{vtype_of, vlmax_of};
+ghost use Rattle.vreg_groups.specs.VectorType.{type_in, vtype_of, vlmax_of};
 ghost use Rattle.vreg_groups.specs.VectorLength.{IsVlenb, vlenb_of, no_config, supported_vset, vset_of, IsConfig};
 
 use crate::vector_type::Vtype;
@@ -52,8 +52,7 @@ impl Vconfig {
     #[tactic(auto, unfolding(crate::specs::VectorLength::IsConfig))]
     pub fn vector_type(&self) -> Option<Vtype>
         ensures meaning { result ≡ vtype_of self.now.vtype }
-        ensures length { IfSome result (λ t. (vlenb : ℕ) → IsConfig vlenb self.now → self.now.vl ≤ vlmax_of vlenb t) }
-        ensures mask { IfSome result (λ t. (vlenb : ℕ) → IsConfig vlenb self.now → self.now.vl ≤ 8 * vlenb) }
+        ensures length { (vlenb : ℕ) → IsConfig vlenb self.now → self.now.vl ≤ vlmax_of vlenb (type_in result) }
     {
         Vtype::from_bits(self.vtype)
     }

@@ -3,9 +3,15 @@
 
 ghost use Rattle.std.specs.Prelude.{◌≡◌, ℕ, ◌*◌, ◌<◌, ◌≤◌, ◌⊎◌};
 ghost use Rattle.vreg_groups.specs.Legality.{eew_bits, emul_eighths, group_count};
-ghost use Rattle.vreg_groups.specs.VectorType.{bits_of_width, eighths_of, sew_of, lmul_of, is_supported, vtype_of, vlmax_of};
+ghost use Rattle.vreg_groups.specs.VectorLength.{IsVlenb};
+ghost use Rattle.vreg_groups.specs.VectorType.{bits_of_width, eighths_of, sew_of, lmul_of, is_supported, type_in, vtype_of, vlmax_of};
+
+ghost use Rattle.vreg_groups.specs.declared.vector_type.TheConstants.{MOST_ELEMENTS};
 
 use rv_decode::{Eew, Width};
+
+/// The most elements that a body can have: the greatest VLMAX, of bytes at LMUL 8 and VLEN 256.
+pub const MOST_ELEMENTS: usize = 256;
 
 /// How many vector registers a group has, or which part of one: LMUL.
 #[derive(Clone, Copy, PartialEq, Eq, Debug)]
@@ -58,9 +64,9 @@ impl Vtype {
     /// The greatest vector length, VLMAX = LMUL * VLEN / SEW, where a vector register has `vlenb` bytes.
     #[tactic(auto, unfolding(crate::specs::VectorType::vlmax_of))]
     pub fn vlmax(&self, vlenb: usize) -> u32
-        requires { (vlenb ≡ 16) ⊎ (vlenb ≡ 32) }
+        requires { IsVlenb vlenb }
         ensures meaning { result ≡ vlmax_of vlenb self.now }
-        ensures bound { result ≤ 256 }
+        ensures bound { result ≤ MOST_ELEMENTS }
     {
         (eighths(self.lmul) * vlenb / bits_of(self.sew)) as u32
     }
@@ -75,6 +81,21 @@ impl Vtype {
         ensures room { (vlenb vl : ℕ) → vl ≤ vlmax_of vlenb self.now → eew_bits self.now.sew eew * vl ≤ 8 * (result * vlenb) }
     {
         (emul_eighths(self, eew) / 8).max(1)
+    }
+}
+
+/// The type that an instruction works under; where there is none, any will do.
+pub(crate) fn type_in(vtype: Option<Vtype>) -> Vtype
+    ensures { result ≡ type_in vtype }
+{
+    match vtype {
+        Some(vtype) => vtype,
+        None => Vtype {
+            sew: Width::W8,
+            lmul: Lmul::One,
+            vta: false,
+            vma: false,
+        },
     }
 }
 

@@ -1,9 +1,10 @@
 -- The first bytes of an array of zeros are zeros.
-use Rattle.std.proofs.Common.{arith, ◌*◌, ◌≤◌, ◌≡◌, ◌⊎◌, ℕ}
+use Rattle.std.proofs.Common.{arith, ◌*◌, ◌≤◌, ℕ}
 use Rattle.std.proofs.lemmas.List.{take-replicate}
+use Rattle.vreg_groups.specs.VectorLength.{IsVlenb}
 use Rattle.vreg_groups.proofs.registers.VregFile.new.Goals as goal
 
-fits : (vlenb : ℕ) → (vlenb ≡ 16) ⊎ (vlenb ≡ 32) → 32 * vlenb ≤ 1024
+fits : (vlenb : ℕ) → IsVlenb vlenb → 32 * vlenb ≤ 1024
 fits vlenb h = omega arith
 
 pub returns : goal.returns

@@ -1,6 +1,6 @@
 use Rattle.std.proofs.Common.{arith}
 use Rattle.vreg_groups.proofs.Places.{replaced_none, mask_written_more}
-use Rattle.vreg_groups.proofs.groups.write_bits.Goals as goal
+use Rattle.vreg_groups.proofs.bytes.write_bits.Goals as goal
 
 pub loop-j-init : goal.loop-j-init
 loop-j-init c = replaced_none _ _ _ _

@@ -1,6 +1,6 @@
 use Rattle.std.proofs.Common.{ℕ, ◌<◌, ◌≡◌, get_or}
 use Rattle.vreg_groups.specs.Elements.{element_at}
-use Rattle.vreg_groups.proofs.groups.read_elements.Given as goal
+use Rattle.vreg_groups.proofs.bytes.read_elements.Given as goal
 
 -- the elements so far are those of the group
 abbrev pub invariant-loop-i : goal.invariant-loop-i

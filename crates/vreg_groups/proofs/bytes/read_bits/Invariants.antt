@@ -1,6 +1,6 @@
 use Rattle.std.proofs.Common.{Bool, ℕ, ◌<◌, ◌≡◌, get_or}
 use Rattle.vreg_groups.specs.Elements.{bit_at}
-use Rattle.vreg_groups.proofs.groups.read_bits.Given as goal
+use Rattle.vreg_groups.proofs.bytes.read_bits.Given as goal
 
 -- the bits so far are those of the mask
 abbrev pub invariant-loop-i : goal.invariant-loop-i

@@ -1,6 +1,6 @@
 use Rattle.std.proofs.Common.{◌≡◌}
 use Rattle.vreg_groups.specs.NewElements.{replaced, new_mask_bytes}
-use Rattle.vreg_groups.proofs.groups.write_bits.Given as goal
+use Rattle.vreg_groups.proofs.bytes.write_bits.Given as goal
 
 -- the bytes so far are the new ones, and what follows is as it was
 abbrev pub invariant-loop-j : goal.invariant-loop-j

@@ -1,7 +1,7 @@
 use Rattle.std.proofs.Common.{arith, length, false}
 use Rattle.std.proofs.lemmas.List.FromFn.{fill_by_all}
 use Rattle.vreg_groups.specs.Elements.{bit_at}
-use Rattle.vreg_groups.proofs.groups.read_bits.Goals as goal
+use Rattle.vreg_groups.proofs.bytes.read_bits.Goals as goal
 
 pub returns : goal.returns
 returns c =

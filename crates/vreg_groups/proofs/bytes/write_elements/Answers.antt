@@ -1,7 +1,7 @@
 use Rattle.std.proofs.Common.{arith, ◌+◌, ◌*◌, ◌≤◌, length}
 use Rattle.std.proofs.Math.Nat.{mul-le-mul_left}
 use Rattle.vreg_groups.proofs.Places.{replaced_none, written_more}
-use Rattle.vreg_groups.proofs.groups.write_elements.Goals as goal
+use Rattle.vreg_groups.proofs.bytes.write_elements.Goals as goal
 
 pub loop-i-init : goal.loop-i-init
 loop-i-init g c = replaced_none _ _ _ _

@@ -1,7 +1,7 @@
 use Rattle.std.proofs.Common.{true, ◌≡◌, ◌+◌, ◌*◌, ◌^◌, ◌<◌}
 use Rattle.vreg_groups.specs.Elements.{bit_of, number_of_bits}
 use Rattle.vreg_groups.specs.NewElements.{new_element}
-use Rattle.vreg_groups.proofs.groups.new_mask_byte.Given as goal
+use Rattle.vreg_groups.proofs.bytes.new_mask_byte.Given as goal
 
 -- the byte has the new bits so far, and no other
 abbrev pub invariant-loop-k : goal.invariant-loop-k

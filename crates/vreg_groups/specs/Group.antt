@@ -1,0 +1,33 @@
+-- The group of registers that an operand stands for, and the elements of the body that lie in it ("Vector Register
+-- Grouping", "Mapping of Vector Elements to Vector Register State").
+use Rattle.std.specs.Prelude.{ℕ, ◌/◌, Bool, List}
+use Rattle.rv_decode.specs.declared.extents.Eew.{Eew}
+use Rattle.rv_decode.specs.declared.extents.Extent.TheVariants as extent
+use Rattle.vreg_groups.specs.Elements.{elements_of}
+use Rattle.vreg_groups.specs.Legality.{eew_bits, group_count, IsInside}
+use Rattle.vreg_groups.specs.NewElements.{write_of}
+use Rattle.vreg_groups.specs.declared.policies.Policy.{Policy}
+use Rattle.vreg_groups.specs.declared.vector_type.Vtype.{Vtype}
+
+-- the first register and how many there are, the bytes of an element, and how many elements the body has
+pub record Span : Type 0 where
+  pub first : ℕ
+  pub count : ℕ
+  pub bytes : ℕ
+  pub vl : ℕ
+
+-- the group from `first` on whose elements have this width
+unfoldable pub group_of : Vtype → ℕ → ℕ → Eew → Span
+group_of t vl first eew = record { first = first; count = group_count t eew; bytes = eew_bits t.sew eew / 8; vl = vl }
+
+-- its registers exist, and its elements have at most 32 bits
+abbrev pub IsGroupInside : Vtype → ℕ → Eew → Type 0
+IsGroupInside t first eew = IsInside t (record { first = first; extent = extent.Group eew })
+
+-- the elements of its body
+unfoldable pub body_of : ℕ → Span → List ℕ → List ℕ
+body_of vlenb group file = elements_of vlenb group.bytes group.first group.vl file
+
+-- the registers after results were written to it
+unfoldable pub written : ℕ → Span → Policy → List ℕ → List Bool → List ℕ → List ℕ
+written vlenb group policy results active file = write_of vlenb group.bytes group.first group.count policy results active file
