@@ -1,32 +1,101 @@
--- One step of each loop over the elements of an access, and its end.
-use Rattle.std.proofs.Common.{◌≡◌, ℕ, ◌+◌, ◌<◌, ◌≤◌, Bool, false, not, ◌&&◌, List, ◌++◌, Some, None, unwrap_or, if◌then◌else◌, length, get_or, set, take, drop, refl, ap, sym, append-nil, append_assoc}
-use Rattle.std.proofs.lemmas.List.{at_drop_more, at_drop_all, take_more_set, take_all, drop_more, drop_all}
+-- The accesses of the elements that a loop has not come to yet.
+use Rattle.std.proofs.Common.{◌≡◌, ℕ, ◌%◌, ◌^◌, set, Option, Some, None, sym, refl, ◌+◌, ◌-◌, ◌<◌, ◌≤◌, Bool, true, false, List, [], ◌∷◌, suc, length, get_or, map, ap, ◌∙◌, arith, cond}
+use Rattle.std.specs.Prelude.{filter, find, not, unwrap_or, if◌then◌else◌}
+use Rattle.std.specs.Option.{option_map}
+use Rattle.region_mem.specs.Memory.{Memory, is_permitted, load_of, store_of}
+use Rattle.std.proofs.lemmas.List.{map-set}
+use Rattle.std.specs.List.{range_with_len}
 use Rattle.region_mem.specs.declared.faults.Right.{Right}
-use Rattle.region_mem.specs.Memory.{Memory, byte_of, is_permitted, store_of}
-use Rattle.vector_core.specs.Accesses.{next_address, refused_address, loaded, stored}
+use Rattle.region_mem.specs.declared.faults.Right.TheVariants.{Read, Write}
+use Rattle.vector_core.specs.Accesses.{Access, access_at, accesses, accesses_from, is_refused, with_loaded, with_stored}
+use Rattle.vector_core.specs.Operands.{low_bits}
 
-pub refused_more : (right : Right) (address : ℕ) (active : List Bool) (memory : Memory) (i : ℕ) → i < length active → refused_address right address (drop i active) memory ≡ (if get_or active i false && not (is_permitted right address 1 memory) then Some address else refused_address right (next_address address) (drop (i + 1) active) memory)
-unfolding refused_address
-refused_more right address active memory i lt = at_drop_more (λ rest. refused_address right address rest memory) active i false lt
+-- those of the elements from number i on
+abbrev pub rest : Right → ℕ → (ℕ → ℕ) → List Bool → ℕ → List Access
+rest right size place active i = accesses_from right size place active i (length active - i)
 
-pub refused_end : (right : Right) (address : ℕ) (active : List Bool) (memory : Memory) (i : ℕ) → length active ≤ i → refused_address right address (drop i active) memory ≡ None
-unfolding refused_address
-refused_end right address active memory i end = at_drop_all (λ rest. refused_address right address rest memory) active i end
+range_next : (i n : ℕ) → i < n → range_with_len i (n - i) ≡ i ∷ range_with_len (i + 1) (n - (i + 1))
+range_next i n h = let e : n - i ≡ suc (n - (i + 1)) = omega arith in ap (range_with_len i) e
 
-pub loaded_more : (address : ℕ) (active : List Bool) (memory : Memory) (values : List ℕ) (i value : ℕ) → i < length active → i < length values → value ≡ (if get_or active i false then unwrap_or (byte_of address memory) 0 else 0) → take (i + 1) (set values i value) ++ loaded (next_address address) (drop (i + 1) active) memory ≡ take i values ++ loaded address (drop i active) memory
-unfolding loaded
-loaded_more address active memory values i value lt lt_values is =
-    rw (take_more_set values i value lt_values, append_assoc, is) (ap (λ rest. take i values ++ rest) (sym (at_drop_more (λ rest. loaded address rest memory) active i false lt)))
+rest_is : (right : Right) (size : ℕ) (place : ℕ → ℕ) (active : List Bool) (i : ℕ) (b : Bool) → i < length active → get_or active i false ≡ b →
+    rest right size place active i
+    ≡ map (access_at right size place) (cond b (i ∷ filter (λ k. get_or active k false) (range_with_len (i + 1) (length active - (i + 1))))
+    (filter (λ k. get_or active k false) (range_with_len (i + 1) (length active - (i + 1)))))
+rest_is right size place active i b h e =
+    let later = filter (λ k. get_or active k false) (range_with_len (i + 1) (length active - (i + 1))) in
+    ap (λ ks. map (access_at right size place) (filter (λ k. get_or active k false) ks)) (range_next i (length active) h)
+    ∙ ap (λ (a : Bool). map (access_at right size place) (cond a (i ∷ later) later)) e
 
-pub loaded_end : (address : ℕ) (active : List Bool) (memory : Memory) (values : List ℕ) (i : ℕ) → length active ≤ i → length values ≤ i → take i values ++ loaded address (drop i active) memory ≡ values
-unfolding loaded
-loaded_end address active memory values i end end_values = rw (drop_all i active end, append-nil) (take_all i values end_values)
+pub rest_active : (right : Right) (size : ℕ) (place : ℕ → ℕ) (active : List Bool) (i : ℕ) → i < length active → get_or active i false ≡ true →
+    rest right size place active i ≡ access_at right size place i ∷ rest right size place active (i + 1)
+rest_active right size place active i h e = rest_is right size place active i true h e
 
-pub stored_more : (address : ℕ) (active : List Bool) (values : List ℕ) (memory : Memory) (i : ℕ) → i < length active → i < length values → stored address (drop i active) (drop i values) memory ≡ stored (next_address address) (drop (i + 1) active) (drop (i + 1) values) (if get_or active i false then unwrap_or (store_of address 1 (get_or values i 0) memory) memory else memory)
-unfolding stored
-stored_more address active values memory i lt lt_values =
-    rw (drop_more active i false lt, drop_more values i 0 lt_values) refl
+pub rest_inactive : (right : Right) (size : ℕ) (place : ℕ → ℕ) (active : List Bool) (i : ℕ) → i < length active → get_or active i false ≡ false →
+    rest right size place active i ≡ rest right size place active (i + 1)
+rest_inactive right size place active i h e = rest_is right size place active i false h e
 
-pub stored_end : (address : ℕ) (active : List Bool) (values : List ℕ) (memory : Memory) (i : ℕ) → length active ≤ i → stored address (drop i active) (drop i values) memory ≡ memory
-unfolding stored
-stored_end address active values memory i end = at_drop_all (λ rest. stored address rest (drop i values) memory) active i end
+pub rest_end : (right : Right) (size : ℕ) (place : ℕ → ℕ) (active : List Bool) (i : ℕ) → length active ≤ i →
+    rest right size place active i ≡ []
+rest_end right size place active i h =
+    let e : length active - i ≡ 0 = omega arith in
+    ap (accesses_from right size place active i) e
+
+pub rest_all : (right : Right) (size : ℕ) (place : ℕ → ℕ) (active : List Bool) →
+    rest right size place active 0 ≡ accesses right size place active
+unfolding accesses
+rest_all right size place active =
+    let e : length active - 0 ≡ length active = omega arith in
+    ap (accesses_from right size place active 0) e
+
+-- an access that is refused, and one that is not
+pub refused_here : (memory : Memory) (right : Right) (size : ℕ) (place : ℕ → ℕ) (active : List Bool) (i address : ℕ) (permitted : Bool) →
+    i < length active → get_or active i false ≡ true → address ≡ place i % 2 ^ 32 → permitted ≡ is_permitted right address size memory →
+    permitted ≡ false → Some address ≡ option_map (λ a. a.address) (find (is_refused memory) (rest right size place active i))
+refused_here memory right size place active i address permitted h e at is refused =
+    let p : is_permitted right (place i % 2 ^ 32) size memory ≡ false = cc in
+    let next = find (is_refused memory) (rest right size place active (i + 1)) in
+    ap Some at
+    ∙ sym (ap (λ (b : Bool). option_map (λ a. a.address) (cond (not b) (Some (access_at right size place i)) next)) p)
+    ∙ sym (ap (λ l. option_map (λ a. a.address) (find (is_refused memory) l)) (rest_active right size place active i h e))
+
+pub permitted_here : (memory : Memory) (right : Right) (size : ℕ) (place : ℕ → ℕ) (active : List Bool) (i address : ℕ) (permitted : Bool) →
+    i < length active → get_or active i false ≡ true → address ≡ place i % 2 ^ 32 → permitted ≡ is_permitted right address size memory →
+    permitted ≡ true → find (is_refused memory) (rest right size place active (i + 1)) ≡ find (is_refused memory) (rest right size place active i)
+permitted_here memory right size place active i address permitted h e at is granted =
+    let p : is_permitted right (place i % 2 ^ 32) size memory ≡ true = cc in
+    let next = find (is_refused memory) (rest right size place active (i + 1)) in
+    sym (ap (λ (b : Bool). cond (not b) (Some (access_at right size place i)) next) p)
+    ∙ sym (ap (find (is_refused memory)) (rest_active right size place active i h e))
+
+-- a load that gives nothing was refused, one that gives a number was not
+not_permitted : (b : Bool) (n : ℕ) → (if b then Some n else None) ≡ None → b ≡ false
+not_permitted true n e = absurd cc
+not_permitted false n e = refl
+
+is_granted : (b : Bool) (n value : ℕ) → (if b then Some n else None) ≡ Some value → b ≡ true
+is_granted true n value e = refl
+is_granted false n value e = absurd cc
+
+pub load_refused : (address n : ℕ) (memory : Memory) → load_of address n memory ≡ None → false ≡ is_permitted Read address n memory
+unfolding load_of
+load_refused address n memory e = sym (not_permitted (is_permitted Read address n memory) _ e)
+
+pub load_granted : (address n value : ℕ) (memory : Memory) → load_of address n memory ≡ Some value → true ≡ is_permitted Read address n memory
+unfolding load_of
+load_granted address n value memory e = sym (is_granted (is_permitted Read address n memory) _ value e)
+
+-- one more element was stored, and one more loaded
+pub stored_here : (memory next : Memory) (size : ℕ) (place : ℕ → ℕ) (values : List ℕ) (i n address value : ℕ) →
+    n ≡ size → address ≡ place i % 2 ^ 32 → value ≡ get_or values i 0 → next ≡ unwrap_or (store_of address n value memory) memory →
+    next ≡ with_stored values memory (access_at Write size place i)
+stored_here memory next size place values i n address value e at is h = cc
+
+pub loaded_here : {E : Type 0} (number : E → ℕ) (memory : Memory) (size : ℕ) (place : ℕ → ℕ) (values : List E) (new : E) (i n bytes address value : ℕ) →
+    n ≡ size → size ≡ bytes → address ≡ place i % 2 ^ 32 → load_of address n memory ≡ Some value → number new ≡ low_bits bytes value →
+    map number (set values i new) ≡ with_loaded memory (map number values) (access_at Read size place i)
+loaded_here number memory size place values new i n bytes address value e sizes at is h =
+    let there : load_of (place i % 2 ^ 32) size memory ≡ Some value = cc in
+    let result : low_bits size (unwrap_or (load_of (place i % 2 ^ 32) size memory) 0) ≡ low_bits size value =
+    ap (λ (o : Option ℕ). low_bits size (unwrap_or o 0)) there in
+    let number_is : number new ≡ low_bits size (unwrap_or (load_of (place i % 2 ^ 32) size memory) 0) = cc in
+    map-set number values i new ∙ ap (set (map number values) i) number_is

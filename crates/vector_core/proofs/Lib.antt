@@ -1,4 +1,3 @@
 pub mod AccessSteps
-pub mod Bounds
-pub mod Fits
+pub mod Inside
 pub mod Numbers

@@ -1,8 +1,9 @@
 -- The numbers of what a kernel computes.
-use Rattle.std.proofs.Common.{◌≡◌, ℕ, Bool, List, [], ◌∷◌, map, replicate, zero, suc, refl, true, false}
+use Rattle.std.proofs.Common.{◌≡◌, ℕ, ◌+◌, ◌<◌, ◌≤◌, Bool, List, [], ◌∷◌, ◌++◌, take, drop, set, get_or, length, append_assoc, append-nil, ap, sym, ◌∙◌, arith, map, replicate, zero, suc, refl, true, false}
+use Rattle.std.proofs.lemmas.List.{take_more_set, drop-set-lt, drop_more, drop_all, take_all}
 use lib.Lanes.{zip2}
 use Rattle.lane_int.specs.Lists.{zip3}
-use Rattle.vector_core.specs.Arithmetic.{chosen}
+use Rattle.vector_core.specs.Moves.{chosen}
 
 pub map-zip2 : {A : Type 0} (number : A → ℕ) (f : A → A → A) (g : ℕ → ℕ → ℕ) (xs ys : List A) → ((a b : A) → number (f a b) ≡ g (number a) (number b)) → map number (zip2 f xs ys) ≡ zip2 g (map number xs) (map number ys)
 map-zip2 number f g [] ys law = refl
@@ -42,3 +43,23 @@ choose_numbers number xs ys bits = map-zip3_bits number chosen chosen xs ys bits
 pub splat_numbers : {A : Type 0} (number : A → ℕ) (n : ℕ) (x : A) (y : ℕ) → number x ≡ y → map number (replicate n x) ≡ replicate n y
 splat_numbers number zero x y is = refl
 splat_numbers number (suc n) x y is = let rest = splat_numbers number n x y is in cc
+
+-- one more element is computed from three lists, over the first of them, and the end
+pub zip3_more : {A B C : Type 0} (f : A → B → C → A) (xs : List A) (ys : List B) (zs : List C) (i : ℕ) (x : A) (y : B) (z : C) (new : A) →
+    i < length xs → i < length ys → i < length zs → x ≡ get_or xs i x → y ≡ get_or ys i y → z ≡ get_or zs i z → new ≡ f x y z →
+    take (i + 1) (set xs i new) ++ zip3 f (drop (i + 1) (set xs i new)) (drop (i + 1) ys) (drop (i + 1) zs)
+    ≡ take i xs ++ zip3 f (drop i xs) (drop i ys) (drop i zs)
+zip3_more f xs ys zs i x y z new hx hy hz ex ey ez is =
+    let taken = take_more_set xs i new hx in
+    let dropped : drop (i + 1) (set xs i new) ≡ drop (i + 1) xs = drop-set-lt (i + 1) xs i new (omega arith) in
+    let a : drop i xs ≡ x ∷ drop (i + 1) xs = drop_more xs i x hx ∙ ap (λ v. v ∷ drop (i + 1) xs) (sym ex) in
+    let b : drop i ys ≡ y ∷ drop (i + 1) ys = drop_more ys i y hy ∙ ap (λ v. v ∷ drop (i + 1) ys) (sym ey) in
+    let c : drop i zs ≡ z ∷ drop (i + 1) zs = drop_more zs i z hz ∙ ap (λ v. v ∷ drop (i + 1) zs) (sym ez) in
+    let step : zip3 f (x ∷ drop (i + 1) xs) (y ∷ drop (i + 1) ys) (z ∷ drop (i + 1) zs)
+    ≡ f x y z ∷ zip3 f (drop (i + 1) xs) (drop (i + 1) ys) (drop (i + 1) zs) = refl in
+    let join = append_assoc (take i xs) (new ∷ []) (zip3 f (drop (i + 1) xs) (drop (i + 1) ys) (drop (i + 1) zs)) in
+    cc
+
+pub zip3_end : {A B C : Type 0} (f : A → B → C → A) (xs : List A) (ys : List B) (zs : List C) (i : ℕ) → length xs ≤ i →
+    take i xs ++ zip3 f (drop i xs) (drop i ys) (drop i zs) ≡ xs
+zip3_end f xs ys zs i h = rw (drop_all i xs h, append-nil) (take_all i xs h)

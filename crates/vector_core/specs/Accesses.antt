@@ -1,37 +1,51 @@
--- What the byte elements of a unit-stride load or store do with memory ("Vector Unit-Stride Instructions"): element i is
--- the byte at the base address plus i, modulo 2^32, and only active elements access memory. `active` tells which of the
--- elements below vl are.
-use Rattle.std.specs.Prelude.{ℕ, ◌+◌, ◌%◌, ◌^◌, Bool, not, ◌&&◌, List, [], ◌∷◌, Option, None, Some, unwrap_or, if◌then◌else◌}
+-- The accesses of a vector load or store as one list, the lowest-numbered element's first, and what is done with memory
+-- by that list, wherever it comes from ("Vector Loads and Stores"). Only active elements access memory.
+use Rattle.std.specs.Prelude.{ℕ, ◌+◌, ◌*◌, ◌%◌, ◌^◌, Bool, false, not, List, length, map, filter, find, replicate, slice_index, slice_index_or, slice_set, Option, unwrap_or}
+use Rattle.std.specs.List.{fold, range_with_len}
 use Rattle.region_mem.specs.declared.faults.Right.{Right}
-use Rattle.region_mem.specs.Memory.{Memory, byte_of, is_permitted, store_of}
-use Rattle.vreg_groups.specs.NewElements.{write_of}
-use Rattle.vector_core.specs.declared.operands.Setup.{Setup}
+use Rattle.region_mem.specs.Memory.{Memory, is_permitted, load_of, store_of}
+use Rattle.vector_core.specs.Operands.{low_bits}
 
--- the address of the next element
-abbrev pub next_address : ℕ → ℕ
-next_address address = (address + 1) % 2 ^ 32
+-- the access of an element: where it begins, how many bytes it has, and the right that it needs
+pub record Access : Type 0 where
+  pub element : ℕ
+  pub address : ℕ
+  pub size : ℕ
+  pub right : Right
 
--- the address of the lowest-numbered active element that may not be accessed
-unfoldable pub refused_address : Right → ℕ → List Bool → Memory → Option ℕ
-refused_address right address [] memory = None
-refused_address right address (is_active ∷ active) memory =
-    if is_active && not (is_permitted right address 1 memory) then Some address
-    else refused_address right (next_address address) active memory
+-- element i lies at place i, modulo 2^32
+abbrev pub access_at : Right → ℕ → (ℕ → ℕ) → ℕ → Access
+access_at right size place i = record { element = i; address = place i % 2 ^ 32; size = size; right = right }
 
--- what a load gives for each element; an inactive one has no result, and 0 stands in its place
-unfoldable pub loaded : ℕ → List Bool → Memory → List ℕ
-loaded address [] memory = []
-loaded address (is_active ∷ active) memory =
-    (if is_active then unwrap_or (byte_of address memory) 0 else 0) ∷ loaded (next_address address) active memory
+-- the accesses of n elements of the body from number i on, and of all
+abbrev pub accesses_from : Right → ℕ → (ℕ → ℕ) → List Bool → ℕ → ℕ → List Access
+accesses_from right size place active i n =
+    map (access_at right size place) (filter (λ k. slice_index_or active k false) (range_with_len i n))
 
--- memory after the active elements were stored, the lowest-numbered first
-unfoldable pub stored : ℕ → List Bool → List ℕ → Memory → Memory
-stored address [] values memory = memory
-stored address (is_active ∷ active) [] memory = memory
-stored address (is_active ∷ active) (value ∷ values) memory =
-    stored (next_address address) active values (if is_active then unwrap_or (store_of address 1 value memory) memory else memory)
+unfoldable pub accesses : Right → ℕ → (ℕ → ℕ) → List Bool → List Access
+accesses right size place active = accesses_from right size place active 0 (length active)
 
--- the registers after a load to vd's group
-unfoldable pub load_of : ℕ → Setup → ℕ → List Bool → ℕ → List ℕ → Memory → List ℕ
-load_of vlenb setup vd active base file memory =
-    write_of vlenb 1 vd setup.count setup.policy (loaded base active memory) active file
+-- a unit-stride access: the elements lie one after another
+abbrev pub unit_stride : ℕ → ℕ → ℕ → ℕ
+unit_stride base size i = base + size * i
+
+-- the first access that is not permitted
+abbrev pub is_refused : Memory → Access → Bool
+is_refused memory a = not (is_permitted a.right a.address a.size memory)
+
+unfoldable pub first_refused : List Access → Memory → Option Access
+first_refused list memory = find (is_refused memory) list
+
+-- what a load gives for the elements of the body; an inactive one has no result, and 0 stands in its place
+abbrev pub with_loaded : Memory → List ℕ → Access → List ℕ
+with_loaded memory values a = slice_set values a.element (low_bits a.size (unwrap_or (load_of a.address a.size memory) 0))
+
+unfoldable pub loaded : ℕ → List Access → Memory → List ℕ
+loaded vl list memory = fold (with_loaded memory) (replicate vl 0) list
+
+-- memory after a store of the elements, the lowest-numbered first
+abbrev pub with_stored : List ℕ → Memory → Access → Memory
+with_stored values memory a = unwrap_or (store_of a.address a.size (slice_index values a.element) memory) memory
+
+unfoldable pub stored : List Access → List ℕ → Memory → Memory
+stored list values memory = fold (with_stored values) memory list

@@ -1,11 +1,16 @@
 pub mod Accesses
 pub mod Arithmetic
 pub mod Configuration
+pub mod Integer
 pub mod Laws
+pub mod LoadsStores
+pub mod Moves
+pub mod Operands
 pub mod Operations
-pub mod Room
+pub mod Setup
 pub mod Step
 pub mod Vectors
+pub use Rattle.region_mem.specs.Faults
 pub use Rattle.region_mem.specs.Memory
 pub use Rattle.scalar_core.specs.Hart
 pub use Rattle.vreg_groups.specs.VectorLength

@@ -1,6 +1,9 @@
 -- The vector half of a hart's state.
-use Rattle.std.specs.Prelude.{◌≡◌, ◌⊎◌, ℕ, ◌*◌, List, replicate}
-use Rattle.vreg_groups.specs.VectorLength.{no_config, IsConfig}
+use Rattle.std.specs.Prelude.{ℕ, ◌*◌, List, replicate, Result}
+use Rattle.region_mem.specs.Memory.{Memory}
+use Rattle.region_mem.specs.declared.faults.Fault.{Fault}
+use Rattle.scalar_core.specs.Hart.{Hart}
+use Rattle.vreg_groups.specs.VectorLength.{no_config, IsConfig, IsVlenb}
 use Rattle.vreg_groups.specs.declared.policies.Agnostic.{Agnostic}
 use Rattle.vreg_groups.specs.declared.vector_length.Vconfig.{Vconfig}
 
@@ -14,7 +17,15 @@ pub record Vectors : Type 0 where
 abbrev pub new_vectors : ℕ → Agnostic → Vectors
 new_vectors vlenb agnostic = record { registers = replicate (32 * vlenb) 0; config = no_config; agnostic = agnostic }
 
+-- the state with these registers
+abbrev pub with_registers : List ℕ → Vectors → Vectors
+with_registers registers v = record v { registers = registers }
+
+-- what a step of a hart answers
+abbrev pub Stepped : Type 0
+Stepped = Result (Hart × Vectors × Memory) Fault
+
 -- what holds of every state: VLEN is 128 or 256, and vl is at most VLMAX, or 0 where vill is set
 pub record IsVectors (vlenb : ℕ) (v : Vectors) : Type 0 where
-  pub vlenb_is : (vlenb ≡ 16) ⊎ (vlenb ≡ 32)
+  pub vlenb_is : IsVlenb vlenb
   pub config : IsConfig vlenb v.config

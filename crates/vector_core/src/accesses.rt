@@ -1,73 +1,98 @@
-//! The byte elements of unit-stride loads and stores: every access is tested before any is made.
+//! The accesses of elements that lie one after another. A load tests each as it comes; before a store, all are tested.
 
-ghost use Rattle.std.specs.Prelude.{◌≡◌, length, unwrap_or, if◌then◌else◌};
-ghost use Rattle.region_mem.specs.Memory.{store_of, byte_of};
-ghost use Rattle.vector_core.specs.Accesses.{refused_address, loaded, stored};
+ghost use Rattle.std.specs.Prelude.{◌≡◌, ◌≤◌, ◌+◌, ◌*◌, ◌%◌, ◌^◌, None, length, map, unwrap_or};
+ghost use Rattle.std.specs.Option.{option_map};
+ghost use Rattle.region_mem.specs.Memory.{IsAccessSize, store_of};
+ghost use Rattle.region_mem.specs.declared.faults.Right.TheVariants.{Read, Write};
+ghost use Rattle.vreg_groups.specs.declared.vector_type.TheConstants.{MOST_ELEMENTS};
+ghost use Rattle.vector_core.specs.Accesses.{accesses, first_refused, loaded, stored, unit_stride};
 
+use crate::elements::VectorElement;
+use crate::operands::splat;
 use region_mem::{Regions, Right};
 use std::alloc::Allocator;
 
-/// The address of the lowest-numbered active element that may not be accessed, where there is one. Element i lies at
-/// `base` plus i, modulo 2^32.
-#[tactic(auto, using(crate::proofs::AccessSteps::refused_more, crate::proofs::AccessSteps::refused_end))]
-pub fn refused<A: Allocator>(
-    regions: &Regions<A>,
-    right: Right,
+// The address of element `i`.
+fn place(base: u32, size: usize, i: usize) -> u32
+    requires size { size ≤ 4 }
+    requires few { i ≤ MOST_ELEMENTS }
+    ensures { result ≡ (base + size * i) % 2 ^ 32 }
+{
+    base.wrapping_add((size * i) as u32)
+}
+
+/// Loads the active elements from `base` on, or answers the address of the first access that may not be.
+pub fn load<E: VectorElement, A: Allocator>(
+    memory: &Regions<A>,
     base: u32,
     active: &[bool],
+    values: &mut [E],
 ) -> Option<u32>
-    ensures { result ≡ refused_address right base active.now regions.now }
+    requires len { length values.old ≡ length active.now }
+    requires few { length active.now ≤ MOST_ELEMENTS }
+    ensures refused { result ≡ option_map (λ a. a.address) (first_refused (accesses Read E.SIZE (unit_stride base E.SIZE) active.now) memory.now) }
+    ensures loaded { result ≡ None → map E.Element.number values.new ≡ loaded (length active.now) (accesses Read E.SIZE (unit_stride base E.SIZE) active.now) memory.now }
 {
-    let mut address = base;
-    for is_active in active {
-        if *is_active && !regions.permits(right, address, 1) {
-            return Some(address);
+    splat(E::low_bits(0), values);
+    for i in 0..values.len() {
+        if !active[i] {
+            continue;
         }
-        address = address.wrapping_add(1);
+        let address = place(base, E::SIZE, i);
+        let Some(number) = memory.load(address, E::SIZE) else {
+            return Some(address);
+        };
+        values[i] = E::low_bits(number);
     }
     None
 }
 
-/// The bytes of the active elements, and 0 for the others.
-#[tactic(auto, using(crate::proofs::AccessSteps::loaded_more, crate::proofs::AccessSteps::loaded_end))]
-pub fn load<A: Allocator>(regions: &Regions<A>, base: u32, active: &[bool], values: &mut [u8])
-    requires { length values.old ≡ length active.now }
-    ensures { values.new ≡ loaded base active.now regions.now }
+/// The address of the first active element, of `size` bytes, from `base` on that may not be stored.
+pub fn refused<A: Allocator>(
+    memory: &Regions<A>,
+    base: u32,
+    size: usize,
+    active: &[bool],
+) -> Option<u32>
+    requires size { size ≤ 4 }
+    requires few { length active.now ≤ MOST_ELEMENTS }
+    ensures { result ≡ option_map (λ a. a.address) (first_refused (accesses Write size (unit_stride base size) active.now) memory.now) }
 {
-    let mut address = base;
+    for i in 0..active.len() {
+        if !active[i] {
+            continue;
+        }
+        let address = place(base, size, i);
+        if !memory.permits(Right::Write, address, size) {
+            return Some(address);
+        }
+    }
+    None
+}
+
+/// Stores the active elements from `base` on.
+pub fn store<E: VectorElement, A: Allocator>(
+    memory: &mut Regions<A>,
+    base: u32,
+    active: &[bool],
+    values: &[E],
+)
+    requires len { length values.now ≡ length active.now }
+    requires few { length active.now ≤ MOST_ELEMENTS }
+    ensures { memory.new ≡ stored (accesses Write E.SIZE (unit_stride base E.SIZE) active.now) (map E.Element.number values.now) memory.old }
+{
     for i in 0..values.len() {
-        values[i] = element(regions, address, active[i]);
-        address = address.wrapping_add(1);
+        if !active[i] {
+            continue;
+        }
+        let address = place(base, E::SIZE, i);
+        store_element(memory, address, E::SIZE, values[i].to_number());
     }
 }
 
-fn element<A: Allocator>(regions: &Regions<A>, address: u32, is_active: bool) -> u8
-    ensures { result ≡ (if is_active then unwrap_or (byte_of address regions.now) 0 else 0) }
+fn store_element<A: Allocator>(memory: &mut Regions<A>, address: u32, size: usize, value: u32)
+    requires { IsAccessSize size }
+    ensures { memory.new ≡ unwrap_or (store_of address size value memory.old) memory.old }
 {
-    if is_active {
-        regions.byte(address).unwrap_or(0)
-    } else {
-        0
-    }
-}
-
-/// Stores the active elements, the lowest-numbered first.
-#[tactic(auto, using(crate::proofs::AccessSteps::stored_more, crate::proofs::AccessSteps::stored_end))]
-pub fn store<A: Allocator>(regions: &mut Regions<A>, base: u32, active: &[bool], values: &[u8])
-    requires { length values.now ≡ length active.now }
-    ensures { regions.new ≡ stored base active.now values.now regions.old }
-{
-    let mut address = base;
-    for i in 0..values.len() {
-        store_element(regions, address, active[i], values[i]);
-        address = address.wrapping_add(1);
-    }
-}
-
-fn store_element<A: Allocator>(regions: &mut Regions<A>, address: u32, is_active: bool, value: u8)
-    ensures { regions.new ≡ (if is_active then unwrap_or (store_of address 1 value regions.old) regions.old else regions.old) }
-{
-    if is_active {
-        let _is_stored = regions.store(address, 1, u32::from(value));
-    }
+    let _is_stored = memory.store(address, size, value);
 }

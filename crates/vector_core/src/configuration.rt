@@ -1,8 +1,7 @@
 //! The instructions that set vtype and vl.
 
 ghost use Rattle.std.specs.Prelude.{◌≡◌, Ok};
-ghost use Rattle.vector_core.specs.Configuration.{avl_of, request_of};
-ghost use Rattle.vector_core.specs.Step.{vset_step};
+ghost use Rattle.vector_core.specs.Configuration.{avl_of, request_of, vset_step};
 ghost use Rattle.region_mem.specs.Memory.{Memory};
 
 use crate::state::VectorState;
@@ -55,7 +54,7 @@ fn requested(insn: &VSet, scalar: &Scalar) -> Request
 }
 
 /// Sets vtype and vl, and gives rd the new vl.
-#[tactic(auto, unfolding(crate::specs::Step::vset_step))]
+#[tactic(auto, unfolding(crate::specs::Configuration::vset_step))]
 pub fn step_vset<const VLENB: usize>(
     vectors: &mut VectorState<VLENB>,
     scalar: &mut Scalar,

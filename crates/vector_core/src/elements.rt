@@ -10,14 +10,19 @@ pub trait VectorElement: Element + Lane {
     ghost use Rattle.std.specs.Prelude.{◌≡◌};
     ghost use Rattle.rv_decode.specs.declared.instructions.Width.{Width};
     ghost use Rattle.vreg_groups.specs.VectorType.{bytes_of_width};
-    ghost use Rattle.vector_core.specs.Arithmetic.{lane_width, scalar_element};
+    ghost use Rattle.vector_core.specs.Integer.{lane_width};
+    ghost use Rattle.vector_core.specs.Operands.{low_bits};
 
     // SEW
     ghost sew: { Width };
 
     /// The element in the low bits of a number.
     fn low_bits(n: u32) -> Self
-        ensures { Self.Element.number result ≡ scalar_element sew n };
+        ensures { Self.Element.number result ≡ low_bits (bytes_of_width sew) n };
+
+    /// The element as a number.
+    fn to_number(self) -> u32
+        ensures { result ≡ Self.Element.number self };
 
     ghost size_is: { Self.SIZE ≡ bytes_of_width sew };
 
@@ -32,9 +37,13 @@ impl VectorElement for u8 {
 
     ghost sew = { W8 };
 
-    #[tactic(auto, unfolding(crate::specs::Arithmetic::scalar_element))]
+    #[tactic(auto, unfolding(crate::specs::Operands::low_bits))]
     fn low_bits(n: u32) -> u8 {
         (n % 256) as u8
+    }
+
+    fn to_number(self) -> u32 {
+        u32::from(self)
     }
 
     ghost size_is = { refl };
@@ -50,9 +59,13 @@ impl VectorElement for u16 {
 
     ghost sew = { W16 };
 
-    #[tactic(auto, unfolding(crate::specs::Arithmetic::scalar_element))]
+    #[tactic(auto, unfolding(crate::specs::Operands::low_bits))]
     fn low_bits(n: u32) -> u16 {
         (n % 65536) as u16
+    }
+
+    fn to_number(self) -> u32 {
+        u32::from(self)
     }
 
     ghost size_is = { refl };
@@ -68,9 +81,13 @@ impl VectorElement for u32 {
 
     ghost sew = { W32 };
 
-    #[tactic(auto, unfolding(crate::specs::Arithmetic::scalar_element))]
+    #[tactic(auto, unfolding(crate::specs::Operands::low_bits))]
     fn low_bits(n: u32) -> u32 {
         n
+    }
+
+    fn to_number(self) -> u32 {
+        self
     }
 
     ghost size_is = { refl };

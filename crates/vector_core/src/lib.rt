@@ -8,13 +8,14 @@ mod accesses;
 mod arithmetic;
 mod configuration;
 mod elements;
+mod integer;
 pub mod laws;
-mod memory;
+mod loads_stores;
+mod moves;
 mod operands;
 mod operations;
 mod results;
 mod setup;
-mod sources;
 mod state;
 mod step;
 #[cfg(test)]

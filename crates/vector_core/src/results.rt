@@ -4,7 +4,8 @@ ghost use Rattle.std.specs.Prelude.{◌≡◌, length, map};
 ghost use lib.Lanes.{zip2};
 ghost use Rattle.lane_int.specs.Integer.{element, compares, carried, carries, multiply_added};
 ghost use Rattle.lane_int.specs.Lists.{zip3};
-ghost use Rattle.vector_core.specs.Arithmetic.{chosen, lane_width};
+ghost use Rattle.vector_core.specs.Integer.{lane_width};
+ghost use Rattle.vector_core.specs.Moves.{chosen};
 
 use crate::elements::VectorElement;
 use lane_int::{CarryOp, CompareOp, IntOp, MultiplyAddOp};

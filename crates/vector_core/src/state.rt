@@ -1,12 +1,12 @@
 //! The vector half of a hart's state.
 
-ghost use Rattle.std.specs.Prelude.{◌≡◌, ◌⊎◌, ◌<◌, ◌+◌, ◌*◌, slice_index};
+ghost use Rattle.std.specs.Prelude.{◌≡◌, ◌<◌, ◌+◌, ◌*◌, slice_index};
 ghost use Rattle.vector_core.specs.Vectors.{new_vectors, IsVectors};
-ghost use Rattle.vector_core.specs.Step.{setup_of};
+ghost use Rattle.vreg_groups.specs.VectorLength.{IsVlenb};
+ghost use Rattle.vector_core.specs.Setup.{setup_of};
 
-use crate::operands::Setup;
-use crate::setup::setup_for;
-use rv_decode::{Eew, Reg};
+use crate::setup::Setup;
+use rv_decode::Reg;
 use std::marker::Model;
 use vreg_groups::{Agnostic, Vconfig, VregFile, Vtype};
 
@@ -20,21 +20,20 @@ pub struct VectorState<const VLENB: usize> {
 }
 
 impl<const VLENB: usize> Model for VectorState<VLENB> {
-    ghost use Rattle.std.specs.Prelude.{◌≡◌, ◌⊎◌};
-    ghost use Rattle.vreg_groups.specs.VectorLength.{IsConfig};
+    ghost use Rattle.vreg_groups.specs.VectorLength.{IsConfig, IsVlenb};
     ghost use Rattle.vector_core.specs.Vectors.{Vectors};
 
     ghost Value = { Vectors };
 
     ghost view = { λ v. record { registers = v.registers; config = v.config; agnostic = v.agnostic } };
 
-    ghost invariant = { λ v. ((VLENB ≡ 16) ⊎ (VLENB ≡ 32)) × IsConfig VLENB v.config };
+    ghost invariant = { λ v. IsVlenb VLENB × IsConfig VLENB v.config };
 }
 
 impl<const VLENB: usize> VectorState<VLENB> {
     /// The state where a run starts: registers of zeros, vill set and vl 0.
     pub fn new(agnostic: Agnostic) -> Self
-        requires { (VLENB ≡ 16) ⊎ (VLENB ≡ 32) }
+        requires { IsVlenb VLENB }
         ensures { result ≡ new_vectors VLENB agnostic }
     {
         VectorState {
@@ -65,11 +64,15 @@ impl<const VLENB: usize> VectorState<VLENB> {
         self.agnostic
     }
 
-    /// What vtype, vl and the setting say of an instruction whose destination has elements of this width.
-    pub(crate) fn setup(&self, t: &Vtype, eew: Eew) -> Setup
-        ensures { result ≡ setup_of eew t.now self.now }
+    /// What an instruction works under, by the vector type that legality decoded.
+    pub(crate) fn setup(&self, vtype: Vtype) -> Setup
+        ensures { result ≡ setup_of vtype self.now }
     {
-        setup_for(t, eew, &self.config, self.agnostic)
+        Setup {
+            vtype,
+            vl: self.config.vl as usize,
+            agnostic: self.agnostic,
+        }
     }
 
     /// The vector registers.

@@ -14,7 +14,8 @@ use Rattle.rv_decode.specs.declared.extents.Count.TheVariants as count
 use Rattle.vreg_groups.specs.declared.vector_type.Lmul.{Lmul}
 use Rattle.vreg_groups.specs.declared.vector_type.Lmul.TheVariants.{Quarter, Half, One, Two, Four, Eight}
 use Rattle.vreg_groups.specs.declared.vector_type.Vtype.{Vtype}
-use Rattle.vreg_groups.specs.VectorType.{bits_of_width, eighths_of, vlmax_of}
+use Rattle.vreg_groups.specs.VectorType.{bits_of_width, bytes_of_width, eighths_of, vlmax_of}
+use Rattle.vreg_groups.specs.VectorLength.{IsVlenb}
 use Rattle.vreg_groups.specs.Legality.{eew_bits, emul_eighths, group_count, count_of}
 
 -- a group has a register at least
@@ -102,6 +103,10 @@ group_ends t e first below multiple =
     let whole = both _ _ (fits t.sew t.lmul e) in
     ends_within first (group_count t e) (group_count_positive t e) ((Decides-eqb (32 % group_count t e) 0).0 whole) multiple below
 
+pub group_small : (t : Vtype) (e : Eew) → emul_eighths t e ≤ 64 → group_count t e ≤ 8
+unfolding group_count
+group_small t e h = omega arith
+
 second : (a b : Bool) → (a && b) ≡ true → b ≡ true
 second true b h = h
 second false b h = cc
@@ -161,3 +166,9 @@ vlmax_small t vlenb vl h =
     let x : vl * 8 ≤ vl * bits_of_width t.sew = mul-le-mul_left vl (width_least t.sew) in
     let y : vlenb * eighths_of t.lmul ≤ vlenb * 64 = mul-le-mul_left vlenb (eighths_small t.lmul) in
     omega (arith, body, x, y)
+
+-- a body's elements take no more than eight registers
+pub body_small : (t : Vtype) (vlenb vl : ℕ) → IsVlenb vlenb → vl ≤ vlmax_of vlenb t → bytes_of_width t.sew * vl ≤ 256
+body_small t vlenb vl v h =
+    let x : vlenb * eighths_of t.lmul ≤ vlenb * 64 = mul-le-mul_left vlenb (eighths_small t.lmul) in
+    bytes_fit (bits_of_width t.sew) vl 256 (omega (arith, body_fits t vlenb vl h, x))

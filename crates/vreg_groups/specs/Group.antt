@@ -17,7 +17,7 @@ pub record Span : Type 0 where
   pub vl : ℕ
 
 -- the group from `first` on whose elements have this width
-unfoldable pub group_of : Vtype → ℕ → ℕ → Eew → Span
+abbrev pub group_of : Vtype → ℕ → ℕ → Eew → Span
 group_of t vl first eew = record { first = first; count = group_count t eew; bytes = eew_bits t.sew eew / 8; vl = vl }
 
 -- its registers exist, and its elements have at most 32 bits

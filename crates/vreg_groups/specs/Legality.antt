@@ -15,7 +15,7 @@ use Rattle.rv_decode.specs.declared.extents.Operands.{Operands}
 use Rattle.rv_decode.specs.declared.extents.Sharing.{Sharing}
 use Rattle.rv_decode.specs.declared.extents.Sharing.TheVariants.{ByWidth, Nothing}
 use Rattle.rv_decode.specs.declared.instructions.Width.{Width}
-use Rattle.vreg_groups.specs.VectorType.{bits_of_width, eighths_of, type_in, vtype_of}
+use Rattle.vreg_groups.specs.VectorType.{bits_of_width, eighths_of, vtype_of}
 use Rattle.vreg_groups.specs.declared.vector_type.Vtype.{Vtype}
 use Rattle.vreg_groups.specs.declared.vector_length.Vconfig.{Vconfig}
 
@@ -154,15 +154,13 @@ are_operands_legal vtype operands =
 unfoldable pub is_legal : Vconfig → Insn → Bool
 is_legal config insn = are_operands_legal (vtype_of config.vtype) (needs_of insn)
 
--- the registers of an operand exist, and its elements have at most 32 bits
+-- the registers of an operand exist, at most eight of them, and its elements have at most 32 bits
 pub record IsInside (t : Vtype) (operand : Operand) : Type 0 where
   pub registers : operand.first + count_of (Some t) operand.extent ≤ 32
+  pub size : count_of (Some t) operand.extent ≤ 8
   pub width : element_bits t operand.extent ≤ 32
 
 pub record AreAllInside (t : Vtype) (operands : Operands) : Type 0 where
   pub destination : IfSome operands.destination (IsInside t)
   pub vs2 : IfSome operands.vs2 (IsInside t)
   pub vs1 : IfSome operands.vs1 (IsInside t)
-
-abbrev pub AreInside : Vconfig → Insn → Type 0
-AreInside config insn = AreAllInside (type_in (vtype_of config.vtype)) (needs_of insn)

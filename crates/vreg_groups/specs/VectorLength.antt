@@ -1,7 +1,8 @@
 -- The vector length that the vset instructions give ("AVL encoding", "Constraints on Setting vl").
-use Rattle.std.specs.Prelude.{◌≡◌, ◌⊎◌, ℕ, ◌≤◌, ◌==◌, min, if◌then◌else◌, Option, Some, None, MatchOption}
-use Rattle.vreg_groups.specs.VectorType.{vill, vtype_of, vlmax_of}
+use Rattle.std.specs.Prelude.{◌≡◌, ◌⊎◌, ℕ, ◌*◌, ◌≤◌, ◌==◌, min, if◌then◌else◌, Option, Some, None, MatchOption}
+use Rattle.vreg_groups.specs.VectorType.{bytes_of_width, vill, vtype_of, vlmax_of}
 use Rattle.vreg_groups.specs.declared.vector_type.Vtype.{Vtype}
+use Rattle.vreg_groups.specs.declared.vector_type.TheConstants.{MOST_ELEMENTS}
 use Rattle.vreg_groups.specs.declared.vector_length.Vconfig.{Vconfig}
 use Rattle.vreg_groups.specs.declared.vector_length.Avl.{Avl}
 use Rattle.vreg_groups.specs.declared.vector_length.Avl.TheVariants.{Keep, Greatest, Of}
@@ -42,3 +43,10 @@ vset_of vlenb config avl bits = requested_vset vlenb config avl bits (vtype_of b
 unfoldable pub IsConfig : ℕ → Vconfig → Type 0
 IsConfig vlenb config =
     MatchOption (vtype_of config.vtype) (config ≡ no_config) (λ t. config.vl ≤ vlmax_of vlenb t)
+
+-- what that says of vl under the type that an instruction works under: a mask register has a bit for each element of the
+-- body, and the elements of SEW take no more than a group of eight registers
+pub record IsLength (vlenb : ℕ) (t : Vtype) (vl : ℕ) : Type 0 where
+  pub within : vl ≤ vlmax_of vlenb t
+  pub bits : vl ≤ 8 * vlenb
+  pub bytes : bytes_of_width t.sew * vl ≤ MOST_ELEMENTS

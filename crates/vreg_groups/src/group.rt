@@ -1,9 +1,10 @@
 //! The group of registers that an operand of an instruction stands for.
 
-ghost use Rattle.std.specs.Prelude.{◌≡◌, ◌≤◌, length, map};
+ghost use Rattle.std.specs.Prelude.{◌≡◌, ◌≤◌, ◌*◌, length, map};
 ghost use Rattle.vreg_groups.specs.Group.{IsGroupInside, group_of, body_of, written};
 ghost use Rattle.vreg_groups.specs.VectorLength.{IsVlenb};
 ghost use Rattle.vreg_groups.specs.VectorType.{vlmax_of};
+ghost use Rattle.vreg_groups.specs.declared.vector_type.TheConstants.{MOST_ELEMENTS};
 
 use crate::elements::Element;
 use crate::policies::Policy;
@@ -30,13 +31,13 @@ impl<const VLENB: usize> Model for Group<VLENB> {
 
     ghost view = { λ g. record { first = g.first; count = g.count; bytes = g.bytes; vl = g.vl } };
 
-    ghost invariant = { λ g. IsVlenb VLENB × (g.first + g.count ≤ 32) × (g.bytes * g.vl ≤ g.count * VLENB) };
+    ghost invariant = { λ g. IsVlenb VLENB × (g.first + g.count ≤ 32) × (g.count ≤ 8) × (g.bytes * g.vl ≤ g.count * VLENB) };
 }
 
 impl<const VLENB: usize> Group<VLENB> {
     /// The group that begins at `first`, of elements of this width, under a vector type and length: that of an operand
     /// which is inside the registers, as those of a legal instruction are.
-    #[tactic(auto, unfolding(crate::specs::Group::group_of, crate::specs::Legality::count_of))]
+    #[tactic(auto, unfolding(crate::specs::Legality::count_of))]
     pub fn new(vtype: &Vtype, vl: usize, first: Reg, eew: Eew) -> Group<VLENB>
         requires vlenb { IsVlenb VLENB }
         requires length { vl ≤ vlmax_of VLENB vtype.now }
@@ -49,6 +50,14 @@ impl<const VLENB: usize> Group<VLENB> {
             bytes: eew_bits(vtype.sew, eew) / 8,
             vl,
         }
+    }
+
+    /// How many elements the body has: they take no more than eight registers.
+    pub fn vl(&self) -> usize
+        ensures meaning { result ≡ self.now.vl }
+        ensures bytes { self.now.bytes * result ≤ MOST_ELEMENTS }
+    {
+        self.vl
     }
 
     /// Reads the elements of the body.

@@ -3,9 +3,9 @@
 ghost use Rattle.std.specs.Prelude.{◌≡◌, ◌+◌, ◌^◌, ◌≤◌, ◌<◌, ◌⊎◌, Option, Some, None, true, IfSome, if◌then◌else◌, ℕ};
 ghost use Rattle.std.specs.List.{range_with_len};
 ghost use Rattle.rv_decode.specs.Needs.{needs_of};
-ghost use Rattle.vreg_groups.specs.VectorLength.{IsConfig};
+ghost use Rattle.vreg_groups.specs.VectorLength.{IsConfig, IsLength, IsVlenb};
 ghost use Rattle.vreg_groups.specs.VectorType.{type_in, vlmax_of, vtype_of};
-ghost use Rattle.vreg_groups.specs.Legality.{eew_bits, emul_eighths, group_count, whole_count, count_of, registers_of, is_among, are_apart, is_width, is_group_legal, is_operand_legal, element_bits, is_emul_whole, may_overlap, is_overlap_legal, is_grouped, is_pair_legal, keeps_mask, is_mask_legal, is_present_legal, is_source_legal, is_destination_legal, are_operands_legal, is_legal, AreInside, AreAllInside, IsInside};
+ghost use Rattle.vreg_groups.specs.Legality.{eew_bits, emul_eighths, group_count, whole_count, count_of, registers_of, is_among, are_apart, is_width, is_group_legal, is_operand_legal, element_bits, is_emul_whole, may_overlap, is_overlap_legal, is_grouped, is_pair_legal, keeps_mask, is_mask_legal, is_present_legal, is_source_legal, is_destination_legal, are_operands_legal, is_legal, AreAllInside, IsInside};
 
 use crate::vector_length::Vconfig;
 use crate::vector_type::{Vtype, eew_bits, emul_eighths, type_in};
@@ -18,20 +18,19 @@ use rv_decode::{Count, Eew, Extent, Insn, Operand, Operands, Sharing, needs};
 /// operands are whole registers. An instruction without vector operands always is.
 #[tactic(auto, unfolding(crate::specs::Legality::is_legal))]
 pub fn legal(config: &Vconfig, insn: &Insn) -> bool
-    ensures meaning { result ≡ is_legal config.now insn.now }
-    ensures inside { result ≡ true → AreInside config.now insn.now }
+    ensures { result ≡ is_legal config.now insn.now }
 {
     are_operands_legal(config.vector_type(), &needs(insn))
 }
 
 /// The vector type that a legal instruction works under, or `None` where it is not legal.
 ///
-/// Its operands are inside the registers, and vl is at most the type's VLMAX.
+/// Its operands are inside the registers, and vl fits the type.
 #[tactic(auto, unfolding(crate::specs::Legality::is_legal))]
 pub fn legal_type(config: &Vconfig, insn: &Insn) -> Option<Vtype>
     ensures meaning { result ≡ (if is_legal config.now insn.now then Some (type_in (vtype_of config.now.vtype)) else None) }
     ensures inside { IfSome result (λ t. AreAllInside t (needs_of insn.now)) }
-    ensures length { IfSome result (λ t. (vlenb : ℕ) → IsConfig vlenb config.now → config.now.vl ≤ vlmax_of vlenb t) }
+    ensures length { IfSome result (λ t. (vlenb : ℕ) → IsVlenb vlenb → IsConfig vlenb config.now → IsLength vlenb t config.now.vl) }
 {
     let vtype = config.vector_type();
     if are_operands_legal(vtype, &needs(insn)) {
@@ -85,11 +84,11 @@ fn is_operand_legal(vtype: Option<Vtype>, operand: &Operand) -> bool
 }
 
 // EEW and EMUL are in range, and the group stands at a multiple of its size.
-#[tactic(auto, using(crate::proofs::Sizes::group_ends))]
+#[tactic(auto, using(crate::proofs::Sizes::group_ends, crate::proofs::Sizes::group_small))]
 fn is_group_legal(vtype: &Vtype, eew: Eew, first: usize) -> bool
     requires { first < 32 }
     ensures meaning { result ≡ is_group_legal vtype.now eew first }
-    ensures inside { result ≡ true → (first + group_count vtype.now eew ≤ 32) × (eew_bits vtype.now.sew eew ≤ 32) }
+    ensures inside { result ≡ true → (first + group_count vtype.now eew ≤ 32) × (eew_bits vtype.now.sew eew ≤ 32) × (group_count vtype.now eew ≤ 8) }
 {
     is_width(eew_bits(vtype.sew, eew))
         && emul_eighths(vtype, eew) <= 64

@@ -5,8 +5,8 @@ ghost use Rattle.vreg_groups.specs.Elements.{mask_bit, elements_of, mask_bits, a
 ghost use Rattle.vreg_groups.specs.VectorLength.{IsVlenb};
 ghost use Rattle.vreg_groups.specs.NewElements.{write_of, mask_write_of};
 
-use crate::elements::Element;
 use crate::bytes::{bit_at, read_bits, read_elements, write_bits, write_elements};
+use crate::elements::Element;
 use crate::policies::Policy;
 use rv_decode::Reg;
 use std::marker::Model;

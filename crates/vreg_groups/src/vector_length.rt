@@ -2,7 +2,7 @@
 
 ghost use Rattle.std.specs.Prelude.{◌≡◌, ◌≤◌, ◌⊎◌, ℕ, min, IfSome, ◌*◌};
 ghost use Rattle.vreg_groups.specs.VectorType.{type_in, vtype_of, vlmax_of};
-ghost use Rattle.vreg_groups.specs.VectorLength.{IsVlenb, vlenb_of, no_config, supported_vset, vset_of, IsConfig};
+ghost use Rattle.vreg_groups.specs.VectorLength.{IsVlenb, vlenb_of, no_config, supported_vset, vset_of, IsConfig, IsLength};
 
 use crate::vector_type::Vtype;
 
@@ -52,7 +52,7 @@ impl Vconfig {
     #[tactic(auto, unfolding(crate::specs::VectorLength::IsConfig))]
     pub fn vector_type(&self) -> Option<Vtype>
         ensures meaning { result ≡ vtype_of self.now.vtype }
-        ensures length { (vlenb : ℕ) → IsConfig vlenb self.now → self.now.vl ≤ vlmax_of vlenb (type_in result) }
+        ensures length { (vlenb : ℕ) → IsVlenb vlenb → IsConfig vlenb self.now → IsLength vlenb (type_in result) self.now.vl }
     {
         Vtype::from_bits(self.vtype)
     }

@@ -1,7 +1,16 @@
--- The first i bytes are loaded, and the rest of the load gives the others.
-use Rattle.std.proofs.Common.{◌≡◌, ◌++◌, take, drop}
-use Rattle.vector_core.specs.Accesses.{loaded}
+-- No access before element i is refused, and to load the elements from i on gives what to load all gives.
+use Rattle.std.proofs.Common.{◌≡◌, length, map}
+use Rattle.std.specs.List.{fold}
+use Rattle.std.specs.Prelude.{find}
+use Rattle.region_mem.specs.declared.faults.Right.TheVariants.{Read}
+use Rattle.vector_core.specs.Accesses.{accesses, first_refused, is_refused, loaded, unit_stride, with_loaded}
+use Rattle.vector_core.proofs.AccessSteps.{rest}
 use Rattle.vector_core.proofs.accesses.load.Given as goal
 
 abbrev pub invariant-loop-i : goal.invariant-loop-i
-invariant-loop-i g l = take l.i l.values ++ loaded l.address (drop l.i l.active) l.regions ≡ loaded l.base l.active l.regions
+invariant-loop-i g l = record {
+  permitted : find (is_refused l.memory) (rest Read g.E.Element.SIZE (unit_stride l.base g.E.Element.SIZE) l.active l.i)
+      ≡ first_refused (accesses Read g.E.Element.SIZE (unit_stride l.base g.E.Element.SIZE) l.active) l.memory;
+  so_far : fold (with_loaded l.memory) (map g.E.Element.number l.values) (rest Read g.E.Element.SIZE (unit_stride l.base g.E.Element.SIZE) l.active l.i)
+      ≡ loaded (length l.active) (accesses Read g.E.Element.SIZE (unit_stride l.base g.E.Element.SIZE) l.active) l.memory;
+}

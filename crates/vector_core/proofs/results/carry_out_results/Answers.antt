@@ -1,6 +1,6 @@
 -- The lanes' result is the element's, and the lanes' numbers are those of the elements.
 use Rattle.lane_int.specs.Integer.{carries}
-use Rattle.vector_core.specs.Arithmetic.{lane_width}
+use Rattle.vector_core.specs.Integer.{lane_width}
 use Rattle.vector_core.proofs.Numbers.{tests-zip3}
 use Rattle.vector_core.proofs.results.carry_out_results.Goals as goal
 

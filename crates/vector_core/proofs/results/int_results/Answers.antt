@@ -1,6 +1,6 @@
 -- The lanes' result is the element's, and the lanes' numbers are those of the elements.
 use Rattle.lane_int.specs.Integer.{element}
-use Rattle.vector_core.specs.Arithmetic.{lane_width}
+use Rattle.vector_core.specs.Integer.{lane_width}
 use Rattle.vector_core.proofs.Numbers.{map-zip2}
 use Rattle.vector_core.proofs.results.int_results.Goals as goal
 

@@ -1,9 +1,9 @@
--- The first i elements are chosen, the rest are as they were.
-use Rattle.std.proofs.Common.{◌≡◌}
+-- To choose the elements from i on, after those so far, gives what to choose all gives.
+use Rattle.std.proofs.Common.{◌≡◌, ◌++◌, take, drop}
 use Rattle.lane_int.specs.Lists.{zip3}
-use Rattle.lane_int.proofs.Overlay.{overlaid}
-use Rattle.vector_core.specs.Arithmetic.{chosen}
+use Rattle.vector_core.specs.Moves.{chosen}
 use Rattle.vector_core.proofs.results.merge.Given as goal
 
 abbrev pub invariant-loop-i : goal.invariant-loop-i
-invariant-loop-i g l = l.values ≡ overlaid l.i (zip3 chosen l.initial.values l.b l.bits) l.initial.values
+invariant-loop-i g l =
+    take l.i l.values ++ zip3 chosen (drop l.i l.values) (drop l.i l.b) (drop l.i l.bits) ≡ zip3 chosen l.initial.values l.b l.bits

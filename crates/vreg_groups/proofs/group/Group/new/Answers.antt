@@ -8,10 +8,10 @@ pub invariant_of-result : goal.invariant_of-result
 unfolding count_of
 invariant_of-result g c =
     let t = c.args.vtype.now in
-    let room = c.group_count.ensures.room g.row.VLENB c.args.vl c.requires.length in
-    (
+    let room = c.group_count.ensures.room g.row.VLENB c.args.vl c.requires.length in (
       c.requires.vlenb,
       omega (arith, c.requires.inside.registers, c.group_count.ensures.meaning),
+      omega (arith, c.requires.inside.size, c.group_count.ensures.meaning),
       bytes_fit c.eew_bits.result c.args.vl (c.group_count.result * g.row.VLENB)
-      (subst (λ (bits : ℕ). bits * c.args.vl ≤ 8 * (c.group_count.result * g.row.VLENB)) (sym c.eew_bits.ensures.meaning) room),
+          (subst (λ (bits : ℕ). bits * c.args.vl ≤ 8 * (c.group_count.result * g.row.VLENB)) (sym c.eew_bits.ensures.meaning) room),
     )

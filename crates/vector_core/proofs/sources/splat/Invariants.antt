@@ -1,6 +1,0 @@
--- The elements so far are the value.
-use Rattle.std.proofs.Common.{◌≡◌, take, replicate}
-use Rattle.vector_core.proofs.sources.splat.Given as goal
-
-abbrev pub invariant-loop-element : goal.invariant-loop-element
-invariant-loop-element g l = take l.element-index l.out ≡ replicate l.element-index l.value
