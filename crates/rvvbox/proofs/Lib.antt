@@ -1,4 +1,4 @@
 pub mod FilledRows
-pub mod JobLemmas
 pub mod LineLemmas
 pub mod ProgramLemmas
+pub mod TrialLemmas

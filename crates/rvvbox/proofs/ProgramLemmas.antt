@@ -4,12 +4,13 @@ use Rattle.std.specs.List.{list_any}
 use Rattle.clap.specs.Kinds.{Kinds, IsAmong}
 use Rattle.clap.specs.Words.{kind_of}
 use Rattle.clap.specs.declared.error.kind.ErrorKind.{ErrorKind}
-use Rattle.rvvbox.specs.Ending.{is_help, is_request, status_of}
-use Rattle.rvvbox.specs.Program.{IsRefusal, IsStatusFor, IsStopFor}
+use Rattle.rvvbox.specs.Ending.{is_help, is_request, status_of, stop_of_line}
+use Rattle.rvvbox.specs.Program.{IsRefusal, IsStatusFor}
+use Rattle.rvvbox.specs.Line.{IsFaultIn}
+use Rattle.rvvbox.specs.declared.line.asked.LineError.{LineError}
+use Rattle.rvvbox.specs.declared.line.asked.LineError.TheVariants as line_error
 use Rattle.rvvbox.specs.declared.stop.Status.{Status}
 use Rattle.rvvbox.specs.declared.stop.Status.TheVariants as status
-use Rattle.rvvbox.specs.declared.stop.Stop.{Stop}
-use Rattle.rvvbox.specs.declared.stop.Stop.TheVariants as stop
 
 or_left : (a b : Bool) → a ≡ true → a || b ≡ true
 or_left true b is = refl
@@ -35,15 +36,10 @@ usage_for k kinds s among told answered = go (is_help k) refl
     ]
     go false is_not = subst (λ (t : Status). IsRefusal kinds t) (sym (told is_not)) (among_any (λ x. not (is_help x)) k kinds among (rw is_not refl))
 
--- what is told of a reason to stop that fits `clap`'s faults fits them too
-pub told_for : (kinds : Kinds) (reason : Stop) (s : Status) → IsStopFor kinds reason
-    → (is_request reason ≡ false → s ≡ status_of reason) → (is_request reason ≡ true → (s ≡ status.Done) ⊎ (s ≡ status.File)) → IsStatusFor kinds s
-told_for [] reason s fits told answered = tt
-told_for (k ∷ ks) (stop.Usage error) s (inl none) told answered = absurd (let f = none in cc)
-told_for (k ∷ ks) (stop.Usage error) s (inr among) told answered = usage_for (kind_of error) (k ∷ ks) s among told answered
-told_for (k ∷ ks) (stop.Job error) s none told answered = absurd (let f = none in cc)
-told_for (k ∷ ks) (stop.File path) s none told answered = absurd (let f = none in cc)
-told_for (k ∷ ks) (stop.Image error) s none told answered = absurd (let f = none in cc)
-told_for (k ∷ ks) (stop.Open error) s none told answered = absurd (let f = none in cc)
-told_for (k ∷ ks) stop.Memory s fits told answered = subst (λ (t : Status). IsRefusal (k ∷ ks) t) (sym (told refl)) tt
-told_for (k ∷ ks) stop.Output s none told answered = absurd (let f = none in cc)
+-- what is told of a refusal of the words fits `clap`'s faults
+pub told_for : (kinds : Kinds) (error : LineError) (s : Status) → IsFaultIn kinds error
+    → (is_request (stop_of_line error) ≡ false → s ≡ status_of (stop_of_line error))
+    → (is_request (stop_of_line error) ≡ true → (s ≡ status.Done) ⊎ (s ≡ status.File)) → IsStatusFor kinds s
+told_for [] error s fits told answered = tt
+told_for (k ∷ ks) (line_error.Usage error) s among told answered = usage_for (kind_of error) (k ∷ ks) s among told answered
+told_for (k ∷ ks) line_error.NoMemory s fits told answered = subst (λ (t : Status). IsRefusal (k ∷ ks) t) (sym (told refl)) tt

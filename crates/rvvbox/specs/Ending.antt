@@ -1,5 +1,5 @@
 -- How the program ends: the reason to stop that each error is, the status of each reason, and each status as a number.
-use Rattle.std.specs.Prelude.{ℕ, Bool, true, false}
+use Rattle.std.specs.Prelude.{ℕ, List, Bool, true, false}
 use Rattle.clap.specs.Words.{kind_of}
 use Rattle.clap.specs.declared.error.kind.ErrorKind.{ErrorKind}
 use Rattle.clap.specs.declared.error.kind.ErrorKind.TheVariants.{DisplayHelp, DisplayVersion}
@@ -7,12 +7,11 @@ use Rattle.elf_image.specs.declared.error.ElfError.{ElfError}
 use Rattle.elf_image.specs.declared.error.ElfError.TheVariants as image_error
 use Rattle.sandbox_run.specs.declared.outcome.OpenError.{OpenError}
 use Rattle.sandbox_run.specs.declared.outcome.OpenError.TheVariants as open_error
-use Rattle.std.specs.declared.borrow.CowStr.{CowStr}
+use Rattle.std.specs.Borrow.{Bor}
 use Rattle.std.specs.declared.io.ErrorKind.{ErrorKind as IoErrorKind}
 use Rattle.std.specs.declared.io.ErrorKind.TheVariants.{OutOfMemory}
-use Rattle.std.specs.declared.alloc.Global.{Global}
-use Rattle.rvvbox.specs.declared.job.values.JobError.{JobError}
-use Rattle.rvvbox.specs.declared.job.values.JobError.TheVariants as job_error
+use Rattle.job_file.specs.declared.values.JobError.{JobError}
+use Rattle.job_file.specs.declared.values.JobError.TheVariants as job_error
 use Rattle.rvvbox.specs.declared.line.asked.LineError.{LineError}
 use Rattle.rvvbox.specs.declared.line.asked.LineError.TheVariants as line_error
 use Rattle.rvvbox.specs.declared.store.StoreError.{StoreError}
@@ -66,7 +65,7 @@ abbrev pub store_error_of : IoErrorKind → StoreError
 store_error_of OutOfMemory = store_error.NoMemory
 store_error_of _ = store_error.Failed
 
-abbrev pub stop_at_file : StoreError → CowStr Global → Stop
+abbrev pub stop_at_file : StoreError → Bor (List ℕ) → Stop
 stop_at_file store_error.Failed path = stop.File path
 stop_at_file store_error.NoMemory path = stop.Memory
 

@@ -1,5 +1,4 @@
 pub mod Ending
-pub mod Job
 pub mod Line
 pub mod Program
 pub mod Trial

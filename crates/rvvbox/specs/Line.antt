@@ -2,6 +2,7 @@
 use Rattle.std.specs.Prelude.{◌≡◌, List, [], Option, Some, None, option_and_then, if◌then◌else◌, codes, true}
 use Rattle.std.specs.Str.{bytes_eq}
 use Rattle.clap.specs.Words.{App, Row, Rule, Shape, Text, fault_of, first_of, kind_of, new_app, new_rule, subcommand_of, with_rule, with_subcommand, IsAmong}
+use Rattle.clap.specs.Kinds.{Kinds}
 use Rattle.clap.specs.Simple.{new_shape}
 use Rattle.clap.specs.declared.builder.action.ArgAction.TheVariants.{Set}
 use Rattle.rvvbox.specs.declared.line.asked.Line.{Line}
@@ -42,7 +43,10 @@ abbrev pub IsLineOf : List Text → Line → Type 0
 IsLineOf words (Try job) = (fault_of app words ≡ [])
     × (path_of (codes "try") (codes "job") (subcommand_of app words) ≡ Some job.now)
 
--- a fault of usage is one that `clap` finds in the words, of the kind that the error shows
+-- a fault of usage is one of those that `clap` finds, of the kind that the error shows
+abbrev pub IsFaultIn : Kinds → LineError → Type 0
+IsFaultIn kinds (Usage e) = IsAmong (kind_of e) kinds
+IsFaultIn kinds NoMemory = Unit {0}
+
 abbrev pub IsFaultOf : List Text → LineError → Type 0
-IsFaultOf words (Usage e) = IsAmong (kind_of e) (fault_of app words)
-IsFaultOf words NoMemory = Unit {0}
+IsFaultOf words e = IsFaultIn (fault_of app words) e

@@ -1,19 +1,10 @@
 -- What the words alone say of how the program ends.
-use Rattle.std.specs.Prelude.{◌≡◌, ◌⊎◌, Bool, not, true, List, []}
+use Rattle.std.specs.Prelude.{◌≡◌, not, true, []}
 use Rattle.std.specs.List.{list_any}
-use Rattle.clap.specs.Kinds.{Kinds, IsAmong}
-use Rattle.clap.specs.Words.{kind_of}
+use Rattle.clap.specs.Kinds.{Kinds}
 use Rattle.rvvbox.specs.Ending.{is_help}
 use Rattle.rvvbox.specs.declared.stop.Status.{Status}
 use Rattle.rvvbox.specs.declared.stop.Status.TheVariants as status
-use Rattle.rvvbox.specs.declared.stop.Stop.{Stop}
-use Rattle.rvvbox.specs.declared.stop.Stop.TheVariants as stop
-
--- a reason to stop, where `clap` finds these faults in the words: where it finds some, one of them, or want of memory
-abbrev pub IsStopFor : Kinds → Stop → Type 0
-IsStopFor kinds (stop.Usage error) = (kinds ≡ []) ⊎ IsAmong (kind_of error) kinds
-IsStopFor kinds stop.Memory = Unit {0}
-IsStopFor kinds other = kinds ≡ []
 
 -- a status, where `clap` finds these faults in the words, one at least
 abbrev pub IsRefusal : Kinds → Status → Type 0

@@ -6,13 +6,12 @@ ghost use Rattle.clap.specs.declared.builder.command.Command.TheViews.{out-Comma
 ghost use Rattle.rvvbox.specs.Line.{IsFaultOf, IsLineOf, app, path_of, path_rule, try_shape};
 
 pub mod asked;
-#[cfg(test)]
-mod tests;
 
 use asked::LineError;
 use clap::error::ErrorKind;
 use clap::{Arg, ArgAction, ArgMatches, Command};
 use std::alloc::{AllocError, Global};
+
 /// A path that has to be there, under `id`, shown as `name`.
 fn path_argument<'a>(alloc: Global, id: &'a str, name: &'a str, help: &'a str) -> Arg<'a>
     ensures rule { rule_of result ≡ path_rule id.entry.now }
@@ -39,7 +38,8 @@ fn try_command<'a>(alloc: Global) -> Result<Command<'a>, AllocError>
 /// `command` with one more subcommand.
 fn with<'a>(command: Command<'a>, sub: Command<'a>) -> Result<Command<'a>, AllocError>
     requires { (fields_of sub).has_globals ≡ false }
-    ensures { IfOk result (λ c. app_of c ≡ with_subcommand (app_of command.entry) (shape_of sub.entry)) }
+    ensures { IfOk result
+        (λ c. app_of c ≡ with_subcommand (app_of command.entry) (shape_of sub.entry)) }
 {
     command.subcommand(sub)
 }
@@ -58,7 +58,8 @@ fn program<'a>(alloc: Global) -> Result<Command<'a>, AllocError>
 
 /// The path under `id` of the subcommand `name`, where that one was used.
 fn path<'a>(matches: &ArgMatches<'a>, name: &str, id: &str) -> Option<&'a str>
-    ensures { option_map (λ s. s.now) result ≡ path_of name.now id.now (subcommand_rows_of matches.now) }
+    ensures { option_map (λ s. s.now) result
+        ≡ path_of name.now id.now (subcommand_rows_of matches.now) }
 {
     matches.subcommand_matches(name)?.get_str(id)
 }

@@ -2,16 +2,12 @@
 //! names on the job's buffers, with every test at each step, and prints how the run ended.
 #![tactic(auto)]
 
-mod job;
+mod commands;
 mod line;
 mod program;
-#[cfg(test)]
-mod refusing;
 mod stop;
 mod store;
 mod trial;
-#[cfg(test)]
-mod want_of_memory;
 
 pub use program::perform;
 use std::alloc::Global;

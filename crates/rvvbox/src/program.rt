@@ -1,14 +1,14 @@
 //! The program, over any files, reader and writers.
-ghost use Rattle.std.specs.Prelude.{◌≡◌, IfErr, IfOk, [], map};
+ghost use Rattle.std.specs.Prelude.{map};
 ghost use Rattle.clap.specs.Words.{fault_of};
 ghost use Rattle.rvvbox.specs.Line.{app};
-ghost use Rattle.rvvbox.specs.Program.{IsStatusFor, IsStopFor};
+ghost use Rattle.rvvbox.specs.Program.{IsStatusFor};
 
+use crate::commands::try_job;
 use crate::line::asked::Line;
 use crate::line::line;
 use crate::stop::{Status, Stop};
 use crate::store::Store;
-use crate::trial;
 use std::alloc::Global;
 use std::io::{Read, Write};
 
@@ -28,23 +28,9 @@ pub fn perform<'a, S: Store, I: Read, O: Write, E: Write>(
 ) -> Status
     ensures { IsStatusFor (fault_of app (map (λ w. w.now) words.entry.now)) result }
 {
-    match carry_out(alloc, words, store, output) {
-        Ok(status) => status,
-        Err(stop) => stop.tell(output, errors),
-    }
-}
-
-fn carry_out<'a, S: Store, O: Write>(
-    alloc: Global,
-    words: &'a [&'a str],
-    store: &mut S,
-    output: &mut O,
-) -> Result<Status, Stop<'a>>
-    ensures taken { IfOk result (λ _. fault_of app (map (λ w. w.now) words.entry.now) ≡ []) }
-    ensures stopped { IfErr result (IsStopFor (fault_of app (map (λ w. w.now) words.entry.now))) }
-{
-    match line(alloc, words)? {
-        Line::Try { job } => trial::try_job(alloc, job, store, output),
+    match line(alloc, words) {
+        Ok(Line::Try { job }) => try_job(alloc, job, store, output, errors),
+        Err(error) => Stop::from(error).tell(output, errors),
     }
 }
 

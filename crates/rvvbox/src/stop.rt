@@ -4,13 +4,12 @@ ghost use Rattle.rvvbox.specs.Ending.{code_of, is_request, status_of, stop_at_fi
 ghost use Rattle.rvvbox.specs.Ending.{stop_of_job, stop_of_line, stop_of_open};
 ghost use Rattle.rvvbox.specs.declared.stop.Stop.TheVariants.{Memory};
 
-use crate::job::values::JobError;
 use crate::line::asked::LineError;
 use crate::store::StoreError;
 use elf_image::ElfError;
+use job_file::JobError;
 use sandbox_run::OpenError;
 use std::alloc::AllocError;
-use std::borrow::CowStr;
 use std::io::Write;
 use thiserror::Error;
 
@@ -56,7 +55,7 @@ pub enum Stop<'a> {
     #[error("job: {0}\n")]
     Job(JobError),
     #[error("file: {0}\n")]
-    File(CowStr<'a>),
+    File(&'a str),
     #[error("refused: {0:?}\n")]
     Image(ElfError),
     #[error("refused: {}\n", open_error_name(.0))]
@@ -71,7 +70,8 @@ impl Stop<'_> {
     /// Tells why, and answers the status. Where standard output takes no text, nothing more is told.
     pub fn tell<O: Write, E: Write>(&self, output: &mut O, errors: &mut E) -> Status
         ensures told { is_request self.now ≡ false → result ≡ status_of self.now }
-        ensures answered { is_request self.now ≡ true → (result ≡ Status.Done) ⊎ (result ≡ Status.File) }
+        ensures answered { is_request self.now ≡ true
+            → (result ≡ Status.Done) ⊎ (result ≡ Status.File) }
     {
         match self {
             Stop::Output => Status::File,
@@ -163,7 +163,7 @@ fn open_error_name(error: &OpenError) -> &'static str {
 
 impl<'a> Stop<'a> {
     /// The file at `path` was not read or written.
-    pub fn at_file(error: StoreError, path: CowStr<'a>) -> Stop<'a>
+    pub fn at_file(error: StoreError, path: &'a str) -> Stop<'a>
         ensures { result ≡ stop_at_file error path.entry }
     {
         match error {

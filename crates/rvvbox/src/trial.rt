@@ -1,28 +1,25 @@
-//! `try`: runs a job's image, accepted or not, with every test at each step.
-ghost use Rattle.std.specs.Prelude.{◌≡◌, ◌⊎◌, IfErr, IfOk, IfSome, IsErrAnd, replicate};
-ghost use Rattle.region_mem.specs.Parameter.{AreArguments, argument_error};
-ghost use Rattle.sandbox_run.specs.Errors.{open_error_of};
-ghost use Rattle.sandbox_run.specs.Start.{start};
+//! What comes of a job: its run on an image and on arguments, how that is told, and which files are written after it.
+ghost use Rattle.std.specs.Prelude.{◌≡◌, map, option_map};
+ghost use Rattle.job_file.specs.Needs.{try_job_lent, try_param_lent};
+ghost use Rattle.vreg_groups.specs.VectorLength.{IsVlenb};
 ghost use Rattle.rvvbox.specs.Ending.{status_of_end};
-ghost use Rattle.rvvbox.specs.Trial.{IsGiven, number_of, trial_from, vlenb_of};
-ghost use Rattle.rvvbox.specs.declared.stop.Stop.TheVariants as stop;
+ghost use Rattle.rvvbox.specs.Trial.{OrMemory, number_of, out_file, param_for};
+ghost use Rattle.rvvbox.specs.Trial.{params_for, passed_size, run_of};
+ghost use Rattle.rvvbox.specs.Trial.{trial_of};
 
-use crate::job::values::{Job, JobError, Sub, Vlen};
-use crate::job::{job, values};
 use crate::stop::{Status, Stop};
-use crate::store::Store;
 use elf_image::Image;
-use region_mem::{Arg, Args, Bytes, Fault, Param, Parameters};
+use job_file::{JobError, TryJob, TryParam};
+use region_mem::{Arg, Args, Fault, Param, Parameters};
 use sandbox_run::{Final, Outcome, try_run};
 use std::alloc::Global;
-use std::borrow::CowStr;
 use std::io;
 use std::io::Write;
-use vreg_groups::Agnostic;
+use vreg_groups::{Agnostic, Vlen};
 
 /// How a run ended.
 #[derive(Clone, Copy)]
-enum End {
+pub enum End {
     Ended,
     Trapped(Fault),
     OutOfSteps,
@@ -30,148 +27,72 @@ enum End {
 
 /// What came of a run: how it ended, after how many steps, and the arguments as they then stood.
 #[derive(Drop)]
-struct Trial {
+pub struct Trial {
     end: End,
     steps: u64,
+    pub args: Args,
+}
+
+/// Runs a job on an image and on arguments, at the job's length of vector registers, setting and number of steps.
+///
+/// A scalar may have the one value that the job gives it, and a buffer has the size of what is passed. `BadKey` comes
+/// where there are no such parameters, then the error of arguments that do not match them, and want of memory last.
+pub fn run_job<'a>(
+    alloc: Global,
+    job: &TryJob<&str>,
+    image: &Image,
     args: Args,
-}
-
-/// Runs the job at `path`, writes its out files and prints how the run ended.
-pub fn try_job<'a, S: Store, O: Write>(
-    alloc: Global,
-    path: &'a str,
-    store: &mut S,
-    output: &mut O,
-) -> Result<Status, Stop<'a>> {
-    let mut job = read_job(alloc, path, store)?;
-    let (Some(vlen), Some(agnostic), Some(max)) = (job.vlen, job.agnostic, job.max) else {
-        return Err(Stop::Job(JobError::BadKey));
-    };
-    let image = read_image(alloc, &mut job, store)?;
-    let (params, args) = read_arguments(alloc, &mut job, store)?;
-    let Some(parameters) = Parameters::new(params) else {
-        return Err(Stop::Job(JobError::BadKey));
-    };
-    let trial = run(alloc, &image, &parameters, args, vlen, agnostic, max)?;
-    write_buffers(&mut job, &trial.args, store)?;
-    match print(&trial, output) {
-        Ok(()) => Ok(status_of(trial.end)),
-        Err(_) => Err(Stop::Output),
-    }
-}
-
-/// The file at `path`.
-fn read<'a, S: Store>(alloc: Global, path: CowStr<'a>, store: &mut S) -> Result<Vec<u8>, Stop<'a>> {
-    match store.read(alloc, path.as_str()) {
-        Ok(bytes) => Ok(bytes),
-        Err(error) => Err(Stop::at_file(error, path)),
-    }
-}
-
-fn read_job<'a, S: Store>(alloc: Global, path: &'a str, store: &mut S) -> Result<Job, Stop<'a>> {
-    let bytes = read(alloc, CowStr::Borrowed(path), store)?;
-    match std::str::from_utf8(bytes.as_slice()) {
-        Ok(text) => Ok(job(alloc, text, Sub::Try)?),
-        Err(_) => Err(Stop::Job(JobError::NotToml)),
-    }
-}
-
-fn read_image<'a, S: Store>(
-    alloc: Global,
-    job: &mut Job,
-    store: &mut S,
-) -> Result<Image, Stop<'a>> {
-    let Some(path) = job.image.take() else {
-        return Err(Stop::Job(JobError::BadKey));
-    };
-    let bytes = read(alloc, CowStr::Owned(path), store)?;
-    Ok(elf_image::read(alloc, bytes.as_slice())?)
-}
-
-/// The parameters of a job, and the arguments that it gives for them, by place.
-fn read_arguments<'a, S: Store>(
-    alloc: Global,
-    job: &mut Job,
-    store: &mut S,
-) -> Result<([Param; 8], Args), Stop<'a>> {
-    let mut params = [Param::None; 8];
-    let mut places = no_args();
-    for place in 0..8 {
-        let (param, arg) = read_argument(alloc, &mut job.params[place], store)?;
-        params[place] = param;
-        places[place] = arg;
-    }
-    Ok((params, Args { places }))
-}
-
-fn no_args() -> [Arg; 8]
-    ensures { result ≡ replicate 8 Arg.None }
+) -> Result<Trial, Stop<'a>>
+    ensures { OrMemory (trial_of (try_job_lent job.now) image.now args.places) result }
 {
-    [
-        Arg::None,
-        Arg::None,
-        Arg::None,
-        Arg::None,
-        Arg::None,
-        Arg::None,
-        Arg::None,
-        Arg::None,
-    ]
+    let Some(parameters) = Parameters::new(params_for(&job.params, &args.places)) else {
+        return Err(Stop::Job(JobError::BadKey));
+    };
+    match job.vlen {
+        Vlen::V128 => run::<16>(alloc, image, &parameters, args, job.agnostic, job.max),
+        Vlen::V256 => run::<32>(alloc, image, &parameters, args, job.agnostic, job.max),
+    }
 }
 
-/// The parameter of a place, and its argument. A scalar has the one value, and a buffer the size of
-/// its file.
-fn read_argument<'a, S: Store>(
-    alloc: Global,
-    param: &mut values::Param,
-    store: &mut S,
-) -> Result<(Param, Arg), Stop<'a>>
-    ensures { IfOk result (IsGiven param.old) }
+/// The parameter of a place of a job, for what is passed there.
+fn param_for(param: &TryParam<&str>, arg: &Arg) -> Param
+    ensures { result ≡ param_for (try_param_lent param.now, arg.now) }
 {
     match param {
-        values::Param::None => Ok((Param::None, Arg::None)),
-        values::Param::Scalar { value, .. } => {
-            let Some(value) = *value else {
-                return Err(Stop::Job(JobError::BadKey));
-            };
-            let param = Param::Scalar {
-                lo: value,
-                hi: value,
-            };
-            Ok((param, Arg::Scalar(value)))
-        }
-        values::Param::Buffer { mode, file, .. } => {
-            let (Some(mode), Some(path)) = (*mode, file.take()) else {
-                return Err(Stop::Job(JobError::BadKey));
-            };
-            let bytes = read(alloc, CowStr::Owned(path), store)?;
-            let size = u32::try_from(bytes.len()).unwrap_or(u32::MAX);
-            Ok((Param::Buffer { mode, size }, Arg::Buffer(Bytes::new(bytes))))
-        }
+        TryParam::None => Param::None,
+        TryParam::Scalar(value) => Param::Scalar {
+            lo: *value,
+            hi: *value,
+        },
+        TryParam::Buffer { mode, .. } => Param::Buffer {
+            mode: *mode,
+            size: size_of(arg),
+        },
     }
 }
 
-/// Runs the image at the job's length of vector registers.
-fn run<'a>(
-    alloc: Global,
-    image: &Image,
-    parameters: &Parameters,
-    args: Args,
-    vlen: Vlen,
-    agnostic: Agnostic,
-    max: u64,
-) -> Result<Trial, Stop<'a>>
-    ensures trial { IfOk result (λ trial. trial ≡ trial_from (vlenb_of vlen) max (start (vlenb_of vlen) agnostic image.now parameters.now args.places)) }
-    ensures refused { IfSome (argument_error parameters.now args.places) (λ error. IsErrAnd result (λ reason. reason ≡ stop.Open (open_error_of error))) }
-    ensures memory { AreArguments parameters.now args.places → IfErr result (λ reason. reason ≡ stop.Memory) }
+/// How many bytes are passed, where 32 bits hold the number.
+fn size_of(arg: &Arg) -> u32
+    ensures { result ≡ passed_size arg.now }
 {
-    match vlen {
-        Vlen::V128 => run_at::<16>(alloc, image, parameters, args, agnostic, max),
-        Vlen::V256 => run_at::<32>(alloc, image, parameters, args, agnostic, max),
+    match arg {
+        Arg::None | Arg::Scalar(_) => 0,
+        Arg::Buffer(bytes) => u32::try_from(bytes.len()).unwrap_or(u32::MAX),
     }
 }
 
-fn run_at<'a, const VLENB: usize>(
+/// The parameters of a job, by place.
+fn params_for(params: &[TryParam<&str>; 8], args: &[Arg; 8]) -> [Param; 8]
+    ensures { result ≡ params_for (map try_param_lent params.now) args.now }
+{
+    let mut made = [Param::None; 8];
+    for place in 0..8 {
+        made[place] = param_for(&params[place], &args[place]);
+    }
+    made
+}
+
+fn run<'a, const VLENB: usize>(
     alloc: Global,
     image: &Image,
     parameters: &Parameters,
@@ -179,51 +100,65 @@ fn run_at<'a, const VLENB: usize>(
     agnostic: Agnostic,
     max: u64,
 ) -> Result<Trial, Stop<'a>>
-    requires { (VLENB ≡ 16) ⊎ (VLENB ≡ 32) }
-    ensures trial { IfOk result (λ trial. trial ≡ trial_from VLENB max (start VLENB agnostic image.now parameters.now args.places)) }
-    ensures refused { IfSome (argument_error parameters.now args.places) (λ error. IsErrAnd result (λ reason. reason ≡ stop.Open (open_error_of error))) }
-    ensures memory { AreArguments parameters.now args.places → IfErr result (λ reason. reason ≡ stop.Memory) }
+    requires { IsVlenb VLENB }
+    ensures { OrMemory (run_of VLENB agnostic max image.now args.places parameters.now) result }
 {
     match try_run::<VLENB>(alloc, image, parameters, args, agnostic, max) {
-        Ok(Outcome::Ended(last)) => Ok(trial_of(End::Ended, last)),
-        Ok(Outcome::Trapped(fault, last)) => Ok(trial_of(End::Trapped(fault), last)),
-        Ok(Outcome::OutOfSteps(last)) => Ok(trial_of(End::OutOfSteps, last)),
+        Ok(Outcome::Ended(last)) => Ok(trial_at(End::Ended, last)),
+        Ok(Outcome::Trapped(fault, last)) => Ok(trial_at(End::Trapped(fault), last)),
+        Ok(Outcome::OutOfSteps(last)) => Ok(trial_at(End::OutOfSteps, last)),
         Err((error, _args)) => Err(Stop::from(error)),
     }
 }
 
-fn trial_of<const VLENB: usize>(end: End, last: Final<VLENB>) -> Trial
+fn trial_at<const VLENB: usize>(end: End, last: Final<VLENB>) -> Trial
     ensures { result ≡ record { end = end; steps = last.entry.steps; args = last.entry.args } }
 {
     let Final { steps, args, .. } = last;
     Trial { end, steps, args }
 }
 
-/// Writes the buffers that a job gives an out file, by place.
-fn write_buffers<'a, S: Store>(job: &mut Job, args: &Args, store: &mut S) -> Result<(), Stop<'a>> {
-    for place in 0..8 {
-        if let values::Param::Buffer { out, .. } = &mut job.params[place]
-            && let Some(path) = out.take()
-            && let Arg::Buffer(bytes) = &args.places[place]
-            && let Err(error) = store.write(path.as_str(), bytes.as_slice())
-        {
-            return Err(Stop::at_file(error, CowStr::Owned(path)));
-        }
+/// The file that a place has after a run, where it has one: its path, and the buffer's bytes.
+pub fn out_file<'a, 'b>(param: &TryParam<&'a str>, arg: &'b Arg) -> Option<(&'a str, &'b [u8])>
+    ensures { option_map (λ file. (file.0.now, file.1.now)) result
+        ≡ out_file (try_param_lent param.now, arg.now) }
+{
+    match (param, arg) {
+        (
+            TryParam::Buffer {
+                out: Some(path),
+                ..
+            },
+            Arg::Buffer(bytes),
+        ) => Some((*path, bytes.as_slice())),
+        (TryParam::None | TryParam::Scalar(_) | TryParam::Buffer { .. }, _) => None,
     }
-    Ok(())
 }
 
-fn print<O: Write>(trial: &Trial, output: &mut O) -> io::Result<()> {
-    let steps = trial.steps;
-    match trial.end {
-        End::Ended => writeln!(output, "ended: {steps} steps")?,
-        End::Trapped(fault) => {
-            let (name, at) = shown(fault);
-            writeln!(output, "trapped: {name} {at:08x} after {steps} steps")?;
+impl Trial {
+    /// Prints how the run ended.
+    pub fn print<O: Write>(&self, output: &mut O) -> io::Result<()> {
+        let steps = self.steps;
+        match self.end {
+            End::Ended => writeln!(output, "ended: {steps} steps")?,
+            End::Trapped(fault) => {
+                let (name, at) = shown(fault);
+                writeln!(output, "trapped: {name} {at:08x} after {steps} steps")?;
+            }
+            End::OutOfSteps => writeln!(output, "out of steps: {steps}")?,
         }
-        End::OutOfSteps => writeln!(output, "out of steps: {steps}")?,
+        output.flush()
     }
-    output.flush()
+
+    /// The status of a run that was printed.
+    pub fn status(&self) -> Status
+        ensures { result ≡ status_of_end self.now.end }
+    {
+        match self.end {
+            End::Ended => Status::Done,
+            End::Trapped(_) | End::OutOfSteps => Status::Stopped,
+        }
+    }
 }
 
 /// A fault's name, with its word or address.
@@ -236,14 +171,5 @@ fn shown(fault: Fault) -> (&'static str, u32)
         Fault::LoadFault(address) => ("LoadFault", address),
         Fault::StoreFault(address) => ("StoreFault", address),
         Fault::JumpMisaligned(target) => ("JumpMisaligned", target),
-    }
-}
-
-fn status_of(end: End) -> Status
-    ensures { result ≡ status_of_end end }
-{
-    match end {
-        End::Ended => Status::Done,
-        End::Trapped(_) | End::OutOfSteps => Status::Stopped,
     }
 }

@@ -7,13 +7,13 @@ use std::io::{Read, Write};
 use std::process::Abort;
 use std::test::Fail;
 
-/// Files in memory, of which one may fail to be read and one to be written.
+/// Files in memory, of which one may fail to be read or written, and a line for each call.
 #[derive(Drop)]
 struct Shelf {
     alloc: Global,
-    files: Vec<(String, Vec<u8>)>,
-    unreadable: &'static str,
-    unwritable: &'static str,
+    files: Vec<(&'static str, Vec<u8>)>,
+    failing: &'static str,
+    calls: String,
 }
 
 impl Shelf {
@@ -21,50 +21,49 @@ impl Shelf {
         Shelf {
             alloc,
             files: Vec::new(alloc),
-            unreadable: "",
-            unwritable: "",
+            failing: "",
+            calls: String::new(alloc),
         }
     }
 
-    fn put(&mut self, path: &str, bytes: &[u8]) -> Result<(), AllocError> {
-        let path = String::from_str(self.alloc, path)?;
-        self.files
-            .push((path, Vec::from_slice(self.alloc, bytes)?))?;
+    fn put(&mut self, path: &'static str, bytes: &[u8]) -> Result<(), AllocError> {
+        let bytes = Vec::from_slice(self.alloc, bytes)?;
+        self.files.push((path, bytes))?;
         Ok(())
     }
 
     /// The newest bytes at a path.
-    fn get(&self, path: &str) -> Option<&[u8]> {
-        let mut found = None;
+    fn get(&self, path: &str) -> Result<&[u8], StoreError> {
+        let mut found = Err(StoreError::Failed);
         for file in &self.files {
-            if file.0.as_str() == path {
-                found = Some(file.1.as_slice());
+            if file.0 == path && path != self.failing {
+                found = Ok(file.1.as_slice());
             }
         }
         found
-    }
-
-    fn has(&self, path: &str, bytes: &[u8]) -> bool {
-        match self.get(path) {
-            Some(found) => found == bytes,
-            None => false,
-        }
     }
 }
 
 impl Store for Shelf {
     fn read(&mut self, alloc: Global, path: &str) -> Result<Vec<u8>, StoreError> {
-        match self.get(path) {
-            Some(bytes) if path != self.unreadable => Ok(Vec::from_slice(alloc, bytes)?),
-            _ => Err(StoreError::Failed),
-        }
+        self.calls.push_str("read ")?;
+        self.calls.push_str(path)?;
+        self.calls.push('\n')?;
+        Ok(Vec::from_slice(alloc, self.get(path)?)?)
     }
 
     fn write(&mut self, path: &str, bytes: &[u8]) -> Result<(), StoreError> {
-        if path == self.unwritable {
+        self.calls.push_str("write ")?;
+        self.calls.push_str(path)?;
+        for byte in bytes {
+            let shown = format!(in self.alloc; " {byte:02x}")?;
+            self.calls.push_str(shown.as_str())?;
+        }
+        self.calls.push('\n')?;
+        if path == self.failing {
             return Err(StoreError::Failed);
         }
-        Ok(self.put(path, bytes)?)
+        Ok(())
     }
 }
 
@@ -111,6 +110,7 @@ fn image(alloc: Global, code: &[u32]) -> Result<Vec<u8>, AllocError> {
     Ok(file)
 }
 
+/// The start of a job, before its number of steps.
 const HEAD: &str = "image = \"kernel.elf\"\nvlen = 128\nagnostic = \"keep\"\n";
 
 const PARAMS: &str = "[[param]]\nkind = \"buffer\"\nmode = \"rw\"\nfile = \"a\"\nout = \"a.out\"\n\
@@ -128,94 +128,160 @@ fn job_files(alloc: Global, code: &[u32], max: u64) -> Result<Shelf, AllocError>
     Ok(shelf)
 }
 
-/// Performs `rvvbox try job.toml`, and answers the status and what was printed.
-fn try_job(alloc: Global, shelf: &mut Shelf) -> (Status, Vec<u8>, Vec<u8>) {
-    let words = ["rvvbox", "try", "job.toml"];
-    let mut output = Vec::new(alloc);
-    let mut errors = Vec::new(alloc);
-    let status = perform(
-        alloc,
-        words.as_slice(),
-        shelf,
-        &mut Broken,
-        &mut output,
-        &mut errors,
-    );
-    (status, output, errors)
-}
+/// The calls of a job that is read whole.
+const READS: &str = "read job.toml\nread kernel.elf\nread a\nread b\n";
 
-/// Tries the job, and asserts its status and what was printed.
+/// Performs `rvvbox` with these words, and asserts its status, what was printed, and the calls of the store.
 fn expect<R: Abort + AllocGlobal>(
     rt: &R,
+    words: &[&str],
     shelf: &mut Shelf,
-    status: Status,
-    output: &str,
-    errors: &str,
+    (status, output, errors): (Status, &str, &str),
+    calls: &str,
 ) {
-    let (had, out, err) = try_job(rt.alloc(), shelf);
+    let alloc = rt.alloc();
+    let mut out = Vec::new(alloc);
+    let mut err = Vec::new(alloc);
+    let had = perform(alloc, words, shelf, &mut Broken, &mut out, &mut err);
     assert_eq!(rt; std::str::from_utf8(err.as_slice()), Ok(errors));
     assert_eq!(rt; std::str::from_utf8(out.as_slice()), Ok(output));
     assert_eq!(rt; had, status);
+    assert_eq!(rt; shelf.calls.as_str(), calls);
 }
 
-#[test]
-fn runs_to_the_end(rt: HostRuntime) -> Result<(), Fail> {
-    let alloc = rt.alloc();
-    let mut files = job_files(alloc, ADD_BYTES.as_slice(), 6)?;
-    expect(&rt, &mut files, Status::Done, "ended: 6 steps\n", "");
-    assert!(rt; files.has("a.out", [0, 2, 1].as_slice()));
-    assert!(rt; files.has("b.out", [1, 1, 0xff].as_slice()));
+/// The words of `rvvbox try job.toml`.
+const TRY: [&str; 3] = ["rvvbox", "try", "job.toml"];
 
-    let mut files = job_files(alloc, ADD_BYTES.as_slice(), 6)?;
-    let empty = "[[param]]\nkind = \"buffer\"\nmode = \"rw\"\nfile = \"none\"\nout = \"a.out\"\n";
-    let zero = "[[param]]\nkind = \"scalar\"\nvalue = 0\n";
-    let job = format!(in alloc; "{HEAD}max = 9\n{empty}{empty}{zero}")?;
-    files.put("job.toml", job.as_bytes())?;
-    files.put("none", [].as_slice())?;
-    expect(&rt, &mut files, Status::Done, "ended: 6 steps\n", "");
-    assert!(rt; files.has("a.out", [].as_slice()));
+/// vsetvli t0,a2,e8,m1,ta,ma; vmv.v.i v8,0; vsetvli t0,zero,e8,m1,ta,ma; vse8.v v8,(a1); csrr t0,vlenb; sw t0,0(a0);
+/// sw a2,4(a0) and so on to sw a7,24(a0); ret.
+const TELL_ALL: [u32; 13] = [
+    0x0c06_72d7,
+    0x5e00_3457,
+    0x0c00_72d7,
+    0x0205_8427,
+    0xc220_22f3,
+    0x0055_2023,
+    0x00c5_2223,
+    0x00d5_2423,
+    0x00e5_2623,
+    0x00f5_2823,
+    0x0105_2a23,
+    0x0115_2c23,
+    0x0000_8067,
+];
+
+/// A parameter at each of the eight places.
+const EIGHT: &str =
+    "[[param]]\nkind = \"buffer\"\nmode = \"rw\"\nfile = \"words\"\nout = \"told\"\n\
+    [[param]]\nkind = \"buffer\"\nmode = \"rw\"\nfile = \"register\"\nout = \"v8\"\n\
+    [[param]]\nkind = \"scalar\"\nvalue = 3\n\
+    [[param]]\nkind = \"none\"\n\
+    [[param]]\nkind = \"buffer\"\nmode = \"r\"\nfile = \"register\"\n\
+    [[param]]\nkind = \"scalar\"\nlo = 9\nhi = 5\nvalue = 5\n\
+    [[param]]\nkind = \"scalar\"\nvalue = 4294967295\n\
+    [[param]]\nkind = \"scalar\"\nvalue = 7\n";
+
+/// Runs `TELL_ALL` on eight parameters at a length and a setting.
+fn tell_all<R: Abort + AllocGlobal>(rt: &R, settings: &str, written: &str) -> Result<(), Fail> {
+    let alloc = rt.alloc();
+    let mut shelf = Shelf::new(alloc);
+    let job = format!(in alloc; "image = \"kernel.elf\"\nmax = 13\n{settings}\n{EIGHT}")?;
+    shelf.put("job.toml", job.as_bytes())?;
+    shelf.put("kernel.elf", image(alloc, TELL_ALL.as_slice())?.as_slice())?;
+    shelf.put("words", [0; 28].as_slice())?;
+    shelf.put("register", [7; 32].as_slice())?;
+    let reads = "read job.toml\nread kernel.elf\nread words\nread register\nread register\n";
+    let calls = format!(in alloc; "{reads}{written}")?;
+    let told = (Status::Done, "ended: 13 steps\n", "");
+    expect(rt, TRY.as_slice(), &mut shelf, told, calls.as_str());
     Ok(())
 }
 
 #[test]
-fn stops_at_faults_and_limits(rt: HostRuntime) -> Result<(), Fail> {
+fn runs_at_each_length_and_setting(rt: HostRuntime) -> Result<(), Fail> {
+    tell_all(
+        &rt,
+        "vlen = 128\nagnostic = \"keep\"",
+        "write told 10 00 00 00 03 00 00 00 00 00 00 00 00 40 00 40 05 00 00 00 ff ff ff ff 07 00 00 00\n\
+         write v8 00 00 00 00 00 00 00 00 00 00 00 00 00 00 00 00 07 07 07 07 07 07 07 07 07 07 07 07 07 07 07 07\n",
+    )?;
+    tell_all(
+        &rt,
+        "vlen = 256\nagnostic = \"ones\"",
+        "write told 20 00 00 00 03 00 00 00 00 00 00 00 00 40 00 40 05 00 00 00 ff ff ff ff 07 00 00 00\n\
+         write v8 00 00 00 ff ff ff ff ff ff ff ff ff ff ff ff ff ff ff ff ff ff ff ff ff ff ff ff ff ff ff ff ff\n",
+    )
+}
+
+#[test]
+fn tells_how_a_run_stops(rt: HostRuntime) -> Result<(), Fail> {
     let alloc = rt.alloc();
-    let mut files = job_files(alloc, ADD_BYTES.as_slice(), 5)?;
-    expect(&rt, &mut files, Status::Stopped, "out of steps: 5\n", "");
-    assert!(rt; files.has("a.out", [0, 2, 1].as_slice()));
-
-    // vsetvli t0,a2,e8,m1,ta,ma and a word that means nothing
-    let mut files = job_files(alloc, [0x0c06_72d7, 0xffff_ffff].as_slice(), 9)?;
-    let told = "trapped: Illegal ffffffff after 1 steps\n";
-    expect(&rt, &mut files, Status::Stopped, told, "");
-    assert!(rt; files.has("a.out", [0xff, 1, 2].as_slice()));
-
-    // vsetvli t0,a2,e8,m1,ta,ma; vse8.v v8,(a1)
-    let mut files = job_files(alloc, [0x0c06_72d7, 0x0205_8427].as_slice(), 9)?;
-    let told = "trapped: StoreFault 40002000 after 1 steps\n";
-    expect(&rt, &mut files, Status::Stopped, told, "");
-
-    // vsetvli t0,a2,e8,m1,ta,ma, and then nothing
-    let mut files = job_files(alloc, [0x0c06_72d7].as_slice(), 9)?;
-    let told = "trapped: FetchFault 00010004 after 1 steps\n";
-    expect(&rt, &mut files, Status::Stopped, told, "");
-
-    // jalr ra,2(x0)
-    let mut files = job_files(alloc, [0x0020_00e7].as_slice(), 9)?;
-    let told = "trapped: JumpMisaligned 00000002 after 0 steps\n";
-    expect(&rt, &mut files, Status::Stopped, told, "");
+    let sum = "write a.out 00 02 01\nwrite b.out 01 01 ff\n";
+    let none = "write a.out ff 01 02\nwrite b.out 01 01 ff\n";
+    for (code, told, written) in [
+        (ADD_BYTES.as_slice(), "out of steps: 5\n", sum),
+        // vsetvli t0,a2,e8,m1,ta,ma and a word that means nothing
+        (
+            [0x0c06_72d7, 0xffff_ffff].as_slice(),
+            "trapped: Illegal ffffffff after 1 steps\n",
+            none,
+        ),
+        // vle8.v v8,(zero) after vsetvli t0,a2,e8,m1,ta,ma
+        (
+            [0x0c06_72d7, 0x0200_0407].as_slice(),
+            "trapped: LoadFault 00000000 after 1 steps\n",
+            none,
+        ),
+        // vsetvli t0,a2,e8,m1,ta,ma; vse8.v v8,(a1)
+        (
+            [0x0c06_72d7, 0x0205_8427].as_slice(),
+            "trapped: StoreFault 40002000 after 1 steps\n",
+            none,
+        ),
+        // vsetvli t0,a2,e8,m1,ta,ma, and then nothing
+        (
+            [0x0c06_72d7].as_slice(),
+            "trapped: FetchFault 00010004 after 1 steps\n",
+            none,
+        ),
+        // jalr ra,2(x0)
+        (
+            [0x0020_00e7].as_slice(),
+            "trapped: JumpMisaligned 00000002 after 0 steps\n",
+            none,
+        ),
+    ] {
+        let mut files = job_files(alloc, code, 5)?;
+        let calls = format!(in alloc; "{READS}{written}")?;
+        let told = (Status::Stopped, told, "");
+        expect(&rt, TRY.as_slice(), &mut files, told, calls.as_str());
+    }
     Ok(())
 }
 
 #[test]
-fn refuses_files(rt: HostRuntime) -> Result<(), Fail> {
+fn ends_at_the_first_file_that_fails(rt: HostRuntime) -> Result<(), Fail> {
     let alloc = rt.alloc();
-    for path in ["job.toml", "kernel.elf", "a", "b"] {
+    for (path, calls) in [
+        ("job.toml", "read job.toml\n"),
+        ("kernel.elf", "read job.toml\nread kernel.elf\n"),
+        ("a", "read job.toml\nread kernel.elf\nread a\n"),
+        ("b", READS),
+        (
+            "a.out",
+            "read job.toml\nread kernel.elf\nread a\nread b\nwrite a.out 00 02 01\n",
+        ),
+        (
+            "b.out",
+            "read job.toml\nread kernel.elf\nread a\nread b\n\
+             write a.out 00 02 01\nwrite b.out 01 01 ff\n",
+        ),
+    ] {
         let mut files = job_files(alloc, ADD_BYTES.as_slice(), 6)?;
-        files.unreadable = path;
+        files.failing = path;
         let told = format!(in alloc; "file: {path}\n")?;
-        expect(&rt, &mut files, Status::File, "", told.as_str());
-        assert!(rt; files.get("a.out").is_none());
+        let told = (Status::File, "", told.as_str());
+        expect(&rt, TRY.as_slice(), &mut files, told, calls);
     }
     Ok(())
 }
@@ -223,130 +289,62 @@ fn refuses_files(rt: HostRuntime) -> Result<(), Fail> {
 #[test]
 fn refuses_jobs_and_images(rt: HostRuntime) -> Result<(), Fail> {
     let alloc = rt.alloc();
-    let mut files = job_files(alloc, ADD_BYTES.as_slice(), 6)?;
-    files.put("job.toml", b"image".as_slice())?;
-    expect(&rt, &mut files, Status::Usage, "", "job: NotToml\n");
-    files.put("job.toml", [0xff, 0xfe].as_slice())?;
-    expect(&rt, &mut files, Status::Usage, "", "job: NotToml\n");
-    files.put("job.toml", b"image = \"kernel.elf\"".as_slice())?;
-    expect(&rt, &mut files, Status::Usage, "", "job: BadKey\n");
+    for (job, told) in [
+        (b"image".as_slice(), "job: NotToml\n"),
+        ([0xff, 0xfe].as_slice(), "job: NotToml\n"),
+        (b"image = \"kernel.elf\"".as_slice(), "job: BadKey\n"),
+    ] {
+        let mut files = job_files(alloc, ADD_BYTES.as_slice(), 6)?;
+        files.put("job.toml", job)?;
+        let told = (Status::Usage, "", told);
+        expect(&rt, TRY.as_slice(), &mut files, told, "read job.toml\n");
+    }
 
-    let mut files = job_files(alloc, ADD_BYTES.as_slice(), 6)?;
-    files.put("kernel.elf", [].as_slice())?;
-    expect(&rt, &mut files, Status::Refused, "", "refused: TooShort\n");
     let mut files = job_files(alloc, [].as_slice(), 6)?;
-    expect(
-        &rt,
-        &mut files,
-        Status::Refused,
-        "",
-        "refused: EntryNotCode\n",
-    );
+    let told = (Status::Refused, "", "refused: EntryNotCode\n");
+    let calls = "read job.toml\nread kernel.elf\n";
+    expect(&rt, TRY.as_slice(), &mut files, told, calls);
 
     let mut files = job_files(alloc, ADD_BYTES.as_slice(), 6)?;
     files.put("a", vec![in alloc; 0u8; 16_777_217]?.as_slice())?;
-    expect(&rt, &mut files, Status::Usage, "", "job: BadKey\n");
+    let told = (Status::Usage, "", "job: BadKey\n");
+    expect(&rt, TRY.as_slice(), &mut files, told, READS);
     Ok(())
 }
 
 #[test]
-fn refuses_words(rt: HostRuntime) -> Result<(), Fail> {
-    let alloc = rt.alloc();
-    let mut files = Shelf::new(alloc);
-    let mut output = Vec::new(alloc);
-    let mut errors = Vec::new(alloc);
-    let words = ["rvvbox", "try"];
-    let status = perform(
-        alloc,
-        words.as_slice(),
-        &mut files,
-        &mut Broken,
-        &mut output,
-        &mut errors,
-    );
-    assert_eq!(rt; status, Status::Usage);
-    assert!(rt; output.is_empty());
-    let told = "error: the following required arguments were not provided:\n  <JOB>\n\n\
+fn answers_words_that_ask_for_no_job(rt: HostRuntime) {
+    let refused = "error: the following required arguments were not provided:\n  <JOB>\n\n\
         Usage: rvvbox try <JOB>\n\nFor more information, try '--help'.\n";
-    assert_eq!(rt; std::str::from_utf8(errors.as_slice()), Ok(told));
-    Ok(())
-}
-
-#[test]
-fn answers_help_and_version(rt: HostRuntime) -> Result<(), Fail> {
-    let alloc = rt.alloc();
-    let mut files = Shelf::new(alloc);
-    let mut errors = Vec::new(alloc);
-    let words = ["rvvbox", "--version"];
-    let mut output = Vec::new(alloc);
-    let status = perform(
-        alloc,
-        words.as_slice(),
+    let mut files = Shelf::new(rt.alloc());
+    let told = (Status::Usage, "", refused);
+    expect(&rt, ["rvvbox", "try"].as_slice(), &mut files, told, "");
+    let told = (Status::Done, "rvvbox 0.1.0\n", "");
+    expect(
+        &rt,
+        ["rvvbox", "--version"].as_slice(),
         &mut files,
-        &mut Broken,
-        &mut output,
-        &mut errors,
+        told,
+        "",
     );
-    assert_eq!(rt; status, Status::Done);
-    assert_eq!(rt;
-        std::str::from_utf8(output.as_slice()),
-        Ok("rvvbox 0.1.0\n")
-    );
-    let words = ["rvvbox", "try", "--help"];
-    let mut output = Vec::new(alloc);
-    let status = perform(
-        alloc,
-        words.as_slice(),
-        &mut files,
-        &mut Broken,
-        &mut output,
-        &mut errors,
-    );
-    assert_eq!(rt; status, Status::Done);
-    assert!(rt; !output.is_empty());
-    let status = perform(
-        alloc,
-        words.as_slice(),
-        &mut files,
-        &mut Broken,
-        &mut Broken,
-        &mut errors,
-    );
-    assert_eq!(rt; status, Status::File);
-    assert!(rt; errors.is_empty());
-    Ok(())
 }
 
 #[test]
 fn ends_where_output_fails(rt: HostRuntime) -> Result<(), Fail> {
     let alloc = rt.alloc();
-    let mut files = job_files(alloc, ADD_BYTES.as_slice(), 6)?;
-    let words = ["rvvbox", "try", "job.toml"];
-    let mut errors = Vec::new(alloc);
-    let status = perform(
-        alloc,
-        words.as_slice(),
-        &mut files,
-        &mut Broken,
-        &mut Broken,
-        &mut errors,
-    );
-    assert_eq!(rt; status, Status::File);
-    assert!(rt; errors.is_empty());
-    assert!(rt; files.has("a.out", [0, 2, 1].as_slice()));
-    Ok(())
-}
-
-#[test]
-fn ends_where_an_out_file_fails(rt: HostRuntime) -> Result<(), Fail> {
-    let alloc = rt.alloc();
-    let mut files = job_files(alloc, ADD_BYTES.as_slice(), 6)?;
-    files.unwritable = "a.out";
-    expect(&rt, &mut files, Status::File, "", "file: a.out\n");
-    assert!(rt; files.get("b.out").is_none());
-    let mut files = job_files(alloc, ADD_BYTES.as_slice(), 6)?;
-    files.unwritable = "b.out";
-    expect(&rt, &mut files, Status::File, "", "file: b.out\n");
-    assert!(rt; files.get("a.out").is_some());
+    for words in [TRY.as_slice(), ["rvvbox", "--help"].as_slice()] {
+        let mut files = job_files(alloc, ADD_BYTES.as_slice(), 6)?;
+        let mut errors = Vec::new(alloc);
+        let status = perform(
+            alloc,
+            words,
+            &mut files,
+            &mut Broken,
+            &mut Broken,
+            &mut errors,
+        );
+        assert_eq!(rt; status, Status::File);
+        assert!(rt; errors.is_empty());
+    }
     Ok(())
 }

@@ -5,4 +5,5 @@ use Rattle.rvvbox.proofs.ProgramLemmas.{told_for}
 use Rattle.rvvbox.proofs.program.perform.Goals as goal
 
 pub returns-in-Err : goal.returns-in-Err
-returns-in-Err g c = told_for (fault_of app (map (λ w. w.now) c.args.words.now)) c.in-Err.stop c.tell.result c.in-Err.ensures.stopped c.tell.ensures.told c.tell.ensures.answered
+returns-in-Err g c =
+    told_for (fault_of app (map (λ w. w.now) c.args.words.now)) c.in-Err.error c.tell.result c.in-Err.ensures.refused (rw (← c.from.ensures) c.tell.ensures.told) (rw (← c.from.ensures) c.tell.ensures.answered)

@@ -1,0 +1,52 @@
+-- What a subcommand takes of a job, or none where the job lacks a key that it needs.
+use Rattle.std.specs.Prelude.{List, map, Option, Some, option_map, option_and_then}
+use Rattle.std.specs.Borrow.{Bor}
+use Rattle.toml.specs.Data.{Members}
+use Rattle.job_file.specs.Job.{Text, all_there, job_of}
+use Rattle.job_file.specs.declared.values.Job.{Job}
+use Rattle.job_file.specs.declared.values.Param.{Param}
+use Rattle.job_file.specs.declared.values.Param.TheVariants as param
+use Rattle.job_file.specs.declared.values.TryJob.{TryJob}
+use Rattle.job_file.specs.declared.values.TryParam.{TryParam}
+use Rattle.job_file.specs.declared.values.TryParam.TheVariants as taken
+
+-- ---- `try`: it needs `image`, `vlen`, `agnostic`, `max`, each scalar's `value` and each buffer's `mode` and `file`
+
+abbrev pub try_param_of : Param Text → Option (TryParam Text)
+try_param_of param.None = Some taken.None
+try_param_of (param.Scalar lo hi value) = option_map taken.Scalar value
+try_param_of (param.Buffer mode size file out) =
+    option_and_then (λ mode. option_map (λ file. taken.Buffer mode file out) file) mode
+
+unfoldable pub try_params_of : List (Param Text) → Option (List (TryParam Text))
+try_params_of params = all_there (map try_param_of params)
+
+abbrev pub try_job_of : Job Text → Option (TryJob Text)
+try_job_of j = option_and_then (λ image. option_and_then (λ vlen. option_and_then (λ agnostic.
+    option_and_then (λ max. option_map (λ params. record {
+      image = image;
+      vlen = vlen;
+      agnostic = agnostic;
+      max = max;
+      params = params;
+    }) (try_params_of j.params)) j.max) j.agnostic) j.vlen) j.image
+
+-- what `try` takes of a job's table
+abbrev pub try_job_in : Members → Option (TryJob Text)
+try_job_in ms = option_and_then try_job_of (job_of ms)
+
+-- ---- the same with texts that are lent
+
+abbrev pub try_param_lent : TryParam (Bor Text) → TryParam Text
+try_param_lent taken.None = taken.None
+try_param_lent (taken.Scalar value) = taken.Scalar value
+try_param_lent (taken.Buffer mode file out) = taken.Buffer mode file.now (option_map (λ s. s.now) out)
+
+abbrev pub try_job_lent : TryJob (Bor Text) → TryJob Text
+try_job_lent j = record {
+  image = j.image.now;
+  vlen = j.vlen;
+  agnostic = j.agnostic;
+  max = j.max;
+  params = map try_param_lent j.params;
+}

@@ -1,0 +1,52 @@
+//! What a subcommand takes of a job: each value that it needs.
+ghost use Rattle.std.specs.Prelude.{◌≡◌, map, option_map};
+ghost use Rattle.job_file.specs.Job.{job_lent, param_lent};
+ghost use Rattle.job_file.specs.Needs.{try_job_lent, try_job_of, try_param_lent, try_param_of};
+ghost use Rattle.job_file.specs.Needs.{try_params_of};
+
+use crate::values::{Job, Param, Places, TryJob, TryParam};
+
+/// What `try` takes of a parameter: a scalar's `value`, a buffer's `mode` and `file`.
+fn try_param<'a>(param: Param<&'a str>) -> Option<TryParam<&'a str>>
+    ensures { option_map try_param_lent result ≡ try_param_of (param_lent param.entry) }
+{
+    match param {
+        Param::None => Some(TryParam::None),
+        Param::Scalar { value, .. } => Some(TryParam::Scalar(value?)),
+        Param::Buffer {
+            mode,
+            file,
+            out,
+            ..
+        } => Some(TryParam::Buffer {
+            mode: mode?,
+            file: file?,
+            out,
+        }),
+    }
+}
+
+/// What `try` takes of the parameters, by place.
+fn try_params<'a>(params: [Param<&'a str>; 8]) -> Option<Places<TryParam<&'a str>>>
+    ensures { option_map (λ taken. map try_param_lent taken.at) result
+        ≡ try_params_of (map param_lent params.entry) }
+{
+    let mut taken = [TryParam::None; 8];
+    for place in 0..8 {
+        taken[place] = try_param(params[place])?;
+    }
+    Some(Places { at: taken })
+}
+
+/// What `try` takes of a job: `image`, `vlen`, `agnostic`, `max` and the parameters.
+pub fn try_job<'a>(job: Job<&'a str>) -> Option<TryJob<&'a str>>
+    ensures { option_map try_job_lent result ≡ try_job_of (job_lent job.entry) }
+{
+    Some(TryJob {
+        image: job.image?,
+        vlen: job.vlen?,
+        agnostic: job.agnostic?,
+        max: job.max?,
+        params: try_params(job.params)?.at,
+    })
+}

@@ -1,0 +1,75 @@
+//! What a job file says.
+use region_mem::Mode;
+use thiserror::Error;
+use vreg_groups::{Agnostic, Vlen};
+
+/// What stands at each of the eight places.
+#[derive(Drop)]
+pub(crate) struct Places<P> {
+    pub(crate) at: [P; 8],
+}
+
+/// One parameter of a kernel, with its keys.
+#[derive(Clone, Copy)]
+pub enum Param<T> {
+    /// The place is not used.
+    None,
+    /// A number, given in an argument register.
+    Scalar {
+        lo: Option<u32>,
+        hi: Option<u32>,
+        value: Option<u32>,
+    },
+    /// Bytes in memory, whose address is given in an argument register.
+    Buffer {
+        mode: Option<Mode>,
+        size: Option<u32>,
+        file: Option<T>,
+        out: Option<T>,
+    },
+}
+
+/// The values of a job file's keys, with a parameter for each place.
+#[derive(Drop)]
+pub struct Job<T> {
+    pub image: Option<T>,
+    pub vlen: Option<Vlen>,
+    pub agnostic: Option<Agnostic>,
+    pub max: Option<u64>,
+    pub params: [Param<T>; 8],
+}
+
+/// What `try` takes of a parameter.
+#[derive(Clone, Copy)]
+pub enum TryParam<T> {
+    /// The place is not used.
+    None,
+    /// The number that is passed.
+    Scalar(u32),
+    /// The file whose bytes are passed, and the one that has them after the run.
+    Buffer { mode: Mode, file: T, out: Option<T> },
+}
+
+/// What `try` takes of a job, with a parameter for each place.
+#[derive(Drop)]
+pub struct TryJob<T> {
+    pub image: T,
+    pub vlen: Vlen,
+    pub agnostic: Agnostic,
+    pub max: u64,
+    pub params: [TryParam<T>; 8],
+}
+
+/// Why a text is no job.
+#[derive(Clone, Copy, Debug, PartialEq, Eq, Error)]
+pub enum JobError {
+    /// The text is not TOML.
+    #[error("NotToml")]
+    NotToml,
+    /// The table breaks a rule of job files.
+    #[error("BadKey")]
+    BadKey,
+    /// Memory ran out.
+    #[error("out of memory")]
+    NoMemory,
+}

@@ -1,0 +1,145 @@
+//! The subcommands: what each reads, in order, what it does with it, and what it writes.
+ghost use Rattle.std.specs.Prelude.{◌≡◌, IfOk, map, replicate};
+ghost use Rattle.job_file.specs.Needs.{try_param_lent};
+ghost use Rattle.rvvbox.specs.Trial.{ArePassed, IsPassed};
+
+use crate::stop::{Status, Stop};
+use crate::store::Store;
+use crate::trial::{out_file, run_job};
+use elf_image::Image;
+use job_file::{JobError, TryParam, parse, try_job_in};
+use region_mem::{Arg, Args, Bytes};
+use std::alloc::Global;
+use std::io::Write;
+use toml::Table;
+
+/// `try`: runs the image of the job at `path`, accepted or not, with every test at each step, writes the job's out files
+/// and prints how the run ended.
+///
+/// In this order, up to the first that is refused or fails, which is told: the job file, the job, the image file, the
+/// image, the parameters' files by place, the parameters, the run, the out files by place, the printed line.
+pub fn try_job<S: Store, O: Write, E: Write>(
+    alloc: Global,
+    path: &str,
+    store: &mut S,
+    output: &mut O,
+    errors: &mut E,
+) -> Status {
+    match read_table(alloc, path, store) {
+        Ok(table) => match try_table(alloc, &table, store, output) {
+            Ok(status) => status,
+            Err(stop) => stop.tell(output, errors),
+        },
+        Err(stop) => stop.tell(output, errors),
+    }
+}
+
+/// `try` on a job's table.
+fn try_table<'a, S: Store, O: Write>(
+    alloc: Global,
+    table: &'a Table,
+    store: &mut S,
+    output: &mut O,
+) -> Result<Status, Stop<'a>> {
+    let job = try_job_in(table).ok_or(JobError::BadKey)?;
+    let image = read_image(alloc, job.image, store)?;
+    let args = read_args(alloc, &job.params, store)?;
+    let trial = run_job(alloc, &job, &image, args)?;
+    write_outs(&job.params, &trial.args, store)?;
+    match trial.print(output) {
+        Ok(()) => Ok(trial.status()),
+        Err(_) => Err(Stop::Output),
+    }
+}
+
+/// The file at `path`.
+fn read<'a, S: Store>(alloc: Global, path: &'a str, store: &mut S) -> Result<Vec<u8>, Stop<'a>> {
+    match store.read(alloc, path) {
+        Ok(bytes) => Ok(bytes),
+        Err(error) => Err(Stop::at_file(error, path)),
+    }
+}
+
+fn read_table<'a, S: Store>(
+    alloc: Global,
+    path: &'a str,
+    store: &mut S,
+) -> Result<Table, Stop<'a>> {
+    let bytes = read(alloc, path, store)?;
+    match std::str::from_utf8(bytes.as_slice()) {
+        Ok(text) => Ok(parse(alloc, text)?),
+        Err(_) => Err(Stop::Job(JobError::NotToml)),
+    }
+}
+
+fn read_image<'a, S: Store>(
+    alloc: Global,
+    path: &'a str,
+    store: &mut S,
+) -> Result<Image, Stop<'a>> {
+    let bytes = read(alloc, path, store)?;
+    Ok(elf_image::read(alloc, bytes.as_slice())?)
+}
+
+/// What a job passes, by place: its scalars, and the bytes of its files.
+fn read_args<'a, S: Store>(
+    alloc: Global,
+    params: &[TryParam<&'a str>; 8],
+    store: &mut S,
+) -> Result<Args, Stop<'a>>
+    ensures { IfOk result (λ args. ArePassed (map try_param_lent params.now) args.places) }
+{
+    let mut places = no_args();
+    for place in 0..8 {
+        places[place] = read_arg(alloc, &params[place], store)?;
+    }
+    Ok(Args { places })
+}
+
+fn no_args() -> [Arg; 8]
+    ensures { result ≡ replicate 8 Arg.None }
+{
+    [
+        Arg::None,
+        Arg::None,
+        Arg::None,
+        Arg::None,
+        Arg::None,
+        Arg::None,
+        Arg::None,
+        Arg::None,
+    ]
+}
+
+fn read_arg<'a, S: Store>(
+    alloc: Global,
+    param: &TryParam<&'a str>,
+    store: &mut S,
+) -> Result<Arg, Stop<'a>>
+    ensures { IfOk result (λ arg. IsPassed (try_param_lent param.now) arg) }
+{
+    match param {
+        TryParam::None => Ok(Arg::None),
+        TryParam::Scalar(value) => Ok(Arg::Scalar(*value)),
+        TryParam::Buffer { file, .. } => {
+            let bytes = read(alloc, *file, store)?;
+            Ok(Arg::Buffer(Bytes::new(bytes)))
+        }
+    }
+}
+
+/// Writes the out files of a job, by place.
+fn write_outs<'a, S: Store>(
+    params: &[TryParam<&'a str>; 8],
+    args: &Args,
+    store: &mut S,
+) -> Result<(), Stop<'a>> {
+    for place in 0..8 {
+        if let Some((path, bytes)) = out_file(&params[place], &args.places[place])
+            && let Err(error) = store.write(path, bytes)
+        {
+            return Err(Stop::at_file(error, path));
+        }
+    }
+    Ok(())
+}
