@@ -1,6 +1,6 @@
 //! Rows `VLENB SETTING MAX IMAGE A0 .. A7 = END STEPS OUT..`: what whole runs answer.
 
-ghost use Rattle.std.specs.Prelude.{◌≡◌, ◌⊎◌};
+ghost use Rattle.vreg_groups.specs.VectorLength.{IsVlenb};
 
 use crate::arguments::Given;
 use crate::fields::{RowError, bytes, hex, next, setting, vlen};
@@ -96,7 +96,7 @@ fn start(parameters: &Parameters, given: &Given) -> State {
 }
 
 fn run<const VLENB: usize>(alloc: Global, case: &Case<'_>) -> Result<Option<String>, RowError>
-    requires { (VLENB ≡ 16) ⊎ (VLENB ≡ 32) }
+    requires { IsVlenb VLENB }
 {
     let file = bytes(alloc, case.image)?;
     let image = match elf_image::read(alloc, file.as_slice()) {
@@ -129,7 +129,7 @@ fn run<const VLENB: usize>(alloc: Global, case: &Case<'_>) -> Result<Option<Stri
 
 /// The registers in the end.
 fn last_state<const VLENB: usize>(last: &Final<VLENB>) -> State
-    requires { (VLENB ≡ 16) ⊎ (VLENB ≡ 32) }
+    requires { IsVlenb VLENB }
 {
     let registers = &last.registers;
     State {
@@ -153,7 +153,7 @@ fn difference<const VLENB: usize>(
     outs: &str,
     last: Final<VLENB>,
 ) -> Result<Option<Difference>, RowError>
-    requires { (VLENB ≡ 16) ⊎ (VLENB ≡ 32) }
+    requires { IsVlenb VLENB }
 {
     for field in outs.split(' ').filter(|field| !field.is_empty()) {
         let (name, value) = field.split_once('=').ok_or(RowError::NoRow)?;

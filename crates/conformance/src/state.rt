@@ -1,6 +1,7 @@
 //! The registers of a hart as plain data, and what two of them differ in.
 
-ghost use Rattle.std.specs.Prelude.{◌≡◌, ◌<◌, ◌⊎◌, IfOk};
+ghost use Rattle.std.specs.Prelude.{◌<◌, IfOk};
+ghost use Rattle.vreg_groups.specs.VectorLength.{IsVlenb};
 
 use crate::draws::Draws;
 use crate::fields::{RowError, bytes, decimal, hex};
@@ -63,7 +64,7 @@ impl State {
         config: Vconfig,
         registers: &VregFile<VLENB>,
     ) -> State
-        requires { (VLENB ≡ 16) ⊎ (VLENB ≡ 32) }
+        requires { IsVlenb VLENB }
     {
         State {
             pc: hart.pc(),
@@ -187,7 +188,7 @@ fn register_number(text: &str) -> Result<usize, RowError>
 
 /// The bytes of all vector registers, and zeros behind them.
 pub fn vector_bytes<const VLENB: usize>(registers: &VregFile<VLENB>) -> [u8; 1024]
-    requires { (VLENB ≡ 16) ⊎ (VLENB ≡ 32) }
+    requires { IsVlenb VLENB }
 {
     let mut bytes = [0; 1024];
     for number in 0..32u8 {

@@ -1,6 +1,6 @@
 //! One step of a hart, from any state.
 
-ghost use Rattle.std.specs.Prelude.{◌≡◌, ◌⊎◌};
+ghost use Rattle.vreg_groups.specs.VectorLength.{IsVlenb};
 
 use crate::memory::FIRST;
 use crate::state::State;
@@ -48,7 +48,7 @@ pub fn step<const VLENB: usize>(
     memory: &mut Regions,
     word: u32,
 ) -> Result<(), Fault>
-    requires { (VLENB ≡ 16) ⊎ (VLENB ≡ 32) }
+    requires { IsVlenb VLENB }
 {
     let Some(insn) = decode(word) else {
         return Err(Fault::Illegal(word));
@@ -71,7 +71,7 @@ pub fn vectors<const VLENB: usize>(
     state: &State,
     memory: &mut Regions,
 ) -> Result<VectorState<VLENB>, Fault>
-    requires { (VLENB ≡ 16) ⊎ (VLENB ≡ 32) }
+    requires { IsVlenb VLENB }
 {
     let mut vectors = VectorState::new(agnostic);
     let mut hart = Scalar::new(0);

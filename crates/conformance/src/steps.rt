@@ -1,6 +1,6 @@
 //! Rows `VLENB SETTING VTYPE VL SEED WORD [IN..] = OUT..`: what one step does.
 
-ghost use Rattle.std.specs.Prelude.{◌≡◌, ◌⊎◌};
+ghost use Rattle.vreg_groups.specs.VectorLength.{IsVlenb};
 
 use crate::draws::Draws;
 use crate::fields::{RowError, bytes, decimal, hex, next, setting, vlen};
@@ -58,7 +58,7 @@ impl Steps {
         alloc: Global,
         case: &Case<'_>,
     ) -> Result<Option<String>, RowError>
-        requires { (VLENB ≡ 16) ⊎ (VLENB ≡ 32) }
+        requires { IsVlenb VLENB }
     {
         let mut hart = case.before.hart();
         let mut vectors = match vectors::<VLENB>(case.agnostic, &case.before, &mut self.registers) {
@@ -85,7 +85,7 @@ impl Steps {
         case: &Case<'_>,
         came: &State,
     ) -> Result<Option<Difference>, RowError>
-        requires { (VLENB ≡ 16) ⊎ (VLENB ≡ 32) }
+        requires { IsVlenb VLENB }
     {
         let mut expected = case.before;
         let mut found = None;
