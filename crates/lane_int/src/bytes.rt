@@ -48,6 +48,7 @@ fn remainder_signed(a: u8, b: u8) -> u8
 }
 
 /// What `op` makes of vs2's element `a` and of `b`.
+#[inline(always)]
 #[tactic(auto, unfolding(crate::specs::Integer::element))]
 pub fn int_result(op: IntOp, a: u8, b: u8) -> u8
     ensures { result ≡ element op w8 a b }
@@ -78,6 +79,7 @@ pub fn int_result(op: IntOp, a: u8, b: u8) -> u8
 }
 
 /// Whether `op` holds of vs2's element `a` and of `b`.
+#[inline(always)]
 #[tactic(auto, unfolding(crate::specs::Integer::compares))]
 pub fn int_test(op: CompareOp, a: u8, b: u8) -> bool
     ensures { result ≡ compares op w8 a b }
@@ -95,6 +97,7 @@ pub fn int_test(op: CompareOp, a: u8, b: u8) -> bool
 }
 
 /// The sum with a carry, or the difference with a borrow.
+#[inline(always)]
 #[tactic(auto, unfolding(crate::specs::Integer::carried))]
 pub fn carry_result(op: CarryOp, a: u8, b: u8, carry: bool) -> u8
     ensures { result ≡ carried op w8 a b carry }
@@ -106,6 +109,7 @@ pub fn carry_result(op: CarryOp, a: u8, b: u8, carry: bool) -> u8
 }
 
 /// The carry out of that sum, or the borrow of that difference.
+#[inline(always)]
 #[tactic(auto, unfolding(crate::specs::Integer::carries))]
 pub fn carry_out(op: CarryOp, a: u8, b: u8, carry: bool) -> bool
     ensures { result ≡ carries op w8 a b carry }
@@ -117,6 +121,7 @@ pub fn carry_out(op: CarryOp, a: u8, b: u8, carry: bool) -> bool
 }
 
 /// What `op` makes of vs2's element `a`, of `b` and of vd's old element `d`.
+#[inline(always)]
 #[tactic(auto, unfolding(crate::specs::Integer::multiply_added))]
 pub fn multiply_add(op: MultiplyAddOp, a: u8, b: u8, d: u8) -> u8
     ensures { result ≡ multiply_added op w8 a b d }

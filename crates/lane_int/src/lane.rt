@@ -81,22 +81,27 @@ impl Lane for u8 {
 
     ghost added_of = { λ op a b d. multiply_added op w8 a b d };
 
+    #[inline(always)]
     fn int_result(op: IntOp, a: u8, b: u8) -> u8 {
         bytes::int_result(op, a, b)
     }
 
+    #[inline(always)]
     fn int_test(op: CompareOp, a: u8, b: u8) -> bool {
         bytes::int_test(op, a, b)
     }
 
+    #[inline(always)]
     fn carry_result(op: CarryOp, a: u8, b: u8, carry: bool) -> u8 {
         bytes::carry_result(op, a, b, carry)
     }
 
+    #[inline(always)]
     fn carry_out(op: CarryOp, a: u8, b: u8, carry: bool) -> bool {
         bytes::carry_out(op, a, b, carry)
     }
 
+    #[inline(always)]
     fn multiply_add(op: MultiplyAddOp, a: u8, b: u8, d: u8) -> u8 {
         bytes::multiply_add(op, a, b, d)
     }
@@ -131,22 +136,27 @@ impl Lane for u16 {
 
     ghost added_of = { λ op a b d. multiply_added op w16 a b d };
 
+    #[inline(always)]
     fn int_result(op: IntOp, a: u16, b: u16) -> u16 {
         halves::int_result(op, a, b)
     }
 
+    #[inline(always)]
     fn int_test(op: CompareOp, a: u16, b: u16) -> bool {
         halves::int_test(op, a, b)
     }
 
+    #[inline(always)]
     fn carry_result(op: CarryOp, a: u16, b: u16, carry: bool) -> u16 {
         halves::carry_result(op, a, b, carry)
     }
 
+    #[inline(always)]
     fn carry_out(op: CarryOp, a: u16, b: u16, carry: bool) -> bool {
         halves::carry_out(op, a, b, carry)
     }
 
+    #[inline(always)]
     fn multiply_add(op: MultiplyAddOp, a: u16, b: u16, d: u16) -> u16 {
         halves::multiply_add(op, a, b, d)
     }
@@ -181,22 +191,27 @@ impl Lane for u32 {
 
     ghost added_of = { λ op a b d. multiply_added op w32 a b d };
 
+    #[inline(always)]
     fn int_result(op: IntOp, a: u32, b: u32) -> u32 {
         words::int_result(op, a, b)
     }
 
+    #[inline(always)]
     fn int_test(op: CompareOp, a: u32, b: u32) -> bool {
         words::int_test(op, a, b)
     }
 
+    #[inline(always)]
     fn carry_result(op: CarryOp, a: u32, b: u32, carry: bool) -> u32 {
         words::carry_result(op, a, b, carry)
     }
 
+    #[inline(always)]
     fn carry_out(op: CarryOp, a: u32, b: u32, carry: bool) -> bool {
         words::carry_out(op, a, b, carry)
     }
 
+    #[inline(always)]
     fn multiply_add(op: MultiplyAddOp, a: u32, b: u32, d: u32) -> u32 {
         words::multiply_add(op, a, b, d)
     }

@@ -2,7 +2,7 @@
 use Rattle.std.proofs.Common.{◌≡◌}
 use lib.Lanes.{zip2}
 use Rattle.lane_int.proofs.Overlay.{overlaid}
-use Rattle.lane_int.proofs.kernels.compare.Given as goal
+use Rattle.lane_int.proofs.kernels.compute_each.Given as goal
 
 abbrev pub invariant-loop-i : goal.invariant-loop-i
-invariant-loop-i g l = l.bits ≡ overlaid l.i (zip2 (g.T.Lane.test_of l.op) l.a l.b) l.initial.bits
+invariant-loop-i g l = l.values ≡ overlaid l.i (zip2 (g.T.Lane.result_of l.op) l.initial.values l.b) l.initial.values
