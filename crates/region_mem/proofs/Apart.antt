@@ -9,9 +9,9 @@ use Rattle.region_mem.specs.declared.layout.TheConstants.{BUFFERS, BUFFERS_END, 
 use Rattle.region_mem.proofs.Matching.{NonePasses, nothing_wrong}
 use Rattle.region_mem.proofs.Rooms.{and_first, and_second, room_of_valid}
 use Rattle.elf_image.specs.Image.{SegmentView, IsSegment, IsApart, AreApart, IsInPlace}
-use Rattle.region_mem.specs.Area.{Area}
+use Rattle.region_mem.specs.Areas.{Area, AreInOrder}
 use Rattle.region_mem.specs.Start.{zeros, segment_area, stack_area, buffer_area, buffer_areas, insert_area, insert_areas, start_areas, start_memory}
-use Rattle.region_mem.specs.Laws.{AreInOrder, StartsInOrder}
+use Rattle.region_mem.specs.Laws.{StartsInOrder}
 use Rattle.region_mem.specs.Parameter.{Argument, is_valid, room_of, is_buffer, address_of, is_wrong_kind, is_wrong_size}
 use Rattle.region_mem.specs.declared.parameter.Param.{Param}
 use Rattle.region_mem.specs.declared.parameter.Param.TheVariants as parameter

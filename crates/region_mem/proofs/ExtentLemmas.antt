@@ -9,7 +9,7 @@ use Rattle.region_mem.proofs.Apart.{IsRising, end_of, all_insert, all_inserts, r
 use Rattle.elf_image.specs.Image.{SegmentView, IsSegment, IsInPlace}
 use Rattle.region_mem.specs.declared.faults.Right.{Right}
 use Rattle.region_mem.specs.declared.faults.Right.TheVariants.{Write, Fetch}
-use Rattle.region_mem.specs.Area.{Area, holds, is_open, is_open_from, with_byte, with_number}
+use Rattle.region_mem.specs.Areas.{Area, holds, is_open, is_open_from, with_byte, with_number}
 use Rattle.region_mem.specs.Memory.{Memory, is_permitted, store_of, fetch_of}
 use Rattle.region_mem.specs.Start.{segment_area, stack_area, buffer_areas, insert_area, insert_areas, start_areas, start_memory}
 use Rattle.region_mem.specs.Laws.{Extent, extent_of, StoresKeepExtents, FetchesNothingAbove}

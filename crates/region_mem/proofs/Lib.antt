@@ -6,4 +6,6 @@ pub mod Returned
 pub mod Lists
 pub mod Apart
 pub mod StartLemmas
+pub mod SearchLemmas
+pub mod AccessLemmas
 pub mod ExtentLemmas

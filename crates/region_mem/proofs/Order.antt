@@ -5,7 +5,7 @@ use Rattle.std.proofs.lemmas.Grind.{common_steps}
 use Rattle.region_mem.proofs.Lists.{eight_found}
 use Rattle.std.proofs.Common.{None}
 use Rattle.std.proofs.Math.Numerals.{one-add}
-use Rattle.region_mem.specs.Area.{Area}
+use Rattle.region_mem.specs.Areas.{Area}
 use Rattle.std.proofs.Common.{get_or, map, drop-cons, add-one}
 use Rattle.std.proofs.lemmas.List.{drop_all}
 use Rattle.elf_image.specs.Image.{SegmentView}

@@ -7,7 +7,7 @@ use Rattle.region_mem.specs.declared.layout.TheConstants.{BUFFERS, BUFFERS_END}
 use Rattle.region_mem.proofs.Matching.{nothing_wrong}
 use Rattle.region_mem.proofs.Apart.{IsRising, end_of, all_insert, all_inserts, rising, sum_by_all}
 use Rattle.elf_image.specs.Image.{SegmentView, IsSegment, IsInPlace}
-use Rattle.region_mem.specs.Area.{Area}
+use Rattle.region_mem.specs.Areas.{Area}
 use Rattle.region_mem.specs.Memory.{is_buffer_area, arg_with, left_after, args_with, args_of}
 use Rattle.region_mem.specs.Start.{segment_area, stack_area, buffer_area, buffer_areas, insert_area, insert_areas, passed_of, start_areas, start_memory}
 use Rattle.region_mem.specs.Laws.{GivesArgumentsBack}

@@ -4,7 +4,7 @@ use Rattle.std.specs.List.{position, position_or_len}
 use Rattle.std.proofs.lemmas.Grind.{common_steps}
 use Rattle.std.proofs.lemmas.List.Sums.{passes_at_first}
 use Rattle.std.specs.Prelude.{IsTrue}
-use Rattle.region_mem.specs.Area.{Area, holds, with_byte}
+use Rattle.region_mem.specs.Areas.{Area, holds, with_byte}
 
 -- the area with this byte at an address
 abbrev pub written : ℕ → ℕ → Area → Area

@@ -1,6 +1,6 @@
 pub mod Faults
 pub mod Parameter
-pub mod Area
+pub mod Areas
 pub mod Memory
 pub mod Start
 pub mod Laws

@@ -7,7 +7,7 @@ use Rattle.region_mem.specs.Parameter.{Argument}
 use Rattle.region_mem.specs.declared.arguments.Arg.TheVariants as argument
 use Rattle.region_mem.specs.declared.arguments.Passed.{Passed}
 use Rattle.region_mem.specs.declared.arguments.Passed.TheVariants as passed
-use Rattle.region_mem.specs.Area.{Area, byte_at, is_open_from, number_at, with_number}
+use Rattle.region_mem.specs.Areas.{Area, byte_at, is_open_from, number_at, with_number}
 
 -- The areas stand in the order of their first addresses; what was passed stands by place.
 pub record Memory : Type 0 where

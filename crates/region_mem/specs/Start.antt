@@ -10,7 +10,7 @@ use Rattle.region_mem.specs.declared.arguments.Arg.TheVariants as argument
 use Rattle.region_mem.specs.declared.arguments.Passed.{Passed}
 use Rattle.region_mem.specs.declared.arguments.Passed.TheVariants as passed
 use Rattle.region_mem.specs.Parameter.{Argument, address_of}
-use Rattle.region_mem.specs.Area.{Area}
+use Rattle.region_mem.specs.Areas.{Area}
 use Rattle.region_mem.specs.Memory.{Memory}
 
 unfoldable pub zeros : ℕ → List ℕ

@@ -1,280 +1,173 @@
-//! A region of memory, and accesses to a list of them.
-ghost use Rattle.std.specs.Prelude.{unwrap_or, ◌≡◌, ◌+◌, ◌<◌, ◌-◌, ◌≤◌, ◌^◌, ◌&&◌, IsTrue, length, slice_index, slice_set, find, position};
-ghost use Rattle.std.specs.List.{list_any, list_all, range_with_len};
+//! Regions in order: the one that an address lies in is found by a search, and an access that it holds whole goes to it
+//! at once.
+ghost use Rattle.std.specs.Prelude.{◌≡◌, ◌+◌, ◌<◌, ◌≤◌, ◌^◌, Some, None, true, false, length, find, position, if◌then◌else◌};
 ghost use Rattle.std.specs.Option.{option_copied};
-
-use crate::arguments::Bytes;
-use crate::faults::Right;
-use crate::layout::{BUFFERS, BUFFERS_END};
-use std::alloc::{Allocator, Global};
-use std::marker::Model;
-
-/// Bytes from an address on, and what may be done with them.
-#[derive(Debug, Drop)]
-pub struct Region<A: Allocator = Global> {
-    first: u64,
-    bytes: Bytes<A>,
-    read: bool,
-    write: bool,
-    fetch: bool,
-}
-
-impl<A: Allocator> Model for Region<A> {
-    ghost use Rattle.std.specs.Prelude.{◌+◌, ◌≤◌, ◌^◌, length};
-    ghost use Rattle.region_mem.specs.Area.{Area};
-
-    ghost Value = { Area };
-
-    ghost view = { λ r. record { first = r.first; bytes = r.bytes; read = r.read; write = r.write; fetch = r.fetch } };
-
-    ghost invariant = { λ r. r.first + length r.bytes ≤ 2 ^ 32 };
-}
-
-impl<A: Allocator> Region<A> {
-    ghost use Rattle.region_mem.specs.Area.{Area, holds, has_right};
-    ghost use Rattle.region_mem.specs.Memory.{is_buffer_area};
-
-    pub(crate) fn new(
-        first: u64,
-        bytes: Bytes<A>,
-        read: bool,
-        write: bool,
-        fetch: bool,
-    ) -> Region<A>
-        requires { first + length bytes ≤ 2 ^ 32 }
-        ensures { result ≡ record { first = first; bytes = bytes; read = read; write = write; fetch = fetch } }
-    {
-        Region {
-            first,
-            bytes,
-            read,
-            write,
-            fetch,
-        }
-    }
-
-    pub(crate) fn first(&self) -> u64
-        ensures { result ≡ self.now.first }
-    {
-        self.first
-    }
-
-    pub(crate) fn into_bytes(self) -> Bytes<A>
-        ensures { result ≡ self.bytes }
-    {
-        let Region {
-            first: _,
-            bytes,
-            read: _,
-            write: _,
-            fetch: _,
-        } = self;
-        bytes
-    }
-
-    #[tactic(auto, unfolding(crate::specs::Memory::is_buffer_area))]
-    pub(crate) fn is_buffer(&self) -> bool
-        ensures { result ≡ is_buffer_area self.now }
-    {
-        u64::from(BUFFERS) <= self.first && self.first < u64::from(BUFFERS_END)
-    }
-
-    #[tactic(auto, unfolding(crate::specs::Area::holds))]
-    fn holds(&self, address: u64) -> bool
-        ensures { result ≡ holds address self.now }
-    {
-        self.first <= address && address < self.first + self.bytes.len() as u64
-    }
-
-    #[tactic(auto, unfolding(crate::specs::Area::has_right))]
-    fn has_right(&self, right: Right) -> bool
-        ensures { result ≡ has_right right self.now }
-    {
-        match right {
-            Right::Read => self.read,
-            Right::Write => self.write,
-            Right::Fetch => self.fetch,
-        }
-    }
-
-    #[tactic(auto, unfolding(crate::specs::Area::holds))]
-    fn byte(&self, address: u64) -> u8
-        requires { IsTrue (holds address self.now) }
-        ensures { result ≡ slice_index self.now.bytes (address - self.now.first) }
-    {
-        self.bytes.as_slice()[(address - self.first) as usize]
-    }
-
-    #[tactic(auto, unfolding(crate::specs::Area::holds))]
-    fn set_byte(&mut self, address: u64, byte: u8)
-        requires { IsTrue (holds address self.old) }
-        ensures { self.new ≡ record self.old { bytes = slice_set self.old.bytes (address - self.old.first) byte } }
-    {
-        self.bytes.set((address - self.first) as usize, byte);
-    }
-}
-
 ghost use Rattle.region_mem.specs.Memory.{IsAccessSize};
-ghost use Rattle.region_mem.specs.Area.{Area, holds, has_right, is_open, is_open_from, byte_at, number_at, number_of, with_byte, with_number};
+ghost use Rattle.region_mem.specs.Areas.{AreInOrder, IsCount, holds, is_open_from, byte_at, number_at, with_number};
 
-#[tactic(auto, unfolding(crate::specs::Area::is_open))]
-fn is_open<A: Allocator>(regions: &[Region<A>], right: Right, address: u64) -> bool
-    ensures { result ≡ is_open right regions.now address }
+use crate::faults::Right;
+use crate::region::Region;
+use crate::walk;
+use std::alloc::Allocator;
+
+/// How many regions begin at an address or below it.
+fn count_up_to<A: Allocator>(regions: &[Region<A>], address: u64) -> usize
+    requires { AreInOrder 0 regions.now }
+    ensures split { IsCount address regions.now result }
+    ensures inside { result ≤ length regions.now }
 {
-    regions
-        .iter()
-        .any(|region| region.holds(address) && region.has_right(right))
+    regions.partition_point(|region| region.first() <= address)
+}
+
+/// The place of the region that holds the byte at an address.
+#[tactic(auto, using(crate::proofs::SearchLemmas::search_found, crate::proofs::SearchLemmas::search_none))]
+fn place_of<A: Allocator>(regions: &[Region<A>], address: u64) -> Option<usize>
+    requires { AreInOrder 0 regions.now }
+    ensures { result ≡ position (holds address) regions.now }
+{
+    let count = count_up_to(regions, address);
+    if count == 0 {
+        return None;
+    }
+    let place = count - 1;
+    if regions[place].holds(address) {
+        Some(place)
+    } else {
+        None
+    }
+}
+
+/// The region that holds the byte at an address.
+#[tactic(auto, using(crate::proofs::AccessLemmas::find_place, crate::proofs::AccessLemmas::find_none))]
+fn region_of<A: Allocator>(regions: &[Region<A>], address: u64) -> Option<&Region<A>>
+    requires { AreInOrder 0 regions.now }
+    ensures { option_copied result ≡ find (holds address) regions.now }
+{
+    match place_of(regions, address) {
+        Some(place) => Some(&regions[place]),
+        None => None,
+    }
+}
+
+/// The byte at an address, whatever the rights.
+#[tactic(auto, using(crate::proofs::AccessLemmas::find_holds), unfolding(crate::specs::Areas::byte_at))]
+pub(crate) fn byte<A: Allocator>(regions: &[Region<A>], address: u64) -> Option<u8>
+    requires { AreInOrder 0 regions.now }
+    ensures { result ≡ byte_at address regions.now }
+{
+    match region_of(regions, address) {
+        Some(region) => Some(region.byte(address)),
+        None => None,
+    }
+}
+
+/// Whether one region holds all of an access, with the right.
+#[tactic(auto, using(crate::proofs::AccessLemmas::open_in_one))]
+fn one_permits<A: Allocator>(regions: &[Region<A>], right: Right, address: u64, size: u64) -> bool
+    requires order { AreInOrder 0 regions.now }
+    requires fits { address + size < 2 ^ 64 }
+    ensures { result ≡ true → is_open_from right address size regions.now ≡ true }
+{
+    match region_of(regions, address) {
+        Some(region) => region.admits(right, address, size),
+        None => false,
+    }
 }
 
 /// Whether each byte of an access lies in a region with the right, and none past the last address.
-#[tactic(auto, unfolding(crate::specs::Area::is_open_from))]
 pub(crate) fn permits<A: Allocator>(
     regions: &[Region<A>],
     right: Right,
     address: u64,
     size: u64,
 ) -> bool
+    requires order { AreInOrder 0 regions.now }
     requires first { address < 2 ^ 32 }
     requires fits { size < 2 ^ 63 }
     ensures { result ≡ is_open_from right address size regions.now }
 {
-    address + size <= 1 << 32 && all_open(regions, right, address, size)
+    one_permits(regions, right, address, size) || walk::permits(regions, right, address, size)
 }
 
-fn all_open<A: Allocator>(regions: &[Region<A>], right: Right, address: u64, size: u64) -> bool
-    requires { address + size < 2 ^ 64 }
-    ensures { result ≡ list_all (is_open right regions.now) (range_with_len address size) }
-{
-    (address..address + size).all(|at| is_open(regions, right, at))
-}
-
-/// The byte at an address, whatever the rights.
-#[tactic(auto, unfolding(crate::specs::Area::byte_at))]
-pub(crate) fn byte<A: Allocator>(regions: &[Region<A>], address: u64) -> Option<u8>
-    ensures { result ≡ byte_at address regions.now }
-{
-    let region = regions.iter().find(|region| region.holds(address))?;
-    Some(region.byte(address))
-}
-
-#[tactic(auto, using(crate::proofs::Writes::with_byte_first, crate::proofs::Writes::with_byte_none, crate::proofs::Writes::holds_first))]
-fn set_byte<A: Allocator>(regions: &mut [Region<A>], address: u64, byte: u8)
-    ensures { regions.new ≡ with_byte address byte regions.old }
-{
-    if let Some(place) = place_of(regions, address) {
-        regions[place].set_byte(address, byte);
-    }
-}
-
-/// The place of the first region that holds the byte at an address.
-fn place_of<A: Allocator>(regions: &[Region<A>], address: u64) -> Option<usize>
-    ensures { result ≡ position (holds address) regions.now }
-{
-    regions.iter().position(|region| region.holds(address))
-}
-
-#[tactic(auto, unfolding(crate::specs::Area::number_at))]
-fn byte_or_zero<A: Allocator>(regions: &[Region<A>], address: u64) -> u32
-    ensures value { result ≡ unwrap_or (byte_at address regions.now) 0 }
-    ensures small { result < 256 }
-{
-    match byte(regions, address) {
-        Some(byte) => u32::from(byte),
-        None => 0,
-    }
-}
-
-#[tactic(auto, unfolding(crate::specs::Area::number_at, crate::specs::Area::number_of))]
-fn byte_number<A: Allocator>(regions: &[Region<A>], address: u64) -> u32
-    ensures { result ≡ number_at address 1 regions.now }
-{
-    byte_or_zero(regions, address)
-}
-
-#[tactic(auto, unfolding(crate::specs::Area::number_at, crate::specs::Area::number_of))]
-fn half_number<A: Allocator>(regions: &[Region<A>], address: u64) -> u32
-    requires { address < 2 ^ 32 }
-    ensures { result ≡ number_at address 2 regions.now }
-{
-    let high = byte_or_zero(regions, address + 1);
-    byte_or_zero(regions, address) + 256 * high
-}
-
-/// The number in the four bytes from an address on, the lowest first.
-#[tactic(auto, unfolding(crate::specs::Area::number_at, crate::specs::Area::number_of))]
-pub(crate) fn word_number<A: Allocator>(regions: &[Region<A>], address: u64) -> u32
-    requires { address < 2 ^ 32 }
-    ensures { result ≡ number_at address 4 regions.now }
-{
-    let second = address + 1;
-    let third = second + 1;
-    let highest = byte_or_zero(regions, third + 1);
-    let high = byte_or_zero(regions, third) + 256 * highest;
-    let upper = byte_or_zero(regions, second) + 256 * high;
-    byte_or_zero(regions, address) + 256 * upper
-}
-
-/// The number in the n bytes from an address on, the lowest first.
-pub(crate) fn number<A: Allocator>(regions: &[Region<A>], address: u64, n: usize) -> u32
+/// The number in the n bytes from an address on, the lowest first, where all of them may be accessed.
+#[tactic(auto, using(crate::proofs::AccessLemmas::open_in_one, crate::proofs::AccessLemmas::number_in_one))]
+pub(crate) fn number<A: Allocator>(
+    regions: &[Region<A>],
+    right: Right,
+    address: u64,
+    n: usize,
+) -> Option<u32>
+    requires order { AreInOrder 0 regions.now }
     requires address { address < 2 ^ 32 }
     requires size { IsAccessSize n }
-    ensures { result ≡ number_at address n regions.now }
+    ensures { result ≡ (if is_open_from right address n regions.now
+        then Some (number_at address n regions.now) else None) }
 {
-    match n {
-        1 => byte_number(regions, address),
-        2 => half_number(regions, address),
-        _ => word_number(regions, address),
+    if let Some(region) = region_of(regions, address) {
+        if let Some(number) = region.number_for(right, address, n) {
+            return Some(number);
+        }
+    }
+    number_by_bytes(regions, right, address, n)
+}
+
+fn number_by_bytes<A: Allocator>(
+    regions: &[Region<A>],
+    right: Right,
+    address: u64,
+    n: usize,
+) -> Option<u32>
+    requires address { address < 2 ^ 32 }
+    requires size { IsAccessSize n }
+    ensures { result ≡ (if is_open_from right address n regions.now
+        then Some (number_at address n regions.now) else None) }
+{
+    if walk::permits(regions, right, address, n as u64) {
+        Some(walk::number(regions, address, n))
+    } else {
+        None
     }
 }
 
-#[tactic(auto, unfolding(crate::specs::Area::with_number))]
-fn set_lowest<A: Allocator>(regions: &mut [Region<A>], address: u64, value: u32)
-    ensures { regions.new ≡ with_number address 1 value regions.old }
-{
-    set_byte(regions, address, (value % 256) as u8);
-}
-
-#[tactic(auto, unfolding(crate::specs::Area::with_number))]
-fn set_half<A: Allocator>(regions: &mut [Region<A>], address: u64, value: u32)
-    requires { address < 2 ^ 34 }
-    ensures { regions.new ≡ with_number address 2 value regions.old }
-{
-    set_byte(regions, address, (value % 256) as u8);
-    set_lowest(regions, address + 1, value / 256);
-}
-
-#[tactic(auto, unfolding(crate::specs::Area::with_number))]
-fn set_three<A: Allocator>(regions: &mut [Region<A>], address: u64, value: u32)
-    requires { address < 2 ^ 33 }
-    ensures { regions.new ≡ with_number address 3 value regions.old }
-{
-    set_byte(regions, address, (value % 256) as u8);
-    set_half(regions, address + 1, value / 256);
-}
-
-#[tactic(auto, unfolding(crate::specs::Area::with_number))]
-fn set_word<A: Allocator>(regions: &mut [Region<A>], address: u64, value: u32)
-    requires { address < 2 ^ 32 }
-    ensures { regions.new ≡ with_number address 4 value regions.old }
-{
-    set_byte(regions, address, (value % 256) as u8);
-    set_three(regions, address + 1, value / 256);
-}
-
-/// Writes the n lowest bytes of a value from an address on.
+/// Writes the n lowest bytes of a value from an address on, and tells whether each of them may be written. Where one
+/// may not, nothing is.
+#[tactic(auto, using(crate::proofs::AccessLemmas::open_at, crate::proofs::AccessLemmas::goes_at, crate::proofs::AccessLemmas::number_order, crate::proofs::AccessLemmas::admits_spans))]
 pub(crate) fn set_number<A: Allocator>(
     regions: &mut [Region<A>],
     address: u64,
     n: usize,
     value: u32,
-)
+) -> bool
+    requires order { AreInOrder 0 regions.old }
     requires address { address < 2 ^ 32 }
     requires size { IsAccessSize n }
-    ensures { regions.new ≡ with_number address n value regions.old }
+    ensures value { result ≡ is_open_from Right.Write address n regions.old }
+    ensures done { result ≡ true → regions.new ≡ with_number address n value regions.old }
+    ensures refused { result ≡ false → regions.new ≡ regions.old }
+    ensures order { AreInOrder 0 regions.new }
 {
-    match n {
-        1 => set_lowest(regions, address, value),
-        2 => set_half(regions, address, value),
-        _ => set_word(regions, address, value),
+    if let Some(place) = place_of(regions, address) {
+        if regions[place].admits(Right::Write, address, n as u64) {
+            regions[place].set_number(address, n, value);
+            return true;
+        }
     }
+    set_by_bytes(regions, address, n, value)
+}
+
+#[tactic(auto, using(crate::proofs::AccessLemmas::number_order))]
+fn set_by_bytes<A: Allocator>(regions: &mut [Region<A>], address: u64, n: usize, value: u32) -> bool
+    requires order { AreInOrder 0 regions.old }
+    requires address { address < 2 ^ 32 }
+    requires size { IsAccessSize n }
+    ensures value { result ≡ is_open_from Right.Write address n regions.old }
+    ensures done { result ≡ true → regions.new ≡ with_number address n value regions.old }
+    ensures refused { result ≡ false → regions.new ≡ regions.old }
+    ensures order { AreInOrder 0 regions.new }
+{
+    if !walk::permits(regions, Right::Write, address, n as u64) {
+        return false;
+    }
+    walk::set_number(regions, address, n, value);
+    true
 }

@@ -12,7 +12,9 @@ mod laws;
 mod layout;
 mod memory;
 mod parameter;
+mod region;
 mod start;
+mod walk;
 
 pub use arguments::{Arg, Args, Bytes, Passed};
 pub use faults::{Fault, Right};

@@ -1,11 +1,11 @@
 //! The memory of a run.
 ghost use Rattle.std.specs.Prelude.{◌≡◌, ◌<◌, ◌^◌, Some, None, false, if◌then◌else◌, IfOk, IfErr};
 
-use crate::areas::{self, Region};
 use crate::arguments::{Args, Bytes, Passed};
 use crate::faults::Right;
 use crate::parameter::Parameters;
-use crate::start;
+use crate::region::Region;
+use crate::{areas, start};
 use elf_image::Image;
 use std::alloc::{AllocError, Allocator, Global};
 use std::marker::Model;
@@ -19,10 +19,14 @@ pub struct Regions<A: Allocator = Global> {
 
 impl<A: Allocator> Model for Regions<A> {
     ghost use Rattle.region_mem.specs.Memory.{Memory};
+    ghost use Rattle.region_mem.specs.Areas.{AreInOrder};
 
     ghost Value = { Memory };
 
     ghost view = { λ r. record { areas = r.regions.items; passed = r.passed } };
+
+    // The regions stand in order.
+    ghost invariant = { λ r. AreInOrder 0 r.regions.items };
 }
 
 impl<A: Allocator> Regions<A> {
@@ -49,6 +53,7 @@ impl<A: Allocator> Regions<A> {
         match start::fixed_regions(alloc, image) {
             Ok(mut regions) => {
                 parameters.bound_sizes(&args);
+                parameters.start_in_order(image, &args);
                 let passed = start::passed(&args);
                 start::put_all(&mut regions, parameters, args);
                 Ok(Regions { regions, passed })
@@ -90,42 +95,30 @@ impl<A: Allocator> Regions<A> {
 
     /// The number in the n bytes from an address on, the lowest first; None where one of them may not be read. n is 1,
     /// 2 or 4.
-    #[tactic(auto, unfolding(crate::specs::Memory::load_of))]
+    #[tactic(auto, unfolding(crate::specs::Memory::load_of, crate::specs::Memory::is_permitted))]
     pub fn load(&self, address: u32, n: usize) -> Option<u32>
         requires { IsAccessSize n }
         ensures { result ≡ load_of address n self.now }
     {
-        if self.permits(Right::Read, address, n) {
-            Some(areas::number(self.regions.as_slice(), u64::from(address), n))
-        } else {
-            None
-        }
+        areas::number(self.regions.as_slice(), Right::Read, u64::from(address), n)
     }
 
     /// The word at pc, the lowest byte first; None where one of its bytes may not be fetched.
-    #[tactic(auto, unfolding(crate::specs::Memory::fetch_of))]
+    #[tactic(auto, unfolding(crate::specs::Memory::fetch_of, crate::specs::Memory::is_permitted))]
     pub fn fetch(&self, pc: u32) -> Option<u32>
         ensures { result ≡ fetch_of pc self.now }
     {
-        if self.permits(Right::Fetch, pc, 4) {
-            Some(areas::word_number(self.regions.as_slice(), u64::from(pc)))
-        } else {
-            None
-        }
+        areas::number(self.regions.as_slice(), Right::Fetch, u64::from(pc), 4)
     }
 
     /// Writes the n lowest bytes of a value from an address on, and tells whether each of them may be written. Where one
     /// may not, nothing is. n is 1, 2 or 4.
-    #[tactic(auto, unfolding(crate::specs::Memory::store_of))]
+    #[tactic(auto, unfolding(crate::specs::Memory::store_of, crate::specs::Memory::is_permitted))]
     pub fn store(&mut self, address: u32, n: usize, value: u32) -> bool
         requires { IsAccessSize n }
         ensures meaning { (if result then Some self.new else None) ≡ store_of address n value self.old }
         ensures refused { result ≡ false → self.new ≡ self.old }
     {
-        if !self.permits(Right::Write, address, n) {
-            return false;
-        }
-        areas::set_number(self.regions.as_mut_slice(), u64::from(address), n, value);
-        true
+        areas::set_number(self.regions.as_mut_slice(), u64::from(address), n, value)
     }
 }

@@ -4,9 +4,12 @@ ghost use Rattle.std.specs.Prelude.{position};
 ghost use Rattle.std.specs.List.{slice_get, list_all, zip, AllByRecursion};
 ghost use Rattle.std.specs.Option.{option_map};
 ghost use Rattle.region_mem.specs.Parameter.{is_valid, parameters_of, is_buffer, room_of, address_of, is_wrong_kind, is_out_of_interval, is_wrong_size, argument_error, refused_by, size_of, AreArguments};
+ghost use Rattle.region_mem.specs.Areas.{AreInOrder};
+ghost use Rattle.region_mem.specs.Start.{start_memory};
 
 use crate::arguments::{Arg, Args, Bytes};
 use crate::layout::{BUFFERS, BUFFERS_END, MAX_BUFFER_SIZE, PAGE_SIZE};
+use elf_image::Image;
 use std::alloc::Allocator;
 use std::error::Error;
 use std::fmt;
@@ -178,6 +181,20 @@ impl Parameters {
         requires { AreArguments self.now args.now.places }
         ensures { AllByRecursion (λ arg. size_of arg ≤ MAX_BUFFER_SIZE) args.now.places }
     {
+        let _param = &self.params[7];
+        let _arg = &args.places[7];
+    }
+
+    /// The regions that a run starts with stand in order.
+    pub(crate) fn start_in_order<A: Allocator, B: Allocator>(
+        &self,
+        image: &Image<B>,
+        args: &Args<Bytes<A>>,
+    )
+        requires { AreArguments self.now args.now.places }
+        ensures { AreInOrder 0 (start_memory image.now self.now args.now.places).areas }
+    {
+        let _entry = image.entry();
         let _param = &self.params[7];
         let _arg = &args.places[7];
     }

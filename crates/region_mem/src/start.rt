@@ -7,14 +7,14 @@ ghost use Rattle.std.specs.Prelude.{◌++◌, filter, IfNone};
 ghost use Rattle.std.specs.Option.{option_to_list};
 ghost use Rattle.std.specs.Vec.Iter.{into_iter_items};
 ghost use Rattle.region_mem.specs.Memory.{is_buffer_area, arg_with, left_after, args_with};
-ghost use Rattle.region_mem.specs.Area.{Area};
+ghost use Rattle.region_mem.specs.Areas.{Area};
 ghost use Rattle.region_mem.specs.Start.{zeros, segment_area, stack_area, insert_area, insert_areas, is_writable, buffer_area, buffer_areas, passed_of};
 ghost use Rattle.region_mem.specs.Parameter.{size_of};
 
-use crate::areas::Region;
 use crate::arguments::{Arg, Args, Bytes, Passed};
 use crate::layout::{MAX_BUFFER_SIZE, STACK, STACK_SIZE};
 use crate::parameter::{Mode, Param, Parameters};
+use crate::region::Region;
 use elf_image::{Image, Segment};
 use std::alloc::{AllocError, Allocator};
 use std::vec::IntoIter;

@@ -1,6 +1,7 @@
 -- Areas of memory, as a list in the order of their first addresses: the byte at an address, what an access may do, and
 -- what a write leaves. An address is a number without limit here, so that none wraps.
-use Rattle.std.specs.Prelude.{ℕ, zero, suc, ◌+◌, ◌*◌, ◌-◌, ◌/◌, ◌%◌, ◌^◌, Bool, ◌&&◌, nat_le, nat_lt, List, [], ◌∷◌, length, map, find, Option, unwrap_or, slice_index, slice_set, if◌then◌else◌}
+use Rattle.std.specs.Prelude.{◌≡◌, ℕ, true, false, zero, suc, ◌+◌, ◌*◌, ◌-◌, ◌/◌, ◌%◌, ◌^◌, ◌≤◌, Bool, ◌&&◌, nat_le, nat_lt, List, [], ◌∷◌, length, map, find, Option, unwrap_or, slice_index, slice_set, if◌then◌else◌}
+use Rattle.std.specs.List.Sorted.{IsPartitionPoint}
 use Rattle.std.specs.List.{list_any, list_all, range_with_len}
 use Rattle.std.specs.Option.{option_map}
 use Rattle.region_mem.specs.declared.faults.Right.{Right}
@@ -14,14 +15,36 @@ pub record Area : Type 0 where
   pub write : Bool
   pub fetch : Bool
 
+-- Each area begins where the one before it has ended, or later: they stand in the order of their first addresses, and no
+-- address lies in two of them.
+unfoldable pub AreInOrder : ℕ → List Area → Type 0
+AreInOrder from [] = Unit {0}
+AreInOrder from (area ∷ areas) =
+    (from ≤ area.first) × AreInOrder (area.first + length area.bytes) areas
+
+-- So many areas, the first ones, begin at the address or below it.
+abbrev pub IsCount : ℕ → List Area → ℕ → Type 0
+IsCount address areas count =
+    IsPartitionPoint (λ area. nat_le area.first address ≡ true)
+    (λ area. nat_le area.first address ≡ false) areas count
+
 -- The byte at this address is the area's.
 unfoldable pub holds : ℕ → Area → Bool
 holds address area = nat_le area.first address && nat_lt address (area.first + length area.bytes)
+
+-- All n bytes from an address on are the area's.
+unfoldable pub spans : ℕ → ℕ → Area → Bool
+spans address n area =
+    nat_le area.first address && nat_le (address + n) (area.first + length area.bytes)
 
 unfoldable pub has_right : Right → Area → Bool
 has_right Read area = area.read
 has_right Write area = area.write
 has_right Fetch area = area.fetch
+
+-- All n bytes from an address on are the area's, which has the right.
+unfoldable pub admits : Right → ℕ → ℕ → Area → Bool
+admits right address n area = spans address n area && has_right right area
 
 -- The byte at this address lies in an area with the right.
 unfoldable pub is_open : Right → List Area → ℕ → Bool
@@ -60,3 +83,15 @@ unfoldable pub with_number : ℕ → ℕ → ℕ → List Area → List Area
 with_number address zero value areas = areas
 with_number address (suc n) value areas =
     with_number (address + 1) n (value / 256) (with_byte address (value % 256) areas)
+
+-- the number in the n bytes from an address on that an area has
+unfoldable pub number_in : ℕ → ℕ → Area → ℕ
+number_in address n area =
+    number_of (map (λ at. slice_index area.bytes (at - area.first)) (range_with_len address n))
+
+-- the area with the n lowest bytes of a number from an address on
+unfoldable pub number_into : ℕ → ℕ → ℕ → Area → Area
+number_into address zero value area = area
+number_into address (suc n) value area =
+    number_into (address + 1) n (value / 256)
+    (record area { bytes = slice_set area.bytes (address - area.first) (value % 256) })

@@ -1,0 +1,180 @@
+-- What an access that one area holds whole gives and leaves.
+use Rattle.std.proofs.Common.{◌≡◌, ℕ, zero, suc, ◌+◌, ◌-◌, ◌/◌, ◌%◌, ◌^◌, ◌<◌, ◌≤◌, Bool, true, false, ◌&&◌, ◌||◌, cond, subst, List, [], ◌∷◌, length, map, find, Some, None, position, unwrap_or, slice_index, get_or, set, arith, sym, ap, refl, ◌∙◌, length-set}
+use Rattle.std.specs.Prelude.{IsTrue}
+use Rattle.std.specs.List.{position_or_len, list_any, list_all, range_with_len, slice_get}
+use Rattle.std.proofs.lemmas.Bool.{and_parts, and_from, leb-true, le-leb}
+use Rattle.std.proofs.lemmas.Bool.Decides.{nat_tests}
+use Rattle.std.proofs.lemmas.Grind.{common_steps}
+use Rattle.std.proofs.lemmas.List.{get_or-set_same, set-get_or, set-set}
+use Rattle.std.proofs.lemmas.List.Folds.{find_at}
+use Rattle.std.proofs.lemmas.List.Quantifiers.{position-Some}
+use Rattle.std.proofs.lemmas.Option.{slice_get-get_or, get_or_from_slice_get, slice_get_within, slice_get_past}
+use Rattle.region_mem.specs.declared.faults.Right.{Right}
+use Rattle.region_mem.specs.Areas.{Area, AreInOrder, holds, spans, admits, has_right, is_open, is_open_from, byte_at, number_at, number_of, number_in, number_into, with_byte, with_number}
+use Rattle.region_mem.specs.Laws.{extent_of}
+use Rattle.region_mem.proofs.Apart.{end_of}
+use Rattle.region_mem.proofs.ExtentLemmas.{number_keeps, byte_keeps}
+use Rattle.region_mem.proofs.Writes.{with_byte_first, written}
+use Rattle.region_mem.proofs.SearchLemmas.{same_place}
+
+-- The area that a search found.
+pub find_place : {X : Type 0} (p : X → Bool) (xs : List X) (i : ℕ) (d : X) → position p xs ≡ Some i → find p xs ≡ Some (get_or xs i d)
+find_place p xs i d found =
+    let is = position-Some p xs i d found in
+    let at : position_or_len p xs ≡ i = grind (arith, common_steps, found) in
+    find_at p xs ∙ (ap (λ k. slice_get xs k) at ∙ slice_get-get_or xs i d is.0)
+
+pub find_none : {X : Type 0} (p : X → Bool) (xs : List X) → position p xs ≡ None → find p xs ≡ None
+find_none p xs none =
+    let past : length xs ≤ position_or_len p xs = grind (arith, common_steps, none) in
+    find_at p xs ∙ slice_get_past xs (position_or_len p xs) past
+
+spans_from : (address n : ℕ) (area : Area) → spans address n area ≡ true → area.first ≤ address
+unfolding spans
+spans_from address n area h = leb-true _ _ (and_parts _ _ h).0
+
+spans_to : (address n : ℕ) (area : Area) → spans address n area ≡ true → address + n ≤ end_of area
+unfolding spans
+spans_to address n area h = leb-true _ _ (and_parts _ _ h).1
+
+holds_from : (at : ℕ) (area : Area) → area.first ≤ at → at < end_of area → holds at area ≡ true
+unfolding holds
+holds_from at area low high = grind (arith, nat_tests)
+
+found_holds : (b : Bool) (address : ℕ) (a : Area) (areas : List Area) (area : Area) → b ≡ holds address a → (find (holds address) areas ≡ Some area → holds address area ≡ true) →
+    cond b (Some a) (find (holds address) areas) ≡ Some area → holds address area ≡ true
+found_holds true address a areas area is rest found = let same : a ≡ area = cc in rw (← same) (sym is)
+found_holds false address a areas area is rest found = rest found
+
+found_step : (address : ℕ) (areas : List Area) (area : Area) → find (holds address) areas ≡ Some area → holds address area ≡ true
+found_step address [] area found = absurd (cc)
+found_step address (a ∷ areas) area found = found_holds (holds address a) address a areas area refl (λ f. found_step address areas area f) found
+
+pub find_holds : (address : ℕ) (areas : List Area) (area : Area) → find (holds address) areas ≡ Some area → IsTrue (holds address area)
+find_holds address areas area found = grind (arith, common_steps, found_step address areas area found)
+
+-- An area that was found and that holds another address is found for that one too.
+find_other : (address at : ℕ) (areas : List Area) (area : Area) → AreInOrder 0 areas → find (holds address) areas ≡ Some area → holds at area ≡ true → find (holds at) areas ≡ Some area
+find_other address at areas area order found here =
+    let i = position_or_len (holds address) areas in
+    let got : slice_get areas i ≡ Some area = sym (find_at (holds address) areas) ∙ found in
+    let same : get_or areas i area ≡ area = get_or_from_slice_get areas i area area got in
+    let place = same_place at areas i area order (slice_get_within areas i area got) (ap (holds at) same ∙ here) in
+    find_at (holds at) areas ∙ (ap (λ k. slice_get areas k) place ∙ got)
+
+byte_other : (address at : ℕ) (areas : List Area) (area : Area) → AreInOrder 0 areas → find (holds address) areas ≡ Some area → holds at area ≡ true →
+    unwrap_or (byte_at at areas) 0 ≡ slice_index area.bytes (at - area.first)
+unfolding byte_at
+byte_other address at areas area order found here = rw (find_other address at areas area order found here) refl
+
+or_true : (b : Bool) → (b || true) ≡ true
+or_true true = refl
+or_true false = refl
+
+any_step : (b : Bool) (p q : Area → Bool) (a : Area) (areas : List Area) (area : Area) → (find p areas ≡ Some area → list_any q areas ≡ true) → cond b (Some a) (find p areas) ≡ Some area →
+    q area ≡ true → (q a || list_any q areas) ≡ true
+any_step true p q a areas area rest found here = let same : a ≡ area = cc in rw (same, here) refl
+any_step false p q a areas area rest found here = rw (rest found) (or_true (q a))
+
+any_found : (p q : Area → Bool) (areas : List Area) (area : Area) → find p areas ≡ Some area → q area ≡ true → list_any q areas ≡ true
+any_found p q [] area found here = absurd (cc)
+any_found p q (a ∷ areas) area found here = any_step (p a) p q a areas area (λ f. any_found p q areas area f here) found here
+
+open_other : (right : Right) (address at : ℕ) (areas : List Area) (area : Area) → AreInOrder 0 areas → find (holds address) areas ≡ Some area → holds at area ≡ true →
+    has_right right area ≡ true → is_open right areas at ≡ true
+unfolding is_open
+open_other right address at areas area order found here has =
+    any_found (holds at) (λ a. holds at a && has_right right a) areas area (find_other address at areas area order found here) (rw (here, has) refl)
+
+-- Each address of the part is the area's.
+all_from : (right : Right) (address from n : ℕ) (areas : List Area) (area : Area) → AreInOrder 0 areas → find (holds address) areas ≡ Some area →
+    has_right right area ≡ true → area.first ≤ from → from + n ≤ end_of area → list_all (is_open right areas) (range_with_len from n) ≡ true
+all_from right address from zero areas area order found has low high = refl
+all_from right address from (suc n) areas area order found has low high =
+    let here = open_other right address from areas area order found (holds_from from area low (omega arith)) has in
+    rw here (all_from right address (from + 1) n areas area order found has (omega arith) (omega arith))
+
+map_from : (address from n : ℕ) (areas : List Area) (area : Area) → AreInOrder 0 areas → find (holds address) areas ≡ Some area →
+    area.first ≤ from → from + n ≤ end_of area →
+    map (λ at. unwrap_or (byte_at at areas) 0) (range_with_len from n) ≡ map (λ at. slice_index area.bytes (at - area.first)) (range_with_len from n)
+map_from address from zero areas area order found low high = refl
+map_from address from (suc n) areas area order found low high =
+    let here = byte_other address from areas area order found (holds_from from area low (omega arith)) in
+    rw here (ap (λ xs. slice_index area.bytes (from - area.first) ∷ xs) (map_from address (from + 1) n areas area order found (omega arith) (omega arith)))
+
+pub admits_spans : (right : Right) (address n : ℕ) (area : Area) → admits right address n area ≡ true → spans address n area ≡ true
+unfolding admits
+admits_spans right address n area h = (and_parts _ _ h).0
+
+admits_right : (right : Right) (address n : ℕ) (area : Area) → admits right address n area ≡ true → has_right right area ≡ true
+unfolding admits
+admits_right right address n area h = (and_parts _ _ h).1
+
+-- An access that the area admits is open,
+pub open_in_one : (right : Right) (address n : ℕ) (areas : List Area) (area : Area) → AreInOrder 0 areas → find (holds address) areas ≡ Some area →
+    admits right address n area ≡ true → address + n ≤ 2 ^ 32 → is_open_from right address n areas ≡ true
+unfolding is_open_from
+open_in_one right address n areas area order found admitted end =
+    let span = admits_spans right address n area admitted in
+    let all = all_from right address address n areas area order found (admits_right right address n area admitted) (spans_from address n area span) (spans_to address n area span) in
+    and_from _ _ (le-leb _ _ end) all
+
+-- and the number there is the area's.
+pub number_in_one : (right : Right) (address n : ℕ) (areas : List Area) (area : Area) → AreInOrder 0 areas → find (holds address) areas ≡ Some area →
+    admits right address n area ≡ true → number_at address n areas ≡ number_in address n area
+unfolding number_at number_in
+number_in_one right address n areas area order found admitted =
+    let span = admits_spans right address n area admitted in
+    ap number_of (map_from address address n areas area order found (spans_from address n area span) (spans_to address n area span))
+
+-- Stores keep areas in order.
+subst_order : (areas : List Area) (m n : ℕ) → m ≡ n → AreInOrder m areas → AreInOrder n areas
+subst_order areas m n same order = let P : ℕ → Type 0 = λ k. AreInOrder k areas in subst P same order
+
+order_of : (from : ℕ) (areas others : List Area) → map extent_of areas ≡ map extent_of others → AreInOrder from others → AreInOrder from areas
+unfolding AreInOrder extent_of
+order_of from [] others same order = tt
+order_of from (a ∷ areas) [] same order = absurd (cc)
+order_of from (a ∷ areas) (b ∷ others) same order =
+    let heads : extent_of a ≡ extent_of b = cc in
+    let first : a.first ≡ b.first = ap (λ e. e.first) heads in
+    let size : length a.bytes ≡ length b.bytes = ap (λ e. e.size) heads in
+    let rest : map extent_of areas ≡ map extent_of others = cc in
+    (omega (arith, order.0, first), order_of (end_of a) areas others rest (subst_order others (end_of b) (end_of a) (omega (arith, first, size)) order.1))
+
+pub number_order : (address n value : ℕ) (areas : List Area) → AreInOrder 0 areas → AreInOrder 0 (with_number address n value areas)
+number_order address n value areas order = order_of 0 _ areas (number_keeps address n value areas) order
+
+-- A number that one area takes whole goes into that area.
+place_holds : (address n : ℕ) (area : Area) → area.first ≤ address → address + suc n ≤ end_of area → holds address area ≡ true
+place_holds address n area low high = holds_from address area low (omega arith)
+
+pub number_goes : (n address value : ℕ) (areas : List Area) (i : ℕ) (d : Area) → AreInOrder 0 areas → i < length areas → (get_or areas i d).first ≤ address → address + n ≤ end_of (get_or areas i d) →
+    with_number address n value areas ≡ set areas i (number_into address n value (get_or areas i d))
+unfolding with_number number_into
+number_goes zero address value areas i d order below low high = sym (set-get_or areas i d)
+number_goes (suc n) address value areas i d order below low high =
+    let area = get_or areas i d in
+    let place = same_place address areas i d order below (place_holds address n area low high) in
+    let first : with_byte address (value % 256) areas ≡ set areas i (written address (value % 256) area) =
+    let P : ℕ → Type 0 = λ k. with_byte address (value % 256) areas ≡ set areas k (written address (value % 256) (get_or areas k d)) in
+    subst P place (with_byte_first address (value % 256) areas d (rw place below)) in
+    let next = set areas i (written address (value % 256) area) in
+    let got : get_or next i d ≡ written address (value % 256) area = get_or-set_same areas i (written address (value % 256) area) d below in
+    let size : length (written address (value % 256) area).bytes ≡ length area.bytes = length-set area.bytes (address - area.first) (value % 256) in
+    let order2 : AreInOrder 0 next = rw (← first) (order_of 0 (with_byte address (value % 256) areas) areas (byte_keeps address (value % 256) areas) order) in
+    let below2 : i < length next = rw (length-set areas i (written address (value % 256) area)) below in
+    let rest = number_goes n (address + 1) (value / 256) next i d order2 below2 (rw got (omega arith)) (rw got (omega (arith, size))) in
+    rw first (rest ∙ (ap (λ a. set next i (number_into (address + 1) n (value / 256) a)) got ∙ set-set areas i (written address (value % 256) area) (number_into (address + 1) n (value / 256) (written address (value % 256) area))))
+
+-- The same, of the place that was found.
+pub open_at : (right : Right) (address n : ℕ) (areas : List Area) (i : ℕ) (d : Area) → AreInOrder 0 areas → position (holds address) areas ≡ Some i →
+    admits right address n (get_or areas i d) ≡ true → address + n ≤ 2 ^ 32 → is_open_from right address n areas ≡ true
+open_at right address n areas i d order found admitted end =
+    open_in_one right address n areas (get_or areas i d) order (find_place (holds address) areas i d found) admitted end
+
+pub goes_at : (right : Right) (address n value : ℕ) (areas : List Area) (i : ℕ) (d : Area) → AreInOrder 0 areas → position (holds address) areas ≡ Some i →
+    admits right address n (get_or areas i d) ≡ true → set areas i (number_into address n value (get_or areas i d)) ≡ with_number address n value areas
+goes_at right address n value areas i d order found admitted =
+    let span = admits_spans right address n (get_or areas i d) admitted in
+    sym (number_goes n address value areas i d order (position-Some (holds address) areas i d found).0 (spans_from address n (get_or areas i d) span) (spans_to address n (get_or areas i d) span))

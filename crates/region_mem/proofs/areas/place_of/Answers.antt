@@ -1,0 +1,7 @@
+use Rattle.std.proofs.Common.{arith}
+use Rattle.region_mem.proofs.SearchLemmas.{search_nowhere}
+use Rattle.region_mem.proofs.areas.place_of.Goals as goal
+
+pub returns-then-count-eq0 : goal.returns-then-count-eq0
+returns-then-count-eq0 g c =
+    search_nowhere c.args.address c.args.regions.now c.count_up_to-count.result c.requires c.count_up_to-count.ensures.split (grind (arith, c.if-count-eq0.true))

@@ -1,0 +1,238 @@
+//! A region of memory.
+ghost use Rattle.std.specs.Prelude.{◌≡◌, ◌+◌, ◌<◌, ◌-◌, ◌≤◌, ◌^◌, IsTrue, IfSome, true, length, slice_index, slice_set};
+
+use crate::arguments::Bytes;
+use crate::faults::Right;
+use crate::layout::{BUFFERS, BUFFERS_END};
+use std::alloc::{Allocator, Global};
+use std::marker::Model;
+
+/// Bytes from an address on, and what may be done with them.
+#[derive(Debug, Drop)]
+pub struct Region<A: Allocator = Global> {
+    first: u64,
+    bytes: Bytes<A>,
+    read: bool,
+    write: bool,
+    fetch: bool,
+}
+
+impl<A: Allocator> Model for Region<A> {
+    ghost use Rattle.std.specs.Prelude.{◌+◌, ◌≤◌, ◌^◌, length};
+    ghost use Rattle.region_mem.specs.Areas.{Area};
+
+    ghost Value = { Area };
+
+    ghost view = { λ r. record { first = r.first; bytes = r.bytes; read = r.read; write = r.write; fetch = r.fetch } };
+
+    ghost invariant = { λ r. r.first + length r.bytes ≤ 2 ^ 32 };
+}
+
+impl<A: Allocator> Region<A> {
+    ghost use Rattle.region_mem.specs.Areas.{Area, holds, has_right, spans, admits, number_in, number_into};
+    ghost use Rattle.region_mem.specs.Memory.{is_buffer_area, IsAccessSize};
+
+    pub(crate) fn new(
+        first: u64,
+        bytes: Bytes<A>,
+        read: bool,
+        write: bool,
+        fetch: bool,
+    ) -> Region<A>
+        requires { first + length bytes ≤ 2 ^ 32 }
+        ensures { result ≡ record { first = first; bytes = bytes; read = read; write = write; fetch = fetch } }
+    {
+        Region {
+            first,
+            bytes,
+            read,
+            write,
+            fetch,
+        }
+    }
+
+    pub(crate) fn first(&self) -> u64
+        ensures { result ≡ self.now.first }
+    {
+        self.first
+    }
+
+    pub(crate) fn into_bytes(self) -> Bytes<A>
+        ensures { result ≡ self.bytes }
+    {
+        let Region {
+            first: _,
+            bytes,
+            read: _,
+            write: _,
+            fetch: _,
+        } = self;
+        bytes
+    }
+
+    #[tactic(auto, unfolding(crate::specs::Memory::is_buffer_area))]
+    pub(crate) fn is_buffer(&self) -> bool
+        ensures { result ≡ is_buffer_area self.now }
+    {
+        u64::from(BUFFERS) <= self.first && self.first < u64::from(BUFFERS_END)
+    }
+
+    #[tactic(auto, unfolding(crate::specs::Areas::holds))]
+    pub(crate) fn holds(&self, address: u64) -> bool
+        ensures { result ≡ holds address self.now }
+    {
+        self.first <= address && address < self.first + self.bytes.len() as u64
+    }
+
+    #[tactic(auto, unfolding(crate::specs::Areas::has_right))]
+    pub(crate) fn has_right(&self, right: Right) -> bool
+        ensures { result ≡ has_right right self.now }
+    {
+        match right {
+            Right::Read => self.read,
+            Right::Write => self.write,
+            Right::Fetch => self.fetch,
+        }
+    }
+
+    #[tactic(auto, unfolding(crate::specs::Areas::holds))]
+    pub(crate) fn byte(&self, address: u64) -> u8
+        requires { IsTrue (holds address self.now) }
+        ensures { result ≡ slice_index self.now.bytes (address - self.now.first) }
+    {
+        self.bytes.as_slice()[(address - self.first) as usize]
+    }
+
+    #[tactic(auto, unfolding(crate::specs::Areas::holds))]
+    pub(crate) fn set_byte(&mut self, address: u64, byte: u8)
+        requires { IsTrue (holds address self.old) }
+        ensures { self.new ≡ record self.old { bytes = slice_set self.old.bytes (address - self.old.first) byte } }
+    {
+        self.bytes.set((address - self.first) as usize, byte);
+    }
+
+    /// Whether the n bytes from an address on are all the region's, which has the right.
+    #[tactic(auto, unfolding(crate::specs::Areas::spans, crate::specs::Areas::admits))]
+    pub(crate) fn admits(&self, right: Right, address: u64, n: u64) -> bool
+        requires { address + n < 2 ^ 64 }
+        ensures value { result ≡ admits right address n self.now }
+        ensures end { result ≡ true → address + n ≤ 2 ^ 32 }
+    {
+        self.first <= address
+            && address + n <= self.first + self.bytes.len() as u64
+            && self.has_right(right)
+    }
+
+    #[tactic(auto, unfolding(crate::specs::Areas::spans, crate::specs::Areas::holds, crate::specs::Areas::number_in, crate::specs::Areas::number_of))]
+    fn byte_number(&self, address: u64) -> u32
+        requires low { address < 2 ^ 33 }
+        requires inside { IsTrue (spans address 1 self.now) }
+        ensures { result ≡ number_in address 1 self.now }
+    {
+        u32::from(self.byte(address))
+    }
+
+    #[tactic(auto, unfolding(crate::specs::Areas::spans, crate::specs::Areas::holds, crate::specs::Areas::number_in, crate::specs::Areas::number_of))]
+    fn half_number(&self, address: u64) -> u32
+        requires low { address < 2 ^ 33 }
+        requires inside { IsTrue (spans address 2 self.now) }
+        ensures { result ≡ number_in address 2 self.now }
+    {
+        u32::from(self.byte(address)) + 256 * u32::from(self.byte(address + 1))
+    }
+
+    #[tactic(auto, unfolding(crate::specs::Areas::spans, crate::specs::Areas::holds, crate::specs::Areas::number_in, crate::specs::Areas::number_of))]
+    fn word_number(&self, address: u64) -> u32
+        requires low { address < 2 ^ 33 }
+        requires inside { IsTrue (spans address 4 self.now) }
+        ensures { result ≡ number_in address 4 self.now }
+    {
+        let second = address + 1;
+        let third = second + 1;
+        let high = u32::from(self.byte(third)) + 256 * u32::from(self.byte(third + 1));
+        u32::from(self.byte(address)) + 256 * (u32::from(self.byte(second)) + 256 * high)
+    }
+
+    /// The number in the n bytes from an address on, the lowest first.
+    fn number(&self, address: u64, n: usize) -> u32
+        requires low { address < 2 ^ 32 }
+        requires size { IsAccessSize n }
+        requires inside { IsTrue (spans address n self.now) }
+        ensures { result ≡ number_in address n self.now }
+    {
+        match n {
+            1 => self.byte_number(address),
+            2 => self.half_number(address),
+            _ => self.word_number(address),
+        }
+    }
+
+    /// The same, where the region has all of them and the right.
+    #[tactic(auto, using(crate::proofs::AccessLemmas::admits_spans))]
+    pub(crate) fn number_for(&self, right: Right, address: u64, n: usize) -> Option<u32>
+        requires low { address < 2 ^ 32 }
+        requires size { IsAccessSize n }
+        ensures number { IfSome result (λ number. number ≡ number_in address n self.now) }
+        ensures admitted { IfSome result (λ number. admits right address n self.now ≡ true) }
+        ensures end { IfSome result (λ number. address + n ≤ 2 ^ 32) }
+    {
+        if self.admits(right, address, n as u64) {
+            Some(self.number(address, n))
+        } else {
+            None
+        }
+    }
+
+    #[tactic(auto, unfolding(crate::specs::Areas::spans, crate::specs::Areas::holds, crate::specs::Areas::number_into))]
+    fn set_lowest(&mut self, address: u64, value: u32)
+        requires low { address < 2 ^ 36 }
+        requires inside { IsTrue (spans address 1 self.old) }
+        ensures { self.new ≡ number_into address 1 value self.old }
+    {
+        self.set_byte(address, (value % 256) as u8);
+    }
+
+    #[tactic(auto, unfolding(crate::specs::Areas::spans, crate::specs::Areas::holds, crate::specs::Areas::number_into))]
+    fn set_half(&mut self, address: u64, value: u32)
+        requires low { address < 2 ^ 35 }
+        requires inside { IsTrue (spans address 2 self.old) }
+        ensures { self.new ≡ number_into address 2 value self.old }
+    {
+        self.set_byte(address, (value % 256) as u8);
+        self.set_lowest(address + 1, value / 256);
+    }
+
+    #[tactic(auto, unfolding(crate::specs::Areas::spans, crate::specs::Areas::holds, crate::specs::Areas::number_into))]
+    fn set_three(&mut self, address: u64, value: u32)
+        requires low { address < 2 ^ 34 }
+        requires inside { IsTrue (spans address 3 self.old) }
+        ensures { self.new ≡ number_into address 3 value self.old }
+    {
+        self.set_byte(address, (value % 256) as u8);
+        self.set_half(address + 1, value / 256);
+    }
+
+    #[tactic(auto, unfolding(crate::specs::Areas::spans, crate::specs::Areas::holds, crate::specs::Areas::number_into))]
+    fn set_word(&mut self, address: u64, value: u32)
+        requires low { address < 2 ^ 33 }
+        requires inside { IsTrue (spans address 4 self.old) }
+        ensures { self.new ≡ number_into address 4 value self.old }
+    {
+        self.set_byte(address, (value % 256) as u8);
+        self.set_three(address + 1, value / 256);
+    }
+
+    /// Writes the n lowest bytes of a value from an address on.
+    pub(crate) fn set_number(&mut self, address: u64, n: usize, value: u32)
+        requires low { address < 2 ^ 32 }
+        requires size { IsAccessSize n }
+        requires inside { IsTrue (spans address n self.old) }
+        ensures { self.new ≡ number_into address n value self.old }
+    {
+        match n {
+            1 => self.set_lowest(address, value),
+            2 => self.set_half(address, value),
+            _ => self.set_word(address, value),
+        }
+    }
+}
