@@ -67,28 +67,27 @@ record Means (kind code a b : ℕ) (param : Param) : Type 0 where
   valid : IsParameter param
 
 means : (kind code a b : ℕ) (mode : Option Mode) → leb kind 2 ≡ true → mode_of kind code ≡ Some mode → is_first_number kind a ≡ true → is_second_number kind a b ≡ true → b < 2 ^ 32 → Means kind code a b (param_of kind mode a b)
-unfolding mode_of is_first_number is_second_number param_of spelled_parameter
+unfolding mode_of is_first_number is_second_number param_of spelled_parameter is_valid
 means zero code a b mode le m first second small =
     elim (chosen (eqb code 0) (Some None) None (Some mode) m) [
       | inl h ↦ subst (λ (w : Option Mode). Means 0 code a b (param_of 0 w a b)) (some_is None mode h.1)
-          (record { spelled = rw (eqb-true code 0 h.0, eqb-true a 0 first, eqb-true b 0 second) refl; valid = tt })
+          (record { spelled = rw (eqb-true code 0 h.0, eqb-true a 0 first, eqb-true b 0 second) refl; valid = (refl, tt) })
       | inr h ↦ absurd (let f = h.1 in cc)
     ]
 means (suc zero) code a b mode le m first second small =
     elim (chosen (eqb code 0) (Some None) None (Some mode) m) [
       | inl h ↦ subst (λ (w : Option Mode). Means 1 code a b (param_of 1 w a b)) (some_is None mode h.1)
-          (record { spelled = rw (eqb-true code 0 h.0) refl; valid = (grind (arith, nat_tests, second), small) })
+          (record { spelled = rw (eqb-true code 0 h.0) refl; valid = (second, small) })
       | inr h ↦ absurd (let f = h.1 in cc)
     ]
 means (suc (suc zero)) code a b mode le m first second small =
-    let few : a ≤ 16777216 = grind (arith, nat_tests, first) in
     elim (chosen (eqb code 1) (Some (Some Read)) (cond (eqb code 3) (Some (Some ReadWrite)) None) (Some mode) m) [
       | inl h ↦ subst (λ (w : Option Mode). Means 2 code a b (param_of 2 w a b)) (some_is (Some Read) mode h.1)
-          (record { spelled = rw (eqb-true code 1 h.0, eqb-true b 0 second) refl; valid = few })
+          (record { spelled = rw (eqb-true code 1 h.0, eqb-true b 0 second) refl; valid = (first, tt) })
       | inr h ↦
           elim (chosen (eqb code 3) (Some (Some ReadWrite)) None (Some mode) h.1) [
             | inl k ↦ subst (λ (w : Option Mode). Means 2 code a b (param_of 2 w a b)) (some_is (Some ReadWrite) mode k.1)
-                (record { spelled = rw (eqb-true code 3 k.0, eqb-true b 0 second) refl; valid = few })
+                (record { spelled = rw (eqb-true code 3 k.0, eqb-true b 0 second) refl; valid = (first, tt) })
             | inr k ↦ absurd (let f = k.1 in cc)
           ]
     ]
@@ -130,18 +129,19 @@ numbers_again kind code a b mode rest le m first second small less =
     ap (λ (t : List ℕ). parameter_at (kind ∷ code ∷ t)) (regroup3 (half 0) (word a) (word b) rest)
     ∙ rw (le, m, zeros_again error.Parameter (word a ++ (word b ++ rest)), word_again a (word b ++ rest) small, first, word_again b rest less, second) refl
 
+small_size : (size limit : ℕ) → limit ≡ 2 ^ 24 → leb size limit ≡ true → size < 2 ^ 32
+small_size size limit is le = grind (arith, nat_tests, is, le)
+
 parameter_again : (x : Param) (rest : List ℕ) → IsParameter x → parameter_at (spelled_parameter x ++ rest) ≡ Ok (x, rest)
-unfolding spelled_parameter mode_of is_first_number is_second_number param_of
+unfolding spelled_parameter mode_of is_first_number is_second_number param_of is_valid
 parameter_again parameter.None rest is = numbers_again 0 0 0 0 None rest refl refl refl refl (omega arith) (omega arith)
 parameter_again (parameter.Scalar lo hi) rest is =
-    let le : leb lo hi ≡ true = grind (arith, nat_tests, is.0) in
-    numbers_again 1 0 lo hi None rest refl refl refl le (omega (arith, is.0, is.1)) is.1
+    let le : lo ≤ hi = grind (arith, nat_tests, is.0) in
+    numbers_again 1 0 lo hi None rest refl refl refl is.0 (omega (arith, le, is.1)) is.1
 parameter_again (parameter.Buffer Read size) rest is =
-    let le : leb size 16777216 ≡ true = grind (arith, nat_tests, is) in
-    numbers_again 2 1 size 0 (Some Read) rest refl refl le refl (omega (arith, is)) (omega arith)
+    numbers_again 2 1 size 0 (Some Read) rest refl refl is.0 refl (small_size size _ refl is.0) (omega arith)
 parameter_again (parameter.Buffer ReadWrite size) rest is =
-    let le : leb size 16777216 ≡ true = grind (arith, nat_tests, is) in
-    numbers_again 2 3 size 0 (Some ReadWrite) rest refl refl le refl (omega (arith, is)) (omega arith)
+    numbers_again 2 3 size 0 (Some ReadWrite) rest refl refl is.0 refl (small_size size _ refl is.0) (omega arith)
 
 all_from : (params : List Param) → AllFrom (λ from p. IsParameter p) after_parameter 0 params → AllByRecursion IsParameter params
 all_from [] all = tt
@@ -151,15 +151,9 @@ from_all : (params : List Param) → AllByRecursion IsParameter params → AllFr
 from_all [] all = tt
 from_all (p ∷ params) all = (all.0, from_all params all.1)
 
-valid_one : (p : Param) → IsParameter p → is_valid p ≡ true
-unfolding is_valid
-valid_one parameter.None is = refl
-valid_one (parameter.Scalar lo hi) is = grind (arith, nat_tests, is.0)
-valid_one (parameter.Buffer mode size) is = grind (arith, nat_tests, is)
-
 valid_all : (params : List Param) → AllByRecursion IsParameter params → list_all is_valid params ≡ true
 valid_all [] is = refl
-valid_all (p ∷ params) is = rw (valid_one p is.0) (valid_all params is.1)
+valid_all (p ∷ params) is = rw is.0.0 (valid_all params is.1)
 
 -- ---- the count of blocks
 

@@ -4,6 +4,7 @@ use Rattle.std.specs.Prelude.{◌≡◌, ◌<◌, ◌≤◌, IsTrue}
 use Rattle.std.specs.List.{list_all, list_any, slice_get, AllByRecursion}
 use Rattle.std.specs.Option.{option_map_or}
 use Rattle.cert_note.specs.Words.{Param, Vlen, Term, Budget, VectorFact, Equality, RegisterFact, Block, Contents}
+use Rattle.region_mem.specs.Parameter.{is_valid}
 use Rattle.region_mem.specs.declared.parameter.Param.TheVariants as parameter
 use Rattle.vreg_groups.specs.VectorLength.{vlenb_of}
 use Rattle.vreg_groups.specs.VectorType.{vtype_of}
@@ -139,11 +140,15 @@ pub record IsBlock (vlen : Vlen) (params : List Param) (from : ℕ) (block : Blo
   pub vectors : AllFrom (IsVectorFact vlen) after_vector 0 block.vectors.items
   pub free : IsTrue (are_free block.registers.items)
 
--- A scalar's interval is not empty, and a buffer has at most 16 MiB.
+-- A scalar's numbers fit 32 bits; the size of a buffer that is valid does.
+abbrev pub FitsWords : Param → Type 0
+FitsWords parameter.None = Unit {0}
+FitsWords (parameter.Scalar lo hi) = hi < 2 ^ 32
+FitsWords (parameter.Buffer mode size) = Unit {0}
+
+-- a parameter that is valid
 abbrev pub IsParameter : Param → Type 0
-IsParameter parameter.None = Unit {0}
-IsParameter (parameter.Scalar lo hi) = (lo ≤ hi) × (hi < 2 ^ 32)
-IsParameter (parameter.Buffer mode size) = size ≤ 16777216
+IsParameter param = IsTrue (is_valid param) × FitsWords param
 
 -- what makes these values a certificate
 pub record IsCertificate (certificate : CertificateView) : Type 0 where

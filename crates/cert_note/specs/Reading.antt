@@ -2,6 +2,7 @@
 use Rattle.std.specs.Prelude.{◌≡◌, ◌⊎◌, ℕ, zero, suc, ◌+◌, ◌%◌, ◌==◌, Bool, true, false, ◌&&◌, not, nat_le, nat_lt, List, [], ◌∷◌, length, take, drop, Option, Some, None, is_some, Result, Ok, Err, if◌then◌else◌, ok_or}
 use Rattle.std.specs.Int.{Width, w16, w32, byte_len, from_le_bytes}
 use Rattle.region_mem.specs.Parameter.{parameters_of}
+use Rattle.region_mem.specs.declared.layout.TheConstants.{MAX_BUFFER_SIZE}
 use Rattle.cert_note.specs.Words.{Mode, Param, Vlen, Term, Budget, VectorFact, Group, Equality, RegisterFact, Block}
 use Rattle.region_mem.specs.declared.parameter.Mode.TheVariants.{Read, ReadWrite}
 use Rattle.region_mem.specs.declared.parameter.Param.TheVariants as parameter
@@ -78,7 +79,7 @@ mode_of kind mode =
 
 unfoldable pub is_first_number : ℕ → ℕ → Bool
 is_first_number kind a =
-    if kind == 0 then a == 0 else (if kind == 2 then nat_le a 16777216 else true)
+    if kind == 0 then a == 0 else (if kind == 2 then nat_le a MAX_BUFFER_SIZE else true)
 
 unfoldable pub is_second_number : ℕ → ℕ → ℕ → Bool
 is_second_number kind a b = if kind == 1 then nat_le a b else b == 0

@@ -8,7 +8,7 @@ ghost use Rattle.cert_note.specs.Reading.{Gives, expect, byte_at, number_at, zer
 
 use crate::refusals::CertError;
 use crate::values::{Budget, Group, Term, VectorFact};
-use region_mem::{Mode, Param, Parameters};
+use region_mem::{MAX_BUFFER_SIZE, Mode, Param, Parameters};
 use vreg_groups::{Vlen, Vtype};
 
 pub(crate) fn expect(test: bool, fault: CertError) -> Result<(), CertError>
@@ -120,7 +120,7 @@ fn is_first_number(kind: u8, a: u32) -> bool
     if kind == 0 {
         a == 0
     } else if kind == 2 {
-        a <= 16_777_216
+        a <= MAX_BUFFER_SIZE
     } else {
         true
     }
