@@ -1,1 +1,2 @@
 pub mod Overlay
+pub mod ResizingLemmas

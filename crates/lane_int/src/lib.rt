@@ -7,11 +7,13 @@ mod halves;
 mod kernels;
 mod lane;
 mod operations;
+mod resizing;
 mod words;
 
 pub use kernels::{compare, compute, compute_carried, compute_carries, multiply_add};
 pub use lane::Lane;
 pub use operations::{CarryOp, CompareOp, IntOp, MultiplyAddOp};
+pub use resizing::{Narrow, cut, extend};
 
 #[cfg(test)]
 mod tests;

@@ -1,6 +1,6 @@
 //! How a kernel is called. What each operation gives is tried against QEMU by the crate `conformance`.
 
-use crate::{CompareOp, IntOp, compare, compute};
+use crate::{CompareOp, IntOp, compare, compute, cut, extend};
 
 #[test]
 fn bytes_and_their_mask(rt: HostRuntime) {
@@ -10,4 +10,17 @@ fn bytes_and_their_mask(rt: HostRuntime) {
     let mut bits = [false; 4];
     compare(CompareOp::Less, &values, &[0; 4], &mut bits); // vmslt.vx with x0
     assert_eq!(rt; bits, [false, true, false, false]);
+}
+
+#[test]
+fn resizes_elements(rt: HostRuntime) {
+    let values = [0x7fu8, 0x80, 0xff];
+    let mut wide = [0u16; 3];
+    extend(true, values.as_slice(), wide.as_mut_slice());
+    assert_eq!(rt; wide, [0x7f, 0xff80, 0xffff]);
+    extend(false, values.as_slice(), wide.as_mut_slice());
+    assert_eq!(rt; wide, [0x7f, 0x80, 0xff]);
+    let mut back = [0u8; 3];
+    cut([0x1234u16, 0xff, 0x8000].as_slice(), back.as_mut_slice());
+    assert_eq!(rt; back, [0x34, 0xff, 0]);
 }
