@@ -2,8 +2,8 @@
 -- by that list, wherever it comes from ("Vector Loads and Stores"). Only active elements access memory.
 use Rattle.std.specs.Prelude.{ℕ, ◌+◌, ◌*◌, ◌%◌, ◌^◌, Bool, false, not, List, length, map, filter, find, replicate, slice_index, slice_index_or, slice_set, Option, unwrap_or}
 use Rattle.std.specs.List.{fold, range_with_len}
-use Rattle.region_mem.specs.declared.faults.Right.{Right}
-use Rattle.region_mem.specs.Memory.{Memory, is_permitted, load_of, store_of}
+use Rattle.vector_core.specs.Words.{Memory, Right}
+use Rattle.region_mem.specs.Memory.{is_permitted, load_of, store_of}
 use Rattle.vector_core.specs.Operands.{low_bits}
 
 -- the access of an element: where it begins, how many bytes it has, and the right that it needs
@@ -25,9 +25,12 @@ accesses_from right size place active i n =
 unfoldable pub accesses : Right → ℕ → (ℕ → ℕ) → List Bool → List Access
 accesses right size place active = accesses_from right size place active 0 (length active)
 
--- a unit-stride access: the elements lie one after another
+-- unit stride: the elements lie one after another from `base` on
 abbrev pub unit_stride : ℕ → ℕ → ℕ → ℕ
 unit_stride base size i = base + size * i
+
+abbrev pub unit_accesses : Right → ℕ → ℕ → List Bool → List Access
+unit_accesses right size base active = accesses right size (unit_stride base size) active
 
 -- the first access that is not permitted
 abbrev pub is_refused : Memory → Access → Bool

@@ -1,11 +1,9 @@
 -- What the instructions that compute make of the registers, by their shapes.
 use Rattle.std.specs.Prelude.{ℕ, Bool, false, List}
-use Rattle.rv_decode.specs.declared.instructions.VArith.{VArith}
+use Rattle.vector_core.specs.Words.{Hart, Setup, VArith}
 use Rattle.rv_decode.specs.declared.instructions.VArith.TheVariants.{Int, MultiplyAdd, Carry, CarryOut, Merge, Copy, Compare}
-use Rattle.scalar_core.specs.Hart.{Hart}
 use Rattle.vector_core.specs.Integer.{carry_of, carry_out_of, compare_of, int_of, multiply_add_of}
 use Rattle.vector_core.specs.Moves.{copy_of, merge_of}
-use Rattle.vector_core.specs.declared.setup.Setup.{Setup}
 
 -- the registers, and whether an active element saturated
 pub record Computed : Type 0 where

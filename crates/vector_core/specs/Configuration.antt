@@ -1,14 +1,10 @@
 -- The instructions that set vtype and vl ("Vector Configuration-Setting Instructions").
 use Rattle.std.specs.Prelude.{ℕ, ◌==◌, if◌then◌else◌, Ok}
-use Rattle.rv_decode.specs.declared.instructions.VSet.{VSet}
+use Rattle.vector_core.specs.Words.{Avl, Hart, Memory, VSet, Vconfig, advanced, reg_of, with_reg}
 use Rattle.rv_decode.specs.declared.instructions.VSet.TheVariants.{Vsetvli, Vsetivli, Vsetvl}
-use Rattle.region_mem.specs.Memory.{Memory}
-use Rattle.scalar_core.specs.Hart.{Hart, advanced, reg_of, with_reg}
 use Rattle.vector_core.specs.Vectors.{Stepped, Vectors}
 use Rattle.vector_core.specs.declared.configuration.Request.{Request}
 use Rattle.vreg_groups.specs.VectorLength.{vset_of}
-use Rattle.vreg_groups.specs.declared.vector_length.Vconfig.{Vconfig}
-use Rattle.vreg_groups.specs.declared.vector_length.Avl.{Avl}
 use Rattle.vreg_groups.specs.declared.vector_length.Avl.TheVariants.{Keep, Greatest, Of}
 
 -- the application vector length: x[rs1]; with rs1 = x0 the greatest, or the present vl where rd is x0 too

@@ -4,24 +4,13 @@ use Rattle.std.specs.Prelude.{ℕ, Bool, false, List, replicate, if◌then◌els
 use Rattle.std.specs.Int.{w8, w16, w32}
 use Rattle.std.specs.Int as int
 use lib.Lanes.{zip2}
-use Rattle.rv_decode.specs.declared.extents.Eew.TheVariants.{Same}
-use Rattle.rv_decode.specs.declared.instructions.Width.{Width}
-use Rattle.rv_decode.specs.declared.instructions.Width.TheVariants.{W8, W16, W32}
-use Rattle.rv_decode.specs.declared.instructions.Source.{Source}
-use Rattle.rv_decode.specs.declared.instructions.IntOp.{IntOp}
-use Rattle.rv_decode.specs.declared.instructions.MultiplyAddOp.{MultiplyAddOp}
-use Rattle.rv_decode.specs.declared.instructions.CarryOp.{CarryOp}
-use Rattle.rv_decode.specs.declared.instructions.CarryOutOp.{CarryOutOp}
-use Rattle.rv_decode.specs.declared.instructions.CompareOp.{CompareOp}
+use Rattle.vector_core.specs.Words.{CarryOp, CarryOutOp, CompareOp, Hart, IntOp, MultiplyAddOp, Same, Setup, Source}
+use Rattle.vector_core.specs.Words.{W16, W32, W8, Width, body_of, mask_bits}
 use Rattle.lane_int.specs.Integer.{element, compares, carried, carries, multiply_added}
 use Rattle.lane_int.specs.Lists.{zip3}
-use Rattle.scalar_core.specs.Hart.{Hart}
-use Rattle.vreg_groups.specs.Elements.{mask_bits}
-use Rattle.vreg_groups.specs.Group.{body_of}
 use Rattle.vector_core.specs.Operands.{bits_written, results_written, second_of}
 use Rattle.vector_core.specs.Operations.{int_lanes, multiply_add_lanes, carry_lanes, carry_out_lanes, compare_lanes}
 use Rattle.vector_core.specs.Setup.{group_at}
-use Rattle.vector_core.specs.declared.setup.Setup.{Setup}
 
 -- the width of the lanes that work on elements of SEW
 abbrev pub lane_width : Width → int.Width

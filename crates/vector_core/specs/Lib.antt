@@ -10,6 +10,7 @@ pub mod Operations
 pub mod Setup
 pub mod Step
 pub mod Vectors
+pub mod Words
 pub use Rattle.region_mem.specs.Faults
 pub use Rattle.region_mem.specs.Memory
 pub use Rattle.scalar_core.specs.Hart

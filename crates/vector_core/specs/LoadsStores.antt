@@ -1,26 +1,15 @@
 -- Vector loads and stores ("Vector Loads and Stores"): all of their accesses are made, or the first that is not
 -- permitted is the fault and none is.
 use Rattle.std.specs.Prelude.{ℕ, Bool, List, Option, Some, None, Ok, Err}
-use Rattle.rv_decode.specs.declared.extents.Eew.TheVariants.{Fixed}
+use Rattle.vector_core.specs.Words.{Direction, Fault, Fixed, Hart, Load, LoadFault, Memory, Place, Read, Setup, Span}
+use Rattle.vector_core.specs.Words.{Store, StoreFault, Width, Write, active_of, advanced, body_of, bytes_of_width}
+use Rattle.vector_core.specs.Words.{reg_of}
 use Rattle.rv_decode.specs.declared.instructions.VMem as mem
-use Rattle.rv_decode.specs.declared.instructions.Direction.{Direction}
-use Rattle.rv_decode.specs.declared.instructions.Direction.TheVariants.{Load, Store}
-use Rattle.rv_decode.specs.declared.instructions.Place.{Place}
 use Rattle.rv_decode.specs.declared.instructions.Place.TheVariants.{Unit}
-use Rattle.rv_decode.specs.declared.instructions.Width.{Width}
-use Rattle.region_mem.specs.declared.faults.Fault.{Fault}
-use Rattle.region_mem.specs.declared.faults.Fault.TheVariants.{LoadFault, StoreFault}
-use Rattle.region_mem.specs.declared.faults.Right.TheVariants.{Read, Write}
-use Rattle.region_mem.specs.Memory.{Memory}
-use Rattle.scalar_core.specs.Hart.{Hart, advanced, reg_of}
-use Rattle.vreg_groups.specs.Elements.{active_of}
-use Rattle.vreg_groups.specs.Group.{Span, body_of}
-use Rattle.vreg_groups.specs.VectorType.{bytes_of_width}
-use Rattle.vector_core.specs.Accesses.{Access, accesses, first_refused, loaded, stored, unit_stride}
+use Rattle.vector_core.specs.Accesses.{Access, first_refused, loaded, stored, unit_accesses}
 use Rattle.vector_core.specs.Operands.{results_written}
 use Rattle.vector_core.specs.Setup.{group_at}
 use Rattle.vector_core.specs.Vectors.{Stepped, Vectors, with_registers}
-use Rattle.vector_core.specs.declared.setup.Setup.{Setup}
 
 -- the fault of an access that is refused, or else the new state
 abbrev pub unless_refused : (ℕ → Fault) → Option Access → Hart × Vectors × Memory → Stepped
@@ -43,10 +32,10 @@ store_step vlenb group list hart v memory =
 unfoldable pub unit_step : Direction → ℕ → Setup → Width → Bool → ℕ → ℕ → Hart → Vectors → Memory → Stepped
 unit_step Load vlenb s width masked vd base hart v memory =
     load_step vlenb s (group_at s vd (Fixed width)) masked
-    (accesses Read (bytes_of_width width) (unit_stride base (bytes_of_width width)) (active_of vlenb masked s.vl v.registers)) hart v memory
+    (unit_accesses Read (bytes_of_width width) base (active_of vlenb masked s.vl v.registers)) hart v memory
 unit_step Store vlenb s width masked vs3 base hart v memory =
     store_step vlenb (group_at s vs3 (Fixed width))
-    (accesses Write (bytes_of_width width) (unit_stride base (bytes_of_width width)) (active_of vlenb masked s.vl v.registers)) hart v memory
+    (unit_accesses Write (bytes_of_width width) base (active_of vlenb masked s.vl v.registers)) hart v memory
 
 -- a vector load or store, by where its elements lie
 abbrev pub placed_step : Place → ℕ → Setup → mem.VMem → Hart → Vectors → Memory → Stepped

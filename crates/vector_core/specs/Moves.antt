@@ -1,15 +1,10 @@
 -- Instructions that put elements of SEW into a group as they are ("Vector Integer Merge Instructions", "Vector Integer
 -- Move Instructions"). Each element of the body is active.
 use Rattle.std.specs.Prelude.{ℕ, Bool, false, List, if◌then◌else◌}
-use Rattle.rv_decode.specs.declared.extents.Eew.TheVariants.{Same}
-use Rattle.rv_decode.specs.declared.instructions.Source.{Source}
+use Rattle.vector_core.specs.Words.{Hart, Same, Setup, Source, body_of, mask_bits}
 use Rattle.lane_int.specs.Lists.{zip3}
-use Rattle.scalar_core.specs.Hart.{Hart}
-use Rattle.vreg_groups.specs.Elements.{mask_bits}
-use Rattle.vreg_groups.specs.Group.{body_of}
 use Rattle.vector_core.specs.Operands.{results_written, second_of}
 use Rattle.vector_core.specs.Setup.{group_at}
-use Rattle.vector_core.specs.declared.setup.Setup.{Setup}
 
 -- the second operand's element where the bit is 1
 abbrev pub chosen : {A : Type 0} → A → A → Bool → A

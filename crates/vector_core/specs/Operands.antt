@@ -2,16 +2,11 @@
 -- registers' bytes; the body's elements, and the results for them, are a list.
 use Rattle.std.specs.Prelude.{ℕ, ◌%◌, ◌^◌, ◌==◌, Bool, List, replicate, if◌then◌else◌}
 use Rattle.std.specs.Int.{w32, cast_unsigned}
-use Rattle.rv_decode.specs.declared.extents.Eew.TheVariants.{Same}
-use Rattle.rv_decode.specs.declared.instructions.Source.{Source}
+use Rattle.vector_core.specs.Words.{Hart, Same, Setup, Source, Span, active_of, body_of, bytes_of_width, reg_of}
 use Rattle.rv_decode.specs.declared.instructions.Source.TheVariants.{Vector, Scalar, Immediate}
-use Rattle.scalar_core.specs.Hart.{Hart, reg_of}
-use Rattle.vreg_groups.specs.Elements.{active_of}
-use Rattle.vreg_groups.specs.Group.{Span, body_of, written}
+use Rattle.vreg_groups.specs.Group.{written}
 use Rattle.vreg_groups.specs.NewElements.{mask_policy_of, mask_write_of, policy_of}
-use Rattle.vreg_groups.specs.VectorType.{bytes_of_width}
 use Rattle.vector_core.specs.Setup.{group_at}
-use Rattle.vector_core.specs.declared.setup.Setup.{Setup}
 
 -- the element of `size` bytes in the low bits of a number
 unfoldable pub low_bits : ℕ → ℕ → ℕ

@@ -1,13 +1,10 @@
 -- What every vector instruction works under.
 use Rattle.std.specs.Prelude.{ℕ}
-use Rattle.rv_decode.specs.declared.extents.Eew.{Eew}
-use Rattle.rv_decode.specs.declared.extents.Operands.{Operands}
-use Rattle.vreg_groups.specs.Group.{Span, group_of}
+use Rattle.vector_core.specs.Words.{Eew, Operands, Setup, Span, Vtype}
+use Rattle.vreg_groups.specs.Group.{group_of}
 use Rattle.vreg_groups.specs.Legality.{AreAllInside}
 use Rattle.vreg_groups.specs.VectorLength.{IsLength, IsVlenb}
-use Rattle.vreg_groups.specs.declared.vector_type.Vtype.{Vtype}
 use Rattle.vector_core.specs.Vectors.{Vectors}
-use Rattle.vector_core.specs.declared.setup.Setup.{Setup}
 
 -- the type that legality decoded, vl, and what becomes of agnostic elements
 abbrev pub setup_of : Vtype → Vectors → Setup

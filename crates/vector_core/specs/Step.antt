@@ -1,11 +1,8 @@
 -- One step of a vector instruction: the state after it, or its fault. An instruction that faults has no new state.
 use Rattle.std.specs.Prelude.{ℕ, Bool, true, false, if◌then◌else◌, Ok, Err}
-use Rattle.rv_decode.specs.declared.instructions.Insn.{Insn}
+use Rattle.vector_core.specs.Words.{Hart, Illegal, Insn, Memory, Setup, advanced}
 use Rattle.rv_decode.specs.declared.instructions.Insn.TheVariants.{Scalar, Csr, VSet, VArith, VMem}
 use Rattle.rv_decode.specs.declared.instructions.VArith as arith
-use Rattle.region_mem.specs.declared.faults.Fault.TheVariants.{Illegal}
-use Rattle.region_mem.specs.Memory.{Memory}
-use Rattle.scalar_core.specs.Hart.{Hart, advanced}
 use Rattle.vreg_groups.specs.VectorType.{type_in, vtype_of}
 use Rattle.vreg_groups.specs.Legality.{is_legal}
 use Rattle.vector_core.specs.Arithmetic.{Computed, arith_of}
@@ -13,7 +10,6 @@ use Rattle.vector_core.specs.Configuration.{vset_step}
 use Rattle.vector_core.specs.LoadsStores.{memory_step}
 use Rattle.vector_core.specs.Setup.{setup_of}
 use Rattle.vector_core.specs.Vectors.{Stepped, Vectors, with_registers}
-use Rattle.vector_core.specs.declared.setup.Setup.{Setup}
 
 -- vxsat becomes 1 where an active element saturated, and stays else
 abbrev pub with_saturation : Bool → Hart → Hart

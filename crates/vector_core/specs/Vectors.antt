@@ -1,11 +1,7 @@
 -- The vector half of a hart's state.
 use Rattle.std.specs.Prelude.{ℕ, ◌*◌, List, replicate, Result}
-use Rattle.region_mem.specs.Memory.{Memory}
-use Rattle.region_mem.specs.declared.faults.Fault.{Fault}
-use Rattle.scalar_core.specs.Hart.{Hart}
+use Rattle.vector_core.specs.Words.{Agnostic, Fault, Hart, Memory, Vconfig}
 use Rattle.vreg_groups.specs.VectorLength.{no_config, IsConfig, IsVlenb}
-use Rattle.vreg_groups.specs.declared.policies.Agnostic.{Agnostic}
-use Rattle.vreg_groups.specs.declared.vector_length.Vconfig.{Vconfig}
 
 -- the bytes of the 32 registers end to end, vtype and vl, and what becomes of agnostic elements throughout the run
 pub record Vectors : Type 0 where

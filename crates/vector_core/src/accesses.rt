@@ -5,7 +5,7 @@ ghost use Rattle.std.specs.Option.{option_map};
 ghost use Rattle.region_mem.specs.Memory.{IsAccessSize, store_of};
 ghost use Rattle.region_mem.specs.declared.faults.Right.TheVariants.{Read, Write};
 ghost use Rattle.vreg_groups.specs.declared.vector_type.TheConstants.{MOST_ELEMENTS};
-ghost use Rattle.vector_core.specs.Accesses.{accesses, first_refused, loaded, stored, unit_stride};
+ghost use Rattle.vector_core.specs.Accesses.{first_refused, loaded, stored, unit_accesses};
 
 use crate::elements::VectorElement;
 use crate::operands::splat;
@@ -30,8 +30,10 @@ pub fn load<E: VectorElement, A: Allocator>(
 ) -> Option<u32>
     requires len { length values.old ≡ length active.now }
     requires few { length active.now ≤ MOST_ELEMENTS }
-    ensures refused { result ≡ option_map (λ a. a.address) (first_refused (accesses Read E.SIZE (unit_stride base E.SIZE) active.now) memory.now) }
-    ensures loaded { result ≡ None → map E.Element.number values.new ≡ loaded (length active.now) (accesses Read E.SIZE (unit_stride base E.SIZE) active.now) memory.now }
+    ensures refused { result ≡ option_map (λ a. a.address)
+        (first_refused (unit_accesses Read E.SIZE base active.now) memory.now) }
+    ensures loaded { result ≡ None → map E.Element.number values.new ≡ loaded (length active.now)
+        (unit_accesses Read E.SIZE base active.now) memory.now }
 {
     splat(E::low_bits(0), values);
     for i in 0..values.len() {
@@ -56,7 +58,8 @@ pub fn refused<A: Allocator>(
 ) -> Option<u32>
     requires size { size ≤ 4 }
     requires few { length active.now ≤ MOST_ELEMENTS }
-    ensures { result ≡ option_map (λ a. a.address) (first_refused (accesses Write size (unit_stride base size) active.now) memory.now) }
+    ensures { result ≡ option_map (λ a. a.address)
+        (first_refused (unit_accesses Write size base active.now) memory.now) }
 {
     for i in 0..active.len() {
         if !active[i] {
@@ -79,7 +82,8 @@ pub fn store<E: VectorElement, A: Allocator>(
 )
     requires len { length values.now ≡ length active.now }
     requires few { length active.now ≤ MOST_ELEMENTS }
-    ensures { memory.new ≡ stored (accesses Write E.SIZE (unit_stride base E.SIZE) active.now) (map E.Element.number values.now) memory.old }
+    ensures { memory.new ≡ stored (unit_accesses Write E.SIZE base active.now)
+        (map E.Element.number values.now) memory.old }
 {
     for i in 0..values.len() {
         if !active[i] {

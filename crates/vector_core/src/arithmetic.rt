@@ -21,7 +21,8 @@ pub fn arith<const VLENB: usize>(
     insn: &VArith,
 ) -> bool
     requires { IsReady VLENB setup.now (needs_of_arith insn.now) }
-    ensures { arith_of VLENB setup.now scalar.now insn.now registers.old ≡ record { registers = registers.new; saturated = result } }
+    ensures { arith_of VLENB setup.now scalar.now insn.now registers.old
+        ≡ record { registers = registers.new; saturated = result } }
 {
     let sew = setup.vtype.sew;
     match sew {
@@ -39,7 +40,8 @@ fn arith_bytes<const VLENB: usize>(
 ) -> bool
     requires sew { setup.now.vtype.sew ≡ Width.W8 }
     requires ready { IsReady VLENB setup.now (needs_of_arith insn.now) }
-    ensures { arith_of VLENB setup.now scalar.now insn.now registers.old ≡ record { registers = registers.new; saturated = result } }
+    ensures { arith_of VLENB setup.now scalar.now insn.now registers.old
+        ≡ record { registers = registers.new; saturated = result } }
 {
     let vl = setup.vl;
     let mut a = [0u8; MOST_ELEMENTS];
@@ -64,7 +66,8 @@ fn arith_halves<const VLENB: usize>(
 ) -> bool
     requires sew { setup.now.vtype.sew ≡ Width.W16 }
     requires ready { IsReady VLENB setup.now (needs_of_arith insn.now) }
-    ensures { arith_of VLENB setup.now scalar.now insn.now registers.old ≡ record { registers = registers.new; saturated = result } }
+    ensures { arith_of VLENB setup.now scalar.now insn.now registers.old
+        ≡ record { registers = registers.new; saturated = result } }
 {
     let vl = setup.vl;
     let mut a = [0u16; MOST_ELEMENTS / 2];
@@ -89,7 +92,8 @@ fn arith_words<const VLENB: usize>(
 ) -> bool
     requires sew { setup.now.vtype.sew ≡ Width.W32 }
     requires ready { IsReady VLENB setup.now (needs_of_arith insn.now) }
-    ensures { arith_of VLENB setup.now scalar.now insn.now registers.old ≡ record { registers = registers.new; saturated = result } }
+    ensures { arith_of VLENB setup.now scalar.now insn.now registers.old
+        ≡ record { registers = registers.new; saturated = result } }
 {
     let vl = setup.vl;
     let mut a = [0u32; MOST_ELEMENTS / 4];
@@ -122,7 +126,8 @@ fn arith_elements<E: VectorElement, const VLENB: usize>(
     requires d_len { length d.old ≡ setup.now.vl }
     requires width { E.sew ≡ setup.now.vtype.sew }
     requires ready { IsReady VLENB setup.now (needs_of_arith insn.now) }
-    ensures { arith_of VLENB setup.now scalar.now insn.now registers.old ≡ record { registers = registers.new; saturated = result } }
+    ensures { arith_of VLENB setup.now scalar.now insn.now registers.old
+        ≡ record { registers = registers.new; saturated = result } }
 {
     match insn {
         VArith::Int {

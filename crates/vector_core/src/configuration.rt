@@ -60,7 +60,8 @@ pub fn step_vset<const VLENB: usize>(
     scalar: &mut Scalar,
     insn: &VSet,
 )
-    ensures { (m : Memory) → vset_step VLENB insn.now scalar.old vectors.old m ≡ Ok (scalar.new, vectors.new, m) }
+    ensures { (m : Memory) → vset_step VLENB insn.now scalar.old vectors.old m
+        ≡ Ok (scalar.new, vectors.new, m) }
 {
     let request = requested(insn, scalar);
     let config = vset(VLENB, vectors.config, request.avl, request.vtype);

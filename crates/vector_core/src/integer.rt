@@ -65,8 +65,10 @@ pub fn multiply_add<E: VectorElement, const VLENB: usize>(
     requires c_len { length c.old ≡ setup.now.vl }
     requires d_len { length d.old ≡ setup.now.vl }
     requires width { E.sew ≡ setup.now.vtype.sew }
-    requires ready { IsReady VLENB setup.now (needs_of_arith (VArith.MultiplyAdd op vd vs2 b masked)) }
-    ensures { registers.new ≡ multiply_add_of VLENB setup.now scalar.now op vd vs2 b masked registers.old }
+    requires ready { IsReady VLENB setup.now (needs_of_arith
+        (VArith.MultiplyAdd op vd vs2 b masked)) }
+    ensures { registers.new ≡ multiply_add_of VLENB setup.now scalar.now op vd vs2 b masked
+        registers.old }
 {
     let destination = setup.group(vd, Eew::Same);
     read_body(registers, setup, vs2, a);
@@ -122,8 +124,10 @@ pub fn carry_out<E: VectorElement, const VLENB: usize>(
     requires a_len { length a.old ≡ setup.now.vl }
     requires c_len { length c.old ≡ setup.now.vl }
     requires width { E.sew ≡ setup.now.vtype.sew }
-    requires ready { IsReady VLENB setup.now (needs_of_arith (VArith.CarryOut op vd vs2 b with_carry)) }
-    ensures { registers.new ≡ carry_out_of VLENB setup.now scalar.now op vd vs2 b with_carry registers.old }
+    requires ready { IsReady VLENB setup.now (needs_of_arith
+        (VArith.CarryOut op vd vs2 b with_carry)) }
+    ensures { registers.new ≡ carry_out_of VLENB setup.now scalar.now op vd vs2 b with_carry
+        registers.old }
 {
     let mut bits = [false; MOST_ELEMENTS];
     let carries = &mut bits[..setup.vl];

@@ -37,7 +37,9 @@ fn unit_load<E: VectorElement, const VLENB: usize, A: Allocator>(
     requires len { length values.old ≡ setup.now.vl }
     requires setup { IsSetup VLENB setup.now }
     requires group { group.now ≡ group_at setup.now group.now.first (Fixed E.sew) }
-    ensures { Steps (unit_step Load VLENB setup.now E.sew masked group.now.first base scalar.old vectors.old memory.now) (scalar.old, vectors.old, memory.now) (scalar.new, vectors.new, memory.now) result }
+    ensures { Steps (unit_step Load VLENB setup.now E.sew masked group.now.first base scalar.old
+        vectors.old memory.now) (scalar.old, vectors.old, memory.now)
+        (scalar.new, vectors.new, memory.now) result }
 {
     let mut bits = [false; MOST_ELEMENTS];
     let active = &mut bits[..setup.vl];
@@ -65,7 +67,9 @@ fn unit_store<E: VectorElement, const VLENB: usize, A: Allocator>(
     requires len { length values.old ≡ setup.now.vl }
     requires setup { IsSetup VLENB setup.now }
     requires group { group.now ≡ group_at setup.now group.now.first (Fixed E.sew) }
-    ensures { Steps (unit_step Store VLENB setup.now E.sew masked group.now.first base scalar.old vectors.now memory.old) (scalar.old, vectors.now, memory.old) (scalar.new, vectors.now, memory.new) result }
+    ensures { Steps (unit_step Store VLENB setup.now E.sew masked group.now.first base scalar.old
+        vectors.now memory.old) (scalar.old, vectors.now, memory.old)
+        (scalar.new, vectors.now, memory.new) result }
 {
     let mut bits = [false; MOST_ELEMENTS];
     let active = &mut bits[..setup.vl];
@@ -93,7 +97,9 @@ fn unit_elements<E: VectorElement, const VLENB: usize, A: Allocator>(
     requires len { length values.old ≡ setup.now.vl }
     requires setup { IsSetup VLENB setup.now }
     requires group { group.now ≡ group_at setup.now insn.now.values (Fixed E.sew) }
-    ensures { Steps (unit_step insn.now.direction VLENB setup.now E.sew masked insn.now.values (reg_of insn.now.rs1 scalar.old) scalar.old vectors.old memory.old) (scalar.old, vectors.old, memory.old) (scalar.new, vectors.new, memory.new) result }
+    ensures { Steps (unit_step insn.now.direction VLENB setup.now E.sew masked insn.now.values
+        (reg_of insn.now.rs1 scalar.old) scalar.old vectors.old memory.old)
+        (scalar.old, vectors.old, memory.old) (scalar.new, vectors.new, memory.new) result }
 {
     let base = scalar.reg(insn.rs1);
     let direction = insn.direction;
@@ -113,7 +119,9 @@ fn unit_bytes<const VLENB: usize, A: Allocator>(
 ) -> Result<(), Fault>
     requires setup { IsSetup VLENB setup.now }
     requires inside { IsGroupInside setup.now.vtype insn.now.values (Fixed width.W8) }
-    ensures { Steps (unit_step insn.now.direction VLENB setup.now width.W8 masked insn.now.values (reg_of insn.now.rs1 scalar.old) scalar.old vectors.old memory.old) (scalar.old, vectors.old, memory.old) (scalar.new, vectors.new, memory.new) result }
+    ensures { Steps (unit_step insn.now.direction VLENB setup.now width.W8 masked insn.now.values
+        (reg_of insn.now.rs1 scalar.old) scalar.old vectors.old memory.old)
+        (scalar.old, vectors.old, memory.old) (scalar.new, vectors.new, memory.new) result }
 {
     let group = setup.group(insn.values, Eew::Fixed(Width::W8));
     let vl = group.vl();
@@ -140,7 +148,9 @@ fn unit_halves<const VLENB: usize, A: Allocator>(
 ) -> Result<(), Fault>
     requires setup { IsSetup VLENB setup.now }
     requires inside { IsGroupInside setup.now.vtype insn.now.values (Fixed width.W16) }
-    ensures { Steps (unit_step insn.now.direction VLENB setup.now width.W16 masked insn.now.values (reg_of insn.now.rs1 scalar.old) scalar.old vectors.old memory.old) (scalar.old, vectors.old, memory.old) (scalar.new, vectors.new, memory.new) result }
+    ensures { Steps (unit_step insn.now.direction VLENB setup.now width.W16 masked insn.now.values
+        (reg_of insn.now.rs1 scalar.old) scalar.old vectors.old memory.old)
+        (scalar.old, vectors.old, memory.old) (scalar.new, vectors.new, memory.new) result }
 {
     let group = setup.group(insn.values, Eew::Fixed(Width::W16));
     let vl = group.vl();
@@ -167,7 +177,9 @@ fn unit_words<const VLENB: usize, A: Allocator>(
 ) -> Result<(), Fault>
     requires setup { IsSetup VLENB setup.now }
     requires inside { IsGroupInside setup.now.vtype insn.now.values (Fixed width.W32) }
-    ensures { Steps (unit_step insn.now.direction VLENB setup.now width.W32 masked insn.now.values (reg_of insn.now.rs1 scalar.old) scalar.old vectors.old memory.old) (scalar.old, vectors.old, memory.old) (scalar.new, vectors.new, memory.new) result }
+    ensures { Steps (unit_step insn.now.direction VLENB setup.now width.W32 masked insn.now.values
+        (reg_of insn.now.rs1 scalar.old) scalar.old vectors.old memory.old)
+        (scalar.old, vectors.old, memory.old) (scalar.new, vectors.new, memory.new) result }
 {
     let group = setup.group(insn.values, Eew::Fixed(Width::W32));
     let vl = group.vl();
@@ -196,7 +208,9 @@ fn unit<const VLENB: usize, A: Allocator>(
 ) -> Result<(), Fault>
     requires place { insn.now.place ≡ Place.Unit width masked }
     requires ready { IsReady VLENB setup.now (needs_of_access insn.now) }
-    ensures { Steps (unit_step insn.now.direction VLENB setup.now width masked insn.now.values (reg_of insn.now.rs1 scalar.old) scalar.old vectors.old memory.old) (scalar.old, vectors.old, memory.old) (scalar.new, vectors.new, memory.new) result }
+    ensures { Steps (unit_step insn.now.direction VLENB setup.now width masked insn.now.values
+        (reg_of insn.now.rs1 scalar.old) scalar.old vectors.old memory.old)
+        (scalar.old, vectors.old, memory.old) (scalar.new, vectors.new, memory.new) result }
 {
     match width {
         Width::W8 => unit_bytes(vectors, scalar, setup, masked, insn, memory),
@@ -215,7 +229,8 @@ pub fn step_memory<const VLENB: usize, A: Allocator>(
     memory: &mut Regions<A>,
 ) -> Result<(), Fault>
     requires { IsReady VLENB setup.now (needs_of_access insn.now) }
-    ensures { Steps (memory_step VLENB setup.now insn.now scalar.old vectors.old memory.old) (scalar.old, vectors.old, memory.old) (scalar.new, vectors.new, memory.new) result }
+    ensures { Steps (memory_step VLENB setup.now insn.now scalar.old vectors.old memory.old)
+        (scalar.old, vectors.old, memory.old) (scalar.new, vectors.new, memory.new) result }
 {
     let place = insn.place;
     match place {

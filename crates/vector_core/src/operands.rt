@@ -27,7 +27,8 @@ pub fn read_body<E: VectorElement, const VLENB: usize>(
     requires width { E.sew ≡ setup.now.vtype.sew }
     requires setup { IsSetup VLENB setup.now }
     requires inside { IsGroupInside setup.now.vtype first Same }
-    ensures { map E.Element.number out.new ≡ body_of VLENB (group_at setup.now first Same) registers.now }
+    ensures { map E.Element.number out.new ≡ body_of VLENB (group_at setup.now first Same)
+        registers.now }
 {
     let group = setup.group::<VLENB>(first, Eew::Same);
     group.read(registers, out);
@@ -58,7 +59,8 @@ pub fn read_second<E: VectorElement, const VLENB: usize>(
 /// Writes the element in the low bits of a number to each place.
 #[tactic(auto, using(crate::proofs::Numbers::splat_numbers))]
 fn splat_low<E: VectorElement>(n: u32, out: &mut [E])
-    ensures { map E.Element.number out.new ≡ replicate (length out.old) (low_bits (bytes_of_width E.sew) n) }
+    ensures { map E.Element.number out.new ≡ replicate (length out.old)
+        (low_bits (bytes_of_width E.sew) n) }
 {
     splat(E::low_bits(n), out);
 }
@@ -91,7 +93,8 @@ pub fn write_results<E: VectorElement, const VLENB: usize>(
 )
     requires size { E.SIZE ≡ group.now.bytes }
     requires setup { IsSetup VLENB setup.now }
-    ensures { registers.new ≡ results_written VLENB setup.now group.now masked (map E.Element.number results.now) registers.old }
+    ensures { registers.new ≡ results_written VLENB setup.now group.now masked
+        (map E.Element.number results.now) registers.old }
 {
     if setup.vl != 0 {
         let mut bits = [false; MOST_ELEMENTS];

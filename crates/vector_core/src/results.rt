@@ -13,7 +13,8 @@ use lane_int::{CarryOp, CompareOp, IntOp, MultiplyAddOp};
 /// An operation on each pair of elements, over the first of them.
 pub fn int_results<E: VectorElement>(op: IntOp, values: &mut [E], b: &[E])
     requires { length b.now ≡ length values.old }
-    ensures { map E.Element.number values.new ≡ zip2 (element op (lane_width E.sew)) (map E.Element.number values.old) (map E.Element.number b.now) }
+    ensures { map E.Element.number values.new ≡ zip2 (element op (lane_width E.sew))
+        (map E.Element.number values.old) (map E.Element.number b.now) }
 {
     lane_int::compute(op, values, b);
 }
@@ -22,7 +23,8 @@ pub fn int_results<E: VectorElement>(op: IntOp, values: &mut [E], b: &[E])
 pub fn multiply_add_results<E: VectorElement>(op: MultiplyAddOp, a: &[E], b: &[E], values: &mut [E])
     requires a_len { length a.now ≡ length values.old }
     requires b_len { length b.now ≡ length values.old }
-    ensures { map E.Element.number values.new ≡ zip3 (multiply_added op (lane_width E.sew)) (map E.Element.number a.now) (map E.Element.number b.now) (map E.Element.number values.old) }
+    ensures { map E.Element.number values.new ≡ zip3 (multiply_added op (lane_width E.sew))
+        (map E.Element.number a.now) (map E.Element.number b.now) (map E.Element.number values.old) }
 {
     lane_int::multiply_add(op, a, b, values);
 }
@@ -31,7 +33,8 @@ pub fn multiply_add_results<E: VectorElement>(op: MultiplyAddOp, a: &[E], b: &[E
 pub fn carry_results<E: VectorElement>(op: CarryOp, values: &mut [E], b: &[E], bits: &[bool])
     requires b_len { length b.now ≡ length values.old }
     requires bits_len { length bits.now ≡ length values.old }
-    ensures { map E.Element.number values.new ≡ zip3 (carried op (lane_width E.sew)) (map E.Element.number values.old) (map E.Element.number b.now) bits.now }
+    ensures { map E.Element.number values.new ≡ zip3 (carried op (lane_width E.sew))
+        (map E.Element.number values.old) (map E.Element.number b.now) bits.now }
 {
     lane_int::compute_carried(op, values, b, bits);
 }
@@ -40,7 +43,8 @@ pub fn carry_results<E: VectorElement>(op: CarryOp, values: &mut [E], b: &[E], b
 pub fn carry_out_results<E: VectorElement>(op: CarryOp, a: &[E], b: &[E], bits: &mut [bool])
     requires a_len { length a.now ≡ length bits.old }
     requires b_len { length b.now ≡ length bits.old }
-    ensures { bits.new ≡ zip3 (carries op (lane_width E.sew)) (map E.Element.number a.now) (map E.Element.number b.now) bits.old }
+    ensures { bits.new ≡ zip3 (carries op (lane_width E.sew)) (map E.Element.number a.now)
+        (map E.Element.number b.now) bits.old }
 {
     lane_int::compute_carries(op, a, b, bits);
 }
@@ -49,7 +53,8 @@ pub fn carry_out_results<E: VectorElement>(op: CarryOp, a: &[E], b: &[E], bits: 
 pub fn compare_results<E: VectorElement>(op: CompareOp, a: &[E], b: &[E], bits: &mut [bool])
     requires a_len { length a.now ≡ length bits.old }
     requires b_len { length b.now ≡ length bits.old }
-    ensures { bits.new ≡ zip2 (compares op (lane_width E.sew)) (map E.Element.number a.now) (map E.Element.number b.now) }
+    ensures { bits.new ≡ zip2 (compares op (lane_width E.sew)) (map E.Element.number a.now)
+        (map E.Element.number b.now) }
 {
     lane_int::compare(op, a, b, bits);
 }
@@ -59,7 +64,8 @@ pub fn compare_results<E: VectorElement>(op: CompareOp, a: &[E], b: &[E], bits: 
 pub fn merge_results<E: VectorElement>(values: &mut [E], b: &[E], bits: &[bool])
     requires b_len { length b.now ≡ length values.old }
     requires bits_len { length bits.now ≡ length values.old }
-    ensures { map E.Element.number values.new ≡ zip3 chosen (map E.Element.number values.old) (map E.Element.number b.now) bits.now }
+    ensures { map E.Element.number values.new ≡ zip3 chosen (map E.Element.number values.old)
+        (map E.Element.number b.now) bits.now }
 {
     merge(values, b, bits);
 }

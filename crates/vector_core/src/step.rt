@@ -27,7 +27,8 @@ fn step_arith<const VLENB: usize>(
     insn: &VArith,
 )
     requires { IsReady VLENB setup.now (needs_of_arith insn.now) }
-    ensures { (m : Memory) → arith_step VLENB setup.now insn.now scalar.old vectors.old m ≡ Ok (scalar.new, vectors.new, m) }
+    ensures { (m : Memory) → arith_step VLENB setup.now insn.now scalar.old vectors.old m
+        ≡ Ok (scalar.new, vectors.new, m) }
 {
     let saturated = arith(&mut vectors.registers, scalar, setup, insn);
     if saturated {
@@ -46,7 +47,8 @@ fn step_legal<const VLENB: usize, A: Allocator>(
     memory: &mut Regions<A>,
 ) -> Result<(), Fault>
     requires { IsReady VLENB setup.now (needs_of insn.now) }
-    ensures { Steps (legal_step VLENB setup.now insn.now scalar.old vectors.old memory.old) (scalar.old, vectors.old, memory.old) (scalar.new, vectors.new, memory.new) result }
+    ensures { Steps (legal_step VLENB setup.now insn.now scalar.old vectors.old memory.old)
+        (scalar.old, vectors.old, memory.old) (scalar.new, vectors.new, memory.new) result }
 {
     match insn {
         Insn::Scalar(_) | Insn::Csr(_) => Ok(()),
@@ -75,7 +77,8 @@ pub fn step_vector<const VLENB: usize, A: Allocator>(
     insn: Insn,
     memory: &mut Regions<A>,
 ) -> Result<(), Fault>
-    ensures { Steps (vector_step VLENB insn word scalar.old vectors.old memory.old) (scalar.old, vectors.old, memory.old) (scalar.new, vectors.new, memory.new) result }
+    ensures { Steps (vector_step VLENB insn word scalar.old vectors.old memory.old)
+        (scalar.old, vectors.old, memory.old) (scalar.new, vectors.new, memory.new) result }
 {
     vectors.state_law();
     let Some(vtype) = legal_type(&vectors.config, &insn) else {

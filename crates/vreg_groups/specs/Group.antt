@@ -1,13 +1,11 @@
 -- The group of registers that an operand stands for, and the elements of the body that lie in it ("Vector Register
 -- Grouping", "Mapping of Vector Elements to Vector Register State").
 use Rattle.std.specs.Prelude.{ℕ, ◌/◌, Bool, List}
-use Rattle.rv_decode.specs.declared.extents.Eew.{Eew}
+use Rattle.vreg_groups.specs.Words.{Eew, Policy, Vtype}
 use Rattle.rv_decode.specs.declared.extents.Extent.TheVariants as extent
 use Rattle.vreg_groups.specs.Elements.{elements_of}
 use Rattle.vreg_groups.specs.Legality.{eew_bits, group_count, IsInside}
 use Rattle.vreg_groups.specs.NewElements.{write_of}
-use Rattle.vreg_groups.specs.declared.policies.Policy.{Policy}
-use Rattle.vreg_groups.specs.declared.vector_type.Vtype.{Vtype}
 
 -- the first register and how many there are, the bytes of an element, and how many elements the body has
 pub record Span : Type 0 where

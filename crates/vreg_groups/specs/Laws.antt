@@ -1,8 +1,8 @@
 -- What a write makes of one element, of one mask bit and of the other bytes.
 use Rattle.std.specs.Prelude.{◌≡◌, ℕ, ◌-◌, ◌*◌, ◌^◌, Bool, true, List}
+use Rattle.vreg_groups.specs.Words.{Policy}
 use Rattle.vreg_groups.specs.Elements.{element_at, mask_bit}
 use Rattle.vreg_groups.specs.NewElements.{new_element, write_of, mask_write_of}
-use Rattle.vreg_groups.specs.declared.policies.Policy.{Policy}
 
 -- element i of the group that begins at register `first` becomes the new element
 abbrev pub ElementIsNew : ℕ → ℕ → ℕ → ℕ → Policy → List ℕ → List Bool → List ℕ → ℕ → Type 0

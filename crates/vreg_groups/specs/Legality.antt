@@ -2,22 +2,12 @@
 -- Masking"), over lists of register numbers. LMUL and EMUL are counted in eighths.
 use Rattle.std.specs.Prelude.{Bool, true, false, not, ◌&&◌, ◌||◌, ℕ, ◌+◌, ◌*◌, ◌/◌, ◌%◌, ◌≤◌, ◌==◌, nat_lt, nat_le, max, List, Option, Some, None, IfSome}
 use Rattle.std.specs.List.{range_with_len, list_any, list_all}
+use Rattle.vreg_groups.specs.Words.{ByWidth, Count, Eew, Extent, Group, Insn, Mask, Nothing, Operand, Operands}
+use Rattle.vreg_groups.specs.Words.{Sharing, Single, Vconfig, Vtype, Whole, Width}
 use Rattle.rv_decode.specs.Needs.{needs_of}
-use Rattle.rv_decode.specs.declared.instructions.Insn.{Insn}
-use Rattle.rv_decode.specs.declared.extents.Count.{Count}
 use Rattle.rv_decode.specs.declared.extents.Count.TheVariants as count
-use Rattle.rv_decode.specs.declared.extents.Eew.{Eew}
 use Rattle.rv_decode.specs.declared.extents.Eew.TheVariants.{Quarter, Half, Same, Double, Fixed}
-use Rattle.rv_decode.specs.declared.extents.Extent.{Extent}
-use Rattle.rv_decode.specs.declared.extents.Extent.TheVariants.{Group, Single, Mask, Whole}
-use Rattle.rv_decode.specs.declared.extents.Operand.{Operand}
-use Rattle.rv_decode.specs.declared.extents.Operands.{Operands}
-use Rattle.rv_decode.specs.declared.extents.Sharing.{Sharing}
-use Rattle.rv_decode.specs.declared.extents.Sharing.TheVariants.{ByWidth, Nothing}
-use Rattle.rv_decode.specs.declared.instructions.Width.{Width}
 use Rattle.vreg_groups.specs.VectorType.{bits_of_width, eighths_of, vtype_of}
-use Rattle.vreg_groups.specs.declared.vector_type.Vtype.{Vtype}
-use Rattle.vreg_groups.specs.declared.vector_length.Vconfig.{Vconfig}
 
 -- EEW in bits, under this SEW
 abbrev pub eew_bits : Width → Eew → ℕ

@@ -5,4 +5,5 @@ pub mod NewElements
 pub mod Legality
 pub mod Group
 pub mod Laws
+pub mod Words
 pub use Rattle.rv_decode.specs.Needs

@@ -2,11 +2,8 @@
 -- "Vector Tail Agnostic and Vector Mask Agnostic").
 use Rattle.std.specs.Prelude.{Bool, true, false, ℕ, ◌+◌, ◌-◌, ◌*◌, ◌/◌, ◌^◌, nat_lt, if◌then◌else◌, List, [], ◌∷◌, ◌++◌, length, take, drop, slice_index, slice_index_or}
 use Rattle.std.specs.List.{range_with_len, flat_map}
+use Rattle.vreg_groups.specs.Words.{Agnostic, Keep, Ones, Policy, Vtype}
 use Rattle.vreg_groups.specs.Elements.{element_at, bytes_of, bit_of, number_of_bits}
-use Rattle.vreg_groups.specs.declared.policies.Agnostic.{Agnostic}
-use Rattle.vreg_groups.specs.declared.policies.Agnostic.TheVariants.{Keep, Ones}
-use Rattle.vreg_groups.specs.declared.policies.Policy.{Policy}
-use Rattle.vreg_groups.specs.declared.vector_type.Vtype.{Vtype}
 
 -- an element that no result is written to: its old value, or all ones
 abbrev pub filled : {A : Type 0} → Agnostic → A → A → A

@@ -1,11 +1,8 @@
 -- The fields of vtype ("Vector Type Register, vtype"), and VLMAX.
 use Rattle.std.specs.Prelude.{Bool, false, ℕ, ◌*◌, ◌/◌, ◌%◌, ◌==◌, nat_le, if◌then◌else◌, Option, Some, None}
 use Rattle.std.specs.Option.{option_and_then}
-use Rattle.rv_decode.specs.declared.instructions.Width.{Width}
-use Rattle.rv_decode.specs.declared.instructions.Width.TheVariants.{W8, W16, W32}
-use Rattle.vreg_groups.specs.declared.vector_type.Lmul.{Lmul}
+use Rattle.vreg_groups.specs.Words.{Lmul, Vtype, W16, W32, W8, Width}
 use Rattle.vreg_groups.specs.declared.vector_type.Lmul.TheVariants.{Quarter, Half, One, Two, Four, Eight}
-use Rattle.vreg_groups.specs.declared.vector_type.Vtype.{Vtype}
 
 -- vtype with vill set and every other bit clear
 abbrev pub vill : ℕ

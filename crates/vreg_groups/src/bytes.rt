@@ -12,7 +12,8 @@ use crate::policies::{Policy, new_element};
 #[tactic(auto, unfolding(crate::specs::Elements::element_at))]
 pub(crate) fn read_elements<E: Element>(bytes: &[u8], at: usize, out: &mut [E])
     requires { at + E.SIZE * length out.old ≤ length bytes.now }
-    ensures { map E.number out.new ≡ map (element_at E.SIZE at bytes.now) (range_with_len 0 (length out.old)) }
+    ensures { map E.number out.new ≡ map (element_at E.SIZE at bytes.now)
+        (range_with_len 0 (length out.old)) }
 {
     for (i, element) in out.iter_mut().enumerate() {
         *element = E::get(bytes, at + E::SIZE * i);
@@ -56,7 +57,8 @@ pub(crate) fn write_elements<E: Element>(
     policy: Policy,
 )
     requires { at + E.SIZE * count ≤ length bytes.old }
-    ensures { bytes.new ≡ replaced E.SIZE at count (new_bytes E.SIZE at policy (map E.number values.now) active.now bytes.old) bytes.old }
+    ensures { bytes.new ≡ replaced E.SIZE at count
+        (new_bytes E.SIZE at policy (map E.number values.now) active.now bytes.old) bytes.old }
 {
     for i in 0..count {
         let place = at + E::SIZE * i;
@@ -77,7 +79,8 @@ pub(crate) fn write_bits(
 )
     requires room { at + count ≤ length bytes.old }
     requires few { count ≤ 32 }
-    ensures { bytes.new ≡ replaced 1 at count (new_mask_bytes at policy values.now active.now bytes.old) bytes.old }
+    ensures { bytes.new ≡ replaced 1 at count
+        (new_mask_bytes at policy values.now active.now bytes.old) bytes.old }
 {
     for j in 0..count {
         bytes[at + j] = new_mask_byte(policy, values, active, j, bytes[at + j]);

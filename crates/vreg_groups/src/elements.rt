@@ -21,7 +21,8 @@ pub trait Element: Copy {
     /// Writes the element to the bytes from place `at` on.
     fn put(self, bytes: &mut [u8], at: usize)
         requires { at + SIZE ≤ length bytes.old }
-        ensures { bytes.new ≡ take at bytes.old ++ bytes_of SIZE (number self) ++ drop (at + SIZE) bytes.old };
+        ensures { bytes.new ≡ take at bytes.old ++ bytes_of SIZE (number self) ++ drop (at + SIZE)
+            bytes.old };
 
     /// The element all of whose bits are ones.
     fn ones() -> Self

@@ -81,7 +81,8 @@ impl<const VLENB: usize> Group<VLENB> {
         policy: Policy,
     )
         requires { E.SIZE ≡ self.now.bytes }
-        ensures { registers.new ≡ written VLENB self.now policy (map E.number results.now) active.now registers.old }
+        ensures { registers.new ≡ written VLENB self.now policy (map E.number results.now)
+            active.now registers.old }
     {
         registers.write_group(self.first, self.count, results, active, policy);
     }

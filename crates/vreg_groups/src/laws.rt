@@ -49,7 +49,8 @@ pub fn other_bytes_stay(
     requires group { first + count ≤ 32 }
     requires registers { length file.now ≡ 32 * vlenb }
     requires outside { (k < first * vlenb) ⊎ ((first + count) * vlenb ≤ k) }
-    ensures { slice_index (write_of vlenb size first count policy results.now active.now file.now) k ≡ slice_index file.now k }
+    ensures { slice_index (write_of vlenb size first count policy results.now active.now file.now) k
+        ≡ slice_index file.now k }
 {
     let _ = file;
 }
@@ -85,7 +86,8 @@ pub fn other_registers_stay(
     requires vlenb_is { IsVlenb vlenb }
     requires registers { length file.now ≡ 32 * vlenb }
     requires outside { (k < register * vlenb) ⊎ ((register + 1) * vlenb ≤ k) }
-    ensures { slice_index (mask_write_of vlenb register policy results.now active.now file.now) k ≡ slice_index file.now k }
+    ensures { slice_index (mask_write_of vlenb register policy results.now active.now file.now) k
+        ≡ slice_index file.now k }
 {
     let _ = register.number();
 }

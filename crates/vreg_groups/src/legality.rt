@@ -28,9 +28,11 @@ pub fn legal(config: &Vconfig, insn: &Insn) -> bool
 /// Its operands are inside the registers, and vl fits the type.
 #[tactic(auto, unfolding(crate::specs::Legality::is_legal))]
 pub fn legal_type(config: &Vconfig, insn: &Insn) -> Option<Vtype>
-    ensures meaning { result ≡ (if is_legal config.now insn.now then Some (type_in (vtype_of config.now.vtype)) else None) }
+    ensures meaning { result ≡ (if is_legal config.now insn.now
+        then Some (type_in (vtype_of config.now.vtype)) else None) }
     ensures inside { IfSome result (λ t. AreAllInside t (needs_of insn.now)) }
-    ensures length { IfSome result (λ t. (vlenb : ℕ) → IsVlenb vlenb → IsConfig vlenb config.now → IsLength vlenb t config.now.vl) }
+    ensures length { IfSome result (λ t. (vlenb : ℕ) → IsVlenb vlenb → IsConfig vlenb config.now
+        → IsLength vlenb t config.now.vl) }
 {
     let vtype = config.vector_type();
     if are_operands_legal(vtype, &needs(insn)) {
@@ -88,7 +90,8 @@ fn is_operand_legal(vtype: Option<Vtype>, operand: &Operand) -> bool
 fn is_group_legal(vtype: &Vtype, eew: Eew, first: usize) -> bool
     requires { first < 32 }
     ensures meaning { result ≡ is_group_legal vtype.now eew first }
-    ensures inside { result ≡ true → (first + group_count vtype.now eew ≤ 32) × (eew_bits vtype.now.sew eew ≤ 32) × (group_count vtype.now eew ≤ 8) }
+    ensures inside { result ≡ true → (first + group_count vtype.now eew ≤ 32)
+        × (eew_bits vtype.now.sew eew ≤ 32) × (group_count vtype.now eew ≤ 8) }
 {
     is_width(eew_bits(vtype.sew, eew))
         && emul_eighths(vtype, eew) <= 64

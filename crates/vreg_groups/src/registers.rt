@@ -67,7 +67,8 @@ impl<const VLENB: usize> VregFile<VLENB> {
     #[tactic(auto, unfolding(crate::specs::Elements::elements_of))]
     pub fn read_group<E: Element>(&self, first: Reg, out: &mut [E])
         requires { first * VLENB + E.SIZE * length out.old ≤ 32 * VLENB }
-        ensures meaning { map E.number out.new ≡ elements_of VLENB E.SIZE first (length out.old) self.now }
+        ensures meaning { map E.number out.new ≡ elements_of VLENB E.SIZE first (length out.old)
+            self.now }
         ensures shape { length self.now ≡ 32 * VLENB }
     {
         let bytes = &self.bytes;
@@ -118,7 +119,8 @@ impl<const VLENB: usize> VregFile<VLENB> {
         policy: Policy,
     )
         requires { first + count ≤ 32 }
-        ensures meaning { self.new ≡ write_of VLENB E.SIZE first count policy (map E.number values.now) active.now self.old }
+        ensures meaning { self.new ≡ write_of VLENB E.SIZE first count policy
+            (map E.number values.now) active.now self.old }
         ensures shape { length self.new ≡ 32 * VLENB }
     {
         let _ = &self.bytes;
@@ -137,7 +139,8 @@ impl<const VLENB: usize> VregFile<VLENB> {
     /// tail goes to the last bit of the register.
     #[tactic(auto, unfolding(crate::specs::NewElements::mask_write_of))]
     pub fn write_mask(&mut self, register: Reg, values: &[bool], active: &[bool], policy: Policy)
-        ensures meaning { self.new ≡ mask_write_of VLENB register policy values.now active.now self.old }
+        ensures meaning { self.new ≡ mask_write_of VLENB register policy values.now active.now
+            self.old }
         ensures shape { length self.new ≡ 32 * VLENB }
     {
         let _ = &self.bytes;

@@ -52,7 +52,8 @@ impl Vconfig {
     #[tactic(auto, unfolding(crate::specs::VectorLength::IsConfig))]
     pub fn vector_type(&self) -> Option<Vtype>
         ensures meaning { result ≡ vtype_of self.now.vtype }
-        ensures length { (vlenb : ℕ) → IsVlenb vlenb → IsConfig vlenb self.now → IsLength vlenb (type_in result) self.now.vl }
+        ensures length { (vlenb : ℕ) → IsVlenb vlenb → IsConfig vlenb self.now → IsLength vlenb
+            (type_in result) self.now.vl }
     {
         Vtype::from_bits(self.vtype)
     }
@@ -79,7 +80,8 @@ pub fn vset(vlenb: usize, config: Vconfig, avl: Avl, bits: u32) -> Vconfig
     requires { IsVlenb vlenb }
     ensures meaning { result ≡ vset_of vlenb config avl bits }
     ensures kept { IsConfig vlenb config → IsConfig vlenb result }
-    ensures length { IfSome (vtype_of bits) (λ t. (n : ℕ) → avl ≡ Avl.Of n → result.vl ≡ min n (vlmax_of vlenb t)) }
+    ensures length { IfSome (vtype_of bits) (λ t. (n : ℕ) → avl ≡ Avl.Of n → result.vl ≡ min n
+        (vlmax_of vlenb t)) }
 {
     match Vtype::from_bits(bits) {
         None => Vconfig::none(),

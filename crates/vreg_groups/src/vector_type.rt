@@ -77,7 +77,8 @@ impl Vtype {
         ensures meaning { result ≡ group_count self.now eew }
         ensures positive { 0 < result }
         ensures bound { result ≤ 64 }
-        ensures room { (vlenb vl : ℕ) → vl ≤ vlmax_of vlenb self.now → eew_bits self.now.sew eew * vl ≤ 8 * (result * vlenb) }
+        ensures room { (vlenb vl : ℕ) → vl ≤ vlmax_of vlenb self.now → eew_bits self.now.sew eew *
+            vl ≤ 8 * (result * vlenb) }
     {
         (emul_eighths(self, eew) / 8).max(1)
     }
