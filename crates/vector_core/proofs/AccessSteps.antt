@@ -26,26 +26,33 @@ rest_is right size place active i b h e =
     ap (λ ks. map (access_at right size place) (filter (λ k. get_or active k false) ks)) (range_next i (length active) h)
     ∙ ap (λ (a : Bool). map (access_at right size place) (cond a (i ∷ later) later)) e
 
-pub rest_active : (right : Right) (size : ℕ) (place : ℕ → ℕ) (active : List Bool) (i : ℕ) → i < length active → get_or active i false ≡ true →
-    rest right size place active i ≡ access_at right size place i ∷ rest right size place active (i + 1)
-rest_active right size place active i h e = rest_is right size place active i true h e
-
-pub rest_inactive : (right : Right) (size : ℕ) (place : ℕ → ℕ) (active : List Bool) (i : ℕ) → i < length active → get_or active i false ≡ false →
-    rest right size place active i ≡ rest right size place active (i + 1)
-rest_inactive right size place active i h e = rest_is right size place active i false h e
-
-pub rest_end : (right : Right) (size : ℕ) (place : ℕ → ℕ) (active : List Bool) (i : ℕ) → length active ≤ i →
+rest_end : (right : Right) (size : ℕ) (place : ℕ → ℕ) (active : List Bool) (i : ℕ) → length active ≤ i →
     rest right size place active i ≡ []
 rest_end right size place active i h =
     let e : length active - i ≡ 0 = omega arith in
     ap (accesses_from right size place active i) e
 
-pub rest_all : (right : Right) (size : ℕ) (place : ℕ → ℕ) (active : List Bool) →
-    rest right size place active 0 ≡ accesses right size place active
+-- what a loop keeps of them: F of the rest is w, at the start, past an inactive element and at the end
+pub at_start : {X : Type 0} (F : List Access → X) (right : Right) (size : ℕ) (place : ℕ → ℕ) (active : List Bool) →
+    F (rest right size place active 0) ≡ F (accesses right size place active)
 unfolding accesses
-rest_all right size place active =
+at_start F right size place active =
     let e : length active - 0 ≡ length active = omega arith in
-    ap (accesses_from right size place active 0) e
+    ap (λ n. F (accesses_from right size place active 0 n)) e
+
+pub at_inactive : {X : Type 0} (F : List Access → X) (w : X) (right : Right) (size : ℕ) (place : ℕ → ℕ) (active : List Bool) (i : ℕ) →
+    i < length active → get_or active i false ≡ false → F (rest right size place active i) ≡ w →
+    F (rest right size place active (i + 1)) ≡ w
+at_inactive F w right size place active i h e invariant = sym (ap F (rest_is right size place active i false h e)) ∙ invariant
+
+pub at_active : {X : Type 0} (F : List Access → X) (w : X) (right : Right) (size : ℕ) (place : ℕ → ℕ) (active : List Bool) (i : ℕ) →
+    i < length active → get_or active i false ≡ true → F (rest right size place active i) ≡ w →
+    F (access_at right size place i ∷ rest right size place active (i + 1)) ≡ w
+at_active F w right size place active i h e invariant = sym (ap F (rest_is right size place active i true h e)) ∙ invariant
+
+pub at_end : {X : Type 0} (F : List Access → X) (w : X) (right : Right) (size : ℕ) (place : ℕ → ℕ) (active : List Bool) (i : ℕ) →
+    length active ≤ i → F (rest right size place active i) ≡ w → F [] ≡ w
+at_end F w right size place active i h invariant = sym (ap F (rest_end right size place active i h)) ∙ invariant
 
 -- an access that is refused, and one that is not
 pub refused_here : (memory : Memory) (right : Right) (size : ℕ) (place : ℕ → ℕ) (active : List Bool) (i address : ℕ) (permitted : Bool) →
@@ -56,7 +63,7 @@ refused_here memory right size place active i address permitted h e at is refuse
     let next = find (is_refused memory) (rest right size place active (i + 1)) in
     ap Some at
     ∙ sym (ap (λ (b : Bool). option_map (λ a. a.address) (cond (not b) (Some (access_at right size place i)) next)) p)
-    ∙ sym (ap (λ l. option_map (λ a. a.address) (find (is_refused memory) l)) (rest_active right size place active i h e))
+    ∙ sym (ap (λ l. option_map (λ a. a.address) (find (is_refused memory) l)) (rest_is right size place active i true h e))
 
 pub permitted_here : (memory : Memory) (right : Right) (size : ℕ) (place : ℕ → ℕ) (active : List Bool) (i address : ℕ) (permitted : Bool) →
     i < length active → get_or active i false ≡ true → address ≡ place i % 2 ^ 32 → permitted ≡ is_permitted right address size memory →
@@ -65,7 +72,7 @@ permitted_here memory right size place active i address permitted h e at is gran
     let p : is_permitted right (place i % 2 ^ 32) size memory ≡ true = cc in
     let next = find (is_refused memory) (rest right size place active (i + 1)) in
     sym (ap (λ (b : Bool). cond (not b) (Some (access_at right size place i)) next) p)
-    ∙ sym (ap (find (is_refused memory)) (rest_active right size place active i h e))
+    ∙ sym (ap (find (is_refused memory)) (rest_is right size place active i true h e))
 
 -- a load that gives nothing was refused, one that gives a number was not
 not_permitted : (b : Bool) (n : ℕ) → (if b then Some n else None) ≡ None → b ≡ false

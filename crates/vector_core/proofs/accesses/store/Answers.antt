@@ -4,22 +4,22 @@ use Rattle.std.specs.List.{fold}
 use Rattle.region_mem.specs.declared.faults.Right.TheVariants.{Write}
 use Rattle.region_mem.specs.Memory.{Memory, store_of}
 use Rattle.vector_core.specs.Accesses.{stored, unit_stride, with_stored}
-use Rattle.vector_core.proofs.AccessSteps.{rest, rest_all, rest_active, rest_inactive, rest_end, stored_here}
+use Rattle.vector_core.proofs.AccessSteps.{rest, at_start, at_inactive, at_active, at_end, stored_here}
 use Rattle.vector_core.proofs.accesses.store.Goals as goal
 
 pub loop-i-init : goal.loop-i-init
 unfolding stored
 loop-i-init g c =
     let size = g.E.Element.SIZE in
-    ap (fold (with_stored (map g.E.Element.number c.args.values.now)) c.args.memory.now)
-    (rest_all Write size (unit_stride c.args.base size) c.args.active.now)
+    let all = map g.E.Element.number c.args.values.now in
+    at_start (fold (with_stored all) c.args.memory.now) Write size (unit_stride c.args.base size) c.args.active.now
 
 pub loop-i-preserved-then-not-active-i : goal.loop-i-preserved-then-not-active-i
 loop-i-preserved-then-not-active-i g c =
     let size = g.E.Element.SIZE in
-    sym (ap (fold (with_stored (map g.E.Element.number c.args.values.now)) c.loop-i.memory)
-    (rest_inactive Write size (unit_stride c.args.base size) c.args.active.now c.loop-i.i (omega arith) c.if-not-active-i.true))
-    ∙ c.loop-i.invariant
+    let all = map g.E.Element.number c.args.values.now in
+    at_inactive (fold (with_stored all) c.loop-i.memory) _ Write size (unit_stride c.args.base size) c.args.active.now c.loop-i.i
+    (omega arith) c.if-not-active-i.true c.loop-i.invariant
 
 pub loop-i-preserved : goal.loop-i-preserved
 loop-i-preserved g c =
@@ -33,13 +33,12 @@ loop-i-preserved g c =
     ap (λ (m : Memory). fold (with_stored all) m (rest Write size (unit_stride c.args.base size) c.args.active.now (c.loop-i.i + 1)))
     (stored_here c.loop-i.memory c.store_element.new.memory size (unit_stride c.args.base size) all c.loop-i.i size
     c.place-address.result c.to_number.result refl at value stored)
-    ∙ sym (ap (fold (with_stored all) c.loop-i.memory)
-    (rest_active Write size (unit_stride c.args.base size) c.args.active.now c.loop-i.i (omega arith) c.if-not-active-i.false))
-    ∙ c.loop-i.invariant
+    ∙ at_active (fold (with_stored all) c.loop-i.memory) _ Write size (unit_stride c.args.base size) c.args.active.now c.loop-i.i
+    (omega arith) c.if-not-active-i.false c.loop-i.invariant
 
 pub returns : goal.returns
 returns g c =
     let size = g.E.Element.SIZE in
-    sym (ap (fold (with_stored (map g.E.Element.number c.args.values.now)) c.loop-i.memory)
-    (rest_end Write size (unit_stride c.args.base size) c.args.active.now c.loop-i.i (omega arith)))
-    ∙ c.loop-i.invariant
+    let all = map g.E.Element.number c.args.values.now in
+    at_end (fold (with_stored all) c.loop-i.memory) _ Write size (unit_stride c.args.base size) c.args.active.now c.loop-i.i
+    (omega arith) c.loop-i.invariant
