@@ -5,6 +5,7 @@
 mod arguments;
 mod draws;
 mod fields;
+mod images;
 mod legality;
 mod listing;
 mod memory;
@@ -20,6 +21,7 @@ mod want_of_memory;
 mod words;
 
 use anyhow::Result;
+use images::Images;
 use legality::Legality;
 use runs::Runs;
 use steps::Steps;
@@ -30,6 +32,7 @@ fn main(rt: HostRuntime) -> Result<()> {
     run_table(&rt, "words", "words.txt", &mut Words)?;
     run_table(&rt, "legality", "legality.txt", &mut Legality)?;
     run_table(&rt, "steps", "steps.txt", &mut Steps::new(rt.alloc())?)?;
+    run_table(&rt, "images", "images.txt", &mut Images)?;
     run_table(&rt, "runs", "runs.txt", &mut Runs)?;
     Ok(())
 }

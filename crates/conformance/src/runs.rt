@@ -157,7 +157,9 @@ fn difference<const VLENB: usize>(
 {
     for field in outs.split(' ').filter(|field| !field.is_empty()) {
         let (name, value) = field.split_once('=').ok_or(RowError::NoRow)?;
-        if !name.starts_with('a') && !expected.set(alloc, VLENB, name, value)? {
+        // Buffers are compared below; an outcome shows no other memory.
+        let is_memory = name.starts_with('a') || name.starts_with('m');
+        if !is_memory && !expected.set(alloc, VLENB, name, value)? {
             return Err(RowError::NoRow);
         }
     }
