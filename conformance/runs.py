@@ -12,10 +12,10 @@ import sys
 import tempfile
 
 import model
-from qemu import EBREAK, Batch
+from qemu import EBREAK, Batch, harness
 from table import M32
 
-WORK = tempfile.mkdtemp(prefix='conformance-runs-')
+WORK = None
 EXIT, STACK, SP = model.EXIT, 0x2fff0000, 0x30000000
 
 LINK = '''
@@ -30,6 +30,8 @@ SECTIONS {
 
 
 def built(name, source, language):
+    global WORK
+    WORK = WORK or tempfile.mkdtemp(prefix='conformance-runs-')
     path = os.path.join(WORK, re.sub(r'\W+', '_', name))
     with open(path + '.' + language, 'w') as f:
         f.write(source)
@@ -166,7 +168,7 @@ class Run:
         place = b.run(entry, 0x80000000, 0, 0, 0, x, bytes(32 * self.vlenb), trampoline)
         # Pages that may not be read are not read back; nothing writes them.
         dumps = [b.dump(first, len(data)) if 'r' in rights else None for first, data, rights in areas]
-        log = os.path.join(WORK, 'log')
+        log = os.path.join(os.path.dirname(harness()), 'log')
         lo, hi = min(a[0] for a in areas if 'x' in a[2]), max(a[0] + len(a[1]) for a in areas if 'x' in a[2])
         answers = b.answers(['-singlestep', '-d', 'exec,nochain', '-dfilter', '0x%x..0x%x' % (lo, hi - 1), '-D', log])
         steps = sum(1 for l in open(log) if l.startswith('Trace'))
@@ -408,6 +410,7 @@ def everything():
                                                               0x10ffc), [7])
     buffers = asm('sub t0, a1, a0; sub t1, a2, a1; sub t2, a3, a2; sub t3, a4, a3; sub t4, a5, a4; sub t5, a6, a5; sub t6, a7, a6; sw t6, 0(a7); ret')
     yield Run('where buffers lie', buffers, [w(b''), w(b'1'), r(bytes(4095)), r(bytes(4096)), w(bytes(4097)), r(b''), r(b'3'), w(some(12))])
+    yield Run('x0', asm('li t0, 7; add x0, t0, t0; mv a0, x0; lw x0, -4(sp); csrrw x0, vxrm, t0; auipc x0, 5; mul x0, t0, t0; jal x0, 1f; 1: vsetivli x0, 3, e8, m1, ta, ma; csrrsi x0, vcsr, 2; or a1, x0, x0; ret'), [1, 2])
     yield Run('bytes, halves, words', asm('lb t0, 3(a0); lh t1, 3(a0); lhu t2, 5(a0); lbu t3, 4(a0); sb t0, 0(a0); sh t1, 9(a0); sw t1, 13(a0); lw t4, 11(a0); ret'), [w(some(32, 201))])
 
 
@@ -434,4 +437,5 @@ def main():
     print('\n'.join(rows))
 
 
-main()
+if __name__ == '__main__':
+    main()

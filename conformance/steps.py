@@ -466,8 +466,11 @@ def main():
     scalar_cases()
     csr_cases()
     vset_cases()
-    arithmetic_cases(3)
-    access_cases(6)
+    # As many rows of each instruction as keep the table at about 20,000.
+    known = [i for i in VECTOR if any(i.is_decoded(vm, EVERYTHING) for vm in ((0, 1) if i.vm is None else (i.vm,)))]
+    accesses = sum(1 for i in known if i.base & 0x7f != 0x57)
+    arithmetic_cases(max(1, 330 // (len(known) - accesses)))
+    access_cases(max(1, min(6, 60 // accesses)))
     groups = {}
     for n, c in enumerate(cases):
         groups.setdefault((c.vlenb, c.ones), []).append(n)
