@@ -1,5 +1,7 @@
 """States on qemu-riscv32: builds the harness, sends it commands, reads its answers."""
+import atexit
 import os
+import shutil
 import struct
 import subprocess
 import tempfile
@@ -13,7 +15,9 @@ EBREAK = 0x00100073
 def harness():
     global built
     if built is None:
-        built = os.path.join(tempfile.mkdtemp(prefix='conformance-'), 'harness')
+        work = tempfile.mkdtemp(prefix='conformance-')
+        atexit.register(shutil.rmtree, work)
+        built = os.path.join(work, 'harness')
         here = lambda n: os.path.join(HERE, n)
         clang = ['clang-16', '--target=riscv32-unknown-elf', '-mno-relax', '-c']
         subprocess.run(clang + ['-march=rv32im', '-mabi=ilp32', '-O2', '-ffreestanding', '-fno-builtin', '-Wno-everything', here('harness.c'), '-o', built + '.c.o'], check=True)

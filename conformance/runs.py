@@ -4,8 +4,10 @@ Usage: runs.py > runs.txt. Images are built by clang-16 and ld.lld-16, or put to
 the number of steps is that of qemu's log of one instruction at a time; model.py has to say the same. Where a run says `by_hand`, qemu is not asked: the section
 is named there.
 """
+import atexit
 import os
 import re
+import shutil
 import struct
 import subprocess
 import sys
@@ -31,7 +33,9 @@ SECTIONS {
 
 def built(name, source, language):
     global WORK
-    WORK = WORK or tempfile.mkdtemp(prefix='conformance-runs-')
+    if WORK is None:
+        WORK = tempfile.mkdtemp(prefix='conformance-runs-')
+        atexit.register(shutil.rmtree, WORK)
     path = os.path.join(WORK, re.sub(r'\W+', '_', name))
     with open(path + '.' + language, 'w') as f:
         f.write(source)

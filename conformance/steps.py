@@ -12,7 +12,7 @@ import sys
 
 import model
 from qemu import EBREAK, TRAMPOLINE, Batch
-from table import ALL, BUFFER, M32, NOT_YET, RO, RW, SCALAR, VECTOR, VTYPES, lmul4_of, sew_of, state_of, vlmax_of
+from table import ALL, BUFFER, M32, RO, RW, SCALAR, VECTOR, VTYPES, lmul4_of, sew_of, state_of, vlmax_of
 
 EVERYTHING = '--all' in sys.argv
 PC = 0x10000

@@ -4,8 +4,6 @@ Names, encodings and operands are those of the RISC-V Unprivileged ISA manual ("
 ("Vector Instruction Listing"). An instruction that the project does not decode yet stands in NOT_YET; to take it up, take its name off that list and run the
 scripts again.
 """
-import random
-import re
 import struct
 
 M32 = 0xffffffff

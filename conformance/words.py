@@ -8,7 +8,7 @@ import subprocess
 import sys
 
 import model
-from table import ALL, CSRS, NOT_YET, ORDER, READ_ONLY, SCALAR, VECTOR
+from table import ALL, CSRS, ORDER, READ_ONLY, SCALAR, VECTOR
 
 EVERYTHING = '--all' in sys.argv
 LLVM = ['llvm-mc-16', '--disassemble', '-triple=riscv32', '-mattr=+m,+zve32x', '-M', 'numeric', '-M', 'no-aliases', '--show-encoding']
