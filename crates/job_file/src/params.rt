@@ -107,7 +107,8 @@ fn no_params<'a>() -> [Param<&'a str>; 8]
 /// The parameters at the eight places.
 #[tactic(auto, unfolding(crate::specs::Job::params_of))]
 fn params_of<'a>(items: &'a Array) -> Option<Places<Param<&'a str>>>
-    ensures { option_map (λ params. map param_lent params.at) result ≡ params_of (array_view items.now) }
+    ensures { option_map (λ params. map param_lent params.at) result
+        ≡ params_of (array_view items.now) }
 {
     if item(items, 8).is_some() {
         return None;
@@ -122,7 +123,8 @@ fn params_of<'a>(items: &'a Array) -> Option<Places<Param<&'a str>>>
 /// The parameters of a job's table.
 #[tactic(auto, unfolding(crate::specs::Job::params_in))]
 pub fn params_in<'a>(table: &'a Table) -> Option<Places<Param<&'a str>>>
-    ensures { option_map (λ params. map param_lent params.at) result ≡ params_in (table_view table.now) }
+    ensures { option_map (λ params. map param_lent params.at) result
+        ≡ params_in (table_view table.now) }
 {
     match fields::at(table, "param") {
         Some(value) => params_of(value.as_array()?),

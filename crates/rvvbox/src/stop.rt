@@ -79,7 +79,12 @@ impl Stop<'_> {
                 Ok(()) => Status::Done,
                 Err(_) => Status::File,
             },
-            _ => {
+            Stop::Usage(_)
+            | Stop::Job(_)
+            | Stop::File(_)
+            | Stop::Image(_)
+            | Stop::Open(_)
+            | Stop::Memory => {
                 // Where standard error takes no text, the status alone tells.
                 let _ = write!(errors, "{self}");
                 self.status()
@@ -124,7 +129,7 @@ impl From<JobError> for Stop<'_> {
     fn from(error: JobError) -> Self {
         match error {
             JobError::NoMemory => Stop::Memory,
-            _ => Stop::Job(error),
+            JobError::NotToml | JobError::BadKey => Stop::Job(error),
         }
     }
 }
@@ -133,9 +138,10 @@ impl From<ElfError> for Stop<'_> {
     ghost from_gives = { λ error stop. stop ≡ stop_of_image error };
 
     fn from(error: ElfError) -> Self {
-        match error {
-            ElfError::NoMemory => Stop::Memory,
-            _ => Stop::Image(error),
+        if let ElfError::NoMemory = error {
+            Stop::Memory
+        } else {
+            Stop::Image(error)
         }
     }
 }
@@ -146,7 +152,8 @@ impl From<OpenError> for Stop<'_> {
     fn from(error: OpenError) -> Self {
         match error {
             OpenError::NoMemory => Stop::Memory,
-            _ => Stop::Open(error),
+            OpenError::WrongKind(_) | OpenError::ScalarOutOfInterval(_) | OpenError::WrongSize(_) =>
+                Stop::Open(error),
         }
     }
 }
