@@ -8,17 +8,16 @@ use std::alloc::{AllocError, AllocFailed, Global};
 use std::io::{ErrorKind, Read, Write};
 use std::rt::Files;
 use std::{fs, io};
-use thiserror::Error;
 
 /// How often a file is read from before it counts as one that never ends.
 const MOST_READS: u64 = 1 << 32;
 
 /// Why a file was not read or written.
-#[derive(Clone, Copy, Debug, PartialEq, Eq, Error)]
+#[derive(Clone, Copy, Debug, PartialEq, Eq)]
 pub enum StoreError {
-    #[error("the file was not read or written")]
+    /// The file was not read or written.
     Failed,
-    #[error("out of memory")]
+    /// Memory ran out.
     NoMemory,
 }
 

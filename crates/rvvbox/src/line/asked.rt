@@ -3,23 +3,20 @@ ghost use Rattle.std.specs.Prelude.{◌≡◌};
 ghost use Rattle.rvvbox.specs.declared.line.asked.LineError.TheVariants.{NoMemory};
 
 use std::alloc::AllocError;
-use thiserror::Error;
 
 /// What a command line asks for: a subcommand with its paths.
-#[derive(Clone, Copy, Debug, PartialEq, Eq)]
+#[derive(Drop)]
 pub enum Line<'a> {
     /// Runs the image of the job at `job` with every test at each step.
     Try { job: &'a str },
 }
 
 /// Why a command line asks for nothing that can be done.
-#[derive(Debug, Drop, Error)]
+#[derive(Drop)]
 pub enum LineError {
     /// `clap` refused the words, or they ask for help or the version. The text is `clap`'s.
-    #[error("{0}")]
     Usage(clap::Error),
     /// Memory ran out.
-    #[error("out of memory")]
     NoMemory,
 }
 
