@@ -4,3 +4,4 @@ pub mod FormLaws
 pub mod SumLaws
 pub mod RangeLaws
 pub mod DifferenceLaws
+pub mod LocalityLemmas

@@ -2,3 +2,4 @@ pub mod Forms
 pub mod Ranges
 pub mod Sums
 pub mod Differences
+pub mod Laws

@@ -6,11 +6,16 @@
 
 mod differences;
 mod forms;
+mod laws;
 mod ranges;
 mod sums;
 
 pub use differences::{Multiple, is_at_least};
 pub use forms::{Form, Term};
+pub use laws::{
+    agree_below, forms_stay_below, multiples_stay_below, ranges_fit, substitutions_stay_below,
+    sums_stay_below,
+};
 pub use ranges::{Atom, Atoms, Change, End, Range, Split};
 
 #[cfg(test)]

@@ -1,0 +1,5 @@
+use Rattle.linear_facts.proofs.LocalityLemmas.{multiples-stay}
+use Rattle.linear_facts.proofs.laws.multiples_stay_below.Goals as goal
+
+pub returns : goal.returns
+returns c = multiples-stay

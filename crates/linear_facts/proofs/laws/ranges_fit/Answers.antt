@@ -1,0 +1,5 @@
+use Rattle.linear_facts.proofs.LocalityLemmas.{ranges-fit}
+use Rattle.linear_facts.proofs.laws.ranges_fit.Goals as goal
+
+pub returns : goal.returns
+returns c = ranges-fit

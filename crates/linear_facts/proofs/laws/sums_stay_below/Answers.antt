@@ -1,0 +1,5 @@
+use Rattle.linear_facts.proofs.LocalityLemmas.{sums-stay}
+use Rattle.linear_facts.proofs.laws.sums_stay_below.Goals as goal
+
+pub returns : goal.returns
+returns c = sums-stay
