@@ -33,13 +33,16 @@ multiple_term Taken k t = record { atom = t.atom; plus = k * t.minus; minus = k 
 
 -- k times `plus - minus`, added or taken away
 abbrev pub with_number : Side → ℕ → ℕ → ℕ → WholeSum → WholeSum
-with_number Added k plus minus sum = record sum { plus = sum.plus + k * plus; minus = sum.minus + k * minus }
-with_number Taken k plus minus sum = record sum { plus = sum.plus + k * minus; minus = sum.minus + k * plus }
+with_number Added k plus minus sum =
+    record sum { plus = sum.plus + k * plus; minus = sum.minus + k * minus }
+with_number Taken k plus minus sum =
+    record sum { plus = sum.plus + k * minus; minus = sum.minus + k * plus }
 
 -- the terms so far and k times the others
 unfoldable pub with_multiples : Side → ℕ → List WholeTerm → List WholeTerm → List WholeTerm
 with_multiples side k so_far [] = so_far
-with_multiples side k so_far (t ∷ ts) = with_multiples side k (with_term so_far (multiple_term side k t)) ts
+with_multiples side k so_far (t ∷ ts) =
+    with_multiples side k (with_term so_far (multiple_term side k t)) ts
 
 -- the multiple of 2^32 by which the form's range was found, with 2^112 added
 unfoldable pub base_of : AtomTable → Linear → ℕ
@@ -64,7 +67,8 @@ have_ranges table ms = list_all (λ m. is_some (range_of_form table m.form)) ms
 -- the lower bound of the sum is at least 0
 unfoldable pub is_positive : AtomTable → WholeSum → Bool
 is_positive table sum =
-    nat_le (sum.minus + losses (ends table Hi) sum.terms) (sum.plus + gains (ends table Lo) sum.terms)
+    nat_le (sum.minus + losses (ends table Hi) sum.terms)
+    (sum.plus + gains (ends table Lo) sum.terms)
 
 -- each product is of a form with at most eight terms
 abbrev pub AreForms : List Product → Type 0

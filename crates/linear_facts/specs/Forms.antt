@@ -54,7 +54,8 @@ scaled_terms k (t ∷ ts) = term_or_none t.atom (k * t.coefficient % 2 ^ 32) ++ 
 
 -- the sum of two forms
 unfoldable pub sum_of : Linear → Linear → Linear
-sum_of f g = record { constant = (f.constant + g.constant) % 2 ^ 32; terms = merged f.terms g.terms }
+sum_of f g =
+    record { constant = (f.constant + g.constant) % 2 ^ 32; terms = merged f.terms g.terms }
 
 -- k times a form
 unfoldable pub scaled : ℕ → Linear → Linear

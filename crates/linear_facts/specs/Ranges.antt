@@ -19,7 +19,8 @@ end_of Hi r = r.hi
 -- the numbers in both ranges
 abbrev pub meet_of : Range → Range → Option Range
 meet_of r s =
-    if nat_le (max r.lo s.lo) (min r.hi s.hi) then Some record { lo = max r.lo s.lo; hi = min r.hi s.hi } else None
+    if nat_le (max r.lo s.lo) (min r.hi s.hi) then Some record { lo = max r.lo s.lo; hi = min r.hi s.hi }
+    else None
 
 -- atoms by their numbers, and up to two ranges in place of theirs
 pub record AtomTable : Type 0 where

@@ -93,12 +93,14 @@ interval_by_both table constant own split =
 -- the interval of a form's sum, each split atom replaced by its two parts for the second one
 unfoldable pub form_interval : AtomTable → Linear → Interval
 form_interval table f =
-    let own = map signed_term f.terms in interval_by_both table f.constant own (with_split table [] own)
+    let own = map signed_term f.terms in
+    interval_by_both table f.constant own (with_split table [] own)
 
 -- the interval less one multiple of 2^32, where that leaves numbers of 32 bits
 unfoldable pub range_within : Interval → Option Range
 range_within i =
-    if i.lo / 2 ^ 32 == i.hi / 2 ^ 32 then Some record { lo = i.lo % 2 ^ 32; hi = i.hi % 2 ^ 32 } else None
+    if i.lo / 2 ^ 32 == i.hi / 2 ^ 32 then Some record { lo = i.lo % 2 ^ 32; hi = i.hi % 2 ^ 32 }
+    else None
 
 -- the range of a form
 unfoldable pub range_of_form : AtomTable → Linear → Option Range

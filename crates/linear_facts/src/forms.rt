@@ -1,6 +1,7 @@
 //! Forms: addition, multiples and equality.
 ghost use Rattle.std.specs.Prelude.{◌≡◌, ℕ, ◌+◌, ◌*◌, ◌%◌, ◌^◌, ◌<◌, ◌≤◌, ◌↔◌, List, [], ◌∷◌, length, IsTrue, IfSome, IfNone, IsSome, OnSome, Some, MatchOption, ◌++◌};
 ghost use Rattle.arrayvec.specs.ArrayVec.{array_vec_len};
+ghost use Rattle.linear_facts.specs.Laws.{AreBelow};
 ghost use Rattle.linear_facts.specs.Forms.{Linear, value, IsForm, term_or_none, merged, scaled_terms, sum_of, scaled, within, atom_form, form_at, with_replaced, substituted};
 
 use arrayvec::ArrayVec;
@@ -49,7 +50,8 @@ fn push_unless_zero<const R: usize>(
     atom: u16,
     coefficient: u32,
 ) -> Option<()>
-    ensures pushed { OnSome result (terms.new.items ≡ terms.old.items ++ term_or_none atom coefficient) }
+    ensures pushed { OnSome result
+        (terms.new.items ≡ terms.old.items ++ term_or_none atom coefficient) }
     ensures room { OnSome result (length terms.old.items ≤ R → length terms.new.items ≤ R) }
     ensures full { IfNone result (R < length (terms.old.items ++ term_or_none atom coefficient)) }
 {
@@ -176,12 +178,31 @@ impl<const N: usize> Form<N> {
     pub fn scale<const R: usize>(&self, k: u32) -> Option<Form<R>>
         ensures product { result ≡ within R (scaled k self.now) }
         ensures fits { N ≤ R → IsSome result }
-        ensures meaning { (v : ℕ → ℕ) → IfSome result (λ f. value v f ≡ k * value v self.now % 2 ^ 32) }
+        ensures meaning { (v : ℕ → ℕ) → IfSome result
+            (λ f. value v f ≡ k * value v self.now % 2 ^ 32) }
     {
         Some(Form {
             constant: k.wrapping_mul(self.constant),
             terms: scale_terms(k, self.terms.as_slice())?,
         })
+    }
+
+    /// The form with one more term, of an atom above all that it has.
+    pub fn with_term(self, term: Term) -> Self
+        requires room { length self.terms < N }
+        requires above { AreBelow term.atom self.terms }
+        requires coefficient { 0 < term.coefficient }
+        ensures { result ≡ record {
+          constant = self.entry.constant;
+          terms = self.entry.terms ++ term ∷ [];
+        } }
+    {
+        let mut terms = self.terms;
+        terms.push(term);
+        Form {
+            constant: self.constant,
+            terms,
+        }
     }
 
     /// Whether the two forms are equal: in their constants, and in each atom's coefficient.
@@ -193,6 +214,20 @@ impl<const N: usize> Form<N> {
 }
 
 impl Form<8> {
+    /// The sum of two forms, for which there is always room.
+    pub fn sum(&self, other: &Form<8>) -> Form<16>
+        ensures { result ≡ sum_of self.now other.now }
+    {
+        self.add(other).unwrap()
+    }
+
+    /// `k` times the form, for which there is always room.
+    pub fn multiple(&self, k: u32) -> Form<8>
+        ensures { result ≡ scaled k self.now }
+    {
+        self.scale(k).unwrap()
+    }
+
     /// The form with each atom replaced by the form with its number, all at once, or `None` where that
     /// has more than `R` terms. An atom whose number is past the forms stays.
     pub fn substitute<const R: usize>(&self, forms: &[Form<8>]) -> Option<Form<R>>

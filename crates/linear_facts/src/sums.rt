@@ -249,7 +249,8 @@ impl Form<8> {
 /// The interval of a form's sum, met with the one after each split atom is replaced by its two parts.
 pub(crate) fn interval_of_terms(constant: u32, terms: &[Term], atoms: &Atoms) -> Interval
     requires { length terms.now ≤ 8 }
-    ensures interval { result ≡ form_interval atoms.now record { constant = constant; terms = terms.now } }
+    ensures interval { result ≡
+        form_interval atoms.now record { constant = constant; terms = terms.now } }
     ensures close { IsClose result }
 {
     let constant = u128::from(constant);
