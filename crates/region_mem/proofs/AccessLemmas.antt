@@ -29,15 +29,15 @@ find_none p xs none =
     let past : length xs ≤ position_or_len p xs = grind (arith, common_steps, none) in
     find_at p xs ∙ slice_get_past xs (position_or_len p xs) past
 
-spans_from : (address n : ℕ) (area : Area) → spans address n area ≡ true → area.first ≤ address
+pub spans_from : (address n : ℕ) (area : Area) → spans address n area ≡ true → area.first ≤ address
 unfolding spans
 spans_from address n area h = leb-true _ _ (and_parts _ _ h).0
 
-spans_to : (address n : ℕ) (area : Area) → spans address n area ≡ true → address + n ≤ end_of area
+pub spans_to : (address n : ℕ) (area : Area) → spans address n area ≡ true → address + n ≤ end_of area
 unfolding spans
 spans_to address n area h = leb-true _ _ (and_parts _ _ h).1
 
-holds_from : (at : ℕ) (area : Area) → area.first ≤ at → at < end_of area → holds at area ≡ true
+pub holds_from : (at : ℕ) (area : Area) → area.first ≤ at → at < end_of area → holds at area ≡ true
 unfolding holds
 holds_from at area low high = grind (arith, nat_tests)
 

@@ -8,4 +8,5 @@ pub mod Apart
 pub mod StartLemmas
 pub mod SearchLemmas
 pub mod AccessLemmas
+pub mod WindowLemmas
 pub mod ExtentLemmas

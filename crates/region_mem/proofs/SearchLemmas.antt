@@ -84,7 +84,7 @@ same_place at areas i d order below here =
     position_or_len_is (holds at) areas i d (omega arith)
     (λ k lt. let first = begins_at at (get_or areas i d) here in not_past at (get_or areas k d) (omega (arith, first, apart 0 areas k i d order lt below))) (λ lt. here)
 
-nothing : Area
+pub nothing : Area
 nothing = record { first = 0; bytes = []; read = false; write = false; fetch = false }
 
 -- Where no area begins at the address or below it none holds it.

@@ -1,6 +1,6 @@
 -- Areas of memory, as a list in the order of their first addresses: the byte at an address, what an access may do, and
 -- what a write leaves. An address is a number without limit here, so that none wraps.
-use Rattle.std.specs.Prelude.{◌≡◌, ℕ, true, false, zero, suc, ◌+◌, ◌*◌, ◌-◌, ◌/◌, ◌%◌, ◌^◌, ◌≤◌, Bool, ◌&&◌, nat_le, nat_lt, List, [], ◌∷◌, length, map, find, Option, unwrap_or, slice_index, slice_set, if◌then◌else◌}
+use Rattle.std.specs.Prelude.{◌≡◌, ℕ, true, false, zero, suc, ◌+◌, ◌*◌, ◌-◌, ◌/◌, ◌%◌, ◌^◌, ◌≤◌, Bool, ◌&&◌, nat_le, nat_lt, List, [], ◌∷◌, length, take, drop, map, find, Option, unwrap_or, slice_index, slice_set, if◌then◌else◌}
 use Rattle.std.specs.List.Sorted.{IsPartitionPoint}
 use Rattle.std.specs.List.{list_any, list_all, range_with_len}
 use Rattle.std.specs.Option.{option_map}
@@ -95,3 +95,12 @@ number_into address zero value area = area
 number_into address (suc n) value area =
     number_into (address + 1) n (value / 256)
     (record area { bytes = slice_set area.bytes (address - area.first) (value % 256) })
+
+-- the n bytes from an address on that an area has
+unfoldable pub part_of : ℕ → ℕ → Area → List ℕ
+part_of address n area = take n (drop (address - area.first) area.bytes)
+
+-- the n bytes from an address on, where one area has them all, and the right
+unfoldable pub window_in : Right → ℕ → ℕ → List Area → Option (List ℕ)
+window_in right address n areas =
+    option_map (part_of address n) (find (admits right address n) areas)

@@ -1,5 +1,5 @@
 -- The memory of a run, and what loads, stores and fetches do with it.
-use Rattle.std.specs.Prelude.{◌≡◌, ◌⊎◌, ℕ, Bool, ◌&&◌, nat_le, nat_lt, List, [], ◌∷◌, filter, Option, Some, None, if◌then◌else◌}
+use Rattle.std.specs.Prelude.{◌≡◌, ◌⊎◌, ℕ, Bool, ◌&&◌, nat_le, nat_lt, List, [], ◌∷◌, filter, Option, Some, None, is_some, if◌then◌else◌}
 use Rattle.region_mem.specs.declared.layout.TheConstants.{BUFFERS, BUFFERS_END}
 use Rattle.region_mem.specs.declared.faults.Right.{Right}
 use Rattle.region_mem.specs.declared.faults.Right.TheVariants.{Read, Write, Fetch}
@@ -7,7 +7,7 @@ use Rattle.region_mem.specs.Parameter.{Argument}
 use Rattle.region_mem.specs.declared.arguments.Arg.TheVariants as argument
 use Rattle.region_mem.specs.declared.arguments.Passed.{Passed}
 use Rattle.region_mem.specs.declared.arguments.Passed.TheVariants as passed
-use Rattle.region_mem.specs.Areas.{Area, byte_at, is_open_from, number_at, with_number}
+use Rattle.region_mem.specs.Areas.{Area, window_in, byte_at, is_open_from, number_at, with_number}
 
 -- The areas stand in the order of their first addresses; what was passed stands by place.
 pub record Memory : Type 0 where
@@ -41,6 +41,14 @@ store_of address n value memory =
 unfoldable pub fetch_of : ℕ → Memory → Option ℕ
 fetch_of pc memory =
     if is_permitted Fetch pc 4 memory then Some (number_at pc 4 memory.areas) else None
+
+-- the n bytes from an address on, where one area has them all and they may be read
+unfoldable pub window_of : ℕ → ℕ → Memory → Option (List ℕ)
+window_of address n memory = window_in Read address n memory.areas
+
+-- One area has all of the n bytes from an address on, and they may be written.
+unfoldable pub has_window : ℕ → ℕ → Memory → Bool
+has_window address n memory = is_some (window_in Write address n memory.areas)
 
 -- the area is a buffer's: buffers alone lie here
 unfoldable pub is_buffer_area : Area → Bool

@@ -3,7 +3,7 @@
 ghost use Rattle.std.specs.Prelude.{◌≡◌, ◌+◌, ◌<◌, ◌≤◌, ◌^◌, Some, None, true, false, length, find, position, if◌then◌else◌};
 ghost use Rattle.std.specs.Option.{option_copied};
 ghost use Rattle.region_mem.specs.Memory.{IsAccessSize};
-ghost use Rattle.region_mem.specs.Areas.{AreInOrder, IsCount, holds, is_open_from, byte_at, number_at, with_number};
+ghost use Rattle.region_mem.specs.Areas.{AreInOrder, IsCount, holds, is_open_from, window_in, byte_at, number_at, with_number};
 
 use crate::faults::Right;
 use crate::region::Region;
@@ -170,4 +170,24 @@ fn set_by_bytes<A: Allocator>(regions: &mut [Region<A>], address: u64, n: usize,
     }
     walk::set_number(regions, address, n, value);
     true
+}
+
+/// The n bytes from an address on, where one region has them all, and the right.
+#[tactic(auto, using(crate::proofs::WindowLemmas::window_at, crate::proofs::WindowLemmas::window_nowhere))]
+pub(crate) fn window<A: Allocator>(
+    regions: &[Region<A>],
+    right: Right,
+    address: u64,
+    n: usize,
+) -> Option<&[u8]>
+    requires order { AreInOrder 0 regions.now }
+    requires address { address < 2 ^ 32 }
+    requires some { 0 < n }
+    requires fits { n < 2 ^ 63 }
+    ensures { option_copied result ≡ window_in right address n regions.now }
+{
+    match region_of(regions, address) {
+        Some(region) => region.part_for(right, address, n),
+        None => None,
+    }
 }

@@ -1,5 +1,5 @@
 //! The memory of a run.
-ghost use Rattle.std.specs.Prelude.{◌≡◌, ◌<◌, ◌^◌, Some, None, false, if◌then◌else◌, IfOk, IfErr};
+ghost use Rattle.std.specs.Prelude.{◌≡◌, ◌<◌, ◌^◌, Some, None, false, if◌then◌else◌, IfOk, IfErr, option_copied};
 
 use crate::arguments::{Args, Bytes, Passed};
 use crate::faults::Right;
@@ -30,7 +30,7 @@ impl<A: Allocator> Model for Regions<A> {
 }
 
 impl<A: Allocator> Regions<A> {
-    ghost use Rattle.region_mem.specs.Memory.{Memory, byte_of, is_permitted, load_of, store_of, fetch_of, args_of, IsAccessSize};
+    ghost use Rattle.region_mem.specs.Memory.{Memory, byte_of, is_permitted, load_of, store_of, fetch_of, args_of, window_of, has_window, IsAccessSize};
     ghost use Rattle.region_mem.specs.Start.{start_memory};
     ghost use Rattle.region_mem.specs.Parameter.{AreArguments};
 
@@ -109,6 +109,26 @@ impl<A: Allocator> Regions<A> {
         ensures { result ≡ fetch_of pc self.now }
     {
         areas::number(self.regions.as_slice(), Right::Fetch, u64::from(pc), 4)
+    }
+
+    /// The n bytes from an address on, where one region has them all and they may be read. n is at least 1.
+    #[tactic(auto, unfolding(crate::specs::Memory::window_of))]
+    pub fn window(&self, address: u32, n: usize) -> Option<&[u8]>
+        requires some { 0 < n }
+        requires fits { n < 2 ^ 63 }
+        ensures { option_copied result ≡ window_of address n self.now }
+    {
+        areas::window(self.regions.as_slice(), Right::Read, u64::from(address), n)
+    }
+
+    /// Whether one region has all of the n bytes from an address on, and they may be written. n is at least 1.
+    #[tactic(auto, unfolding(crate::specs::Memory::has_window))]
+    pub fn has_window(&self, address: u32, n: usize) -> bool
+        requires some { 0 < n }
+        requires fits { n < 2 ^ 63 }
+        ensures { result ≡ has_window address n self.now }
+    {
+        areas::window(self.regions.as_slice(), Right::Write, u64::from(address), n).is_some()
     }
 
     /// Writes the n lowest bytes of a value from an address on, and tells whether each of them may be written. Where one

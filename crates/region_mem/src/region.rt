@@ -1,5 +1,5 @@
 //! A region of memory.
-ghost use Rattle.std.specs.Prelude.{◌≡◌, ◌+◌, ◌<◌, ◌-◌, ◌≤◌, ◌^◌, IsTrue, IfSome, true, length, slice_index, slice_set};
+ghost use Rattle.std.specs.Prelude.{◌≡◌, ◌+◌, ◌<◌, ◌-◌, ◌≤◌, ◌^◌, IsTrue, IfSome, Some, None, true, option_copied, if◌then◌else◌, length, slice_index, slice_set};
 
 use crate::arguments::Bytes;
 use crate::faults::Right;
@@ -29,7 +29,7 @@ impl<A: Allocator> Model for Region<A> {
 }
 
 impl<A: Allocator> Region<A> {
-    ghost use Rattle.region_mem.specs.Areas.{Area, holds, has_right, spans, admits, number_in, number_into};
+    ghost use Rattle.region_mem.specs.Areas.{Area, holds, has_right, spans, admits, part_of, number_in, number_into};
     ghost use Rattle.region_mem.specs.Memory.{is_buffer_area, IsAccessSize};
 
     pub(crate) fn new(
@@ -178,6 +178,31 @@ impl<A: Allocator> Region<A> {
     {
         if self.admits(right, address, n as u64) {
             Some(self.number(address, n))
+        } else {
+            None
+        }
+    }
+
+    #[tactic(auto, unfolding(crate::specs::Areas::spans, crate::specs::Areas::part_of))]
+    fn part(&self, address: u64, n: usize) -> &[u8]
+        requires low { address < 2 ^ 32 }
+        requires inside { IsTrue (spans address n self.now) }
+        ensures { result.now ≡ part_of address n self.now }
+    {
+        let at = (address - self.first) as usize;
+        &self.bytes.as_slice()[at..at + n]
+    }
+
+    /// The n bytes from an address on, where the region has all of them and the right.
+    #[tactic(auto, using(crate::proofs::AccessLemmas::admits_spans))]
+    pub(crate) fn part_for(&self, right: Right, address: u64, n: usize) -> Option<&[u8]>
+        requires low { address < 2 ^ 32 }
+        requires fits { n < 2 ^ 63 }
+        ensures { option_copied result
+            ≡ (if admits right address n self.now then Some (part_of address n self.now) else None) }
+    {
+        if self.admits(right, address, n as u64) {
+            Some(self.part(address, n))
         } else {
             None
         }

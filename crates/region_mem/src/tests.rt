@@ -89,6 +89,10 @@ fn runs_memory(rt: HostRuntime) -> Result<(), Fail> {
     assert_eq!(rt; regions.load(0x4000_2002, 2), None);
     assert_eq!(rt; regions.byte(0x2fff_ffff), Some(0));
     assert!(rt; regions.permits(Right::Write, 0x2fff_0000, 0x1_0000));
+    let window = regions.window(0x1_0006, 2).ok_or("a window")?;
+    assert_eq!(rt; window, [7, 8].as_slice());
+    assert!(rt; regions.window(0x1_0006, 3).is_none());
+    assert!(rt; !regions.has_window(0x1_0006, 2));
     assert!(rt; regions.store(0x4000_2001, 1, 0xffff_ff77));
     assert!(rt; !regions.store(0x4000_0000, 1, 0));
     assert!(rt; !regions.store(0x4000_2002, 2, 0));
