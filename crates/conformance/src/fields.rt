@@ -46,6 +46,14 @@ pub fn next<'a>(row: &mut &'a str) -> &'a str {
     field
 }
 
+/// What follows `start` in a text that begins with it.
+pub fn past<'a>(start: &str, text: &'a str) -> Option<&'a str> {
+    match text.split_once(start) {
+        Some((before, rest)) if before.is_empty() => Some(rest),
+        _ => None,
+    }
+}
+
 /// A number in hex digits.
 pub fn hex(text: &str) -> Result<u32, RowError> {
     u32::from_str_radix(text, 16).map_err(|_| RowError::NoRow)

@@ -38,9 +38,8 @@ fn byte_before(i: u32) -> u8 {
 
 /// What the byte at an address is before a step.
 fn byte_at(address: u32) -> u8 {
-    if address / (4 * WORDS) == FIRST / (4 * WORDS)
-        || address / (4 * WORDS) == SECOND / (4 * WORDS)
-    {
+    let start = address - address % (4 * WORDS);
+    if start == FIRST || start == SECOND {
         byte_before(address)
     } else {
         0

@@ -1,10 +1,10 @@
 //! The registers of a hart as plain data, and what two of them differ in.
 
-ghost use Rattle.std.specs.Prelude.{◌<◌, IfOk};
+ghost use Rattle.std.specs.Prelude.{◌<◌};
 ghost use Rattle.vreg_groups.specs.VectorLength.{IsVlenb};
 
 use crate::draws::Draws;
-use crate::fields::{RowError, bytes, decimal, hex};
+use crate::fields::{RowError, bytes, decimal, hex, past};
 use rv_decode::Reg;
 use scalar_core::Scalar;
 use std::alloc::Global;
@@ -106,28 +106,23 @@ impl State {
     ) -> Result<bool, RowError>
         requires { vlenb < 33 }
     {
-        if let Some(number) = name.strip_prefix('x') {
-            self.x[register_number(number)?] = hex(value)?;
-        } else if let Some(number) = name.strip_prefix('v') {
-            self.set_vector(
-                register_number(number)?,
-                vlenb,
-                bytes(alloc, value)?.as_slice(),
-            )?;
+        if let Some(number) = past("x", name) {
+            self.x[usize::from(register(number)?.number())] = hex(value)?;
+        } else if let Some(number) = past("v", name) {
+            self.set_vector(register(number)?, vlenb, bytes(alloc, value)?.as_slice())?;
         } else {
             return Ok(false);
         }
         Ok(true)
     }
 
-    fn set_vector(&mut self, number: usize, vlenb: usize, bytes: &[u8]) -> Result<(), RowError>
-        requires number { number < 32 }
-        requires vlenb { vlenb < 33 }
+    fn set_vector(&mut self, register: Reg, vlenb: usize, bytes: &[u8]) -> Result<(), RowError>
+        requires { vlenb < 33 }
     {
         if bytes.len() > vlenb {
             return Err(RowError::NoRow);
         }
-        let start = number * vlenb;
+        let start = usize::from(register.number()) * vlenb;
         self.v[start..start + bytes.len()].copy_from_slice(bytes);
         Ok(())
     }
@@ -174,13 +169,11 @@ impl State {
     }
 }
 
-/// The number of a register, below 32.
-fn register_number(text: &str) -> Result<usize, RowError>
-    ensures { IfOk result (λ number. number < 32) }
-{
+/// A register by its number.
+fn register(text: &str) -> Result<Reg, RowError> {
     let number = decimal(text)?;
     if number < 32 {
-        Ok(number as usize)
+        Ok(Reg::new(number as u8))
     } else {
         Err(RowError::NoRow)
     }

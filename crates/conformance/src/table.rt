@@ -16,7 +16,7 @@ pub trait Table {
 
 /// Whether a line is a row: neither empty nor a comment.
 fn is_row(line: &str) -> bool {
-    !line.is_empty() && !line.starts_with('#')
+    !matches!(line.as_bytes().first(), None | Some(b'#'))
 }
 
 /// What is told of a row, None where it came out as expected.
