@@ -5,5 +5,6 @@ pub mod Run
 pub mod Answer
 pub mod Errors
 pub mod Rooms
+pub mod Laws
 pub use Rattle.region_mem.specs.Parameter
 pub use Rattle.region_mem.specs.Memory

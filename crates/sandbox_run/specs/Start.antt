@@ -3,6 +3,7 @@ use Rattle.std.specs.Prelude.{ℕ, ◌+◌, List, [], ◌∷◌, unwrap_or}
 use Rattle.elf_image.specs.Image.{ImageView}
 use Rattle.region_mem.specs.declared.parameter.Param.{Param}
 use Rattle.region_mem.specs.declared.arguments.Arg.TheVariants as argument
+use Rattle.region_mem.specs.declared.layout.TheConstants.{STACK_END}
 use Rattle.region_mem.specs.Parameter.{Argument, address_of}
 use Rattle.region_mem.specs.Start.{start_memory}
 use Rattle.vreg_groups.specs.declared.policies.Agnostic.{Agnostic}
@@ -22,13 +23,9 @@ with_arguments params place [] h = h
 with_arguments params place (arg ∷ args) h =
     with_arguments params (place + 1) args (with_reg (10 + place) (passed_number params place arg) h)
 
--- where the stack ends
-abbrev pub stack_end : ℕ
-stack_end = 0x3000_0000
-
 -- pc is the entry, ra (x1) is EXIT, sp (x2) is the stack's end, a0 to a7 hold the arguments, all else is 0
 unfoldable pub start_hart : ℕ → List Param → List Argument → Hart
-start_hart entry params args = with_arguments params 0 args (with_reg 2 stack_end (with_reg 1 exit (new_hart entry)))
+start_hart entry params args = with_arguments params 0 args (with_reg 2 STACK_END (with_reg 1 exit (new_hart entry)))
 
 -- the first state of a run
 unfoldable pub start : ℕ → Agnostic → ImageView → List Param → List Argument → Machine

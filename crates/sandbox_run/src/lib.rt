@@ -4,11 +4,13 @@
 //! crates below; here a step is put together from fetch, decode and the two halves of the machine.
 #![tactic(auto)]
 
+mod laws;
 mod machine;
 mod outcome;
 mod run;
 mod start;
 
+pub use laws::exit_is_no_code;
 pub use outcome::{Final, OpenError, Outcome, Registers};
 pub use run::{outcome_is_first, runs_go_on, try_run, try_run_in};
 

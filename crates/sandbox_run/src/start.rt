@@ -8,15 +8,12 @@ ghost use Rattle.vreg_groups.specs.VectorLength.{IsVlenb};
 
 use crate::machine::Machine;
 use elf_image::Image;
-use region_mem::{Arg, Args, Bytes, Parameters, Regions};
+use region_mem::{Arg, Args, Bytes, Parameters, Regions, STACK_END};
 use rv_decode::Reg;
 use scalar_core::{EXIT, Scalar};
 use std::alloc::{AllocError, Allocator};
 use vector_core::VectorState;
 use vreg_groups::Agnostic;
-
-/// Where the stack ends, which sp holds at the start.
-const STACK_END: u32 = 0x3000_0000;
 
 /// What the argument register of a place holds.
 #[tactic(auto, unfolding(crate::specs::Start::passed_number))]

@@ -1,6 +1,7 @@
 -- The scalar half of a hart's state: pc, the 32 integer registers, and the two vector CSRs that scalar instructions reach.
 use Rattle.std.specs.Prelude.{ℕ, ◌≡◌, ◌<◌, ◌+◌, ◌%◌, ◌^◌, ◌==◌, if◌then◌else◌, List, length, slice_index, slice_set}
 use Rattle.std.proofs.Math.ListN.{replicate}
+use Rattle.scalar_core.specs.declared.hart.TheConstants.{EXIT}
 
 -- pc, x0 to x31, the rounding mode and the saturation flag of fixed-point vector instructions
 pub record Hart : Type 0 where
@@ -20,7 +21,7 @@ pub record IsHart (h : Hart) : Type 0 where
 
 -- the address that ends a run: it has ended where pc is this
 abbrev pub exit : ℕ
-exit = 0xffff_fff0
+exit = EXIT
 
 -- the hart whose registers are all 0, at this pc
 abbrev pub new_hart : ℕ → Hart
