@@ -6,7 +6,8 @@ use Rattle.std.specs.List.{list_any}
 use Rattle.rv_decode.specs.Bits.{bits}
 use Rattle.rv_decode.specs.Encode.{modulo, low_fields}
 use Rattle.rv_decode.specs.EncodeVector.{Category, OPI, OPM, Code, code, code_of_int, code_of_multiply_add, code_of_carry, code_of_carry_out, code_of_merge, code_of_compare}
-use Rattle.rv_decode.specs.EncodeVector.{f3_of, number_of_operand, vm_of, encode_v, encode_arith, encode_vset, encode_access, opcode_of_direction, takes_signed, takes_unsigned, OperandFits}
+use Rattle.rv_decode.specs.EncodeVector.{f3_of, number_of_operand, vm_of, encode_v, encode_arith, encode_vset, takes_signed, takes_unsigned, OperandFits}
+use Rattle.rv_decode.specs.EncodeAccess.{encode_m, encode_access, opcode_of_direction}
 use Rattle.rv_decode.specs.Rows.{Row, field, row}
 use Rattle.rv_decode.specs.Vector.{Form, V, X, I, U, operand, vectors, scalars, immediates, Operation, rows_in, rows_of, vm, funct6, is_masked}
 use Rattle.rv_decode.specs.Vector.{int, multiply_add, carry, carry_out, merge, copy, compare, integer_operations, multiply_operations}
@@ -391,9 +392,9 @@ unfolding bits low_fields
 parts_unit word w vm lumop high = omega arith
 
 unit8_is : (word : ℕ) → word < 2 ^ 32 → (direction : Direction) → bits 0 7 word ≡ opcode_of_direction direction → bits 12 3 word ≡ 0 → bits 25 1 word ≡ 1 → bits 20 5 word ≡ 0 → bits 26 6 word ≡ 0 → Encodes word (unit8 direction word)
-unfolding encode_access
+unfolding encode_access encode_m
 unit8_is word w direction o f vm lumop high =
-    let h = parts_unit word w vm lumop high in (cc, (below5 7 word, below5 15 word, (refl, refl)))
+    let h = parts_unit word w vm lumop high in (cc, (below5 7 word, below5 15 word, tt))
 
 pub vector_load_rows : (word : ℕ) → word < 2 ^ 32 → bits 0 7 word ≡ 0x07 → GroupsHold (Encodes word) word vector_load_groups
 unfolding vector_load_groups

@@ -3,11 +3,11 @@
 use Rattle.std.specs.Prelude.{◌≡◌, ◌⊎◌, ℕ, ◌+◌, ◌*◌, ◌^◌, ◌<◌, pos, ◌≤ℤ◌, Bool, true, false, List}
 use Rattle.std.specs.List.{list_any}
 use Rattle.rv_decode.specs.Encode.{modulo, low_fields, encode_r, IsRegister, IsSigned}
-use Rattle.rv_decode.specs.Vector.{Form, V, X, I, U, VXI, VXU, VX, XI, vectors, scalars}
+use Rattle.rv_decode.specs.Vector.{Form, V, X, I, U, VXI, VXU, VX, XI, only_v, only_x, vectors, scalars}
 use Rattle.rv_decode.specs.declared.instructions.VSet.{VSet}
 use Rattle.rv_decode.specs.declared.instructions.VSet.TheVariants.{Vsetvli, Vsetivli, Vsetvl}
 use Rattle.rv_decode.specs.declared.instructions.VArith.{VArith}
-use Rattle.rv_decode.specs.declared.instructions.VArith.TheVariants.{Int, MultiplyAdd, Carry, CarryOut, Merge, Copy, Compare}
+use Rattle.rv_decode.specs.declared.instructions.VArith.TheVariants.{Int, MultiplyAdd, Carry, CarryOut, Merge, Copy, Compare, Fixed, Widen, Wide, WidenMultiplyAdd, Narrow, Clip, Extend}
 use Rattle.rv_decode.specs.declared.instructions.IntOp.{IntOp}
 use Rattle.rv_decode.specs.declared.instructions.IntOp.TheVariants.{Add, Sub, Rsub, Minu, Min, Maxu, Max, And, Or, Xor, Sll, Srl, Sra, Mul, Mulh, Mulhu, Mulhsu, Divu, Div, Remu, Rem}
 use Rattle.rv_decode.specs.declared.instructions.MultiplyAddOp.{MultiplyAddOp}
@@ -18,15 +18,23 @@ use Rattle.rv_decode.specs.declared.instructions.CarryOutOp.{CarryOutOp}
 use Rattle.rv_decode.specs.declared.instructions.CarryOutOp.TheVariants.{Madc, Msbc}
 use Rattle.rv_decode.specs.declared.instructions.CompareOp.{CompareOp}
 use Rattle.rv_decode.specs.declared.instructions.CompareOp.TheVariants.{Eq, Ne, Ltu, Lt, Leu, Le, Gtu, Gt}
+use Rattle.rv_decode.specs.declared.instructions.FixedOp.{FixedOp}
+use Rattle.rv_decode.specs.declared.instructions.FixedOp.TheVariants as fixed
+use Rattle.rv_decode.specs.declared.instructions.WidenOp.{WidenOp}
+use Rattle.rv_decode.specs.declared.instructions.WidenOp.TheVariants as widen
+use Rattle.rv_decode.specs.declared.instructions.WideOp.{WideOp}
+use Rattle.rv_decode.specs.declared.instructions.WideOp.TheVariants as wide
+use Rattle.rv_decode.specs.declared.instructions.WidenMultiplyAddOp.{WidenMultiplyAddOp}
+use Rattle.rv_decode.specs.declared.instructions.WidenMultiplyAddOp.TheVariants.{Maccu, Maccus, Maccsu}
+use Rattle.rv_decode.specs.declared.instructions.WidenMultiplyAddOp.TheVariants as widen_multiply_add
+use Rattle.rv_decode.specs.declared.instructions.NarrowOp.{NarrowOp}
+use Rattle.rv_decode.specs.declared.instructions.NarrowOp.TheVariants as narrow
+use Rattle.rv_decode.specs.declared.instructions.ClipOp.{ClipOp}
+use Rattle.rv_decode.specs.declared.instructions.ClipOp.TheVariants as clip
+use Rattle.rv_decode.specs.declared.instructions.Fraction.{Fraction}
+use Rattle.rv_decode.specs.declared.instructions.Fraction.TheVariants.{Half, Quarter}
 use Rattle.rv_decode.specs.declared.instructions.Source.{Source}
 use Rattle.rv_decode.specs.declared.instructions.Source.TheVariants.{Vector, Scalar, Immediate}
-use Rattle.rv_decode.specs.declared.instructions.VMem.{VMem}
-use Rattle.rv_decode.specs.declared.instructions.Place.{Place}
-use Rattle.rv_decode.specs.declared.instructions.Place.TheVariants.{Unit}
-use Rattle.rv_decode.specs.declared.instructions.Direction.{Direction}
-use Rattle.rv_decode.specs.declared.instructions.Direction.TheVariants.{Load, Store}
-use Rattle.rv_decode.specs.declared.instructions.Width.{Width}
-use Rattle.rv_decode.specs.declared.instructions.Width.TheVariants.{W8, W16, W32}
 
 -- OPIVV, OPIVX and OPIVI, or OPMVV and OPMVX
 pub data Category : Type 0 where
@@ -93,6 +101,58 @@ code_of_compare Le = code OPI 0x1d VXI
 code_of_compare Gtu = code OPI 0x1e XI
 code_of_compare Gt = code OPI 0x1f XI
 
+abbrev pub code_of_fixed : FixedOp → Code
+code_of_fixed fixed.Saddu = code OPI 0x20 VXI
+code_of_fixed fixed.Sadd = code OPI 0x21 VXI
+code_of_fixed fixed.Ssubu = code OPI 0x22 VX
+code_of_fixed fixed.Ssub = code OPI 0x23 VX
+code_of_fixed fixed.Smul = code OPI 0x27 VX
+code_of_fixed fixed.Ssrl = code OPI 0x2a VXU
+code_of_fixed fixed.Ssra = code OPI 0x2b VXU
+code_of_fixed fixed.Aaddu = code OPM 0x08 VX
+code_of_fixed fixed.Aadd = code OPM 0x09 VX
+code_of_fixed fixed.Asubu = code OPM 0x0a VX
+code_of_fixed fixed.Asub = code OPM 0x0b VX
+
+abbrev pub code_of_widen : WidenOp → Code
+code_of_widen widen.Addu = code OPM 0x30 VX
+code_of_widen widen.Add = code OPM 0x31 VX
+code_of_widen widen.Subu = code OPM 0x32 VX
+code_of_widen widen.Sub = code OPM 0x33 VX
+code_of_widen widen.Mulu = code OPM 0x38 VX
+code_of_widen widen.Mulsu = code OPM 0x3a VX
+code_of_widen widen.Mul = code OPM 0x3b VX
+
+abbrev pub code_of_wide : WideOp → Code
+code_of_wide wide.Addu = code OPM 0x34 VX
+code_of_wide wide.Add = code OPM 0x35 VX
+code_of_wide wide.Subu = code OPM 0x36 VX
+code_of_wide wide.Sub = code OPM 0x37 VX
+
+abbrev pub code_of_widen_multiply_add : WidenMultiplyAddOp → Code
+code_of_widen_multiply_add Maccu = code OPM 0x3c VX
+code_of_widen_multiply_add widen_multiply_add.Macc = code OPM 0x3d VX
+code_of_widen_multiply_add Maccus = code OPM 0x3e only_x
+code_of_widen_multiply_add Maccsu = code OPM 0x3f VX
+
+abbrev pub code_of_narrow : NarrowOp → Code
+code_of_narrow narrow.Srl = code OPI 0x2c VXU
+code_of_narrow narrow.Sra = code OPI 0x2d VXU
+
+abbrev pub code_of_clip : ClipOp → Code
+code_of_clip clip.Clipu = code OPI 0x2e VXU
+code_of_clip clip.Clip = code OPI 0x2f VXU
+
+-- vzext and vsext, and what stands in the place of vs1
+abbrev pub code_of_extend : Code
+code_of_extend = code OPM 0x12 only_v
+
+abbrev pub selector_of_extend : Bool → Fraction → ℕ
+selector_of_extend false Quarter = 4
+selector_of_extend true Quarter = 5
+selector_of_extend false Half = 6
+selector_of_extend true Half = 7
+
 -- f3, by the category and the second operand
 abbrev pub f3_of : Category → Source → ℕ
 f3_of OPI (Vector vs1) = 0
@@ -125,29 +185,19 @@ encode_arith (CarryOut op vd vs2 b with_carry) = encode_v (code_of_carry_out op)
 encode_arith (Merge vd vs2 b) = encode_v code_of_merge vd 0 vs2 b
 encode_arith (Copy vd b) = encode_v code_of_merge vd 1 0 b
 encode_arith (Compare op vd vs2 b masked) = encode_v (code_of_compare op) vd (vm_of masked) vs2 b
+encode_arith (Fixed op vd vs2 b masked) = encode_v (code_of_fixed op) vd (vm_of masked) vs2 b
+encode_arith (Widen op vd vs2 b masked) = encode_v (code_of_widen op) vd (vm_of masked) vs2 b
+encode_arith (Wide op vd vs2 b masked) = encode_v (code_of_wide op) vd (vm_of masked) vs2 b
+encode_arith (WidenMultiplyAdd op vd vs2 b masked) = encode_v (code_of_widen_multiply_add op) vd (vm_of masked) vs2 b
+encode_arith (Narrow op vd vs2 b masked) = encode_v (code_of_narrow op) vd (vm_of masked) vs2 b
+encode_arith (Clip op vd vs2 b masked) = encode_v (code_of_clip op) vd (vm_of masked) vs2 b
+encode_arith (Extend signed of vd vs2 masked) =
+    encode_v code_of_extend vd (vm_of masked) vs2 (Vector (selector_of_extend signed of))
 
 unfoldable pub encode_vset : VSet → ℕ
 encode_vset (Vsetvli rd rs1 vtype) = vtype * 2 ^ 20 + low_fields 0x57 rd 7 rs1
 encode_vset (Vsetivli rd avl vtype) = 3 * 2 ^ 30 + vtype * 2 ^ 20 + low_fields 0x57 rd 7 avl
 encode_vset (Vsetvl rd rs1 rs2) = encode_r 0x57 rd 7 rs1 rs2 0x40
-
-abbrev pub opcode_of_direction : Direction → ℕ
-opcode_of_direction Load = 0x07
-opcode_of_direction Store = 0x27
-
--- the width field of an access
-abbrev pub f3_of_width : Width → ℕ
-f3_of_width W8 = 0
-f3_of_width W16 = 5
-f3_of_width W32 = 6
-
--- nf, mew, mop and lumop are 0
-abbrev pub encode_place : Place → ℕ → ℕ → ℕ → ℕ
-encode_place (Unit width masked) opcode values rs1 =
-    vm_of masked * 2 ^ 25 + low_fields opcode values (f3_of_width width) rs1
-
-unfoldable pub encode_access : VMem → ℕ
-encode_access access = encode_place access.place (opcode_of_direction access.direction) access.values access.rs1
 
 -- fields in range, and second operands that the operation has words for
 
@@ -180,15 +230,16 @@ ArithFits (CarryOut op vd vs2 b with_carry) =
 ArithFits (Merge vd vs2 b) = IsRegister vd × IsRegister vs2 × OperandFits code_of_merge.forms b
 ArithFits (Copy vd b) = IsRegister vd × OperandFits code_of_merge.forms b
 ArithFits (Compare op vd vs2 b masked) = IsRegister vd × IsRegister vs2 × OperandFits (code_of_compare op).forms b
+ArithFits (Fixed op vd vs2 b masked) = IsRegister vd × IsRegister vs2 × OperandFits (code_of_fixed op).forms b
+ArithFits (Widen op vd vs2 b masked) = IsRegister vd × IsRegister vs2 × OperandFits (code_of_widen op).forms b
+ArithFits (Wide op vd vs2 b masked) = IsRegister vd × IsRegister vs2 × OperandFits (code_of_wide op).forms b
+ArithFits (WidenMultiplyAdd op vd vs2 b masked) =
+    IsRegister vd × IsRegister vs2 × OperandFits (code_of_widen_multiply_add op).forms b
+ArithFits (Narrow op vd vs2 b masked) = IsRegister vd × IsRegister vs2 × OperandFits (code_of_narrow op).forms b
+ArithFits (Clip op vd vs2 b masked) = IsRegister vd × IsRegister vs2 × OperandFits (code_of_clip op).forms b
+ArithFits (Extend signed of vd vs2 masked) = IsRegister vd × IsRegister vs2
 
 abbrev pub VSetFits : VSet → Type 0
 VSetFits (Vsetvli rd rs1 vtype) = IsRegister rd × IsRegister rs1 × (vtype < 2 ^ 11)
 VSetFits (Vsetivli rd avl vtype) = IsRegister rd × (avl < 32) × (vtype < 2 ^ 10)
 VSetFits (Vsetvl rd rs1 rs2) = IsRegister rd × IsRegister rs1 × IsRegister rs2
-
--- the accesses that have words: of bytes, unmasked
-abbrev pub PlaceFits : Place → Type 0
-PlaceFits (Unit width masked) = (width ≡ W8) × (masked ≡ false)
-
-abbrev pub AccessFits : VMem → Type 0
-AccessFits access = IsRegister access.values × IsRegister access.rs1 × PlaceFits access.place

@@ -3,9 +3,11 @@ use Rattle.std.specs.Prelude.{◌≡◌, ℕ}
 use Rattle.rv_decode.specs.Bits.{bits}
 use Rattle.rv_decode.specs.Encode.{encode, IsEncodable}
 use Rattle.rv_decode.specs.EncodeSystem.{encode_csr, CsrFits}
-use Rattle.rv_decode.specs.EncodeVector.{encode_arith, encode_vset, encode_access, ArithFits, VSetFits, AccessFits}
+use Rattle.rv_decode.specs.EncodeVector.{encode_arith, encode_vset, ArithFits, VSetFits}
+use Rattle.rv_decode.specs.EncodeElements.{encode_mask, encode_perm, encode_reduce, encode_move, MaskFits, PermFits, ReduceFits, MoveFits}
+use Rattle.rv_decode.specs.EncodeAccess.{encode_access, AccessFits}
 use Rattle.rv_decode.specs.declared.instructions.Insn.{Insn}
-use Rattle.rv_decode.specs.declared.instructions.Insn.TheVariants.{Scalar, Csr, VSet, VArith, VMem}
+use Rattle.rv_decode.specs.declared.instructions.Insn.TheVariants.{Scalar, Csr, VSet, VArith, VMask, VPerm, VReduce, VMem, VMove}
 use Rattle.rv_decode.specs.declared.instructions.ScalarInsn.{ScalarInsn}
 use Rattle.rv_decode.specs.declared.instructions.ScalarInsn.TheVariants.{Lui, Auipc, Jal, Jalr, Branch, Load, Store, Immediate, ShiftImmediate, Register, Fence, Ecall}
 
@@ -29,7 +31,11 @@ IsWordOf (Scalar s) word = IsScalarWord s word
 IsWordOf (Csr c) word = word ≡ encode_csr c
 IsWordOf (VSet v) word = word ≡ encode_vset v
 IsWordOf (VArith a) word = word ≡ encode_arith a
+IsWordOf (VMask m) word = word ≡ encode_mask m
+IsWordOf (VPerm p) word = word ≡ encode_perm p
+IsWordOf (VReduce r) word = word ≡ encode_reduce r
 IsWordOf (VMem m) word = word ≡ encode_access m
+IsWordOf (VMove m) word = word ≡ encode_move m
 
 -- fields that a word has room for, in a form that there is
 abbrev pub FieldsFit : Insn → Type 0
@@ -37,4 +43,8 @@ FieldsFit (Scalar s) = IsEncodable s
 FieldsFit (Csr c) = CsrFits c
 FieldsFit (VSet v) = VSetFits v
 FieldsFit (VArith a) = ArithFits a
+FieldsFit (VMask m) = MaskFits m
+FieldsFit (VPerm p) = PermFits p
+FieldsFit (VReduce r) = ReduceFits r
 FieldsFit (VMem m) = AccessFits m
+FieldsFit (VMove m) = MoveFits m

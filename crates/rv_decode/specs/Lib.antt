@@ -6,6 +6,8 @@ pub mod Vector
 pub mod Decode
 pub mod Needs
 pub mod Encode
+pub mod EncodeAccess
+pub mod EncodeElements
 pub mod EncodeSystem
 pub mod EncodeVector
 pub mod Encodings

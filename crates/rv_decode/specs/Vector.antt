@@ -74,6 +74,18 @@ VX = V ∷ X ∷ []
 abbrev pub XI : List Form
 XI = X ∷ I ∷ []
 
+abbrev pub XU : List Form
+XU = X ∷ U ∷ []
+
+abbrev pub only_v : List Form
+only_v = V ∷ []
+
+abbrev pub only_x : List Form
+only_x = X ∷ []
+
+abbrev pub only_i : List Form
+only_i = I ∷ []
+
 -- an operation: its funct6, its forms, the fields that it fixes besides, and what it means with an operand
 pub record Operation : Type 0 where
   pub code : ℕ

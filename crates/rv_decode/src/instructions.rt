@@ -55,7 +55,11 @@ pub enum Insn {
     Csr(CsrInsn),
     VSet(VSet),
     VArith(VArith),
+    VMask(VMask),
+    VPerm(VPerm),
+    VReduce(VReduce),
     VMem(VMem),
+    VMove(VMove),
 }
 
 /// The instructions of RV32I and M, but for those on CSRs.
@@ -286,6 +290,62 @@ pub enum VArith {
         b: Source,
         masked: bool,
     },
+    /// vd is a fixed-point operation on vs2 and b, which may saturate.
+    Fixed {
+        op: FixedOp,
+        vd: Reg,
+        vs2: Reg,
+        b: Source,
+        masked: bool,
+    },
+    /// vd, of 2*SEW, is an operation on vs2 and b, both of SEW.
+    Widen {
+        op: WidenOp,
+        vd: Reg,
+        vs2: Reg,
+        b: Source,
+        masked: bool,
+    },
+    /// vd, of 2*SEW, is an operation on vs2, of 2*SEW, and b, of SEW.
+    Wide {
+        op: WideOp,
+        vd: Reg,
+        vs2: Reg,
+        b: Source,
+        masked: bool,
+    },
+    /// vd, of 2*SEW, is the product of b and vs2, both of SEW, and the old vd together.
+    WidenMultiplyAdd {
+        op: WidenMultiplyAddOp,
+        vd: Reg,
+        vs2: Reg,
+        b: Source,
+        masked: bool,
+    },
+    /// vd is the low half of vs2, of 2*SEW, shifted right by b.
+    Narrow {
+        op: NarrowOp,
+        vd: Reg,
+        vs2: Reg,
+        b: Source,
+        masked: bool,
+    },
+    /// vd is vs2, of 2*SEW, rounded off by b bits and clipped to SEW.
+    Clip {
+        op: ClipOp,
+        vd: Reg,
+        vs2: Reg,
+        b: Source,
+        masked: bool,
+    },
+    /// vd is vs2, of a fraction of SEW, with zeros or its sign above.
+    Extend {
+        signed: bool,
+        of: Fraction,
+        vd: Reg,
+        vs2: Reg,
+        masked: bool,
+    },
 }
 
 /// The single-width integer operations of two operands: vadd, vsub, vrsub and so on.
@@ -350,6 +410,247 @@ pub enum CompareOp {
     Gt,
 }
 
+/// The fixed-point operations of one width: vsaddu to vasub, vsmul, vssrl and vssra.
+#[derive(Clone, Copy, PartialEq, Eq, Debug)]
+pub enum FixedOp {
+    Saddu,
+    Sadd,
+    Ssubu,
+    Ssub,
+    Aaddu,
+    Aadd,
+    Asubu,
+    Asub,
+    Smul,
+    Ssrl,
+    Ssra,
+}
+
+/// vwaddu to vwsub, vwmulu, vwmulsu and vwmul.
+#[derive(Clone, Copy, PartialEq, Eq, Debug)]
+pub enum WidenOp {
+    Addu,
+    Add,
+    Subu,
+    Sub,
+    Mulu,
+    Mulsu,
+    Mul,
+}
+
+/// vwaddu.w to vwsub.w.
+#[derive(Clone, Copy, PartialEq, Eq, Debug)]
+pub enum WideOp {
+    Addu,
+    Add,
+    Subu,
+    Sub,
+}
+
+/// vwmaccu, vwmacc, vwmaccus, vwmaccsu.
+#[derive(Clone, Copy, PartialEq, Eq, Debug)]
+pub enum WidenMultiplyAddOp {
+    Maccu,
+    Macc,
+    Maccus,
+    Maccsu,
+}
+
+/// vnsrl, vnsra.
+#[derive(Clone, Copy, PartialEq, Eq, Debug)]
+pub enum NarrowOp {
+    Srl,
+    Sra,
+}
+
+/// vnclipu, vnclip.
+#[derive(Clone, Copy, PartialEq, Eq, Debug)]
+pub enum ClipOp {
+    Clipu,
+    Clip,
+}
+
+/// The width of what vzext and vsext extend: SEW / 2 or SEW / 4.
+#[derive(Clone, Copy, PartialEq, Eq, Debug)]
+pub enum Fraction {
+    Half,
+    Quarter,
+}
+
+/// The instructions on masks.
+#[derive(Clone, Copy, PartialEq, Eq, Debug)]
+pub enum VMask {
+    /// The bits of vd are an operation on those of vs2 and vs1.
+    Logic {
+        op: LogicOp,
+        vd: Reg,
+        vs2: Reg,
+        vs1: Reg,
+    },
+    /// vcpop: rd is how many active bits of vs2 are set.
+    Count {
+        rd: Reg,
+        vs2: Reg,
+        masked: bool,
+    },
+    /// vfirst: rd is the number of the first active bit of vs2 that is set, or -1.
+    First {
+        rd: Reg,
+        vs2: Reg,
+        masked: bool,
+    },
+    /// The bits of vd lie before, up to or at the first active bit of vs2 that is set.
+    SetFirst {
+        op: FirstOp,
+        vd: Reg,
+        vs2: Reg,
+        masked: bool,
+    },
+    /// viota: each element of vd is how many active bits of vs2 below it are set.
+    Iota {
+        vd: Reg,
+        vs2: Reg,
+        masked: bool,
+    },
+    /// vid: each element of vd is its own number.
+    Index {
+        vd: Reg,
+        masked: bool,
+    },
+}
+
+/// vmandn to vmxnor.
+#[derive(Clone, Copy, PartialEq, Eq, Debug)]
+pub enum LogicOp {
+    Andn,
+    And,
+    Or,
+    Xor,
+    Orn,
+    Nand,
+    Nor,
+    Xnor,
+}
+
+/// vmsbf, vmsof, vmsif.
+#[derive(Clone, Copy, PartialEq, Eq, Debug)]
+pub enum FirstOp {
+    Before,
+    Only,
+    Including,
+}
+
+/// The instructions that move elements among places.
+#[derive(Clone, Copy, PartialEq, Eq, Debug)]
+pub enum VPerm {
+    SlideUp {
+        vd: Reg,
+        vs2: Reg,
+        offset: Offset,
+        masked: bool,
+    },
+    SlideDown {
+        vd: Reg,
+        vs2: Reg,
+        offset: Offset,
+        masked: bool,
+    },
+    /// vslide1up: x[rs1] comes in at element 0.
+    SlideOneUp {
+        vd: Reg,
+        vs2: Reg,
+        rs1: Reg,
+        masked: bool,
+    },
+    /// vslide1down: x[rs1] comes in at element vl - 1.
+    SlideOneDown {
+        vd: Reg,
+        vs2: Reg,
+        rs1: Reg,
+        masked: bool,
+    },
+    /// vrgather: the elements of vs2 at the indices of b.
+    Gather {
+        vd: Reg,
+        vs2: Reg,
+        b: Source,
+        masked: bool,
+    },
+    /// vrgatherei16: the elements of vs2 at the indices of vs1, of 16 bits.
+    Gather16 {
+        vd: Reg,
+        vs2: Reg,
+        vs1: Reg,
+        masked: bool,
+    },
+    /// vcompress: the elements of vs2 whose bit of vs1 is set.
+    Compress {
+        vd: Reg,
+        vs2: Reg,
+        vs1: Reg,
+    },
+}
+
+/// How far vslideup and vslidedown slide: x[rs1], or an immediate below 32.
+#[derive(Clone, Copy, PartialEq, Eq, Debug)]
+pub enum Offset {
+    Scalar(Reg),
+    Immediate(u32),
+}
+
+/// The reductions: element 0 of vd is element 0 of vs1 together with the active elements of vs2.
+#[derive(Clone, Copy, PartialEq, Eq, Debug)]
+pub enum VReduce {
+    Fold {
+        op: FoldOp,
+        vd: Reg,
+        vs2: Reg,
+        vs1: Reg,
+        masked: bool,
+    },
+    /// vwredsumu, vwredsum: the sum of 2*SEW.
+    WidenSum {
+        signed: bool,
+        vd: Reg,
+        vs2: Reg,
+        vs1: Reg,
+        masked: bool,
+    },
+}
+
+/// vredsum to vredmax.
+#[derive(Clone, Copy, PartialEq, Eq, Debug)]
+pub enum FoldOp {
+    Sum,
+    And,
+    Or,
+    Xor,
+    Minu,
+    Min,
+    Maxu,
+    Max,
+}
+
+/// The moves between element 0 and an x register, and those of whole registers.
+#[derive(Clone, Copy, PartialEq, Eq, Debug)]
+pub enum VMove {
+    /// vmv.x.s: rd is element 0 of vs2.
+    ToScalar { rd: Reg, vs2: Reg },
+    /// vmv.s.x: element 0 of vd is x[rs1].
+    FromScalar { vd: Reg, rs1: Reg },
+    /// vmv1r to vmv8r.
+    Whole { count: Count, vd: Reg, vs2: Reg },
+}
+
+/// How many registers a whole-register form has.
+#[derive(Clone, Copy, PartialEq, Eq, Debug)]
+pub enum Count {
+    One,
+    Two,
+    Four,
+    Eight,
+}
+
 /// A vector load or store: `values` is the data's group, `rs1` holds the base address.
 #[derive(Clone, Copy, PartialEq, Eq, Debug)]
 pub struct VMem {
@@ -368,6 +669,29 @@ pub enum Direction {
 /// Where the elements of a vector load or store lie.
 #[derive(Clone, Copy, PartialEq, Eq, Debug)]
 pub enum Place {
-    /// One after another from the base on.
-    Unit { width: Width, masked: bool },
+    /// One after another from the base on, as many as vl.
+    Unit {
+        width: Width,
+        masked: bool,
+    },
+    /// x[rs2] bytes apart from the base on.
+    Strided {
+        width: Width,
+        rs2: Reg,
+        masked: bool,
+    },
+    /// As far from the base as the elements of vs2, of this width, say; the data is of SEW.
+    Indexed {
+        width: Width,
+        vs2: Reg,
+        ordered: bool,
+        masked: bool,
+    },
+    /// vlm and vsm: the bytes of a mask of vl bits, one after another from the base on.
+    Mask,
+    /// The elements of whole registers, one after another from the base on, whatever vl is.
+    Whole {
+        width: Width,
+        count: Count,
+    },
 }

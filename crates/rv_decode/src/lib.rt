@@ -16,11 +16,12 @@ mod tests;
 mod vector_words;
 mod word;
 
-pub use extents::{Count, Eew, Extent, Operand, Operands, Sharing, needs};
+pub use extents::{Eew, Extent, Operand, Operands, Sharing, needs};
 pub use instructions::{
-    CarryOp, CarryOutOp, CompareOp, Condition, CsrAction, CsrInsn, CsrName, CsrSource, Direction,
-    ImmediateOp, Insn, IntOp, LoadKind, MultiplyAddOp, Place, Reg, RegisterOp, ScalarInsn, ShiftOp,
-    Source, VArith, VMem, VSet, Width,
+    CarryOp, CarryOutOp, ClipOp, CompareOp, Condition, Count, CsrAction, CsrInsn, CsrName,
+    CsrSource, Direction, FirstOp, FixedOp, FoldOp, Fraction, ImmediateOp, Insn, IntOp, LoadKind,
+    LogicOp, MultiplyAddOp, NarrowOp, Offset, Place, Reg, RegisterOp, ScalarInsn, ShiftOp, Source,
+    VArith, VMask, VMem, VMove, VPerm, VReduce, VSet, WideOp, WidenMultiplyAddOp, WidenOp, Width,
 };
 use scalar_words::{
     decode_auipc, decode_branch, decode_fence, decode_immediate, decode_jal, decode_jalr,

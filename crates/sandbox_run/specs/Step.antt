@@ -1,7 +1,7 @@
 -- One step: fetch, decode, and what the instruction does.
 use Rattle.std.specs.Prelude.{ℕ, Option, Some, None, Result, Ok, Err}
 use Rattle.rv_decode.specs.declared.instructions.Insn.{Insn}
-use Rattle.rv_decode.specs.declared.instructions.Insn.TheVariants.{Scalar, Csr, VSet, VArith, VMem}
+use Rattle.rv_decode.specs.declared.instructions.Insn.TheVariants.{Scalar, Csr, VSet, VArith, VMask, VPerm, VReduce, VMem, VMove}
 use Rattle.rv_decode.specs.Decode.{meaning_of}
 use Rattle.region_mem.specs.declared.faults.Fault.{Fault}
 use Rattle.region_mem.specs.declared.faults.Fault.TheVariants.{Illegal, FetchFault}
@@ -28,6 +28,10 @@ carry_out vlenb word m (Scalar insn) = with_scalar m (scalar_step vlenb (Scalar 
 carry_out vlenb word m (Csr insn) = with_scalar m (scalar_step vlenb (Csr insn) m.vectors.config m.hart m.memory)
 carry_out vlenb word m (VSet insn) = with_vector (vector_step vlenb (VSet insn) word m.hart m.vectors m.memory)
 carry_out vlenb word m (VArith insn) = with_vector (vector_step vlenb (VArith insn) word m.hart m.vectors m.memory)
+carry_out vlenb word m (VMask insn) = with_vector (vector_step vlenb (VMask insn) word m.hart m.vectors m.memory)
+carry_out vlenb word m (VPerm insn) = with_vector (vector_step vlenb (VPerm insn) word m.hart m.vectors m.memory)
+carry_out vlenb word m (VReduce insn) = with_vector (vector_step vlenb (VReduce insn) word m.hart m.vectors m.memory)
+carry_out vlenb word m (VMove insn) = with_vector (vector_step vlenb (VMove insn) word m.hart m.vectors m.memory)
 carry_out vlenb word m (VMem insn) = with_vector (vector_step vlenb (VMem insn) word m.hart m.vectors m.memory)
 
 -- A word that means nothing is illegal.

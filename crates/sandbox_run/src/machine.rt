@@ -63,7 +63,13 @@ impl<const VLENB: usize, A: Allocator> Machine<VLENB, A> {
                 let config = self.vectors.config();
                 step_scalar(&mut self.hart, insn, &mut self.memory, &config, VLENB)
             }
-            Insn::VSet(_) | Insn::VArith(_) | Insn::VMem(_) => {
+            Insn::VSet(_)
+            | Insn::VArith(_)
+            | Insn::VMask(_)
+            | Insn::VPerm(_)
+            | Insn::VReduce(_)
+            | Insn::VMem(_)
+            | Insn::VMove(_) => {
                 step_vector(
                     &mut self.vectors,
                     &mut self.hart,

@@ -33,7 +33,11 @@ HasFittingImmediate (class.Scalar insn) = HasFittingNumber insn
 HasFittingImmediate (class.Csr insn) = Unit {0}
 HasFittingImmediate (class.VSet insn) = Unit {0}
 HasFittingImmediate (class.VArith insn) = Unit {0}
+HasFittingImmediate (class.VMask insn) = Unit {0}
+HasFittingImmediate (class.VPerm insn) = Unit {0}
+HasFittingImmediate (class.VReduce insn) = Unit {0}
 HasFittingImmediate (class.VMem insn) = Unit {0}
+HasFittingImmediate (class.VMove insn) = Unit {0}
 
 -- what a load reads fits 32 bits
 abbrev pub ReadsFit : Memory → Type 0

@@ -59,7 +59,13 @@ fn step_class<A: Allocator>(
             step_csr(scalar, insn, config, vlenb);
             Ok(())
         }
-        Insn::VSet(_) | Insn::VArith(_) | Insn::VMem(_) => Ok(()),
+        Insn::VSet(_)
+        | Insn::VArith(_)
+        | Insn::VMask(_)
+        | Insn::VPerm(_)
+        | Insn::VReduce(_)
+        | Insn::VMem(_)
+        | Insn::VMove(_) => Ok(()),
     }
 }
 

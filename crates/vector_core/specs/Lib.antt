@@ -4,9 +4,12 @@ pub mod Configuration
 pub mod Integer
 pub mod Laws
 pub mod LoadsStores
+pub mod Masks
 pub mod Moves
 pub mod Operands
 pub mod Operations
+pub mod Permutations
+pub mod Reductions
 pub mod Setup
 pub mod Step
 pub mod Vectors

@@ -5,7 +5,7 @@ use Rattle.vector_core.specs.Words.{Direction, Fault, Fixed, Hart, Load, LoadFau
 use Rattle.vector_core.specs.Words.{Store, StoreFault, Width, Write, active_of, advanced, body_of, bytes_of_width}
 use Rattle.vector_core.specs.Words.{reg_of}
 use Rattle.rv_decode.specs.declared.instructions.VMem as mem
-use Rattle.rv_decode.specs.declared.instructions.Place.TheVariants.{Unit}
+use Rattle.rv_decode.specs.declared.instructions.Place.TheVariants.{Unit, Strided, Indexed, Mask, Whole}
 use Rattle.vector_core.specs.Accesses.{Access, first_refused, loaded, stored, unit_accesses}
 use Rattle.vector_core.specs.Operands.{results_written}
 use Rattle.vector_core.specs.Setup.{group_at}
@@ -41,6 +41,10 @@ unit_step Store vlenb s width masked vs3 base hart v memory =
 abbrev pub placed_step : Place → ℕ → Setup → mem.VMem → Hart → Vectors → Memory → Stepped
 placed_step (Unit width masked) vlenb s insn hart v memory =
     unit_step insn.direction vlenb s width masked insn.values (reg_of insn.rs1 hart) hart v memory
+placed_step (Strided width rs2 masked) vlenb s insn hart v memory = Ok (hart, v, memory)
+placed_step (Indexed width vs2 ordered masked) vlenb s insn hart v memory = Ok (hart, v, memory)
+placed_step Mask vlenb s insn hart v memory = Ok (hart, v, memory)
+placed_step (Whole width count) vlenb s insn hart v memory = Ok (hart, v, memory)
 
 unfoldable pub memory_step : ℕ → Setup → mem.VMem → Hart → Vectors → Memory → Stepped
 memory_step vlenb s insn hart v memory = placed_step insn.place vlenb s insn hart v memory

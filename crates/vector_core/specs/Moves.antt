@@ -1,10 +1,11 @@
 -- Instructions that put elements of SEW into a group as they are ("Vector Integer Merge Instructions", "Vector Integer
 -- Move Instructions"). Each element of the body is active.
-use Rattle.std.specs.Prelude.{ℕ, Bool, false, List, if◌then◌else◌}
-use Rattle.vector_core.specs.Words.{Hart, Same, Setup, Source, body_of, mask_bits}
+use Rattle.std.specs.Prelude.{ℕ, Bool, false, List, Ok, if◌then◌else◌}
+use Rattle.vector_core.specs.Words.{Hart, Memory, Same, Setup, Source, VMove, advanced, body_of, mask_bits}
 use Rattle.lane_int.specs.Lists.{zip3}
 use Rattle.vector_core.specs.Operands.{results_written, second_of}
 use Rattle.vector_core.specs.Setup.{group_at}
+use Rattle.vector_core.specs.Vectors.{Stepped, Vectors}
 
 -- the second operand's element where the bit is 1
 abbrev pub chosen : {A : Type 0} → A → A → Bool → A
@@ -19,3 +20,6 @@ merge_of vlenb s hart vd vs2 b file =
 -- vd is b
 unfoldable pub copy_of : ℕ → Setup → Hart → ℕ → Source → List ℕ → List ℕ
 copy_of vlenb s hart vd b file = results_written vlenb s (group_at s vd Same) false (second_of vlenb s hart b file) file
+
+unfoldable pub move_step : ℕ → Setup → VMove → Hart → Vectors → Memory → Stepped
+move_step vlenb s insn hart v memory = Ok (advanced hart, v, memory)

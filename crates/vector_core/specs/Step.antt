@@ -1,13 +1,17 @@
 -- One step of a vector instruction: the state after it, or its fault. An instruction that faults has no new state.
 use Rattle.std.specs.Prelude.{ℕ, Bool, true, false, if◌then◌else◌, Ok, Err}
 use Rattle.vector_core.specs.Words.{Hart, Illegal, Insn, Memory, Setup, advanced}
-use Rattle.rv_decode.specs.declared.instructions.Insn.TheVariants.{Scalar, Csr, VSet, VArith, VMem}
+use Rattle.rv_decode.specs.declared.instructions.Insn.TheVariants.{Scalar, Csr, VSet, VArith, VMask, VPerm, VReduce, VMem, VMove}
 use Rattle.rv_decode.specs.declared.instructions.VArith as arith
 use Rattle.vreg_groups.specs.VectorType.{type_in, vtype_of}
 use Rattle.vreg_groups.specs.Legality.{is_legal}
 use Rattle.vector_core.specs.Arithmetic.{Computed, arith_of}
 use Rattle.vector_core.specs.Configuration.{vset_step}
 use Rattle.vector_core.specs.LoadsStores.{memory_step}
+use Rattle.vector_core.specs.Masks.{mask_step}
+use Rattle.vector_core.specs.Moves.{move_step}
+use Rattle.vector_core.specs.Permutations.{perm_step}
+use Rattle.vector_core.specs.Reductions.{reduce_step}
 use Rattle.vector_core.specs.Setup.{setup_of}
 use Rattle.vector_core.specs.Vectors.{Stepped, Vectors, with_registers}
 
@@ -28,6 +32,10 @@ legal_step vlenb s (Scalar insn) hart v memory = Ok (hart, v, memory)
 legal_step vlenb s (Csr insn) hart v memory = Ok (hart, v, memory)
 legal_step vlenb s (VSet insn) hart v memory = vset_step vlenb insn hart v memory
 legal_step vlenb s (VArith insn) hart v memory = arith_step vlenb s insn hart v memory
+legal_step vlenb s (VMask insn) hart v memory = mask_step vlenb s insn hart v memory
+legal_step vlenb s (VPerm insn) hart v memory = perm_step vlenb s insn hart v memory
+legal_step vlenb s (VReduce insn) hart v memory = reduce_step vlenb s insn hart v memory
+legal_step vlenb s (VMove insn) hart v memory = move_step vlenb s insn hart v memory
 legal_step vlenb s (VMem insn) hart v memory = memory_step vlenb s insn hart v memory
 
 -- the step of `insn`, the meaning of `word`

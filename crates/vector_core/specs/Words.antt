@@ -2,6 +2,10 @@
 pub use Rattle.rv_decode.specs.declared.instructions.Insn.{Insn}
 pub use Rattle.rv_decode.specs.declared.instructions.VArith.{VArith}
 pub use Rattle.rv_decode.specs.declared.instructions.VSet.{VSet}
+pub use Rattle.rv_decode.specs.declared.instructions.VMask.{VMask}
+pub use Rattle.rv_decode.specs.declared.instructions.VPerm.{VPerm}
+pub use Rattle.rv_decode.specs.declared.instructions.VReduce.{VReduce}
+pub use Rattle.rv_decode.specs.declared.instructions.VMove.{VMove}
 pub use Rattle.rv_decode.specs.declared.instructions.Source.{Source}
 pub use Rattle.rv_decode.specs.declared.instructions.IntOp.{IntOp}
 pub use Rattle.rv_decode.specs.declared.instructions.MultiplyAddOp.{MultiplyAddOp}

@@ -176,6 +176,13 @@ fn arith_elements<E: VectorElement, const VLENB: usize>(
             b,
             masked,
         } => compare(registers, scalar, setup, *op, *vd, *vs2, *b, *masked, a, c),
+        VArith::Fixed { .. }
+        | VArith::Widen { .. }
+        | VArith::Wide { .. }
+        | VArith::WidenMultiplyAdd { .. }
+        | VArith::Narrow { .. }
+        | VArith::Clip { .. }
+        | VArith::Extend { .. } => {}
     }
     false
 }

@@ -237,5 +237,6 @@ pub fn step_memory<const VLENB: usize, A: Allocator>(
         Place::Unit { width, masked } => {
             unit(vectors, scalar, setup, width, masked, insn, memory)
         }
+        Place::Strided { .. } | Place::Indexed { .. } | Place::Mask | Place::Whole { .. } => Ok(()),
     }
 }

@@ -1,15 +1,17 @@
 //! Instructions that put elements of SEW into a group as they are.
 
-ghost use Rattle.std.specs.Prelude.{◌≡◌, length};
-ghost use Rattle.rv_decode.specs.Needs.{needs_of_arith};
-ghost use Rattle.vector_core.specs.Moves.{copy_of, merge_of};
+ghost use Rattle.std.specs.Prelude.{◌≡◌, Ok, length};
+ghost use Rattle.region_mem.specs.Memory.{Memory};
+ghost use Rattle.rv_decode.specs.Needs.{needs_of_arith, needs_of_move};
+ghost use Rattle.vector_core.specs.Moves.{copy_of, merge_of, move_step};
 ghost use Rattle.vector_core.specs.Setup.{IsReady};
 
 use crate::elements::VectorElement;
 use crate::operands::{read_body, read_second, read_v0, write_results};
 use crate::results::merge_results;
 use crate::setup::Setup;
-use rv_decode::{Eew, Reg, Source, VArith};
+use crate::state::VectorState;
+use rv_decode::{Eew, Reg, Source, VArith, VMove};
 use scalar_core::Scalar;
 use vreg_groups::{MOST_ELEMENTS, VregFile};
 
@@ -59,4 +61,22 @@ pub fn copy<E: VectorElement, const VLENB: usize>(
     let destination = setup.group(vd, Eew::Same);
     read_second(registers, scalar, setup, b, c);
     write_results(registers, setup, &destination, false, c);
+}
+
+/// The step of a move between an element and an x register, or of whole registers.
+#[tactic(auto, unfolding(crate::specs::Moves::move_step))]
+pub fn step_move<const VLENB: usize>(
+    vectors: &mut VectorState<VLENB>,
+    scalar: &mut Scalar,
+    setup: &Setup,
+    insn: &VMove,
+)
+    requires { IsReady VLENB setup.now (needs_of_move insn.now) }
+    ensures { (m : Memory) → move_step VLENB setup.now insn.now scalar.old vectors.old m
+        ≡ Ok (scalar.new, vectors.new, m) }
+{
+    let _ = vectors;
+    let _ = setup;
+    let _ = insn;
+    scalar.advance();
 }

@@ -10,6 +10,10 @@ ghost use Rattle.vector_core.specs.Step.{arith_step, legal_step, vector_step};
 use crate::arithmetic::arith;
 use crate::configuration::step_vset;
 use crate::loads_stores::step_memory;
+use crate::masks::step_mask;
+use crate::moves::step_move;
+use crate::permutations::step_perm;
+use crate::reductions::step_reduce;
 use crate::setup::Setup;
 use crate::state::VectorState;
 use region_mem::{Fault, Regions};
@@ -58,6 +62,22 @@ fn step_legal<const VLENB: usize, A: Allocator>(
         }
         Insn::VArith(insn) => {
             step_arith(vectors, scalar, setup, insn);
+            Ok(())
+        }
+        Insn::VMask(insn) => {
+            step_mask(vectors, scalar, setup, insn);
+            Ok(())
+        }
+        Insn::VPerm(insn) => {
+            step_perm(vectors, scalar, setup, insn);
+            Ok(())
+        }
+        Insn::VReduce(insn) => {
+            step_reduce(vectors, scalar, setup, insn);
+            Ok(())
+        }
+        Insn::VMove(insn) => {
+            step_move(vectors, scalar, setup, insn);
             Ok(())
         }
         Insn::VMem(insn) => step_memory(vectors, scalar, setup, insn, memory),

@@ -10,7 +10,7 @@ use Rattle.rv_decode.specs.declared.extents.Eew.{Eew}
 use Rattle.rv_decode.specs.declared.extents.Eew.TheVariants as eew
 use Rattle.rv_decode.specs.declared.extents.Extent.{Extent}
 use Rattle.rv_decode.specs.declared.extents.Extent.TheVariants.{Group, Single, Mask, Whole}
-use Rattle.rv_decode.specs.declared.extents.Count.TheVariants as count
+use Rattle.rv_decode.specs.declared.instructions.Count.TheVariants as count
 use Rattle.vreg_groups.specs.declared.vector_type.Lmul.{Lmul}
 use Rattle.vreg_groups.specs.declared.vector_type.Lmul.TheVariants.{Quarter, Half, One, Two, Four, Eight}
 use Rattle.vreg_groups.specs.declared.vector_type.Vtype.{Vtype}

@@ -5,7 +5,7 @@ use Rattle.std.specs.List.{range_with_len, list_any, list_all}
 use Rattle.vreg_groups.specs.Words.{ByWidth, Count, Eew, Extent, Group, Insn, Mask, Nothing, Operand, Operands}
 use Rattle.vreg_groups.specs.Words.{Sharing, Single, Vconfig, Vtype, Whole, Width}
 use Rattle.rv_decode.specs.Needs.{needs_of}
-use Rattle.rv_decode.specs.declared.extents.Count.TheVariants as count
+use Rattle.rv_decode.specs.declared.instructions.Count.TheVariants as count
 use Rattle.rv_decode.specs.declared.extents.Eew.TheVariants.{Quarter, Half, Same, Double, Fixed}
 use Rattle.vreg_groups.specs.VectorType.{bits_of_width, eighths_of, vtype_of}
 

@@ -2,7 +2,7 @@
 pub use Rattle.rv_decode.specs.declared.instructions.Insn.{Insn}
 pub use Rattle.rv_decode.specs.declared.instructions.Width.{Width}
 pub use Rattle.rv_decode.specs.declared.instructions.Width.TheVariants.{W8, W16, W32}
-pub use Rattle.rv_decode.specs.declared.extents.Count.{Count}
+pub use Rattle.rv_decode.specs.declared.instructions.Count.{Count}
 pub use Rattle.rv_decode.specs.declared.extents.Eew.{Eew}
 pub use Rattle.rv_decode.specs.declared.extents.Extent.{Extent}
 pub use Rattle.rv_decode.specs.declared.extents.Extent.TheVariants.{Group, Single, Mask, Whole}
