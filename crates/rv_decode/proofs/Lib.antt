@@ -7,4 +7,5 @@ pub mod TableLaw
 pub mod ScalarLaw
 pub mod SystemLaw
 pub mod VectorLaw
+pub mod AccessLaw
 pub mod MeaningLaw

@@ -5,7 +5,8 @@ use Rattle.rv_decode.specs.Decode.{meaning_of, table}
 use Rattle.rv_decode.proofs.TableLaw.{SectionsHold, of_table}
 use Rattle.rv_decode.proofs.ScalarLaw.{Encodes, lui_rows, auipc_rows, jal_rows, jalr_rows, branch_rows, load_rows, store_rows, immediate_rows, register_rows, fence_rows}
 use Rattle.rv_decode.proofs.SystemLaw.{system_rows}
-use Rattle.rv_decode.proofs.VectorLaw.{vector_load_rows, vector_store_rows, vector_rows}
+use Rattle.rv_decode.proofs.VectorLaw.{vector_rows}
+use Rattle.rv_decode.proofs.AccessLaw.{vector_load_rows, vector_store_rows}
 
 table_holds : (word : ℕ) → word < 2 ^ 32 → SectionsHold (Encodes word) word table
 unfolding table

@@ -1,4 +1,4 @@
--- The rows of the vector words: each gives a word the instruction that it encodes.
+-- The rows of opcode 57: each gives a word the instruction that it encodes.
 use Rattle.std.proofs.Common.{◌≡◌, ℕ, ◌^◌, ◌*◌, ◌+◌, ◌<◌, ◌==◌, ◌||◌, Bool, true, false, List, [], ◌∷◌, ◌++◌, if◌then◌else◌, refl, sym, ap, ◌∙◌, arith, rules, inl, inr}
 use Rattle.std.proofs.lemmas.Int.{ints}
 use Rattle.std.proofs.Math.Nat.{mod-eq_of_lt}
@@ -7,11 +7,10 @@ use Rattle.rv_decode.specs.Bits.{bits}
 use Rattle.rv_decode.specs.Encode.{modulo, low_fields}
 use Rattle.rv_decode.specs.EncodeVector.{Category, OPI, OPM, Code, code, code_of_int, code_of_multiply_add, code_of_carry, code_of_carry_out, code_of_merge, code_of_compare}
 use Rattle.rv_decode.specs.EncodeVector.{f3_of, number_of_operand, vm_of, encode_v, encode_arith, encode_vset, takes_signed, takes_unsigned, OperandFits}
-use Rattle.rv_decode.specs.EncodeAccess.{encode_m, encode_access, opcode_of_direction}
 use Rattle.rv_decode.specs.Rows.{Row, field, row}
 use Rattle.rv_decode.specs.Vector.{Form, V, X, I, U, operand, vectors, scalars, immediates, Operation, rows_in, rows_of, vm, funct6, is_masked}
 use Rattle.rv_decode.specs.Vector.{int, multiply_add, carry, carry_out, merge, copy, compare, integer_operations, multiply_operations}
-use Rattle.rv_decode.specs.Vector.{opivv_rows, opivi_rows, opivx_rows, opmvv_rows, opmvx_rows, vset_rows, vector_groups, vector_load_groups, vector_store_groups, vsetvli, vsetivli, vsetvl, unit8}
+use Rattle.rv_decode.specs.Vector.{opivv_rows, opivi_rows, opivx_rows, opmvv_rows, opmvx_rows, vset_rows, vector_groups, vsetvli, vsetivli, vsetvl}
 use Rattle.rv_decode.proofs.TableLaw.{HasFields, Every, RowsHold, GroupsHold, append_rows}
 use Rattle.rv_decode.proofs.ScalarLaw.{Encodes}
 use Rattle.rv_decode.proofs.Wholes.{below, below5, whole_r, modulo_signed, signed_fits}
@@ -27,8 +26,6 @@ use Rattle.rv_decode.specs.declared.instructions.CompareOp.{CompareOp}
 use Rattle.rv_decode.specs.declared.instructions.CompareOp.TheVariants.{Eq, Ne, Ltu, Lt, Leu, Le, Gtu, Gt}
 use Rattle.rv_decode.specs.declared.instructions.Source.{Source}
 use Rattle.rv_decode.specs.declared.instructions.Source.TheVariants.{Vector, Scalar, Immediate}
-use Rattle.rv_decode.specs.declared.instructions.Direction.{Direction}
-use Rattle.rv_decode.specs.declared.instructions.Direction.TheVariants.{Load, Store}
 
 -- the fields of a word that has a funct6
 
@@ -384,22 +381,3 @@ vector_rows word w o = (
     ),
   ),
 )
-
--- loads and stores of bytes
-
-parts_unit : (word : ℕ) → word < 2 ^ 32 → bits 25 1 word ≡ 1 → bits 20 5 word ≡ 0 → bits 26 6 word ≡ 0 → word ≡ 1 * 2 ^ 25 + low_fields (bits 0 7 word) (bits 7 5 word) (bits 12 3 word) (bits 15 5 word)
-unfolding bits low_fields
-parts_unit word w vm lumop high = omega arith
-
-unit8_is : (word : ℕ) → word < 2 ^ 32 → (direction : Direction) → bits 0 7 word ≡ opcode_of_direction direction → bits 12 3 word ≡ 0 → bits 25 1 word ≡ 1 → bits 20 5 word ≡ 0 → bits 26 6 word ≡ 0 → Encodes word (unit8 direction word)
-unfolding encode_access encode_m
-unit8_is word w direction o f vm lumop high =
-    let h = parts_unit word w vm lumop high in (cc, (below5 7 word, below5 15 word, tt))
-
-pub vector_load_rows : (word : ℕ) → word < 2 ^ 32 → bits 0 7 word ≡ 0x07 → GroupsHold (Encodes word) word vector_load_groups
-unfolding vector_load_groups
-vector_load_rows word w o = ((λ g. ((λ r. unit8_is word w Load o g.0 r.0 r.1.0 r.1.1.0), tt)), tt)
-
-pub vector_store_rows : (word : ℕ) → word < 2 ^ 32 → bits 0 7 word ≡ 0x27 → GroupsHold (Encodes word) word vector_store_groups
-unfolding vector_store_groups
-vector_store_rows word w o = ((λ g. ((λ r. unit8_is word w Store o g.0 r.0 r.1.0 r.1.1.0), tt)), tt)

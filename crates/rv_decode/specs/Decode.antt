@@ -3,7 +3,8 @@ use Rattle.std.specs.Prelude.{ℕ, Option, List, [], ◌∷◌}
 use Rattle.rv_decode.specs.Rows.{Section, section, opcode, meanings, first}
 use Rattle.rv_decode.specs.Scalar.{lui_groups, auipc_groups, jal_groups, jalr_groups, branch_groups, load_groups, store_groups, immediate_groups, register_groups, fence_groups}
 use Rattle.rv_decode.specs.System.{system_groups}
-use Rattle.rv_decode.specs.Vector.{vector_load_groups, vector_store_groups, vector_groups}
+use Rattle.rv_decode.specs.Vector.{vector_groups}
+use Rattle.rv_decode.specs.Access.{vector_load_groups, vector_store_groups}
 use Rattle.rv_decode.specs.declared.instructions.Insn.{Insn}
 
 unfoldable pub table : List Section

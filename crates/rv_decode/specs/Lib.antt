@@ -3,6 +3,7 @@ pub mod Rows
 pub mod Scalar
 pub mod System
 pub mod Vector
+pub mod Access
 pub mod Decode
 pub mod Needs
 pub mod Encode

@@ -1,9 +1,9 @@
--- The rows of the vector words, by opcode.
+-- The rows of opcode 57: vector arithmetic, and the forms that set vl and vtype.
 use Rattle.std.specs.Prelude.{ℕ, Bool, true, false, ◌==◌, List, [], ◌∷◌, ◌++◌, pos, if◌then◌else◌}
 use Rattle.rv_decode.specs.Bits.{bits, signed, rd_of, rs1_of, rs2_of}
 use Rattle.rv_decode.specs.Rows.{Field, Row, Group, f3, field, row, group}
 use Rattle.rv_decode.specs.declared.instructions.Insn.{Insn}
-use Rattle.rv_decode.specs.declared.instructions.Insn.TheVariants.{VSet, VArith, VMem}
+use Rattle.rv_decode.specs.declared.instructions.Insn.TheVariants.{VSet, VArith}
 use Rattle.rv_decode.specs.declared.instructions.VSet.TheVariants.{Vsetvli, Vsetivli, Vsetvl}
 use Rattle.rv_decode.specs.declared.instructions.VArith.TheVariants.{Int, MultiplyAdd, Carry, CarryOut, Merge, Copy, Compare}
 use Rattle.rv_decode.specs.declared.instructions.IntOp.{IntOp}
@@ -18,10 +18,6 @@ use Rattle.rv_decode.specs.declared.instructions.CompareOp.{CompareOp}
 use Rattle.rv_decode.specs.declared.instructions.CompareOp.TheVariants.{Eq, Ne, Ltu, Lt, Leu, Le, Gtu, Gt}
 use Rattle.rv_decode.specs.declared.instructions.Source.{Source}
 use Rattle.rv_decode.specs.declared.instructions.Source.TheVariants.{Vector, Scalar, Immediate}
-use Rattle.rv_decode.specs.declared.instructions.Direction.{Direction}
-use Rattle.rv_decode.specs.declared.instructions.Direction.TheVariants.{Load, Store}
-use Rattle.rv_decode.specs.declared.instructions.Place.TheVariants.{Unit}
-use Rattle.rv_decode.specs.declared.instructions.Width.TheVariants.{W8}
 
 -- the field vm: 0 for an instruction that the mask v0 governs
 abbrev pub vm : ℕ → Field
@@ -32,22 +28,6 @@ is_masked word = bits 25 1 word == 0
 
 abbrev pub funct6 : ℕ → Field
 funct6 value = field 26 6 value
-
-abbrev pub unit8 : Direction → ℕ → Insn
-unit8 direction word =
-    VMem (record { direction = direction; place = Unit W8 false; values = rd_of word; rs1 = rs1_of word })
-
--- a unit-stride access of one field, unmasked, by the plain form
-abbrev pub plain_unit : List Field
-plain_unit = vm 1 ∷ field 20 5 0 ∷ field 26 6 0 ∷ []
-
--- opcode 07
-unfoldable pub vector_load_groups : List Group
-vector_load_groups = group (f3 0 ∷ []) (row plain_unit (unit8 Load) ∷ []) ∷ []
-
--- opcode 27
-unfoldable pub vector_store_groups : List Group
-vector_store_groups = group (f3 0 ∷ []) (row plain_unit (unit8 Store) ∷ []) ∷ []
 
 -- The forms of an operation, by its second operand: vs1, x[rs1], a signed immediate, an unsigned one.
 pub data Form : Type 0 where

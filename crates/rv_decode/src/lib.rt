@@ -5,6 +5,7 @@ ghost use Rattle.std.specs.Prelude.{◌≡◌, option_to_list};
 ghost use Rattle.rv_decode.specs.Rows.{meanings};
 ghost use Rattle.rv_decode.specs.Decode.{table, meaning_of};
 
+mod access_words;
 mod arith_words;
 mod extents;
 mod instructions;
@@ -16,6 +17,7 @@ mod tests;
 mod vector_words;
 mod word;
 
+use access_words::{decode_vector_load, decode_vector_store};
 pub use extents::{Eew, Extent, Operand, Operands, Sharing, needs};
 pub use instructions::{
     CarryOp, CarryOutOp, ClipOp, CompareOp, Condition, Count, CsrAction, CsrInsn, CsrName,
@@ -28,7 +30,7 @@ use scalar_words::{
     decode_load, decode_lui, decode_register, decode_store,
 };
 use system_words::decode_system;
-use vector_words::{decode_vector, decode_vector_load, decode_vector_store};
+use vector_words::decode_vector;
 use word::bits;
 
 /// The instruction that `word` encodes, or `None` for a word that encodes none.

@@ -43,21 +43,38 @@ fn a_word_of_each_class(rt: HostRuntime) {
             }),
         ), // vand.vi v15, v29, -1, v0.t
         (
-            0x020f_8c27,
+            0x0445_5407,
             Insn::VMem(VMem {
-                direction: Direction::Store,
-                place: Place::Unit {
-                    width: Width::W8,
-                    masked: false,
+                direction: Direction::Load,
+                place: Place::Indexed {
+                    width: Width::W16,
+                    vs2: Reg::new(4),
+                    ordered: false,
+                    masked: true,
                 },
-                values: Reg::new(24),
-                rs1: Reg::new(31),
+                values: Reg::new(8),
+                rs1: Reg::new(10),
             }),
-        ), // vse8.v v24, (x31)
+        ), // vluxei16.v v8, (x10), v4, v0.t
     ] {
         assert_eq!(rt; decode(word), Some(insn), "{word:08x}");
     }
     assert_eq!(rt; decode(0x0010_0073), None); // ebreak
+}
+
+#[test]
+fn whole_registers_begin_at_a_multiple(rt: HostRuntime) {
+    let insn = Insn::VMem(VMem {
+        direction: Direction::Load,
+        place: Place::Whole {
+            width: Width::W16,
+            count: Count::Two,
+        },
+        values: Reg::new(8),
+        rs1: Reg::new(10),
+    });
+    assert_eq!(rt; decode(0x2285_5407), Some(insn)); // vl2re16.v v8, (x10)
+    assert_eq!(rt; decode(0x2285_5487), None); // the same of v9
 }
 
 #[test]

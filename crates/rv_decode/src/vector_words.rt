@@ -1,62 +1,12 @@
-//! The vector words, one function for each opcode.
+//! The words of opcode 57: vector arithmetic, and the forms that set vl and vtype.
 
 ghost use Rattle.std.specs.Prelude.{◌≡◌, option_to_list};
 ghost use Rattle.rv_decode.specs.Rows.{meanings_by_groups, meanings_by_rows};
-ghost use Rattle.rv_decode.specs.Vector.{vector_load_groups, vector_store_groups, vset_rows, vector_groups};
+ghost use Rattle.rv_decode.specs.Vector.{vset_rows, vector_groups};
 
 use crate::arith_words::{decode_opivi, decode_opivv, decode_opivx, decode_opmvv, decode_opmvx};
 use crate::word::{bits, register};
-use crate::{Direction, Insn, Place, VMem, VSet, Width};
-
-/// Opcode 07: loads.
-#[tactic(auto, unfolding(crate::specs::Vector::vector_load_groups))]
-pub(crate) fn decode_vector_load(word: u32) -> Option<Insn>
-    ensures { option_to_list result ≡ meanings_by_groups vector_load_groups word }
-{
-    match bits(word, 12, 3) {
-        0 => {
-            if bits(word, 25, 1) == 1 && bits(word, 20, 5) == 0 && bits(word, 26, 6) == 0 {
-                Some(Insn::VMem(VMem {
-                    direction: Direction::Load,
-                    place: Place::Unit {
-                        width: Width::W8,
-                        masked: false,
-                    },
-                    values: register(word, 7),
-                    rs1: register(word, 15),
-                }))
-            } else {
-                None
-            }
-        }
-        _ => None,
-    }
-}
-
-/// Opcode 27: stores.
-#[tactic(auto, unfolding(crate::specs::Vector::vector_store_groups))]
-pub(crate) fn decode_vector_store(word: u32) -> Option<Insn>
-    ensures { option_to_list result ≡ meanings_by_groups vector_store_groups word }
-{
-    match bits(word, 12, 3) {
-        0 => {
-            if bits(word, 25, 1) == 1 && bits(word, 20, 5) == 0 && bits(word, 26, 6) == 0 {
-                Some(Insn::VMem(VMem {
-                    direction: Direction::Store,
-                    place: Place::Unit {
-                        width: Width::W8,
-                        masked: false,
-                    },
-                    values: register(word, 7),
-                    rs1: register(word, 15),
-                }))
-            } else {
-                None
-            }
-        }
-        _ => None,
-    }
-}
+use crate::{Insn, VSet};
 
 /// Opcode 57 with f3 7: the forms that set vl and vtype.
 #[tactic(auto, unfolding(crate::specs::Vector::vset_rows))]
