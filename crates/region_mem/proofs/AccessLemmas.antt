@@ -131,7 +131,7 @@ number_in_one right address n areas area order found admitted =
 subst_order : (areas : List Area) (m n : ℕ) → m ≡ n → AreInOrder m areas → AreInOrder n areas
 subst_order areas m n same order = let P : ℕ → Type 0 = λ k. AreInOrder k areas in subst P same order
 
-order_of : (from : ℕ) (areas others : List Area) → map extent_of areas ≡ map extent_of others → AreInOrder from others → AreInOrder from areas
+pub order_of : (from : ℕ) (areas others : List Area) → map extent_of areas ≡ map extent_of others → AreInOrder from others → AreInOrder from areas
 unfolding AreInOrder extent_of
 order_of from [] others same order = tt
 order_of from (a ∷ areas) [] same order = absurd (cc)

@@ -9,4 +9,5 @@ pub mod StartLemmas
 pub mod SearchLemmas
 pub mod AccessLemmas
 pub mod WindowLemmas
+pub mod WindowWrites
 pub mod ExtentLemmas

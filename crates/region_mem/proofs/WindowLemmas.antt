@@ -1,5 +1,5 @@
 -- The area that has a window is the one that a search finds.
-use Rattle.std.proofs.Common.{◌≡◌, ◌⊎◌, inl, inr, ℕ, suc, ◌+◌, ◌<◌, ◌≤◌, Bool, true, false, cond, List, length, find, Option, Some, None, get_or, arith, sym, ap, refl, ◌∙◌}
+use Rattle.std.proofs.Common.{◌≡◌, inl, inr, ℕ, ◌<◌, ◌≤◌, Bool, true, false, cond, List, length, find, Some, None, get_or, arith, sym, ap, refl, ◌∙◌}
 use Rattle.std.specs.List.{position_or_len, slice_get}
 use Rattle.std.specs.Option.{option_map}
 use Rattle.std.proofs.lemmas.List.Folds.{find_at}
@@ -30,6 +30,15 @@ none_found : (p : Area → Bool) (areas : List Area) (d : Area) → ((k : ℕ) �
 none_found p areas d h =
     let all = position_or_len_is p areas (length areas) d (omega arith) h (λ lt. absurd (omega arith)) in
     find_at p areas ∙ slice_get_past areas (position_or_len p areas) (omega (arith, all))
+
+-- An area that admits the window and is found for its first address is the first that admits it.
+pub admits_at : (right : Right) (address n : ℕ) (areas : List Area) (i : ℕ) (d : Area) → 0 < n → AreInOrder 0 areas → i < length areas →
+    admits right address n (get_or areas i d) ≡ true → position_or_len (admits right address n) areas ≡ i
+admits_at right address n areas i d some order below here =
+    let place = same_place address areas i d order below (admits_holds right address n (get_or areas i d) some here) in
+    position_or_len_is (admits right address n) areas i d (omega arith)
+    (λ k lt. let before : k < position_or_len (holds address) areas = omega (arith, place) in
+    none_admits right address n (get_or areas k d) some (fails_before_first (holds address) areas k d before)) (λ lt. here)
 
 window_case : (b : Bool) (right : Right) (address n : ℕ) (areas : List Area) (area : Area) → b ≡ admits right address n area → 0 < n → AreInOrder 0 areas →
     find (holds address) areas ≡ Some area → find (admits right address n) areas ≡ cond b (Some area) None

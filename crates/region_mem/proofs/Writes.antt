@@ -10,7 +10,7 @@ use Rattle.region_mem.specs.Areas.{Area, holds, with_byte}
 abbrev pub written : ℕ → ℕ → Area → Area
 written address byte area = record area { bytes = set area.bytes (address - area.first) byte }
 
-suc_first : (n : ℕ) → 1 + n ≡ suc n
+pub suc_first : (n : ℕ) → 1 + n ≡ suc n
 suc_first n = omega arith
 
 with_byte_step : (address byte : ℕ) (area : Area) (areas : List Area) (d : Area) (b : Bool) (n : ℕ) →

@@ -1,6 +1,6 @@
 -- Areas of memory, as a list in the order of their first addresses: the byte at an address, what an access may do, and
 -- what a write leaves. An address is a number without limit here, so that none wraps.
-use Rattle.std.specs.Prelude.{◌≡◌, ℕ, true, false, zero, suc, ◌+◌, ◌*◌, ◌-◌, ◌/◌, ◌%◌, ◌^◌, ◌≤◌, Bool, ◌&&◌, nat_le, nat_lt, List, [], ◌∷◌, length, take, drop, map, find, Option, unwrap_or, slice_index, slice_set, if◌then◌else◌}
+use Rattle.std.specs.Prelude.{◌≡◌, ℕ, true, false, zero, suc, ◌+◌, ◌*◌, ◌-◌, ◌/◌, ◌%◌, ◌^◌, ◌≤◌, Bool, ◌&&◌, nat_le, nat_lt, List, [], ◌∷◌, ◌++◌, length, take, drop, map, find, Option, unwrap_or, slice_index, slice_set, if◌then◌else◌}
 use Rattle.std.specs.List.Sorted.{IsPartitionPoint}
 use Rattle.std.specs.List.{list_any, list_all, range_with_len}
 use Rattle.std.specs.Option.{option_map}
@@ -104,3 +104,17 @@ part_of address n area = take n (drop (address - area.first) area.bytes)
 unfoldable pub window_in : Right → ℕ → ℕ → List Area → Option (List ℕ)
 window_in right address n areas =
     option_map (part_of address n) (find (admits right address n) areas)
+
+-- the area with these bytes from an address on, in the place of those that it had there
+unfoldable pub part_into : ℕ → List ℕ → Area → Area
+part_into address bytes area =
+    let at = address - area.first in
+    record area { bytes = take at area.bytes ++ bytes ++ drop (at + length bytes) area.bytes }
+
+-- the areas with these bytes from an address on, in the one area that has room for them all, and the right to write
+unfoldable pub with_part : ℕ → List ℕ → List Area → List Area
+with_part address bytes [] = []
+with_part address bytes (area ∷ areas) =
+    if admits Write address (length bytes) area
+    then part_into address bytes area ∷ areas
+    else area ∷ with_part address bytes areas

@@ -7,7 +7,7 @@ use Rattle.region_mem.specs.Parameter.{Argument}
 use Rattle.region_mem.specs.declared.arguments.Arg.TheVariants as argument
 use Rattle.region_mem.specs.declared.arguments.Passed.{Passed}
 use Rattle.region_mem.specs.declared.arguments.Passed.TheVariants as passed
-use Rattle.region_mem.specs.Areas.{Area, window_in, byte_at, is_open_from, number_at, with_number}
+use Rattle.region_mem.specs.Areas.{Area, window_in, with_part, byte_at, is_open_from, number_at, with_number}
 
 -- The areas stand in the order of their first addresses; what was passed stands by place.
 pub record Memory : Type 0 where
@@ -49,6 +49,10 @@ window_of address n memory = window_in Read address n memory.areas
 -- One area has all of the n bytes from an address on, and they may be written.
 unfoldable pub has_window : ℕ → ℕ → Memory → Bool
 has_window address n memory = is_some (window_in Write address n memory.areas)
+
+-- the memory with these bytes from an address on, where one area has room for them all and they may be written
+unfoldable pub with_window : ℕ → List ℕ → Memory → Memory
+with_window address bytes memory = record memory { areas = with_part address bytes memory.areas }
 
 -- the area is a buffer's: buffers alone lie here
 unfoldable pub is_buffer_area : Area → Bool

@@ -1,9 +1,9 @@
 //! Regions in order: the one that an address lies in is found by a search, and an access that it holds whole goes to it
 //! at once.
-ghost use Rattle.std.specs.Prelude.{◌≡◌, ◌+◌, ◌<◌, ◌≤◌, ◌^◌, Some, None, true, false, length, find, position, if◌then◌else◌};
+ghost use Rattle.std.specs.Prelude.{◌≡◌, ◌+◌, ◌<◌, ◌≤◌, ◌^◌, Some, None, is_some, true, false, length, find, position, if◌then◌else◌};
 ghost use Rattle.std.specs.Option.{option_copied};
 ghost use Rattle.region_mem.specs.Memory.{IsAccessSize};
-ghost use Rattle.region_mem.specs.Areas.{AreInOrder, IsCount, holds, is_open_from, window_in, byte_at, number_at, with_number};
+ghost use Rattle.region_mem.specs.Areas.{AreInOrder, IsCount, holds, is_open_from, window_in, with_part, byte_at, number_at, with_number};
 
 use crate::faults::Right;
 use crate::region::Region;
@@ -189,5 +189,20 @@ pub(crate) fn window<A: Allocator>(
     match region_of(regions, address) {
         Some(region) => region.part_for(right, address, n),
         None => None,
+    }
+}
+
+/// Writes these bytes from an address on, where one region has room for them all and they may be written.
+#[tactic(auto, using(crate::proofs::WindowWrites::window_spans, crate::proofs::WindowWrites::window_goes, crate::proofs::WindowWrites::window_place, crate::proofs::WindowWrites::part_order))]
+pub(crate) fn set_window<A: Allocator>(regions: &mut [Region<A>], address: u64, bytes: &[u8])
+    requires order { AreInOrder 0 regions.old }
+    requires address { address < 2 ^ 32 }
+    requires some { 0 < length bytes.now }
+    requires has { is_some (window_in Right.Write address (length bytes.now) regions.old) ≡ true }
+    ensures value { regions.new ≡ with_part address bytes.now regions.old }
+    ensures order { AreInOrder 0 regions.new }
+{
+    if let Some(place) = place_of(regions, address) {
+        regions[place].set_part(address, bytes);
     }
 }

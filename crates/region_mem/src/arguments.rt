@@ -1,5 +1,5 @@
 //! The caller's eight arguments.
-ghost use Rattle.std.specs.Prelude.{◌≡◌, ◌<◌, length, slice_set, ◌==◌};
+ghost use Rattle.std.specs.Prelude.{◌≡◌, ◌+◌, ◌<◌, ◌≤◌, ◌++◌, length, take, drop, slice_set, ◌==◌};
 
 use std::alloc::{Allocator, Global};
 use std::marker::Model;
@@ -60,6 +60,14 @@ impl<A: Allocator> Bytes<A> {
         ensures { self.new ≡ slice_set self.old index byte }
     {
         self.items[index] = byte;
+    }
+
+    /// Puts these bytes in the place of as many from an index on.
+    pub(crate) fn set_part(&mut self, at: usize, bytes: &[u8])
+        requires { at + length bytes.now ≤ length self.old }
+        ensures { self.new ≡ take at self.old ++ bytes.now ++ drop (at + length bytes.now) self.old }
+    {
+        self.items[at..at + bytes.len()].copy_from_slice(bytes);
     }
 }
 

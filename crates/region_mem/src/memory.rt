@@ -1,5 +1,5 @@
 //! The memory of a run.
-ghost use Rattle.std.specs.Prelude.{◌≡◌, ◌<◌, ◌^◌, Some, None, false, if◌then◌else◌, IfOk, IfErr, option_copied};
+ghost use Rattle.std.specs.Prelude.{◌≡◌, ◌<◌, ◌^◌, length, Some, None, true, false, if◌then◌else◌, IfOk, IfErr, option_copied};
 
 use crate::arguments::{Args, Bytes, Passed};
 use crate::faults::Right;
@@ -30,7 +30,7 @@ impl<A: Allocator> Model for Regions<A> {
 }
 
 impl<A: Allocator> Regions<A> {
-    ghost use Rattle.region_mem.specs.Memory.{Memory, byte_of, is_permitted, load_of, store_of, fetch_of, args_of, window_of, has_window, IsAccessSize};
+    ghost use Rattle.region_mem.specs.Memory.{Memory, byte_of, is_permitted, load_of, store_of, fetch_of, args_of, window_of, has_window, with_window, IsAccessSize};
     ghost use Rattle.region_mem.specs.Start.{start_memory};
     ghost use Rattle.region_mem.specs.Parameter.{AreArguments};
 
@@ -129,6 +129,16 @@ impl<A: Allocator> Regions<A> {
         ensures { result ≡ has_window address n self.now }
     {
         areas::window(self.regions.as_slice(), Right::Write, u64::from(address), n).is_some()
+    }
+
+    /// Writes these bytes, one at least, from an address on, where `has_window` told that they may be written.
+    #[tactic(auto, unfolding(crate::specs::Memory::has_window, crate::specs::Memory::with_window))]
+    pub fn set_window(&mut self, address: u32, bytes: &[u8])
+        requires some { 0 < length bytes.now }
+        requires has { has_window address (length bytes.now) self.old ≡ true }
+        ensures { self.new ≡ with_window address bytes.now self.old }
+    {
+        areas::set_window(self.regions.as_mut_slice(), u64::from(address), bytes);
     }
 
     /// Writes the n lowest bytes of a value from an address on, and tells whether each of them may be written. Where one

@@ -29,7 +29,7 @@ impl<A: Allocator> Model for Region<A> {
 }
 
 impl<A: Allocator> Region<A> {
-    ghost use Rattle.region_mem.specs.Areas.{Area, holds, has_right, spans, admits, part_of, number_in, number_into};
+    ghost use Rattle.region_mem.specs.Areas.{Area, holds, has_right, spans, admits, part_of, part_into, number_in, number_into};
     ghost use Rattle.region_mem.specs.Memory.{is_buffer_area, IsAccessSize};
 
     pub(crate) fn new(
@@ -206,6 +206,16 @@ impl<A: Allocator> Region<A> {
         } else {
             None
         }
+    }
+
+    /// Writes these bytes from an address on.
+    #[tactic(auto, unfolding(crate::specs::Areas::spans, crate::specs::Areas::part_into))]
+    pub(crate) fn set_part(&mut self, address: u64, bytes: &[u8])
+        requires low { address < 2 ^ 32 }
+        requires inside { IsTrue (spans address (length bytes.now) self.old) }
+        ensures { self.new ≡ part_into address bytes.now self.old }
+    {
+        self.bytes.set_part((address - self.first) as usize, bytes);
     }
 
     #[tactic(auto, unfolding(crate::specs::Areas::spans, crate::specs::Areas::holds, crate::specs::Areas::number_into))]

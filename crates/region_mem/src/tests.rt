@@ -93,10 +93,12 @@ fn runs_memory(rt: HostRuntime) -> Result<(), Fail> {
     assert_eq!(rt; window, [7, 8].as_slice());
     assert!(rt; regions.window(0x1_0006, 3).is_none());
     assert!(rt; !regions.has_window(0x1_0006, 2));
+    assert!(rt; regions.has_window(0x4000_2001, 2));
+    regions.set_window(0x4000_2001, &[0x41, 0x42]);
     assert!(rt; regions.store(0x4000_2001, 1, 0xffff_ff77));
     assert!(rt; !regions.store(0x4000_0000, 1, 0));
     assert!(rt; !regions.store(0x4000_2002, 2, 0));
-    expect_args(&rt, &regions.into_args(), &[0x31, 0x77, 0x33]);
+    expect_args(&rt, &regions.into_args(), &[0x31, 0x77, 0x42]);
     Ok(())
 }
 
