@@ -1,18 +1,11 @@
 -- What the instructions that compute make of the registers, by their shapes.
-use Rattle.std.specs.Prelude.{ℕ, Bool, false, List}
+use Rattle.std.specs.Prelude.{ℕ, List}
 use Rattle.vector_core.specs.Words.{Hart, Setup, VArith}
 use Rattle.rv_decode.specs.declared.instructions.VArith.TheVariants.{Int, MultiplyAdd, Carry, CarryOut, Merge, Copy, Compare, Fixed, Widen, Wide, WidenMultiplyAdd, Narrow, Clip, Extend}
+use Rattle.vector_core.specs.Computed.{Computed, exact}
+use Rattle.vector_core.specs.FixedPoint.{fixed_of}
 use Rattle.vector_core.specs.Integer.{carry_of, carry_out_of, compare_of, int_of, multiply_add_of}
 use Rattle.vector_core.specs.Moves.{copy_of, merge_of}
-
--- the registers, and whether an active element saturated
-pub record Computed : Type 0 where
-  pub registers : List ℕ
-  pub saturated : Bool
-
--- no element saturates
-abbrev pub exact : List ℕ → Computed
-exact registers = record { registers = registers; saturated = false }
 
 unfoldable pub arith_of : ℕ → Setup → Hart → VArith → List ℕ → Computed
 arith_of vlenb s hart (Int op vd vs2 b masked) file = exact (int_of vlenb s hart op vd vs2 b masked file)
@@ -22,7 +15,7 @@ arith_of vlenb s hart (CarryOut op vd vs2 b with_carry) file = exact (carry_out_
 arith_of vlenb s hart (Merge vd vs2 b) file = exact (merge_of vlenb s hart vd vs2 b file)
 arith_of vlenb s hart (Copy vd b) file = exact (copy_of vlenb s hart vd b file)
 arith_of vlenb s hart (Compare op vd vs2 b masked) file = exact (compare_of vlenb s hart op vd vs2 b masked file)
-arith_of vlenb s hart (Fixed op vd vs2 b masked) file = exact file
+arith_of vlenb s hart (Fixed op vd vs2 b masked) file = fixed_of vlenb s hart op vd vs2 b masked file
 arith_of vlenb s hart (Widen op vd vs2 b masked) file = exact file
 arith_of vlenb s hart (Wide op vd vs2 b masked) file = exact file
 arith_of vlenb s hart (WidenMultiplyAdd op vd vs2 b masked) file = exact file

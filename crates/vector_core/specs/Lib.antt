@@ -1,6 +1,8 @@
 pub mod Accesses
 pub mod Arithmetic
+pub mod Computed
 pub mod Configuration
+pub mod FixedPoint
 pub mod Integer
 pub mod Laws
 pub mod LoadsStores

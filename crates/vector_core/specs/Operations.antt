@@ -9,6 +9,10 @@ use Rattle.rv_decode.specs.declared.instructions.CarryOutOp as carry_out
 use Rattle.rv_decode.specs.declared.instructions.CarryOutOp.TheVariants as carry_out_op
 use Rattle.rv_decode.specs.declared.instructions.CompareOp as compare
 use Rattle.rv_decode.specs.declared.instructions.CompareOp.TheVariants as compare_op
+use Rattle.rv_decode.specs.declared.instructions.FixedOp as fixed
+use Rattle.rv_decode.specs.declared.instructions.FixedOp.TheVariants as fixed_op
+use Rattle.lane_fixed.specs.declared.operations.FixedOp as lane_fixed
+use Rattle.lane_fixed.specs.declared.operations.FixedOp.TheVariants as lane_fixed_op
 use Rattle.lane_int.specs.declared.operations.IntOp.{IntOp}
 use Rattle.lane_int.specs.declared.operations.IntOp.TheVariants.{Add, Sub, ReverseSub, MinU, Min, MaxU, Max, And, Or, Xor, ShiftLeft, ShiftRight, ShiftRightSigned, Mul, MulHighU, MulHighSignedU, MulHigh, DivU, Div, RemU, Rem}
 use Rattle.lane_int.specs.declared.operations.CompareOp.{CompareOp}
@@ -64,3 +68,16 @@ compare_lanes compare_op.Leu = LessEqualU
 compare_lanes compare_op.Le = LessEqual
 compare_lanes compare_op.Gtu = GreaterU
 compare_lanes compare_op.Gt = Greater
+
+unfoldable pub fixed_lanes : fixed.FixedOp → lane_fixed.FixedOp
+fixed_lanes fixed_op.Saddu = lane_fixed_op.SatAddU
+fixed_lanes fixed_op.Sadd = lane_fixed_op.SatAdd
+fixed_lanes fixed_op.Ssubu = lane_fixed_op.SatSubU
+fixed_lanes fixed_op.Ssub = lane_fixed_op.SatSub
+fixed_lanes fixed_op.Aaddu = lane_fixed_op.AverageAddU
+fixed_lanes fixed_op.Aadd = lane_fixed_op.AverageAdd
+fixed_lanes fixed_op.Asubu = lane_fixed_op.AverageSubU
+fixed_lanes fixed_op.Asub = lane_fixed_op.AverageSub
+fixed_lanes fixed_op.Smul = lane_fixed_op.Mul
+fixed_lanes fixed_op.Ssrl = lane_fixed_op.ShiftRight
+fixed_lanes fixed_op.Ssra = lane_fixed_op.ShiftRightSigned

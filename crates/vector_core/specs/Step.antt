@@ -5,7 +5,8 @@ use Rattle.rv_decode.specs.declared.instructions.Insn.TheVariants.{Scalar, Csr, 
 use Rattle.rv_decode.specs.declared.instructions.VArith as arith
 use Rattle.vreg_groups.specs.VectorType.{type_in, vtype_of}
 use Rattle.vreg_groups.specs.Legality.{is_legal}
-use Rattle.vector_core.specs.Arithmetic.{Computed, arith_of}
+use Rattle.vector_core.specs.Arithmetic.{arith_of}
+use Rattle.vector_core.specs.Computed.{Computed}
 use Rattle.vector_core.specs.Configuration.{vset_step}
 use Rattle.vector_core.specs.LoadsStores.{memory_step}
 use Rattle.vector_core.specs.Masks.{mask_step}

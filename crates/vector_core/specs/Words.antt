@@ -12,6 +12,7 @@ pub use Rattle.rv_decode.specs.declared.instructions.MultiplyAddOp.{MultiplyAddO
 pub use Rattle.rv_decode.specs.declared.instructions.CarryOp.{CarryOp}
 pub use Rattle.rv_decode.specs.declared.instructions.CarryOutOp.{CarryOutOp}
 pub use Rattle.rv_decode.specs.declared.instructions.CompareOp.{CompareOp}
+pub use Rattle.rv_decode.specs.declared.instructions.FixedOp.{FixedOp}
 pub use Rattle.rv_decode.specs.declared.instructions.Direction.{Direction}
 pub use Rattle.rv_decode.specs.declared.instructions.Direction.TheVariants.{Load, Store}
 pub use Rattle.rv_decode.specs.declared.instructions.Place.{Place}

@@ -5,7 +5,7 @@ ghost use Rattle.rv_decode.specs.Needs.{needs_of_arith};
 ghost use Rattle.vector_core.specs.Arithmetic.{arith_of};
 ghost use Rattle.vector_core.specs.Setup.{IsReady};
 
-use crate::elements::VectorElement;
+use crate::fixed_point::{FixedElement, fixed};
 use crate::integer::{carry, carry_out, compare, int, multiply_add};
 use crate::moves::{copy, merge};
 use crate::setup::Setup;
@@ -112,7 +112,7 @@ fn arith_words<const VLENB: usize>(
 
 /// The same on elements of one width, with room for the body of three operands.
 #[tactic(auto, unfolding(crate::specs::Arithmetic::arith_of))]
-fn arith_elements<E: VectorElement, const VLENB: usize>(
+fn arith_elements<E: FixedElement, const VLENB: usize>(
     registers: &mut VregFile<VLENB>,
     scalar: &Scalar,
     setup: &Setup,
@@ -176,8 +176,14 @@ fn arith_elements<E: VectorElement, const VLENB: usize>(
             b,
             masked,
         } => compare(registers, scalar, setup, *op, *vd, *vs2, *b, *masked, a, c),
-        VArith::Fixed { .. }
-        | VArith::Widen { .. }
+        VArith::Fixed {
+            op,
+            vd,
+            vs2,
+            b,
+            masked,
+        } => return fixed(registers, scalar, setup, *op, *vd, *vs2, *b, *masked, a, c),
+        VArith::Widen { .. }
         | VArith::Wide { .. }
         | VArith::WidenMultiplyAdd { .. }
         | VArith::Narrow { .. }

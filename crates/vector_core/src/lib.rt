@@ -8,6 +8,7 @@ mod accesses;
 mod arithmetic;
 mod configuration;
 mod elements;
+mod fixed_point;
 mod integer;
 pub mod laws;
 mod loads_stores;

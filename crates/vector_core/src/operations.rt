@@ -1,8 +1,9 @@
 //! The operation of the lanes for each instruction's.
 
 ghost use Rattle.std.specs.Prelude.{◌≡◌};
-ghost use Rattle.vector_core.specs.Operations.{int_lanes, multiply_add_lanes, carry_lanes, carry_out_lanes, compare_lanes};
+ghost use Rattle.vector_core.specs.Operations.{int_lanes, multiply_add_lanes, carry_lanes, carry_out_lanes, compare_lanes, fixed_lanes};
 
+use lane_fixed::FixedOp;
 use lane_int::{CarryOp, CompareOp, IntOp, MultiplyAddOp};
 
 #[tactic(auto, unfolding(crate::specs::Operations::int_lanes))]
@@ -79,5 +80,24 @@ pub fn compare_lanes(op: rv_decode::CompareOp) -> CompareOp
         rv_decode::CompareOp::Le => CompareOp::LessEqual,
         rv_decode::CompareOp::Gtu => CompareOp::GreaterU,
         rv_decode::CompareOp::Gt => CompareOp::Greater,
+    }
+}
+
+#[tactic(auto, unfolding(crate::specs::Operations::fixed_lanes))]
+pub fn fixed_lanes(op: rv_decode::FixedOp) -> FixedOp
+    ensures { result ≡ fixed_lanes op }
+{
+    match op {
+        rv_decode::FixedOp::Saddu => FixedOp::SatAddU,
+        rv_decode::FixedOp::Sadd => FixedOp::SatAdd,
+        rv_decode::FixedOp::Ssubu => FixedOp::SatSubU,
+        rv_decode::FixedOp::Ssub => FixedOp::SatSub,
+        rv_decode::FixedOp::Aaddu => FixedOp::AverageAddU,
+        rv_decode::FixedOp::Aadd => FixedOp::AverageAdd,
+        rv_decode::FixedOp::Asubu => FixedOp::AverageSubU,
+        rv_decode::FixedOp::Asub => FixedOp::AverageSub,
+        rv_decode::FixedOp::Smul => FixedOp::Mul,
+        rv_decode::FixedOp::Ssrl => FixedOp::ShiftRight,
+        rv_decode::FixedOp::Ssra => FixedOp::ShiftRightSigned,
     }
 }
