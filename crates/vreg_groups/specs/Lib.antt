@@ -7,3 +7,4 @@ pub mod Group
 pub mod Laws
 pub mod Words
 pub use Rattle.rv_decode.specs.Needs
+pub mod Copies

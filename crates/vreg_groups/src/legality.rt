@@ -272,7 +272,8 @@ fn count_of(vtype: Option<Vtype>, extent: Extent) -> usize
     }
 }
 
-fn whole_count(count: Count) -> usize
+/// How many registers a whole-register form has.
+pub fn whole_count(count: Count) -> usize
     ensures meaning { result ≡ whole_count count }
     ensures positive { 0 < result }
     ensures bound { result ≤ 8 }

@@ -16,7 +16,7 @@ mod vector_type;
 
 pub use elements::Element;
 pub use group::Group;
-pub use legality::{legal, legal_type};
+pub use legality::{legal, legal_type, whole_count};
 pub use policies::{Agnostic, Policy};
 pub use registers::VregFile;
 pub use vector_length::{Avl, Vconfig, Vlen, vset};

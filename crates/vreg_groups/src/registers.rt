@@ -1,7 +1,8 @@
 //! The 32 vector registers.
 
-ghost use Rattle.std.specs.Prelude.{◌≡◌, ℕ, ◌+◌, ◌*◌, ◌/◌, ◌<◌, ◌≤◌, ◌⊎◌, length, map, replicate, take, slice_index};
-ghost use Rattle.vreg_groups.specs.Elements.{mask_bit, elements_of, mask_bits, active_of};
+ghost use Rattle.std.specs.Prelude.{◌≡◌, ℕ, ◌+◌, ◌*◌, ◌/◌, ◌<◌, ◌≤◌, ◌⊎◌, ◌++◌, length, map, replicate, take, drop, slice_index};
+ghost use Rattle.vreg_groups.specs.Copies.{copied};
+ghost use Rattle.vreg_groups.specs.Elements.{mask_bit, element_at, elements_of, mask_bits, active_of};
 ghost use Rattle.vreg_groups.specs.VectorLength.{IsVlenb};
 ghost use Rattle.vreg_groups.specs.NewElements.{write_of, mask_write_of};
 
@@ -163,4 +164,44 @@ fn place_of(register: Reg, vlenb: usize) -> usize
     ensures within { result + vlenb ≤ 32 * vlenb }
 {
     usize::from(register.number()) * vlenb
+}
+
+impl<const VLENB: usize> VregFile<VLENB> {
+    /// Element 0 of the group that begins at `register`.
+    #[tactic(auto, unfolding(crate::specs::Elements::element_at))]
+    pub fn first_element<E: Element>(&self, register: Reg) -> E
+        ensures meaning { E.number result ≡ element_at E.SIZE (register * VLENB) self.now 0 }
+        ensures shape { length self.now ≡ 32 * VLENB }
+    {
+        let bytes = &self.bytes;
+        let bytes = &bytes[..32 * VLENB];
+        E::get(bytes, place_of(register, VLENB))
+    }
+
+    /// Copies `count` registers, from `source` on, to those from `first` on ("Whole Vector Register Move").
+    #[tactic(auto, unfolding(crate::specs::Copies::copied))]
+    pub fn copy_registers(&mut self, first: Reg, source: Reg, count: usize)
+        requires first { first + count ≤ 32 }
+        requires source { source + count ≤ 32 }
+        ensures meaning { self.new ≡ copied VLENB first source count self.old }
+        ensures shape { length self.new ≡ 32 * VLENB }
+    {
+        let _ = &self.bytes;
+        let bytes = &mut self.bytes[..32 * VLENB];
+        copy_bytes(
+            bytes,
+            place_of(first, VLENB),
+            place_of(source, VLENB),
+            count * VLENB,
+        );
+    }
+}
+
+// Copies `count` bytes from place `source` on to place `at` on.
+fn copy_bytes(bytes: &mut [u8], at: usize, source: usize, count: usize)
+    requires within { at + count ≤ length bytes.old }
+    requires source { source + count ≤ length bytes.old }
+    ensures { bytes.new ≡ take at bytes.old ++ take count (drop source bytes.old) ++ drop (at + count) bytes.old }
+{
+    bytes.copy_within(source..source + count, at);
 }

@@ -4,7 +4,7 @@
 ghost use Rattle.std.specs.Prelude.{◌≡◌, ℕ, ◌*◌, ◌<◌, ◌≤◌, ◌⊎◌};
 ghost use Rattle.vreg_groups.specs.Legality.{eew_bits, emul_eighths, group_count};
 ghost use Rattle.vreg_groups.specs.VectorLength.{IsVlenb};
-ghost use Rattle.vreg_groups.specs.VectorType.{bits_of_width, eighths_of, sew_of, lmul_of, is_supported, type_in, vtype_of, vlmax_of};
+ghost use Rattle.vreg_groups.specs.VectorType.{bits_of_width, bytes_of_width, eighths_of, sew_of, lmul_of, is_supported, type_in, vtype_of, vlmax_of};
 ghost use Rattle.vreg_groups.specs.declared.vector_type.TheConstants.{MOST_ELEMENTS};
 
 use rv_decode::{Eew, Width};
@@ -61,11 +61,12 @@ impl Vtype {
     }
 
     /// The greatest vector length, VLMAX = LMUL * VLEN / SEW, where a vector register has `vlenb` bytes.
-    #[tactic(auto, unfolding(crate::specs::VectorType::vlmax_of))]
+    #[tactic(auto, unfolding(crate::specs::VectorType::vlmax_of), using(crate::proofs::Sizes::body_small))]
     pub fn vlmax(&self, vlenb: usize) -> u32
         requires { IsVlenb vlenb }
         ensures meaning { result ≡ vlmax_of vlenb self.now }
         ensures bound { result ≤ MOST_ELEMENTS }
+        ensures bytes { bytes_of_width self.now.sew * result ≤ MOST_ELEMENTS }
     {
         (eighths(self.lmul) * vlenb / bits_of(self.sew)) as u32
     }
