@@ -3,7 +3,7 @@
 ghost use Rattle.std.specs.Prelude.{◌≡◌, ◌+◌, ◌≤◌, ◌<◌, ◌^◌, length, map};
 ghost use Rattle.lane_masks.specs.Masks.{first_set, index_of, iota_of, set_at, set_count, set_first_of};
 
-use crate::lane::Lane;
+use crate::lane::FoldLane;
 use crate::operations::FirstOp;
 
 /// How many bits are set ("Vector count population in mask vcpop.m").
@@ -46,7 +46,7 @@ pub fn set_first(op: FirstOp, mask: &mut [bool])
 }
 
 /// Writes the number of set bits below each bit, modulo 2^SEW ("Vector Iota Instruction").
-pub fn iota<T: Lane>(mask: &[bool], out: &mut [T])
+pub fn iota<T: FoldLane>(mask: &[bool], out: &mut [T])
     requires same { length mask.now ≡ length out.old }
     requires few { length mask.now < 2 ^ 32 }
     ensures { map T.number out.new ≡ iota_of T.width mask.now }
@@ -59,7 +59,7 @@ pub fn iota<T: Lane>(mask: &[bool], out: &mut [T])
 }
 
 /// Writes the index of each element, modulo 2^SEW ("Vector Element Index Instruction").
-pub fn index<T: Lane>(out: &mut [T])
+pub fn index<T: FoldLane>(out: &mut [T])
     requires { length out.old < 2 ^ 32 }
     ensures { map T.number out.new ≡ index_of T.width (length out.old) }
 {

@@ -3,12 +3,12 @@ ghost use Rattle.std.specs.Prelude.{◌≡◌, length, map};
 ghost use Rattle.lane_masks.specs.Folds.{extended, fold_of};
 ghost use Rattle.lane_masks.specs.declared.operations.FoldOp.TheVariants.{Sum};
 
-use crate::lane::Lane;
+use crate::lane::FoldLane;
 use crate::operations::FoldOp;
 
 /// The fold of `start`, which is vs1's element 0, with the active elements of `values`, which are vs2's ("Vector
 /// Single-Width Integer Reduction Instructions").
-pub fn fold<T: Lane>(op: FoldOp, start: T, values: &[T], active: &[bool]) -> T
+pub fn fold<T: FoldLane>(op: FoldOp, start: T, values: &[T], active: &[bool]) -> T
     requires { length active.now ≡ length values.now }
     ensures { T.number result
         ≡ fold_of op T.width (T.number start) active.now (map T.number values.now) }
@@ -24,7 +24,7 @@ pub fn fold<T: Lane>(op: FoldOp, start: T, values: &[T], active: &[bool]) -> T
 
 /// The sum of `start` with the active elements of `values`, each extended to the width of the sum ("Vector Widening Integer
 /// Reduction Instructions").
-pub fn fold_extended<W: Lane, N: Lane>(
+pub fn fold_extended<W: FoldLane, N: FoldLane>(
     is_signed: bool,
     start: W,
     values: &[N],

@@ -4,7 +4,7 @@ ghost use Rattle.std.specs.Prelude.{◌≡◌, ℕ};
 use crate::operations::FoldOp;
 
 /// An element of one width: `u8`, `u16` or `u32`.
-pub trait Lane: Copy {
+pub trait FoldLane: Copy {
     ghost use Rattle.std.specs.Prelude.{ℕ, ◌≡◌, ◌%◌, ◌^◌, if◌then◌else◌};
     ghost use Rattle.std.specs.Int.{Width, w32, cast_signed, cast_unsigned};
     ghost use mir.Val.{bits};
@@ -28,7 +28,7 @@ pub trait Lane: Copy {
         ensures { number result ≡ joined op width (number a) (number b) };
 }
 
-impl Lane for u8 {
+impl FoldLane for u8 {
     ghost use Rattle.std.specs.Int.{w8};
 
     ghost width = { w8 };
@@ -62,7 +62,7 @@ impl Lane for u8 {
     }
 }
 
-impl Lane for u16 {
+impl FoldLane for u16 {
     ghost use Rattle.std.specs.Int.{w16};
 
     ghost width = { w16 };
@@ -96,7 +96,7 @@ impl Lane for u16 {
     }
 }
 
-impl Lane for u32 {
+impl FoldLane for u32 {
     ghost use Rattle.std.specs.Int.{w32};
 
     ghost width = { w32 };

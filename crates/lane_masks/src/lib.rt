@@ -11,7 +11,7 @@ mod permutations;
 
 pub use counts::{count, first, index, iota, set_first};
 pub use folds::{fold, fold_extended};
-pub use lane::Lane;
+pub use lane::FoldLane;
 pub use logic::combine;
 pub use operations::{FirstOp, FoldOp, LogicOp};
 pub use permutations::{compress, gather, slide_down, slide_one_down, slide_one_up, slide_up};

@@ -7,4 +7,4 @@ use Rattle.lane_masks.proofs.counts.index.Given as goal
 
 abbrev pub invariant-loop-i : goal.invariant-loop-i
 invariant-loop-i g l =
-    map g.T.Lane.number l.out ≡ overlaid l.i (map (λ i. i % 2 ^ bits g.T.Lane.width) (range_with_len 0 (length l.initial.out))) (map g.T.Lane.number l.initial.out)
+    map g.T.FoldLane.number l.out ≡ overlaid l.i (map (λ i. i % 2 ^ bits g.T.FoldLane.width) (range_with_len 0 (length l.initial.out))) (map g.T.FoldLane.number l.initial.out)

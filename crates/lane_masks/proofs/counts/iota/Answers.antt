@@ -17,13 +17,13 @@ one_more mask i below bit lt e f = rw (e, f) (sym (count_step mask i (get_or mas
 
 pub loop-i-preserved : goal.loop-i-preserved
 loop-i-preserved g c =
-    let number = g.T.Lane.number in
+    let number = g.T.FoldLane.number in
     let long : length (map number c.args.out.now) ≡ length c.args.out.now = length-map c.args.out.now number in
-    (number_more number (λ i. set_count (take i c.args.mask.now) % 2 ^ bits g.T.Lane.width) (length c.args.mask.now) c.loop-i.i (map number c.args.out.now) c.loop-i.out c.low.result c.loop-i.invariant.0 (omega arith) (c.requires.same ∙ sym long) (c.low.ensures ∙ ap (λ n. n % 2 ^ bits g.T.Lane.width) c.loop-i.invariant.1), one_more c.args.mask.now c.loop-i.i c.loop-i.below c.from-below.result (omega (arith, c.requires.same)) c.loop-i.invariant.1 c.from-below.ensures)
+    (number_more number (λ i. set_count (take i c.args.mask.now) % 2 ^ bits g.T.FoldLane.width) (length c.args.mask.now) c.loop-i.i (map number c.args.out.now) c.loop-i.out c.low.result c.loop-i.invariant.0 (omega arith) (c.requires.same ∙ sym long) (c.low.ensures ∙ ap (λ n. n % 2 ^ bits g.T.FoldLane.width) c.loop-i.invariant.1), one_more c.args.mask.now c.loop-i.i c.loop-i.below c.from-below.result (omega (arith, c.requires.same)) c.loop-i.invariant.1 c.from-below.ensures)
 
 pub returns : goal.returns
 unfolding iota_of
 returns g c =
-    let number = g.T.Lane.number in
+    let number = g.T.FoldLane.number in
     let long : length (map number c.args.out.now) ≡ length c.args.out.now = length-map c.args.out.now number in
-    place_all (λ i. set_count (take i c.args.mask.now) % 2 ^ bits g.T.Lane.width) (length c.args.mask.now) c.loop-i.i (map number c.args.out.now) (map number c.loop-i.out) c.loop-i.invariant.0 (omega arith) (c.requires.same ∙ sym long)
+    place_all (λ i. set_count (take i c.args.mask.now) % 2 ^ bits g.T.FoldLane.width) (length c.args.mask.now) c.loop-i.i (map number c.args.out.now) (map number c.loop-i.out) c.loop-i.invariant.0 (omega arith) (c.requires.same ∙ sym long)

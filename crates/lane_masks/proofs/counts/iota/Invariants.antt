@@ -8,5 +8,5 @@ use Rattle.lane_masks.proofs.counts.iota.Given as goal
 
 abbrev pub invariant-loop-i : goal.invariant-loop-i
 invariant-loop-i g l =
-    (map g.T.Lane.number l.out ≡ overlaid l.i (map (λ i. set_count (take i l.mask) % 2 ^ bits g.T.Lane.width) (range_with_len 0 (length l.mask))) (map g.T.Lane.number l.initial.out))
+    (map g.T.FoldLane.number l.out ≡ overlaid l.i (map (λ i. set_count (take i l.mask) % 2 ^ bits g.T.FoldLane.width) (range_with_len 0 (length l.mask))) (map g.T.FoldLane.number l.initial.out))
     × (l.below ≡ set_count (take l.i l.mask))

@@ -12,13 +12,13 @@ loop-i-init g c = refl
 
 pub loop-i-preserved : goal.loop-i-preserved
 loop-i-preserved g c =
-    let f = joined c.args.op g.T.Lane.width in
-    let numbers = map g.T.Lane.number c.args.values.now in
-    let long : length numbers ≡ length c.args.values.now = length-map c.args.values.now g.T.Lane.number in
+    let f = joined c.args.op g.T.FoldLane.width in
+    let numbers = map g.T.FoldLane.number c.args.values.now in
+    let long : length numbers ≡ length c.args.values.now = length-map c.args.values.now g.T.FoldLane.number in
     elim c.if-active-i.branch [
-      | then-active-i w ↦ fold_taken f c.args.active.now numbers c.loop-i.i (g.T.Lane.number c.loop-i.so_far) (g.T.Lane.number c.if-active-i.so_far) (g.T.Lane.number w.index-values-i.result) _ (omega (arith, c.requires)) (c.requires ∙ sym long) w.if-active-i.true (number_at g.T.Lane.number c.args.values.now c.loop-i.i w.index-values-i.result (omega arith) w.index-values-i.is) (ap g.T.Lane.number w.so_far-is ∙ w.join-so_far.ensures) c.loop-i.invariant
-      | else-active-i w ↦ rw w.so_far-is (fold_left f c.args.active.now numbers c.loop-i.i (g.T.Lane.number c.loop-i.so_far) _ (omega (arith, c.requires)) (c.requires ∙ sym long) w.if-active-i.false c.loop-i.invariant)
+      | then-active-i w ↦ fold_taken f c.args.active.now numbers c.loop-i.i (g.T.FoldLane.number c.loop-i.so_far) (g.T.FoldLane.number c.if-active-i.so_far) (g.T.FoldLane.number w.index-values-i.result) _ (omega (arith, c.requires)) (c.requires ∙ sym long) w.if-active-i.true (number_at g.T.FoldLane.number c.args.values.now c.loop-i.i w.index-values-i.result (omega arith) w.index-values-i.is) (ap g.T.FoldLane.number w.so_far-is ∙ w.join-so_far.ensures) c.loop-i.invariant
+      | else-active-i w ↦ rw w.so_far-is (fold_left f c.args.active.now numbers c.loop-i.i (g.T.FoldLane.number c.loop-i.so_far) _ (omega (arith, c.requires)) (c.requires ∙ sym long) w.if-active-i.false c.loop-i.invariant)
     ]
 
 pub returns : goal.returns
-returns g c = rw (sym c.loop-i.invariant, kept-end c.args.active.now (map g.T.Lane.number c.args.values.now) c.loop-i.i (omega (arith, c.requires))) refl
+returns g c = rw (sym c.loop-i.invariant, kept-end c.args.active.now (map g.T.FoldLane.number c.args.values.now) c.loop-i.i (omega (arith, c.requires))) refl

@@ -6,5 +6,5 @@ use Rattle.lane_masks.proofs.folds.fold.Given as goal
 
 abbrev pub invariant-loop-i : goal.invariant-loop-i
 invariant-loop-i g l =
-    fold (joined l.op g.T.Lane.width) (g.T.Lane.number l.so_far) (kept (drop l.i l.active) (drop l.i (map g.T.Lane.number l.values)))
-    ≡ fold_of l.op g.T.Lane.width (g.T.Lane.number l.initial.so_far) l.active (map g.T.Lane.number l.values)
+    fold (joined l.op g.T.FoldLane.width) (g.T.FoldLane.number l.so_far) (kept (drop l.i l.active) (drop l.i (map g.T.FoldLane.number l.values)))
+    ≡ fold_of l.op g.T.FoldLane.width (g.T.FoldLane.number l.initial.so_far) l.active (map g.T.FoldLane.number l.values)

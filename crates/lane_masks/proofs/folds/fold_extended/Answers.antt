@@ -19,16 +19,16 @@ loop-i-init g c = refl
 pub loop-i-preserved : goal.loop-i-preserved
 unfolding extended
 loop-i-preserved g c =
-    let f = joined Sum g.W.Lane.width in
-    let number = number_of c.args.is_signed g.N.Lane.width g.W.Lane.width g.N.Lane.number in
+    let f = joined Sum g.W.FoldLane.width in
+    let number = number_of c.args.is_signed g.N.FoldLane.width g.W.FoldLane.width g.N.FoldLane.number in
     let numbers = map number c.args.values.now in
     let long : length numbers ≡ length c.args.values.now = length-map c.args.values.now number in
     elim c.if-active-i.branch [
-      | then-active-i w ↦ fold_taken f c.args.active.now numbers c.loop-i.i (g.W.Lane.number c.loop-i.so_far) (g.W.Lane.number c.if-active-i.so_far) (number w.index-values-i.result) _ (omega (arith, c.requires)) (c.requires ∙ sym long) w.if-active-i.true (number_at number c.args.values.now c.loop-i.i w.index-values-i.result (omega arith) w.index-values-i.is) (ap g.W.Lane.number w.so_far-is ∙ w.join-so_far.ensures ∙ ap (f (g.W.Lane.number c.loop-i.so_far)) (w.low-value.ensures ∙ ap (λ n. n % 2 ^ bits g.W.Lane.width) w.extended.ensures)) c.loop-i.invariant
-      | else-active-i w ↦ rw w.so_far-is (fold_left f c.args.active.now numbers c.loop-i.i (g.W.Lane.number c.loop-i.so_far) _ (omega (arith, c.requires)) (c.requires ∙ sym long) w.if-active-i.false c.loop-i.invariant)
+      | then-active-i w ↦ fold_taken f c.args.active.now numbers c.loop-i.i (g.W.FoldLane.number c.loop-i.so_far) (g.W.FoldLane.number c.if-active-i.so_far) (number w.index-values-i.result) _ (omega (arith, c.requires)) (c.requires ∙ sym long) w.if-active-i.true (number_at number c.args.values.now c.loop-i.i w.index-values-i.result (omega arith) w.index-values-i.is) (ap g.W.FoldLane.number w.so_far-is ∙ w.join-so_far.ensures ∙ ap (f (g.W.FoldLane.number c.loop-i.so_far)) (w.low-value.ensures ∙ ap (λ n. n % 2 ^ bits g.W.FoldLane.width) w.extended.ensures)) c.loop-i.invariant
+      | else-active-i w ↦ rw w.so_far-is (fold_left f c.args.active.now numbers c.loop-i.i (g.W.FoldLane.number c.loop-i.so_far) _ (omega (arith, c.requires)) (c.requires ∙ sym long) w.if-active-i.false c.loop-i.invariant)
     ]
 
 pub returns : goal.returns
 returns g c =
-    let numbers = map (λ n. extended c.args.is_signed g.N.Lane.width g.W.Lane.width (g.N.Lane.number n)) c.args.values.now in
+    let numbers = map (λ n. extended c.args.is_signed g.N.FoldLane.width g.W.FoldLane.width (g.N.FoldLane.number n)) c.args.values.now in
     rw (sym c.loop-i.invariant, kept-end c.args.active.now numbers c.loop-i.i (omega (arith, c.requires))) refl
