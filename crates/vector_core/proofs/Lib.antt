@@ -1,3 +1,4 @@
 pub mod AccessSteps
+pub mod Extensions
 pub mod Inside
 pub mod Numbers

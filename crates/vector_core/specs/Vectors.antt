@@ -1,6 +1,6 @@
 -- The vector half of a hart's state.
-use Rattle.std.specs.Prelude.{ℕ, ◌*◌, List, replicate, Result}
-use Rattle.vector_core.specs.Words.{Agnostic, Fault, Hart, Memory, Vconfig}
+use Rattle.std.specs.Prelude.{ℕ, ◌*◌, List, replicate, Result, Ok}
+use Rattle.vector_core.specs.Words.{Agnostic, Fault, Hart, Memory, Vconfig, advanced, with_reg}
 use Rattle.vreg_groups.specs.VectorLength.{no_config, IsConfig, IsVlenb}
 
 -- the bytes of the 32 registers end to end, vtype and vl, and what becomes of agnostic elements throughout the run
@@ -20,6 +20,13 @@ with_registers registers v = record v { registers = registers }
 -- what a step of a hart answers
 abbrev pub Stepped : Type 0
 Stepped = Result (Hart × Vectors × Memory) Fault
+
+-- the state where vector registers were written, and where an x register was
+abbrev pub in_registers : List ℕ → Hart → Vectors → Memory → Stepped
+in_registers registers hart v memory = Ok (advanced hart, with_registers registers v, memory)
+
+abbrev pub in_scalar : ℕ → ℕ → Hart → Vectors → Memory → Stepped
+in_scalar rd value hart v memory = Ok (advanced (with_reg rd value hart), v, memory)
 
 -- what holds of every state: VLEN is 128 or 256, and vl is at most VLMAX, or 0 where vill is set
 pub record IsVectors (vlenb : ℕ) (v : Vectors) : Type 0 where

@@ -9,6 +9,7 @@ mod arithmetic;
 mod configuration;
 mod elements;
 mod fixed_point;
+mod fold_elements;
 mod integer;
 pub mod laws;
 mod loads_stores;
