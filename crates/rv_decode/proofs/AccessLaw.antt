@@ -4,7 +4,7 @@ use Rattle.rv_decode.specs.Bits.{bits}
 use Rattle.rv_decode.specs.Encode.{low_fields}
 use Rattle.rv_decode.specs.EncodeVector.{vm_of}
 use Rattle.rv_decode.specs.EncodeAccess.{encode_m, encode_access, opcode_of_direction, f3_of_width, number_of_count, nf_of_count, mop_of_order, WholeFits}
-use Rattle.rv_decode.specs.Vector.{is_masked}
+use Rattle.rv_decode.specs.Operations.{is_masked}
 use Rattle.rv_decode.specs.Access.{unit, strided, indexed, mask, whole, element_rows, whole_rows, mask_rows, byte_rows, wide_load_rows, vector_load_groups, vector_store_groups}
 use Rattle.rv_decode.proofs.TableLaw.{RowsHold, GroupsHold, append_rows}
 use Rattle.rv_decode.proofs.ScalarLaw.{Encodes}

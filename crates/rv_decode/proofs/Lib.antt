@@ -3,9 +3,11 @@ pub mod Fields
 pub mod Meanings
 pub mod Encoded
 pub mod Wholes
+pub mod Halves
 pub mod TableLaw
 pub mod ScalarLaw
 pub mod SystemLaw
+pub mod OperationLaw
 pub mod VectorLaw
 pub mod AccessLaw
 pub mod MeaningLaw

@@ -1,19 +1,17 @@
--- The rows of opcode 57: each gives a word the instruction that it encodes.
-use Rattle.std.proofs.Common.{◌≡◌, ℕ, ◌^◌, ◌*◌, ◌+◌, ◌<◌, ◌==◌, ◌||◌, Bool, true, false, List, [], ◌∷◌, ◌++◌, if◌then◌else◌, refl, sym, ap, ◌∙◌, arith, rules, inl, inr}
-use Rattle.std.proofs.lemmas.Int.{ints}
-use Rattle.std.proofs.Math.Nat.{mod-eq_of_lt}
-use Rattle.std.specs.List.{list_any}
+-- The rows of the vector words: each gives a word the instruction that it encodes.
+use Rattle.std.proofs.Common.{◌≡◌, ℕ, ◌^◌, ◌*◌, ◌+◌, ◌<◌, [], ◌∷◌, Bool, true, false, refl, ap, ◌∙◌, arith}
 use Rattle.rv_decode.specs.Bits.{bits}
-use Rattle.rv_decode.specs.Encode.{modulo, low_fields}
-use Rattle.rv_decode.specs.EncodeVector.{Category, OPI, OPM, Code, code, code_of_int, code_of_multiply_add, code_of_carry, code_of_carry_out, code_of_merge, code_of_compare}
-use Rattle.rv_decode.specs.EncodeVector.{f3_of, number_of_operand, vm_of, encode_v, encode_arith, encode_vset, takes_signed, takes_unsigned, OperandFits}
-use Rattle.rv_decode.specs.Rows.{Row, field, row}
-use Rattle.rv_decode.specs.Vector.{Form, V, X, I, U, operand, vectors, scalars, immediates, Operation, rows_in, rows_of, vm, funct6, is_masked}
-use Rattle.rv_decode.specs.Vector.{int, multiply_add, carry, carry_out, merge, copy, compare, integer_operations, multiply_operations}
-use Rattle.rv_decode.specs.Vector.{opivv_rows, opivi_rows, opivx_rows, opmvv_rows, opmvx_rows, vset_rows, vector_groups, vsetvli, vsetivli, vsetvl}
-use Rattle.rv_decode.proofs.TableLaw.{HasFields, Every, RowsHold, GroupsHold, append_rows}
+use Rattle.rv_decode.specs.Encode.{low_fields}
+use Rattle.rv_decode.specs.EncodeVector.{OPI, OPM, code_of_int, code_of_multiply_add, code_of_carry, code_of_carry_out, code_of_merge, code_of_compare, code_of_fixed, code_of_widen, code_of_wide, code_of_widen_multiply_add, code_of_narrow, code_of_clip, code_of_extend, selector_of_extend}
+use Rattle.rv_decode.specs.EncodeVector.{vm_of, encode_v, encode_arith, encode_vset}
+use Rattle.rv_decode.specs.Operations.{Form, V, operand, vectors, scalars, immediates, select, vm, vs1, vs2, is_masked}
+use Rattle.rv_decode.specs.Vector.{int, multiply_add, carry, carry_out, merge, copy, compare, fixed, widen, wide, widen_multiply_add, narrow, clip, extend, extend_rows}
+use Rattle.rv_decode.specs.Vector.{integer_operations, shift_operations, averaging_operations, multiply_operations, widening_operations, low_opi, high_opi, opi, low_opm, high_opm, opm}
+use Rattle.rv_decode.specs.Vector.{vset_rows, vector_groups, vsetvli, vsetivli, vsetvl}
+use Rattle.rv_decode.proofs.TableLaw.{HasFields, Every, append_every, RowsHold, GroupsHold}
 use Rattle.rv_decode.proofs.ScalarLaw.{Encodes}
-use Rattle.rv_decode.proofs.Wholes.{below, below5, whole_r, modulo_signed, signed_fits}
+use Rattle.rv_decode.proofs.OperationLaw.{Spells, word_with_mask, word_with_vm, OperationHolds, only_vectors, rows_of_hold, selects_vectors, selects_scalars, selects_immediates}
+use Rattle.rv_decode.proofs.Wholes.{below, below5, whole_r}
 use Rattle.rv_decode.specs.declared.instructions.IntOp.{IntOp}
 use Rattle.rv_decode.specs.declared.instructions.IntOp.TheVariants.{Add, Sub, Rsub, Minu, Min, Maxu, Max, And, Or, Xor, Sll, Srl, Sra, Mul, Mulh, Mulhu, Mulhsu, Divu, Div, Remu, Rem}
 use Rattle.rv_decode.specs.declared.instructions.MultiplyAddOp.{MultiplyAddOp}
@@ -24,80 +22,100 @@ use Rattle.rv_decode.specs.declared.instructions.CarryOutOp.{CarryOutOp}
 use Rattle.rv_decode.specs.declared.instructions.CarryOutOp.TheVariants.{Madc, Msbc}
 use Rattle.rv_decode.specs.declared.instructions.CompareOp.{CompareOp}
 use Rattle.rv_decode.specs.declared.instructions.CompareOp.TheVariants.{Eq, Ne, Ltu, Lt, Leu, Le, Gtu, Gt}
-use Rattle.rv_decode.specs.declared.instructions.Source.{Source}
-use Rattle.rv_decode.specs.declared.instructions.Source.TheVariants.{Vector, Scalar, Immediate}
+use Rattle.rv_decode.specs.declared.instructions.FixedOp.{FixedOp}
+use Rattle.rv_decode.specs.declared.instructions.FixedOp.TheVariants.{Saddu, Sadd, Ssubu, Ssub, Aaddu, Aadd, Asubu, Asub, Smul, Ssrl, Ssra}
+use Rattle.rv_decode.specs.declared.instructions.WidenOp.{WidenOp}
+use Rattle.rv_decode.specs.declared.instructions.WidenOp.TheVariants as widen_op
+use Rattle.rv_decode.specs.declared.instructions.WideOp.{WideOp}
+use Rattle.rv_decode.specs.declared.instructions.WideOp.TheVariants as wide_op
+use Rattle.rv_decode.specs.declared.instructions.WidenMultiplyAddOp.{WidenMultiplyAddOp}
+use Rattle.rv_decode.specs.declared.instructions.WidenMultiplyAddOp.TheVariants.{Maccu, Maccus, Maccsu}
+use Rattle.rv_decode.specs.declared.instructions.WidenMultiplyAddOp.TheVariants as widen_multiply_add_op
+use Rattle.rv_decode.specs.declared.instructions.NarrowOp.{NarrowOp}
+use Rattle.rv_decode.specs.declared.instructions.NarrowOp.TheVariants as narrow_op
+use Rattle.rv_decode.specs.declared.instructions.ClipOp.{ClipOp}
+use Rattle.rv_decode.specs.declared.instructions.ClipOp.TheVariants as clip_op
+use Rattle.rv_decode.specs.declared.instructions.Fraction.{Fraction}
+use Rattle.rv_decode.specs.declared.instructions.Fraction.TheVariants.{Half, Quarter}
+use Rattle.rv_decode.specs.declared.instructions.Source.TheVariants.{Vector}
 
--- the fields of a word that has a funct6
+-- each shape of operands
 
-parts_v : (word : ℕ) → word < 2 ^ 32 → word ≡ bits 26 6 word * 2 ^ 26 + bits 25 1 word * 2 ^ 25 + bits 20 5 word * 2 ^ 20 + low_fields (bits 0 7 word) (bits 7 5 word) (bits 12 3 word) (bits 15 5 word)
-unfolding bits low_fields
-parts_v word w = omega arith
-
--- what the fields of a word say of an operation
-record Spells (word : ℕ) (c : Code) (b : Source) : Type 0 where
-  fits : word < 2 ^ 32
-  at_opcode : bits 0 7 word ≡ 0x57
-  at_f3 : bits 12 3 word ≡ f3_of c.category b
-  at_funct6 : bits 26 6 word ≡ c.funct6
-  at_operand : bits 15 5 word ≡ number_of_operand b
-  operand_fits : OperandFits c.forms b
-
-word_of : (word : ℕ) (c : Code) (b : Source) → Spells word c b → word ≡ encode_v c (bits 7 5 word) (bits 25 1 word) (bits 20 5 word) b
-unfolding encode_v
-word_of word c b s =
-    let h = parts_v word s.fits in
-    let o = s.at_opcode in
-    let f = s.at_f3 in
-    let g = s.at_funct6 in
-    let n = s.at_operand in
-    cc
-
-mask_bit : (n : ℕ) → n < 2 → n ≡ vm_of (n == 0)
-mask_bit n h = grind arith
-
-word_with_mask : (word : ℕ) (c : Code) (b : Source) → Spells word c b → word ≡ encode_v c (bits 7 5 word) (vm_of (is_masked word)) (bits 20 5 word) b
-word_with_mask word c b s =
-    word_of word c b s ∙
-    ap (λ vm. encode_v c (bits 7 5 word) vm (bits 20 5 word) b) (mask_bit (bits 25 1 word) (below 25 1 2 word refl (omega arith)))
-
--- an operation: a word that its fields select encodes it
-abbrev OperationHolds : ℕ → Category → Operation → Type 0
-OperationHolds word category op =
-    (b : Source) → Spells word (code category op.code op.forms) b → HasFields op.fixed word → Encodes word (op.meaning b word)
-
-int_is : (word : ℕ) (op : IntOp) (b : Source) → Spells word (code_of_int op) b → HasFields [] word → Encodes word (int op b word)
+int_is : (word : ℕ) (op : IntOp) (form : Form) → Spells word (code_of_int op) (operand form word) → HasFields [] word → Encodes word (int op (operand form word) word)
 unfolding encode_arith
-int_is word op b s none = (word_with_mask word (code_of_int op) b s, (below5 7 word, below5 20 word, s.operand_fits))
+int_is word op form s none =
+    (word_with_mask word (code_of_int op) (operand form word) s, (below5 7 word, below5 20 word, s.operand_fits))
 
-multiply_add_is : (word : ℕ) (op : MultiplyAddOp) (b : Source) → Spells word (code_of_multiply_add op) b → HasFields [] word → Encodes word (multiply_add op b word)
+multiply_add_is : (word : ℕ) (op : MultiplyAddOp) (form : Form) → Spells word (code_of_multiply_add op) (operand form word) → HasFields [] word → Encodes word (multiply_add op (operand form word) word)
 unfolding encode_arith
-multiply_add_is word op b s none = (word_with_mask word (code_of_multiply_add op) b s, (below5 7 word, below5 20 word, s.operand_fits))
+multiply_add_is word op form s none =
+    (word_with_mask word (code_of_multiply_add op) (operand form word) s, (below5 7 word, below5 20 word, s.operand_fits))
 
-carry_out_is : (word : ℕ) (op : CarryOutOp) (b : Source) → Spells word (code_of_carry_out op) b → HasFields [] word → Encodes word (carry_out op b word)
+carry_out_is : (word : ℕ) (op : CarryOutOp) (form : Form) → Spells word (code_of_carry_out op) (operand form word) → HasFields [] word → Encodes word (carry_out op (operand form word) word)
 unfolding encode_arith
-carry_out_is word op b s none = (word_with_mask word (code_of_carry_out op) b s, (below5 7 word, below5 20 word, s.operand_fits))
+carry_out_is word op form s none =
+    (word_with_mask word (code_of_carry_out op) (operand form word) s, (below5 7 word, below5 20 word, s.operand_fits))
 
-compare_is : (word : ℕ) (op : CompareOp) (b : Source) → Spells word (code_of_compare op) b → HasFields [] word → Encodes word (compare op b word)
+compare_is : (word : ℕ) (op : CompareOp) (form : Form) → Spells word (code_of_compare op) (operand form word) → HasFields [] word → Encodes word (compare op (operand form word) word)
 unfolding encode_arith
-compare_is word op b s none = (word_with_mask word (code_of_compare op) b s, (below5 7 word, below5 20 word, s.operand_fits))
+compare_is word op form s none =
+    (word_with_mask word (code_of_compare op) (operand form word) s, (below5 7 word, below5 20 word, s.operand_fits))
 
-with_vm : (word : ℕ) (c : Code) (b : Source) (vm : ℕ) → Spells word c b → bits 25 1 word ≡ vm → word ≡ encode_v c (bits 7 5 word) vm (bits 20 5 word) b
-with_vm word c b vm s e = word_of word c b s ∙ ap (λ n. encode_v c (bits 7 5 word) n (bits 20 5 word) b) e
-
-carry_is : (word : ℕ) (op : CarryOp) (b : Source) → Spells word (code_of_carry op) b → HasFields (vm 0 ∷ []) word → Encodes word (carry op b word)
+fixed_is : (word : ℕ) (op : FixedOp) (form : Form) → Spells word (code_of_fixed op) (operand form word) → HasFields [] word → Encodes word (fixed op (operand form word) word)
 unfolding encode_arith
-carry_is word op b s m = (with_vm word (code_of_carry op) b 0 s m.0, (below5 7 word, below5 20 word, s.operand_fits))
+fixed_is word op form s none =
+    (word_with_mask word (code_of_fixed op) (operand form word) s, (below5 7 word, below5 20 word, s.operand_fits))
 
-merge_is : (word : ℕ) (b : Source) → Spells word code_of_merge b → HasFields (vm 0 ∷ []) word → Encodes word (merge b word)
+widen_is : (word : ℕ) (op : WidenOp) (form : Form) → Spells word (code_of_widen op) (operand form word) → HasFields [] word → Encodes word (widen op (operand form word) word)
 unfolding encode_arith
-merge_is word b s m = (with_vm word code_of_merge b 0 s m.0, (below5 7 word, below5 20 word, s.operand_fits))
+widen_is word op form s none =
+    (word_with_mask word (code_of_widen op) (operand form word) s, (below5 7 word, below5 20 word, s.operand_fits))
 
-copy_is : (word : ℕ) (b : Source) → Spells word code_of_merge b → HasFields (vm 1 ∷ field 20 5 0 ∷ []) word → Encodes word (copy b word)
+wide_is : (word : ℕ) (op : WideOp) (form : Form) → Spells word (code_of_wide op) (operand form word) → HasFields [] word → Encodes word (wide op (operand form word) word)
 unfolding encode_arith
-copy_is word b s m = (
-  with_vm word code_of_merge b 1 s m.0 ∙ ap (λ n. encode_v code_of_merge (bits 7 5 word) 1 n b) m.1.0,
+wide_is word op form s none =
+    (word_with_mask word (code_of_wide op) (operand form word) s, (below5 7 word, below5 20 word, s.operand_fits))
+
+widen_multiply_add_is : (word : ℕ) (op : WidenMultiplyAddOp) (form : Form) → Spells word (code_of_widen_multiply_add op) (operand form word) → HasFields [] word → Encodes word (widen_multiply_add op (operand form word) word)
+unfolding encode_arith
+widen_multiply_add_is word op form s none =
+    (word_with_mask word (code_of_widen_multiply_add op) (operand form word) s, (below5 7 word, below5 20 word, s.operand_fits))
+
+narrow_is : (word : ℕ) (op : NarrowOp) (form : Form) → Spells word (code_of_narrow op) (operand form word) → HasFields [] word → Encodes word (narrow op (operand form word) word)
+unfolding encode_arith
+narrow_is word op form s none =
+    (word_with_mask word (code_of_narrow op) (operand form word) s, (below5 7 word, below5 20 word, s.operand_fits))
+
+clip_is : (word : ℕ) (op : ClipOp) (form : Form) → Spells word (code_of_clip op) (operand form word) → HasFields [] word → Encodes word (clip op (operand form word) word)
+unfolding encode_arith
+clip_is word op form s none =
+    (word_with_mask word (code_of_clip op) (operand form word) s, (below5 7 word, below5 20 word, s.operand_fits))
+
+carry_is : (word : ℕ) (op : CarryOp) (form : Form) → Spells word (code_of_carry op) (operand form word) → HasFields (vm 0 ∷ []) word → Encodes word (carry op (operand form word) word)
+unfolding encode_arith
+carry_is word op form s m =
+    (word_with_vm word (code_of_carry op) (operand form word) 0 s m.0, (below5 7 word, below5 20 word, s.operand_fits))
+
+merge_is : (word : ℕ) (form : Form) → Spells word code_of_merge (operand form word) → HasFields (vm 0 ∷ []) word → Encodes word (merge (operand form word) word)
+unfolding encode_arith
+merge_is word form s m =
+    (word_with_vm word code_of_merge (operand form word) 0 s m.0, (below5 7 word, below5 20 word, s.operand_fits))
+
+copy_is : (word : ℕ) (form : Form) → Spells word code_of_merge (operand form word) → HasFields (vm 1 ∷ vs2 0 ∷ []) word → Encodes word (copy (operand form word) word)
+unfolding encode_arith
+copy_is word form s m = (
+  word_with_vm word code_of_merge (operand form word) 1 s m.0 ∙
+      ap (λ n. encode_v code_of_merge (bits 7 5 word) 1 n (operand form word)) m.1.0,
   (below5 7 word, s.operand_fits),
 )
+
+extend_is : (word : ℕ) (signed : Bool) (of : Fraction) (form : Form) → Spells word code_of_extend (operand form word) → HasFields (vs1 (selector_of_extend signed of) ∷ []) word → Encodes word (extend signed of word)
+unfolding encode_arith
+extend_is word signed of form s m = only_vectors word OPM 0x12 (Encodes word (extend signed of word)) (λ v. (
+  word_with_mask word code_of_extend (operand V word) v ∙
+      ap (λ n. encode_v code_of_extend (bits 7 5 word) (vm_of (is_masked word)) (bits 20 5 word) (Vector n)) m.0,
+  (below5 7 word, below5 20 word),
+)) form s
 
 integer_operations_hold : (word : ℕ) → Every (OperationHolds word OPI) integer_operations
 integer_operations_hold word = (
@@ -148,16 +166,7 @@ integer_operations_hold word = (
                                               compare_is word Gtu,
                                               (
                                                 compare_is word Gt,
-                                                (
-                                                  int_is word Sll,
-                                                  (
-                                                    int_is word Srl,
-                                                    (
-                                                      int_is word Sra,
-                                                      tt,
-                                                    ),
-                                                  ),
-                                                ),
+                                                tt,
                                               ),
                                             ),
                                           ),
@@ -178,6 +187,82 @@ integer_operations_hold word = (
             ),
           ),
         ),
+      ),
+    ),
+  ),
+)
+
+shift_operations_hold : (word : ℕ) → Every (OperationHolds word OPI) shift_operations
+shift_operations_hold word = (
+  fixed_is word Saddu,
+  (
+    fixed_is word Sadd,
+    (
+      fixed_is word Ssubu,
+      (
+        fixed_is word Ssub,
+        (
+          int_is word Sll,
+          (
+            fixed_is word Smul,
+            (
+              int_is word Srl,
+              (
+                int_is word Sra,
+                (
+                  fixed_is word Ssrl,
+                  (
+                    fixed_is word Ssra,
+                    (
+                      narrow_is word narrow_op.Srl,
+                      (
+                        narrow_is word narrow_op.Sra,
+                        (
+                          clip_is word clip_op.Clipu,
+                          (
+                            clip_is word clip_op.Clip,
+                            tt,
+                          ),
+                        ),
+                      ),
+                    ),
+                  ),
+                ),
+              ),
+            ),
+          ),
+        ),
+      ),
+    ),
+  ),
+)
+
+averaging_operations_hold : (word : ℕ) → Every (OperationHolds word OPM) averaging_operations
+averaging_operations_hold word = (
+  fixed_is word Aaddu,
+  (
+    fixed_is word Aadd,
+    (
+      fixed_is word Asubu,
+      (
+        fixed_is word Asub,
+        tt,
+      ),
+    ),
+  ),
+)
+
+extend_operations_hold : (word : ℕ) → Every (OperationHolds word OPM) (select 0x12 V extend_rows)
+unfolding extend_rows
+extend_operations_hold word = (
+  extend_is word false Quarter,
+  (
+    extend_is word true Quarter,
+    (
+      extend_is word false Half,
+      (
+        extend_is word true Half,
+        tt,
       ),
     ),
   ),
@@ -222,101 +307,79 @@ multiply_operations_hold word = (
   ),
 )
 
--- a form's operand fits an operation that has the form
+widening_operations_hold : (word : ℕ) → Every (OperationHolds word OPM) widening_operations
+widening_operations_hold word = (
+  widen_is word widen_op.Addu,
+  (
+    widen_is word widen_op.Add,
+    (
+      widen_is word widen_op.Subu,
+      (
+        widen_is word widen_op.Sub,
+        (
+          wide_is word wide_op.Addu,
+          (
+            wide_is word wide_op.Add,
+            (
+              wide_is word wide_op.Subu,
+              (
+                wide_is word wide_op.Sub,
+                (
+                  widen_is word widen_op.Mulu,
+                  (
+                    widen_is word widen_op.Mulsu,
+                    (
+                      widen_is word widen_op.Mul,
+                      (
+                        widen_multiply_add_is word Maccu,
+                        (
+                          widen_multiply_add_is word widen_multiply_add_op.Macc,
+                          (
+                            widen_multiply_add_is word Maccus,
+                            (
+                              widen_multiply_add_is word Maccsu,
+                              tt,
+                            ),
+                          ),
+                        ),
+                      ),
+                    ),
+                  ),
+                ),
+              ),
+            ),
+          ),
+        ),
+      ),
+    ),
+  ),
+)
 
-any_more : (b c : Bool) → c ≡ true → b || c ≡ true
-any_more true c h = refl
-any_more false c h = h
+low_opi_hold : (word : ℕ) → Every (OperationHolds word OPI) low_opi
+unfolding low_opi
+low_opi_hold word = integer_operations_hold word
 
-fits_more : (form : Form) (forms : List Form) (b : Source) → OperandFits forms b → OperandFits (form ∷ forms) b
-fits_more form forms (Vector vs1) h = (any_more (vectors form) (list_any vectors forms) h.0, h.1)
-fits_more form forms (Scalar rs1) h = (any_more (scalars form) (list_any scalars forms) h.0, h.1)
-fits_more form forms (Immediate imm) (inl h) = inl (any_more (takes_signed form) (list_any takes_signed forms) h.0, h.1)
-fits_more form forms (Immediate imm) (inr h) = inr (any_more (takes_unsigned form) (list_any takes_unsigned forms) h.0, h.1, h.2)
+high_opi_hold : (word : ℕ) → Every (OperationHolds word OPI) high_opi
+unfolding high_opi
+high_opi_hold word = shift_operations_hold word
 
-fits_here : (word : ℕ) (form : Form) (forms : List Form) → OperandFits (form ∷ forms) (operand form word)
-fits_here word V forms = (refl, below5 15 word)
-fits_here word X forms = (refl, below5 15 word)
-fits_here word I forms = inl (refl, signed_fits 16 (bits 15 5 word) (below5 15 word))
-fits_here word U forms = let h = below5 15 word in inr (refl, omega (arith, ints), omega (arith, ints))
+opi_hold : (word : ℕ) → Every (OperationHolds word OPI) opi
+unfolding opi
+opi_hold word = append_every (OperationHolds word OPI) low_opi high_opi (low_opi_hold word) (high_opi_hold word)
 
-more_fit : (word : ℕ) (form : Form) (forms some : List Form) → Every (λ f. OperandFits forms (operand f word)) some → Every (λ f. OperandFits (form ∷ forms) (operand f word)) some
-more_fit word form forms [] h = tt
-more_fit word form forms (f ∷ fs) h = (fits_more form forms (operand f word) h.0, more_fit word form forms fs h.1)
+low_opm_hold : (word : ℕ) → Every (OperationHolds word OPM) low_opm
+unfolding low_opm
+low_opm_hold word =
+    append_every (OperationHolds word OPM) averaging_operations (select 0x12 V extend_rows) (averaging_operations_hold word) (extend_operations_hold word)
 
-all_fit : (word : ℕ) (forms : List Form) → Every (λ f. OperandFits forms (operand f word)) forms
-all_fit word [] = tt
-all_fit word (form ∷ forms) = (fits_here word form forms, more_fit word form forms forms (all_fit word forms))
+high_opm_hold : (word : ℕ) → Every (OperationHolds word OPM) high_opm
+unfolding high_opm
+high_opm_hold word =
+    append_every (OperationHolds word OPM) multiply_operations widening_operations (multiply_operations_hold word) (widening_operations_hold word)
 
-number_is : (word : ℕ) (form : Form) → bits 15 5 word ≡ number_of_operand (operand form word)
-unfolding modulo
-number_is word V = refl
-number_is word X = refl
-number_is word I = sym (modulo_signed 16 (bits 15 5 word) (below5 15 word))
-number_is word U = sym (mod-eq_of_lt (below5 15 word))
-
--- the rows of some operations, in the forms that a test selects, where f3 is that of these forms
-
-abbrev Selects : ℕ → Category → (Form → Bool) → Type 0
-Selects word category selects = (form : Form) → selects form ≡ true → bits 12 3 word ≡ f3_of category (operand form word)
-
-one_form : (word : ℕ) (form : Form) (op : Operation) (rest : List Row) (test : Bool) → (test ≡ true → HasFields (funct6 op.code ∷ op.fixed) word → Encodes word (op.meaning (operand form word) word)) → RowsHold (Encodes word) word rest → RowsHold (Encodes word) word ((if test then row (funct6 op.code ∷ op.fixed) (λ w. op.meaning (operand form w) w) ∷ [] else []) ++ rest)
-one_form word form op rest true h i = (h refl, i)
-one_form word form op rest false h i = i
-
-rows_in_hold : (word : ℕ) (category : Category) (selects : Form → Bool) (op : Operation) → word < 2 ^ 32 → bits 0 7 word ≡ 0x57 → Selects word category selects → OperationHolds word category op → (forms : List Form) → Every (λ f. OperandFits op.forms (operand f word)) forms → RowsHold (Encodes word) word (rows_in selects forms op)
-rows_in_hold word category selects op w o s h [] fit = tt
-rows_in_hold word category selects op w o s h (form ∷ forms) fit =
-    one_form word form op (rows_in selects forms op) (selects form)
-    (λ selected. λ fields. h (operand form word)
-    (record { fits = w; at_opcode = o; at_f3 = s form selected; at_funct6 = fields.0; at_operand = number_is word form; operand_fits = fit.0 })
-    fields.1)
-    (rows_in_hold word category selects op w o s h forms fit.1)
-
-rows_of_hold : (word : ℕ) (category : Category) (selects : Form → Bool) → word < 2 ^ 32 → bits 0 7 word ≡ 0x57 → Selects word category selects → (ops : List Operation) → Every (OperationHolds word category) ops → RowsHold (Encodes word) word (rows_of selects ops)
-rows_of_hold word category selects w o s [] h = tt
-rows_of_hold word category selects w o s (op ∷ ops) h =
-    append_rows (Encodes word) word (rows_in selects op.forms op) (rows_of selects ops)
-    (rows_in_hold word category selects op w o s h.0 op.forms (all_fit word op.forms))
-    (rows_of_hold word category selects w o s ops h.1)
-
-selects_vectors : (word : ℕ) (category : Category) → bits 12 3 word ≡ f3_of category (operand V word) → Selects word category vectors
-selects_vectors word category e V h = e
-selects_vectors word category e X h = absurd (search rules)
-selects_vectors word category e I h = absurd (search rules)
-selects_vectors word category e U h = absurd (search rules)
-
-selects_scalars : (word : ℕ) (category : Category) → bits 12 3 word ≡ f3_of category (operand X word) → Selects word category scalars
-selects_scalars word category e X h = e
-selects_scalars word category e V h = absurd (search rules)
-selects_scalars word category e I h = absurd (search rules)
-selects_scalars word category e U h = absurd (search rules)
-
-selects_immediates : (word : ℕ) → bits 12 3 word ≡ 3 → Selects word OPI immediates
-selects_immediates word e I h = e
-selects_immediates word e U h = e
-selects_immediates word e V h = absurd (search rules)
-selects_immediates word e X h = absurd (search rules)
-
-opivv_hold : (word : ℕ) → word < 2 ^ 32 → bits 0 7 word ≡ 0x57 → bits 12 3 word ≡ 0 → RowsHold (Encodes word) word opivv_rows
-unfolding opivv_rows
-opivv_hold word w o f = rows_of_hold word OPI vectors w o (selects_vectors word OPI f) integer_operations (integer_operations_hold word)
-
-opivx_hold : (word : ℕ) → word < 2 ^ 32 → bits 0 7 word ≡ 0x57 → bits 12 3 word ≡ 4 → RowsHold (Encodes word) word opivx_rows
-unfolding opivx_rows
-opivx_hold word w o f = rows_of_hold word OPI scalars w o (selects_scalars word OPI f) integer_operations (integer_operations_hold word)
-
-opivi_hold : (word : ℕ) → word < 2 ^ 32 → bits 0 7 word ≡ 0x57 → bits 12 3 word ≡ 3 → RowsHold (Encodes word) word opivi_rows
-unfolding opivi_rows
-opivi_hold word w o f = rows_of_hold word OPI immediates w o (selects_immediates word f) integer_operations (integer_operations_hold word)
-
-opmvv_hold : (word : ℕ) → word < 2 ^ 32 → bits 0 7 word ≡ 0x57 → bits 12 3 word ≡ 2 → RowsHold (Encodes word) word opmvv_rows
-unfolding opmvv_rows
-opmvv_hold word w o f = rows_of_hold word OPM vectors w o (selects_vectors word OPM f) multiply_operations (multiply_operations_hold word)
-
-opmvx_hold : (word : ℕ) → word < 2 ^ 32 → bits 0 7 word ≡ 0x57 → bits 12 3 word ≡ 6 → RowsHold (Encodes word) word opmvx_rows
-unfolding opmvx_rows
-opmvx_hold word w o f = rows_of_hold word OPM scalars w o (selects_scalars word OPM f) multiply_operations (multiply_operations_hold word)
+opm_hold : (word : ℕ) → Every (OperationHolds word OPM) opm
+unfolding opm
+opm_hold word = append_every (OperationHolds word OPM) low_opm high_opm (low_opm_hold word) (high_opm_hold word)
 
 -- the forms that set vl and vtype
 
@@ -363,15 +426,15 @@ vset_hold word w o f = (
 pub vector_rows : (word : ℕ) → word < 2 ^ 32 → bits 0 7 word ≡ 0x57 → GroupsHold (Encodes word) word vector_groups
 unfolding vector_groups
 vector_rows word w o = (
-  (λ g. opivv_hold word w o g.0),
+  (λ g. rows_of_hold word OPI vectors w o (selects_vectors word OPI g.0) opi (opi_hold word)),
   (
-    (λ g. opmvv_hold word w o g.0),
+    (λ g. rows_of_hold word OPM vectors w o (selects_vectors word OPM g.0) opm (opm_hold word)),
     (
-      (λ g. opivi_hold word w o g.0),
+      (λ g. rows_of_hold word OPI immediates w o (selects_immediates word g.0) opi (opi_hold word)),
       (
-        (λ g. opivx_hold word w o g.0),
+        (λ g. rows_of_hold word OPI scalars w o (selects_scalars word OPI g.0) opi (opi_hold word)),
         (
-          (λ g. opmvx_hold word w o g.0),
+          (λ g. rows_of_hold word OPM scalars w o (selects_scalars word OPM g.0) opm (opm_hold word)),
           (
             (λ g. vset_hold word w o g.0),
             tt,

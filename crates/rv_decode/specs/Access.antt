@@ -3,7 +3,7 @@
 use Rattle.std.specs.Prelude.{ℕ, Bool, true, false, List, [], ◌∷◌, ◌++◌}
 use Rattle.rv_decode.specs.Bits.{rd_of, rs1_of, rs2_of}
 use Rattle.rv_decode.specs.Rows.{Field, Row, Group, f3, field, row, group}
-use Rattle.rv_decode.specs.Vector.{vm, is_masked}
+use Rattle.rv_decode.specs.Operations.{vm, is_masked}
 use Rattle.rv_decode.specs.declared.instructions.Insn.{Insn}
 use Rattle.rv_decode.specs.declared.instructions.Insn.TheVariants.{VMem}
 use Rattle.rv_decode.specs.declared.instructions.Place.{Place}

@@ -2,7 +2,7 @@
 -- out, with the codes of the "V" extension's "Vector Instruction Listing".
 use Rattle.std.specs.Prelude.{ℕ, ◌<◌, Bool, false, true, pos}
 use Rattle.rv_decode.specs.Encode.{IsRegister}
-use Rattle.rv_decode.specs.Vector.{VXU, XU, only_v, only_x, only_i}
+use Rattle.rv_decode.specs.Operations.{VXU, XU, only_v, only_x, only_i}
 use Rattle.rv_decode.specs.EncodeVector.{OPI, OPM, Code, code, vm_of, encode_v, OperandFits}
 use Rattle.rv_decode.specs.EncodeAccess.{nf_of_count}
 use Rattle.rv_decode.specs.declared.instructions.VMask.{VMask}

@@ -3,7 +3,7 @@
 use Rattle.std.specs.Prelude.{◌≡◌, ◌⊎◌, ℕ, ◌+◌, ◌*◌, ◌^◌, ◌<◌, pos, ◌≤ℤ◌, Bool, true, false, List}
 use Rattle.std.specs.List.{list_any}
 use Rattle.rv_decode.specs.Encode.{modulo, low_fields, encode_r, IsRegister, IsSigned}
-use Rattle.rv_decode.specs.Vector.{Form, V, X, I, U, VXI, VXU, VX, XI, only_v, only_x, vectors, scalars}
+use Rattle.rv_decode.specs.Operations.{Form, V, X, I, U, VXI, VXU, VX, XI, only_v, only_x, vectors, scalars}
 use Rattle.rv_decode.specs.declared.instructions.VSet.{VSet}
 use Rattle.rv_decode.specs.declared.instructions.VSet.TheVariants.{Vsetvli, Vsetivli, Vsetvl}
 use Rattle.rv_decode.specs.declared.instructions.VArith.{VArith}

@@ -2,6 +2,7 @@ pub mod Bits
 pub mod Rows
 pub mod Scalar
 pub mod System
+pub mod Operations
 pub mod Vector
 pub mod Access
 pub mod Decode

@@ -1,11 +1,12 @@
 -- The rows of opcode 57: vector arithmetic, and the forms that set vl and vtype.
-use Rattle.std.specs.Prelude.{ℕ, Bool, true, false, ◌==◌, List, [], ◌∷◌, ◌++◌, pos, if◌then◌else◌}
-use Rattle.rv_decode.specs.Bits.{bits, signed, rd_of, rs1_of, rs2_of}
-use Rattle.rv_decode.specs.Rows.{Field, Row, Group, f3, field, row, group}
+use Rattle.std.specs.Prelude.{ℕ, Bool, true, false, List, [], ◌∷◌, ◌++◌}
+use Rattle.rv_decode.specs.Bits.{bits, rd_of, rs1_of, rs2_of}
+use Rattle.rv_decode.specs.Rows.{Row, Group, f3, field, row, group}
+use Rattle.rv_decode.specs.Operations.{V, VXI, VXU, VX, XI, only_x, Operation, operation, operation_where, select, rows_of, vectors, scalars, immediates, vm, vs1, vs2, is_masked}
 use Rattle.rv_decode.specs.declared.instructions.Insn.{Insn}
 use Rattle.rv_decode.specs.declared.instructions.Insn.TheVariants.{VSet, VArith}
 use Rattle.rv_decode.specs.declared.instructions.VSet.TheVariants.{Vsetvli, Vsetivli, Vsetvl}
-use Rattle.rv_decode.specs.declared.instructions.VArith.TheVariants.{Int, MultiplyAdd, Carry, CarryOut, Merge, Copy, Compare}
+use Rattle.rv_decode.specs.declared.instructions.VArith.TheVariants.{Int, MultiplyAdd, Carry, CarryOut, Merge, Copy, Compare, Fixed, Widen, Wide, WidenMultiplyAdd, Narrow, Clip, Extend}
 use Rattle.rv_decode.specs.declared.instructions.IntOp.{IntOp}
 use Rattle.rv_decode.specs.declared.instructions.IntOp.TheVariants.{Add, Sub, Rsub, Minu, Min, Maxu, Max, And, Or, Xor, Sll, Srl, Sra, Mul, Mulh, Mulhu, Mulhsu, Divu, Div, Remu, Rem}
 use Rattle.rv_decode.specs.declared.instructions.MultiplyAddOp.{MultiplyAddOp}
@@ -16,97 +17,22 @@ use Rattle.rv_decode.specs.declared.instructions.CarryOutOp.{CarryOutOp}
 use Rattle.rv_decode.specs.declared.instructions.CarryOutOp.TheVariants.{Madc, Msbc}
 use Rattle.rv_decode.specs.declared.instructions.CompareOp.{CompareOp}
 use Rattle.rv_decode.specs.declared.instructions.CompareOp.TheVariants.{Eq, Ne, Ltu, Lt, Leu, Le, Gtu, Gt}
+use Rattle.rv_decode.specs.declared.instructions.FixedOp.{FixedOp}
+use Rattle.rv_decode.specs.declared.instructions.FixedOp.TheVariants.{Saddu, Sadd, Ssubu, Ssub, Aaddu, Aadd, Asubu, Asub, Smul, Ssrl, Ssra}
+use Rattle.rv_decode.specs.declared.instructions.WidenOp.{WidenOp}
+use Rattle.rv_decode.specs.declared.instructions.WidenOp.TheVariants as widen_op
+use Rattle.rv_decode.specs.declared.instructions.WideOp.{WideOp}
+use Rattle.rv_decode.specs.declared.instructions.WideOp.TheVariants as wide_op
+use Rattle.rv_decode.specs.declared.instructions.WidenMultiplyAddOp.{WidenMultiplyAddOp}
+use Rattle.rv_decode.specs.declared.instructions.WidenMultiplyAddOp.TheVariants.{Maccu, Maccus, Maccsu}
+use Rattle.rv_decode.specs.declared.instructions.WidenMultiplyAddOp.TheVariants as widen_multiply_add_op
+use Rattle.rv_decode.specs.declared.instructions.NarrowOp.{NarrowOp}
+use Rattle.rv_decode.specs.declared.instructions.NarrowOp.TheVariants as narrow_op
+use Rattle.rv_decode.specs.declared.instructions.ClipOp.{ClipOp}
+use Rattle.rv_decode.specs.declared.instructions.ClipOp.TheVariants as clip_op
+use Rattle.rv_decode.specs.declared.instructions.Fraction.{Fraction}
+use Rattle.rv_decode.specs.declared.instructions.Fraction.TheVariants.{Half, Quarter}
 use Rattle.rv_decode.specs.declared.instructions.Source.{Source}
-use Rattle.rv_decode.specs.declared.instructions.Source.TheVariants.{Vector, Scalar, Immediate}
-
--- the field vm: 0 for an instruction that the mask v0 governs
-abbrev pub vm : ℕ → Field
-vm value = field 25 1 value
-
-abbrev pub is_masked : ℕ → Bool
-is_masked word = bits 25 1 word == 0
-
-abbrev pub funct6 : ℕ → Field
-funct6 value = field 26 6 value
-
--- The forms of an operation, by its second operand: vs1, x[rs1], a signed immediate, an unsigned one.
-pub data Form : Type 0 where
-  V : Form
-  X : Form
-  I : Form
-  U : Form
-
-abbrev pub operand : Form → ℕ → Source
-operand V word = Vector (rs1_of word)
-operand X word = Scalar (rs1_of word)
-operand I word = Immediate (signed 16 (bits 15 5 word))
-operand U word = Immediate (pos (bits 15 5 word))
-
-abbrev pub VXI : List Form
-VXI = V ∷ X ∷ I ∷ []
-
-abbrev pub VXU : List Form
-VXU = V ∷ X ∷ U ∷ []
-
-abbrev pub VX : List Form
-VX = V ∷ X ∷ []
-
-abbrev pub XI : List Form
-XI = X ∷ I ∷ []
-
-abbrev pub XU : List Form
-XU = X ∷ U ∷ []
-
-abbrev pub only_v : List Form
-only_v = V ∷ []
-
-abbrev pub only_x : List Form
-only_x = X ∷ []
-
-abbrev pub only_i : List Form
-only_i = I ∷ []
-
--- an operation: its funct6, its forms, the fields that it fixes besides, and what it means with an operand
-pub record Operation : Type 0 where
-  pub code : ℕ
-  pub forms : List Form
-  pub fixed : List Field
-  pub meaning : Source → ℕ → Insn
-
-abbrev pub operation : ℕ → List Form → (Source → ℕ → Insn) → Operation
-operation code forms meaning = record { code = code; forms = forms; fixed = []; meaning = meaning }
-
-abbrev pub operation_where : ℕ → List Form → List Field → (Source → ℕ → Insn) → Operation
-operation_where code forms fixed meaning = record { code = code; forms = forms; fixed = fixed; meaning = meaning }
-
--- the rows of an operation, and of some operations, in the forms that a test selects
-abbrev pub rows_in : (Form → Bool) → List Form → Operation → List Row
-rows_in selects [] op = []
-rows_in selects (form ∷ forms) op =
-    (if selects form then row (funct6 op.code ∷ op.fixed) (λ word. op.meaning (operand form word) word) ∷ [] else []) ++
-    rows_in selects forms op
-
-abbrev pub rows_of : (Form → Bool) → List Operation → List Row
-rows_of selects [] = []
-rows_of selects (op ∷ ops) = rows_in selects op.forms op ++ rows_of selects ops
-
-abbrev pub vectors : Form → Bool
-vectors V = true
-vectors X = false
-vectors I = false
-vectors U = false
-
-abbrev pub scalars : Form → Bool
-scalars V = false
-scalars X = true
-scalars I = false
-scalars U = false
-
-abbrev pub immediates : Form → Bool
-immediates V = false
-immediates X = false
-immediates I = true
-immediates U = true
 
 -- what the operations of a shape mean
 
@@ -132,7 +58,36 @@ copy b word = VArith (Copy (rd_of word) b)
 abbrev pub compare : CompareOp → Source → ℕ → Insn
 compare op b word = VArith (Compare op (rd_of word) (rs2_of word) b (is_masked word))
 
--- the operations of OPIVV, OPIVX and OPIVI
+abbrev pub fixed : FixedOp → Source → ℕ → Insn
+fixed op b word = VArith (Fixed op (rd_of word) (rs2_of word) b (is_masked word))
+
+abbrev pub widen : WidenOp → Source → ℕ → Insn
+widen op b word = VArith (Widen op (rd_of word) (rs2_of word) b (is_masked word))
+
+abbrev pub wide : WideOp → Source → ℕ → Insn
+wide op b word = VArith (Wide op (rd_of word) (rs2_of word) b (is_masked word))
+
+abbrev pub widen_multiply_add : WidenMultiplyAddOp → Source → ℕ → Insn
+widen_multiply_add op b word = VArith (WidenMultiplyAdd op (rd_of word) (rs2_of word) b (is_masked word))
+
+abbrev pub narrow : NarrowOp → Source → ℕ → Insn
+narrow op b word = VArith (Narrow op (rd_of word) (rs2_of word) b (is_masked word))
+
+abbrev pub clip : ClipOp → Source → ℕ → Insn
+clip op b word = VArith (Clip op (rd_of word) (rs2_of word) b (is_masked word))
+
+abbrev pub extend : Bool → Fraction → ℕ → Insn
+extend signed of word = VArith (Extend signed of (rd_of word) (rs2_of word) (is_masked word))
+
+-- VXUNARY0: vzext and vsext, by what stands in the place of vs1
+unfoldable pub extend_rows : List Row
+extend_rows =
+    row (vs1 4 ∷ []) (extend false Quarter) ∷
+    row (vs1 5 ∷ []) (extend true Quarter) ∷
+    row (vs1 6 ∷ []) (extend false Half) ∷
+    row (vs1 7 ∷ []) (extend true Half) ∷
+    []
+
 abbrev pub integer_operations : List Operation
 integer_operations =
     operation 0x00 VXI (int Add) ∷
@@ -150,7 +105,7 @@ integer_operations =
     operation_where 0x12 VX (vm 0 ∷ []) (carry Sbc) ∷
     operation 0x13 VX (carry_out Msbc) ∷
     operation_where 0x17 VXI (vm 0 ∷ []) merge ∷
-    operation_where 0x17 VXI (vm 1 ∷ field 20 5 0 ∷ []) copy ∷
+    operation_where 0x17 VXI (vm 1 ∷ vs2 0 ∷ []) copy ∷
     operation 0x18 VXI (compare Eq) ∷
     operation 0x19 VXI (compare Ne) ∷
     operation 0x1a VX (compare Ltu) ∷
@@ -159,12 +114,34 @@ integer_operations =
     operation 0x1d VXI (compare Le) ∷
     operation 0x1e XI (compare Gtu) ∷
     operation 0x1f XI (compare Gt) ∷
-    operation 0x25 VXU (int Sll) ∷
-    operation 0x28 VXU (int Srl) ∷
-    operation 0x29 VXU (int Sra) ∷
     []
 
--- the operations of OPMVV and OPMVX
+abbrev pub shift_operations : List Operation
+shift_operations =
+    operation 0x20 VXI (fixed Saddu) ∷
+    operation 0x21 VXI (fixed Sadd) ∷
+    operation 0x22 VX (fixed Ssubu) ∷
+    operation 0x23 VX (fixed Ssub) ∷
+    operation 0x25 VXU (int Sll) ∷
+    operation 0x27 VX (fixed Smul) ∷
+    operation 0x28 VXU (int Srl) ∷
+    operation 0x29 VXU (int Sra) ∷
+    operation 0x2a VXU (fixed Ssrl) ∷
+    operation 0x2b VXU (fixed Ssra) ∷
+    operation 0x2c VXU (narrow narrow_op.Srl) ∷
+    operation 0x2d VXU (narrow narrow_op.Sra) ∷
+    operation 0x2e VXU (clip clip_op.Clipu) ∷
+    operation 0x2f VXU (clip clip_op.Clip) ∷
+    []
+
+abbrev pub averaging_operations : List Operation
+averaging_operations =
+    operation 0x08 VX (fixed Aaddu) ∷
+    operation 0x09 VX (fixed Aadd) ∷
+    operation 0x0a VX (fixed Asubu) ∷
+    operation 0x0b VX (fixed Asub) ∷
+    []
+
 abbrev pub multiply_operations : List Operation
 multiply_operations =
     operation 0x20 VX (int Divu) ∷
@@ -181,20 +158,44 @@ multiply_operations =
     operation 0x2f VX (multiply_add Nmsac) ∷
     []
 
-unfoldable pub opivv_rows : List Row
-opivv_rows = rows_of vectors integer_operations
+abbrev pub widening_operations : List Operation
+widening_operations =
+    operation 0x30 VX (widen widen_op.Addu) ∷
+    operation 0x31 VX (widen widen_op.Add) ∷
+    operation 0x32 VX (widen widen_op.Subu) ∷
+    operation 0x33 VX (widen widen_op.Sub) ∷
+    operation 0x34 VX (wide wide_op.Addu) ∷
+    operation 0x35 VX (wide wide_op.Add) ∷
+    operation 0x36 VX (wide wide_op.Subu) ∷
+    operation 0x37 VX (wide wide_op.Sub) ∷
+    operation 0x38 VX (widen widen_op.Mulu) ∷
+    operation 0x3a VX (widen widen_op.Mulsu) ∷
+    operation 0x3b VX (widen widen_op.Mul) ∷
+    operation 0x3c VX (widen_multiply_add Maccu) ∷
+    operation 0x3d VX (widen_multiply_add widen_multiply_add_op.Macc) ∷
+    operation 0x3e only_x (widen_multiply_add Maccus) ∷
+    operation 0x3f VX (widen_multiply_add Maccsu) ∷
+    []
 
-unfoldable pub opivi_rows : List Row
-opivi_rows = rows_of immediates integer_operations
+-- the operations of OPIVV, OPIVX and OPIVI: those with a funct6 below 0x20, and the others
+unfoldable pub low_opi : List Operation
+low_opi = integer_operations
 
-unfoldable pub opivx_rows : List Row
-opivx_rows = rows_of scalars integer_operations
+unfoldable pub high_opi : List Operation
+high_opi = shift_operations
 
-unfoldable pub opmvv_rows : List Row
-opmvv_rows = rows_of vectors multiply_operations
+unfoldable pub opi : List Operation
+opi = low_opi ++ high_opi
 
-unfoldable pub opmvx_rows : List Row
-opmvx_rows = rows_of scalars multiply_operations
+-- the operations of OPMVV and OPMVX, in the same way
+unfoldable pub low_opm : List Operation
+low_opm = averaging_operations ++ select 0x12 V extend_rows
+
+unfoldable pub high_opm : List Operation
+high_opm = multiply_operations ++ widening_operations
+
+unfoldable pub opm : List Operation
+opm = low_opm ++ high_opm
 
 -- the forms that set vl and vtype
 abbrev pub vsetvli : ℕ → Insn
@@ -216,10 +217,10 @@ vset_rows =
 -- opcode 57
 unfoldable pub vector_groups : List Group
 vector_groups =
-    group (f3 0 ∷ []) opivv_rows ∷
-    group (f3 2 ∷ []) opmvv_rows ∷
-    group (f3 3 ∷ []) opivi_rows ∷
-    group (f3 4 ∷ []) opivx_rows ∷
-    group (f3 6 ∷ []) opmvx_rows ∷
+    group (f3 0 ∷ []) (rows_of vectors opi) ∷
+    group (f3 2 ∷ []) (rows_of vectors opm) ∷
+    group (f3 3 ∷ []) (rows_of immediates opi) ∷
+    group (f3 4 ∷ []) (rows_of scalars opi) ∷
+    group (f3 6 ∷ []) (rows_of scalars opm) ∷
     group (f3 7 ∷ []) vset_rows ∷
     []

@@ -10,6 +10,8 @@ mod arith_words;
 mod extents;
 mod instructions;
 pub mod laws;
+mod opi_words;
+mod opm_words;
 mod scalar_words;
 mod system_words;
 #[cfg(test)]

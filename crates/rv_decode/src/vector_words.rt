@@ -4,7 +4,8 @@ ghost use Rattle.std.specs.Prelude.{◌≡◌, option_to_list};
 ghost use Rattle.rv_decode.specs.Rows.{meanings_by_groups, meanings_by_rows};
 ghost use Rattle.rv_decode.specs.Vector.{vset_rows, vector_groups};
 
-use crate::arith_words::{decode_opivi, decode_opivv, decode_opivx, decode_opmvv, decode_opmvx};
+use crate::opi_words::{decode_opivi, decode_opivv, decode_opivx};
+use crate::opm_words::{decode_opmvv, decode_opmvx};
 use crate::word::{bits, register};
 use crate::{Insn, VSet};
 
