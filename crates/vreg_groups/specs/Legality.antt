@@ -144,11 +144,19 @@ are_operands_legal vtype operands =
 unfoldable pub is_legal : Vconfig → Insn → Bool
 is_legal config insn = are_operands_legal (vtype_of config.vtype) (needs_of insn)
 
--- the registers of an operand exist, at most eight of them, and its elements have at most 32 bits
+-- the least width: the elements of a mask are bits, all others are at least bytes
+abbrev pub least_bits : Extent → ℕ
+least_bits (Group eew) = 8
+least_bits (Single eew) = 8
+least_bits Mask = 1
+least_bits (Whole count) = 8
+
+-- the registers of an operand exist, at most eight of them, and its elements have 8 to 32 bits, those of a mask one
 pub record IsInside (t : Vtype) (operand : Operand) : Type 0 where
   pub registers : operand.first + count_of (Some t) operand.extent ≤ 32
   pub size : count_of (Some t) operand.extent ≤ 8
   pub width : element_bits t operand.extent ≤ 32
+  pub least : least_bits operand.extent ≤ element_bits t operand.extent
 
 pub record AreAllInside (t : Vtype) (operands : Operands) : Type 0 where
   pub destination : IfSome operands.destination (IsInside t)

@@ -91,7 +91,8 @@ fn is_group_legal(vtype: &Vtype, eew: Eew, first: usize) -> bool
     requires { first < 32 }
     ensures meaning { result ≡ is_group_legal vtype.now eew first }
     ensures inside { result ≡ true → (first + group_count vtype.now eew ≤ 32)
-        × (eew_bits vtype.now.sew eew ≤ 32) × (group_count vtype.now eew ≤ 8) }
+        × (8 ≤ eew_bits vtype.now.sew eew) × (eew_bits vtype.now.sew eew ≤ 32)
+        × (group_count vtype.now eew ≤ 8) }
 {
     is_width(eew_bits(vtype.sew, eew))
         && emul_eighths(vtype, eew) <= 64
@@ -289,7 +290,7 @@ pub fn whole_count(count: Count) -> usize
 #[tactic(auto, unfolding(crate::specs::Legality::is_width))]
 fn is_width(bits: usize) -> bool
     ensures meaning { result ≡ is_width bits }
-    ensures bound { result ≡ true → bits ≤ 32 }
+    ensures bound { result ≡ true → (8 ≤ bits) × (bits ≤ 32) }
 {
     8 <= bits && bits <= 32
 }
