@@ -13,6 +13,7 @@ pub mod Operations
 pub mod Permutations
 pub mod Reductions
 pub mod Setup
+pub mod Singles
 pub mod Step
 pub mod Vectors
 pub mod Words

@@ -21,6 +21,7 @@ mod permutations;
 mod reductions;
 mod results;
 mod setup;
+mod singles;
 mod state;
 mod step;
 #[cfg(test)]

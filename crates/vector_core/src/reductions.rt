@@ -1,17 +1,202 @@
-//! Reductions.
+//! Reductions: each reads element 0 of vs1 and the active elements of vs2, folds them, and writes element 0 of vd.
 
-ghost use Rattle.std.specs.Prelude.{◌≡◌, Ok};
+ghost use Rattle.std.specs.Prelude.{◌≡◌, ◌*◌, Ok, length};
+ghost use Rattle.std.specs.Mem.{FitsInMemory};
 ghost use Rattle.region_mem.specs.Memory.{Memory};
 ghost use Rattle.rv_decode.specs.Needs.{needs_of_reduce};
-ghost use Rattle.vector_core.specs.Reductions.{reduce_step};
+ghost use Rattle.vreg_groups.specs.VectorType.{bytes_of_width};
+ghost use Rattle.vector_core.specs.Integer.{lane_width};
+ghost use Rattle.vector_core.specs.Reductions.{fold_lanes, fold_of, reduce_of, reduce_step, sum_width, widen_sum_of};
 ghost use Rattle.vector_core.specs.Setup.{IsReady};
 
+use crate::fold_elements::{FoldElement, extended_sum, fold_result};
+use crate::operands::read_body;
 use crate::setup::Setup;
+use crate::singles::write_first;
 use crate::state::VectorState;
-use rv_decode::VReduce;
+use lane_masks::FoldOp;
+use rv_decode::{Reg, VReduce, Width};
 use scalar_core::Scalar;
+use vreg_groups::{MOST_ELEMENTS, VregFile};
 
-/// The step of one of them.
+#[tactic(auto, unfolding(crate::specs::Reductions::fold_lanes))]
+fn fold_lanes(op: rv_decode::FoldOp) -> FoldOp
+    ensures { result ≡ fold_lanes op }
+{
+    match op {
+        rv_decode::FoldOp::Sum => FoldOp::Sum,
+        rv_decode::FoldOp::And => FoldOp::And,
+        rv_decode::FoldOp::Or => FoldOp::Or,
+        rv_decode::FoldOp::Xor => FoldOp::Xor,
+        rv_decode::FoldOp::Minu => FoldOp::MinU,
+        rv_decode::FoldOp::Min => FoldOp::Min,
+        rv_decode::FoldOp::Maxu => FoldOp::MaxU,
+        rv_decode::FoldOp::Max => FoldOp::Max,
+    }
+}
+
+/// Element 0 of vd is the fold of element 0 of vs1 with the active elements of vs2, whose body there is room for in `a`.
+#[tactic(auto, unfolding(rv_decode::specs::Needs::needs_of_reduce, crate::specs::Reductions::fold_of))]
+fn fold_elements<E: FoldElement, const VLENB: usize>(
+    registers: &mut VregFile<VLENB>,
+    setup: &Setup,
+    op: rv_decode::FoldOp,
+    vd: Reg,
+    vs2: Reg,
+    vs1: Reg,
+    masked: bool,
+    a: &mut [E],
+)
+    requires a_len { length a.old ≡ setup.now.vl }
+    requires fits { FitsInMemory E.row }
+    requires width { E.VectorElement.sew ≡ setup.now.vtype.sew }
+    requires ready { IsReady VLENB setup.now (needs_of_reduce
+        (VReduce.Fold op vd vs2 vs1 masked)) }
+    ensures { registers.new ≡ fold_of VLENB setup.now op vd vs2 vs1 masked registers.old }
+{
+    let mut bits = [false; MOST_ELEMENTS];
+    let active = &mut bits[..setup.vl];
+    registers.read_active(masked, active);
+    let start = registers.first_element::<E>(vs1);
+    read_body(registers, setup, vs2, a);
+    let value = fold_result(fold_lanes(op), start, a, active);
+    write_first(registers, setup, vd, value);
+}
+
+/// The same, by the width of elements.
+fn fold<const VLENB: usize>(
+    registers: &mut VregFile<VLENB>,
+    setup: &Setup,
+    op: rv_decode::FoldOp,
+    vd: Reg,
+    vs2: Reg,
+    vs1: Reg,
+    masked: bool,
+)
+    requires { IsReady VLENB setup.now (needs_of_reduce (VReduce.Fold op vd vs2 vs1 masked)) }
+    ensures { registers.new ≡ fold_of VLENB setup.now op vd vs2 vs1 masked registers.old }
+{
+    let vl = setup.vl;
+    let sew = setup.vtype.sew;
+    match sew {
+        Width::W8 => {
+            let mut a = [0u8; MOST_ELEMENTS];
+            fold_elements(registers, setup, op, vd, vs2, vs1, masked, &mut a[..vl]);
+        }
+        Width::W16 => {
+            let mut a = [0u16; MOST_ELEMENTS / 2];
+            fold_elements(registers, setup, op, vd, vs2, vs1, masked, &mut a[..vl]);
+        }
+        Width::W32 => {
+            let mut a = [0u32; MOST_ELEMENTS / 4];
+            fold_elements(registers, setup, op, vd, vs2, vs1, masked, &mut a[..vl]);
+        }
+    }
+}
+
+/// Element 0 of vd, of 2*SEW, is the sum of element 0 of vs1, of 2*SEW, with the active elements of vs2, which are extended
+/// and whose body there is room for in `a`.
+#[tactic(auto, unfolding(rv_decode::specs::Needs::needs_of_reduce, crate::specs::Reductions::widen_sum_of))]
+fn widen_sum_elements<W: FoldElement, N: FoldElement, const VLENB: usize>(
+    registers: &mut VregFile<VLENB>,
+    setup: &Setup,
+    signed: bool,
+    vd: Reg,
+    vs2: Reg,
+    vs1: Reg,
+    masked: bool,
+    a: &mut [N],
+)
+    requires a_len { length a.old ≡ setup.now.vl }
+    requires fits { FitsInMemory W.row }
+    requires width { N.VectorElement.sew ≡ setup.now.vtype.sew }
+    requires wide_size { W.SIZE ≡ 2 * bytes_of_width setup.now.vtype.sew }
+    requires wide_width { lane_width W.VectorElement.sew ≡ sum_width setup.now.vtype.sew }
+    requires ready { IsReady VLENB setup.now (needs_of_reduce
+        (VReduce.WidenSum signed vd vs2 vs1 masked)) }
+    ensures { registers.new ≡ widen_sum_of VLENB setup.now signed vd vs2 vs1 masked registers.old }
+{
+    let mut bits = [false; MOST_ELEMENTS];
+    let active = &mut bits[..setup.vl];
+    registers.read_active(masked, active);
+    let start = registers.first_element::<W>(vs1);
+    read_body(registers, setup, vs2, a);
+    let value = extended_sum(signed, start, a, active);
+    write_first(registers, setup, vd, value);
+}
+
+/// The same, by the width of elements: at SEW 32 it is not legal.
+#[tactic(auto, unfolding(rv_decode::specs::Needs::needs_of_reduce, vreg_groups::specs::Legality::element_bits))]
+fn widen_sum<const VLENB: usize>(
+    registers: &mut VregFile<VLENB>,
+    setup: &Setup,
+    signed: bool,
+    vd: Reg,
+    vs2: Reg,
+    vs1: Reg,
+    masked: bool,
+)
+    requires { IsReady VLENB setup.now (needs_of_reduce
+        (VReduce.WidenSum signed vd vs2 vs1 masked)) }
+    ensures { registers.new ≡ widen_sum_of VLENB setup.now signed vd vs2 vs1 masked registers.old }
+{
+    let vl = setup.vl;
+    let sew = setup.vtype.sew;
+    match sew {
+        Width::W8 => {
+            let mut a = [0u8; MOST_ELEMENTS];
+            widen_sum_elements::<u16, u8, VLENB>(
+                registers,
+                setup,
+                signed,
+                vd,
+                vs2,
+                vs1,
+                masked,
+                &mut a[..vl],
+            );
+        }
+        Width::W16 => {
+            let mut a = [0u16; MOST_ELEMENTS / 2];
+            widen_sum_elements::<u32, u16, VLENB>(
+                registers,
+                setup,
+                signed,
+                vd,
+                vs2,
+                vs1,
+                masked,
+                &mut a[..vl],
+            );
+        }
+        Width::W32 => unreachable!(),
+    }
+}
+
+#[tactic(auto, unfolding(crate::specs::Reductions::reduce_of))]
+fn reduce<const VLENB: usize>(registers: &mut VregFile<VLENB>, setup: &Setup, insn: &VReduce)
+    requires { IsReady VLENB setup.now (needs_of_reduce insn.now) }
+    ensures { registers.new ≡ reduce_of VLENB setup.now insn.now registers.old }
+{
+    match insn {
+        VReduce::Fold {
+            op,
+            vd,
+            vs2,
+            vs1,
+            masked,
+        } => fold(registers, setup, *op, *vd, *vs2, *vs1, *masked),
+        VReduce::WidenSum {
+            signed,
+            vd,
+            vs2,
+            vs1,
+            masked,
+        } => widen_sum(registers, setup, *signed, *vd, *vs2, *vs1, *masked),
+    }
+}
+
+/// The step of a reduction.
 #[tactic(auto, unfolding(crate::specs::Reductions::reduce_step))]
 pub fn step_reduce<const VLENB: usize>(
     vectors: &mut VectorState<VLENB>,
@@ -23,8 +208,6 @@ pub fn step_reduce<const VLENB: usize>(
     ensures { (m : Memory) → reduce_step VLENB setup.now insn.now scalar.old vectors.old m
         ≡ Ok (scalar.new, vectors.new, m) }
 {
-    let _ = vectors;
-    let _ = setup;
-    let _ = insn;
+    reduce(&mut vectors.registers, setup, insn);
     scalar.advance();
 }
