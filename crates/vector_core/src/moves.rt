@@ -1,19 +1,21 @@
-//! Instructions that put elements of SEW into a group as they are.
+//! Instructions that put elements of SEW, or whole registers, somewhere as they are.
 
 ghost use Rattle.std.specs.Prelude.{◌≡◌, Ok, length};
 ghost use Rattle.region_mem.specs.Memory.{Memory};
 ghost use Rattle.rv_decode.specs.Needs.{needs_of_arith, needs_of_move};
-ghost use Rattle.vector_core.specs.Moves.{copy_of, merge_of, move_step};
+ghost use Rattle.vector_core.specs.Moves.{copy_of, from_scalar_of, merge_of, move_step, to_scalar_of};
 ghost use Rattle.vector_core.specs.Setup.{IsReady};
 
 use crate::elements::VectorElement;
+use crate::fold_elements::sign_extended;
 use crate::operands::{read_body, read_second, read_v0, write_results};
 use crate::results::merge_results;
 use crate::setup::Setup;
+use crate::singles::write_first;
 use crate::state::VectorState;
-use rv_decode::{Eew, Reg, Source, VArith, VMove};
+use rv_decode::{Eew, Reg, Source, VArith, VMove, Width};
 use scalar_core::Scalar;
-use vreg_groups::{MOST_ELEMENTS, VregFile};
+use vreg_groups::{MOST_ELEMENTS, VregFile, whole_count};
 
 /// vd is b where the bit of v0 is 1, and vs2 elsewhere.
 #[tactic(auto, unfolding(rv_decode::specs::Needs::needs_of_arith, crate::specs::Moves::merge_of))]
@@ -63,8 +65,41 @@ pub fn copy<E: VectorElement, const VLENB: usize>(
     write_results(registers, setup, &destination, false, c);
 }
 
+/// Element 0 of vs2, sign-extended.
+#[tactic(auto, unfolding(crate::specs::Moves::to_scalar_of))]
+fn to_scalar<const VLENB: usize>(registers: &VregFile<VLENB>, setup: &Setup, vs2: Reg) -> u32
+    ensures { result ≡ to_scalar_of VLENB setup.now vs2 registers.now }
+{
+    let sew = setup.vtype.sew;
+    match sew {
+        Width::W8 => sign_extended(registers.first_element::<u8>(vs2)),
+        Width::W16 => sign_extended(registers.first_element::<u16>(vs2)),
+        Width::W32 => sign_extended(registers.first_element::<u32>(vs2)),
+    }
+}
+
+/// Element 0 of vd is the low SEW bits of x[rs1].
+#[tactic(auto, unfolding(crate::specs::Moves::from_scalar_of))]
+fn from_scalar<const VLENB: usize>(
+    registers: &mut VregFile<VLENB>,
+    scalar: &Scalar,
+    setup: &Setup,
+    vd: Reg,
+    rs1: Reg,
+)
+    ensures { registers.new ≡ from_scalar_of VLENB setup.now scalar.now vd rs1 registers.old }
+{
+    let x = scalar.reg(rs1);
+    let sew = setup.vtype.sew;
+    match sew {
+        Width::W8 => write_first(registers, setup, vd, u8::low_bits(x)),
+        Width::W16 => write_first(registers, setup, vd, u16::low_bits(x)),
+        Width::W32 => write_first(registers, setup, vd, u32::low_bits(x)),
+    }
+}
+
 /// The step of a move between an element and an x register, or of whole registers.
-#[tactic(auto, unfolding(crate::specs::Moves::move_step))]
+#[tactic(auto, unfolding(rv_decode::specs::Needs::needs_of_move, vreg_groups::specs::Legality::count_of, crate::specs::Moves::move_step))]
 pub fn step_move<const VLENB: usize>(
     vectors: &mut VectorState<VLENB>,
     scalar: &mut Scalar,
@@ -75,8 +110,15 @@ pub fn step_move<const VLENB: usize>(
     ensures { (m : Memory) → move_step VLENB setup.now insn.now scalar.old vectors.old m
         ≡ Ok (scalar.new, vectors.new, m) }
 {
-    let _ = vectors;
-    let _ = setup;
-    let _ = insn;
+    let registers = &mut vectors.registers;
+    match insn {
+        VMove::ToScalar { rd, vs2 } => {
+            scalar.set_reg(*rd, to_scalar(registers, setup, *vs2));
+        }
+        VMove::FromScalar { vd, rs1 } => from_scalar(registers, scalar, setup, *vd, *rs1),
+        VMove::Whole { count, vd, vs2 } => {
+            registers.copy_registers(*vd, *vs2, whole_count(*count));
+        }
+    }
     scalar.advance();
 }
