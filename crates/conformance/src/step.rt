@@ -59,14 +59,12 @@ pub fn step<const VLENB: usize>(
             step_scalar(hart, insn, memory, &config, VLENB)
         }
         Insn::VSet(_)
-            | Insn::VArith(_)
-            | Insn::VMask(_)
-            | Insn::VPerm(_)
-            | Insn::VReduce(_)
-            | Insn::VMem(_)
-            | Insn::VMove(_) => {
-            step_vector(vectors, hart, word, insn, memory)
-        }
+        | Insn::VArith(_)
+        | Insn::VMask(_)
+        | Insn::VPerm(_)
+        | Insn::VReduce(_)
+        | Insn::VMem(_)
+        | Insn::VMove(_) => { step_vector(vectors, hart, word, insn, memory) }
     }
 }
 
