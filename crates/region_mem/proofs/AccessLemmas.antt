@@ -11,9 +11,8 @@ use Rattle.std.proofs.lemmas.List.Quantifiers.{position-Some}
 use Rattle.std.proofs.lemmas.Option.{slice_get-get_or, get_or_from_slice_get, slice_get_within, slice_get_past}
 use Rattle.region_mem.specs.declared.faults.Right.{Right}
 use Rattle.region_mem.specs.Areas.{Area, AreInOrder, holds, spans, admits, has_right, is_open, is_open_from, byte_at, number_at, number_of, number_in, number_into, with_byte, with_number}
-use Rattle.region_mem.specs.Laws.{extent_of}
 use Rattle.region_mem.proofs.Apart.{end_of}
-use Rattle.region_mem.proofs.ExtentLemmas.{number_keeps, byte_keeps}
+use Rattle.region_mem.proofs.ExtentLemmas.{byte_keeps, order_of}
 use Rattle.region_mem.proofs.Writes.{with_byte_first, written}
 use Rattle.region_mem.proofs.SearchLemmas.{same_place}
 
@@ -106,7 +105,7 @@ pub admits_spans : (right : Right) (address n : ℕ) (area : Area) → admits ri
 unfolding admits
 admits_spans right address n area h = (and_parts _ _ h).0
 
-admits_right : (right : Right) (address n : ℕ) (area : Area) → admits right address n area ≡ true → has_right right area ≡ true
+pub admits_right : (right : Right) (address n : ℕ) (area : Area) → admits right address n area ≡ true → has_right right area ≡ true
 unfolding admits
 admits_right right address n area h = (and_parts _ _ h).1
 
@@ -126,24 +125,6 @@ unfolding number_at number_in
 number_in_one right address n areas area order found admitted =
     let span = admits_spans right address n area admitted in
     ap number_of (map_from address address n areas area order found (spans_from address n area span) (spans_to address n area span))
-
--- Stores keep areas in order.
-subst_order : (areas : List Area) (m n : ℕ) → m ≡ n → AreInOrder m areas → AreInOrder n areas
-subst_order areas m n same order = let P : ℕ → Type 0 = λ k. AreInOrder k areas in subst P same order
-
-pub order_of : (from : ℕ) (areas others : List Area) → map extent_of areas ≡ map extent_of others → AreInOrder from others → AreInOrder from areas
-unfolding AreInOrder extent_of
-order_of from [] others same order = tt
-order_of from (a ∷ areas) [] same order = absurd (cc)
-order_of from (a ∷ areas) (b ∷ others) same order =
-    let heads : extent_of a ≡ extent_of b = cc in
-    let first : a.first ≡ b.first = ap (λ e. e.first) heads in
-    let size : length a.bytes ≡ length b.bytes = ap (λ e. e.size) heads in
-    let rest : map extent_of areas ≡ map extent_of others = cc in
-    (omega (arith, order.0, first), order_of (end_of a) areas others rest (subst_order others (end_of b) (end_of a) (omega (arith, first, size)) order.1))
-
-pub number_order : (address n value : ℕ) (areas : List Area) → AreInOrder 0 areas → AreInOrder 0 (with_number address n value areas)
-number_order address n value areas order = order_of 0 _ areas (number_keeps address n value areas) order
 
 -- A number that one area takes whole goes into that area.
 place_holds : (address n : ℕ) (area : Area) → area.first ≤ address → address + suc n ≤ end_of area → holds address area ≡ true

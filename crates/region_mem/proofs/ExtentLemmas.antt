@@ -1,19 +1,20 @@
 -- Where areas lie, whatever is stored, and that none lies above the segments.
-use Rattle.std.proofs.Common.{◌≡◌, inl, inr, ℕ, zero, suc, ◌+◌, ◌-◌, ◌/◌, ◌%◌, ◌≤◌, Bool, true, false, ◌&&◌, cond, List, [], ◌∷◌, map, Some, None, arith, ap, refl, ◌∙◌, sum_by, set, length-set}
-use Rattle.std.specs.List.{AllByRecursion}
+use Rattle.std.proofs.Common.{◌≡◌, inl, inr, ℕ, zero, suc, ◌+◌, ◌-◌, ◌/◌, ◌%◌, ◌≤◌, Bool, true, false, ◌&&◌, cond, subst, List, [], ◌∷◌, length, map, Some, None, arith, ap, refl, ◌∙◌, sum_by, set, length-set}
+use Rattle.std.specs.List.{AllByRecursion, list_all}
 use Rattle.std.proofs.lemmas.Bool.Decides.{nat_tests}
 use Rattle.elf_image.specs.declared.layout.TheConstants.{HIGH_SEGMENTS_END}
 use Rattle.region_mem.specs.declared.layout.TheConstants.{BUFFERS, STACK_SIZE}
 use Rattle.region_mem.proofs.Matching.{nothing_wrong}
-use Rattle.region_mem.proofs.Apart.{IsRising, end_of, all_insert, all_inserts, rising, sum_by_all, length_zeros, length_segment}
-use Rattle.elf_image.specs.Image.{SegmentView, IsSegment, IsInPlace}
+use Rattle.region_mem.proofs.Apart.{IsRising, starts_in_order, end_of, all_insert, all_inserts, rising, sum_by_all, length_zeros, length_segment}
+use Rattle.elf_image.specs.Image.{SegmentView, IsSegment, IsInPlace, ImageView, IsImage}
 use Rattle.region_mem.specs.declared.faults.Right.{Right}
 use Rattle.region_mem.specs.declared.faults.Right.TheVariants.{Write, Fetch}
-use Rattle.region_mem.specs.Areas.{Area, holds, is_open, is_open_from, with_byte, with_number}
+use Rattle.region_mem.specs.Areas.{Area, AreInOrder, AreInside, ArePlaced, holds, is_open, is_open_from, with_byte, with_number}
 use Rattle.region_mem.specs.Memory.{Memory, is_permitted, store_of, fetch_of}
 use Rattle.region_mem.specs.Start.{segment_area, stack_area, buffer_areas, insert_area, insert_areas, start_areas, start_memory}
 use Rattle.region_mem.specs.Laws.{Extent, extent_of, StoresKeepExtents, FetchesNothingAbove}
-use Rattle.region_mem.specs.Parameter.{room_of}
+use Rattle.region_mem.specs.Parameter.{Argument, AreArguments, is_valid, room_of}
+use Rattle.region_mem.specs.declared.parameter.Param.{Param}
 
 set_keeps : (area : Area) (i byte : ℕ) → extent_of (record area { bytes = set area.bytes i byte }) ≡ extent_of area
 unfolding extent_of
@@ -34,6 +35,38 @@ unfolding with_number
 number_keeps address zero value areas = refl
 number_keeps address (suc n) value areas =
     number_keeps (address + 1) n (value / 256) (with_byte address (value % 256) areas) ∙ byte_keeps address (value % 256) areas
+
+-- Areas of the same extents are placed alike.
+subst_order : (areas : List Area) (m n : ℕ) → m ≡ n → AreInOrder m areas → AreInOrder n areas
+subst_order areas m n same order = let P : ℕ → Type 0 = λ k. AreInOrder k areas in subst P same order
+
+pub order_of : (from : ℕ) (areas others : List Area) → map extent_of areas ≡ map extent_of others → AreInOrder from others → AreInOrder from areas
+unfolding AreInOrder extent_of
+order_of from [] others same order = tt
+order_of from (a ∷ areas) [] same order = absurd (cc)
+order_of from (a ∷ areas) (b ∷ others) same order =
+    let heads : extent_of a ≡ extent_of b = cc in
+    let first : a.first ≡ b.first = ap (λ e. e.first) heads in
+    let size : length a.bytes ≡ length b.bytes = ap (λ e. e.size) heads in
+    let rest : map extent_of areas ≡ map extent_of others = cc in
+    (omega (arith, order.0, first), order_of (end_of a) areas others rest (subst_order others (end_of b) (end_of a) (omega (arith, first, size)) order.1))
+
+pub inside_of : (areas others : List Area) → map extent_of areas ≡ map extent_of others → AreInside others → AreInside areas
+unfolding AreInside extent_of
+inside_of [] others same inside = tt
+inside_of (a ∷ areas) [] same inside = absurd (cc)
+inside_of (a ∷ areas) (b ∷ others) same inside =
+    let heads : extent_of a ≡ extent_of b = cc in
+    let first : a.first ≡ b.first = ap (λ e. e.first) heads in
+    let size : length a.bytes ≡ length b.bytes = ap (λ e. e.size) heads in
+    let rest : map extent_of areas ≡ map extent_of others = cc in
+    (omega (arith, inside.0, first, size), inside_of areas others rest inside.1)
+
+pub number_order : (address n value : ℕ) (areas : List Area) → AreInOrder 0 areas → AreInOrder 0 (with_number address n value areas)
+number_order address n value areas order = order_of 0 _ areas (number_keeps address n value areas) order
+
+pub number_inside : (address n value : ℕ) (areas : List Area) → AreInside areas → AreInside (with_number address n value areas)
+number_inside address n value areas inside = inside_of _ areas (number_keeps address n value areas) inside
 
 keep_step : (address n value : ℕ) (memory stored : Memory) (b : Bool) → cond b (Some (record memory { areas = with_number address n value memory.areas })) None ≡ Some stored →
     (map extent_of stored.areas ≡ map extent_of memory.areas) × (stored.passed ≡ memory.passed)
@@ -100,15 +133,29 @@ fetch_none : (pc : ℕ) (memory : Memory) → HIGH_SEGMENTS_END ≤ pc → AllBy
 unfolding fetch_of is_permitted is_open_from
 fetch_none pc memory above all = rw (and_none _ _ _ (open_none Fetch pc memory.areas above all)) refl
 
-pub fetches_nothing_above : FetchesNothingAbove
+start_ends : (image : ImageView) (params : List Param) (args : List Argument) → IsImage image → list_all is_valid params ≡ true →
+    length params ≡ 8 → length args ≡ 8 → AreArguments params args → AllByRecursion EndsBelow (start_memory image params args).areas
 unfolding start_memory start_areas
-fetches_nothing_above image params args is valid eight places matching memory same pc above =
+start_ends image params args is valid few eight matching =
     let segments = map segment_area image.segments in
     let wrong = nothing_wrong params args matching in
     let high : ℕ = BUFFERS + sum_by room_of params in
     let buffers = rising [] params args params 0 BUFFERS high refl refl (omega arith) refl (omega arith) wrong.0 wrong.1 in
     let bound : high ≤ HIGH_SEGMENTS_END = omega (arith, sum_by_all params valid) in
     let fixed = all_insert EndsBelow stack_area (insert_areas segments []) stack_ends (all_inserts EndsBelow segments [] (segments_end image.segments is.each) tt) in
-    let all = all_inserts EndsBelow (buffer_areas params 0 args) (insert_area stack_area (insert_areas segments [])) (rising_end BUFFERS high (buffer_areas params 0 args) bound buffers) fixed in
-    let here : AllByRecursion ExtentEndsBelow (map extent_of memory.areas) = rw (same.0) (to_extents _ all) in
+    all_inserts EndsBelow (buffer_areas params 0 args) (insert_area stack_area (insert_areas segments [])) (rising_end BUFFERS high (buffer_areas params 0 args) bound buffers) fixed
+
+below_inside : (areas : List Area) → AllByRecursion EndsBelow areas → AreInside areas
+unfolding AreInside
+below_inside [] all = tt
+below_inside (area ∷ areas) all = (omega (arith, all.0), below_inside areas all.1)
+
+pub start_placed : (image : ImageView) (params : List Param) (args : List Argument) → IsImage image → list_all is_valid params ≡ true →
+    length params ≡ 8 → length args ≡ 8 → AreArguments params args → ArePlaced (start_memory image params args).areas
+start_placed image params args is valid few eight matching =
+    (starts_in_order image params args is valid few eight matching, below_inside _ (start_ends image params args is valid few eight matching))
+
+pub fetches_nothing_above : FetchesNothingAbove
+fetches_nothing_above image params args is valid few eight matching memory same pc above =
+    let here : AllByRecursion ExtentEndsBelow (map extent_of memory.areas) = rw (same.0) (to_extents _ (start_ends image params args is valid few eight matching)) in
     fetch_none pc memory above (from_extents memory.areas here)

@@ -10,4 +10,6 @@ pub mod SearchLemmas
 pub mod AccessLemmas
 pub mod WindowLemmas
 pub mod WindowWrites
+pub mod WindowLaws
+pub mod WindowFills
 pub mod ExtentLemmas

@@ -5,10 +5,11 @@ use Rattle.std.proofs.lemmas.List.{length-append, length-take-le, length-drop}
 use Rattle.std.proofs.lemmas.List.Quantifiers.{position-Some}
 use Rattle.region_mem.specs.declared.faults.Right.{Right}
 use Rattle.region_mem.specs.declared.faults.Right.TheVariants.{Write}
-use Rattle.region_mem.specs.Areas.{Area, AreInOrder, holds, spans, admits, part_of, part_into, with_part, window_in}
+use Rattle.region_mem.specs.Areas.{Area, AreInOrder, AreInside, holds, spans, admits, part_of, part_into, with_part, window_in}
 use Rattle.region_mem.specs.Laws.{extent_of}
 use Rattle.region_mem.proofs.Writes.{suc_first}
-use Rattle.region_mem.proofs.AccessLemmas.{find_place, find_none, admits_spans, spans_from, spans_to, order_of}
+use Rattle.region_mem.proofs.AccessLemmas.{find_place, find_none, admits_spans, spans_from, spans_to}
+use Rattle.region_mem.proofs.ExtentLemmas.{order_of, inside_of}
 use Rattle.region_mem.proofs.WindowLemmas.{admits_at, window_at, window_nowhere}
 
 -- Where there is a window a search for its first address finds the area that has it,
@@ -44,7 +45,7 @@ part_step false address bytes area areas d n rest below =
     let here : n < length areas = omega arith in
     rw suc_first (ap (λ xs. area ∷ xs) (rest here))
 
-part_first : (address : ℕ) (bytes : List ℕ) (areas : List Area) (d : Area) → position_or_len (admits Write address (length bytes)) areas < length areas →
+pub part_first : (address : ℕ) (bytes : List ℕ) (areas : List Area) (d : Area) → position_or_len (admits Write address (length bytes)) areas < length areas →
     with_part address bytes areas ≡ set areas (position_or_len (admits Write address (length bytes)) areas)
     (part_into address bytes (get_or areas (position_or_len (admits Write address (length bytes)) areas) d))
 unfolding with_part
@@ -72,7 +73,7 @@ length_part : (at : ℕ) (bytes old : List ℕ) → at + length bytes ≤ length
 length_part at bytes old fits =
     omega (arith, length-append (take at old ++ bytes) (drop (at + length bytes) old), length-append (take at old) bytes, length-take-le at old (omega arith), length-drop (at + length bytes) old)
 
-part_keeps : (address : ℕ) (bytes : List ℕ) (area : Area) → spans address (length bytes) area ≡ true → extent_of (part_into address bytes area) ≡ extent_of area
+pub part_keeps : (address : ℕ) (bytes : List ℕ) (area : Area) → spans address (length bytes) area ≡ true → extent_of (part_into address bytes area) ≡ extent_of area
 unfolding extent_of part_into
 part_keeps address bytes area span =
     rw (length_part (address - area.first) bytes area.bytes (omega (arith, spans_from address (length bytes) area span, spans_to address (length bytes) area span))) refl
@@ -92,3 +93,6 @@ parts_keep address bytes (area ∷ areas) =
 
 pub part_order : (address : ℕ) (bytes : List ℕ) (areas : List Area) → AreInOrder 0 areas → AreInOrder 0 (with_part address bytes areas)
 part_order address bytes areas order = order_of 0 _ areas (parts_keep address bytes areas) order
+
+pub part_inside : (address : ℕ) (bytes : List ℕ) (areas : List Area) → AreInside areas → AreInside (with_part address bytes areas)
+part_inside address bytes areas inside = inside_of _ areas (parts_keep address bytes areas) inside

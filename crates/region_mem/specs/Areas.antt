@@ -22,6 +22,15 @@ AreInOrder from [] = Unit {0}
 AreInOrder from (area ∷ areas) =
     (from ≤ area.first) × AreInOrder (area.first + length area.bytes) areas
 
+-- No area passes the last address.
+unfoldable pub AreInside : List Area → Type 0
+AreInside [] = Unit {0}
+AreInside (area ∷ areas) = (area.first + length area.bytes ≤ 2 ^ 32) × AreInside areas
+
+-- how the areas of a memory lie
+abbrev pub ArePlaced : List Area → Type 0
+ArePlaced areas = AreInOrder 0 areas × AreInside areas
+
 -- So many areas, the first ones, begin at the address or below it.
 abbrev pub IsCount : ℕ → List Area → ℕ → Type 0
 IsCount address areas count =
@@ -64,6 +73,11 @@ byte_at address areas =
 unfoldable pub number_of : List ℕ → ℕ
 number_of [] = 0
 number_of (byte ∷ bytes) = byte + 256 * number_of bytes
+
+-- the n lowest bytes of a number, the lowest first
+unfoldable pub bytes_of : ℕ → ℕ → List ℕ
+bytes_of zero value = []
+bytes_of (suc n) value = value % 256 ∷ bytes_of n (value / 256)
 
 -- the number in the n bytes from an address on
 unfoldable pub number_at : ℕ → ℕ → List Area → ℕ

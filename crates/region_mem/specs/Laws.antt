@@ -1,12 +1,13 @@
 -- Laws of memory: what its definitions give, whatever the image, the parameters and the arguments that match them.
-use Rattle.std.specs.Prelude.{◌≡◌, ℕ, ◌≤◌, Bool, true, List, length, map, Some, None}
-use Rattle.std.specs.List.{list_all}
+use Rattle.std.specs.Prelude.{◌≡◌, ℕ, ◌+◌, ◌*◌, ◌^◌, ◌<◌, ◌≤◌, Bool, true, List, length, take, drop, map, flat_map, slice_index, Some, None, unwrap_or}
+use Rattle.std.specs.List.{list_all, fold, range_with_len}
 use Rattle.elf_image.specs.declared.layout.TheConstants.{HIGH_SEGMENTS_END}
 use Rattle.elf_image.specs.Image.{ImageView, IsImage}
 use Rattle.region_mem.specs.declared.parameter.Param.{Param}
 use Rattle.region_mem.specs.Parameter.{Argument, is_valid, AreArguments}
-use Rattle.region_mem.specs.Areas.{Area, AreInOrder}
-use Rattle.region_mem.specs.Memory.{Memory, args_of, fetch_of, store_of}
+use Rattle.region_mem.specs.Areas.{Area, AreInOrder, number_of, bytes_of}
+use Rattle.region_mem.specs.declared.faults.Right.TheVariants.{Read, Write}
+use Rattle.region_mem.specs.Memory.{Memory, args_of, fetch_of, is_permitted, load_of, store_of, window_of, has_window, with_window}
 use Rattle.region_mem.specs.Start.{start_memory}
 
 -- what is so of each image, each eight valid parameters, and the arguments that match them
@@ -60,3 +61,38 @@ FetchesNothingAbove =
     ForEachStart (λ image params args. (memory : Memory) →
     HasExtentsOf memory (start_memory image params args) →
     (pc : ℕ) → HIGH_SEGMENTS_END ≤ pc → fetch_of pc memory ≡ None)
+
+-- A window to read has as many bytes as were asked for, and ends at the last address or before it.
+abbrev pub WindowsToRead : Memory → Type 0
+WindowsToRead memory =
+    (address n : ℕ) (bytes : List ℕ) → window_of address n memory ≡ Some bytes →
+    (length bytes ≡ n) × (address + n ≤ 2 ^ 32)
+
+-- A load of k bytes within it is permitted, and gives their number.
+abbrev pub LoadsInWindows : Memory → Type 0
+LoadsInWindows memory =
+    (address n i k : ℕ) (bytes : List ℕ) → window_of address n memory ≡ Some bytes → i + k ≤ n →
+    (is_permitted Read (address + i) k memory ≡ true)
+    × (load_of (address + i) k memory ≡ Some (number_of (take k (drop i bytes))))
+
+-- A window to write ends at the last address or before it.
+abbrev pub WindowsToWrite : Memory → Type 0
+WindowsToWrite memory =
+    (address n : ℕ) → has_window address n memory ≡ true → address + n ≤ 2 ^ 32
+
+-- A store of k bytes within it is permitted.
+abbrev pub StoresInWindows : Memory → Type 0
+StoresInWindows memory =
+    (address n i k : ℕ) → has_window address n memory ≡ true → i + k ≤ n →
+    is_permitted Write (address + i) k memory ≡ true
+
+-- Values of `size` bytes that are stored end to end, the first one first, fill it with their bytes. `place` says where
+-- each is stored.
+abbrev pub StoresFillWindows : Memory → Type 0
+StoresFillWindows memory =
+    (place : ℕ → ℕ) (address size : ℕ) (values : List ℕ) →
+    has_window address (size * length values) memory ≡ true →
+    ((i : ℕ) → i < length values → place i ≡ address + size * i) →
+    fold (λ m i. unwrap_or (store_of (place i) size (slice_index values i) m) m) memory
+    (range_with_len 0 (length values))
+    ≡ with_window address (flat_map (bytes_of size) values) memory

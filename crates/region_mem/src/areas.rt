@@ -3,7 +3,7 @@
 ghost use Rattle.std.specs.Prelude.{◌≡◌, ◌+◌, ◌<◌, ◌≤◌, ◌^◌, Some, None, is_some, true, false, length, find, position, if◌then◌else◌};
 ghost use Rattle.std.specs.Option.{option_copied};
 ghost use Rattle.region_mem.specs.Memory.{IsAccessSize};
-ghost use Rattle.region_mem.specs.Areas.{AreInOrder, IsCount, holds, is_open_from, window_in, with_part, byte_at, number_at, with_number};
+ghost use Rattle.region_mem.specs.Areas.{AreInOrder, AreInside, IsCount, holds, is_open_from, window_in, with_part, byte_at, number_at, with_number};
 
 use crate::faults::Right;
 use crate::region::Region;
@@ -131,7 +131,7 @@ fn number_by_bytes<A: Allocator>(
 
 /// Writes the n lowest bytes of a value from an address on, and tells whether each of them may be written. Where one
 /// may not, nothing is.
-#[tactic(auto, using(crate::proofs::AccessLemmas::open_at, crate::proofs::AccessLemmas::goes_at, crate::proofs::AccessLemmas::number_order, crate::proofs::AccessLemmas::admits_spans))]
+#[tactic(auto, using(crate::proofs::AccessLemmas::open_at, crate::proofs::AccessLemmas::goes_at, crate::proofs::ExtentLemmas::number_order, crate::proofs::ExtentLemmas::number_inside, crate::proofs::AccessLemmas::admits_spans))]
 pub(crate) fn set_number<A: Allocator>(
     regions: &mut [Region<A>],
     address: u64,
@@ -139,12 +139,14 @@ pub(crate) fn set_number<A: Allocator>(
     value: u32,
 ) -> bool
     requires order { AreInOrder 0 regions.old }
+    requires inside { AreInside regions.old }
     requires address { address < 2 ^ 32 }
     requires size { IsAccessSize n }
     ensures value { result ≡ is_open_from Right.Write address n regions.old }
     ensures done { result ≡ true → regions.new ≡ with_number address n value regions.old }
     ensures refused { result ≡ false → regions.new ≡ regions.old }
     ensures order { AreInOrder 0 regions.new }
+    ensures inside { AreInside regions.new }
 {
     if let Some(place) = place_of(regions, address) {
         if regions[place].admits(Right::Write, address, n as u64) {
@@ -155,15 +157,17 @@ pub(crate) fn set_number<A: Allocator>(
     set_by_bytes(regions, address, n, value)
 }
 
-#[tactic(auto, using(crate::proofs::AccessLemmas::number_order))]
+#[tactic(auto, using(crate::proofs::ExtentLemmas::number_order, crate::proofs::ExtentLemmas::number_inside))]
 fn set_by_bytes<A: Allocator>(regions: &mut [Region<A>], address: u64, n: usize, value: u32) -> bool
     requires order { AreInOrder 0 regions.old }
+    requires inside { AreInside regions.old }
     requires address { address < 2 ^ 32 }
     requires size { IsAccessSize n }
     ensures value { result ≡ is_open_from Right.Write address n regions.old }
     ensures done { result ≡ true → regions.new ≡ with_number address n value regions.old }
     ensures refused { result ≡ false → regions.new ≡ regions.old }
     ensures order { AreInOrder 0 regions.new }
+    ensures inside { AreInside regions.new }
 {
     if !walk::permits(regions, Right::Write, address, n as u64) {
         return false;
@@ -193,14 +197,16 @@ pub(crate) fn window<A: Allocator>(
 }
 
 /// Writes these bytes from an address on, where one region has room for them all and they may be written.
-#[tactic(auto, using(crate::proofs::WindowWrites::window_spans, crate::proofs::WindowWrites::window_goes, crate::proofs::WindowWrites::window_place, crate::proofs::WindowWrites::part_order))]
+#[tactic(auto, using(crate::proofs::WindowWrites::window_spans, crate::proofs::WindowWrites::window_goes, crate::proofs::WindowWrites::window_place, crate::proofs::WindowWrites::part_order, crate::proofs::WindowWrites::part_inside))]
 pub(crate) fn set_window<A: Allocator>(regions: &mut [Region<A>], address: u64, bytes: &[u8])
     requires order { AreInOrder 0 regions.old }
+    requires inside { AreInside regions.old }
     requires address { address < 2 ^ 32 }
     requires some { 0 < length bytes.now }
     requires has { is_some (window_in Right.Write address (length bytes.now) regions.old) ≡ true }
     ensures value { regions.new ≡ with_part address bytes.now regions.old }
     ensures order { AreInOrder 0 regions.new }
+    ensures inside { AreInside regions.new }
 {
     if let Some(place) = place_of(regions, address) {
         regions[place].set_part(address, bytes);

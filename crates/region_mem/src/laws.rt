@@ -1,5 +1,8 @@
 //! Laws of memory, for those who stand on its definitions: functions that do nothing, with the law as contract.
-ghost use Rattle.region_mem.specs.Laws.{StartsInOrder, GivesArgumentsBack, StoresKeepExtents, FetchesNothingAbove};
+ghost use Rattle.region_mem.specs.Laws.{StartsInOrder, GivesArgumentsBack, StoresKeepExtents, FetchesNothingAbove, WindowsToRead, LoadsInWindows, WindowsToWrite, StoresInWindows, StoresFillWindows};
+
+use crate::memory::Regions;
+use std::alloc::Allocator;
 
 /// The regions that a run starts with stand in the order of their first addresses, and no address lies in two of them.
 pub fn starts_in_order()
@@ -21,3 +24,22 @@ pub fn stores_keep_extents()
 pub fn fetches_nothing_above()
     ensures { FetchesNothingAbove }
 {}
+
+/// A load of bytes that lie in a window is permitted, and gives the number of these bytes. The window has as many bytes
+/// as were asked for, and ends at the last address or before it.
+pub fn loads_in_windows<A: Allocator>(memory: &Regions<A>)
+    ensures bounds { WindowsToRead memory.now }
+    ensures loads { LoadsInWindows memory.now }
+{
+    memory.is_placed();
+}
+
+/// A store of bytes that lie in a window to write is permitted, and values that are stored one after another fill it
+/// with their bytes. The window ends at the last address or before it.
+pub fn stores_in_windows<A: Allocator>(memory: &Regions<A>)
+    ensures bounds { WindowsToWrite memory.now }
+    ensures permitted { StoresInWindows memory.now }
+    ensures filled { StoresFillWindows memory.now }
+{
+    memory.is_placed();
+}

@@ -19,18 +19,19 @@ pub struct Regions<A: Allocator = Global> {
 
 impl<A: Allocator> Model for Regions<A> {
     ghost use Rattle.region_mem.specs.Memory.{Memory};
-    ghost use Rattle.region_mem.specs.Areas.{AreInOrder};
+    ghost use Rattle.region_mem.specs.Areas.{ArePlaced};
 
     ghost Value = { Memory };
 
     ghost view = { λ r. record { areas = r.regions.items; passed = r.passed } };
 
-    // The regions stand in order.
-    ghost invariant = { λ r. AreInOrder 0 r.regions.items };
+    // The regions stand in order, and none passes the last address.
+    ghost invariant = { λ r. ArePlaced r.regions.items };
 }
 
 impl<A: Allocator> Regions<A> {
     ghost use Rattle.region_mem.specs.Memory.{Memory, byte_of, is_permitted, load_of, store_of, fetch_of, args_of, window_of, has_window, with_window, IsAccessSize};
+    ghost use Rattle.region_mem.specs.Areas.{ArePlaced};
     ghost use Rattle.region_mem.specs.Start.{start_memory};
     ghost use Rattle.region_mem.specs.Parameter.{AreArguments};
 
@@ -53,13 +54,20 @@ impl<A: Allocator> Regions<A> {
         match start::fixed_regions(alloc, image) {
             Ok(mut regions) => {
                 parameters.bound_sizes(&args);
-                parameters.start_in_order(image, &args);
+                parameters.start_in_place(image, &args);
                 let passed = start::passed(&args);
                 start::put_all(&mut regions, parameters, args);
                 Ok(Regions { regions, passed })
             }
             Err(error) => Err((error, args)),
         }
+    }
+
+    /// The regions stand in order, and none passes the last address.
+    pub(crate) fn is_placed(&self)
+        ensures { ArePlaced self.now.areas }
+    {
+        let _regions = &self.regions;
     }
 
     /// The arguments: the buffers as they stand, moved out, and all else as it was passed.

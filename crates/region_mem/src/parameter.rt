@@ -4,7 +4,7 @@ ghost use Rattle.std.specs.Prelude.{position};
 ghost use Rattle.std.specs.List.{slice_get, list_all, zip, AllByRecursion};
 ghost use Rattle.std.specs.Option.{option_map};
 ghost use Rattle.region_mem.specs.Parameter.{is_valid, parameters_of, is_buffer, room_of, address_of, is_wrong_kind, is_out_of_interval, is_wrong_size, argument_error, refused_by, size_of, AreArguments};
-ghost use Rattle.region_mem.specs.Areas.{AreInOrder};
+ghost use Rattle.region_mem.specs.Areas.{ArePlaced};
 ghost use Rattle.region_mem.specs.Start.{start_memory};
 
 use crate::arguments::{Arg, Args, Bytes};
@@ -185,14 +185,14 @@ impl Parameters {
         let _arg = &args.places[7];
     }
 
-    /// The regions that a run starts with stand in order.
-    pub(crate) fn start_in_order<A: Allocator, B: Allocator>(
+    /// The regions that a run starts with stand in order, and none passes the last address.
+    pub(crate) fn start_in_place<A: Allocator, B: Allocator>(
         &self,
         image: &Image<B>,
         args: &Args<Bytes<A>>,
     )
         requires { AreArguments self.now args.now.places }
-        ensures { AreInOrder 0 (start_memory image.now self.now args.now.places).areas }
+        ensures { ArePlaced (start_memory image.now self.now args.now.places).areas }
     {
         let _entry = image.entry();
         let _param = &self.params[7];

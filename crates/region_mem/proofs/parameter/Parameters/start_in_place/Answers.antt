@@ -1,8 +1,8 @@
 use Rattle.std.proofs.Common.{◌≡◌, true, rules, length}
 use Rattle.std.specs.List.{list_all}
 use Rattle.region_mem.specs.Parameter.{is_valid}
-use Rattle.region_mem.proofs.Apart.{starts_in_order}
-use Rattle.region_mem.proofs.parameter.Parameters.start_in_order.Goals as goal
+use Rattle.region_mem.proofs.ExtentLemmas.{start_placed}
+use Rattle.region_mem.proofs.parameter.Parameters.start_in_place.Goals as goal
 
 pub returns : goal.returns
 returns g c =
@@ -10,4 +10,4 @@ returns g c =
     let args : length c.args.args.now.places ≡ 8 = search rules in
     let inside : length c.self.inside.params ≡ 8 = search rules in
     let params : length c.args.self.now ≡ 8 = rw (← c.self.view_is) inside in
-    starts_in_order c.args.image.now c.args.self.now c.args.args.now.places c.entry-entry.ensures.image valid params args c.requires
+    start_placed c.args.image.now c.args.self.now c.args.args.now.places c.entry-entry.ensures.image valid params args c.requires
