@@ -8,6 +8,7 @@ pub mod Laws
 pub mod LoadsStores
 pub mod Masks
 pub mod Moves
+pub mod Narrowing
 pub mod Operands
 pub mod Operations
 pub mod Permutations
@@ -16,6 +17,7 @@ pub mod Setup
 pub mod Singles
 pub mod Step
 pub mod Vectors
+pub mod Widening
 pub mod Words
 pub use Rattle.region_mem.specs.Faults
 pub use Rattle.region_mem.specs.Memory

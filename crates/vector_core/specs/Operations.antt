@@ -1,4 +1,5 @@
--- The operation of the lanes for each instruction's.
+-- The operation of the lanes for each instruction's, and how its sources of SEW are extended where it works at 2*SEW.
+use Rattle.std.specs.Prelude.{Bool, true, false}
 use Rattle.rv_decode.specs.declared.instructions.IntOp as int
 use Rattle.rv_decode.specs.declared.instructions.IntOp.TheVariants as int_op
 use Rattle.rv_decode.specs.declared.instructions.MultiplyAddOp as multiply_add
@@ -11,8 +12,21 @@ use Rattle.rv_decode.specs.declared.instructions.CompareOp as compare
 use Rattle.rv_decode.specs.declared.instructions.CompareOp.TheVariants as compare_op
 use Rattle.rv_decode.specs.declared.instructions.FixedOp as fixed
 use Rattle.rv_decode.specs.declared.instructions.FixedOp.TheVariants as fixed_op
+use Rattle.rv_decode.specs.declared.instructions.WidenOp as widen
+use Rattle.rv_decode.specs.declared.instructions.WidenOp.TheVariants as widen_op
+use Rattle.rv_decode.specs.declared.instructions.WideOp as wide
+use Rattle.rv_decode.specs.declared.instructions.WideOp.TheVariants as wide_op
+use Rattle.rv_decode.specs.declared.instructions.WidenMultiplyAddOp as widen_multiply_add
+use Rattle.rv_decode.specs.declared.instructions.WidenMultiplyAddOp.TheVariants as widen_multiply_add_op
+use Rattle.rv_decode.specs.declared.instructions.NarrowOp as narrow
+use Rattle.rv_decode.specs.declared.instructions.NarrowOp.TheVariants as narrow_op
+use Rattle.rv_decode.specs.declared.instructions.ClipOp as clip
+use Rattle.rv_decode.specs.declared.instructions.ClipOp.TheVariants as clip_op
+use Rattle.vector_core.specs.declared.operations.Signs.{Signs}
 use Rattle.lane_fixed.specs.declared.operations.FixedOp as lane_fixed
 use Rattle.lane_fixed.specs.declared.operations.FixedOp.TheVariants as lane_fixed_op
+use Rattle.lane_fixed.specs.declared.operations.ClipOp as lane_clip
+use Rattle.lane_fixed.specs.declared.operations.ClipOp.TheVariants as lane_clip_op
 use Rattle.lane_int.specs.declared.operations.IntOp.{IntOp}
 use Rattle.lane_int.specs.declared.operations.IntOp.TheVariants.{Add, Sub, ReverseSub, MinU, Min, MaxU, Max, And, Or, Xor, ShiftLeft, ShiftRight, ShiftRightSigned, Mul, MulHighU, MulHighSignedU, MulHigh, DivU, Div, RemU, Rem}
 use Rattle.lane_int.specs.declared.operations.CompareOp.{CompareOp}
@@ -81,3 +95,52 @@ fixed_lanes fixed_op.Asub = lane_fixed_op.AverageSub
 fixed_lanes fixed_op.Smul = lane_fixed_op.Mul
 fixed_lanes fixed_op.Ssrl = lane_fixed_op.ShiftRight
 fixed_lanes fixed_op.Ssra = lane_fixed_op.ShiftRightSigned
+
+unfoldable pub widen_lanes : widen.WidenOp → IntOp
+widen_lanes widen_op.Addu = Add
+widen_lanes widen_op.Add = Add
+widen_lanes widen_op.Subu = Sub
+widen_lanes widen_op.Sub = Sub
+widen_lanes widen_op.Mulu = Mul
+widen_lanes widen_op.Mulsu = Mul
+widen_lanes widen_op.Mul = Mul
+
+-- which sources are signed: vs2 first, then b
+abbrev pub signs : Bool → Bool → Signs
+signs vs2 b = record { vs2 = vs2; b = b }
+
+unfoldable pub widen_signs : widen.WidenOp → Signs
+widen_signs widen_op.Addu = signs false false
+widen_signs widen_op.Add = signs true true
+widen_signs widen_op.Subu = signs false false
+widen_signs widen_op.Sub = signs true true
+widen_signs widen_op.Mulu = signs false false
+widen_signs widen_op.Mulsu = signs true false
+widen_signs widen_op.Mul = signs true true
+
+unfoldable pub wide_lanes : wide.WideOp → IntOp
+wide_lanes wide_op.Addu = Add
+wide_lanes wide_op.Add = Add
+wide_lanes wide_op.Subu = Sub
+wide_lanes wide_op.Sub = Sub
+
+-- whether b is signed
+unfoldable pub is_wide_signed : wide.WideOp → Bool
+is_wide_signed wide_op.Addu = false
+is_wide_signed wide_op.Add = true
+is_wide_signed wide_op.Subu = false
+is_wide_signed wide_op.Sub = true
+
+unfoldable pub widen_multiply_add_signs : widen_multiply_add.WidenMultiplyAddOp → Signs
+widen_multiply_add_signs widen_multiply_add_op.Maccu = signs false false
+widen_multiply_add_signs widen_multiply_add_op.Macc = signs true true
+widen_multiply_add_signs widen_multiply_add_op.Maccus = signs true false
+widen_multiply_add_signs widen_multiply_add_op.Maccsu = signs false true
+
+unfoldable pub narrow_lanes : narrow.NarrowOp → IntOp
+narrow_lanes narrow_op.Srl = ShiftRight
+narrow_lanes narrow_op.Sra = ShiftRightSigned
+
+unfoldable pub clip_lanes : clip.ClipOp → lane_clip.ClipOp
+clip_lanes clip_op.Clipu = lane_clip_op.ClipU
+clip_lanes clip_op.Clip = lane_clip_op.Clip

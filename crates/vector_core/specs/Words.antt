@@ -13,13 +13,19 @@ pub use Rattle.rv_decode.specs.declared.instructions.CarryOp.{CarryOp}
 pub use Rattle.rv_decode.specs.declared.instructions.CarryOutOp.{CarryOutOp}
 pub use Rattle.rv_decode.specs.declared.instructions.CompareOp.{CompareOp}
 pub use Rattle.rv_decode.specs.declared.instructions.FixedOp.{FixedOp}
+pub use Rattle.rv_decode.specs.declared.instructions.WidenOp.{WidenOp}
+pub use Rattle.rv_decode.specs.declared.instructions.WideOp.{WideOp}
+pub use Rattle.rv_decode.specs.declared.instructions.WidenMultiplyAddOp.{WidenMultiplyAddOp}
+pub use Rattle.rv_decode.specs.declared.instructions.NarrowOp.{NarrowOp}
+pub use Rattle.rv_decode.specs.declared.instructions.ClipOp.{ClipOp}
+pub use Rattle.rv_decode.specs.declared.instructions.Fraction.{Fraction}
 pub use Rattle.rv_decode.specs.declared.instructions.Direction.{Direction}
 pub use Rattle.rv_decode.specs.declared.instructions.Direction.TheVariants.{Load, Store}
 pub use Rattle.rv_decode.specs.declared.instructions.Place.{Place}
 pub use Rattle.rv_decode.specs.declared.instructions.Width.{Width}
 pub use Rattle.rv_decode.specs.declared.instructions.Width.TheVariants.{W8, W16, W32}
 pub use Rattle.rv_decode.specs.declared.extents.Eew.{Eew}
-pub use Rattle.rv_decode.specs.declared.extents.Eew.TheVariants.{Same, Fixed}
+pub use Rattle.rv_decode.specs.declared.extents.Eew.TheVariants.{Same, Double, Fixed}
 pub use Rattle.rv_decode.specs.declared.extents.Operands.{Operands}
 pub use Rattle.region_mem.specs.Memory.{Memory}
 pub use Rattle.region_mem.specs.declared.faults.Fault.{Fault}

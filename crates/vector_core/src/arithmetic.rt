@@ -5,10 +5,12 @@ ghost use Rattle.rv_decode.specs.Needs.{needs_of_arith};
 ghost use Rattle.vector_core.specs.Arithmetic.{arith_of};
 ghost use Rattle.vector_core.specs.Setup.{IsReady};
 
+use crate::doubles::doubles;
 use crate::fixed_point::{FixedElement, fixed};
 use crate::integer::{carry, carry_out, compare, int, multiply_add};
 use crate::moves::{copy, merge};
 use crate::setup::Setup;
+use crate::widening::extend;
 use rv_decode::{VArith, Width};
 use scalar_core::Scalar;
 use vreg_groups::{MOST_ELEMENTS, VregFile};
@@ -111,7 +113,7 @@ fn arith_words<const VLENB: usize>(
 }
 
 /// The same on elements of one width, with room for the body of three operands.
-#[tactic(auto, unfolding(crate::specs::Arithmetic::arith_of))]
+#[tactic(auto, unfolding(crate::specs::Arithmetic::arith_of, crate::specs::Arithmetic::has_doubles))]
 fn arith_elements<E: FixedElement, const VLENB: usize>(
     registers: &mut VregFile<VLENB>,
     scalar: &Scalar,
@@ -183,12 +185,18 @@ fn arith_elements<E: FixedElement, const VLENB: usize>(
             b,
             masked,
         } => return fixed(registers, scalar, setup, *op, *vd, *vs2, *b, *masked, a, c),
+        VArith::Extend {
+            signed,
+            of,
+            vd,
+            vs2,
+            masked,
+        } => extend(registers, setup, *signed, *of, *vd, *vs2, *masked),
         VArith::Widen { .. }
         | VArith::Wide { .. }
         | VArith::WidenMultiplyAdd { .. }
         | VArith::Narrow { .. }
-        | VArith::Clip { .. }
-        | VArith::Extend { .. } => {}
+        | VArith::Clip { .. } => return doubles(registers, scalar, setup, insn),
     }
     false
 }

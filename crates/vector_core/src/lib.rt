@@ -7,6 +7,7 @@
 mod accesses;
 mod arithmetic;
 mod configuration;
+mod doubles;
 mod elements;
 mod fixed_point;
 mod fold_elements;
@@ -15,10 +16,12 @@ pub mod laws;
 mod loads_stores;
 mod masks;
 mod moves;
+mod narrowing;
 mod operands;
 mod operations;
 mod permutations;
 mod reductions;
+mod resizing;
 mod results;
 mod setup;
 mod singles;
@@ -26,6 +29,7 @@ mod state;
 mod step;
 #[cfg(test)]
 mod tests;
+mod widening;
 
 pub use state::VectorState;
 pub use step::step_vector;

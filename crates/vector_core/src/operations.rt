@@ -1,9 +1,9 @@
-//! The operation of the lanes for each instruction's.
+//! The operation of the lanes for each instruction's, and how its sources of SEW are extended where it works at 2*SEW.
 
 ghost use Rattle.std.specs.Prelude.{◌≡◌};
-ghost use Rattle.vector_core.specs.Operations.{int_lanes, multiply_add_lanes, carry_lanes, carry_out_lanes, compare_lanes, fixed_lanes};
+ghost use Rattle.vector_core.specs.Operations.{int_lanes, multiply_add_lanes, carry_lanes, carry_out_lanes, compare_lanes, fixed_lanes, clip_lanes, narrow_lanes, is_wide_signed, wide_lanes, widen_lanes, widen_multiply_add_signs, widen_signs};
 
-use lane_fixed::FixedOp;
+use lane_fixed::{ClipOp, FixedOp};
 use lane_int::{CarryOp, CompareOp, IntOp, MultiplyAddOp};
 
 #[tactic(auto, unfolding(crate::specs::Operations::int_lanes))]
@@ -99,5 +99,103 @@ pub fn fixed_lanes(op: rv_decode::FixedOp) -> FixedOp
         rv_decode::FixedOp::Smul => FixedOp::Mul,
         rv_decode::FixedOp::Ssrl => FixedOp::ShiftRight,
         rv_decode::FixedOp::Ssra => FixedOp::ShiftRightSigned,
+    }
+}
+
+/// Which sources of SEW are signed.
+#[derive(Clone, Copy)]
+pub struct Signs {
+    pub vs2: bool,
+    pub b: bool,
+}
+
+const UNSIGNED: Signs = Signs {
+    vs2: false,
+    b: false,
+};
+
+const SIGNED: Signs = Signs { vs2: true, b: true };
+
+#[tactic(auto, unfolding(crate::specs::Operations::widen_lanes))]
+pub fn widen_lanes(op: rv_decode::WidenOp) -> IntOp
+    ensures { result ≡ widen_lanes op }
+{
+    match op {
+        rv_decode::WidenOp::Addu | rv_decode::WidenOp::Add => IntOp::Add,
+        rv_decode::WidenOp::Subu | rv_decode::WidenOp::Sub => IntOp::Sub,
+        rv_decode::WidenOp::Mulu | rv_decode::WidenOp::Mulsu | rv_decode::WidenOp::Mul =>
+            IntOp::Mul,
+    }
+}
+
+#[tactic(auto, unfolding(crate::specs::Operations::widen_signs))]
+pub fn widen_signs(op: rv_decode::WidenOp) -> Signs
+    ensures { result ≡ widen_signs op }
+{
+    match op {
+        rv_decode::WidenOp::Addu | rv_decode::WidenOp::Subu | rv_decode::WidenOp::Mulu => UNSIGNED,
+        rv_decode::WidenOp::Add | rv_decode::WidenOp::Sub | rv_decode::WidenOp::Mul => SIGNED,
+        rv_decode::WidenOp::Mulsu => Signs {
+            vs2: true,
+            b: false,
+        },
+    }
+}
+
+#[tactic(auto, unfolding(crate::specs::Operations::wide_lanes))]
+pub fn wide_lanes(op: rv_decode::WideOp) -> IntOp
+    ensures { result ≡ wide_lanes op }
+{
+    match op {
+        rv_decode::WideOp::Addu | rv_decode::WideOp::Add => IntOp::Add,
+        rv_decode::WideOp::Subu | rv_decode::WideOp::Sub => IntOp::Sub,
+    }
+}
+
+#[tactic(auto, unfolding(crate::specs::Operations::is_wide_signed))]
+pub fn is_wide_signed(op: rv_decode::WideOp) -> bool
+    ensures { result ≡ is_wide_signed op }
+{
+    match op {
+        rv_decode::WideOp::Addu | rv_decode::WideOp::Subu => false,
+        rv_decode::WideOp::Add | rv_decode::WideOp::Sub => true,
+    }
+}
+
+#[tactic(auto, unfolding(crate::specs::Operations::widen_multiply_add_signs))]
+pub fn widen_multiply_add_signs(op: rv_decode::WidenMultiplyAddOp) -> Signs
+    ensures { result ≡ widen_multiply_add_signs op }
+{
+    match op {
+        rv_decode::WidenMultiplyAddOp::Maccu => UNSIGNED,
+        rv_decode::WidenMultiplyAddOp::Macc => SIGNED,
+        rv_decode::WidenMultiplyAddOp::Maccus => Signs {
+            vs2: true,
+            b: false,
+        },
+        rv_decode::WidenMultiplyAddOp::Maccsu => Signs {
+            vs2: false,
+            b: true,
+        },
+    }
+}
+
+#[tactic(auto, unfolding(crate::specs::Operations::narrow_lanes))]
+pub fn narrow_lanes(op: rv_decode::NarrowOp) -> IntOp
+    ensures { result ≡ narrow_lanes op }
+{
+    match op {
+        rv_decode::NarrowOp::Srl => IntOp::ShiftRight,
+        rv_decode::NarrowOp::Sra => IntOp::ShiftRightSigned,
+    }
+}
+
+#[tactic(auto, unfolding(crate::specs::Operations::clip_lanes))]
+pub fn clip_lanes(op: rv_decode::ClipOp) -> ClipOp
+    ensures { result ≡ clip_lanes op }
+{
+    match op {
+        rv_decode::ClipOp::Clipu => ClipOp::ClipU,
+        rv_decode::ClipOp::Clip => ClipOp::Clip,
     }
 }

@@ -18,7 +18,7 @@ pub record Span : Type 0 where
 abbrev pub group_of : Vtype → ℕ → ℕ → Eew → Span
 group_of t vl first eew = record { first = first; count = group_count t eew; bytes = eew_bits t.sew eew / 8; vl = vl }
 
--- its registers exist, and its elements have at most 32 bits
+-- its registers exist, and its elements have 8 to 32 bits
 abbrev pub IsGroupInside : Vtype → ℕ → Eew → Type 0
 IsGroupInside t first eew = IsInside t (record { first = first; extent = extent.Group eew })
 

@@ -1,0 +1,185 @@
+//! Elements of one width as elements of another.
+
+ghost use Rattle.std.specs.Prelude.{◌≡◌, IfSome, length, map};
+ghost use Rattle.rv_decode.specs.Needs.{second as second_group};
+ghost use Rattle.rv_decode.specs.declared.extents.Eew.TheVariants.{Same};
+ghost use Rattle.vreg_groups.specs.Group.{IsGroupInside, body_of};
+ghost use Rattle.vreg_groups.specs.Legality.{IsInside};
+ghost use Rattle.vector_core.specs.Operands.{second_of};
+ghost use Rattle.vector_core.specs.Setup.{IsSetup, group_at};
+ghost use Rattle.vector_core.specs.Widening.{doubled};
+
+use crate::elements::VectorElement;
+use crate::operands::{read_body, read_second};
+use crate::setup::Setup;
+use lane_fixed::{ClipOp, RoundingMode};
+use rv_decode::{Reg, Source};
+use scalar_core::Scalar;
+use vreg_groups::VregFile;
+
+/// An element that can be extended to the wider `W`.
+pub trait Narrow<W: VectorElement>: VectorElement {
+    ghost use Rattle.std.specs.Prelude.{◌≡◌, length, map};
+    ghost use Rattle.lane_int.specs.Resizing.{extended_to};
+    ghost use Rattle.vector_core.specs.Integer.{lane_width};
+
+    /// Writes each element of `values`, extended by its sign or by zeros.
+    fn extend(is_signed: bool, values: &[Self], out: &mut [W])
+        requires { length values.now ≡ length out.old }
+        ensures { map W.Element.number out.new
+            ≡ map (extended_to is_signed (lane_width Self.sew) (lane_width W.sew))
+            (map Self.Element.number values.now) };
+}
+
+/// An element of half as many bits as `W`.
+pub trait HalfOf<W: VectorElement>: Narrow<W> {
+    ghost use Rattle.std.specs.Prelude.{◌≡◌, ◌/◌, length, map};
+    ghost use lib.Lanes.{zip2};
+    ghost use Rattle.lane_fixed.specs.FixedPoint.{any_active, clip_element, clip_saturates};
+    ghost use Rattle.lane_int.specs.Integer.{double};
+    ghost use Rattle.lane_int.specs.Resizing.{cut_to};
+    ghost use Rattle.rv_decode.specs.declared.extents.Eew.TheVariants.{Double};
+    ghost use Rattle.vreg_groups.specs.Legality.{eew_bits};
+    ghost use Rattle.vector_core.specs.Integer.{lane_width};
+
+    /// Writes the low half of each element of `values`.
+    fn cut(values: &[W], out: &mut [Self])
+        requires { length values.now ≡ length out.old }
+        ensures { map Self.Element.number out.new
+            ≡ map (cut_to (lane_width Self.sew)) (map W.Element.number values.now) };
+
+    /// Writes each element of `a` as `op` clips it by `b`'s. Tells whether an active one saturated.
+    fn clip_results(
+        op: ClipOp,
+        mode: RoundingMode,
+        a: &[W],
+        b: &[Self],
+        active: &[bool],
+        out: &mut [Self],
+    ) -> bool
+        requires a_len { length a.now ≡ length out.old }
+        requires b_len { length b.now ≡ length out.old }
+        requires active_len { length active.now ≡ length out.old }
+        ensures results { map Self.Element.number out.new
+            ≡ zip2 (clip_element op mode (lane_width W.sew) (lane_width Self.sew))
+            (map W.Element.number a.now) (map Self.Element.number b.now) }
+        ensures saturated { result
+            ≡ any_active (clip_saturates op mode (lane_width W.sew) (lane_width Self.sew))
+            (map W.Element.number a.now) (map Self.Element.number b.now) active.now };
+
+    ghost double_size: { W.SIZE ≡ eew_bits Self.sew Double / 8 };
+
+    ghost double_lanes: { lane_width W.sew ≡ double (lane_width Self.sew) };
+}
+
+impl Narrow<u16> for u8 {
+    #[tactic(auto, using(crate::proofs::Numbers::each_number))]
+    fn extend(is_signed: bool, values: &[u8], out: &mut [u16]) {
+        lane_int::extend(is_signed, values, out);
+    }
+}
+
+impl Narrow<u32> for u16 {
+    #[tactic(auto, using(crate::proofs::Numbers::each_number))]
+    fn extend(is_signed: bool, values: &[u16], out: &mut [u32]) {
+        lane_int::extend(is_signed, values, out);
+    }
+}
+
+impl Narrow<u32> for u8 {
+    #[tactic(auto, using(crate::proofs::Numbers::each_number))]
+    fn extend(is_signed: bool, values: &[u8], out: &mut [u32]) {
+        lane_int::extend(is_signed, values, out);
+    }
+}
+
+impl HalfOf<u16> for u8 {
+    ghost use Rattle.std.specs.Prelude.{refl};
+
+    #[tactic(auto, using(crate::proofs::Numbers::each_number))]
+    fn cut(values: &[u16], out: &mut [u8]) {
+        lane_int::cut(values, out);
+    }
+
+    fn clip_results(
+        op: ClipOp,
+        mode: RoundingMode,
+        a: &[u16],
+        b: &[u8],
+        active: &[bool],
+        out: &mut [u8],
+    ) -> bool {
+        lane_fixed::clip(op, mode, a, b, active, out)
+    }
+
+    ghost double_size = { refl };
+
+    ghost double_lanes = { refl };
+}
+
+impl HalfOf<u32> for u16 {
+    ghost use Rattle.std.specs.Prelude.{refl};
+
+    #[tactic(auto, using(crate::proofs::Numbers::each_number))]
+    fn cut(values: &[u32], out: &mut [u16]) {
+        lane_int::cut(values, out);
+    }
+
+    fn clip_results(
+        op: ClipOp,
+        mode: RoundingMode,
+        a: &[u32],
+        b: &[u16],
+        active: &[bool],
+        out: &mut [u16],
+    ) -> bool {
+        lane_fixed::clip(op, mode, a, b, active, out)
+    }
+
+    ghost double_size = { refl };
+
+    ghost double_lanes = { refl };
+}
+
+/// Reads the body of a group of SEW as elements of 2*SEW. `narrow` has room for it before it is extended.
+pub fn read_doubled<N: HalfOf<W>, W: VectorElement, const VLENB: usize>(
+    registers: &VregFile<VLENB>,
+    setup: &Setup,
+    first: Reg,
+    is_signed: bool,
+    narrow: &mut [N],
+    out: &mut [W],
+)
+    requires narrow_len { length narrow.old ≡ setup.now.vl }
+    requires len { length out.old ≡ setup.now.vl }
+    requires width { N.sew ≡ setup.now.vtype.sew }
+    requires setup { IsSetup VLENB setup.now }
+    requires inside { IsGroupInside setup.now.vtype first Same }
+    ensures { map W.Element.number out.new ≡ doubled setup.now is_signed
+        (body_of VLENB (group_at setup.now first Same) registers.now) }
+{
+    read_body(registers, setup, first, narrow);
+    N::extend(is_signed, narrow, out);
+}
+
+/// Reads the elements of the second operand, of SEW, as elements of 2*SEW.
+pub fn read_second_doubled<N: HalfOf<W>, W: VectorElement, const VLENB: usize>(
+    registers: &VregFile<VLENB>,
+    scalar: &Scalar,
+    setup: &Setup,
+    b: Source,
+    is_signed: bool,
+    narrow: &mut [N],
+    out: &mut [W],
+)
+    requires narrow_len { length narrow.old ≡ setup.now.vl }
+    requires len { length out.old ≡ setup.now.vl }
+    requires width { N.sew ≡ setup.now.vtype.sew }
+    requires setup { IsSetup VLENB setup.now }
+    requires inside { IfSome (second_group b) (IsInside setup.now.vtype) }
+    ensures { map W.Element.number out.new ≡ doubled setup.now is_signed
+        (second_of VLENB setup.now scalar.now b registers.now) }
+{
+    read_second(registers, scalar, setup, b, narrow);
+    N::extend(is_signed, narrow, out);
+}

@@ -1,0 +1,261 @@
+//! Instructions with results wider than what they read: each resolves its operands, reads them, extends what it read,
+//! computes and writes. `a` is what is read at SEW; `x` is vs2 and `y` the second operand at 2*SEW.
+
+ghost use Rattle.std.specs.Prelude.{◌≡◌, ◌/◌, length};
+ghost use Rattle.rv_decode.specs.Needs.{eew_of, needs_of_arith};
+ghost use Rattle.rv_decode.specs.declared.instructions.Fraction.TheVariants.{Half, Quarter};
+ghost use Rattle.vreg_groups.specs.Legality.{eew_bits};
+ghost use Rattle.vector_core.specs.Integer.{lane_width};
+ghost use Rattle.vector_core.specs.Setup.{IsReady};
+ghost use Rattle.vector_core.specs.Widening.{extend_of, fraction_width, wide_of, widen_multiply_add_of, widen_of};
+
+use crate::elements::VectorElement;
+use crate::operands::write_results;
+use crate::operations::{
+    is_wide_signed, wide_lanes, widen_lanes, widen_multiply_add_signs, widen_signs,
+};
+use crate::resizing::{HalfOf, Narrow, read_doubled, read_second_doubled};
+use crate::results::{int_results, multiply_add_results};
+use crate::setup::Setup;
+use lane_int::MultiplyAddOp;
+use rv_decode::{Eew, Fraction, Reg, Source, VArith, WideOp, WidenMultiplyAddOp, WidenOp, Width};
+use scalar_core::Scalar;
+use vreg_groups::{MOST_ELEMENTS, VregFile};
+
+/// vd is an operation on vs2 and b, both of SEW.
+#[tactic(auto, unfolding(rv_decode::specs::Needs::needs_of_arith, crate::specs::Widening::widen_of))]
+pub fn widen<N: HalfOf<W>, W: VectorElement, const VLENB: usize>(
+    registers: &mut VregFile<VLENB>,
+    scalar: &Scalar,
+    setup: &Setup,
+    op: WidenOp,
+    vd: Reg,
+    vs2: Reg,
+    b: Source,
+    masked: bool,
+    a: &mut [N],
+    x: &mut [W],
+    y: &mut [W],
+)
+    requires a_len { length a.old ≡ setup.now.vl }
+    requires x_len { length x.old ≡ setup.now.vl }
+    requires y_len { length y.old ≡ setup.now.vl }
+    requires width { N.sew ≡ setup.now.vtype.sew }
+    requires ready { IsReady VLENB setup.now (needs_of_arith (VArith.Widen op vd vs2 b masked)) }
+    ensures { registers.new ≡ widen_of VLENB setup.now scalar.now op vd vs2 b masked registers.old }
+{
+    let destination = setup.group(vd, Eew::Double);
+    let signs = widen_signs(op);
+    read_doubled(registers, setup, vs2, signs.vs2, a, x);
+    read_second_doubled(registers, scalar, setup, b, signs.b, a, y);
+    int_results(widen_lanes(op), x, y);
+    write_results(registers, setup, &destination, masked, x);
+}
+
+/// vd is an operation on vs2, of 2*SEW, and b, of SEW.
+#[tactic(auto, unfolding(rv_decode::specs::Needs::needs_of_arith, crate::specs::Widening::wide_of))]
+pub fn wide<N: HalfOf<W>, W: VectorElement, const VLENB: usize>(
+    registers: &mut VregFile<VLENB>,
+    scalar: &Scalar,
+    setup: &Setup,
+    op: WideOp,
+    vd: Reg,
+    vs2: Reg,
+    b: Source,
+    masked: bool,
+    a: &mut [N],
+    x: &mut [W],
+    y: &mut [W],
+)
+    requires a_len { length a.old ≡ setup.now.vl }
+    requires x_len { length x.old ≡ setup.now.vl }
+    requires y_len { length y.old ≡ setup.now.vl }
+    requires width { N.sew ≡ setup.now.vtype.sew }
+    requires ready { IsReady VLENB setup.now (needs_of_arith (VArith.Wide op vd vs2 b masked)) }
+    ensures { registers.new ≡ wide_of VLENB setup.now scalar.now op vd vs2 b masked registers.old }
+{
+    let destination = setup.group(vd, Eew::Double);
+    let source = setup.group::<VLENB>(vs2, Eew::Double);
+    source.read(registers, x);
+    read_second_doubled(registers, scalar, setup, b, is_wide_signed(op), a, y);
+    int_results(wide_lanes(op), x, y);
+    write_results(registers, setup, &destination, masked, x);
+}
+
+/// vd is the product of b and vs2, both of SEW, and the old vd together, whose body there is room for in `d`.
+#[tactic(auto, unfolding(rv_decode::specs::Needs::needs_of_arith, crate::specs::Widening::widen_multiply_add_of))]
+pub fn widen_multiply_add<N: HalfOf<W>, W: VectorElement, const VLENB: usize>(
+    registers: &mut VregFile<VLENB>,
+    scalar: &Scalar,
+    setup: &Setup,
+    op: WidenMultiplyAddOp,
+    vd: Reg,
+    vs2: Reg,
+    b: Source,
+    masked: bool,
+    a: &mut [N],
+    x: &mut [W],
+    y: &mut [W],
+    d: &mut [W],
+)
+    requires a_len { length a.old ≡ setup.now.vl }
+    requires x_len { length x.old ≡ setup.now.vl }
+    requires y_len { length y.old ≡ setup.now.vl }
+    requires d_len { length d.old ≡ setup.now.vl }
+    requires width { N.sew ≡ setup.now.vtype.sew }
+    requires ready { IsReady VLENB setup.now (needs_of_arith
+        (VArith.WidenMultiplyAdd op vd vs2 b masked)) }
+    ensures { registers.new ≡ widen_multiply_add_of VLENB setup.now scalar.now op vd vs2 b masked
+        registers.old }
+{
+    let destination = setup.group(vd, Eew::Double);
+    let signs = widen_multiply_add_signs(op);
+    read_doubled(registers, setup, vs2, signs.vs2, a, x);
+    read_second_doubled(registers, scalar, setup, b, signs.b, a, y);
+    destination.read(registers, d);
+    multiply_add_results(MultiplyAddOp::Macc, x, y, d);
+    write_results(registers, setup, &destination, masked, d);
+}
+
+/// vd is vs2, of a fraction of SEW, with zeros or its sign above.
+pub fn extend<const VLENB: usize>(
+    registers: &mut VregFile<VLENB>,
+    setup: &Setup,
+    signed: bool,
+    of: Fraction,
+    vd: Reg,
+    vs2: Reg,
+    masked: bool,
+)
+    requires { IsReady VLENB setup.now (needs_of_arith (VArith.Extend signed of vd vs2 masked)) }
+    ensures { registers.new ≡ extend_of VLENB setup.now signed of vd vs2 masked registers.old }
+{
+    match of {
+        Fraction::Half => extend_half(registers, setup, signed, vd, vs2, masked),
+        Fraction::Quarter => extend_quarter(registers, setup, signed, vd, vs2, masked),
+    }
+}
+
+#[tactic(auto, unfolding(rv_decode::specs::Needs::needs_of_arith, vreg_groups::specs::Legality::element_bits))]
+fn extend_half<const VLENB: usize>(
+    registers: &mut VregFile<VLENB>,
+    setup: &Setup,
+    signed: bool,
+    vd: Reg,
+    vs2: Reg,
+    masked: bool,
+)
+    requires { IsReady VLENB setup.now (needs_of_arith (VArith.Extend signed Half vd vs2 masked)) }
+    ensures { registers.new ≡ extend_of VLENB setup.now signed Half vd vs2 masked registers.old }
+{
+    let vl = setup.vl;
+    let sew = setup.vtype.sew;
+    match sew {
+        Width::W8 => unreachable!(),
+        Width::W16 => {
+            let mut a = [0u8; MOST_ELEMENTS / 2];
+            let mut x = [0u16; MOST_ELEMENTS / 2];
+            let of = Fraction::Half;
+            extend_elements(
+                registers,
+                setup,
+                signed,
+                of,
+                vd,
+                vs2,
+                masked,
+                &mut a[..vl],
+                &mut x[..vl],
+            );
+        }
+        Width::W32 => {
+            let mut a = [0u16; MOST_ELEMENTS / 4];
+            let mut x = [0u32; MOST_ELEMENTS / 4];
+            let of = Fraction::Half;
+            extend_elements(
+                registers,
+                setup,
+                signed,
+                of,
+                vd,
+                vs2,
+                masked,
+                &mut a[..vl],
+                &mut x[..vl],
+            );
+        }
+    }
+}
+
+#[tactic(auto, unfolding(rv_decode::specs::Needs::needs_of_arith, vreg_groups::specs::Legality::element_bits))]
+fn extend_quarter<const VLENB: usize>(
+    registers: &mut VregFile<VLENB>,
+    setup: &Setup,
+    signed: bool,
+    vd: Reg,
+    vs2: Reg,
+    masked: bool,
+)
+    requires { IsReady VLENB setup.now (needs_of_arith (VArith.Extend signed Quarter vd vs2 masked)) }
+    ensures { registers.new ≡ extend_of VLENB setup.now signed Quarter vd vs2 masked registers.old }
+{
+    let vl = setup.vl;
+    let sew = setup.vtype.sew;
+    match sew {
+        Width::W8 | Width::W16 => unreachable!(),
+        Width::W32 => {
+            let mut a = [0u8; MOST_ELEMENTS / 4];
+            let mut x = [0u32; MOST_ELEMENTS / 4];
+            let of = Fraction::Quarter;
+            extend_elements(
+                registers,
+                setup,
+                signed,
+                of,
+                vd,
+                vs2,
+                masked,
+                &mut a[..vl],
+                &mut x[..vl],
+            );
+        }
+    }
+}
+
+/// The same on elements of these widths: `a` has room for vs2's body, and `x` for the result.
+#[tactic(auto, unfolding(rv_decode::specs::Needs::needs_of_arith, crate::specs::Widening::extend_of))]
+fn extend_elements<N: Narrow<W>, W: VectorElement, const VLENB: usize>(
+    registers: &mut VregFile<VLENB>,
+    setup: &Setup,
+    signed: bool,
+    of: Fraction,
+    vd: Reg,
+    vs2: Reg,
+    masked: bool,
+    a: &mut [N],
+    x: &mut [W],
+)
+    requires a_len { length a.old ≡ setup.now.vl }
+    requires x_len { length x.old ≡ setup.now.vl }
+    requires width { W.sew ≡ setup.now.vtype.sew }
+    requires size { N.SIZE ≡ eew_bits setup.now.vtype.sew (eew_of of) / 8 }
+    requires lanes { lane_width N.sew ≡ fraction_width setup.now.vtype.sew of }
+    requires ready { IsReady VLENB setup.now (needs_of_arith
+        (VArith.Extend signed of vd vs2 masked)) }
+    ensures { registers.new ≡ extend_of VLENB setup.now signed of vd vs2 masked registers.old }
+{
+    let destination = setup.group(vd, Eew::Same);
+    let source = setup.group::<VLENB>(vs2, width_of(of));
+    source.read(registers, a);
+    N::extend(signed, a, x);
+    write_results(registers, setup, &destination, masked, x);
+}
+
+fn width_of(of: Fraction) -> Eew
+    ensures { result ≡ eew_of of }
+{
+    match of {
+        Fraction::Half => Eew::Half,
+        Fraction::Quarter => Eew::Quarter,
+    }
+}
