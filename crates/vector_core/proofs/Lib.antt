@@ -1,4 +1,5 @@
 pub mod AccessSteps
 pub mod Extensions
 pub mod Inside
+pub mod Moved
 pub mod Numbers

@@ -1,17 +1,429 @@
-//! Instructions that move elements among places.
+//! Instructions that move elements among places: each resolves its operands, reads them, moves and writes. `a` and `c` have
+//! room for the body, and `all` for VLMAX elements.
 
-ghost use Rattle.std.specs.Prelude.{◌≡◌, Ok};
+ghost use Rattle.std.specs.Prelude.{◌≡◌, ◌≤◌, ◌*◌, ◌<◌, ◌^◌, IfSome, Ok, length, map};
 ghost use Rattle.region_mem.specs.Memory.{Memory};
-ghost use Rattle.rv_decode.specs.Needs.{needs_of_perm};
-ghost use Rattle.vector_core.specs.Permutations.{perm_step};
-ghost use Rattle.vector_core.specs.Setup.{IsReady};
+ghost use Rattle.rv_decode.specs.Needs.{needs_of_perm, second};
+ghost use Rattle.rv_decode.specs.declared.extents.Eew.TheVariants.{Same};
+ghost use Rattle.vreg_groups.specs.Group.{IsGroupInside, body_of};
+ghost use Rattle.vreg_groups.specs.Legality.{IsInside};
+ghost use Rattle.vreg_groups.specs.VectorType.{bytes_of_width, vlmax_of};
+ghost use Rattle.vreg_groups.specs.declared.vector_type.TheConstants.{MOST_ELEMENTS};
+ghost use Rattle.vector_core.specs.Permutations.{active_from, all_at, compress_of, distance_of, gather16_of, gather_of, indices_of, perm_of, perm_step, results_written_from, slide_down_of, slide_one_down_of, slide_one_up_of, slide_up_of};
+ghost use Rattle.vector_core.specs.Setup.{IsReady, IsSetup};
 
+use crate::elements::VectorElement;
+use crate::movements::{
+    compress_results, gather_results, numbers_of, slide_down_results, slide_one_down_results,
+    slide_one_up_results, slide_up_results,
+};
+use crate::operands::{read_body, write_results};
 use crate::setup::Setup;
 use crate::state::VectorState;
-use rv_decode::VPerm;
+use rv_decode::{Eew, Offset, Reg, Source, VPerm, Width};
 use scalar_core::Scalar;
+use vreg_groups::{Group, MOST_ELEMENTS, VregFile};
 
-/// The step of one of them.
+/// VLMAX.
+fn vlmax<const VLENB: usize>(setup: &Setup) -> usize
+    requires { IsSetup VLENB setup.now }
+    ensures meaning { result ≡ vlmax_of VLENB setup.now.vtype }
+    ensures bytes { bytes_of_width setup.now.vtype.sew * result ≤ MOST_ELEMENTS }
+{
+    setup.vtype.vlmax(VLENB) as usize
+}
+
+/// Reads all elements, of SEW, of the group that begins at `first`.
+fn read_all<E: VectorElement, const VLENB: usize>(
+    registers: &VregFile<VLENB>,
+    setup: &Setup,
+    first: Reg,
+    all: &mut [E],
+)
+    requires len { length all.old ≡ vlmax_of VLENB setup.now.vtype }
+    requires width { E.sew ≡ setup.now.vtype.sew }
+    requires setup { IsSetup VLENB setup.now }
+    requires inside { IsGroupInside setup.now.vtype first Same }
+    ensures { map E.Element.number all.new ≡ body_of VLENB (all_at VLENB setup.now first)
+        registers.now }
+{
+    let group = Group::<VLENB>::new(&setup.vtype, all.len(), first, Eew::Same);
+    group.read(registers, all);
+}
+
+/// How far a slide goes.
+fn distance(offset: Offset, scalar: &Scalar) -> usize
+    ensures meaning { result ≡ distance_of offset scalar.now }
+    ensures bound { result < 2 ^ 32 }
+{
+    match offset {
+        Offset::Scalar(rs1) => scalar.reg(rs1) as usize,
+        Offset::Immediate(imm) => imm as usize,
+    }
+}
+
+/// Makes elements below the offset active.
+fn activate_below(distance: usize, active: &mut [bool])
+    ensures { active.new ≡ active_from distance active.old }
+{
+    let below = distance.min(active.len());
+    active[..below].fill(true);
+}
+
+/// Writes the body's results where those below the offset are old values.
+#[tactic(auto, unfolding(crate::specs::Permutations::results_written_from))]
+fn write_results_from<E: VectorElement, const VLENB: usize>(
+    registers: &mut VregFile<VLENB>,
+    setup: &Setup,
+    group: &Group<VLENB>,
+    distance: usize,
+    masked: bool,
+    results: &[E],
+)
+    requires size { E.SIZE ≡ group.now.bytes }
+    requires setup { IsSetup VLENB setup.now }
+    ensures { registers.new ≡ results_written_from VLENB setup.now group.now distance masked
+        (map E.Element.number results.now) registers.old }
+{
+    if setup.vl != 0 {
+        let mut bits = [false; MOST_ELEMENTS];
+        let active = &mut bits[..setup.vl];
+        registers.read_active(masked, active);
+        activate_below(distance, active);
+        group.write(registers, results, active, setup.policy());
+    }
+}
+
+/// Element i of vd is element i - offset of vs2, from the offset on.
+#[tactic(auto, unfolding(rv_decode::specs::Needs::needs_of_perm, crate::specs::Permutations::slide_up_of))]
+fn slide_up<E: VectorElement, const VLENB: usize>(
+    registers: &mut VregFile<VLENB>,
+    scalar: &Scalar,
+    setup: &Setup,
+    vd: Reg,
+    vs2: Reg,
+    offset: Offset,
+    masked: bool,
+    a: &mut [E],
+    c: &mut [E],
+)
+    requires a_len { length a.old ≡ setup.now.vl }
+    requires c_len { length c.old ≡ setup.now.vl }
+    requires width { E.sew ≡ setup.now.vtype.sew }
+    requires ready { IsReady VLENB setup.now (needs_of_perm (VPerm.SlideUp vd vs2 offset masked)) }
+    ensures { registers.new ≡ slide_up_of VLENB setup.now scalar.now vd vs2 offset masked
+        registers.old }
+{
+    let destination = setup.group(vd, Eew::Same);
+    let distance = distance(offset, scalar);
+    read_body(registers, setup, vs2, a);
+    destination.read(registers, c);
+    slide_up_results(distance, a, c);
+    write_results_from(registers, setup, &destination, distance, masked, c);
+}
+
+/// Element i of vd is element i + offset of vs2, and 0 where that is at or past VLMAX.
+#[tactic(auto, unfolding(rv_decode::specs::Needs::needs_of_perm, crate::specs::Permutations::slide_down_of))]
+fn slide_down<E: VectorElement, const VLENB: usize>(
+    registers: &mut VregFile<VLENB>,
+    scalar: &Scalar,
+    setup: &Setup,
+    vd: Reg,
+    vs2: Reg,
+    offset: Offset,
+    masked: bool,
+    a: &mut [E],
+    all: &mut [E],
+)
+    requires a_len { length a.old ≡ setup.now.vl }
+    requires all_len { length all.old ≡ vlmax_of VLENB setup.now.vtype }
+    requires width { E.sew ≡ setup.now.vtype.sew }
+    requires ready { IsReady VLENB setup.now (needs_of_perm (VPerm.SlideDown vd vs2 offset masked)) }
+    ensures { registers.new ≡ slide_down_of VLENB setup.now scalar.now vd vs2 offset masked
+        registers.old }
+{
+    let destination = setup.group(vd, Eew::Same);
+    read_all(registers, setup, vs2, all);
+    slide_down_results(distance(offset, scalar), all, a);
+    write_results(registers, setup, &destination, masked, a);
+}
+
+/// x[rs1] comes in at element 0, and the others move up by one place.
+#[tactic(auto, unfolding(rv_decode::specs::Needs::needs_of_perm, crate::specs::Permutations::slide_one_up_of))]
+fn slide_one_up<E: VectorElement, const VLENB: usize>(
+    registers: &mut VregFile<VLENB>,
+    scalar: &Scalar,
+    setup: &Setup,
+    vd: Reg,
+    vs2: Reg,
+    rs1: Reg,
+    masked: bool,
+    a: &mut [E],
+)
+    requires a_len { length a.old ≡ setup.now.vl }
+    requires width { E.sew ≡ setup.now.vtype.sew }
+    requires ready { IsReady VLENB setup.now (needs_of_perm (VPerm.SlideOneUp vd vs2 rs1 masked)) }
+    ensures { registers.new ≡ slide_one_up_of VLENB setup.now scalar.now vd vs2 rs1 masked
+        registers.old }
+{
+    let destination = setup.group(vd, Eew::Same);
+    read_body(registers, setup, vs2, a);
+    slide_one_up_results(E::low_bits(scalar.reg(rs1)), a);
+    write_results(registers, setup, &destination, masked, a);
+}
+
+/// x[rs1] comes in at element vl - 1, and the others move down by one place.
+#[tactic(auto, unfolding(rv_decode::specs::Needs::needs_of_perm, crate::specs::Permutations::slide_one_down_of))]
+fn slide_one_down<E: VectorElement, const VLENB: usize>(
+    registers: &mut VregFile<VLENB>,
+    scalar: &Scalar,
+    setup: &Setup,
+    vd: Reg,
+    vs2: Reg,
+    rs1: Reg,
+    masked: bool,
+    a: &mut [E],
+)
+    requires a_len { length a.old ≡ setup.now.vl }
+    requires width { E.sew ≡ setup.now.vtype.sew }
+    requires ready { IsReady VLENB setup.now (needs_of_perm (VPerm.SlideOneDown vd vs2 rs1 masked)) }
+    ensures { registers.new ≡ slide_one_down_of VLENB setup.now scalar.now vd vs2 rs1 masked
+        registers.old }
+{
+    let destination = setup.group(vd, Eew::Same);
+    read_body(registers, setup, vs2, a);
+    slide_one_down_results(E::low_bits(scalar.reg(rs1)), a);
+    write_results(registers, setup, &destination, masked, a);
+}
+
+/// Reads the indices of a gather; `a` has room for those that are elements.
+#[tactic(auto, unfolding(crate::specs::Permutations::indices_of))]
+fn read_indices<E: VectorElement, const VLENB: usize>(
+    registers: &VregFile<VLENB>,
+    scalar: &Scalar,
+    setup: &Setup,
+    b: Source,
+    a: &mut [E],
+    indices: &mut [u32],
+)
+    requires a_len { length a.old ≡ setup.now.vl }
+    requires len { length indices.old ≡ setup.now.vl }
+    requires width { E.sew ≡ setup.now.vtype.sew }
+    requires setup { IsSetup VLENB setup.now }
+    requires inside { IfSome (second b) (IsInside setup.now.vtype) }
+    ensures { indices.new ≡ indices_of VLENB setup.now scalar.now b registers.now }
+{
+    match b {
+        Source::Vector(vs1) => {
+            read_body(registers, setup, vs1, a);
+            numbers_of(a, indices);
+        }
+        Source::Scalar(rs1) => indices.fill(scalar.reg(rs1)),
+        Source::Immediate(imm) => indices.fill(imm.cast_unsigned()),
+    }
+}
+
+/// Each element of vd is that of vs2 at its index, and 0 where that is at or past VLMAX.
+#[tactic(auto, unfolding(rv_decode::specs::Needs::needs_of_perm, crate::specs::Permutations::gather_of))]
+fn gather<E: VectorElement, const VLENB: usize>(
+    registers: &mut VregFile<VLENB>,
+    scalar: &Scalar,
+    setup: &Setup,
+    vd: Reg,
+    vs2: Reg,
+    b: Source,
+    masked: bool,
+    a: &mut [E],
+    all: &mut [E],
+)
+    requires a_len { length a.old ≡ setup.now.vl }
+    requires all_len { length all.old ≡ vlmax_of VLENB setup.now.vtype }
+    requires width { E.sew ≡ setup.now.vtype.sew }
+    requires ready { IsReady VLENB setup.now (needs_of_perm (VPerm.Gather vd vs2 b masked)) }
+    ensures { registers.new ≡ gather_of VLENB setup.now scalar.now vd vs2 b masked registers.old }
+{
+    let destination = setup.group(vd, Eew::Same);
+    let mut numbers = [0u32; MOST_ELEMENTS];
+    let indices = &mut numbers[..setup.vl];
+    read_indices(registers, scalar, setup, b, a, indices);
+    read_all(registers, setup, vs2, all);
+    gather_results(all, indices, a);
+    write_results(registers, setup, &destination, masked, a);
+}
+
+/// The same with indices of 16 bits.
+#[tactic(auto, unfolding(rv_decode::specs::Needs::needs_of_perm, crate::specs::Permutations::gather16_of))]
+fn gather16<E: VectorElement, const VLENB: usize>(
+    registers: &mut VregFile<VLENB>,
+    setup: &Setup,
+    vd: Reg,
+    vs2: Reg,
+    vs1: Reg,
+    masked: bool,
+    a: &mut [E],
+    all: &mut [E],
+)
+    requires a_len { length a.old ≡ setup.now.vl }
+    requires all_len { length all.old ≡ vlmax_of VLENB setup.now.vtype }
+    requires width { E.sew ≡ setup.now.vtype.sew }
+    requires ready { IsReady VLENB setup.now (needs_of_perm (VPerm.Gather16 vd vs2 vs1 masked)) }
+    ensures { registers.new ≡ gather16_of VLENB setup.now vd vs2 vs1 masked registers.old }
+{
+    let destination = setup.group(vd, Eew::Same);
+    let others = setup.group::<VLENB>(vs1, Eew::Fixed(Width::W16));
+    let mut halves = [0u16; MOST_ELEMENTS];
+    let halves = &mut halves[..setup.vl];
+    let mut numbers = [0u32; MOST_ELEMENTS];
+    let indices = &mut numbers[..setup.vl];
+    others.read(registers, halves);
+    numbers_of(halves, indices);
+    read_all(registers, setup, vs2, all);
+    gather_results(all, indices, a);
+    write_results(registers, setup, &destination, masked, a);
+}
+
+/// The elements of vs2 whose bit of vs1 is set, packed; past them is the tail.
+#[tactic(auto, unfolding(rv_decode::specs::Needs::needs_of_perm, crate::specs::Permutations::compress_of))]
+fn compress<E: VectorElement, const VLENB: usize>(
+    registers: &mut VregFile<VLENB>,
+    setup: &Setup,
+    vd: Reg,
+    vs2: Reg,
+    vs1: Reg,
+    a: &mut [E],
+)
+    requires a_len { length a.old ≡ setup.now.vl }
+    requires width { E.sew ≡ setup.now.vtype.sew }
+    requires ready { IsReady VLENB setup.now (needs_of_perm (VPerm.Compress vd vs2 vs1)) }
+    ensures { registers.new ≡ compress_of VLENB setup.now vd vs2 vs1 registers.old }
+{
+    let destination = setup.group(vd, Eew::Same);
+    let mut bits = [false; MOST_ELEMENTS];
+    let bits = &mut bits[..setup.vl];
+    registers.read_mask(vs1, bits);
+    read_body(registers, setup, vs2, a);
+    let count = compress_results(bits, a);
+    write_results(registers, setup, &destination, false, &a[..count]);
+}
+
+/// What an instruction does to the registers, on elements of one width.
+#[tactic(auto, unfolding(crate::specs::Permutations::perm_of))]
+fn permute_elements<E: VectorElement, const VLENB: usize>(
+    registers: &mut VregFile<VLENB>,
+    scalar: &Scalar,
+    setup: &Setup,
+    insn: &VPerm,
+    a: &mut [E],
+    c: &mut [E],
+    all: &mut [E],
+)
+    requires a_len { length a.old ≡ setup.now.vl }
+    requires c_len { length c.old ≡ setup.now.vl }
+    requires all_len { length all.old ≡ vlmax_of VLENB setup.now.vtype }
+    requires width { E.sew ≡ setup.now.vtype.sew }
+    requires ready { IsReady VLENB setup.now (needs_of_perm insn.now) }
+    ensures { registers.new ≡ perm_of VLENB setup.now scalar.now insn.now registers.old }
+{
+    match insn {
+        VPerm::SlideUp {
+            vd,
+            vs2,
+            offset,
+            masked,
+        } => slide_up(registers, scalar, setup, *vd, *vs2, *offset, *masked, a, c),
+        VPerm::SlideDown {
+            vd,
+            vs2,
+            offset,
+            masked,
+        } => slide_down(
+            registers, scalar, setup, *vd, *vs2, *offset, *masked, a, all,
+        ),
+        VPerm::SlideOneUp {
+            vd,
+            vs2,
+            rs1,
+            masked,
+        } => slide_one_up(registers, scalar, setup, *vd, *vs2, *rs1, *masked, a),
+        VPerm::SlideOneDown {
+            vd,
+            vs2,
+            rs1,
+            masked,
+        } => slide_one_down(registers, scalar, setup, *vd, *vs2, *rs1, *masked, a),
+        VPerm::Gather { vd, vs2, b, masked } => {
+            gather(registers, scalar, setup, *vd, *vs2, *b, *masked, a, all);
+        }
+        VPerm::Gather16 {
+            vd,
+            vs2,
+            vs1,
+            masked,
+        } => gather16(registers, setup, *vd, *vs2, *vs1, *masked, a, all),
+        VPerm::Compress { vd, vs2, vs1 } => compress(registers, setup, *vd, *vs2, *vs1, a),
+    }
+}
+
+/// The same, by the width of elements.
+fn permute<const VLENB: usize>(
+    registers: &mut VregFile<VLENB>,
+    scalar: &Scalar,
+    setup: &Setup,
+    insn: &VPerm,
+)
+    requires { IsReady VLENB setup.now (needs_of_perm insn.now) }
+    ensures { registers.new ≡ perm_of VLENB setup.now scalar.now insn.now registers.old }
+{
+    let vl = setup.vl;
+    let vlmax = vlmax::<VLENB>(setup);
+    let sew = setup.vtype.sew;
+    match sew {
+        Width::W8 => {
+            let mut a = [0u8; MOST_ELEMENTS];
+            let mut c = [0u8; MOST_ELEMENTS];
+            let mut all = [0u8; MOST_ELEMENTS];
+            permute_elements(
+                registers,
+                scalar,
+                setup,
+                insn,
+                &mut a[..vl],
+                &mut c[..vl],
+                &mut all[..vlmax],
+            );
+        }
+        Width::W16 => {
+            let mut a = [0u16; MOST_ELEMENTS / 2];
+            let mut c = [0u16; MOST_ELEMENTS / 2];
+            let mut all = [0u16; MOST_ELEMENTS / 2];
+            permute_elements(
+                registers,
+                scalar,
+                setup,
+                insn,
+                &mut a[..vl],
+                &mut c[..vl],
+                &mut all[..vlmax],
+            );
+        }
+        Width::W32 => {
+            let mut a = [0u32; MOST_ELEMENTS / 4];
+            let mut c = [0u32; MOST_ELEMENTS / 4];
+            let mut all = [0u32; MOST_ELEMENTS / 4];
+            permute_elements(
+                registers,
+                scalar,
+                setup,
+                insn,
+                &mut a[..vl],
+                &mut c[..vl],
+                &mut all[..vlmax],
+            );
+        }
+    }
+}
+
+/// The step of an instruction that moves elements.
 #[tactic(auto, unfolding(crate::specs::Permutations::perm_step))]
 pub fn step_perm<const VLENB: usize>(
     vectors: &mut VectorState<VLENB>,
@@ -23,8 +435,6 @@ pub fn step_perm<const VLENB: usize>(
     ensures { (m : Memory) → perm_step VLENB setup.now insn.now scalar.old vectors.old m
         ≡ Ok (scalar.new, vectors.new, m) }
 {
-    let _ = vectors;
-    let _ = setup;
-    let _ = insn;
+    permute(&mut vectors.registers, scalar, setup, insn);
     scalar.advance();
 }
