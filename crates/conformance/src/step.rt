@@ -64,7 +64,7 @@ pub fn step<const VLENB: usize>(
         | Insn::VPerm(_)
         | Insn::VReduce(_)
         | Insn::VMem(_)
-        | Insn::VMove(_) => { step_vector(vectors, hart, word, insn, memory) }
+        | Insn::VMove(_) => step_vector(vectors, hart, word, insn, memory),
     }
 }
 

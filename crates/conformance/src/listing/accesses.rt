@@ -70,7 +70,7 @@ fn load_mnemonic(place: &Place) -> &'static str {
             width,
             rs2: _,
             masked: _,
-        } => { by_width(*width, "vlse8", "vlse16", "vlse32") }
+        } => by_width(*width, "vlse8", "vlse16", "vlse32"),
         Place::Indexed {
             width,
             vs2: _,
@@ -104,7 +104,7 @@ fn store_mnemonic(place: &Place) -> &'static str {
             width,
             rs2: _,
             masked: _,
-        } => { by_width(*width, "vsse8", "vsse16", "vsse32") }
+        } => by_width(*width, "vsse8", "vsse16", "vsse32"),
         Place::Indexed {
             width,
             vs2: _,

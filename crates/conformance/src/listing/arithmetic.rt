@@ -18,14 +18,14 @@ pub fn arithmetic(insn: VArith) -> Parts {
             vs2,
             b,
             masked,
-        } => { operation(int_mnemonic(op), SINGLE, vd, vs2, &b, masked) }
+        } => operation(int_mnemonic(op), SINGLE, vd, vs2, &b, masked),
         VArith::MultiplyAdd {
             op,
             vd,
             vs2,
             b,
             masked,
-        } => { operation(multiply_add_mnemonic(op), SINGLE, vd, vs2, &b, masked) }
+        } => operation(multiply_add_mnemonic(op), SINGLE, vd, vs2, &b, masked),
         VArith::Carry { op, vd, vs2, b } => selection(carry_mnemonic(op), vd, vs2, &b),
         VArith::CarryOut {
             op,
@@ -42,49 +42,49 @@ pub fn arithmetic(insn: VArith) -> Parts {
             vs2,
             b,
             masked,
-        } => { operation(compare_mnemonic(op), SINGLE, vd, vs2, &b, masked) }
+        } => operation(compare_mnemonic(op), SINGLE, vd, vs2, &b, masked),
         VArith::Fixed {
             op,
             vd,
             vs2,
             b,
             masked,
-        } => { operation(fixed_mnemonic(op), SINGLE, vd, vs2, &b, masked) }
+        } => operation(fixed_mnemonic(op), SINGLE, vd, vs2, &b, masked),
         VArith::Widen {
             op,
             vd,
             vs2,
             b,
             masked,
-        } => { operation(widen_mnemonic(op), SINGLE, vd, vs2, &b, masked) }
+        } => operation(widen_mnemonic(op), SINGLE, vd, vs2, &b, masked),
         VArith::Wide {
             op,
             vd,
             vs2,
             b,
             masked,
-        } => { operation(wide_mnemonic(op), WIDE, vd, vs2, &b, masked) }
+        } => operation(wide_mnemonic(op), WIDE, vd, vs2, &b, masked),
         VArith::WidenMultiplyAdd {
             op,
             vd,
             vs2,
             b,
             masked,
-        } => { operation(widen_multiply_add_mnemonic(op), SINGLE, vd, vs2, &b, masked) }
+        } => operation(widen_multiply_add_mnemonic(op), SINGLE, vd, vs2, &b, masked),
         VArith::Narrow {
             op,
             vd,
             vs2,
             b,
             masked,
-        } => { operation(narrow_mnemonic(op), WIDE, vd, vs2, &b, masked) }
+        } => operation(narrow_mnemonic(op), WIDE, vd, vs2, &b, masked),
         VArith::Clip {
             op,
             vd,
             vs2,
             b,
             masked,
-        } => { operation(clip_mnemonic(op), WIDE, vd, vs2, &b, masked) }
+        } => operation(clip_mnemonic(op), WIDE, vd, vs2, &b, masked),
         VArith::Extend {
             signed,
             of,

@@ -18,19 +18,19 @@ pub fn permutation(insn: VPerm) -> Parts {
             vs2,
             offset,
             masked,
-        } => { slide("vslidedown", vd, vs2, &offset, masked) }
+        } => slide("vslidedown", vd, vs2, &offset, masked),
         VPerm::SlideOneUp {
             vd,
             vs2,
             rs1,
             masked,
-        } => { operation("vslide1up", SINGLE, vd, vs2, &Source::Scalar(rs1), masked) }
+        } => operation("vslide1up", SINGLE, vd, vs2, &Source::Scalar(rs1), masked),
         VPerm::SlideOneDown {
             vd,
             vs2,
             rs1,
             masked,
-        } => { operation("vslide1down", SINGLE, vd, vs2, &Source::Scalar(rs1), masked) }
+        } => operation("vslide1down", SINGLE, vd, vs2, &Source::Scalar(rs1), masked),
         VPerm::Gather { vd, vs2, b, masked } => {
             operation("vrgather", SINGLE, vd, vs2, &b, masked)
         }

@@ -12,7 +12,7 @@ pub fn reduction(insn: VReduce) -> Parts {
             vs2,
             vs1,
             masked,
-        } => { fold(fold_mnemonic(op), vd, vs2, vs1, masked) }
+        } => fold(fold_mnemonic(op), vd, vs2, vs1, masked),
         VReduce::WidenSum {
             signed,
             vd,
