@@ -3,3 +3,4 @@ pub mod Ranges
 pub mod Sizes
 pub mod Writes
 pub mod Rooms
+pub mod Parts

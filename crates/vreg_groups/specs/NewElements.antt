@@ -29,6 +29,10 @@ new_element policy ones results active i old =
     then (if slice_index_or active i false then slice_index_or results i old else filled policy.inactive ones old)
     else filled policy.tail ones old
 
+-- the bytes after others were put over them, from place `at` on
+unfoldable pub overlaid : ℕ → List ℕ → List ℕ → List ℕ
+overlaid at others bytes = take at bytes ++ others ++ drop (at + length others) bytes
+
 -- the bytes after `count` pieces of `size` bytes each, from place `at` on, were replaced
 unfoldable pub replaced : ℕ → ℕ → ℕ → (ℕ → List ℕ) → List ℕ → List ℕ
 replaced size at count piece bytes =

@@ -1,12 +1,12 @@
 //! Elements and mask bits of register groups, over the bytes of the registers.
 
-ghost use Rattle.std.specs.Prelude.{◌≡◌, ℕ, ◌+◌, ◌*◌, ◌<◌, ◌≤◌, length, map};
-ghost use Rattle.std.specs.List.{range_with_len};
-ghost use Rattle.vreg_groups.specs.Elements.{element_at, bit_of, bit_at, number_of_bits};
-ghost use Rattle.vreg_groups.specs.NewElements.{replaced, new_bytes, new_mask_byte, new_mask_bytes};
+ghost use Rattle.std.specs.Prelude.{◌≡◌, ℕ, ◌+◌, ◌*◌, ◌<◌, ◌≤◌, length, map, replicate, All};
+ghost use Rattle.std.specs.List.{flat_map, list_all, range_with_len};
+ghost use Rattle.vreg_groups.specs.Elements.{bytes_of, element_at, bit_of, bit_at, number_of_bits};
+ghost use Rattle.vreg_groups.specs.NewElements.{filled, overlaid, replaced, new_bytes, new_mask_byte, new_mask_bytes};
 
 use crate::elements::Element;
-use crate::policies::{Policy, new_element};
+use crate::policies::{Agnostic, Policy, new_element};
 
 /// Reads as many elements as `out` has room for, from place `at` on.
 #[tactic(auto, unfolding(crate::specs::Elements::element_at))]
@@ -47,7 +47,7 @@ fn bit_of(byte: u8, k: usize) -> bool
     (byte >> k) % 2 == 1
 }
 
-/// Writes `count` new elements, from place `at` on.
+/// Writes `count` new elements, from place `at` on: the results, and the others as `policy` says.
 pub(crate) fn write_elements<E: Element>(
     bytes: &mut [u8],
     at: usize,
@@ -60,11 +60,102 @@ pub(crate) fn write_elements<E: Element>(
     ensures { bytes.new ≡ replaced E.SIZE at count
         (new_bytes E.SIZE at policy (map E.number values.now) active.now bytes.old) bytes.old }
 {
-    for i in 0..count {
+    are_bytes(bytes);
+    let body = count.min(values.len());
+    let told = body.min(active.len());
+    write_body(bytes, at, &values[..told], &active[..told], policy);
+    fill_if(
+        bytes,
+        at + E::SIZE * told,
+        E::SIZE * (body - told),
+        policy.inactive,
+    );
+    fill_if(
+        bytes,
+        at + E::SIZE * body,
+        E::SIZE * (count - body),
+        policy.tail,
+    );
+}
+
+/// Each of the bytes is below 256: a proof hears here of the bytes before a write.
+fn are_bytes(bytes: &[u8])
+    ensures { All (λ byte. byte < 256) bytes.now }
+{
+    let _ = bytes;
+}
+
+/// Writes as many new elements as there are results, from place `at` on.
+fn write_body<E: Element>(
+    bytes: &mut [u8],
+    at: usize,
+    values: &[E],
+    active: &[bool],
+    policy: Policy,
+)
+    requires room { at + E.SIZE * length values.now ≤ length bytes.old }
+    requires told { length active.now ≡ length values.now }
+    ensures { bytes.new ≡ replaced E.SIZE at (length values.now)
+        (new_bytes E.SIZE at policy (map E.number values.now) active.now bytes.old) bytes.old }
+{
+    if are_all(active) {
+        put_elements(bytes, at, values);
+    } else {
+        select_elements(bytes, at, values, active, policy);
+    }
+}
+
+/// Tells whether every flag is set, with no early end.
+fn are_all(flags: &[bool]) -> bool
+    ensures { result ≡ list_all (λ flag. flag) flags.now }
+{
+    let mut all = true;
+    for flag in flags {
+        all = all & *flag;
+    }
+    all
+}
+
+/// Writes all results, from place `at` on.
+pub(crate) fn put_elements<E: Element>(bytes: &mut [u8], at: usize, values: &[E])
+    requires { at + E.SIZE * length values.now ≤ length bytes.old }
+    ensures { bytes.new ≡ overlaid at (flat_map (bytes_of E.SIZE) (map E.number values.now))
+        bytes.old }
+{
+    for (i, value) in values.iter().enumerate() {
+        value.put(bytes, at + E::SIZE * i);
+    }
+}
+
+/// Writes the results that are active, from place `at` on; the other elements are inactive.
+fn select_elements<E: Element>(
+    bytes: &mut [u8],
+    at: usize,
+    values: &[E],
+    active: &[bool],
+    policy: Policy,
+)
+    requires { at + E.SIZE * length values.now ≤ length bytes.old }
+    ensures { bytes.new ≡ replaced E.SIZE at (length values.now)
+        (new_bytes E.SIZE at policy (map E.number values.now) active.now bytes.old) bytes.old }
+{
+    for i in 0..values.len() {
         let place = at + E::SIZE * i;
         let old = E::get(bytes, place);
         let new = new_element(policy, E::ones(), values, active, i, old);
         new.put(bytes, place);
+    }
+}
+
+/// What becomes of `n` bytes that no result is written to, from place `at` on.
+#[tactic(auto, unfolding(crate::specs::NewElements::overlaid))]
+pub(crate) fn fill_if(bytes: &mut [u8], at: usize, n: usize, agnostic: Agnostic)
+    requires { at + n ≤ length bytes.old }
+    ensures { bytes.new ≡ filled agnostic (overlaid at (replicate n 0xff) bytes.old) bytes.old }
+{
+    match agnostic {
+        Agnostic::Keep => {}
+        Agnostic::Ones => bytes[at..at + n].fill(0xff),
     }
 }
 

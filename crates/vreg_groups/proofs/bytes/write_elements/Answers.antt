@@ -1,17 +1,15 @@
-use Rattle.std.proofs.Common.{arith, ◌+◌, ◌*◌, ◌≤◌, length}
-use Rattle.std.proofs.Math.Nat.{mul-le-mul_left}
-use Rattle.vreg_groups.proofs.Places.{replaced_none, written_more}
+use Rattle.std.proofs.Common.{arith, ap, ◌+◌, ◌-◌, ◌*◌}
+use Rattle.vreg_groups.proofs.Parts.{write_is}
 use Rattle.vreg_groups.proofs.bytes.write_elements.Goals as goal
 
-pub loop-i-init : goal.loop-i-init
-loop-i-init g c = replaced_none _ _ _ _
-
-pub loop-i-preserved : goal.loop-i-preserved
-loop-i-preserved g c =
-    let before : c.loop-i.i ≤ c.args.count = omega arith in
-    let room : c.args.at + g.E.Element.SIZE * c.loop-i.i ≤ length c.args.bytes.now =
-    omega (arith, mul-le-mul_left g.E.Element.SIZE before) in
-    written_more g.E.Element.number g.E.Element.SIZE c.args.at c.loop-i.i c.SIZE.result c.args.policy c.args.values.now
-    c.args.active.now c.args.bytes.now c.loop-i.bytes c.put.new.bytes c.ones.result c.get-old.result
-    c.new_element-new.result c.SIZE.ensures room c.ones.ensures c.get-old.ensures c.new_element-new.ensures c.loop-i.invariant
-    c.put.ensures
+pub returns : goal.returns
+returns g c =
+    write_is g.E.Element.number g.E.Element.SIZE c.args.at c.args.count c.min-body.result c.min-told.result c.args.policy
+    c.args.values.now c.args.active.now c.args.bytes.now c.write_body.new.bytes c.fill_if.new.bytes c.fill_if-2.new.bytes
+    _ _ _ _ c.requires c.are_bytes.ensures (omega arith) (omega arith) c.write_body.ensures
+    (ap (λ w. c.args.at + w * c.min-told.result) c.SIZE.ensures)
+    (ap (λ w. w * (c.min-body.result - c.min-told.result)) c.SIZE-2.ensures)
+    c.fill_if.ensures
+    (ap (λ w. c.args.at + w * c.min-body.result) c.SIZE-3.ensures)
+    (ap (λ w. w * (c.args.count - c.min-body.result)) c.SIZE-4.ensures)
+    c.fill_if-2.ensures
