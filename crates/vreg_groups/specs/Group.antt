@@ -1,11 +1,12 @@
 -- The group of registers that an operand stands for, and the elements of the body that lie in it ("Vector Register
 -- Grouping", "Mapping of Vector Elements to Vector Register State").
-use Rattle.std.specs.Prelude.{ℕ, ◌/◌, Bool, List}
-use Rattle.vreg_groups.specs.Words.{Eew, Policy, Vtype}
+use Rattle.std.specs.Prelude.{ℕ, ◌+◌, ◌*◌, ◌/◌, Bool, List}
+use Rattle.vreg_groups.specs.Words.{Count, Eew, Policy, Vtype, Width}
 use Rattle.rv_decode.specs.declared.extents.Extent.TheVariants as extent
 use Rattle.vreg_groups.specs.Elements.{elements_of}
-use Rattle.vreg_groups.specs.Legality.{eew_bits, group_count, IsInside}
+use Rattle.vreg_groups.specs.Legality.{eew_bits, group_count, whole_count, IsInside}
 use Rattle.vreg_groups.specs.NewElements.{write_of}
+use Rattle.vreg_groups.specs.VectorType.{bytes_of_width}
 
 -- the first register and how many there are, the bytes of an element, and how many elements the body has
 pub record Span : Type 0 where
@@ -18,7 +19,16 @@ pub record Span : Type 0 where
 abbrev pub group_of : Vtype → ℕ → ℕ → Eew → Span
 group_of t vl first eew = record { first = first; count = group_count t eew; bytes = eew_bits t.sew eew / 8; vl = vl }
 
--- its registers exist, and its elements have 8 to 32 bits
+-- the register of a mask, as bytes: those that hold the bits of vl elements are the body
+abbrev pub mask_bytes_of : ℕ → ℕ → Span
+mask_bytes_of vl first = record { first = first; count = 1; bytes = 1; vl = (vl + 7) / 8 }
+
+-- whole registers as elements of this width, all of which are the body
+abbrev pub whole_of : ℕ → ℕ → Count → Width → Span
+whole_of vlenb first count width =
+    record { first = first; count = whole_count count; bytes = bytes_of_width width; vl = whole_count count * vlenb / bytes_of_width width }
+
+-- the registers of a group exist, and its elements have 8 to 32 bits
 abbrev pub IsGroupInside : Vtype → ℕ → Eew → Type 0
 IsGroupInside t first eew = IsInside t (record { first = first; extent = extent.Group eew })
 

@@ -5,6 +5,7 @@ pub mod NewElements
 pub mod Legality
 pub mod Group
 pub mod Laws
+pub mod Setup
 pub mod Words
 pub use Rattle.rv_decode.specs.Needs
 pub mod Copies

@@ -13,6 +13,7 @@ pub use Rattle.rv_decode.specs.declared.extents.Sharing.TheVariants.{ByWidth, No
 pub use Rattle.vreg_groups.specs.declared.policies.Agnostic.{Agnostic}
 pub use Rattle.vreg_groups.specs.declared.policies.Agnostic.TheVariants.{Keep, Ones}
 pub use Rattle.vreg_groups.specs.declared.policies.Policy.{Policy}
+pub use Rattle.vreg_groups.specs.declared.setup.Setup.{Setup}
 pub use Rattle.vreg_groups.specs.declared.vector_length.Vconfig.{Vconfig}
 pub use Rattle.vreg_groups.specs.declared.vector_type.Lmul.{Lmul}
 pub use Rattle.vreg_groups.specs.declared.vector_type.Vtype.{Vtype}

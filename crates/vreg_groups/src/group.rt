@@ -1,16 +1,18 @@
 //! The group of registers that an operand of an instruction stands for.
 
-ghost use Rattle.std.specs.Prelude.{◌≡◌, ◌≤◌, ◌*◌, length, map};
-ghost use Rattle.vreg_groups.specs.Group.{IsGroupInside, group_of, body_of, written};
+ghost use Rattle.std.specs.Prelude.{◌≡◌, ◌≤◌, ◌+◌, ◌*◌, length, map};
+ghost use Rattle.vreg_groups.specs.Group.{IsGroupInside, group_of, body_of, mask_bytes_of, whole_of, written};
+ghost use Rattle.vreg_groups.specs.Legality.{whole_count};
 ghost use Rattle.vreg_groups.specs.VectorLength.{IsVlenb};
 ghost use Rattle.vreg_groups.specs.VectorType.{vlmax_of};
 ghost use Rattle.vreg_groups.specs.declared.vector_type.TheConstants.{MOST_ELEMENTS};
 
 use crate::elements::Element;
+use crate::legality::whole_count;
 use crate::policies::Policy;
 use crate::registers::VregFile;
-use crate::vector_type::{Vtype, eew_bits};
-use rv_decode::{Eew, Reg};
+use crate::vector_type::{Vtype, bits_of, eew_bits};
+use rv_decode::{Count, Eew, Reg, Width};
 use std::marker::Model;
 
 /// The registers of an operand, with the elements of the body that lie in them: they are within the 32 registers.
@@ -49,6 +51,36 @@ impl<const VLENB: usize> Group<VLENB> {
             count: vtype.group_count(eew),
             bytes: eew_bits(vtype.sew, eew) / 8,
             vl,
+        }
+    }
+
+    /// The register of a mask, as bytes: its body is those that hold the bits of vl elements.
+    pub fn mask_bytes(vl: usize, first: Reg) -> Group<VLENB>
+        requires vlenb { IsVlenb VLENB }
+        requires bits { vl ≤ 8 * VLENB }
+        ensures { result ≡ mask_bytes_of vl first }
+    {
+        Group {
+            first,
+            count: 1,
+            bytes: 1,
+            vl: vl.div_ceil(8),
+        }
+    }
+
+    /// Whole registers as elements of this width, all of which are the body.
+    pub fn whole(first: Reg, count: Count, width: Width) -> Group<VLENB>
+        requires vlenb { IsVlenb VLENB }
+        requires inside { first + whole_count count ≤ 32 }
+        ensures { result ≡ whole_of VLENB first count width }
+    {
+        let count = whole_count(count);
+        let bytes = bits_of(width) / 8;
+        Group {
+            first,
+            count,
+            bytes,
+            vl: count * VLENB / bytes,
         }
     }
 

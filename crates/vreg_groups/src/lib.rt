@@ -9,6 +9,7 @@ pub mod laws;
 mod legality;
 mod policies;
 mod registers;
+mod setup;
 #[cfg(test)]
 mod tests;
 mod vector_length;
@@ -19,5 +20,6 @@ pub use group::Group;
 pub use legality::{legal, legal_type, whole_count};
 pub use policies::{Agnostic, Policy};
 pub use registers::VregFile;
+pub use setup::Setup;
 pub use vector_length::{Avl, Vconfig, Vlen, vset};
 pub use vector_type::{Lmul, MOST_ELEMENTS, Vtype};
