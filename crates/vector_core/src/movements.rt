@@ -56,7 +56,8 @@ pub fn slide_one_down_results<E: VectorElement>(x: E, body: &mut [E])
 #[tactic(auto, using(crate::proofs::Moved::gathered_numbers))]
 pub fn gather_results<E: VectorElement>(source: &[E], indices: &[u32], out: &mut [E])
     requires { length indices.now ≡ length out.old }
-    ensures { map E.Element.number out.new ≡ gathered (map E.Element.number source.now) 0 indices.now }
+    ensures { map E.Element.number out.new
+        ≡ gathered (map E.Element.number source.now) 0 indices.now }
 {
     lane_masks::gather(source, indices, zero(), out);
 }

@@ -138,7 +138,8 @@ fn slide_down<E: VectorElement, const VLENB: usize>(
     requires a_len { length a.old ≡ setup.now.vl }
     requires all_len { length all.old ≡ vlmax_of VLENB setup.now.vtype }
     requires width { E.sew ≡ setup.now.vtype.sew }
-    requires ready { IsReady VLENB setup.now (needs_of_perm (VPerm.SlideDown vd vs2 offset masked)) }
+    requires ready { IsReady VLENB setup.now (needs_of_perm
+        (VPerm.SlideDown vd vs2 offset masked)) }
     ensures { registers.new ≡ slide_down_of VLENB setup.now scalar.now vd vs2 offset masked
         registers.old }
 {
@@ -186,7 +187,8 @@ fn slide_one_down<E: VectorElement, const VLENB: usize>(
 )
     requires a_len { length a.old ≡ setup.now.vl }
     requires width { E.sew ≡ setup.now.vtype.sew }
-    requires ready { IsReady VLENB setup.now (needs_of_perm (VPerm.SlideOneDown vd vs2 rs1 masked)) }
+    requires ready { IsReady VLENB setup.now (needs_of_perm
+        (VPerm.SlideOneDown vd vs2 rs1 masked)) }
     ensures { registers.new ≡ slide_one_down_of VLENB setup.now scalar.now vd vs2 rs1 masked
         registers.old }
 {
@@ -364,6 +366,84 @@ fn permute_elements<E: VectorElement, const VLENB: usize>(
     }
 }
 
+fn permute_bytes<const VLENB: usize>(
+    registers: &mut VregFile<VLENB>,
+    scalar: &Scalar,
+    setup: &Setup,
+    insn: &VPerm,
+)
+    requires sew { setup.now.vtype.sew ≡ Width.W8 }
+    requires ready { IsReady VLENB setup.now (needs_of_perm insn.now) }
+    ensures { registers.new ≡ perm_of VLENB setup.now scalar.now insn.now registers.old }
+{
+    let vl = setup.vl;
+    let vlmax = vlmax::<VLENB>(setup);
+    let mut a = [0u8; MOST_ELEMENTS];
+    let mut c = [0u8; MOST_ELEMENTS];
+    let mut all = [0u8; MOST_ELEMENTS];
+    permute_elements(
+        registers,
+        scalar,
+        setup,
+        insn,
+        &mut a[..vl],
+        &mut c[..vl],
+        &mut all[..vlmax],
+    );
+}
+
+fn permute_halves<const VLENB: usize>(
+    registers: &mut VregFile<VLENB>,
+    scalar: &Scalar,
+    setup: &Setup,
+    insn: &VPerm,
+)
+    requires sew { setup.now.vtype.sew ≡ Width.W16 }
+    requires ready { IsReady VLENB setup.now (needs_of_perm insn.now) }
+    ensures { registers.new ≡ perm_of VLENB setup.now scalar.now insn.now registers.old }
+{
+    let vl = setup.vl;
+    let vlmax = vlmax::<VLENB>(setup);
+    let mut a = [0u16; MOST_ELEMENTS / 2];
+    let mut c = [0u16; MOST_ELEMENTS / 2];
+    let mut all = [0u16; MOST_ELEMENTS / 2];
+    permute_elements(
+        registers,
+        scalar,
+        setup,
+        insn,
+        &mut a[..vl],
+        &mut c[..vl],
+        &mut all[..vlmax],
+    );
+}
+
+fn permute_words<const VLENB: usize>(
+    registers: &mut VregFile<VLENB>,
+    scalar: &Scalar,
+    setup: &Setup,
+    insn: &VPerm,
+)
+    requires sew { setup.now.vtype.sew ≡ Width.W32 }
+    requires ready { IsReady VLENB setup.now (needs_of_perm insn.now) }
+    ensures { registers.new ≡ perm_of VLENB setup.now scalar.now insn.now registers.old }
+{
+    let vl = setup.vl;
+    let vlmax = vlmax::<VLENB>(setup);
+    let mut a = [0u32; MOST_ELEMENTS / 4];
+    let mut c = [0u32; MOST_ELEMENTS / 4];
+    let mut all = [0u32; MOST_ELEMENTS / 4];
+    permute_elements(
+        registers,
+        scalar,
+        setup,
+        insn,
+        &mut a[..vl],
+        &mut c[..vl],
+        &mut all[..vlmax],
+    );
+}
+
 /// The same, by the width of elements.
 fn permute<const VLENB: usize>(
     registers: &mut VregFile<VLENB>,
@@ -374,52 +454,11 @@ fn permute<const VLENB: usize>(
     requires { IsReady VLENB setup.now (needs_of_perm insn.now) }
     ensures { registers.new ≡ perm_of VLENB setup.now scalar.now insn.now registers.old }
 {
-    let vl = setup.vl;
-    let vlmax = vlmax::<VLENB>(setup);
     let sew = setup.vtype.sew;
     match sew {
-        Width::W8 => {
-            let mut a = [0u8; MOST_ELEMENTS];
-            let mut c = [0u8; MOST_ELEMENTS];
-            let mut all = [0u8; MOST_ELEMENTS];
-            permute_elements(
-                registers,
-                scalar,
-                setup,
-                insn,
-                &mut a[..vl],
-                &mut c[..vl],
-                &mut all[..vlmax],
-            );
-        }
-        Width::W16 => {
-            let mut a = [0u16; MOST_ELEMENTS / 2];
-            let mut c = [0u16; MOST_ELEMENTS / 2];
-            let mut all = [0u16; MOST_ELEMENTS / 2];
-            permute_elements(
-                registers,
-                scalar,
-                setup,
-                insn,
-                &mut a[..vl],
-                &mut c[..vl],
-                &mut all[..vlmax],
-            );
-        }
-        Width::W32 => {
-            let mut a = [0u32; MOST_ELEMENTS / 4];
-            let mut c = [0u32; MOST_ELEMENTS / 4];
-            let mut all = [0u32; MOST_ELEMENTS / 4];
-            permute_elements(
-                registers,
-                scalar,
-                setup,
-                insn,
-                &mut a[..vl],
-                &mut c[..vl],
-                &mut all[..vlmax],
-            );
-        }
+        Width::W8 => permute_bytes(registers, scalar, setup, insn),
+        Width::W16 => permute_halves(registers, scalar, setup, insn),
+        Width::W32 => permute_words(registers, scalar, setup, insn),
     }
 }
 

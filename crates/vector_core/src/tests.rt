@@ -1,5 +1,7 @@
 //! How a step is made: a vset, a load, a sum, a store, and a fault.
 
+mod elements;
+
 use crate::{VectorState, step_vector};
 use elf_image::read;
 use region_mem::{Arg, Args, Fault, Param, Parameters, Regions};
