@@ -1,0 +1,4 @@
+pub mod Inside
+pub mod Plans
+pub mod Rooms
+pub mod Steps

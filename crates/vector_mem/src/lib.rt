@@ -1,0 +1,14 @@
+//! Vector loads and stores: the accesses of an instruction as a list, and all of them made, or none.
+#![tactic(auto)]
+
+mod accesses;
+mod elements;
+mod operands;
+mod plan;
+#[cfg(test)]
+mod tests;
+mod transfers;
+
+pub use accesses::access;
+pub use plan::{Access, AccessPlan};
+pub use transfers::{load, store};

@@ -1,0 +1,232 @@
+//! Loads and stores: all of an instruction's accesses are made, or none.
+
+ghost use Rattle.std.specs.Prelude.{◌≡◌, ◌≤◌, ◌*◌, None, length, map, replicate, unwrap_or};
+ghost use Rattle.std.specs.List.{All};
+ghost use Rattle.std.specs.Option.{option_map};
+ghost use Rattle.region_mem.specs.Faults.{Steps};
+ghost use Rattle.region_mem.specs.Memory.{IsAccessSize, store_of};
+ghost use Rattle.region_mem.specs.declared.faults.Right.TheVariants.{Read, Write};
+ghost use Rattle.rv_decode.specs.Needs.{needs_of_access};
+ghost use Rattle.rv_decode.specs.declared.instructions.Direction.TheVariants.{Load, Store};
+ghost use Rattle.vreg_groups.specs.Setup.{IsReady};
+ghost use Rattle.vreg_groups.specs.VectorType.{bytes_of_width};
+ghost use Rattle.vreg_groups.specs.declared.vector_type.TheConstants.{MOST_ELEMENTS};
+ghost use Rattle.vector_mem.specs.Accesses.{IsAccessOf, first_refused, loaded, stored};
+ghost use Rattle.vector_mem.specs.Transfers.{data_of, loaded_to, vector_load, vector_store, width_at};
+
+use crate::accesses::access;
+use crate::elements::Datum;
+use crate::operands::{data_group, masked, policy, width};
+use crate::plan::AccessPlan;
+use region_mem::{Fault, Regions};
+use rv_decode::{VMem, Width};
+use std::alloc::Allocator;
+use vreg_groups::{Group, MOST_ELEMENTS, Setup, VregFile};
+
+/// Loads the elements, or answers the address of the first access that is not permitted.
+#[tactic(auto, unfolding(crate::specs::Accesses::first_refused, crate::specs::Accesses::loaded))]
+fn load_elements<E: Datum, A: Allocator>(
+    plan: &AccessPlan,
+    memory: &Regions<A>,
+    values: &mut [E],
+) -> Option<u32>
+    requires { All (IsAccessOf Read E.Element.SIZE (length values.old)) plan.now }
+    ensures refused { result ≡ option_map (λ a. a.address) (first_refused plan.now memory.now) }
+    ensures loaded { result ≡ None → map E.Element.number values.new
+        ≡ loaded (length values.old) plan.now memory.now }
+{
+    splat(E::low_bits(0), values);
+    for access in plan.as_slice() {
+        let Some(number) = memory.load(access.address, E::SIZE) else {
+            return Some(access.address);
+        };
+        values[access.element] = E::low_bits(number);
+    }
+    None
+}
+
+#[tactic(auto, using(std::proofs::lemmas::List::take_more_set, std::proofs::lemmas::List::replicate_more, std::proofs::lemmas::List::take_all))]
+fn splat<E: Datum>(value: E, values: &mut [E])
+    ensures { values.new ≡ replicate (length values.old) value }
+{
+    for element in values.iter_mut() {
+        *element = value;
+    }
+}
+
+/// The address of the first access that is not permitted.
+#[tactic(auto, unfolding(crate::specs::Accesses::first_refused))]
+fn refused<A: Allocator>(plan: &AccessPlan, memory: &Regions<A>) -> Option<u32>
+    ensures { result ≡ option_map (λ a. a.address) (first_refused plan.now memory.now) }
+{
+    plan.as_slice()
+        .iter()
+        .find(|a| !memory.permits(a.right, a.address, usize::from(a.size)))
+        .map(|a| a.address)
+}
+
+/// Stores the elements.
+#[tactic(auto, unfolding(crate::specs::Accesses::stored))]
+fn store_elements<E: Datum, A: Allocator>(plan: &AccessPlan, memory: &mut Regions<A>, values: &[E])
+    requires { All (IsAccessOf Write E.Element.SIZE (length values.now)) plan.now }
+    ensures { memory.new ≡ stored plan.now (map E.Element.number values.now) memory.old }
+{
+    for access in plan.as_slice() {
+        store_element(
+            memory,
+            access.address,
+            E::SIZE,
+            values[access.element].to_number(),
+        );
+    }
+}
+
+fn store_element<A: Allocator>(memory: &mut Regions<A>, address: u32, size: usize, value: u32)
+    requires { IsAccessSize size }
+    ensures { memory.new ≡ unwrap_or (store_of address size value memory.old) memory.old }
+{
+    let _is_stored = memory.store(address, size, value);
+}
+
+/// Writes the elements that were loaded to the registers: nothing where there are none.
+#[tactic(auto, unfolding(crate::specs::Transfers::loaded_to))]
+fn write_loaded<E: Datum, const VLENB: usize>(
+    insn: &VMem,
+    registers: &mut VregFile<VLENB>,
+    setup: &Setup,
+    group: &Group<VLENB>,
+    values: &[E],
+)
+    requires group { group.now ≡ data_of VLENB setup.now insn.now }
+    requires size { E.Element.SIZE ≡ group.now.bytes }
+    requires bits { group.now.vl ≤ 8 * VLENB }
+    ensures { registers.new ≡ loaded_to VLENB setup.now insn.now (map E.Element.number values.now)
+        registers.old }
+{
+    let vl = group.vl();
+    if vl != 0 {
+        let mut bits = [false; MOST_ELEMENTS];
+        let active = &mut bits[..vl];
+        registers.read_active(masked(insn), active);
+        group.write(registers, values, active, policy(insn, setup));
+    }
+}
+
+/// A load of elements of one width, with room for them in `values`.
+#[tactic(auto, unfolding(crate::specs::Transfers::vector_load))]
+fn load_as<E: Datum, const VLENB: usize, A: Allocator>(
+    insn: &VMem,
+    registers: &mut VregFile<VLENB>,
+    setup: &Setup,
+    base: u32,
+    stride: u32,
+    memory: &Regions<A>,
+    values: &mut [E],
+) -> Result<(), Fault>
+    requires ready { IsReady VLENB setup.now (needs_of_access insn.now) }
+    requires direction { insn.now.direction ≡ Load }
+    requires size { E.Element.SIZE ≡ bytes_of_width (width_at setup.now insn.now.place) }
+    requires room { MOST_ELEMENTS ≤ E.Element.SIZE * length values.old }
+    ensures { Steps (vector_load VLENB setup.now insn.now base stride registers.old memory.now)
+        registers.old registers.new result }
+{
+    let plan = access(insn, registers, setup, base, stride);
+    let group = data_group(insn, setup);
+    let values = &mut values[..group.vl()];
+    if let Some(address) = load_elements(&plan, memory, values) {
+        return Err(Fault::LoadFault(address));
+    }
+    write_loaded(insn, registers, setup, &group, values);
+    Ok(())
+}
+
+/// A vector load: all of its elements are loaded to their registers, or the fault is that of the lowest-numbered element
+/// that may not be loaded, and nothing changes. `base` is x[rs1], and `stride` x[rs2] of a strided access.
+pub fn load<const VLENB: usize, A: Allocator>(
+    insn: &VMem,
+    registers: &mut VregFile<VLENB>,
+    setup: &Setup,
+    base: u32,
+    stride: u32,
+    memory: &Regions<A>,
+) -> Result<(), Fault>
+    requires ready { IsReady VLENB setup.now (needs_of_access insn.now) }
+    requires direction { insn.now.direction ≡ Load }
+    ensures { Steps (vector_load VLENB setup.now insn.now base stride registers.old memory.now)
+        registers.old registers.new result }
+{
+    match width(insn, setup) {
+        Width::W8 => {
+            let mut bytes = [0u8; MOST_ELEMENTS];
+            load_as(insn, registers, setup, base, stride, memory, &mut bytes)
+        }
+        Width::W16 => {
+            let mut halves = [0u16; MOST_ELEMENTS / 2];
+            load_as(insn, registers, setup, base, stride, memory, &mut halves)
+        }
+        Width::W32 => {
+            let mut words = [0u32; MOST_ELEMENTS / 4];
+            load_as(insn, registers, setup, base, stride, memory, &mut words)
+        }
+    }
+}
+
+/// A store of elements of one width, with room for them in `values`.
+#[tactic(auto, unfolding(crate::specs::Transfers::vector_store))]
+fn store_as<E: Datum, const VLENB: usize, A: Allocator>(
+    insn: &VMem,
+    registers: &VregFile<VLENB>,
+    setup: &Setup,
+    base: u32,
+    stride: u32,
+    memory: &mut Regions<A>,
+    values: &mut [E],
+) -> Result<(), Fault>
+    requires ready { IsReady VLENB setup.now (needs_of_access insn.now) }
+    requires direction { insn.now.direction ≡ Store }
+    requires size { E.Element.SIZE ≡ bytes_of_width (width_at setup.now insn.now.place) }
+    requires room { MOST_ELEMENTS ≤ E.Element.SIZE * length values.old }
+    ensures { Steps (vector_store VLENB setup.now insn.now base stride registers.now memory.old)
+        memory.old memory.new result }
+{
+    let plan = access(insn, registers, setup, base, stride);
+    if let Some(address) = refused(&plan, memory) {
+        return Err(Fault::StoreFault(address));
+    }
+    let group = data_group(insn, setup);
+    let values = &mut values[..group.vl()];
+    group.read(registers, values);
+    store_elements(&plan, memory, values);
+    Ok(())
+}
+
+/// A vector store: all of its elements are stored, or the fault is that of the lowest-numbered element that may not be
+/// stored, and nothing changes. `base` is x[rs1], and `stride` x[rs2] of a strided access.
+pub fn store<const VLENB: usize, A: Allocator>(
+    insn: &VMem,
+    registers: &VregFile<VLENB>,
+    setup: &Setup,
+    base: u32,
+    stride: u32,
+    memory: &mut Regions<A>,
+) -> Result<(), Fault>
+    requires ready { IsReady VLENB setup.now (needs_of_access insn.now) }
+    requires direction { insn.now.direction ≡ Store }
+    ensures { Steps (vector_store VLENB setup.now insn.now base stride registers.now memory.old)
+        memory.old memory.new result }
+{
+    match width(insn, setup) {
+        Width::W8 => {
+            let mut bytes = [0u8; MOST_ELEMENTS];
+            store_as(insn, registers, setup, base, stride, memory, &mut bytes)
+        }
+        Width::W16 => {
+            let mut halves = [0u16; MOST_ELEMENTS / 2];
+            store_as(insn, registers, setup, base, stride, memory, &mut halves)
+        }
+        Width::W32 => {
+            let mut words = [0u32; MOST_ELEMENTS / 4];
+            store_as(insn, registers, setup, base, stride, memory, &mut words)
+        }
+    }
+}
