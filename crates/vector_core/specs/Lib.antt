@@ -1,4 +1,3 @@
-pub mod Accesses
 pub mod Arithmetic
 pub mod Computed
 pub mod Configuration

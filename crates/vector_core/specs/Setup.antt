@@ -1,25 +1,8 @@
 -- What every vector instruction works under.
-use Rattle.std.specs.Prelude.{ℕ}
-use Rattle.vector_core.specs.Words.{Eew, Operands, Setup, Span, Vtype}
-use Rattle.vreg_groups.specs.Group.{group_of}
-use Rattle.vreg_groups.specs.Legality.{AreAllInside}
-use Rattle.vreg_groups.specs.VectorLength.{IsLength, IsVlenb}
+use Rattle.vector_core.specs.Words.{Setup, Vtype}
+pub use Rattle.vreg_groups.specs.Setup.{IsReady, IsSetup, group_at}
 use Rattle.vector_core.specs.Vectors.{Vectors}
 
 -- the type that legality decoded, vl, and what becomes of agnostic elements
 abbrev pub setup_of : Vtype → Vectors → Setup
 setup_of t v = record { vtype = t; vl = v.config.vl; agnostic = v.agnostic }
-
--- the group of an operand that begins at `first` and whose elements have this width
-abbrev pub group_at : Setup → ℕ → Eew → Span
-group_at s first eew = group_of s.vtype s.vl first eew
-
--- VLEN is 128 or 256, and vl fits the type
-pub record IsSetup (vlenb : ℕ) (s : Setup) : Type 0 where
-  pub vlenb_is : IsVlenb vlenb
-  pub length : IsLength vlenb s.vtype s.vl
-
--- so it is for an instruction whose operands are inside the registers, as those of a legal one are
-pub record IsReady (vlenb : ℕ) (s : Setup) (operands : Operands) : Type 0 where
-  pub setup : IsSetup vlenb s
-  pub inside : AreAllInside s.vtype operands

@@ -40,4 +40,4 @@ pub use Rattle.vreg_groups.specs.declared.policies.Agnostic.{Agnostic}
 pub use Rattle.vreg_groups.specs.declared.vector_length.Avl.{Avl}
 pub use Rattle.vreg_groups.specs.declared.vector_length.Vconfig.{Vconfig}
 pub use Rattle.vreg_groups.specs.declared.vector_type.Vtype.{Vtype}
-pub use Rattle.vector_core.specs.declared.setup.Setup.{Setup}
+pub use Rattle.vreg_groups.specs.declared.setup.Setup.{Setup}

@@ -4,7 +4,6 @@
 //! Contracts see a `VectorState` as a record of the registers' bytes, vtype and vl, and the setting for agnostic elements.
 #![tactic(auto)]
 
-mod accesses;
 mod arithmetic;
 mod configuration;
 mod doubles;
