@@ -1,11 +1,15 @@
-//! How a step is made: a vset, a load, a sum, a store, and a fault.
+//! How a step is made: a vset, a load, a sum, a store, and a fault; and instructions of two widths, whose results are worked
+//! out by hand from the standard.
 
 mod elements;
 
 use crate::{VectorState, step_vector};
 use elf_image::read;
 use region_mem::{Arg, Args, Fault, Param, Parameters, Regions};
-use rv_decode::{Reg, decode};
+use rv_decode::{
+    ClipOp, FixedOp, Fraction, Insn, NarrowOp, Reg, Source, VArith, WideOp, WidenMultiplyAddOp,
+    WidenOp, decode,
+};
 use scalar_core::Scalar;
 use std::alloc::Global;
 use std::test::Fail;
@@ -68,5 +72,158 @@ fn bytes_are_raised_in_memory(rt: HostRuntime) -> Result<(), Fail> {
     assert_eq!(rt; refused, Err(Fault::StoreFault(0x2010)));
     assert_eq!(rt; memory.byte(0x200e), Some(0x0f));
     assert_eq!(rt; vectors.into_registers().byte(Reg::new(8), 0), 3);
+    Ok(())
+}
+
+/// A step by an instruction that computes, and the first two bytes of v10 after it.
+fn computed(
+    vectors: &mut VectorState<16>,
+    scalar: &mut Scalar,
+    memory: &mut Regions,
+    insn: VArith,
+) -> Result<u32, Fault> {
+    step_vector(vectors, scalar, 0, Insn::VArith(insn), memory)?;
+    let low = u32::from(vectors.byte(Reg::new(10), 0));
+    Ok(low + 0x100 * u32::from(vectors.byte(Reg::new(10), 1)))
+}
+
+/// A state under e8,m1 or e16,m1 with vl 3, whose v8 has bytes 80 and whose x12 is fe.
+fn ready(
+    scalar: &mut Scalar,
+    memory: &mut Regions,
+    vsetivli: u32,
+) -> Result<VectorState<16>, Fail> {
+    let mut vectors = VectorState::<16>::new(Agnostic::Keep);
+    scalar.set_reg(Reg::new(11), 0x8080);
+    scalar.set_reg(Reg::new(12), 0xfe);
+    let insn = decode(vsetivli).ok_or("no instruction")?;
+    step_vector(&mut vectors, scalar, vsetivli, insn, memory)?;
+    let splat = VArith::Copy {
+        vd: Reg::new(8),
+        b: Source::Scalar(Reg::new(11)),
+    };
+    step_vector(&mut vectors, scalar, 0, Insn::VArith(splat), memory)?;
+    Ok(vectors)
+}
+
+#[test]
+fn an_active_element_alone_saturates(rt: HostRuntime) -> Result<(), Fail> {
+    let mut memory = memory(rt.alloc())?;
+    let mut scalar = Scalar::new(0x1000);
+    let mut vectors = ready(&mut scalar, &mut memory, 0xcc01_f3d7)?; // vsetivli x7,3,e8,m1,ta,ma
+    let product = |masked: bool| VArith::Fixed {
+        op: FixedOp::Smul,
+        vd: Reg::new(10),
+        vs2: Reg::new(8),
+        b: Source::Vector(Reg::new(8)),
+        masked,
+    };
+    let masked_off = computed(&mut vectors, &mut scalar, &mut memory, product(true));
+    assert_eq!(rt; masked_off, Ok(0));
+    assert_eq!(rt; scalar.vxsat(), 0);
+    let active = computed(&mut vectors, &mut scalar, &mut memory, product(false));
+    assert_eq!(rt; active, Ok(0x7f7f));
+    assert_eq!(rt; scalar.vxsat(), 1);
+    let sum = VArith::Fixed {
+        op: FixedOp::Saddu,
+        vd: Reg::new(10),
+        vs2: Reg::new(8),
+        b: Source::Immediate(1),
+        masked: false,
+    };
+    assert_eq!(rt;
+        computed(&mut vectors, &mut scalar, &mut memory, sum),
+        Ok(0x8181)
+    );
+    assert_eq!(rt; scalar.vxsat(), 1);
+    Ok(())
+}
+
+fn vwmulsu() -> VArith {
+    VArith::Widen {
+        op: WidenOp::Mulsu,
+        vd: Reg::new(10),
+        vs2: Reg::new(8),
+        b: Source::Scalar(Reg::new(12)),
+        masked: false,
+    }
+}
+
+fn vwsub_wide() -> VArith {
+    VArith::Wide {
+        op: WideOp::Sub,
+        vd: Reg::new(10),
+        vs2: Reg::new(10),
+        b: Source::Scalar(Reg::new(12)),
+        masked: false,
+    }
+}
+
+fn vwmaccsu() -> VArith {
+    VArith::WidenMultiplyAdd {
+        op: WidenMultiplyAddOp::Maccsu,
+        vd: Reg::new(10),
+        vs2: Reg::new(8),
+        b: Source::Scalar(Reg::new(12)),
+        masked: false,
+    }
+}
+
+fn vnsra() -> VArith {
+    VArith::Narrow {
+        op: NarrowOp::Sra,
+        vd: Reg::new(10),
+        vs2: Reg::new(10),
+        b: Source::Immediate(9),
+        masked: false,
+    }
+}
+
+fn vnclipu() -> VArith {
+    VArith::Clip {
+        op: ClipOp::Clipu,
+        vd: Reg::new(10),
+        vs2: Reg::new(10),
+        b: Source::Immediate(9),
+        masked: false,
+    }
+}
+
+#[test]
+fn elements_of_two_widths(rt: HostRuntime) -> Result<(), Fail> {
+    let mut memory = memory(rt.alloc())?;
+    let mut scalar = Scalar::new(0x1000);
+    let mut vectors = ready(&mut scalar, &mut memory, 0xcc01_f3d7)?; // vsetivli x7,3,e8,m1,ta,ma
+    let cases = [
+        (vwmulsu(), 0x8100), // -128 * 254
+        (vwsub_wide(), 0x8102), // less -2
+        (vwmaccsu(), 0x8002), // and 128 * -2
+        (vnsra(), 0xc0c0), // -63.99, down
+        (vwmulsu(), 0x8100),
+        (vnclipu(), 0x4141), // 64.5, half up
+    ];
+    for (insn, expected) in cases {
+        let result = computed(&mut vectors, &mut scalar, &mut memory, insn);
+        assert_eq!(rt; result, Ok(expected));
+    }
+    Ok(())
+}
+
+#[test]
+fn a_half_is_extended(rt: HostRuntime) -> Result<(), Fail> {
+    let mut memory = memory(rt.alloc())?;
+    let mut scalar = Scalar::new(0x1000);
+    let mut vectors = ready(&mut scalar, &mut memory, 0xcc81_f3d7)?; // vsetivli x7,3,e16,m1,ta,ma
+    for (signed, expected) in [(true, 0xff80), (false, 0x80)] {
+        let insn = VArith::Extend {
+            signed,
+            of: Fraction::Half,
+            vd: Reg::new(10),
+            vs2: Reg::new(8),
+            masked: false,
+        };
+        let result = computed(&mut vectors, &mut scalar, &mut memory, insn);
+        assert_eq!(rt; result, Ok(expected));
+    }
     Ok(())
 }
