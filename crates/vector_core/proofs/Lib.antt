@@ -1,4 +1,3 @@
-pub mod AccessSteps
 pub mod Extensions
 pub mod Inside
 pub mod Moved
