@@ -1,21 +1,14 @@
 -- A word's funct6 says which half of the operations may have a row for it.
-use Rattle.std.proofs.Common.{◌≡◌, ℕ, ◌<◌, ◌≤◌, ◌==◌, ◌&&◌, Bool, true, false, List, [], ◌∷◌, ◌++◌, if◌then◌else◌, refl, sym, ap, ◌∙◌, arith, rules}
+use Rattle.std.proofs.Common.{◌≡◌, ℕ, ◌<◌, ◌≤◌, ◌==◌, ◌&&◌, Bool, true, false, List, [], ◌∷◌, ◌++◌, if◌then◌else◌, refl, sym, ap, ◌∙◌, arith, rules, append_assoc, append-nil}
 use Rattle.std.specs.Prelude.{ltb, not}
 use Rattle.std.proofs.lemmas.Bool.{eqb-true}
 use Rattle.rv_decode.specs.Bits.{bits}
 use Rattle.rv_decode.specs.Rows.{Row, has_fields, meanings_by_rows, row}
 use Rattle.rv_decode.specs.Operations.{Form, Operation, rows_in, rows_of, operand, funct6}
 use Rattle.rv_decode.specs.Vector.{low_opi, high_opi, opi, low_opm, high_opm, opm, extend_rows}
+use Rattle.rv_decode.specs.ElementWords.{to_scalar_rows, set_mask_rows, whole_rows}
 
 -- meanings by the rows of two lists of operations
-
-append_assoc : {X : Type 0} (xs ys zs : List X) → (xs ++ ys) ++ zs ≡ xs ++ (ys ++ zs)
-append_assoc [] ys zs = refl
-append_assoc (x ∷ xs) ys zs = ap (λ l. x ∷ l) (append_assoc xs ys zs)
-
-append_nothing : {X : Type 0} (xs : List X) → xs ++ [] ≡ xs
-append_nothing [] = refl
-append_nothing (x ∷ xs) = ap (λ l. x ∷ l) (append_nothing xs)
 
 by_both : (xs ys : List Row) (word : ℕ) → meanings_by_rows (xs ++ ys) word ≡ meanings_by_rows xs word ++ meanings_by_rows ys word
 by_both [] ys word = refl
@@ -88,7 +81,7 @@ below selects word low high h less =
     ap (λ rows. meanings_by_rows rows word) (rows_of_both selects low high) ∙
     by_both (rows_of selects low) (rows_of selects high) word ∙
     ap (λ l. meanings_by_rows (rows_of selects low) word ++ l) (none_of selects word high (apart is_high word test high h)) ∙
-    append_nothing (meanings_by_rows (rows_of selects low) word)
+    append-nil (meanings_by_rows (rows_of selects low) word)
 
 above : (selects : Form → Bool) (word : ℕ) (low high : List Operation) → all_codes is_low low ≡ true → 0x20 ≤ bits 26 6 word → meanings_by_rows (rows_of selects (low ++ high)) word ≡ meanings_by_rows (rows_of selects high) word
 above selects word low high h more =
@@ -98,7 +91,7 @@ above selects word low high h more =
     ap (λ l. l ++ meanings_by_rows (rows_of selects high) word) (none_of selects word low (apart is_low word test low h))
 
 high_opi_codes : all_codes is_high high_opi ≡ true
-unfolding high_opi
+unfolding high_opi whole_rows
 high_opi_codes = refl
 
 low_opi_codes : all_codes is_low low_opi ≡ true
@@ -110,7 +103,7 @@ unfolding high_opm
 high_opm_codes = refl
 
 low_opm_codes : all_codes is_low low_opm ≡ true
-unfolding low_opm extend_rows
+unfolding low_opm extend_rows to_scalar_rows set_mask_rows
 low_opm_codes = refl
 
 pub opi_below : (selects : Form → Bool) (word : ℕ) → bits 26 6 word < 0x20 → meanings_by_rows (rows_of selects opi) word ≡ meanings_by_rows (rows_of selects low_opi) word

@@ -8,6 +8,7 @@ pub mod TableLaw
 pub mod ScalarLaw
 pub mod SystemLaw
 pub mod OperationLaw
+pub mod ElementLaw
 pub mod VectorLaw
 pub mod AccessLaw
 pub mod MeaningLaw

@@ -50,18 +50,25 @@ word_with_mask word c b s =
 pub word_with_vm : (word : ℕ) (c : Code) (b : Source) (vm : ℕ) → Spells word c b → bits 25 1 word ≡ vm → word ≡ encode_v c (bits 7 5 word) vm (bits 20 5 word) b
 word_with_vm word c b vm s e = word_of word c b s ∙ ap (λ n. encode_v c (bits 7 5 word) n (bits 20 5 word) b) e
 
--- an operation: a word that its fields select encodes it
+-- an operation in a form, and in each of its forms: a word that its fields select encodes it
+abbrev pub FormHolds : ℕ → Category → Operation → Form → Type 0
+FormHolds word category op form =
+    Spells word (code category op.code op.forms) (operand form word) → HasFields op.fixed word → Encodes word (op.meaning (operand form word) word)
+
 abbrev pub OperationHolds : ℕ → Category → Operation → Type 0
-OperationHolds word category op =
-    (form : Form) → Spells word (code category op.code op.forms) (operand form word) → HasFields op.fixed word → Encodes word (op.meaning (operand form word) word)
+OperationHolds word category op = Every (FormHolds word category op) op.forms
 
--- of an operation of one form, only the words in this form are to be looked at
+abbrev pub HoldsInAnyForm : ℕ → Category → Operation → Type 0
+HoldsInAnyForm word category op = (form : Form) → FormHolds word category op form
 
-pub only_vectors : (word : ℕ) (category : Category) (code6 : ℕ) (P : Type 0) → (Spells word (code category code6 (V ∷ [])) (operand V word) → P) → (form : Form) → Spells word (code category code6 (V ∷ [])) (operand form word) → P
-only_vectors word category code6 P h V s = h s
-only_vectors word category code6 P h X s = let f = s.operand_fits.0 in absurd (search (rules, f))
-only_vectors word category code6 P h I s = elim s.operand_fits [ inl f ↦ let g = f.0 in absurd (search (rules, g)) | inr f ↦ let g = f.0 in absurd (search (rules, g)) ]
-only_vectors word category code6 P h U s = elim s.operand_fits [ inl f ↦ let g = f.0 in absurd (search (rules, g)) | inr f ↦ let g = f.0 in absurd (search (rules, g)) ]
+each_form : (P : Form → Type 0) → ((form : Form) → P form) → (forms : List Form) → Every P forms
+each_form P h [] = tt
+each_form P h (form ∷ forms) = (h form, each_form P h forms)
+
+pub each_operation : (word : ℕ) (category : Category) (ops : List Operation) → Every (HoldsInAnyForm word category) ops → Every (OperationHolds word category) ops
+each_operation word category [] h = tt
+each_operation word category (op ∷ ops) h =
+    (each_form (FormHolds word category op) h.0 op.forms, each_operation word category ops h.1)
 
 -- a form's operand fits an operation that has the form
 
@@ -105,20 +112,20 @@ one_form : (word : ℕ) (form : Form) (op : Operation) (rest : List Row) (test :
 one_form word form op rest true h i = (h refl, i)
 one_form word form op rest false h i = i
 
-rows_in_hold : (word : ℕ) (category : Category) (selects : Form → Bool) (op : Operation) → word < 2 ^ 32 → bits 0 7 word ≡ 0x57 → Selects word category selects → OperationHolds word category op → (forms : List Form) → Every (λ f. OperandFits op.forms (operand f word)) forms → RowsHold (Encodes word) word (rows_in selects forms op)
-rows_in_hold word category selects op w o s h [] fit = tt
-rows_in_hold word category selects op w o s h (form ∷ forms) fit =
+rows_in_hold : (word : ℕ) (category : Category) (selects : Form → Bool) (op : Operation) → word < 2 ^ 32 → bits 0 7 word ≡ 0x57 → Selects word category selects → (forms : List Form) → Every (λ f. OperandFits op.forms (operand f word)) forms → Every (FormHolds word category op) forms → RowsHold (Encodes word) word (rows_in selects forms op)
+rows_in_hold word category selects op w o s [] fit h = tt
+rows_in_hold word category selects op w o s (form ∷ forms) fit h =
     one_form word form op (rows_in selects forms op) (selects form)
-    (λ selected. λ fields. h form
+    (λ selected. λ fields. h.0
     (record { fits = w; at_opcode = o; at_f3 = s form selected; at_funct6 = fields.0; at_operand = number_is word form; operand_fits = fit.0 })
     fields.1)
-    (rows_in_hold word category selects op w o s h forms fit.1)
+    (rows_in_hold word category selects op w o s forms fit.1 h.1)
 
 pub rows_of_hold : (word : ℕ) (category : Category) (selects : Form → Bool) → word < 2 ^ 32 → bits 0 7 word ≡ 0x57 → Selects word category selects → (ops : List Operation) → Every (OperationHolds word category) ops → RowsHold (Encodes word) word (rows_of selects ops)
 rows_of_hold word category selects w o s [] h = tt
 rows_of_hold word category selects w o s (op ∷ ops) h =
     append_rows (Encodes word) word (rows_in selects op.forms op) (rows_of selects ops)
-    (rows_in_hold word category selects op w o s h.0 op.forms (all_fit word op.forms))
+    (rows_in_hold word category selects op w o s op.forms (all_fit word op.forms) h.0)
     (rows_of_hold word category selects w o s ops h.1)
 
 pub selects_vectors : (word : ℕ) (category : Category) → bits 12 3 word ≡ f3_of category (operand V word) → Selects word category vectors

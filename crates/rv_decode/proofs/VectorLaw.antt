@@ -1,5 +1,5 @@
 -- The rows of the vector words: each gives a word the instruction that it encodes.
-use Rattle.std.proofs.Common.{◌≡◌, ℕ, ◌^◌, ◌*◌, ◌+◌, ◌<◌, [], ◌∷◌, Bool, true, false, refl, ap, ◌∙◌, arith}
+use Rattle.std.proofs.Common.{◌++◌, ◌≡◌, ℕ, ◌^◌, ◌*◌, ◌+◌, ◌<◌, [], ◌∷◌, Bool, true, false, refl, ap, ◌∙◌, arith}
 use Rattle.rv_decode.specs.Bits.{bits}
 use Rattle.rv_decode.specs.Encode.{low_fields}
 use Rattle.rv_decode.specs.EncodeVector.{OPI, OPM, code_of_int, code_of_multiply_add, code_of_carry, code_of_carry_out, code_of_merge, code_of_compare, code_of_fixed, code_of_widen, code_of_wide, code_of_widen_multiply_add, code_of_narrow, code_of_clip, code_of_extend, selector_of_extend}
@@ -10,7 +10,9 @@ use Rattle.rv_decode.specs.Vector.{integer_operations, shift_operations, averagi
 use Rattle.rv_decode.specs.Vector.{vset_rows, vector_groups, vsetvli, vsetivli, vsetvl}
 use Rattle.rv_decode.proofs.TableLaw.{HasFields, Every, append_every, RowsHold, GroupsHold}
 use Rattle.rv_decode.proofs.ScalarLaw.{Encodes}
-use Rattle.rv_decode.proofs.OperationLaw.{Spells, word_with_mask, word_with_vm, OperationHolds, only_vectors, rows_of_hold, selects_vectors, selects_scalars, selects_immediates}
+use Rattle.rv_decode.proofs.OperationLaw.{Spells, word_with_mask, word_with_vm, OperationHolds, HoldsInAnyForm, each_operation, rows_of_hold, selects_vectors, selects_scalars, selects_immediates}
+use Rattle.rv_decode.proofs.ElementLaw.{low_opi_elements_hold, high_opi_elements_hold, opm_elements_hold}
+use Rattle.rv_decode.specs.ElementWords.{low_opi_elements, high_opi_elements, opm_elements}
 use Rattle.rv_decode.proofs.Wholes.{below, below5, whole_r}
 use Rattle.rv_decode.specs.declared.instructions.IntOp.{IntOp}
 use Rattle.rv_decode.specs.declared.instructions.IntOp.TheVariants.{Add, Sub, Rsub, Minu, Min, Maxu, Max, And, Or, Xor, Sll, Srl, Sra, Mul, Mulh, Mulhu, Mulhsu, Divu, Div, Remu, Rem}
@@ -109,15 +111,15 @@ copy_is word form s m = (
   (below5 7 word, s.operand_fits),
 )
 
-extend_is : (word : ℕ) (signed : Bool) (of : Fraction) (form : Form) → Spells word code_of_extend (operand form word) → HasFields (vs1 (selector_of_extend signed of) ∷ []) word → Encodes word (extend signed of word)
+extend_is : (word : ℕ) (signed : Bool) (of : Fraction) → Spells word code_of_extend (operand V word) → HasFields (vs1 (selector_of_extend signed of) ∷ []) word → Encodes word (extend signed of word)
 unfolding encode_arith
-extend_is word signed of form s m = only_vectors word OPM 0x12 (Encodes word (extend signed of word)) (λ v. (
-  word_with_mask word code_of_extend (operand V word) v ∙
+extend_is word signed of s m = (
+  word_with_mask word code_of_extend (operand V word) s ∙
       ap (λ n. encode_v code_of_extend (bits 7 5 word) (vm_of (is_masked word)) (bits 20 5 word) (Vector n)) m.0,
   (below5 7 word, below5 20 word),
-)) form s
+)
 
-integer_operations_hold : (word : ℕ) → Every (OperationHolds word OPI) integer_operations
+integer_operations_hold : (word : ℕ) → Every (HoldsInAnyForm word OPI) integer_operations
 integer_operations_hold word = (
   int_is word Add,
   (
@@ -192,7 +194,7 @@ integer_operations_hold word = (
   ),
 )
 
-shift_operations_hold : (word : ℕ) → Every (OperationHolds word OPI) shift_operations
+shift_operations_hold : (word : ℕ) → Every (HoldsInAnyForm word OPI) shift_operations
 shift_operations_hold word = (
   fixed_is word Saddu,
   (
@@ -237,7 +239,7 @@ shift_operations_hold word = (
   ),
 )
 
-averaging_operations_hold : (word : ℕ) → Every (OperationHolds word OPM) averaging_operations
+averaging_operations_hold : (word : ℕ) → Every (HoldsInAnyForm word OPM) averaging_operations
 averaging_operations_hold word = (
   fixed_is word Aaddu,
   (
@@ -255,20 +257,20 @@ averaging_operations_hold word = (
 extend_operations_hold : (word : ℕ) → Every (OperationHolds word OPM) (select 0x12 V extend_rows)
 unfolding extend_rows
 extend_operations_hold word = (
-  extend_is word false Quarter,
+  (extend_is word false Quarter, tt),
   (
-    extend_is word true Quarter,
+    (extend_is word true Quarter, tt),
     (
-      extend_is word false Half,
+      (extend_is word false Half, tt),
       (
-        extend_is word true Half,
+        (extend_is word true Half, tt),
         tt,
       ),
     ),
   ),
 )
 
-multiply_operations_hold : (word : ℕ) → Every (OperationHolds word OPM) multiply_operations
+multiply_operations_hold : (word : ℕ) → Every (HoldsInAnyForm word OPM) multiply_operations
 multiply_operations_hold word = (
   int_is word Divu,
   (
@@ -307,7 +309,7 @@ multiply_operations_hold word = (
   ),
 )
 
-widening_operations_hold : (word : ℕ) → Every (OperationHolds word OPM) widening_operations
+widening_operations_hold : (word : ℕ) → Every (HoldsInAnyForm word OPM) widening_operations
 widening_operations_hold word = (
   widen_is word widen_op.Addu,
   (
@@ -357,11 +359,17 @@ widening_operations_hold word = (
 
 low_opi_hold : (word : ℕ) → Every (OperationHolds word OPI) low_opi
 unfolding low_opi
-low_opi_hold word = integer_operations_hold word
+low_opi_hold word =
+    append_every (OperationHolds word OPI) integer_operations low_opi_elements
+    (each_operation word OPI integer_operations (integer_operations_hold word))
+    (low_opi_elements_hold word)
 
 high_opi_hold : (word : ℕ) → Every (OperationHolds word OPI) high_opi
 unfolding high_opi
-high_opi_hold word = shift_operations_hold word
+high_opi_hold word =
+    append_every (OperationHolds word OPI) shift_operations high_opi_elements
+    (each_operation word OPI shift_operations (shift_operations_hold word))
+    (high_opi_elements_hold word)
 
 opi_hold : (word : ℕ) → Every (OperationHolds word OPI) opi
 unfolding opi
@@ -370,12 +378,16 @@ opi_hold word = append_every (OperationHolds word OPI) low_opi high_opi (low_opi
 low_opm_hold : (word : ℕ) → Every (OperationHolds word OPM) low_opm
 unfolding low_opm
 low_opm_hold word =
-    append_every (OperationHolds word OPM) averaging_operations (select 0x12 V extend_rows) (averaging_operations_hold word) (extend_operations_hold word)
+    append_every (OperationHolds word OPM) (averaging_operations ++ select 0x12 V extend_rows) opm_elements
+    (append_every (OperationHolds word OPM) averaging_operations (select 0x12 V extend_rows) (each_operation word OPM averaging_operations (averaging_operations_hold word)) (extend_operations_hold word))
+    (opm_elements_hold word)
 
 high_opm_hold : (word : ℕ) → Every (OperationHolds word OPM) high_opm
 unfolding high_opm
 high_opm_hold word =
-    append_every (OperationHolds word OPM) multiply_operations widening_operations (multiply_operations_hold word) (widening_operations_hold word)
+    append_every (OperationHolds word OPM) multiply_operations widening_operations
+    (each_operation word OPM multiply_operations (multiply_operations_hold word))
+    (each_operation word OPM widening_operations (widening_operations_hold word))
 
 opm_hold : (word : ℕ) → Every (OperationHolds word OPM) opm
 unfolding opm

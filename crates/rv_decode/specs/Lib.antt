@@ -3,6 +3,7 @@ pub mod Rows
 pub mod Scalar
 pub mod System
 pub mod Operations
+pub mod ElementWords
 pub mod Vector
 pub mod Access
 pub mod Decode

@@ -1,5 +1,5 @@
--- How the rows of vector operations are written: a funct6, the forms of the second operand, and a meaning, as in the "V"
--- extension's "Vector Instruction Listing".
+-- How the rows of vector operations are written: a funct6, the forms of the second operand, and a meaning, as in the
+-- "V" extension's "Vector Instruction Listing".
 use Rattle.std.specs.Prelude.{ℕ, Bool, true, false, ◌==◌, List, [], ◌∷◌, ◌++◌, pos, if◌then◌else◌}
 use Rattle.rv_decode.specs.Bits.{bits, signed, rs1_of}
 use Rattle.rv_decode.specs.Rows.{Field, Row, field, row}
@@ -88,7 +88,7 @@ select code form (r ∷ rs) = only_form code form r.fixed r.meaning ∷ select c
 abbrev pub rows_in : (Form → Bool) → List Form → Operation → List Row
 rows_in selects [] op = []
 rows_in selects (form ∷ forms) op =
-    (if selects form then row (funct6 op.code ∷ op.fixed) (λ word. op.meaning (operand form word) word) ∷ [] else []) ++
+    (if selects form then row (funct6 op.code ∷ op.fixed) (λ w. op.meaning (operand form w) w) ∷ [] else []) ++
     rows_in selects forms op
 
 abbrev pub rows_of : (Form → Bool) → List Operation → List Row

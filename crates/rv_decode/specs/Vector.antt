@@ -1,8 +1,9 @@
--- The rows of opcode 57: vector arithmetic, and the forms that set vl and vtype.
+-- The rows of opcode 57: vector arithmetic, the operations of ElementWords.antt, and the forms that set vl and vtype.
 use Rattle.std.specs.Prelude.{ℕ, Bool, true, false, List, [], ◌∷◌, ◌++◌}
 use Rattle.rv_decode.specs.Bits.{bits, rd_of, rs1_of, rs2_of}
 use Rattle.rv_decode.specs.Rows.{Row, Group, f3, field, row, group}
 use Rattle.rv_decode.specs.Operations.{V, VXI, VXU, VX, XI, only_x, Operation, operation, operation_where, select, rows_of, vectors, scalars, immediates, vm, vs1, vs2, is_masked}
+use Rattle.rv_decode.specs.ElementWords.{low_opi_elements, high_opi_elements, opm_elements}
 use Rattle.rv_decode.specs.declared.instructions.Insn.{Insn}
 use Rattle.rv_decode.specs.declared.instructions.Insn.TheVariants.{VSet, VArith}
 use Rattle.rv_decode.specs.declared.instructions.VSet.TheVariants.{Vsetvli, Vsetivli, Vsetvl}
@@ -179,17 +180,17 @@ widening_operations =
 
 -- the operations of OPIVV, OPIVX and OPIVI: those with a funct6 below 0x20, and the others
 unfoldable pub low_opi : List Operation
-low_opi = integer_operations
+low_opi = integer_operations ++ low_opi_elements
 
 unfoldable pub high_opi : List Operation
-high_opi = shift_operations
+high_opi = shift_operations ++ high_opi_elements
 
 unfoldable pub opi : List Operation
 opi = low_opi ++ high_opi
 
 -- the operations of OPMVV and OPMVX, in the same way
 unfoldable pub low_opm : List Operation
-low_opm = averaging_operations ++ select 0x12 V extend_rows
+low_opm = averaging_operations ++ select 0x12 V extend_rows ++ opm_elements
 
 unfoldable pub high_opm : List Operation
 high_opm = multiply_operations ++ widening_operations

@@ -7,6 +7,7 @@ ghost use Rattle.rv_decode.specs.Decode.{table, meaning_of};
 
 mod access_words;
 mod arith_words;
+mod element_words;
 mod extents;
 mod instructions;
 pub mod laws;

@@ -1,4 +1,4 @@
-//! Vector arithmetic of the category OPI, by funct6: OPIVV, OPIVX, OPIVI.
+//! The words of the category OPI, by funct6: OPIVV, OPIVX, OPIVI.
 
 ghost use Rattle.std.specs.Prelude.{◌≡◌, option_to_list};
 ghost use Rattle.rv_decode.specs.Rows.{meanings_by_rows};
@@ -6,8 +6,11 @@ ghost use Rattle.rv_decode.specs.Operations.{I, U, operand, rows_of, vectors, sc
 ghost use Rattle.rv_decode.specs.Vector.{low_opi, high_opi, opi};
 
 use crate::arith_words::{carry, carry_out, clip, compare, fixed, int, merge_or_copy, narrow};
+use crate::element_words::{gather, gather16, slide_down, slide_up, whole, widen_sum};
 use crate::word::{bits, register, signed};
-use crate::{CarryOp, CarryOutOp, ClipOp, CompareOp, FixedOp, Insn, IntOp, NarrowOp, Source};
+use crate::{
+    CarryOp, CarryOutOp, ClipOp, CompareOp, FixedOp, Insn, IntOp, NarrowOp, Offset, Source,
+};
 
 /// OPIVV: the second operand is vs1.
 #[tactic(auto, using(crate::proofs::Halves::opi_below, crate::proofs::Halves::opi_above))]
@@ -36,6 +39,8 @@ fn low_opivv(word: u32) -> Option<Insn>
         0x09 => Some(int(word, IntOp::And, b)),
         0x0a => Some(int(word, IntOp::Or, b)),
         0x0b => Some(int(word, IntOp::Xor, b)),
+        0x0c => Some(gather(word, b)),
+        0x0e => Some(gather16(word)),
         0x10 => carry(word, CarryOp::Adc, b),
         0x11 => Some(carry_out(word, CarryOutOp::Madc, b)),
         0x12 => carry(word, CarryOp::Sbc, b),
@@ -51,7 +56,7 @@ fn low_opivv(word: u32) -> Option<Insn>
     }
 }
 
-#[tactic(auto, unfolding(crate::specs::Vector::high_opi))]
+#[tactic(auto, unfolding(crate::specs::Vector::high_opi, crate::specs::ElementWords::whole_rows))]
 fn high_opivv(word: u32) -> Option<Insn>
     ensures { option_to_list result ≡ meanings_by_rows (rows_of vectors high_opi) word }
 {
@@ -71,6 +76,8 @@ fn high_opivv(word: u32) -> Option<Insn>
         0x2d => Some(narrow(word, NarrowOp::Sra, b)),
         0x2e => Some(clip(word, ClipOp::Clipu, b)),
         0x2f => Some(clip(word, ClipOp::Clip, b)),
+        0x30 => Some(widen_sum(word, false)),
+        0x31 => Some(widen_sum(word, true)),
         _ => None,
     }
 }
@@ -92,6 +99,7 @@ fn low_opivx(word: u32) -> Option<Insn>
     ensures { option_to_list result ≡ meanings_by_rows (rows_of scalars low_opi) word }
 {
     let b = Source::Scalar(register(word, 15));
+    let offset = Offset::Scalar(register(word, 15));
     match bits(word, 26, 6) {
         0x00 => Some(int(word, IntOp::Add, b)),
         0x02 => Some(int(word, IntOp::Sub, b)),
@@ -103,6 +111,9 @@ fn low_opivx(word: u32) -> Option<Insn>
         0x09 => Some(int(word, IntOp::And, b)),
         0x0a => Some(int(word, IntOp::Or, b)),
         0x0b => Some(int(word, IntOp::Xor, b)),
+        0x0c => Some(gather(word, b)),
+        0x0e => Some(slide_up(word, offset)),
+        0x0f => Some(slide_down(word, offset)),
         0x10 => carry(word, CarryOp::Adc, b),
         0x11 => Some(carry_out(word, CarryOutOp::Madc, b)),
         0x12 => carry(word, CarryOp::Sbc, b),
@@ -120,7 +131,7 @@ fn low_opivx(word: u32) -> Option<Insn>
     }
 }
 
-#[tactic(auto, unfolding(crate::specs::Vector::high_opi))]
+#[tactic(auto, unfolding(crate::specs::Vector::high_opi, crate::specs::ElementWords::whole_rows))]
 fn high_opivx(word: u32) -> Option<Insn>
     ensures { option_to_list result ≡ meanings_by_rows (rows_of scalars high_opi) word }
 {
@@ -172,13 +183,18 @@ pub(crate) fn decode_opivi(word: u32) -> Option<Insn>
 fn low_opivi(word: u32) -> Option<Insn>
     ensures { option_to_list result ≡ meanings_by_rows (rows_of immediates low_opi) word }
 {
+    let unsigned = unsigned_immediate(word);
     let b = signed_immediate(word);
+    let offset = Offset::Immediate(bits(word, 15, 5));
     match bits(word, 26, 6) {
         0x00 => Some(int(word, IntOp::Add, b)),
         0x03 => Some(int(word, IntOp::Rsub, b)),
         0x09 => Some(int(word, IntOp::And, b)),
         0x0a => Some(int(word, IntOp::Or, b)),
         0x0b => Some(int(word, IntOp::Xor, b)),
+        0x0c => Some(gather(word, unsigned)),
+        0x0e => Some(slide_up(word, offset)),
+        0x0f => Some(slide_down(word, offset)),
         0x10 => carry(word, CarryOp::Adc, b),
         0x11 => Some(carry_out(word, CarryOutOp::Madc, b)),
         0x17 => merge_or_copy(word, b),
@@ -192,7 +208,7 @@ fn low_opivi(word: u32) -> Option<Insn>
     }
 }
 
-#[tactic(auto, unfolding(crate::specs::Vector::high_opi))]
+#[tactic(auto, unfolding(crate::specs::Vector::high_opi, crate::specs::ElementWords::whole_rows))]
 fn high_opivi(word: u32) -> Option<Insn>
     ensures { option_to_list result ≡ meanings_by_rows (rows_of immediates high_opi) word }
 {
@@ -202,6 +218,7 @@ fn high_opivi(word: u32) -> Option<Insn>
         0x20 => Some(fixed(word, FixedOp::Saddu, b)),
         0x21 => Some(fixed(word, FixedOp::Sadd, b)),
         0x25 => Some(int(word, IntOp::Sll, unsigned)),
+        0x27 => whole(word),
         0x28 => Some(int(word, IntOp::Srl, unsigned)),
         0x29 => Some(int(word, IntOp::Sra, unsigned)),
         0x2a => Some(fixed(word, FixedOp::Ssrl, unsigned)),

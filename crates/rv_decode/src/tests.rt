@@ -63,6 +63,50 @@ fn a_word_of_each_class(rt: HostRuntime) {
 }
 
 #[test]
+fn a_word_of_each_class_on_elements(rt: HostRuntime) {
+    for (word, insn) in [
+        (
+            0x4038_22d7,
+            Insn::VMask(VMask::Count {
+                rd: Reg::new(5),
+                vs2: Reg::new(3),
+                masked: true,
+            }),
+        ), // vcpop.m x5, v3, v0.t
+        (
+            0x3a4f_b457,
+            Insn::VPerm(VPerm::SlideUp {
+                vd: Reg::new(8),
+                vs2: Reg::new(4),
+                offset: Offset::Immediate(31),
+                masked: false,
+            }),
+        ), // vslideup.vi v8, v4, 31
+        (
+            0x1881_a157,
+            Insn::VReduce(VReduce::Fold {
+                op: FoldOp::Maxu,
+                vd: Reg::new(2),
+                vs2: Reg::new(8),
+                vs1: Reg::new(3),
+                masked: true,
+            }),
+        ), // vredmaxu.vs v2, v8, v3, v0.t
+        (
+            0x9ec1_b457,
+            Insn::VMove(VMove::Whole {
+                count: Count::Four,
+                vd: Reg::new(8),
+                vs2: Reg::new(12),
+            }),
+        ), // vmv4r.v v8, v12
+    ] {
+        assert_eq!(rt; decode(word), Some(insn), "{word:08x}");
+    }
+    assert_eq!(rt; decode(0x9ec1_3457), None); // three registers
+}
+
+#[test]
 fn whole_registers_begin_at_a_multiple(rt: HostRuntime) {
     let insn = Insn::VMem(VMem {
         direction: Direction::Load,
