@@ -1,5 +1,5 @@
 -- What an access that one area holds whole gives and leaves.
-use Rattle.std.proofs.Common.{◌≡◌, ℕ, zero, suc, ◌+◌, ◌-◌, ◌/◌, ◌%◌, ◌^◌, ◌<◌, ◌≤◌, Bool, true, false, ◌&&◌, ◌||◌, cond, subst, List, [], ◌∷◌, length, map, find, Some, None, position, unwrap_or, slice_index, get_or, set, arith, sym, ap, refl, ◌∙◌, length-set}
+use Rattle.std.proofs.Common.{◌≡◌, ℕ, zero, suc, ◌+◌, ◌-◌, ◌^◌, ◌<◌, ◌≤◌, Bool, true, false, ◌&&◌, ◌||◌, cond, subst, List, [], ◌∷◌, length, map, find, Some, None, position, unwrap_or, slice_index, get_or, set, arith, sym, ap, refl, ◌∙◌, length-set}
 use Rattle.std.specs.Prelude.{IsTrue}
 use Rattle.std.specs.List.{position_or_len, list_any, list_all, range_with_len, slice_get}
 use Rattle.std.proofs.lemmas.Bool.{and_parts, and_from, leb-true, le-leb}
@@ -10,10 +10,11 @@ use Rattle.std.proofs.lemmas.List.Folds.{find_at}
 use Rattle.std.proofs.lemmas.List.Quantifiers.{position-Some}
 use Rattle.std.proofs.lemmas.Option.{slice_get-get_or, get_or_from_slice_get, slice_get_within, slice_get_past}
 use Rattle.region_mem.specs.declared.faults.Right.{Right}
-use Rattle.region_mem.specs.Areas.{Area, AreInOrder, holds, spans, admits, has_right, is_open, is_open_from, byte_at, number_at, number_of, number_in, number_into, with_byte, with_number}
+use Rattle.region_mem.specs.Areas.{Area, AreInOrder, holds, spans, admits, has_right, is_open, is_open_from, byte_at, number_at, number_of, number_in, bytes_of, part_into, with_byte, with_bytes, with_number}
 use Rattle.region_mem.proofs.Apart.{end_of}
 use Rattle.region_mem.proofs.ExtentLemmas.{byte_keeps, order_of}
 use Rattle.region_mem.proofs.Writes.{with_byte_first, written}
+use Rattle.region_mem.proofs.Parts.{parts_join, part_none, part_one, length_bytes}
 use Rattle.region_mem.proofs.SearchLemmas.{same_place}
 
 -- The area that a search found.
@@ -126,27 +127,37 @@ number_in_one right address n areas area order found admitted =
     let span = admits_spans right address n area admitted in
     ap number_of (map_from address address n areas area order found (spans_from address n area span) (spans_to address n area span))
 
--- A number that one area takes whole goes into that area.
+-- Bytes that one area takes whole go into that area,
 place_holds : (address n : ℕ) (area : Area) → area.first ≤ address → address + suc n ≤ end_of area → holds address area ≡ true
 place_holds address n area low high = holds_from address area low (omega arith)
 
-pub number_goes : (n address value : ℕ) (areas : List Area) (i : ℕ) (d : Area) → AreInOrder 0 areas → i < length areas → (get_or areas i d).first ≤ address → address + n ≤ end_of (get_or areas i d) →
-    with_number address n value areas ≡ set areas i (number_into address n value (get_or areas i d))
-unfolding with_number number_into
-number_goes zero address value areas i d order below low high = sym (set-get_or areas i d)
-number_goes (suc n) address value areas i d order below low high =
+bytes_go : (address : ℕ) (bytes : List ℕ) (areas : List Area) (i : ℕ) (d : Area) → AreInOrder 0 areas → i < length areas → (get_or areas i d).first ≤ address → address + length bytes ≤ end_of (get_or areas i d) →
+    with_bytes address bytes areas ≡ set areas i (part_into address bytes (get_or areas i d))
+unfolding with_bytes
+bytes_go address [] areas i d order below low high =
+    sym (ap (set areas i) (part_none address (get_or areas i d)) ∙ set-get_or areas i d)
+bytes_go address (byte ∷ bytes) areas i d order below low high =
     let area = get_or areas i d in
-    let place = same_place address areas i d order below (place_holds address n area low high) in
-    let first : with_byte address (value % 256) areas ≡ set areas i (written address (value % 256) area) =
-    let P : ℕ → Type 0 = λ k. with_byte address (value % 256) areas ≡ set areas k (written address (value % 256) (get_or areas k d)) in
-    subst P place (with_byte_first address (value % 256) areas d (rw place below)) in
-    let next = set areas i (written address (value % 256) area) in
-    let got : get_or next i d ≡ written address (value % 256) area = get_or-set_same areas i (written address (value % 256) area) d below in
-    let size : length (written address (value % 256) area).bytes ≡ length area.bytes = length-set area.bytes (address - area.first) (value % 256) in
-    let order2 : AreInOrder 0 next = rw (← first) (order_of 0 (with_byte address (value % 256) areas) areas (byte_keeps address (value % 256) areas) order) in
-    let below2 : i < length next = rw (length-set areas i (written address (value % 256) area)) below in
-    let rest = number_goes n (address + 1) (value / 256) next i d order2 below2 (rw got (omega arith)) (rw got (omega (arith, size))) in
-    rw first (rest ∙ (ap (λ a. set next i (number_into (address + 1) n (value / 256) a)) got ∙ set-set areas i (written address (value % 256) area) (number_into (address + 1) n (value / 256) (written address (value % 256) area))))
+    let place = same_place address areas i d order below (place_holds address (length bytes) area low high) in
+    let first : with_byte address byte areas ≡ set areas i (written address byte area) =
+    let P : ℕ → Type 0 = λ k. with_byte address byte areas ≡ set areas k (written address byte (get_or areas k d)) in
+    subst P place (with_byte_first address byte areas d (rw place below)) in
+    let next = set areas i (written address byte area) in
+    let got : get_or next i d ≡ written address byte area = get_or-set_same areas i (written address byte area) d below in
+    let size : length (written address byte area).bytes ≡ length area.bytes = length-set area.bytes (address - area.first) byte in
+    let order2 : AreInOrder 0 next = rw (← first) (order_of 0 (with_byte address byte areas) areas (byte_keeps address byte areas) order) in
+    let below2 : i < length next = rw (length-set areas i (written address byte area)) below in
+    let rest = bytes_go (address + 1) bytes next i d order2 below2 (rw got (omega arith)) (rw got (omega (arith, size))) in
+    let join : part_into (address + 1) bytes (written address byte area) ≡ part_into address (byte ∷ bytes) area =
+    ap (part_into (address + 1) bytes) (part_one address byte area low (omega arith)) ∙ parts_join address (byte ∷ []) bytes area low (omega arith) in
+    rw first (rest ∙ (ap (λ a. set next i (part_into (address + 1) bytes a)) got ∙ (set-set areas i (written address byte area) (part_into (address + 1) bytes (written address byte area)) ∙ ap (set areas i) join)))
+
+-- and so does a number.
+pub number_goes : (n address value : ℕ) (areas : List Area) (i : ℕ) (d : Area) → AreInOrder 0 areas → i < length areas → (get_or areas i d).first ≤ address → address + n ≤ end_of (get_or areas i d) →
+    with_number address n value areas ≡ set areas i (part_into address (bytes_of n value) (get_or areas i d))
+unfolding with_number
+number_goes n address value areas i d order below low high =
+    bytes_go address (bytes_of n value) areas i d order below low (omega (arith, length_bytes n value))
 
 -- The same, of the place that was found.
 pub open_at : (right : Right) (address n : ℕ) (areas : List Area) (i : ℕ) (d : Area) → AreInOrder 0 areas → position (holds address) areas ≡ Some i →
@@ -155,7 +166,7 @@ open_at right address n areas i d order found admitted end =
     open_in_one right address n areas (get_or areas i d) order (find_place (holds address) areas i d found) admitted end
 
 pub goes_at : (right : Right) (address n value : ℕ) (areas : List Area) (i : ℕ) (d : Area) → AreInOrder 0 areas → position (holds address) areas ≡ Some i →
-    admits right address n (get_or areas i d) ≡ true → set areas i (number_into address n value (get_or areas i d)) ≡ with_number address n value areas
+    admits right address n (get_or areas i d) ≡ true → set areas i (part_into address (bytes_of n value) (get_or areas i d)) ≡ with_number address n value areas
 goes_at right address n value areas i d order found admitted =
     let span = admits_spans right address n (get_or areas i d) admitted in
     sym (number_goes n address value areas i d order (position-Some (holds address) areas i d found).0 (spans_from address n (get_or areas i d) span) (spans_to address n (get_or areas i d) span))

@@ -1,5 +1,5 @@
 -- Where areas lie, whatever is stored, and that none lies above the segments.
-use Rattle.std.proofs.Common.{◌≡◌, inl, inr, ℕ, zero, suc, ◌+◌, ◌-◌, ◌/◌, ◌%◌, ◌≤◌, Bool, true, false, ◌&&◌, cond, subst, List, [], ◌∷◌, length, map, Some, None, arith, ap, refl, ◌∙◌, sum_by, set, length-set}
+use Rattle.std.proofs.Common.{◌≡◌, inl, inr, ℕ, ◌+◌, ◌-◌, ◌≤◌, Bool, true, false, ◌&&◌, cond, subst, List, [], ◌∷◌, length, map, Some, None, arith, ap, refl, ◌∙◌, sum_by, set, length-set}
 use Rattle.std.specs.List.{AllByRecursion, list_all}
 use Rattle.std.proofs.lemmas.Bool.Decides.{nat_tests}
 use Rattle.elf_image.specs.declared.layout.TheConstants.{HIGH_SEGMENTS_END}
@@ -9,7 +9,7 @@ use Rattle.region_mem.proofs.Apart.{IsRising, starts_in_order, end_of, all_inser
 use Rattle.elf_image.specs.Image.{SegmentView, IsSegment, IsInPlace, ImageView, IsImage}
 use Rattle.region_mem.specs.declared.faults.Right.{Right}
 use Rattle.region_mem.specs.declared.faults.Right.TheVariants.{Write, Fetch}
-use Rattle.region_mem.specs.Areas.{Area, AreInOrder, AreInside, ArePlaced, holds, is_open, is_open_from, with_byte, with_number}
+use Rattle.region_mem.specs.Areas.{Area, AreInOrder, AreInside, ArePlaced, holds, is_open, is_open_from, with_byte, with_bytes, bytes_of, with_number}
 use Rattle.region_mem.specs.Memory.{Memory, is_permitted, store_of, fetch_of}
 use Rattle.region_mem.specs.Start.{segment_area, stack_area, buffer_areas, insert_area, insert_areas, start_areas, start_memory}
 use Rattle.region_mem.specs.Laws.{Extent, extent_of, StoresKeepExtents, FetchesNothingAbove}
@@ -30,11 +30,15 @@ unfolding with_byte
 byte_keeps address byte [] = refl
 byte_keeps address byte (area ∷ areas) = byte_step address byte area areas (holds address area) (byte_keeps address byte areas)
 
+bytes_keep : (address : ℕ) (bytes : List ℕ) (areas : List Area) → map extent_of (with_bytes address bytes areas) ≡ map extent_of areas
+unfolding with_bytes
+bytes_keep address [] areas = refl
+bytes_keep address (byte ∷ bytes) areas =
+    bytes_keep (address + 1) bytes (with_byte address byte areas) ∙ byte_keeps address byte areas
+
 pub number_keeps : (address n value : ℕ) (areas : List Area) → map extent_of (with_number address n value areas) ≡ map extent_of areas
 unfolding with_number
-number_keeps address zero value areas = refl
-number_keeps address (suc n) value areas =
-    number_keeps (address + 1) n (value / 256) (with_byte address (value % 256) areas) ∙ byte_keeps address (value % 256) areas
+number_keeps address n value areas = bytes_keep address (bytes_of n value) areas
 
 -- Areas of the same extents are placed alike.
 subst_order : (areas : List Area) (m n : ℕ) → m ≡ n → AreInOrder m areas → AreInOrder n areas

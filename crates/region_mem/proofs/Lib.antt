@@ -1,5 +1,6 @@
 pub mod Rooms
 pub mod Writes
+pub mod Parts
 pub mod Order
 pub mod Matching
 pub mod Returned

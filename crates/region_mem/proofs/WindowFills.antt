@@ -1,89 +1,22 @@
 -- Stores end to end in a window leave what one write of their bytes leaves.
-use Rattle.std.proofs.Common.{◌≡◌, ℕ, zero, suc, ◌+◌, ◌*◌, ◌-◌, ◌/◌, ◌%◌, ◌<◌, ◌≤◌, Bool, true, false, ◌&&◌, cond, subst, List, [], ◌∷◌, ◌++◌, length, take, drop, map, set, flat_map, Some, None, unwrap_or, slice_index, get_or, arith, sym, ap, refl, ◌∙◌}
+use Rattle.std.proofs.Common.{◌≡◌, ℕ, zero, suc, ◌+◌, ◌*◌, ◌<◌, ◌≤◌, Bool, true, false, ◌&&◌, cond, subst, List, [], ◌∷◌, ◌++◌, length, take, map, set, flat_map, Some, None, unwrap_or, slice_index, get_or, arith, sym, ap, refl, ◌∙◌}
 use Rattle.std.specs.List.{fold, range_with_len}
-use Rattle.std.proofs.Math.Seq.{take-append_seam, drop-append-add, map-set_same}
+use Rattle.std.proofs.Math.Seq.{map-set_same}
 use Rattle.std.proofs.lemmas.Grind.{flat_map-append}
-use Rattle.std.proofs.lemmas.List.{length-append, length-take-le, take_more, take_all, take-append-drop, append-nil, append_assoc, drop-drop, set_split, set-get_or, set-set, get_or-set_same, length-set}
+use Rattle.std.proofs.lemmas.List.{length-append, length-take-le, take_more, take_all, append-nil, set-get_or, set-set, get_or-set_same, length-set}
 use Rattle.std.proofs.lemmas.List.Sums.{fold-append}
 use Rattle.std.proofs.lemmas.Nat.{column_fits}
 use Rattle.region_mem.specs.declared.faults.Right.{Right}
 use Rattle.region_mem.specs.declared.faults.Right.TheVariants.{Read, Write, Fetch}
-use Rattle.region_mem.specs.Areas.{Area, ArePlaced, spans, admits, has_right, bytes_of, number_into, part_into}
+use Rattle.region_mem.specs.Areas.{Area, ArePlaced, spans, admits, has_right, bytes_of, part_into}
 use Rattle.region_mem.specs.Memory.{Memory, is_permitted, store_of, has_window, with_window}
 use Rattle.region_mem.specs.Laws.{extent_of, StoresFillWindows}
-use Rattle.region_mem.proofs.Apart.{end_of}
-use Rattle.region_mem.proofs.Writes.{written}
+use Rattle.region_mem.proofs.Parts.{parts_join, part_none, length_bytes}
 use Rattle.region_mem.proofs.SearchLemmas.{nothing}
 use Rattle.region_mem.proofs.ExtentLemmas.{order_of, inside_of}
 use Rattle.region_mem.proofs.AccessLemmas.{admits_spans, spans_from, spans_to, number_goes}
 use Rattle.region_mem.proofs.WindowWrites.{part_keeps, part_first}
 use Rattle.region_mem.proofs.WindowLaws.{place_in, window_below, area_admits, admits_part, open_in_area}
-
--- a list with ys in the place of as many from an index on
-abbrev put : ℕ → List ℕ → List ℕ → List ℕ
-put at ys xs = take at xs ++ ys ++ drop (at + length ys) xs
-
-put_none : (at : ℕ) (xs : List ℕ) → put at [] xs ≡ xs
-put_none at xs =
-    let same : at + 0 ≡ at = omega arith in
-    rw (append-nil (take at xs), same) (take-append-drop at xs)
-
-put_one : (at y : ℕ) (xs : List ℕ) → at < length xs → set xs at y ≡ put at (y ∷ []) xs
-put_one at y xs below =
-    let next : suc at ≡ at + 1 = omega arith in
-    set_split xs at y below ∙ (ap (λ k. take at xs ++ y ∷ drop k xs) next ∙ sym (append_assoc (take at xs) (y ∷ []) (drop (at + 1) xs)))
-
-front_is : (at : ℕ) (ys xs : List ℕ) → at ≤ length xs → length (take at xs ++ ys) ≡ at + length ys
-front_is at ys xs low = omega (arith, length-append (take at xs) ys, length-take-le at xs low)
-
-put_take : (at : ℕ) (ys xs : List ℕ) → at ≤ length xs → take (at + length ys) (put at ys xs) ≡ take at xs ++ ys
-put_take at ys xs low =
-    rw (← front_is at ys xs low) (take-append_seam (take at xs ++ ys) (drop (length (take at xs ++ ys)) xs))
-
-put_drop : (at n : ℕ) (ys xs : List ℕ) → at ≤ length xs → drop ((at + length ys) + n) (put at ys xs) ≡ drop ((at + length ys) + n) xs
-put_drop at n ys xs low =
-    let front = front_is at ys xs low in
-    ap (λ k. drop (k + n) (put at ys xs)) (sym front) ∙ (drop-append-add (take at xs ++ ys) (drop (at + length ys) xs) n ∙ drop-drop n (at + length ys) xs)
-
--- Two parts end to end are one.
-put_both : (at : ℕ) (ys zs xs : List ℕ) → at ≤ length xs → put (at + length ys) zs (put at ys xs) ≡ put at (ys ++ zs) xs
-put_both at ys zs xs low =
-    let size : (at + length ys) + length zs ≡ at + length (ys ++ zs) = omega (arith, length-append ys zs) in
-    ap (λ front. front ++ zs ++ drop ((at + length ys) + length zs) (put at ys xs)) (put_take at ys xs low)
-    ∙ (ap (λ back. take at xs ++ ys ++ zs ++ back) (put_drop at (length zs) ys xs low)
-    ∙ (ap (λ k. take at xs ++ ys ++ zs ++ drop k xs) size ∙ ap (λ front. front ++ drop (at + length (ys ++ zs)) xs) (append_assoc (take at xs) ys zs)))
-
-parts_join : (at : ℕ) (ys zs : List ℕ) (area : Area) → area.first ≤ at → at ≤ end_of area →
-    part_into (at + length ys) zs (part_into at ys area) ≡ part_into at (ys ++ zs) area
-unfolding part_into
-parts_join at ys zs area low high =
-    let place : (at + length ys) - area.first ≡ (at - area.first) + length ys = omega arith in
-    rw place (ap (λ b. record area { bytes = b }) (put_both (at - area.first) ys zs area.bytes (omega arith)))
-
-part_none : (at : ℕ) (area : Area) → part_into at [] area ≡ area
-unfolding part_into
-part_none at area = ap (λ b. record area { bytes = b }) (put_none (at - area.first) area.bytes)
-
-part_one : (at y : ℕ) (area : Area) → area.first ≤ at → at < end_of area → written at y area ≡ part_into at (y ∷ []) area
-unfolding part_into
-part_one at y area low high = ap (λ b. record area { bytes = b }) (put_one (at - area.first) y area.bytes (omega arith))
-
-pub length_bytes : (n value : ℕ) → length (bytes_of n value) ≡ n
-unfolding bytes_of
-length_bytes zero value = refl
-length_bytes (suc n) value = ap suc (length_bytes n (value / 256))
-
--- A number goes into an area as its bytes.
-number_part : (n at value : ℕ) (area : Area) → area.first ≤ at → at + n ≤ end_of area → number_into at n value area ≡ part_into at (bytes_of n value) area
-unfolding number_into bytes_of
-number_part zero at value area low high = sym (part_none at area)
-number_part (suc n) at value area low high =
-    let byte = value % 256 in
-    let next = written at byte area in
-    let size : length next.bytes ≡ length area.bytes = length-set area.bytes (at - area.first) byte in
-    number_part n (at + 1) (value / 256) next (omega arith) (omega (arith, size))
-    ∙ (ap (λ a. part_into (at + 1) (bytes_of n (value / 256)) a) (part_one at byte area low (omega arith))
-    ∙ parts_join at (byte ∷ []) (bytes_of n (value / 256)) area low (omega arith))
 
 -- the bytes of the first values
 abbrev front_bytes : ℕ → List ℕ → ℕ → List ℕ
@@ -166,13 +99,11 @@ fill_step memory address n i at size value bytes placed below admitted place fit
     let opened = open_in_area Write at size next i nothing placed2 below2 here2 in
     let span2 = admits_spans Write at size (get_or next i nothing) here2 in
     let goes = number_goes size at value next i nothing placed2.0 below2 (spans_from at size _ span2) (spans_to at size _ span2) in
-    let span3 = admits_spans Write at size new here in
-    let number = number_part size at value new (spans_from at size new span3) (spans_to at size new span3) in
     let join : part_into at (bytes_of size value) new ≡ part_into address (bytes ++ bytes_of size value) area =
     ap (λ k. part_into k (bytes_of size value) new) (sym place) ∙ parts_join address bytes (bytes_of size value) area from (omega (arith, to)) in
     store_is _ _ _ opened
-    ∙ ap (λ xs. record memory { areas = xs }) (goes ∙ (set-set areas i new (number_into at size value (get_or next i nothing))
-    ∙ ap (set areas i) (ap (number_into at size value) got ∙ (number ∙ join))))
+    ∙ ap (λ xs. record memory { areas = xs }) (goes ∙ (set-set areas i new (part_into at (bytes_of size value) (get_or next i nothing))
+    ∙ ap (set areas i) (ap (part_into at (bytes_of size value)) got ∙ join)))
 
 fill_up : (place : ℕ → ℕ) (memory : Memory) (address size i j : ℕ) (values : List ℕ) → ArePlaced memory.areas → i < length memory.areas →
     admits Write address (size * length values) (get_or memory.areas i nothing) ≡ true → ((k : ℕ) → k < length values → place k ≡ address + size * k) → j ≤ length values →

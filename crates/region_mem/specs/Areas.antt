@@ -92,23 +92,19 @@ with_byte address byte (area ∷ areas) =
     then record area { bytes = slice_set area.bytes (address - area.first) byte } ∷ areas
     else area ∷ with_byte address byte areas
 
+-- the areas with these bytes from an address on, each in the area that holds its place
+unfoldable pub with_bytes : ℕ → List ℕ → List Area → List Area
+with_bytes address [] areas = areas
+with_bytes address (byte ∷ bytes) areas = with_bytes (address + 1) bytes (with_byte address byte areas)
+
 -- the areas with the n lowest bytes of a number from an address on
 unfoldable pub with_number : ℕ → ℕ → ℕ → List Area → List Area
-with_number address zero value areas = areas
-with_number address (suc n) value areas =
-    with_number (address + 1) n (value / 256) (with_byte address (value % 256) areas)
+with_number address n value areas = with_bytes address (bytes_of n value) areas
 
 -- the number in the n bytes from an address on that an area has
 unfoldable pub number_in : ℕ → ℕ → Area → ℕ
 number_in address n area =
     number_of (map (λ at. slice_index area.bytes (at - area.first)) (range_with_len address n))
-
--- the area with the n lowest bytes of a number from an address on
-unfoldable pub number_into : ℕ → ℕ → ℕ → Area → Area
-number_into address zero value area = area
-number_into address (suc n) value area =
-    number_into (address + 1) n (value / 256)
-    (record area { bytes = slice_set area.bytes (address - area.first) (value % 256) })
 
 -- the n bytes from an address on that an area has
 unfoldable pub part_of : ℕ → ℕ → Area → List ℕ

@@ -29,7 +29,7 @@ impl<A: Allocator> Model for Region<A> {
 }
 
 impl<A: Allocator> Region<A> {
-    ghost use Rattle.region_mem.specs.Areas.{Area, holds, has_right, spans, admits, part_of, part_into, number_in, number_into};
+    ghost use Rattle.region_mem.specs.Areas.{Area, holds, has_right, spans, admits, part_of, part_into, number_in, bytes_of};
     ghost use Rattle.region_mem.specs.Memory.{is_buffer_area, IsAccessSize};
 
     pub(crate) fn new(
@@ -218,56 +218,19 @@ impl<A: Allocator> Region<A> {
         self.bytes.set_part((address - self.first) as usize, bytes);
     }
 
-    #[tactic(auto, unfolding(crate::specs::Areas::spans, crate::specs::Areas::holds, crate::specs::Areas::number_into))]
-    fn set_lowest(&mut self, address: u64, value: u32)
-        requires low { address < 2 ^ 36 }
-        requires inside { IsTrue (spans address 1 self.old) }
-        ensures { self.new ≡ number_into address 1 value self.old }
-    {
-        self.set_byte(address, (value % 256) as u8);
-    }
-
-    #[tactic(auto, unfolding(crate::specs::Areas::spans, crate::specs::Areas::holds, crate::specs::Areas::number_into))]
-    fn set_half(&mut self, address: u64, value: u32)
-        requires low { address < 2 ^ 35 }
-        requires inside { IsTrue (spans address 2 self.old) }
-        ensures { self.new ≡ number_into address 2 value self.old }
-    {
-        self.set_byte(address, (value % 256) as u8);
-        self.set_lowest(address + 1, value / 256);
-    }
-
-    #[tactic(auto, unfolding(crate::specs::Areas::spans, crate::specs::Areas::holds, crate::specs::Areas::number_into))]
-    fn set_three(&mut self, address: u64, value: u32)
-        requires low { address < 2 ^ 34 }
-        requires inside { IsTrue (spans address 3 self.old) }
-        ensures { self.new ≡ number_into address 3 value self.old }
-    {
-        self.set_byte(address, (value % 256) as u8);
-        self.set_half(address + 1, value / 256);
-    }
-
-    #[tactic(auto, unfolding(crate::specs::Areas::spans, crate::specs::Areas::holds, crate::specs::Areas::number_into))]
-    fn set_word(&mut self, address: u64, value: u32)
-        requires low { address < 2 ^ 33 }
-        requires inside { IsTrue (spans address 4 self.old) }
-        ensures { self.new ≡ number_into address 4 value self.old }
-    {
-        self.set_byte(address, (value % 256) as u8);
-        self.set_three(address + 1, value / 256);
-    }
-
     /// Writes the n lowest bytes of a value from an address on.
+    #[tactic(auto, using(crate::proofs::Parts::one_byte, crate::proofs::Parts::two_bytes, crate::proofs::Parts::four_bytes))]
     pub(crate) fn set_number(&mut self, address: u64, n: usize, value: u32)
         requires low { address < 2 ^ 32 }
         requires size { IsAccessSize n }
         requires inside { IsTrue (spans address n self.old) }
-        ensures { self.new ≡ number_into address n value self.old }
+        ensures { self.new ≡ part_into address (bytes_of n value) self.old }
     {
+        let bytes = value.to_le_bytes();
         match n {
-            1 => self.set_lowest(address, value),
-            2 => self.set_half(address, value),
-            _ => self.set_word(address, value),
+            1 => self.set_part(address, &bytes[..1]),
+            2 => self.set_part(address, &bytes[..2]),
+            _ => self.set_part(address, &bytes),
         }
     }
 }

@@ -118,14 +118,14 @@ pub(crate) fn number<A: Allocator>(regions: &[Region<A>], address: u64, n: usize
     }
 }
 
-#[tactic(auto, unfolding(crate::specs::Areas::with_number))]
+#[tactic(auto, unfolding(crate::specs::Areas::with_number, crate::specs::Areas::with_bytes, crate::specs::Areas::bytes_of))]
 fn set_lowest<A: Allocator>(regions: &mut [Region<A>], address: u64, value: u32)
     ensures { regions.new ≡ with_number address 1 value regions.old }
 {
     set_byte(regions, address, (value % 256) as u8);
 }
 
-#[tactic(auto, unfolding(crate::specs::Areas::with_number))]
+#[tactic(auto, unfolding(crate::specs::Areas::with_number, crate::specs::Areas::with_bytes, crate::specs::Areas::bytes_of))]
 fn set_half<A: Allocator>(regions: &mut [Region<A>], address: u64, value: u32)
     requires { address < 2 ^ 34 }
     ensures { regions.new ≡ with_number address 2 value regions.old }
@@ -134,7 +134,7 @@ fn set_half<A: Allocator>(regions: &mut [Region<A>], address: u64, value: u32)
     set_lowest(regions, address + 1, value / 256);
 }
 
-#[tactic(auto, unfolding(crate::specs::Areas::with_number))]
+#[tactic(auto, unfolding(crate::specs::Areas::with_number, crate::specs::Areas::with_bytes, crate::specs::Areas::bytes_of))]
 fn set_three<A: Allocator>(regions: &mut [Region<A>], address: u64, value: u32)
     requires { address < 2 ^ 33 }
     ensures { regions.new ≡ with_number address 3 value regions.old }
@@ -143,7 +143,7 @@ fn set_three<A: Allocator>(regions: &mut [Region<A>], address: u64, value: u32)
     set_half(regions, address + 1, value / 256);
 }
 
-#[tactic(auto, unfolding(crate::specs::Areas::with_number))]
+#[tactic(auto, unfolding(crate::specs::Areas::with_number, crate::specs::Areas::with_bytes, crate::specs::Areas::bytes_of))]
 fn set_word<A: Allocator>(regions: &mut [Region<A>], address: u64, value: u32)
     requires { address < 2 ^ 32 }
     ensures { regions.new ≡ with_number address 4 value regions.old }
