@@ -1,5 +1,5 @@
-//! The vector half of a RISC-V hart: the vector registers with vtype and vl, and one step of the vector instructions of
-//! the "V" extension that are decoded so far.
+//! The vector half of a RISC-V hart: the vector registers with vtype and vl, and one step of any instruction of Zve32x but
+//! loads and stores of segments and fault-only-first loads.
 //!
 //! Contracts see a `VectorState` as a record of the registers' bytes, vtype and vl, and the setting for agnostic elements.
 #![tactic(auto)]
