@@ -89,6 +89,7 @@ extend_rows =
     row (vs1 7 ∷ []) (extend true Half) ∷
     []
 
+-- OPI, funct6 below 0x20: sums, minima and maxima, logic, carries, comparisons
 abbrev pub integer_operations : List Operation
 integer_operations =
     operation 0x00 VXI (int Add) ∷
@@ -117,6 +118,7 @@ integer_operations =
     operation 0x1f XI (compare Gt) ∷
     []
 
+-- OPI, funct6 from 0x20 on: saturating sums, shifts, the rounded product, narrowing
 abbrev pub shift_operations : List Operation
 shift_operations =
     operation 0x20 VXI (fixed Saddu) ∷
@@ -135,6 +137,7 @@ shift_operations =
     operation 0x2f VXU (clip clip_op.Clip) ∷
     []
 
+-- OPM, funct6 below 0x20: averages
 abbrev pub averaging_operations : List Operation
 averaging_operations =
     operation 0x08 VX (fixed Aaddu) ∷
@@ -143,6 +146,7 @@ averaging_operations =
     operation 0x0b VX (fixed Asub) ∷
     []
 
+-- OPM, funct6 0x20 to 0x2f: quotients and products
 abbrev pub multiply_operations : List Operation
 multiply_operations =
     operation 0x20 VX (int Divu) ∷
@@ -159,6 +163,7 @@ multiply_operations =
     operation 0x2f VX (multiply_add Nmsac) ∷
     []
 
+-- OPM, funct6 from 0x30 on: results of twice the width
 abbrev pub widening_operations : List Operation
 widening_operations =
     operation 0x30 VX (widen widen_op.Addu) ∷
