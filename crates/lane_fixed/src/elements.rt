@@ -8,6 +8,7 @@ use crate::lane::Lane;
 use crate::operations::{ClipOp, FixedOp, RoundingMode};
 use crate::rounding::rounded;
 
+#[inline(always)]
 fn unsigned_sum<T: Lane>(a: T, b: T) -> i64
     ensures value { result ≡ pos (T.number a) +ℤ pos (T.number b) }
     ensures room { unsigned_abs result ≤ 2 ^ 62 }
@@ -15,6 +16,7 @@ fn unsigned_sum<T: Lane>(a: T, b: T) -> i64
     i64::from(a.unsigned()) + i64::from(b.unsigned())
 }
 
+#[inline(always)]
 fn signed_sum<T: Lane>(a: T, b: T) -> i64
     ensures value { result ≡ cast_signed T.width (T.number a) +ℤ cast_signed T.width (T.number b) }
     ensures room { unsigned_abs result ≤ 2 ^ 62 }
@@ -22,6 +24,7 @@ fn signed_sum<T: Lane>(a: T, b: T) -> i64
     i64::from(a.signed()) + i64::from(b.signed())
 }
 
+#[inline(always)]
 fn unsigned_difference<T: Lane>(a: T, b: T) -> i64
     ensures value { result ≡ pos (T.number a) -ℤ pos (T.number b) }
     ensures room { unsigned_abs result ≤ 2 ^ 62 }
@@ -29,6 +32,7 @@ fn unsigned_difference<T: Lane>(a: T, b: T) -> i64
     i64::from(a.unsigned()) - i64::from(b.unsigned())
 }
 
+#[inline(always)]
 fn signed_difference<T: Lane>(a: T, b: T) -> i64
     ensures value { result ≡ cast_signed T.width (T.number a) -ℤ cast_signed T.width (T.number b) }
     ensures room { unsigned_abs result ≤ 2 ^ 62 }
@@ -36,6 +40,7 @@ fn signed_difference<T: Lane>(a: T, b: T) -> i64
     i64::from(a.signed()) - i64::from(b.signed())
 }
 
+#[inline(always)]
 fn signed_product<T: Lane>(a: T, b: T) -> i64
     ensures value { result ≡ cast_signed T.width (T.number a) *ℤ cast_signed T.width (T.number b) }
     ensures room { unsigned_abs result ≤ 2 ^ 62 }
@@ -43,6 +48,7 @@ fn signed_product<T: Lane>(a: T, b: T) -> i64
     product(a.signed(), b.signed())
 }
 
+#[inline(always)]
 fn product(a: i32, b: i32) -> i64
     ensures value { result ≡ a *ℤ b }
     ensures room { unsigned_abs result ≤ 2 ^ 62 }
@@ -51,6 +57,7 @@ fn product(a: i32, b: i32) -> i64
 }
 
 /// The element of an unsigned operation.
+#[inline(always)]
 fn unsigned_value<T: Lane>(a: T) -> i64
     ensures value { result ≡ pos (T.number a) }
     ensures room { unsigned_abs result ≤ 2 ^ 62 }
@@ -58,6 +65,7 @@ fn unsigned_value<T: Lane>(a: T) -> i64
     i64::from(a.unsigned())
 }
 
+#[inline(always)]
 fn signed_value<T: Lane>(a: T) -> i64
     ensures value { result ≡ cast_signed T.width (T.number a) }
     ensures room { unsigned_abs result ≤ 2 ^ 62 }
@@ -66,6 +74,7 @@ fn signed_value<T: Lane>(a: T) -> i64
 }
 
 /// The exact number of an operation.
+#[inline(always)]
 #[tactic(auto, unfolding(crate::specs::FixedPoint::exact))]
 fn exact<T: Lane>(op: FixedOp, a: T, b: T) -> i64
     ensures value { result ≡ exact op T.width (T.number a) (T.number b) }
@@ -83,6 +92,7 @@ fn exact<T: Lane>(op: FixedOp, a: T, b: T) -> i64
 }
 
 /// How many of its lowest bits are rounded off.
+#[inline(always)]
 #[tactic(auto, unfolding(crate::specs::FixedPoint::dropped))]
 fn dropped<T: Lane>(op: FixedOp, b: T) -> u32
     ensures value { result ≡ dropped op T.width (T.number b) }
@@ -98,6 +108,7 @@ fn dropped<T: Lane>(op: FixedOp, b: T) -> u32
 }
 
 /// The number after it was clipped.
+#[inline(always)]
 #[tactic(auto, unfolding(crate::specs::FixedPoint::clipped))]
 fn clipped<T: Lane>(op: FixedOp, value: i64) -> i64
     ensures { result ≡ clipped op T.width value }
@@ -115,6 +126,7 @@ fn clipped<T: Lane>(op: FixedOp, value: i64) -> i64
 }
 
 /// What `op` makes of vs2's element `a` and of `b`, and whether it saturates.
+#[inline(always)]
 #[tactic(auto, unfolding(crate::specs::FixedPoint::element, crate::specs::FixedPoint::saturates, crate::specs::FixedPoint::unclipped))]
 pub fn fixed<T: Lane>(op: FixedOp, mode: RoundingMode, a: T, b: T) -> (T, bool)
     ensures value { T.number result.0 ≡ element op mode T.width (T.number a) (T.number b) }
@@ -126,6 +138,7 @@ pub fn fixed<T: Lane>(op: FixedOp, mode: RoundingMode, a: T, b: T) -> (T, bool)
 }
 
 /// The number that is clipped.
+#[inline(always)]
 #[tactic(auto, unfolding(crate::specs::FixedPoint::clip_exact))]
 fn clip_exact<W: Lane>(op: ClipOp, a: W) -> i64
     ensures value { result ≡ clip_exact op W.width (W.number a) }
@@ -137,6 +150,7 @@ fn clip_exact<W: Lane>(op: ClipOp, a: W) -> i64
     }
 }
 
+#[inline(always)]
 #[tactic(auto, unfolding(crate::specs::FixedPoint::clip_to))]
 fn clip_to<N: Lane>(op: ClipOp, value: i64) -> i64
     ensures { result ≡ clip_to op N.width value }
@@ -148,6 +162,7 @@ fn clip_to<N: Lane>(op: ClipOp, value: i64) -> i64
 }
 
 /// What `op` makes of vs2's wide element `a` and of `b`, and whether it saturates.
+#[inline(always)]
 #[tactic(auto, unfolding(crate::specs::FixedPoint::clip_element, crate::specs::FixedPoint::clip_saturates, crate::specs::FixedPoint::clip_unclipped))]
 pub fn narrowed<W: Lane, N: Lane>(op: ClipOp, mode: RoundingMode, a: W, b: N) -> (N, bool)
     ensures value { N.number result.0 ≡ clip_element op mode W.width N.width (W.number a) (N.number b) }

@@ -1,4 +1,5 @@
-//! The kernels: one operation over whole slices.
+//! The kernels: one operation over whole slices. Each matches its operation once, outside the loop, so that each loop knows its
+//! own.
 ghost use Rattle.std.specs.Prelude.{◌≡◌, ◌&&◌, ◌||◌, length, map};
 ghost use lib.Lanes.{zip2};
 ghost use Rattle.lane_fixed.specs.FixedPoint.{any_active, clip_element, clip_saturates, element, saturates};
@@ -8,6 +9,7 @@ use crate::lane::Lane;
 use crate::operations::{ClipOp, FixedOp, RoundingMode};
 
 /// Whether an element saturated so far, where one more is clipped or not.
+#[inline(always)]
 fn or_active(so_far: bool, is_active: bool, is_clipped: bool) -> bool
     ensures { result ≡ (so_far || (is_active && is_clipped)) }
 {
@@ -19,6 +21,43 @@ fn or_active(so_far: bool, is_active: bool, is_clipped: bool) -> bool
 /// Subtract", "Vector Single-Width Fractional Multiply with Rounding and Saturation", "Vector Single-Width Scaling Shift
 /// Instructions").
 pub fn compute<T: Lane>(
+    op: FixedOp,
+    mode: RoundingMode,
+    values: &mut [T],
+    b: &[T],
+    active: &[bool],
+) -> bool
+    requires b_len { length b.now ≡ length values.old }
+    requires active_len { length active.now ≡ length values.old }
+    ensures results { map T.number values.new
+        ≡ zip2 (element op mode T.width) (map T.number values.old) (map T.number b.now) }
+    ensures saturated { result
+        ≡ any_active (saturates op mode T.width) (map T.number values.old) (map T.number b.now) active.now }
+{
+    match op {
+        FixedOp::SatAddU => compute_each(FixedOp::SatAddU, mode, values, b, active),
+        FixedOp::SatAdd => compute_each(FixedOp::SatAdd, mode, values, b, active),
+        FixedOp::SatSubU => compute_each(FixedOp::SatSubU, mode, values, b, active),
+        FixedOp::SatSub => compute_each(FixedOp::SatSub, mode, values, b, active),
+        FixedOp::AverageAddU => compute_each(FixedOp::AverageAddU, mode, values, b, active),
+        FixedOp::AverageAdd => compute_each(FixedOp::AverageAdd, mode, values, b, active),
+        FixedOp::AverageSubU => compute_each(FixedOp::AverageSubU, mode, values, b, active),
+        FixedOp::AverageSub => compute_each(FixedOp::AverageSub, mode, values, b, active),
+        FixedOp::Mul => compute_each(FixedOp::Mul, mode, values, b, active),
+        FixedOp::ShiftRight => compute_each(FixedOp::ShiftRight, mode, values, b, active),
+        FixedOp::ShiftRightSigned => compute_each(
+            FixedOp::ShiftRightSigned,
+            mode,
+            values,
+            b,
+            active,
+        ),
+    }
+}
+
+/// The loop of `compute`.
+#[inline(always)]
+fn compute_each<T: Lane>(
     op: FixedOp,
     mode: RoundingMode,
     values: &mut [T],
@@ -44,6 +83,30 @@ pub fn compute<T: Lane>(
 /// Writes into `results` what `op` makes of each wide element of `a`, which are vs2's, and of `b`'s element, and answers
 /// whether an active element saturated ("Vector Narrowing Fixed-Point Clip Instructions").
 pub fn clip<W: Lane, N: Lane>(
+    op: ClipOp,
+    mode: RoundingMode,
+    a: &[W],
+    b: &[N],
+    active: &[bool],
+    results: &mut [N],
+) -> bool
+    requires a_len { length a.now ≡ length results.old }
+    requires b_len { length b.now ≡ length results.old }
+    requires active_len { length active.now ≡ length results.old }
+    ensures results { map N.number results.new
+        ≡ zip2 (clip_element op mode W.width N.width) (map W.number a.now) (map N.number b.now) }
+    ensures saturated { result
+        ≡ any_active (clip_saturates op mode W.width N.width) (map W.number a.now) (map N.number b.now) active.now }
+{
+    match op {
+        ClipOp::ClipU => clip_each(ClipOp::ClipU, mode, a, b, active, results),
+        ClipOp::Clip => clip_each(ClipOp::Clip, mode, a, b, active, results),
+    }
+}
+
+/// The loop of `clip`.
+#[inline(always)]
+fn clip_each<W: Lane, N: Lane>(
     op: ClipOp,
     mode: RoundingMode,
     a: &[W],

@@ -51,26 +51,32 @@ impl Lane for u8 {
 
     ghost number = { λ a. a };
 
+    #[inline(always)]
     fn bits() -> u32 {
         8
     }
 
+    #[inline(always)]
     fn unsigned(self) -> u32 {
         u32::from(self)
     }
 
+    #[inline(always)]
     fn signed(self) -> i32 {
         i32::from(self.cast_signed())
     }
 
+    #[inline(always)]
     fn low(value: i64) -> u8 {
         low(value, 8) as u8
     }
 
+    #[inline(always)]
     fn clip_unsigned(value: i64) -> i64 {
         value.clamp(0, 0xff)
     }
 
+    #[inline(always)]
     fn clip_signed(value: i64) -> i64 {
         value.clamp(-0x80, 0x7f)
     }
@@ -83,26 +89,32 @@ impl Lane for u16 {
 
     ghost number = { λ a. a };
 
+    #[inline(always)]
     fn bits() -> u32 {
         16
     }
 
+    #[inline(always)]
     fn unsigned(self) -> u32 {
         u32::from(self)
     }
 
+    #[inline(always)]
     fn signed(self) -> i32 {
         i32::from(self.cast_signed())
     }
 
+    #[inline(always)]
     fn low(value: i64) -> u16 {
         low(value, 16) as u16
     }
 
+    #[inline(always)]
     fn clip_unsigned(value: i64) -> i64 {
         value.clamp(0, 0xffff)
     }
 
+    #[inline(always)]
     fn clip_signed(value: i64) -> i64 {
         value.clamp(-0x8000, 0x7fff)
     }
@@ -115,26 +127,32 @@ impl Lane for u32 {
 
     ghost number = { λ a. a };
 
+    #[inline(always)]
     fn bits() -> u32 {
         32
     }
 
+    #[inline(always)]
     fn unsigned(self) -> u32 {
         self
     }
 
+    #[inline(always)]
     fn signed(self) -> i32 {
         self.cast_signed()
     }
 
+    #[inline(always)]
     fn low(value: i64) -> u32 {
         low(value, 32) as u32
     }
 
+    #[inline(always)]
     fn clip_unsigned(value: i64) -> i64 {
         value.clamp(0, 0xffff_ffff)
     }
 
+    #[inline(always)]
     fn clip_signed(value: i64) -> i64 {
         value.clamp(-0x8000_0000, 0x7fff_ffff)
     }

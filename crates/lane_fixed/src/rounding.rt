@@ -5,6 +5,7 @@ ghost use Rattle.lane_fixed.specs.Rounding.{low_bits, rounded, rounds_up, shifte
 use crate::operations::RoundingMode;
 
 /// The number that the lowest `count` bits of `value` hold.
+#[inline(always)]
 pub fn low(value: i64, count: u32) -> u64
     requires { count ≤ 32 }
     ensures value { result ≡ low_bits count value }
@@ -14,6 +15,7 @@ pub fn low(value: i64, count: u32) -> u64
 }
 
 /// `value` without its lowest `count` bits.
+#[inline(always)]
 fn shifted(value: i64, count: u32) -> i64
     requires { count ≤ 32 }
     ensures value { result ≡ shifted count value }
@@ -23,6 +25,7 @@ fn shifted(value: i64, count: u32) -> i64
 }
 
 /// Whether the mode rounds up, where `quotient` is left and the `count` lowest bits held `rest`.
+#[inline(always)]
 #[tactic(auto, unfolding(crate::specs::Rounding::rounds_up))]
 fn rounds_up(mode: RoundingMode, quotient: i64, rest: u64, count: u32) -> bool
     requires few { count ≤ 32 }
@@ -39,6 +42,7 @@ fn rounds_up(mode: RoundingMode, quotient: i64, rest: u64, count: u32) -> bool
 }
 
 /// `value` without its lowest `count` bits, rounded.
+#[inline(always)]
 #[tactic(auto, unfolding(crate::specs::Rounding::rounded))]
 pub fn rounded(mode: RoundingMode, value: i64, count: u32) -> i64
     requires few { count ≤ 32 }

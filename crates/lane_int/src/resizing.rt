@@ -19,6 +19,7 @@ pub trait Narrow<W: Lane>: Lane {
 }
 
 impl Narrow<u16> for u8 {
+    #[inline(always)]
     #[tactic(auto, unfolding(crate::specs::Resizing::extended_to))]
     fn extended(self, is_signed: bool) -> u16 {
         if is_signed {
@@ -28,6 +29,7 @@ impl Narrow<u16> for u8 {
         }
     }
 
+    #[inline(always)]
     #[tactic(auto, unfolding(crate::specs::Resizing::cut_to))]
     fn cut(wide: u16) -> u8 {
         (wide % 0x100) as u8
@@ -35,6 +37,7 @@ impl Narrow<u16> for u8 {
 }
 
 impl Narrow<u32> for u8 {
+    #[inline(always)]
     #[tactic(auto, unfolding(crate::specs::Resizing::extended_to))]
     fn extended(self, is_signed: bool) -> u32 {
         if is_signed {
@@ -44,6 +47,7 @@ impl Narrow<u32> for u8 {
         }
     }
 
+    #[inline(always)]
     #[tactic(auto, unfolding(crate::specs::Resizing::cut_to))]
     fn cut(wide: u32) -> u8 {
         (wide % 0x100) as u8
@@ -51,6 +55,7 @@ impl Narrow<u32> for u8 {
 }
 
 impl Narrow<u32> for u16 {
+    #[inline(always)]
     #[tactic(auto, unfolding(crate::specs::Resizing::extended_to))]
     fn extended(self, is_signed: bool) -> u32 {
         if is_signed {
@@ -60,6 +65,7 @@ impl Narrow<u32> for u16 {
         }
     }
 
+    #[inline(always)]
     #[tactic(auto, unfolding(crate::specs::Resizing::cut_to))]
     fn cut(wide: u32) -> u16 {
         (wide % 0x1_0000) as u16
@@ -68,6 +74,20 @@ impl Narrow<u32> for u16 {
 
 /// Writes each element of `values`, extended by its sign or by zeros ("Vector Integer Extension").
 pub fn extend<N: Narrow<W>, W: Lane>(is_signed: bool, values: &[N], out: &mut [W])
+    requires { length values.now ≡ length out.old }
+    ensures { map W.number out.new
+        ≡ map (λ n. extended_to is_signed N.Lane.width W.width (N.Lane.number n)) values.now }
+{
+    if is_signed {
+        extend_each(true, values, out);
+    } else {
+        extend_each(false, values, out);
+    }
+}
+
+/// The loop of `extend`.
+#[inline(always)]
+fn extend_each<N: Narrow<W>, W: Lane>(is_signed: bool, values: &[N], out: &mut [W])
     requires { length values.now ≡ length out.old }
     ensures { map W.number out.new
         ≡ map (λ n. extended_to is_signed N.Lane.width W.width (N.Lane.number n)) values.now }

@@ -3,7 +3,7 @@ use Rattle.std.proofs.Common.{◌≡◌, map}
 use lib.Lanes.{zip2}
 use Rattle.lane_fixed.specs.FixedPoint.{clip_element, clip_saturates}
 use Rattle.lane_fixed.proofs.KernelLemmas.{overlaid, any_before}
-use Rattle.lane_fixed.proofs.kernels.clip.Given as goal
+use Rattle.lane_fixed.proofs.kernels.clip_each.Given as goal
 
 abbrev pub invariant-loop-i : goal.invariant-loop-i
 invariant-loop-i g l =

@@ -4,7 +4,7 @@ use Rattle.std.proofs.lemmas.List.{length-map}
 use Rattle.lane_int.specs.Resizing.{extended_to}
 use Rattle.lane_int.proofs.Overlay.{overlaid_all}
 use Rattle.lane_int.proofs.ResizingLemmas.{each_more}
-use Rattle.lane_int.proofs.resizing.extend.Goals as goal
+use Rattle.lane_int.proofs.resizing.extend_each.Goals as goal
 
 abbrev number_of : {X : Type 0} → Bool → Width → Width → (X → ℕ) → X → ℕ
 number_of is_signed narrow wide number x = extended_to is_signed narrow wide (number x)

@@ -4,7 +4,7 @@ use Rattle.std.proofs.lemmas.List.{length-map}
 use Rattle.std.proofs.lemmas.Simd.{length-zip2}
 use Rattle.lane_fixed.specs.FixedPoint.{element, saturates}
 use Rattle.lane_fixed.proofs.KernelLemmas.{number_at, still_old, written_over, overlaid_all, one_more, any_all}
-use Rattle.lane_fixed.proofs.kernels.compute.Goals as goal
+use Rattle.lane_fixed.proofs.kernels.compute_each.Goals as goal
 
 pub loop-i-init : goal.loop-i-init
 loop-i-init g c = (refl, refl)

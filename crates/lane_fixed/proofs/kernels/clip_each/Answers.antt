@@ -4,7 +4,7 @@ use Rattle.std.proofs.lemmas.List.{length-map}
 use Rattle.std.proofs.lemmas.Simd.{length-zip2}
 use Rattle.lane_fixed.specs.FixedPoint.{clip_element, clip_saturates}
 use Rattle.lane_fixed.proofs.KernelLemmas.{number_at, written_into, overlaid_all, one_more, any_all}
-use Rattle.lane_fixed.proofs.kernels.clip.Goals as goal
+use Rattle.lane_fixed.proofs.kernels.clip_each.Goals as goal
 
 pub loop-i-init : goal.loop-i-init
 loop-i-init g c = (refl, refl)

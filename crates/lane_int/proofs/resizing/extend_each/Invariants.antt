@@ -2,7 +2,7 @@
 use Rattle.std.proofs.Common.{◌≡◌, map}
 use Rattle.lane_int.specs.Resizing.{extended_to}
 use Rattle.lane_int.proofs.Overlay.{overlaid}
-use Rattle.lane_int.proofs.resizing.extend.Given as goal
+use Rattle.lane_int.proofs.resizing.extend_each.Given as goal
 
 abbrev pub invariant-loop-i : goal.invariant-loop-i
 invariant-loop-i g l =
