@@ -4,3 +4,4 @@ pub mod Sizes
 pub mod Writes
 pub mod Rooms
 pub mod Parts
+pub mod Spans

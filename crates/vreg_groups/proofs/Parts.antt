@@ -1,18 +1,20 @@
 -- A write in parts: the bytes of results, and what is filled.
-use Rattle.std.proofs.Common.{Bool, true, false, ℕ, zero, suc, ◌+◌, ◌-◌, ◌*◌, ◌/◌, ◌%◌, ◌^◌, ◌<◌, ◌≤◌, ◌≡◌, List, [], ◌∷◌, ◌++◌, length, map, take, drop, get_or, replicate, min, inl, inr, arith, refl, ap, sym, ◌∙◌, append_assoc, append-nil, zero-add}
-use Rattle.std.proofs.lemmas.List.{take_at, drop_at, drop-drop, drop_more, take-append-drop, length-map, get_or-map, length-take-le, get_or-take, length-drop, take-map, replicate-append-replicate, get_or_default, get_or_past}
-use Rattle.std.proofs.lemmas.List.FromFn.{fill_by_all}
+use Rattle.std.proofs.Common.{Bool, true, false, ℕ, zero, suc, ◌+◌, ◌-◌, ◌*◌, ◌/◌, ◌%◌, ◌^◌, ◌<◌, ◌≤◌, ◌≡◌, ◌⊎◌, List, [], ◌∷◌, ◌++◌, length, map, take, drop, get_or, replicate, min, inl, inr, arith, refl, ap, sym, ◌∙◌, append_assoc, append-nil, zero-add}
+use Rattle.std.proofs.lemmas.List.{take_at, drop_at, drop-drop, drop_more, take-append-drop, length-map, get_or-map, length-take-le, get_or-take, length-drop, take-map, replicate-append-replicate, get_or_default, get_or_past, get_or-replicate, take-replicate, get_or-drop, length-replicate, take_all}
+use Rattle.std.proofs.lemmas.List.FromFn.{fill_by_all, length-map-range_with_len, get_or-map-range_with_len}
 use Rattle.std.proofs.lemmas.Bool.Decides.{nat_tests}
 use Rattle.std.proofs.lemmas.Bool.{cases_lt}
 use Rattle.std.specs.Prelude.{nat_lt, if◌then◌else◌, All}
 use Rattle.std.specs.List.{range_with_len, flat_map, list_all}
-use Rattle.std.proofs.Math.Nat.{mul-le-mul_left, pow-suc, one-le-pow}
-use Rattle.vreg_groups.specs.Elements.{number_at, bytes_of, element_at}
-use Rattle.vreg_groups.specs.NewElements.{filled, new_element, overlaid, replaced, new_bytes}
+use Rattle.std.proofs.Math.Nat.{mul-le-mul_left, pow-suc, one-le-pow, le_of_mul-le-mul_left}
+use Rattle.vreg_groups.specs.Elements.{number_at, bytes_of, bytes_from, element_at, numbers_of}
+use Rattle.vreg_groups.specs.NewElements.{bytes_written, filled, new_element, overlaid, replaced, new_bytes, write_of}
 use Rattle.vreg_groups.specs.declared.policies.Agnostic.{Agnostic}
 use Rattle.vreg_groups.specs.declared.policies.Agnostic.TheVariants.{Keep, Ones}
 use Rattle.vreg_groups.specs.declared.policies.Policy.{Policy}
-use Rattle.vreg_groups.proofs.Places.{length-bytes_of, length-flat_map_range, length_front, flat_map_range_more, drop-replaced, replaced_more, length-new_bytes}
+use Rattle.vreg_groups.specs.VectorLength.{IsVlenb}
+use Rattle.vreg_groups.proofs.Rooms.{group_within, whole_elements}
+use Rattle.vreg_groups.proofs.Places.{length-bytes_of, length-flat_map_range, length_front, flat_map_range_more, drop-replaced, replaced_more, length-new_bytes, number_at_same}
 
 -- pieces that are the same
 pub flat_map_same : (f g : ℕ → List ℕ) (a n : ℕ) → ((i j : ℕ) → i < n → j ≡ a + i → f j ≡ g j) →
@@ -404,3 +406,149 @@ write_is number size at count body told policy values active bytes first second 
     (λ i lt. new_bytes-tail size at policy results active bytes (body + i) (omega arith))
     (second_is ∙ ap (λ n. replaced size at n piece bytes) upto) three in
     last_is ∙ ap (λ n. replaced size at n piece bytes) all
+
+-- ---- groups whose results are all active
+
+active_all : (n i : ℕ) → i < n → get_or (replicate n true) i false ≡ true
+active_all n i lt = get_or-replicate n i true false lt
+
+-- results by their bytes, and the tail
+pub all_is : (size at count : ℕ) (policy : Policy) (results bytes first last : List ℕ) (q d : ℕ) →
+    at + size * count ≤ length bytes → All (λ byte. byte < 256) bytes → length results ≤ count →
+    first ≡ overlaid at (flat_map (bytes_of size) results) bytes →
+    q ≡ at + size * length results → d ≡ size * (count - length results) →
+    last ≡ filled policy.tail (overlaid q (replicate d 0xff) first) first →
+    last ≡ replaced size at count (new_bytes size at policy results (replicate (length results) true) bytes) bytes
+all_is size at count policy results bytes first last q d room all_small few one q_is d_is two =
+    let body = length results in
+    let active = replicate body true in
+    let piece = new_bytes size at policy results active bytes in
+    let sizes : (j : ℕ) → length (piece j) ≡ size = length-new_bytes size at policy results active bytes in
+    let small : (i : ℕ) → get_or bytes i 0 < 256 = below_256 bytes all_small in
+    let first_is : first ≡ replaced size at body piece bytes =
+    one
+    ∙ sym (overlaid_is size at body (result_bytes size results) (flat_map (bytes_of size) results) bytes
+    (length-result_bytes size results) (flat_map-results size results))
+    ∙ replaced_same size at body (result_bytes size results) piece bytes
+    (λ i lt. new_bytes-active size at policy results active bytes i lt (active_all body i lt)) in
+    let all : body + (count - body) ≡ count = omega arith in
+    let whole : size * (body + (count - body)) ≡ size * count = ap (λ n. size * n) all in
+    rest_is size at body (count - body) policy.tail piece bytes first last q d sizes (omega arith) small q_is d_is
+    (λ i lt. new_bytes-tail size at policy results active bytes (body + i) (omega arith)) first_is two
+    ∙ ap (λ n. replaced size at n piece bytes) all
+
+-- the elements of a group do not depend on results that it has no room for
+new_bytes-cut : (size at count body : ℕ) (policy : Policy) (results : List ℕ) (bytes : List ℕ) (i : ℕ) →
+    body ≡ min count (length results) → i < count →
+    new_bytes size at policy (take body results) (replicate body true) bytes i
+    ≡ new_bytes size at policy results (replicate (length results) true) bytes i
+new_bytes-cut size at count body policy results bytes i b lt =
+    elim (cases_lt count (length results)) [
+      | inl more ↦
+          let flags : replicate body true ≡ take body (replicate (length results) true) =
+          sym (take-replicate body (length results) true (omega arith)) in
+          ap (λ active. new_bytes size at policy (take body results) active bytes i) flags
+          ∙ new_bytes-front size at body policy results (replicate (length results) true) bytes i (omega arith)
+          (omega (arith, length-replicate (length results) true)) (omega arith)
+      | inr fits ↦
+          let is : body ≡ length results = omega arith in
+          ap (λ rs. new_bytes size at policy rs (replicate body true) bytes i) (take_all body results (omega arith))
+          ∙ ap (λ n. new_bytes size at policy results (replicate n true) bytes i) is
+    ]
+
+pub write_all_is : {E : Type 0} (number : E → ℕ) (size at count body : ℕ) (policy : Policy) (values : List E)
+    (bytes first last : List ℕ) (q d : ℕ) →
+    at + size * count ≤ length bytes → All (λ byte. byte < 256) bytes → body ≡ min count (length values) →
+    first ≡ overlaid at (flat_map (bytes_of size) (map number (take body values))) bytes →
+    q ≡ at + size * body → d ≡ size * (count - body) →
+    last ≡ filled policy.tail (overlaid q (replicate d 0xff) first) first →
+    last ≡ replaced size at count
+    (new_bytes size at policy (map number values) (replicate (length values) true) bytes) bytes
+write_all_is number size at count body policy values bytes first last q d room all_small b one q_is d_is two =
+    let results = map number values in
+    let put = map number (take body values) in
+    let count_is : length put ≡ body = length-map (take body values) number ∙ length-take-le body values (omega arith) in
+    let len : length results ≡ length values = length-map values number in
+    let place : q ≡ at + size * length put = q_is ∙ ap (λ n. at + size * n) (sym count_is) in
+    let rest : d ≡ size * (count - length put) = d_is ∙ ap (λ n. size * (count - n)) (sym count_is) in
+    let cut : put ≡ take body results = sym (take-map number body values) in
+    all_is size at count policy put bytes first last q d room all_small (omega arith) one place rest two
+    ∙ ap (λ n. replaced size at count (new_bytes size at policy put (replicate n true) bytes) bytes) count_is
+    ∙ ap (λ rs. replaced size at count (new_bytes size at policy rs (replicate body true) bytes) bytes) cut
+    ∙ replaced_same size at count (new_bytes size at policy (take body results) (replicate body true) bytes)
+    (new_bytes size at policy results (replicate (length results) true) bytes) bytes
+    (λ i lt. new_bytes-cut size at count body policy results bytes i (omega arith) lt)
+    ∙ ap (λ n. replaced size at count (new_bytes size at policy results (replicate n true) bytes) bytes) len
+
+-- ---- numbers and their bytes
+
+-- numbers that were read from bytes have those bytes
+pub bytes_of-numbers_of : (size n : ℕ) (bytes : List ℕ) → length bytes ≡ size * n → All (λ byte. byte < 256) bytes →
+    flat_map (bytes_of size) (numbers_of size n bytes) ≡ bytes
+unfolding numbers_of
+bytes_of-numbers_of size n bytes len small =
+    let start : 0 + size * 0 ≡ 0 = omega arith in
+    let none : 0 + n ≡ n = omega arith in
+    let room : 0 + size * (0 + n) ≤ length bytes = omega (arith, ap (λ k. size * k) none) in
+    flat_map-map (bytes_of size) (element_at size 0 bytes) (range_with_len 0 n)
+    ∙ bytes_of-elements size 0 0 n bytes room (below_256 bytes small)
+    ∙ ap (λ k. take (size * n) (drop k bytes)) start
+    ∙ take_all (size * n) bytes (omega arith)
+
+-- the elements of a group are the numbers of its bytes
+pub elements_of_bytes : (size at n : ℕ) (bytes : List ℕ) →
+    map (element_at size at bytes) (range_with_len 0 n) ≡ numbers_of size n (bytes_from at (size * n) bytes)
+unfolding numbers_of element_at
+elements_of_bytes size at n bytes =
+    let part = bytes_from at (size * n) bytes in
+    fill_by_all (element_at size 0 part) (map (element_at size at bytes) (range_with_len 0 n)) n 0
+    (length-map-range_with_len (element_at size at bytes) 0 n)
+    (λ i lt.
+    let within : size * (i + 1) ≤ size * n = mul-le-mul_left size (omega arith) in
+    get_or-map-range_with_len (element_at size at bytes) 0 n i i 0 lt (omega arith)
+    ∙ number_at_same size (at + size * i) (0 + size * i) bytes part
+    (λ k a b below p q.
+    let inside : b < size * n = omega arith in
+    let place : at + b ≡ a = omega arith in
+    sym (get_or-take (size * n) (drop at bytes) b 0 inside ∙ get_or-drop at bytes b 0 ∙ ap (λ j. get_or bytes j 0) place)))
+
+length-numbers_of : (size n : ℕ) (bytes : List ℕ) → length (numbers_of size n bytes) ≡ n
+unfolding numbers_of
+length-numbers_of size n bytes = length-map-range_with_len (element_at size 0 bytes) 0 n
+
+mul-add : (a b c : ℕ) → a * (b + c) ≡ a * b + a * c
+mul-add a b c = omega arith
+
+-- a group written by the bytes of its body
+pub written_bytes : (vlenb size first count vl : ℕ) (policy : Policy) (given file : List ℕ) → IsVlenb vlenb →
+    (size ≡ 1) ⊎ (size ≡ 2) ⊎ (size ≡ 4) → first + count ≤ 32 → length file ≡ 32 * vlenb →
+    All (λ byte. byte < 256) file → All (λ byte. byte < 256) given → length given ≡ size * vl →
+    size * vl ≤ count * vlenb →
+    bytes_written (first * vlenb) ((first + count) * vlenb) policy.tail given file
+    ≡ write_of vlenb size first count policy (numbers_of size vl given) (replicate vl true) file
+unfolding bytes_written write_of
+written_bytes vlenb size first count vl policy given file v s group registers file_small given_small len fits =
+    let at = first * vlenb in
+    let elements = count * vlenb / size in
+    let all : size * elements ≡ count * vlenb = whole_elements vlenb size count v s in
+    let positive : 0 < size = omega arith in
+    let room : at + size * elements ≤ length file = group_within vlenb size first count (length file) v s group registers in
+    let few : vl ≤ elements = le_of_mul-le-mul_left {m = vl} {n = elements} {k = size} (omega arith) positive in
+    let results = numbers_of size vl given in
+    let results_len : length results ≡ vl = length-numbers_of size vl given in
+    let put = overlaid at given file in
+    let past = at + length given in
+    let end = (first + count) * vlenb in
+    let one : put ≡ overlaid at (flat_map (bytes_of size) results) file =
+    ap (λ xs. overlaid at xs file) (sym (bytes_of-numbers_of size vl given len given_small)) in
+    let parts : elements ≡ vl + (elements - vl) = omega arith in
+    let split : size * elements ≡ size * vl + size * (elements - vl) =
+    ap (λ n. size * n) parts ∙ mul-add size vl (elements - vl) in
+    let q : past ≡ at + size * length results = ap (λ n. at + n) len ∙ ap (λ n. at + size * n) (sym results_len) in
+    let ends : end ≡ at + count * vlenb = omega arith in
+    let d : end - past ≡ size * (elements - length results) =
+    omega (arith, ap (λ n. size * (elements - n)) results_len) in
+    all_is size at elements policy results file put
+    (filled policy.tail (overlaid past (replicate (end - past) 0xff) put) put) past (end - past) room file_small (omega arith)
+    one q d refl
+    ∙ ap (λ n. replaced size at elements (new_bytes size at policy results (replicate n true) file) file) results_len

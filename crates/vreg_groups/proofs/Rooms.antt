@@ -1,6 +1,6 @@
 -- That groups of registers, and the elements in them, lie in the registers.
-use Rattle.std.proofs.Common.{ℕ, ◌+◌, ◌*◌, ◌/◌, ◌<◌, ◌≤◌, ◌≡◌, ◌⊎◌, inl, inr, arith}
-use Rattle.std.proofs.Math.Nat.{mul-le-mul_left, mul-div-le}
+use Rattle.std.proofs.Common.{ℕ, ◌+◌, ◌*◌, ◌/◌, ◌<◌, ◌≤◌, ◌≡◌, ◌⊎◌, inl, inr, arith, ap, sym, ◌∙◌}
+use Rattle.std.proofs.Math.Nat.{mul-le-mul_left, mul-div-le, mul-div_cancel_left}
 use Rattle.std.proofs.lemmas.Nat.{le-div}
 use Rattle.vreg_groups.specs.VectorLength.{IsVlenb}
 
@@ -37,3 +37,23 @@ pub register_outside : (vlenb register k : ℕ) → (k < register * vlenb) ⊎ (
     (k < register * vlenb) ⊎ (register * vlenb + 1 * vlenb ≤ k)
 register_outside vlenb register k (inl below) = inl below
 register_outside vlenb register k (inr past) = inr (omega arith)
+
+-- a register has a whole number of elements, and so has a group
+per_register : (vlenb size : ℕ) → IsVlenb vlenb → (size ≡ 1) ⊎ (size ≡ 2) ⊎ (size ≡ 4) → (k : ℕ) × (vlenb ≡ size * k)
+per_register vlenb size (inl v) (inl s) = (16, omega arith)
+per_register vlenb size (inl v) (inr (inl s)) = (8, omega arith)
+per_register vlenb size (inl v) (inr (inr s)) = (4, omega arith)
+per_register vlenb size (inr v) (inl s) = (32, omega arith)
+per_register vlenb size (inr v) (inr (inl s)) = (16, omega arith)
+per_register vlenb size (inr v) (inr (inr s)) = (8, omega arith)
+
+pub whole_elements : (vlenb size count : ℕ) → IsVlenb vlenb → (size ≡ 1) ⊎ (size ≡ 2) ⊎ (size ≡ 4) →
+    size * (count * vlenb / size) ≡ count * vlenb
+whole_elements vlenb size count v s =
+    let k = (per_register vlenb size v s).0 in
+    let e : vlenb ≡ size * k = (per_register vlenb size v s).1 in
+    let positive : 0 < size = omega arith in
+    let all : count * vlenb ≡ size * (count * k) = ap (λ n. count * n) e ∙ omega arith in
+    let elements : count * vlenb / size ≡ count * k =
+    ap (λ n. n / size) all ∙ mul-div_cancel_left (count * k) positive in
+    ap (λ n. size * n) elements ∙ sym all

@@ -1,6 +1,6 @@
 -- Elements and mask bits of the vector registers ("Mapping of Vector Elements to Vector Register State"). A `file` is
 -- the bytes of the 32 registers end to end, `vlenb` of them for each register.
-use Rattle.std.specs.Prelude.{Bool, true, ℕ, zero, suc, ◌+◌, ◌*◌, ◌/◌, ◌%◌, ◌^◌, ◌==◌, if◌then◌else◌, List, [], ◌∷◌, map, replicate, slice_index}
+use Rattle.std.specs.Prelude.{Bool, true, ℕ, zero, suc, ◌+◌, ◌*◌, ◌/◌, ◌%◌, ◌^◌, ◌==◌, if◌then◌else◌, List, [], ◌∷◌, map, replicate, slice_index, take, drop}
 use Rattle.std.specs.List.{range_with_len}
 
 -- the little-endian number of the `size` bytes from place `at` on
@@ -20,6 +20,14 @@ element_at size at bytes i = number_at size (at + size * i) bytes
 -- the first `count` elements, of `size` bytes, of the group that begins at register `first`
 unfoldable pub elements_of : ℕ → ℕ → ℕ → ℕ → List ℕ → List ℕ
 elements_of vlenb size first count file = map (element_at size (first * vlenb) file) (range_with_len 0 count)
+
+-- the first `count` numbers, of `size` bytes each, of bytes end to end
+unfoldable pub numbers_of : ℕ → ℕ → List ℕ → List ℕ
+numbers_of size count bytes = map (element_at size 0 bytes) (range_with_len 0 count)
+
+-- n bytes from place `at` on
+abbrev pub bytes_from : ℕ → ℕ → List ℕ → List ℕ
+bytes_from at n bytes = take n (drop at bytes)
 
 -- bit k of a byte, the lowest first
 unfoldable pub bit_of : ℕ → ℕ → Bool

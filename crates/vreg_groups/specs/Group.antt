@@ -1,9 +1,9 @@
 -- The group of registers that an operand stands for, and the elements of the body that lie in it ("Vector Register
 -- Grouping", "Mapping of Vector Elements to Vector Register State").
-use Rattle.std.specs.Prelude.{ℕ, ◌+◌, ◌*◌, ◌/◌, Bool, List}
+use Rattle.std.specs.Prelude.{◌≡◌, ◌⊎◌, ℕ, ◌+◌, ◌*◌, ◌/◌, Bool, List}
 use Rattle.vreg_groups.specs.Words.{Count, Eew, Policy, Vtype, Width}
 use Rattle.rv_decode.specs.declared.extents.Extent.TheVariants as extent
-use Rattle.vreg_groups.specs.Elements.{elements_of}
+use Rattle.vreg_groups.specs.Elements.{bytes_from, elements_of}
 use Rattle.vreg_groups.specs.Legality.{eew_bits, group_count, whole_count, IsInside}
 use Rattle.vreg_groups.specs.NewElements.{write_of}
 use Rattle.vreg_groups.specs.VectorType.{bytes_of_width}
@@ -35,6 +35,14 @@ IsGroupInside t first eew = IsInside t (record { first = first; extent = extent.
 -- the elements of its body
 unfoldable pub body_of : ℕ → Span → List ℕ → List ℕ
 body_of vlenb group file = elements_of vlenb group.bytes group.first group.vl file
+
+-- the bytes of those elements
+unfoldable pub body_bytes : ℕ → Span → List ℕ → List ℕ
+body_bytes vlenb group file = bytes_from (group.first * vlenb) (group.bytes * group.vl) file
+
+-- an element has 8, 16 or 32 bits
+abbrev pub IsSize : ℕ → Type 0
+IsSize size = (size ≡ 1) ⊎ (size ≡ 2) ⊎ (size ≡ 4)
 
 -- the registers after results were written to it
 unfoldable pub written : ℕ → Span → Policy → List ℕ → List Bool → List ℕ → List ℕ

@@ -1,6 +1,6 @@
 -- What the elements of a destination become ("Prestart, Active, Inactive, Body, and Tail Element Definitions",
 -- "Vector Tail Agnostic and Vector Mask Agnostic").
-use Rattle.std.specs.Prelude.{Bool, true, false, ℕ, ◌+◌, ◌-◌, ◌*◌, ◌/◌, ◌^◌, nat_lt, if◌then◌else◌, List, [], ◌∷◌, ◌++◌, length, take, drop, slice_index, slice_index_or}
+use Rattle.std.specs.Prelude.{Bool, true, false, ℕ, ◌+◌, ◌-◌, ◌*◌, ◌/◌, ◌^◌, nat_lt, if◌then◌else◌, List, [], ◌∷◌, ◌++◌, length, take, drop, replicate, slice_index, slice_index_or}
 use Rattle.std.specs.List.{range_with_len, flat_map}
 use Rattle.vreg_groups.specs.Words.{Agnostic, Keep, Ones, Policy, Vtype}
 use Rattle.vreg_groups.specs.Elements.{element_at, bytes_of, bit_of, number_of_bits}
@@ -48,6 +48,14 @@ new_bytes size at policy results active bytes i =
 unfoldable pub write_of : ℕ → ℕ → ℕ → ℕ → Policy → List ℕ → List Bool → List ℕ → List ℕ
 write_of vlenb size first count policy results active file =
     replaced size (first * vlenb) (count * vlenb / size) (new_bytes size (first * vlenb) policy results active file) file
+
+-- the same where the results are all active, by their bytes: these stand from place `at` on, and what follows them, up to
+-- place `end`, is the tail
+unfoldable pub bytes_written : ℕ → ℕ → Agnostic → List ℕ → List ℕ → List ℕ
+bytes_written at end tail results bytes =
+    let put = overlaid at results bytes in
+    let past = at + length results in
+    filled tail (overlaid past (replicate (end - past) 0xff) put) put
 
 -- byte j of a mask: its eight new bits
 unfoldable pub new_mask_byte : Policy → List Bool → List Bool → ℕ → ℕ → ℕ

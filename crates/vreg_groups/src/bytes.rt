@@ -1,9 +1,9 @@
 //! Elements and mask bits of register groups, over the bytes of the registers.
 
-ghost use Rattle.std.specs.Prelude.{◌≡◌, ℕ, ◌+◌, ◌*◌, ◌<◌, ◌≤◌, length, map, replicate, All};
+ghost use Rattle.std.specs.Prelude.{◌≡◌, ℕ, ◌+◌, ◌*◌, ◌<◌, ◌≤◌, true, length, map, replicate, All};
 ghost use Rattle.std.specs.List.{flat_map, list_all, range_with_len};
 ghost use Rattle.vreg_groups.specs.Elements.{bytes_of, element_at, bit_of, bit_at, number_of_bits};
-ghost use Rattle.vreg_groups.specs.NewElements.{filled, overlaid, replaced, new_bytes, new_mask_byte, new_mask_bytes};
+ghost use Rattle.vreg_groups.specs.NewElements.{bytes_written, filled, overlaid, replaced, new_bytes, new_mask_byte, new_mask_bytes};
 
 use crate::elements::Element;
 use crate::policies::{Agnostic, Policy, new_element};
@@ -78,8 +78,59 @@ pub(crate) fn write_elements<E: Element>(
     );
 }
 
+/// The same where each result is active.
+pub(crate) fn write_all_elements<E: Element>(
+    bytes: &mut [u8],
+    at: usize,
+    count: usize,
+    values: &[E],
+    policy: Policy,
+)
+    requires { at + E.SIZE * count ≤ length bytes.old }
+    ensures { bytes.new ≡ replaced E.SIZE at count
+        (new_bytes E.SIZE at policy (map E.number values.now)
+        (replicate (length values.now) true) bytes.old) bytes.old }
+{
+    are_bytes(bytes);
+    let body = count.min(values.len());
+    put_elements(bytes, at, &values[..body]);
+    fill_if(
+        bytes,
+        at + E::SIZE * body,
+        E::SIZE * (count - body),
+        policy.tail,
+    );
+}
+
+/// The same by the bytes of the results, where the group ends at place `end`.
+#[tactic(auto, unfolding(crate::specs::NewElements::bytes_written))]
+pub(crate) fn write_all_bytes(
+    bytes: &mut [u8],
+    at: usize,
+    end: usize,
+    results: &[u8],
+    tail: Agnostic,
+)
+    requires results { at + length results.now ≤ end }
+    requires room { end ≤ length bytes.old }
+    ensures { bytes.new ≡ bytes_written at end tail results.now bytes.old }
+{
+    overlay(bytes, at, results);
+    let past = at + results.len();
+    fill_if(bytes, past, end - past, tail);
+}
+
+/// Puts bytes over others, from place `at` on.
+#[tactic(auto, unfolding(crate::specs::NewElements::overlaid))]
+pub(crate) fn overlay(bytes: &mut [u8], at: usize, others: &[u8])
+    requires { at + length others.now ≤ length bytes.old }
+    ensures { bytes.new ≡ overlaid at others.now bytes.old }
+{
+    bytes[at..at + others.len()].copy_from_slice(others);
+}
+
 /// Each of the bytes is below 256: a proof hears here of the bytes before a write.
-fn are_bytes(bytes: &[u8])
+pub(crate) fn are_bytes(bytes: &[u8])
     ensures { All (λ byte. byte < 256) bytes.now }
 {
     let _ = bytes;

@@ -1,12 +1,15 @@
 //! The group of registers that an operand of an instruction stands for.
 
-ghost use Rattle.std.specs.Prelude.{◌≡◌, ◌≤◌, ◌+◌, ◌*◌, length, map};
-ghost use Rattle.vreg_groups.specs.Group.{IsGroupInside, group_of, body_of, mask_bytes_of, whole_of, written};
+ghost use Rattle.std.specs.Prelude.{◌≡◌, ◌≤◌, ◌+◌, ◌*◌, true, length, map, replicate};
+ghost use Rattle.std.specs.List.{flat_map};
+ghost use Rattle.vreg_groups.specs.Elements.{bytes_of, numbers_of};
+ghost use Rattle.vreg_groups.specs.Group.{IsGroupInside, IsSize, group_of, body_bytes, body_of, mask_bytes_of, whole_of, written};
 ghost use Rattle.vreg_groups.specs.Legality.{whole_count};
 ghost use Rattle.vreg_groups.specs.VectorLength.{IsVlenb};
 ghost use Rattle.vreg_groups.specs.VectorType.{vlmax_of};
 ghost use Rattle.vreg_groups.specs.declared.vector_type.TheConstants.{MOST_ELEMENTS};
 
+use crate::bytes::are_bytes;
 use crate::elements::Element;
 use crate::legality::whole_count;
 use crate::policies::Policy;
@@ -117,5 +120,48 @@ impl<const VLENB: usize> Group<VLENB> {
             active.now registers.old }
     {
         registers.write_group(self.first, self.count, results, active, policy);
+    }
+
+    /// Writes results to the group, all of them active: the instruction is not masked.
+    #[tactic(auto, unfolding(crate::specs::Group::written))]
+    pub fn write_all<E: Element>(
+        &self,
+        registers: &mut VregFile<VLENB>,
+        results: &[E],
+        policy: Policy,
+    )
+        requires { E.SIZE ≡ self.now.bytes }
+        ensures { registers.new ≡ written VLENB self.now policy (map E.number results.now)
+            (replicate (length results.now) true) registers.old }
+    {
+        registers.write_group_all(self.first, self.count, results, policy);
+    }
+
+    /// The bytes of the elements of the body: from the group's first byte on.
+    #[tactic(auto, unfolding(crate::specs::Group::body_bytes))]
+    pub fn body_bytes<'a>(&self, registers: &'a VregFile<VLENB>) -> &'a [u8]
+        ensures meaning { result.now ≡ body_bytes VLENB self.now registers.now }
+        ensures size { length result.now ≡ self.now.bytes * self.now.vl }
+        ensures numbers { body_of VLENB self.now registers.now
+            ≡ numbers_of self.now.bytes self.now.vl result.now }
+        ensures bytes { flat_map (bytes_of self.now.bytes) (body_of VLENB self.now registers.now)
+            ≡ result.now }
+    {
+        let group = registers.register_bytes(self.first, self.count);
+        let bytes = &group[..self.bytes * self.vl];
+        are_bytes(bytes);
+        bytes
+    }
+
+    /// Writes to the group the body whose elements have these bytes, all of them active.
+    pub fn write_bytes(&self, registers: &mut VregFile<VLENB>, results: &[u8], policy: Policy)
+        requires size { IsSize self.now.bytes }
+        requires length { length results.now ≡ self.now.bytes * self.now.vl }
+        ensures { registers.new ≡ written VLENB self.now policy
+            (numbers_of self.now.bytes self.now.vl results.now) (replicate self.now.vl true)
+            registers.old }
+    {
+        are_bytes(results);
+        registers.write_group_bytes(self.first, self.count, results, policy.tail);
     }
 }

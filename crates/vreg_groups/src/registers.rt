@@ -1,14 +1,17 @@
 //! The 32 vector registers.
 
-ghost use Rattle.std.specs.Prelude.{◌≡◌, ℕ, ◌+◌, ◌*◌, ◌/◌, ◌<◌, ◌≤◌, ◌⊎◌, ◌++◌, length, map, replicate, take, drop, slice_index};
+ghost use Rattle.std.specs.Prelude.{◌≡◌, ℕ, ◌+◌, ◌*◌, ◌/◌, ◌<◌, ◌≤◌, ◌⊎◌, ◌++◌, true, length, map, replicate, take, drop, slice_index, All};
 ghost use Rattle.vreg_groups.specs.Copies.{copied};
-ghost use Rattle.vreg_groups.specs.Elements.{mask_bit, element_at, elements_of, mask_bits, active_of};
+ghost use Rattle.vreg_groups.specs.Elements.{mask_bit, bytes_from, element_at, elements_of, mask_bits, active_of};
 ghost use Rattle.vreg_groups.specs.VectorLength.{IsVlenb};
-ghost use Rattle.vreg_groups.specs.NewElements.{write_of, mask_write_of};
+ghost use Rattle.vreg_groups.specs.NewElements.{bytes_written, overlaid, write_of, mask_write_of};
 
-use crate::bytes::{bit_at, read_bits, read_elements, write_bits, write_elements};
+use crate::bytes::{
+    are_bytes, bit_at, overlay, read_bits, read_elements, write_all_bytes, write_all_elements,
+    write_bits, write_elements,
+};
 use crate::elements::Element;
-use crate::policies::Policy;
+use crate::policies::{Agnostic, Policy};
 use rv_decode::Reg;
 use std::marker::Model;
 
@@ -134,6 +137,76 @@ impl<const VLENB: usize> VregFile<VLENB> {
             active,
             policy,
         );
+    }
+
+    /// The same where every result is active: the instruction is not masked.
+    #[tactic(auto, unfolding(crate::specs::NewElements::write_of))]
+    pub fn write_group_all<E: Element>(
+        &mut self,
+        first: Reg,
+        count: usize,
+        values: &[E],
+        policy: Policy,
+    )
+        requires { first + count ≤ 32 }
+        ensures meaning { self.new ≡ write_of VLENB E.SIZE first count policy
+            (map E.number values.now) (replicate (length values.now) true) self.old }
+        ensures shape { length self.new ≡ 32 * VLENB }
+    {
+        let _ = &self.bytes;
+        let bytes = &mut self.bytes[..32 * VLENB];
+        write_all_elements(
+            bytes,
+            place_of(first, VLENB),
+            count * VLENB / E::SIZE,
+            values,
+            policy,
+        );
+    }
+
+    /// The same by the bytes of the results, end to end.
+    pub(crate) fn write_group_bytes(
+        &mut self,
+        first: Reg,
+        count: usize,
+        results: &[u8],
+        tail: Agnostic,
+    )
+        requires group { first + count ≤ 32 }
+        requires results { length results.now ≤ count * VLENB }
+        ensures meaning { self.new ≡ bytes_written (first * VLENB) ((first + count) * VLENB) tail
+            results.now self.old }
+        ensures bytes { All (λ byte. byte < 256) self.old }
+        ensures shape { length self.old ≡ 32 * VLENB }
+    {
+        let _ = &self.bytes;
+        let bytes = &mut self.bytes[..32 * VLENB];
+        are_bytes(bytes);
+        let at = place_of(first, VLENB);
+        write_all_bytes(bytes, at, at + count * VLENB, results, tail);
+    }
+
+    /// The bytes of `count` registers, from register `first` on.
+    pub fn register_bytes(&self, first: Reg, count: usize) -> &[u8]
+        requires { first + count ≤ 32 }
+        ensures meaning { result.now ≡ bytes_from (first * VLENB) (count * VLENB) self.now }
+        ensures size { length result.now ≡ count * VLENB }
+    {
+        let bytes = &self.bytes;
+        let bytes = &bytes[..32 * VLENB];
+        let at = place_of(first, VLENB);
+        &bytes[at..at + count * VLENB]
+    }
+
+    /// Replaces the bytes of registers, from register `first` on.
+    pub fn set_register_bytes(&mut self, first: Reg, others: &[u8])
+        requires { first * VLENB + length others.now ≤ 32 * VLENB }
+        ensures meaning { self.new ≡ overlaid (first * VLENB) others.now self.old }
+        ensures shape { length self.old ≡ 32 * VLENB }
+    {
+        let _ = &self.bytes;
+        let bytes = &mut self.bytes[..32 * VLENB];
+        overlay(bytes, place_of(first, VLENB), others);
     }
 
     /// Writes a mask to a register: bit `i` becomes result `i` where it is below the number of results and active. Its

@@ -55,3 +55,32 @@ fn a_group_is_written_and_read(rt: HostRuntime) -> Result<(), Fail> {
     assert_eq!(rt; registers.byte(Reg::new(5), 0), 0);
     Ok(())
 }
+
+#[tactic(auto, unfolding(crate::specs::VectorType::vlmax_of, crate::specs::Legality::count_of, crate::specs::Legality::element_bits, crate::specs::Legality::group_count, crate::specs::Legality::emul_eighths))]
+#[test]
+fn a_body_is_written_and_read_by_its_bytes(rt: HostRuntime) -> Result<(), Fail> {
+    let vtype = Vtype {
+        sew: Width::W16,
+        lmul: Lmul::One,
+        vta: true,
+        vma: false,
+    };
+    let policy = Policy::of(Agnostic::Ones, &vtype);
+    let mut registers = VregFile::<16>::new();
+    let group = Group::<16>::new(&vtype, 3, Reg::new(4), Eew::Same);
+    group.write_all(&mut registers, &[1u16, 2, 0x304], policy);
+    assert_eq!(rt; group.body_bytes(&registers), [1, 0, 2, 0, 4, 3].as_slice());
+    group.write_bytes(&mut registers, &[5, 6, 7, 8, 9, 10], policy);
+    assert_eq!(rt;
+        group.body_bytes(&registers),
+        [5, 6, 7, 8, 9, 10].as_slice()
+    );
+    assert_eq!(rt; registers.byte(Reg::new(4), 6), 0xff);
+    registers.set_register_bytes(Reg::new(4), &[11; 16]);
+    assert_eq!(rt;
+        registers.register_bytes(Reg::new(4), 1),
+        [11; 16].as_slice()
+    );
+    assert_eq!(rt; registers.byte(Reg::new(5), 0), 0);
+    Ok(())
+}
