@@ -1,6 +1,6 @@
 -- A write in parts: the bytes of results, and what is filled.
 use Rattle.std.proofs.Common.{Bool, true, false, ℕ, zero, suc, ◌+◌, ◌-◌, ◌*◌, ◌/◌, ◌%◌, ◌^◌, ◌<◌, ◌≤◌, ◌≡◌, ◌⊎◌, List, [], ◌∷◌, ◌++◌, length, map, take, drop, get_or, replicate, min, inl, inr, arith, refl, ap, sym, ◌∙◌, append_assoc, append-nil, zero-add}
-use Rattle.std.proofs.lemmas.List.{take_at, drop_at, drop-drop, drop_more, take-append-drop, length-map, get_or-map, length-take-le, get_or-take, length-drop, take-map, replicate-append-replicate, get_or_default, get_or_past, get_or-replicate, take-replicate, get_or-drop, length-replicate, take_all}
+use Rattle.std.proofs.lemmas.List.{nil_from_length, take_at, drop_at, drop-drop, drop_more, take-append-drop, length-map, get_or-map, length-take-le, get_or-take, length-drop, take-map, replicate-append-replicate, get_or_default, get_or_past, get_or-replicate, take-replicate, get_or-drop, length-replicate, take_all}
 use Rattle.std.proofs.lemmas.List.FromFn.{fill_by_all, length-map-range_with_len, get_or-map-range_with_len}
 use Rattle.std.proofs.lemmas.Bool.Decides.{nat_tests}
 use Rattle.std.proofs.lemmas.Bool.{cases_lt}
@@ -14,7 +14,7 @@ use Rattle.vreg_groups.specs.declared.policies.Agnostic.TheVariants.{Keep, Ones}
 use Rattle.vreg_groups.specs.declared.policies.Policy.{Policy}
 use Rattle.vreg_groups.specs.VectorLength.{IsVlenb}
 use Rattle.vreg_groups.proofs.Rooms.{group_within, whole_elements}
-use Rattle.vreg_groups.proofs.Places.{length-bytes_of, length-flat_map_range, length_front, flat_map_range_more, drop-replaced, replaced_more, length-new_bytes, number_at_same}
+use Rattle.vreg_groups.proofs.Places.{bytes_of-suc, length-bytes_of, length-flat_map_range, length_front, flat_map_range_more, drop-replaced, replaced_more, length-new_bytes, number_at_same}
 
 -- pieces that are the same
 pub flat_map_same : (f g : ℕ → List ℕ) (a n : ℕ) → ((i j : ℕ) → i < n → j ≡ a + i → f j ≡ g j) →
@@ -83,14 +83,14 @@ replaced_then size at m n piece others bytes h room e =
 
 -- the bytes of the number whose bits are all ones
 bytes_of_ones : (n : ℕ) → bytes_of n (256 ^ n - 1) ≡ replicate n 0xff
-unfolding bytes_of
-bytes_of_ones zero = refl
+bytes_of_ones zero = nil_from_length (bytes_of 0 0) (length-bytes_of 0 0)
 bytes_of_ones (suc n) =
     let power : 256 ^ suc n ≡ 256 ^ n * 256 = pow-suc 256 n in
     let positive : 0 < 256 ^ n = one-le-pow n 256 (omega arith) in
     let low : (256 ^ suc n - 1) % 256 ≡ 0xff = omega arith in
     let high : (256 ^ suc n - 1) / 256 ≡ 256 ^ n - 1 = omega arith in
-    ap (λ b. b ∷ bytes_of n ((256 ^ suc n - 1) / 256)) low
+    bytes_of-suc n (256 ^ suc n - 1)
+    ∙ ap (λ b. b ∷ bytes_of n ((256 ^ suc n - 1) / 256)) low
     ∙ ap (λ v. 0xff ∷ bytes_of n v) high
     ∙ ap (λ xs. 0xff ∷ xs) (bytes_of_ones n)
 
@@ -109,15 +109,19 @@ flat_map_ones size a (suc n) =
 -- a number's bytes are those that it was read from
 pub bytes_of-number_at : (n at : ℕ) (bytes : List ℕ) → at + n ≤ length bytes → ((i : ℕ) → get_or bytes i 0 < 256) →
     bytes_of n (number_at n at bytes) ≡ take n (drop at bytes)
-unfolding bytes_of number_at
-bytes_of-number_at zero at bytes room small = refl
+unfolding number_at
+bytes_of-number_at zero at bytes room small = nil_from_length (bytes_of 0 0) (length-bytes_of 0 0)
 bytes_of-number_at (suc n) at bytes room small =
     let low = small at in
-    let byte : (get_or bytes at 0 + 256 * number_at n (at + 1) bytes) % 256 ≡ get_or bytes at 0 = omega arith in
-    let high : (get_or bytes at 0 + 256 * number_at n (at + 1) bytes) / 256 ≡ number_at n (at + 1) bytes = omega arith in
-    ap (λ b. b ∷ bytes_of n ((get_or bytes at 0 + 256 * number_at n (at + 1) bytes) / 256)) byte
+    let number = get_or bytes at 0 + 256 * number_at n (suc at) bytes in
+    let next : at + 1 ≡ suc at = omega arith in
+    let byte : number % 256 ≡ get_or bytes at 0 = omega arith in
+    let high : number / 256 ≡ number_at n (suc at) bytes = omega arith in
+    bytes_of-suc n number
+    ∙ ap (λ b. b ∷ bytes_of n (number / 256)) byte
     ∙ ap (λ v. get_or bytes at 0 ∷ bytes_of n v) high
-    ∙ ap (λ xs. get_or bytes at 0 ∷ xs) (bytes_of-number_at n (at + 1) bytes (omega arith) small)
+    ∙ ap (λ xs. get_or bytes at 0 ∷ xs) (bytes_of-number_at n (suc at) bytes (omega arith) small)
+    ∙ ap (λ k. get_or bytes at 0 ∷ take n (drop k bytes)) (sym next)
     ∙ ap (take (suc n)) (sym (drop_more bytes at 0 (omega arith)))
 
 take_more_than : (a b : ℕ) (xs : List ℕ) → take a xs ++ take b (drop a xs) ≡ take (a + b) xs

@@ -1,10 +1,13 @@
 -- Facts on bytes, and on pieces of bytes that are replaced one after another.
-use Rattle.std.proofs.Common.{Bool, ℕ, zero, suc, ◌+◌, ◌-◌, ◌*◌, ◌^◌, ◌<◌, ◌≤◌, ◌≡◌, List, [], ◌∷◌, ◌++◌, length, map, take, drop, set, get_or, arith, refl, ap, sym, ◌∙◌, length-append, append_assoc, append-nil, zero-add}
+use Rattle.std.proofs.Common.{Bool, ℕ, zero, suc, ◌+◌, ◌-◌, ◌*◌, ◌/◌, ◌%◌, ◌^◌, ◌<◌, ◌≤◌, ◌≡◌, List, [], ◌∷◌, ◌++◌, length, map, take, drop, set, get_or, arith, refl, ap, sym, ◌∙◌, length-append, append_assoc, append-nil, zero-add}
 use Rattle.std.proofs.lemmas.List.{take_at, drop_at, drop-drop, take-append-drop, set_split, length-map, get_or-map, length-take-le, get_or-drop, map-id}
 use Rattle.std.proofs.lemmas.List.Concat.{flat_map-append}
 use Rattle.std.proofs.lemmas.List.FromFn.{map-range_with_len_more, fill_by_all}
 use Rattle.std.specs.Prelude.{nat_lt, true, false, if◌then◌else◌}
 use Rattle.std.specs.List.{range_with_len, flat_map}
+use Rattle.std.proofs.Math.Nat.{pow-succ', div-div-eq-div-mul, div-one}
+use Rattle.std.specs.Int.{byte_at, bytes_low_first}
+use Rattle.byteorder.specs.Numbers.{length-bytes_low_first}
 use Rattle.vreg_groups.specs.Elements.{number_at, bytes_of, element_at}
 use Rattle.vreg_groups.specs.NewElements.{filled, new_element, replaced, new_bytes, new_mask_byte, new_mask_bytes}
 use Rattle.vreg_groups.specs.declared.policies.Agnostic.{Agnostic}
@@ -14,8 +17,26 @@ use Rattle.vreg_groups.specs.declared.policies.Policy.{Policy}
 -- a number of n bytes takes n bytes
 pub length-bytes_of : (n v : ℕ) → length (bytes_of n v) ≡ n
 unfolding bytes_of
-length-bytes_of zero v = refl
-length-bytes_of (suc n) v = ap suc (length-bytes_of n _)
+length-bytes_of n v = length-bytes_low_first 0 n v
+
+byte_at_place : (k v : ℕ) → byte_at k v ≡ v / 256 ^ k % 256
+byte_at_place zero v = ap (λ x. x % 256) (sym (div-one v))
+byte_at_place (suc k) v = refl
+
+bytes_above : (j n v : ℕ) → bytes_low_first (suc j) n v ≡ bytes_low_first j n (v / 256)
+bytes_above j zero v = refl
+bytes_above j (suc n) v =
+    let place : v / 256 ^ suc j ≡ v / 256 / 256 ^ j =
+    ap (λ p. v / p) (pow-succ' 256 j) ∙ sym (div-div-eq-div-mul v 256 (256 ^ j)) in
+    let byte : byte_at (suc j) v ≡ byte_at j (v / 256) =
+    ap (λ x. x % 256) place ∙ sym (byte_at_place j (v / 256)) in
+    ap (λ b. b ∷ bytes_low_first (suc (suc j)) n v) byte
+    ∙ ap (λ xs. byte_at j (v / 256) ∷ xs) (bytes_above (suc j) n v)
+
+-- the lowest byte and the others
+pub bytes_of-suc : (n v : ℕ) → bytes_of (suc n) v ≡ v % 256 ∷ bytes_of n (v / 256)
+unfolding bytes_of
+bytes_of-suc n v = ap (λ xs. v % 256 ∷ xs) (bytes_above 0 n v)
 
 -- a number is made of its own bytes alone
 pub number_at_same : (n a b : ℕ) (xs ys : List ℕ) →
@@ -25,8 +46,8 @@ unfolding number_at
 number_at_same zero a b xs ys h = refl
 number_at_same (suc n) a b xs ys h =
     let low : get_or xs a 0 ≡ get_or ys b 0 = h 0 a b (omega arith) (omega arith) (omega arith) in
-    let high : number_at n (a + 1) xs ≡ number_at n (b + 1) ys =
-    number_at_same n (a + 1) (b + 1) xs ys (λ k i j lt p q. h (suc k) i j (omega arith) (omega arith) (omega arith)) in
+    let high : number_at n (suc a) xs ≡ number_at n (suc b) ys =
+    number_at_same n (suc a) (suc b) xs ys (λ k i j lt p q. h (suc k) i j (omega arith) (omega arith) (omega arith)) in
     cc
 
 -- a number is read from its place on

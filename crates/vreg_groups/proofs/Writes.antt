@@ -1,11 +1,14 @@
 -- What one element and one mask bit become where pieces of bytes are replaced.
-use Rattle.std.proofs.Common.{Bool, true, false, ℕ, zero, suc, ◌+◌, ◌-◌, ◌*◌, ◌/◌, ◌%◌, ◌^◌, ◌<◌, ◌≤◌, ◌≡◌, ◌⊎◌, inl, inr, List, ◌∷◌, ◌++◌, length, take, drop, get_or, arith, refl, ap, sym, ◌∙◌, zero-add}
+use Rattle.std.proofs.Common.{Bool, true, false, ℕ, zero, suc, ◌+◌, ◌-◌, ◌*◌, ◌/◌, ◌%◌, ◌^◌, ◌<◌, ◌≤◌, ◌≡◌, ◌⊎◌, inl, inr, List, [], append-nil, ◌++◌, length, take, drop, get_or, arith, refl, ap, sym, ◌∙◌, zero-add}
 use Rattle.std.proofs.lemmas.List.{length-take-le, get_or-drop, get_or-append-add, get_or_append_left, get_or-append_right, get_or-take, get_or_past, map-id}
 use Rattle.std.proofs.lemmas.List.Concat.{get_or-flat_map}
 use Rattle.std.proofs.lemmas.List.FromFn.{take-map-range_with_len, length-range_with_len, get_or-range_with_len}
 use Rattle.std.proofs.lemmas.Nat.Bits.{bit_at_cat_low, bit_at_cat_high}
 use Rattle.std.specs.Prelude.{nat_lt, ◌==◌, if◌then◌else◌, All}
 use Rattle.std.specs.List.{range_with_len, flat_map}
+use Rattle.std.specs.Int.{bytes_low_first}
+use Rattle.byteorder.specs.Endian.{little_from}
+use Rattle.byteorder.specs.Numbers.{little_from-lt, little_number-reads_back}
 use Rattle.vreg_groups.specs.Elements.{number_at, bytes_of, element_at, bit_of, bit_at, number_of_bits}
 use Rattle.vreg_groups.specs.NewElements.{filled, new_element, replaced, new_bytes, new_mask_byte, new_mask_bytes}
 use Rattle.vreg_groups.specs.declared.policies.Agnostic.{Agnostic}
@@ -74,25 +77,13 @@ get_or-replaced_outside size at n k f bytes h room outside =
 -- a number that n bytes hold is read back
 pub number_at-bytes_of : (n v : ℕ) → v < 256 ^ n → number_at n 0 (bytes_of n v) ≡ v
 unfolding number_at bytes_of
-number_at-bytes_of zero v h = omega arith
-number_at-bytes_of (suc n) v h =
-    let power : 256 ^ suc n ≡ 256 ^ n * 256 = pow-suc 256 n in
-    let high : v / 256 < 256 ^ n = omega arith in
-    let shifted : number_at n 1 (v % 256 ∷ bytes_of n (v / 256)) ≡ number_at n 0 (bytes_of n (v / 256)) =
-    number_at_same n 1 0 (v % 256 ∷ bytes_of n (v / 256)) (bytes_of n (v / 256))
-    (λ k i j lt p q. let e : i ≡ suc j = omega arith in ap (λ m. get_or (v % 256 ∷ bytes_of n (v / 256)) m 0) e) in
-    let rest = number_at-bytes_of n (v / 256) high in
-    omega arith
+number_at-bytes_of n v h =
+    ap (little_from 0 n) (sym (append-nil (bytes_low_first 0 n v))) ∙ little_number-reads_back n v [] h
 
 -- n bytes hold a number below 256 to the power n
 pub number_at-lt : (n at : ℕ) (bytes : List ℕ) → ((i : ℕ) → get_or bytes i 0 < 256) → number_at n at bytes < 256 ^ n
 unfolding number_at
-number_at-lt zero at bytes h = omega arith
-number_at-lt (suc n) at bytes h =
-    let power : 256 ^ suc n ≡ 256 ^ n * 256 = pow-suc 256 n in
-    let rest = number_at-lt n (at + 1) bytes h in
-    let low = h at in
-    omega arith
+number_at-lt n at bytes h = little_from-lt at n bytes h
 
 if-lt : (b : Bool) (x y bound : ℕ) → x < bound → y < bound → (if b then x else y) < bound
 if-lt true x y bound p q = p

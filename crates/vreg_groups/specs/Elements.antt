@@ -1,17 +1,16 @@
 -- Elements and mask bits of the vector registers ("Mapping of Vector Elements to Vector Register State"). A `file` is
 -- the bytes of the 32 registers end to end, `vlenb` of them for each register.
-use Rattle.std.specs.Prelude.{Bool, true, ℕ, zero, suc, ◌+◌, ◌*◌, ◌/◌, ◌%◌, ◌^◌, ◌==◌, if◌then◌else◌, List, [], ◌∷◌, map, replicate, slice_index, take, drop}
+use Rattle.std.specs.Prelude.{Bool, true, ℕ, zero, suc, ◌+◌, ◌*◌, ◌/◌, ◌%◌, ◌^◌, ◌==◌, if◌then◌else◌, List, map, replicate, slice_index, take, drop}
 use Rattle.std.specs.List.{range_with_len}
+use Rattle.byteorder.specs.Endian.{little_from, little_bytes}
 
 -- the little-endian number of the `size` bytes from place `at` on
 unfoldable pub number_at : ℕ → ℕ → List ℕ → ℕ
-number_at zero at bytes = 0
-number_at (suc n) at bytes = slice_index bytes at + 256 * number_at n (at + 1) bytes
+number_at size at bytes = little_from at size bytes
 
 -- the `size` bytes of a number, the lowest first
 unfoldable pub bytes_of : ℕ → ℕ → List ℕ
-bytes_of zero number = []
-bytes_of (suc n) number = number % 256 ∷ bytes_of n (number / 256)
+bytes_of size number = little_bytes size number
 
 -- element i, of `size` bytes, of the group that begins at place `at`: its registers lie end to end
 unfoldable pub element_at : ℕ → ℕ → List ℕ → ℕ → ℕ
