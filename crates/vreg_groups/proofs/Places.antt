@@ -1,6 +1,6 @@
 -- Facts on bytes, and on pieces of bytes that are replaced one after another.
-use Rattle.std.proofs.Common.{Bool, ℕ, zero, suc, ◌+◌, ◌-◌, ◌*◌, ◌/◌, ◌%◌, ◌^◌, ◌<◌, ◌≤◌, ◌≡◌, List, [], ◌∷◌, ◌++◌, length, map, take, drop, set, get_or, arith, refl, ap, sym, ◌∙◌, length-append, append_assoc, append-nil, zero-add}
-use Rattle.std.proofs.lemmas.List.{take_at, drop_at, drop-drop, take-append-drop, set_split, length-map, get_or-map, length-take-le, get_or-drop, map-id}
+use Rattle.std.proofs.Common.{Bool, ℕ, zero, suc, ◌+◌, ◌-◌, ◌*◌, ◌/◌, ◌%◌, ◌^◌, ◌<◌, ◌≤◌, ◌≡◌, List, [], ◌∷◌, ◌++◌, length, map, take, drop, set, get_or, arith, refl, ap, sym, ◌∙◌, length-append, append_assoc, append-nil, zero-add, inl, inr, ◌≢◌}
+use Rattle.std.proofs.lemmas.List.{take_at, drop_at, drop-drop, take-append-drop, set_split, length-map, get_or-map, length-take-le, get_or-drop, map-id, get_or-set_other, get_or-set_same}
 use Rattle.std.proofs.lemmas.List.Concat.{flat_map-append}
 use Rattle.std.proofs.lemmas.List.FromFn.{map-range_with_len_more, fill_by_all}
 use Rattle.std.specs.Prelude.{nat_lt, true, false, if◌then◌else◌}
@@ -8,7 +8,8 @@ use Rattle.std.specs.List.{range_with_len, flat_map}
 use Rattle.std.proofs.Math.Nat.{pow-succ', div-div-eq-div-mul, div-one}
 use Rattle.std.specs.Int.{byte_at, bytes_low_first}
 use Rattle.byteorder.specs.Numbers.{length-bytes_low_first}
-use Rattle.vreg_groups.specs.Elements.{number_at, bytes_of, element_at}
+use Rattle.std.proofs.lemmas.Bool.{cases_lt}
+use Rattle.vreg_groups.specs.Elements.{number_at, bytes_of, element_at, bit_of, bit_at}
 use Rattle.vreg_groups.specs.NewElements.{filled, new_element, replaced, new_bytes, new_mask_byte, new_mask_bytes}
 use Rattle.vreg_groups.specs.declared.policies.Agnostic.{Agnostic}
 use Rattle.vreg_groups.specs.declared.policies.Agnostic.TheVariants.{Keep, Ones}
@@ -235,3 +236,26 @@ read_all number f [] h = refl
 read_all number f (x ∷ xs) h =
     fill_by_all f (map number (x ∷ xs)) (length (x ∷ xs)) 0 (length-map (x ∷ xs) number)
     (λ k lt. get_or-map number (x ∷ xs) k x 0 lt ∙ h k x lt)
+
+-- one bit more of a byte
+pub bits_more : (at : ℕ) (bytes : List ℕ) (out : List Bool) (j k byte : ℕ) (new : Bool) → k < 8 → 8 * j + k < length out →
+    new ≡ bit_of byte k → byte ≡ get_or bytes (at + j) 0 →
+    ((i : ℕ) (d : Bool) → i < 8 * j + k → get_or out i d ≡ bit_at at bytes i) →
+    (i : ℕ) (d : Bool) → i < 8 * j + (k + 1) → get_or (set out (8 * j + k) new) i d ≡ bit_at at bytes i
+unfolding bit_at
+bits_more at bytes out j k byte new low room n b inv i d lt =
+    elim (cases_lt i (8 * j + k)) [
+      | inl before ↦
+          let other : i ≢ 8 * j + k = λ e. omega arith in
+          get_or-set_other out (8 * j + k) i new d other ∙ inv i d before
+      | inr here ↦
+          let is : i ≡ 8 * j + k = omega arith in
+          let place : j ≡ i / 8 = omega arith in
+          let bit : k ≡ i % 8 = omega arith in
+          ap (λ m. get_or (set out (8 * j + k) new) m d) is
+          ∙ get_or-set_same out (8 * j + k) new d room
+          ∙ n
+          ∙ ap (λ x. bit_of x k) b
+          ∙ ap (λ m. bit_of (get_or bytes (at + m) 0) k) place
+          ∙ ap (bit_of (get_or bytes (at + i / 8) 0)) bit
+    ]

@@ -20,13 +20,20 @@ pub(crate) fn read_elements<E: Element>(bytes: &[u8], at: usize, out: &mut [E])
     }
 }
 
-/// Reads as many mask bits as `out` has room for, from place `at` on.
+/// Reads as many mask bits as `out` has room for, from place `at` on: eight of a byte at once, then those of the last one.
 pub(crate) fn read_bits(bytes: &[u8], at: usize, out: &mut [bool])
     requires { 8 * at + length out.old ≤ 8 * length bytes.now }
     ensures { out.new ≡ map (bit_at at bytes.now) (range_with_len 0 (length out.old)) }
 {
-    for (i, bit) in out.iter_mut().enumerate() {
-        *bit = bit_at(bytes, at, i);
+    let whole = out.len() / 8;
+    for j in 0..whole {
+        let byte = bytes[at + j];
+        for k in 0..8 {
+            out[8 * j + k] = bit_of(byte, k);
+        }
+    }
+    for i in 8 * whole..out.len() {
+        out[i] = bit_at(bytes, at, i);
     }
 }
 
