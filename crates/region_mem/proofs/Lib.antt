@@ -14,3 +14,4 @@ pub mod WindowWrites
 pub mod WindowLaws
 pub mod WindowFills
 pub mod ExtentLemmas
+pub mod LendLemmas

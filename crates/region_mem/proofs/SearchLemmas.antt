@@ -6,7 +6,7 @@ use Rattle.std.specs.List.Sorted.{IsNonDecreasingBy}
 use Rattle.std.proofs.lemmas.Bool.Decides.{nat_tests}
 use Rattle.std.proofs.lemmas.Grind.{common_steps}
 use Rattle.std.proofs.lemmas.List.Sums.{position_or_len_is}
-use Rattle.region_mem.specs.Areas.{Area, AreInOrder, IsCount, holds}
+use Rattle.region_mem.specs.Areas.{Area, AreInOrder, IsCount, holds, nothing}
 use Rattle.region_mem.proofs.Apart.{end_of}
 
 ordered : (from : ℕ) (areas : List Area) (j : ℕ) (d : Area) → AreInOrder from areas → j < length areas → from ≤ (get_or areas j d).first
@@ -83,9 +83,6 @@ pub same_place : (at : ℕ) (areas : List Area) (i : ℕ) (d : Area) → AreInOr
 same_place at areas i d order below here =
     position_or_len_is (holds at) areas i d (omega arith)
     (λ k lt. let first = begins_at at (get_or areas i d) here in not_past at (get_or areas k d) (omega (arith, first, apart 0 areas k i d order lt below))) (λ lt. here)
-
-pub nothing : Area
-nothing = record { first = 0; bytes = []; read = false; write = false; fetch = false }
 
 -- Where no area begins at the address or below it none holds it.
 pub search_nowhere : (address : ℕ) (areas : List Area) (count : ℕ) → AreInOrder 0 areas → IsCount address areas count → count ≡ 0 → None ≡ position (holds address) areas

@@ -8,11 +8,10 @@ use Rattle.std.proofs.lemmas.List.Sums.{fold-append}
 use Rattle.std.proofs.lemmas.Nat.{column_fits}
 use Rattle.region_mem.specs.declared.faults.Right.{Right}
 use Rattle.region_mem.specs.declared.faults.Right.TheVariants.{Read, Write, Fetch}
-use Rattle.region_mem.specs.Areas.{Area, ArePlaced, spans, admits, has_right, bytes_of, part_into}
+use Rattle.region_mem.specs.Areas.{Area, nothing, ArePlaced, spans, admits, has_right, bytes_of, part_into}
 use Rattle.region_mem.specs.Memory.{Memory, is_permitted, store_of, has_window, with_window}
 use Rattle.region_mem.specs.Laws.{extent_of, StoresFillWindows}
 use Rattle.region_mem.proofs.Parts.{parts_join, part_none, length_bytes}
-use Rattle.region_mem.proofs.SearchLemmas.{nothing}
 use Rattle.region_mem.proofs.ExtentLemmas.{order_of, inside_of}
 use Rattle.region_mem.proofs.AccessLemmas.{admits_spans, spans_from, spans_to, number_goes}
 use Rattle.region_mem.proofs.WindowWrites.{part_keeps, part_first}
@@ -122,7 +121,7 @@ fill_up place memory address size i (suc j) values placed below admitted places 
     fold_more f memory j ∙ (ap (λ m. f m j) first ∙ (step
     ∙ (ap (filled memory i address) (sym (front_more size j values lt)) ∙ ap (λ k. filled memory i address (front_bytes size values k)) (sym next))))
 
-window_filled : (address : ℕ) (bytes : List ℕ) (n : ℕ) (memory : Memory) → length bytes ≡ n → place_in Write address n memory.areas < length memory.areas →
+pub window_filled : (address : ℕ) (bytes : List ℕ) (n : ℕ) (memory : Memory) → length bytes ≡ n → place_in Write address n memory.areas < length memory.areas →
     with_window address bytes memory ≡ filled memory (place_in Write address n memory.areas) address bytes
 unfolding with_window
 window_filled address bytes n memory size below =

@@ -9,11 +9,11 @@ use Rattle.std.proofs.lemmas.List.Sums.{passes_at_first}
 use Rattle.std.proofs.lemmas.Option.{slice_get-get_or, slice_get_past}
 use Rattle.region_mem.specs.declared.faults.Right.{Right}
 use Rattle.region_mem.specs.declared.faults.Right.TheVariants.{Read, Write}
-use Rattle.region_mem.specs.Areas.{Area, AreInOrder, AreInside, ArePlaced, holds, spans, admits, is_open_from, number_of, number_at, number_in, part_of, window_in}
+use Rattle.region_mem.specs.Areas.{Area, nothing, AreInOrder, AreInside, ArePlaced, holds, spans, admits, is_open_from, number_of, number_at, number_in, part_of, window_in}
 use Rattle.region_mem.specs.Memory.{Memory, is_permitted, load_of, window_of, has_window}
 use Rattle.region_mem.specs.Laws.{WindowsToRead, LoadsInWindows, WindowsToWrite, StoresInWindows}
 use Rattle.region_mem.proofs.Apart.{end_of}
-use Rattle.region_mem.proofs.SearchLemmas.{same_place, nothing}
+use Rattle.region_mem.proofs.SearchLemmas.{same_place}
 use Rattle.region_mem.proofs.AccessLemmas.{admits_spans, admits_right, spans_from, spans_to, holds_from, open_in_one, number_in_one}
 
 -- where the area of a window stands

@@ -7,11 +7,11 @@ use Rattle.std.proofs.lemmas.List.Sums.{position_or_len_is, fails_before_first}
 use Rattle.std.proofs.lemmas.Option.{get_or_from_slice_get, slice_get_within, slice_get_past, slice_get-get_or}
 use Rattle.std.proofs.lemmas.Bool.{cases_lt}
 use Rattle.region_mem.specs.declared.faults.Right.{Right}
-use Rattle.region_mem.specs.Areas.{Area, AreInOrder, holds, admits, part_of, window_in}
-use Rattle.region_mem.proofs.SearchLemmas.{same_place, nothing}
+use Rattle.region_mem.specs.Areas.{Area, nothing, AreInOrder, holds, admits, part_of, window_in}
+use Rattle.region_mem.proofs.SearchLemmas.{same_place}
 use Rattle.region_mem.proofs.AccessLemmas.{admits_spans, spans_from, spans_to, holds_from}
 
-admits_holds : (right : Right) (address n : ℕ) (area : Area) → 0 < n → admits right address n area ≡ true → holds address area ≡ true
+pub admits_holds : (right : Right) (address n : ℕ) (area : Area) → 0 < n → admits right address n area ≡ true → holds address area ≡ true
 admits_holds right address n area some h =
     let span = admits_spans right address n area h in
     let high = spans_to address n area span in
@@ -30,15 +30,6 @@ none_found : (p : Area → Bool) (areas : List Area) (d : Area) → ((k : ℕ) �
 none_found p areas d h =
     let all = position_or_len_is p areas (length areas) d (omega arith) h (λ lt. absurd (omega arith)) in
     find_at p areas ∙ slice_get_past areas (position_or_len p areas) (omega (arith, all))
-
--- An area that admits the window and is found for its first address is the first that admits it.
-pub admits_at : (right : Right) (address n : ℕ) (areas : List Area) (i : ℕ) (d : Area) → 0 < n → AreInOrder 0 areas → i < length areas →
-    admits right address n (get_or areas i d) ≡ true → position_or_len (admits right address n) areas ≡ i
-admits_at right address n areas i d some order below here =
-    let place = same_place address areas i d order below (admits_holds right address n (get_or areas i d) some here) in
-    position_or_len_is (admits right address n) areas i d (omega arith)
-    (λ k lt. let before : k < position_or_len (holds address) areas = omega (arith, place) in
-    none_admits right address n (get_or areas k d) some (fails_before_first (holds address) areas k d before)) (λ lt. here)
 
 window_case : (b : Bool) (right : Right) (address n : ℕ) (areas : List Area) (area : Area) → b ≡ admits right address n area → 0 < n → AreInOrder 0 areas →
     find (holds address) areas ≡ Some area → find (admits right address n) areas ≡ cond b (Some area) None

@@ -1,23 +1,21 @@
 -- What is written to a window goes into the area that has it, and moves none.
-use Rattle.std.proofs.Common.{◌≡◌, ℕ, suc, ◌+◌, ◌-◌, ◌<◌, ◌≤◌, Bool, true, false, not, cond, subst, List, [], ◌∷◌, ◌++◌, length, take, drop, map, set, position, Some, None, is_some, get_or, arith, sym, ap, refl, ◌∙◌}
+use Rattle.std.proofs.Common.{◌≡◌, ℕ, suc, ◌+◌, ◌-◌, ◌<◌, ◌≤◌, Bool, true, false, not, cond, List, [], ◌∷◌, ◌++◌, length, take, drop, set, position, Some, None, is_some, get_or, arith, sym, ap, refl, ◌∙◌}
 use Rattle.std.specs.List.{position_or_len}
 use Rattle.std.proofs.lemmas.List.{length-append, length-take-le, length-drop}
-use Rattle.std.proofs.lemmas.List.Quantifiers.{position-Some}
 use Rattle.region_mem.specs.declared.faults.Right.{Right}
 use Rattle.region_mem.specs.declared.faults.Right.TheVariants.{Write}
-use Rattle.region_mem.specs.Areas.{Area, AreInOrder, AreInside, holds, spans, admits, part_of, part_into, with_part, window_in}
+use Rattle.region_mem.specs.Areas.{Area, AreInOrder, holds, spans, admits, part_of, part_into, with_part, window_in}
 use Rattle.region_mem.specs.Laws.{extent_of}
 use Rattle.region_mem.proofs.Writes.{suc_first}
-use Rattle.region_mem.proofs.AccessLemmas.{find_place, find_none, admits_spans, spans_from, spans_to}
-use Rattle.region_mem.proofs.ExtentLemmas.{order_of, inside_of}
-use Rattle.region_mem.proofs.WindowLemmas.{admits_at, window_at, window_nowhere}
+use Rattle.region_mem.proofs.AccessLemmas.{find_place, admits_spans, spans_from, spans_to}
+use Rattle.region_mem.proofs.WindowLemmas.{window_at}
 
--- Where there is a window a search for its first address finds the area that has it,
+-- Where there is a window a search for its first address finds the area that has it.
 is_some_cond : (b : Bool) (bytes : List ℕ) → is_some (cond b (Some bytes) None) ≡ true → b ≡ true
 is_some_cond true bytes is = refl
 is_some_cond false bytes is = absurd (cc)
 
-window_admits : (right : Right) (address n : ℕ) (areas : List Area) (i : ℕ) (d : Area) → 0 < n → AreInOrder 0 areas →
+pub window_admits : (right : Right) (address n : ℕ) (areas : List Area) (i : ℕ) (d : Area) → 0 < n → AreInOrder 0 areas →
     position (holds address) areas ≡ Some i → is_some (window_in right address n areas) ≡ true → admits right address n (get_or areas i d) ≡ true
 window_admits right address n areas i d some order found has =
     let at = window_at right address n areas (get_or areas i d) some order (find_place (holds address) areas i d found) in
@@ -27,12 +25,6 @@ pub window_spans : (right : Right) (address n : ℕ) (areas : List Area) (i : �
     position (holds address) areas ≡ Some i → is_some (window_in right address n areas) ≡ true → spans address n (get_or areas i d) ≡ true
 window_spans right address n areas i d some order found has =
     admits_spans right address n (get_or areas i d) (window_admits right address n areas i d some order found has)
-
--- and does find one.
-pub window_place : (address : ℕ) (bytes : List ℕ) (areas : List Area) → 0 < length bytes → is_some (window_in Write address (length bytes) areas) ≡ true →
-    position (holds address) areas ≡ None → areas ≡ with_part address bytes areas
-window_place address bytes areas some has none =
-    absurd (cc (has, window_nowhere Write address (length bytes) areas some (find_none (holds address) areas none)))
 
 -- What is written to a window goes into that area.
 part_step : (b : Bool) (address : ℕ) (bytes : List ℕ) (area : Area) (areas : List Area) (d : Area) (n : ℕ) →
@@ -54,20 +46,6 @@ part_first address bytes (area ∷ areas) d below =
     part_step (admits Write address (length bytes) area) address bytes area areas d (position_or_len (admits Write address (length bytes)) areas)
     (part_first address bytes areas d) below
 
-pub part_goes : (address : ℕ) (bytes : List ℕ) (areas : List Area) (i : ℕ) (d : Area) → 0 < length bytes → AreInOrder 0 areas → i < length areas →
-    admits Write address (length bytes) (get_or areas i d) ≡ true → with_part address bytes areas ≡ set areas i (part_into address bytes (get_or areas i d))
-part_goes address bytes areas i d some order below here =
-    let place = admits_at Write address (length bytes) areas i d some order below here in
-    let P : ℕ → Type 0 = λ k. with_part address bytes areas ≡ set areas k (part_into address bytes (get_or areas k d)) in
-    subst P place (part_first address bytes areas d (rw place below))
-
-pub window_goes : (address : ℕ) (bytes : List ℕ) (areas : List Area) (i : ℕ) (d : Area) → 0 < length bytes → AreInOrder 0 areas →
-    position (holds address) areas ≡ Some i → is_some (window_in Write address (length bytes) areas) ≡ true →
-    set areas i (part_into address bytes (get_or areas i d)) ≡ with_part address bytes areas
-window_goes address bytes areas i d some order found has =
-    sym (part_goes address bytes areas i d some order (position-Some (holds address) areas i d found).0
-    (window_admits Write address (length bytes) areas i d some order found has))
-
 -- It moves no area.
 length_part : (at : ℕ) (bytes old : List ℕ) → at + length bytes ≤ length old → length (take at old ++ bytes ++ drop (at + length bytes) old) ≡ length old
 length_part at bytes old fits =
@@ -77,22 +55,3 @@ pub part_keeps : (address : ℕ) (bytes : List ℕ) (area : Area) → spans addr
 unfolding extent_of part_into
 part_keeps address bytes area span =
     rw (length_part (address - area.first) bytes area.bytes (omega (arith, spans_from address (length bytes) area span, spans_to address (length bytes) area span))) refl
-
-keeps_step : (b : Bool) (address : ℕ) (bytes : List ℕ) (area : Area) (areas : List Area) → b ≡ admits Write address (length bytes) area →
-    map extent_of (with_part address bytes areas) ≡ map extent_of areas →
-    map extent_of (cond b (part_into address bytes area ∷ areas) (area ∷ with_part address bytes areas)) ≡ map extent_of (area ∷ areas)
-keeps_step true address bytes area areas is rest =
-    ap (λ e. e ∷ map extent_of areas) (part_keeps address bytes area (admits_spans Write address (length bytes) area (sym is)))
-keeps_step false address bytes area areas is rest = ap (λ es. extent_of area ∷ es) rest
-
-pub parts_keep : (address : ℕ) (bytes : List ℕ) (areas : List Area) → map extent_of (with_part address bytes areas) ≡ map extent_of areas
-unfolding with_part
-parts_keep address bytes [] = refl
-parts_keep address bytes (area ∷ areas) =
-    keeps_step (admits Write address (length bytes) area) address bytes area areas refl (parts_keep address bytes areas)
-
-pub part_order : (address : ℕ) (bytes : List ℕ) (areas : List Area) → AreInOrder 0 areas → AreInOrder 0 (with_part address bytes areas)
-part_order address bytes areas order = order_of 0 _ areas (parts_keep address bytes areas) order
-
-pub part_inside : (address : ℕ) (bytes : List ℕ) (areas : List Area) → AreInside areas → AreInside (with_part address bytes areas)
-part_inside address bytes areas inside = inside_of _ areas (parts_keep address bytes areas) inside

@@ -15,6 +15,10 @@ pub record Area : Type 0 where
   pub write : Bool
   pub fetch : Bool
 
+-- an area without a byte
+unfoldable pub nothing : Area
+nothing = record { first = 0; bytes = []; read = false; write = false; fetch = false }
+
 -- Each area begins where the one before it has ended, or later: they stand in the order of their first addresses, and no
 -- address lies in two of them.
 unfoldable pub AreInOrder : ℕ → List Area → Type 0
@@ -128,3 +132,11 @@ with_part address bytes (area ∷ areas) =
     if admits Write address (length bytes) area
     then part_into address bytes area ∷ areas
     else area ∷ with_part address bytes areas
+
+-- the area with these bytes over as many as it has from an address on, and none past its end
+unfoldable pub overlaid : ℕ → List ℕ → List ℕ → List ℕ
+overlaid at old bytes = take (length old) (take at old ++ (bytes ++ drop (length bytes) (drop at old)))
+
+abbrev pub overlaid_area : ℕ → Area → List ℕ → Area
+overlaid_area address area bytes =
+    record area { bytes = overlaid (address - area.first) area.bytes bytes }

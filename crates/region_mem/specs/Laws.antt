@@ -7,7 +7,7 @@ use Rattle.region_mem.specs.declared.parameter.Param.{Param}
 use Rattle.region_mem.specs.Parameter.{Argument, is_valid, AreArguments}
 use Rattle.region_mem.specs.Areas.{Area, AreInOrder, number_of, bytes_of}
 use Rattle.region_mem.specs.declared.faults.Right.TheVariants.{Read, Write}
-use Rattle.region_mem.specs.Memory.{Memory, args_of, fetch_of, is_permitted, load_of, store_of, window_of, has_window, with_window}
+use Rattle.region_mem.specs.Memory.{Memory, args_of, fetch_of, is_permitted, load_of, store_of, window_of, has_window, with_window, overlaid_window}
 use Rattle.region_mem.specs.Start.{start_memory}
 
 -- what is so of each image, each eight valid parameters, and the arguments that match them
@@ -96,3 +96,10 @@ StoresFillWindows memory =
     fold (λ m i. unwrap_or (store_of (place i) size (slice_index values i) m) m) memory
     (range_with_len 0 (length values))
     ≡ with_window address (flat_map (bytes_of size) values) memory
+
+-- What was written to a window that was lent stands there.
+abbrev pub LentWindowsAreWritten : Memory → Type 0
+LentWindowsAreWritten memory =
+    (address : ℕ) (bytes : List ℕ) → 0 < length bytes →
+    has_window address (length bytes) memory ≡ true →
+    overlaid_window address memory bytes ≡ with_window address bytes memory

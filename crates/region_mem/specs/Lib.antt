@@ -4,3 +4,4 @@ pub mod Areas
 pub mod Memory
 pub mod Start
 pub mod Laws
+pub mod Lends

@@ -1,5 +1,6 @@
 -- The memory of a run, and what loads, stores and fetches do with it.
-use Rattle.std.specs.Prelude.{◌≡◌, ◌⊎◌, ℕ, Bool, ◌&&◌, nat_le, nat_lt, List, [], ◌∷◌, filter, Option, Some, None, is_some, if◌then◌else◌}
+use Rattle.std.specs.Prelude.{◌≡◌, ◌⊎◌, ℕ, Bool, ◌&&◌, nat_le, nat_lt, List, [], ◌∷◌, filter, slice_set, slice_index_or, Option, Some, None, is_some, if◌then◌else◌}
+use Rattle.std.specs.List.{position_or_len}
 use Rattle.region_mem.specs.declared.layout.TheConstants.{BUFFERS, BUFFERS_END}
 use Rattle.region_mem.specs.declared.faults.Right.{Right}
 use Rattle.region_mem.specs.declared.faults.Right.TheVariants.{Read, Write, Fetch}
@@ -7,7 +8,7 @@ use Rattle.region_mem.specs.Parameter.{Argument}
 use Rattle.region_mem.specs.declared.arguments.Arg.TheVariants as argument
 use Rattle.region_mem.specs.declared.arguments.Passed.{Passed}
 use Rattle.region_mem.specs.declared.arguments.Passed.TheVariants as passed
-use Rattle.region_mem.specs.Areas.{Area, window_in, with_part, byte_at, is_open_from, number_at, with_number}
+use Rattle.region_mem.specs.Areas.{Area, nothing, holds, overlaid_area, window_in, with_part, byte_at, is_open_from, number_at, with_number}
 
 -- The areas stand in the order of their first addresses; what was passed stands by place.
 pub record Memory : Type 0 where
@@ -53,6 +54,16 @@ has_window address n memory = is_some (window_in Write address n memory.areas)
 -- the memory with these bytes from an address on, where one area has room for them all and they may be written
 unfoldable pub with_window : ℕ → List ℕ → Memory → Memory
 with_window address bytes memory = record memory { areas = with_part address bytes memory.areas }
+
+-- the memory with these bytes over those from an address on, in the area that holds it, and none past its end; over a
+-- window as long as they are this is `with_window`
+abbrev pub overlaid_window : ℕ → Memory → List ℕ → Memory
+overlaid_window address memory bytes =
+    let place = position_or_len (holds address) memory.areas in
+    record memory {
+      areas = slice_set memory.areas place
+          (overlaid_area address (slice_index_or memory.areas place nothing) bytes);
+    }
 
 -- the area is a buffer's: buffers alone lie here
 unfoldable pub is_buffer_area : Area → Bool

@@ -1,9 +1,10 @@
 //! Regions in order: the one that an address lies in is found by a search, and an access that it holds whole goes to it
 //! at once.
-ghost use Rattle.std.specs.Prelude.{◌≡◌, ◌+◌, ◌<◌, ◌≤◌, ◌^◌, Some, None, is_some, true, false, length, find, position, if◌then◌else◌};
+ghost use Rattle.std.specs.Prelude.{◌≡◌, ◌+◌, ◌<◌, ◌≤◌, ◌^◌, slice_index_or, Some, None, is_some, true, false, length, find, position, if◌then◌else◌};
 ghost use Rattle.std.specs.Option.{option_copied};
+ghost use Rattle.std.specs.List.{position_or_len};
 ghost use Rattle.region_mem.specs.Memory.{IsAccessSize};
-ghost use Rattle.region_mem.specs.Areas.{AreInOrder, AreInside, IsCount, holds, is_open_from, window_in, with_part, byte_at, number_at, with_number};
+ghost use Rattle.region_mem.specs.Areas.{AreInOrder, AreInside, IsCount, holds, is_open_from, window_in, part_of, spans, nothing, byte_at, number_at, with_number};
 
 use crate::faults::Right;
 use crate::region::Region;
@@ -196,19 +197,21 @@ pub(crate) fn window<A: Allocator>(
     }
 }
 
-/// Writes these bytes from an address on, where one region has room for them all and they may be written.
-#[tactic(auto, using(crate::proofs::WindowWrites::window_spans, crate::proofs::WindowWrites::window_goes, crate::proofs::WindowWrites::window_place, crate::proofs::WindowWrites::part_order, crate::proofs::WindowWrites::part_inside))]
-pub(crate) fn set_window<A: Allocator>(regions: &mut [Region<A>], address: u64, bytes: &[u8])
-    requires order { AreInOrder 0 regions.old }
-    requires inside { AreInside regions.old }
+/// The place of the region that has the n bytes from an address on, where one has them all and they may be written.
+#[tactic(auto, using(crate::proofs::WindowWrites::window_spans, crate::proofs::LendLemmas::found_below, crate::proofs::LendLemmas::found_is, crate::proofs::LendLemmas::found_some, crate::proofs::LendLemmas::window_is))]
+pub(crate) fn window_place<A: Allocator>(regions: &[Region<A>], address: u64, n: usize) -> usize
+    requires order { AreInOrder 0 regions.now }
     requires address { address < 2 ^ 32 }
-    requires some { 0 < length bytes.now }
-    requires has { is_some (window_in Right.Write address (length bytes.now) regions.old) ≡ true }
-    ensures value { regions.new ≡ with_part address bytes.now regions.old }
-    ensures order { AreInOrder 0 regions.new }
-    ensures inside { AreInside regions.new }
+    requires some { 0 < n }
+    requires has { is_some (window_in Right.Write address n regions.now) ≡ true }
+    ensures place { result ≡ position_or_len (holds address) regions.now }
+    ensures below { result < length regions.now }
+    ensures inside { spans address n (slice_index_or regions.now result nothing) ≡ true }
+    ensures part { window_in Right.Write address n regions.now
+        ≡ Some (part_of address n (slice_index_or regions.now result nothing)) }
 {
-    if let Some(place) = place_of(regions, address) {
-        regions[place].set_part(address, bytes);
+    match place_of(regions, address) {
+        Some(place) => place,
+        None => unreachable!(),
     }
 }

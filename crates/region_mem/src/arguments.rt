@@ -1,5 +1,6 @@
 //! The caller's eight arguments.
 ghost use Rattle.std.specs.Prelude.{◌≡◌, ◌+◌, ◌<◌, ◌≤◌, ◌++◌, length, take, drop, slice_set, ◌==◌};
+ghost use Rattle.std.specs.Borrow.{sem};
 
 use std::alloc::{Allocator, Global};
 use std::marker::Model;
@@ -19,6 +20,8 @@ impl<A: Allocator> Model for Bytes<A> {
 }
 
 impl<A: Allocator> Bytes<A> {
+    ghost use Rattle.region_mem.specs.Lends.{lends_part};
+
     /// These bytes.
     pub fn new(items: Vec<u8, A>) -> Bytes<A>
         ensures { result ≡ items.items }
@@ -60,6 +63,17 @@ impl<A: Allocator> Bytes<A> {
         ensures { self.new ≡ slice_set self.old index byte }
     {
         self.items[index] = byte;
+    }
+
+    /// The n bytes from an index on, to be written.
+    #[tactic(auto, unfolding(crate::specs::Areas::overlaid))]
+    pub(crate) fn part_mut(&mut self, at: usize, n: usize) -> &mut [u8]
+        requires { at + n ≤ length self.old }
+        ensures* lent { sem 𝓛 (lends_part A.row A.Allocator self.entry at result) }
+        ensures value { result.now ≡ take n (drop at self.old) }
+        ensures len { length result.now ≡ n }
+    {
+        self.items.slice_mut(at..at + n)
     }
 
     /// Puts these bytes in the place of as many from an index on.

@@ -1,5 +1,5 @@
 //! Laws of memory, for those who stand on its definitions: functions that do nothing, with the law as contract.
-ghost use Rattle.region_mem.specs.Laws.{StartsInOrder, GivesArgumentsBack, StoresKeepExtents, FetchesNothingAbove, WindowsToRead, LoadsInWindows, WindowsToWrite, StoresInWindows, StoresFillWindows};
+ghost use Rattle.region_mem.specs.Laws.{StartsInOrder, GivesArgumentsBack, StoresKeepExtents, FetchesNothingAbove, WindowsToRead, LoadsInWindows, WindowsToWrite, StoresInWindows, StoresFillWindows, LentWindowsAreWritten};
 
 use crate::memory::Regions;
 use std::alloc::Allocator;
@@ -40,6 +40,13 @@ pub fn stores_in_windows<A: Allocator>(memory: &Regions<A>)
     ensures bounds { WindowsToWrite memory.now }
     ensures permitted { StoresInWindows memory.now }
     ensures filled { StoresFillWindows memory.now }
+{
+    memory.is_placed();
+}
+
+/// What was written to a window that was lent stands there, and nothing else has changed.
+pub fn lent_windows_are_written<A: Allocator>(memory: &Regions<A>)
+    ensures { LentWindowsAreWritten memory.now }
 {
     memory.is_placed();
 }

@@ -19,8 +19,8 @@ mod walk;
 pub use arguments::{Arg, Args, Bytes, Passed};
 pub use faults::{Fault, Right};
 pub use laws::{
-    fetches_nothing_above, gives_arguments_back, loads_in_windows, starts_in_order,
-    stores_in_windows, stores_keep_extents,
+    fetches_nothing_above, gives_arguments_back, lent_windows_are_written, loads_in_windows,
+    starts_in_order, stores_in_windows, stores_keep_extents,
 };
 pub use layout::{BUFFERS, BUFFERS_END, MAX_BUFFER_SIZE, PAGE_SIZE, STACK, STACK_END, STACK_SIZE};
 pub use memory::Regions;

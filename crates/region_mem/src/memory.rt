@@ -1,8 +1,10 @@
 //! The memory of a run.
 ghost use Rattle.std.specs.Prelude.{◌≡◌, ◌<◌, ◌^◌, length, Some, None, true, false, if◌then◌else◌, IfOk, IfErr, option_copied};
+ghost use Rattle.std.specs.Borrow.{sem};
 
 use crate::arguments::{Args, Bytes, Passed};
 use crate::faults::Right;
+use crate::laws::lent_windows_are_written;
 use crate::parameter::Parameters;
 use crate::region::Region;
 use crate::{areas, start};
@@ -31,7 +33,8 @@ impl<A: Allocator> Model for Regions<A> {
 
 impl<A: Allocator> Regions<A> {
     ghost use Rattle.region_mem.specs.Memory.{Memory, byte_of, is_permitted, load_of, store_of, fetch_of, args_of, window_of, has_window, with_window, IsAccessSize};
-    ghost use Rattle.region_mem.specs.Areas.{ArePlaced};
+    ghost use Rattle.region_mem.specs.Areas.{ArePlaced, window_in};
+    ghost use Rattle.region_mem.specs.Lends.{lends_window};
     ghost use Rattle.region_mem.specs.Start.{start_memory};
     ghost use Rattle.region_mem.specs.Parameter.{AreArguments};
 
@@ -139,14 +142,29 @@ impl<A: Allocator> Regions<A> {
         areas::window(self.regions.as_slice(), Right::Write, u64::from(address), n).is_some()
     }
 
+    /// The n bytes from an address on, to be written, where `has_window` told that they may be. n is at least 1.
+    #[tactic(auto, unfolding(crate::specs::Memory::has_window))]
+    pub fn window_mut(&mut self, address: u32, n: usize) -> &mut [u8]
+        requires some { 0 < n }
+        requires fits { n < 2 ^ 63 }
+        requires has { has_window address n self.old ≡ true }
+        ensures* lent { sem 𝓛 (lends_window A.row A.Allocator self.entry address result) }
+        ensures value { Some result.now ≡ window_in Right.Write address n self.old.areas }
+        ensures len { length result.now ≡ n }
+    {
+        let first = u64::from(address);
+        let place = areas::window_place(self.regions.as_slice(), first, n);
+        self.regions[place].part_mut(first, n)
+    }
+
     /// Writes these bytes, one at least, from an address on, where `has_window` told that they may be written.
-    #[tactic(auto, unfolding(crate::specs::Memory::has_window, crate::specs::Memory::with_window))]
     pub fn set_window(&mut self, address: u32, bytes: &[u8])
         requires some { 0 < length bytes.now }
         requires has { has_window address (length bytes.now) self.old ≡ true }
         ensures { self.new ≡ with_window address bytes.now self.old }
     {
-        areas::set_window(self.regions.as_mut_slice(), u64::from(address), bytes);
+        lent_windows_are_written(self);
+        self.window_mut(address, bytes.len()).copy_from_slice(bytes);
     }
 
     /// Writes the n lowest bytes of a value from an address on, and tells whether each of them may be written. Where one

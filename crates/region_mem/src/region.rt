@@ -1,5 +1,6 @@
 //! A region of memory.
 ghost use Rattle.std.specs.Prelude.{◌≡◌, ◌+◌, ◌<◌, ◌-◌, ◌≤◌, ◌^◌, IsTrue, IfSome, Some, None, true, option_copied, if◌then◌else◌, length, slice_index, slice_set};
+ghost use Rattle.std.specs.Borrow.{sem};
 
 use crate::arguments::Bytes;
 use crate::faults::Right;
@@ -31,6 +32,7 @@ impl<A: Allocator> Model for Region<A> {
 impl<A: Allocator> Region<A> {
     ghost use Rattle.region_mem.specs.Areas.{Area, holds, has_right, spans, admits, part_of, part_into, number_in, bytes_of};
     ghost use Rattle.region_mem.specs.Memory.{is_buffer_area, IsAccessSize};
+    ghost use Rattle.region_mem.specs.Lends.{lends_area_part};
 
     pub(crate) fn new(
         first: u64,
@@ -206,6 +208,19 @@ impl<A: Allocator> Region<A> {
         } else {
             None
         }
+    }
+
+    /// The n bytes from an address on, to be written.
+    #[tactic(auto, unfolding(crate::specs::Areas::spans, crate::specs::Areas::part_of))]
+    pub(crate) fn part_mut(&mut self, address: u64, n: usize) -> &mut [u8]
+        requires low { address < 2 ^ 32 }
+        requires inside { IsTrue (spans address n self.old) }
+        ensures* lent { sem 𝓛 (lends_area_part A.row A.Allocator self.entry address result) }
+        ensures value { result.now ≡ part_of address n self.old }
+        ensures len { length result.now ≡ n }
+    {
+        let at = (address - self.first) as usize;
+        self.bytes.part_mut(at, n)
     }
 
     /// Writes these bytes from an address on.
