@@ -1,4 +1,5 @@
 pub mod Inside
 pub mod Plans
 pub mod Rooms
+pub mod Rows
 pub mod Steps

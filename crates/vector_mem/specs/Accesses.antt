@@ -1,6 +1,6 @@
 -- The accesses of a vector load or store as one list, the lowest-numbered element's first, and what is done with memory
 -- by that list, wherever it comes from ("Vector Loads and Stores"). Only active elements access memory.
-use Rattle.std.specs.Prelude.{◌≡◌, ℕ, ◌<◌, ◌+◌, ◌*◌, ◌%◌, ◌^◌, Bool, false, not, List, length, map, filter, find, replicate, slice_index, slice_index_or, slice_set, Option, unwrap_or}
+use Rattle.std.specs.Prelude.{◌≡◌, ℕ, ◌<◌, ◌+◌, ◌*◌, ◌%◌, ◌^◌, Bool, false, true, not, List, length, map, filter, find, replicate, slice_index, slice_index_or, slice_set, Option, unwrap_or}
 use Rattle.std.specs.List.{fold, range_with_len}
 use Rattle.region_mem.specs.Memory.{is_permitted, load_of, store_of}
 use Rattle.vector_mem.specs.Words.{Memory, Right}
@@ -25,6 +25,10 @@ strided base stride i = base + stride * i
 -- each element lies as far from `base` as its index says
 abbrev pub indexed : ℕ → List ℕ → ℕ → ℕ
 indexed base indices i = base + slice_index indices i
+
+-- those of n elements, all of them active, one after another from `base` on
+abbrev pub in_a_row : Right → ℕ → ℕ → ℕ → List Access
+in_a_row right size base n = accesses right size (strided base size) (replicate n true)
 
 -- the first access that is not permitted
 abbrev pub is_refused : Memory → Access → Bool

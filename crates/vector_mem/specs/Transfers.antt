@@ -1,7 +1,7 @@
 -- What a vector load or store moves, by where its elements lie ("Vector Unit-Stride Instructions", "Vector Strided
 -- Instructions", "Vector Indexed Instructions", "Vector Load/Store Whole Register Instructions"): all of its accesses are
 -- made, or the first that is not permitted is the fault and none is.
-use Rattle.std.specs.Prelude.{ℕ, ◌==◌, Bool, false, List, Option, Some, None, Result, Ok, Err, if◌then◌else◌}
+use Rattle.std.specs.Prelude.{ℕ, ◌==◌, Bool, true, false, not, List, Option, Some, None, Result, Ok, Err, if◌then◌else◌}
 use Rattle.vector_mem.specs.Words.{Direction, Fault, Fixed, Indexed, Load, LoadFault, Mask, Memory, Place, Policy, Read, Right}
 use Rattle.vector_mem.specs.Words.{Same, Setup, Span, Store, StoreFault, Strided, Unit, VMem, W8, Whole, Width, Write, active_of}
 use Rattle.vector_mem.specs.Words.{body_of, bytes_of_width, group_at, mask_bytes_of, mask_policy_of, policy_of, whole_of, written}
@@ -35,6 +35,14 @@ is_masked (Strided width rs2 masked) = masked
 is_masked (Indexed width vs2 ordered masked) = masked
 is_masked Mask = false
 is_masked (Whole width count) = false
+
+-- whether the elements lie one after another, and all of them are moved
+abbrev pub is_in_a_row : Place → Bool
+is_in_a_row (Unit width masked) = not masked
+is_in_a_row (Strided width rs2 masked) = false
+is_in_a_row (Indexed width vs2 ordered masked) = false
+is_in_a_row Mask = true
+is_in_a_row (Whole width count) = true
 
 abbrev pub moved_of : ℕ → Setup → VMem → List ℕ → List Bool
 moved_of vlenb s insn file = active_of vlenb (is_masked insn.place) (data_of vlenb s insn).vl file

@@ -1,6 +1,6 @@
 //! Elements that are loaded and stored.
 
-ghost use Rattle.std.specs.Prelude.{◌≡◌};
+ghost use Rattle.std.specs.Prelude.{◌≡◌, length, replicate};
 
 use vreg_groups::Element;
 
@@ -48,5 +48,15 @@ impl Datum for u32 {
 
     fn to_number(self) -> u32 {
         self
+    }
+}
+
+/// Writes the value to each place.
+#[tactic(auto, using(std::proofs::lemmas::List::take_more_set, std::proofs::lemmas::List::replicate_more, std::proofs::lemmas::List::take_all))]
+pub fn splat<E: Datum>(value: E, values: &mut [E])
+    ensures { values.new ≡ replicate (length values.old) value }
+{
+    for element in values.iter_mut() {
+        *element = value;
     }
 }

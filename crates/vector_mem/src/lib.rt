@@ -8,6 +8,7 @@ mod plan;
 #[cfg(test)]
 mod tests;
 mod transfers;
+mod windows;
 
 pub use accesses::access;
 pub use plan::{Access, AccessPlan};

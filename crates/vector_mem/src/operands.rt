@@ -7,7 +7,7 @@ ghost use Rattle.vreg_groups.specs.Group.{IsGroupInside, body_of};
 ghost use Rattle.vreg_groups.specs.Setup.{IsReady, IsSetup, group_at};
 ghost use Rattle.vreg_groups.specs.VectorType.{bytes_of_width};
 ghost use Rattle.vreg_groups.specs.declared.vector_type.TheConstants.{MOST_ELEMENTS};
-ghost use Rattle.vector_mem.specs.Transfers.{data_of, is_masked, load_policy, width_at};
+ghost use Rattle.vector_mem.specs.Transfers.{data_of, is_in_a_row, is_masked, load_policy, width_at};
 
 use crate::elements::Datum;
 use rv_decode::{Eew, Place, Reg, VMem, Width};
@@ -54,6 +54,18 @@ pub fn masked(insn: &VMem) -> bool
         | Place::Strided { masked, .. }
         | Place::Indexed { masked, .. } => masked,
         Place::Mask | Place::Whole { .. } => false,
+    }
+}
+
+/// Whether the elements lie one after another, and all of them are moved.
+pub fn in_a_row(insn: &VMem) -> bool
+    ensures { result ≡ is_in_a_row insn.now.place }
+{
+    let place = insn.place;
+    match place {
+        Place::Unit { masked, .. } => !masked,
+        Place::Strided { .. } | Place::Indexed { .. } => false,
+        Place::Mask | Place::Whole { .. } => true,
     }
 }
 

@@ -1,6 +1,6 @@
 //! Loads and stores: all of an instruction's accesses are made, or none.
 
-ghost use Rattle.std.specs.Prelude.{◌≡◌, ◌≤◌, ◌*◌, None, length, map, replicate, unwrap_or};
+ghost use Rattle.std.specs.Prelude.{◌≡◌, ◌≤◌, ◌*◌, None, IfSome, length, map, replicate, unwrap_or};
 ghost use Rattle.std.specs.List.{All};
 ghost use Rattle.std.specs.Option.{option_map};
 ghost use Rattle.region_mem.specs.Faults.{Steps};
@@ -12,12 +12,13 @@ ghost use Rattle.vreg_groups.specs.Setup.{IsReady};
 ghost use Rattle.vreg_groups.specs.VectorType.{bytes_of_width};
 ghost use Rattle.vreg_groups.specs.declared.vector_type.TheConstants.{MOST_ELEMENTS};
 ghost use Rattle.vector_mem.specs.Accesses.{IsAccessOf, first_refused, loaded, stored};
-ghost use Rattle.vector_mem.specs.Transfers.{data_of, loaded_to, vector_load, vector_store, width_at};
+ghost use Rattle.vector_mem.specs.Transfers.{accesses_of, data_of, loaded_to, vector_load, vector_store, width_at};
 
 use crate::accesses::access;
-use crate::elements::Datum;
-use crate::operands::{data_group, masked, policy, width};
+use crate::elements::{Datum, splat};
+use crate::operands::{data_group, in_a_row, masked, policy, width};
 use crate::plan::AccessPlan;
+use crate::windows::{load_window, store_window};
 use region_mem::{Fault, Regions};
 use rv_decode::{VMem, Width};
 use std::alloc::Allocator;
@@ -43,15 +44,6 @@ fn load_elements<E: Datum, A: Allocator>(
         values[access.element] = E::low_bits(number);
     }
     None
-}
-
-#[tactic(auto, using(std::proofs::lemmas::List::take_more_set, std::proofs::lemmas::List::replicate_more, std::proofs::lemmas::List::take_all))]
-fn splat<E: Datum>(value: E, values: &mut [E])
-    ensures { values.new ≡ replicate (length values.old) value }
-{
-    for element in values.iter_mut() {
-        *element = value;
-    }
 }
 
 /// The address of the first access that is not permitted.
@@ -86,6 +78,33 @@ fn store_element<A: Allocator>(memory: &mut Regions<A>, address: u32, size: usiz
     ensures { memory.new ≡ unwrap_or (store_of address size value memory.old) memory.old }
 {
     let _is_stored = memory.store(address, size, value);
+}
+
+/// Loads the elements of an instruction, or answers the address of the first access that is not permitted.
+fn load_values<E: Datum, const VLENB: usize, A: Allocator>(
+    insn: &VMem,
+    registers: &VregFile<VLENB>,
+    setup: &Setup,
+    base: u32,
+    stride: u32,
+    memory: &Regions<A>,
+    values: &mut [E],
+) -> Option<u32>
+    requires ready { IsReady VLENB setup.now (needs_of_access insn.now) }
+    requires direction { insn.now.direction ≡ Load }
+    requires size { E.Element.SIZE ≡ (data_of VLENB setup.now insn.now).bytes }
+    requires length { length values.old ≡ (data_of VLENB setup.now insn.now).vl }
+    requires room { E.Element.SIZE * length values.old ≤ MOST_ELEMENTS }
+    ensures refused { result ≡ option_map (λ a. a.address) (first_refused (accesses_of VLENB
+        setup.now insn.now base stride registers.now) memory.now) }
+    ensures loaded { result ≡ None → map E.Element.number values.new ≡ loaded (length values.old)
+        (accesses_of VLENB setup.now insn.now base stride registers.now) memory.now }
+{
+    if in_a_row(insn) && load_window(memory, base, values) {
+        return None;
+    }
+    let plan = access(insn, registers, setup, base, stride);
+    load_elements(&plan, memory, values)
 }
 
 /// Writes the elements that were loaded to the registers: nothing where there are none.
@@ -130,10 +149,9 @@ fn load_as<E: Datum, const VLENB: usize, A: Allocator>(
     ensures { Steps (vector_load VLENB setup.now insn.now base stride registers.old memory.now)
         registers.old registers.new result }
 {
-    let plan = access(insn, registers, setup, base, stride);
     let group = data_group(insn, setup);
     let values = &mut values[..group.vl()];
-    if let Some(address) = load_elements(&plan, memory, values) {
+    if let Some(address) = load_values(insn, registers, setup, base, stride, memory, values) {
         return Err(Fault::LoadFault(address));
     }
     write_loaded(insn, registers, setup, &group, values);
@@ -171,6 +189,38 @@ pub fn load<const VLENB: usize, A: Allocator>(
     }
 }
 
+/// Stores the elements of an instruction, or answers the address of the first access that is not permitted.
+fn store_values<E: Datum, const VLENB: usize, A: Allocator>(
+    insn: &VMem,
+    registers: &VregFile<VLENB>,
+    setup: &Setup,
+    base: u32,
+    stride: u32,
+    memory: &mut Regions<A>,
+    values: &[E],
+) -> Option<u32>
+    requires ready { IsReady VLENB setup.now (needs_of_access insn.now) }
+    requires direction { insn.now.direction ≡ Store }
+    requires size { E.Element.SIZE ≡ (data_of VLENB setup.now insn.now).bytes }
+    requires length { length values.now ≡ (data_of VLENB setup.now insn.now).vl }
+    requires room { E.Element.SIZE * length values.now ≤ MOST_ELEMENTS }
+    ensures refused { result ≡ option_map (λ a. a.address) (first_refused (accesses_of VLENB
+        setup.now insn.now base stride registers.now) memory.old) }
+    ensures stored { result ≡ None → memory.new ≡ stored (accesses_of VLENB setup.now insn.now base
+        stride registers.now) (map E.Element.number values.now) memory.old }
+    ensures kept { IfSome result (λ _. memory.new ≡ memory.old) }
+{
+    if in_a_row(insn) && store_window(memory, base, values) {
+        return None;
+    }
+    let plan = access(insn, registers, setup, base, stride);
+    let refused = refused(&plan, memory);
+    if refused.is_none() {
+        store_elements(&plan, memory, values);
+    }
+    refused
+}
+
 /// A store of elements of one width, with room for them in `values`.
 #[tactic(auto, unfolding(crate::specs::Transfers::vector_store))]
 fn store_as<E: Datum, const VLENB: usize, A: Allocator>(
@@ -189,15 +239,13 @@ fn store_as<E: Datum, const VLENB: usize, A: Allocator>(
     ensures { Steps (vector_store VLENB setup.now insn.now base stride registers.now memory.old)
         memory.old memory.new result }
 {
-    let plan = access(insn, registers, setup, base, stride);
-    if let Some(address) = refused(&plan, memory) {
-        return Err(Fault::StoreFault(address));
-    }
     let group = data_group(insn, setup);
     let values = &mut values[..group.vl()];
     group.read(registers, values);
-    store_elements(&plan, memory, values);
-    Ok(())
+    match store_values(insn, registers, setup, base, stride, memory, values) {
+        Some(address) => Err(Fault::StoreFault(address)),
+        None => Ok(()),
+    }
 }
 
 /// A vector store: all of its elements are stored, or the fault is that of the lowest-numbered element that may not be
