@@ -14,6 +14,7 @@ use Rattle.region_mem.specs.Memory.{Memory, has_window, load_of, window_of, with
 use Rattle.region_mem.specs.declared.faults.Right.{Right}
 use Rattle.region_mem.specs.declared.faults.Right.TheVariants.{Read, Write}
 use Rattle.vreg_groups.specs.Elements.{active_of, bytes_of, number_at}
+use Rattle.vreg_groups.proofs.Places.{bytes_of-suc}
 use Rattle.vector_mem.specs.declared.plan.Access.{Access}
 use Rattle.vector_mem.specs.Accesses.{access_at, accesses, first_refused, in_a_row, is_refused, stored, strided, with_loaded, with_stored}
 use Rattle.vector_mem.specs.Transfers.{accesses_of, data_at, data_of, is_in_a_row, is_masked, place_at, right_of}
@@ -72,6 +73,7 @@ number_there (suc k) at bytes h =
     let first = drop_more bytes at 0 (omega (arith, h)) in
     ap (λ xs. number_of (take (suc k) xs)) first
     ∙ ap (λ (n : ℕ). get_or bytes at 0 + 256 * n) (number_there k (at + 1) bytes (omega (arith, h)))
+    ∙ ap (λ (next : ℕ). get_or bytes at 0 + 256 * number_at k next bytes) (omega arith)
 
 pub positive : (size : ℕ) → (size ≡ 1) ⊎ (size ≡ 2) ⊎ (size ≡ 4) → 0 < size
 positive size sizes = elim sizes [ inl one ↦ omega (arith, one) | inr more ↦ elim more [ inl two ↦ omega (arith, two) | inr four ↦ omega (arith, four) ] ]
@@ -133,7 +135,7 @@ row_writable memory size base n bounds permitted is some =
 bytes_same : (n v : ℕ) → area.bytes_of n v ≡ bytes_of n v
 unfolding area.bytes_of bytes_of
 bytes_same zero v = refl
-bytes_same (suc n) v = ap (λ (l : List ℕ). v % 256 ∷ l) (bytes_same n (v / 256))
+bytes_same (suc n) v = ap (λ (l : List ℕ). v % 256 ∷ l) (bytes_same n (v / 256)) ∙ sym (bytes_of-suc n v)
 
 all_bytes_same : (n : ℕ) (values : List ℕ) → flat_map (area.bytes_of n) values ≡ flat_map (bytes_of n) values
 all_bytes_same n [] = refl
