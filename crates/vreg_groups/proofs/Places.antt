@@ -1,6 +1,6 @@
 -- Facts on bytes, and on pieces of bytes that are replaced one after another.
 use Rattle.std.proofs.Common.{Bool, ℕ, zero, suc, ◌+◌, ◌-◌, ◌*◌, ◌/◌, ◌%◌, ◌^◌, ◌<◌, ◌≤◌, ◌≡◌, List, [], ◌∷◌, ◌++◌, length, map, take, drop, set, get_or, arith, refl, ap, sym, ◌∙◌, length-append, append_assoc, append-nil, zero-add, inl, inr, ◌≢◌}
-use Rattle.std.proofs.lemmas.List.{take_at, drop_at, drop-drop, take-append-drop, set_split, length-map, get_or-map, length-take-le, get_or-drop, map-id, get_or-set_other, get_or-set_same}
+use Rattle.std.proofs.lemmas.List.{take_at, drop_at, drop-drop, take-append-drop, set_split, length-map, get_or-map, length-take-le, get_or-drop, map-id, get_or-set_other, get_or-set_same, get_or_default}
 use Rattle.std.proofs.lemmas.List.Concat.{flat_map-append}
 use Rattle.std.proofs.lemmas.List.FromFn.{map-range_with_len_more, fill_by_all}
 use Rattle.std.specs.Prelude.{nat_lt, true, false, if◌then◌else◌}
@@ -9,6 +9,7 @@ use Rattle.std.proofs.Math.Nat.{pow-succ', div-div-eq-div-mul, div-one}
 use Rattle.std.specs.Int.{byte_at, bytes_low_first}
 use Rattle.byteorder.specs.Numbers.{length-bytes_low_first}
 use Rattle.std.proofs.lemmas.Bool.{cases_lt}
+use Rattle.std.proofs.lemmas.Bool.Decides.{nat_tests}
 use Rattle.vreg_groups.specs.Elements.{number_at, bytes_of, element_at, bit_of, bit_at}
 use Rattle.vreg_groups.specs.NewElements.{filled, new_element, replaced, new_bytes, new_mask_byte, new_mask_bytes}
 use Rattle.vreg_groups.specs.declared.policies.Agnostic.{Agnostic}
@@ -259,3 +260,18 @@ bits_more at bytes out j k byte new low room n b inv i d lt =
           ∙ ap (λ m. bit_of (get_or bytes (at + m) 0) k) place
           ∙ ap (bit_of (get_or bytes (at + i / 8) 0)) bit
     ]
+
+-- a new element of the body
+pub new_element_in_body : {A : Type 0} (policy : Policy) (ones : A) (results : List A) (active : List Bool) (i : ℕ) (old value : A)
+    (is_active : Bool) (new : A) → i < length results → value ≡ get_or results i value → is_active ≡ get_or active i false →
+    new ≡ (if is_active then value else filled policy.inactive ones old) → new ≡ new_element policy ones results active i old
+unfolding new_element
+new_element_in_body policy ones results active i old value is_active new lt v a n =
+    let inactive = filled policy.inactive ones old in
+    let inside : nat_lt i (length results) ≡ true = grind (arith, nat_tests) in
+    let result : value ≡ get_or results i old = v ∙ get_or_default results i value old lt in
+    n
+    ∙ ap (λ b. if b then value else inactive) a
+    ∙ ap (λ x. if get_or active i false then x else inactive) result
+    ∙ ap (λ b. if b then (if get_or active i false then get_or results i old else inactive) else filled policy.tail ones old)
+    (sym inside)

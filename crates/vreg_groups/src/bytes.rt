@@ -6,7 +6,7 @@ ghost use Rattle.vreg_groups.specs.Elements.{bytes_of, element_at, bit_of, bit_a
 ghost use Rattle.vreg_groups.specs.NewElements.{bytes_written, filled, overlaid, replaced, new_bytes, new_mask_byte, new_mask_bytes};
 
 use crate::elements::Element;
-use crate::policies::{Agnostic, Policy, new_element};
+use crate::policies::{Agnostic, Policy, body_element, new_element};
 
 /// Reads as many elements as `out` has room for, from place `at` on.
 #[tactic(auto, unfolding(crate::specs::Elements::element_at))]
@@ -193,14 +193,16 @@ fn select_elements<E: Element>(
     active: &[bool],
     policy: Policy,
 )
-    requires { at + E.SIZE * length values.now ≤ length bytes.old }
+    requires room { at + E.SIZE * length values.now ≤ length bytes.old }
+    requires told { length active.now ≡ length values.now }
     ensures { bytes.new ≡ replaced E.SIZE at (length values.now)
         (new_bytes E.SIZE at policy (map E.number values.now) active.now bytes.old) bytes.old }
 {
+    let inactive = policy.inactive;
     for i in 0..values.len() {
         let place = at + E::SIZE * i;
         let old = E::get(bytes, place);
-        let new = new_element(policy, E::ones(), values, active, i, old);
+        let new = body_element(inactive, E::ones(), values[i], active[i], old);
         new.put(bytes, place);
     }
 }

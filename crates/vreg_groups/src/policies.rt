@@ -1,6 +1,6 @@
 //! What becomes of the elements of a destination that no result is written to.
 
-ghost use Rattle.std.specs.Prelude.{◌≡◌, ◌<◌, length};
+ghost use Rattle.std.specs.Prelude.{◌≡◌, ◌<◌, length, if◌then◌else◌};
 ghost use Rattle.vreg_groups.specs.NewElements.{policy_of, mask_policy_of, agnostic_if, filled, new_element};
 
 use crate::vector_type::Vtype;
@@ -76,6 +76,20 @@ pub(crate) fn new_element<T: Copy>(
     } else {
         filled(policy.inactive, ones, old)
     }
+}
+
+/// What an element of the body becomes, where `value` is its result.
+pub(crate) fn body_element<T: Copy>(
+    inactive: Agnostic,
+    ones: T,
+    value: T,
+    is_active: bool,
+    old: T,
+) -> T
+    ensures { result ≡ (if is_active then value else filled inactive ones old) }
+{
+    let rest = filled(inactive, ones, old);
+    if is_active { value } else { rest }
 }
 
 // An element that no result is written to.

@@ -6,4 +6,4 @@ use Rattle.vreg_groups.proofs.bytes.select_elements.Given as goal
 abbrev pub invariant-loop-i : goal.invariant-loop-i
 invariant-loop-i g l =
     l.bytes ≡ replaced g.E.Element.SIZE l.at l.i
-    (new_bytes g.E.Element.SIZE l.at l.policy (map g.E.Element.number l.values) l.active l.initial.bytes) l.initial.bytes
+    (new_bytes g.E.Element.SIZE l.at l.fn.policy (map g.E.Element.number l.values) l.active l.initial.bytes) l.initial.bytes
