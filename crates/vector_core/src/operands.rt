@@ -1,11 +1,12 @@
 //! The operands of vector instructions: what is read from registers, and what is written to them.
 
-ghost use Rattle.std.specs.Prelude.{◌≡◌, ◌≤◌, ◌*◌, IfSome, length, map, replicate};
+ghost use Rattle.std.specs.Prelude.{◌≡◌, ◌≤◌, ◌*◌, false, IfSome, length, map, replicate};
 ghost use Rattle.rv_decode.specs.Needs.{second as second_group};
 ghost use Rattle.rv_decode.specs.declared.extents.Eew.TheVariants.{Same};
-ghost use Rattle.vreg_groups.specs.Elements.{mask_bits};
-ghost use Rattle.vreg_groups.specs.Group.{IsGroupInside, body_of};
+ghost use Rattle.vreg_groups.specs.Elements.{active_of, mask_bits};
+ghost use Rattle.vreg_groups.specs.Group.{IsGroupInside, body_of, written};
 ghost use Rattle.vreg_groups.specs.Legality.{IsInside};
+ghost use Rattle.vreg_groups.specs.NewElements.{policy_of};
 ghost use Rattle.vreg_groups.specs.VectorType.{bytes_of_width};
 ghost use Rattle.vector_core.specs.Operands.{bits_written, low_bits, results_written, second_of};
 ghost use Rattle.vector_core.specs.Setup.{IsSetup, group_at};
@@ -96,12 +97,53 @@ pub fn write_results<E: VectorElement, const VLENB: usize>(
     ensures { registers.new ≡ results_written VLENB setup.now group.now masked
         (map E.Element.number results.now) registers.old }
 {
-    if setup.vl != 0 {
-        let mut bits = [false; MOST_ELEMENTS];
-        let active = &mut bits[..setup.vl];
-        registers.read_active(masked, active);
-        group.write(registers, results, active, setup.policy());
+    if setup.vl == 0 {
+        return;
     }
+    if masked {
+        write_active(registers, setup, group, true, results);
+    } else if results.len() == setup.vl {
+        write_whole(registers, setup, group, results);
+    } else {
+        write_active(registers, setup, group, false, results);
+    }
+}
+
+/// The same where all of the body has results, each of them active.
+#[tactic(auto, unfolding(vreg_groups::specs::Elements::active_of))]
+fn write_whole<E: VectorElement, const VLENB: usize>(
+    registers: &mut VregFile<VLENB>,
+    setup: &Setup,
+    group: &Group<VLENB>,
+    results: &[E],
+)
+    requires size { E.SIZE ≡ group.now.bytes }
+    requires length { length results.now ≡ setup.now.vl }
+    ensures { registers.new ≡ written VLENB group.now (policy_of setup.now.agnostic setup.now.vtype)
+        (map E.Element.number results.now) (active_of VLENB false setup.now.vl registers.old)
+        registers.old }
+{
+    group.write_all(registers, results, setup.policy());
+}
+
+/// The same where the bits of v0 may say which results are active.
+fn write_active<E: VectorElement, const VLENB: usize>(
+    registers: &mut VregFile<VLENB>,
+    setup: &Setup,
+    group: &Group<VLENB>,
+    masked: bool,
+    results: &[E],
+)
+    requires size { E.SIZE ≡ group.now.bytes }
+    requires setup { IsSetup VLENB setup.now }
+    ensures { registers.new ≡ written VLENB group.now (policy_of setup.now.agnostic setup.now.vtype)
+        (map E.Element.number results.now) (active_of VLENB masked setup.now.vl registers.old)
+        registers.old }
+{
+    let mut bits = [false; MOST_ELEMENTS];
+    let active = &mut bits[..setup.vl];
+    registers.read_active(masked, active);
+    group.write(registers, results, active, setup.policy());
 }
 
 /// Writes the body's bits to a destination that is a mask: nothing where vl is 0.

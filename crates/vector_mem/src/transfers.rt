@@ -1,6 +1,6 @@
 //! Loads and stores: all of an instruction's accesses are made, or none.
 
-ghost use Rattle.std.specs.Prelude.{◌≡◌, ◌≤◌, ◌*◌, None, IfSome, length, map, replicate, unwrap_or};
+ghost use Rattle.std.specs.Prelude.{◌≡◌, ◌≤◌, ◌*◌, false, true, None, IfSome, length, map, replicate, unwrap_or};
 ghost use Rattle.std.specs.List.{All};
 ghost use Rattle.std.specs.Option.{option_map};
 ghost use Rattle.region_mem.specs.Faults.{Steps};
@@ -8,6 +8,8 @@ ghost use Rattle.region_mem.specs.Memory.{IsAccessSize, store_of};
 ghost use Rattle.region_mem.specs.declared.faults.Right.TheVariants.{Read, Write};
 ghost use Rattle.rv_decode.specs.Needs.{needs_of_access};
 ghost use Rattle.rv_decode.specs.declared.instructions.Direction.TheVariants.{Load, Store};
+ghost use Rattle.vreg_groups.specs.Elements.{active_of};
+ghost use Rattle.vreg_groups.specs.Group.{written};
 ghost use Rattle.vreg_groups.specs.Setup.{IsReady};
 ghost use Rattle.vreg_groups.specs.VectorType.{bytes_of_width};
 ghost use Rattle.vreg_groups.specs.declared.vector_type.TheConstants.{MOST_ELEMENTS};
@@ -22,7 +24,7 @@ use crate::windows::{load_window, store_window};
 use region_mem::{Fault, Regions};
 use rv_decode::{VMem, Width};
 use std::alloc::Allocator;
-use vreg_groups::{Group, MOST_ELEMENTS, Setup, VregFile};
+use vreg_groups::{Group, MOST_ELEMENTS, Policy, Setup, VregFile};
 
 /// Loads the elements, or answers the address of the first access that is not permitted.
 #[tactic(auto, unfolding(crate::specs::Accesses::first_refused, crate::specs::Accesses::loaded))]
@@ -118,17 +120,53 @@ fn write_loaded<E: Datum, const VLENB: usize>(
 )
     requires group { group.now ≡ data_of VLENB setup.now insn.now }
     requires size { E.Element.SIZE ≡ group.now.bytes }
+    requires length { length values.now ≡ group.now.vl }
     requires bits { group.now.vl ≤ 8 * VLENB }
     ensures { registers.new ≡ loaded_to VLENB setup.now insn.now (map E.Element.number values.now)
         registers.old }
 {
-    let vl = group.vl();
-    if vl != 0 {
-        let mut bits = [false; MOST_ELEMENTS];
-        let active = &mut bits[..vl];
-        registers.read_active(masked(insn), active);
-        group.write(registers, values, active, policy(insn, setup));
+    if group.vl() == 0 {
+        return;
     }
+    if masked(insn) {
+        write_active(registers, group, values, policy(insn, setup));
+    } else {
+        write_whole(registers, group, values, policy(insn, setup));
+    }
+}
+
+/// The same where the bits of v0 say which elements were loaded.
+fn write_active<E: Datum, const VLENB: usize>(
+    registers: &mut VregFile<VLENB>,
+    group: &Group<VLENB>,
+    values: &[E],
+    policy: Policy,
+)
+    requires size { E.Element.SIZE ≡ group.now.bytes }
+    requires bits { group.now.vl ≤ 8 * VLENB }
+    ensures { registers.new ≡ written VLENB group.now policy (map E.Element.number values.now)
+        (active_of VLENB true group.now.vl registers.old) registers.old }
+{
+    let mut bits = [false; MOST_ELEMENTS];
+    let active = &mut bits[..group.vl()];
+    registers.read_active(true, active);
+    group.write(registers, values, active, policy);
+}
+
+/// The same where all elements were.
+#[tactic(auto, unfolding(vreg_groups::specs::Elements::active_of))]
+fn write_whole<E: Datum, const VLENB: usize>(
+    registers: &mut VregFile<VLENB>,
+    group: &Group<VLENB>,
+    values: &[E],
+    policy: Policy,
+)
+    requires size { E.Element.SIZE ≡ group.now.bytes }
+    requires length { length values.now ≡ group.now.vl }
+    ensures { registers.new ≡ written VLENB group.now policy (map E.Element.number values.now)
+        (active_of VLENB false group.now.vl registers.old) registers.old }
+{
+    group.write_all(registers, values, policy);
 }
 
 /// A load of elements of one width, with room for them in `values`.
