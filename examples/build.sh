@@ -1,7 +1,8 @@
 #!/bin/sh
 # Builds an example's image: `./build.sh add_bytes` builds add_bytes/add_bytes.elf from add_bytes/add_bytes.s,
 # or from add_bytes.c where there is no such file. It needs Debian's packages clang-16 and lld-16. The image is
-# static, without compressed instructions and without floating point: RV32IM, with Zve32x in assembly.
+# static, without compressed instructions and without floating point: RV32IM, with Zve32x in assembly and in C that
+# stands beside a native.c. That program is built and run too: it writes the inputs and the expected bytes.
 set -e
 cd "$(dirname "$0")"
 kernel=$1
@@ -11,7 +12,13 @@ if [ ! -e "$source" ]; then
     source=$kernel/$kernel.c
     options="-march=rv32im -O2 -ffreestanding -fno-builtin"
 fi
+if [ -e "$kernel/native.c" ]; then
+    options="-march=rv32im_zve32x -mllvm -riscv-v-vector-bits-min=128 -O3 -ffreestanding -fno-builtin"
+    clang-16 -O1 -fno-vectorize "$kernel/native.c" -o "$kernel/native"
+    (cd "$kernel" && ./native && rm native)
+fi
 clang-16 --target=riscv32 $options -mabi=ilp32 -mno-relax -c "$source" -o "$kernel/$kernel.o"
 ld.lld-16 -static -no-pie -z max-page-size=4 -z noexecstack --strip-all -T kernel.ld \
     "$kernel/$kernel.o" -o "$kernel/$kernel.elf"
+chmod -x "$kernel/$kernel.elf"
 rm "$kernel/$kernel.o"
