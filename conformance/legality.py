@@ -1,18 +1,16 @@
 """Makes legality.txt: which vector words are legal at which vtype.
 
-Usage: legality.py [--all] > legality.txt. With --all nothing of NOT_YET is left out. A word is legal where qemu-riscv32 carries it out and raises no illegal
-instruction, at VLEN 128 and at VLEN 256; model.py has to say the same, else the script stops. No row is by hand: qemu's rules are this profile's.
+Usage: legality.py > legality.txt. A word is legal where qemu-riscv32 carries it out and raises no illegal instruction, at VLEN 128 and at VLEN 256; model.py
+has to say the same, else the script stops. No row is by hand: qemu's rules are this profile's.
 """
 import random
 import struct
 import subprocess
-import sys
 
 import model
 from qemu import EBREAK, TRAMPOLINE, Batch
 from table import BUFFER, RW, VECTOR, VTYPES, lmul4_of
 
-EVERYTHING = '--all' in sys.argv
 PC = 0x10000
 VILL = 0x80000000
 rng = random.Random(1967)
@@ -43,12 +41,10 @@ def asked():
         if not names:
             continue
         differs = i.eew is not None and len(set(i.eew) - {'0'}) > 1 or i.shape.startswith(('vload', 'vstore'))
-        for vm in (0, 1) if i.vm is None else (i.vm,):
-            if not i.is_decoded(vm, EVERYTHING):
-                continue
+        for vm in i.vms:
             for low in LOWS + [VILL]:
                 count = 1 if low == VILL else max(1, lmul4_of(low) // 4)
-                for _ in range(2 if low == VILL else 16 if differs else 7):
+                for _ in range(2 if low == VILL else 13 if differs else 5):
                     vtype = low if low == VILL else low | rng.randrange(4) << 6
                     f = drawn(rng.sample(names, len(names)), count)
                     more = {n: v for n, v in (('rs1', 8), ('rs2', 9), ('rd', 10), ('imm', rng.randrange(32))) if n in i.syntax}

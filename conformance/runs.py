@@ -37,11 +37,13 @@ def built(name, source, language):
         WORK = tempfile.mkdtemp(prefix='conformance-runs-')
         atexit.register(shutil.rmtree, WORK)
     path = os.path.join(WORK, re.sub(r'\W+', '_', name))
+    options = {'s': ['-march=rv32im_zve32x'], 'c': ['-march=rv32im', '-O2', '-ffreestanding', '-fno-builtin'],
+               'vector c': ['-march=rv32im_zve32x', '-O3', '-mllvm', '-riscv-v-vector-bits-min=128', '-ffreestanding', '-fno-builtin']}[language]
+    language = language[-1]
     with open(path + '.' + language, 'w') as f:
         f.write(source)
     with open(path + '.ld', 'w') as f:
         f.write(LINK)
-    options = ['-march=rv32im_zve32x'] if language == 's' else ['-march=rv32im', '-O2', '-ffreestanding', '-fno-builtin']
     subprocess.run(['clang-16', '--target=riscv32-unknown-elf', '-mabi=ilp32', '-mno-relax'] + options + ['-c',
                     path + '.' + language, '-o', path + '.o'], check=True)
     subprocess.run(['ld.lld-16', '-n', '-e', 'kernel', '-T', path + '.ld', '-o', path + '.elf', path + '.o'], check=True)
@@ -343,6 +345,137 @@ again: addi a0, a0, 1; addi a1, a1, -1; bnez a1, again
     ret''')
 
 
+DOT = asm('''
+    vsetvli t0, x0, e32, m4, ta, ma; vmv.v.i v24, 0
+again: vsetvli t0, a2, e8, m1, tu, ma; vle8.v v8, (a0); vle8.v v9, (a1); vwmul.vv v10, v8, v9
+    vsetvli x0, x0, e16, m2, tu, ma; vwadd.wv v24, v24, v10
+    add a0, a0, t0; add a1, a1, t0; sub a2, a2, t0; bnez a2, again
+    vsetvli t0, x0, e32, m4, ta, ma; vmv.s.x v8, x0; vredsum.vs v8, v24, v8; vmv.x.s a0, v8
+    ret''')
+
+FILTER = asm('''
+again: vsetvli t0, a2, e8, m2, ta, ma; vle8.v v8, (a0); vmsgtu.vx v1, v8, a3; vcompress.vm v12, v8, v1; vcpop.m t1, v1
+    vsetvli x0, t1, e8, m2, ta, ma; vse8.v v12, (a1); add a1, a1, t1
+    add a0, a0, t0; sub a2, a2, t0; bnez a2, again
+    ret''')
+
+LOOK_UP = asm('''
+again: vsetvli t0, a1, e8, m2, ta, ma; vle8.v v8, (a0); vluxei8.v v12, (a2), v8
+    vmsltu.vi v0, v8, 16; vsoxei8.v v8, (a3), v8, v0.t; vse8.v v12, (a0)
+    add a0, a0, t0; sub a1, a1, t0; bnez a1, again
+    ret''')
+
+TRANSPOSE = asm('''
+    slli t2, a2, 1; slli t3, a3, 1; mv t4, a2
+column: mv t5, a0; mv t6, a1; mv a4, a3
+again: vsetvli t0, a4, e16, m1, ta, ma; vlse16.v v8, (t5), t2; vse16.v v8, (t6)
+    mul a5, t0, t2; add t5, t5, a5; slli a5, t0, 1; add t6, t6, a5; sub a4, a4, t0; bnez a4, again
+    addi a0, a0, 2; add a1, a1, t3; addi t4, t4, -1; bnez t4, column
+    ret''')
+
+BLEND = asm('''
+    csrw vxrm, a4; li t2, 255; sub t2, t2, a2
+again: vsetvli t0, a3, e8, m2, ta, ma; vle8.v v8, (a0); vle8.v v10, (a1)
+    vwmulu.vx v12, v8, a2; vwmaccu.vx v12, t2, v10; vnclipu.wi v16, v12, 7; vaaddu.vv v18, v8, v10; vssubu.vv v18, v18, v16
+    vse8.v v16, (a0); vsse8.v v18, (a5), x0
+    add a0, a0, t0; add a1, a1, t0; sub a3, a3, t0; bnez a3, again
+    csrr a6, vcsr
+    ret''')
+
+ZERO_BYTE = asm('''
+    mv a1, a0
+again: vsetvli t0, x0, e8, m1, ta, ma; vle8.v v8, (a1); vmseq.vi v1, v8, 0; vfirst.m t1, v1; add a1, a1, t0; bltz t1, again
+    sub a1, a1, t0; add a1, a1, t1; sub a0, a1, a0
+    vmsbf.m v2, v1; vmsif.m v3, v1; vmsof.m v4, v1; vcpop.m a2, v2; viota.m v5, v3; vmandn.mm v6, v3, v2; vmxnor.mm v7, v6, v4; vid.v v9
+    ret''')
+
+RUNNING_SUMS = asm('''
+    vsetvli t0, a1, e32, m2, ta, ma; vle32.v v8, (a0); li t1, 1
+again: vmv.v.i v12, 0; vslideup.vx v12, v8, t1; vadd.vv v8, v8, v12; slli t1, t1, 1; bltu t1, t0, again
+    vse32.v v8, (a0)
+    vslide1down.vx v16, v8, t0; vslide1up.vx v18, v8, t1; vredmaxu.vs v20, v8, v16; vredmin.vs v21, v8, v18; vmv.x.s a2, v20; vmv.x.s a3, v21
+    ret''')
+
+BACKWARDS = asm('''
+    vsetvli t0, a1, e16, m2, ta, ma; vid.v v8; addi t1, t0, -1; vrsub.vx v8, v8, t1
+    vsetvli x0, t0, e8, m1, ta, ma; vle8.v v10, (a0); vrgatherei16.vv v11, v10, v8; vse8.v v11, (a0)
+    vsetvli x0, t0, e16, m2, ta, ma; vzext.vf2 v12, v11; vsext.vf2 v14, v11; vwsub.vv v16, v12, v14; vnsra.wi v20, v16, 8
+    ret''')
+
+WHOLE = asm('''
+    vl8re8.v v8, (a0); vmv4r.v v24, v12; vs8r.v v8, (a1); vl2re16.v v2, (a0); vmv1r.v v4, v3; vs1r.v v4, (a2)
+    csrr a3, vtype; vadd.vv v8, v8, v8
+    ret''')
+
+MIX = ('vector c', '''
+typedef unsigned char u8; typedef unsigned short u16;
+void kernel(u8 *restrict to, const u8 *restrict a, const u8 *restrict b, unsigned n, unsigned alpha) {
+    for (unsigned i = 0; i < n; i++) to[i] = (u8)((a[i] * (u16)alpha + b[i] * (u16)(256 - alpha) + 128) >> 8);
+}''')
+
+SCALE_AND_ADD = ('vector c', '''
+int kernel(int *restrict y, const short *restrict x, unsigned n, int a) {
+    int most = 0;
+    for (unsigned i = 0; i < n; i++) { y[i] += a * x[i]; most = y[i] > most ? y[i] : most; }
+    return most;
+}''')
+
+PICK = ('vector c', '''
+unsigned kernel(unsigned *restrict to, const unsigned *restrict from, const unsigned short *restrict which, unsigned n) {
+    unsigned sum = 0;
+    for (unsigned i = 0; i < n; i++) { to[i] = from[which[i]]; sum += to[i] >> (i & 7); }
+    return sum;
+}''')
+
+# beqz a1, end; again: vsetvli t0, a1, e32, m1, ta, ma; vle32.v v8, (a0); vadd.vi v8, v8, 1; vse32.v v8, (a0); slli t1, t0, 2; add a0, a0, t1; sub a1, a1, t0;
+# bnez a1, again; end: ret
+RAISE = (0x02058263, 0x0d05f2d7, 0x02056407, 0x0280b457, 0x02056427, 0x00229313, 0x00650533, 0x405585b3, 0xfe0592e3, 0x00008067)
+
+
+def of_words(*ws):
+    return put_together([(0x10000, words(*ws), 4 * len(ws), 5)], 0x10000)
+
+
+def with_two_segments(second):
+    # lui a1, 0x20; addi a1, a1, 8; vsetivli x0, 16, e8, m1, ta, ma; vle8.v v8, (a1); ecall
+    code = words(0x000205b7, 0x00858593, 0xcc087057, 0x02058407, 0x00000073)
+    return put_together([(0x10000, code, len(code), 5), (0x20000, bytes(range(16)), 16, 4), (second, bytes(range(16, 32)), 16, 4)], 0x10000)
+
+
+def vector_kernels():
+    # The setting is keep where vmv.s.x leaves a tail, of which qemu has another view (steps.py).
+    for vlenb in (16, 32):
+        yield Run('dot product', DOT, [r(some(75, 3)), r(some(75, 11)), 75], vlenb)
+        yield Run('filter', FILTER, [r(some(120, 5)), w(bytes(128)), 120, 99], vlenb, vlenb == 16)
+        yield Run('look up', LOOK_UP, [w(some(90, 3)), 90, r(some(256, 77)), w(bytes(256))], vlenb, vlenb == 32)
+        yield Run('transpose', TRANSPOSE, [r(some(2 * 6 * 11)), w(bytes(2 * 6 * 11)), 6, 11], vlenb, True)
+        for vxrm in (range(4) if vlenb == 16 else (1,)):
+            yield Run('blend, vxrm %d' % vxrm, BLEND, [w(some(70, 3)), r(some(70, 13)), 77, 70, vxrm, w(b'x')], vlenb, vxrm == 1)
+        yield Run('zero byte', ZERO_BYTE, [r(bytes(some(100, 2)).replace(b'\0', b'1') + b'\0' + some(3995))], vlenb, vlenb == 16)
+        yield Run('running sums', RUNNING_SUMS, [w(some(44, 5)), 11], vlenb, vlenb == 16)
+        yield Run('backwards', BACKWARDS, [w(some(13, 5)), 13], vlenb, vlenb == 32)
+        yield Run('whole registers', WHOLE, [r(some(8 * vlenb)), w(bytes(8 * vlenb)), w(bytes(vlenb))], vlenb, True)
+        yield Run('mix', MIX, [w(bytes(100)), r(some(100, 3)), r(some(100, 11)), 100, 77], vlenb, True)
+        yield Run('scale and add', SCALE_AND_ADD, [w(some(4 * 45, 3)), r(some(2 * 45, 11)), 45, 0xffffff85], vlenb)
+        yield Run('pick', PICK, [w(bytes(4 * 50)), r(some(4 * 256)), r(struct.pack('<50H', *(37 * k % 256 for k in range(50)))), 50], vlenb)
+
+
+def small_words():
+    yield Run('vill, and then vadd', of_words(0x018672d7, 0x02850407, 0x02880457), [r(some(16))])
+    # vsetivli x0, 4, e32, m1, ta, ma; vsse32.v v8, (a0), a1
+    yield Run('strided store past a short buffer', of_words(0xcd027057, 0x0ab56427), [w(8 * b'\xff'), 4],
+              by_hand='a buffer ends at its size; the pages of qemu are whole (docs/MACHINE.md, Memory)')
+    # vsetivli x0, 3, e8, m1, ta, ma; vlm.v v8, (a0); ecall
+    for ones in (False, True):
+        yield Run('load of a mask', of_words(0xcc01f057, 0x02b50407, 0x00000073), [r(b'\xa5')], 16, ones)
+    for n in (0, 1, 1023, 1024):
+        yield Run('raise %d words' % n, of_words(*RAISE), [w(some(4096)), n])
+    yield Run('raise 9 words', of_words(*RAISE), [w(some(4096)), 9], most=25, by_hand='out of steps: docs/MACHINE.md, Steps and faults; the run to its end stands beside it')
+    yield Run('raise 9 words', of_words(*RAISE), [w(some(4096)), 9], most=26)
+    yield Run('vector load across two segments', with_two_segments(0x20010), [])
+    yield Run('vector load across a gap', with_two_segments(0x20014), [], by_hand='a segment ends at its size; the pages of qemu are whole (docs/MACHINE.md, Memory)')
+
+
 def everything():
     page = some(4096)
     for vlenb in (16, 32):
@@ -416,6 +549,8 @@ def everything():
     yield Run('where buffers lie', buffers, [w(b''), w(b'1'), r(bytes(4095)), r(bytes(4096)), w(bytes(4097)), r(b''), r(b'3'), w(some(12))])
     yield Run('x0', asm('li t0, 7; add x0, t0, t0; mv a0, x0; lw x0, -4(sp); csrrw x0, vxrm, t0; auipc x0, 5; mul x0, t0, t0; jal x0, 1f; 1: vsetivli x0, 3, e8, m1, ta, ma; csrrsi x0, vcsr, 2; or a1, x0, x0; ret'), [1, 2])
     yield Run('bytes, halves, words', asm('lb t0, 3(a0); lh t1, 3(a0); lhu t2, 5(a0); lbu t3, 4(a0); sb t0, 0(a0); sh t1, 9(a0); sw t1, 13(a0); lw t4, 11(a0); ret'), [w(some(32, 201))])
+    yield from vector_kernels()
+    yield from small_words()
 
 
 def main():

@@ -1,23 +1,21 @@
 """Makes steps.txt: one instruction on one state, and what it leaves.
 
-Usage: steps.py [--all] > steps.txt. With --all nothing of NOT_YET is left out. Every result is that of qemu-riscv32; model.py has to say the same, but for the
-cases of `by_hand`, each with the section by which this profile differs from what qemu does or can show; there the result is the model's.
+Usage: steps.py > steps.txt. Every result is that of qemu-riscv32; model.py has to say the same, but for the cases of `by_hand`, each with the section by which
+this profile differs from what qemu does or can show; there the result is the model's.
 """
 import os
-import random
 import re
 import struct
 import subprocess
 import sys
 
+import chosen
 import model
+from drawn import PLACES, SHAPES_OF_LEGAL, VILL, fields_of, registers, rng, seed, vl_of
 from qemu import EBREAK, TRAMPOLINE, Batch
 from table import ALL, BUFFER, M32, RO, RW, SCALAR, VECTOR, VTYPES, lmul4_of, sew_of, state_of, vlmax_of
 
-EVERYTHING = '--all' in sys.argv
 PC = 0x10000
-VILL = 0x80000000
-rng = random.Random(1989)
 cases = []
 
 
@@ -68,26 +66,15 @@ def add(*args, **more):
     cases.append(Case(*args, **more))
 
 
-def seed():
-    return rng.getrandbits(32) or 1
-
-
 # ---- What the model says ------------------------------------------------------------------------------------------------------------------------------
 
 def areas():
     return model.Memory([(0x10000, struct.pack('<I', 0x73), 'x'), (0x2fff0000, bytes(65536), 'rw'), (RW, BUFFER, 'rw'), (RO, BUFFER, 'r')])
 
 
-def is_known(word):
-    d = model.decode(word)
-    return d is not None and d[0].is_decoded(d[1].get('vm'), EVERYTHING)
-
-
 def of_model(c):
     memory = areas()
     m = model.Machine(c.vlenb, c.ones, PC, c.x, c.v, c.vtype, c.vl, c.vxrm, c.vxsat, memory)
-    if not is_known(c.word):
-        return 'fault Illegal %08x' % c.word
     try:
         m.step(c.word)
     except model.Fault as e:
@@ -152,7 +139,7 @@ def by_hand(c, qemu, mine):
     d = model.decode(c.word)
     if qemu is None:
         return 'not asked: ecall ends the run (docs/MACHINE.md, Start and end); 16-bit words mean nothing (docs/MACHINE.md, Instructions); a jump into itself'
-    if not is_known(c.word):
+    if d is None:
         return 'means nothing: what words.txt says (docs/MACHINE.md, Instructions)'
     i, f = d
     if i.shape in ('jal', 'jalr', 'branch') and mine.startswith('fault JumpMisaligned'):
@@ -327,54 +314,10 @@ def vset_cases():
 
 # ---- Vector cases ---------------------------------------------------------------------------------------------------------------------------------------
 
-def vl_of(k, vtype, vlenb):
-    m = vlmax_of(vtype, vlenb)
-    return (m, rng.randrange(1, m + 1), 1, m, max(1, rng.randrange(m)), 0)[k % 6]
-
-
-def registers(i, vtype, vm, place):
-    """Fields for the registers such that the word is legal, with the wanted sharing where there is such a one; None where no word is."""
-    names = [n for n in ('vd', 'vs3', 'vs2', 'vs1') if n in i.syntax]
-    for attempt in range(400):
-        f = {}
-        for n in names:
-            kind = 'x'
-            f[n] = rng.randrange(32)
-            width = 1 << rng.randrange(4)
-            if rng.random() < 0.9:
-                f[n] -= f[n] % width
-        for a, b in {'d2': (('vd', 'vs2'),), 'd1': (('vd', 'vs1'),), '21': (('vs2', 'vs1'),), 'all': (('vd', 'vs2'), ('vs1', 'vs2')), 'apart': ()}[place]:
-            if a in f and b in f and attempt < 200:
-                f[a] = f[b]
-        for n in ('rs1', 'rs2', 'rd'):
-            if n in i.syntax:
-                f[n] = rng.randrange(1, 32)
-        if 'vd' in f and i.eew and i.eew[0] == 'm' and vm == 0 and rng.random() < 0.2:
-            f['vd'] = 0
-        word = i.encode(vm=vm, **f)
-        if model.decode(word) and model.is_legal(vtype, word):
-            return f
-    return None
-
-
-def fields_of(i, vtype, vm, place):
-    f = registers(i, vtype, vm, place)
-    if f is not None and 'imm' in i.syntax:
-        f['imm'] = rng.choice((0, 1, 2, 7, 8, 15, 16, 30, 31, rng.randrange(32)))
-    return f
-
-
-SHAPES_OF_LEGAL = sorted({v & 0x3f for v in VTYPES})
-PLACES = ('apart', 'd2', 'd1', 'apart', '21', 'all')
-
-
 def arithmetic_cases(per):
     k = 0
     for i in VECTOR:
         if i.base & 0x7f != 0x57:
-            continue
-        vms = [vm for vm in ((0, 1) if i.vm is None else (i.vm,)) if i.is_decoded(vm, EVERYTHING)]
-        if not vms:
             continue
         for vlenb in (16, 32):
             for ones in (False, True):
@@ -382,8 +325,8 @@ def arithmetic_cases(per):
                     for _ in range(per):
                         k += 1
                         vtype = low | rng.randrange(4) << 6
-                        vm = vms[k % len(vms)]
-                        f = fields_of(i, vtype, vm, PLACES[rng.randrange(6)])
+                        vm = i.vms[k % len(i.vms)]
+                        f = fields_of(i, vtype, vm, rng.choice(PLACES))
                         if f is None:
                             continue
                         vl = vl_of(rng.randrange(6) if rng.random() < 0.8 else k, vtype, vlenb)
@@ -407,13 +350,13 @@ def arithmetic_cases(per):
                             v[0] = bytes([rng.choice((0, 255))]) * vlenb
                         add(vlenb, ones, vtype, vl, seed(), i.encode(vm=vm, **f), x=x, v=v, **state)
         # A word that is not legal, and one under vill.
-        f = fields_of(i, 0xd0, vms[0], 'apart') or {}
-        add(16, True, VILL, 0, seed(), i.encode(vm=vms[0], **f))
+        f = fields_of(i, 0xd0, i.vms[0], 'apart') or {}
+        add(16, True, VILL, 0, seed(), i.encode(vm=i.vms[0], **f))
         if i.shape not in ('tox', 'fromx', 'logic', 'count', 'reduce'):
             for n in ('vd', 'vs2', 'vs1'):
                 if n in f and i.eew[('vd', 'vs2', 'vs1').index(n)] in ('1', '2', '1/2'):
                     for low in (0x11, 0x0a, 0x03):
-                        word = i.encode(vm=vms[0], **(f | {n: f[n] | 1}))
+                        word = i.encode(vm=i.vms[0], **(f | {n: f[n] | 1}))
                         if not model.is_legal(low, word):
                             add(32, True, low, vlmax_of(low, 32), seed(), word)
 
@@ -425,15 +368,14 @@ def access_cases(per):
             continue
         is_load = i.shape.startswith('vload')
         how = i.shape.split('_')[1] if '_' in i.shape else 'unit'
-        vms = [vm for vm in ((0, 1) if i.vm is None else (i.vm,)) if i.is_decoded(vm, EVERYTHING)]
-        for vm in vms:
+        for vm in i.vms:
             for vlenb in (16, 32):
                 for ones in (False, True):
                     for low in SHAPES_OF_LEGAL + ([VILL] if how in ('whole', 'mask') else []):
                         for _ in range(per):
                             k += 1
                             vtype = low if low == VILL else low | rng.randrange(4) << 6
-                            f = registers(i, vtype, vm, PLACES[k % 6])
+                            f = registers(i, vtype, vm, PLACES[k % len(PLACES)])
                             if f is None:
                                 if rng.random() < 0.3 and vtype != VILL:
                                     f = {n: 8 for n in i.syntax if n != 'vm'}
@@ -466,11 +408,10 @@ def main():
     scalar_cases()
     csr_cases()
     vset_cases()
-    # As many rows of each instruction as keep the table at about 20,000.
-    known = [i for i in VECTOR if any(i.is_decoded(vm, EVERYTHING) for vm in ((0, 1) if i.vm is None else (i.vm,)))]
-    accesses = sum(1 for i in known if i.base & 0x7f != 0x57)
-    arithmetic_cases(max(1, 330 // (len(known) - accesses)))
-    access_cases(max(1, min(6, 60 // accesses)))
+    arithmetic_cases(2)
+    access_cases(1)
+    for args, more in chosen.cases():
+        add(*args, **more)
     groups = {}
     for n, c in enumerate(cases):
         groups.setdefault((c.vlenb, c.ones), []).append(n)

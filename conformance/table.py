@@ -1,24 +1,11 @@
 """The instructions of RV32IM, Zicsr and Zve32x, one line each: what the other scripts are driven by.
 
 Names, encodings and operands are those of the RISC-V Unprivileged ISA manual ("RV32/64G Instruction Set Listings") and of the "V" vector extension 1.0
-("Vector Instruction Listing"). An instruction that the project does not decode yet stands in NOT_YET; to take it up, take its name off that list and run the
-scripts again.
+("Vector Instruction Listing").
 """
 import struct
 
 M32 = 0xffffffff
-
-# Mnemonics (without the suffix of the operands) that the project does not decode today. Their words are `illegal` in words.txt and are in no other table.
-# A name with vm=0 is the masked form alone.
-NOT_YET = '''
-vrgather vslideup vrgatherei16 vslidedown vsaddu vsadd vssubu vssub vsmul vmv1r vmv2r vmv4r vmv8r vssrl vssra vnsrl vnsra vnclipu vnclip
-vwredsumu vwredsum vredsum vredand vredor vredxor vredminu vredmin vredmaxu vredmax vaaddu vaadd vasubu vasub vslide1up vslide1down
-vmv.x vcpop vfirst vmv.s vzext vsext vmsbf vmsof vmsif viota vid vcompress vmandn vmand vmor vmxor vmorn vmnand vmnor vmxnor
-vwaddu vwadd vwsubu vwsub vwmulu vwmulsu vwmul vwmaccu vwmacc vwmaccus vwmaccsu
-vle8/vm=0 vle16 vle32 vse8/vm=0 vse16 vse32 vlse8 vlse16 vlse32 vsse8 vsse16 vsse32 vlm vsm
-vluxei8 vluxei16 vluxei32 vloxei8 vloxei16 vloxei32 vsuxei8 vsuxei16 vsuxei32 vsoxei8 vsoxei16 vsoxei32
-vl1re8 vl1re16 vl1re32 vl2re8 vl2re16 vl2re32 vl4re8 vl4re16 vl4re32 vl8re8 vl8re16 vl8re32 vs1r vs2r vs4r vs8r
-'''.split()
 
 # The order in which a text shows its fields.
 ORDER = ['rd', 'vd', 'vs3', 'rs1', 'rs2', 'vs2', 'vs1', 'avl', 'imm', 'csr', 'to', 'vm']
@@ -55,8 +42,10 @@ class Ins:
     def stem(self):
         return 'vmv.' + self.name[4] if self.name in ('vmv.x.s', 'vmv.s.x') else self.name.split('.')[0]
 
-    def is_decoded(self, vm, everything=False):
-        return everything or not (self.stem in NOT_YET or '%s/vm=%s' % (self.stem, vm) in NOT_YET)
+    @property
+    def vms(self):
+        """The values that the bit vm may have."""
+        return (0, 1) if self.vm is None else (self.vm,)
 
     def encode(self, **f):
         """The word with the given fields (immediates as numbers, signed or not)."""
@@ -314,8 +303,6 @@ SCALAR = scalar()
 VECTOR = vector()
 ALL = {i.name: i for i in SCALAR + VECTOR}
 assert len(ALL) == len(SCALAR) + len(VECTOR)
-for n in NOT_YET:
-    assert any(i.stem == n.split('/')[0] for i in VECTOR), n
 
 
 # States before a step, as steps.txt gives them.

@@ -1,6 +1,6 @@
 """Makes words.txt: words, and what LLVM's disassembler reads them as.
 
-Usage: words.py [--all] > words.txt. With --all nothing of NOT_YET is left out.
+Usage: words.py > words.txt
 """
 import random
 import re
@@ -10,7 +10,6 @@ import sys
 import model
 from table import ALL, CSRS, ORDER, READ_ONLY, SCALAR, VECTOR
 
-EVERYTHING = '--all' in sys.argv
 LLVM = ['llvm-mc-16', '--disassemble', '-triple=riscv32', '-mattr=+m,+zve32x', '-M', 'numeric', '-M', 'no-aliases', '--show-encoding']
 rng = random.Random(20221)
 
@@ -181,8 +180,6 @@ def read_though_refused(word):
     # "Whole Vector Register Move": a vmv<nr>r.v on registers that are no multiple is reserved. It is decoded all the same, and is not legal at any vtype.
     if word & 0xfe00707f == 0x9e003057 and word >> 15 & 31 in (1, 3, 7):
         i = ALL['vmv%dr.v' % ((word >> 15 & 31) + 1)]
-        if not i.is_decoded(1, EVERYTHING):
-            return None
         return text_of(i, {'vd': word >> 7 & 31, 'vs2': word >> 20 & 31, 'vm': 1}, word)
     return None
 
@@ -256,8 +253,6 @@ def converted(name, operands, word):
     if 'csr' not in fields and i.shape not in ('fence', 'ecall', 'branch', 'jal', 'upper'):
         # The text's fields make the word again.
         assert i.encode(**fields) == word, (name, operands, '%08x' % word)
-    if not i.is_decoded(fields.get('vm'), EVERYTHING):
-        return 'illegal'
     return text_of(i, fields, word)
 
 
@@ -275,8 +270,7 @@ def main():
             text = read_though_refused(w) or 'illegal'
             by_hand = text != 'illegal'
         # A table made by hand from the manuals (table.py, model.py) says the same.
-        mine = model.decode(w)
-        mine = 'illegal' if mine is None or not mine[0].is_decoded(mine[1].get('vm'), EVERYTHING) else model.text_of(w)
+        mine = model.text_of(w)
         assert mine == text, ('%08x' % w, text, mine)
         rows.append('%08x %s' % (w, text))
         kind = ('illegal' if text == 'illegal' else 'with a meaning') + (', by hand' if by_hand else '')
@@ -286,8 +280,7 @@ def main():
     print('# by hand where the script says so. %d rows: %s.' % (len(rows), '; '.join('%s %d' % (k, counts[k]) for k in sorted(counts))))
     print('\n'.join(rows))
     names = {r.split()[1] for r in rows}
-    want = {i.name for i in SCALAR + VECTOR if any(i.is_decoded(v, EVERYTHING) for v in ((0, 1) if i.vm is None else (i.vm,)))}
-    missing = want - names
+    missing = {i.name for i in SCALAR + VECTOR} - names
     print('missing: ' + ' '.join(sorted(missing)) if missing else 'every instruction is there; %s' % counts, file=sys.stderr)
 
 

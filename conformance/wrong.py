@@ -101,6 +101,59 @@ WRONG = [
     ('auipc is lui', "self.set_x(f['rd'], pc + imm)", "self.set_x(f['rd'], imm)"),
     ('slti is unsigned', "{'sltiu': 'sltu'}", "{'sltiu': 'sltu', 'slti': 'sltu'}"),
     ('sltiu immediate is unsigned', "b, n = imm & M32", "b, n = imm & (0xfff if n == 'sltiu' else M32)"),
+    ('rounding to the nearest rounds a half down', 'return floor + (low >= half)', 'return floor + (low > half)'),
+    ('rounding to even rounds a half up', 'low > half or low == half and floor & 1', 'low >= half'),
+    ('rounding to odd cuts', 'return floor | (low != 0)', 'return floor'),
+    ('rounding down rounds up', 'if vxrm == 2:\n        return floor\n', 'if vxrm == 2:\n        return floor + (low != 0)\n'),
+    ('vaaddu without the carry', 'rounded(p + q if', 'rounded(p + q & (1 << w) - 1 if'),
+    ('vsmul shifts by SEW', 'rounded(x * y, w - 1, vxrm)', 'rounded(x * y, w, vxrm)'),
+    ('vsmul does not saturate', "clipped(v, w, True), clipped(v, w, True) != v\n    return rounded(a if", "v, False\n    return rounded(a if"),
+    ('inactive elements set vxsat', 'if any(sat for k, (_, sat) in enumerate(both) if is_active(k)):', 'if any(sat for _, sat in both):'),
+    ('vxsat is cleared where nothing saturates', 'if any(sat for k, (_, sat) in enumerate(both) if is_active(k)):', 'self.vxsat = 0\n            if any(sat for k, (_, sat) in enumerate(both) if is_active(k)):'),
+    ('vnclip by as many bits as SEW has', 'd = b & (2 * w - 1)', 'd = b & (w - 1)'),
+    ('vnclipu of a signed number', 'rounded(signed(a, 2 * w) if is_signed else a, d, vxrm)', 'rounded(signed(a, 2 * w), d, vxrm)'),
+    ('vsaddu.vi immediate is unsigned', "f['imm'] = signed(word >> 15, 5) if i.imm == 's'", "f['imm'] = signed(word >> 15, 5) if i.imm == 's' and i.name != 'vsaddu.vi'"),
+    ('vwsub.wv extends b by zeros', "'vwsub': lambda a, b, w: a - signed(b, w)}", "'vwsub': lambda a, b, w: a - b}"),
+    ('vwmulsu the other way', "'vwmulsu': lambda a, b, w: signed(a, w) * b", "'vwmulsu': lambda a, b, w: a * signed(b, w)"),
+    ('vwmaccsu as vwmaccus', "'vwmaccsu': lambda a, b, c, w: signed(b, w) * a + c", "'vwmaccsu': lambda a, b, c, w: b * signed(a, w) + c"),
+    ('vsext extends by zeros', "signed(a(k), part) if stem == 'vsext' else a(k)", 'a(k)'),
+    ('vslideup writes below the distance', 'a(k - offset) if k >= offset else None', 'a(k - offset) if k >= offset else 0'),
+    ('vslidedown ends at vl', 'a(k + offset) if k + offset < vlmax else 0', 'a(k + offset) if k + offset < vl else 0'),
+    ('slides go by the low bits', "offset = f['imm'] if 'imm' in f else self.x[f['rs1']]", "offset = f['imm'] if 'imm' in f else self.x[f['rs1']] & 255"),
+    ('vslide1down ends at VLMAX', 'a(k + 1) if k < vl - 1 else offset', 'a(k + 1) if k < vlmax - 1 else offset'),
+    ('vrgather goes round at VLMAX', 'a(index(k)) if index(k) < vlmax else 0', 'a(index(k) % vlmax)'),
+    ('vrgather ends at vl', 'a(index(k)) if index(k) < vlmax else 0', 'a(index(k)) if index(k) < vl else 0'),
+    ('vrgather.vx cuts its index to SEW', "b(k) if vs1 else f['imm'] if 'imm' in f else self.x[f['rs1']]", "b(k) if vs1 or 'rs1' in f else f['imm']"),
+    ('vcompress keeps what is past the packed', 'packed, every, len(packed))', 'packed + [None] * (vl - len(packed)), every)'),
+    ('a reduction at vl 0 writes', "            if vl:\n                w = int(dest.eew)", "            if True:\n                w = int(dest.eew)"),
+    ('a reduction of inactive elements too', "                    if is_active(k):\n                        e =", "                    if True:\n                        e ="),
+    ('a reduction has no tail', 'for k in range(1, self.vlenb * 8 // w)', 'for k in range(1, 1)'),
+    ('vwredsum extends by zeros', "e = signed(a(k), sew) if stem == 'vwredsum' else a(k)", 'e = a(k)'),
+    ('vcpop counts inactive bits', "on = [k for k in body if is_active(k) and self.bit(f['vs2'], k)]\n            self.set_x", "on = [k for k in body if self.bit(f['vs2'], k)]\n            self.set_x"),
+    ('vfirst answers vl where there is none', 'on[0] if on else -1', 'on[0] if on else vl'),
+    ('vmsif without the first', "'vmsif': k <= at", "'vmsif': k < at"),
+    ('vmsbf sets none where there is none', 'at = on[0] if on else vl', 'at = on[0] if on else 0'),
+    ('viota counts inactive bits', "if is_active(j) and self.bit(f['vs2'], j)", "if self.bit(f['vs2'], j)"),
+    ('vmandn the other way', "'vmandn': lambda a, b: a & ~b", "'vmandn': lambda a, b: b & ~a"),
+    ('vmv.x.s extends by zeros', "signed(self.get(f['vs2'], sew, 0), sew)", "self.get(f['vs2'], sew, 0)"),
+    ('vmv.s.x at vl 0 writes', "            if vl:\n                self.write_single(dest, self.x", "            if True:\n                self.write_single(dest, self.x"),
+    ('a stride is positive', "else self.x[f['rs2']]", "else self.x[f['rs2']] & 0x7fffffff"),
+    ('indices are signed', "base + self.get(f['vs2'], i.width, k) & M32", "base + signed(self.get(f['vs2'], i.width, k), i.width) & M32"),
+    ('indexed data is as wide as the indices', "                size = sew_of(self.vtype) // 8\n", "                size = i.width // 8\n"),
+    ('vlm leaves out the last bits', 'range((self.vl + 7) // 8)', 'range(self.vl // 8)'),
+    ('the tail of vlm follows vta', "                if self.ones:\n                    for k in range(len(places)", "                if self.agnostic(6):\n                    for k in range(len(places)"),
+    ('the tail of vlm begins at vl', "            if self.vl:\n                for k in got:\n                    self.put(reg, 8, k, got[k])\n", "            if self.vl:\n                for k in got:\n                    self.put(reg, 8, k, got[k] | (255 << self.vl % 8 & 255 if self.ones and self.vl % 8 and k == len(got) - 1 else 0))\n"),
+    ('whole registers go by vl', 'for k in range(i.regs * self.vlenb // size)', 'for k in range(min(self.vl, i.regs * self.vlenb // size))'),
+    ('a fault of whole registers is told at the base', 'places = [(k, base + k * size & M32) for k in range(i.regs * self.vlenb // size)]', 'places = [(k, base + k * size & M32) for k in range(i.regs * self.vlenb // size)]\n            if not self.memory.permits(base, i.regs * self.vlenb, \'r\' if is_load else \'w\'):\n                raise Fault(\'LoadFault\' if is_load else \'StoreFault\', base)'),
+    ('whole registers begin anywhere', "i.shape in ('vload_whole', 'vstore_whole') and (word", "False and (word"),
+    ('vmv2r.v begins anywhere', "return f['vd'] % i.regs == 0 and f['vs2'] % i.regs == 0", 'return True'),
+    ('vlm under vill', "    if vtype == VILL:\n        return False\n    dest", "    if vtype == VILL:\n        return i.name in ('vlm.v', 'vsm.v')\n    dest"),
+    ('EEW 64', 'o.eew not in (8, 16, 32)', 'o.eew not in (8, 16, 32, 64)'),
+    ('a wide destination begins with its source', 'dest.reg + dest.count == s.reg + s.count', 'dest.reg == s.reg'),
+    ('a wide destination shares with a fraction of a register', 's.emul4 >= 4 and dest', 'dest'),
+    ('vcompress shares', "'vcompress', 'viota'", "'viota'"),
+    ('viota shares', "'vcompress', 'viota'", "'vcompress'"),
+    ('a gather shares', "'vrgather', 'vrgatherei16'", "'vrgatherei16'"),
 ]
 
 
@@ -152,7 +205,7 @@ def holds(model, line):
     memory = model.Memory([(0x10000, struct.pack('<I', 0x73), 'x'), (0x2fff0000, bytes(65536), 'rw'), (table.RW, table.BUFFER, 'rw'), (table.RO, table.BUFFER, 'r')])
     m = model.Machine(vlenb, ones, 0x10000, x, v, vtype, vl, state['vxrm'], state['vxsat'], memory)
     d = model.decode(word)
-    if d is None or not d[0].is_decoded(d[1].get('vm')):
+    if d is None:
         return right == 'fault Illegal %08x' % word
     try:
         m.step(word)
@@ -174,7 +227,7 @@ def notices(change):
     for n, line in rows('words.txt'):
         word, text = line.rstrip('\n').split(' ', 1)
         d = model.decode(int(word, 16))
-        mine = model.text_of(int(word, 16)) if d and d[0].is_decoded(d[1].get('vm')) else 'illegal'
+        mine = model.text_of(int(word, 16))
         if mine != text:
             found['words.txt'] = n
             break
