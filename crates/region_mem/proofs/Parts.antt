@@ -1,10 +1,10 @@
 -- Parts of an area: what one write after another leaves.
-use Rattle.std.proofs.Common.{◌≡◌, ℕ, zero, suc, ◌+◌, ◌-◌, ◌/◌, ◌<◌, ◌≤◌, List, [], ◌∷◌, ◌++◌, length, take, drop, set, arith, sym, ap, refl, ◌∙◌}
+use Rattle.std.proofs.Common.{◌≡◌, ℕ, suc, ◌+◌, ◌-◌, ◌*◌, ◌<◌, ◌≤◌, List, [], ◌∷◌, ◌++◌, length, take, drop, set, arith, sym, ap, refl, ◌∙◌}
 use Rattle.std.specs.Int.{to_le_bytes, w32}
-use Rattle.std.proofs.Math.Nat.{div-div-eq-div-mul}
 use Rattle.std.proofs.Math.Seq.{take-append_seam, drop-append-add}
 use Rattle.std.proofs.lemmas.List.{length-append, length-take-le, take-append-drop, append-nil, append_assoc, drop-drop, set_split}
-use Rattle.region_mem.specs.Areas.{Area, bytes_of, part_into}
+use Rattle.byteorder.specs.Numbers.{length-bytes_low_first, little_from-cons}
+use Rattle.region_mem.specs.Areas.{Area, number_of, bytes_of, part_into}
 use Rattle.region_mem.proofs.Apart.{end_of}
 use Rattle.region_mem.proofs.Writes.{written}
 
@@ -59,8 +59,12 @@ part_one at y area low high = ap (λ b. record area { bytes = b }) (put_one (at 
 
 pub length_bytes : (n value : ℕ) → length (bytes_of n value) ≡ n
 unfolding bytes_of
-length_bytes zero value = refl
-length_bytes (suc n) value = ap suc (length_bytes n (value / 256))
+length_bytes n value = length-bytes_low_first 0 n value
+
+-- the lowest byte and the others
+pub number_of-cons : (byte : ℕ) (bytes : List ℕ) → number_of (byte ∷ bytes) ≡ byte + 256 * number_of bytes
+unfolding number_of
+number_of-cons byte bytes = ap (λ (n : ℕ). byte + 256 * n) (little_from-cons 0 (length bytes) byte bytes)
 
 -- The lowest bytes are the first ones.
 pub one_byte : (value : ℕ) → take 1 (to_le_bytes w32 value) ≡ bytes_of 1 value
@@ -73,5 +77,4 @@ two_bytes value = refl
 
 pub four_bytes : (value : ℕ) → to_le_bytes w32 value ≡ bytes_of 4 value
 unfolding bytes_of
-four_bytes value =
-    rw (div-div-eq-div-mul value 256 256, div-div-eq-div-mul value 65536 256) refl
+four_bytes value = refl

@@ -1,9 +1,10 @@
 -- Areas of memory, as a list in the order of their first addresses: the byte at an address, what an access may do, and
 -- what a write leaves. An address is a number without limit here, so that none wraps.
-use Rattle.std.specs.Prelude.{◌≡◌, ℕ, true, false, zero, suc, ◌+◌, ◌*◌, ◌-◌, ◌/◌, ◌%◌, ◌^◌, ◌≤◌, Bool, ◌&&◌, nat_le, nat_lt, List, [], ◌∷◌, ◌++◌, length, take, drop, map, find, Option, unwrap_or, slice_index, slice_set, if◌then◌else◌}
+use Rattle.std.specs.Prelude.{◌≡◌, ℕ, true, false, ◌+◌, ◌-◌, ◌^◌, ◌≤◌, Bool, ◌&&◌, nat_le, nat_lt, List, [], ◌∷◌, ◌++◌, length, take, drop, map, find, Option, unwrap_or, slice_index, slice_set, if◌then◌else◌}
 use Rattle.std.specs.List.Sorted.{IsPartitionPoint}
 use Rattle.std.specs.List.{list_any, list_all, range_with_len}
 use Rattle.std.specs.Option.{option_map}
+use Rattle.byteorder.specs.Endian.{little_number, little_bytes}
 use Rattle.region_mem.specs.declared.faults.Right.{Right}
 use Rattle.region_mem.specs.declared.faults.Right.TheVariants.{Read, Write, Fetch}
 
@@ -75,13 +76,11 @@ byte_at address areas =
 
 -- the number of which these are the bytes, the lowest first
 unfoldable pub number_of : List ℕ → ℕ
-number_of [] = 0
-number_of (byte ∷ bytes) = byte + 256 * number_of bytes
+number_of bytes = little_number (length bytes) bytes
 
 -- the n lowest bytes of a number, the lowest first
 unfoldable pub bytes_of : ℕ → ℕ → List ℕ
-bytes_of zero value = []
-bytes_of (suc n) value = value % 256 ∷ bytes_of n (value / 256)
+bytes_of n value = little_bytes n value
 
 -- the number in the n bytes from an address on
 unfoldable pub number_at : ℕ → ℕ → List Area → ℕ

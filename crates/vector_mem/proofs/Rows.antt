@@ -1,10 +1,9 @@
 -- The accesses of elements that lie one after another, and what is in a window over them.
-use Rattle.std.proofs.Common.{◌≡◌, ℕ, zero, suc, ◌+◌, ◌*◌, ◌%◌, ◌^◌, ◌<◌, ◌≤◌, Bool, true, false, ◌⊎◌, inl, inr, List, [], ◌∷◌, ◌++◌, ◌/◌, Some, None, drop, get_or, length, map, replicate, take, ap, sym, ◌∙◌, refl, arith, cond, subst}
+use Rattle.std.proofs.Common.{◌≡◌, ℕ, zero, suc, ◌+◌, ◌*◌, ◌%◌, ◌^◌, ◌<◌, ◌≤◌, Bool, true, false, ◌⊎◌, inl, inr, List, [], ◌∷◌, Some, None, drop, get_or, length, map, replicate, take, ap, sym, ◌∙◌, refl, arith, cond, subst}
 use Rattle.std.specs.Prelude.{filter, find, flat_map, not}
 use Rattle.std.specs.List.{fold, range_with_len}
 use Rattle.std.proofs.Math.Nat.{mod-eq_of_lt, mul-le-mul_left}
 use Rattle.std.proofs.lemmas.List.{drop_all, drop_more, get_or-replicate, length-replicate}
-use Rattle.std.proofs.lemmas.List.Concat.{flat_map-cons}
 use Rattle.std.proofs.lemmas.List.Folds.{fold-map}
 use Rattle.std.proofs.lemmas.List.FromFn.{get_or-map-range_with_len, get_or-range_with_len, length-map-range_with_len, length-range_with_len}
 use Rattle.region_mem.specs.Areas.{number_of}
@@ -13,8 +12,8 @@ use Rattle.region_mem.specs.Laws.{LoadsInWindows, StoresFillWindows, StoresInWin
 use Rattle.region_mem.specs.Memory.{Memory, has_window, load_of, window_of, with_window}
 use Rattle.region_mem.specs.declared.faults.Right.{Right}
 use Rattle.region_mem.specs.declared.faults.Right.TheVariants.{Read, Write}
+use Rattle.region_mem.proofs.Parts.{number_of-cons}
 use Rattle.vreg_groups.specs.Elements.{active_of, bytes_of, number_at}
-use Rattle.vreg_groups.proofs.Places.{bytes_of-suc}
 use Rattle.vector_mem.specs.declared.plan.Access.{Access}
 use Rattle.vector_mem.specs.Accesses.{access_at, accesses, first_refused, in_a_row, is_refused, stored, strided, with_loaded, with_stored}
 use Rattle.vector_mem.specs.Transfers.{accesses_of, data_at, data_of, is_in_a_row, is_masked, place_at, right_of}
@@ -72,6 +71,7 @@ number_there zero at bytes h = refl
 number_there (suc k) at bytes h =
     let first = drop_more bytes at 0 (omega (arith, h)) in
     ap (λ xs. number_of (take (suc k) xs)) first
+    ∙ number_of-cons (get_or bytes at 0) (take k (drop (at + 1) bytes))
     ∙ ap (λ (n : ℕ). get_or bytes at 0 + 256 * n) (number_there k (at + 1) bytes (omega (arith, h)))
     ∙ ap (λ (next : ℕ). get_or bytes at 0 + 256 * number_at k next bytes) (omega arith)
 
@@ -132,23 +132,10 @@ row_writable memory size base n bounds permitted is some =
     ap (is_refused memory) (row_at Write size base n k d short some (bounds base (size * n) is))
     ∙ ap not (permitted base (size * n) (size * k) size is (room size k n short)))
 
-bytes_same : (n v : ℕ) → area.bytes_of n v ≡ bytes_of n v
-unfolding area.bytes_of bytes_of
-bytes_same zero v = refl
-bytes_same (suc n) v = ap (λ (l : List ℕ). v % 256 ∷ l) (bytes_same n (v / 256)) ∙ sym (bytes_of-suc n v)
-
-all_bytes_same : (n : ℕ) (values : List ℕ) → flat_map (area.bytes_of n) values ≡ flat_map (bytes_of n) values
-all_bytes_same n [] = refl
-all_bytes_same n (v ∷ values) =
-    flat_map-cons (area.bytes_of n) v values
-    ∙ ap (λ (l : List ℕ). l ++ flat_map (area.bytes_of n) values) (bytes_same n v)
-    ∙ ap (λ (l : List ℕ). bytes_of n v ++ l) (all_bytes_same n values)
-    ∙ sym (flat_map-cons (bytes_of n) v values)
-
 pub row_stored : (memory : Memory) (size base n : ℕ) (values : List ℕ) → WindowsToWrite memory → StoresFillWindows memory →
     has_window base (size * n) memory ≡ true → 0 < size → length values ≡ n →
     stored (in_a_row Write size base n) values memory ≡ with_window base (flat_map (bytes_of size) values) memory
-unfolding stored
+unfolding stored area.bytes_of bytes_of
 row_stored memory size base n values bounds fills is some long =
     let at = access_at Write size (strided base size) in
     let has : has_window base (size * length values) memory ≡ true = ap (λ (m : ℕ). has_window base (size * m) memory) long ∙ is in
@@ -156,7 +143,6 @@ row_stored memory size base n values bounds fills is some long =
     ∙ fold-map (with_stored values) at memory (range_with_len 0 (length values))
     ∙ fills (λ i. strided base size i % 2 ^ 32) base size values has
     (λ i lt. mod-eq_of_lt (less size i (length values) base lt some (bounds base (size * length values) has)))
-    ∙ ap (λ (l : List ℕ). with_window base l memory) (all_bytes_same size values)
 
 -- an instruction whose elements lie in a row
 pub row_accesses : (vlenb : ℕ) (s : Setup) (place : Place) (direction : Direction) (values base stride : ℕ) (file : List ℕ) →
