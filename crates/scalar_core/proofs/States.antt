@@ -94,7 +94,7 @@ signed_abs a fits = grind arith
 signed_below : (a : ℕ) → a < 2 ^ 32 → unsigned_abs (signed a) < 2 ^ 32
 signed_below a fits = omega (arith, signed_abs a fits)
 
-immediate_fits : (imm : ℤ) → FitsSigned w32 imm → unsigned imm < 2 ^ 32
+pub immediate_fits : (imm : ℤ) → FitsSigned w32 imm → unsigned imm < 2 ^ 32
 immediate_fits (pos n) fits = omega (arith, fits.sfits)
 immediate_fits (negsuc n) fits = omega arith
 
@@ -183,7 +183,7 @@ shift_result-fits Slli a amount p = omega arith
 shift_result-fits Srli a amount p = omega (arith, div-le_self a (2 ^ (amount % 32)))
 shift_result-fits Srai a amount p = below_signed (int_shr (signed a) (amount % 32)) a p (shifted_abs (signed a) (amount % 32))
 
-loaded-fits : (kind : LoadKind) (n : ℕ) → n < 2 ^ 32 → loaded kind n < 2 ^ 32
+pub loaded-fits : (kind : LoadKind) (n : ℕ) → n < 2 ^ 32 → loaded kind n < 2 ^ 32
 unfolding loaded
 loaded-fits load.Byte n p = byte_extended (n % 2 ^ 8) (omega arith)
 loaded-fits load.Half n p = half_extended (n % 2 ^ 16) (omega arith)

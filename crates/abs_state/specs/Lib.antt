@@ -1,0 +1,5 @@
+pub mod Described
+pub mod Effects
+pub mod Numbers
+pub mod Values
+pub mod Zones

@@ -1,0 +1,27 @@
+//! Laws of what instructions make of numbers, each the contract of a function that does nothing when it runs.
+ghost use Rattle.abs_state.specs.Described.{ConstantEffects, ImmediateEffects, LoadEffects, RegisterEffects, ShiftEffects};
+
+/// What an instruction on two registers makes of their numbers holds of the number that it computes.
+pub fn register_effects()
+    ensures { RegisterEffects }
+{}
+
+/// What an instruction on a register and an immediate makes of them holds of the number that it computes.
+pub fn immediate_effects()
+    ensures { ImmediateEffects }
+{}
+
+/// What a shift by an amount that stands in the instruction makes of a register holds of the number that it computes.
+pub fn shift_effects()
+    ensures { ShiftEffects }
+{}
+
+/// What is said of a load holds of what it gives, whatever it reads.
+pub fn load_effects()
+    ensures { LoadEffects }
+{}
+
+/// A number that stands in the instruction is what is said of it.
+pub fn constant_effects()
+    ensures { ConstantEffects }
+{}

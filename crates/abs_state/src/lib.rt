@@ -1,0 +1,24 @@
+//! What is known of a machine at an instruction of a certified kernel, and what each scalar instruction makes of it.
+//!
+//! A number that is not known is an atom. A register's number is known as a form over atoms and a range; memory is known
+//! by the zones that may be read and written throughout a run.
+#![tactic(auto)]
+
+mod effects;
+mod laws;
+mod numbers;
+mod values;
+mod why;
+mod zones;
+
+pub use effects::{
+    constant_effect, csr_effect, immediate_effect, load_effect, offset_form, offset_range,
+    register_effect, shift_effect,
+};
+pub use laws::{
+    constant_effects, immediate_effects, load_effects, register_effects, shift_effects,
+};
+pub use numbers::{MOST_ATOMS, Numbers, VL};
+pub use values::{Effect, Value, computed_range};
+pub use why::Why;
+pub use zones::{Zone, load_allowed, memory_zones, store_allowed};

@@ -1,0 +1,162 @@
+//! The numbers of the registers and of vl, as far as they are known.
+ghost use Rattle.std.specs.Prelude.{◌≡◌, ◌<◌, length, replicate, IfOk};
+ghost use Rattle.linear_facts.specs.Forms.{number_form};
+ghost use Rattle.abs_state.specs.Numbers.{zero_numbers, table_of, value_at};
+ghost use Rattle.abs_state.specs.Numbers.{with_value, with_fresh, with_computed, with_effect, with_result};
+
+use crate::values::{Effect, Value, computed_range, or_full};
+use linear_facts::{Atom, Atoms, Form, Range};
+use rv_decode::Reg;
+use std::alloc::{AllocError, Allocator, Global};
+use std::marker::Model;
+
+/// The number of vl, behind those of x0 to x31.
+pub const VL: usize = 32;
+
+/// How many atoms there may be.
+pub const MOST_ATOMS: usize = 8300;
+
+/// What is known of the numbers of x0 to x31 and, as number 32, of vl: each has a form over atoms and a range. All memory is
+/// taken at the start. `A` is the allocator.
+#[derive(Drop)]
+pub struct Numbers<A: Allocator = Global> {
+    atoms: Vec<Atom, A>,
+    forms: Vec<Form<8>, A>,
+    ranges: [Range; 33],
+}
+
+impl<A: Allocator> Model for Numbers<A> {
+    ghost use Rattle.std.specs.Prelude.{◌≡◌, ◌≤◌, length, vec_capacity};
+    ghost use Rattle.abs_state.specs.Numbers.{NumbersView};
+
+    ghost Value = { NumbersView };
+
+    ghost view = { λ s. record { atoms = s.atoms.items; forms = s.forms.items; ranges = s.ranges } };
+
+    // There are 33 forms, and room for all atoms.
+    ghost invariant = { λ s. (length s.forms.items ≡ 33) × (8300 ≤ vec_capacity s.atoms) };
+}
+
+/// As many forms as there are numbers, each the number 0.
+fn zeros<A: Allocator>(alloc: A) -> Result<Vec<Form<8>, A>, AllocError>
+    ensures { IfOk result (λ v. v.items ≡ replicate 33 (number_form 0)) }
+{
+    let mut forms = Vec::with_capacity(alloc, 33)?;
+    for _number in 0..33_usize {
+        forms.push(Form::number(0))?;
+    }
+    Ok(forms)
+}
+
+impl<A: Allocator> Numbers<A> {
+    /// No atoms, and every number is 0. The memory that later calls need is taken here.
+    #[tactic(auto, unfolding(crate::specs::Numbers::zero_numbers))]
+    pub fn new(alloc: A) -> Result<Numbers<A>, AllocError>
+    where
+        A: Copy,
+        ensures { IfOk result (λ numbers. numbers ≡ zero_numbers) }
+    {
+        Ok(Numbers {
+            atoms: Vec::with_capacity(alloc, MOST_ATOMS)?,
+            forms: zeros(alloc)?,
+            ranges: [Range { lo: 0, hi: 0 }; 33],
+        })
+    }
+
+    /// What is known of the atoms.
+    pub fn table(&self) -> Atoms<'_>
+        ensures { result ≡ table_of self.now }
+    {
+        Atoms {
+            atoms: self.atoms.as_slice(),
+            first: None,
+            second: None,
+        }
+    }
+
+    /// What is known of the number of a register (0 to 31) or of vl (32).
+    #[tactic(auto, unfolding(crate::specs::Numbers::value_at))]
+    pub fn value(&self, number: usize) -> Value<'_>
+        requires { number < 33 }
+        ensures { result ≡ value_at self.now number }
+    {
+        Value {
+            form: &self.forms[number],
+            range: self.ranges[number],
+        }
+    }
+
+    /// The range of the number of a register (0 to 31) or of vl (32).
+    #[tactic(auto, unfolding(crate::specs::Numbers::value_at))]
+    pub fn range_at(&self, number: usize) -> Range
+        requires { number < 33 }
+        ensures { result ≡ (value_at self.now number).range }
+    {
+        self.ranges[number]
+    }
+
+    /// The number is one that is known.
+    #[tactic(auto, unfolding(crate::specs::Numbers::with_value))]
+    fn set_value(&mut self, number: usize, form: Form<8>, range: Range)
+        requires { number < 33 }
+        ensures { self.new ≡ with_value number record { form = form; range = range } self.old }
+    {
+        self.forms[number] = form;
+        self.ranges[number] = range;
+    }
+
+    /// The number is a new atom in this range.
+    #[tactic(auto, unfolding(crate::specs::Numbers::with_fresh))]
+    pub fn set_fresh(&mut self, number: usize, range: Range)
+        requires number { number < 33 }
+        requires room { length self.old.atoms < MOST_ATOMS }
+        ensures { self.new ≡ with_fresh number range self.old }
+    {
+        let atom = self.atoms.len() as u16;
+        self.atoms.push(Atom { range, split: None }).unwrap();
+        self.set_value(number, Form::atom(atom), range);
+    }
+
+    /// The number is the value of this form, in the interval if there is one, and in the range of the form. Where the form
+    /// has more than eight terms it is a new atom in the interval.
+    #[tactic(auto, unfolding(crate::specs::Numbers::with_computed, crate::specs::Numbers::with_short))]
+    pub fn set_computed(&mut self, number: usize, form: &Form<16>, interval: Option<Range>)
+        requires number { number < 33 }
+        requires room { length self.old.atoms < MOST_ATOMS }
+        ensures { self.new ≡ with_computed number form.now interval self.old }
+    {
+        match form.resize::<8>() {
+            Some(form) => {
+                let range = computed_range(interval, form.range_of(&self.table()));
+                self.set_value(number, form, range);
+            }
+            None => self.set_fresh(number, or_full(interval)),
+        }
+    }
+
+    /// The number is what an instruction computes.
+    #[tactic(auto, unfolding(crate::specs::Numbers::with_effect))]
+    pub fn set_effect(&mut self, number: usize, effect: Effect)
+        requires number { number < 33 }
+        requires room { length self.old.atoms < MOST_ATOMS }
+        ensures { self.new ≡ with_effect number effect self.old }
+    {
+        match effect {
+            Effect::Computed { form, interval } => self.set_computed(number, &form, interval),
+            Effect::Fresh { range } => self.set_fresh(number, range),
+            Effect::Copied { form, range } => self.set_value(number, form, range),
+        }
+    }
+
+    /// A register gets what an instruction computes. x0 stays 0.
+    #[tactic(auto, unfolding(crate::specs::Numbers::with_result))]
+    pub fn set_result(&mut self, rd: Reg, effect: Effect)
+        requires { length self.old.atoms < MOST_ATOMS }
+        ensures { self.new ≡ with_result rd effect self.old }
+    {
+        let number = usize::from(rd.number());
+        if number != 0 {
+            self.set_effect(number, effect);
+        }
+    }
+}
