@@ -1,3 +1,5 @@
 pub mod Lists
+pub mod Memories
 pub mod Operations
 pub mod Rooms
+pub mod States

@@ -25,7 +25,7 @@ use Rattle.abs_state.specs.Described.{LiesIn, Means, IsNumber, Describes, Regist
 
 -- ---- ranges
 
-full_lies : (x : ℕ) → x < 2 ^ 32 → LiesIn full_range x
+pub full_lies : (x : ℕ) → x < 2 ^ 32 → LiesIn full_range x
 full_lies x l = record { low = omega arith; high = omega arith; fits = lit< tt }
 
 up_lies : (hi x : ℕ) → x ≤ hi → hi < 2 ^ 32 → LiesIn (up_to hi) x

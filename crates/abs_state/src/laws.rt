@@ -1,4 +1,6 @@
 //! Laws of what instructions make of numbers, each the contract of a function that does nothing when it runs.
+ghost use Rattle.abs_state.specs.Holds.{ResultsHold};
+ghost use Rattle.abs_state.specs.Memories.{ZonesArePermitted};
 ghost use Rattle.abs_state.specs.Described.{ConstantEffects, ImmediateEffects, LoadEffects, RegisterEffects, ShiftEffects};
 
 /// What an instruction on two registers makes of their numbers holds of the number that it computes.
@@ -24,4 +26,14 @@ pub fn load_effects()
 /// A number that stands in the instruction is what is said of it.
 pub fn constant_effects()
     ensures { ConstantEffects }
+{}
+
+/// A described number may be put into its register: what is known afterwards is true of the hart afterwards.
+pub fn results_hold()
+    ensures { ResultsHold }
+{}
+
+/// What lies in one of a memory's zones with the right is permitted there.
+pub fn zones_are_permitted()
+    ensures { ZonesArePermitted }
 {}

@@ -16,7 +16,8 @@ pub use effects::{
     register_effect, shift_effect,
 };
 pub use laws::{
-    constant_effects, immediate_effects, load_effects, register_effects, shift_effects,
+    constant_effects, immediate_effects, load_effects, register_effects, results_hold,
+    shift_effects, zones_are_permitted,
 };
 pub use numbers::{MOST_ATOMS, Numbers, VL};
 pub use values::{Effect, Value, computed_range};

@@ -1,0 +1,97 @@
+-- What lies in a zone is permitted.
+use Rattle.std.proofs.Common.{◌≡◌, ◌<◌, ◌≤◌, ◌+◌, ◌^◌, ℕ, zero, suc, Bool, true, false, arith, refl, List, [], ◌∷◌, map, length}
+use Rattle.std.specs.Prelude.{◌&&◌, ◌||◌, nat_le, nat_lt}
+use Rattle.std.specs.List.{list_any, list_all, range_with_len}
+use Rattle.std.proofs.lemmas.Bool.Decides.{nat_tests}
+use Rattle.std.proofs.lemmas.Grind.{common_steps}
+use Rattle.region_mem.specs.declared.faults.Right.{Right}
+use Rattle.region_mem.specs.declared.faults.Right.TheVariants.{Read, Write, Fetch}
+use Rattle.region_mem.specs.Areas.{Area, AreInside, holds, has_right, is_open, is_open_from}
+use Rattle.region_mem.specs.Memory.{is_permitted}
+use Rattle.abs_state.specs.Zones.{zone_of, spans, zone_right, is_inside}
+use Rattle.abs_state.specs.Memories.{ZonesArePermitted}
+
+-- each address from first on and below end is open, and none is past the last one
+record IsOpen (right : Right) (first end : ℕ) (areas : List Area) : Type 0 where
+  low : end ≤ 2 ^ 32
+  each : (x : ℕ) → first ≤ x → x < end → is_open right areas x ≡ true
+
+or_first : (a b : Bool) → a ≡ true → (a || b) ≡ true
+or_first a b e = grind (arith, common_steps)
+
+or_rest : (a b : Bool) → b ≡ true → (a || b) ≡ true
+or_rest a b e = grind (arith, common_steps)
+
+both : (a b : Bool) → a ≡ true → b ≡ true → (a && b) ≡ true
+both a b e f = grind (arith, common_steps)
+
+left : (a b : Bool) → (a && b) ≡ true → a ≡ true
+left a b e = grind (arith, common_steps)
+
+right_of : (a b : Bool) → (a && b) ≡ true → b ≡ true
+right_of a b e = grind (arith, common_steps)
+
+true_le : (a b : ℕ) → nat_le a b ≡ true → a ≤ b
+true_le a b e = grind (arith, nat_tests)
+
+le_true : (a b : ℕ) → a ≤ b → nat_le a b ≡ true
+le_true a b l = grind (arith, nat_tests)
+
+lt_true : (a b : ℕ) → a < b → nat_lt a b ≡ true
+lt_true a b l = grind (arith, nat_tests)
+
+-- the right of a zone is that of its area
+right_is : (right : Right) (area : Area) → zone_right right (zone_of area) ≡ true → has_right right area ≡ true
+unfolding zone_right has_right
+right_is Read area e = e
+right_is Write area e = e
+right_is Fetch area e = cc
+
+-- an address of a zone with the right is open in its area
+here : (right : Right) (first end : ℕ) (area : Area) → spans first end (zone_of area) ≡ true → zone_right right (zone_of area) ≡ true
+    → (x : ℕ) → first ≤ x → x < end → (holds x area && has_right right area) ≡ true
+unfolding spans holds
+here right first end area e f x l h =
+    let low : area.first ≤ first = true_le area.first first (left (nat_le area.first first) (nat_le end (area.first + length area.bytes)) e) in
+    let high : end ≤ area.first + length area.bytes = true_le end (area.first + length area.bytes) (right_of (nat_le area.first first) (nat_le end (area.first + length area.bytes)) e) in
+    both _ _
+    (both _ _ (le_true area.first x (omega (arith, low, l))) (lt_true x (area.first + length area.bytes) (omega (arith, high, h))))
+    (right_is right area f)
+
+here_end : (first end : ℕ) (area : Area) → spans first end (zone_of area) ≡ true → area.first + length area.bytes ≤ 2 ^ 32 → end ≤ 2 ^ 32
+unfolding spans
+here_end first end area e l =
+    let high : end ≤ area.first + length area.bytes = true_le end (area.first + length area.bytes) (right_of (nat_le area.first first) (nat_le end (area.first + length area.bytes)) e) in
+    omega (arith, high, l)
+
+zone_open : (right : Right) (first end : ℕ) (areas : List Area) → AreInside areas
+    → list_any (λ z. spans first end z && zone_right right z) (map zone_of areas) ≡ true → IsOpen right first end areas
+unfolding AreInside is_open
+zone_open right first end [] are e = cc
+zone_open right first end (area ∷ areas) are e =
+    by_case (spans first end (zone_of area) && zone_right right (zone_of area)) refl (λ f. zone_open right first end areas are.1 f)
+  where
+    Rest : Type 0
+    Rest = list_any (λ z. spans first end z && zone_right right z) (map zone_of areas) ≡ true → IsOpen right first end areas
+
+    by_case : (b : Bool) → (spans first end (zone_of area) && zone_right right (zone_of area)) ≡ b → Rest → IsOpen right first end (area ∷ areas)
+    by_case true f more = record {
+      low = here_end first end area (left _ _ f) are.0;
+      each = λ x l g. or_first _ _ (here right first end area (left _ _ f) (right_of _ _ f) x l g);
+    }
+    by_case false f more =
+        let rest : IsOpen right first end areas = more (rw f at e) in
+        record { low = rest.low; each = λ x l g. or_rest _ _ (rest.each x l g) }
+
+all_open : (right : Right) (first end : ℕ) (areas : List Area) (a n : ℕ) → IsOpen right first end areas → first ≤ a → a + n ≤ end
+    → list_all (is_open right areas) (range_with_len a n) ≡ true
+all_open right first end areas a zero o l g = refl
+all_open right first end areas a (suc n) o l g =
+    rw (o.each a l (omega arith)) (all_open right first end areas (a + 1) n o (omega arith) (omega arith))
+
+-- what lies in a zone with the right is permitted
+pub inside_permitted : ZonesArePermitted
+unfolding is_inside is_permitted is_open_from
+inside_permitted right first end zones m a n has e l g =
+    let o : IsOpen right first end m.areas = zone_open right first end m.areas has.inside (has.there _ e) in
+    both _ _ (le_true (a + n) (2 ^ 32) (omega (arith, o.low, g))) (all_open right first end m.areas a n o l g)

@@ -1,0 +1,21 @@
+-- Zones of a memory, and what is permitted there.
+use Rattle.std.specs.Prelude.{ℕ, ◌≡◌, ◌≤◌, ◌+◌, Bool, true, List, map}
+use Rattle.std.specs.List.{list_any}
+use Rattle.region_mem.specs.declared.faults.Right.{Right}
+use Rattle.region_mem.specs.Areas.{AreInside}
+use Rattle.region_mem.specs.Memory.{Memory, is_permitted}
+use Rattle.abs_state.specs.declared.zones.Zone.{Zone}
+use Rattle.abs_state.specs.Zones.{zone_of, is_inside}
+
+-- The memory has these zones: whatever a test finds among them it finds among the zones of the memory's areas, of which none
+-- passes the last address.
+pub record HasZones (zones : List Zone) (m : Memory) : Type 0 where
+  pub inside : AreInside m.areas
+  pub there : (p : Zone → Bool) → list_any p zones ≡ true → list_any p (map zone_of m.areas) ≡ true
+
+-- An access whose bytes lie in one of a memory's zones with the right is permitted.
+abbrev pub ZonesArePermitted : Type 0
+ZonesArePermitted =
+    (right : Right) (first end : ℕ) (zones : List Zone) (m : Memory) (address n : ℕ)
+    → HasZones zones m → is_inside right first end zones ≡ true → first ≤ address
+    → address + n ≤ end → is_permitted right address n m ≡ true
