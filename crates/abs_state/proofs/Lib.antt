@@ -1,3 +1,4 @@
+pub mod Addresses
 pub mod Lists
 pub mod Memories
 pub mod Operations

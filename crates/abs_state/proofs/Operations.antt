@@ -77,7 +77,7 @@ difference_lies a b x y h k = go (nat_le b.hi a.lo) refl
         }
     go false f = tt
 
-offset_lies : (r : Range) (x m : ℕ) → LiesIn r x → m < 2 ^ 32 → IfSome (offset_range m r) (λ s. LiesIn s ((x + m) % 2 ^ 32))
+pub offset_lies : (r : Range) (x m : ℕ) → LiesIn r x → m < 2 ^ 32 → IfSome (offset_range m r) (λ s. LiesIn s ((x + m) % 2 ^ 32))
 unfolding offset_range
 offset_lies r x m h fits = go (nat_lt m (2 ^ 31)) refl
   where
@@ -99,7 +99,7 @@ number_fits n v a x h = omega (arith, h.lies.high, h.lies.fits)
 means_at : (m n : ℕ) (v : ℕ → ℕ) (f : Linear) (x y : ℕ) → x ≡ y → Means m n v f x → Means m n v f y
 means_at m n v f x y e h = record { form = h.form; below = h.below; number = sym e ∙ h.number }
 
-value_number : (v : ℕ → ℕ) (x : ℕ) → x < 2 ^ 32 → x ≡ value v (number_form x)
+pub value_number : (v : ℕ → ℕ) (x : ℕ) → x < 2 ^ 32 → x ≡ value v (number_form x)
 unfolding value
 value_number v x l = omega arith
 

@@ -257,7 +257,7 @@ own_lies a b x h k = by_test (nat_le (max a.lo b.lo) (min a.hi b.hi))
     }
     by_test false = h
 
-computed_lies : (x : ℕ) (interval form_range : Option Range) → x < 2 ^ 32 → IfSome interval (λ r. LiesIn r x) → IfSome form_range (λ r. LiesIn r x)
+pub computed_lies : (x : ℕ) (interval form_range : Option Range) → x < 2 ^ 32 → IfSome interval (λ r. LiesIn r x) → IfSome form_range (λ r. LiesIn r x)
     → LiesIn (computed_range interval form_range) x
 unfolding computed_range
 computed_lies x None None l h k = full_lies x l
@@ -269,7 +269,7 @@ or_full_lies : (x : ℕ) (interval : Option Range) → x < 2 ^ 32 → IfSome int
 or_full_lies x None l h = full_lies x l
 or_full_lies x (Some r) l h = h
 
-form_range_lies : (table : AtomTable) (f : Linear) (v : ℕ → ℕ) (x : ℕ) → AgreesWith table v → IsForm 8 f → x ≡ value v f
+pub form_range_lies : (table : AtomTable) (f : Linear) (v : ℕ → ℕ) (x : ℕ) → AgreesWith table v → IsForm 8 f → x ≡ value v f
     → IfSome (range_of_form table f) (λ r. LiesIn r x)
 form_range_lies table f v x agrees is e =
     by_range (range_of_form table f) (λ r. ranges-fit table f r)

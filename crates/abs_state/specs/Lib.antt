@@ -1,7 +1,9 @@
+pub mod Addresses
 pub mod Described
 pub mod Effects
 pub mod Holds
 pub mod Memories
 pub mod Numbers
+pub mod Steps
 pub mod Values
 pub mod Zones

@@ -1,4 +1,5 @@
 //! Laws of what instructions make of numbers, each the contract of a function that does nothing when it runs.
+ghost use Rattle.abs_state.specs.Addresses.{AddressesLie};
 ghost use Rattle.abs_state.specs.Holds.{ResultsHold};
 ghost use Rattle.abs_state.specs.Memories.{ZonesArePermitted};
 ghost use Rattle.abs_state.specs.Described.{ConstantEffects, ImmediateEffects, LoadEffects, RegisterEffects, ShiftEffects};
@@ -36,4 +37,9 @@ pub fn results_hold()
 /// What lies in one of a memory's zones with the right is permitted there.
 pub fn zones_are_permitted()
     ensures { ZonesArePermitted }
+{}
+
+/// Where all that is known is true of a hart, the address of a load or store lies in its range.
+pub fn addresses_lie()
+    ensures { AddressesLie }
 {}

@@ -7,6 +7,7 @@
 mod effects;
 mod laws;
 mod numbers;
+mod steps;
 mod values;
 mod why;
 mod zones;
@@ -16,8 +17,8 @@ pub use effects::{
     register_effect, shift_effect,
 };
 pub use laws::{
-    constant_effects, immediate_effects, load_effects, register_effects, results_hold,
-    shift_effects, zones_are_permitted,
+    addresses_lie, constant_effects, immediate_effects, load_effects, register_effects,
+    results_hold, shift_effects, zones_are_permitted,
 };
 pub use numbers::{MOST_ATOMS, Numbers, VL};
 pub use values::{Effect, Value, computed_range};
