@@ -1,5 +1,5 @@
 -- What lies in a zone is permitted.
-use Rattle.std.proofs.Common.{◌≡◌, ◌<◌, ◌≤◌, ◌+◌, ◌^◌, ℕ, zero, suc, Bool, true, false, arith, refl, List, [], ◌∷◌, map, length}
+use Rattle.std.proofs.Common.{◌≡◌, ◌<◌, ◌≤◌, ◌+◌, ◌^◌, ℕ, zero, suc, Bool, true, false, arith, refl, sym, ap, ◌∙◌, subst, List, [], ◌∷◌, map, length}
 use Rattle.std.specs.Prelude.{◌&&◌, ◌||◌, nat_le, nat_lt}
 use Rattle.std.specs.List.{list_any, list_all, range_with_len}
 use Rattle.std.proofs.lemmas.Bool.Decides.{nat_tests}
@@ -7,9 +7,12 @@ use Rattle.std.proofs.lemmas.Grind.{common_steps}
 use Rattle.region_mem.specs.declared.faults.Right.{Right}
 use Rattle.region_mem.specs.declared.faults.Right.TheVariants.{Read, Write, Fetch}
 use Rattle.region_mem.specs.Areas.{Area, AreInside, holds, has_right, is_open, is_open_from}
-use Rattle.region_mem.specs.Memory.{is_permitted}
+use Rattle.region_mem.specs.Memory.{Memory, is_permitted}
 use Rattle.abs_state.specs.Zones.{zone_of, spans, zone_right, is_inside}
-use Rattle.abs_state.specs.Memories.{ZonesArePermitted}
+use Rattle.region_mem.specs.Laws.{Extent, extent_of}
+use Rattle.region_mem.proofs.ExtentLemmas.{stores_keep_extents}
+use Rattle.abs_state.specs.declared.zones.Zone.{Zone}
+use Rattle.abs_state.specs.Memories.{HasZones, StoresKeepZones, ZonesArePermitted}
 
 -- each address from first on and below end is open, and none is past the last one
 record IsOpen (right : Right) (first end : ℕ) (areas : List Area) : Type 0 where
@@ -95,3 +98,42 @@ unfolding is_inside is_permitted is_open_from
 inside_permitted right first end zones m a n has e l g =
     let o : IsOpen right first end m.areas = zone_open right first end m.areas has.inside (has.there _ e) in
     both _ _ (le_true (a + n) (2 ^ 32) (omega (arith, o.low, g))) (all_open right first end m.areas a n o l g)
+
+-- ---- stores
+
+-- the zone of an area, by where it lies and its rights
+abbrev zone_in : Extent → Zone
+zone_in e = record { first = e.first; end = e.first + e.size; read = e.read; write = e.write }
+
+zones_by : (areas : List Area) → map zone_of areas ≡ map zone_in (map extent_of areas)
+unfolding extent_of
+zones_by [] = refl
+zones_by (area ∷ areas) = ap (λ (zs : List Zone). zone_of area ∷ zs) (zones_by areas)
+
+abbrev InsideBy : List Extent → Type 0
+InsideBy [] = Unit {0}
+InsideBy (e ∷ es) = (e.first + e.size ≤ 2 ^ 32) × InsideBy es
+
+to_extents : (areas : List Area) → AreInside areas → InsideBy (map extent_of areas)
+unfolding AreInside extent_of
+to_extents [] h = tt
+to_extents (area ∷ areas) h = (h.0, to_extents areas h.1)
+
+from_extents : (areas : List Area) → InsideBy (map extent_of areas) → AreInside areas
+unfolding AreInside extent_of
+from_extents [] h = tt
+from_extents (area ∷ areas) h = (h.0, from_extents areas h.1)
+
+-- a memory whose areas lie in the same places with the same rights has the same zones
+zones_kept : (zones : List Zone) (m stored : Memory) → map extent_of stored.areas ≡ map extent_of m.areas → HasZones zones m → HasZones zones stored
+zones_kept zones m stored e has =
+    let same : map zone_of stored.areas ≡ map zone_of m.areas =
+    zones_by stored.areas ∙ (ap (λ (es : List Extent). map zone_in es) e ∙ sym (zones_by m.areas)) in
+    record {
+      inside = from_extents stored.areas (subst (λ (es : List Extent). InsideBy es) (sym e) (to_extents m.areas has.inside));
+      there = λ p f. subst (λ (zs : List Zone). list_any p zs ≡ true) (sym same) (has.there p f);
+    }
+
+-- a store keeps the zones
+pub stores_kept : StoresKeepZones
+stores_kept address n value zones m stored has e = zones_kept zones m stored (stores_keep_extents address n value m stored e).0 has

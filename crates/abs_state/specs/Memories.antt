@@ -1,9 +1,9 @@
 -- Zones of a memory, and what is permitted there.
-use Rattle.std.specs.Prelude.{ℕ, ◌≡◌, ◌≤◌, ◌+◌, Bool, true, List, map}
+use Rattle.std.specs.Prelude.{ℕ, ◌≡◌, ◌≤◌, ◌+◌, Bool, true, List, map, Some}
 use Rattle.std.specs.List.{list_any}
 use Rattle.region_mem.specs.declared.faults.Right.{Right}
 use Rattle.region_mem.specs.Areas.{AreInside}
-use Rattle.region_mem.specs.Memory.{Memory, is_permitted}
+use Rattle.region_mem.specs.Memory.{Memory, is_permitted, store_of}
 use Rattle.abs_state.specs.declared.zones.Zone.{Zone}
 use Rattle.abs_state.specs.Zones.{zone_of, is_inside}
 
@@ -19,3 +19,9 @@ ZonesArePermitted =
     (right : Right) (first end : ℕ) (zones : List Zone) (m : Memory) (address n : ℕ)
     → HasZones zones m → is_inside right first end zones ≡ true → first ≤ address
     → address + n ≤ end → is_permitted right address n m ≡ true
+
+-- A store keeps a memory's zones.
+abbrev pub StoresKeepZones : Type 0
+StoresKeepZones =
+    (address n value : ℕ) (zones : List Zone) (m stored : Memory) → HasZones zones m
+    → store_of address n value m ≡ Some stored → HasZones zones stored

@@ -1,7 +1,7 @@
 //! Laws of what instructions make of numbers, each the contract of a function that does nothing when it runs.
 ghost use Rattle.abs_state.specs.Addresses.{AddressesLie};
 ghost use Rattle.abs_state.specs.Holds.{ResultsHold};
-ghost use Rattle.abs_state.specs.Memories.{ZonesArePermitted};
+ghost use Rattle.abs_state.specs.Memories.{StoresKeepZones, ZonesArePermitted};
 ghost use Rattle.abs_state.specs.Described.{ConstantEffects, ImmediateEffects, LoadEffects, RegisterEffects, ShiftEffects};
 
 /// What an instruction on two registers makes of their numbers holds of the number that it computes.
@@ -42,4 +42,9 @@ pub fn zones_are_permitted()
 /// Where all that is known is true of a hart, the address of a load or store lies in its range.
 pub fn addresses_lie()
     ensures { AddressesLie }
+{}
+
+/// A store keeps a memory's zones.
+pub fn stores_keep_zones()
+    ensures { StoresKeepZones }
 {}
