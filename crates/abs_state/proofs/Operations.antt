@@ -14,14 +14,16 @@ use Rattle.rv_decode.specs.declared.instructions.RegisterOp.TheVariants.{Add, Su
 use Rattle.rv_decode.specs.declared.instructions.ImmediateOp.TheVariants.{Addi, Slti, Sltiu, Xori, Ori, Andi}
 use Rattle.rv_decode.specs.declared.instructions.ShiftOp.TheVariants.{Slli, Srli, Srai}
 use Rattle.rv_decode.specs.declared.instructions.LoadKind.TheVariants as load
+use Rattle.rv_decode.specs.declared.instructions.CsrName.TheVariants as csr
+use Rattle.scalar_core.specs.Csr.{csr_value}
 use Rattle.scalar_core.specs.Arithmetic.{register_result, immediate_result, shift_result, signed, unsigned, unsigned_quotient, unsigned_remainder}
 use Rattle.scalar_core.specs.Step.{loaded, size_of_load}
 use Rattle.scalar_core.proofs.States.{register_result-fits, immediate_result-fits, shift_result-fits, immediate_fits, loaded-fits}
 use Rattle.abs_state.specs.declared.values.Effect.{Effect}
 use Rattle.abs_state.specs.declared.values.Effect.TheVariants.{Fresh}
 use Rattle.abs_state.specs.Values.{ValueView, full_range, just, known_of, up_to}
-use Rattle.abs_state.specs.Effects.{fitting, difference_range, offset_range, constant_effect, sum_effect, difference_effect, offset_form, offset_effect, product_effect, product_by, left_shift_by, right_shift_range, quotient_range, remainder_range, register_effect, immediate_effect, shift_effect, load_effect}
-use Rattle.abs_state.specs.Described.{LiesIn, Means, IsNumber, Describes, RegisterEffects, ImmediateEffects, ShiftEffects, LoadEffects, ConstantEffects}
+use Rattle.abs_state.specs.Effects.{csr_effect, fitting, difference_range, offset_range, constant_effect, sum_effect, difference_effect, offset_form, offset_effect, product_effect, product_by, left_shift_by, right_shift_range, quotient_range, remainder_range, register_effect, immediate_effect, shift_effect, load_effect}
+use Rattle.abs_state.specs.Described.{LiesIn, Means, IsNumber, Describes, CsrEffects, RegisterEffects, ImmediateEffects, ShiftEffects, LoadEffects, ConstantEffects}
 
 -- ---- ranges
 
@@ -308,3 +310,13 @@ load_describes n v load.Half x l = full_lies _ (loaded-fits load.Half x (omega (
 load_describes n v load.Word x l = full_lies x (omega (arith, l))
 load_describes n v load.ByteUnsigned x l = up_lies 255 x (omega (arith, l)) (lit< tt)
 load_describes n v load.HalfUnsigned x l = up_lies 65535 x (omega (arith, l)) (lit< tt)
+
+pub csr_describes : CsrEffects
+unfolding csr_effect csr_value
+csr_describes n v csr.Vxsat vlenb a config h is p q k = up_lies 1 h.vxsat (omega (arith, is.vxsat_fits)) (lit< tt)
+csr_describes n v csr.Vxrm vlenb a config h is p q k = up_lies 3 h.vxrm (omega (arith, is.vxrm_fits)) (lit< tt)
+csr_describes n v csr.Vcsr vlenb a config h is p q k =
+    up_lies 7 (2 * h.vxrm + h.vxsat) (omega (arith, is.vxrm_fits, is.vxsat_fits)) (lit< tt)
+csr_describes n v csr.Vl vlenb a config h is p q k = (k.means, k.lies)
+csr_describes n v csr.Vtype vlenb a config h is p q k = full_lies config.vtype q
+csr_describes n v csr.Vlenb vlenb a config h is p q k = constant_describes n v vlenb p

@@ -9,12 +9,16 @@ use Rattle.rv_decode.specs.declared.instructions.RegisterOp.{RegisterOp}
 use Rattle.rv_decode.specs.declared.instructions.ImmediateOp.{ImmediateOp}
 use Rattle.rv_decode.specs.declared.instructions.ShiftOp.{ShiftOp}
 use Rattle.rv_decode.specs.declared.instructions.LoadKind.{LoadKind}
+use Rattle.rv_decode.specs.declared.instructions.CsrName.{CsrName}
+use Rattle.vreg_groups.specs.declared.vector_length.Vconfig.{Vconfig}
+use Rattle.scalar_core.specs.Csr.{csr_value}
+use Rattle.scalar_core.specs.Hart.{Hart, IsHart}
 use Rattle.scalar_core.specs.Arithmetic.{register_result, immediate_result, shift_result, unsigned}
 use Rattle.scalar_core.specs.Step.{loaded, size_of_load}
 use Rattle.abs_state.specs.declared.values.Effect.{Effect}
 use Rattle.abs_state.specs.declared.values.Effect.TheVariants.{Computed, Fresh, Copied}
 use Rattle.abs_state.specs.Values.{ValueView}
-use Rattle.abs_state.specs.Effects.{constant_effect, register_effect, immediate_effect, shift_effect, load_effect}
+use Rattle.abs_state.specs.Effects.{constant_effect, csr_effect, register_effect, immediate_effect, shift_effect, load_effect}
 
 -- x lies in a range of numbers of 32 bits.
 pub record LiesIn (r : Range) (x : ℕ) : Type 0 where
@@ -67,3 +71,10 @@ LoadEffects =
 -- The same of a number that stands in the instruction.
 abbrev pub ConstantEffects : Type 0
 ConstantEffects = (n : ℕ) (v : ℕ → ℕ) (x : ℕ) → x < 2 ^ 32 → Describes n v (constant_effect x) x
+
+-- What is said of a read of a CSR holds of what the CSR reads as, where what is known of vl is right.
+abbrev pub CsrEffects : Type 0
+CsrEffects =
+    (n : ℕ) (v : ℕ → ℕ) (csr : CsrName) (vlenb : ℕ) (a : ValueView) (config : Vconfig) (h : Hart)
+    → IsHart h → vlenb < 2 ^ 32 → config.vtype < 2 ^ 32 → IsNumber n v a config.vl
+    → Describes n v (csr_effect csr vlenb a) (csr_value csr vlenb config h)

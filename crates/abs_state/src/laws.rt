@@ -2,7 +2,7 @@
 ghost use Rattle.abs_state.specs.Addresses.{AddressesLie};
 ghost use Rattle.abs_state.specs.Holds.{ResultsHold};
 ghost use Rattle.abs_state.specs.Memories.{StoresKeepZones, ZonesArePermitted};
-ghost use Rattle.abs_state.specs.Described.{ConstantEffects, ImmediateEffects, LoadEffects, RegisterEffects, ShiftEffects};
+ghost use Rattle.abs_state.specs.Described.{ConstantEffects, CsrEffects, ImmediateEffects, LoadEffects, RegisterEffects, ShiftEffects};
 
 /// What an instruction on two registers makes of their numbers holds of the number that it computes.
 pub fn register_effects()
@@ -47,4 +47,9 @@ pub fn addresses_lie()
 /// A store keeps a memory's zones.
 pub fn stores_keep_zones()
     ensures { StoresKeepZones }
+{}
+
+/// What is said of a read of a CSR holds of what the CSR reads as.
+pub fn csr_effects()
+    ensures { CsrEffects }
 {}

@@ -17,8 +17,8 @@ pub use effects::{
     register_effect, shift_effect,
 };
 pub use laws::{
-    addresses_lie, constant_effects, immediate_effects, load_effects, register_effects,
-    results_hold, shift_effects, stores_keep_zones, zones_are_permitted,
+    addresses_lie, constant_effects, csr_effects, immediate_effects, load_effects,
+    register_effects, results_hold, shift_effects, stores_keep_zones, zones_are_permitted,
 };
 pub use numbers::{MOST_ATOMS, Numbers, VL};
 pub use values::{Effect, Value, computed_range};
