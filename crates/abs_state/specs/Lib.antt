@@ -1,9 +1,14 @@
 pub mod Addresses
+pub mod After
+pub mod Blocks
+pub mod Branches
 pub mod Described
+pub mod Edges
 pub mod Effects
 pub mod Holds
 pub mod Memories
 pub mod Numbers
+pub mod State
 pub mod Steps
 pub mod Values
 pub mod Zones

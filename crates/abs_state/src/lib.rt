@@ -4,14 +4,17 @@
 //! by the zones that may be read and written throughout a run.
 #![tactic(auto)]
 
+mod branches;
 mod effects;
 mod laws;
 mod numbers;
+mod state;
 mod steps;
 mod values;
 mod why;
 mod zones;
 
+pub use branches::{Edge, Relation};
 pub use effects::{
     constant_effect, csr_effect, immediate_effect, load_effect, offset_form, offset_range,
     register_effect, shift_effect,
@@ -21,6 +24,7 @@ pub use laws::{
     register_effects, results_hold, shift_effects, stores_keep_zones, zones_are_permitted,
 };
 pub use numbers::{MOST_ATOMS, Numbers, VL};
+pub use state::{Abstract, MOST_WORDS, Way};
 pub use values::{Effect, Value, computed_range};
 pub use why::Why;
 pub use zones::{Zone, load_allowed, memory_zones, store_allowed};
