@@ -1,6 +1,8 @@
 -- What an executable file becomes in memory: its entry, its segments, its certificate.
-use Rattle.std.specs.Prelude.{◌≡◌, ℕ, ◌+◌, ◌%◌, ◌<◌, ◌≤◌, ◌⊎◌, Bool, true, false, ◌&&◌, nat_lt, nat_le, List, [], ◌∷◌, length, Option}
+use Rattle.std.specs.Prelude.{◌≡◌, ℕ, ◌+◌, ◌-◌, ◌%◌, ◌<◌, ◌≤◌, ◌⊎◌, Bool, true, false, ◌&&◌, nat_lt, nat_le, List, [], ◌∷◌, length, find, Option}
 use Rattle.std.specs.List.{AllByRecursion, sum_by, list_any}
+use Rattle.std.specs.Option.{option_map}
+use Rattle.byteorder.specs.Endian.{little_from}
 use Rattle.elf_image.specs.declared.layout.TheConstants.{LOW_SEGMENTS, LOW_SEGMENTS_END, HIGH_SEGMENTS, HIGH_SEGMENTS_END, MAX_SEGMENTS, MAX_MEMORY_SIZE}
 
 -- A segment: the address of its first byte, the bytes that come from the file, and how many bytes it
@@ -62,3 +64,11 @@ pub record IsImage (image : ImageView) : Type 0 where
   pub size : sum_by (λ s. s.memory_size) image.segments ≤ MAX_MEMORY_SIZE
   pub entry_aligned : image.entry % 4 ≡ 0
   pub entry_is_code : list_any (holds_code image.entry) image.segments ≡ true
+
+-- the word in the four bytes from an address of a segment on, the lowest byte first: a byte past those of the file is 0
+unfoldable pub word_in : ℕ → SegmentView → ℕ
+word_in address s = little_from (address - s.address) 4 s.bytes
+
+-- the word of code at an address, where its four bytes lie in one segment that may be executed
+unfoldable pub code_at : ℕ → ImageView → Option ℕ
+code_at address image = option_map (word_in address) (find (holds_code address) image.segments)

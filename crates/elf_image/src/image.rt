@@ -1,7 +1,7 @@
 //! What a file becomes in memory.
 
-ghost use Rattle.std.specs.Prelude.{◌≡◌, All, IfOk, map, position, option_map, option_copied, slice_get};
-ghost use Rattle.elf_image.specs.Image.{IsImage, holds_address};
+ghost use Rattle.std.specs.Prelude.{◌≡◌, ◌+◌, ◌≤◌, All, IfOk, IfSome, map, position, option_map, option_copied, slice_get};
+ghost use Rattle.elf_image.specs.Image.{IsImage, holds_address, code_at};
 ghost use Rattle.elf_image.specs.File.{HasTable, HasImage, IsLoadable, segment_of, segment_headers, certificates_of, image_of};
 
 use crate::header::{E_ENTRY, ProgramHeader, word_at};
@@ -123,5 +123,17 @@ impl<A: Allocator> Image<A> {
         ensures { result ≡ position (holds_address address) self.now.segments }
     {
         self.segments.iter().position(|s| s.contains(address))
+    }
+
+    /// The word of code at an address: the number in the four bytes from there on, the lowest byte first, where they lie
+    /// in one segment that may be executed. Bytes past those of the file are 0.
+    #[tactic(auto, unfolding(crate::specs::Image::code_at))]
+    pub fn code_at(&self, address: u32) -> Option<u32>
+        ensures value { result ≡ code_at address self.now }
+        // So the address after it is a number of 32 bits too.
+        ensures low { IfSome result (λ _. address + 4 ≤ 0xC000_0000) }
+    {
+        let segment = self.segments.iter().find(|s| s.holds_code(address))?;
+        Some(segment.word(address))
     }
 }

@@ -1,10 +1,11 @@
 //! One segment of an image.
 
-ghost use Rattle.std.specs.Prelude.{◌≡◌, IfOk};
-ghost use Rattle.elf_image.specs.Image.{IsSegment, holds_address};
+ghost use Rattle.std.specs.Prelude.{◌≡◌, true, IfOk, slice_index};
+ghost use Rattle.elf_image.specs.Image.{IsSegment, holds_address, holds_code, word_in};
 ghost use Rattle.elf_image.specs.File.{IsLoadable, segment_of};
 
 use crate::header::ProgramHeader;
+use byteorder::{ByteOrder, LittleEndian};
 use std::alloc::{AllocError, Allocator, Global};
 use std::marker::Model;
 
@@ -122,5 +123,43 @@ impl<A: Allocator> Segment<A> {
             ..
         } = self;
         *first <= address && address - *first < *size
+    }
+
+    /// Whether the segment may be executed, and the four bytes from an address on lie in it.
+    pub(crate) fn holds_code(&self, address: u32) -> bool
+        ensures { result ≡ holds_code address self.now }
+    {
+        let Segment {
+            address: first,
+            memory_size: size,
+            rights: Rights { execute, .. },
+            ..
+        } = self;
+        *execute && *first <= address && *size >= 4 && address - *first <= *size - 4
+    }
+
+    /// The byte at an offset: 0 past the bytes of the file.
+    fn byte(&self, offset: usize) -> u8
+        ensures { result ≡ slice_index self.now.bytes offset }
+    {
+        match self.bytes.get(offset) {
+            Some(byte) => *byte,
+            None => 0,
+        }
+    }
+
+    /// The word in the four bytes from an address on, the lowest byte first: 0 past the bytes of the file.
+    #[tactic(auto, unfolding(crate::specs::Image::word_in))]
+    pub(crate) fn word(&self, address: u32) -> u32
+        requires { holds_code address self.now ≡ true }
+        ensures { result ≡ word_in address self.now }
+    {
+        let at = (address - self.address) as usize;
+        LittleEndian::read_u32(&[
+            self.byte(at),
+            self.byte(at + 1),
+            self.byte(at + 2),
+            self.byte(at + 3),
+        ])
     }
 }

@@ -49,6 +49,11 @@ fn reads_a_file(rt: HostRuntime) -> Result<(), Fail> {
     assert!(rt; data.contains(0x2000f));
     assert_eq!(rt; image.segment_at(0x10017), Some(0));
     assert_eq!(rt; image.segment_at(0x10018), None);
+    // vsetvli, ecall, a word that passes the end of the code, and data.
+    assert_eq!(rt; image.code_at(0x10000), Some(0x0c06_72d7));
+    assert_eq!(rt; image.code_at(0x10014), Some(0x0000_0073));
+    assert_eq!(rt; image.code_at(0x10015), None);
+    assert_eq!(rt; image.code_at(0x20000), None);
     let certificate = image.certificate().ok_or("a certificate")?;
     assert_eq!(rt; certificate, [1, 2, 3, 4].as_slice());
     Ok(())
