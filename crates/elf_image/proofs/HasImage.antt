@@ -1,9 +1,9 @@
 -- A file of which no fault of the segments holds has an image.
-use Rattle.std.proofs.Common.{◌≡◌, ℕ, ◌+◌, ◌%◌, ◌≤◌, inl, inr, Bool, true, false, cond, not, ◌&&◌, ◌||◌, ltb, leb, eqb, List, [], ◌∷◌, length, drop, map, filter, Option, None, Some, refl, sym, ap, ◌∙◌, arith}
-use Rattle.std.specs.List.{AllByRecursion, list_any, sum_by}
+use Rattle.std.proofs.Common.{◌≡◌, ℕ, ◌+◌, ◌%◌, ◌<◌, ◌≤◌, inl, inr, Bool, true, false, cond, not, ◌&&◌, ◌||◌, ltb, leb, eqb, List, [], ◌∷◌, length, drop, map, filter, Option, None, Some, refl, sym, ap, ◌∙◌, arith}
+use Rattle.std.specs.List.{All, AllByRecursion, list_any, sum_by}
 use Rattle.std.proofs.lemmas.Bool.{and_parts, and_from, and_cases, or_cases, ltb-true, ltb-false, leb-true, eqb-true, lt-ltb, not-false}
 use Rattle.std.proofs.lemmas.List.{length-take, length-map}
-use Rattle.std.proofs.lemmas.List.Elements.{All-from_recursion}
+use Rattle.std.proofs.lemmas.List.Elements.{All-from_recursion, All-take, All-drop}
 use Rattle.std.proofs.lemmas.List.Sums.{sum_by-cons}
 use Rattle.elf_image.specs.declared.header.ProgramHeader.{ProgramHeader}
 use Rattle.elf_image.specs.declared.layout.TheConstants.{LOW_SEGMENTS, LOW_SEGMENTS_END, HIGH_SEGMENTS, HIGH_SEGMENTS_END, MAX_FILE_SIZE, MAX_SEGMENTS, MAX_MEMORY_SIZE}
@@ -18,6 +18,9 @@ neither false y e = (refl, e)
 not_both : (x y : Bool) → (x && y) ≡ false → x ≡ true → y ≡ false
 not_both true y e t = e
 not_both false y e t = absurd cc
+
+abbrev AreBytes : List ℕ → Type 0
+AreBytes bytes = All (λ byte. byte < 256) bytes
 
 -- what "outside the file" says where it is not so
 inside_file : (file : List ℕ) (h : ProgramHeader) → is_out_of_file (length file) h ≡ false → (is_load h || is_note h) ≡ true → IsInside file h
@@ -43,9 +46,9 @@ is_in_place h e =
     ]
 
 -- a header of which no fault holds can be loaded
-loadable : (file : List ℕ) (h : ProgramHeader) → is_segment h ≡ true → is_out_of_file (length file) h ≡ false → is_out_of_place h ≡ false → is_write_and_execute h ≡ false → IsLoadable file h
+loadable : (file : List ℕ) (h : ProgramHeader) → AreBytes file → is_segment h ≡ true → is_out_of_file (length file) h ≡ false → is_out_of_place h ≡ false → is_write_and_execute h ≡ false → IsLoadable file h
 unfolding segment_of
-loadable file h is_seg in_file in_place exclusive =
+loadable file h bytes is_seg in_file in_place exclusive =
     let kind = and_parts (is_load h) (ltb 0 h.p_memsz) is_seg in
     let past = ltb (length file) (h.p_offset + h.p_filesz) in
     let out = neither ((is_load h || is_note h) && ltb 0 h.p_filesz && past) (is_load h && ltb h.p_memsz h.p_filesz) in_file in
@@ -55,25 +58,26 @@ loadable file h is_seg in_file in_place exclusive =
         in_place = is_in_place h in_place;
         not_empty = ltb-true _ _ kind.1;
         file_part = omega (arith, length-take h.p_filesz (drop h.p_offset file));
+        are_bytes = All-take (λ byte. byte < 256) h.p_filesz (drop h.p_offset file) (All-drop (λ byte. byte < 256) h.p_offset file bytes);
         write_or_execute = not_both (is_writable h) (is_executable h) exclusive;
       };
       inside = inside_file file h in_file (either_left (is_load h) (is_note h) kind.0);
     }
 
 -- so can each header of which no fault holds
-each_loadable : (file : List ℕ) (hs : List ProgramHeader)
+each_loadable : (file : List ℕ) (hs : List ProgramHeader) → AreBytes file
     → list_any (is_out_of_file (length file)) hs ≡ false → list_any is_out_of_place (filter is_segment hs) ≡ false → list_any is_write_and_execute (filter is_segment hs) ≡ false
     → AllByRecursion (IsLoadable file) (filter is_segment hs)
-each_loadable file [] o p w = tt
-each_loadable file (h ∷ hs) o p w =
+each_loadable file [] bytes o p w = tt
+each_loadable file (h ∷ hs) bytes o p w =
     let o' = neither (is_out_of_file (length file) h) (list_any (is_out_of_file (length file)) hs) o in
     let fs = filter is_segment hs in
     elim (is_segment h) as (λ b. is_segment h ≡ b → list_any is_out_of_place (cond b (h ∷ fs) fs) ≡ false → list_any is_write_and_execute (cond b (h ∷ fs) fs) ≡ false → AllByRecursion (IsLoadable file) (cond b (h ∷ fs) fs)) [
       | true ↦ λ s p w.
           let p' = neither (is_out_of_place h) (list_any is_out_of_place fs) p in
           let w' = neither (is_write_and_execute h) (list_any is_write_and_execute fs) w in
-          (loadable file h s o'.0 p'.0 w'.0, each_loadable file hs o'.1 p'.1 w'.1)
-      | false ↦ λ s p w. each_loadable file hs o'.1 p w
+          (loadable file h bytes s o'.0 p'.0 w'.0, each_loadable file hs bytes o'.1 p'.1 w'.1)
+      | false ↦ λ s p w. each_loadable file hs bytes o'.1 p w
     ] refl p w
 
 -- the bytes of each note segment are inside the file
@@ -144,9 +148,9 @@ goes_on true x rest e = absurd cc
 goes_on false x rest e = (refl, e)
 
 -- A file of which no fault of the segments holds has an image.
-pub has_image : (file : List ℕ) → None ≡ first_of segment_faults file → HasImage file
+pub has_image : (file : List ℕ) → AreBytes file → None ≡ first_of segment_faults file → HasImage file
 unfolding has_out_of_file has_out_of_place has_write_and_execute
-has_image file e =
+has_image file bytes e =
     let a = goes_on _ _ _ e in
     let b = goes_on _ _ _ a.1 in
     let c = goes_on _ _ _ b.1 in
@@ -154,5 +158,5 @@ has_image file e =
     let f = goes_on _ _ _ d.1 in
     let g = goes_on _ _ _ f.1 in
     let k = goes_on _ _ _ g.1 in
-    let each = each_loadable file (program_headers file) b.0 c.0 f.0 in
+    let each = each_loadable file (program_headers file) bytes b.0 c.0 f.0 in
     record { segments = All-from_recursion (IsLoadable file) _ each; notes = All-from_recursion _ _ (notes_inside file (program_headers file) b.0); image = is_image file each d.0 g.0 k.0 }

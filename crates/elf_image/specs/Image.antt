@@ -1,5 +1,5 @@
 -- What an executable file becomes in memory: its entry, its segments, its certificate.
-use Rattle.std.specs.Prelude.{◌≡◌, ℕ, ◌+◌, ◌-◌, ◌%◌, ◌<◌, ◌≤◌, ◌⊎◌, Bool, true, false, ◌&&◌, nat_lt, nat_le, List, [], ◌∷◌, length, find, Option}
+use Rattle.std.specs.Prelude.{◌≡◌, ℕ, ◌+◌, ◌-◌, ◌%◌, ◌<◌, ◌≤◌, ◌⊎◌, Bool, true, false, ◌&&◌, nat_lt, nat_le, List, [], ◌∷◌, length, find, All, Option}
 use Rattle.std.specs.List.{AllByRecursion, sum_by, list_any}
 use Rattle.std.specs.Option.{option_map}
 use Rattle.byteorder.specs.Endian.{little_from}
@@ -36,6 +36,7 @@ pub record IsSegment (s : SegmentView) : Type 0 where
   pub in_place : IsInPlace s.address s.memory_size
   pub not_empty : 0 < s.memory_size
   pub file_part : length s.bytes ≤ s.memory_size
+  pub are_bytes : All (λ byte. byte < 256) s.bytes
   pub write_or_execute : s.write ≡ true → s.execute ≡ false
 
 -- no address lies in both
