@@ -22,13 +22,12 @@ parts_m word w = omega arith
 
 -- what the fields of a word say of an access
 record Spells (word : ℕ) (direction : Direction) (width : Width) : Type 0 where
-  fits : word < 2 ^ 32
   at_opcode : bits 0 7 word ≡ opcode_of_direction direction
   at_f3 : bits 12 3 word ≡ f3_of_width width
 
-word_of : (word : ℕ) (direction : Direction) (width : Width) → Spells word direction width → word ≡ bits 29 3 word * 2 ^ 29 + bits 26 3 word * 2 ^ 26 + bits 25 1 word * 2 ^ 25 + bits 20 5 word * 2 ^ 20 + low_fields (opcode_of_direction direction) (bits 7 5 word) (f3_of_width width) (bits 15 5 word)
-word_of word direction width s =
-    let h = parts_m word s.fits in let o = s.at_opcode in let f = s.at_f3 in cc
+word_of : (word : ℕ) (direction : Direction) (width : Width) → Spells word direction width → word < 2 ^ 32 → word ≡ bits 29 3 word * 2 ^ 29 + bits 26 3 word * 2 ^ 26 + bits 25 1 word * 2 ^ 25 + bits 20 5 word * 2 ^ 20 + low_fields (opcode_of_direction direction) (bits 7 5 word) (f3_of_width width) (bits 15 5 word)
+word_of word direction width s w =
+    let h = parts_m word w in let o = s.at_opcode in let f = s.at_f3 in cc
 
 bit_of : (n : ℕ) → n < 2 → n ≡ vm_of (n == 0)
 bit_of n h = grind arith
@@ -39,33 +38,30 @@ mask_bit word = bit_of (bits 25 1 word) (below 25 1 2 word refl (omega arith))
 unit_is : (word : ℕ) (direction : Direction) (width : Width) → Spells word direction width → bits 26 3 word ≡ 0 → bits 20 5 word ≡ 0 → bits 29 3 word ≡ 0 → Encodes word (unit direction width word)
 unfolding encode_access encode_m
 unit_is word direction width s mop kind nf =
-    let h = word_of word direction width s in
     let vm = mask_bit word in
-    (cc, (below5 7 word, below5 15 word, tt))
+    ((λ w. let h = word_of word direction width s w in cc), (below5 7 word, below5 15 word, tt))
 
 strided_is : (word : ℕ) (direction : Direction) (width : Width) → Spells word direction width → bits 26 3 word ≡ 2 → bits 29 3 word ≡ 0 → Encodes word (strided direction width word)
 unfolding encode_access encode_m
 strided_is word direction width s mop nf =
-    let h = word_of word direction width s in
     let vm = mask_bit word in
-    (cc, (below5 7 word, below5 15 word, below5 20 word))
+    ((λ w. let h = word_of word direction width s w in cc), (below5 7 word, below5 15 word, below5 20 word))
 
 indexed_is : (word : ℕ) (ordered : Bool) (direction : Direction) (width : Width) → Spells word direction width → bits 26 3 word ≡ mop_of_order ordered → bits 29 3 word ≡ 0 → Encodes word (indexed ordered direction width word)
 unfolding encode_access encode_m
 indexed_is word ordered direction width s mop nf =
-    let h = word_of word direction width s in
     let vm = mask_bit word in
-    (cc, (below5 7 word, below5 15 word, below5 20 word))
+    ((λ w. let h = word_of word direction width s w in cc), (below5 7 word, below5 15 word, below5 20 word))
 
 mask_is : (word : ℕ) (direction : Direction) → Spells word direction W8 → bits 26 3 word ≡ 0 → bits 20 5 word ≡ 0x0b → bits 25 1 word ≡ 1 → bits 29 3 word ≡ 0 → Encodes word (mask direction word)
 unfolding encode_access encode_m
 mask_is word direction s mop kind vm nf =
-    let h = word_of word direction W8 s in (cc, (below5 7 word, below5 15 word, tt))
+    ((λ w. let h = word_of word direction W8 s w in cc), (below5 7 word, below5 15 word, tt))
 
 whole_is : (word : ℕ) (count : Count) (direction : Direction) (width : Width) → Spells word direction width → WholeFits direction width → bits 26 3 word ≡ 0 → bits 20 5 word ≡ 8 → bits 25 1 word ≡ 1 → bits 29 3 word ≡ nf_of_count count → bits 7 5 word % number_of_count count ≡ 0 → Encodes word (whole count direction width word)
 unfolding encode_access encode_m
 whole_is word count direction width s stored mop kind vm nf aligned =
-    let h = word_of word direction width s in (cc, (below5 7 word, below5 15 word, (aligned, stored)))
+    ((λ w. let h = word_of word direction width s w in cc), (below5 7 word, below5 15 word, (aligned, stored)))
 
 -- whole registers begin at a multiple of their number
 
@@ -131,30 +127,30 @@ unfolding wide_load_rows
 wide_load_rows_hold word width s =
     append_rows (Encodes word) word _ _ (element_rows_hold word Load width s) (whole_rows_hold word Load width s tt)
 
-spells : (word : ℕ) → word < 2 ^ 32 → (direction : Direction) → bits 0 7 word ≡ opcode_of_direction direction → (width : Width) → bits 12 3 word ≡ f3_of_width width → Spells word direction width
-spells word w direction o width f = record { fits = w; at_opcode = o; at_f3 = f }
+spells : (word : ℕ) → (direction : Direction) → bits 0 7 word ≡ opcode_of_direction direction → (width : Width) → bits 12 3 word ≡ f3_of_width width → Spells word direction width
+spells word direction o width f = record { at_opcode = o; at_f3 = f }
 
-pub vector_load_rows : (word : ℕ) → word < 2 ^ 32 → bits 0 7 word ≡ 0x07 → GroupsHold (Encodes word) word vector_load_groups
+pub vector_load_rows : (word : ℕ) → bits 0 7 word ≡ 0x07 → GroupsHold (Encodes word) word vector_load_groups
 unfolding vector_load_groups
-vector_load_rows word w o = (
-  (λ g. byte_rows_hold word Load (spells word w Load o W8 g.0) tt),
+vector_load_rows word o = (
+  (λ g. byte_rows_hold word Load (spells word Load o W8 g.0) tt),
   (
-    (λ g. wide_load_rows_hold word W16 (spells word w Load o W16 g.0)),
+    (λ g. wide_load_rows_hold word W16 (spells word Load o W16 g.0)),
     (
-      (λ g. wide_load_rows_hold word W32 (spells word w Load o W32 g.0)),
+      (λ g. wide_load_rows_hold word W32 (spells word Load o W32 g.0)),
       tt,
     ),
   ),
 )
 
-pub vector_store_rows : (word : ℕ) → word < 2 ^ 32 → bits 0 7 word ≡ 0x27 → GroupsHold (Encodes word) word vector_store_groups
+pub vector_store_rows : (word : ℕ) → bits 0 7 word ≡ 0x27 → GroupsHold (Encodes word) word vector_store_groups
 unfolding vector_store_groups
-vector_store_rows word w o = (
-  (λ g. byte_rows_hold word Store (spells word w Store o W8 g.0) refl),
+vector_store_rows word o = (
+  (λ g. byte_rows_hold word Store (spells word Store o W8 g.0) refl),
   (
-    (λ g. element_rows_hold word Store W16 (spells word w Store o W16 g.0)),
+    (λ g. element_rows_hold word Store W16 (spells word Store o W16 g.0)),
     (
-      (λ g. element_rows_hold word Store W32 (spells word w Store o W32 g.0)),
+      (λ g. element_rows_hold word Store W32 (spells word Store o W32 g.0)),
       tt,
     ),
   ),

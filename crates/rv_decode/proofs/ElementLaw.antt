@@ -1,5 +1,5 @@
 -- The operations on masks, permutations, reductions and moves: each gives a word the instruction that it encodes.
-use Rattle.std.proofs.Common.{◌≡◌, ℕ, pos, [], ◌∷◌, ◌++◌, Bool, true, false, refl, ap, ◌∙◌}
+use Rattle.std.proofs.Common.{◌≡◌, ℕ, ◌^◌, ◌<◌, pos, [], ◌∷◌, ◌++◌, Bool, true, false, refl, ap, ◌∙◌}
 use Rattle.rv_decode.specs.Bits.{bits, signed}
 use Rattle.rv_decode.specs.EncodeVector.{OPI, OPM, Code, code, vm_of, encode_v}
 use Rattle.rv_decode.specs.EncodeElements.{code_of_logic, code_of_to_scalar, code_of_from_scalar, code_of_set_mask, selector_of_first, code_of_slide_one_up, code_of_slide_one_down, code_of_gather, code_of_gather16, code_of_compress, code_of_fold, code_of_widen_sum, code_of_whole_move}
@@ -23,9 +23,9 @@ use Rattle.rv_decode.specs.declared.instructions.Count.TheVariants.{One, Two, Fo
 use Rattle.rv_decode.specs.declared.instructions.Source.TheVariants.{Vector, Immediate}
 
 -- what stands in the place of vs1 selects among the operations of a funct6
-selected : (word : ℕ) (c : Code) (n : ℕ) → Spells word c (operand V word) → bits 15 5 word ≡ n → word ≡ encode_v c (bits 7 5 word) (vm_of (is_masked word)) (bits 20 5 word) (Vector n)
-selected word c n s e =
-    word_with_mask word c (operand V word) s ∙
+selected : (word : ℕ) (c : Code) (n : ℕ) → Spells word c (operand V word) → bits 15 5 word ≡ n → word < 2 ^ 32 → word ≡ encode_v c (bits 7 5 word) (vm_of (is_masked word)) (bits 20 5 word) (Vector n)
+selected word c n s e w =
+    word_with_mask word c (operand V word) s w ∙
     ap (λ m. encode_v c (bits 7 5 word) (vm_of (is_masked word)) (bits 20 5 word) (Vector m)) e
 
 -- masks
@@ -54,8 +54,8 @@ iota_is word s m = (selected word code_of_set_mask 0x10 s m.0, (below5 7 word, b
 index_is : (word : ℕ) → Spells word code_of_set_mask (operand V word) → HasFields (vs1 0x11 ∷ vs2 0 ∷ []) word → Encodes word (index word)
 unfolding encode_mask
 index_is word s m = (
-  selected word code_of_set_mask 0x11 s m.0 ∙
-      ap (λ n. encode_v code_of_set_mask (bits 7 5 word) (vm_of (is_masked word)) n (Vector 0x11)) m.1.0,
+  (λ w. selected word code_of_set_mask 0x11 s m.0 w ∙
+      ap (λ n. encode_v code_of_set_mask (bits 7 5 word) (vm_of (is_masked word)) n (Vector 0x11)) m.1.0),
   below5 7 word,
 )
 
@@ -123,16 +123,16 @@ widen_sum_is word signed s none =
 to_scalar_is : (word : ℕ) → Spells word code_of_to_scalar (operand V word) → HasFields (vs1 0 ∷ vm 1 ∷ []) word → Encodes word (to_scalar word)
 unfolding encode_move
 to_scalar_is word s m = (
-  word_with_vm word code_of_to_scalar (operand V word) 1 s m.1.0 ∙
-      ap (λ n. encode_v code_of_to_scalar (bits 7 5 word) 1 (bits 20 5 word) (Vector n)) m.0,
+  (λ w. word_with_vm word code_of_to_scalar (operand V word) 1 s m.1.0 w ∙
+      ap (λ n. encode_v code_of_to_scalar (bits 7 5 word) 1 (bits 20 5 word) (Vector n)) m.0),
   (below5 7 word, below5 20 word),
 )
 
 from_scalar_is : (word : ℕ) → Spells word code_of_from_scalar (operand X word) → HasFields (vm 1 ∷ vs2 0 ∷ []) word → Encodes word (from_scalar word)
 unfolding encode_move
 from_scalar_is word s m = (
-  word_with_vm word code_of_from_scalar (operand X word) 1 s m.0 ∙
-      ap (λ n. encode_v code_of_from_scalar (bits 7 5 word) 1 n (operand X word)) m.1.0,
+  (λ w. word_with_vm word code_of_from_scalar (operand X word) 1 s m.0 w ∙
+      ap (λ n. encode_v code_of_from_scalar (bits 7 5 word) 1 n (operand X word)) m.1.0),
   (below5 7 word, below5 15 word),
 )
 
@@ -146,8 +146,8 @@ signed_is Eight = refl
 whole_is : (word : ℕ) (n : Registers) → Spells word code_of_whole_move (operand I word) → HasFields (vs1 (nf_of_count n) ∷ vm 1 ∷ []) word → Encodes word (whole n word)
 unfolding encode_move
 whole_is word n s m = (
-  word_with_vm word code_of_whole_move (operand I word) 1 s m.1.0 ∙
-      ap (λ z. encode_v code_of_whole_move (bits 7 5 word) 1 (bits 20 5 word) (Immediate z)) (ap (signed 16) m.0 ∙ signed_is n),
+  (λ w. word_with_vm word code_of_whole_move (operand I word) 1 s m.1.0 w ∙
+      ap (λ z. encode_v code_of_whole_move (bits 7 5 word) 1 (bits 20 5 word) (Immediate z)) (ap (signed 16) m.0 ∙ signed_is n)),
   (below5 7 word, below5 20 word),
 )
 

@@ -12,3 +12,4 @@ pub mod ElementLaw
 pub mod VectorLaw
 pub mod AccessLaw
 pub mod MeaningLaw
+pub mod Meant

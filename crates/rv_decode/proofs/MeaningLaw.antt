@@ -1,5 +1,5 @@
 -- A word means only the instruction that it encodes.
-use Rattle.std.proofs.Common.{ℕ, ◌^◌, ◌<◌}
+use Rattle.std.proofs.Common.{ℕ}
 use Rattle.std.specs.Option.{IfSome}
 use Rattle.rv_decode.specs.Decode.{meaning_of, table}
 use Rattle.rv_decode.proofs.TableLaw.{SectionsHold, of_table}
@@ -8,36 +8,36 @@ use Rattle.rv_decode.proofs.SystemLaw.{system_rows}
 use Rattle.rv_decode.proofs.VectorLaw.{vector_rows}
 use Rattle.rv_decode.proofs.AccessLaw.{vector_load_rows, vector_store_rows}
 
-table_holds : (word : ℕ) → word < 2 ^ 32 → SectionsHold (Encodes word) word table
+table_holds : (word : ℕ) → SectionsHold (Encodes word) word table
 unfolding table
-table_holds word w = (
-  (λ s. load_rows word w s.0),
+table_holds word = (
+  (λ s. load_rows word s.0),
   (
-    (λ s. vector_load_rows word w s.0),
+    (λ s. vector_load_rows word s.0),
     (
       (λ s. fence_rows word s.0),
       (
-        (λ s. immediate_rows word w s.0),
+        (λ s. immediate_rows word s.0),
         (
-          (λ s. auipc_rows word w s.0),
+          (λ s. auipc_rows word s.0),
           (
-            (λ s. store_rows word w s.0),
+            (λ s. store_rows word s.0),
             (
-              (λ s. vector_store_rows word w s.0),
+              (λ s. vector_store_rows word s.0),
               (
-                (λ s. register_rows word w s.0),
+                (λ s. register_rows word s.0),
                 (
-                  (λ s. lui_rows word w s.0),
+                  (λ s. lui_rows word s.0),
                   (
-                    (λ s. vector_rows word w s.0),
+                    (λ s. vector_rows word s.0),
                     (
-                      (λ s. branch_rows word w s.0),
+                      (λ s. branch_rows word s.0),
                       (
-                        (λ s. jalr_rows word w s.0),
+                        (λ s. jalr_rows word s.0),
                         (
-                          (λ s. jal_rows word w s.0),
+                          (λ s. jal_rows word s.0),
                           (
-                            (λ s. system_rows word w s.0),
+                            (λ s. system_rows word s.0),
                             tt,
                           ),
                         ),
@@ -54,6 +54,6 @@ table_holds word w = (
   ),
 )
 
-pub encodes : (word : ℕ) → word < 2 ^ 32 → IfSome (meaning_of word) (Encodes word)
+pub encodes : (word : ℕ) → IfSome (meaning_of word) (Encodes word)
 unfolding meaning_of
-encodes word w = of_table (Encodes word) word table (table_holds word w)
+encodes word = of_table (Encodes word) word table (table_holds word)

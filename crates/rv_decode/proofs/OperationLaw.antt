@@ -22,17 +22,16 @@ parts_v word w = omega arith
 
 -- what the fields of a word say of an operation
 pub record Spells (word : ℕ) (c : Code) (b : Source) : Type 0 where
-  pub fits : word < 2 ^ 32
   pub at_opcode : bits 0 7 word ≡ 0x57
   pub at_f3 : bits 12 3 word ≡ f3_of c.category b
   pub at_funct6 : bits 26 6 word ≡ c.funct6
   pub at_operand : bits 15 5 word ≡ number_of_operand b
   pub operand_fits : OperandFits c.forms b
 
-word_of : (word : ℕ) (c : Code) (b : Source) → Spells word c b → word ≡ encode_v c (bits 7 5 word) (bits 25 1 word) (bits 20 5 word) b
+word_of : (word : ℕ) (c : Code) (b : Source) → Spells word c b → word < 2 ^ 32 → word ≡ encode_v c (bits 7 5 word) (bits 25 1 word) (bits 20 5 word) b
 unfolding encode_v
-word_of word c b s =
-    let h = parts_v word s.fits in
+word_of word c b s w =
+    let h = parts_v word w in
     let o = s.at_opcode in
     let f = s.at_f3 in
     let g = s.at_funct6 in
@@ -42,13 +41,13 @@ word_of word c b s =
 mask_bit : (n : ℕ) → n < 2 → n ≡ vm_of (n == 0)
 mask_bit n h = grind arith
 
-pub word_with_mask : (word : ℕ) (c : Code) (b : Source) → Spells word c b → word ≡ encode_v c (bits 7 5 word) (vm_of (is_masked word)) (bits 20 5 word) b
-word_with_mask word c b s =
-    word_of word c b s ∙
+pub word_with_mask : (word : ℕ) (c : Code) (b : Source) → Spells word c b → word < 2 ^ 32 → word ≡ encode_v c (bits 7 5 word) (vm_of (is_masked word)) (bits 20 5 word) b
+word_with_mask word c b s w =
+    word_of word c b s w ∙
     ap (λ vm. encode_v c (bits 7 5 word) vm (bits 20 5 word) b) (mask_bit (bits 25 1 word) (below 25 1 2 word refl (omega arith)))
 
-pub word_with_vm : (word : ℕ) (c : Code) (b : Source) (vm : ℕ) → Spells word c b → bits 25 1 word ≡ vm → word ≡ encode_v c (bits 7 5 word) vm (bits 20 5 word) b
-word_with_vm word c b vm s e = word_of word c b s ∙ ap (λ n. encode_v c (bits 7 5 word) n (bits 20 5 word) b) e
+pub word_with_vm : (word : ℕ) (c : Code) (b : Source) (vm : ℕ) → Spells word c b → bits 25 1 word ≡ vm → word < 2 ^ 32 → word ≡ encode_v c (bits 7 5 word) vm (bits 20 5 word) b
+word_with_vm word c b vm s e w = word_of word c b s w ∙ ap (λ n. encode_v c (bits 7 5 word) n (bits 20 5 word) b) e
 
 -- an operation in a form, and in each of its forms: a word that its fields select encodes it
 abbrev pub FormHolds : ℕ → Category → Operation → Form → Type 0
@@ -112,21 +111,21 @@ one_form : (word : ℕ) (form : Form) (op : Operation) (rest : List Row) (test :
 one_form word form op rest true h i = (h refl, i)
 one_form word form op rest false h i = i
 
-rows_in_hold : (word : ℕ) (category : Category) (selects : Form → Bool) (op : Operation) → word < 2 ^ 32 → bits 0 7 word ≡ 0x57 → Selects word category selects → (forms : List Form) → Every (λ f. OperandFits op.forms (operand f word)) forms → Every (FormHolds word category op) forms → RowsHold (Encodes word) word (rows_in selects forms op)
-rows_in_hold word category selects op w o s [] fit h = tt
-rows_in_hold word category selects op w o s (form ∷ forms) fit h =
+rows_in_hold : (word : ℕ) (category : Category) (selects : Form → Bool) (op : Operation) → bits 0 7 word ≡ 0x57 → Selects word category selects → (forms : List Form) → Every (λ f. OperandFits op.forms (operand f word)) forms → Every (FormHolds word category op) forms → RowsHold (Encodes word) word (rows_in selects forms op)
+rows_in_hold word category selects op o s [] fit h = tt
+rows_in_hold word category selects op o s (form ∷ forms) fit h =
     one_form word form op (rows_in selects forms op) (selects form)
     (λ selected. λ fields. h.0
-    (record { fits = w; at_opcode = o; at_f3 = s form selected; at_funct6 = fields.0; at_operand = number_is word form; operand_fits = fit.0 })
+    (record { at_opcode = o; at_f3 = s form selected; at_funct6 = fields.0; at_operand = number_is word form; operand_fits = fit.0 })
     fields.1)
-    (rows_in_hold word category selects op w o s forms fit.1 h.1)
+    (rows_in_hold word category selects op o s forms fit.1 h.1)
 
-pub rows_of_hold : (word : ℕ) (category : Category) (selects : Form → Bool) → word < 2 ^ 32 → bits 0 7 word ≡ 0x57 → Selects word category selects → (ops : List Operation) → Every (OperationHolds word category) ops → RowsHold (Encodes word) word (rows_of selects ops)
-rows_of_hold word category selects w o s [] h = tt
-rows_of_hold word category selects w o s (op ∷ ops) h =
+pub rows_of_hold : (word : ℕ) (category : Category) (selects : Form → Bool) → bits 0 7 word ≡ 0x57 → Selects word category selects → (ops : List Operation) → Every (OperationHolds word category) ops → RowsHold (Encodes word) word (rows_of selects ops)
+rows_of_hold word category selects o s [] h = tt
+rows_of_hold word category selects o s (op ∷ ops) h =
     append_rows (Encodes word) word (rows_in selects op.forms op) (rows_of selects ops)
-    (rows_in_hold word category selects op w o s op.forms (all_fit word op.forms) h.0)
-    (rows_of_hold word category selects w o s ops h.1)
+    (rows_in_hold word category selects op o s op.forms (all_fit word op.forms) h.0)
+    (rows_of_hold word category selects o s ops h.1)
 
 pub selects_vectors : (word : ℕ) (category : Category) → bits 12 3 word ≡ f3_of category (operand V word) → Selects word category vectors
 selects_vectors word category e V h = e

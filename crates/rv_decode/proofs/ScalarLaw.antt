@@ -21,85 +21,85 @@ use Rattle.rv_decode.specs.declared.instructions.ShiftOp.TheVariants.{Slli, Srli
 use Rattle.rv_decode.specs.declared.instructions.RegisterOp.{RegisterOp}
 use Rattle.rv_decode.specs.declared.instructions.RegisterOp.TheVariants.{Add, Sub, Sll, Slt, Sltu, Xor, Srl, Sra, Or, And, Mul, Mulh, Mulhsu, Mulhu, Div, Divu, Rem, Remu}
 
--- what the law says of a word and its meaning
+-- what the laws say of a word and its meaning: that it is the encoding holds of words alone, the rest of any number
 abbrev pub Encodes : ℕ → Insn → Type 0
-Encodes word insn = IsWordOf insn word × FieldsFit insn
+Encodes word insn = (word < 2 ^ 32 → IsWordOf insn word) × FieldsFit insn
 
 -- each format
 
-lui_is : (word : ℕ) → word < 2 ^ 32 → bits 0 7 word ≡ 0x37 → Encodes word (lui word)
+lui_is : (word : ℕ) → bits 0 7 word ≡ 0x37 → Encodes word (lui word)
 unfolding encode
-lui_is word w o = let h = whole_u word w in (cc, (below5 7 word, fits_u word))
+lui_is word o = ((λ w. let h = whole_u word w in cc), (below5 7 word, fits_u word))
 
-auipc_is : (word : ℕ) → word < 2 ^ 32 → bits 0 7 word ≡ 0x17 → Encodes word (auipc word)
+auipc_is : (word : ℕ) → bits 0 7 word ≡ 0x17 → Encodes word (auipc word)
 unfolding encode
-auipc_is word w o = let h = whole_u word w in (cc, (below5 7 word, fits_u word))
+auipc_is word o = ((λ w. let h = whole_u word w in cc), (below5 7 word, fits_u word))
 
-jal_is : (word : ℕ) → word < 2 ^ 32 → bits 0 7 word ≡ 0x6f → Encodes word (jal word)
+jal_is : (word : ℕ) → bits 0 7 word ≡ 0x6f → Encodes word (jal word)
 unfolding encode
-jal_is word w o = let h = whole_j word w in let f = fits_j word in (cc, (below5 7 word, f.0, f.1))
+jal_is word o = let f = fits_j word in ((λ w. let h = whole_j word w in cc), (below5 7 word, f.0, f.1))
 
-jalr_is : (word : ℕ) → word < 2 ^ 32 → bits 0 7 word ≡ 0x67 → bits 12 3 word ≡ 0 → Encodes word (jalr word)
+jalr_is : (word : ℕ) → bits 0 7 word ≡ 0x67 → bits 12 3 word ≡ 0 → Encodes word (jalr word)
 unfolding encode
-jalr_is word w o f = let h = whole_i word w in (cc, (below5 7 word, below5 15 word, fits_i word))
+jalr_is word o f = ((λ w. let h = whole_i word w in cc), (below5 7 word, below5 15 word, fits_i word))
 
-branch_is : (word : ℕ) → word < 2 ^ 32 → bits 0 7 word ≡ 0x63 → (op : Condition) → bits 12 3 word ≡ f3_of_condition op → Encodes word (branch op word)
+branch_is : (word : ℕ) → bits 0 7 word ≡ 0x63 → (op : Condition) → bits 12 3 word ≡ f3_of_condition op → Encodes word (branch op word)
 unfolding encode
-branch_is word w o op f =
-    let h = whole_b word w in let fits = fits_b word in (cc, (below5 15 word, below5 20 word, fits.0, fits.1))
+branch_is word o op f =
+    let fits = fits_b word in ((λ w. let h = whole_b word w in cc), (below5 15 word, below5 20 word, fits.0, fits.1))
 
-load_is : (word : ℕ) → word < 2 ^ 32 → bits 0 7 word ≡ 0x03 → (op : LoadKind) → bits 12 3 word ≡ f3_of_load op → Encodes word (load op word)
+load_is : (word : ℕ) → bits 0 7 word ≡ 0x03 → (op : LoadKind) → bits 12 3 word ≡ f3_of_load op → Encodes word (load op word)
 unfolding encode
-load_is word w o op f = let h = whole_i word w in (cc, (below5 7 word, below5 15 word, fits_i word))
+load_is word o op f = ((λ w. let h = whole_i word w in cc), (below5 7 word, below5 15 word, fits_i word))
 
-store_is : (word : ℕ) → word < 2 ^ 32 → bits 0 7 word ≡ 0x23 → (op : Width) → bits 12 3 word ≡ f3_of_store op → Encodes word (store op word)
+store_is : (word : ℕ) → bits 0 7 word ≡ 0x23 → (op : Width) → bits 12 3 word ≡ f3_of_store op → Encodes word (store op word)
 unfolding encode
-store_is word w o op f = let h = whole_s word w in (cc, (below5 15 word, below5 20 word, fits_s word))
+store_is word o op f = ((λ w. let h = whole_s word w in cc), (below5 15 word, below5 20 word, fits_s word))
 
-immediate_is : (word : ℕ) → word < 2 ^ 32 → bits 0 7 word ≡ 0x13 → (op : ImmediateOp) → bits 12 3 word ≡ f3_of_immediate op → Encodes word (immediate op word)
+immediate_is : (word : ℕ) → bits 0 7 word ≡ 0x13 → (op : ImmediateOp) → bits 12 3 word ≡ f3_of_immediate op → Encodes word (immediate op word)
 unfolding encode
-immediate_is word w o op f = let h = whole_i word w in (cc, (below5 7 word, below5 15 word, fits_i word))
+immediate_is word o op f = ((λ w. let h = whole_i word w in cc), (below5 7 word, below5 15 word, fits_i word))
 
-shift_is : (word : ℕ) → word < 2 ^ 32 → bits 0 7 word ≡ 0x13 → (op : ShiftOp) → bits 12 3 word ≡ (codes_of_shift op).0 → bits 25 7 word ≡ (codes_of_shift op).1 → Encodes word (shift op word)
+shift_is : (word : ℕ) → bits 0 7 word ≡ 0x13 → (op : ShiftOp) → bits 12 3 word ≡ (codes_of_shift op).0 → bits 25 7 word ≡ (codes_of_shift op).1 → Encodes word (shift op word)
 unfolding encode
-shift_is word w o op f g = let h = whole_r word w in (cc, (below5 7 word, below5 15 word, below5 20 word))
+shift_is word o op f g = ((λ w. let h = whole_r word w in cc), (below5 7 word, below5 15 word, below5 20 word))
 
-register_is : (word : ℕ) → word < 2 ^ 32 → bits 0 7 word ≡ 0x33 → (op : RegisterOp) → bits 12 3 word ≡ (codes_of_register op).0 → bits 25 7 word ≡ (codes_of_register op).1 → Encodes word (register op word)
+register_is : (word : ℕ) → bits 0 7 word ≡ 0x33 → (op : RegisterOp) → bits 12 3 word ≡ (codes_of_register op).0 → bits 25 7 word ≡ (codes_of_register op).1 → Encodes word (register op word)
 unfolding encode
-register_is word w o op f g = let h = whole_r word w in (cc, (below5 7 word, below5 15 word, below5 20 word))
+register_is word o op f g = ((λ w. let h = whole_r word w in cc), (below5 7 word, below5 15 word, below5 20 word))
 
 -- each opcode
 
-pub lui_rows : (word : ℕ) → word < 2 ^ 32 → bits 0 7 word ≡ 0x37 → GroupsHold (Encodes word) word lui_groups
+pub lui_rows : (word : ℕ) → bits 0 7 word ≡ 0x37 → GroupsHold (Encodes word) word lui_groups
 unfolding lui_groups
-lui_rows word w o = ((λ g. ((λ r. lui_is word w o), tt)), tt)
+lui_rows word o = ((λ g. ((λ r. lui_is word o), tt)), tt)
 
-pub auipc_rows : (word : ℕ) → word < 2 ^ 32 → bits 0 7 word ≡ 0x17 → GroupsHold (Encodes word) word auipc_groups
+pub auipc_rows : (word : ℕ) → bits 0 7 word ≡ 0x17 → GroupsHold (Encodes word) word auipc_groups
 unfolding auipc_groups
-auipc_rows word w o = ((λ g. ((λ r. auipc_is word w o), tt)), tt)
+auipc_rows word o = ((λ g. ((λ r. auipc_is word o), tt)), tt)
 
-pub jal_rows : (word : ℕ) → word < 2 ^ 32 → bits 0 7 word ≡ 0x6f → GroupsHold (Encodes word) word jal_groups
+pub jal_rows : (word : ℕ) → bits 0 7 word ≡ 0x6f → GroupsHold (Encodes word) word jal_groups
 unfolding jal_groups
-jal_rows word w o = ((λ g. ((λ r. jal_is word w o), tt)), tt)
+jal_rows word o = ((λ g. ((λ r. jal_is word o), tt)), tt)
 
-pub jalr_rows : (word : ℕ) → word < 2 ^ 32 → bits 0 7 word ≡ 0x67 → GroupsHold (Encodes word) word jalr_groups
+pub jalr_rows : (word : ℕ) → bits 0 7 word ≡ 0x67 → GroupsHold (Encodes word) word jalr_groups
 unfolding jalr_groups
-jalr_rows word w o = ((λ g. ((λ r. jalr_is word w o g.0), tt)), tt)
+jalr_rows word o = ((λ g. ((λ r. jalr_is word o g.0), tt)), tt)
 
-pub branch_rows : (word : ℕ) → word < 2 ^ 32 → bits 0 7 word ≡ 0x63 → GroupsHold (Encodes word) word branch_groups
+pub branch_rows : (word : ℕ) → bits 0 7 word ≡ 0x63 → GroupsHold (Encodes word) word branch_groups
 unfolding branch_groups
-branch_rows word w o = (
-  (λ g. ((λ r. branch_is word w o Eq g.0), tt)),
+branch_rows word o = (
+  (λ g. ((λ r. branch_is word o Eq g.0), tt)),
   (
-    (λ g. ((λ r. branch_is word w o Ne g.0), tt)),
+    (λ g. ((λ r. branch_is word o Ne g.0), tt)),
     (
-      (λ g. ((λ r. branch_is word w o Lt g.0), tt)),
+      (λ g. ((λ r. branch_is word o Lt g.0), tt)),
       (
-        (λ g. ((λ r. branch_is word w o Ge g.0), tt)),
+        (λ g. ((λ r. branch_is word o Ge g.0), tt)),
         (
-          (λ g. ((λ r. branch_is word w o Ltu g.0), tt)),
+          (λ g. ((λ r. branch_is word o Ltu g.0), tt)),
           (
-            (λ g. ((λ r. branch_is word w o Geu g.0), tt)),
+            (λ g. ((λ r. branch_is word o Geu g.0), tt)),
             tt,
           ),
         ),
@@ -108,18 +108,18 @@ branch_rows word w o = (
   ),
 )
 
-pub load_rows : (word : ℕ) → word < 2 ^ 32 → bits 0 7 word ≡ 0x03 → GroupsHold (Encodes word) word load_groups
+pub load_rows : (word : ℕ) → bits 0 7 word ≡ 0x03 → GroupsHold (Encodes word) word load_groups
 unfolding load_groups
-load_rows word w o = (
-  (λ g. ((λ r. load_is word w o Byte g.0), tt)),
+load_rows word o = (
+  (λ g. ((λ r. load_is word o Byte g.0), tt)),
   (
-    (λ g. ((λ r. load_is word w o Half g.0), tt)),
+    (λ g. ((λ r. load_is word o Half g.0), tt)),
     (
-      (λ g. ((λ r. load_is word w o Word g.0), tt)),
+      (λ g. ((λ r. load_is word o Word g.0), tt)),
       (
-        (λ g. ((λ r. load_is word w o ByteUnsigned g.0), tt)),
+        (λ g. ((λ r. load_is word o ByteUnsigned g.0), tt)),
         (
-          (λ g. ((λ r. load_is word w o HalfUnsigned g.0), tt)),
+          (λ g. ((λ r. load_is word o HalfUnsigned g.0), tt)),
           tt,
         ),
       ),
@@ -127,37 +127,37 @@ load_rows word w o = (
   ),
 )
 
-pub store_rows : (word : ℕ) → word < 2 ^ 32 → bits 0 7 word ≡ 0x23 → GroupsHold (Encodes word) word store_groups
+pub store_rows : (word : ℕ) → bits 0 7 word ≡ 0x23 → GroupsHold (Encodes word) word store_groups
 unfolding store_groups
-store_rows word w o = (
-  (λ g. ((λ r. store_is word w o W8 g.0), tt)),
+store_rows word o = (
+  (λ g. ((λ r. store_is word o W8 g.0), tt)),
   (
-    (λ g. ((λ r. store_is word w o W16 g.0), tt)),
+    (λ g. ((λ r. store_is word o W16 g.0), tt)),
     (
-      (λ g. ((λ r. store_is word w o W32 g.0), tt)),
+      (λ g. ((λ r. store_is word o W32 g.0), tt)),
       tt,
     ),
   ),
 )
 
-pub immediate_rows : (word : ℕ) → word < 2 ^ 32 → bits 0 7 word ≡ 0x13 → GroupsHold (Encodes word) word immediate_groups
+pub immediate_rows : (word : ℕ) → bits 0 7 word ≡ 0x13 → GroupsHold (Encodes word) word immediate_groups
 unfolding immediate_groups
-immediate_rows word w o = (
-  (λ g. ((λ r. immediate_is word w o Addi g.0), tt)),
+immediate_rows word o = (
+  (λ g. ((λ r. immediate_is word o Addi g.0), tt)),
   (
-    (λ g. ((λ r. shift_is word w o Slli g.0 r.0), tt)),
+    (λ g. ((λ r. shift_is word o Slli g.0 r.0), tt)),
     (
-      (λ g. ((λ r. immediate_is word w o Slti g.0), tt)),
+      (λ g. ((λ r. immediate_is word o Slti g.0), tt)),
       (
-        (λ g. ((λ r. immediate_is word w o Sltiu g.0), tt)),
+        (λ g. ((λ r. immediate_is word o Sltiu g.0), tt)),
         (
-          (λ g. ((λ r. immediate_is word w o Xori g.0), tt)),
+          (λ g. ((λ r. immediate_is word o Xori g.0), tt)),
           (
-            (λ g. ((λ r. shift_is word w o Srli g.0 r.0), ((λ r. shift_is word w o Srai g.0 r.0), tt))),
+            (λ g. ((λ r. shift_is word o Srli g.0 r.0), ((λ r. shift_is word o Srai g.0 r.0), tt))),
             (
-              (λ g. ((λ r. immediate_is word w o Ori g.0), tt)),
+              (λ g. ((λ r. immediate_is word o Ori g.0), tt)),
               (
-                (λ g. ((λ r. immediate_is word w o Andi g.0), tt)),
+                (λ g. ((λ r. immediate_is word o Andi g.0), tt)),
                 tt,
               ),
             ),
@@ -168,25 +168,25 @@ immediate_rows word w o = (
   ),
 )
 
-pub register_rows : (word : ℕ) → word < 2 ^ 32 → bits 0 7 word ≡ 0x33 → GroupsHold (Encodes word) word register_groups
+pub register_rows : (word : ℕ) → bits 0 7 word ≡ 0x33 → GroupsHold (Encodes word) word register_groups
 unfolding register_groups base_rows multiply_rows
-register_rows word w o = (
+register_rows word o = (
   (λ g. ((
-    (λ r. register_is word w o Add r.0 g.0),
+    (λ r. register_is word o Add r.0 g.0),
     (
-      (λ r. register_is word w o Sll r.0 g.0),
+      (λ r. register_is word o Sll r.0 g.0),
       (
-        (λ r. register_is word w o Slt r.0 g.0),
+        (λ r. register_is word o Slt r.0 g.0),
         (
-          (λ r. register_is word w o Sltu r.0 g.0),
+          (λ r. register_is word o Sltu r.0 g.0),
           (
-            (λ r. register_is word w o Xor r.0 g.0),
+            (λ r. register_is word o Xor r.0 g.0),
             (
-              (λ r. register_is word w o Srl r.0 g.0),
+              (λ r. register_is word o Srl r.0 g.0),
               (
-                (λ r. register_is word w o Or r.0 g.0),
+                (λ r. register_is word o Or r.0 g.0),
                 (
-                  (λ r. register_is word w o And r.0 g.0),
+                  (λ r. register_is word o And r.0 g.0),
                   tt,
                 ),
               ),
@@ -198,29 +198,29 @@ register_rows word w o = (
   ))),
   (
     (λ g. ((
-      (λ r. register_is word w o Sub r.0 g.0),
+      (λ r. register_is word o Sub r.0 g.0),
       (
-        (λ r. register_is word w o Sra r.0 g.0),
+        (λ r. register_is word o Sra r.0 g.0),
         tt,
       ),
     ))),
     (
       (λ g. ((
-        (λ r. register_is word w o Mul r.0 g.0),
+        (λ r. register_is word o Mul r.0 g.0),
         (
-          (λ r. register_is word w o Mulh r.0 g.0),
+          (λ r. register_is word o Mulh r.0 g.0),
           (
-            (λ r. register_is word w o Mulhsu r.0 g.0),
+            (λ r. register_is word o Mulhsu r.0 g.0),
             (
-              (λ r. register_is word w o Mulhu r.0 g.0),
+              (λ r. register_is word o Mulhu r.0 g.0),
               (
-                (λ r. register_is word w o Div r.0 g.0),
+                (λ r. register_is word o Div r.0 g.0),
                 (
-                  (λ r. register_is word w o Divu r.0 g.0),
+                  (λ r. register_is word o Divu r.0 g.0),
                   (
-                    (λ r. register_is word w o Rem r.0 g.0),
+                    (λ r. register_is word o Rem r.0 g.0),
                     (
-                      (λ r. register_is word w o Remu r.0 g.0),
+                      (λ r. register_is word o Remu r.0 g.0),
                       tt,
                     ),
                   ),
@@ -237,4 +237,4 @@ register_rows word w o = (
 
 pub fence_rows : (word : ℕ) → bits 0 7 word ≡ 0x0f → GroupsHold (Encodes word) word fence_groups
 unfolding fence_groups
-fence_rows word o = ((λ g. ((λ r. ((o, g.0), tt)), tt)), tt)
+fence_rows word o = ((λ g. ((λ r. ((λ w. (o, g.0)), tt)), tt)), tt)

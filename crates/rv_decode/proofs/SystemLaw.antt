@@ -1,5 +1,5 @@
 -- The rows of opcode 73: each gives a word the instruction that it encodes.
-use Rattle.std.proofs.Common.{◌≡◌, ℕ, ◌^◌, ◌+◌, ◌<◌, ◌++◌, ◌&&◌, ◌==◌, false, refl, ap, arith}
+use Rattle.std.proofs.Common.{◌≡◌, ℕ, ◌+◌, ◌<◌, ◌++◌, ◌&&◌, ◌==◌, false, refl, ap, arith}
 use Rattle.std.specs.Prelude.{not}
 use Rattle.rv_decode.specs.Bits.{bits}
 use Rattle.rv_decode.specs.Encode.{encode}
@@ -16,13 +16,12 @@ use Rattle.rv_decode.specs.declared.instructions.CsrName.{CsrName}
 use Rattle.rv_decode.specs.declared.instructions.CsrName.TheVariants.{Vxsat, Vxrm, Vcsr, Vl, Vtype, Vlenb}
 use Rattle.rv_decode.specs.declared.instructions.CsrSource.{CsrSource}
 
-ecall_is : (word : ℕ) → word < 2 ^ 32 → bits 0 7 word ≡ 0x73 → bits 12 3 word ≡ 0 → bits 7 5 word ≡ 0 → bits 15 17 word ≡ 0 → Encodes word (Scalar Ecall)
+ecall_is : (word : ℕ) → bits 0 7 word ≡ 0x73 → bits 12 3 word ≡ 0 → bits 7 5 word ≡ 0 → bits 15 17 word ≡ 0 → Encodes word (Scalar Ecall)
 unfolding encode bits
-ecall_is word w o f d s = (omega arith, tt)
+ecall_is word o f d s = ((λ w. omega arith), tt)
 
 -- what the fields of a word say of a form
 record Spells (word : ℕ) (action : CsrAction) (source : CsrSource) : Type 0 where
-  fits : word < 2 ^ 32
   at_opcode : bits 0 7 word ≡ 0x73
   at_f3 : bits 12 3 word ≡ f3_of_action action + f3_of_source source
   at_source : bits 15 5 word ≡ number_of_source source
@@ -30,12 +29,11 @@ record Spells (word : ℕ) (action : CsrAction) (source : CsrSource) : Type 0 wh
 csr_is : (word : ℕ) (action : CsrAction) (source : CsrSource) → Spells word action source → (name : CsrName) → bits 20 12 word ≡ number_of_csr name → is_read_only name && writes action (number_of_source source) ≡ false → Encodes word (csr_form action name source word)
 unfolding encode_csr
 csr_is word action source s name n allowed =
-    let h = parts word s.fits in
     let o = s.at_opcode in
     let f = s.at_f3 in
     let at_source = s.at_source in
     let below : number_of_source source < 32 = grind (arith, below5 15 word, s.at_source) in
-    (cc, (below5 7 word, below, allowed))
+    ((λ w. let h = parts word w in cc), (below5 7 word, below, allowed))
 
 writable_rows : (word : ℕ) (action : CsrAction) (source : ℕ → CsrSource) → Spells word action (source word) → RowsHold (Encodes word) word (writable action source)
 writable_rows word action source s = (
@@ -69,25 +67,25 @@ change_rows : (word : ℕ) (action : CsrAction) (source : ℕ → CsrSource) →
 change_rows word action source s reads =
     append_rows (Encodes word) word (writable action source) (read_only action source) (writable_rows word action source s) (read_only_rows word action source s reads)
 
-spells : (word : ℕ) → word < 2 ^ 32 → bits 0 7 word ≡ 0x73 → (action : CsrAction) (source : CsrSource) → bits 12 3 word ≡ f3_of_action action + f3_of_source source → bits 15 5 word ≡ number_of_source source → Spells word action source
-spells word w o action source f s = record { fits = w; at_opcode = o; at_f3 = f; at_source = s }
+spells : (word : ℕ) → bits 0 7 word ≡ 0x73 → (action : CsrAction) (source : CsrSource) → bits 12 3 word ≡ f3_of_action action + f3_of_source source → bits 15 5 word ≡ number_of_source source → Spells word action source
+spells word o action source f s = record { at_opcode = o; at_f3 = f; at_source = s }
 
-pub system_rows : (word : ℕ) → word < 2 ^ 32 → bits 0 7 word ≡ 0x73 → GroupsHold (Encodes word) word system_groups
+pub system_rows : (word : ℕ) → bits 0 7 word ≡ 0x73 → GroupsHold (Encodes word) word system_groups
 unfolding system_groups
-system_rows word w o = (
-  (λ g. ((λ r. ecall_is word w o g.0 r.0 r.1.0), tt)),
+system_rows word o = (
+  (λ g. ((λ r. ecall_is word o g.0 r.0 r.1.0), tt)),
   (
-    (λ g. writable_rows word Write by_register (spells word w o Write (by_register word) g.0 refl)),
+    (λ g. writable_rows word Write by_register (spells word o Write (by_register word) g.0 refl)),
     (
-      (λ g. change_rows word Set by_register (spells word w o Set (by_register word) g.0 refl) (set_reads (bits 15 5 word))),
+      (λ g. change_rows word Set by_register (spells word o Set (by_register word) g.0 refl) (set_reads (bits 15 5 word))),
       (
-        (λ g. change_rows word Clear by_register (spells word w o Clear (by_register word) g.0 refl) (set_reads (bits 15 5 word))),
+        (λ g. change_rows word Clear by_register (spells word o Clear (by_register word) g.0 refl) (set_reads (bits 15 5 word))),
         (
-          (λ g. writable_rows word Write by_immediate (spells word w o Write (by_immediate word) g.0 refl)),
+          (λ g. writable_rows word Write by_immediate (spells word o Write (by_immediate word) g.0 refl)),
           (
-            (λ g. change_rows word Set by_immediate (spells word w o Set (by_immediate word) g.0 refl) (set_reads (bits 15 5 word))),
+            (λ g. change_rows word Set by_immediate (spells word o Set (by_immediate word) g.0 refl) (set_reads (bits 15 5 word))),
             (
-              (λ g. change_rows word Clear by_immediate (spells word w o Clear (by_immediate word) g.0 refl) (set_reads (bits 15 5 word))),
+              (λ g. change_rows word Clear by_immediate (spells word o Clear (by_immediate word) g.0 refl) (set_reads (bits 15 5 word))),
               tt,
             ),
           ),

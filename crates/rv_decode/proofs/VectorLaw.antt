@@ -106,16 +106,16 @@ merge_is word form s m =
 copy_is : (word : ℕ) (form : Form) → Spells word code_of_merge (operand form word) → HasFields (vm 1 ∷ vs2 0 ∷ []) word → Encodes word (copy (operand form word) word)
 unfolding encode_arith
 copy_is word form s m = (
-  word_with_vm word code_of_merge (operand form word) 1 s m.0 ∙
-      ap (λ n. encode_v code_of_merge (bits 7 5 word) 1 n (operand form word)) m.1.0,
+  (λ w. word_with_vm word code_of_merge (operand form word) 1 s m.0 w ∙
+      ap (λ n. encode_v code_of_merge (bits 7 5 word) 1 n (operand form word)) m.1.0),
   (below5 7 word, s.operand_fits),
 )
 
 extend_is : (word : ℕ) (signed : Bool) (of : Fraction) → Spells word code_of_extend (operand V word) → HasFields (vs1 (selector_of_extend signed of) ∷ []) word → Encodes word (extend signed of word)
 unfolding encode_arith
 extend_is word signed of s m = (
-  word_with_mask word code_of_extend (operand V word) s ∙
-      ap (λ n. encode_v code_of_extend (bits 7 5 word) (vm_of (is_masked word)) (bits 20 5 word) (Vector n)) m.0,
+  (λ w. word_with_mask word code_of_extend (operand V word) s w ∙
+      ap (λ n. encode_v code_of_extend (bits 7 5 word) (vm_of (is_masked word)) (bits 20 5 word) (Vector n)) m.0),
   (below5 7 word, below5 20 word),
 )
 
@@ -407,48 +407,48 @@ top_of_vsetvl : (word : ℕ) → bits 31 1 word ≡ 1 → bits 30 1 word ≡ 0 �
 unfolding bits
 top_of_vsetvl word top next rest = omega arith
 
-vsetvli_is : (word : ℕ) → word < 2 ^ 32 → bits 0 7 word ≡ 0x57 → bits 12 3 word ≡ 7 → bits 31 1 word ≡ 0 → Encodes word (vsetvli word)
+vsetvli_is : (word : ℕ) → bits 0 7 word ≡ 0x57 → bits 12 3 word ≡ 7 → bits 31 1 word ≡ 0 → Encodes word (vsetvli word)
 unfolding encode_vset
-vsetvli_is word w o f top =
-    let h = parts_vsetvli word w top in (cc, (below5 7 word, below5 15 word, below 20 11 2048 word refl (omega arith)))
+vsetvli_is word o f top =
+    ((λ w. let h = parts_vsetvli word w top in cc), (below5 7 word, below5 15 word, below 20 11 2048 word refl (omega arith)))
 
-vsetivli_is : (word : ℕ) → word < 2 ^ 32 → bits 0 7 word ≡ 0x57 → bits 12 3 word ≡ 7 → bits 31 1 word ≡ 1 → bits 30 1 word ≡ 1 → Encodes word (vsetivli word)
+vsetivli_is : (word : ℕ) → bits 0 7 word ≡ 0x57 → bits 12 3 word ≡ 7 → bits 31 1 word ≡ 1 → bits 30 1 word ≡ 1 → Encodes word (vsetivli word)
 unfolding encode_vset
-vsetivli_is word w o f top next =
-    let h = parts_vsetivli word w top next in (cc, (below5 7 word, below5 15 word, below 20 10 1024 word refl (omega arith)))
+vsetivli_is word o f top next =
+    ((λ w. let h = parts_vsetivli word w top next in cc), (below5 7 word, below5 15 word, below 20 10 1024 word refl (omega arith)))
 
-vsetvl_is : (word : ℕ) → word < 2 ^ 32 → bits 0 7 word ≡ 0x57 → bits 12 3 word ≡ 7 → bits 31 1 word ≡ 1 → bits 30 1 word ≡ 0 → bits 25 5 word ≡ 0 → Encodes word (vsetvl word)
+vsetvl_is : (word : ℕ) → bits 0 7 word ≡ 0x57 → bits 12 3 word ≡ 7 → bits 31 1 word ≡ 1 → bits 30 1 word ≡ 0 → bits 25 5 word ≡ 0 → Encodes word (vsetvl word)
 unfolding encode_vset
-vsetvl_is word w o f top next rest =
-    let h = whole_r word w in let g = top_of_vsetvl word top next rest in (cc, (below5 7 word, below5 15 word, below5 20 word))
+vsetvl_is word o f top next rest =
+    let g = top_of_vsetvl word top next rest in ((λ w. let h = whole_r word w in cc), (below5 7 word, below5 15 word, below5 20 word))
 
-vset_hold : (word : ℕ) → word < 2 ^ 32 → bits 0 7 word ≡ 0x57 → bits 12 3 word ≡ 7 → RowsHold (Encodes word) word vset_rows
+vset_hold : (word : ℕ) → bits 0 7 word ≡ 0x57 → bits 12 3 word ≡ 7 → RowsHold (Encodes word) word vset_rows
 unfolding vset_rows
-vset_hold word w o f = (
-  (λ r. vsetvli_is word w o f r.0),
+vset_hold word o f = (
+  (λ r. vsetvli_is word o f r.0),
   (
-    (λ r. vsetivli_is word w o f r.0 r.1.0),
+    (λ r. vsetivli_is word o f r.0 r.1.0),
     (
-      (λ r. vsetvl_is word w o f r.0 r.1.0 r.1.1.0),
+      (λ r. vsetvl_is word o f r.0 r.1.0 r.1.1.0),
       tt,
     ),
   ),
 )
 
-pub vector_rows : (word : ℕ) → word < 2 ^ 32 → bits 0 7 word ≡ 0x57 → GroupsHold (Encodes word) word vector_groups
+pub vector_rows : (word : ℕ) → bits 0 7 word ≡ 0x57 → GroupsHold (Encodes word) word vector_groups
 unfolding vector_groups
-vector_rows word w o = (
-  (λ g. rows_of_hold word OPI vectors w o (selects_vectors word OPI g.0) opi (opi_hold word)),
+vector_rows word o = (
+  (λ g. rows_of_hold word OPI vectors o (selects_vectors word OPI g.0) opi (opi_hold word)),
   (
-    (λ g. rows_of_hold word OPM vectors w o (selects_vectors word OPM g.0) opm (opm_hold word)),
+    (λ g. rows_of_hold word OPM vectors o (selects_vectors word OPM g.0) opm (opm_hold word)),
     (
-      (λ g. rows_of_hold word OPI immediates w o (selects_immediates word g.0) opi (opi_hold word)),
+      (λ g. rows_of_hold word OPI immediates o (selects_immediates word g.0) opi (opi_hold word)),
       (
-        (λ g. rows_of_hold word OPI scalars w o (selects_scalars word OPI g.0) opi (opi_hold word)),
+        (λ g. rows_of_hold word OPI scalars o (selects_scalars word OPI g.0) opi (opi_hold word)),
         (
-          (λ g. rows_of_hold word OPM scalars w o (selects_scalars word OPM g.0) opm (opm_hold word)),
+          (λ g. rows_of_hold word OPM scalars o (selects_scalars word OPM g.0) opm (opm_hold word)),
           (
-            (λ g. vset_hold word w o g.0),
+            (λ g. vset_hold word o g.0),
             tt,
           ),
         ),

@@ -1,6 +1,7 @@
 -- The words that encode an instruction, and the instructions that have one.
-use Rattle.std.specs.Prelude.{◌≡◌, ℕ}
+use Rattle.std.specs.Prelude.{◌≡◌, ℕ, Some}
 use Rattle.rv_decode.specs.Bits.{bits}
+use Rattle.rv_decode.specs.Decode.{meaning_of}
 use Rattle.rv_decode.specs.Encode.{encode, IsEncodable}
 use Rattle.rv_decode.specs.EncodeSystem.{encode_csr, CsrFits}
 use Rattle.rv_decode.specs.EncodeVector.{encode_arith, encode_vset, ArithFits, VSetFits}
@@ -48,3 +49,7 @@ FieldsFit (VPerm p) = PermFits p
 FieldsFit (VReduce r) = ReduceFits r
 FieldsFit (VMem m) = AccessFits m
 FieldsFit (VMove m) = MoveFits m
+
+-- what a word means is well formed
+abbrev pub MeaningsFit : Type 0
+MeaningsFit = (word : ℕ) (insn : Insn) → meaning_of word ≡ Some insn → FieldsFit insn

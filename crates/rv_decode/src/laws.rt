@@ -5,7 +5,7 @@ ghost use Rattle.std.specs.Option.{IfSome};
 ghost use Rattle.rv_decode.specs.Bits.{bits, immediate_i, immediate_s, immediate_b, immediate_u, immediate_j};
 ghost use Rattle.rv_decode.specs.Decode.{meaning_of};
 ghost use Rattle.rv_decode.specs.Encode.{modulo, encode_i, encode_s, encode_b, encode_u, encode_j, encode, IsEncodable};
-ghost use Rattle.rv_decode.specs.Encodings.{IsWordOf, FieldsFit};
+ghost use Rattle.rv_decode.specs.Encodings.{IsWordOf, FieldsFit, MeaningsFit};
 
 use crate::{Insn, ScalarInsn};
 
@@ -70,4 +70,10 @@ pub fn fences_differ_in_ignored_fields(word: u32)
 pub fn words_are_encodings(word: u32)
     ensures encoded { IfSome (meaning_of word) (λ insn. IsWordOf insn word) }
     ensures fits { IfSome (meaning_of word) FieldsFit }
+{}
+
+/// What a word means is well formed, whatever the word: registers are below 32, immediates and shift amounts in range,
+/// and the form is one that there is.
+pub fn meanings_fit()
+    ensures { MeaningsFit }
 {}
