@@ -1,3 +1,4 @@
+pub mod Bodies
 pub mod Inside
 pub mod Plans
 pub mod Rooms

@@ -1,9 +1,9 @@
 -- The accesses of elements that lie one after another, and what is in a window over them.
-use Rattle.std.proofs.Common.{◌≡◌, ℕ, zero, suc, ◌+◌, ◌*◌, ◌%◌, ◌^◌, ◌<◌, ◌≤◌, Bool, true, false, ◌⊎◌, inl, inr, List, [], ◌∷◌, Some, None, drop, get_or, length, map, replicate, take, ap, sym, ◌∙◌, refl, arith, cond, subst}
-use Rattle.std.specs.Prelude.{filter, find, flat_map, not}
+use Rattle.std.proofs.Common.{◌≡◌, ℕ, zero, suc, ◌+◌, ◌*◌, ◌%◌, ◌^◌, ◌<◌, ◌≤◌, Bool, true, false, ◌⊎◌, inl, inr, List, [], ◌∷◌, ◌++◌, Option, Some, None, drop, get_or, length, map, replicate, set, take, ap, sym, ◌∙◌, refl, arith, cond, subst}
+use Rattle.std.specs.Prelude.{All, filter, find, flat_map, not, unwrap_or}
 use Rattle.std.specs.List.{fold, range_with_len}
 use Rattle.std.proofs.Math.Nat.{mod-eq_of_lt, mul-le-mul_left}
-use Rattle.std.proofs.lemmas.List.{drop_all, drop_more, get_or-replicate, length-replicate}
+use Rattle.std.proofs.lemmas.List.{drop_all, drop_more, get_or-replicate, length-replicate, length-set, take_all, take_more, take_more_set}
 use Rattle.std.proofs.lemmas.List.Folds.{fold-map}
 use Rattle.std.proofs.lemmas.List.FromFn.{get_or-map-range_with_len, get_or-range_with_len, length-map-range_with_len, length-range_with_len}
 use Rattle.region_mem.specs.Areas.{number_of}
@@ -13,11 +13,14 @@ use Rattle.region_mem.specs.Memory.{Memory, has_window, load_of, window_of, with
 use Rattle.region_mem.specs.declared.faults.Right.{Right}
 use Rattle.region_mem.specs.declared.faults.Right.TheVariants.{Read, Write}
 use Rattle.region_mem.proofs.Parts.{number_of-cons}
-use Rattle.vreg_groups.specs.Elements.{active_of, bytes_of, number_at}
+use Rattle.vreg_groups.specs.Elements.{active_of, bytes_of, element_at, elements_of, number_at, numbers_of}
+use Rattle.vreg_groups.specs.Group.{body_of}
+use Rattle.vreg_groups.proofs.Parts.{below_256}
+use Rattle.vreg_groups.proofs.Writes.{number_at-lt}
 use Rattle.vector_mem.specs.declared.plan.Access.{Access}
-use Rattle.vector_mem.specs.Accesses.{access_at, accesses, first_refused, in_a_row, is_refused, stored, strided, with_loaded, with_stored}
+use Rattle.vector_mem.specs.Accesses.{access_at, accesses, first_refused, in_a_row, is_refused, loaded, low_bits, stored, strided, with_loaded, with_stored}
 use Rattle.vector_mem.specs.Transfers.{accesses_of, data_at, data_of, is_in_a_row, is_masked, place_at, right_of}
-use Rattle.vector_mem.specs.Words.{Direction, Indexed, Mask, Place, Setup, Strided, Unit, VMem, Whole}
+use Rattle.vector_mem.specs.Words.{Direction, Indexed, Mask, Place, Setup, Span, Strided, Unit, VMem, Whole}
 
 -- a test that holds of all
 filter_true : {A : Type 0} (p : A → Bool) (xs : List A) → ((k : ℕ) (d : A) → k < length xs → p (get_or xs k d) ≡ true) → filter p xs ≡ xs
@@ -122,6 +125,52 @@ pub row_end : (right : Right) (size base n i : ℕ) → n ≤ i → drop i (in_a
 row_end right size base n i h =
     drop_all i (in_a_row right size base n) (subst (λ (l : ℕ). l ≤ i) (sym (row_length right size base n)) h)
 
+-- what a load of element i gives: number i of the window's bytes
+row_number : (memory : Memory) (size base n i : ℕ) (bytes : List ℕ) → WindowsToRead memory → LoadsInWindows memory →
+    window_of base (size * n) memory ≡ Some bytes → All (λ byte. byte < 256) bytes → i < n →
+    low_bits size (unwrap_or (load_of (base + size * i) size memory) 0) ≡ get_or (numbers_of size n bytes) i 0
+unfolding low_bits numbers_of element_at
+row_number memory size base n i bytes bounds loads is small h =
+    ap (λ (o : Option ℕ). low_bits size (unwrap_or o 0)) (row_loads memory size base n i bytes bounds loads is h)
+    ∙ mod-eq_of_lt (number_at-lt size (size * i) bytes (below_256 bytes small))
+    ∙ ap (λ (at : ℕ). number_at size at bytes) (omega arith)
+    ∙ sym (get_or-map-range_with_len (element_at size 0 bytes) 0 n i i 0 h (omega arith))
+
+length_numbers : (size n : ℕ) (bytes : List ℕ) → length (numbers_of size n bytes) ≡ n
+unfolding numbers_of
+length_numbers size n bytes = length-map-range_with_len (element_at size 0 bytes) 0 n
+
+-- where the first i elements are those of the window, to load the k others gives them all
+row_rest : (memory : Memory) (size base n i k : ℕ) (bytes values : List ℕ) → WindowsToRead memory → LoadsInWindows memory →
+    window_of base (size * n) memory ≡ Some bytes → All (λ byte. byte < 256) bytes → 0 < size → i + k ≡ n → length values ≡ n →
+    take i values ≡ take i (numbers_of size n bytes) →
+    fold (with_loaded memory) values (drop i (in_a_row Read size base n)) ≡ numbers_of size n bytes
+row_rest memory size base n i zero bytes values bounds loads is small some all long so_far =
+    let numbers = numbers_of size n bytes in
+    let count = length_numbers size n bytes in
+    ap (fold (with_loaded memory) values) (row_end Read size base n i (omega arith))
+    ∙ sym (take_all i values (omega arith)) ∙ so_far ∙ take_all i numbers (omega arith)
+row_rest memory size base n i (suc k) bytes values bounds loads is small some all long so_far =
+    let numbers = numbers_of size n bytes in
+    let count = length_numbers size n bytes in
+    let h : i < n = omega arith in
+    let new = low_bits size (unwrap_or (load_of (base + size * i) size memory) 0) in
+    let next = set values i new in
+    sym (row_step memory Read size base n i values h some (bounds base (size * n) bytes is).1)
+    ∙ row_rest memory size base n (i + 1) k bytes next bounds loads is small some (omega arith) (length-set values i new ∙ long)
+    (take_more_set values i new (omega arith)
+    ∙ ap (λ (l : List ℕ). l ++ new ∷ []) so_far
+    ∙ ap (λ (x : ℕ). take i numbers ++ x ∷ []) (row_number memory size base n i bytes bounds loads is small h)
+    ∙ sym (take_more numbers i 0 (omega arith)))
+
+-- the elements of a window are the numbers of its bytes
+pub row_loaded : (memory : Memory) (size base n : ℕ) (bytes : List ℕ) → WindowsToRead memory → LoadsInWindows memory →
+    window_of base (size * n) memory ≡ Some bytes → All (λ byte. byte < 256) bytes → 0 < size →
+    loaded n (in_a_row Read size base n) memory ≡ numbers_of size n bytes
+unfolding loaded
+row_loaded memory size base n bytes bounds loads is small some =
+    row_rest memory size base n 0 n bytes (replicate n 0) bounds loads is small some (omega arith) (length-replicate n 0) refl
+
 -- in a window to write no access is refused, and the elements fill it
 pub row_writable : (memory : Memory) (size base n : ℕ) → WindowsToWrite memory → StoresInWindows memory →
     has_window base (size * n) memory ≡ true → 0 < size → first_refused (in_a_row Write size base n) memory ≡ None
@@ -143,6 +192,10 @@ row_stored memory size base n values bounds fills is some long =
     ∙ fold-map (with_stored values) at memory (range_with_len 0 (length values))
     ∙ fills (λ i. strided base size i % 2 ^ 32) base size values has
     (λ i lt. mod-eq_of_lt (less size i (length values) base lt some (bounds base (size * length values) has)))
+
+pub length_body : (vlenb : ℕ) (group : Span) (file : List ℕ) → length (body_of vlenb group file) ≡ group.vl
+unfolding body_of elements_of
+length_body vlenb group file = length-map-range_with_len (element_at group.bytes (group.first * vlenb) file) 0 group.vl
 
 -- an instruction whose elements lie in a row
 pub row_accesses : (vlenb : ℕ) (s : Setup) (place : Place) (direction : Direction) (values base stride : ℕ) (file : List ℕ) →

@@ -96,15 +96,11 @@ fn load_values<E: Datum, const VLENB: usize, A: Allocator>(
     requires direction { insn.now.direction ≡ Load }
     requires size { E.Element.SIZE ≡ (data_of VLENB setup.now insn.now).bytes }
     requires length { length values.old ≡ (data_of VLENB setup.now insn.now).vl }
-    requires room { E.Element.SIZE * length values.old ≤ MOST_ELEMENTS }
     ensures refused { result ≡ option_map (λ a. a.address) (first_refused (accesses_of VLENB
         setup.now insn.now base stride registers.now) memory.now) }
     ensures loaded { result ≡ None → map E.Element.number values.new ≡ loaded (length values.old)
         (accesses_of VLENB setup.now insn.now base stride registers.now) memory.now }
 {
-    if in_a_row(insn) && load_window(memory, base, values) {
-        return None;
-    }
     let plan = access(insn, registers, setup, base, stride);
     load_elements(&plan, memory, values)
 }
@@ -196,9 +192,9 @@ fn load_as<E: Datum, const VLENB: usize, A: Allocator>(
     Ok(())
 }
 
-/// A vector load: all of its elements are loaded to their registers, or the fault is that of the lowest-numbered element
-/// that may not be loaded, and nothing changes. `base` is x[rs1], and `stride` x[rs2] of a strided access.
-pub fn load<const VLENB: usize, A: Allocator>(
+/// A vector load whose elements are loaded one by one. It is apart so that what needs no room for elements makes none.
+#[inline(never)]
+fn load_each<const VLENB: usize, A: Allocator>(
     insn: &VMem,
     registers: &mut VregFile<VLENB>,
     setup: &Setup,
@@ -227,6 +223,30 @@ pub fn load<const VLENB: usize, A: Allocator>(
     }
 }
 
+/// A vector load: all of its elements are loaded to their registers, or the fault is that of the lowest-numbered element
+/// that may not be loaded, and nothing changes. `base` is x[rs1], and `stride` x[rs2] of a strided access.
+pub fn load<const VLENB: usize, A: Allocator>(
+    insn: &VMem,
+    registers: &mut VregFile<VLENB>,
+    setup: &Setup,
+    base: u32,
+    stride: u32,
+    memory: &Regions<A>,
+) -> Result<(), Fault>
+    requires ready { IsReady VLENB setup.now (needs_of_access insn.now) }
+    requires direction { insn.now.direction ≡ Load }
+    ensures { Steps (vector_load VLENB setup.now insn.now base stride registers.old memory.now)
+        registers.old registers.new result }
+{
+    if in_a_row(insn) {
+        let group = data_group(insn, setup);
+        if load_window(&group, registers, base, policy(insn, setup), memory) {
+            return Ok(());
+        }
+    }
+    load_each(insn, registers, setup, base, stride, memory)
+}
+
 /// Stores the elements of an instruction, or answers the address of the first access that is not permitted.
 fn store_values<E: Datum, const VLENB: usize, A: Allocator>(
     insn: &VMem,
@@ -241,16 +261,12 @@ fn store_values<E: Datum, const VLENB: usize, A: Allocator>(
     requires direction { insn.now.direction ≡ Store }
     requires size { E.Element.SIZE ≡ (data_of VLENB setup.now insn.now).bytes }
     requires length { length values.now ≡ (data_of VLENB setup.now insn.now).vl }
-    requires room { E.Element.SIZE * length values.now ≤ MOST_ELEMENTS }
     ensures refused { result ≡ option_map (λ a. a.address) (first_refused (accesses_of VLENB
         setup.now insn.now base stride registers.now) memory.old) }
     ensures stored { result ≡ None → memory.new ≡ stored (accesses_of VLENB setup.now insn.now base
         stride registers.now) (map E.Element.number values.now) memory.old }
     ensures kept { IfSome result (λ _. memory.new ≡ memory.old) }
 {
-    if in_a_row(insn) && store_window(memory, base, values) {
-        return None;
-    }
     let plan = access(insn, registers, setup, base, stride);
     let refused = refused(&plan, memory);
     if refused.is_none() {
@@ -286,9 +302,9 @@ fn store_as<E: Datum, const VLENB: usize, A: Allocator>(
     }
 }
 
-/// A vector store: all of its elements are stored, or the fault is that of the lowest-numbered element that may not be
-/// stored, and nothing changes. `base` is x[rs1], and `stride` x[rs2] of a strided access.
-pub fn store<const VLENB: usize, A: Allocator>(
+/// A vector store whose elements are stored one by one.
+#[inline(never)]
+fn store_each<const VLENB: usize, A: Allocator>(
     insn: &VMem,
     registers: &VregFile<VLENB>,
     setup: &Setup,
@@ -315,4 +331,28 @@ pub fn store<const VLENB: usize, A: Allocator>(
             store_as(insn, registers, setup, base, stride, memory, &mut words)
         }
     }
+}
+
+/// A vector store: all of its elements are stored, or the fault is that of the lowest-numbered element that may not be
+/// stored, and nothing changes. `base` is x[rs1], and `stride` x[rs2] of a strided access.
+pub fn store<const VLENB: usize, A: Allocator>(
+    insn: &VMem,
+    registers: &VregFile<VLENB>,
+    setup: &Setup,
+    base: u32,
+    stride: u32,
+    memory: &mut Regions<A>,
+) -> Result<(), Fault>
+    requires ready { IsReady VLENB setup.now (needs_of_access insn.now) }
+    requires direction { insn.now.direction ≡ Store }
+    ensures { Steps (vector_store VLENB setup.now insn.now base stride registers.now memory.old)
+        memory.old memory.new result }
+{
+    if in_a_row(insn) {
+        let group = data_group(insn, setup);
+        if store_window(&group, registers, base, memory) {
+            return Ok(());
+        }
+    }
+    store_each(insn, registers, setup, base, stride, memory)
 }

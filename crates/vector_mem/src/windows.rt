@@ -1,95 +1,72 @@
-//! Elements that lie one after another in one region: they are loaded and stored there at once.
+//! A body that lies from an address on in one region: its bytes are moved at once between memory and the registers.
 
-ghost use Rattle.std.specs.Prelude.{◌≡◌, ◌≤◌, ◌+◌, ◌*◌, None, Some, false, flat_map, length, map, replicate, true};
-ghost use Rattle.region_mem.specs.Memory.{window_of};
+ghost use Rattle.std.specs.Prelude.{◌≡◌, ◌<◌, All, None, false, replicate, true};
 ghost use Rattle.region_mem.specs.declared.faults.Right.TheVariants.{Read, Write};
-ghost use Rattle.vreg_groups.specs.Elements.{bytes_of, number_at};
-ghost use Rattle.vreg_groups.specs.declared.vector_type.TheConstants.{MOST_ELEMENTS};
-ghost use Rattle.vector_mem.specs.Accesses.{first_refused, in_a_row, loaded, low_bits, stored};
+ghost use Rattle.vreg_groups.specs.Group.{IsSize, body_of, written};
+ghost use Rattle.vector_mem.specs.Accesses.{first_refused, in_a_row, loaded, stored};
 
-use crate::elements::{Datum, splat};
 use region_mem::{Regions, loads_in_windows, stores_in_windows};
 use std::alloc::Allocator;
-use vreg_groups::MOST_ELEMENTS;
+use vreg_groups::{Group, Policy, VregFile};
 
-/// The element in the bytes from place `at` on.
-fn element<E: Datum>(bytes: &[u8], at: usize) -> E
-    requires { at + E.Element.SIZE ≤ length bytes.now }
-    ensures { E.Element.number result ≡ low_bits E.Element.SIZE (number_at E.Element.SIZE at bytes.now) }
+/// Each of the bytes is below 256: a proof hears here of the bytes of a window.
+fn are_bytes(bytes: &[u8])
+    ensures { All (λ byte. byte < 256) bytes.now }
 {
-    E::low_bits(E::get(bytes, at).to_number())
+    let _ = bytes;
 }
 
-/// Loads all elements of a body that lies from `base` on, in this window.
-fn read_window<E: Datum, A: Allocator>(
-    memory: &Regions<A>,
+/// Loads the body that lies from `base` on to its registers, and tells whether one region has it.
+pub fn load_window<const VLENB: usize, A: Allocator>(
+    group: &Group<VLENB>,
+    registers: &mut VregFile<VLENB>,
     base: u32,
-    bytes: &[u8],
-    values: &mut [E],
-)
-    requires window { window_of base (E.Element.SIZE * length values.old) memory.now ≡ Some bytes.now }
-    requires size { E.Element.SIZE * length values.old ≡ length bytes.now }
-    ensures permitted { first_refused (in_a_row Read E.Element.SIZE base (length values.old))
-        memory.now ≡ None }
-    ensures loaded { map E.Element.number values.new ≡ loaded (length values.old)
-        (in_a_row Read E.Element.SIZE base (length values.old)) memory.now }
+    policy: Policy,
+    memory: &Regions<A>,
+) -> bool
+    requires { IsSize group.now.bytes }
+    ensures some { result ≡ true → 0 < group.now.vl }
+    ensures permitted { result ≡ true → first_refused (in_a_row Read group.now.bytes base
+        group.now.vl) memory.now ≡ None }
+    ensures loaded { result ≡ true → registers.new ≡ written VLENB group.now policy
+        (loaded group.now.vl (in_a_row Read group.now.bytes base group.now.vl) memory.now)
+        (replicate group.now.vl true) registers.old }
+    ensures kept { result ≡ false → registers.new ≡ registers.old }
 {
-    loads_in_windows(memory);
-    splat(E::low_bits(0), values);
-    for i in 0..values.len() {
-        values[i] = element(bytes, E::SIZE * i);
-    }
-}
-
-/// Loads all elements of a body that lies from `base` on, and tells whether one region has it.
-pub fn load_window<E: Datum, A: Allocator>(memory: &Regions<A>, base: u32, values: &mut [E]) -> bool
-    requires { E.Element.SIZE * length values.old ≤ MOST_ELEMENTS }
-    ensures permitted { result ≡ true → first_refused (in_a_row Read E.Element.SIZE base
-        (length values.old)) memory.now ≡ None }
-    ensures loaded { result ≡ true → map E.Element.number values.new ≡ loaded (length values.old)
-        (in_a_row Read E.Element.SIZE base (length values.old)) memory.now }
-{
-    if values.is_empty() {
+    let _vl = group.vl();
+    let size = group.body_bytes(registers).len();
+    if size == 0 {
         return false;
     }
     loads_in_windows(memory);
-    let Some(bytes) = memory.window(base, E::SIZE * values.len()) else {
+    let Some(bytes) = memory.window(base, size) else {
         return false;
     };
-    read_window(memory, base, bytes, values);
+    are_bytes(bytes);
+    group.write_bytes(registers, bytes, policy);
     true
 }
 
-/// Writes the bytes of all elements, the lowest-numbered element's first.
-fn write_bytes<E: Datum>(values: &[E], bytes: &mut [u8])
-    requires { length bytes.old ≡ E.Element.SIZE * length values.now }
-    ensures { bytes.new ≡ flat_map (bytes_of E.Element.SIZE) (map E.Element.number values.now) }
-{
-    for i in 0..values.len() {
-        values[i].put(bytes, E::SIZE * i);
-    }
-}
-
-/// Stores all elements of a body from `base` on, where one region has it, and tells whether one has.
-pub fn store_window<E: Datum, A: Allocator>(
-    memory: &mut Regions<A>,
+/// Stores the body from `base` on, where one region has it, and tells whether one has.
+pub fn store_window<const VLENB: usize, A: Allocator>(
+    group: &Group<VLENB>,
+    registers: &VregFile<VLENB>,
     base: u32,
-    values: &[E],
+    memory: &mut Regions<A>,
 ) -> bool
-    requires { E.Element.SIZE * length values.now ≤ MOST_ELEMENTS }
-    ensures permitted { result ≡ true → first_refused (in_a_row Write E.Element.SIZE base
-        (length values.now)) memory.old ≡ None }
-    ensures stored { result ≡ true → memory.new ≡ stored (in_a_row Write E.Element.SIZE base
-        (length values.now)) (map E.Element.number values.now) memory.old }
+    requires { IsSize group.now.bytes }
+    ensures permitted { result ≡ true → first_refused (in_a_row Write group.now.bytes base
+        group.now.vl) memory.old ≡ None }
+    ensures stored { result ≡ true → memory.new ≡ stored (in_a_row Write group.now.bytes base
+        group.now.vl) (body_of VLENB group.now registers.now) memory.old }
     ensures kept { result ≡ false → memory.new ≡ memory.old }
 {
-    if values.is_empty() || !memory.has_window(base, E::SIZE * values.len()) {
+    let _vl = group.vl();
+    let bytes = group.body_bytes(registers);
+    if bytes.is_empty() || !memory.has_window(base, bytes.len()) {
         return false;
     }
     stores_in_windows(memory);
-    let mut bytes = [0u8; MOST_ELEMENTS];
-    let bytes = &mut bytes[..E::SIZE * values.len()];
-    write_bytes(values, bytes);
     memory.set_window(base, bytes);
     true
 }

@@ -362,7 +362,7 @@ new_bytes-front size at n policy results active bytes i r a lt =
     ∙ ap (λ b. bytes_of size (if b then (if get_or active i false then get_or results i old else inactive) else tail))
     (sym there)
 
-below_256 : (bytes : List ℕ) → All (λ byte. byte < 256) bytes → (i : ℕ) → get_or bytes i 0 < 256
+pub below_256 : (bytes : List ℕ) → All (λ byte. byte < 256) bytes → (i : ℕ) → get_or bytes i 0 < 256
 below_256 bytes all i =
     elim (cases_lt i (length bytes)) [
       | inl inside ↦ all i 0 inside

@@ -1,22 +1,24 @@
-use Rattle.std.proofs.Common.{◌≡◌, ◌∙◌, ◌*◌, ap, length, map, sym, true, ℕ, List}
-use Rattle.std.proofs.lemmas.List.{length-map}
+use Rattle.std.proofs.Common.{◌≡◌, ◌∙◌, ◌*◌, ap, sym, true, ℕ, List}
 use Rattle.region_mem.specs.Memory.{has_window, with_window}
-use Rattle.vector_mem.proofs.Rows.{positive, row_stored, row_writable}
+use Rattle.vreg_groups.specs.Group.{body_of}
+use Rattle.vector_mem.proofs.Rows.{length_body, positive, row_stored, row_writable}
 use Rattle.vector_mem.proofs.windows.store_window.Goals as goal
 
 pub returns-clause-permitted : goal.returns-clause-permitted
 returns-clause-permitted g c = λ _.
-    let size = g.E.Element.SIZE in
-    let has : has_window c.args.base (size * length c.args.values.now) c.args.memory.now ≡ true = cc in
-    row_writable c.args.memory.now size c.args.base (length c.args.values.now) c.stores_in_windows.ensures.bounds
-    c.stores_in_windows.ensures.permitted has (positive size g.met.E.Element.sizes)
+    let group = c.args.group.now in
+    let memory = c.args.memory.now in
+    let has : has_window c.args.base (group.bytes * group.vl) memory ≡ true = cc in
+    row_writable memory group.bytes c.args.base group.vl c.stores_in_windows.ensures.bounds c.stores_in_windows.ensures.permitted has
+    (positive group.bytes c.requires)
 
 pub returns-clause-stored : goal.returns-clause-stored
 returns-clause-stored g c = λ _.
-    let size = g.E.Element.SIZE in
-    let numbers = map g.E.Element.number c.args.values.now in
-    let has : has_window c.args.base (size * length c.args.values.now) c.args.memory.now ≡ true = cc in
+    let group = c.args.group.now in
+    let memory = c.args.memory.now in
+    let has : has_window c.args.base (group.bytes * group.vl) memory ≡ true = cc in
     c.set_window.ensures
-    ∙ ap (λ (l : List ℕ). with_window c.args.base l c.args.memory.now) c.write_bytes.ensures
-    ∙ sym (row_stored c.args.memory.now size c.args.base (length c.args.values.now) numbers c.stores_in_windows.ensures.bounds
-    c.stores_in_windows.ensures.filled has (positive size g.met.E.Element.sizes) (length-map c.args.values.now g.E.Element.number))
+    ∙ ap (λ (l : List ℕ). with_window c.args.base l memory) (sym c.body_bytes-bytes.ensures.bytes)
+    ∙ sym (row_stored memory group.bytes c.args.base group.vl (body_of g.row.VLENB group c.args.registers.now)
+    c.stores_in_windows.ensures.bounds c.stores_in_windows.ensures.filled has (positive group.bytes c.requires)
+    (length_body g.row.VLENB group c.args.registers.now))
