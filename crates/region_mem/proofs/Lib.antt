@@ -15,3 +15,6 @@ pub mod WindowLaws
 pub mod WindowFills
 pub mod ExtentLemmas
 pub mod LendLemmas
+pub mod KeptCode
+pub mod StartCode
+pub mod ByteLemmas

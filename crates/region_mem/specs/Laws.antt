@@ -1,13 +1,14 @@
 -- Laws of memory: what its definitions give, whatever the image, the parameters and the arguments that match them.
-use Rattle.std.specs.Prelude.{◌≡◌, ℕ, ◌+◌, ◌*◌, ◌^◌, ◌<◌, ◌≤◌, Bool, true, List, length, take, drop, map, flat_map, slice_index, Some, None, unwrap_or}
-use Rattle.std.specs.List.{list_all, fold, range_with_len}
+use Rattle.std.specs.Prelude.{◌≡◌, ℕ, ◌+◌, ◌*◌, ◌^◌, ◌<◌, ◌≤◌, Bool, true, false, List, length, take, drop, map, flat_map, slice_index, All, Some, None, unwrap_or}
+use Rattle.std.specs.List.{AllByRecursion, list_all, fold, range_with_len}
 use Rattle.elf_image.specs.declared.layout.TheConstants.{HIGH_SEGMENTS_END}
-use Rattle.elf_image.specs.Image.{ImageView, IsImage}
+use Rattle.elf_image.specs.Image.{ImageView, IsImage, code_at}
 use Rattle.region_mem.specs.declared.parameter.Param.{Param}
+use Rattle.region_mem.specs.declared.arguments.Arg.TheVariants as argument
 use Rattle.region_mem.specs.Parameter.{Argument, is_valid, AreArguments}
-use Rattle.region_mem.specs.Areas.{Area, AreInOrder, number_of, bytes_of}
-use Rattle.region_mem.specs.declared.faults.Right.TheVariants.{Read, Write}
-use Rattle.region_mem.specs.Memory.{Memory, args_of, fetch_of, is_permitted, load_of, store_of, window_of, has_window, with_window, overlaid_window}
+use Rattle.region_mem.specs.Areas.{Area, AreInOrder, AreInside, is_open, number_at, number_of, bytes_of}
+use Rattle.region_mem.specs.declared.faults.Right.TheVariants.{Read, Write, Fetch}
+use Rattle.region_mem.specs.Memory.{Memory, IsAccessSize, args_of, fetch_of, is_permitted, load_of, store_of, window_of, has_window, with_window, overlaid_window}
 use Rattle.region_mem.specs.Start.{start_memory}
 
 -- what is so of each image, each eight valid parameters, and the arguments that match them
@@ -21,6 +22,11 @@ ForEachStart P =
 abbrev pub StartsInOrder : Type 0
 StartsInOrder =
     ForEachStart (λ image params args. AreInOrder 0 (start_memory image params args).areas)
+
+-- None of them passes the last address.
+abbrev pub StartsInside : Type 0
+StartsInside =
+    ForEachStart (λ image params args. AreInside (start_memory image params args).areas)
 
 -- The memory that a run starts with gives back what it was passed.
 abbrev pub GivesArgumentsBack : Type 0
@@ -61,6 +67,64 @@ FetchesNothingAbove =
     ForEachStart (λ image params args. (memory : Memory) →
     HasExtentsOf memory (start_memory image params args) →
     (pc : ℕ) → HIGH_SEGMENTS_END ≤ pc → fetch_of pc memory ≡ None)
+
+-- The code of an image is in memory: each of its words is fetched at its address.
+abbrev pub HasCode : ImageView → Memory → Type 0
+HasCode image memory =
+    (pc word : ℕ) → code_at pc image ≡ Some word → fetch_of pc memory ≡ Some word
+
+-- No byte that may be fetched may be written.
+abbrev pub IsCodeSafe : Memory → Type 0
+IsCodeSafe memory =
+    (x : ℕ) → is_open Fetch memory.areas x ≡ true → is_open Write memory.areas x ≡ false
+
+-- A run starts with the code of its image in memory,
+abbrev pub StartsWithCode : Type 0
+StartsWithCode = ForEachStart (λ image params args. HasCode image (start_memory image params args))
+
+-- where no store can reach it.
+abbrev pub StartsCodeSafe : Type 0
+StartsCodeSafe = ForEachStart (λ image params args. IsCodeSafe (start_memory image params args))
+
+-- Where no byte that may be fetched may be written a store keeps it so, and changes nothing of what is fetched.
+abbrev pub StoresKeepCode : Type 0
+StoresKeepCode =
+    (address n value : ℕ) (memory stored : Memory) → IsCodeSafe memory →
+    store_of address n value memory ≡ Some stored →
+    IsCodeSafe stored × ((pc : ℕ) → fetch_of pc stored ≡ fetch_of pc memory)
+
+-- What the areas hold are bytes.
+abbrev pub AreBytes : Memory → Type 0
+AreBytes memory = AllByRecursion (λ area. All (λ byte. byte < 256) area.bytes) memory.areas
+
+-- What a buffer brings are bytes.
+abbrev pub BringsBytes : Argument → Type 0
+BringsBytes argument.None = Unit {0}
+BringsBytes (argument.Scalar value) = Unit {0}
+BringsBytes (argument.Buffer bytes) = All (λ byte. byte < 256) bytes
+
+-- They are at the start, if those of each buffer are,
+abbrev pub StartsWithBytes : Type 0
+StartsWithBytes =
+    (image : ImageView) (params : List Param) (args : List Argument) → IsImage image →
+    AllByRecursion BringsBytes args → AreBytes (start_memory image params args)
+
+-- and after a store.
+abbrev pub StoresKeepBytes : Type 0
+StoresKeepBytes =
+    (address n value : ℕ) (memory stored : Memory) → AreBytes memory →
+    store_of address n value memory ≡ Some stored → AreBytes stored
+
+-- The number in n of them is below 256 ^ n,
+abbrev pub NumbersFit : Type 0
+NumbersFit =
+    (address n : ℕ) (memory : Memory) → AreBytes memory → number_at address n memory.areas < 256 ^ n
+
+-- so what a load gives fits 32 bits.
+abbrev pub LoadsFit : Type 0
+LoadsFit =
+    (memory : Memory) → AreBytes memory →
+    (address n value : ℕ) → IsAccessSize n → load_of address n memory ≡ Some value → value < 2 ^ 32
 
 -- A window to read has as many bytes as were asked for, and ends at the last address or before it.
 abbrev pub WindowsToRead : Memory → Type 0

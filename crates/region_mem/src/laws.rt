@@ -1,5 +1,5 @@
 //! Laws of memory, for those who stand on its definitions: functions that do nothing, with the law as contract.
-ghost use Rattle.region_mem.specs.Laws.{StartsInOrder, GivesArgumentsBack, StoresKeepExtents, FetchesNothingAbove, WindowsToRead, LoadsInWindows, WindowsToWrite, StoresInWindows, StoresFillWindows, LentWindowsAreWritten};
+ghost use Rattle.region_mem.specs.Laws.{StartsInOrder, StartsInside, GivesArgumentsBack, StoresKeepExtents, FetchesNothingAbove, StartsWithCode, StartsCodeSafe, StoresKeepCode, StartsWithBytes, StoresKeepBytes, NumbersFit, LoadsFit, WindowsToRead, LoadsInWindows, WindowsToWrite, StoresInWindows, StoresFillWindows, LentWindowsAreWritten};
 
 use crate::memory::Regions;
 use std::alloc::Allocator;
@@ -7,6 +7,11 @@ use std::alloc::Allocator;
 /// The regions that a run starts with stand in the order of their first addresses, and no address lies in two of them.
 pub fn starts_in_order()
     ensures { StartsInOrder }
+{}
+
+/// No region that a run starts with passes the last address.
+pub fn starts_inside()
+    ensures { StartsInside }
 {}
 
 /// The arguments that a run starts with come back as they were, where nothing was stored.
@@ -23,6 +28,38 @@ pub fn stores_keep_extents()
 /// there, is no code.
 pub fn fetches_nothing_above()
     ensures { FetchesNothingAbove }
+{}
+
+/// A run starts with the code of its image in memory: each word that the image has at an address is fetched there.
+pub fn starts_with_code()
+    ensures { StartsWithCode }
+{}
+
+/// At the start of a run no byte that may be fetched may be written.
+pub fn starts_code_safe()
+    ensures { StartsCodeSafe }
+{}
+
+/// Where no byte that may be fetched may be written a store keeps it so, and each fetch gives what it gave before.
+pub fn stores_keep_code()
+    ensures { StoresKeepCode }
+{}
+
+/// The bytes of the memory that a run starts with are below 256, where those of each buffer are.
+pub fn starts_with_bytes()
+    ensures { StartsWithBytes }
+{}
+
+/// A store leaves bytes below 256 where they were so.
+pub fn stores_keep_bytes()
+    ensures { StoresKeepBytes }
+{}
+
+/// Where a memory's bytes are below 256 the number in n of them is below 256 to the n, and what a load gives below
+/// 2 to the 32.
+pub fn loads_fit()
+    ensures numbers { NumbersFit }
+    ensures loads { LoadsFit }
 {}
 
 /// A load of bytes that lie in a window is permitted, and gives the number of these bytes. The window has as many bytes

@@ -1,0 +1,5 @@
+use Rattle.region_mem.proofs.StartCode.{starts_with_code}
+use Rattle.region_mem.proofs.laws.starts_with_code.Goals as goal
+
+pub returns : goal.returns
+returns c = starts_with_code
