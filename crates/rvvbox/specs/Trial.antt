@@ -16,9 +16,9 @@ use Rattle.region_mem.specs.declared.parameter.Param.{Param}
 use Rattle.region_mem.specs.declared.parameter.Param.TheVariants as parameter
 use Rattle.sandbox_run.specs.Answer.{answer_of}
 use Rattle.sandbox_run.specs.Errors.{open_error_of}
-use Rattle.sandbox_run.specs.Machine.{Machine}
-use Rattle.sandbox_run.specs.Run.{outcome}
-use Rattle.sandbox_run.specs.Start.{start}
+use Rattle.vector_core.specs.Machine.{Machine}
+use Rattle.vector_core.specs.Run.{outcome}
+use Rattle.vector_core.specs.Start.{start}
 use Rattle.sandbox_run.specs.declared.outcome.Outcome.{Outcome}
 use Rattle.sandbox_run.specs.declared.outcome.Outcome.TheVariants as stopped
 use Rattle.vreg_groups.specs.VectorLength.{vlenb_of}

@@ -1,3 +1,2 @@
-pub mod RunLemmas
 pub mod Refusals
 pub mod StartLemmas

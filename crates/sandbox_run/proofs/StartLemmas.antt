@@ -4,7 +4,7 @@ use Rattle.std.proofs.lemmas.List.{drop_all}
 use Rattle.region_mem.specs.declared.parameter.Param.{Param}
 use Rattle.region_mem.specs.Parameter.{Argument}
 use Rattle.scalar_core.specs.Hart.{Hart, with_reg}
-use Rattle.sandbox_run.specs.Start.{passed_number, with_arguments}
+use Rattle.vector_core.specs.Start.{passed_number, with_arguments}
 
 -- the first place of those that are left
 pub with_arguments-next : (params : List Param) (place : ℕ) (args : List Argument) (arg : Argument) (h : Hart) → place < length args → arg ≡ get_or args place arg

@@ -1,10 +1,10 @@
-pub mod Machine
-pub mod Start
-pub mod Step
-pub mod Run
 pub mod Answer
 pub mod Errors
 pub mod Rooms
 pub mod Laws
 pub use Rattle.region_mem.specs.Parameter
 pub use Rattle.region_mem.specs.Memory
+pub use Rattle.vector_core.specs.Machine
+pub use Rattle.vector_core.specs.MachineStep
+pub use Rattle.vector_core.specs.Run
+pub use Rattle.vector_core.specs.Start

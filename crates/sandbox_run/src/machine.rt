@@ -19,7 +19,7 @@ pub(crate) struct Machine<const VLENB: usize, A: Allocator = Global> {
 }
 
 impl<const VLENB: usize, A: Allocator> Model for Machine<VLENB, A> {
-    ghost use Rattle.sandbox_run.specs.Machine.{Machine};
+    ghost use Rattle.vector_core.specs.Machine.{Machine};
 
     ghost Value = { Machine };
 
@@ -27,8 +27,8 @@ impl<const VLENB: usize, A: Allocator> Model for Machine<VLENB, A> {
 }
 
 impl<const VLENB: usize, A: Allocator> Machine<VLENB, A> {
-    ghost use Rattle.sandbox_run.specs.Run.{has_ended as has_ended_of};
-    ghost use Rattle.sandbox_run.specs.Step.{carry_out as carry_out_of, step as step_of};
+    ghost use Rattle.vector_core.specs.Run.{has_ended as has_ended_of};
+    ghost use Rattle.vector_core.specs.MachineStep.{carry_out as carry_out_of, step as step_of};
 
     /// Whether the run has ended, which is where pc is EXIT.
     pub(crate) fn has_ended(&self) -> bool
@@ -38,7 +38,7 @@ impl<const VLENB: usize, A: Allocator> Machine<VLENB, A> {
     }
 
     /// Fetches the word at pc, decodes it and carries it out. A fault changes nothing.
-    #[tactic(auto, unfolding(crate::specs::Step::step))]
+    #[tactic(auto, unfolding(vector_core::specs::MachineStep::step))]
     pub(crate) fn step(&mut self) -> Result<(), Fault>
         ensures { Steps (step_of VLENB self.old) self.old self.new result }
     {
@@ -53,7 +53,7 @@ impl<const VLENB: usize, A: Allocator> Machine<VLENB, A> {
     }
 
     /// Carries an instruction out, by its class.
-    #[tactic(auto, unfolding(crate::specs::Step::carry_out))]
+    #[tactic(auto, unfolding(vector_core::specs::MachineStep::carry_out))]
     fn carry_out(&mut self, word: u32, insn: Insn) -> Result<(), Fault>
         ensures { Steps (carry_out_of VLENB word self.old insn) self.old self.new result }
     {

@@ -4,8 +4,8 @@ ghost use Rattle.std.specs.Prelude.{◌≡◌, ◌⊎◌, None, IfOk, IfErr, IfS
 ghost use Rattle.region_mem.specs.Parameter.{AreArguments, argument_error};
 ghost use Rattle.sandbox_run.specs.Answer.{answer_of, final_of};
 ghost use Rattle.sandbox_run.specs.Errors.{open_error_of};
-ghost use Rattle.sandbox_run.specs.Run.{outcome, OutcomeIsFirst, RunsGoOn};
-ghost use Rattle.sandbox_run.specs.Start.{start as start_of};
+ghost use Rattle.vector_core.specs.Run.{outcome, OutcomeIsFirst, RunsGoOn};
+ghost use Rattle.vector_core.specs.Start.{start as start_of};
 ghost use Rattle.sandbox_run.specs.Rooms.{StateFitsInMemory};
 ghost use Rattle.vreg_groups.specs.VectorLength.{IsVlenb};
 
@@ -75,7 +75,7 @@ pub fn try_run_in<const VLENB: usize, A: Allocator + Copy, B: Allocator>(
 }
 
 /// The run from a state on, with at most `max` steps.
-#[tactic(auto, unfolding(crate::specs::Run::outcome))]
+#[tactic(auto, unfolding(vector_core::specs::Run::outcome))]
 fn run<const VLENB: usize, A: Allocator>(
     mut machine: Machine<VLENB, A>,
     max: u64,

@@ -2,8 +2,8 @@
 
 ghost use Rattle.std.specs.Prelude.{◌≡◌, ◌≤◌, length, IfOk, IfErr};
 ghost use Rattle.region_mem.specs.Parameter.{AreArguments};
-ghost use Rattle.sandbox_run.specs.Start.{passed_number as passed_number_of};
-ghost use Rattle.sandbox_run.specs.Start.{start as start_of, start_hart as start_hart_of};
+ghost use Rattle.vector_core.specs.Start.{passed_number as passed_number_of};
+ghost use Rattle.vector_core.specs.Start.{start as start_of, start_hart as start_hart_of};
 ghost use Rattle.vreg_groups.specs.VectorLength.{IsVlenb};
 
 use crate::machine::Machine;
@@ -16,7 +16,7 @@ use vector_core::VectorState;
 use vreg_groups::Agnostic;
 
 /// What the argument register of a place holds.
-#[tactic(auto, unfolding(crate::specs::Start::passed_number))]
+#[tactic(auto, unfolding(vector_core::specs::Start::passed_number))]
 fn passed_number<A: Allocator>(parameters: &Parameters, place: usize, arg: &Arg<Bytes<A>>) -> u32
     ensures { result ≡ passed_number_of parameters.now place arg.now }
 {
@@ -28,7 +28,7 @@ fn passed_number<A: Allocator>(parameters: &Parameters, place: usize, arg: &Arg<
 }
 
 /// The scalar registers at the start: the arguments in a0 to a7, EXIT in ra, and the stack's end in sp.
-#[tactic(auto, unfolding(crate::specs::Start::start_hart))]
+#[tactic(auto, unfolding(vector_core::specs::Start::start_hart))]
 fn start_hart<A: Allocator>(entry: u32, parameters: &Parameters, places: &[Arg<Bytes<A>>]) -> Scalar
     requires { length places.now ≤ 8 }
     ensures { result ≡ start_hart_of entry parameters.now places.now }
@@ -46,7 +46,7 @@ fn start_hart<A: Allocator>(entry: u32, parameters: &Parameters, places: &[Arg<B
 }
 
 /// The machine at the start, or want of memory, with the arguments as they came.
-#[tactic(auto, unfolding(crate::specs::Start::start))]
+#[tactic(auto, unfolding(vector_core::specs::Start::start))]
 pub(crate) fn start<const VLENB: usize, A: Allocator + Copy, B: Allocator>(
     alloc: A,
     image: &Image<B>,

@@ -2,3 +2,4 @@ pub mod Extensions
 pub mod Inside
 pub mod Moved
 pub mod Numbers
+pub mod RunLemmas

@@ -5,6 +5,8 @@ pub mod FixedPoint
 pub mod Integer
 pub mod Laws
 pub mod LoadsStores
+pub mod Machine
+pub mod MachineStep
 pub mod Masks
 pub mod Moves
 pub mod Narrowing
@@ -12,8 +14,10 @@ pub mod Operands
 pub mod Operations
 pub mod Permutations
 pub mod Reductions
+pub mod Run
 pub mod Setup
 pub mod Singles
+pub mod Start
 pub mod Step
 pub mod Vectors
 pub mod Widening

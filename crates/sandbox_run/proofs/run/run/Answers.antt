@@ -1,7 +1,7 @@
 use Rattle.std.proofs.Common.{arith, rules, sym, ap, ◌∙◌}
 use Rattle.sandbox_run.specs.declared.outcome.Outcome.TheVariants.{Ended, Trapped, OutOfSteps}
 use Rattle.sandbox_run.specs.Answer.{answer_of, final_of}
-use Rattle.sandbox_run.proofs.RunLemmas.{outcome_from-next, outcome_from-trap, outcome_from-ended, outcome_from-out}
+use Rattle.vector_core.proofs.RunLemmas.{outcome_from-next, outcome_from-trap, outcome_from-ended, outcome_from-out}
 use Rattle.sandbox_run.proofs.run.run.Goals as goal
 
 pub returns-then-has_ended : goal.returns-then-has_ended

@@ -1,5 +1,5 @@
 use Rattle.std.proofs.Common.{◌≡◌, drop}
-use Rattle.sandbox_run.specs.Start.{start_hart, with_arguments}
+use Rattle.vector_core.specs.Start.{start_hart, with_arguments}
 use Rattle.sandbox_run.proofs.start.start_hart.Given as goal
 
 abbrev pub invariant-loop-place : goal.invariant-loop-place

@@ -2,8 +2,8 @@
 use Rattle.std.specs.Prelude.{ℕ, zero, suc, ◌+◌, ◌==◌, ◌≡◌, ◌≤◌, ◌<◌, Bool, true, false, Result, Ok, Err, if◌then◌else◌}
 use Rattle.region_mem.specs.declared.faults.Fault.{Fault}
 use Rattle.scalar_core.specs.Hart.{exit}
-use Rattle.sandbox_run.specs.Machine.{Machine}
-use Rattle.sandbox_run.specs.Step.{step}
+use Rattle.vector_core.specs.Machine.{Machine}
+use Rattle.vector_core.specs.MachineStep.{step}
 
 -- A run has ended where pc is EXIT.
 abbrev pub has_ended : Machine → Bool

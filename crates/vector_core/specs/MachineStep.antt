@@ -10,7 +10,7 @@ use Rattle.scalar_core.specs.Hart.{Hart}
 use Rattle.scalar_core.specs.Step.{scalar_step}
 use Rattle.vector_core.specs.Vectors.{Vectors}
 use Rattle.vector_core.specs.Step.{vector_step}
-use Rattle.sandbox_run.specs.Machine.{Machine}
+use Rattle.vector_core.specs.Machine.{Machine}
 
 -- the machine with what a scalar step made of its hart and memory
 abbrev pub with_scalar : Machine → Result (Hart × Memory) Fault → Result Machine Fault

@@ -1,9 +1,9 @@
 -- Laws of runs.
 use Rattle.std.proofs.Common.{◌≡◌, ℕ, zero, suc, ◌+◌, ◌-◌, ◌<◌, Bool, true, false, Result, Ok, Err, refl, ap, arith, add-zero, add-one, zero-add, add-suc, below_more, if◌then◌else◌}
 use Rattle.region_mem.specs.declared.faults.Fault.{Fault}
-use Rattle.sandbox_run.specs.Machine.{Machine}
-use Rattle.sandbox_run.specs.Step.{step}
-use Rattle.sandbox_run.specs.Run.{has_ended, then_step, after, Stop, Ended, Trapped, OutOfSteps, outcome_from, outcome, GoesOnUntil, IsOutcome, OutcomeIsFirst, RunsGoOn}
+use Rattle.vector_core.specs.Machine.{Machine}
+use Rattle.vector_core.specs.MachineStep.{step}
+use Rattle.vector_core.specs.Run.{has_ended, then_step, after, Stop, Ended, Trapped, OutOfSteps, outcome_from, outcome, GoesOnUntil, IsOutcome, OutcomeIsFirst, RunsGoOn}
 
 -- a run that goes on has one step less to go
 pub outcome_from-next : (vlenb max k : ℕ) (m t : Machine) → k < max → has_ended m ≡ false → step vlenb m ≡ Ok t

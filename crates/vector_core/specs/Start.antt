@@ -9,7 +9,7 @@ use Rattle.region_mem.specs.Start.{start_memory}
 use Rattle.vreg_groups.specs.declared.policies.Agnostic.{Agnostic}
 use Rattle.scalar_core.specs.Hart.{Hart, exit, new_hart, with_reg}
 use Rattle.vector_core.specs.Vectors.{new_vectors}
-use Rattle.sandbox_run.specs.Machine.{Machine}
+use Rattle.vector_core.specs.Machine.{Machine}
 
 -- what the argument register of a place holds: 0 for none, the scalar, or the buffer's address
 unfoldable pub passed_number : List Param → ℕ → Argument → ℕ
