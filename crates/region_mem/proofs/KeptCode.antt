@@ -178,9 +178,11 @@ unfolding fetch_of is_permitted
 fetch_kept pc a n value memory stored safe permitted same extents =
     rw (permitted_kept Fetch pc 4 stored.areas memory.areas extents, ← same)
     (fetch_step pc a n value memory (is_open_from Fetch pc 4 memory.areas) refl safe (writes_all a n memory.areas permitted))
+
 pub stores_keep_code : StoresKeepCode
 stores_keep_code address n value memory stored safe e =
     let extents = (stores_keep_extents address n value memory stored e).0 in
-    let is = stored_is address n value memory stored e in
-    ((λ x may. open_kept Write x stored.areas memory.areas extents ∙ safe x (sym (open_kept Fetch x stored.areas memory.areas extents) ∙ may)),
-    (λ pc. fetch_kept pc address n value memory stored safe is.0 is.1 extents))
+    let is = stored_is address n value memory stored e in (
+      (λ x may. open_kept Write x stored.areas memory.areas extents ∙ safe x (sym (open_kept Fetch x stored.areas memory.areas extents) ∙ may)),
+      (λ pc. fetch_kept pc address n value memory stored safe is.0 is.1 extents),
+    )

@@ -1,9 +1,15 @@
 //! The caller's eight arguments.
-ghost use Rattle.std.specs.Prelude.{◌≡◌, ◌+◌, ◌<◌, ◌≤◌, ◌++◌, length, take, drop, slice_set, ◌==◌};
+ghost use Rattle.std.specs.Prelude.{◌≡◌, All, ◌+◌, ◌<◌, ◌≤◌, ◌++◌, length, take, drop, slice_set, ◌==◌};
 ghost use Rattle.std.specs.Borrow.{sem};
 
 use std::alloc::{Allocator, Global};
 use std::marker::Model;
+
+fn are_bytes(bytes: &[u8])
+    ensures { All (λ byte. byte < 256) bytes.now }
+{
+    let _ = bytes;
+}
 
 /// The bytes of a buffer, in a vector that is moved in and out and never copied. `A` is its allocator.
 #[derive(Debug, Drop)]
@@ -56,6 +62,13 @@ impl<A: Allocator> Bytes<A> {
         ensures { result ≡ (length self.now == 0) }
     {
         self.items.is_empty()
+    }
+
+    /// Each of them is below 256: a proof hears it here.
+    pub(crate) fn are_bytes(&self)
+        ensures { All (λ byte. byte < 256) self.now }
+    {
+        are_bytes(self.items.as_slice());
     }
 
     pub(crate) fn set(&mut self, index: usize, byte: u8)

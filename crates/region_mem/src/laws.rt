@@ -1,6 +1,8 @@
 //! Laws of memory, for those who stand on its definitions: functions that do nothing, with the law as contract.
-ghost use Rattle.region_mem.specs.Laws.{StartsInOrder, StartsInside, GivesArgumentsBack, StoresKeepExtents, FetchesNothingAbove, StartsWithCode, StartsCodeSafe, StoresKeepCode, StartsWithBytes, StoresKeepBytes, NumbersFit, LoadsFit, WindowsToRead, LoadsInWindows, WindowsToWrite, StoresInWindows, StoresFillWindows, LentWindowsAreWritten};
+ghost use Rattle.std.specs.List.{AllByRecursion};
+ghost use Rattle.region_mem.specs.Laws.{BringsBytes, StartsInOrder, StartsInside, GivesArgumentsBack, StoresKeepExtents, FetchesNothingAbove, StartsWithCode, StartsCodeSafe, StoresKeepCode, StartsWithBytes, StoresKeepBytes, NumbersFit, LoadsFit, WindowsToRead, LoadsInWindows, WindowsToWrite, StoresInWindows, StoresFillWindows, LentWindowsAreWritten};
 
+use crate::arguments::{Arg, Args, Bytes};
 use crate::memory::Regions;
 use std::alloc::Allocator;
 
@@ -49,6 +51,30 @@ pub fn stores_keep_code()
 pub fn starts_with_bytes()
     ensures { StartsWithBytes }
 {}
+
+fn brings_bytes<A: Allocator>(arg: &Arg<Bytes<A>>)
+    ensures { BringsBytes arg.now }
+{
+    match arg {
+        Arg::Buffer(bytes) => bytes.are_bytes(),
+        Arg::None | Arg::Scalar(_) => (),
+    }
+}
+
+/// The bytes of each buffer that a caller passes are below 256.
+pub fn args_bring_bytes<A: Allocator>(args: &Args<Bytes<A>>)
+    ensures { AllByRecursion BringsBytes args.now.places }
+{
+    let [a, b, c, d, e, f, g, h] = &args.places;
+    brings_bytes(a);
+    brings_bytes(b);
+    brings_bytes(c);
+    brings_bytes(d);
+    brings_bytes(e);
+    brings_bytes(f);
+    brings_bytes(g);
+    brings_bytes(h);
+}
 
 /// A store leaves bytes below 256 where they were so.
 pub fn stores_keep_bytes()

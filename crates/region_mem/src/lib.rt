@@ -19,9 +19,10 @@ mod walk;
 pub use arguments::{Arg, Args, Bytes, Passed};
 pub use faults::{Fault, Right};
 pub use laws::{
-    fetches_nothing_above, gives_arguments_back, lent_windows_are_written, loads_fit,
-    loads_in_windows, starts_code_safe, starts_in_order, starts_inside, starts_with_bytes,
-    starts_with_code, stores_in_windows, stores_keep_bytes, stores_keep_code, stores_keep_extents,
+    args_bring_bytes, fetches_nothing_above, gives_arguments_back, lent_windows_are_written,
+    loads_fit, loads_in_windows, starts_code_safe, starts_in_order, starts_inside,
+    starts_with_bytes, starts_with_code, stores_in_windows, stores_keep_bytes, stores_keep_code,
+    stores_keep_extents,
 };
 pub use layout::{BUFFERS, BUFFERS_END, MAX_BUFFER_SIZE, PAGE_SIZE, STACK, STACK_END, STACK_SIZE};
 pub use memory::Regions;

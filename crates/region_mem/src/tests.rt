@@ -1,5 +1,7 @@
 //! How a run's memory is made, used and given back.
-use crate::{Arg, ArgError, Args, Bytes, Fault, Mode, Param, Parameters, Regions, Right};
+use crate::{
+    Arg, ArgError, Args, Bytes, Fault, Mode, Param, Parameters, Regions, Right, args_bring_bytes,
+};
 use elf_image::Image;
 use std::alloc::{AllocError, Global};
 use std::process::Abort;
@@ -55,6 +57,7 @@ fn args(alloc: Global, scalar: u32) -> Result<Args, AllocError> {
 }
 
 fn expect_args(rt: &impl Abort, args: &Args, third: &[u8]) {
+    args_bring_bytes(args);
     match &args.places {
         [Arg::Buffer(first), Arg::Scalar(5), Arg::Buffer(last), ..] => {
             assert!(rt; first.as_slice() == [0x21, 0x22].as_slice());
