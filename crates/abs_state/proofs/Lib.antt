@@ -3,4 +3,5 @@ pub mod Lists
 pub mod Memories
 pub mod Operations
 pub mod Rooms
+pub mod StartZones
 pub mod States

@@ -8,6 +8,7 @@ pub mod Effects
 pub mod Holds
 pub mod Memories
 pub mod Numbers
+pub mod StartZones
 pub mod State
 pub mod Steps
 pub mod Values

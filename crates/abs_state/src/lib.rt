@@ -8,6 +8,7 @@ mod branches;
 mod effects;
 mod laws;
 mod numbers;
+mod start_laws;
 mod state;
 mod steps;
 mod values;
@@ -24,6 +25,7 @@ pub use laws::{
     register_effects, results_hold, shift_effects, stores_keep_zones, zones_are_permitted,
 };
 pub use numbers::{MOST_ATOMS, Numbers, VL};
+pub use start_laws::zones_are_there;
 pub use state::{Abstract, MOST_WORDS, Way};
 pub use values::{Effect, Value, computed_range};
 pub use why::Why;
