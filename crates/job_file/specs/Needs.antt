@@ -6,6 +6,9 @@ use Rattle.job_file.specs.Job.{Text, all_there, job_of}
 use Rattle.job_file.specs.declared.values.Job.{Job}
 use Rattle.job_file.specs.declared.values.Param.{Param}
 use Rattle.job_file.specs.declared.values.Param.TheVariants as param
+use Rattle.job_file.specs.declared.values.RunJob.{RunJob}
+use Rattle.job_file.specs.declared.values.RunParam.{RunParam}
+use Rattle.job_file.specs.declared.values.RunParam.TheVariants as given
 use Rattle.job_file.specs.declared.values.TryJob.{TryJob}
 use Rattle.job_file.specs.declared.values.TryParam.{TryParam}
 use Rattle.job_file.specs.declared.values.TryParam.TheVariants as taken
@@ -35,6 +38,30 @@ try_job_of j = option_and_then (λ image. option_and_then (λ vlen. option_and_t
 abbrev pub try_job_in : Members → Option (TryJob Text)
 try_job_in ms = option_and_then try_job_of (job_of ms)
 
+-- ---- `run`: it needs `image`, `vlen`, `agnostic`, `max`, each scalar's `value` and each buffer's `file`
+
+abbrev pub run_param_of : Param Text → Option (RunParam Text)
+run_param_of param.None = Some given.None
+run_param_of (param.Scalar lo hi value) = option_map given.Scalar value
+run_param_of (param.Buffer mode size file out) = option_map (λ file. given.Buffer file out) file
+
+unfoldable pub run_params_of : List (Param Text) → Option (List (RunParam Text))
+run_params_of params = all_there (map run_param_of params)
+
+abbrev pub run_job_of : Job Text → Option (RunJob Text)
+run_job_of j = option_and_then (λ image. option_and_then (λ vlen. option_and_then (λ agnostic.
+    option_and_then (λ max. option_map (λ params. record {
+      image = image;
+      vlen = vlen;
+      agnostic = agnostic;
+      max = max;
+      params = params;
+    }) (run_params_of j.params)) j.max) j.agnostic) j.vlen) j.image
+
+-- what `run` takes of a job's table
+abbrev pub run_job_in : Members → Option (RunJob Text)
+run_job_in ms = option_and_then run_job_of (job_of ms)
+
 -- ---- the same with texts that are lent
 
 abbrev pub try_param_lent : TryParam (Bor Text) → TryParam Text
@@ -49,4 +76,18 @@ try_job_lent j = record {
   agnostic = j.agnostic;
   max = j.max;
   params = map try_param_lent j.params;
+}
+
+abbrev pub run_param_lent : RunParam (Bor Text) → RunParam Text
+run_param_lent given.None = given.None
+run_param_lent (given.Scalar value) = given.Scalar value
+run_param_lent (given.Buffer file out) = given.Buffer file.now (option_map (λ s. s.now) out)
+
+abbrev pub run_job_lent : RunJob (Bor Text) → RunJob Text
+run_job_lent j = record {
+  image = j.image.now;
+  vlen = j.vlen;
+  agnostic = j.agnostic;
+  max = j.max;
+  params = map run_param_lent j.params;
 }

@@ -1,10 +1,11 @@
 //! What a subcommand takes of a job: each value that it needs.
 ghost use Rattle.std.specs.Prelude.{◌≡◌, map, option_map};
 ghost use Rattle.job_file.specs.Job.{job_lent, param_lent};
+ghost use Rattle.job_file.specs.Needs.{run_job_lent, run_job_of, run_param_lent, run_param_of};
+ghost use Rattle.job_file.specs.Needs.{run_params_of, try_params_of};
 ghost use Rattle.job_file.specs.Needs.{try_job_lent, try_job_of, try_param_lent, try_param_of};
-ghost use Rattle.job_file.specs.Needs.{try_params_of};
 
-use crate::values::{Job, Param, Places, TryJob, TryParam};
+use crate::values::{Job, Param, Places, RunJob, RunParam, TryJob, TryParam};
 
 /// What `try` takes of a parameter: a scalar's `value`, a buffer's `mode` and `file`.
 fn try_param<'a>(param: Param<&'a str>) -> Option<TryParam<&'a str>>
@@ -48,5 +49,41 @@ pub fn try_job<'a>(job: Job<&'a str>) -> Option<TryJob<&'a str>>
         agnostic: job.agnostic?,
         max: job.max?,
         params: try_params(job.params)?.at,
+    })
+}
+
+/// What `run` takes of a parameter: a scalar's `value`, a buffer's `file`.
+fn run_param<'a>(param: Param<&'a str>) -> Option<RunParam<&'a str>>
+    ensures { option_map run_param_lent result ≡ run_param_of (param_lent param.entry) }
+{
+    match param {
+        Param::None => Some(RunParam::None),
+        Param::Scalar { value, .. } => Some(RunParam::Scalar(value?)),
+        Param::Buffer { file, out, .. } => Some(RunParam::Buffer { file: file?, out }),
+    }
+}
+
+/// What `run` takes of the parameters, by place.
+fn run_params<'a>(params: [Param<&'a str>; 8]) -> Option<Places<RunParam<&'a str>>>
+    ensures { option_map (λ given. map run_param_lent given.at) result
+        ≡ run_params_of (map param_lent params.entry) }
+{
+    let mut given = [RunParam::None; 8];
+    for place in 0..8 {
+        given[place] = run_param(params[place])?;
+    }
+    Some(Places { at: given })
+}
+
+/// What `run` takes of a job: `image`, `vlen`, `agnostic`, `max` and the parameters.
+pub fn run_job<'a>(job: Job<&'a str>) -> Option<RunJob<&'a str>>
+    ensures { option_map run_job_lent result ≡ run_job_of (job_lent job.entry) }
+{
+    Some(RunJob {
+        image: job.image?,
+        vlen: job.vlen?,
+        agnostic: job.agnostic?,
+        max: job.max?,
+        params: run_params(job.params)?.at,
     })
 }

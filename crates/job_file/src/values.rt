@@ -60,6 +60,27 @@ pub struct TryJob<T> {
     pub params: [TryParam<T>; 8],
 }
 
+/// What `run` takes of a parameter.
+#[derive(Clone, Copy)]
+pub enum RunParam<T> {
+    /// The place is not used.
+    None,
+    /// The number that is passed.
+    Scalar(u32),
+    /// The file whose bytes are passed, and the one that has them after the run.
+    Buffer { file: T, out: Option<T> },
+}
+
+/// What `run` takes of a job, with a parameter for each place.
+#[derive(Drop)]
+pub struct RunJob<T> {
+    pub image: T,
+    pub vlen: Vlen,
+    pub agnostic: Agnostic,
+    pub max: u64,
+    pub params: [RunParam<T>; 8],
+}
+
 /// Why a text is no job.
 #[derive(Clone, Copy, Debug, PartialEq, Eq, Error)]
 pub enum JobError {
