@@ -9,12 +9,7 @@ use Rattle.rv_decode.specs.Access.{unit, strided, indexed, mask, whole, element_
 use Rattle.rv_decode.proofs.TableLaw.{RowsHold, GroupsHold, append_rows}
 use Rattle.rv_decode.proofs.ScalarLaw.{Encodes}
 use Rattle.rv_decode.proofs.Wholes.{below, below5}
-use Rattle.rv_decode.specs.declared.instructions.Count.{Count}
-use Rattle.rv_decode.specs.declared.instructions.Count.TheVariants.{One, Two, Four, Eight}
-use Rattle.rv_decode.specs.declared.instructions.Direction.{Direction}
-use Rattle.rv_decode.specs.declared.instructions.Direction.TheVariants.{Load, Store}
-use Rattle.rv_decode.specs.declared.instructions.Width.{Width}
-use Rattle.rv_decode.specs.declared.instructions.Width.TheVariants.{W8, W16, W32}
+use Rattle.rv_decode.specs.Words.{Count, Direction, Width, One, Two, Four, Eight, W8, W16, W32}
 
 parts_m : (word : ℕ) → word < 2 ^ 32 → word ≡ bits 29 3 word * 2 ^ 29 + bits 26 3 word * 2 ^ 26 + bits 25 1 word * 2 ^ 25 + bits 20 5 word * 2 ^ 20 + low_fields (bits 0 7 word) (bits 7 5 word) (bits 12 3 word) (bits 15 5 word)
 unfolding bits low_fields
@@ -122,10 +117,10 @@ byte_rows_hold word direction s stored =
     let both = append_rows (Encodes word) word _ _ (element_rows_hold word direction W8 s) (whole_rows_hold word direction W8 s stored) in
     append_rows (Encodes word) word _ _ both (mask_rows_hold word direction s)
 
-wide_load_rows_hold : (word : ℕ) (width : Width) → Spells word Load width → RowsHold (Encodes word) word (wide_load_rows width)
+wide_load_rows_hold : (word : ℕ) (width : Width) → Spells word Direction.Load width → RowsHold (Encodes word) word (wide_load_rows width)
 unfolding wide_load_rows
 wide_load_rows_hold word width s =
-    append_rows (Encodes word) word _ _ (element_rows_hold word Load width s) (whole_rows_hold word Load width s tt)
+    append_rows (Encodes word) word _ _ (element_rows_hold word Direction.Load width s) (whole_rows_hold word Direction.Load width s tt)
 
 spells : (word : ℕ) → (direction : Direction) → bits 0 7 word ≡ opcode_of_direction direction → (width : Width) → bits 12 3 word ≡ f3_of_width width → Spells word direction width
 spells word direction o width f = record { at_opcode = o; at_f3 = f }
@@ -133,11 +128,11 @@ spells word direction o width f = record { at_opcode = o; at_f3 = f }
 pub vector_load_rows : (word : ℕ) → bits 0 7 word ≡ 0x07 → GroupsHold (Encodes word) word vector_load_groups
 unfolding vector_load_groups
 vector_load_rows word o = (
-  (λ g. byte_rows_hold word Load (spells word Load o W8 g.0) tt),
+  (λ g. byte_rows_hold word Direction.Load (spells word Direction.Load o W8 g.0) tt),
   (
-    (λ g. wide_load_rows_hold word W16 (spells word Load o W16 g.0)),
+    (λ g. wide_load_rows_hold word W16 (spells word Direction.Load o W16 g.0)),
     (
-      (λ g. wide_load_rows_hold word W32 (spells word Load o W32 g.0)),
+      (λ g. wide_load_rows_hold word W32 (spells word Direction.Load o W32 g.0)),
       tt,
     ),
   ),
@@ -146,11 +141,11 @@ vector_load_rows word o = (
 pub vector_store_rows : (word : ℕ) → bits 0 7 word ≡ 0x27 → GroupsHold (Encodes word) word vector_store_groups
 unfolding vector_store_groups
 vector_store_rows word o = (
-  (λ g. byte_rows_hold word Store (spells word Store o W8 g.0) refl),
+  (λ g. byte_rows_hold word Direction.Store (spells word Direction.Store o W8 g.0) refl),
   (
-    (λ g. element_rows_hold word Store W16 (spells word Store o W16 g.0)),
+    (λ g. element_rows_hold word Direction.Store W16 (spells word Direction.Store o W16 g.0)),
     (
-      (λ g. element_rows_hold word Store W32 (spells word Store o W32 g.0)),
+      (λ g. element_rows_hold word Direction.Store W32 (spells word Direction.Store o W32 g.0)),
       tt,
     ),
   ),

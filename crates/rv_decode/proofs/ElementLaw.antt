@@ -12,21 +12,13 @@ use Rattle.rv_decode.proofs.TableLaw.{HasFields, Every, append_every}
 use Rattle.rv_decode.proofs.ScalarLaw.{Encodes}
 use Rattle.rv_decode.proofs.OperationLaw.{Spells, word_with_mask, word_with_vm, OperationHolds}
 use Rattle.rv_decode.proofs.Wholes.{below5}
-use Rattle.rv_decode.specs.declared.instructions.LogicOp.{LogicOp}
-use Rattle.rv_decode.specs.declared.instructions.LogicOp.TheVariants as logic_op
-use Rattle.rv_decode.specs.declared.instructions.FirstOp.{FirstOp}
-use Rattle.rv_decode.specs.declared.instructions.FirstOp.TheVariants.{Before, Only, Including}
-use Rattle.rv_decode.specs.declared.instructions.FoldOp.{FoldOp}
-use Rattle.rv_decode.specs.declared.instructions.FoldOp.TheVariants as fold_op
-use Rattle.rv_decode.specs.declared.instructions.Count.{Count as Registers}
-use Rattle.rv_decode.specs.declared.instructions.Count.TheVariants.{One, Two, Four, Eight}
-use Rattle.rv_decode.specs.declared.instructions.Source.TheVariants.{Vector, Immediate}
+use Rattle.rv_decode.specs.Words.{Count, FirstOp, FoldOp, LogicOp, Source, Before, Only, Including, One, Two, Four, Eight}
 
 -- what stands in the place of vs1 selects among the operations of a funct6
-selected : (word : ℕ) (c : Code) (n : ℕ) → Spells word c (operand V word) → bits 15 5 word ≡ n → word < 2 ^ 32 → word ≡ encode_v c (bits 7 5 word) (vm_of (is_masked word)) (bits 20 5 word) (Vector n)
+selected : (word : ℕ) (c : Code) (n : ℕ) → Spells word c (operand V word) → bits 15 5 word ≡ n → word < 2 ^ 32 → word ≡ encode_v c (bits 7 5 word) (vm_of (is_masked word)) (bits 20 5 word) (Source.Vector n)
 selected word c n s e w =
     word_with_mask word c (operand V word) s w ∙
-    ap (λ m. encode_v c (bits 7 5 word) (vm_of (is_masked word)) (bits 20 5 word) (Vector m)) e
+    ap (λ m. encode_v c (bits 7 5 word) (vm_of (is_masked word)) (bits 20 5 word) (Source.Vector m)) e
 
 -- masks
 
@@ -55,7 +47,7 @@ index_is : (word : ℕ) → Spells word code_of_set_mask (operand V word) → Ha
 unfolding encode_mask
 index_is word s m = (
   (λ w. selected word code_of_set_mask 0x11 s m.0 w ∙
-      ap (λ n. encode_v code_of_set_mask (bits 7 5 word) (vm_of (is_masked word)) n (Vector 0x11)) m.1.0),
+      ap (λ n. encode_v code_of_set_mask (bits 7 5 word) (vm_of (is_masked word)) n (Source.Vector 0x11)) m.1.0),
   below5 7 word,
 )
 
@@ -124,7 +116,7 @@ to_scalar_is : (word : ℕ) → Spells word code_of_to_scalar (operand V word) �
 unfolding encode_move
 to_scalar_is word s m = (
   (λ w. word_with_vm word code_of_to_scalar (operand V word) 1 s m.1.0 w ∙
-      ap (λ n. encode_v code_of_to_scalar (bits 7 5 word) 1 (bits 20 5 word) (Vector n)) m.0),
+      ap (λ n. encode_v code_of_to_scalar (bits 7 5 word) 1 (bits 20 5 word) (Source.Vector n)) m.0),
   (below5 7 word, below5 20 word),
 )
 
@@ -136,18 +128,18 @@ from_scalar_is word s m = (
   (below5 7 word, below5 15 word),
 )
 
-signed_is : (n : Registers) → signed 16 (nf_of_count n) ≡ pos (nf_of_count n)
+signed_is : (n : Count) → signed 16 (nf_of_count n) ≡ pos (nf_of_count n)
 unfolding signed
 signed_is One = refl
 signed_is Two = refl
 signed_is Four = refl
 signed_is Eight = refl
 
-whole_is : (word : ℕ) (n : Registers) → Spells word code_of_whole_move (operand I word) → HasFields (vs1 (nf_of_count n) ∷ vm 1 ∷ []) word → Encodes word (whole n word)
+whole_is : (word : ℕ) (n : Count) → Spells word code_of_whole_move (operand I word) → HasFields (vs1 (nf_of_count n) ∷ vm 1 ∷ []) word → Encodes word (whole n word)
 unfolding encode_move
 whole_is word n s m = (
   (λ w. word_with_vm word code_of_whole_move (operand I word) 1 s m.1.0 w ∙
-      ap (λ z. encode_v code_of_whole_move (bits 7 5 word) 1 (bits 20 5 word) (Immediate z)) (ap (signed 16) m.0 ∙ signed_is n)),
+      ap (λ z. encode_v code_of_whole_move (bits 7 5 word) 1 (bits 20 5 word) (Source.Immediate z)) (ap (signed 16) m.0 ∙ signed_is n)),
   (below5 7 word, below5 20 word),
 )
 
@@ -201,21 +193,21 @@ widen_sum_operations_hold word = (
 
 fold_operations_hold : (word : ℕ) → Every (OperationHolds word OPM) fold_operations
 fold_operations_hold word = (
-  (fold_is word fold_op.Sum, tt),
+  (fold_is word FoldOp.Sum, tt),
   (
-    (fold_is word fold_op.And, tt),
+    (fold_is word FoldOp.And, tt),
     (
-      (fold_is word fold_op.Or, tt),
+      (fold_is word FoldOp.Or, tt),
       (
-        (fold_is word fold_op.Xor, tt),
+        (fold_is word FoldOp.Xor, tt),
         (
-          (fold_is word fold_op.Minu, tt),
+          (fold_is word FoldOp.Minu, tt),
           (
-            (fold_is word fold_op.Min, tt),
+            (fold_is word FoldOp.Min, tt),
             (
-              (fold_is word fold_op.Maxu, tt),
+              (fold_is word FoldOp.Maxu, tt),
               (
-                (fold_is word fold_op.Max, tt),
+                (fold_is word FoldOp.Max, tt),
                 tt,
               ),
             ),
@@ -243,21 +235,21 @@ element_operations_hold word = (
 
 logic_operations_hold : (word : ℕ) → Every (OperationHolds word OPM) logic_operations
 logic_operations_hold word = (
-  (logic_is word logic_op.Andn, tt),
+  (logic_is word LogicOp.Andn, tt),
   (
-    (logic_is word logic_op.And, tt),
+    (logic_is word LogicOp.And, tt),
     (
-      (logic_is word logic_op.Or, tt),
+      (logic_is word LogicOp.Or, tt),
       (
-        (logic_is word logic_op.Xor, tt),
+        (logic_is word LogicOp.Xor, tt),
         (
-          (logic_is word logic_op.Orn, tt),
+          (logic_is word LogicOp.Orn, tt),
           (
-            (logic_is word logic_op.Nand, tt),
+            (logic_is word LogicOp.Nand, tt),
             (
-              (logic_is word logic_op.Nor, tt),
+              (logic_is word LogicOp.Nor, tt),
               (
-                (logic_is word logic_op.Xnor, tt),
+                (logic_is word LogicOp.Xnor, tt),
                 tt,
               ),
             ),

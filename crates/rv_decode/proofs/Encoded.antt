@@ -5,21 +5,10 @@ use Rattle.rv_decode.specs.Decode.{meaning_of, table}
 use Rattle.rv_decode.specs.System.{system_groups}
 use Rattle.rv_decode.specs.Encode.{modulo, encode_i, encode_s, encode_b, encode_u, encode_j, encode_r, low_fields, middle_fields, encode, IsEncodable}
 use Rattle.rv_decode.specs.Encode.{f3_of_condition, f3_of_load, f3_of_store, f3_of_immediate, codes_of_shift, codes_of_register}
-use Rattle.rv_decode.specs.declared.instructions.Insn.TheVariants.{Scalar}
-use Rattle.rv_decode.specs.declared.instructions.ScalarInsn.{ScalarInsn}
-use Rattle.rv_decode.specs.declared.instructions.ScalarInsn.TheVariants.{Lui, Auipc, Jal, Jalr, Branch, Load, Store, Immediate, ShiftImmediate, Register, Fence, Ecall}
-use Rattle.rv_decode.specs.declared.instructions.Condition.{Condition}
-use Rattle.rv_decode.specs.declared.instructions.Condition.TheVariants.{Eq, Ne, Lt, Ge, Ltu, Geu}
-use Rattle.rv_decode.specs.declared.instructions.LoadKind.{LoadKind}
-use Rattle.rv_decode.specs.declared.instructions.LoadKind.TheVariants.{Byte, Half, Word, ByteUnsigned, HalfUnsigned}
-use Rattle.rv_decode.specs.declared.instructions.Width.{Width}
-use Rattle.rv_decode.specs.declared.instructions.Width.TheVariants.{W8, W16, W32}
-use Rattle.rv_decode.specs.declared.instructions.ImmediateOp.{ImmediateOp}
-use Rattle.rv_decode.specs.declared.instructions.ImmediateOp.TheVariants.{Addi, Slti, Sltiu, Xori, Ori, Andi}
-use Rattle.rv_decode.specs.declared.instructions.ShiftOp.{ShiftOp}
-use Rattle.rv_decode.specs.declared.instructions.ShiftOp.TheVariants.{Slli, Srli, Srai}
-use Rattle.rv_decode.specs.declared.instructions.RegisterOp.{RegisterOp}
-use Rattle.rv_decode.specs.declared.instructions.RegisterOp.TheVariants.{Add, Sub, Sll, Slt, Sltu, Xor, Srl, Sra, Or, And, Mul, Mulh, Mulhsu, Mulhu, Div, Divu, Rem, Remu}
+use Rattle.rv_decode.specs.Words.{Condition, ImmediateOp, LoadKind, RegisterOp, ScalarInsn, ShiftOp, Width, Scalar, Lui, Auipc, Jal, Jalr}
+use Rattle.rv_decode.specs.Words.{Branch, Load, Store, Immediate, ShiftImmediate, Register, Fence, Ecall, Eq, Ne, Lt, Ge, Ltu, Geu, Byte}
+use Rattle.rv_decode.specs.Words.{Half, Word, ByteUnsigned, HalfUnsigned, W8, W16, W32, Addi, Slti, Sltiu, Xori, Ori, Andi, Slli, Srli}
+use Rattle.rv_decode.specs.Words.{Srai, Add, Sub, Sll, Slt, Sltu, Xor, Srl, Sra, Or, And, Mul, Mulh, Mulhsu, Mulhu, Div, Divu, Rem, Remu}
 use Rattle.rv_decode.proofs.Places.{back_i, back_s, back_b, back_u, back_j}
 use Rattle.rv_decode.proofs.Fields.{opcode_of, rd_at, f3_at, rs1_at, rs2_at, f7_at}
 use Rattle.rv_decode.proofs.Meanings.{means_lui, means_auipc, means_jal, means_jalr, means_branch, means_load, means_store, means_immediate, means_shift, means_register, means_fence}

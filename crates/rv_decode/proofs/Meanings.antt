@@ -5,20 +5,10 @@ use Rattle.rv_decode.specs.Decode.{meaning_of, table}
 use Rattle.rv_decode.specs.Scalar.{lui_groups, auipc_groups, jal_groups, jalr_groups, branch_groups, load_groups, store_groups, immediate_groups, register_groups, base_rows, multiply_rows, fence_groups}
 use Rattle.rv_decode.specs.Scalar.{lui, auipc, jal, jalr, branch, load, store, immediate, shift, register}
 use Rattle.rv_decode.specs.Encode.{f3_of_condition, f3_of_load, f3_of_store, f3_of_immediate, codes_of_shift, codes_of_register}
-use Rattle.rv_decode.specs.declared.instructions.Insn.TheVariants.{Scalar}
-use Rattle.rv_decode.specs.declared.instructions.ScalarInsn.TheVariants.{Fence}
-use Rattle.rv_decode.specs.declared.instructions.Condition.{Condition}
-use Rattle.rv_decode.specs.declared.instructions.Condition.TheVariants.{Eq, Ne, Lt, Ge, Ltu, Geu}
-use Rattle.rv_decode.specs.declared.instructions.LoadKind.{LoadKind}
-use Rattle.rv_decode.specs.declared.instructions.LoadKind.TheVariants.{Byte, Half, Word, ByteUnsigned, HalfUnsigned}
-use Rattle.rv_decode.specs.declared.instructions.Width.{Width}
-use Rattle.rv_decode.specs.declared.instructions.Width.TheVariants.{W8, W16, W32}
-use Rattle.rv_decode.specs.declared.instructions.ImmediateOp.{ImmediateOp}
-use Rattle.rv_decode.specs.declared.instructions.ImmediateOp.TheVariants.{Addi, Slti, Sltiu, Xori, Ori, Andi}
-use Rattle.rv_decode.specs.declared.instructions.ShiftOp.{ShiftOp}
-use Rattle.rv_decode.specs.declared.instructions.ShiftOp.TheVariants.{Slli, Srli, Srai}
-use Rattle.rv_decode.specs.declared.instructions.RegisterOp.{RegisterOp}
-use Rattle.rv_decode.specs.declared.instructions.RegisterOp.TheVariants.{Add, Sub, Sll, Slt, Sltu, Xor, Srl, Sra, Or, And, Mul, Mulh, Mulhsu, Mulhu, Div, Divu, Rem, Remu}
+use Rattle.rv_decode.specs.Words.{Condition, ImmediateOp, LoadKind, RegisterOp, ShiftOp, Width, Scalar, Fence, Eq, Ne, Lt, Ge, Ltu, Geu}
+use Rattle.rv_decode.specs.Words.{Byte, Half, Word, ByteUnsigned, HalfUnsigned, W8, W16, W32, Addi, Slti, Sltiu, Xori, Ori, Andi, Slli}
+use Rattle.rv_decode.specs.Words.{Srli, Srai, Add, Sub, Sll, Slt, Sltu, Xor, Srl, Sra, Or, And, Mul, Mulh, Mulhsu, Mulhu, Div, Divu, Rem}
+use Rattle.rv_decode.specs.Words.{Remu}
 
 pub means_lui : (word : ℕ) → bits 0 7 word ≡ 0x37 → meaning_of word ≡ Some (lui word)
 unfolding meaning_of table lui_groups

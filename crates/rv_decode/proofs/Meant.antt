@@ -9,16 +9,8 @@ use Rattle.rv_decode.specs.EncodeSystem.{number_of_source}
 use Rattle.rv_decode.specs.Encodings.{FieldsFit}
 use Rattle.rv_decode.proofs.MeaningLaw.{encodes}
 use Rattle.rv_decode.proofs.ScalarLaw.{Encodes}
-use Rattle.rv_decode.specs.declared.instructions.Insn.{Insn}
-use Rattle.rv_decode.specs.declared.instructions.Insn.TheVariants.{Scalar, Csr}
-use Rattle.rv_decode.specs.declared.instructions.CsrInsn.{CsrInsn}
-use Rattle.rv_decode.specs.declared.instructions.ScalarInsn.TheVariants.{Lui, Auipc, Jal, Jalr, Branch, Load, Store, Immediate, ShiftImmediate, Register}
-use Rattle.rv_decode.specs.declared.instructions.Condition.{Condition}
-use Rattle.rv_decode.specs.declared.instructions.LoadKind.{LoadKind}
-use Rattle.rv_decode.specs.declared.instructions.Width.{Width}
-use Rattle.rv_decode.specs.declared.instructions.ImmediateOp.{ImmediateOp}
-use Rattle.rv_decode.specs.declared.instructions.ShiftOp.{ShiftOp}
-use Rattle.rv_decode.specs.declared.instructions.RegisterOp.{RegisterOp}
+use Rattle.rv_decode.specs.Words.{Condition, CsrInsn, ImmediateOp, Insn, LoadKind, RegisterOp, ShiftOp, Width, Scalar, Csr, Lui, Auipc, Jal}
+use Rattle.rv_decode.specs.Words.{Jalr, Branch, Load, Store, Immediate, ShiftImmediate, Register}
 
 -- all of it, by class: at an instruction `FieldsFit` is the list of what is said of its fields
 pub meant : (word : ℕ) {insn : Insn} → meaning_of word ≡ Some insn → FieldsFit insn

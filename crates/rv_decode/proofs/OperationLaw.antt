@@ -11,8 +11,7 @@ use Rattle.rv_decode.specs.Operations.{Form, V, X, I, U, operand, vectors, scala
 use Rattle.rv_decode.proofs.TableLaw.{HasFields, Every, RowsHold, append_rows}
 use Rattle.rv_decode.proofs.ScalarLaw.{Encodes}
 use Rattle.rv_decode.proofs.Wholes.{below, below5, modulo_signed, signed_fits}
-use Rattle.rv_decode.specs.declared.instructions.Source.{Source}
-use Rattle.rv_decode.specs.declared.instructions.Source.TheVariants.{Vector, Scalar, Immediate}
+use Rattle.rv_decode.specs.Words.{Source}
 
 -- the fields of a word that has a funct6
 
@@ -76,10 +75,10 @@ any_more true c h = refl
 any_more false c h = h
 
 fits_more : (form : Form) (forms : List Form) (b : Source) → OperandFits forms b → OperandFits (form ∷ forms) b
-fits_more form forms (Vector vs1) h = (any_more (vectors form) (list_any vectors forms) h.0, h.1)
-fits_more form forms (Scalar rs1) h = (any_more (scalars form) (list_any scalars forms) h.0, h.1)
-fits_more form forms (Immediate imm) (inl h) = inl (any_more (takes_signed form) (list_any takes_signed forms) h.0, h.1)
-fits_more form forms (Immediate imm) (inr h) = inr (any_more (takes_unsigned form) (list_any takes_unsigned forms) h.0, h.1, h.2)
+fits_more form forms (Source.Vector vs1) h = (any_more (vectors form) (list_any vectors forms) h.0, h.1)
+fits_more form forms (Source.Scalar rs1) h = (any_more (scalars form) (list_any scalars forms) h.0, h.1)
+fits_more form forms (Source.Immediate imm) (inl h) = inl (any_more (takes_signed form) (list_any takes_signed forms) h.0, h.1)
+fits_more form forms (Source.Immediate imm) (inr h) = inr (any_more (takes_unsigned form) (list_any takes_unsigned forms) h.0, h.1, h.2)
 
 fits_here : (word : ℕ) (form : Form) (forms : List Form) → OperandFits (form ∷ forms) (operand form word)
 fits_here word V forms = (refl, below5 15 word)

@@ -7,19 +7,9 @@ use Rattle.rv_decode.specs.Scalar.{lui, auipc, jal, jalr, branch, load, store, i
 use Rattle.rv_decode.specs.Scalar.{lui_groups, auipc_groups, jal_groups, jalr_groups, branch_groups, load_groups, store_groups, immediate_groups, base_rows, multiply_rows, register_groups, fence_groups}
 use Rattle.rv_decode.proofs.TableLaw.{GroupsHold}
 use Rattle.rv_decode.proofs.Wholes.{below5, whole_r, whole_i, whole_s, whole_b, whole_u, whole_j, fits_i, fits_s, fits_b, fits_u, fits_j}
-use Rattle.rv_decode.specs.declared.instructions.Insn.{Insn}
-use Rattle.rv_decode.specs.declared.instructions.Condition.{Condition}
-use Rattle.rv_decode.specs.declared.instructions.Condition.TheVariants.{Eq, Ne, Lt, Ge, Ltu, Geu}
-use Rattle.rv_decode.specs.declared.instructions.LoadKind.{LoadKind}
-use Rattle.rv_decode.specs.declared.instructions.LoadKind.TheVariants.{Byte, Half, Word, ByteUnsigned, HalfUnsigned}
-use Rattle.rv_decode.specs.declared.instructions.Width.{Width}
-use Rattle.rv_decode.specs.declared.instructions.Width.TheVariants.{W8, W16, W32}
-use Rattle.rv_decode.specs.declared.instructions.ImmediateOp.{ImmediateOp}
-use Rattle.rv_decode.specs.declared.instructions.ImmediateOp.TheVariants.{Addi, Slti, Sltiu, Xori, Ori, Andi}
-use Rattle.rv_decode.specs.declared.instructions.ShiftOp.{ShiftOp}
-use Rattle.rv_decode.specs.declared.instructions.ShiftOp.TheVariants.{Slli, Srli, Srai}
-use Rattle.rv_decode.specs.declared.instructions.RegisterOp.{RegisterOp}
-use Rattle.rv_decode.specs.declared.instructions.RegisterOp.TheVariants.{Add, Sub, Sll, Slt, Sltu, Xor, Srl, Sra, Or, And, Mul, Mulh, Mulhsu, Mulhu, Div, Divu, Rem, Remu}
+use Rattle.rv_decode.specs.Words.{Condition, ImmediateOp, Insn, LoadKind, RegisterOp, ShiftOp, Width, Eq, Ne, Lt, Ge, Ltu, Geu, Byte, Half}
+use Rattle.rv_decode.specs.Words.{Word, ByteUnsigned, HalfUnsigned, W8, W16, W32, Addi, Slti, Sltiu, Xori, Ori, Andi, Slli, Srli, Srai, Add}
+use Rattle.rv_decode.specs.Words.{Sub, Sll, Slt, Sltu, Xor, Srl, Sra, Or, And, Mul, Mulh, Mulhsu, Mulhu, Div, Divu, Rem, Remu}
 
 -- what the laws say of a word and its meaning: that it is the encoding holds of words alone, the rest of any number
 abbrev pub Encodes : ℕ → Insn → Type 0

@@ -8,13 +8,7 @@ use Rattle.rv_decode.specs.System.{csr_form, writable, read_only, by_register, b
 use Rattle.rv_decode.proofs.TableLaw.{RowsHold, GroupsHold, append_rows}
 use Rattle.rv_decode.proofs.ScalarLaw.{Encodes}
 use Rattle.rv_decode.proofs.Wholes.{below5, parts}
-use Rattle.rv_decode.specs.declared.instructions.Insn.TheVariants.{Scalar}
-use Rattle.rv_decode.specs.declared.instructions.ScalarInsn.TheVariants.{Ecall}
-use Rattle.rv_decode.specs.declared.instructions.CsrAction.{CsrAction}
-use Rattle.rv_decode.specs.declared.instructions.CsrAction.TheVariants.{Write, Set, Clear}
-use Rattle.rv_decode.specs.declared.instructions.CsrName.{CsrName}
-use Rattle.rv_decode.specs.declared.instructions.CsrName.TheVariants.{Vxsat, Vxrm, Vcsr, Vl, Vtype, Vlenb}
-use Rattle.rv_decode.specs.declared.instructions.CsrSource.{CsrSource}
+use Rattle.rv_decode.specs.Words.{CsrAction, CsrName, CsrSource, Scalar, Ecall, Write, Set, Clear, Vxsat, Vxrm, Vcsr, Vl, Vtype, Vlenb}
 
 ecall_is : (word : ℕ) → bits 0 7 word ≡ 0x73 → bits 12 3 word ≡ 0 → bits 7 5 word ≡ 0 → bits 15 17 word ≡ 0 → Encodes word (Scalar Ecall)
 unfolding encode bits

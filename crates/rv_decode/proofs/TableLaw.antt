@@ -4,7 +4,7 @@ use Rattle.std.proofs.lemmas.Bool.{eqb-true}
 use Rattle.std.specs.Option.{IfSome}
 use Rattle.rv_decode.specs.Bits.{bits}
 use Rattle.rv_decode.specs.Rows.{Field, Row, Group, Section, has_fields, meanings_by_rows, meanings_by_groups, meanings, first}
-use Rattle.rv_decode.specs.declared.instructions.Insn.{Insn}
+use Rattle.rv_decode.specs.Words.{Insn}
 
 abbrev pub HasFields : List Field → ℕ → Type 0
 HasFields [] word = Unit {0}

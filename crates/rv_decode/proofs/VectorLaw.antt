@@ -14,32 +14,11 @@ use Rattle.rv_decode.proofs.OperationLaw.{Spells, word_with_mask, word_with_vm, 
 use Rattle.rv_decode.proofs.ElementLaw.{low_opi_elements_hold, high_opi_elements_hold, opm_elements_hold}
 use Rattle.rv_decode.specs.ElementWords.{low_opi_elements, high_opi_elements, opm_elements}
 use Rattle.rv_decode.proofs.Wholes.{below, below5, whole_r}
-use Rattle.rv_decode.specs.declared.instructions.IntOp.{IntOp}
+use Rattle.rv_decode.specs.Words.{CarryOp, CarryOutOp, ClipOp, CompareOp, FixedOp, Fraction, IntOp, MultiplyAddOp, NarrowOp, Source, WideOp}
+use Rattle.rv_decode.specs.Words.{WidenMultiplyAddOp, WidenOp, Madd, Nmsub, Macc, Nmsac, Adc, Sbc, Madc, Msbc, Saddu, Sadd, Ssubu, Ssub}
+use Rattle.rv_decode.specs.Words.{Aaddu, Aadd, Asubu, Asub, Smul, Ssrl, Ssra, Maccu, Maccus, Maccsu}
 use Rattle.rv_decode.specs.declared.instructions.IntOp.TheVariants.{Add, Sub, Rsub, Minu, Min, Maxu, Max, And, Or, Xor, Sll, Srl, Sra, Mul, Mulh, Mulhu, Mulhsu, Divu, Div, Remu, Rem}
-use Rattle.rv_decode.specs.declared.instructions.MultiplyAddOp.{MultiplyAddOp}
-use Rattle.rv_decode.specs.declared.instructions.MultiplyAddOp.TheVariants.{Madd, Nmsub, Macc, Nmsac}
-use Rattle.rv_decode.specs.declared.instructions.CarryOp.{CarryOp}
-use Rattle.rv_decode.specs.declared.instructions.CarryOp.TheVariants.{Adc, Sbc}
-use Rattle.rv_decode.specs.declared.instructions.CarryOutOp.{CarryOutOp}
-use Rattle.rv_decode.specs.declared.instructions.CarryOutOp.TheVariants.{Madc, Msbc}
-use Rattle.rv_decode.specs.declared.instructions.CompareOp.{CompareOp}
 use Rattle.rv_decode.specs.declared.instructions.CompareOp.TheVariants.{Eq, Ne, Ltu, Lt, Leu, Le, Gtu, Gt}
-use Rattle.rv_decode.specs.declared.instructions.FixedOp.{FixedOp}
-use Rattle.rv_decode.specs.declared.instructions.FixedOp.TheVariants.{Saddu, Sadd, Ssubu, Ssub, Aaddu, Aadd, Asubu, Asub, Smul, Ssrl, Ssra}
-use Rattle.rv_decode.specs.declared.instructions.WidenOp.{WidenOp}
-use Rattle.rv_decode.specs.declared.instructions.WidenOp.TheVariants as widen_op
-use Rattle.rv_decode.specs.declared.instructions.WideOp.{WideOp}
-use Rattle.rv_decode.specs.declared.instructions.WideOp.TheVariants as wide_op
-use Rattle.rv_decode.specs.declared.instructions.WidenMultiplyAddOp.{WidenMultiplyAddOp}
-use Rattle.rv_decode.specs.declared.instructions.WidenMultiplyAddOp.TheVariants.{Maccu, Maccus, Maccsu}
-use Rattle.rv_decode.specs.declared.instructions.WidenMultiplyAddOp.TheVariants as widen_multiply_add_op
-use Rattle.rv_decode.specs.declared.instructions.NarrowOp.{NarrowOp}
-use Rattle.rv_decode.specs.declared.instructions.NarrowOp.TheVariants as narrow_op
-use Rattle.rv_decode.specs.declared.instructions.ClipOp.{ClipOp}
-use Rattle.rv_decode.specs.declared.instructions.ClipOp.TheVariants as clip_op
-use Rattle.rv_decode.specs.declared.instructions.Fraction.{Fraction}
-use Rattle.rv_decode.specs.declared.instructions.Fraction.TheVariants.{Half, Quarter}
-use Rattle.rv_decode.specs.declared.instructions.Source.TheVariants.{Vector}
 
 -- each shape of operands
 
@@ -115,7 +94,7 @@ extend_is : (word : ℕ) (signed : Bool) (of : Fraction) → Spells word code_of
 unfolding encode_arith
 extend_is word signed of s m = (
   (λ w. word_with_mask word code_of_extend (operand V word) s w ∙
-      ap (λ n. encode_v code_of_extend (bits 7 5 word) (vm_of (is_masked word)) (bits 20 5 word) (Vector n)) m.0),
+      ap (λ n. encode_v code_of_extend (bits 7 5 word) (vm_of (is_masked word)) (bits 20 5 word) (Source.Vector n)) m.0),
   (below5 7 word, below5 20 word),
 )
 
@@ -216,13 +195,13 @@ shift_operations_hold word = (
                   (
                     fixed_is word Ssra,
                     (
-                      narrow_is word narrow_op.Srl,
+                      narrow_is word NarrowOp.Srl,
                       (
-                        narrow_is word narrow_op.Sra,
+                        narrow_is word NarrowOp.Sra,
                         (
-                          clip_is word clip_op.Clipu,
+                          clip_is word ClipOp.Clipu,
                           (
-                            clip_is word clip_op.Clip,
+                            clip_is word ClipOp.Clip,
                             tt,
                           ),
                         ),
@@ -257,13 +236,13 @@ averaging_operations_hold word = (
 extend_operations_hold : (word : ℕ) → Every (OperationHolds word OPM) (select 0x12 V extend_rows)
 unfolding extend_rows
 extend_operations_hold word = (
-  (extend_is word false Quarter, tt),
+  (extend_is word false Fraction.Quarter, tt),
   (
-    (extend_is word true Quarter, tt),
+    (extend_is word true Fraction.Quarter, tt),
     (
-      (extend_is word false Half, tt),
+      (extend_is word false Fraction.Half, tt),
       (
-        (extend_is word true Half, tt),
+        (extend_is word true Fraction.Half, tt),
         tt,
       ),
     ),
@@ -311,31 +290,31 @@ multiply_operations_hold word = (
 
 widening_operations_hold : (word : ℕ) → Every (HoldsInAnyForm word OPM) widening_operations
 widening_operations_hold word = (
-  widen_is word widen_op.Addu,
+  widen_is word WidenOp.Addu,
   (
-    widen_is word widen_op.Add,
+    widen_is word WidenOp.Add,
     (
-      widen_is word widen_op.Subu,
+      widen_is word WidenOp.Subu,
       (
-        widen_is word widen_op.Sub,
+        widen_is word WidenOp.Sub,
         (
-          wide_is word wide_op.Addu,
+          wide_is word WideOp.Addu,
           (
-            wide_is word wide_op.Add,
+            wide_is word WideOp.Add,
             (
-              wide_is word wide_op.Subu,
+              wide_is word WideOp.Subu,
               (
-                wide_is word wide_op.Sub,
+                wide_is word WideOp.Sub,
                 (
-                  widen_is word widen_op.Mulu,
+                  widen_is word WidenOp.Mulu,
                   (
-                    widen_is word widen_op.Mulsu,
+                    widen_is word WidenOp.Mulsu,
                     (
-                      widen_is word widen_op.Mul,
+                      widen_is word WidenOp.Mul,
                       (
                         widen_multiply_add_is word Maccu,
                         (
-                          widen_multiply_add_is word widen_multiply_add_op.Macc,
+                          widen_multiply_add_is word WidenMultiplyAddOp.Macc,
                           (
                             widen_multiply_add_is word Maccus,
                             (

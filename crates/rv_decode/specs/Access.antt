@@ -4,16 +4,7 @@ use Rattle.std.specs.Prelude.{ℕ, Bool, true, false, List, [], ◌∷◌, ◌++
 use Rattle.rv_decode.specs.Bits.{rd_of, rs1_of, rs2_of}
 use Rattle.rv_decode.specs.Rows.{Field, Row, Group, f3, field, row, group}
 use Rattle.rv_decode.specs.Operations.{vm, is_masked}
-use Rattle.rv_decode.specs.declared.instructions.Insn.{Insn}
-use Rattle.rv_decode.specs.declared.instructions.Insn.TheVariants.{VMem}
-use Rattle.rv_decode.specs.declared.instructions.Place.{Place}
-use Rattle.rv_decode.specs.declared.instructions.Place.TheVariants.{Unit, Strided, Indexed, Mask, Whole}
-use Rattle.rv_decode.specs.declared.instructions.Count.{Count}
-use Rattle.rv_decode.specs.declared.instructions.Count.TheVariants.{One, Two, Four, Eight}
-use Rattle.rv_decode.specs.declared.instructions.Direction.{Direction}
-use Rattle.rv_decode.specs.declared.instructions.Direction.TheVariants.{Load, Store}
-use Rattle.rv_decode.specs.declared.instructions.Width.{Width}
-use Rattle.rv_decode.specs.declared.instructions.Width.TheVariants.{W8, W16, W32}
+use Rattle.rv_decode.specs.Words.{Count, Direction, Insn, Place, Width, One, Two, Four, Eight, W8, W16, W32}
 
 -- one less than the number of fields of a segment, or of whole registers
 abbrev pub nf : ℕ → Field
@@ -34,23 +25,23 @@ aligned width = field 7 width 0
 -- what an access means, by its place
 abbrev pub access : Direction → Place → ℕ → Insn
 access direction place word =
-    VMem (record { direction = direction; place = place; values = rd_of word; rs1 = rs1_of word })
+    Insn.VMem (record { direction = direction; place = place; values = rd_of word; rs1 = rs1_of word })
 
 abbrev pub unit : Direction → Width → ℕ → Insn
-unit direction width word = access direction (Unit width (is_masked word)) word
+unit direction width word = access direction (Place.Unit width (is_masked word)) word
 
 abbrev pub strided : Direction → Width → ℕ → Insn
-strided direction width word = access direction (Strided width (rs2_of word) (is_masked word)) word
+strided direction width word = access direction (Place.Strided width (rs2_of word) (is_masked word)) word
 
 abbrev pub indexed : Bool → Direction → Width → ℕ → Insn
 indexed ordered direction width word =
-    access direction (Indexed width (rs2_of word) ordered (is_masked word)) word
+    access direction (Place.Indexed width (rs2_of word) ordered (is_masked word)) word
 
 abbrev pub mask : Direction → ℕ → Insn
-mask direction word = access direction Mask word
+mask direction word = access direction Place.Mask word
 
 abbrev pub whole : Count → Direction → Width → ℕ → Insn
-whole count direction width word = access direction (Whole width count) word
+whole count direction width word = access direction (Place.Whole width count) word
 
 -- unit-stride, indexed in any order, strided, indexed in order
 unfoldable pub element_rows : Direction → Width → List Row
@@ -80,12 +71,12 @@ byte_rows direction = element_rows direction W8 ++ whole_rows direction W8 ++ ma
 
 -- the loads of width 16 and 32; there are no stores of whole registers of these widths
 unfoldable pub wide_load_rows : Width → List Row
-wide_load_rows width = element_rows Load width ++ whole_rows Load width
+wide_load_rows width = element_rows Direction.Load width ++ whole_rows Direction.Load width
 
 -- opcode 07
 unfoldable pub vector_load_groups : List Group
 vector_load_groups =
-    group (f3 0 ∷ []) (byte_rows Load) ∷
+    group (f3 0 ∷ []) (byte_rows Direction.Load) ∷
     group (f3 5 ∷ []) (wide_load_rows W16) ∷
     group (f3 6 ∷ []) (wide_load_rows W32) ∷
     []
@@ -93,7 +84,7 @@ vector_load_groups =
 -- opcode 27
 unfoldable pub vector_store_groups : List Group
 vector_store_groups =
-    group (f3 0 ∷ []) (byte_rows Store) ∷
-    group (f3 5 ∷ []) (element_rows Store W16) ∷
-    group (f3 6 ∷ []) (element_rows Store W32) ∷
+    group (f3 0 ∷ []) (byte_rows Direction.Store) ∷
+    group (f3 5 ∷ []) (element_rows Direction.Store W16) ∷
+    group (f3 6 ∷ []) (element_rows Direction.Store W32) ∷
     []

@@ -5,7 +5,7 @@ use Rattle.rv_decode.specs.Scalar.{lui_groups, auipc_groups, jal_groups, jalr_gr
 use Rattle.rv_decode.specs.System.{system_groups}
 use Rattle.rv_decode.specs.Vector.{vector_groups}
 use Rattle.rv_decode.specs.Access.{vector_load_groups, vector_store_groups}
-use Rattle.rv_decode.specs.declared.instructions.Insn.{Insn}
+use Rattle.rv_decode.specs.Words.{Insn}
 
 unfoldable pub table : List Section
 table =

@@ -4,92 +4,78 @@ use Rattle.std.specs.Prelude.{ℕ, Bool, true, false, List, [], ◌∷◌, ◌++
 use Rattle.rv_decode.specs.Bits.{bits, rd_of, rs1_of, rs2_of}
 use Rattle.rv_decode.specs.Rows.{Row, row}
 use Rattle.rv_decode.specs.Operations.{V, X, I, U, VXU, Operation, operation, only_form, select, vm, vs1, vs2, is_masked}
-use Rattle.rv_decode.specs.declared.instructions.Insn.{Insn}
-use Rattle.rv_decode.specs.declared.instructions.Insn.TheVariants.{VMask, VPerm, VReduce, VMove}
-use Rattle.rv_decode.specs.declared.instructions.VMask.TheVariants.{Logic, Count, First, SetFirst, Iota, Index}
-use Rattle.rv_decode.specs.declared.instructions.LogicOp.{LogicOp}
-use Rattle.rv_decode.specs.declared.instructions.LogicOp.TheVariants as logic_op
-use Rattle.rv_decode.specs.declared.instructions.FirstOp.{FirstOp}
-use Rattle.rv_decode.specs.declared.instructions.FirstOp.TheVariants.{Before, Only, Including}
-use Rattle.rv_decode.specs.declared.instructions.VPerm.TheVariants.{SlideUp, SlideDown, SlideOneUp, SlideOneDown, Gather, Gather16, Compress}
-use Rattle.rv_decode.specs.declared.instructions.Offset.{Offset}
-use Rattle.rv_decode.specs.declared.instructions.Offset.TheVariants.{Scalar, Immediate}
-use Rattle.rv_decode.specs.declared.instructions.VReduce.TheVariants.{Fold, WidenSum}
-use Rattle.rv_decode.specs.declared.instructions.FoldOp.{FoldOp}
-use Rattle.rv_decode.specs.declared.instructions.FoldOp.TheVariants as fold_op
-use Rattle.rv_decode.specs.declared.instructions.VMove.TheVariants.{ToScalar, FromScalar, Whole}
-use Rattle.rv_decode.specs.declared.instructions.Count.{Count as Registers}
-use Rattle.rv_decode.specs.declared.instructions.Count.TheVariants.{One, Two, Four, Eight}
-use Rattle.rv_decode.specs.declared.instructions.Source.{Source}
+use Rattle.rv_decode.specs.Words.{Count, FirstOp, FoldOp, Insn, LogicOp, Offset, Source, VMask, VMove, Logic, First, SetFirst}
+use Rattle.rv_decode.specs.Words.{Iota, Index, Before, Only, Including, SlideUp, SlideDown, SlideOneUp, SlideOneDown, Gather, Gather16}
+use Rattle.rv_decode.specs.Words.{Compress, Fold, WidenSum, ToScalar, FromScalar, One, Two, Four, Eight}
 
 -- masks
 
 abbrev pub logic : LogicOp → ℕ → Insn
-logic op word = VMask (Logic op (rd_of word) (rs2_of word) (rs1_of word))
+logic op word = Insn.VMask (Logic op (rd_of word) (rs2_of word) (rs1_of word))
 
 abbrev pub count : ℕ → Insn
-count word = VMask (Count (rd_of word) (rs2_of word) (is_masked word))
+count word = Insn.VMask (VMask.Count (rd_of word) (rs2_of word) (is_masked word))
 
 abbrev pub first : ℕ → Insn
-first word = VMask (First (rd_of word) (rs2_of word) (is_masked word))
+first word = Insn.VMask (First (rd_of word) (rs2_of word) (is_masked word))
 
 abbrev pub set_first : FirstOp → ℕ → Insn
-set_first op word = VMask (SetFirst op (rd_of word) (rs2_of word) (is_masked word))
+set_first op word = Insn.VMask (SetFirst op (rd_of word) (rs2_of word) (is_masked word))
 
 abbrev pub iota : ℕ → Insn
-iota word = VMask (Iota (rd_of word) (rs2_of word) (is_masked word))
+iota word = Insn.VMask (Iota (rd_of word) (rs2_of word) (is_masked word))
 
 abbrev pub index : ℕ → Insn
-index word = VMask (Index (rd_of word) (is_masked word))
+index word = Insn.VMask (Index (rd_of word) (is_masked word))
 
 -- permutations
 
 abbrev pub slide_up : Offset → ℕ → Insn
-slide_up offset word = VPerm (SlideUp (rd_of word) (rs2_of word) offset (is_masked word))
+slide_up offset word = Insn.VPerm (SlideUp (rd_of word) (rs2_of word) offset (is_masked word))
 
 abbrev pub slide_down : Offset → ℕ → Insn
-slide_down offset word = VPerm (SlideDown (rd_of word) (rs2_of word) offset (is_masked word))
+slide_down offset word = Insn.VPerm (SlideDown (rd_of word) (rs2_of word) offset (is_masked word))
 
 -- an offset in a register, and an unsigned immediate
 abbrev pub by_register : (Offset → ℕ → Insn) → ℕ → Insn
-by_register slide word = slide (Scalar (rs1_of word)) word
+by_register slide word = slide (Offset.Scalar (rs1_of word)) word
 
 abbrev pub by_immediate : (Offset → ℕ → Insn) → ℕ → Insn
-by_immediate slide word = slide (Immediate (bits 15 5 word)) word
+by_immediate slide word = slide (Offset.Immediate (bits 15 5 word)) word
 
 abbrev pub slide_one_up : ℕ → Insn
-slide_one_up word = VPerm (SlideOneUp (rd_of word) (rs2_of word) (rs1_of word) (is_masked word))
+slide_one_up word = Insn.VPerm (SlideOneUp (rd_of word) (rs2_of word) (rs1_of word) (is_masked word))
 
 abbrev pub slide_one_down : ℕ → Insn
-slide_one_down word = VPerm (SlideOneDown (rd_of word) (rs2_of word) (rs1_of word) (is_masked word))
+slide_one_down word = Insn.VPerm (SlideOneDown (rd_of word) (rs2_of word) (rs1_of word) (is_masked word))
 
 abbrev pub gather : Source → ℕ → Insn
-gather b word = VPerm (Gather (rd_of word) (rs2_of word) b (is_masked word))
+gather b word = Insn.VPerm (Gather (rd_of word) (rs2_of word) b (is_masked word))
 
 abbrev pub gather16 : ℕ → Insn
-gather16 word = VPerm (Gather16 (rd_of word) (rs2_of word) (rs1_of word) (is_masked word))
+gather16 word = Insn.VPerm (Gather16 (rd_of word) (rs2_of word) (rs1_of word) (is_masked word))
 
 abbrev pub compress : ℕ → Insn
-compress word = VPerm (Compress (rd_of word) (rs2_of word) (rs1_of word))
+compress word = Insn.VPerm (Compress (rd_of word) (rs2_of word) (rs1_of word))
 
 -- reductions
 
 abbrev pub fold : FoldOp → ℕ → Insn
-fold op word = VReduce (Fold op (rd_of word) (rs2_of word) (rs1_of word) (is_masked word))
+fold op word = Insn.VReduce (Fold op (rd_of word) (rs2_of word) (rs1_of word) (is_masked word))
 
 abbrev pub widen_sum : Bool → ℕ → Insn
-widen_sum signed word = VReduce (WidenSum signed (rd_of word) (rs2_of word) (rs1_of word) (is_masked word))
+widen_sum signed word = Insn.VReduce (WidenSum signed (rd_of word) (rs2_of word) (rs1_of word) (is_masked word))
 
 -- moves
 
 abbrev pub to_scalar : ℕ → Insn
-to_scalar word = VMove (ToScalar (rd_of word) (rs2_of word))
+to_scalar word = Insn.VMove (ToScalar (rd_of word) (rs2_of word))
 
 abbrev pub from_scalar : ℕ → Insn
-from_scalar word = VMove (FromScalar (rd_of word) (rs1_of word))
+from_scalar word = Insn.VMove (FromScalar (rd_of word) (rs1_of word))
 
-abbrev pub whole : Registers → ℕ → Insn
-whole n word = VMove (Whole n (rd_of word) (rs2_of word))
+abbrev pub whole : Count → ℕ → Insn
+whole n word = Insn.VMove (VMove.Whole n (rd_of word) (rs2_of word))
 
 -- VWXUNARY0: vmv.x.s, vcpop and vfirst, by what stands in the place of vs1
 unfoldable pub to_scalar_rows : List Row
@@ -141,14 +127,14 @@ high_opi_elements = select 0x27 I whole_rows ++ widen_sum_operations
 
 abbrev pub fold_operations : List Operation
 fold_operations =
-    only_form 0x00 V [] (fold fold_op.Sum) ∷
-    only_form 0x01 V [] (fold fold_op.And) ∷
-    only_form 0x02 V [] (fold fold_op.Or) ∷
-    only_form 0x03 V [] (fold fold_op.Xor) ∷
-    only_form 0x04 V [] (fold fold_op.Minu) ∷
-    only_form 0x05 V [] (fold fold_op.Min) ∷
-    only_form 0x06 V [] (fold fold_op.Maxu) ∷
-    only_form 0x07 V [] (fold fold_op.Max) ∷
+    only_form 0x00 V [] (fold FoldOp.Sum) ∷
+    only_form 0x01 V [] (fold FoldOp.And) ∷
+    only_form 0x02 V [] (fold FoldOp.Or) ∷
+    only_form 0x03 V [] (fold FoldOp.Xor) ∷
+    only_form 0x04 V [] (fold FoldOp.Minu) ∷
+    only_form 0x05 V [] (fold FoldOp.Min) ∷
+    only_form 0x06 V [] (fold FoldOp.Maxu) ∷
+    only_form 0x07 V [] (fold FoldOp.Max) ∷
     []
 
 abbrev pub element_operations : List Operation
@@ -161,14 +147,14 @@ element_operations =
 
 abbrev pub logic_operations : List Operation
 logic_operations =
-    only_form 0x18 V (vm 1 ∷ []) (logic logic_op.Andn) ∷
-    only_form 0x19 V (vm 1 ∷ []) (logic logic_op.And) ∷
-    only_form 0x1a V (vm 1 ∷ []) (logic logic_op.Or) ∷
-    only_form 0x1b V (vm 1 ∷ []) (logic logic_op.Xor) ∷
-    only_form 0x1c V (vm 1 ∷ []) (logic logic_op.Orn) ∷
-    only_form 0x1d V (vm 1 ∷ []) (logic logic_op.Nand) ∷
-    only_form 0x1e V (vm 1 ∷ []) (logic logic_op.Nor) ∷
-    only_form 0x1f V (vm 1 ∷ []) (logic logic_op.Xnor) ∷
+    only_form 0x18 V (vm 1 ∷ []) (logic LogicOp.Andn) ∷
+    only_form 0x19 V (vm 1 ∷ []) (logic LogicOp.And) ∷
+    only_form 0x1a V (vm 1 ∷ []) (logic LogicOp.Or) ∷
+    only_form 0x1b V (vm 1 ∷ []) (logic LogicOp.Xor) ∷
+    only_form 0x1c V (vm 1 ∷ []) (logic LogicOp.Orn) ∷
+    only_form 0x1d V (vm 1 ∷ []) (logic LogicOp.Nand) ∷
+    only_form 0x1e V (vm 1 ∷ []) (logic LogicOp.Nor) ∷
+    only_form 0x1f V (vm 1 ∷ []) (logic LogicOp.Xnor) ∷
     []
 
 abbrev pub mask_operations : List Operation

@@ -2,19 +2,11 @@
 use Rattle.std.specs.Prelude.{◌≡◌, ℕ, ◌+◌, ◌*◌, ◌%◌, ◌^◌, Bool, false, true}
 use Rattle.rv_decode.specs.Encode.{low_fields, IsRegister}
 use Rattle.rv_decode.specs.EncodeVector.{vm_of}
-use Rattle.rv_decode.specs.declared.instructions.VMem.{VMem}
-use Rattle.rv_decode.specs.declared.instructions.Place.{Place}
-use Rattle.rv_decode.specs.declared.instructions.Place.TheVariants as place
-use Rattle.rv_decode.specs.declared.instructions.Count.{Count}
-use Rattle.rv_decode.specs.declared.instructions.Count.TheVariants.{One, Two, Four, Eight}
-use Rattle.rv_decode.specs.declared.instructions.Direction.{Direction}
-use Rattle.rv_decode.specs.declared.instructions.Direction.TheVariants.{Load, Store}
-use Rattle.rv_decode.specs.declared.instructions.Width.{Width}
-use Rattle.rv_decode.specs.declared.instructions.Width.TheVariants.{W8, W16, W32}
+use Rattle.rv_decode.specs.Words.{Count, Direction, Place, VMem, Width, One, Two, Four, Eight, W8, W16, W32}
 
 abbrev pub opcode_of_direction : Direction → ℕ
-opcode_of_direction Load = 0x07
-opcode_of_direction Store = 0x27
+opcode_of_direction Direction.Load = 0x07
+opcode_of_direction Direction.Store = 0x27
 
 -- the width field of an access
 abbrev pub f3_of_width : Width → ℕ
@@ -48,26 +40,26 @@ encode_m nf mop vm kind width access =
     low_fields (opcode_of_direction access.direction) access.values (f3_of_width width) access.rs1
 
 abbrev pub encode_place : Place → VMem → ℕ
-encode_place (place.Unit width masked) access = encode_m 0 0 (vm_of masked) 0 width access
-encode_place (place.Strided width rs2 masked) access = encode_m 0 2 (vm_of masked) rs2 width access
-encode_place (place.Indexed width vs2 ordered masked) access = encode_m 0 (mop_of_order ordered) (vm_of masked) vs2 width access
-encode_place place.Mask access = encode_m 0 0 1 0x0b W8 access
-encode_place (place.Whole width count) access = encode_m (nf_of_count count) 0 1 8 width access
+encode_place (Place.Unit width masked) access = encode_m 0 0 (vm_of masked) 0 width access
+encode_place (Place.Strided width rs2 masked) access = encode_m 0 2 (vm_of masked) rs2 width access
+encode_place (Place.Indexed width vs2 ordered masked) access = encode_m 0 (mop_of_order ordered) (vm_of masked) vs2 width access
+encode_place Place.Mask access = encode_m 0 0 1 0x0b W8 access
+encode_place (Place.Whole width count) access = encode_m (nf_of_count count) 0 1 8 width access
 
 unfoldable pub encode_access : VMem → ℕ
 encode_access access = encode_place access.place access
 
 -- whole registers begin at a multiple of their number, and are stored as bytes
 abbrev pub WholeFits : Direction → Width → Type 0
-WholeFits Load width = Unit {0}
-WholeFits Store width = width ≡ W8
+WholeFits Direction.Load width = Unit {0}
+WholeFits Direction.Store width = width ≡ W8
 
 abbrev pub PlaceFits : Place → VMem → Type 0
-PlaceFits (place.Unit width masked) access = Unit {0}
-PlaceFits (place.Strided width rs2 masked) access = IsRegister rs2
-PlaceFits (place.Indexed width vs2 ordered masked) access = IsRegister vs2
-PlaceFits place.Mask access = Unit {0}
-PlaceFits (place.Whole width count) access =
+PlaceFits (Place.Unit width masked) access = Unit {0}
+PlaceFits (Place.Strided width rs2 masked) access = IsRegister rs2
+PlaceFits (Place.Indexed width vs2 ordered masked) access = IsRegister vs2
+PlaceFits Place.Mask access = Unit {0}
+PlaceFits (Place.Whole width count) access =
     (access.values % number_of_count count ≡ 0) × WholeFits access.direction width
 
 abbrev pub AccessFits : VMem → Type 0

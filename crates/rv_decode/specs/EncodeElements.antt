@@ -5,34 +5,19 @@ use Rattle.rv_decode.specs.Encode.{IsRegister}
 use Rattle.rv_decode.specs.Operations.{VXU, XU, only_v, only_x, only_i}
 use Rattle.rv_decode.specs.EncodeVector.{OPI, OPM, Code, code, vm_of, encode_v, OperandFits}
 use Rattle.rv_decode.specs.EncodeAccess.{nf_of_count}
-use Rattle.rv_decode.specs.declared.instructions.VMask.{VMask}
-use Rattle.rv_decode.specs.declared.instructions.VMask.TheVariants.{Logic, Count, First, SetFirst, Iota, Index}
-use Rattle.rv_decode.specs.declared.instructions.LogicOp.{LogicOp}
-use Rattle.rv_decode.specs.declared.instructions.LogicOp.TheVariants as logic
-use Rattle.rv_decode.specs.declared.instructions.FirstOp.{FirstOp}
-use Rattle.rv_decode.specs.declared.instructions.FirstOp.TheVariants.{Before, Only, Including}
-use Rattle.rv_decode.specs.declared.instructions.VPerm.{VPerm}
-use Rattle.rv_decode.specs.declared.instructions.VPerm.TheVariants.{SlideUp, SlideDown, SlideOneUp, SlideOneDown, Gather, Gather16, Compress}
-use Rattle.rv_decode.specs.declared.instructions.Offset.{Offset}
-use Rattle.rv_decode.specs.declared.instructions.Offset.TheVariants as offset
-use Rattle.rv_decode.specs.declared.instructions.VReduce.{VReduce}
-use Rattle.rv_decode.specs.declared.instructions.VReduce.TheVariants.{Fold, WidenSum}
-use Rattle.rv_decode.specs.declared.instructions.FoldOp.{FoldOp}
-use Rattle.rv_decode.specs.declared.instructions.FoldOp.TheVariants as fold
-use Rattle.rv_decode.specs.declared.instructions.VMove.{VMove}
-use Rattle.rv_decode.specs.declared.instructions.VMove.TheVariants.{ToScalar, FromScalar, Whole}
-use Rattle.rv_decode.specs.declared.instructions.Source.{Source}
-use Rattle.rv_decode.specs.declared.instructions.Source.TheVariants.{Vector, Scalar, Immediate}
+use Rattle.rv_decode.specs.Words.{FirstOp, FoldOp, LogicOp, Offset, Source, VMask, VMove, VPerm, VReduce, Logic, First, SetFirst, Iota}
+use Rattle.rv_decode.specs.Words.{Index, Before, Only, Including, SlideUp, SlideDown, SlideOneUp, SlideOneDown, Gather, Gather16, Compress}
+use Rattle.rv_decode.specs.Words.{Fold, WidenSum, ToScalar, FromScalar}
 
 abbrev pub code_of_logic : LogicOp → Code
-code_of_logic logic.Andn = code OPM 0x18 only_v
-code_of_logic logic.And = code OPM 0x19 only_v
-code_of_logic logic.Or = code OPM 0x1a only_v
-code_of_logic logic.Xor = code OPM 0x1b only_v
-code_of_logic logic.Orn = code OPM 0x1c only_v
-code_of_logic logic.Nand = code OPM 0x1d only_v
-code_of_logic logic.Nor = code OPM 0x1e only_v
-code_of_logic logic.Xnor = code OPM 0x1f only_v
+code_of_logic LogicOp.Andn = code OPM 0x18 only_v
+code_of_logic LogicOp.And = code OPM 0x19 only_v
+code_of_logic LogicOp.Or = code OPM 0x1a only_v
+code_of_logic LogicOp.Xor = code OPM 0x1b only_v
+code_of_logic LogicOp.Orn = code OPM 0x1c only_v
+code_of_logic LogicOp.Nand = code OPM 0x1d only_v
+code_of_logic LogicOp.Nor = code OPM 0x1e only_v
+code_of_logic LogicOp.Xnor = code OPM 0x1f only_v
 
 -- VWXUNARY0: vmv.x.s, vcpop and vfirst, by what stands in the place of vs1; VRXUNARY0: vmv.s.x
 abbrev pub code_of_to_scalar : Code
@@ -51,16 +36,16 @@ selector_of_first Only = 2
 selector_of_first Including = 3
 
 unfoldable pub encode_mask : VMask → ℕ
-encode_mask (Logic op vd vs2 vs1) = encode_v (code_of_logic op) vd 1 vs2 (Vector vs1)
-encode_mask (Count rd vs2 masked) = encode_v code_of_to_scalar rd (vm_of masked) vs2 (Vector 0x10)
-encode_mask (First rd vs2 masked) = encode_v code_of_to_scalar rd (vm_of masked) vs2 (Vector 0x11)
-encode_mask (SetFirst op vd vs2 masked) = encode_v code_of_set_mask vd (vm_of masked) vs2 (Vector (selector_of_first op))
-encode_mask (Iota vd vs2 masked) = encode_v code_of_set_mask vd (vm_of masked) vs2 (Vector 0x10)
-encode_mask (Index vd masked) = encode_v code_of_set_mask vd (vm_of masked) 0 (Vector 0x11)
+encode_mask (Logic op vd vs2 vs1) = encode_v (code_of_logic op) vd 1 vs2 (Source.Vector vs1)
+encode_mask (VMask.Count rd vs2 masked) = encode_v code_of_to_scalar rd (vm_of masked) vs2 (Source.Vector 0x10)
+encode_mask (First rd vs2 masked) = encode_v code_of_to_scalar rd (vm_of masked) vs2 (Source.Vector 0x11)
+encode_mask (SetFirst op vd vs2 masked) = encode_v code_of_set_mask vd (vm_of masked) vs2 (Source.Vector (selector_of_first op))
+encode_mask (Iota vd vs2 masked) = encode_v code_of_set_mask vd (vm_of masked) vs2 (Source.Vector 0x10)
+encode_mask (Index vd masked) = encode_v code_of_set_mask vd (vm_of masked) 0 (Source.Vector 0x11)
 
 abbrev pub MaskFits : VMask → Type 0
 MaskFits (Logic op vd vs2 vs1) = IsRegister vd × IsRegister vs2 × IsRegister vs1
-MaskFits (Count rd vs2 masked) = IsRegister rd × IsRegister vs2
+MaskFits (VMask.Count rd vs2 masked) = IsRegister rd × IsRegister vs2
 MaskFits (First rd vs2 masked) = IsRegister rd × IsRegister vs2
 MaskFits (SetFirst op vd vs2 masked) = IsRegister vd × IsRegister vs2
 MaskFits (Iota vd vs2 masked) = IsRegister vd × IsRegister vs2
@@ -89,21 +74,21 @@ code_of_compress = code OPM 0x17 only_v
 
 -- the offset of a slide stands where second operands do
 abbrev pub source_of : Offset → Source
-source_of (offset.Scalar rs1) = Scalar rs1
-source_of (offset.Immediate n) = Immediate (pos n)
+source_of (Offset.Scalar rs1) = Source.Scalar rs1
+source_of (Offset.Immediate n) = Source.Immediate (pos n)
 
 abbrev pub OffsetFits : Offset → Type 0
-OffsetFits (offset.Scalar rs1) = IsRegister rs1
-OffsetFits (offset.Immediate n) = n < 32
+OffsetFits (Offset.Scalar rs1) = IsRegister rs1
+OffsetFits (Offset.Immediate n) = n < 32
 
 unfoldable pub encode_perm : VPerm → ℕ
 encode_perm (SlideUp vd vs2 by masked) = encode_v code_of_slide_up vd (vm_of masked) vs2 (source_of by)
 encode_perm (SlideDown vd vs2 by masked) = encode_v code_of_slide_down vd (vm_of masked) vs2 (source_of by)
-encode_perm (SlideOneUp vd vs2 rs1 masked) = encode_v code_of_slide_one_up vd (vm_of masked) vs2 (Scalar rs1)
-encode_perm (SlideOneDown vd vs2 rs1 masked) = encode_v code_of_slide_one_down vd (vm_of masked) vs2 (Scalar rs1)
+encode_perm (SlideOneUp vd vs2 rs1 masked) = encode_v code_of_slide_one_up vd (vm_of masked) vs2 (Source.Scalar rs1)
+encode_perm (SlideOneDown vd vs2 rs1 masked) = encode_v code_of_slide_one_down vd (vm_of masked) vs2 (Source.Scalar rs1)
 encode_perm (Gather vd vs2 b masked) = encode_v code_of_gather vd (vm_of masked) vs2 b
-encode_perm (Gather16 vd vs2 vs1 masked) = encode_v code_of_gather16 vd (vm_of masked) vs2 (Vector vs1)
-encode_perm (Compress vd vs2 vs1) = encode_v code_of_compress vd 1 vs2 (Vector vs1)
+encode_perm (Gather16 vd vs2 vs1 masked) = encode_v code_of_gather16 vd (vm_of masked) vs2 (Source.Vector vs1)
+encode_perm (Compress vd vs2 vs1) = encode_v code_of_compress vd 1 vs2 (Source.Vector vs1)
 
 abbrev pub PermFits : VPerm → Type 0
 PermFits (SlideUp vd vs2 by masked) = IsRegister vd × IsRegister vs2 × OffsetFits by
@@ -115,22 +100,22 @@ PermFits (Gather16 vd vs2 vs1 masked) = IsRegister vd × IsRegister vs2 × IsReg
 PermFits (Compress vd vs2 vs1) = IsRegister vd × IsRegister vs2 × IsRegister vs1
 
 abbrev pub code_of_fold : FoldOp → Code
-code_of_fold fold.Sum = code OPM 0x00 only_v
-code_of_fold fold.And = code OPM 0x01 only_v
-code_of_fold fold.Or = code OPM 0x02 only_v
-code_of_fold fold.Xor = code OPM 0x03 only_v
-code_of_fold fold.Minu = code OPM 0x04 only_v
-code_of_fold fold.Min = code OPM 0x05 only_v
-code_of_fold fold.Maxu = code OPM 0x06 only_v
-code_of_fold fold.Max = code OPM 0x07 only_v
+code_of_fold FoldOp.Sum = code OPM 0x00 only_v
+code_of_fold FoldOp.And = code OPM 0x01 only_v
+code_of_fold FoldOp.Or = code OPM 0x02 only_v
+code_of_fold FoldOp.Xor = code OPM 0x03 only_v
+code_of_fold FoldOp.Minu = code OPM 0x04 only_v
+code_of_fold FoldOp.Min = code OPM 0x05 only_v
+code_of_fold FoldOp.Maxu = code OPM 0x06 only_v
+code_of_fold FoldOp.Max = code OPM 0x07 only_v
 
 abbrev pub code_of_widen_sum : Bool → Code
 code_of_widen_sum false = code OPI 0x30 only_v
 code_of_widen_sum true = code OPI 0x31 only_v
 
 unfoldable pub encode_reduce : VReduce → ℕ
-encode_reduce (Fold op vd vs2 vs1 masked) = encode_v (code_of_fold op) vd (vm_of masked) vs2 (Vector vs1)
-encode_reduce (WidenSum signed vd vs2 vs1 masked) = encode_v (code_of_widen_sum signed) vd (vm_of masked) vs2 (Vector vs1)
+encode_reduce (Fold op vd vs2 vs1 masked) = encode_v (code_of_fold op) vd (vm_of masked) vs2 (Source.Vector vs1)
+encode_reduce (WidenSum signed vd vs2 vs1 masked) = encode_v (code_of_widen_sum signed) vd (vm_of masked) vs2 (Source.Vector vs1)
 
 abbrev pub ReduceFits : VReduce → Type 0
 ReduceFits (Fold op vd vs2 vs1 masked) = IsRegister vd × IsRegister vs2 × IsRegister vs1
@@ -141,11 +126,11 @@ abbrev pub code_of_whole_move : Code
 code_of_whole_move = code OPI 0x27 only_i
 
 unfoldable pub encode_move : VMove → ℕ
-encode_move (ToScalar rd vs2) = encode_v code_of_to_scalar rd 1 vs2 (Vector 0)
-encode_move (FromScalar vd rs1) = encode_v code_of_from_scalar vd 1 0 (Scalar rs1)
-encode_move (Whole count vd vs2) = encode_v code_of_whole_move vd 1 vs2 (Immediate (pos (nf_of_count count)))
+encode_move (ToScalar rd vs2) = encode_v code_of_to_scalar rd 1 vs2 (Source.Vector 0)
+encode_move (FromScalar vd rs1) = encode_v code_of_from_scalar vd 1 0 (Source.Scalar rs1)
+encode_move (VMove.Whole count vd vs2) = encode_v code_of_whole_move vd 1 vs2 (Source.Immediate (pos (nf_of_count count)))
 
 abbrev pub MoveFits : VMove → Type 0
 MoveFits (ToScalar rd vs2) = IsRegister rd × IsRegister vs2
 MoveFits (FromScalar vd rs1) = IsRegister vd × IsRegister rs1
-MoveFits (Whole count vd vs2) = IsRegister vd × IsRegister vs2
+MoveFits (VMove.Whole count vd vs2) = IsRegister vd × IsRegister vs2

@@ -1,13 +1,7 @@
 -- The word of an instruction on CSRs, as the chapter "Zicsr" lays it out: csr, rs1 or an immediate, f3, rd, opcode.
 use Rattle.std.specs.Prelude.{◌≡◌, ℕ, ◌+◌, ◌*◌, ◌/◌, ◌^◌, ◌<◌, ◌==◌, Bool, true, false, ◌&&◌, not}
 use Rattle.rv_decode.specs.Encode.{low_fields, IsRegister}
-use Rattle.rv_decode.specs.declared.instructions.CsrInsn.{CsrInsn}
-use Rattle.rv_decode.specs.declared.instructions.CsrAction.{CsrAction}
-use Rattle.rv_decode.specs.declared.instructions.CsrAction.TheVariants.{Write, Set, Clear}
-use Rattle.rv_decode.specs.declared.instructions.CsrName.{CsrName}
-use Rattle.rv_decode.specs.declared.instructions.CsrName.TheVariants.{Vxsat, Vxrm, Vcsr, Vl, Vtype, Vlenb}
-use Rattle.rv_decode.specs.declared.instructions.CsrSource.{CsrSource}
-use Rattle.rv_decode.specs.declared.instructions.CsrSource.TheVariants.{Register, Immediate}
+use Rattle.rv_decode.specs.Words.{CsrAction, CsrInsn, CsrName, CsrSource, Write, Set, Clear, Vxsat, Vxrm, Vcsr, Vl, Vtype, Vlenb}
 
 abbrev pub number_of_csr : CsrName → ℕ
 number_of_csr Vxsat = 0x009
@@ -24,13 +18,13 @@ f3_of_action Set = 2
 f3_of_action Clear = 3
 
 abbrev pub f3_of_source : CsrSource → ℕ
-f3_of_source (Register rs1) = 0
-f3_of_source (Immediate imm) = 4
+f3_of_source (CsrSource.Register rs1) = 0
+f3_of_source (CsrSource.Immediate imm) = 4
 
 -- what stands in bits 19:15
 abbrev pub number_of_source : CsrSource → ℕ
-number_of_source (Register rs1) = rs1
-number_of_source (Immediate imm) = imm
+number_of_source (CsrSource.Register rs1) = rs1
+number_of_source (CsrSource.Immediate imm) = imm
 
 unfoldable pub encode_csr : CsrInsn → ℕ
 encode_csr insn =

@@ -4,37 +4,12 @@ use Rattle.std.specs.Prelude.{◌≡◌, ◌⊎◌, ℕ, ◌+◌, ◌*◌, ◌^�
 use Rattle.std.specs.List.{list_any}
 use Rattle.rv_decode.specs.Encode.{modulo, low_fields, encode_r, IsRegister, IsSigned}
 use Rattle.rv_decode.specs.Operations.{Form, V, X, I, U, VXI, VXU, VX, XI, only_v, only_x, vectors, scalars}
-use Rattle.rv_decode.specs.declared.instructions.VSet.{VSet}
-use Rattle.rv_decode.specs.declared.instructions.VSet.TheVariants.{Vsetvli, Vsetivli, Vsetvl}
-use Rattle.rv_decode.specs.declared.instructions.VArith.{VArith}
-use Rattle.rv_decode.specs.declared.instructions.VArith.TheVariants.{Int, MultiplyAdd, Carry, CarryOut, Merge, Copy, Compare, Fixed, Widen, Wide, WidenMultiplyAdd, Narrow, Clip, Extend}
-use Rattle.rv_decode.specs.declared.instructions.IntOp.{IntOp}
+use Rattle.rv_decode.specs.Words.{CarryOp, CarryOutOp, ClipOp, CompareOp, FixedOp, Fraction, IntOp, MultiplyAddOp, NarrowOp, Source, VArith}
+use Rattle.rv_decode.specs.Words.{VSet, WideOp, WidenMultiplyAddOp, WidenOp, Vsetvli, Vsetivli, Vsetvl, Int, MultiplyAdd, Carry, CarryOut}
+use Rattle.rv_decode.specs.Words.{Merge, Copy, Compare, Fixed, Widen, Wide, WidenMultiplyAdd, Narrow, Clip, Extend, Madd, Nmsub, Macc}
+use Rattle.rv_decode.specs.Words.{Nmsac, Adc, Sbc, Madc, Msbc, Maccu, Maccus, Maccsu}
 use Rattle.rv_decode.specs.declared.instructions.IntOp.TheVariants.{Add, Sub, Rsub, Minu, Min, Maxu, Max, And, Or, Xor, Sll, Srl, Sra, Mul, Mulh, Mulhu, Mulhsu, Divu, Div, Remu, Rem}
-use Rattle.rv_decode.specs.declared.instructions.MultiplyAddOp.{MultiplyAddOp}
-use Rattle.rv_decode.specs.declared.instructions.MultiplyAddOp.TheVariants.{Madd, Nmsub, Macc, Nmsac}
-use Rattle.rv_decode.specs.declared.instructions.CarryOp.{CarryOp}
-use Rattle.rv_decode.specs.declared.instructions.CarryOp.TheVariants.{Adc, Sbc}
-use Rattle.rv_decode.specs.declared.instructions.CarryOutOp.{CarryOutOp}
-use Rattle.rv_decode.specs.declared.instructions.CarryOutOp.TheVariants.{Madc, Msbc}
-use Rattle.rv_decode.specs.declared.instructions.CompareOp.{CompareOp}
 use Rattle.rv_decode.specs.declared.instructions.CompareOp.TheVariants.{Eq, Ne, Ltu, Lt, Leu, Le, Gtu, Gt}
-use Rattle.rv_decode.specs.declared.instructions.FixedOp.{FixedOp}
-use Rattle.rv_decode.specs.declared.instructions.FixedOp.TheVariants as fixed
-use Rattle.rv_decode.specs.declared.instructions.WidenOp.{WidenOp}
-use Rattle.rv_decode.specs.declared.instructions.WidenOp.TheVariants as widen
-use Rattle.rv_decode.specs.declared.instructions.WideOp.{WideOp}
-use Rattle.rv_decode.specs.declared.instructions.WideOp.TheVariants as wide
-use Rattle.rv_decode.specs.declared.instructions.WidenMultiplyAddOp.{WidenMultiplyAddOp}
-use Rattle.rv_decode.specs.declared.instructions.WidenMultiplyAddOp.TheVariants.{Maccu, Maccus, Maccsu}
-use Rattle.rv_decode.specs.declared.instructions.WidenMultiplyAddOp.TheVariants as widen_multiply_add
-use Rattle.rv_decode.specs.declared.instructions.NarrowOp.{NarrowOp}
-use Rattle.rv_decode.specs.declared.instructions.NarrowOp.TheVariants as narrow
-use Rattle.rv_decode.specs.declared.instructions.ClipOp.{ClipOp}
-use Rattle.rv_decode.specs.declared.instructions.ClipOp.TheVariants as clip
-use Rattle.rv_decode.specs.declared.instructions.Fraction.{Fraction}
-use Rattle.rv_decode.specs.declared.instructions.Fraction.TheVariants.{Half, Quarter}
-use Rattle.rv_decode.specs.declared.instructions.Source.{Source}
-use Rattle.rv_decode.specs.declared.instructions.Source.TheVariants.{Vector, Scalar, Immediate}
 
 -- OPIVV, OPIVX and OPIVI, or OPMVV and OPMVX
 pub data Category : Type 0 where
@@ -102,71 +77,71 @@ code_of_compare Gtu = code OPI 0x1e XI
 code_of_compare Gt = code OPI 0x1f XI
 
 abbrev pub code_of_fixed : FixedOp → Code
-code_of_fixed fixed.Saddu = code OPI 0x20 VXI
-code_of_fixed fixed.Sadd = code OPI 0x21 VXI
-code_of_fixed fixed.Ssubu = code OPI 0x22 VX
-code_of_fixed fixed.Ssub = code OPI 0x23 VX
-code_of_fixed fixed.Smul = code OPI 0x27 VX
-code_of_fixed fixed.Ssrl = code OPI 0x2a VXU
-code_of_fixed fixed.Ssra = code OPI 0x2b VXU
-code_of_fixed fixed.Aaddu = code OPM 0x08 VX
-code_of_fixed fixed.Aadd = code OPM 0x09 VX
-code_of_fixed fixed.Asubu = code OPM 0x0a VX
-code_of_fixed fixed.Asub = code OPM 0x0b VX
+code_of_fixed FixedOp.Saddu = code OPI 0x20 VXI
+code_of_fixed FixedOp.Sadd = code OPI 0x21 VXI
+code_of_fixed FixedOp.Ssubu = code OPI 0x22 VX
+code_of_fixed FixedOp.Ssub = code OPI 0x23 VX
+code_of_fixed FixedOp.Smul = code OPI 0x27 VX
+code_of_fixed FixedOp.Ssrl = code OPI 0x2a VXU
+code_of_fixed FixedOp.Ssra = code OPI 0x2b VXU
+code_of_fixed FixedOp.Aaddu = code OPM 0x08 VX
+code_of_fixed FixedOp.Aadd = code OPM 0x09 VX
+code_of_fixed FixedOp.Asubu = code OPM 0x0a VX
+code_of_fixed FixedOp.Asub = code OPM 0x0b VX
 
 abbrev pub code_of_widen : WidenOp → Code
-code_of_widen widen.Addu = code OPM 0x30 VX
-code_of_widen widen.Add = code OPM 0x31 VX
-code_of_widen widen.Subu = code OPM 0x32 VX
-code_of_widen widen.Sub = code OPM 0x33 VX
-code_of_widen widen.Mulu = code OPM 0x38 VX
-code_of_widen widen.Mulsu = code OPM 0x3a VX
-code_of_widen widen.Mul = code OPM 0x3b VX
+code_of_widen WidenOp.Addu = code OPM 0x30 VX
+code_of_widen WidenOp.Add = code OPM 0x31 VX
+code_of_widen WidenOp.Subu = code OPM 0x32 VX
+code_of_widen WidenOp.Sub = code OPM 0x33 VX
+code_of_widen WidenOp.Mulu = code OPM 0x38 VX
+code_of_widen WidenOp.Mulsu = code OPM 0x3a VX
+code_of_widen WidenOp.Mul = code OPM 0x3b VX
 
 abbrev pub code_of_wide : WideOp → Code
-code_of_wide wide.Addu = code OPM 0x34 VX
-code_of_wide wide.Add = code OPM 0x35 VX
-code_of_wide wide.Subu = code OPM 0x36 VX
-code_of_wide wide.Sub = code OPM 0x37 VX
+code_of_wide WideOp.Addu = code OPM 0x34 VX
+code_of_wide WideOp.Add = code OPM 0x35 VX
+code_of_wide WideOp.Subu = code OPM 0x36 VX
+code_of_wide WideOp.Sub = code OPM 0x37 VX
 
 abbrev pub code_of_widen_multiply_add : WidenMultiplyAddOp → Code
 code_of_widen_multiply_add Maccu = code OPM 0x3c VX
-code_of_widen_multiply_add widen_multiply_add.Macc = code OPM 0x3d VX
+code_of_widen_multiply_add WidenMultiplyAddOp.Macc = code OPM 0x3d VX
 code_of_widen_multiply_add Maccus = code OPM 0x3e only_x
 code_of_widen_multiply_add Maccsu = code OPM 0x3f VX
 
 abbrev pub code_of_narrow : NarrowOp → Code
-code_of_narrow narrow.Srl = code OPI 0x2c VXU
-code_of_narrow narrow.Sra = code OPI 0x2d VXU
+code_of_narrow NarrowOp.Srl = code OPI 0x2c VXU
+code_of_narrow NarrowOp.Sra = code OPI 0x2d VXU
 
 abbrev pub code_of_clip : ClipOp → Code
-code_of_clip clip.Clipu = code OPI 0x2e VXU
-code_of_clip clip.Clip = code OPI 0x2f VXU
+code_of_clip ClipOp.Clipu = code OPI 0x2e VXU
+code_of_clip ClipOp.Clip = code OPI 0x2f VXU
 
 -- vzext and vsext, and what stands in the place of vs1
 abbrev pub code_of_extend : Code
 code_of_extend = code OPM 0x12 only_v
 
 abbrev pub selector_of_extend : Bool → Fraction → ℕ
-selector_of_extend false Quarter = 4
-selector_of_extend true Quarter = 5
-selector_of_extend false Half = 6
-selector_of_extend true Half = 7
+selector_of_extend false Fraction.Quarter = 4
+selector_of_extend true Fraction.Quarter = 5
+selector_of_extend false Fraction.Half = 6
+selector_of_extend true Fraction.Half = 7
 
 -- f3, by the category and the second operand
 abbrev pub f3_of : Category → Source → ℕ
-f3_of OPI (Vector vs1) = 0
-f3_of OPM (Vector vs1) = 2
-f3_of OPI (Immediate imm) = 3
-f3_of OPM (Immediate imm) = 3
-f3_of OPI (Scalar rs1) = 4
-f3_of OPM (Scalar rs1) = 6
+f3_of OPI (Source.Vector vs1) = 0
+f3_of OPM (Source.Vector vs1) = 2
+f3_of OPI (Source.Immediate imm) = 3
+f3_of OPM (Source.Immediate imm) = 3
+f3_of OPI (Source.Scalar rs1) = 4
+f3_of OPM (Source.Scalar rs1) = 6
 
 -- what stands in bits 19:15
 abbrev pub number_of_operand : Source → ℕ
-number_of_operand (Vector vs1) = vs1
-number_of_operand (Scalar rs1) = rs1
-number_of_operand (Immediate imm) = modulo 32 imm
+number_of_operand (Source.Vector vs1) = vs1
+number_of_operand (Source.Scalar rs1) = rs1
+number_of_operand (Source.Immediate imm) = modulo 32 imm
 
 -- vm, by whether the mask governs
 abbrev pub vm_of : Bool → ℕ
@@ -192,7 +167,7 @@ encode_arith (WidenMultiplyAdd op vd vs2 b masked) = encode_v (code_of_widen_mul
 encode_arith (Narrow op vd vs2 b masked) = encode_v (code_of_narrow op) vd (vm_of masked) vs2 b
 encode_arith (Clip op vd vs2 b masked) = encode_v (code_of_clip op) vd (vm_of masked) vs2 b
 encode_arith (Extend signed of vd vs2 masked) =
-    encode_v code_of_extend vd (vm_of masked) vs2 (Vector (selector_of_extend signed of))
+    encode_v code_of_extend vd (vm_of masked) vs2 (Source.Vector (selector_of_extend signed of))
 
 unfoldable pub encode_vset : VSet → ℕ
 encode_vset (Vsetvli rd rs1 vtype) = vtype * 2 ^ 20 + low_fields 0x57 rd 7 rs1
@@ -214,9 +189,9 @@ takes_unsigned I = false
 takes_unsigned U = true
 
 abbrev pub OperandFits : List Form → Source → Type 0
-OperandFits forms (Vector vs1) = (list_any vectors forms ≡ true) × IsRegister vs1
-OperandFits forms (Scalar rs1) = (list_any scalars forms ≡ true) × IsRegister rs1
-OperandFits forms (Immediate imm) =
+OperandFits forms (Source.Vector vs1) = (list_any vectors forms ≡ true) × IsRegister vs1
+OperandFits forms (Source.Scalar rs1) = (list_any scalars forms ≡ true) × IsRegister rs1
+OperandFits forms (Source.Immediate imm) =
     ((list_any takes_signed forms ≡ true) × IsSigned 16 imm) ⊎
     ((list_any takes_unsigned forms ≡ true) × (pos 0 ≤ℤ imm) × (imm ≤ℤ pos 31))
 

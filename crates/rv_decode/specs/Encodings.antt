@@ -7,10 +7,8 @@ use Rattle.rv_decode.specs.EncodeSystem.{encode_csr, CsrFits}
 use Rattle.rv_decode.specs.EncodeVector.{encode_arith, encode_vset, ArithFits, VSetFits}
 use Rattle.rv_decode.specs.EncodeElements.{encode_mask, encode_perm, encode_reduce, encode_move, MaskFits, PermFits, ReduceFits, MoveFits}
 use Rattle.rv_decode.specs.EncodeAccess.{encode_access, AccessFits}
-use Rattle.rv_decode.specs.declared.instructions.Insn.{Insn}
-use Rattle.rv_decode.specs.declared.instructions.Insn.TheVariants.{Scalar, Csr, VSet, VArith, VMask, VPerm, VReduce, VMem, VMove}
-use Rattle.rv_decode.specs.declared.instructions.ScalarInsn.{ScalarInsn}
-use Rattle.rv_decode.specs.declared.instructions.ScalarInsn.TheVariants.{Lui, Auipc, Jal, Jalr, Branch, Load, Store, Immediate, ShiftImmediate, Register, Fence, Ecall}
+use Rattle.rv_decode.specs.Words.{Insn, ScalarInsn, Lui, Auipc, Jal, Jalr, Branch, Load, Store, Immediate, ShiftImmediate, Register, Fence}
+use Rattle.rv_decode.specs.Words.{Ecall}
 
 -- each instruction has one word, but for fence: opcode 0f with f3 0, whatever the other fields say
 abbrev pub IsScalarWord : ScalarInsn → ℕ → Type 0
@@ -28,27 +26,27 @@ IsScalarWord (Register op rd rs1 rs2) word = word ≡ encode (Register op rd rs1
 IsScalarWord Ecall word = word ≡ encode Ecall
 
 abbrev pub IsWordOf : Insn → ℕ → Type 0
-IsWordOf (Scalar s) word = IsScalarWord s word
-IsWordOf (Csr c) word = word ≡ encode_csr c
-IsWordOf (VSet v) word = word ≡ encode_vset v
-IsWordOf (VArith a) word = word ≡ encode_arith a
-IsWordOf (VMask m) word = word ≡ encode_mask m
-IsWordOf (VPerm p) word = word ≡ encode_perm p
-IsWordOf (VReduce r) word = word ≡ encode_reduce r
-IsWordOf (VMem m) word = word ≡ encode_access m
-IsWordOf (VMove m) word = word ≡ encode_move m
+IsWordOf (Insn.Scalar s) word = IsScalarWord s word
+IsWordOf (Insn.Csr c) word = word ≡ encode_csr c
+IsWordOf (Insn.VSet v) word = word ≡ encode_vset v
+IsWordOf (Insn.VArith a) word = word ≡ encode_arith a
+IsWordOf (Insn.VMask m) word = word ≡ encode_mask m
+IsWordOf (Insn.VPerm p) word = word ≡ encode_perm p
+IsWordOf (Insn.VReduce r) word = word ≡ encode_reduce r
+IsWordOf (Insn.VMem m) word = word ≡ encode_access m
+IsWordOf (Insn.VMove m) word = word ≡ encode_move m
 
 -- fields that a word has room for, in a form that there is
 abbrev pub FieldsFit : Insn → Type 0
-FieldsFit (Scalar s) = IsEncodable s
-FieldsFit (Csr c) = CsrFits c
-FieldsFit (VSet v) = VSetFits v
-FieldsFit (VArith a) = ArithFits a
-FieldsFit (VMask m) = MaskFits m
-FieldsFit (VPerm p) = PermFits p
-FieldsFit (VReduce r) = ReduceFits r
-FieldsFit (VMem m) = AccessFits m
-FieldsFit (VMove m) = MoveFits m
+FieldsFit (Insn.Scalar s) = IsEncodable s
+FieldsFit (Insn.Csr c) = CsrFits c
+FieldsFit (Insn.VSet v) = VSetFits v
+FieldsFit (Insn.VArith a) = ArithFits a
+FieldsFit (Insn.VMask m) = MaskFits m
+FieldsFit (Insn.VPerm p) = PermFits p
+FieldsFit (Insn.VReduce r) = ReduceFits r
+FieldsFit (Insn.VMem m) = AccessFits m
+FieldsFit (Insn.VMove m) = MoveFits m
 
 -- what a word means is well formed
 abbrev pub MeaningsFit : Type 0

@@ -3,9 +3,7 @@
 use Rattle.std.specs.Prelude.{ℕ, Bool, true, false, ◌==◌, List, [], ◌∷◌, ◌++◌, pos, if◌then◌else◌}
 use Rattle.rv_decode.specs.Bits.{bits, signed, rs1_of}
 use Rattle.rv_decode.specs.Rows.{Field, Row, field, row}
-use Rattle.rv_decode.specs.declared.instructions.Insn.{Insn}
-use Rattle.rv_decode.specs.declared.instructions.Source.{Source}
-use Rattle.rv_decode.specs.declared.instructions.Source.TheVariants.{Vector, Scalar, Immediate}
+use Rattle.rv_decode.specs.Words.{Insn, Source}
 
 -- the field vm: 0 for an instruction that the mask v0 governs
 abbrev pub vm : ℕ → Field
@@ -32,10 +30,10 @@ pub data Form : Type 0 where
   U : Form
 
 abbrev pub operand : Form → ℕ → Source
-operand V word = Vector (rs1_of word)
-operand X word = Scalar (rs1_of word)
-operand I word = Immediate (signed 16 (bits 15 5 word))
-operand U word = Immediate (pos (bits 15 5 word))
+operand V word = Source.Vector (rs1_of word)
+operand X word = Source.Scalar (rs1_of word)
+operand I word = Source.Immediate (signed 16 (bits 15 5 word))
+operand U word = Source.Immediate (pos (bits 15 5 word))
 
 abbrev pub VXI : List Form
 VXI = V ∷ X ∷ I ∷ []

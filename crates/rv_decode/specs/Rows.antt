@@ -1,7 +1,7 @@
 -- Tables of words: a row fixes some fields, and a word that has these values means what the row says.
 use Rattle.std.specs.Prelude.{ℕ, Bool, true, List, [], ◌∷◌, ◌++◌, ◌==◌, ◌&&◌, Option, None, Some, if◌then◌else◌}
 use Rattle.rv_decode.specs.Bits.{bits}
-use Rattle.rv_decode.specs.declared.instructions.Insn.{Insn}
+use Rattle.rv_decode.specs.Words.{Insn}
 
 -- the `width` bits from bit `low` on have this value
 pub record Field : Type 0 where

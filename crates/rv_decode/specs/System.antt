@@ -2,15 +2,8 @@
 use Rattle.std.specs.Prelude.{ℕ, List, [], ◌∷◌, ◌++◌}
 use Rattle.rv_decode.specs.Bits.{bits, rd_of, rs1_of}
 use Rattle.rv_decode.specs.Rows.{Field, Row, Group, f3, field, row, group}
-use Rattle.rv_decode.specs.declared.instructions.Insn.{Insn}
-use Rattle.rv_decode.specs.declared.instructions.Insn.TheVariants.{Scalar, Csr}
-use Rattle.rv_decode.specs.declared.instructions.ScalarInsn.TheVariants.{Ecall}
-use Rattle.rv_decode.specs.declared.instructions.CsrAction.{CsrAction}
-use Rattle.rv_decode.specs.declared.instructions.CsrAction.TheVariants.{Write, Set, Clear}
-use Rattle.rv_decode.specs.declared.instructions.CsrName.{CsrName}
-use Rattle.rv_decode.specs.declared.instructions.CsrName.TheVariants.{Vxsat, Vxrm, Vcsr, Vl, Vtype, Vlenb}
-use Rattle.rv_decode.specs.declared.instructions.CsrSource.{CsrSource}
-use Rattle.rv_decode.specs.declared.instructions.CsrSource.TheVariants.{Register, Immediate}
+use Rattle.rv_decode.specs.Words.{CsrAction, CsrName, CsrSource, Insn, Scalar, Csr, Ecall, Write, Set, Clear, Vxsat, Vxrm, Vcsr, Vl, Vtype}
+use Rattle.rv_decode.specs.Words.{Vlenb}
 
 -- the CSR's number
 abbrev pub csr : ℕ → Field
@@ -39,10 +32,10 @@ read_only action source =
     []
 
 abbrev pub by_register : ℕ → CsrSource
-by_register word = Register (rs1_of word)
+by_register word = CsrSource.Register (rs1_of word)
 
 abbrev pub by_immediate : ℕ → CsrSource
-by_immediate word = Immediate (bits 15 5 word)
+by_immediate word = CsrSource.Immediate (bits 15 5 word)
 
 -- csrrw, csrrs, csrrc, csrrwi, csrrsi, csrrci; ecall is one word
 unfoldable pub system_groups : List Group

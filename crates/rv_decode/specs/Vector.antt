@@ -4,89 +4,66 @@ use Rattle.rv_decode.specs.Bits.{bits, rd_of, rs1_of, rs2_of}
 use Rattle.rv_decode.specs.Rows.{Row, Group, f3, field, row, group}
 use Rattle.rv_decode.specs.Operations.{V, VXI, VXU, VX, XI, only_x, Operation, operation, operation_where, select, rows_of, vectors, scalars, immediates, vm, vs1, vs2, is_masked}
 use Rattle.rv_decode.specs.ElementWords.{low_opi_elements, high_opi_elements, opm_elements}
-use Rattle.rv_decode.specs.declared.instructions.Insn.{Insn}
-use Rattle.rv_decode.specs.declared.instructions.Insn.TheVariants.{VSet, VArith}
-use Rattle.rv_decode.specs.declared.instructions.VSet.TheVariants.{Vsetvli, Vsetivli, Vsetvl}
-use Rattle.rv_decode.specs.declared.instructions.VArith.TheVariants.{Int, MultiplyAdd, Carry, CarryOut, Merge, Copy, Compare, Fixed, Widen, Wide, WidenMultiplyAdd, Narrow, Clip, Extend}
-use Rattle.rv_decode.specs.declared.instructions.IntOp.{IntOp}
+use Rattle.rv_decode.specs.Words.{CarryOp, CarryOutOp, ClipOp, CompareOp, FixedOp, Fraction, Insn, IntOp, MultiplyAddOp, NarrowOp, Source}
+use Rattle.rv_decode.specs.Words.{WideOp, WidenMultiplyAddOp, WidenOp, Vsetvli, Vsetivli, Vsetvl, Int, MultiplyAdd, Carry, CarryOut, Merge}
+use Rattle.rv_decode.specs.Words.{Copy, Compare, Fixed, Widen, Wide, WidenMultiplyAdd, Narrow, Clip, Extend, Madd, Nmsub, Macc, Nmsac, Adc}
+use Rattle.rv_decode.specs.Words.{Sbc, Madc, Msbc, Saddu, Sadd, Ssubu, Ssub, Aaddu, Aadd, Asubu, Asub, Smul, Ssrl, Ssra, Maccu, Maccus}
+use Rattle.rv_decode.specs.Words.{Maccsu}
 use Rattle.rv_decode.specs.declared.instructions.IntOp.TheVariants.{Add, Sub, Rsub, Minu, Min, Maxu, Max, And, Or, Xor, Sll, Srl, Sra, Mul, Mulh, Mulhu, Mulhsu, Divu, Div, Remu, Rem}
-use Rattle.rv_decode.specs.declared.instructions.MultiplyAddOp.{MultiplyAddOp}
-use Rattle.rv_decode.specs.declared.instructions.MultiplyAddOp.TheVariants.{Madd, Nmsub, Macc, Nmsac}
-use Rattle.rv_decode.specs.declared.instructions.CarryOp.{CarryOp}
-use Rattle.rv_decode.specs.declared.instructions.CarryOp.TheVariants.{Adc, Sbc}
-use Rattle.rv_decode.specs.declared.instructions.CarryOutOp.{CarryOutOp}
-use Rattle.rv_decode.specs.declared.instructions.CarryOutOp.TheVariants.{Madc, Msbc}
-use Rattle.rv_decode.specs.declared.instructions.CompareOp.{CompareOp}
 use Rattle.rv_decode.specs.declared.instructions.CompareOp.TheVariants.{Eq, Ne, Ltu, Lt, Leu, Le, Gtu, Gt}
-use Rattle.rv_decode.specs.declared.instructions.FixedOp.{FixedOp}
-use Rattle.rv_decode.specs.declared.instructions.FixedOp.TheVariants.{Saddu, Sadd, Ssubu, Ssub, Aaddu, Aadd, Asubu, Asub, Smul, Ssrl, Ssra}
-use Rattle.rv_decode.specs.declared.instructions.WidenOp.{WidenOp}
-use Rattle.rv_decode.specs.declared.instructions.WidenOp.TheVariants as widen_op
-use Rattle.rv_decode.specs.declared.instructions.WideOp.{WideOp}
-use Rattle.rv_decode.specs.declared.instructions.WideOp.TheVariants as wide_op
-use Rattle.rv_decode.specs.declared.instructions.WidenMultiplyAddOp.{WidenMultiplyAddOp}
-use Rattle.rv_decode.specs.declared.instructions.WidenMultiplyAddOp.TheVariants.{Maccu, Maccus, Maccsu}
-use Rattle.rv_decode.specs.declared.instructions.WidenMultiplyAddOp.TheVariants as widen_multiply_add_op
-use Rattle.rv_decode.specs.declared.instructions.NarrowOp.{NarrowOp}
-use Rattle.rv_decode.specs.declared.instructions.NarrowOp.TheVariants as narrow_op
-use Rattle.rv_decode.specs.declared.instructions.ClipOp.{ClipOp}
-use Rattle.rv_decode.specs.declared.instructions.ClipOp.TheVariants as clip_op
-use Rattle.rv_decode.specs.declared.instructions.Fraction.{Fraction}
-use Rattle.rv_decode.specs.declared.instructions.Fraction.TheVariants.{Half, Quarter}
-use Rattle.rv_decode.specs.declared.instructions.Source.{Source}
 
 -- what the operations of a shape mean
 
 abbrev pub int : IntOp → Source → ℕ → Insn
-int op b word = VArith (Int op (rd_of word) (rs2_of word) b (is_masked word))
+int op b word = Insn.VArith (Int op (rd_of word) (rs2_of word) b (is_masked word))
 
 abbrev pub multiply_add : MultiplyAddOp → Source → ℕ → Insn
-multiply_add op b word = VArith (MultiplyAdd op (rd_of word) (rs2_of word) b (is_masked word))
+multiply_add op b word = Insn.VArith (MultiplyAdd op (rd_of word) (rs2_of word) b (is_masked word))
 
 abbrev pub carry : CarryOp → Source → ℕ → Insn
-carry op b word = VArith (Carry op (rd_of word) (rs2_of word) b)
+carry op b word = Insn.VArith (Carry op (rd_of word) (rs2_of word) b)
 
 -- a carry is read where vm is 0
 abbrev pub carry_out : CarryOutOp → Source → ℕ → Insn
-carry_out op b word = VArith (CarryOut op (rd_of word) (rs2_of word) b (is_masked word))
+carry_out op b word = Insn.VArith (CarryOut op (rd_of word) (rs2_of word) b (is_masked word))
 
 abbrev pub merge : Source → ℕ → Insn
-merge b word = VArith (Merge (rd_of word) (rs2_of word) b)
+merge b word = Insn.VArith (Merge (rd_of word) (rs2_of word) b)
 
 abbrev pub copy : Source → ℕ → Insn
-copy b word = VArith (Copy (rd_of word) b)
+copy b word = Insn.VArith (Copy (rd_of word) b)
 
 abbrev pub compare : CompareOp → Source → ℕ → Insn
-compare op b word = VArith (Compare op (rd_of word) (rs2_of word) b (is_masked word))
+compare op b word = Insn.VArith (Compare op (rd_of word) (rs2_of word) b (is_masked word))
 
 abbrev pub fixed : FixedOp → Source → ℕ → Insn
-fixed op b word = VArith (Fixed op (rd_of word) (rs2_of word) b (is_masked word))
+fixed op b word = Insn.VArith (Fixed op (rd_of word) (rs2_of word) b (is_masked word))
 
 abbrev pub widen : WidenOp → Source → ℕ → Insn
-widen op b word = VArith (Widen op (rd_of word) (rs2_of word) b (is_masked word))
+widen op b word = Insn.VArith (Widen op (rd_of word) (rs2_of word) b (is_masked word))
 
 abbrev pub wide : WideOp → Source → ℕ → Insn
-wide op b word = VArith (Wide op (rd_of word) (rs2_of word) b (is_masked word))
+wide op b word = Insn.VArith (Wide op (rd_of word) (rs2_of word) b (is_masked word))
 
 abbrev pub widen_multiply_add : WidenMultiplyAddOp → Source → ℕ → Insn
-widen_multiply_add op b word = VArith (WidenMultiplyAdd op (rd_of word) (rs2_of word) b (is_masked word))
+widen_multiply_add op b word = Insn.VArith (WidenMultiplyAdd op (rd_of word) (rs2_of word) b (is_masked word))
 
 abbrev pub narrow : NarrowOp → Source → ℕ → Insn
-narrow op b word = VArith (Narrow op (rd_of word) (rs2_of word) b (is_masked word))
+narrow op b word = Insn.VArith (Narrow op (rd_of word) (rs2_of word) b (is_masked word))
 
 abbrev pub clip : ClipOp → Source → ℕ → Insn
-clip op b word = VArith (Clip op (rd_of word) (rs2_of word) b (is_masked word))
+clip op b word = Insn.VArith (Clip op (rd_of word) (rs2_of word) b (is_masked word))
 
 abbrev pub extend : Bool → Fraction → ℕ → Insn
-extend signed of word = VArith (Extend signed of (rd_of word) (rs2_of word) (is_masked word))
+extend signed of word = Insn.VArith (Extend signed of (rd_of word) (rs2_of word) (is_masked word))
 
 -- VXUNARY0: vzext and vsext, by what stands in the place of vs1
 unfoldable pub extend_rows : List Row
 extend_rows =
-    row (vs1 4 ∷ []) (extend false Quarter) ∷
-    row (vs1 5 ∷ []) (extend true Quarter) ∷
-    row (vs1 6 ∷ []) (extend false Half) ∷
-    row (vs1 7 ∷ []) (extend true Half) ∷
+    row (vs1 4 ∷ []) (extend false Fraction.Quarter) ∷
+    row (vs1 5 ∷ []) (extend true Fraction.Quarter) ∷
+    row (vs1 6 ∷ []) (extend false Fraction.Half) ∷
+    row (vs1 7 ∷ []) (extend true Fraction.Half) ∷
     []
 
 -- OPI, funct6 below 0x20: sums, minima and maxima, logic, carries, comparisons
@@ -131,10 +108,10 @@ shift_operations =
     operation 0x29 VXU (int Sra) ∷
     operation 0x2a VXU (fixed Ssrl) ∷
     operation 0x2b VXU (fixed Ssra) ∷
-    operation 0x2c VXU (narrow narrow_op.Srl) ∷
-    operation 0x2d VXU (narrow narrow_op.Sra) ∷
-    operation 0x2e VXU (clip clip_op.Clipu) ∷
-    operation 0x2f VXU (clip clip_op.Clip) ∷
+    operation 0x2c VXU (narrow NarrowOp.Srl) ∷
+    operation 0x2d VXU (narrow NarrowOp.Sra) ∷
+    operation 0x2e VXU (clip ClipOp.Clipu) ∷
+    operation 0x2f VXU (clip ClipOp.Clip) ∷
     []
 
 -- OPM, funct6 below 0x20: averages
@@ -166,19 +143,19 @@ multiply_operations =
 -- OPM, funct6 from 0x30 on: results of twice the width
 abbrev pub widening_operations : List Operation
 widening_operations =
-    operation 0x30 VX (widen widen_op.Addu) ∷
-    operation 0x31 VX (widen widen_op.Add) ∷
-    operation 0x32 VX (widen widen_op.Subu) ∷
-    operation 0x33 VX (widen widen_op.Sub) ∷
-    operation 0x34 VX (wide wide_op.Addu) ∷
-    operation 0x35 VX (wide wide_op.Add) ∷
-    operation 0x36 VX (wide wide_op.Subu) ∷
-    operation 0x37 VX (wide wide_op.Sub) ∷
-    operation 0x38 VX (widen widen_op.Mulu) ∷
-    operation 0x3a VX (widen widen_op.Mulsu) ∷
-    operation 0x3b VX (widen widen_op.Mul) ∷
+    operation 0x30 VX (widen WidenOp.Addu) ∷
+    operation 0x31 VX (widen WidenOp.Add) ∷
+    operation 0x32 VX (widen WidenOp.Subu) ∷
+    operation 0x33 VX (widen WidenOp.Sub) ∷
+    operation 0x34 VX (wide WideOp.Addu) ∷
+    operation 0x35 VX (wide WideOp.Add) ∷
+    operation 0x36 VX (wide WideOp.Subu) ∷
+    operation 0x37 VX (wide WideOp.Sub) ∷
+    operation 0x38 VX (widen WidenOp.Mulu) ∷
+    operation 0x3a VX (widen WidenOp.Mulsu) ∷
+    operation 0x3b VX (widen WidenOp.Mul) ∷
     operation 0x3c VX (widen_multiply_add Maccu) ∷
-    operation 0x3d VX (widen_multiply_add widen_multiply_add_op.Macc) ∷
+    operation 0x3d VX (widen_multiply_add WidenMultiplyAddOp.Macc) ∷
     operation 0x3e only_x (widen_multiply_add Maccus) ∷
     operation 0x3f VX (widen_multiply_add Maccsu) ∷
     []
@@ -205,13 +182,13 @@ opm = low_opm ++ high_opm
 
 -- the forms that set vl and vtype
 abbrev pub vsetvli : ℕ → Insn
-vsetvli word = VSet (Vsetvli (rd_of word) (rs1_of word) (bits 20 11 word))
+vsetvli word = Insn.VSet (Vsetvli (rd_of word) (rs1_of word) (bits 20 11 word))
 
 abbrev pub vsetivli : ℕ → Insn
-vsetivli word = VSet (Vsetivli (rd_of word) (bits 15 5 word) (bits 20 10 word))
+vsetivli word = Insn.VSet (Vsetivli (rd_of word) (bits 15 5 word) (bits 20 10 word))
 
 abbrev pub vsetvl : ℕ → Insn
-vsetvl word = VSet (Vsetvl (rd_of word) (rs1_of word) (rs2_of word))
+vsetvl word = Insn.VSet (Vsetvl (rd_of word) (rs1_of word) (rs2_of word))
 
 unfoldable pub vset_rows : List Row
 vset_rows =
