@@ -1,10 +1,10 @@
 -- One step: fetch, decode, and what the instruction does.
-use Rattle.std.specs.Prelude.{ℕ, Option, Some, None, Result, Ok, Err}
+use Rattle.std.specs.Prelude.{ℕ, ◌%◌, ◌==◌, Option, Some, None, Result, Ok, Err, if◌then◌else◌}
 use Rattle.rv_decode.specs.declared.instructions.Insn.{Insn}
 use Rattle.rv_decode.specs.declared.instructions.Insn.TheVariants.{Scalar, Csr, VSet, VArith, VMask, VPerm, VReduce, VMem, VMove}
 use Rattle.rv_decode.specs.Decode.{meaning_of}
 use Rattle.region_mem.specs.declared.faults.Fault.{Fault}
-use Rattle.region_mem.specs.declared.faults.Fault.TheVariants.{Illegal, FetchFault}
+use Rattle.region_mem.specs.declared.faults.Fault.TheVariants.{Illegal, FetchFault, JumpMisaligned}
 use Rattle.region_mem.specs.Memory.{Memory, fetch_of}
 use Rattle.scalar_core.specs.Hart.{Hart}
 use Rattle.scalar_core.specs.Step.{scalar_step}
@@ -47,3 +47,7 @@ fetched vlenb m (Some word) = decoded vlenb word m (meaning_of word)
 -- the machine after one step, or the fault
 unfoldable pub step : ℕ → Machine → Result Machine Fault
 step vlenb m = fetched vlenb m (fetch_of m.hart.pc m.memory)
+
+-- A step that leads to an address that is not a multiple of four is a fault; `m` is where it would lead.
+unfoldable pub unless_misaligned : Machine → Result Machine Fault
+unless_misaligned m = if m.hart.pc % 4 == 0 then Ok m else Err (JumpMisaligned m.hart.pc)
