@@ -1,5 +1,5 @@
 -- Memory holds bytes: at the start, and after each store; so what is read of it is a number of its size.
-use Rattle.std.proofs.Common.{◌≡◌, inl, inr, ℕ, zero, suc, ◌+◌, ◌-◌, ◌^◌, ◌<◌, Bool, true, false, cond, List, [], ◌∷◌, ◌++◌, length, map, find, replicate, Option, Some, None, unwrap_or, slice_index, arith, sym, ap, refl, subst}
+use Rattle.std.proofs.Common.{◌≡◌, inl, inr, ℕ, zero, suc, ◌+◌, ◌-◌, ◌^◌, ◌<◌, Bool, true, false, cond, List, [], ◌∷◌, length, map, find, Some, None, unwrap_or, slice_index, arith, refl, subst}
 use Rattle.std.specs.List.{All, AllByRecursion, range_with_len}
 use Rattle.std.specs.Option.{option_map}
 use Rattle.std.specs.Int.{bytes_low_first}
@@ -9,7 +9,7 @@ use Rattle.std.proofs.lemmas.List.{get_or_past}
 use Rattle.std.proofs.lemmas.List.Elements.{All-set, All-append, All-replicate, All-get_or}
 use Rattle.std.proofs.lemmas.List.FromFn.{get_or-map-range_with_len, length-map-range_with_len}
 use Rattle.byteorder.specs.Numbers.{little_from-lt}
-use Rattle.elf_image.specs.Image.{SegmentView, IsSegment, ImageView, IsImage}
+use Rattle.elf_image.specs.Image.{SegmentView, IsSegment}
 use Rattle.region_mem.specs.declared.parameter.Param.{Param}
 use Rattle.region_mem.specs.declared.arguments.Arg.TheVariants as argument
 use Rattle.region_mem.specs.declared.faults.Right.TheVariants.{Read}
