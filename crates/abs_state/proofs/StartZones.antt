@@ -1,5 +1,5 @@
 -- The areas that a run starts with have the zones of its image and parameters, in another order.
-use Rattle.std.proofs.Common.{◌≡◌, ◌<◌, ◌≤◌, ◌+◌, ◌-◌, ℕ, suc, Bool, true, false, not, cond, ltb, eqb, arith, refl, sym, ap, ◌∙◌, List, [], ◌∷◌, ◌++◌, map, length, length-append, append_assoc, Some, unwrap_or}
+use Rattle.std.proofs.Common.{◌≡◌, ◌+◌, ◌-◌, ℕ, Bool, true, false, not, cond, ltb, eqb, arith, refl, sym, ap, ◌∙◌, List, [], ◌∷◌, ◌++◌, map, length, length-append, append_assoc, Some}
 use Rattle.std.specs.Prelude.{◌||◌}
 use Rattle.std.specs.Option.{option_to_list}
 use Rattle.std.specs.List.{AllByRecursion, list_any, slice_get, zip}
@@ -13,7 +13,6 @@ use Rattle.region_mem.specs.declared.parameter.Param.{Param}
 use Rattle.region_mem.specs.declared.parameter.Param.TheVariants as parameter
 use Rattle.region_mem.specs.declared.arguments.Arg.TheVariants as argument
 use Rattle.region_mem.specs.Areas.{Area}
-use Rattle.region_mem.specs.Memory.{Memory}
 use Rattle.region_mem.specs.Parameter.{Argument, is_wrong_kind, is_wrong_size}
 use Rattle.region_mem.specs.Start.{segment_area, stack_area, is_writable, buffer_area, buffer_areas, insert_area, insert_areas, start_areas, start_memory}
 use Rattle.region_mem.proofs.Apart.{length_segment, length_zeros}
