@@ -1,7 +1,7 @@
 -- What is known where a block begins, and where a run does. Atom i below 33 is the number of x0 to x31 or of vl there, and
 -- atom 33 + j the number that was passed for the parameter at place j.
-use Rattle.std.specs.Prelude.{ℕ, ◌+◌, ◌-◌, ◌==◌, nat_le, nat_lt, ◌&&◌, if◌then◌else◌, List, [], ◌++◌, map, range_with_len, find, unwrap_or, Option, Some, None}
-use Rattle.std.specs.List.{slice_get}
+use Rattle.std.specs.Prelude.{ℕ, ◌+◌, ◌-◌, ◌==◌, nat_le, nat_lt, ◌&&◌, if◌then◌else◌, List, [], ◌++◌, map, find, unwrap_or, Option, Some, None}
+use Rattle.std.specs.List.{slice_get, range_with_len}
 use Rattle.std.specs.Option.{option_and_then}
 use Rattle.elf_image.specs.Image.{ImageView}
 use Rattle.linear_facts.specs.declared.ranges.Range.{Range}
@@ -14,7 +14,11 @@ use Rattle.region_mem.specs.declared.parameter.Param.TheVariants as parameter
 use Rattle.region_mem.specs.Parameter.{address_of}
 use Rattle.vreg_groups.specs.VectorLength.{vlenb_of}
 use Rattle.scalar_core.specs.Hart.{exit}
-use Rattle.cert_note.specs.Words.{Param, Term, Equality, RegisterFact, Block}
+use Rattle.region_mem.specs.declared.parameter.Param.{Param}
+use Rattle.cert_note.specs.declared.values.Term.{Term}
+use Rattle.cert_note.specs.declared.values.Equality.{Equality}
+use Rattle.cert_note.specs.declared.values.RegisterFact.{RegisterFact}
+use Rattle.cert_note.specs.declared.values.Block.{Block}
 use Rattle.cert_note.specs.Certificate.{CertificateView}
 use Rattle.abs_state.specs.declared.state.Way.TheVariants.{To}
 use Rattle.abs_state.specs.Values.{ValueView, full_range, just, computed_range}
