@@ -29,7 +29,7 @@ offset_form-value v f m x e l =
     ∙ (ap (λ (z : ℕ). (value v f + z) % 2 ^ 32) (value_number v m l) ∙ sym (value-sum_of v f (number_form m)))
 
 -- a register's number is its own
-register_number : (i : ℕ) (h : Hart) (config : Vconfig) → i < 32 → number_of i h config ≡ reg_of i h
+pub register_number : (i : ℕ) (h : Hart) (config : Vconfig) → i < 32 → number_of i h config ≡ reg_of i h
 register_number i h config l = (let ne : i ≢ 32 = λ e. omega (arith, e, l) in grind (arith, nat_tests))
 
 pub address_lies : AddressesLie

@@ -1,7 +1,10 @@
 pub mod Addresses
+pub mod Growth
 pub mod Lists
 pub mod Memories
 pub mod Operations
 pub mod Rooms
 pub mod StartZones
 pub mod States
+pub mod StepMachines
+pub mod StepScalars

@@ -279,7 +279,7 @@ form_range_lies table f v x agrees is e =
     by_range None fits h = tt
     by_range (Some r) fits h = record { low = h.0; high = h.1; fits = fits r refl }
 
-value_fits : (v : ℕ → ℕ) (f : Linear) (x : ℕ) → x ≡ value v f → x < 2 ^ 32
+pub value_fits : (v : ℕ → ℕ) (f : Linear) (x : ℕ) → x ≡ value v f → x < 2 ^ 32
 unfolding value
 value_fits v f x e = omega arith
 

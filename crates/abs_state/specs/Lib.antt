@@ -5,11 +5,13 @@ pub mod Branches
 pub mod Described
 pub mod Edges
 pub mod Effects
+pub mod Held
 pub mod Holds
 pub mod Memories
 pub mod Numbers
 pub mod StartZones
 pub mod State
+pub mod StepLaws
 pub mod Steps
 pub mod Values
 pub mod Zones

@@ -4,12 +4,14 @@
 //! by the zones that may be read and written throughout a run.
 #![tactic(auto)]
 
+mod after;
 mod branches;
 mod effects;
 mod laws;
 mod numbers;
 mod start_laws;
 mod state;
+mod step_laws;
 mod steps;
 mod values;
 mod why;
@@ -27,6 +29,9 @@ pub use laws::{
 pub use numbers::{MOST_ATOMS, Numbers, VL};
 pub use start_laws::zones_are_there;
 pub use state::{Abstract, MOST_WORDS, Way};
+pub use step_laws::{
+    csr_steps_hold, scalar_steps_hold, steps_are_held, steps_count, steps_go_on,
+};
 pub use values::{Effect, Value, computed_range};
 pub use why::Why;
 pub use zones::{Zone, load_allowed, memory_zones, store_allowed};

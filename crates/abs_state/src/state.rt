@@ -1,5 +1,5 @@
 //! What is known of a machine at an instruction of a kernel.
-ghost use Rattle.std.specs.Prelude.{◌≡◌, ◌<◌, ◌≤◌, length, IfErr, OnErr, OnOk, Ok, Err};
+ghost use Rattle.std.specs.Prelude.{◌≡◌};
 
 use crate::numbers::Numbers;
 use crate::zones::Zone;
@@ -76,8 +76,7 @@ impl<A: Allocator> Model for Abstract<A> {
 impl<A: Allocator> Abstract<A> {
     /// How many instructions have been taken since the block began.
     pub fn words(&self) -> u32
-        ensures value { result ≡ self.now.words }
-        ensures few { result ≤ MOST_WORDS }
+        ensures { result ≡ self.now.words }
     {
         self.words
     }

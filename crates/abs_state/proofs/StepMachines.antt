@@ -1,0 +1,229 @@
+-- What is known after an instruction is true of the machine to which it leads.
+use Rattle.std.proofs.Common.{◌≡◌, ◌<◌, ◌≤◌, ◌+◌, ◌-◌, ◌%◌, ◌^◌, ◌⊎◌, inl, inr, ℕ, Bool, true, false, arith, refl, sym, ap, ◌∙◌, subst, length, List, Option, Some, None}
+use Rattle.std.specs.Prelude.{if◌then◌else◌, ◌==◌, nat_le, Result, Ok, Err, MatchOption}
+use Rattle.std.proofs.lemmas.Bool.Decides.{nat_tests}
+use Rattle.elf_image.specs.Image.{ImageView, IsImage}
+use Rattle.linear_facts.specs.Forms.{value}
+use Rattle.linear_facts.proofs.LocalityLemmas.{forms-stay, agree-below}
+use Rattle.rv_decode.specs.declared.instructions.Insn.{Insn}
+use Rattle.rv_decode.specs.declared.instructions.Insn.TheVariants.{Scalar, Csr, VSet, VArith, VMask, VPerm, VReduce, VMem, VMove}
+use Rattle.rv_decode.specs.declared.instructions.ScalarInsn.{ScalarInsn}
+use Rattle.rv_decode.specs.declared.instructions.ScalarInsn.TheVariants.{Lui, Auipc, Jal, Jalr, Branch, Load, Store, Immediate, ShiftImmediate, Register, Fence, Ecall}
+use Rattle.rv_decode.specs.declared.instructions.CsrInsn.{CsrInsn}
+use Rattle.rv_decode.specs.Decode.{meaning_of}
+use Rattle.rv_decode.specs.Encodings.{FieldsFit}
+use Rattle.rv_decode.proofs.Meant.{meant}
+use Rattle.region_mem.specs.declared.faults.Fault.{Fault}
+use Rattle.region_mem.specs.declared.faults.Fault.TheVariants.{JumpMisaligned}
+use Rattle.region_mem.specs.Memory.{Memory, fetch_of}
+use Rattle.vreg_groups.specs.declared.vector_length.Vconfig.{Vconfig}
+use Rattle.vreg_groups.specs.declared.vector_type.Vtype.{Vtype}
+use Rattle.vreg_groups.specs.VectorType.{vill, vtype_of, vlmax_of}
+use Rattle.vreg_groups.specs.VectorLength.{IsVlenb, IsConfig, no_config}
+use Rattle.scalar_core.specs.Csr.{csr_step}
+use Rattle.scalar_core.specs.Hart.{Hart, IsHart}
+use Rattle.scalar_core.specs.Step.{rv32im_step, scalar_step}
+use Rattle.vector_core.specs.Machine.{Machine}
+use Rattle.vector_core.specs.Vectors.{IsVectors}
+use Rattle.vector_core.specs.MachineStep.{carry_out, unless_misaligned, with_scalar}
+use Rattle.cert_note.specs.declared.values.Budget.{Budget}
+use Rattle.abs_state.specs.declared.why.Why.{Why}
+use Rattle.abs_state.specs.declared.zones.Zone.{Zone}
+use Rattle.abs_state.specs.declared.state.Way.{Way}
+use Rattle.abs_state.specs.declared.state.Way.TheVariants.{To, Unknown, Fork}
+use Rattle.abs_state.specs.Values.{ValueView}
+use Rattle.abs_state.specs.Zones.{zones_of}
+use Rattle.abs_state.specs.Numbers.{NumbersView}
+use Rattle.abs_state.specs.Described.{IsNumber}
+use Rattle.abs_state.specs.Holds.{Holds, Follows}
+use Rattle.abs_state.specs.Memories.{HasZones}
+use Rattle.abs_state.specs.Steps.{scalar_after, csr_after}
+use Rattle.abs_state.specs.State.{AbstractView}
+use Rattle.abs_state.specs.After.{next_word, way_of, taken, after_of}
+use Rattle.abs_state.specs.Held.{Setting, IsProper, IsKnown, IsPaid, IsAt, Held, vlenb_in}
+use Rattle.abs_state.specs.StepLaws.{or_misaligned, KeepsMemory, StepIsHeld, MachineIsHeld, StepsAreHeld, StepsGoOn, jumps}
+use Rattle.abs_state.proofs.StepScalars.{scalars_hold, csrs_hold}
+
+-- ---- what an instruction makes of what is known
+
+-- it gives numbers and a way, and the rest stays
+record IsTaken (way : Way) (a b : AbstractView) (r : Result NumbersView Why) : Type 0 where
+  numbers : NumbersView
+  is : r ≡ Ok numbers
+  same : record a { numbers = numbers; words = a.words + 1; way = way } ≡ b
+
+abbrev ok_state : AbstractView → Result AbstractView Why
+ok_state a = Ok a
+
+same_state : (a b : AbstractView) → ok_state a ≡ Ok b → a ≡ b
+same_state a b e = cc
+
+taken_is : (way : Way) (a b : AbstractView) (r : Result NumbersView Why) → taken way a r ≡ Ok b → IsTaken way a b r
+unfolding taken
+taken_is way a b (Ok numbers) e = record { numbers = numbers; is = refl; same = same_state _ b e }
+taken_is way a b (Err why) e = cc
+
+taken_leads : (way : Way) (a b : AbstractView) (r : Result NumbersView Why) → taken way a r ≡ Ok b → b.way ≡ way
+taken_leads way a b r e = sym (ap (λ (c : AbstractView). c.way) (taken_is way a b r e).same)
+
+pub goes_on : StepsGoOn
+unfolding jumps after_of way_of
+goes_on pc (Scalar (Branch condition rs1 rs2 offset)) a b j e = cc
+goes_on pc (Scalar (Jal rd offset)) a b j e = cc
+goes_on pc (Scalar (Jalr rd rs1 offset)) a b j e = cc
+goes_on pc (Scalar Ecall) a b j e = cc
+goes_on pc (Scalar (Lui rd imm)) a b j e = taken_leads _ a b _ e
+goes_on pc (Scalar (Auipc rd imm)) a b j e = taken_leads _ a b _ e
+goes_on pc (Scalar (Load kind rd rs1 offset)) a b j e = taken_leads _ a b _ e
+goes_on pc (Scalar (Store size rs1 rs2 offset)) a b j e = taken_leads _ a b _ e
+goes_on pc (Scalar (Immediate op rd rs1 imm)) a b j e = taken_leads _ a b _ e
+goes_on pc (Scalar (ShiftImmediate op rd rs1 amount)) a b j e = taken_leads _ a b _ e
+goes_on pc (Scalar (Register op rd rs1 rs2)) a b j e = taken_leads _ a b _ e
+goes_on pc (Scalar Fence) a b j e = taken_leads _ a b _ e
+goes_on pc (Csr insn) a b j e = taken_leads _ a b _ e
+goes_on pc (VSet insn) a b j e = cc
+goes_on pc (VArith insn) a b j e = cc
+goes_on pc (VMask insn) a b j e = cc
+goes_on pc (VPerm insn) a b j e = cc
+goes_on pc (VReduce insn) a b j e = cc
+goes_on pc (VMem insn) a b j e = cc
+goes_on pc (VMove insn) a b j e = cc
+
+-- ---- configurations
+
+vlenb_fits : (vlenb : ℕ) → IsVlenb vlenb → vlenb < 2 ^ 32
+vlenb_fits vlenb (inl e) = omega (arith, e)
+vlenb_fits vlenb (inr e) = omega (arith, e)
+
+type_fits : (bits : ℕ) (t : Vtype) → vtype_of bits ≡ Some t → bits < 256
+unfolding vtype_of
+type_fits bits t e = by_test (nat_le 256 bits) _ refl e
+  where
+    by_test : (c : Bool) (others : Option Vtype) → nat_le 256 bits ≡ c → (if c then None else others) ≡ Some t → bits < 256
+    by_test true others k e = cc
+    by_test false others k e = grind (arith, nat_tests)
+
+config_fits : (vlenb : ℕ) (config : Vconfig) → IsConfig vlenb config → config.vtype < 2 ^ 32
+unfolding IsConfig
+config_fits vlenb config h = by_type (vtype_of config.vtype) refl h
+  where
+    by_type : (o : Option Vtype) → vtype_of config.vtype ≡ o → MatchOption o (config ≡ no_config) (λ t. config.vl ≤ vlmax_of vlenb t)
+        → config.vtype < 2 ^ 32
+    by_type None e h = (let is : config.vtype ≡ vill = ap (λ (c : Vconfig). c.vtype) h in omega (arith, is))
+    by_type (Some t) e h = omega (arith, type_fits config.vtype t e)
+
+-- ---- machines
+
+-- the machine with another hart and memory
+abbrev with_both : Machine → Hart → Memory → Machine
+with_both s hart memory = record s { hart = hart; memory = memory }
+
+whole_is : (s : Machine) (hart : Hart) (memory : Memory) → with_scalar s (or_misaligned hart memory) ≡ unless_misaligned (with_both s hart memory)
+unfolding unless_misaligned
+whole_is s hart memory = by_test (hart.pc % 4 == 0)
+  where
+    by_test : (t : Bool) → with_scalar s (if t then Ok (hart, memory) else Err (JumpMisaligned hart.pc))
+        ≡ (if t then Ok (with_both s hart memory) else Err (JumpMisaligned hart.pc))
+    by_test true = refl
+    by_test false = refl
+
+-- what is known of a number stays right as atoms are added
+number_stays : (n m : ℕ) (v w : ℕ → ℕ) (a : ValueView) (x : ℕ) → n ≤ m → ((b : ℕ) → b < n → w b ≡ v b) → IsNumber n v a x → IsNumber m w a x
+number_stays n m v w a x l same h =
+    let is : n + (m - n) ≡ m = omega (arith, l) in
+    subst (λ (k : ℕ). IsNumber k w a x) is
+    record {
+      means = record {
+        form = h.means.form;
+        below = forms-stay n (m - n) a.form h.means.below;
+        number = h.means.number ∙ agree-below n v w a.form (λ b k. sym (same b k)) h.means.below;
+      };
+      lies = h.lies;
+    }
+
+proper_stays : (e : Setting) (s : Machine) (hart : Hart) (memory : Memory) → IsProper e s → IsHart hart → KeepsMemory s.memory memory
+    → IsProper e (with_both s hart memory)
+proper_stays e s hart memory p is kept =
+    let code = kept.code p.safe in
+    record {
+      hart = is;
+      vectors = p.vectors;
+      registers = p.registers;
+      bytes = kept.bytes p.bytes;
+      zones = kept.zones (zones_of e.image e.certificate.parameters) p.zones;
+      code = λ pc word there. code.1 pc ∙ p.code pc word there;
+      safe = code.0;
+    }
+
+paid_stays : (v w : ℕ → ℕ) (n : ℕ) (budget : Option Budget) (a b : AbstractView) → a.paid ≡ b.paid → length a.numbers.atoms ≤ length b.numbers.atoms
+    → ((k : ℕ) → k < length a.numbers.atoms → w k ≡ v k) → IsPaid v n budget a → IsPaid w n budget b
+paid_stays v w n None a b e l same paid = tt
+paid_stays v w n (Some budget) a b e l same paid =
+    (
+      paid.0,
+      paid.1,
+      subst (λ (p : ValueView). IsNumber (length b.numbers.atoms) w p paid.0) e
+      (number_stays (length a.numbers.atoms) (length b.numbers.atoms) v w a.paid paid.0 l same paid.2),
+    )
+
+-- what is known after a step that leads to a hart and memory
+module _ (e : Setting) (n : ℕ) (a : AbstractView) (s : Machine) (held : Held e n a s) where
+  abbrev next_state : NumbersView → Way → AbstractView
+  next_state numbers way = record a { numbers = numbers; words = a.words + 1; way = way }
+
+  step_held : (new : NumbersView) (way : Way) (result : Result (Hart × Memory) Fault)
+      → StepIsHeld a.numbers new held.numbers s.vectors.config way s.memory result
+      → MachineIsHeld e n (next_state new way) (with_scalar s result)
+  step_held new way result h =
+      let known = held.known in
+      record {
+        t = with_both s h.hart h.memory;
+        is = ap (λ (r : Result (Hart × Memory) Fault). with_scalar s r) h.is ∙ whole_is s h.hart h.memory;
+        held = record {
+          numbers = h.follows.numbers;
+          known = record {
+            vlenb = known.vlenb;
+            count = omega (arith, known.count, h.follows.grows);
+            passed = λ place l. h.follows.same (33 + place) (omega (arith, l, known.count)) ∙ known.passed place l;
+            known = h.follows.holds;
+            zones = known.zones;
+            vtype = known.vtype;
+            groups = known.groups;
+            paid =
+                paid_stays held.numbers h.follows.numbers n a.budget a (next_state new way) refl h.follows.grows h.follows.same known.paid;
+            proper = proper_stays e s h.hart h.memory known.proper h.is_hart h.kept;
+          };
+          way = h.at;
+        };
+      }
+
+pub held_steps : StepsAreHeld
+unfolding after_of taken carry_out scalar_step
+held_steps e n a b s word (Scalar insn) image certificate held aligned m eq =
+    let known = held.known in
+    let t = taken_is _ a b _ eq in
+    subst (λ (c : AbstractView). MachineIsHeld e n c (with_scalar s (rv32im_step insn s.hart s.memory))) t.same
+    (step_held e n a s held t.numbers (way_of s.hart.pc insn a.numbers) (rv32im_step insn s.hart s.memory)
+    (scalars_hold a.numbers t.numbers held.numbers a.zones insn s.hart s.vectors.config s.memory (meant word m) known.proper.hart
+    (subst (λ (zs : List Zone). HasZones zs s.memory) (sym known.zones) known.proper.zones) known.proper.bytes aligned known.known t.is))
+held_steps e n a b s word (Csr insn) image certificate held aligned m eq =
+    let known = held.known in
+    let config : Vconfig = s.vectors.config in
+    let small : vlenb_in e < 2 ^ 32 = vlenb_fits (vlenb_in e) known.proper.vectors.vlenb_is in
+    let fits : a.vlenb < 2 ^ 32 = omega (arith, known.vlenb, small) in
+    let new : NumbersView = csr_after a.vlenb insn a.numbers in
+    let way : Way = To (next_word s.hart.pc) in
+    let step : StepIsHeld a.numbers new held.numbers config way s.memory (Ok (csr_step insn a.vlenb config s.hart, s.memory)) =
+    csrs_hold a.numbers held.numbers a.vlenb insn s.hart config s.memory (meant word m) known.proper.hart fits
+    (config_fits (vlenb_in e) config known.proper.vectors.config) aligned known.known in
+    subst (λ (c : AbstractView). MachineIsHeld e n c (with_scalar s (Ok (csr_step insn (vlenb_in e) config s.hart, s.memory))))
+    (same_state (next_state e n a s held new way) b eq)
+    (step_held e n a s held new way (Ok (csr_step insn (vlenb_in e) config s.hart, s.memory))
+    (subst (λ (k : ℕ). StepIsHeld a.numbers new held.numbers config way s.memory (Ok (csr_step insn k config s.hart, s.memory))) known.vlenb step))
+held_steps e n a b s word (VSet insn) image certificate held aligned m eq = cc
+held_steps e n a b s word (VArith insn) image certificate held aligned m eq = cc
+held_steps e n a b s word (VMask insn) image certificate held aligned m eq = cc
+held_steps e n a b s word (VPerm insn) image certificate held aligned m eq = cc
+held_steps e n a b s word (VReduce insn) image certificate held aligned m eq = cc
+held_steps e n a b s word (VMem insn) image certificate held aligned m eq = cc
+held_steps e n a b s word (VMove insn) image certificate held aligned m eq = cc

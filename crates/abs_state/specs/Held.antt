@@ -1,0 +1,146 @@
+-- That what is known is true of a machine, throughout a run.
+use Rattle.std.specs.Prelude.{ℕ, nat_le, ◌≡◌, ◌<◌, ◌≤◌, ◌+◌, ◌*◌, ◌/◌, ◌-◌, ◌^◌, ◌==◌, min, if◌then◌else◌, List, length, get_or, Option, Some, None, IfSome}
+use Rattle.std.specs.List.{AllByRecursion}
+use Rattle.elf_image.specs.Image.{ImageView}
+use Rattle.linear_facts.specs.Forms.{value}
+use Rattle.linear_facts.specs.Ranges.{AgreesWith}
+use Rattle.region_mem.specs.Laws.{HasCode, IsCodeSafe, AreBytes}
+use Rattle.vreg_groups.specs.Elements.{element_at}
+use Rattle.vreg_groups.specs.VectorLength.{vlenb_of}
+use Rattle.scalar_core.specs.Arithmetic.{is_taken}
+use Rattle.scalar_core.specs.Hart.{Hart, IsHart, reg_of}
+use Rattle.vector_core.specs.Machine.{Machine}
+use Rattle.vector_core.specs.Vectors.{Vectors, IsVectors}
+use Rattle.cert_note.specs.declared.values.Budget.{Budget}
+use Rattle.cert_note.specs.declared.values.Equality.{Equality}
+use Rattle.cert_note.specs.declared.values.RegisterFact.{RegisterFact}
+use Rattle.cert_note.specs.declared.values.VectorFact.{VectorFact}
+use Rattle.cert_note.specs.declared.values.Block.{Block}
+use Rattle.cert_note.specs.Certificate.{CertificateView}
+use Rattle.abs_state.specs.declared.state.Way.{Way}
+use Rattle.abs_state.specs.declared.state.Way.TheVariants.{To, Unknown, Fork}
+use Rattle.abs_state.specs.Described.{IsNumber}
+use Rattle.abs_state.specs.Holds.{Holds, number_of}
+use Rattle.abs_state.specs.Memories.{HasZones}
+use Rattle.abs_state.specs.Zones.{zones_of}
+use Rattle.abs_state.specs.State.{AbstractView}
+use Rattle.abs_state.specs.Blocks.{equality_form}
+use Rattle.abs_state.specs.Branches.{EdgeView, table_on, value_on}
+
+-- What stays the same throughout a run: the image, its certificate, and the numbers that were passed.
+pub record Setting : Type 0 where
+  pub image : ImageView
+  pub certificate : CertificateView
+  pub passed : ℕ → ℕ
+
+abbrev pub vlenb_in : Setting → ℕ
+vlenb_in e = vlenb_of e.certificate.vlen
+
+-- ---- what is true of every state of a run
+
+-- The registers are 32 of vlenb bytes.
+pub record AreRegisters (vlenb : ℕ) (registers : List ℕ) : Type 0 where
+  pub count : length registers ≡ 32 * vlenb
+  pub bytes : (i : ℕ) → get_or registers i 0 < 256
+
+pub record IsProper (e : Setting) (m : Machine) : Type 0 where
+  pub hart : IsHart m.hart
+  pub vectors : IsVectors (vlenb_in e) m.vectors
+  pub registers : AreRegisters (vlenb_in e) m.vectors.registers
+  pub bytes : AreBytes m.memory
+  pub zones : HasZones (zones_of e.image e.certificate.parameters) m.memory
+  pub code : HasCode e.image m.memory
+  pub safe : IsCodeSafe m.memory
+
+-- ---- facts
+
+-- how many elements a group has
+abbrev pub group_elements : ℕ → VectorFact → ℕ
+group_elements vlenb fact = fact.registers * vlenb / (fact.width / 8)
+
+-- of how many elements a fact on vector registers speaks; a count of 0 stands for vl
+abbrev pub count_of : ℕ → ℕ → VectorFact → ℕ
+count_of vlenb vl fact = min (if fact.count == 0 then vl else fact.count) (group_elements vlenb fact)
+
+abbrev pub fact_element : ℕ → List ℕ → VectorFact → ℕ → ℕ
+fact_element vlenb registers fact i = element_at (fact.width / 8) (fact.register * vlenb) registers i
+
+-- The first elements of the fact's group lie in its interval.
+abbrev pub IsTrueOf : ℕ → ℕ → List ℕ → VectorFact → Type 0
+IsTrueOf vlenb vl registers fact =
+    (i : ℕ) → i < count_of vlenb vl fact
+    → (fact.low ≤ fact_element vlenb registers fact i) × (fact_element vlenb registers fact i ≤ fact.high)
+
+abbrev pub AreTrueOf : ℕ → Vectors → List VectorFact → Type 0
+AreTrueOf vlenb v facts = AllByRecursion (IsTrueOf vlenb v.config.vl v.registers) facts
+
+-- the numbers of registers and vl below 33, and from there on those that were passed
+abbrev pub number_at : Setting → Machine → ℕ → ℕ
+number_at e m a =
+    if nat_le a 32 then number_of a m.hart m.vectors.config else e.passed (a - 33)
+
+-- The number lies in its interval, and is equal to the sum that is stated.
+pub record FactHolds (e : Setting) (m : Machine) (fact : RegisterFact) : Type 0 where
+  pub low : fact.low ≤ number_of fact.number m.hart m.vectors.config
+  pub high : number_of fact.number m.hart m.vectors.config ≤ fact.high
+  pub equality : IfSome fact.equality (λ equality.
+      number_of fact.number m.hart m.vectors.config ≡ value (number_at e m) (equality_form equality))
+
+abbrev pub VtypeHolds : Option ℕ → Machine → Type 0
+VtypeHolds vtype m = IfSome vtype (λ t. m.vectors.config.vtype ≡ t)
+
+-- The machine stands at the block's start, where all that the block states is true.
+pub record Fits (e : Setting) (block : Block) (m : Machine) : Type 0 where
+  pub pc : m.hart.pc ≡ block.start
+  pub facts : AllByRecursion (FactHolds e m) block.registers.items
+  pub vtype : VtypeHolds block.vtype m
+  pub vectors : AreTrueOf (vlenb_in e) m.vectors block.vectors.items
+  pub proper : IsProper e m
+
+-- ---- states and edges
+
+-- what a budget comes to in a state
+abbrev pub budget_of : Budget → Hart → ℕ
+budget_of budget h = budget.constant + budget.factor * reg_of budget.register h
+
+-- The budget came to n where the block began: the number of its register then is what is known of it.
+abbrev pub IsPaid : (ℕ → ℕ) → ℕ → Option Budget → AbstractView → Type 0
+IsPaid v n None a = Unit {0}
+IsPaid v n (Some budget) a =
+    (x : ℕ) × (n ≡ budget.constant + budget.factor * x) × IsNumber (length a.numbers.atoms) v a.paid x
+
+-- The numbers of the atoms are those that were passed from atom 33 on, and all that is known holds of the machine.
+pub record IsKnown (e : Setting) (v : ℕ → ℕ) (n : ℕ) (a : AbstractView) (m : Machine) : Type 0 where
+  pub vlenb : a.vlenb ≡ vlenb_in e
+  pub count : 41 ≤ length a.numbers.atoms
+  pub passed : (place : ℕ) → place < 8 → v (33 + place) ≡ e.passed place
+  pub known : Holds a.numbers v m.hart m.vectors.config
+  pub zones : a.zones ≡ zones_of e.image e.certificate.parameters
+  pub vtype : VtypeHolds a.vtype m
+  pub groups : AreTrueOf (vlenb_in e) m.vectors a.groups
+  pub paid : IsPaid v n a.budget a
+  pub proper : IsProper e m
+
+-- The machine is where the last instruction leads.
+abbrev pub IsAt : Way → Hart → Type 0
+IsAt (To target) h = h.pc ≡ target
+IsAt Unknown h = Unit {0}
+IsAt (Fork condition rs1 rs2 target next) h =
+    (rs1 < 32) × (rs2 < 32)
+    × (h.pc ≡ (if is_taken condition (reg_of rs1 h) (reg_of rs2 h) then target else next))
+
+-- What is known is true of the machine; the block's budget came to n where it began.
+pub record Held (e : Setting) (n : ℕ) (a : AbstractView) (m : Machine) : Type 0 where
+  pub numbers : ℕ → ℕ
+  pub known : IsKnown e numbers n a m
+  pub way : IsAt a.way m.hart
+
+-- The edge leads to the machine: what is known on it is true there.
+pub record Goes (e : Setting) (n : ℕ) (edge : EdgeView) (m : Machine) : Type 0 where
+  pub numbers : ℕ → ℕ
+  pub known : IsKnown e numbers n edge.state m
+  pub atoms : AgreesWith (table_on edge) numbers
+  pub each : (i : ℕ) → i < 33
+      → IsNumber (length edge.state.numbers.atoms) numbers (value_on edge i)
+      (number_of i m.hart m.vectors.config)
+  pub target : IfSome edge.target (λ pc. m.hart.pc ≡ pc)
