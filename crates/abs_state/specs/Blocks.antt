@@ -21,7 +21,7 @@ use Rattle.cert_note.specs.declared.values.RegisterFact.{RegisterFact}
 use Rattle.cert_note.specs.declared.values.Block.{Block}
 use Rattle.cert_note.specs.Certificate.{CertificateView}
 use Rattle.abs_state.specs.declared.state.Way.TheVariants.{To}
-use Rattle.abs_state.specs.Values.{ValueView, full_range, just, computed_range}
+use Rattle.abs_state.specs.Values.{full_range, just, computed_range}
 use Rattle.abs_state.specs.Numbers.{NumbersView, plain, value_at}
 use Rattle.abs_state.specs.Zones.{zones_of}
 use Rattle.abs_state.specs.State.{AbstractView}
