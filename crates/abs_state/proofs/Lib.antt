@@ -3,8 +3,12 @@ pub mod Growth
 pub mod Lists
 pub mod Memories
 pub mod Operations
+pub mod Payments
+pub mod Refinements
 pub mod Rooms
 pub mod StartZones
 pub mod States
 pub mod StepMachines
 pub mod StepScalars
+pub mod Substitutions
+pub mod Ways

@@ -1,12 +1,14 @@
 -- What an edge has to show of the block that it leads to, in the order in which it is tested.
-use Rattle.std.specs.Prelude.{ℕ, ◌+◌, ◌*◌, ◌-◌, ◌^◌, ◌==◌, Bool, true, false, nat_le, nat_lt, ◌&&◌, ◌||◌, if◌then◌else◌, List, [], ◌∷◌, Option, Some, None, Result, Ok, Err}
+use Rattle.std.specs.Prelude.{ℕ, ◌+◌, ◌*◌, ◌==◌, Bool, true, false, nat_le, ◌&&◌, ◌||◌, if◌then◌else◌, List, [], ◌∷◌, Option, Some, None, Result, Ok, Err}
 use Rattle.std.specs.List.{list_all, list_any}
 use Rattle.std.specs.Option.{option_map_or}
 use Rattle.linear_facts.specs.declared.forms.Term.{Term}
+use Rattle.linear_facts.specs.declared.ranges.Range.{Range}
 use Rattle.linear_facts.specs.Forms.{Linear, substituted}
 use Rattle.linear_facts.specs.Differences.{Product, is_at_least_of}
 use Rattle.linear_facts.specs.Ranges.{AtomTable}
 use Rattle.scalar_core.specs.Hart.{exit}
+use Rattle.cert_note.specs.declared.values.Term.{Term as Part}
 use Rattle.cert_note.specs.declared.values.Budget.{Budget}
 use Rattle.cert_note.specs.declared.values.Equality.{Equality}
 use Rattle.cert_note.specs.declared.values.RegisterFact.{RegisterFact}
@@ -36,6 +38,10 @@ unfoldable pub is_interval_shown : EdgeView → RegisterFact → Bool
 is_interval_shown e fact =
     let r = (value_on e fact.number).range in nat_le fact.low r.lo && nat_le r.hi fact.high
 
+-- a term of an equality as one of a form
+abbrev pub form_term : Part → Term
+form_term t = record { atom = t.atom; coefficient = t.coefficient }
+
 -- the sum of an equality, with registers and vl as they are now, is the number's form
 unfoldable pub is_sum_shown : EdgeView → ℕ → Equality → Bool
 is_sum_shown e number equality =
@@ -47,22 +53,21 @@ is_equality_shown e fact = option_map_or (is_sum_shown e fact.number) fact.equal
 
 -- ---- vector registers
 
--- a fact speaks of as many elements as another one, with what is known of vl here; a count of 0 stands for vl
-unfoldable pub covers : EdgeView → ℕ → ℕ → Bool
-covers e known wanted =
-    let vl = (value_on e 32).range in
+-- a fact speaks of as many elements as another one, where vl lies in this range; a count of 0 stands for vl
+unfoldable pub covers : Range → ℕ → ℕ → Bool
+covers vl known wanted =
     if known == 0 then (wanted == 0) || nat_le wanted vl.lo
     else (if wanted == 0 then nat_le vl.hi known else nat_le wanted known)
 
 -- a fact says what another one does
-unfoldable pub says : EdgeView → VectorFact → VectorFact → Bool
-says e wanted known =
+unfoldable pub says : Range → VectorFact → VectorFact → Bool
+says vl wanted known =
     (known.register == wanted.register) && (known.width == wanted.width)
     && (known.registers == wanted.registers) && nat_le wanted.low known.low
-    && nat_le known.high wanted.high && covers e known.count wanted.count
+    && nat_le known.high wanted.high && covers vl known.count wanted.count
 
 unfoldable pub is_vector_shown : EdgeView → VectorFact → Bool
-is_vector_shown e wanted = list_any (says e wanted) e.state.groups
+is_vector_shown e wanted = list_any (says (value_on e 32).range wanted) e.state.groups
 
 -- ---- the budget
 

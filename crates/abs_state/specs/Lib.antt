@@ -3,6 +3,7 @@ pub mod After
 pub mod Blocks
 pub mod Branches
 pub mod Described
+pub mod EdgeLaws
 pub mod Edges
 pub mod Effects
 pub mod Held

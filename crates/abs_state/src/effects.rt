@@ -329,7 +329,7 @@ pub fn load_effect(kind: LoadKind) -> Effect
 }
 
 /// The same form once more.
-fn copy_of(form: &Form<8>) -> Form<8>
+pub(crate) fn copy_of(form: &Form<8>) -> Form<8>
     ensures { result ≡ form.now }
 {
     let _terms = form.terms();

@@ -6,6 +6,8 @@
 
 mod after;
 mod branches;
+mod edge_laws;
+mod edges;
 mod effects;
 mod laws;
 mod numbers;
@@ -18,6 +20,8 @@ mod why;
 mod zones;
 
 pub use branches::{Edge, Relation};
+pub use edge_laws::{edges_keep, one_edge, straight_edges};
+pub use edges::implies;
 pub use effects::{
     constant_effect, csr_effect, immediate_effect, load_effect, offset_form, offset_range,
     register_effect, shift_effect,

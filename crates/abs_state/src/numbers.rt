@@ -95,6 +95,20 @@ impl<A: Allocator> Numbers<A> {
         self.ranges[number]
     }
 
+    /// The forms of x0 to x31 and, as number 32, of vl.
+    pub(crate) fn forms(&self) -> &[Form<8>]
+        ensures { result.now ≡ self.now.forms }
+    {
+        self.forms.as_slice()
+    }
+
+    /// The ranges of x0 to x31 and, as number 32, of vl.
+    pub(crate) fn ranges(&self) -> [Range; 33]
+        ensures { result ≡ self.now.ranges }
+    {
+        self.ranges
+    }
+
     /// The number is one that is known.
     #[tactic(auto, unfolding(crate::specs::Numbers::with_value))]
     fn set_value(&mut self, number: usize, form: Form<8>, range: Range)

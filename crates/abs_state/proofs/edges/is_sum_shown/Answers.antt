@@ -1,0 +1,11 @@
+-- The two forms are compared.
+use Rattle.std.proofs.Common.{arith}
+use Rattle.abs_state.specs.Edges.{is_sum_shown}
+use Rattle.abs_state.proofs.Substitutions.{same_is}
+use Rattle.abs_state.proofs.edges.is_sum_shown.Goals as goal
+
+pub returns : goal.returns
+unfolding is_sum_shown
+returns g c =
+    let same = same_is c.same.result c.current_sum-sum.result c.form_on.result c.same.ensures in
+    grind (arith, same, c.current_sum-sum.ensures, c.form_on.ensures, c.forms.ensures, c.as_slice-terms.ensures)

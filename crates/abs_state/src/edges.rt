@@ -1,0 +1,296 @@
+//! What an edge has to show of the block that it leads to.
+ghost use Rattle.std.specs.Prelude.{◌≡◌, ◌+◌, ◌<◌, ◌≤◌, ◌^◌, ◌==◌, if◌then◌else◌, length, map};
+ghost use Rattle.std.specs.List.{list_all, list_any};
+ghost use Rattle.std.specs.Option.{option_map};
+ghost use Rattle.linear_facts.specs.Forms.{form_at, scaled, substituted};
+ghost use Rattle.abs_state.specs.Branches.{table_on, value_on};
+ghost use Rattle.abs_state.specs.Edges.{covers as covers_of, form_term, implied_by, implies_block as implies_block_of, implies_end as implies_end_of};
+ghost use Rattle.abs_state.specs.Edges.{is_equality_shown as is_equality_shown_of, is_interval_shown as is_interval_shown_of};
+ghost use Rattle.abs_state.specs.Edges.{is_paid as is_paid_of, is_paid_for as is_paid_for_of, is_sum_shown as is_sum_shown_of};
+ghost use Rattle.abs_state.specs.Edges.{is_vector_shown as is_vector_shown_of, is_vtype_shown as is_vtype_shown_of};
+ghost use Rattle.abs_state.specs.Edges.{leads_to as leads_to_of, pays as pays_of, says as says_of, shown_or as shown_or_of};
+
+use crate::branches::Edge;
+use crate::values::Value;
+use crate::why::Why;
+use cert_note::{Block, Budget, Equality, RegisterFact, Term, VectorFact};
+use linear_facts::{Atoms, Form, Multiple, Range, is_at_least};
+use scalar_core::EXIT;
+use std::alloc::Allocator;
+
+/// The multiple of the form of a term's register, or of its atom where it is none of a register's.
+fn replaced(term: Term, forms: &[Form<8>]) -> Form<8>
+    ensures product { result ≡ scaled term.coefficient (form_at forms.now term.atom) }
+    ensures room { length result.terms ≤ 8 }
+{
+    match forms.get(usize::from(term.atom)) {
+        Some(form) => form.multiple(term.coefficient),
+        None => Form::<8>::atom(u16::from(term.atom)).multiple(term.coefficient),
+    }
+}
+
+/// The constant and at most eight terms, with registers and vl replaced by their forms. Eight forms of eight terms have room.
+#[tactic(auto, unfolding(linear_facts::specs::Forms::substituted))]
+fn current_sum(constant: u32, terms: &[Term], forms: &[Form<8>]) -> Form<64>
+    requires { length terms.now ≤ 8 }
+    ensures { result ≡ substituted forms.now record {
+      constant = constant;
+      terms = map form_term terms.now;
+    } }
+{
+    let mut sum = Form::number(constant);
+    for term in terms {
+        sum = sum.add(&replaced(*term, forms)).unwrap();
+    }
+    sum
+}
+
+/// Whether the interval of the fact is shown.
+#[tactic(auto, unfolding(crate::specs::Edges::is_interval_shown))]
+fn is_interval_shown<A: Allocator>(edge: &Edge<'_, A>, fact: &RegisterFact) -> bool
+    ensures { result ≡ is_interval_shown_of edge.now fact.now }
+{
+    let range = edge.range_on(fact.number);
+    fact.low <= range.lo && range.hi <= fact.high
+}
+
+/// Whether the sum, with registers and vl as they are now, is the number's form.
+fn is_sum_shown<A: Allocator>(edge: &Edge<'_, A>, number: u8, equality: &Equality) -> bool
+    ensures { result ≡ is_sum_shown_of edge.now number equality.now }
+{
+    let state = edge.state;
+    let terms = equality.terms.as_slice();
+    let sum = current_sum(equality.constant, terms, state.numbers.forms());
+    sum.same(&edge.form_on(number))
+}
+
+/// Whether the equality of the fact is shown, if it has one.
+#[tactic(auto, unfolding(crate::specs::Edges::is_equality_shown))]
+fn is_equality_shown<A: Allocator>(edge: &Edge<'_, A>, fact: &RegisterFact) -> bool
+    ensures { result ≡ is_equality_shown_of edge.now fact.now }
+{
+    match &fact.equality {
+        Some(equality) => is_sum_shown(edge, fact.number, equality),
+        None => true,
+    }
+}
+
+/// Whether all intervals are shown.
+fn are_intervals_shown<A: Allocator>(edge: &Edge<'_, A>, facts: &[RegisterFact]) -> bool
+    ensures { result ≡ list_all (is_interval_shown_of edge.now) facts.now }
+{
+    for fact in facts {
+        if !is_interval_shown(edge, fact) {
+            return false;
+        }
+    }
+    true
+}
+
+/// Whether all equalities are shown.
+fn are_equalities_shown<A: Allocator>(edge: &Edge<'_, A>, facts: &[RegisterFact]) -> bool
+    ensures { result ≡ list_all (is_equality_shown_of edge.now) facts.now }
+{
+    for fact in facts {
+        if !is_equality_shown(edge, fact) {
+            return false;
+        }
+    }
+    true
+}
+
+/// Whether a fact speaks of as many elements as another one, where vl lies in this range. A count of 0 stands for vl.
+#[tactic(auto, unfolding(crate::specs::Edges::covers))]
+fn covers(vl: Range, known: u16, wanted: u16) -> bool
+    ensures { result ≡ covers_of vl known wanted }
+{
+    let known = u32::from(known);
+    let wanted = u32::from(wanted);
+    if known == 0 {
+        wanted == 0 || wanted <= vl.lo
+    } else if wanted == 0 {
+        vl.hi <= known
+    } else {
+        wanted <= known
+    }
+}
+
+/// Whether a fact says what another one does.
+#[tactic(auto, unfolding(crate::specs::Edges::says))]
+fn says(vl: Range, wanted: VectorFact, known: VectorFact) -> bool
+    ensures { result ≡ says_of vl wanted known }
+{
+    known.register == wanted.register
+        && known.width == wanted.width
+        && known.registers == wanted.registers
+        && wanted.low <= known.low
+        && known.high <= wanted.high
+        && covers(vl, known.count, wanted.count)
+}
+
+/// Whether one of the known facts says what a fact does.
+fn is_said(vl: Range, wanted: VectorFact, groups: &[VectorFact]) -> bool
+    ensures { result ≡ list_any (says_of vl wanted) groups.now }
+{
+    groups.iter().any(|known| says(vl, wanted, *known))
+}
+
+/// Whether a fact on vector registers is shown.
+#[tactic(auto, unfolding(crate::specs::Edges::is_vector_shown))]
+fn is_vector_shown<A: Allocator>(edge: &Edge<'_, A>, wanted: VectorFact) -> bool
+    ensures { result ≡ is_vector_shown_of edge.now wanted }
+{
+    let state = edge.state;
+    is_said(edge.range_on(32), wanted, state.groups.as_slice())
+}
+
+/// Whether all facts on vector registers are shown.
+fn are_vectors_shown<A: Allocator>(edge: &Edge<'_, A>, facts: &[VectorFact]) -> bool
+    ensures { result ≡ list_all (is_vector_shown_of edge.now) facts.now }
+{
+    for fact in facts {
+        if !is_vector_shown(edge, *fact) {
+            return false;
+        }
+    }
+    true
+}
+
+/// How many products a factor times a number is: none where the factor is 0.
+fn product_count(factor: u32) -> usize
+    ensures value { result ≡ (if factor == 0 then 0 else 1) }
+    ensures few { result ≤ 1 }
+{
+    usize::from(factor != 0)
+}
+
+/// Whether `c + k * x` is at least `d + j * y`, by the ends of their ranges or by the difference of their forms.
+#[tactic(auto, unfolding(crate::specs::Edges::is_paid))]
+fn is_paid(atoms: &Atoms, c: u32, k: u32, x: &Value, d: u64, j: u32, y: &Value) -> bool
+    requires { d < 2 ^ 33 }
+    ensures { result ≡ is_paid_of atoms.now c k x.now d j y.now }
+{
+    let most = u128::from(d) + u128::from(j) * u128::from(y.range.hi);
+    let least = u128::from(c) + u128::from(k) * u128::from(x.range.lo);
+    if most <= least {
+        return true;
+    }
+    let more = [Multiple {
+        factor: k,
+        form: x.form,
+    }];
+    let less = [Multiple {
+        factor: j,
+        form: y.form,
+    }];
+    is_at_least(
+        u64::from(c),
+        &more[..product_count(k)],
+        d,
+        &less[..product_count(j)],
+        atoms,
+    )
+}
+
+/// Whether a block's budget pays for what was taken, and for `constant` and `factor` times a register.
+#[tactic(auto, unfolding(crate::specs::Edges::pays))]
+fn is_enough<A: Allocator>(edge: &Edge<'_, A>, own: Budget, next: Budget) -> bool
+    ensures { result ≡ is_paid_of (table_on edge.now) own.constant own.factor edge.now.state.paid
+        (edge.now.state.words + next.constant) next.factor (value_on edge.now next.register) }
+{
+    let state = edge.state;
+    let form = edge.form_on(next.register);
+    let paid = Value {
+        form: &state.paid_form,
+        range: state.paid_range,
+    };
+    let value = Value {
+        form: &form,
+        range: edge.range_on(next.register),
+    };
+    let words = u64::from(state.words()) + u64::from(next.constant);
+    is_paid(&edge.table(), own.constant, own.factor, &paid, words, next.factor, &value)
+}
+
+/// Whether the budget of the block that the edge leaves pays for what was taken and for the next one, if there is one. On the
+/// way from the entry nothing has been taken.
+#[tactic(auto, unfolding(crate::specs::Edges::is_paid_for, crate::specs::Edges::pays))]
+fn is_paid_for<A: Allocator>(edge: &Edge<'_, A>, next: Option<Budget>) -> bool
+    ensures { result ≡ is_paid_for_of edge.now edge.now.state.budget next }
+{
+    let state = edge.state;
+    let none = Budget {
+        constant: 0,
+        factor: 0,
+        register: 0,
+    };
+    match state.budget {
+        None => true,
+        Some(own) => is_enough(edge, own, next.unwrap_or(none)),
+    }
+}
+
+/// Whether the vector type that a block states, if it states one, is the one that is known.
+#[tactic(auto, unfolding(crate::specs::Edges::is_vtype_shown))]
+fn is_vtype_shown(known: Option<u8>, wanted: Option<u8>) -> bool
+    ensures { result ≡ is_vtype_shown_of known wanted }
+{
+    match (known, wanted) {
+        (_, None) => true,
+        (None, Some(_)) => false,
+        (Some(known), Some(wanted)) => known == wanted,
+    }
+}
+
+/// Whether the edge is known to lead to this address.
+fn leads_to<A: Allocator>(edge: &Edge<'_, A>, address: u32) -> bool
+    ensures { result ≡ leads_to_of edge.now address }
+{
+    match edge.target {
+        Some(target) => target == address,
+        None => false,
+    }
+}
+
+/// The answer where something has to be shown.
+fn shown_or(why: Why, shown: bool) -> Result<(), Why>
+    ensures { result ≡ shown_or_of why shown }
+{
+    if shown { Ok(()) } else { Err(why) }
+}
+
+/// The answer of an edge to a block.
+#[tactic(auto, unfolding(crate::specs::Edges::implies_block))]
+fn implies_block<A: Allocator>(edge: &Edge<'_, A>, block: &Block) -> Result<(), Why>
+    ensures { result ≡ implies_block_of edge.now block.now }
+{
+    let state = edge.state;
+    let registers = block.registers.as_slice();
+    let vectors = block.vectors.as_slice();
+    shown_or(Why::TargetNotABlock, leads_to(edge, block.start))?;
+    shown_or(Why::VtypeUnknown, is_vtype_shown(state.vtype, block.vtype))?;
+    shown_or(Why::IntervalNotProved, are_intervals_shown(edge, registers))?;
+    shown_or(Why::EqualityNotProved, are_equalities_shown(edge, registers))?;
+    shown_or(Why::VectorFactNotProved, are_vectors_shown(edge, vectors))?;
+    shown_or(Why::BudgetNotProved, is_paid_for(edge, Some(block.budget)))
+}
+
+/// The answer of an edge to the end of the run.
+#[tactic(auto, unfolding(crate::specs::Edges::implies_end))]
+fn implies_end<A: Allocator>(edge: &Edge<'_, A>) -> Result<(), Why>
+    ensures { result ≡ implies_end_of edge.now }
+{
+    shown_or(Why::TargetNotABlock, leads_to(edge, EXIT))?;
+    shown_or(Why::BudgetNotProved, is_paid_for(edge, None))
+}
+
+/// The answer of an edge to the block that it leads to, or to the end of the run where no block begins there.
+#[tactic(auto, unfolding(crate::specs::Edges::implied_by))]
+pub fn implies<A: Allocator>(edge: &Edge<'_, A>, block: Option<&Block>) -> Result<(), Why>
+    ensures { result ≡ implied_by edge.now (option_map (λ b. b.now) block.entry) }
+{
+    match block {
+        Some(block) => implies_block(edge, block),
+        None => implies_end(edge),
+    }
+}
