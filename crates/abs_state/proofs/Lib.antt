@@ -1,4 +1,5 @@
 pub mod Addresses
+pub mod EdgeLemmas
 pub mod Growth
 pub mod Lists
 pub mod Memories

@@ -132,7 +132,7 @@ pub record IsEdge (o : Option EdgeView) (a : AbstractView) (v : ℕ → ℕ) (nu
 module _ (a : AbstractView) (v : ℕ → ℕ) (number : ℕ → ℕ) (pc : ℕ) (agrees : AgreesWith (table_with a.numbers.atoms) v)
     (ranges : length a.numbers.ranges ≡ 33)
     (each : (i : ℕ) → i < 33 → IsNumber (length a.numbers.atoms) v (value_at a.numbers i) (number i)) where
-  plain_is : (target : Option ℕ) → IfSome target (λ address. pc ≡ address) → IsEdge (Some (plain_edge a target)) a v number pc
+  pub plain_is : (target : Option ℕ) → IfSome target (λ address. pc ≡ address) → IsEdge (Some (plain_edge a target)) a v number pc
   unfolding value_on value_at
   plain_is target h = record {
     edge = plain_edge a target;
@@ -219,7 +219,7 @@ module _ (a : AbstractView) (v : ℕ → ℕ) (number : ℕ → ℕ) (pc : ℕ) 
   related_edge_is None rs1 rs2 target k l at s = plain_is (Some target) at
   related_edge_is (Some r) rs1 rs2 target k l at s = refined_is r rs1 rs2 target k l at s
 
-  branch_is : (condition : Condition) (taken : Bool) (rs1 rs2 target : ℕ) → rs1 < 33 → rs2 < 33 → pc ≡ target
+  pub branch_is : (condition : Condition) (taken : Bool) (rs1 rs2 target : ℕ) → rs1 < 33 → rs2 < 33 → pc ≡ target
       → is_taken condition (number rs1) (number rs2) ≡ taken → IsEdge (branch_edge taken condition rs1 rs2 target a) a v number pc
   unfolding branch_edge
   branch_is condition taken rs1 rs2 target k l at e = by_test (rs1 == rs2)

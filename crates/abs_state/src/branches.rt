@@ -78,7 +78,11 @@ fn without_end(n: u32, a: Range) -> Option<Range>
 {
     let lo = u64::from(a.lo);
     let lo = if a.lo == n { lo + 1 } else { lo };
-    let hi = if a.hi == n { a.hi.saturating_sub(1) } else { a.hi };
+    let hi = if a.hi == n {
+        a.hi.saturating_sub(1)
+    } else {
+        a.hi
+    };
     filled(lo, hi)
 }
 

@@ -209,7 +209,15 @@ fn is_enough<A: Allocator>(edge: &Edge<'_, A>, own: Budget, next: Budget) -> boo
         range: edge.range_on(next.register),
     };
     let words = u64::from(state.words()) + u64::from(next.constant);
-    is_paid(&edge.table(), own.constant, own.factor, &paid, words, next.factor, &value)
+    is_paid(
+        &edge.table(),
+        own.constant,
+        own.factor,
+        &paid,
+        words,
+        next.factor,
+        &value,
+    )
 }
 
 /// Whether the budget of the block that the edge leaves pays for what was taken and for the next one, if there is one. On the
@@ -270,7 +278,10 @@ fn implies_block<A: Allocator>(edge: &Edge<'_, A>, block: &Block) -> Result<(), 
     shown_or(Why::TargetNotABlock, leads_to(edge, block.start))?;
     shown_or(Why::VtypeUnknown, is_vtype_shown(state.vtype, block.vtype))?;
     shown_or(Why::IntervalNotProved, are_intervals_shown(edge, registers))?;
-    shown_or(Why::EqualityNotProved, are_equalities_shown(edge, registers))?;
+    shown_or(
+        Why::EqualityNotProved,
+        are_equalities_shown(edge, registers),
+    )?;
     shown_or(Why::VectorFactNotProved, are_vectors_shown(edge, vectors))?;
     shown_or(Why::BudgetNotProved, is_paid_for(edge, Some(block.budget)))
 }

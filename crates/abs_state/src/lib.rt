@@ -20,7 +20,9 @@ mod why;
 mod zones;
 
 pub use branches::{Edge, Relation};
-pub use edge_laws::{edges_keep, one_edge, straight_edges};
+pub use edge_laws::{
+    edges_are_taken, edges_keep, implied_ends, implied_fits, one_edge, straight_edges,
+};
 pub use edges::implies;
 pub use effects::{
     constant_effect, csr_effect, immediate_effect, load_effect, offset_form, offset_range,
