@@ -1,21 +1,14 @@
 -- What is known after an instruction is true of the machine to which it leads.
-use Rattle.std.proofs.Common.{◌≡◌, ◌<◌, ◌≤◌, ◌+◌, ◌-◌, ◌%◌, ◌^◌, ◌⊎◌, inl, inr, ℕ, Bool, true, false, arith, refl, sym, ap, ◌∙◌, subst, length, List, Option, Some, None}
+use Rattle.std.proofs.Common.{◌≡◌, ◌<◌, ◌≤◌, ◌+◌, ◌-◌, ◌%◌, ◌^◌, inl, inr, ℕ, Bool, true, false, arith, refl, sym, ap, ◌∙◌, subst, length, List, Option, Some, None}
 use Rattle.std.specs.Prelude.{if◌then◌else◌, ◌==◌, nat_le, Result, Ok, Err, MatchOption}
 use Rattle.std.proofs.lemmas.Bool.Decides.{nat_tests}
-use Rattle.elf_image.specs.Image.{ImageView, IsImage}
-use Rattle.linear_facts.specs.Forms.{value}
 use Rattle.linear_facts.proofs.LocalityLemmas.{forms-stay, agree-below}
-use Rattle.rv_decode.specs.declared.instructions.Insn.{Insn}
 use Rattle.rv_decode.specs.declared.instructions.Insn.TheVariants.{Scalar, Csr, VSet, VArith, VMask, VPerm, VReduce, VMem, VMove}
-use Rattle.rv_decode.specs.declared.instructions.ScalarInsn.{ScalarInsn}
 use Rattle.rv_decode.specs.declared.instructions.ScalarInsn.TheVariants.{Lui, Auipc, Jal, Jalr, Branch, Load, Store, Immediate, ShiftImmediate, Register, Fence, Ecall}
-use Rattle.rv_decode.specs.declared.instructions.CsrInsn.{CsrInsn}
-use Rattle.rv_decode.specs.Decode.{meaning_of}
-use Rattle.rv_decode.specs.Encodings.{FieldsFit}
 use Rattle.rv_decode.proofs.Meant.{meant}
 use Rattle.region_mem.specs.declared.faults.Fault.{Fault}
 use Rattle.region_mem.specs.declared.faults.Fault.TheVariants.{JumpMisaligned}
-use Rattle.region_mem.specs.Memory.{Memory, fetch_of}
+use Rattle.region_mem.specs.Memory.{Memory}
 use Rattle.vreg_groups.specs.declared.vector_length.Vconfig.{Vconfig}
 use Rattle.vreg_groups.specs.declared.vector_type.Vtype.{Vtype}
 use Rattle.vreg_groups.specs.VectorType.{vill, vtype_of, vlmax_of}
@@ -24,23 +17,21 @@ use Rattle.scalar_core.specs.Csr.{csr_step}
 use Rattle.scalar_core.specs.Hart.{Hart, IsHart}
 use Rattle.scalar_core.specs.Step.{rv32im_step, scalar_step}
 use Rattle.vector_core.specs.Machine.{Machine}
-use Rattle.vector_core.specs.Vectors.{IsVectors}
 use Rattle.vector_core.specs.MachineStep.{carry_out, unless_misaligned, with_scalar}
 use Rattle.cert_note.specs.declared.values.Budget.{Budget}
 use Rattle.abs_state.specs.declared.why.Why.{Why}
 use Rattle.abs_state.specs.declared.zones.Zone.{Zone}
 use Rattle.abs_state.specs.declared.state.Way.{Way}
-use Rattle.abs_state.specs.declared.state.Way.TheVariants.{To, Unknown, Fork}
+use Rattle.abs_state.specs.declared.state.Way.TheVariants.{To}
 use Rattle.abs_state.specs.Values.{ValueView}
 use Rattle.abs_state.specs.Zones.{zones_of}
 use Rattle.abs_state.specs.Numbers.{NumbersView}
 use Rattle.abs_state.specs.Described.{IsNumber}
-use Rattle.abs_state.specs.Holds.{Holds, Follows}
 use Rattle.abs_state.specs.Memories.{HasZones}
-use Rattle.abs_state.specs.Steps.{scalar_after, csr_after}
+use Rattle.abs_state.specs.Steps.{csr_after}
 use Rattle.abs_state.specs.State.{AbstractView}
 use Rattle.abs_state.specs.After.{next_word, way_of, taken, after_of}
-use Rattle.abs_state.specs.Held.{Setting, IsProper, IsKnown, IsPaid, IsAt, Held, vlenb_in}
+use Rattle.abs_state.specs.Held.{Setting, IsProper, IsPaid, Held, vlenb_in}
 use Rattle.abs_state.specs.StepLaws.{or_misaligned, KeepsMemory, StepIsHeld, MachineIsHeld, StepsAreHeld, StepsGoOn, jumps}
 use Rattle.abs_state.proofs.StepScalars.{scalars_hold, csrs_hold}
 
@@ -158,13 +149,12 @@ proper_stays e s hart memory p is kept =
 paid_stays : (v w : ℕ → ℕ) (n : ℕ) (budget : Option Budget) (a b : AbstractView) → a.paid ≡ b.paid → length a.numbers.atoms ≤ length b.numbers.atoms
     → ((k : ℕ) → k < length a.numbers.atoms → w k ≡ v k) → IsPaid v n budget a → IsPaid w n budget b
 paid_stays v w n None a b e l same paid = tt
-paid_stays v w n (Some budget) a b e l same paid =
-    (
-      paid.0,
-      paid.1,
-      subst (λ (p : ValueView). IsNumber (length b.numbers.atoms) w p paid.0) e
+paid_stays v w n (Some budget) a b e l same paid = (
+  paid.0,
+  paid.1,
+  subst (λ (p : ValueView). IsNumber (length b.numbers.atoms) w p paid.0) e
       (number_stays (length a.numbers.atoms) (length b.numbers.atoms) v w a.paid paid.0 l same paid.2),
-    )
+)
 
 -- what is known after a step that leads to a hart and memory
 module _ (e : Setting) (n : ℕ) (a : AbstractView) (s : Machine) (held : Held e n a s) where

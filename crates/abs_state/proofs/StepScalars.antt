@@ -1,14 +1,11 @@
 -- What is known after a scalar instruction is true of the hart and memory to which it leads.
-use Rattle.std.proofs.Common.{◌≡◌, ◌<◌, ◌≤◌, ◌+◌, ◌-◌, ◌*◌, ◌/◌, ◌%◌, ◌^◌, ℕ, Bool, true, false, arith, refl, sym, ap, ◌∙◌, subst, eq-eqb, length, List, [], ◌∷◌, Option, Some, None, IfSome, lit<}
+use Rattle.std.proofs.Common.{◌≡◌, ◌<◌, ◌+◌, ◌/◌, ◌%◌, ◌^◌, ℕ, Bool, true, false, arith, refl, sym, ap, ◌∙◌, subst, eq-eqb, length, List, Some, None, lit<}
 use Rattle.std.specs.Prelude.{if◌then◌else◌, ◌==◌, slice_index, slice_set, ℤ, Result, Ok, Err}
 use Rattle.std.specs.List.{list_any}
 use Rattle.std.specs.Int.{w32}
 use Rattle.std.specs.Int.RustNames.{FitsSigned}
 use Rattle.std.proofs.lemmas.Bool.Decides.{nat_tests}
 use Rattle.linear_facts.specs.declared.ranges.Range.{Range}
-use Rattle.linear_facts.specs.Forms.{Linear, value}
-use Rattle.rv_decode.specs.declared.instructions.Insn.TheVariants.{Scalar, Csr}
-use Rattle.rv_decode.specs.declared.instructions.ScalarInsn.{ScalarInsn}
 use Rattle.rv_decode.specs.declared.instructions.ScalarInsn.TheVariants.{Lui, Auipc, Jal, Jalr, Branch, Load, Store, Immediate, ShiftImmediate, Register, Fence, Ecall}
 use Rattle.rv_decode.specs.declared.instructions.Condition.{Condition}
 use Rattle.rv_decode.specs.declared.instructions.CsrInsn.{CsrInsn}
@@ -17,11 +14,9 @@ use Rattle.rv_decode.specs.declared.instructions.CsrName.TheVariants.{Vxsat, Vxr
 use Rattle.rv_decode.specs.declared.instructions.LoadKind.{LoadKind}
 use Rattle.rv_decode.specs.declared.instructions.Width.{Width}
 use Rattle.rv_decode.specs.Encode.{IsSigned}
-use Rattle.rv_decode.specs.Encodings.{FieldsFit}
 use Rattle.rv_decode.proofs.Meant.{signed_fits_word}
 use Rattle.region_mem.specs.declared.faults.Fault.{Fault}
 use Rattle.region_mem.specs.declared.faults.Fault.TheVariants.{JumpMisaligned}
-use Rattle.region_mem.specs.declared.faults.Right.{Right}
 use Rattle.region_mem.specs.declared.faults.Right.TheVariants.{Read, Write}
 use Rattle.region_mem.specs.Areas.{number_at, with_number}
 use Rattle.region_mem.specs.Memory.{Memory, is_permitted, load_of, store_of}
@@ -38,15 +33,15 @@ use Rattle.abs_state.specs.declared.why.Why.{Why}
 use Rattle.abs_state.specs.declared.why.Why.TheVariants.{AccessNotProved, ReadOnly}
 use Rattle.abs_state.specs.declared.zones.Zone.{Zone}
 use Rattle.abs_state.specs.declared.state.Way.{Way}
-use Rattle.abs_state.specs.declared.state.Way.TheVariants.{To, Unknown, Fork}
+use Rattle.abs_state.specs.declared.state.Way.TheVariants.{To, Fork}
 use Rattle.abs_state.specs.declared.values.Effect.{Effect}
 use Rattle.abs_state.specs.declared.values.Effect.TheVariants.{Computed, Fresh, Copied}
-use Rattle.abs_state.specs.Values.{ValueView, known_of}
+use Rattle.abs_state.specs.Values.{known_of}
 use Rattle.abs_state.specs.Zones.{is_inside, spans, load_allowed, store_allowed}
 use Rattle.abs_state.specs.Numbers.{NumbersView, value_at, with_result}
-use Rattle.abs_state.specs.Effects.{constant_effect, csr_effect, immediate_effect, load_effect, register_effect, shift_effect}
-use Rattle.abs_state.specs.Described.{LiesIn, Means, IsNumber, Describes}
-use Rattle.abs_state.specs.Holds.{number_of, Holds, Follows}
+use Rattle.abs_state.specs.Effects.{constant_effect, csr_effect, load_effect}
+use Rattle.abs_state.specs.Described.{LiesIn, IsNumber, Describes}
+use Rattle.abs_state.specs.Holds.{Holds, Follows}
 use Rattle.abs_state.specs.Memories.{HasZones}
 use Rattle.abs_state.specs.Steps.{address_range, if_allowed, load_check, store_check, scalar_after, csr_after}
 use Rattle.abs_state.specs.After.{next_word, jump_way, way_of}

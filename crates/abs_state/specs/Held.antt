@@ -1,5 +1,5 @@
 -- That what is known is true of a machine, throughout a run.
-use Rattle.std.specs.Prelude.{ℕ, nat_le, ◌≡◌, ◌<◌, ◌≤◌, ◌+◌, ◌*◌, ◌/◌, ◌-◌, ◌^◌, ◌==◌, min, if◌then◌else◌, List, length, get_or, Option, Some, None, IfSome}
+use Rattle.std.specs.Prelude.{ℕ, nat_le, ◌≡◌, ◌<◌, ◌≤◌, ◌+◌, ◌*◌, ◌/◌, ◌-◌, ◌==◌, min, if◌then◌else◌, List, length, get_or, Option, Some, None, IfSome}
 use Rattle.std.specs.List.{AllByRecursion}
 use Rattle.elf_image.specs.Image.{ImageView}
 use Rattle.linear_facts.specs.Forms.{value}
@@ -12,7 +12,6 @@ use Rattle.scalar_core.specs.Hart.{Hart, IsHart, reg_of}
 use Rattle.vector_core.specs.Machine.{Machine}
 use Rattle.vector_core.specs.Vectors.{Vectors, IsVectors}
 use Rattle.cert_note.specs.declared.values.Budget.{Budget}
-use Rattle.cert_note.specs.declared.values.Equality.{Equality}
 use Rattle.cert_note.specs.declared.values.RegisterFact.{RegisterFact}
 use Rattle.cert_note.specs.declared.values.VectorFact.{VectorFact}
 use Rattle.cert_note.specs.declared.values.Block.{Block}

@@ -1,5 +1,5 @@
 -- Laws of one step: what is known after an instruction is true of the machine that it leads to.
-use Rattle.std.specs.Prelude.{ℕ, ◌≡◌, ◌<◌, ◌+◌, ◌%◌, ◌^◌, ◌==◌, Bool, true, false, if◌then◌else◌, List, Option, Some, Result, Ok, Err}
+use Rattle.std.specs.Prelude.{ℕ, ◌≡◌, ◌<◌, ◌+◌, ◌%◌, ◌^◌, ◌==◌, Bool, true, false, if◌then◌else◌, List, Some, Result, Ok, Err}
 use Rattle.elf_image.specs.Image.{IsImage}
 use Rattle.rv_decode.specs.declared.instructions.Insn.{Insn}
 use Rattle.rv_decode.specs.declared.instructions.Insn.TheVariants.{Scalar, Csr, VSet, VArith, VMask, VPerm, VReduce, VMem, VMove}
@@ -75,7 +75,8 @@ CsrStepsHold =
 -- ---- machines
 
 -- A step leads to a machine of which is true what is known next, or to the fault of a misaligned jump there.
-pub record MachineIsHeld (e : Setting) (n : ℕ) (b : AbstractView) (result : Result Machine Fault) : Type 0 where
+pub record MachineIsHeld (e : Setting) (n : ℕ) (b : AbstractView) (result : Result Machine Fault)
+    : Type 0 where
   pub t : Machine
   pub is : result ≡ unless_misaligned t
   pub held : Held e n b t

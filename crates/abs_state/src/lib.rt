@@ -35,9 +35,7 @@ pub use laws::{
 pub use numbers::{MOST_ATOMS, Numbers, VL};
 pub use start_laws::zones_are_there;
 pub use state::{Abstract, MOST_WORDS, Way};
-pub use step_laws::{
-    csr_steps_hold, scalar_steps_hold, steps_are_held, steps_count, steps_go_on,
-};
+pub use step_laws::{csr_steps_hold, scalar_steps_hold, steps_are_held, steps_count, steps_go_on};
 pub use values::{Effect, Value, computed_range};
 pub use why::Why;
 pub use zones::{Zone, load_allowed, memory_zones, store_allowed};
