@@ -2,7 +2,8 @@
 # Builds an example's image: `./build.sh add_bytes` builds add_bytes/add_bytes.elf from add_bytes/add_bytes.s,
 # or from add_bytes.c where there is no such file. It needs Debian's packages clang-16 and lld-16. The image is
 # static, without compressed instructions and without floating point: RV32IM, with Zve32x in assembly and in C that
-# stands beside a native.c. That program is built and run too: it writes the inputs and the expected bytes.
+# stands beside a native.c. That program is built and run too: it writes the inputs and the
+# expected bytes. An image beside whose source a certificate.toml stands gets that certificate as a note.
 set -e
 cd "$(dirname "$0")"
 kernel=$1
@@ -22,3 +23,6 @@ ld.lld-16 -static -no-pie -z max-page-size=4 -z noexecstack --strip-all -T kerne
     "$kernel/$kernel.o" -o "$kernel/$kernel.elf"
 chmod -x "$kernel/$kernel.elf"
 rm "$kernel/$kernel.o"
+if [ -e "$kernel/certificate.toml" ]; then
+    ./certify.py "$kernel"
+fi

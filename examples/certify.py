@@ -1,0 +1,90 @@
+#!/usr/bin/env python3
+"""Puts a certificate into an image: `examples/certify.py sum_bytes` reads sum_bytes/certificate.toml and writes the note
+into sum_bytes/sum_bytes.elf, which `build.sh` has just built. docs/CERTIFICATES.md has the form of a certificate, docs/IMAGES.md
+that of a note. It checks nothing: `rvvbox check` says whether the certificate is one, and whether the code keeps to it."""
+import pathlib
+import struct
+import sys
+import tomllib
+
+KINDS = {"none": 0, "scalar": 1, "buffer": 2}
+MODES = {"r": 1, "rw": 3}
+NOTE, NOTE_FLAGS = 4, 4
+NO_EQUALITY = 255
+HEADER, PROGRAM_HEADER = 52, 32
+
+
+def parameter(param):
+    if param["kind"] == "buffer":
+        numbers = MODES[param["mode"]], 0, param["size"], 0
+    elif param["kind"] == "scalar":
+        numbers = 0, 0, param["lo"], param["hi"]
+    else:
+        numbers = 0, 0, 0, 0
+    return struct.pack("<BBHII", KINDS[param["kind"]], *numbers)
+
+
+def term(term):
+    """Atoms 1 to 32 are registers and vl where the block begins, 33 + j is what was passed for the parameter at place j."""
+    atom = 33 + term["passed"] if "passed" in term else term["register"]
+    return atom, term["factor"] % 2**32
+
+
+def register_fact(fact):
+    out = struct.pack("<BII", fact["number"], fact.get("lo", 0), fact.get("hi", 2**32 - 1))
+    if "equal" not in fact:
+        return out + bytes([NO_EQUALITY])
+    terms = sorted(term(t) for t in fact["equal"].get("terms", []))
+    out += struct.pack("<BI", len(terms), fact["equal"].get("constant", 0) % 2**32)
+    return out + b"".join(struct.pack("<BI", *t) for t in terms)
+
+
+def vector_fact(fact):
+    return struct.pack("<BBBBHHII", fact["register"], fact["width"], fact["registers"], 0, fact.get("count", 0), 0,
+                       fact["lo"], fact["hi"])
+
+
+def block(block):
+    facts, vectors = block.get("fact", []), block.get("vector", [])
+    vtype = block.get("vtype")
+    return (struct.pack("<III", block["start"], block["constant"], block.get("factor", 0))
+            + bytes([block.get("register", 0), vtype is not None, vtype or 0, len(facts), len(vectors), 0, 0, 0])
+            + b"".join(map(register_fact, facts)) + b"".join(map(vector_fact, vectors)))
+
+
+def certificate(stated):
+    params = stated.get("param", []) + [{"kind": "none"}] * (8 - len(stated.get("param", [])))
+    return (struct.pack("<HBB", 1, {128: 1, 256: 2}[stated["vlen"]], 0) + b"".join(map(parameter, params))
+            + struct.pack("<HH", len(stated["block"]), 0) + b"".join(map(block, stated["block"])))
+
+
+def padded(part):
+    return part + bytes(-len(part) % 4)
+
+
+def with_note(image, descriptor):
+    """The image's segments, and one note behind them. The program headers move behind the file's bytes."""
+    name = b"RVVBOX\0"
+    note = struct.pack("<III", len(name), len(descriptor), 1) + padded(name) + padded(descriptor)
+    first, = struct.unpack_from("<I", image, 28)
+    size, count = struct.unpack_from("<HH", image, 42)
+    assert size == PROGRAM_HEADER
+    headers = [image[first + size * i:first + size * (i + 1)] for i in range(count)]
+    assert all(struct.unpack_from("<I", header)[0] != NOTE for header in headers), "the image has a note: build it again"
+    body = padded(image)
+    place = len(body) + PROGRAM_HEADER * (len(headers) + 1)
+    headers.append(struct.pack("<8I", NOTE, place, 0, 0, len(note), len(note), NOTE_FLAGS, 4))
+    out = bytearray(body + b"".join(headers) + note)
+    struct.pack_into("<I", out, 28, len(body))
+    struct.pack_into("<H", out, 44, len(headers))
+    return bytes(out)
+
+
+def main():
+    folder = pathlib.Path(__file__).parent / sys.argv[1]
+    stated = tomllib.loads((folder / "certificate.toml").read_text())
+    image = folder / f"{folder.name}.elf"
+    image.write_bytes(with_note(image.read_bytes(), certificate(stated)))
+
+
+main()
