@@ -15,5 +15,3 @@ pub use values::{Block, Budget, Certificate, Contents, Equality, RegisterFact, T
 pub use vreg_groups::Vlen;
 pub use writing::write;
 
-#[cfg(test)]
-mod tests;

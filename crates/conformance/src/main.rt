@@ -9,15 +9,11 @@ mod images;
 mod legality;
 mod listing;
 mod memory;
-#[cfg(test)]
-mod refusing;
 mod runs;
 mod state;
 mod step;
 mod steps;
 mod table;
-#[cfg(test)]
-mod want_of_memory;
 mod words;
 
 use anyhow::Result;

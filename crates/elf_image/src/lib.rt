@@ -20,5 +20,3 @@ pub use layout::{
 pub use reading::read;
 pub use segment::{Rights, Segment};
 
-#[cfg(test)]
-mod tests;

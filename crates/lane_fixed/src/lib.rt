@@ -12,5 +12,3 @@ pub use kernels::{clip, compute};
 pub use lane::Lane;
 pub use operations::{ClipOp, FixedOp, RoundingMode};
 
-#[cfg(test)]
-mod tests;

@@ -15,5 +15,3 @@ pub use lane::Lane;
 pub use operations::{CarryOp, CompareOp, IntOp, MultiplyAddOp};
 pub use resizing::{Narrow, cut, extend};
 
-#[cfg(test)]
-mod tests;

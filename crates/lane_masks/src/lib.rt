@@ -16,5 +16,3 @@ pub use logic::combine;
 pub use operations::{FirstOp, FoldOp, LogicOp};
 pub use permutations::{compress, gather, slide_down, slide_one_down, slide_one_up, slide_up};
 
-#[cfg(test)]
-mod tests;

@@ -18,5 +18,3 @@ pub use laws::{
 };
 pub use ranges::{Atom, Atoms, Change, End, Range, Split};
 
-#[cfg(test)]
-mod tests;

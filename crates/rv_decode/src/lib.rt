@@ -15,8 +15,6 @@ mod opi_words;
 mod opm_words;
 mod scalar_words;
 mod system_words;
-#[cfg(test)]
-mod tests;
 mod vector_words;
 mod word;
 

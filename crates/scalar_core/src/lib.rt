@@ -11,8 +11,6 @@ mod hart;
 mod jumps;
 mod laws;
 mod steps;
-#[cfg(test)]
-mod tests;
 mod transfers;
 
 pub use hart::{EXIT, Scalar};

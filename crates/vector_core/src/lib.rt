@@ -27,8 +27,6 @@ mod setup;
 mod singles;
 mod state;
 mod step;
-#[cfg(test)]
-mod tests;
 mod widening;
 
 pub use state::VectorState;

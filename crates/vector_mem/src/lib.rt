@@ -5,8 +5,6 @@ mod accesses;
 mod elements;
 mod operands;
 mod plan;
-#[cfg(test)]
-mod tests;
 mod transfers;
 mod windows;
 

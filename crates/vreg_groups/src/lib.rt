@@ -10,8 +10,6 @@ mod legality;
 mod policies;
 mod registers;
 mod setup;
-#[cfg(test)]
-mod tests;
 mod vector_length;
 mod vector_type;
 

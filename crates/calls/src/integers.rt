@@ -1,6 +1,6 @@
 //! How a kernel is called. What each operation gives is tried against QEMU by the crate `conformance`.
 
-use crate::{CompareOp, IntOp, compare, compute, cut, extend};
+use lane_int::{CompareOp, IntOp, compare, compute, cut, extend};
 
 #[test]
 fn bytes_and_their_mask(rt: HostRuntime) {

@@ -1,6 +1,6 @@
 //! How a step is called. What every instruction gives is tried against QEMU by the crate `conformance`.
 
-use crate::{EXIT, Scalar, step_scalar};
+use scalar_core::{EXIT, Scalar, step_scalar};
 use elf_image::read;
 use region_mem::Fault::JumpMisaligned;
 use region_mem::{Arg, Args, Fault, Param, Parameters, Regions};

@@ -1,6 +1,6 @@
 //! How the kernels are called. Expected values are worked out by hand from the standard's rules on rounding.
 
-use crate::{ClipOp, FixedOp, RoundingMode, clip, compute};
+use lane_fixed::{ClipOp, FixedOp, RoundingMode, clip, compute};
 
 const MODES: [RoundingMode; 4] = [
     RoundingMode::NearestUp,

@@ -2,7 +2,7 @@
 
 ghost use Rattle.vreg_groups.specs.VectorLength.{IsConfig};
 
-use crate::{Access, access, load, store};
+use vector_mem::{Access, access, load, store};
 use elf_image::read;
 use region_mem::{Arg, Args, Fault, Param, Parameters, Regions, Right};
 use rv_decode::{Count, Direction, Insn, Place, Reg, VMem, Width};

@@ -1,5 +1,5 @@
 //! How certificates are read, written and made.
-use crate::{CertError, Certificate, Contents, Vlen, read, write};
+use cert_note::{CertError, Certificate, Contents, Vlen, read, write};
 use region_mem::{Param, Parameters};
 use std::alloc::Global;
 use std::test::Fail;

@@ -3,7 +3,7 @@
 
 mod elements;
 
-use crate::{VectorState, step_vector};
+use vector_core::{VectorState, step_vector};
 use elf_image::read;
 use region_mem::{Arg, Args, Fault, Param, Parameters, Regions};
 use rv_decode::{

@@ -1,7 +1,7 @@
 //! Reductions, masks and permutations under e8, m1, ta, with values worked out by hand.
 
-use crate::tests::memory;
-use crate::{VectorState, step_vector};
+use crate::vector_steps::memory;
+use vector_core::{VectorState, step_vector};
 use rv_decode::{FoldOp, Insn, Offset, Reg, VMask, VPerm, VReduce, VSet};
 use scalar_core::Scalar;
 use std::alloc::Global;

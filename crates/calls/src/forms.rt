@@ -1,5 +1,5 @@
 //! How forms are added, replaced and compared, and how their ranges are found.
-use crate::{Atom, Atoms, Change, Form, Multiple, Range, Split, is_at_least};
+use linear_facts::{Atom, Atoms, Change, Form, Multiple, Range, Split, is_at_least};
 use std::process::Abort;
 
 /// `constant + coefficient * atom`.

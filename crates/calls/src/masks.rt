@@ -1,6 +1,6 @@
 //! How the kernels are called. Expected values are worked out by hand from the standard's examples and rules.
 
-use crate::{
+use lane_masks::{
     FirstOp, FoldOp, LogicOp, combine, compress, count, first, fold, fold_extended, gather, index,
     iota, set_first, slide_down, slide_one_down, slide_one_up, slide_up,
 };

@@ -1,6 +1,6 @@
 //! Calls of the libraries of which each allocation fails in turn: the answer is want of memory, and what was handed in
 //! comes back as it was.
-use crate::fields::bytes;
+use hex::decode;
 use crate::refusing::Refusing;
 use cert_note::CertError;
 use elf_image::ElfError;
@@ -34,8 +34,8 @@ const CERTIFICATE: &str = "\
 00000000230100000008080100000000000000000009000000";
 
 fn file(alloc: Global) -> Result<Vec<u8>, Fail> {
-    let mut file = bytes(alloc, FILE)?;
-    file.extend_from_slice(bytes(alloc, CERTIFICATE)?.as_slice())?;
+    let mut file = decode(alloc, FILE)?;
+    file.extend_from_slice(decode(alloc, CERTIFICATE)?.as_slice())?;
     Ok(file)
 }
 
@@ -58,7 +58,7 @@ fn reading_an_image(rt: HostRuntime) -> Result<(), Fail> {
             Ok(image) => {
                 assert!(rt; !heap.has_refused() && after > 0);
                 assert_eq!(rt; image.segments().len(), 2);
-                assert!(rt; image.certificate() == Some(bytes(alloc, CERTIFICATE)?.as_slice()));
+                assert!(rt; image.certificate() == Some(decode(alloc, CERTIFICATE)?.as_slice()));
                 return Ok(());
             }
             Err(error) => {
@@ -165,7 +165,7 @@ fn running(rt: HostRuntime) -> Result<(), Fail> {
 #[test]
 fn reading_a_certificate(rt: HostRuntime) -> Result<(), Fail> {
     let alloc = rt.alloc();
-    let spelling = bytes(alloc, CERTIFICATE)?;
+    let spelling = decode(alloc, CERTIFICATE)?;
     for after in 0..MANY {
         let heap = Refusing::new(alloc, after);
         match cert_note::read(&heap, spelling.as_slice()) {
@@ -188,7 +188,7 @@ fn reading_a_certificate(rt: HostRuntime) -> Result<(), Fail> {
 #[test]
 fn writing_a_certificate(rt: HostRuntime) -> Result<(), Fail> {
     let alloc = rt.alloc();
-    let spelling = bytes(alloc, CERTIFICATE)?;
+    let spelling = decode(alloc, CERTIFICATE)?;
     let certificate = cert_note::read(alloc, spelling.as_slice())?;
     for after in 0..MANY {
         let heap = Refusing::new(alloc, after);

@@ -1,5 +1,5 @@
 //! How a file is read.
-use super::*;
+use elf_image::*;
 use std::test::Fail;
 
 /// An executable as the standard lays it out: a header, three program headers, code, data, a note.

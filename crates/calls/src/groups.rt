@@ -1,6 +1,6 @@
 //! How a legal instruction's groups are resolved, read and written.
 
-use crate::{
+use vreg_groups::{
     Agnostic, Avl, Group, Lmul, Policy, Vconfig, VregFile, Vtype, legal, legal_type, vset,
 };
 use rv_decode::{Eew, Insn, IntOp, Reg, Source, VArith, Width};
@@ -29,7 +29,7 @@ fn legality_answers_the_vector_type(rt: HostRuntime) -> Result<(), Fail> {
     Ok(())
 }
 
-#[tactic(auto, unfolding(crate::specs::VectorType::vlmax_of, crate::specs::Legality::count_of, crate::specs::Legality::element_bits, crate::specs::Legality::group_count, crate::specs::Legality::emul_eighths))]
+#[tactic(auto, unfolding(vreg_groups::specs::VectorType::vlmax_of, vreg_groups::specs::Legality::count_of, vreg_groups::specs::Legality::element_bits, vreg_groups::specs::Legality::group_count, vreg_groups::specs::Legality::emul_eighths))]
 #[test]
 fn a_group_is_written_and_read(rt: HostRuntime) -> Result<(), Fail> {
     let vtype = Vtype {
@@ -56,7 +56,7 @@ fn a_group_is_written_and_read(rt: HostRuntime) -> Result<(), Fail> {
     Ok(())
 }
 
-#[tactic(auto, unfolding(crate::specs::VectorType::vlmax_of, crate::specs::Legality::count_of, crate::specs::Legality::element_bits, crate::specs::Legality::group_count, crate::specs::Legality::emul_eighths))]
+#[tactic(auto, unfolding(vreg_groups::specs::VectorType::vlmax_of, vreg_groups::specs::Legality::count_of, vreg_groups::specs::Legality::element_bits, vreg_groups::specs::Legality::group_count, vreg_groups::specs::Legality::emul_eighths))]
 #[test]
 fn a_body_is_written_and_read_by_its_bytes(rt: HostRuntime) -> Result<(), Fail> {
     let vtype = Vtype {

@@ -1,7 +1,7 @@
 //! How the calls are used. The words come from the LLVM assembler; the whole table is tried against it by the crate
 //! `conformance`.
 
-use super::*;
+use rv_decode::*;
 
 #[test]
 fn a_word_of_each_class(rt: HostRuntime) {
