@@ -1,7 +1,6 @@
 //! How a step is made: a vset, a load, a sum, a store, and a fault; and instructions of two widths, whose results are worked
 //! out by hand from the standard.
 
-mod elements;
 
 use vector_core::{VectorState, step_vector};
 use elf_image::read;

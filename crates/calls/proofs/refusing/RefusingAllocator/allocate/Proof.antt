@@ -39,14 +39,14 @@ use Rattle.std.specs.contracts.cell.Cell as cell
 use Rattle.std.specs.contracts.option.Option as option
 use Rattle.std.proofs.VecSteps.Shapes.{after}
 use Rattle.std.proofs.alloc.Calls.{Al, α, seen, Answer, answer_val, Answer-typed, Answer-Ok, Answer-err, takes_key, Takes, at_takes, Answered, Takes-goes, Takes-gives, answers}
-use Rattle.conformance.specs.contracts.refusing.is_refused as count
-use Rattle.conformance.proofs.refusing.is_refused.Symbol as count_symbol
-use Rattle.conformance.proofs.refusing.is_refused.Met as count_met
-use Rattle.conformance.specs.contracts.refusing.Refusing as wrapper
-use Rattle.conformance.specs.contracts.refusing.RefusingAllocator.allocate as F
-use Rattle.conformance.specs.contracts.refusing.RefusingAllocator.allocate.Key as key
-use Rattle.conformance.proofs.refusing.RefusingAllocator.allocate.Statement as stated
-use Rattle.conformance.proofs.refusing.RefusingAllocator.allocate.Code as code
+use Rattle.calls.specs.contracts.refusing.is_refused as count
+use Rattle.calls.proofs.refusing.is_refused.Symbol as count_symbol
+use Rattle.calls.proofs.refusing.is_refused.Met as count_met
+use Rattle.calls.specs.contracts.refusing.Refusing as wrapper
+use Rattle.calls.specs.contracts.refusing.RefusingAllocator.allocate as F
+use Rattle.calls.specs.contracts.refusing.RefusingAllocator.allocate.Key as key
+use Rattle.calls.proofs.refusing.RefusingAllocator.allocate.Statement as stated
+use Rattle.calls.proofs.refusing.RefusingAllocator.allocate.Code as code
 
 -- `is_refused` at a call: what it is handed, and what a caller has of it.
 abbrev Left : RattleType
@@ -154,4 +154,4 @@ allocate_spec 𝓤 𝓛 𝓜 𝓡 wired Y L g d d' met _ =
     entered 𝓤 𝓛.H (triple_of 𝓛 (F.signature Y) (F.spec Y g d d' 𝓛 𝓜.mem 𝓡.returns)) 𝓣.C 𝓣.Λ (key.name (args Z)) (here Z) (code.unfolded 𝓤 𝓛.H 𝓜 𝓡 wired (Y, tt) d d')
     (walk_Meets 𝓛 (ended Z) (stayed Z) (Goes-dropped 𝓛 2 (self Z) yes (λ κs x f. refl), (Goes-dropped 𝓛 2 (plain (λ _. usize)) yes (λ κs x f. refl), (Goes-dropped 𝓛 2 (plain (λ _. usize)) yes (λ κs x f. refl), tt))) c (WpFn 𝓤 𝓛.H 𝓣.C 𝓣.Λ (here Z)) (WpFn-mono 𝓤 𝓛.H 𝓛.laws 𝓣 (here Z))
     (walked 𝓛 (ended Z) (stayed Z) c (WpFn 𝓤 𝓛.H 𝓣.C 𝓣.Λ (here Z)) (λ κs. (shr_vals, (uint_vals w64, (uint_vals w64, tt)))) (λ κs. ((λ r vs s. s.0), (uint_Tells w64, (uint_Tells w64, tt))))
-    (λ κs qs bounds a τ are. walk Z 𝓛 𝓜.mem 𝓡.returns 𝓣 (met.allocate d') (cited 𝓤 𝓛.H _ 𝓜 𝓡 𝓡.env count_symbol.name (𝓡.env count_symbol.name) refl (count_met.met 𝓤 𝓛 𝓜 𝓡 (code.calls-conformance::refusing::is_refused 𝓡.env wired))) κs.0 κs.1.0 qs.0 qs.1.0 bounds.0 a.0 a.1.0 a.1.1.0 τ are.1.0.1 are.1.1.0.1)))
+    (λ κs qs bounds a τ are. walk Z 𝓛 𝓜.mem 𝓡.returns 𝓣 (met.allocate d') (cited 𝓤 𝓛.H _ 𝓜 𝓡 𝓡.env count_symbol.name (𝓡.env count_symbol.name) refl (count_met.met 𝓤 𝓛 𝓜 𝓡 (code.calls-calls::refusing::is_refused 𝓡.env wired))) κs.0 κs.1.0 qs.0 qs.1.0 bounds.0 a.0 a.1.0 a.1.1.0 τ are.1.0.1 are.1.1.0.1)))
