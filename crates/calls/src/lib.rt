@@ -19,6 +19,8 @@ mod integers;
 #[cfg(test)]
 mod masks;
 #[cfg(test)]
+mod memory;
+#[cfg(test)]
 mod refusing;
 #[cfg(test)]
 mod scalar_steps;

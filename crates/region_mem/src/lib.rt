@@ -28,5 +28,3 @@ pub use layout::{BUFFERS, BUFFERS_END, MAX_BUFFER_SIZE, PAGE_SIZE, STACK, STACK_
 pub use memory::Regions;
 pub use parameter::{ArgError, Mode, Param, Parameters};
 
-#[cfg(test)]
-mod tests;

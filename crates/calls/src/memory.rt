@@ -1,5 +1,5 @@
 //! How a run's memory is made, used and given back.
-use crate::{
+use region_mem::{
     Arg, ArgError, Args, Bytes, Fault, Mode, Param, Parameters, Regions, Right, args_bring_bytes,
 };
 use elf_image::Image;
