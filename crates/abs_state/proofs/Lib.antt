@@ -7,6 +7,9 @@ pub mod Operations
 pub mod Payments
 pub mod Refinements
 pub mod Rooms
+pub mod StartForms
+pub mod StartNumbers
+pub mod StartRanges
 pub mod StartZones
 pub mod States
 pub mod StepMachines

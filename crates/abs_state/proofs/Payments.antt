@@ -20,7 +20,8 @@ use Rattle.cert_note.specs.Certificate.{is_atom, AllFrom, after_term, IsTerm}
 use Rattle.abs_state.specs.Values.{ValueView}
 use Rattle.abs_state.specs.Numbers.{NumbersView, value_at}
 use Rattle.abs_state.specs.Described.{LiesIn, IsNumber}
-use Rattle.abs_state.specs.Edges.{form_term, is_same, covers, says, product_if, is_paid}
+use Rattle.abs_state.specs.Blocks.{form_term}
+use Rattle.abs_state.specs.Edges.{is_same, covers, says, product_if, is_paid}
 use Rattle.abs_state.proofs.Substitutions.{both_true, same_if, same_forms}
 
 -- ---- equalities

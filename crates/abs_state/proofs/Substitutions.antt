@@ -7,7 +7,8 @@ use Rattle.linear_facts.specs.declared.forms.Term.{Term}
 use Rattle.linear_facts.specs.Forms.{Linear, form_at, scaled, sum_of, with_replaced}
 use Rattle.linear_facts.proofs.FormLaws.{replaced-more, replaced-done}
 use Rattle.cert_note.specs.declared.values.Term.{Term as Part}
-use Rattle.abs_state.specs.Edges.{form_term, are_same_terms, is_same}
+use Rattle.abs_state.specs.Blocks.{form_term}
+use Rattle.abs_state.specs.Edges.{are_same_terms, is_same}
 
 -- one more term is replaced
 pub sums_more : (forms : List Linear) (start next part : Linear) (ts : List Part) (i : ℕ) (d : Part) (all : Linear) → i < length ts

@@ -1,12 +1,13 @@
 -- What is known where a block begins, and where a run does. Atom i below 33 is the number of x0 to x31 or of vl there, and
 -- atom 33 + j the number that was passed for the parameter at place j.
-use Rattle.std.specs.Prelude.{ℕ, ◌+◌, ◌-◌, ◌==◌, nat_le, nat_lt, ◌&&◌, if◌then◌else◌, List, [], ◌++◌, map, find, unwrap_or, Option, Some, None}
-use Rattle.std.specs.List.{slice_get, range_with_len}
+use Rattle.std.specs.Prelude.{ℕ, ◌<◌, ◌≤◌, ◌+◌, ◌-◌, ◌==◌, nat_le, nat_lt, ◌&&◌, if◌then◌else◌, List, [], ◌++◌, length, map, find, unwrap_or, Option, Some, None, IfSome}
+use Rattle.std.specs.List.{slice_get, range_with_len, AllByRecursion}
 use Rattle.std.specs.Option.{option_and_then}
 use Rattle.elf_image.specs.Image.{ImageView}
+use Rattle.linear_facts.specs.declared.forms.Term.{Term as FormTerm}
 use Rattle.linear_facts.specs.declared.ranges.Range.{Range}
 use Rattle.linear_facts.specs.declared.ranges.Atom.{Atom}
-use Rattle.linear_facts.specs.Forms.{Linear, number_form, atom_form}
+use Rattle.linear_facts.specs.Forms.{Linear, IsForm, number_form, atom_form}
 use Rattle.linear_facts.specs.Ranges.{AtomTable}
 use Rattle.linear_facts.specs.Sums.{range_of_form}
 use Rattle.region_mem.specs.declared.layout.TheConstants.{STACK_END}
@@ -38,12 +39,24 @@ interval_of (Some fact) = record { lo = fact.low; hi = fact.high }
 unfoldable pub stated_range : List RegisterFact → ℕ → Range
 stated_range facts i = if i == 0 then just 0 else interval_of (fact_for facts i)
 
+-- a term of an equality as one of a form
+abbrev pub form_term : Term → FormTerm
+form_term t = record { atom = t.atom; coefficient = t.coefficient }
+
 -- the sum of an equality as a form
 abbrev pub equality_form : Equality → Linear
-equality_form equality = record {
-  constant = equality.constant;
-  terms = map (λ (t : Term). record { atom = t.atom; coefficient = t.coefficient }) equality.terms.items;
-}
+equality_form equality =
+    record { constant = equality.constant; terms = map form_term equality.terms.items }
+
+-- The sum that is stated, if one is, is a form with at most eight terms.
+abbrev pub HasForm : RegisterFact → Type 0
+HasForm fact = IfSome fact.equality (λ equality. IsForm 8 (equality_form equality))
+
+-- What the start of a block needs of its contents, which each block of a certificate has.
+pub record IsUsable (block : Block) : Type 0 where
+  pub forms : AllByRecursion HasForm block.registers.items
+  pub register : block.budget.register < 32
+  pub few : length block.vectors.items ≤ 32
 
 -- the equality, or the atom of this number where there is none
 abbrev pub form_or_atom : ℕ → Option Equality → Linear

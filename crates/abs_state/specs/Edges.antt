@@ -8,7 +8,6 @@ use Rattle.linear_facts.specs.Forms.{Linear, substituted}
 use Rattle.linear_facts.specs.Differences.{Product, is_at_least_of}
 use Rattle.linear_facts.specs.Ranges.{AtomTable}
 use Rattle.scalar_core.specs.Hart.{exit}
-use Rattle.cert_note.specs.declared.values.Term.{Term as Part}
 use Rattle.cert_note.specs.declared.values.Budget.{Budget}
 use Rattle.cert_note.specs.declared.values.Equality.{Equality}
 use Rattle.cert_note.specs.declared.values.RegisterFact.{RegisterFact}
@@ -37,10 +36,6 @@ is_same f g = (f.constant == g.constant) && are_same_terms f.terms g.terms
 unfoldable pub is_interval_shown : EdgeView → RegisterFact → Bool
 is_interval_shown e fact =
     let r = (value_on e fact.number).range in nat_le fact.low r.lo && nat_le r.hi fact.high
-
--- a term of an equality as one of a form
-abbrev pub form_term : Part → Term
-form_term t = record { atom = t.atom; coefficient = t.coefficient }
 
 -- the sum of an equality, with registers and vl as they are now, is the number's form
 unfoldable pub is_sum_shown : EdgeView → ℕ → Equality → Bool

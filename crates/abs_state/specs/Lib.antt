@@ -1,5 +1,6 @@
 pub mod Addresses
 pub mod After
+pub mod BlockLaws
 pub mod Blocks
 pub mod Branches
 pub mod Described

@@ -3,8 +3,9 @@ ghost use Rattle.std.specs.Prelude.{◌≡◌, ◌+◌, ◌<◌, ◌≤◌, ◌^
 ghost use Rattle.std.specs.List.{list_all, list_any};
 ghost use Rattle.std.specs.Option.{option_map};
 ghost use Rattle.linear_facts.specs.Forms.{form_at, scaled, substituted};
+ghost use Rattle.abs_state.specs.Blocks.{form_term};
 ghost use Rattle.abs_state.specs.Branches.{table_on, value_on};
-ghost use Rattle.abs_state.specs.Edges.{covers as covers_of, form_term, implied_by, implies_block as implies_block_of, implies_end as implies_end_of};
+ghost use Rattle.abs_state.specs.Edges.{covers as covers_of, implied_by, implies_block as implies_block_of, implies_end as implies_end_of};
 ghost use Rattle.abs_state.specs.Edges.{is_equality_shown as is_equality_shown_of, is_interval_shown as is_interval_shown_of};
 ghost use Rattle.abs_state.specs.Edges.{is_paid as is_paid_of, is_paid_for as is_paid_for_of, is_sum_shown as is_sum_shown_of};
 ghost use Rattle.abs_state.specs.Edges.{is_vector_shown as is_vector_shown_of, is_vtype_shown as is_vtype_shown_of};

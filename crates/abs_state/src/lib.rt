@@ -5,6 +5,8 @@
 #![tactic(auto)]
 
 mod after;
+mod block_laws;
+mod blocks;
 mod branches;
 mod edge_laws;
 mod edges;
@@ -19,6 +21,7 @@ mod values;
 mod why;
 mod zones;
 
+pub use block_laws::{block_numbers_hold, entry_numbers_hold};
 pub use branches::{Edge, Relation};
 pub use edge_laws::{
     edges_are_taken, edges_keep, implied_ends, implied_fits, one_edge, straight_edges,

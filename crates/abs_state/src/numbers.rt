@@ -1,5 +1,5 @@
 //! The numbers of the registers and of vl, as far as they are known.
-ghost use Rattle.std.specs.Prelude.{◌≡◌, ◌<◌, length, replicate, IfOk};
+ghost use Rattle.std.specs.Prelude.{◌≡◌, ◌<◌, ◌≤◌, length, replicate, vec_capacity, IfOk};
 ghost use Rattle.linear_facts.specs.Forms.{number_form};
 ghost use Rattle.abs_state.specs.Numbers.{zero_numbers, table_of, value_at};
 ghost use Rattle.abs_state.specs.Numbers.{with_value, with_fresh, with_computed, with_effect, with_result};
@@ -61,6 +61,19 @@ impl<A: Allocator> Numbers<A> {
             forms: zeros(alloc)?,
             ranges: [Range { lo: 0, hi: 0 }; 33],
         })
+    }
+
+    /// The numbers with these atoms, forms and ranges.
+    pub(crate) fn by(atoms: Vec<Atom, A>, forms: Vec<Form<8>, A>, ranges: [Range; 33]) -> Numbers<A>
+        requires room { MOST_ATOMS ≤ vec_capacity atoms }
+        requires count { length forms.items ≡ 33 }
+        ensures { result ≡ record { atoms = atoms.items; forms = forms.items; ranges = ranges } }
+    {
+        Numbers {
+            atoms,
+            forms,
+            ranges,
+        }
     }
 
     /// What is known of the atoms.

@@ -1,0 +1,387 @@
+//! What is known where a block begins, and where a run does.
+ghost use Rattle.std.specs.Prelude.{◌≡◌, ◌<◌, ◌≤◌, ◌+◌, length, map, vec_capacity, IfOk, Some, None};
+ghost use Rattle.std.specs.List.{range_with_len, slice_get, AllByRecursion};
+ghost use Rattle.linear_facts.specs.Forms.{IsForm};
+ghost use Rattle.linear_facts.specs.Ranges.{AtomTable};
+ghost use Rattle.linear_facts.specs.Sums.{range_of_form};
+ghost use Rattle.abs_state.specs.Values.{computed_range as computed_range_of};
+ghost use Rattle.std.specs.Option.{option_and_then, option_map};
+ghost use Rattle.abs_state.specs.Blocks.{fact_for, interval_of, form_or_atom};
+ghost use Rattle.abs_state.specs.Blocks.{stated_range as stated_range_of, equality_form as equality_form_of, stated_form as stated_form_of};
+ghost use Rattle.abs_state.specs.Blocks.{passed_range as passed_range_of, passed_form as passed_form_of, entry_form as entry_form_of};
+ghost use Rattle.abs_state.specs.Blocks.{HasForm, IsUsable, start_atoms as start_atoms_of, start_numbers as start_numbers_of, entry_numbers as entry_numbers_of};
+ghost use Rattle.abs_state.specs.Blocks.{at_block_of, at_entry_of};
+
+use crate::effects::copy_of;
+use crate::numbers::{MOST_ATOMS, Numbers};
+use crate::state::{Abstract, MOST_WORDS, Way};
+use crate::values::computed_range;
+use crate::zones::memory_zones;
+use cert_note::{Block, Certificate, Equality, RegisterFact, VectorFact};
+use elf_image::Image;
+use linear_facts::{Atom, Atoms, Form, Range, Term};
+use region_mem::{Param, Parameters, STACK_END};
+use scalar_core::EXIT;
+use std::alloc::{AllocError, Allocator};
+
+/// How many facts on vector registers there may be: those of a block, and one for each instruction.
+const MOST_FACTS: usize = 32 + MOST_WORDS as usize;
+
+/// The fact on a register or on vl (32), if there is one.
+fn fact_on(facts: &[RegisterFact], number: u8) -> Option<&RegisterFact>
+    ensures { option_map (λ fact. fact.now) result ≡ fact_for facts.now number }
+{
+    facts.iter().find(|fact| fact.number == number)
+}
+
+/// The interval of the fact on a register or on vl (32), if there is one.
+fn fact_range(facts: &[RegisterFact], number: u8) -> Range
+    ensures { result ≡ interval_of (fact_for facts.now number) }
+{
+    match fact_on(facts, number) {
+        None => Range::FULL,
+        Some(fact) => Range {
+            lo: fact.low,
+            hi: fact.high,
+        },
+    }
+}
+
+/// The interval that is stated of a register (0 to 31) or of vl (32).
+#[tactic(auto, unfolding(crate::specs::Blocks::stated_range))]
+fn stated_range(facts: &[RegisterFact], number: u8) -> Range
+    ensures { result ≡ stated_range_of facts.now number }
+{
+    if number == 0 {
+        Range { lo: 0, hi: 0 }
+    } else {
+        fact_range(facts, number)
+    }
+}
+
+/// The sum of an equality as a form.
+fn equality_form(equality: &Equality) -> Form<8>
+    requires { IsForm 8 (equality_form_of equality.now) }
+    ensures { result ≡ equality_form_of equality.now }
+{
+    let mut form = Form::number(equality.constant);
+    for term in equality.terms.as_slice() {
+        form = form.with_term(Term {
+            atom: u16::from(term.atom),
+            coefficient: term.coefficient,
+        });
+    }
+    form
+}
+
+/// The form of a fact's sum, or the atom of this number where it states none.
+fn form_of_fact(fact: &RegisterFact, number: u8) -> Form<8>
+    requires { HasForm fact.now }
+    ensures { result ≡ form_or_atom number fact.now.equality }
+{
+    match &fact.equality {
+        None => Form::atom(u16::from(number)),
+        Some(equality) => equality_form(equality),
+    }
+}
+
+/// The form of the fact on a register or on vl (32), or its atom.
+fn fact_form(facts: &[RegisterFact], number: u8) -> Form<8>
+    requires { AllByRecursion HasForm facts.now }
+    ensures { result ≡ form_or_atom number
+        (option_and_then (λ fact. fact.equality) (fact_for facts.now number)) }
+{
+    match fact_on(facts, number) {
+        None => Form::atom(u16::from(number)),
+        Some(fact) => form_of_fact(fact, number),
+    }
+}
+
+/// The form that is stated of a register (0 to 31) or of vl (32).
+#[tactic(auto, unfolding(crate::specs::Blocks::stated_form))]
+fn stated_form(facts: &[RegisterFact], number: u8) -> Form<8>
+    requires { AllByRecursion HasForm facts.now }
+    ensures { result ≡ stated_form_of facts.now number }
+{
+    if number == 0 {
+        Form::number(0)
+    } else {
+        fact_form(facts, number)
+    }
+}
+
+/// What is known of the number that is passed for a parameter.
+#[tactic(auto, unfolding(crate::specs::Blocks::passed_range))]
+fn passed_range(param: Param) -> Range
+    ensures { result ≡ passed_range_of (Some param) }
+{
+    match param {
+        Param::Scalar { lo, hi } => Range { lo, hi },
+        Param::None | Param::Buffer { mode: _, size: _ } => Range::FULL,
+    }
+}
+
+/// The atoms of registers and vl, and those of the numbers passed.
+#[tactic(auto, unfolding(crate::specs::Blocks::start_atoms))]
+fn start_atoms<A: Allocator>(
+    alloc: A,
+    parameters: &Parameters,
+    facts: &[RegisterFact],
+) -> Result<Vec<Atom, A>, AllocError>
+    ensures items { IfOk result (λ atoms. atoms.items ≡ start_atoms_of parameters.now facts.now) }
+    ensures room { IfOk result (λ atoms. MOST_ATOMS ≤ vec_capacity atoms) }
+{
+    let mut atoms = Vec::with_capacity(alloc, MOST_ATOMS)?;
+    for number in 0..33_u8 {
+        atoms.push(Atom {
+            range: stated_range(facts, number),
+            split: None,
+        })?;
+    }
+    for place in 0..8_usize {
+        atoms.push(Atom {
+            range: passed_range(parameters.param(place)),
+            split: None,
+        })?;
+    }
+    Ok(atoms)
+}
+
+/// The forms of registers and vl where these facts hold.
+fn start_forms<A: Allocator>(
+    alloc: A,
+    facts: &[RegisterFact],
+) -> Result<Vec<Form<8>, A>, AllocError>
+    requires { AllByRecursion HasForm facts.now }
+    ensures { IfOk result (λ forms.
+        forms.items ≡ map (stated_form_of facts.now) (range_with_len 0 33)) }
+{
+    let mut forms = Vec::with_capacity(alloc, 33)?;
+    for number in 0..33_u8 {
+        forms.push(stated_form(facts, number))?;
+    }
+    Ok(forms)
+}
+
+/// The ranges of registers and vl where these facts hold.
+fn start_ranges(atoms: &Atoms<'_>, forms: &[Form<8>], facts: &[RegisterFact]) -> [Range; 33]
+    requires { forms.now ≡ map (stated_form_of facts.now) (range_with_len 0 33) }
+    ensures { result ≡ map
+        (λ i. computed_range_of (Some (stated_range_of facts.now i))
+            (range_of_form atoms.now (stated_form_of facts.now i)))
+        (range_with_len 0 33) }
+{
+    let mut ranges = [Range::FULL; 33];
+    for number in 0..33_usize {
+        ranges[number] = computed_range(
+            Some(stated_range(facts, number as u8)),
+            forms[number].range_of(atoms),
+        );
+    }
+    ranges
+}
+
+/// What an argument register holds at the start of a run.
+#[tactic(auto, unfolding(crate::specs::Blocks::passed_form))]
+fn passed_form(parameters: &Parameters, place: usize) -> Form<8>
+    requires { place < 8 }
+    ensures { result ≡ passed_form_of parameters.now place (slice_get parameters.now place) }
+{
+    match parameters.param(place) {
+        Param::None => Form::number(0),
+        Param::Scalar { lo: _, hi: _ } => Form::atom(33 + place as u16),
+        Param::Buffer { mode: _, size: _ } => Form::number(parameters.address(place).unwrap_or(0)),
+    }
+}
+
+/// What a register (0 to 31) or vl (32) holds at the start of a run.
+#[tactic(auto, unfolding(crate::specs::Blocks::entry_form))]
+fn entry_form(parameters: &Parameters, number: usize) -> Form<8>
+    ensures { result ≡ entry_form_of parameters.now number }
+{
+    if number == 1 {
+        Form::number(EXIT)
+    } else if number == 2 {
+        Form::number(STACK_END)
+    } else if 10 <= number && number < 18 {
+        passed_form(parameters, number - 10)
+    } else {
+        Form::number(0)
+    }
+}
+
+/// The forms of registers and vl at the start of a run.
+fn entry_forms<A: Allocator>(
+    alloc: A,
+    parameters: &Parameters,
+) -> Result<Vec<Form<8>, A>, AllocError>
+    ensures { IfOk result (λ forms.
+        forms.items ≡ map (entry_form_of parameters.now) (range_with_len 0 33)) }
+{
+    let mut forms = Vec::with_capacity(alloc, 33)?;
+    for number in 0..33_usize {
+        forms.push(entry_form(parameters, number))?;
+    }
+    Ok(forms)
+}
+
+/// The ranges of these forms.
+fn form_ranges(atoms: &Atoms<'_>, forms: &[Form<8>]) -> [Range; 33]
+    requires { length forms.now ≡ 33 }
+    ensures { result ≡ map (λ form. computed_range_of None (range_of_form atoms.now form)) forms.now }
+{
+    let mut ranges = [Range::FULL; 33];
+    for (place, form) in forms.iter().enumerate() {
+        ranges[place] = computed_range(None, form.range_of(atoms));
+    }
+    ranges
+}
+
+/// The numbers of registers and vl where these facts hold.
+#[tactic(auto, unfolding(crate::specs::Blocks::start_numbers, crate::specs::Blocks::numbers_by))]
+fn start_numbers<A: Allocator>(
+    alloc: A,
+    parameters: &Parameters,
+    facts: &[RegisterFact],
+) -> Result<Numbers<A>, AllocError>
+where
+    A: Copy,
+    requires { AllByRecursion HasForm facts.now }
+    ensures numbers { IfOk result (λ numbers. numbers ≡ start_numbers_of parameters.now facts.now) }
+    ensures few { IfOk result (λ numbers. length numbers.atoms ≡ 41) }
+{
+    let atoms = start_atoms(alloc, parameters, facts)?;
+    let forms = start_forms(alloc, facts)?;
+    let table = Atoms {
+        atoms: atoms.as_slice(),
+        first: None,
+        second: None,
+    };
+    let ranges = start_ranges(&table, forms.as_slice(), facts);
+    Ok(Numbers::by(atoms, forms, ranges))
+}
+
+/// The numbers of registers and vl at the start of a run.
+#[tactic(auto, unfolding(crate::specs::Blocks::entry_numbers, crate::specs::Blocks::numbers_by))]
+fn entry_numbers<A: Allocator>(alloc: A, parameters: &Parameters) -> Result<Numbers<A>, AllocError>
+where
+    A: Copy,
+    ensures numbers { IfOk result (λ numbers. numbers ≡ entry_numbers_of parameters.now) }
+    ensures few { IfOk result (λ numbers. length numbers.atoms ≡ 41) }
+{
+    let atoms = start_atoms(alloc, parameters, &[])?;
+    let forms = entry_forms(alloc, parameters)?;
+    let table = Atoms {
+        atoms: atoms.as_slice(),
+        first: None,
+        second: None,
+    };
+    let ranges = form_ranges(&table, forms.as_slice());
+    Ok(Numbers::by(atoms, forms, ranges))
+}
+
+/// A list of these facts on vector registers, with room for those that instructions add.
+fn with_room<A: Allocator>(alloc: A, facts: &[VectorFact]) -> Result<Vec<VectorFact, A>, AllocError>
+    requires { length facts.now ≤ 32 }
+    ensures items { IfOk result (λ groups. groups.items ≡ facts.now) }
+    ensures room { IfOk result (λ groups. 32 + 4096 ≤ vec_capacity groups) }
+{
+    let mut groups = Vec::with_capacity(alloc, MOST_FACTS)?;
+    for fact in facts {
+        groups.push(*fact)?;
+    }
+    Ok(groups)
+}
+
+impl<A: Allocator> Abstract<A> {
+    /// What is known where this block begins.
+    #[tactic(auto, unfolding(crate::specs::Blocks::at_block_of))]
+    fn at<B: Allocator, C: Allocator>(
+        alloc: A,
+        certificate: &Certificate<C>,
+        image: &Image<B>,
+        block: &Block,
+    ) -> Result<Abstract<A>, AllocError>
+    where
+        A: Copy,
+        requires { IsUsable block.now }
+        ensures state { IfOk result (λ a. a ≡ at_block_of image.now certificate.now block.now) }
+        ensures begins { IfOk result (λ a. a.words ≡ 0) }
+    {
+        let contents = certificate.contents();
+        let numbers = start_numbers(alloc, &contents.parameters, block.registers.as_slice())?;
+        let paid = numbers.value(usize::from(block.budget.register));
+        let paid_form = copy_of(paid.form);
+        let paid_range = paid.range;
+        Ok(Abstract {
+            vlenb: contents.vlen.bytes() as u32,
+            zones: memory_zones(image, &contents.parameters),
+            vtype: block.vtype,
+            groups: with_room(alloc, block.vectors.as_slice())?,
+            budget: Some(block.budget),
+            paid_form,
+            paid_range,
+            words: 0,
+            way: Way::To {
+                target: block.start,
+            },
+            numbers,
+        })
+    }
+
+    /// What is known where a block of the certificate begins: what it states of registers, vl, vtype and the vector
+    /// registers, with an atom for the number of each register and of vl there, and for each number that was passed.
+    /// All memory that later calls need is taken here. An error is want of memory.
+    pub fn at_block<B: Allocator, C: Allocator>(
+        alloc: A,
+        certificate: &Certificate<C>,
+        image: &Image<B>,
+        index: usize,
+    ) -> Result<Abstract<A>, AllocError>
+    where
+        A: Copy,
+        requires { index < length certificate.now.blocks }
+        ensures state { IfOk result (λ a. (block : Block)
+            → slice_get certificate.now.blocks index ≡ Some block
+            → a ≡ at_block_of image.now certificate.now block) }
+        ensures begins { IfOk result (λ a. a.words ≡ 0) }
+    {
+        let block = &certificate.contents().blocks[index];
+        let state = Abstract::at(alloc, certificate, image, block)?;
+        Ok(state)
+    }
+
+    /// What is known where a run of the image begins, with arguments that match the certificate's parameters: ra is
+    /// EXIT, sp the stack's end, a0 to a7 hold the arguments, and every other register and vl are 0. All memory that
+    /// later calls need is taken here. An error is want of memory.
+    #[tactic(auto, unfolding(crate::specs::Blocks::at_entry_of))]
+    pub fn at_entry<B: Allocator, C: Allocator>(
+        alloc: A,
+        certificate: &Certificate<C>,
+        image: &Image<B>,
+    ) -> Result<Abstract<A>, AllocError>
+    where
+        A: Copy,
+        ensures { IfOk result (λ a. a ≡ at_entry_of image.now certificate.now) }
+    {
+        let contents = certificate.contents();
+        let numbers = entry_numbers(alloc, &contents.parameters)?;
+        let paid = numbers.value(0);
+        let paid_form = copy_of(paid.form);
+        let paid_range = paid.range;
+        Ok(Abstract {
+            vlenb: contents.vlen.bytes() as u32,
+            zones: memory_zones(image, &contents.parameters),
+            vtype: None,
+            groups: with_room(alloc, &[])?,
+            budget: None,
+            paid_form,
+            paid_range,
+            words: 0,
+            way: Way::To {
+                target: image.entry(),
+            },
+            numbers,
+        })
+    }
+}
