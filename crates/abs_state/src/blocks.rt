@@ -168,7 +168,7 @@ fn start_ranges(atoms: &Atoms<'_>, forms: &[Form<8>], facts: &[RegisterFact]) ->
     requires { forms.now ≡ map (stated_form_of facts.now) (range_with_len 0 33) }
     ensures { result ≡ map
         (λ i. computed_range_of (Some (stated_range_of facts.now i))
-            (range_of_form atoms.now (stated_form_of facts.now i)))
+        (range_of_form atoms.now (stated_form_of facts.now i)))
         (range_with_len 0 33) }
 {
     let mut ranges = [Range::FULL; 33];
