@@ -1,0 +1,7 @@
+pub mod Bounds
+pub mod Finding
+pub mod Passing
+pub mod Runs
+pub mod StepLaws
+pub mod Walks
+pub mod Words

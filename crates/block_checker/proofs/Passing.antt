@@ -1,0 +1,133 @@
+-- From the induction to runs: what passes the check ends on all arguments that match, if the laws on single steps hold there.
+use Rattle.std.proofs.Common.{◌≡◌, ◌<◌, ◌==◌, ℕ, Bool, true, false, arith, refl, sym, ap, ◌∙◌, subst, List, [], ◌∷◌, length, Option, Some, None, Ok, Err, IsTrue}
+use Rattle.std.specs.Prelude.{find, if◌then◌else◌, ◌&&◌, nat_le}
+use Rattle.std.specs.List.{AllByRecursion}
+use Rattle.std.proofs.lemmas.Bool.Decides.{nat_tests}
+use Rattle.elf_image.specs.Image.{ImageView, IsImage}
+use Rattle.region_mem.specs.declared.parameter.Param.{Param}
+use Rattle.region_mem.specs.Laws.{BringsBytes}
+use Rattle.region_mem.specs.Parameter.{Argument, AreArguments}
+use Rattle.vreg_groups.specs.declared.policies.Agnostic.{Agnostic}
+use Rattle.vreg_groups.specs.declared.vector_length.Vlen.{Vlen}
+use Rattle.vreg_groups.specs.VectorLength.{vlenb_of}
+use Rattle.scalar_core.specs.Hart.{reg_of}
+use Rattle.vector_core.specs.Machine.{Machine}
+use Rattle.vector_core.specs.Start.{start, start_hart}
+use Rattle.cert_note.specs.declared.values.Block.{Block}
+use Rattle.cert_note.specs.Certificate.{CertificateView, IsCertificate, IsBlock, AllFrom, after_block, is_budget}
+use Rattle.abs_state.specs.State.{AbstractView}
+use Rattle.abs_state.specs.Branches.{EdgeView}
+use Rattle.block_checker.specs.declared.errors.CheckError.TheVariants.{WrongVlen}
+use Rattle.block_checker.specs.Passes.{both, block_at, entry_passes_to, entry_passes, blocks_pass, checked}
+use Rattle.block_checker.specs.Accepted.{AcceptedView}
+use Rattle.block_checker.specs.Bound.{budget_at, bound_in, bound_of, scalars_of}
+use Rattle.block_checker.specs.Sound.{IsWellBehaved, PassingRunsEnd, RunsEnd}
+use Rattle.block_checker.proofs.Finding.{both_first, both_second}
+use Rattle.block_checker.proofs.StepLaws.{Laws, budget_in}
+use Rattle.block_checker.proofs.Runs.{passing-ends}
+use Rattle.block_checker.proofs.Bounds.{start-is, start-pc}
+
+-- ---- what a check that passes says
+
+record HasPassed (image : ImageView) (certificate : CertificateView) (vlen : Vlen) : Type 0 where
+  pub same : vlenb_of certificate.vlen ≡ vlenb_of vlen
+  pub entry : entry_passes image certificate ≡ Ok tt
+  pub blocks : blocks_pass image certificate certificate.blocks ≡ Ok tt
+
+has-passed : (image : ImageView) (certificate : CertificateView) (vlen : Vlen) → checked image certificate vlen ≡ Ok tt
+    → HasPassed image certificate vlen
+unfolding checked
+has-passed image certificate vlen h = go (vlenb_of certificate.vlen == vlenb_of vlen) refl h
+  where
+    go : (t : Bool) → (vlenb_of certificate.vlen == vlenb_of vlen) ≡ t
+        → (if t then both (entry_passes image certificate) (blocks_pass image certificate certificate.blocks) else Err WrongVlen) ≡ Ok tt
+        → HasPassed image certificate vlen
+    go true e h = record {
+      same = grind (arith, nat_tests);
+      entry = both_first _ _ h;
+      blocks = both_second _ _ h;
+    }
+    go false e h = absurd (let bad : ⊥ = cc in bad)
+
+-- a block begins at the entry
+entry-block : (image : ImageView) (certificate : CertificateView) (o : Option Block) → entry_passes_to image certificate o ≡ Ok tt
+    → (b : Block) × (o ≡ Some b)
+unfolding entry_passes_to
+entry-block image certificate None h = absurd (let bad : ⊥ = cc in bad)
+entry-block image certificate (Some b) h = (b, refl)
+
+-- ---- the budget's register
+
+register-below : (factor register : ℕ) → IsTrue (is_budget factor register) → register < 32
+unfolding is_budget
+register-below factor register h = go (factor == 0) h
+  where
+    go : (t : Bool) → IsTrue (if t then register == 0 else (nat_le 1 register && nat_le register 31)) → register < 32
+    go true h = grind (arith, nat_tests, h)
+    go false h = grind (arith, nat_tests, h)
+
+found-below : (vlen : Vlen) (params : List Param) (from address : ℕ) (blocks : List Block) (b : Block)
+    → AllFrom (IsBlock vlen params) after_block from blocks → find (λ block. block.start == address) blocks ≡ Some b
+    → b.budget.register < 32
+found-below vlen params from address [] b all e = absurd (let bad : ⊥ = cc in bad)
+found-below vlen params from address (x ∷ xs) b all e =
+    go (x.start == address) e (found-below vlen params (after_block x) address xs b all.1)
+  where
+    go : (t : Bool) → (if t then Some x else find (λ block. block.start == address) xs) ≡ Some b
+        → (find (λ block. block.start == address) xs ≡ Some b → b.budget.register < 32) → b.budget.register < 32
+    go true e more =
+        let same : x ≡ b = cc in
+        subst (λ (y : Block). y.budget.register < 32) same (register-below x.budget.factor x.budget.register all.0.budget.register)
+    go false e more = more e
+
+block-below : (certificate : CertificateView) (address : ℕ) (b : Block) → IsCertificate certificate
+    → block_at address certificate.blocks ≡ Some b → b.budget.register < 32
+unfolding block_at
+block-below certificate address b is e = found-below certificate.vlen certificate.parameters 0 address certificate.blocks b is.blocks e
+
+-- ---- runs
+
+-- the laws at one start of a run, with the relations for it
+pub record LawsAt (image : ImageView) (certificate : CertificateView) (begin : Machine) : Type 1 where
+  pub held : ℕ → AbstractView → Machine → Type 0
+  pub goes : ℕ → EdgeView → Machine → Type 0
+  pub fits : Block → Machine → Type 0
+  pub laws : Laws image certificate (vlenb_of certificate.vlen) begin held goes fits
+
+-- the laws at every start
+abbrev pub LawsHold : Type 1
+LawsHold =
+    (image : ImageView) (certificate : CertificateView) (args : List Argument) (agnostic : Agnostic)
+    → IsImage image → IsCertificate certificate → length args ≡ 8 → AreArguments certificate.parameters args → AllByRecursion BringsBytes args
+    → LawsAt image certificate (start (vlenb_of certificate.vlen) agnostic image certificate.parameters args)
+
+pub passing-runs-end : LawsHold → PassingRunsEnd
+unfolding start
+passing-runs-end laws image certificate vlen args agnostic block is_image is_certificate eight matching bytes passes found =
+    let begin = start (vlenb_of certificate.vlen) agnostic image certificate.parameters args in
+    let given = laws image certificate args agnostic is_image is_certificate eight matching bytes in
+    let passed = has-passed image certificate vlen passes in
+    let starts : begin.hart.pc ≡ image.entry = start-pc image.entry certificate.parameters args is_certificate.eight eight matching in
+    let ends : IsWellBehaved (vlenb_of certificate.vlen) (budget_in block begin) begin =
+    passing-ends image certificate (vlenb_of certificate.vlen) begin given.held given.goes given.fits given.laws block starts found passed.entry passed.blocks in
+    subst (λ (vlenb : ℕ). IsWellBehaved vlenb (budget_at block.budget (reg_of block.budget.register (start_hart image.entry certificate.parameters args)))
+    (start vlenb agnostic image certificate.parameters args)) passed.same ends
+
+bound-is : (a : AcceptedView) (args : List Argument) (b : Block) → IsCertificate a.certificate → length args ≡ 8
+    → AreArguments a.certificate.parameters args → block_at a.image.entry a.certificate.blocks ≡ Some b
+    → bound_of a (scalars_of args) ≡ budget_at b.budget (reg_of b.budget.register (start_hart a.image.entry a.certificate.parameters args))
+unfolding bound_of bound_in
+bound-is a args b is eight matching found =
+    let below = block-below a.certificate a.image.entry b is found in
+    let number = start-is a.image.entry a.certificate.parameters args is.eight eight matching b.budget.register below in
+    ap (bound_in a.certificate.parameters (scalars_of args)) found ∙ ap (λ (n : ℕ). budget_at b.budget n) (sym number)
+
+pub runs-end : LawsHold → (a : AcceptedView) → IsImage a.image → IsCertificate a.certificate
+    → checked a.image a.certificate a.vlen ≡ Ok tt → RunsEnd a
+unfolding start entry_passes
+runs-end laws a is_image is_certificate passes args agnostic eight matching bytes =
+    let passed = has-passed a.image a.certificate a.vlen passes in
+    let block = entry-block a.image a.certificate (block_at a.image.entry a.certificate.blocks) passed.entry in
+    let ends = passing-runs-end laws a.image a.certificate a.vlen args agnostic block.0 is_image is_certificate eight matching bytes passes block.1 in
+    let bound = bound-is a args block.0 is_certificate eight matching block.1 in
+    subst (λ (n : ℕ). IsWellBehaved (vlenb_of a.vlen) n (start (vlenb_of a.vlen) agnostic a.image a.certificate.parameters args)) (sym bound) ends

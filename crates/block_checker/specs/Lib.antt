@@ -1,0 +1,6 @@
+pub mod Refusals
+pub mod Passes
+pub mod Accepted
+pub mod Bound
+pub mod Sound
+pub mod Walking

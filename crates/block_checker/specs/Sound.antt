@@ -1,0 +1,43 @@
+-- What passes the check ends, within the number that its certificate states, without a fault.
+use Rattle.std.specs.Prelude.{ℕ, ◌≡◌, ◌≤◌, true, List, length, Some, Ok}
+use Rattle.elf_image.specs.Image.{ImageView, IsImage}
+use Rattle.std.specs.List.{AllByRecursion}
+use Rattle.region_mem.specs.Laws.{BringsBytes}
+use Rattle.region_mem.specs.Parameter.{Argument, AreArguments}
+use Rattle.vreg_groups.specs.declared.policies.Agnostic.{Agnostic}
+use Rattle.vreg_groups.specs.VectorLength.{vlenb_of}
+use Rattle.scalar_core.specs.Hart.{reg_of}
+use Rattle.vector_core.specs.Machine.{Machine}
+use Rattle.vector_core.specs.Run.{after, has_ended}
+use Rattle.vector_core.specs.Start.{start}
+use Rattle.vreg_groups.specs.declared.vector_length.Vlen.{Vlen}
+use Rattle.cert_note.specs.declared.values.Block.{Block}
+use Rattle.cert_note.specs.Certificate.{CertificateView, IsCertificate}
+use Rattle.block_checker.specs.Passes.{block_at, checked}
+use Rattle.block_checker.specs.Accepted.{AcceptedView}
+use Rattle.block_checker.specs.Bound.{budget_at, bound_of, scalars_of}
+
+-- After at most n steps without a fault the run from here has ended.
+abbrev pub IsWellBehaved : ℕ → ℕ → Machine → Type 0
+IsWellBehaved vlenb n m =
+    (k : ℕ) × (t : Machine) × (k ≤ n) × (after vlenb m k ≡ Ok t) × (has_ended t ≡ true)
+
+-- On arguments that match, a run of what passes is well-behaved for the budget of the block at the entry, with its
+-- register as it is at the start.
+abbrev pub PassingRunsEnd : Type 0
+PassingRunsEnd =
+    (image : ImageView) (certificate : CertificateView) (vlen : Vlen) (args : List Argument)
+    (agnostic : Agnostic) (block : Block) → IsImage image → IsCertificate certificate →
+    length args ≡ 8 → AreArguments certificate.parameters args → AllByRecursion BringsBytes args →
+    checked image certificate vlen ≡ Ok tt →
+    block_at image.entry certificate.blocks ≡ Some block →
+    let s = start (vlenb_of vlen) agnostic image certificate.parameters args in
+    IsWellBehaved (vlenb_of vlen) (budget_at block.budget (reg_of block.budget.register s.hart)) s
+
+-- Each run on arguments that match ends within the bound.
+abbrev pub RunsEnd : AcceptedView → Type 0
+RunsEnd a =
+    (args : List Argument) (agnostic : Agnostic) → length args ≡ 8 →
+    AreArguments a.certificate.parameters args → AllByRecursion BringsBytes args →
+    IsWellBehaved (vlenb_of a.vlen) (bound_of a (scalars_of args))
+    (start (vlenb_of a.vlen) agnostic a.image a.certificate.parameters args)

@@ -1,0 +1,160 @@
+//! An image that passed the check with its certificate.
+ghost use Rattle.std.specs.Prelude.{◌≡◌, ◌<◌, IfOk, IfErr, Ok, Err};
+ghost use Rattle.std.specs.List.{slice_get};
+ghost use Rattle.block_checker.specs.Passes.{checked as checked_of};
+ghost use Rattle.block_checker.specs.Accepted.{IsAnswer};
+ghost use Rattle.block_checker.specs.Bound.{place_number as place_number_of, entry_number as entry_number_of};
+
+use crate::checks::{block_at, checked};
+use crate::errors::CheckError;
+use cert_note::Certificate;
+use elf_image::Image;
+use region_mem::{Param, Parameters, STACK_END};
+use scalar_core::EXIT;
+use std::alloc::{Allocator, Global};
+use std::marker::Model;
+use vreg_groups::Vlen;
+
+/// An image and its certificate that passed the check at a vector length. `A` is their allocator.
+#[derive(Drop)]
+pub struct Accepted<A: Allocator = Global> {
+    image: Image<A>,
+    certificate: Certificate<A>,
+    vlen: Vlen,
+}
+
+impl<A: Allocator> Model for Accepted<A> {
+    ghost use Rattle.block_checker.specs.Accepted.{AcceptedView, Passes};
+
+    ghost Value = { AcceptedView };
+
+    ghost view = { λ a. record { image = a.image; certificate = a.certificate; vlen = a.vlen } };
+
+    ghost invariant = { λ a. Passes record { image = a.image; certificate = a.certificate; vlen = a.vlen } };
+}
+
+/// Checks an image against its certificate, for vector registers of this length.
+///
+/// What is accepted ends on any arguments that match the certificate's parameters, without a fault, after at most
+/// [`Accepted::bound`] instructions.
+///
+/// # Errors
+/// The first fault, in this order: `WrongVlen`, `NoEntryBlock`, the way from the start of a run into the block at the entry,
+/// then each block by rising start, word by word. `NoMemory` where an allocation was refused. The image and the certificate
+/// come back as they were.
+pub fn check(
+    alloc: Global,
+    image: Image,
+    certificate: Certificate,
+    vlen: Vlen,
+) -> Result<Accepted, (CheckError, Image, Certificate)>
+    ensures accepted { IfOk result
+        (λ a. (a ≡ record { image = image; certificate = certificate; vlen = vlen })
+        × (checked_of image certificate vlen ≡ Ok tt)) }
+    ensures refused { IfErr result (λ e. IsAnswer (Err e.0) (checked_of image certificate vlen)) }
+    ensures back { IfErr result (λ e. (e.1 ≡ image) × (e.2 ≡ certificate)) }
+{
+    check_in(alloc, image, certificate, vlen)
+}
+
+/// As [`check`], with the check's memory from any allocator.
+pub fn check_in<A: Allocator + Copy, B: Allocator>(
+    alloc: A,
+    image: Image<B>,
+    certificate: Certificate<B>,
+    vlen: Vlen,
+) -> Result<Accepted<B>, (CheckError, Image<B>, Certificate<B>)>
+    ensures accepted { IfOk result
+        (λ a. (a ≡ record { image = image; certificate = certificate; vlen = vlen })
+        × (checked_of image certificate vlen ≡ Ok tt)) }
+    ensures refused { IfErr result (λ e. IsAnswer (Err e.0) (checked_of image certificate vlen)) }
+    ensures back { IfErr result (λ e. (e.1 ≡ image) × (e.2 ≡ certificate)) }
+{
+    match checked(alloc, &image, &certificate, vlen) {
+        Ok(()) => Ok(Accepted {
+            image,
+            certificate,
+            vlen,
+        }),
+        Err(error) => Err((error, image, certificate)),
+    }
+}
+
+/// What the argument register of a place holds at the start of a run.
+#[tactic(auto, unfolding(crate::specs::Bound::place_number))]
+fn place_number(parameters: &Parameters, place: usize, scalar: u32) -> u32
+    requires { place < 8 }
+    ensures { result ≡ place_number_of parameters.now place scalar (slice_get parameters.now place) }
+{
+    match parameters.param(place) {
+        Param::None => 0,
+        Param::Scalar { lo: _, hi: _ } => scalar,
+        Param::Buffer { mode: _, size: _ } => parameters.address(place).unwrap_or(0),
+    }
+}
+
+/// What a register holds at the start of a run.
+#[tactic(auto, unfolding(crate::specs::Bound::entry_number))]
+fn entry_number(parameters: &Parameters, scalars: &[u32; 8], register: u8) -> u32
+    ensures { result ≡ entry_number_of parameters.now scalars.now register }
+{
+    if register == 1 {
+        EXIT
+    } else if register == 2 {
+        STACK_END
+    } else if 10 <= register && register < 18 {
+        let place = usize::from(register - 10);
+        place_number(parameters, place, scalars[place])
+    } else {
+        0
+    }
+}
+
+impl<A: Allocator> Accepted<A> {
+    ghost use Rattle.std.specs.Prelude.{◌≡◌};
+    ghost use Rattle.block_checker.specs.Bound.{bound_of};
+
+    /// The image.
+    pub fn image(&self) -> &Image<A>
+        ensures { result.now ≡ self.now.image }
+    {
+        &self.image
+    }
+
+    /// The certificate.
+    pub fn certificate(&self) -> &Certificate<A>
+        ensures { result.now ≡ self.now.certificate }
+    {
+        &self.certificate
+    }
+
+    /// The length of a vector register for which the image was checked.
+    pub fn vlen(&self) -> Vlen
+        ensures { result ≡ self.now.vlen }
+    {
+        self.vlen
+    }
+
+    /// What the image's code takes, by place.
+    pub fn parameters(&self) -> &Parameters
+        ensures { result.now ≡ self.now.certificate.parameters }
+    {
+        &self.certificate.contents().parameters
+    }
+
+    /// How many instructions a run on these arguments takes at most: the number of a scalar argument stands at its place, and
+    /// what stands at any other place says nothing.
+    #[tactic(auto, unfolding(crate::specs::Bound::bound_of, crate::specs::Bound::bound_in))]
+    pub fn bound(&self, scalars: &[u32; 8]) -> u128
+        ensures { result ≡ bound_of self.now scalars.now }
+    {
+        match block_at(&self.certificate, self.image.entry()) {
+            None => 0,
+            Some(block) => {
+                let number = entry_number(self.parameters(), scalars, block.budget.register);
+                u128::from(block.budget.constant)
+                    + u128::from(block.budget.factor) * u128::from(number)
+            }
+        }
+    }
+}

@@ -1,0 +1,311 @@
+//! The check, word by word and block by block.
+ghost use Rattle.std.specs.Prelude.{◌≡◌, ◌≤◌, ◌<◌, ◌+◌, ◌^◌, ◌||◌, is_some, length, option_copied, IsOk, Ok, Some};
+ghost use Rattle.std.specs.List.{slice_get};
+ghost use Rattle.cert_note.specs.declared.values.Block.{Block};
+ghost use Rattle.abs_state.specs.Branches.{refined};
+ghost use Rattle.block_checker.specs.Passes.{block_at as block_at_of, block_for as block_for_of, is_branch as is_branch_of, is_jump as is_jump_of};
+ghost use Rattle.block_checker.specs.Passes.{edge_passes as edge_passes_of, possible_passes as possible_passes_of, edges_pass as edges_pass_of, followed as followed_of};
+ghost use Rattle.block_checker.specs.Passes.{word_passes as word_passes_of, walk as walk_of, block_passes as block_passes_of, blocks_pass as blocks_pass_of};
+ghost use Rattle.block_checker.specs.Passes.{entry_passes as entry_passes_of, checked as checked_of};
+ghost use Rattle.block_checker.specs.Accepted.{IsAnswer};
+ghost use Rattle.block_checker.specs.Walking.{progress_of};
+
+use crate::errors::{CheckError, told};
+use abs_state::{Abstract, Edge, MOST_WORDS, implies};
+use cert_note::{Block, Certificate};
+use elf_image::Image;
+use rv_decode::{Insn, ScalarInsn, decode};
+use std::alloc::Allocator;
+use vreg_groups::Vlen;
+
+/// Whether a block goes on to the next word.
+#[derive(Clone, Copy, Debug, PartialEq, Eq)]
+pub(crate) enum Told {
+    Ended,
+    On,
+}
+
+/// The block that begins at an address.
+#[tactic(auto, unfolding(crate::specs::Passes::block_at))]
+fn find_block(blocks: &[Block], address: u32) -> Option<&Block>
+    ensures { option_copied result ≡ block_at_of address blocks.now }
+{
+    blocks.iter().find(|block| block.start == address)
+}
+
+/// The block of a certificate that begins at an address.
+pub(crate) fn block_at<C: Allocator>(certificate: &Certificate<C>, address: u32) -> Option<&Block>
+    ensures { option_copied result ≡ block_at_of address certificate.now.blocks }
+{
+    find_block(&certificate.contents().blocks, address)
+}
+
+/// The block to which an edge leads.
+#[tactic(auto, unfolding(crate::specs::Passes::block_for))]
+fn block_for<C: Allocator>(certificate: &Certificate<C>, target: Option<u32>) -> Option<&Block>
+    ensures { option_copied result ≡ block_for_of target certificate.now.blocks }
+{
+    match target {
+        None => None,
+        Some(address) => block_at(certificate, address),
+    }
+}
+
+/// Whether the word is a branch, which has two ways out.
+#[tactic(auto, unfolding(crate::specs::Passes::is_branch, crate::specs::Passes::is_branch_insn))]
+fn is_branch(insn: &Insn) -> bool
+    ensures { result ≡ is_branch_of insn.now }
+{
+    match *insn {
+        Insn::Scalar(insn) => match insn {
+            ScalarInsn::Branch { .. } => true,
+            ScalarInsn::Lui { .. }
+            | ScalarInsn::Auipc { .. }
+            | ScalarInsn::Jal { .. }
+            | ScalarInsn::Jalr { .. }
+            | ScalarInsn::Load { .. }
+            | ScalarInsn::Store { .. }
+            | ScalarInsn::Immediate { .. }
+            | ScalarInsn::ShiftImmediate { .. }
+            | ScalarInsn::Register { .. }
+            | ScalarInsn::Fence
+            | ScalarInsn::Ecall => false,
+        },
+        Insn::Csr(_)
+        | Insn::VSet(_)
+        | Insn::VArith(_)
+        | Insn::VMask(_)
+        | Insn::VPerm(_)
+        | Insn::VReduce(_)
+        | Insn::VMem(_)
+        | Insn::VMove(_) => false,
+    }
+}
+
+/// Whether the word ends a block: a branch, a jump or ecall.
+#[tactic(auto, unfolding(crate::specs::Passes::is_jump, crate::specs::Passes::is_jump_insn))]
+fn is_jump(insn: &Insn) -> bool
+    ensures { result ≡ is_jump_of insn.now }
+{
+    match *insn {
+        Insn::Scalar(insn) => match insn {
+            ScalarInsn::Branch { .. }
+            | ScalarInsn::Jal { .. }
+            | ScalarInsn::Jalr { .. }
+            | ScalarInsn::Ecall => true,
+            ScalarInsn::Lui { .. }
+            | ScalarInsn::Auipc { .. }
+            | ScalarInsn::Load { .. }
+            | ScalarInsn::Store { .. }
+            | ScalarInsn::Immediate { .. }
+            | ScalarInsn::ShiftImmediate { .. }
+            | ScalarInsn::Register { .. }
+            | ScalarInsn::Fence => false,
+        },
+        Insn::Csr(_)
+        | Insn::VSet(_)
+        | Insn::VArith(_)
+        | Insn::VMask(_)
+        | Insn::VPerm(_)
+        | Insn::VReduce(_)
+        | Insn::VMem(_)
+        | Insn::VMove(_) => false,
+    }
+}
+
+/// What an edge has to show of the block to which it leads, or of the end of the run.
+#[tactic(auto, unfolding(crate::specs::Passes::edge_passes))]
+fn edge_passes<A: Allocator, C: Allocator>(
+    certificate: &Certificate<C>,
+    pc: u32,
+    edge: &Edge<'_, A>,
+) -> Result<(), CheckError>
+    ensures { result ≡ edge_passes_of certificate.now pc edge.now }
+{
+    match implies(edge, block_for(certificate, edge.target())) {
+        Ok(()) => Ok(()),
+        Err(why) => Err(told(why, pc)),
+    }
+}
+
+/// As [`edge_passes`], of the edge out of the last word, for a branch the one where it is taken or where it isn't. An edge
+/// that can't be taken passes.
+#[tactic(auto, unfolding(crate::specs::Passes::possible_passes))]
+fn possible_passes<A: Allocator, C: Allocator>(
+    certificate: &Certificate<C>,
+    pc: u32,
+    state: &Abstract<A>,
+    taken: bool,
+) -> Result<(), CheckError>
+    ensures { result ≡ possible_passes_of certificate.now pc (refined taken state.now) }
+{
+    match state.refine(taken) {
+        None => Ok(()),
+        Some(edge) => edge_passes(certificate, pc, &edge),
+    }
+}
+
+/// The edges out of the word at pc, of a branch the one where it is taken first.
+#[tactic(auto, unfolding(crate::specs::Passes::edges_pass))]
+fn edges_pass<A: Allocator, C: Allocator>(
+    certificate: &Certificate<C>,
+    pc: u32,
+    insn: &Insn,
+    state: &Abstract<A>,
+) -> Result<(), CheckError>
+    ensures { result ≡ edges_pass_of certificate.now pc insn.now state.now }
+{
+    if is_branch(insn) {
+        possible_passes(certificate, pc, state, true)?;
+    }
+    possible_passes(certificate, pc, state, false)
+}
+
+/// Whether a block ends behind the word at pc: with a branch, a jump or ecall, or before the next block.
+fn ends_block<C: Allocator>(certificate: &Certificate<C>, pc: u32, insn: &Insn) -> bool
+    requires { pc + 4 < 2 ^ 32 }
+    ensures { result ≡ (is_jump_of insn.now || is_some (block_at_of (pc + 4) certificate.now.blocks)) }
+{
+    is_jump(insn) || block_at(certificate, pc + 4).is_some()
+}
+
+/// What comes after a word that is allowed.
+#[tactic(auto, unfolding(crate::specs::Passes::followed))]
+fn followed<A: Allocator, C: Allocator>(
+    certificate: &Certificate<C>,
+    pc: u32,
+    insn: &Insn,
+    state: &Abstract<A>,
+) -> Result<Told, CheckError>
+    requires { pc + 4 < 2 ^ 32 }
+    ensures { progress_of result state.now ≡ followed_of certificate.now pc insn.now (Ok state.now) }
+{
+    if !ends_block(certificate, pc, insn) {
+        return Ok(Told::On);
+    }
+    match edges_pass(certificate, pc, insn, state) {
+        Ok(()) => Ok(Told::Ended),
+        Err(error) => Err(error),
+    }
+}
+
+/// The word at pc.
+#[tactic(auto, unfolding(crate::specs::Passes::word_passes, crate::specs::Passes::fetched, crate::specs::Passes::decoded, crate::specs::Passes::followed))]
+fn word_passes<A: Allocator, B: Allocator, C: Allocator>(
+    image: &Image<B>,
+    certificate: &Certificate<C>,
+    pc: u32,
+    state: &mut Abstract<A>,
+) -> Result<Told, CheckError>
+    requires { state.old.words < 4096 }
+    ensures value { progress_of result state.new ≡ word_passes_of image.now certificate.now pc state.old }
+    ensures counts { result ≡ Ok Told.On → state.new.words ≡ state.old.words + 1 }
+    ensures low { IsOk result → pc + 4 ≤ 0xC000_0000 }
+{
+    let Some(word) = image.code_at(pc) else {
+        return Err(CheckError::NotCode(pc));
+    };
+    let Some(insn) = decode(word) else {
+        return Err(CheckError::IllegalWord(pc));
+    };
+    match state.after(pc, &insn) {
+        Err(why) => Err(told(why, pc)),
+        Ok(()) => followed(certificate, pc, &insn, state),
+    }
+}
+
+/// The words of a block from its start on, with what is known there.
+#[tactic(auto, using(crate::proofs::Walks::walk_more, crate::proofs::Walks::walk_ended, crate::proofs::Walks::walk_refused, crate::proofs::Walks::walk_none))]
+fn walk<A: Allocator, B: Allocator, C: Allocator>(
+    image: &Image<B>,
+    certificate: &Certificate<C>,
+    start: u32,
+    state: &mut Abstract<A>,
+) -> Result<(), CheckError>
+    requires { state.old.words ≡ 0 }
+    ensures { result ≡ walk_of image.now certificate.now 4096 start state.old }
+{
+    let mut pc = start;
+    for _steps in 0..MOST_WORDS {
+        match word_passes(image, certificate, pc, state) {
+            Err(error) => return Err(error),
+            Ok(Told::Ended) => return Ok(()),
+            Ok(Told::On) => pc += 4,
+        }
+    }
+    Err(CheckError::BlockTooLong(pc))
+}
+
+/// The block at a place of the certificate's list.
+#[tactic(auto, unfolding(crate::specs::Passes::block_passes))]
+fn block_passes<A: Allocator, B: Allocator, C: Allocator>(
+    alloc: A,
+    image: &Image<B>,
+    certificate: &Certificate<C>,
+    index: usize,
+) -> Result<(), CheckError>
+where
+    A: Copy,
+    requires { index < length certificate.now.blocks }
+    ensures { (block : Block) → slice_get certificate.now.blocks index ≡ Some block
+        → IsAnswer result (block_passes_of image.now certificate.now block) }
+{
+    let start = certificate.contents().blocks[index].start;
+    let Ok(mut state) = Abstract::at_block(alloc, certificate, image, index) else {
+        return Err(CheckError::NoMemory);
+    };
+    walk(image, certificate, start, &mut state)
+}
+
+/// Each block, in the order of the list.
+fn blocks_pass<A: Allocator + Copy, B: Allocator, C: Allocator>(
+    alloc: A,
+    image: &Image<B>,
+    certificate: &Certificate<C>,
+) -> Result<(), CheckError>
+    ensures { IsAnswer result (blocks_pass_of image.now certificate.now certificate.now.blocks) }
+{
+    for index in 0..certificate.contents().blocks.len() {
+        if let Err(error) = block_passes(alloc, image, certificate, index) {
+            return Err(error);
+        }
+    }
+    Ok(())
+}
+
+/// The way from the start of a run into the block at the entry.
+#[tactic(auto, unfolding(crate::specs::Passes::entry_passes, crate::specs::Passes::entry_passes_to))]
+fn entry_passes<A: Allocator + Copy, B: Allocator, C: Allocator>(
+    alloc: A,
+    image: &Image<B>,
+    certificate: &Certificate<C>,
+) -> Result<(), CheckError>
+    ensures { IsAnswer result (entry_passes_of image.now certificate.now) }
+{
+    if block_at(certificate, image.entry()).is_none() {
+        return Err(CheckError::NoEntryBlock);
+    }
+    let Ok(state) = Abstract::at_entry(alloc, certificate, image) else {
+        return Err(CheckError::NoMemory);
+    };
+    possible_passes(certificate, image.entry(), &state, false)
+}
+
+/// All of the check.
+#[tactic(auto, unfolding(crate::specs::Passes::checked))]
+pub(crate) fn checked<A: Allocator + Copy, B: Allocator, C: Allocator>(
+    alloc: A,
+    image: &Image<B>,
+    certificate: &Certificate<C>,
+    vlen: Vlen,
+) -> Result<(), CheckError>
+    ensures { IsAnswer result (checked_of image.now certificate.now vlen) }
+{
+    if certificate.contents().vlen.bytes() != vlen.bytes() {
+        return Err(CheckError::WrongVlen);
+    }
+    if let Err(error) = entry_passes(alloc, image, certificate) {
+        return Err(error);
+    }
+    blocks_pass(alloc, image, certificate)
+}

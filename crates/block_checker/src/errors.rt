@@ -1,0 +1,84 @@
+//! Why an image is not accepted.
+ghost use Rattle.std.specs.Prelude.{◌≡◌};
+ghost use Rattle.block_checker.specs.Refusals.{refusal};
+
+use abs_state::Why;
+use std::error::Error;
+use std::fmt;
+
+/// Why an image is not accepted with its certificate: the first fault of a check, in the order in which it looks. Where an
+/// error carries an address, it is that of the word at which the check stopped. `NoMemory` alone says nothing of the image.
+#[derive(Clone, Copy, Debug, PartialEq, Eq)]
+pub enum CheckError {
+    /// The certificate is for vector registers of another length.
+    WrongVlen,
+    /// No block begins at the image's entry.
+    NoEntryBlock,
+    /// The four bytes at the address do not lie in one segment that may be executed.
+    NotCode(u32),
+    /// The word means nothing, or is not legal where it stands.
+    IllegalWord(u32),
+    /// The word is legal at some vector types only, and the vector type is not known; or the next block states a vector
+    /// type that is not known to be the one.
+    VtypeUnknown(u32),
+    /// The bytes of an access may lie outside every zone of memory with the right.
+    AccessNotProved(u32),
+    /// The bytes of a store lie in a zone of memory that may not be written.
+    ReadOnly(u32),
+    /// The word may lead to an address where no block begins, and which is not the end of a run.
+    TargetNotABlock(u32),
+    /// A register, or vl, may lie outside the interval that the next block states.
+    IntervalNotProved(u32),
+    /// A register, or vl, may differ from the sum that the next block states.
+    EqualityNotProved(u32),
+    /// A fact on vector registers that the next block states may not hold.
+    VectorFactNotProved(u32),
+    /// The budget of the block may be too small for the instructions taken and for the next block's budget.
+    BudgetNotProved(u32),
+    /// The block has more than 4,096 instructions: the address is that of the next one.
+    BlockTooLong(u32),
+    /// An allocation was refused.
+    NoMemory,
+}
+
+/// What could not be proved, at the word at this address.
+pub(crate) fn told(why: Why, pc: u32) -> CheckError
+    ensures { result ≡ refusal why pc }
+{
+    match why {
+        Why::IllegalWord => CheckError::IllegalWord(pc),
+        Why::VtypeUnknown => CheckError::VtypeUnknown(pc),
+        Why::AccessNotProved => CheckError::AccessNotProved(pc),
+        Why::ReadOnly => CheckError::ReadOnly(pc),
+        Why::TargetNotABlock => CheckError::TargetNotABlock(pc),
+        Why::IntervalNotProved => CheckError::IntervalNotProved(pc),
+        Why::EqualityNotProved => CheckError::EqualityNotProved(pc),
+        Why::VectorFactNotProved => CheckError::VectorFactNotProved(pc),
+        Why::BudgetNotProved => CheckError::BudgetNotProved(pc),
+    }
+}
+
+impl fmt::Display for CheckError {
+    fn fmt<W: fmt::Write>(&self, f: &mut fmt::Formatter<W>) -> fmt::Result {
+        match self {
+            CheckError::WrongVlen => write!(f, "the certificate is for another vector length"),
+            CheckError::NoEntryBlock => write!(f, "no block begins at the entry"),
+            CheckError::NotCode(pc) => write!(f, "no code at {pc:08x}"),
+            CheckError::IllegalWord(pc) => write!(f, "no legal instruction at {pc:08x}"),
+            CheckError::VtypeUnknown(pc) => write!(f, "the vector type is not known at {pc:08x}"),
+            CheckError::AccessNotProved(pc) => write!(f, "an access is not proved at {pc:08x}"),
+            CheckError::ReadOnly(pc) => write!(f, "a store to read-only memory at {pc:08x}"),
+            CheckError::TargetNotABlock(pc) => write!(f, "a target is no block at {pc:08x}"),
+            CheckError::IntervalNotProved(pc) => write!(f, "an interval is not proved at {pc:08x}"),
+            CheckError::EqualityNotProved(pc) => write!(f, "an equality is not proved at {pc:08x}"),
+            CheckError::VectorFactNotProved(pc) => {
+                write!(f, "a vector fact is not proved at {pc:08x}")
+            }
+            CheckError::BudgetNotProved(pc) => write!(f, "a budget is not proved at {pc:08x}"),
+            CheckError::BlockTooLong(pc) => write!(f, "a block is too long at {pc:08x}"),
+            CheckError::NoMemory => write!(f, "out of memory"),
+        }
+    }
+}
+
+impl Error for CheckError {}
