@@ -7,3 +7,6 @@ mod errors;
 
 pub use accepted::{Accepted, check, check_in};
 pub use errors::CheckError;
+
+#[cfg(test)]
+mod tests;
