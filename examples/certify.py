@@ -1,7 +1,8 @@
 #!/usr/bin/env python3
 """Puts a certificate into an image: `examples/certify.py sum_bytes` reads sum_bytes/certificate.toml and writes the note
 into sum_bytes/sum_bytes.elf, which `build.sh` has just built. docs/CERTIFICATES.md has the form of a certificate, docs/IMAGES.md
-that of a note. It checks nothing: `rvvbox check` says whether the certificate is one, and whether the code keeps to it."""
+that of a note. It checks nothing: whether
+the certificate is one, and whether the code keeps to it, `cert_note::read` and `block_checker::check` say."""
 import pathlib
 import struct
 import sys

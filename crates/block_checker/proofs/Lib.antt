@@ -1,5 +1,6 @@
 pub mod Bounds
 pub mod Finding
+pub mod Instance
 pub mod Passing
 pub mod Runs
 pub mod StepLaws

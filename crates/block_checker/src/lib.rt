@@ -4,9 +4,8 @@
 mod accepted;
 mod checks;
 mod errors;
+mod laws;
 
 pub use accepted::{Accepted, check, check_in};
 pub use errors::CheckError;
-
-#[cfg(test)]
-mod tests;
+pub use laws::starts_suffice;

@@ -7,6 +7,8 @@ mod accesses;
 #[cfg(test)]
 mod certificates;
 #[cfg(test)]
+mod checks;
+#[cfg(test)]
 mod fixed_point;
 #[cfg(test)]
 mod forms;

@@ -1,6 +1,6 @@
 //! What is accepted and what is refused. The kernel sums n bytes: its words come from the LLVM assembler, and its certificate
 //! was made by hand.
-use crate::{Accepted, CheckError, check};
+use block_checker::{Accepted, CheckError, check};
 use cert_note::{Certificate, Vlen};
 use elf_image::Image;
 use std::alloc::{AllocError, Global};

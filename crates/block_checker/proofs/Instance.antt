@@ -1,0 +1,286 @@
+-- The laws on single steps, from those of what is known.
+use Rattle.std.proofs.Common.{◌≡◌, ◌<◌, ◌≤◌, ◌+◌, ◌%◌, ◌^◌, ◌==◌, ℕ, Bool, true, false, arith, refl, sym, ap, ◌∙◌, subst, inl, inr, List, [], ◌∷◌, Option, Some, None, Result, Ok, Err, IsTrue, IfSome}
+use Rattle.std.specs.Prelude.{find, if◌then◌else◌, ◌&&◌, nat_le}
+use Rattle.std.specs.List.{AllByRecursion}
+use Rattle.std.specs.Option.{option_map}
+use Rattle.std.proofs.lemmas.Bool.Decides.{nat_tests}
+use Rattle.elf_image.specs.Image.{ImageView, SegmentView, IsImage, IsSegment, holds_code, word_in, code_at}
+use Rattle.rv_decode.specs.declared.instructions.Insn.{Insn}
+use Rattle.rv_decode.specs.declared.instructions.Insn.TheVariants.{Scalar, Csr, VSet, VArith, VMask, VPerm, VReduce, VMem, VMove}
+use Rattle.rv_decode.specs.declared.instructions.ScalarInsn.{ScalarInsn}
+use Rattle.rv_decode.specs.declared.instructions.ScalarInsn.TheVariants.{Lui, Auipc, Jal, Jalr, Branch, Load, Store, Immediate, ShiftImmediate, Register, Fence, Ecall}
+use Rattle.region_mem.specs.declared.parameter.Param.{Param}
+use Rattle.vreg_groups.specs.declared.vector_length.Vlen.{Vlen}
+use Rattle.scalar_core.specs.Hart.{exit}
+use Rattle.vector_core.specs.Machine.{Machine}
+use Rattle.cert_note.specs.declared.values.Budget.{Budget}
+use Rattle.cert_note.specs.declared.values.Block.{Block}
+use Rattle.cert_note.specs.Certificate.{CertificateView, IsCertificate, IsBlock, AllFrom, after_block}
+use Rattle.abs_state.specs.declared.why.Why.{Why}
+use Rattle.abs_state.specs.declared.state.Way.{Way}
+use Rattle.abs_state.specs.declared.state.Way.TheVariants.{To}
+use Rattle.abs_state.specs.Numbers.{NumbersView}
+use Rattle.abs_state.specs.State.{AbstractView}
+use Rattle.abs_state.specs.After.{after_of, taken, way_of, jump_way}
+use Rattle.abs_state.specs.Blocks.{at_block_of, at_entry_of}
+use Rattle.abs_state.specs.Branches.{EdgeView, refined}
+use Rattle.abs_state.specs.Edges.{implied_by}
+use Rattle.abs_state.specs.Held.{Setting, vlenb_in, Held, Goes, Fits}
+use Rattle.abs_state.specs.StepLaws.{jumps}
+use Rattle.abs_state.specs.EdgeLaws.{block_of, is_fork}
+use Rattle.abs_state.proofs.StepMachines.{held_steps, goes_on}
+use Rattle.abs_state.proofs.Growth.{after_counts}
+use Rattle.abs_state.proofs.EdgeLemmas.{edges-are_taken, implied-ends, implied-fits}
+use Rattle.abs_state.proofs.Ways.{edges-keep, one-edge, straight-edges}
+use Rattle.block_checker.specs.Passes.{block_at, is_branch, is_jump, is_branch_insn, is_jump_insn}
+use Rattle.vreg_groups.specs.VectorLength.{vlenb_of}
+use Rattle.vector_core.specs.Start.{start as start_of}
+use Rattle.block_checker.specs.Sound.{BlocksHold, StartsSuffice, setting}
+use Rattle.block_checker.proofs.Finding.{block-begins}
+use Rattle.block_checker.proofs.StepLaws.{Laws, budget_in}
+use Rattle.block_checker.proofs.Passing.{LawsAt, passing-runs-end}
+
+-- ---- code and blocks
+
+low-in : (pc : ℕ) (s : SegmentView) → IsSegment s → holds_code pc s ≡ true → pc + 4 < 2 ^ 32
+low-in pc s is holds = elim (is.in_place) as (λ h. pc + 4 < 2 ^ 32) [
+  | inl h ↦ grind (arith, nat_tests, holds, h.1)
+  | inr h ↦ grind (arith, nat_tests, holds, h.1)
+]
+
+code-low : (segments : List SegmentView) (pc word : ℕ) → AllByRecursion IsSegment segments
+    → option_map (word_in pc) (find (holds_code pc) segments) ≡ Some word → pc + 4 < 2 ^ 32
+code-low [] pc word are e = absurd (let bad : ⊥ = cc in bad)
+code-low (s ∷ ss) pc word are e = go (holds_code pc s) refl e (code-low ss pc word are.1)
+  where
+    go : (t : Bool) → holds_code pc s ≡ t → option_map (word_in pc) (if t then Some s else find (holds_code pc) ss) ≡ Some word
+        → (option_map (word_in pc) (find (holds_code pc) ss) ≡ Some word → pc + 4 < 2 ^ 32) → pc + 4 < 2 ^ 32
+    go true h e more = low-in pc s are.0 h
+    go false h e more = more e
+
+image-low : (image : ImageView) (pc word : ℕ) → IsImage image → code_at pc image ≡ Some word → pc + 4 < 2 ^ 32
+unfolding code_at
+image-low image pc word is e = code-low image.segments pc word is.each e
+
+start-aligned : (from start : ℕ) → IsTrue (nat_le from start && (start % 4 == 0)) → start % 4 ≡ 0
+start-aligned from start h = grind (arith, nat_tests, h)
+
+found-aligned : (vlen : Vlen) (params : List Param) (from address : ℕ) (blocks : List Block) (b : Block)
+    → AllFrom (IsBlock vlen params) after_block from blocks → find (λ block. block.start == address) blocks ≡ Some b → b.start % 4 ≡ 0
+found-aligned vlen params from address [] b all e = absurd (let bad : ⊥ = cc in bad)
+found-aligned vlen params from address (x ∷ xs) b all e =
+    go (x.start == address) e (found-aligned vlen params (after_block x) address xs b all.1)
+  where
+    go : (t : Bool) → (if t then Some x else find (λ block. block.start == address) xs) ≡ Some b
+        → (find (λ block. block.start == address) xs ≡ Some b → b.start % 4 ≡ 0) → b.start % 4 ≡ 0
+    go true e more =
+        let same : x ≡ b = cc in
+        subst (λ (y : Block). y.start % 4 ≡ 0) same (start-aligned from x.start all.0.start)
+    go false e more = more e
+
+block-aligned : (certificate : CertificateView) (address : ℕ) (b : Block) → IsCertificate certificate
+    → block_at address certificate.blocks ≡ Some b → address % 4 ≡ 0
+unfolding block_at
+block-aligned certificate address b is e =
+    let start : b.start ≡ address = grind (arith, nat_tests, block-begins address certificate.blocks b e) in
+    let even : b.start % 4 ≡ 0 = found-aligned certificate.vlen certificate.parameters 0 address certificate.blocks b is.blocks e in
+    subst (λ (k : ℕ). k % 4 ≡ 0) start even
+
+-- ---- what an instruction leaves, and where it leads
+
+taken-budget : (way : Way) (a b : AbstractView) (r : Result NumbersView Why) → taken way a r ≡ Ok b → b.budget ≡ a.budget
+unfolding taken
+taken-budget way a b (Ok numbers) e =
+    let same : record a { numbers = numbers; words = a.words + 1; way = way } ≡ b = cc in
+    ap (λ (k : AbstractView). k.budget) (sym same)
+taken-budget way a b (Err why) e = absurd (let bad : ⊥ = cc in bad)
+
+taken-way : (way : Way) (a b : AbstractView) (r : Result NumbersView Why) → taken way a r ≡ Ok b → b.way ≡ way
+unfolding taken
+taken-way way a b (Ok numbers) e =
+    let same : record a { numbers = numbers; words = a.words + 1; way = way } ≡ b = cc in
+    ap (λ (k : AbstractView). k.way) (sym same)
+taken-way way a b (Err why) e = absurd (let bad : ⊥ = cc in bad)
+
+after-budget : (pc : ℕ) (insn : Insn) (a b : AbstractView) → after_of pc insn a ≡ Ok b → b.budget ≡ a.budget
+unfolding after_of
+after-budget pc (Scalar insn) a b e = taken-budget _ a b _ e
+after-budget pc (Csr insn) a b e = taken-budget _ a b _ e
+after-budget pc (VSet insn) a b e = absurd (let bad : ⊥ = cc in bad)
+after-budget pc (VArith insn) a b e = absurd (let bad : ⊥ = cc in bad)
+after-budget pc (VMask insn) a b e = absurd (let bad : ⊥ = cc in bad)
+after-budget pc (VPerm insn) a b e = absurd (let bad : ⊥ = cc in bad)
+after-budget pc (VReduce insn) a b e = absurd (let bad : ⊥ = cc in bad)
+after-budget pc (VMem insn) a b e = absurd (let bad : ⊥ = cc in bad)
+after-budget pc (VMove insn) a b e = absurd (let bad : ⊥ = cc in bad)
+
+jump-single : (o : Option ℕ) → is_fork (jump_way o) ≡ false
+unfolding jump_way
+jump-single None = refl
+jump-single (Some address) = refl
+
+way-single : (pc : ℕ) (insn : ScalarInsn) (s : NumbersView) → is_branch_insn insn ≡ false → is_fork (way_of pc insn s) ≡ false
+unfolding way_of is_branch_insn
+way-single pc (Branch condition rs1 rs2 offset) s h = absurd (let bad : ⊥ = cc in bad)
+way-single pc (Lui rd imm) s h = refl
+way-single pc (Auipc rd imm) s h = refl
+way-single pc (Jal rd offset) s h = refl
+way-single pc (Jalr rd rs1 offset) s h = jump-single _
+way-single pc (Load kind rd rs1 offset) s h = refl
+way-single pc (Store size rs1 rs2 offset) s h = refl
+way-single pc (Immediate op rd rs1 imm) s h = refl
+way-single pc (ShiftImmediate op rd rs1 amount) s h = refl
+way-single pc (Register op rd rs1 rs2) s h = refl
+way-single pc Fence s h = refl
+way-single pc Ecall s h = refl
+
+after-single : (pc : ℕ) (insn : Insn) (a b : AbstractView) → is_branch insn ≡ false → after_of pc insn a ≡ Ok b → is_fork b.way ≡ false
+unfolding after_of is_branch
+after-single pc (Scalar insn) a b h e = ap is_fork (taken-way _ a b _ e) ∙ way-single pc insn a.numbers h
+after-single pc (Csr insn) a b h e = ap is_fork (taken-way _ a b _ e)
+after-single pc (VSet insn) a b h e = absurd (let bad : ⊥ = cc in bad)
+after-single pc (VArith insn) a b h e = absurd (let bad : ⊥ = cc in bad)
+after-single pc (VMask insn) a b h e = absurd (let bad : ⊥ = cc in bad)
+after-single pc (VPerm insn) a b h e = absurd (let bad : ⊥ = cc in bad)
+after-single pc (VReduce insn) a b h e = absurd (let bad : ⊥ = cc in bad)
+after-single pc (VMem insn) a b h e = absurd (let bad : ⊥ = cc in bad)
+after-single pc (VMove insn) a b h e = absurd (let bad : ⊥ = cc in bad)
+
+same-insn : (insn : ScalarInsn) → jumps (Scalar insn) ≡ is_jump_insn insn
+unfolding jumps is_jump_insn
+same-insn (Branch condition rs1 rs2 offset) = refl
+same-insn (Lui rd imm) = refl
+same-insn (Auipc rd imm) = refl
+same-insn (Jal rd offset) = refl
+same-insn (Jalr rd rs1 offset) = refl
+same-insn (Load kind rd rs1 offset) = refl
+same-insn (Store size rs1 rs2 offset) = refl
+same-insn (Immediate op rd rs1 imm) = refl
+same-insn (ShiftImmediate op rd rs1 amount) = refl
+same-insn (Register op rd rs1 rs2) = refl
+same-insn Fence = refl
+same-insn Ecall = refl
+
+same-jumps : (insn : Insn) → jumps insn ≡ is_jump insn
+unfolding jumps is_jump
+same-jumps (Scalar insn) = same-insn insn
+same-jumps (Csr insn) = refl
+same-jumps (VSet insn) = refl
+same-jumps (VArith insn) = refl
+same-jumps (VMask insn) = refl
+same-jumps (VPerm insn) = refl
+same-jumps (VReduce insn) = refl
+same-jumps (VMem insn) = refl
+same-jumps (VMove insn) = refl
+
+-- ---- the record
+
+module _ (e : Setting) (begin : Machine) (is_image : IsImage e.image) (is_certificate : IsCertificate e.certificate) (blocks : BlocksHold)
+    (start : Held e 0 (at_entry_of e.image e.certificate) begin) where
+  -- A state that is known in a block, which has a budget.
+  pub record HeldIn (n : ℕ) (a : AbstractView) (s : Machine) : Type 0 where
+    pub held : Held e n a s
+    pub own : Budget
+    pub budget : a.budget ≡ Some own
+
+  block-held : (b : Block) (s : Machine) → block_at s.hart.pc e.certificate.blocks ≡ Some b → Fits e b s
+      → HeldIn (budget_in b s) (at_block_of e.image e.certificate b) s
+  unfolding block_at at_block_of
+  block-held b s found fits = record { held = blocks e b s is_image is_certificate found fits; own = b.budget; budget = refl }
+
+  paid : (own : Budget) (o : Option Budget) (P : Type 0) → o ≡ Some own → IfSome o (λ b. P) → P
+  paid own None P h k = absurd (let bad : ⊥ = cc in bad)
+  paid own (Some b) P h k = k
+
+  edge-budget : (n : ℕ) (a : AbstractView) (t : Machine) (taken : Bool) (edge : EdgeView) (h : HeldIn n a t) → refined taken a ≡ Some edge
+      → edge.state.budget ≡ Some h.own
+  edge-budget n a t taken edge h is = ap (λ (k : AbstractView). k.budget) (edges-keep taken a edge is) ∙ h.budget
+
+  entry-way : (at_entry_of e.image e.certificate).way ≡ To e.image.entry
+  unfolding at_entry_of
+  entry-way = refl
+
+  entry-edges : (taken : Bool) → refined taken (at_entry_of e.image e.certificate) ≡ refined false (at_entry_of e.image e.certificate)
+  entry-edges taken = one-edge taken (at_entry_of e.image e.certificate) (ap is_fork entry-way)
+
+  shown-fits : (n : ℕ) (edge : EdgeView) (b : Block) (t : Machine) (taken : Bool) (a : AbstractView) → HeldIn n a t
+      → refined taken a ≡ Some edge → Goes e n edge t → block_at t.hart.pc e.certificate.blocks ≡ Some b
+      → implied_by edge (Some b) ≡ Ok tt → Fits e b t × (budget_in b t + edge.state.words ≤ n)
+  unfolding block_at
+  shown-fits n edge b t taken a h is goes found shown =
+      let there = implied-fits e n edge b t goes found is_certificate shown in
+      (there.0, paid h.own edge.state.budget (budget_in b t + edge.state.words ≤ n) (edge-budget n a t taken edge h is) there.1)
+
+  shown-ends : (n : ℕ) (edge : EdgeView) (t : Machine) (taken : Bool) (a : AbstractView) → HeldIn n a t
+      → refined taken a ≡ Some edge → Goes e n edge t → implied_by edge None ≡ Ok tt → (t.hart.pc ≡ exit) × (edge.state.words ≤ n)
+  shown-ends n edge t taken a h is goes shown =
+      let there = implied-ends e n edge t goes shown in
+      (there.0, paid h.own edge.state.budget (edge.state.words ≤ n) (edge-budget n a t taken edge h is) there.1)
+
+  target-is : (pc : ℕ) (o : Option ℕ) (P : ℕ → Type 0) → o ≡ Some pc → IfSome o P → P pc
+  target-is pc None P h k = absurd (let bad : ⊥ = cc in bad)
+  target-is pc (Some q) P h k = let same : q ≡ pc = cc in subst P same k
+
+  starts-there : begin.hart.pc ≡ e.image.entry
+  unfolding at_entry_of
+  starts-there = start.way
+
+  entry-shows : (edge : EdgeView) (b : Block) → refined false (at_entry_of e.image e.certificate) ≡ Some edge
+      → block_at e.image.entry e.certificate.blocks ≡ Some b → implied_by edge (Some b) ≡ Ok tt → Fits e b begin
+  unfolding block_at
+  entry-shows edge b is found shown =
+      let way = edges-are_taken e 0 (at_entry_of e.image e.certificate) begin start in
+      let one : Some way.edge ≡ Some edge = sym way.is ∙ entry-edges way.taken ∙ is in
+      let same : way.edge ≡ edge = cc in
+      let goes : Goes e 0 edge begin = subst (λ (k : EdgeView). Goes e 0 k begin) same way.goes in
+      let here : block_of e begin ≡ Some b = ap (λ (p : ℕ). block_at p e.certificate.blocks) starts-there ∙ found in
+      let there = implied-fits e 0 edge b begin goes here is_certificate shown in
+      there.0
+
+  first-edge : (edge : EdgeView) × (refined false (at_entry_of e.image e.certificate) ≡ Some edge) × (edge.target ≡ Some e.image.entry)
+  first-edge =
+      let way = edges-are_taken e 0 (at_entry_of e.image e.certificate) begin start in
+      (way.edge, sym (entry-edges way.taken) ∙ way.is, straight-edges way.taken (at_entry_of e.image e.certificate) e.image.entry way.edge entry-way way.is)
+
+  straight-on : (pc : ℕ) (insn : Insn) (a b : AbstractView) (taken : Bool) (edge : EdgeView) → is_jump insn ≡ false → pc + 4 < 2 ^ 32
+      → after_of pc insn a ≡ Ok b → refined taken b ≡ Some edge → edge.target ≡ Some (pc + 4)
+  straight-on pc insn a b taken edge h low after is =
+      let next : (pc + 4) % 2 ^ 32 ≡ pc + 4 = omega (arith, low) in
+      straight-edges taken b ((pc + 4) % 2 ^ 32) edge (goes_on pc insn a b (same-jumps insn ∙ h) after) is ∙ ap (λ (k : ℕ). Some k) next
+
+  begins-none : (b : Block) → (at_block_of e.image e.certificate b).words ≡ 0
+  unfolding at_block_of
+  begins-none b = refl
+
+  pub laws-hold : Laws e.image e.certificate (vlenb_in e) begin HeldIn (Goes e) (Fits e)
+  laws-hold = record {
+    low = λ pc word c. image-low e.image pc word is_image c;
+    aligned = λ pc b c. block-aligned e.certificate pc b is_certificate c;
+    code = λ n word a s h c. h.held.known.proper.code s.hart.pc word c;
+    block = block-held;
+    step = λ n word insn a b s h even means after.
+        let next = held_steps e n a b s word insn is_image is_certificate h.held even means after in
+        (next.t, next.is, record { held = next.held; own = h.own; budget = after-budget s.hart.pc insn a b after ∙ h.budget });
+    edge = λ n a t h. let way = edges-are_taken e n a t h.held in (way.taken, way.edge, way.is, way.goes);
+    one_edge = λ pc insn a b taken h after. one-edge taken b (after-single pc insn a b h after);
+    straight = straight-on;
+    counts = after_counts;
+    keeps = λ taken a edge is. ap (λ (k : AbstractView). k.words) (edges-keep taken a edge is);
+    begins = begins-none;
+    at = λ n pc edge t goes target. target-is pc edge.target (λ q. t.hart.pc ≡ q) target goes.target;
+    fits = shown-fits;
+    ends = shown-ends;
+    entry = entry-shows;
+    entry_edge = first-edge;
+  }
+
+  pub laws-at : LawsAt e.image e.certificate begin
+  laws-at = record { held = HeldIn; goes = Goes e; fits = Fits e; laws = laws-hold }
+
+-- what is known at starts is all that is missing
+pub starts-suffice : StartsSuffice
+starts-suffice blocks entries =
+    passing-runs-end (λ image certificate args agnostic is_image is_certificate eight matching bytes.
+    let entry = entries image certificate args agnostic is_image is_certificate eight matching bytes in
+    laws-at (setting image certificate entry.0) (start_of (vlenb_of certificate.vlen) agnostic image certificate.parameters args)
+    is_image is_certificate blocks entry.1)
