@@ -2,12 +2,12 @@
 
 ghost use Rattle.vreg_groups.specs.VectorLength.{IsConfig};
 
-use vector_mem::{Access, access, load, store};
 use elf_image::read;
 use region_mem::{Arg, Args, Fault, Param, Parameters, Regions, Right};
 use rv_decode::{Count, Direction, Insn, Place, Reg, VMem, Width};
 use std::alloc::Global;
 use std::test::Fail;
+use vector_mem::{Access, access, load, store};
 use vreg_groups::{Agnostic, Avl, Setup, Vconfig, VregFile, legal_type, vset};
 
 /// An executable with a word at 0x1000, and sixteen bytes at 0x2000 that may be read and written.

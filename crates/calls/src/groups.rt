@@ -1,10 +1,10 @@
 //! How a legal instruction's groups are resolved, read and written.
 
+use rv_decode::{Eew, Insn, IntOp, Reg, Source, VArith, Width};
+use std::test::Fail;
 use vreg_groups::{
     Agnostic, Avl, Group, Lmul, Policy, Vconfig, VregFile, Vtype, legal, legal_type, vset,
 };
-use rv_decode::{Eew, Insn, IntOp, Reg, Source, VArith, Width};
-use std::test::Fail;
 
 /// vadd.vv v4,v2,v1
 fn sum() -> Insn {

@@ -1,8 +1,8 @@
 //! How a run's memory is made, used and given back.
+use elf_image::Image;
 use region_mem::{
     Arg, ArgError, Args, Bytes, Fault, Mode, Param, Parameters, Regions, Right, args_bring_bytes,
 };
-use elf_image::Image;
 use std::alloc::{AllocError, Global};
 use std::process::Abort;
 use std::test::Fail;

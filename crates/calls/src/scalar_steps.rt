@@ -1,10 +1,10 @@
 //! How a step is called. What every instruction gives is tried against QEMU by the crate `conformance`.
 
-use scalar_core::{EXIT, Scalar, step_scalar};
 use elf_image::read;
 use region_mem::Fault::JumpMisaligned;
 use region_mem::{Arg, Args, Fault, Param, Parameters, Regions};
 use rv_decode::{Reg, decode};
+use scalar_core::{EXIT, Scalar, step_scalar};
 use std::process::Abort;
 use vreg_groups::Vconfig;
 

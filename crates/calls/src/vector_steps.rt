@@ -1,8 +1,6 @@
 //! How a step is made: a vset, a load, a sum, a store, and a fault; and instructions of two widths, whose results are worked
 //! out by hand from the standard.
 
-
-use vector_core::{VectorState, step_vector};
 use elf_image::read;
 use region_mem::{Arg, Args, Fault, Param, Parameters, Regions};
 use rv_decode::{
@@ -12,6 +10,7 @@ use rv_decode::{
 use scalar_core::Scalar;
 use std::alloc::Global;
 use std::test::Fail;
+use vector_core::{VectorState, step_vector};
 use vreg_groups::{Agnostic, Vconfig};
 
 /// An executable with a word at 0x1000, and sixteen bytes at 0x2000 that may be read and written.

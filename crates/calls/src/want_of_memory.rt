@@ -1,9 +1,9 @@
 //! Calls of the libraries of which each allocation fails in turn: the answer is want of memory, and what was handed in
 //! comes back as it was.
-use hex::decode;
 use crate::refusing::Refusing;
 use cert_note::CertError;
 use elf_image::ElfError;
+use hex::decode;
 use region_mem::{Arg, Args, Bytes, Mode, Param, Parameters};
 use sandbox_run::{OpenError, Outcome, try_run_in};
 use std::alloc::{AllocError, Global};

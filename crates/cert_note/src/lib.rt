@@ -14,4 +14,3 @@ pub use refusals::CertError;
 pub use values::{Block, Budget, Certificate, Contents, Equality, RegisterFact, Term, VectorFact};
 pub use vreg_groups::Vlen;
 pub use writing::write;
-

@@ -19,4 +19,3 @@ pub use layout::{
 };
 pub use reading::read;
 pub use segment::{Rights, Segment};
-

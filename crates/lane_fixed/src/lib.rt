@@ -11,4 +11,3 @@ mod rounding;
 pub use kernels::{clip, compute};
 pub use lane::Lane;
 pub use operations::{ClipOp, FixedOp, RoundingMode};
-

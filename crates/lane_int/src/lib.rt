@@ -14,4 +14,3 @@ pub use kernels::{compare, compute, compute_carried, compute_carries, multiply_a
 pub use lane::Lane;
 pub use operations::{CarryOp, CompareOp, IntOp, MultiplyAddOp};
 pub use resizing::{Narrow, cut, extend};
-

@@ -15,4 +15,3 @@ pub use lane::FoldLane;
 pub use logic::combine;
 pub use operations::{FirstOp, FoldOp, LogicOp};
 pub use permutations::{compress, gather, slide_down, slide_one_down, slide_one_up, slide_up};
-

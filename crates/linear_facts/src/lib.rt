@@ -17,4 +17,3 @@ pub use laws::{
     sums_stay_below,
 };
 pub use ranges::{Atom, Atoms, Change, End, Range, Split};
-

@@ -27,4 +27,3 @@ pub use laws::{
 pub use layout::{BUFFERS, BUFFERS_END, MAX_BUFFER_SIZE, PAGE_SIZE, STACK, STACK_END, STACK_SIZE};
 pub use memory::Regions;
 pub use parameter::{ArgError, Mode, Param, Parameters};
-
