@@ -8,6 +8,7 @@ pub mod Payments
 pub mod Refinements
 pub mod Rooms
 pub mod StartForms
+pub mod StartMachines
 pub mod StartNumbers
 pub mod StartRanges
 pub mod StartZones

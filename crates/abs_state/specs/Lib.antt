@@ -11,6 +11,7 @@ pub mod Held
 pub mod Holds
 pub mod Memories
 pub mod Numbers
+pub mod StartLaws
 pub mod StartZones
 pub mod State
 pub mod StepLaws

@@ -1,0 +1,121 @@
+-- What is known where a block begins is true of a machine that fits it.
+use Rattle.std.proofs.Common.{◌≡◌, ℕ, ◌<◌, ◌≤◌, ◌*◌, ◌^◌, inl, inr, Bool, true, false, arith, refl, sym, ap, ◌∙◌, subst, length, List, [], ◌∷◌, Option, Some, None, IfSome}
+use Rattle.std.specs.Prelude.{nat_le, ◌&&◌, ◌==◌, IsTrue, MatchOption}
+use Rattle.std.specs.List.{AllByRecursion}
+use Rattle.std.proofs.lemmas.Bool.Decides.{nat_tests}
+use Rattle.linear_facts.specs.Forms.{value}
+use Rattle.region_mem.specs.declared.parameter.Param.{Param}
+use Rattle.vreg_groups.specs.declared.vector_length.Vconfig.{Vconfig}
+use Rattle.vreg_groups.specs.declared.vector_type.Vtype.{Vtype}
+use Rattle.vreg_groups.specs.VectorType.{vtype_of, vlmax_of}
+use Rattle.vreg_groups.specs.VectorLength.{IsVlenb, IsConfig, no_config}
+use Rattle.vreg_groups.proofs.Sizes.{vlmax_small}
+use Rattle.scalar_core.specs.Hart.{reg_of}
+use Rattle.vector_core.specs.Machine.{Machine}
+use Rattle.cert_note.specs.declared.values.Equality.{Equality}
+use Rattle.cert_note.specs.declared.values.RegisterFact.{RegisterFact}
+use Rattle.cert_note.specs.declared.values.Block.{Block}
+use Rattle.cert_note.specs.Certificate.{IsBlock, IsRegisterFact, AllFrom, after_fact, after_block}
+use Rattle.abs_state.specs.Numbers.{NumbersView, value_at}
+use Rattle.abs_state.specs.Described.{IsNumber}
+use Rattle.abs_state.specs.Holds.{Holds, number_of}
+use Rattle.abs_state.specs.Blocks.{equality_form, start_atoms, start_numbers, numbers_by, at_block_of}
+use Rattle.abs_state.specs.BlockLaws.{number_in, FactIsTrue}
+use Rattle.abs_state.specs.Held.{Setting, FactHolds, Fits, IsPaid, number_at, vlenb_in}
+use Rattle.abs_state.specs.StartLaws.{BlocksAreHeld}
+use Rattle.abs_state.proofs.Addresses.{register_number}
+use Rattle.abs_state.proofs.StartForms.{budget_below, found_is}
+use Rattle.abs_state.proofs.StartNumbers.{atoms_many, block_numbers_hold, number_below, number_past}
+
+-- ---- numbers of 32 bits
+
+vl_fits : (vlenb : ℕ) (config : Vconfig) → IsVlenb vlenb → IsConfig vlenb config → config.vl < 2 ^ 32
+unfolding IsConfig
+vl_fits vlenb config is h = by_type (vtype_of config.vtype) h
+  where
+    small : config.vl ≤ 8 * vlenb → config.vl < 2 ^ 32
+    small l = by_length is
+      where
+        by_length : IsVlenb vlenb → config.vl < 2 ^ 32
+        by_length (inl e) = omega (arith, e, l)
+        by_length (inr e) = omega (arith, e, l)
+
+    by_type : (o : Option Vtype) → MatchOption o (config ≡ no_config) (λ t. config.vl ≤ vlmax_of vlenb t) → config.vl < 2 ^ 32
+    by_type None f = (let none : config.vl ≡ 0 = ap (λ (c : Vconfig). c.vl) f in omega (arith, none))
+    by_type (Some t) f = small (vlmax_small t vlenb config.vl f)
+
+-- ---- facts
+
+fact_below : (params : List Param) (from : ℕ) (fact : RegisterFact) → IsRegisterFact params from fact → fact.number < 33
+fact_below params from fact is = by_test (nat_le from fact.number) is.number
+  where
+    by_test : (b : Bool) → IsTrue (b && nat_le fact.number 32) → fact.number < 33
+    by_test true f = grind (arith, nat_tests)
+    by_test false f = cc
+
+module _ (e : Setting) (m : Machine) where
+  abbrev numbers : ℕ → ℕ
+  numbers = number_at e m
+
+  below : (i : ℕ) → i < 33 → numbers i ≡ number_of i m.hart m.vectors.config
+  below i l = number_below e.passed m.hart m.vectors.config i l
+
+  fact_is_true : (params : List Param) (from : ℕ) (fact : RegisterFact) → IsRegisterFact params from fact → FactHolds e m fact → FactIsTrue numbers fact
+  fact_is_true params from fact is h =
+      let same = below fact.number (fact_below params from fact is) in
+      record {
+        low = omega (arith, h.low, same);
+        high = omega (arith, h.high, same);
+        equality = by_equality fact.equality same h.equality;
+      }
+    where
+      by_equality : (o : Option Equality) → numbers fact.number ≡ number_of fact.number m.hart m.vectors.config
+          → IfSome o (λ equality. number_of fact.number m.hart m.vectors.config ≡ value numbers (equality_form equality))
+          → IfSome o (λ equality. numbers fact.number ≡ value numbers (equality_form equality))
+      by_equality None same f = tt
+      by_equality (Some equality) same f = same ∙ f
+
+  facts_are_true : (params : List Param) (from : ℕ) (facts : List RegisterFact) → AllFrom (IsRegisterFact params) after_fact from facts
+      → AllByRecursion (FactHolds e m) facts → AllByRecursion (FactIsTrue numbers) facts
+  facts_are_true params from [] is h = tt
+  facts_are_true params from (fact ∷ facts) is h =
+      (fact_is_true params from fact is.0 h.0, facts_are_true params (after_fact fact) facts is.1 h.1)
+
+-- ---- blocks
+
+atoms_at : (params : List Param) (facts : List RegisterFact) → length (start_numbers params facts).atoms ≡ 41
+unfolding start_numbers numbers_by
+atoms_at params facts = atoms_many params facts
+
+pub blocks-are_held : BlocksAreHeld
+unfolding at_block_of
+blocks-are_held e block m is at fits =
+    let config : Vconfig = m.vectors.config in
+    let params : List Param = e.certificate.parameters in
+    let facts : List RegisterFact = block.registers.items in
+    let block_is = found_is (IsBlock e.certificate.vlen params) after_block (λ (b : Block). b.start == m.hart.pc) 0 e.certificate.blocks block is.certificate.blocks at in
+    let vl = vl_fits (vlenb_in e) config fits.proper.vectors.vlenb_is fits.proper.vectors.config in
+    let known : Holds (start_numbers params facts) (number_at e m) m.hart config =
+    block_numbers_hold e.certificate block m.hart.pc e.passed m.hart config is.certificate at is.passed fits.proper.hart vl
+    (facts_are_true e m params 1 facts block_is.1.registers fits.facts) in
+    let register : block.budget.register < 32 = budget_below block.budget block_is.1.budget in
+    record {
+      numbers = number_at e m;
+      known = record {
+        vlenb = refl;
+        count = omega (arith, atoms_at params facts);
+        passed = λ place l. number_past e.passed m.hart config place;
+        known = known;
+        zones = refl;
+        vtype = fits.vtype;
+        groups = fits.vectors;
+        paid = (
+          reg_of block.budget.register m.hart,
+          refl,
+          subst (λ (x : ℕ). IsNumber (length (start_numbers params facts).atoms) (number_at e m) (value_at (start_numbers params facts) block.budget.register) x)
+              (register_number block.budget.register m.hart config register) (known.each block.budget.register (omega (arith, register))),
+        );
+        proper = fits.proper;
+      };
+      way = fits.pc;
+    }
