@@ -29,13 +29,16 @@ use Rattle.abs_state.specs.Held.{Setting, vlenb_in, Held, Goes, Fits}
 use Rattle.abs_state.specs.StepLaws.{jumps}
 use Rattle.abs_state.specs.EdgeLaws.{block_of, is_fork}
 use Rattle.abs_state.proofs.StepMachines.{held_steps, goes_on}
+use Rattle.abs_state.proofs.StartMachines.{blocks-are_held}
+use Rattle.abs_state.specs.BlockLaws.{ArePassed}
+use Rattle.abs_state.specs.StartLaws.{IsSetting}
 use Rattle.abs_state.proofs.Growth.{after_counts}
 use Rattle.abs_state.proofs.EdgeLemmas.{edges-are_taken, implied-ends, implied-fits}
 use Rattle.abs_state.proofs.Ways.{edges-keep, one-edge, straight-edges}
 use Rattle.block_checker.specs.Passes.{block_at, is_branch, is_jump, is_branch_insn, is_jump_insn}
 use Rattle.vreg_groups.specs.VectorLength.{vlenb_of}
 use Rattle.vector_core.specs.Start.{start as start_of}
-use Rattle.block_checker.specs.Sound.{BlocksHold, StartsSuffice, setting}
+use Rattle.block_checker.specs.Sound.{EntriesSuffice, setting}
 use Rattle.block_checker.proofs.Finding.{block-begins}
 use Rattle.block_checker.proofs.StepLaws.{Laws, budget_in}
 use Rattle.block_checker.proofs.Passing.{LawsAt, passing-runs-end}
@@ -175,7 +178,7 @@ same-jumps (VMove insn) = refl
 
 -- ---- the record
 
-module _ (e : Setting) (begin : Machine) (is_image : IsImage e.image) (is_certificate : IsCertificate e.certificate) (blocks : BlocksHold)
+module _ (e : Setting) (begin : Machine) (is_image : IsImage e.image) (is_certificate : IsCertificate e.certificate) (passed : ArePassed e.certificate.parameters e.passed)
     (start : Held e 0 (at_entry_of e.image e.certificate) begin) where
   -- A state that is known in a block, which has a budget.
   pub record HeldIn (n : ℕ) (a : AbstractView) (s : Machine) : Type 0 where
@@ -183,10 +186,13 @@ module _ (e : Setting) (begin : Machine) (is_image : IsImage e.image) (is_certif
     pub own : Budget
     pub budget : a.budget ≡ Some own
 
+  given : IsSetting e
+  given = record { image = is_image; certificate = is_certificate; passed = passed }
+
   block-held : (b : Block) (s : Machine) → block_at s.hart.pc e.certificate.blocks ≡ Some b → Fits e b s
       → HeldIn (budget_in b s) (at_block_of e.image e.certificate b) s
   unfolding block_at at_block_of
-  block-held b s found fits = record { held = blocks e b s is_image is_certificate found fits; own = b.budget; budget = refl }
+  block-held b s found fits = record { held = blocks-are_held e b s given found fits; own = b.budget; budget = refl }
 
   paid : (own : Budget) (o : Option Budget) (P : Type 0) → o ≡ Some own → IfSome o (λ b. P) → P
   paid own None P h k = absurd (let bad : ⊥ = cc in bad)
@@ -277,10 +283,10 @@ module _ (e : Setting) (begin : Machine) (is_image : IsImage e.image) (is_certif
   pub laws-at : LawsAt e.image e.certificate begin
   laws-at = record { held = HeldIn; goes = Goes e; fits = Fits e; laws = laws-hold }
 
--- what is known at starts is all that is missing
-pub starts-suffice : StartsSuffice
-starts-suffice blocks entries =
+-- what is known at the entry is all that is missing
+pub entries-suffice : EntriesSuffice
+entries-suffice entries =
     passing-runs-end (λ image certificate args agnostic is_image is_certificate eight matching bytes.
     let entry = entries image certificate args agnostic is_image is_certificate eight matching bytes in
     laws-at (setting image certificate entry.0) (start_of (vlenb_of certificate.vlen) agnostic image certificate.parameters args)
-    is_image is_certificate blocks entry.1)
+    is_image is_certificate entry.1.0 entry.1.1)

@@ -13,9 +13,9 @@ use Rattle.vector_core.specs.Start.{start}
 use Rattle.vreg_groups.specs.declared.vector_length.Vlen.{Vlen}
 use Rattle.cert_note.specs.declared.values.Block.{Block}
 use Rattle.cert_note.specs.Certificate.{CertificateView, IsCertificate}
-use Rattle.abs_state.specs.Blocks.{at_block_of, at_entry_of}
-use Rattle.abs_state.specs.Held.{Setting, Held, Fits, budget_of}
-use Rattle.abs_state.specs.EdgeLaws.{block_of}
+use Rattle.abs_state.specs.Blocks.{at_entry_of}
+use Rattle.abs_state.specs.Held.{Setting, Held}
+use Rattle.abs_state.specs.BlockLaws.{ArePassed}
 use Rattle.block_checker.specs.Passes.{block_at, checked}
 use Rattle.block_checker.specs.Accepted.{AcceptedView}
 use Rattle.block_checker.specs.Bound.{budget_at, bound_of, scalars_of}
@@ -40,26 +40,20 @@ PassingRunsEnd =
     let s = start (vlenb_of vlen) agnostic image certificate.parameters args in
     IsWellBehaved (vlenb_of vlen) (budget_at block.budget (reg_of block.budget.register s.hart)) s
 
--- Where all that a block states is true of a machine, what is known at the block's start is.
-abbrev pub BlocksHold : Type 0
-BlocksHold =
-    (e : Setting) (block : Block) (m : Machine) → IsImage e.image → IsCertificate e.certificate →
-    block_of e m ≡ Some block → Fits e block m →
-    Held e (budget_of block.budget m.hart) (at_block_of e.image e.certificate block) m
-
--- What is known at the entry is true where a run begins, with some numbers as those that were passed.
+-- Where a run begins, some numbers are what the parameters ask for, and with these as the ones that were passed what is known at
+-- the entry is true.
 abbrev pub EntriesHold : Type 0
 EntriesHold =
     (image : ImageView) (certificate : CertificateView) (args : List Argument) (agnostic : Agnostic) →
     IsImage image → IsCertificate certificate → length args ≡ 8 →
     AreArguments certificate.parameters args → AllByRecursion BringsBytes args →
-    (passed : ℕ → ℕ)
+    (passed : ℕ → ℕ) × ArePassed certificate.parameters passed
     × Held (setting image certificate passed) 0 (at_entry_of image certificate)
     (start (vlenb_of certificate.vlen) agnostic image certificate.parameters args)
 
--- These two are all that the theorem needs besides what is proved of instructions and edges.
-abbrev pub StartsSuffice : Type 0
-StartsSuffice = BlocksHold → EntriesHold → PassingRunsEnd
+-- That is all that the theorem needs besides what is proved of instructions, edges and blocks.
+abbrev pub EntriesSuffice : Type 0
+EntriesSuffice = EntriesHold → PassingRunsEnd
 
 -- Each run on arguments that match ends within the bound.
 abbrev pub RunsEnd : AcceptedView → Type 0
