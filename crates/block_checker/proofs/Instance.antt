@@ -289,4 +289,4 @@ entries-suffice entries =
     passing-runs-end (λ image certificate args agnostic is_image is_certificate eight matching bytes.
     let entry = entries image certificate args agnostic is_image is_certificate eight matching bytes in
     laws-at (setting image certificate entry.0) (start_of (vlenb_of certificate.vlen) agnostic image certificate.parameters args)
-    is_image is_certificate entry.1.0 entry.1.1)
+    is_image is_certificate entry.1 entry.2)
