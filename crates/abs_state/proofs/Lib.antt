@@ -1,5 +1,6 @@
 pub mod Addresses
 pub mod EdgeLemmas
+pub mod EntryHart
 pub mod Growth
 pub mod Lists
 pub mod Memories

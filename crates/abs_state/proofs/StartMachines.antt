@@ -1,31 +1,46 @@
--- What is known where a block begins is true of a machine that fits it.
-use Rattle.std.proofs.Common.{◌≡◌, ℕ, ◌<◌, ◌≤◌, ◌*◌, ◌^◌, inl, inr, Bool, true, false, arith, refl, sym, ap, ◌∙◌, subst, length, List, [], ◌∷◌, Option, Some, None, IfSome}
-use Rattle.std.specs.Prelude.{nat_le, ◌&&◌, ◌==◌, IsTrue, MatchOption}
+-- What is known where a block begins is true of a machine that fits it, and what is known where a run begins of its first one.
+use Rattle.std.proofs.Common.{◌≡◌, ℕ, ◌<◌, ◌≤◌, ◌*◌, ◌^◌, inl, inr, Bool, true, false, arith, refl, sym, ap, ◌∙◌, subst, length, get_or, List, [], ◌∷◌, Option, Some, None, IfSome}
+use Rattle.std.specs.Prelude.{nat_le, ◌&&◌, ◌==◌, slice_index_or, IsTrue, MatchOption}
 use Rattle.std.specs.List.{AllByRecursion}
 use Rattle.std.proofs.lemmas.Bool.Decides.{nat_tests}
+use Rattle.std.proofs.Math.ListN.{get_or-eq_default}
 use Rattle.linear_facts.specs.Forms.{value}
+use Rattle.elf_image.specs.Image.{ImageView, IsImage}
 use Rattle.region_mem.specs.declared.parameter.Param.{Param}
+use Rattle.region_mem.specs.declared.arguments.Arg.TheVariants as argument
+use Rattle.region_mem.specs.Laws.{BringsBytes}
+use Rattle.region_mem.specs.Parameter.{Argument, AreArguments}
+use Rattle.region_mem.specs.Start.{start_memory}
+use Rattle.region_mem.proofs.ByteLemmas.{starts_with_bytes}
+use Rattle.region_mem.proofs.StartCode.{starts_code_safe, starts_with_code}
+use Rattle.vreg_groups.specs.declared.policies.Agnostic.{Agnostic}
 use Rattle.vreg_groups.specs.declared.vector_length.Vconfig.{Vconfig}
+use Rattle.vreg_groups.specs.declared.vector_length.Vlen.{Vlen}
+use Rattle.vreg_groups.specs.declared.vector_length.Vlen.TheVariants.{V128, V256}
 use Rattle.vreg_groups.specs.declared.vector_type.Vtype.{Vtype}
 use Rattle.vreg_groups.specs.VectorType.{vtype_of, vlmax_of}
-use Rattle.vreg_groups.specs.VectorLength.{IsVlenb, IsConfig, no_config}
+use Rattle.vreg_groups.specs.VectorLength.{IsVlenb, IsConfig, no_config, vlenb_of}
 use Rattle.vreg_groups.proofs.Sizes.{vlmax_small}
-use Rattle.scalar_core.specs.Hart.{reg_of}
+use Rattle.scalar_core.specs.Hart.{Hart, IsHart, reg_of}
 use Rattle.vector_core.specs.Machine.{Machine}
+use Rattle.vector_core.specs.Start.{passed_number, start, start_hart}
+use Rattle.vector_core.specs.Vectors.{Vectors, new_vectors}
 use Rattle.cert_note.specs.declared.values.Equality.{Equality}
 use Rattle.cert_note.specs.declared.values.RegisterFact.{RegisterFact}
 use Rattle.cert_note.specs.declared.values.Block.{Block}
-use Rattle.cert_note.specs.Certificate.{IsBlock, IsRegisterFact, AllFrom, after_fact, after_block}
-use Rattle.abs_state.specs.Numbers.{NumbersView, value_at}
+use Rattle.cert_note.specs.Certificate.{CertificateView, IsBlock, IsCertificate, IsRegisterFact, AllFrom, after_fact, after_block}
+use Rattle.abs_state.specs.Numbers.{value_at}
 use Rattle.abs_state.specs.Described.{IsNumber}
 use Rattle.abs_state.specs.Holds.{Holds, number_of}
-use Rattle.abs_state.specs.Blocks.{equality_form, start_atoms, start_numbers, numbers_by, at_block_of}
-use Rattle.abs_state.specs.BlockLaws.{number_in, FactIsTrue}
-use Rattle.abs_state.specs.Held.{Setting, FactHolds, Fits, IsPaid, number_at, vlenb_in}
-use Rattle.abs_state.specs.StartLaws.{BlocksAreHeld}
+use Rattle.abs_state.specs.Blocks.{equality_form, entry_numbers, start_numbers, numbers_by, at_block_of, at_entry_of}
+use Rattle.abs_state.specs.BlockLaws.{ArePassed, FactIsTrue}
+use Rattle.abs_state.specs.Held.{Setting, FactHolds, Held, IsProper, number_at, vlenb_in}
+use Rattle.abs_state.specs.StartLaws.{ArePassedBy, BlocksAreHeld, EntriesAreHeld}
 use Rattle.abs_state.proofs.Addresses.{register_number}
+use Rattle.abs_state.proofs.EntryHart.{all_valid, are_passed, code_low, numbers_fit, start_is_entry, start_is_hart, start_pc, zeros_count, zeros_small}
 use Rattle.abs_state.proofs.StartForms.{budget_below, found_is}
-use Rattle.abs_state.proofs.StartNumbers.{atoms_many, block_numbers_hold, number_below, number_past}
+use Rattle.abs_state.proofs.StartNumbers.{atoms_many, block_numbers_hold, entry_numbers_hold, number_below, number_past}
+use Rattle.abs_state.proofs.StartZones.{zones_are_there}
 
 -- ---- numbers of 32 bits
 
@@ -119,3 +134,107 @@ blocks-are_held e block m is at fits =
       };
       way = fits.pc;
     }
+
+-- ---- entries
+
+vlen_is : (vlen : Vlen) → IsVlenb (vlenb_of vlen)
+vlen_is V128 = inl refl
+vlen_is V256 = inr refl
+
+none_config : (vlenb : ℕ) → IsConfig vlenb no_config
+unfolding IsConfig vtype_of
+none_config vlenb = refl
+
+entry_atoms : (params : List Param) → length (entry_numbers params).atoms ≡ 41
+unfolding entry_numbers numbers_by
+entry_atoms params = atoms_many params []
+
+module _ (e : Setting) (agnostic : Agnostic) (args : List Argument) (image : IsImage e.image) (certificate : IsCertificate e.certificate)
+    (eight : length args ≡ 8) (matching : AreArguments e.certificate.parameters args) (brings : AllByRecursion BringsBytes args)
+    (by : ArePassedBy e args) where
+  abbrev params : List Param
+  params = e.certificate.parameters
+
+  abbrev hart : Hart
+  hart = start_hart e.image.entry params args
+
+  abbrev vectors : Vectors
+  vectors = new_vectors (vlenb_in e) agnostic
+
+  abbrev machine : Machine
+  machine = record { hart = hart; vectors = vectors; memory = start_memory e.image params args }
+
+  is_hart : IsHart hart
+  is_hart =
+      start_is_hart e.image.entry params args eight (code_low e.image.segments e.image.entry image.each image.entry_is_code)
+      (numbers_fit params args certificate.eight certificate.parameters eight matching)
+
+  passed : ArePassed params e.passed
+  passed = are_passed params args certificate.eight certificate.parameters eight matching e.passed by.each by.past
+
+  proper : IsProper e machine
+  proper =
+      let valid = all_valid params certificate.parameters in
+      record {
+        hart = is_hart;
+        vectors = record { vlenb_is = vlen_is e.certificate.vlen; config = none_config (vlenb_in e) };
+        registers = record {
+          count = zeros_count (32 * vlenb_in e);
+          bytes = λ i. zeros_small (32 * vlenb_in e) i 256 (omega arith);
+        };
+        bytes = starts_with_bytes e.image params args image brings;
+        zones = zones_are_there e.image params args image valid certificate.eight eight matching;
+        code = starts_with_code e.image params args image valid certificate.eight eight matching;
+        safe = starts_code_safe e.image params args image valid certificate.eight eight matching;
+      }
+
+  entry_known : Holds (entry_numbers params) (number_at e machine) hart vectors.config
+  entry_known =
+      entry_numbers_hold params e.passed hart vectors.config passed is_hart (start_is_entry e.image.entry params args eight e.passed by.each) refl
+
+  entry_held : (n : ℕ) → Held e n (at_entry_of e.image e.certificate) machine
+  unfolding at_entry_of
+  entry_held n = record {
+    numbers = number_at e machine;
+    known = record {
+      vlenb = refl;
+      count = omega (arith, entry_atoms params);
+      passed = λ place l. number_past e.passed hart vectors.config place;
+      known = entry_known;
+      zones = refl;
+      vtype = tt;
+      groups = tt;
+      paid = tt;
+      proper = proper;
+    };
+    way = start_pc e.image.entry params args eight;
+  }
+
+pub entries-are_held : EntriesAreHeld
+unfolding start
+entries-are_held e n agnostic args image certificate eight matching brings by = (
+  record {
+    image = image;
+    certificate = certificate;
+    passed = passed e agnostic args image certificate eight matching brings by;
+  },
+  entry_held e agnostic args image certificate eight matching brings by n,
+)
+
+-- the setting in which the numbers are those that the arguments pass
+abbrev pub setting_by : ImageView → CertificateView → List Argument → Setting
+setting_by image certificate args = record {
+  image = image;
+  certificate = certificate;
+  passed = λ place. passed_number certificate.parameters place (slice_index_or args place argument.None);
+}
+
+pub passed_by_them : (image : ImageView) (certificate : CertificateView) (args : List Argument) → length args ≡ 8
+    → ArePassedBy (setting_by image certificate args) args
+unfolding passed_number
+passed_by_them image certificate args eight = record {
+  each = λ place l. refl;
+  past = λ place l. (
+    let none : get_or args place argument.None ≡ argument.None = get_or-eq_default args argument.None (omega (arith, eight, l)) in
+    subst (λ (arg : Argument). passed_number certificate.parameters place arg < 2 ^ 32) (sym none) (omega arith));
+}

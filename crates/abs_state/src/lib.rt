@@ -36,7 +36,7 @@ pub use laws::{
     register_effects, results_hold, shift_effects, stores_keep_zones, zones_are_permitted,
 };
 pub use numbers::{MOST_ATOMS, Numbers, VL};
-pub use start_laws::{blocks_are_held, zones_are_there};
+pub use start_laws::{blocks_are_held, entries_are_held, zones_are_there};
 pub use state::{Abstract, MOST_WORDS, Way};
 pub use step_laws::{csr_steps_hold, scalar_steps_hold, steps_are_held, steps_count, steps_go_on};
 pub use values::{Effect, Value, computed_range};

@@ -1,5 +1,5 @@
 //! Laws of what a run and a block start with, each the contract of a function that does nothing when it runs.
-ghost use Rattle.abs_state.specs.StartLaws.{BlocksAreHeld};
+ghost use Rattle.abs_state.specs.StartLaws.{BlocksAreHeld, EntriesAreHeld};
 ghost use Rattle.abs_state.specs.StartZones.{ZonesAreThere};
 
 /// The memory that a run starts with has the zones of its image and parameters, and none of its areas passes the last
@@ -12,4 +12,10 @@ pub fn zones_are_there()
 /// where the block begins is true of it.
 pub fn blocks_are_held()
     ensures { BlocksAreHeld }
+{}
+
+/// What is known where a run begins is true of the machine that it starts with, on arguments that match the parameters of a
+/// certificate, and the numbers that they pass in a0 to a7 are what the parameters ask for.
+pub fn entries_are_held()
+    ensures { EntriesAreHeld }
 {}
