@@ -169,11 +169,11 @@ module _ (entry : ℕ) (params : List Param) (args : List Argument) (eight : len
         others_stay params 0 args base 2 (inl (omega arith))
         ∙ this_register 2 STACK_END first (λ e. absurd (omega (arith, e))) (omega (arith, first_count));
     arguments = λ place l. (
-      let here : 10 + place ≡ 10 + 0 + place = omega arith in
-      let there : 0 + place ≡ place = omega arith in
-      ap (λ (i : ℕ). reg_of i (with_arguments params 0 args base)) here
-      ∙ (each_put params 0 args base place (omega (arith, eight, l)) (omega (arith, eight, base_count))
-      ∙ (ap (λ (i : ℕ). passed_number params i (get_or args place argument.None)) there ∙ back place l)));
+        let here : 10 + place ≡ 10 + 0 + place = omega arith in
+        let there : 0 + place ≡ place = omega arith in
+        ap (λ (i : ℕ). reg_of i (with_arguments params 0 args base)) here
+        ∙ (each_put params 0 args base place (omega (arith, eight, l)) (omega (arith, eight, base_count))
+        ∙ (ap (λ (i : ℕ). passed_number params i (get_or args place argument.None)) there ∙ back place l)));
     others = λ i one two out.
         others_stay params 0 args base i (outside i out)
         ∙ (other_register 2 STACK_END i first (λ e. absurd (omega (arith, e))) two

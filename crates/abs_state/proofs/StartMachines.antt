@@ -235,6 +235,6 @@ unfolding passed_number
 passed_by_them image certificate args eight = record {
   each = λ place l. refl;
   past = λ place l. (
-    let none : get_or args place argument.None ≡ argument.None = get_or-eq_default args argument.None (omega (arith, eight, l)) in
-    subst (λ (arg : Argument). passed_number certificate.parameters place arg < 2 ^ 32) (sym none) (omega arith));
+      let none : get_or args place argument.None ≡ argument.None = get_or-eq_default args argument.None (omega (arith, eight, l)) in
+      subst (λ (arg : Argument). passed_number certificate.parameters place arg < 2 ^ 32) (sym none) (omega arith));
 }

@@ -29,19 +29,20 @@ use Rattle.abs_state.specs.Held.{Setting, vlenb_in, Held, Goes, Fits}
 use Rattle.abs_state.specs.StepLaws.{jumps}
 use Rattle.abs_state.specs.EdgeLaws.{block_of, is_fork}
 use Rattle.abs_state.proofs.StepMachines.{held_steps, goes_on}
-use Rattle.abs_state.proofs.StartMachines.{blocks-are_held}
+use Rattle.abs_state.proofs.StartMachines.{blocks-are_held, entries-are_held, setting_by, passed_by_them}
 use Rattle.abs_state.specs.BlockLaws.{ArePassed}
 use Rattle.abs_state.specs.StartLaws.{IsSetting}
 use Rattle.abs_state.proofs.Growth.{after_counts}
 use Rattle.abs_state.proofs.EdgeLemmas.{edges-are_taken, implied-ends, implied-fits}
 use Rattle.abs_state.proofs.Ways.{edges-keep, one-edge, straight-edges}
-use Rattle.block_checker.specs.Passes.{block_at, is_branch, is_jump, is_branch_insn, is_jump_insn}
+use Rattle.block_checker.specs.Passes.{checked, block_at, is_branch, is_jump, is_branch_insn, is_jump_insn}
 use Rattle.vreg_groups.specs.VectorLength.{vlenb_of}
 use Rattle.vector_core.specs.Start.{start as start_of}
-use Rattle.block_checker.specs.Sound.{EntriesSuffice, setting}
+use Rattle.block_checker.specs.Sound.{PassingRunsEnd, RunsEnd}
+use Rattle.block_checker.specs.Accepted.{AcceptedView}
 use Rattle.block_checker.proofs.Finding.{block-begins}
 use Rattle.block_checker.proofs.StepLaws.{Laws, budget_in}
-use Rattle.block_checker.proofs.Passing.{LawsAt, passing-runs-end}
+use Rattle.block_checker.proofs.Passing.{LawsAt, LawsHold, passing-runs-end, runs-end}
 
 -- ---- code and blocks
 
@@ -283,10 +284,15 @@ module _ (e : Setting) (begin : Machine) (is_image : IsImage e.image) (is_certif
   pub laws-at : LawsAt e.image e.certificate begin
   laws-at = record { held = HeldIn; goes = Goes e; fits = Fits e; laws = laws-hold }
 
--- what is known at the entry is all that is missing
-pub entries-suffice : EntriesSuffice
-entries-suffice entries =
-    passing-runs-end (λ image certificate args agnostic is_image is_certificate eight matching bytes.
-    let entry = entries image certificate args agnostic is_image is_certificate eight matching bytes in
-    laws-at (setting image certificate entry.0) (start_of (vlenb_of certificate.vlen) agnostic image certificate.parameters args)
-    is_image is_certificate entry.1 entry.2)
+-- the laws hold at each start
+laws-everywhere : LawsHold
+laws-everywhere image certificate args agnostic is_image is_certificate eight matching bytes =
+    let e = setting_by image certificate args in
+    let entry = entries-are_held e 0 agnostic args is_image is_certificate eight matching bytes (passed_by_them image certificate args eight) in
+    laws-at e (start_of (vlenb_of certificate.vlen) agnostic image certificate.parameters args) is_image is_certificate entry.0.passed entry.1
+
+pub passing-ends-everywhere : PassingRunsEnd
+passing-ends-everywhere = passing-runs-end laws-everywhere
+
+pub accepted-ends : (a : AcceptedView) → IsImage a.image → IsCertificate a.certificate → checked a.image a.certificate a.vlen ≡ Ok tt → RunsEnd a
+accepted-ends = runs-end laws-everywhere

@@ -13,9 +13,6 @@ use Rattle.vector_core.specs.Start.{start}
 use Rattle.vreg_groups.specs.declared.vector_length.Vlen.{Vlen}
 use Rattle.cert_note.specs.declared.values.Block.{Block}
 use Rattle.cert_note.specs.Certificate.{CertificateView, IsCertificate}
-use Rattle.abs_state.specs.Blocks.{at_entry_of}
-use Rattle.abs_state.specs.Held.{Setting, Held}
-use Rattle.abs_state.specs.BlockLaws.{ArePassed}
 use Rattle.block_checker.specs.Passes.{block_at, checked}
 use Rattle.block_checker.specs.Accepted.{AcceptedView}
 use Rattle.block_checker.specs.Bound.{budget_at, bound_of, scalars_of}
@@ -24,9 +21,6 @@ use Rattle.block_checker.specs.Bound.{budget_at, bound_of, scalars_of}
 abbrev pub IsWellBehaved : ℕ → ℕ → Machine → Type 0
 IsWellBehaved vlenb n m =
     (k : ℕ) × (t : Machine) × (k ≤ n) × (after vlenb m k ≡ Ok t) × (has_ended t ≡ true)
-
-abbrev pub setting : ImageView → CertificateView → (ℕ → ℕ) → Setting
-setting image certificate passed = record { image = image; certificate = certificate; passed = passed }
 
 -- On arguments that match, a run of what passes is well-behaved for the budget of the block at the entry, with its
 -- register as it is at the start.
@@ -39,21 +33,6 @@ PassingRunsEnd =
     block_at image.entry certificate.blocks ≡ Some block →
     let s = start (vlenb_of vlen) agnostic image certificate.parameters args in
     IsWellBehaved (vlenb_of vlen) (budget_at block.budget (reg_of block.budget.register s.hart)) s
-
--- Where a run begins, some numbers are what the parameters ask for, and with these as the ones that were passed what is known at
--- the entry is true.
-abbrev pub EntriesHold : Type 0
-EntriesHold =
-    (image : ImageView) (certificate : CertificateView) (args : List Argument) (agnostic : Agnostic) →
-    IsImage image → IsCertificate certificate → length args ≡ 8 →
-    AreArguments certificate.parameters args → AllByRecursion BringsBytes args →
-    (passed : ℕ → ℕ) × ArePassed certificate.parameters passed
-    × Held (setting image certificate passed) 0 (at_entry_of image certificate)
-    (start (vlenb_of certificate.vlen) agnostic image certificate.parameters args)
-
--- That is all that the theorem needs besides what is proved of instructions, edges and blocks.
-abbrev pub EntriesSuffice : Type 0
-EntriesSuffice = EntriesHold → PassingRunsEnd
 
 -- Each run on arguments that match ends within the bound.
 abbrev pub RunsEnd : AcceptedView → Type 0

@@ -113,6 +113,7 @@ fn entry_number(parameters: &Parameters, scalars: &[u32; 8], register: u8) -> u3
 impl<A: Allocator> Accepted<A> {
     ghost use Rattle.std.specs.Prelude.{◌≡◌};
     ghost use Rattle.block_checker.specs.Bound.{bound_of};
+    ghost use Rattle.block_checker.specs.Sound.{RunsEnd};
 
     /// The image.
     pub fn image(&self) -> &Image<A>
@@ -140,6 +141,15 @@ impl<A: Allocator> Accepted<A> {
         ensures { result.now ≡ self.now.certificate.parameters }
     {
         &self.certificate.contents().parameters
+    }
+
+    /// A law, which does nothing when it runs: on all arguments that match the parameters, a run ends within [`Accepted::bound`]
+    /// of its scalars, without a fault.
+    pub fn runs_end(&self)
+        ensures { RunsEnd self.now }
+    {
+        let _segments = self.image.segments();
+        let _contents = self.certificate.contents();
     }
 
     /// How many instructions a run on these arguments takes at most: the number of a scalar argument stands at its place, and

@@ -8,4 +8,4 @@ mod laws;
 
 pub use accepted::{Accepted, check, check_in};
 pub use errors::CheckError;
-pub use laws::entries_suffice;
+pub use laws::passing_runs_end;
