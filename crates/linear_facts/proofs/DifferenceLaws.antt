@@ -1,16 +1,10 @@
 -- Differences of multiples of forms: their steps, and why their lower bounds hold.
 use Rattle.std.proofs.Common.{◌≡◌, ℕ, ◌+◌, ◌-◌, ◌*◌, ◌/◌, ◌%◌, ◌^◌, ◌<◌, ◌≤◌, inl, inr, List, [], ◌∷◌, ◌++◌, map, length, take, drop, get_or, refl, ap, sym, ◌∙◌, subst, arith, Bool, true, false, ◌&&◌, is_some}
 use Rattle.std.proofs.lemmas.Bool.{cases_eq, leb-true}
-use Rattle.std.proofs.lemmas.List.{drop_more, drop_all, length-map}
-use Rattle.std.proofs.lemmas.List.{take_all}
+use Rattle.std.proofs.lemmas.List.{drop_more, drop_all, length-map, take_all}
 use Rattle.std.proofs.lemmas.Grind.{common_steps, take_at_read}
-use Rattle.linear_facts.specs.declared.forms.Term.{Term}
-use Rattle.linear_facts.specs.declared.sums.WholeTerm.{WholeTerm}
-use Rattle.linear_facts.specs.declared.sums.Interval.{Interval}
-use Rattle.linear_facts.specs.declared.differences.Side.{Side}
-use Rattle.linear_facts.specs.declared.differences.Side.TheVariants.{Added, Taken}
+use Rattle.linear_facts.specs.Words.{Term, WholeTerm, Interval, Side, Lo, Hi, Added, Taken}
 use Rattle.linear_facts.specs.Forms.{Linear, IsForm, value}
-use Rattle.linear_facts.specs.declared.ranges.End.TheVariants.{Lo, Hi}
 use Rattle.linear_facts.specs.Ranges.{AtomTable, AgreesWith}
 use Rattle.linear_facts.specs.Sums.{with_term, signed_term, joined, ends, form_interval, range_within, range_of_form}
 use Rattle.linear_facts.specs.Differences.{Product, WholeSum, multiple_term, with_number, with_multiples, base_of, with_product, with_products, AreForms, have_ranges, total_of, is_positive, difference_of}

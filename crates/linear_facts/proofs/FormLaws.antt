@@ -3,7 +3,7 @@ use Rattle.std.proofs.Common.{◌≡◌, ℕ, ◌+◌, ◌*◌, ◌%◌, ◌^◌
 use Rattle.std.proofs.lemmas.Bool.{cases_order, cases_eq, cases_lt}
 use Rattle.std.proofs.lemmas.List.{drop_more, drop_all}
 use Rattle.std.proofs.lemmas.Grind.{common_steps}
-use Rattle.linear_facts.specs.declared.forms.Term.{Term}
+use Rattle.linear_facts.specs.Words.{Term}
 use Rattle.linear_facts.specs.Forms.{Linear, weight, value, RisesFrom, IsForm, merged, term_or_none, scaled_terms, sum_of, scaled, within, number_form, atom_form, form_at, with_replaced, substituted}
 use Rattle.linear_facts.proofs.Congruent.{Congruent, mod-Congruent, congruent_refl, congruent_equal, congruent_sym, congruent_trans, congruent_rest, congruent_add, congruent_mul, congruent_mul_right}
 use Rattle.linear_facts.proofs.Merging.{merged-nil, merged-less, merged-greater, merged-same}

@@ -2,9 +2,7 @@
 use Rattle.std.proofs.Common.{◌≡◌, ℕ, ◌+◌, ◌*◌, ◌%◌, ◌^◌, ◌<◌, ◌≤◌, ◌/◌, inl, inr, List, [], ◌∷◌, ◌++◌, refl, sym, ap, subst, arith, Some}
 use Rattle.std.proofs.lemmas.Bool.{cases_eq}
 use Rattle.std.proofs.lemmas.Grind.{common_steps}
-use Rattle.linear_facts.specs.declared.forms.Term.{Term}
-use Rattle.linear_facts.specs.declared.ranges.Range.{Range}
-use Rattle.linear_facts.specs.declared.sums.Interval.{Interval}
+use Rattle.linear_facts.specs.Words.{Term, Range, Interval}
 use Rattle.linear_facts.specs.Forms.{Linear, weight, value, RisesFrom, merged, term_or_none, scaled_terms, sum_of, scaled, number_form, form_at, with_replaced, substituted}
 use Rattle.linear_facts.specs.Laws.{AreBelow, FormsStayBelow, SumsStayBelow, MultiplesStayBelow, SubstitutionsStayBelow, AgreeBelow, RangesFit}
 use Rattle.linear_facts.specs.Sums.{form_interval, range_within, range_of_form}

@@ -3,7 +3,7 @@ use Rattle.std.proofs.Common.{◌≡◌, ℕ, ◌+◌, ◌*◌, ◌%◌, ◌^◌
 use Rattle.std.proofs.lemmas.List.{drop_more, drop_all, take_rest}
 use Rattle.std.proofs.lemmas.Grind.{common_steps}
 use Rattle.arrayvec.specs.ArrayVec.{ArrayVec}
-use Rattle.linear_facts.specs.declared.forms.Term.{Term}
+use Rattle.linear_facts.specs.Words.{Term}
 use Rattle.linear_facts.specs.Forms.{merged, merged_from, term_or_none, scaled_terms}
 
 -- `None` is right where there is no room

@@ -6,12 +6,7 @@ use Rattle.std.proofs.lemmas.List.{length-map}
 use Rattle.std.proofs.lemmas.List.Quantifiers.{position-Some}
 use Rattle.std.proofs.lemmas.Grind.{common_steps}
 use Rattle.std.proofs.lemmas.Nat.{mul-le}
-use Rattle.linear_facts.specs.declared.forms.Term.{Term}
-use Rattle.linear_facts.specs.declared.ranges.Range.{Range}
-use Rattle.linear_facts.specs.declared.ranges.Split.{Split}
-use Rattle.linear_facts.specs.declared.ranges.End.TheVariants.{Lo, Hi}
-use Rattle.linear_facts.specs.declared.sums.WholeTerm.{WholeTerm}
-use Rattle.linear_facts.specs.declared.sums.Interval.{Interval}
+use Rattle.linear_facts.specs.Words.{Term, Range, Split, WholeTerm, Interval, Lo, Hi}
 use Rattle.linear_facts.specs.Forms.{Linear, weight, value, RisesFrom}
 use Rattle.linear_facts.specs.Ranges.{AtomTable, IsIn, AgreesWith, split_at}
 use Rattle.linear_facts.specs.Sums.{AllAtMost, signed_term, joined, with_term, with_term_at, with_parts, with_split, nonzero_count, gains, losses, ends, interval_of, met_or_own, interval_by_both, form_interval, range_within, range_of_form}

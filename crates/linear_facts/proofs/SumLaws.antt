@@ -7,9 +7,7 @@ use Rattle.std.proofs.lemmas.Grind.{common_steps}
 use Rattle.std.proofs.lemmas.Nat.{mul-le}
 use Rattle.std.specs.List.{refill}
 use Rattle.arrayvec.proofs.ArrayVecLemmas.{items-with_items}
-use Rattle.linear_facts.specs.declared.forms.Term.{Term}
-use Rattle.linear_facts.specs.declared.sums.WholeTerm.{WholeTerm}
-use Rattle.linear_facts.specs.declared.ranges.Split.{Split}
+use Rattle.linear_facts.specs.Words.{Term, Split, WholeTerm}
 use Rattle.linear_facts.specs.Ranges.{AtomTable, split_at}
 use Rattle.linear_facts.specs.Sums.{AllAtMost, signed_term, joined, with_term, with_term_at, with_parts, with_split, gains, losses}
 

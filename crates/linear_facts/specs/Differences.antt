@@ -2,10 +2,7 @@
 -- of 2^32 by which its range was found.
 use Rattle.std.specs.Prelude.{ℕ, ◌+◌, ◌-◌, ◌*◌, ◌/◌, ◌^◌, nat_le, ◌&&◌, Bool, List, [], ◌∷◌, map, is_some}
 use Rattle.std.specs.List.{list_all}
-use Rattle.linear_facts.specs.declared.ranges.End.TheVariants.{Lo, Hi}
-use Rattle.linear_facts.specs.declared.sums.WholeTerm.{WholeTerm}
-use Rattle.linear_facts.specs.declared.differences.Side.{Side}
-use Rattle.linear_facts.specs.declared.differences.Side.TheVariants.{Added, Taken}
+use Rattle.linear_facts.specs.Words.{WholeTerm, Side, Lo, Hi, Added, Taken}
 use Rattle.linear_facts.specs.Forms.{Linear, value, IsForm}
 use Rattle.linear_facts.specs.Ranges.{AtomTable}
 use Rattle.linear_facts.specs.Sums.{signed_term, with_term, gains, losses, ends, form_interval, range_of_form}

@@ -1,7 +1,7 @@
 -- Linear forms: a constant, and terms that are each a coefficient times an unknown number, an atom.
 -- What a form stands for is a number modulo 2^32.
 use Rattle.std.specs.Prelude.{ℕ, ◌+◌, ◌*◌, ◌%◌, ◌^◌, ◌<◌, ◌≤◌, ◌==◌, nat_lt, nat_le, if◌then◌else◌, List, [], ◌∷◌, ◌++◌, length, Option, Some, None, slice_index_or}
-use Rattle.linear_facts.specs.declared.forms.Term.{Term}
+use Rattle.linear_facts.specs.Words.{Term}
 
 -- a form, of whatever room
 pub record Linear : Type 0 where

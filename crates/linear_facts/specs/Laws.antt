@@ -1,8 +1,7 @@
 -- What the rules that stand on forms and ranges ask of them: of which atoms a form speaks, and that ranges hold numbers
 -- of 32 bits.
 use Rattle.std.specs.Prelude.{ℕ, ◌≡◌, ◌+◌, ◌^◌, ◌<◌, List, [], ◌∷◌, Some}
-use Rattle.linear_facts.specs.declared.forms.Term.{Term}
-use Rattle.linear_facts.specs.declared.ranges.Range.{Range}
+use Rattle.linear_facts.specs.Words.{Term, Range}
 use Rattle.linear_facts.specs.Forms.{Linear, value, sum_of, scaled, substituted, form_at}
 use Rattle.linear_facts.specs.Ranges.{AtomTable}
 use Rattle.linear_facts.specs.Sums.{range_of_form}

@@ -3,3 +3,4 @@ pub mod Ranges
 pub mod Sums
 pub mod Differences
 pub mod Laws
+pub mod Words

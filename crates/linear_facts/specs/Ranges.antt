@@ -1,11 +1,6 @@
 -- Ranges of numbers, and what is known of atoms.
 use Rattle.std.specs.Prelude.{ℕ, ◌≡◌, ◌+◌, ◌^◌, ◌<◌, ◌≤◌, ◌==◌, nat_le, min, max, if◌then◌else◌, List, Option, Some, None, slice_index_or}
-use Rattle.linear_facts.specs.declared.ranges.Range.{Range}
-use Rattle.linear_facts.specs.declared.ranges.End.{End}
-use Rattle.linear_facts.specs.declared.ranges.End.TheVariants.{Lo, Hi}
-use Rattle.linear_facts.specs.declared.ranges.Split.{Split}
-use Rattle.linear_facts.specs.declared.ranges.Atom.{Atom}
-use Rattle.linear_facts.specs.declared.ranges.Change.{Change}
+use Rattle.linear_facts.specs.Words.{Atom, Range, Split, End, Change, Lo, Hi}
 
 -- n lies in the range
 abbrev pub IsIn : Range → ℕ → Type 0

@@ -1,13 +1,7 @@
 -- Sums in whole numbers, not reduced: a term is `plus - minus` times an atom. Natural numbers stand for
 -- whole ones: both ends of an interval are given with 2^112 added.
 use Rattle.std.specs.Prelude.{ℕ, ◌+◌, ◌-◌, ◌*◌, ◌/◌, ◌%◌, ◌^◌, ◌≤◌, ◌==◌, nat_lt, nat_le, min, max, not, if◌then◌else◌, List, [], ◌∷◌, ◌++◌, map, position, count_by, slice_set, slice_index_or, Option, Some, None}
-use Rattle.linear_facts.specs.declared.forms.Term.{Term}
-use Rattle.linear_facts.specs.declared.ranges.Range.{Range}
-use Rattle.linear_facts.specs.declared.ranges.Split.{Split}
-use Rattle.linear_facts.specs.declared.ranges.End.{End}
-use Rattle.linear_facts.specs.declared.ranges.End.TheVariants.{Lo, Hi}
-use Rattle.linear_facts.specs.declared.sums.WholeTerm.{WholeTerm}
-use Rattle.linear_facts.specs.declared.sums.Interval.{Interval}
+use Rattle.linear_facts.specs.Words.{Term, Range, Split, End, WholeTerm, Interval, Lo, Hi}
 use Rattle.linear_facts.specs.Forms.{Linear}
 use Rattle.linear_facts.specs.Ranges.{AtomTable, range_at, split_at, end_of}
 

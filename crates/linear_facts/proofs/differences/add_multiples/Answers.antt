@@ -1,6 +1,6 @@
 -- Each multiple adds a term at most, and 2^64 to a coefficient.
 use Rattle.std.proofs.Common.{arith, ◌∙◌, ◌+◌, ◌*◌, ◌^◌, List, length, subst, sym, ap, drop}
-use Rattle.linear_facts.specs.declared.sums.WholeTerm.{WholeTerm}
+use Rattle.linear_facts.specs.Words.{WholeTerm}
 use Rattle.linear_facts.specs.Sums.{AllAtMost, with_term}
 use Rattle.linear_facts.specs.Differences.{with_multiples}
 use Rattle.linear_facts.proofs.SumLaws.{at_most_at, at_most_more, at_most-with_term, length-with_term}

@@ -1,6 +1,6 @@
 -- The product's terms and its number, by the form's parts.
 use Rattle.std.proofs.Common.{◌∙◌, ◌+◌, ◌^◌, List, map, subst, sym, ap}
-use Rattle.linear_facts.specs.declared.sums.WholeTerm.{WholeTerm}
+use Rattle.linear_facts.specs.Words.{WholeTerm}
 use Rattle.linear_facts.specs.Sums.{AllAtMost, signed_term}
 use Rattle.linear_facts.specs.Differences.{WholeSum}
 use Rattle.linear_facts.proofs.DifferenceLaws.{product-parts, terms_kept}

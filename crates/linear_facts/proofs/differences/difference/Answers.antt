@@ -1,6 +1,6 @@
 -- Four products leave the coefficients small.
 use Rattle.std.proofs.Common.{arith, ◌≡◌, ◌+◌, ◌^◌, List, [], subst, sym}
-use Rattle.linear_facts.specs.declared.sums.WholeTerm.{WholeTerm}
+use Rattle.linear_facts.specs.Words.{WholeTerm}
 use Rattle.linear_facts.specs.Sums.{AllAtMost}
 use Rattle.linear_facts.proofs.SumLaws.{at_most_more}
 use Rattle.linear_facts.proofs.differences.difference.Goals as goal

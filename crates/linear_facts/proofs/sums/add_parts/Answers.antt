@@ -1,6 +1,6 @@
 -- Adding one part leaves room for the other.
 use Rattle.std.proofs.Common.{arith, ◌+◌, ◌^◌, List, length, subst, sym, ap}
-use Rattle.linear_facts.specs.declared.sums.WholeTerm.{WholeTerm}
+use Rattle.linear_facts.specs.Words.{WholeTerm}
 use Rattle.linear_facts.specs.Sums.{AllAtMost}
 use Rattle.linear_facts.proofs.SumLaws.{at_most_more, at_most-with_term, length-with_term}
 use Rattle.linear_facts.proofs.sums.add_parts.Goals as goal

@@ -1,6 +1,6 @@
 -- The term is added at its atom's place, or put last.
 use Rattle.std.proofs.Common.{arith, ◌∙◌, ◌==◌, ap, sym, position}
-use Rattle.linear_facts.specs.declared.sums.WholeTerm.{WholeTerm}
+use Rattle.linear_facts.specs.Words.{WholeTerm}
 use Rattle.linear_facts.proofs.SumLaws.{place_fits, set_there, with_term-new}
 use Rattle.linear_facts.proofs.sums.add_term.Goals as goal
 

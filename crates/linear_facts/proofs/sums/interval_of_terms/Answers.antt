@@ -1,7 +1,6 @@
 -- Both sums have small coefficients.
 use Rattle.std.proofs.Common.{refl, arith, ◌≡◌, ◌∙◌, ℕ, ◌<◌, ◌≤◌, ◌^◌, List, [], subst, sym, ap}
-use Rattle.linear_facts.specs.declared.sums.WholeTerm.{WholeTerm}
-use Rattle.linear_facts.specs.declared.sums.Interval.{Interval}
+use Rattle.linear_facts.specs.Words.{WholeTerm, Interval}
 use Rattle.linear_facts.specs.Sums.{AllAtMost, interval_of, met_or_own, with_split}
 use Rattle.linear_facts.specs.Ranges.{AtomTable}
 use Rattle.linear_facts.proofs.SumLaws.{at_most_more}

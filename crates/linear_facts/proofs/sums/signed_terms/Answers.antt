@@ -1,6 +1,6 @@
 -- Signed coefficients of 32 bits are small.
 use Rattle.std.proofs.Common.{◌^◌, List, subst, sym}
-use Rattle.linear_facts.specs.declared.sums.WholeTerm.{WholeTerm}
+use Rattle.linear_facts.specs.Words.{WholeTerm}
 use Rattle.linear_facts.specs.Sums.{AllAtMost}
 use Rattle.linear_facts.proofs.SumLaws.{signed_at_most, signed-done}
 use Rattle.linear_facts.proofs.sums.signed_terms.Goals as goal

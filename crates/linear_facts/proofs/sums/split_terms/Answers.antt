@@ -1,6 +1,6 @@
 -- Each term makes the list longer by two and the coefficients larger by 2^33 at most.
 use Rattle.std.proofs.Common.{arith, ◌∙◌, ◌+◌, ◌*◌, ◌^◌, List, length, subst, sym, ap, drop, get_or}
-use Rattle.linear_facts.specs.declared.sums.WholeTerm.{WholeTerm}
+use Rattle.linear_facts.specs.Words.{WholeTerm}
 use Rattle.linear_facts.specs.Ranges.{split_at}
 use Rattle.linear_facts.specs.Sums.{AllAtMost, with_split}
 use Rattle.linear_facts.proofs.SumLaws.{at_most_at, at_most_more, at_most-with_parts, length-with_parts, split-more, split-done}

@@ -1,6 +1,6 @@
 -- What was summed up is the form with its atoms replaced.
 use Rattle.std.proofs.Common.{◌≡◌, ◌∙◌, ap, ℕ, List, Some}
-use Rattle.linear_facts.specs.declared.forms.Term.{Term}
+use Rattle.linear_facts.specs.Words.{Term}
 use Rattle.linear_facts.specs.Forms.{Linear, value, number_form, with_replaced, substituted, within}
 use Rattle.linear_facts.proofs.FormLaws.{if-within, value-substituted}
 use Rattle.linear_facts.proofs.forms.Form+8.substitute.Goals as goal

@@ -1,6 +1,6 @@
 -- The parts of the sum are the merge's.
 use Rattle.std.proofs.Common.{arith, ◌∙◌, ap, subst, List, length, ◌<◌}
-use Rattle.linear_facts.specs.declared.forms.Term.{Term}
+use Rattle.linear_facts.specs.Words.{Term}
 use Rattle.linear_facts.specs.Forms.{value}
 use Rattle.linear_facts.proofs.FormLaws.{within-some, within-none, sum_of-parts, IsForm-parts, sum_of-over, length-merged, value-sum_of, merged_at}
 use Rattle.linear_facts.proofs.forms.Form.add.Goals as goal

@@ -1,6 +1,6 @@
 -- All terms are there, or there is no room for them.
 use Rattle.std.proofs.Common.{◌≡◌, ◌∙◌, ap, subst, List, length, ◌++◌, ◌<◌, []}
-use Rattle.linear_facts.specs.declared.forms.Term.{Term}
+use Rattle.linear_facts.specs.Words.{Term}
 use Rattle.linear_facts.specs.Forms.{Linear}
 use Rattle.linear_facts.proofs.FormLaws.{within-some, within-none}
 use Rattle.linear_facts.proofs.forms.Form.resize.Goals as goal

@@ -4,7 +4,7 @@ use Rattle.std.specs.Bool.{Decides}
 use Rattle.std.proofs.lemmas.Grind.{common_steps}
 use Rattle.std.proofs.lemmas.Bool.Decides.{nat_tests}
 use Rattle.std.proofs.lemmas.Slice.Eq.{slice_eq-Decides}
-use Rattle.linear_facts.specs.declared.forms.Term.{Term}
+use Rattle.linear_facts.specs.Words.{Term}
 use Rattle.linear_facts.specs.contracts.forms.TermPartialEq as test
 use Rattle.linear_facts.specs.Forms.{Linear}
 use Rattle.linear_facts.proofs.forms.Form.same.Goals as goal

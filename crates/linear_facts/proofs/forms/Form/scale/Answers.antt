@@ -1,6 +1,6 @@
 -- The parts of the multiple are the scaled terms.
 use Rattle.std.proofs.Common.{arith, ◌∙◌, ap, subst, List, length, ◌<◌}
-use Rattle.linear_facts.specs.declared.forms.Term.{Term}
+use Rattle.linear_facts.specs.Words.{Term}
 use Rattle.linear_facts.specs.Forms.{value, scaled_terms}
 use Rattle.linear_facts.proofs.FormLaws.{within-some, within-none, scaled-parts, IsForm-scaled, scaled-over, value-scaled, length-scaled_terms}
 use Rattle.linear_facts.proofs.forms.Form.scale.Goals as goal

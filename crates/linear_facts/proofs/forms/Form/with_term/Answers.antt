@@ -1,6 +1,6 @@
 -- The new term is the last one.
 use Rattle.std.proofs.Common.{◌≡◌, ℕ, ◌^◌, ◌<◌, ◌≤◌, List, [], ◌∷◌, ◌++◌, length, sym, ap, subst, arith}
-use Rattle.linear_facts.specs.declared.forms.Term.{Term}
+use Rattle.linear_facts.specs.Words.{Term}
 use Rattle.linear_facts.specs.Forms.{Linear, RisesFrom, IsForm}
 use Rattle.linear_facts.specs.Laws.{AreBelow}
 use Rattle.linear_facts.proofs.LocalityLemmas.{rises-appended}

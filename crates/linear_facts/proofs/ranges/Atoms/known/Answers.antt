@@ -1,6 +1,6 @@
 -- The atom that was read, by its number.
 use Rattle.std.proofs.Common.{arith, ◌≡◌, ap, ℕ, List, get_or}
-use Rattle.linear_facts.specs.declared.ranges.Atom.{Atom}
+use Rattle.linear_facts.specs.Words.{Atom}
 use Rattle.linear_facts.specs.Ranges.{AtomTable, atom_at, unknown_atom}
 use Rattle.linear_facts.proofs.ranges.Atoms.known.Goals as goal
 

@@ -1,8 +1,6 @@
 -- The value lies in the range of the form.
 use Rattle.std.proofs.Common.{◌≡◌, ◌≤◌, ◌∙◌, ℕ, List, length, subst, sym, ap, Option, IfSome}
-use Rattle.linear_facts.specs.declared.forms.Term.{Term}
-use Rattle.linear_facts.specs.declared.ranges.Range.{Range}
-use Rattle.linear_facts.specs.declared.sums.Interval.{Interval}
+use Rattle.linear_facts.specs.Words.{Term, Range, Interval}
 use Rattle.linear_facts.specs.Forms.{Linear, RisesFrom, value}
 use Rattle.linear_facts.specs.Ranges.{AtomTable, IsIn}
 use Rattle.linear_facts.specs.Sums.{form_interval, range_within, range_of_form}
