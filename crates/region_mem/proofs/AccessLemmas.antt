@@ -9,7 +9,7 @@ use Rattle.std.proofs.lemmas.List.{get_or-set_same, set-get_or, set-set}
 use Rattle.std.proofs.lemmas.List.Folds.{find_at}
 use Rattle.std.proofs.lemmas.List.Quantifiers.{position-Some}
 use Rattle.std.proofs.lemmas.Option.{slice_get-get_or, get_or_from_slice_get, slice_get_within, slice_get_past}
-use Rattle.region_mem.specs.declared.faults.Right.{Right}
+use Rattle.region_mem.specs.Words.{Right}
 use Rattle.region_mem.specs.Areas.{Area, AreInOrder, holds, spans, admits, has_right, is_open, is_open_from, byte_at, number_at, number_of, number_in, bytes_of, part_into, with_byte, with_bytes, with_number}
 use Rattle.region_mem.proofs.Apart.{end_of}
 use Rattle.region_mem.proofs.ExtentLemmas.{byte_keeps, order_of}

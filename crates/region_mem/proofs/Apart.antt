@@ -1,11 +1,10 @@
 -- The areas that a run starts with lie apart, and stand in order.
-use Rattle.std.proofs.Common.{◌≡◌, ◌⊎◌, inl, inr, ℕ, ◌+◌, ◌-◌, ◌*◌, ◌<◌, ◌≤◌, Bool, true, false, cond, List, [], ◌∷◌, ◌++◌, length, map, take, ltb, Some, arith, sym, ap, refl, rules, ◌∙◌, sum_by, length-append}
+use Rattle.std.proofs.Common.{◌≡◌, ◌⊎◌, inl, inr, ℕ, ◌+◌, ◌-◌, ◌*◌, ◌<◌, ◌≤◌, Bool, true, false, cond, List, [], ◌∷◌, ◌++◌, length, map, take, ltb, Some, arith, sym, ap, refl, rules, ◌∙◌, sum_by, length-append, append_assoc}
 use Rattle.std.specs.List.{AllByRecursion, list_all, slice_get, zip}
 use Rattle.std.proofs.lemmas.Bool.Decides.{nat_tests}
 use Rattle.std.proofs.lemmas.List.{length-replicate}
 use Rattle.std.proofs.lemmas.List.Sums.{sum_by-cons, sum_by-append}
-use Rattle.std.proofs.Common.{append_assoc}
-use Rattle.region_mem.specs.declared.layout.TheConstants.{BUFFERS, BUFFERS_END, STACK, STACK_SIZE, MAX_BUFFER_SIZE, PAGE_SIZE}
+use Rattle.region_mem.specs.Words.{Param, Arg, BUFFERS, BUFFERS_END, MAX_BUFFER_SIZE, PAGE_SIZE, STACK, STACK_SIZE}
 use Rattle.region_mem.proofs.Matching.{NonePasses, nothing_wrong}
 use Rattle.region_mem.proofs.Rooms.{and_first, and_second, room_of_valid}
 use Rattle.elf_image.specs.Image.{SegmentView, IsSegment, IsApart, AreApart, IsInPlace}
@@ -13,9 +12,6 @@ use Rattle.region_mem.specs.Areas.{Area, AreInOrder}
 use Rattle.region_mem.specs.Start.{zeros, segment_area, stack_area, buffer_area, buffer_areas, insert_area, insert_areas, start_areas, start_memory}
 use Rattle.region_mem.specs.Laws.{StartsInOrder}
 use Rattle.region_mem.specs.Parameter.{Argument, is_valid, room_of, is_buffer, address_of, is_wrong_kind, is_wrong_size}
-use Rattle.region_mem.specs.declared.parameter.Param.{Param}
-use Rattle.region_mem.specs.declared.parameter.Param.TheVariants as parameter
-use Rattle.region_mem.specs.declared.arguments.Arg.TheVariants as argument
 
 abbrev pub end_of : Area → ℕ
 end_of area = area.first + length area.bytes
@@ -150,21 +146,21 @@ buffer_first : (done todo : List Param) (param : Param) (bytes : List ℕ) → i
 unfolding buffer_area address_of
 buffer_first done todo param bytes is = rw (at_middle done todo param, is, take_middle done (param ∷ todo)) refl
 
-buffer_room : (param : Param) (bytes : List ℕ) → is_wrong_kind (param, argument.Buffer bytes) ≡ false → is_wrong_size (param, argument.Buffer bytes) ≡ false →
+buffer_room : (param : Param) (bytes : List ℕ) → is_wrong_kind (param, Arg.Buffer bytes) ≡ false → is_wrong_size (param, Arg.Buffer bytes) ≡ false →
     (is_buffer param ≡ true) × (length bytes + PAGE_SIZE ≤ room_of param)
 unfolding is_wrong_kind is_wrong_size is_buffer room_of
-buffer_room parameter.None bytes kind size = absurd (cc)
-buffer_room (parameter.Scalar lo hi) bytes kind size = absurd (cc)
-buffer_room (parameter.Buffer mode n) bytes kind size = (refl, grind (arith, nat_tests))
+buffer_room Param.None bytes kind size = absurd (cc)
+buffer_room (Param.Scalar lo hi) bytes kind size = absurd (cc)
+buffer_room (Param.Buffer mode n) bytes kind size = (refl, grind (arith, nat_tests))
 
 rising_step : (param : Param) (arg : Argument) (args : List Argument) (params : List Param) (place low high : ℕ) →
     is_wrong_kind (param, arg) ≡ false → is_wrong_size (param, arg) ≡ false →
     ((bytes : List ℕ) → is_buffer param ≡ true → (buffer_area params place bytes).first ≡ low) → low + room_of param ≤ high →
     IsRising (low + room_of param) high (buffer_areas params (place + 1) args) → IsRising low high (buffer_areas params place (arg ∷ args))
 unfolding buffer_areas buffer_area
-rising_step param argument.None args params place low high kind size first below next = rising_from _ _ _ _ (omega arith) next
-rising_step param (argument.Scalar value) args params place low high kind size first below next = rising_from _ _ _ _ (omega arith) next
-rising_step param (argument.Buffer bytes) args params place low high kind size first below next =
+rising_step param Arg.None args params place low high kind size first below next = rising_from _ _ _ _ (omega arith) next
+rising_step param (Arg.Scalar value) args params place low high kind size first below next = rising_from _ _ _ _ (omega arith) next
+rising_step param (Arg.Buffer bytes) args params place low high kind size first below next =
     let room = buffer_room param bytes kind size in
     let begins = first bytes room.0 in
     (omega (arith, begins), omega (arith, begins, room.1), rising_from _ _ _ _ (omega (arith, begins, room.1)) next)

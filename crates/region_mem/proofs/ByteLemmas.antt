@@ -10,9 +10,7 @@ use Rattle.std.proofs.lemmas.List.Elements.{All-set, All-append, All-replicate, 
 use Rattle.std.proofs.lemmas.List.FromFn.{get_or-map-range_with_len, length-map-range_with_len}
 use Rattle.byteorder.specs.Numbers.{little_from-lt}
 use Rattle.elf_image.specs.Image.{SegmentView, IsSegment}
-use Rattle.region_mem.specs.declared.parameter.Param.{Param}
-use Rattle.region_mem.specs.declared.arguments.Arg.TheVariants as argument
-use Rattle.region_mem.specs.declared.faults.Right.TheVariants.{Read}
+use Rattle.region_mem.specs.Words.{Param, Arg, Read}
 use Rattle.region_mem.specs.Areas.{Area, holds, byte_at, bytes_of, number_of, number_at, with_byte, with_bytes, with_number}
 use Rattle.region_mem.specs.Memory.{Memory, IsAccessSize, is_permitted, load_of}
 use Rattle.region_mem.specs.Parameter.{Argument}
@@ -39,9 +37,9 @@ segments_bytes (s ∷ ss) all =
 buffers_bytes : (params : List Param) (place : ℕ) (args : List Argument) → AllByRecursion BringsBytes args → AllByRecursion HoldsBytes (buffer_areas params place args)
 unfolding buffer_areas buffer_area
 buffers_bytes params place [] all = tt
-buffers_bytes params place (argument.None ∷ args) all = buffers_bytes params (place + 1) args all.1
-buffers_bytes params place (argument.Scalar value ∷ args) all = buffers_bytes params (place + 1) args all.1
-buffers_bytes params place (argument.Buffer bytes ∷ args) all = (all.0, buffers_bytes params (place + 1) args all.1)
+buffers_bytes params place (Arg.None ∷ args) all = buffers_bytes params (place + 1) args all.1
+buffers_bytes params place (Arg.Scalar value ∷ args) all = buffers_bytes params (place + 1) args all.1
+buffers_bytes params place (Arg.Buffer bytes ∷ args) all = (all.0, buffers_bytes params (place + 1) args all.1)
 
 stack_bytes : HoldsBytes stack_area
 unfolding stack_area

@@ -2,19 +2,15 @@
 use Rattle.std.proofs.Common.{◌≡◌, inl, inr, ℕ, ◌+◌, ◌-◌, ◌≤◌, Bool, true, false, ◌&&◌, cond, subst, List, [], ◌∷◌, length, map, Some, None, arith, ap, refl, ◌∙◌, sum_by, set, length-set}
 use Rattle.std.specs.List.{AllByRecursion, list_all}
 use Rattle.std.proofs.lemmas.Bool.Decides.{nat_tests}
-use Rattle.elf_image.specs.declared.layout.TheConstants.{HIGH_SEGMENTS_END}
-use Rattle.region_mem.specs.declared.layout.TheConstants.{BUFFERS, STACK_SIZE}
+use Rattle.region_mem.specs.Words.{Param, Right, Write, Fetch, BUFFERS, STACK_SIZE, HIGH_SEGMENTS_END}
 use Rattle.region_mem.proofs.Matching.{nothing_wrong}
 use Rattle.region_mem.proofs.Apart.{IsRising, starts_in_order, end_of, all_insert, all_inserts, rising, sum_by_all, length_zeros, length_segment}
 use Rattle.elf_image.specs.Image.{SegmentView, IsSegment, IsInPlace, ImageView, IsImage}
-use Rattle.region_mem.specs.declared.faults.Right.{Right}
-use Rattle.region_mem.specs.declared.faults.Right.TheVariants.{Write, Fetch}
 use Rattle.region_mem.specs.Areas.{Area, AreInOrder, AreInside, ArePlaced, holds, is_open, is_open_from, with_byte, with_bytes, bytes_of, with_number}
 use Rattle.region_mem.specs.Memory.{Memory, is_permitted, store_of, fetch_of}
 use Rattle.region_mem.specs.Start.{segment_area, stack_area, buffer_areas, insert_area, insert_areas, start_areas, start_memory}
 use Rattle.region_mem.specs.Laws.{Extent, extent_of, StoresKeepExtents, FetchesNothingAbove}
 use Rattle.region_mem.specs.Parameter.{Argument, AreArguments, is_valid, room_of}
-use Rattle.region_mem.specs.declared.parameter.Param.{Param}
 
 set_keeps : (area : Area) (i byte : ℕ) → extent_of (record area { bytes = set area.bytes i byte }) ≡ extent_of area
 unfolding extent_of

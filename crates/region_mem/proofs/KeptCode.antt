@@ -5,8 +5,7 @@ use Rattle.std.specs.Option.{option_map}
 use Rattle.std.proofs.lemmas.Bool.{and_parts, cases_lt}
 use Rattle.std.proofs.lemmas.Bool.Decides.{nat_tests}
 use Rattle.std.proofs.lemmas.List.{get_or-set_other}
-use Rattle.region_mem.specs.declared.faults.Right.{Right}
-use Rattle.region_mem.specs.declared.faults.Right.TheVariants.{Read, Write, Fetch}
+use Rattle.region_mem.specs.Words.{Right, Read, Write, Fetch}
 use Rattle.region_mem.specs.Areas.{Area, holds, has_right, is_open, is_open_from, byte_at, bytes_of, number_of, number_at, with_byte, with_bytes, with_number}
 use Rattle.region_mem.specs.Memory.{Memory, is_permitted, store_of, fetch_of}
 use Rattle.region_mem.specs.Laws.{Extent, extent_of, IsCodeSafe, StoresKeepCode}

@@ -3,7 +3,7 @@ use Rattle.std.proofs.Common.{◌≡◌, ℕ, ◌+◌, ◌-◌, ◌<◌, ◌≤�
 use Rattle.std.specs.List.{position_or_len}
 use Rattle.std.proofs.lemmas.Grind.{common_steps}
 use Rattle.std.proofs.lemmas.List.Quantifiers.{position-Some}
-use Rattle.region_mem.specs.declared.faults.Right.{Right}
+use Rattle.region_mem.specs.Words.{Right, Write}
 use Rattle.region_mem.specs.Areas.{Area, AreInOrder, ArePlaced, nothing, holds, spans, part_of, part_into, overlaid, overlaid_area, window_in}
 use Rattle.region_mem.proofs.AccessLemmas.{find_place, find_none, admits_spans, spans_from, spans_to}
 use Rattle.region_mem.proofs.SearchLemmas.{same_place}
@@ -16,7 +16,6 @@ use Rattle.std.proofs.Math.Seq.{map-set_same}
 use Rattle.std.proofs.lemmas.Option.{slice_get-get_or}
 use Rattle.region_mem.specs.Laws.{extent_of, LentWindowsAreWritten}
 use Rattle.region_mem.specs.Memory.{Memory, has_window, overlaid_window}
-use Rattle.region_mem.specs.declared.faults.Right.TheVariants.{Write}
 use Rattle.std.proofs.lemmas.List.{length-append, length-take-le, length-drop, take-append-drop, take_all, append_assoc, drop-drop}
 
 pub length_overlaid : (at : ℕ) (bytes ws : List ℕ) → length (overlaid at bytes ws) ≡ length bytes

@@ -3,11 +3,8 @@ use Rattle.std.proofs.Common.{◌≡◌, ℕ, suc, ◌+◌, ◌≤◌, Bool, tru
 use Rattle.std.specs.List.{list_all, zip, position, position_or_len, AllByRecursion}
 use Rattle.std.specs.Option.{option_map, option_or}
 use Rattle.std.proofs.lemmas.Bool.Decides.{nat_tests}
-use Rattle.region_mem.specs.declared.layout.TheConstants.{MAX_BUFFER_SIZE}
+use Rattle.region_mem.specs.Words.{Param, Arg, MAX_BUFFER_SIZE}
 use Rattle.region_mem.specs.Parameter.{Argument, is_valid, is_wrong_kind, is_wrong_size, argument_error, size_of}
-use Rattle.region_mem.specs.declared.parameter.Param.{Param}
-use Rattle.region_mem.specs.declared.parameter.Param.TheVariants as parameter
-use Rattle.region_mem.specs.declared.arguments.Arg.TheVariants as argument
 use Rattle.region_mem.proofs.Rooms.{and_first, and_second}
 
 -- Nothing passes.
@@ -35,11 +32,11 @@ map_none f (Some x) h = absurd (cc)
 
 size_small : (param : Param) (arg : Argument) → is_valid param ≡ true → is_wrong_kind (param, arg) ≡ false → is_wrong_size (param, arg) ≡ false → size_of arg ≤ MAX_BUFFER_SIZE
 unfolding is_valid is_wrong_kind is_wrong_size size_of
-size_small param argument.None v k s = omega arith
-size_small param (argument.Scalar value) v k s = omega arith
-size_small parameter.None (argument.Buffer bytes) v k s = absurd (cc)
-size_small (parameter.Scalar lo hi) (argument.Buffer bytes) v k s = absurd (cc)
-size_small (parameter.Buffer mode size) (argument.Buffer bytes) v k s = grind (arith, nat_tests)
+size_small param Arg.None v k s = omega arith
+size_small param (Arg.Scalar value) v k s = omega arith
+size_small Param.None (Arg.Buffer bytes) v k s = absurd (cc)
+size_small (Param.Scalar lo hi) (Arg.Buffer bytes) v k s = absurd (cc)
+size_small (Param.Buffer mode size) (Arg.Buffer bytes) v k s = grind (arith, nat_tests)
 
 pub sizes_small : (params : List Param) (args : List Argument) → list_all is_valid params ≡ true → length args ≤ length params →
     NonePasses is_wrong_kind (zip params args) → NonePasses is_wrong_size (zip params args) → AllByRecursion (λ arg. size_of arg ≤ MAX_BUFFER_SIZE) args

@@ -1,18 +1,15 @@
 -- Areas in the order of their first addresses.
-use Rattle.std.proofs.Common.{◌≡◌, ℕ, suc, ◌+◌, ◌<◌, ◌≤◌, Bool, true, false, not, cond, List, [], ◌∷◌, length, drop, ltb, arith, sym, ap, refl, ◌∙◌}
+use Rattle.std.proofs.Common.{◌≡◌, ℕ, suc, ◌+◌, ◌<◌, ◌≤◌, Bool, true, false, not, cond, List, [], ◌∷◌, length, drop, ltb, arith, sym, ap, refl, ◌∙◌, None, get_or, map, drop-cons, add-one}
 use Rattle.std.specs.List.{position, position_or_len, insert}
 use Rattle.std.proofs.lemmas.Grind.{common_steps}
 use Rattle.region_mem.proofs.Lists.{eight_found}
-use Rattle.std.proofs.Common.{None}
 use Rattle.std.proofs.Math.Numerals.{one-add}
 use Rattle.region_mem.specs.Areas.{Area}
-use Rattle.std.proofs.Common.{get_or, map, drop-cons, add-one}
 use Rattle.std.proofs.lemmas.List.{drop_all}
 use Rattle.elf_image.specs.Image.{SegmentView}
 use Rattle.region_mem.specs.Start.{segment_area, insert_area, insert_areas, buffer_areas}
-use Rattle.region_mem.specs.declared.parameter.Param.{Param}
+use Rattle.region_mem.specs.Words.{Param, Arg}
 use Rattle.region_mem.specs.Parameter.{Argument}
-use Rattle.region_mem.specs.declared.arguments.Arg.TheVariants as argument
 
 insert_step : (area other : Area) (areas : List Area) (b : Bool) (n : ℕ) → insert_area area areas ≡ insert areas n area →
     cond b (area ∷ other ∷ areas) (other ∷ insert_area area areas) ≡ insert (other ∷ areas) (cond (not b) (1 + n) 0) area
@@ -58,9 +55,9 @@ position_none address areas none = grind (arith, common_steps, length_position a
 pub insert_buffer : (params : List Param) (place : ℕ) (arg : Argument) (args : List Argument) (areas : List Area) →
     insert_areas (buffer_areas params place (arg ∷ args)) areas ≡ insert_areas (buffer_areas params (place + 1) args) (insert_areas (buffer_areas params place (arg ∷ [])) areas)
 unfolding insert_areas buffer_areas
-insert_buffer params place argument.None args areas = refl
-insert_buffer params place (argument.Scalar value) args areas = refl
-insert_buffer params place (argument.Buffer bytes) args areas = refl
+insert_buffer params place Arg.None args areas = refl
+insert_buffer params place (Arg.Scalar value) args areas = refl
+insert_buffer params place (Arg.Buffer bytes) args areas = refl
 
 -- one place after another
 pub insert_buffer_step : (params : List Param) (place : ℕ) (arg : Argument) (args : List Argument) (areas next : List Area) →

@@ -1,6 +1,6 @@
 -- The arguments that come back, place by place.
 use Rattle.std.proofs.Common.{◌≡◌, List, [], ◌∷◌, length, get_or}
-use Rattle.region_mem.specs.declared.arguments.Passed.{Passed}
+use Rattle.region_mem.specs.Words.{Passed}
 use Rattle.region_mem.specs.Areas.{Area}
 use Rattle.region_mem.specs.Parameter.{Argument}
 use Rattle.region_mem.specs.Memory.{arg_with, left_after, args_with}

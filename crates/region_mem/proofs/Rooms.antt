@@ -3,17 +3,15 @@ use Rattle.std.proofs.Common.{◌≡◌, ℕ, zero, suc, ◌+◌, ◌*◌, ◌<�
 use Rattle.std.specs.List.{list_all}
 use Rattle.std.proofs.lemmas.List.Sums.{sum_by-cons}
 use Rattle.std.proofs.lemmas.Bool.Decides.{nat_tests}
-use Rattle.region_mem.specs.declared.layout.TheConstants.{MAX_BUFFER_SIZE, PAGE_SIZE}
+use Rattle.region_mem.specs.Words.{Param, MAX_BUFFER_SIZE, PAGE_SIZE}
 use Rattle.region_mem.specs.Parameter.{is_valid, room_of}
-use Rattle.region_mem.specs.declared.parameter.Param.{Param}
-use Rattle.region_mem.specs.declared.parameter.Param.TheVariants as parameter
 
 -- A valid parameter takes at most 16 MiB and a page.
 pub room_of_valid : (param : Param) → is_valid param ≡ true → room_of param ≤ (MAX_BUFFER_SIZE + PAGE_SIZE)
 unfolding is_valid room_of
-room_of_valid parameter.None h = omega arith
-room_of_valid (parameter.Scalar lo hi) h = omega arith
-room_of_valid (parameter.Buffer mode size) h = grind (arith, nat_tests)
+room_of_valid Param.None h = omega arith
+room_of_valid (Param.Scalar lo hi) h = omega arith
+room_of_valid (Param.Buffer mode size) h = grind (arith, nat_tests)
 
 pub and_first : (a b : Bool) → (a && b) ≡ true → a ≡ true
 and_first true b h = cc

@@ -7,10 +7,7 @@ use Rattle.std.proofs.lemmas.Bool.Decides.{nat_tests}
 use Rattle.std.proofs.lemmas.List.{get_or_append_left, get_or-append_right, get_or-replicate, get_or_past}
 use Rattle.byteorder.specs.Endian.{little_from}
 use Rattle.elf_image.specs.Image.{SegmentView, IsSegment, ImageView, IsImage, holds_code, word_in, code_at}
-use Rattle.region_mem.specs.declared.parameter.Param.{Param}
-use Rattle.region_mem.specs.declared.arguments.Arg.TheVariants as argument
-use Rattle.region_mem.specs.declared.faults.Right.{Right}
-use Rattle.region_mem.specs.declared.faults.Right.TheVariants.{Write, Fetch}
+use Rattle.region_mem.specs.Words.{Param, Arg, Right, Write, Fetch}
 use Rattle.region_mem.specs.Areas.{Area, AreInOrder, AreInside, ArePlaced, holds, has_right, spans, admits, is_open, number_of, number_in}
 use Rattle.region_mem.specs.Memory.{Memory, is_permitted, fetch_of}
 use Rattle.region_mem.specs.Parameter.{Argument}
@@ -232,9 +229,9 @@ segments_safe (s ∷ ss) all = (all.0.write_or_execute, segments_safe ss all.1)
 buffers_safe : (params : List Param) (place : ℕ) (args : List Argument) → AllByRecursion IsSafe (buffer_areas params place args)
 unfolding buffer_areas buffer_area
 buffers_safe params place [] = tt
-buffers_safe params place (argument.None ∷ args) = buffers_safe params (place + 1) args
-buffers_safe params place (argument.Scalar value ∷ args) = buffers_safe params (place + 1) args
-buffers_safe params place (argument.Buffer bytes ∷ args) = ((λ e. refl), buffers_safe params (place + 1) args)
+buffers_safe params place (Arg.None ∷ args) = buffers_safe params (place + 1) args
+buffers_safe params place (Arg.Scalar value ∷ args) = buffers_safe params (place + 1) args
+buffers_safe params place (Arg.Buffer bytes ∷ args) = ((λ e. refl), buffers_safe params (place + 1) args)
 
 stack_safe : IsSafe stack_area
 unfolding stack_area

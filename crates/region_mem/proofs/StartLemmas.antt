@@ -1,9 +1,8 @@
 -- What the memory that a run starts with gives back.
-use Rattle.std.proofs.Common.{◌≡◌, inl, inr, ℕ, ◌+◌, ◌<◌, ◌≤◌, Bool, true, false, cond, List, [], ◌∷◌, ◌++◌, map, filter, ltb, arith, sym, ap, refl, ◌∙◌, sum_by}
+use Rattle.std.proofs.Common.{◌≡◌, inl, inr, ℕ, ◌+◌, ◌<◌, ◌≤◌, Bool, true, false, cond, List, [], ◌∷◌, ◌++◌, map, filter, ltb, arith, sym, ap, refl, ◌∙◌, sum_by, append_assoc, append-nil}
 use Rattle.std.specs.List.{AllByRecursion}
 use Rattle.std.proofs.lemmas.Bool.Decides.{nat_tests}
-use Rattle.std.proofs.Common.{append_assoc, append-nil}
-use Rattle.region_mem.specs.declared.layout.TheConstants.{BUFFERS, BUFFERS_END}
+use Rattle.region_mem.specs.Words.{Param, Arg, BUFFERS, BUFFERS_END}
 use Rattle.region_mem.proofs.Matching.{nothing_wrong}
 use Rattle.region_mem.proofs.Apart.{IsRising, end_of, all_insert, all_inserts, rising, sum_by_all}
 use Rattle.elf_image.specs.Image.{SegmentView, IsSegment, IsInPlace}
@@ -12,8 +11,6 @@ use Rattle.region_mem.specs.Memory.{is_buffer_area, arg_with, left_after, args_w
 use Rattle.region_mem.specs.Start.{segment_area, stack_area, buffer_area, buffer_areas, insert_area, insert_areas, passed_of, start_areas, start_memory}
 use Rattle.region_mem.specs.Laws.{GivesArgumentsBack}
 use Rattle.region_mem.specs.Parameter.{Argument, room_of}
-use Rattle.region_mem.specs.declared.parameter.Param.{Param}
-use Rattle.region_mem.specs.declared.arguments.Arg.TheVariants as argument
 
 -- Areas by their first addresses.
 abbrev pub AreSorted : List Area → Type 0
@@ -131,9 +128,9 @@ none_below high (a ∷ areas) all = ((λ is. absurd (cc (is, all.0))), none_belo
 args_back : (params : List Param) (place : ℕ) (args : List Argument) → args_with (map passed_of args) (buffer_areas params place args) ≡ args
 unfolding args_with arg_with left_after passed_of buffer_areas buffer_area
 args_back params place [] = refl
-args_back params place (argument.None ∷ args) = ap (λ xs. argument.None ∷ xs) (args_back params (place + 1) args)
-args_back params place (argument.Scalar value ∷ args) = ap (λ xs. argument.Scalar value ∷ xs) (args_back params (place + 1) args)
-args_back params place (argument.Buffer bytes ∷ args) = ap (λ xs. argument.Buffer bytes ∷ xs) (args_back params (place + 1) args)
+args_back params place (Arg.None ∷ args) = ap (λ xs. Arg.None ∷ xs) (args_back params (place + 1) args)
+args_back params place (Arg.Scalar value ∷ args) = ap (λ xs. Arg.Scalar value ∷ xs) (args_back params (place + 1) args)
+args_back params place (Arg.Buffer bytes ∷ args) = ap (λ xs. Arg.Buffer bytes ∷ xs) (args_back params (place + 1) args)
 
 pub gives_arguments_back : GivesArgumentsBack
 unfolding start_memory start_areas args_of

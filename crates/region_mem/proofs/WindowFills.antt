@@ -6,8 +6,7 @@ use Rattle.std.proofs.lemmas.Grind.{flat_map-append}
 use Rattle.std.proofs.lemmas.List.{length-append, length-take-le, take_more, take_all, append-nil, set-get_or, set-set, get_or-set_same, length-set}
 use Rattle.std.proofs.lemmas.List.Sums.{fold-append}
 use Rattle.std.proofs.lemmas.Nat.{column_fits}
-use Rattle.region_mem.specs.declared.faults.Right.{Right}
-use Rattle.region_mem.specs.declared.faults.Right.TheVariants.{Read, Write, Fetch}
+use Rattle.region_mem.specs.Words.{Right, Read, Write, Fetch}
 use Rattle.region_mem.specs.Areas.{Area, nothing, ArePlaced, spans, admits, has_right, bytes_of, part_into}
 use Rattle.region_mem.specs.Memory.{Memory, is_permitted, store_of, has_window, with_window}
 use Rattle.region_mem.specs.Laws.{extent_of, StoresFillWindows}

@@ -7,8 +7,7 @@ use Rattle.std.proofs.lemmas.List.{length-take-le, length-drop, drop_more, drop-
 use Rattle.std.proofs.lemmas.List.Folds.{find_at}
 use Rattle.std.proofs.lemmas.List.Sums.{passes_at_first}
 use Rattle.std.proofs.lemmas.Option.{slice_get-get_or, slice_get_past}
-use Rattle.region_mem.specs.declared.faults.Right.{Right}
-use Rattle.region_mem.specs.declared.faults.Right.TheVariants.{Read, Write}
+use Rattle.region_mem.specs.Words.{Right, Read, Write}
 use Rattle.region_mem.specs.Areas.{Area, nothing, AreInOrder, AreInside, ArePlaced, holds, spans, admits, is_open_from, number_of, number_at, number_in, part_of, window_in}
 use Rattle.region_mem.specs.Memory.{Memory, is_permitted, load_of, window_of, has_window}
 use Rattle.region_mem.specs.Laws.{WindowsToRead, LoadsInWindows, WindowsToWrite, StoresInWindows}

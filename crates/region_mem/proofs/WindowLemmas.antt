@@ -6,7 +6,7 @@ use Rattle.std.proofs.lemmas.List.Folds.{find_at}
 use Rattle.std.proofs.lemmas.List.Sums.{position_or_len_is, fails_before_first}
 use Rattle.std.proofs.lemmas.Option.{get_or_from_slice_get, slice_get_within, slice_get_past, slice_get-get_or}
 use Rattle.std.proofs.lemmas.Bool.{cases_lt}
-use Rattle.region_mem.specs.declared.faults.Right.{Right}
+use Rattle.region_mem.specs.Words.{Right}
 use Rattle.region_mem.specs.Areas.{Area, nothing, AreInOrder, holds, admits, part_of, window_in}
 use Rattle.region_mem.proofs.SearchLemmas.{same_place}
 use Rattle.region_mem.proofs.AccessLemmas.{admits_spans, spans_from, spans_to, holds_from}

@@ -2,8 +2,7 @@
 use Rattle.std.proofs.Common.{◌≡◌, ℕ, suc, ◌+◌, ◌-◌, ◌<◌, ◌≤◌, Bool, true, false, not, cond, List, [], ◌∷◌, ◌++◌, length, take, drop, set, position, Some, None, is_some, get_or, arith, sym, ap, refl, ◌∙◌}
 use Rattle.std.specs.List.{position_or_len}
 use Rattle.std.proofs.lemmas.List.{length-append, length-take-le, length-drop}
-use Rattle.region_mem.specs.declared.faults.Right.{Right}
-use Rattle.region_mem.specs.declared.faults.Right.TheVariants.{Write}
+use Rattle.region_mem.specs.Words.{Right, Write}
 use Rattle.region_mem.specs.Areas.{Area, AreInOrder, holds, spans, admits, part_of, part_into, with_part, window_in}
 use Rattle.region_mem.specs.Laws.{extent_of}
 use Rattle.region_mem.proofs.Writes.{suc_first}

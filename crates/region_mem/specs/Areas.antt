@@ -5,8 +5,7 @@ use Rattle.std.specs.List.Sorted.{IsPartitionPoint}
 use Rattle.std.specs.List.{list_any, list_all, range_with_len}
 use Rattle.std.specs.Option.{option_map}
 use Rattle.byteorder.specs.Endian.{little_number, little_bytes}
-use Rattle.region_mem.specs.declared.faults.Right.{Right}
-use Rattle.region_mem.specs.declared.faults.Right.TheVariants.{Read, Write, Fetch}
+use Rattle.region_mem.specs.Words.{Right, Read, Write, Fetch}
 
 -- bytes from an address on, and what may be done with them
 pub record Area : Type 0 where

@@ -1,6 +1,6 @@
 -- What a step answers, beside the definition that it follows.
 use Rattle.std.specs.Prelude.{◌≡◌, Result, Ok, Err}
-use Rattle.region_mem.specs.declared.faults.Fault.{Fault}
+use Rattle.region_mem.specs.Words.{Fault}
 
 -- A step of a state is the defined one, both ways: on Ok the new state is the definition's; on Err the fault is the
 -- definition's, and the state has not changed.

@@ -1,13 +1,10 @@
 -- Laws of memory: what its definitions give, whatever the image, the parameters and the arguments that match them.
 use Rattle.std.specs.Prelude.{◌≡◌, ℕ, ◌+◌, ◌*◌, ◌^◌, ◌<◌, ◌≤◌, Bool, true, false, List, length, take, drop, map, flat_map, slice_index, All, Some, None, unwrap_or}
 use Rattle.std.specs.List.{AllByRecursion, list_all, fold, range_with_len}
-use Rattle.elf_image.specs.declared.layout.TheConstants.{HIGH_SEGMENTS_END}
+use Rattle.region_mem.specs.Words.{Param, Arg, Read, Write, Fetch, HIGH_SEGMENTS_END}
 use Rattle.elf_image.specs.Image.{ImageView, IsImage, code_at}
-use Rattle.region_mem.specs.declared.parameter.Param.{Param}
-use Rattle.region_mem.specs.declared.arguments.Arg.TheVariants as argument
 use Rattle.region_mem.specs.Parameter.{Argument, is_valid, AreArguments}
 use Rattle.region_mem.specs.Areas.{Area, AreInOrder, AreInside, is_open, number_at, number_of, bytes_of}
-use Rattle.region_mem.specs.declared.faults.Right.TheVariants.{Read, Write, Fetch}
 use Rattle.region_mem.specs.Memory.{Memory, IsAccessSize, args_of, fetch_of, is_permitted, load_of, store_of, window_of, has_window, with_window, overlaid_window}
 use Rattle.region_mem.specs.Start.{start_memory}
 
@@ -99,9 +96,9 @@ AreBytes memory = AllByRecursion (λ area. All (λ byte. byte < 256) area.bytes)
 
 -- What a buffer brings are bytes.
 abbrev pub BringsBytes : Argument → Type 0
-BringsBytes argument.None = Unit {0}
-BringsBytes (argument.Scalar value) = Unit {0}
-BringsBytes (argument.Buffer bytes) = All (λ byte. byte < 256) bytes
+BringsBytes Arg.None = Unit {0}
+BringsBytes (Arg.Scalar value) = Unit {0}
+BringsBytes (Arg.Buffer bytes) = All (λ byte. byte < 256) bytes
 
 -- They are at the start, if those of each buffer are,
 abbrev pub StartsWithBytes : Type 0

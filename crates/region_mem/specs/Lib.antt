@@ -5,3 +5,4 @@ pub mod Memory
 pub mod Start
 pub mod Laws
 pub mod Lends
+pub mod Words

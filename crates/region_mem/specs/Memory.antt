@@ -1,13 +1,8 @@
 -- The memory of a run, and what loads, stores and fetches do with it.
 use Rattle.std.specs.Prelude.{◌≡◌, ◌⊎◌, ℕ, Bool, ◌&&◌, nat_le, nat_lt, List, [], ◌∷◌, filter, slice_set, slice_index_or, Option, Some, None, is_some, if◌then◌else◌}
 use Rattle.std.specs.List.{position_or_len}
-use Rattle.region_mem.specs.declared.layout.TheConstants.{BUFFERS, BUFFERS_END}
-use Rattle.region_mem.specs.declared.faults.Right.{Right}
-use Rattle.region_mem.specs.declared.faults.Right.TheVariants.{Read, Write, Fetch}
+use Rattle.region_mem.specs.Words.{Arg, Passed, Right, Read, Write, Fetch, BUFFERS, BUFFERS_END}
 use Rattle.region_mem.specs.Parameter.{Argument}
-use Rattle.region_mem.specs.declared.arguments.Arg.TheVariants as argument
-use Rattle.region_mem.specs.declared.arguments.Passed.{Passed}
-use Rattle.region_mem.specs.declared.arguments.Passed.TheVariants as passed
 use Rattle.region_mem.specs.Areas.{Area, nothing, holds, overlaid_area, window_in, with_part, byte_at, is_open_from, number_at, with_number}
 
 -- The areas stand in the order of their first addresses; what was passed stands by place.
@@ -71,16 +66,16 @@ is_buffer_area area = nat_le BUFFERS area.first && nat_lt area.first BUFFERS_END
 
 -- what a place gets of the buffers that are left, and the buffers that are left after it
 unfoldable pub arg_with : Passed → List Area → Argument
-arg_with passed.None buffers = argument.None
-arg_with (passed.Scalar value) buffers = argument.Scalar value
-arg_with passed.Buffer [] = argument.None
-arg_with passed.Buffer (buffer ∷ buffers) = argument.Buffer buffer.bytes
+arg_with Passed.None buffers = Arg.None
+arg_with (Passed.Scalar value) buffers = Arg.Scalar value
+arg_with Passed.Buffer [] = Arg.None
+arg_with Passed.Buffer (buffer ∷ buffers) = Arg.Buffer buffer.bytes
 
 unfoldable pub left_after : Passed → List Area → List Area
-left_after passed.None buffers = buffers
-left_after (passed.Scalar value) buffers = buffers
-left_after passed.Buffer [] = []
-left_after passed.Buffer (buffer ∷ buffers) = buffers
+left_after Passed.None buffers = buffers
+left_after (Passed.Scalar value) buffers = buffers
+left_after Passed.Buffer [] = []
+left_after Passed.Buffer (buffer ∷ buffers) = buffers
 
 -- The buffers stand in the order of their places.
 unfoldable pub args_with : List Passed → List Area → List Argument

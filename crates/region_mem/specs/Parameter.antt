@@ -2,13 +2,8 @@
 use Rattle.std.specs.Prelude.{◌≡◌, ℕ, ◌+◌, ◌*◌, ◌-◌, ◌/◌, ◌==◌, Bool, true, false, ◌&&◌, not, nat_le, List, length, take, sum_by, position, Option, Some, None, Result, Ok, Err, if◌then◌else◌}
 use Rattle.std.specs.List.{list_all, zip, slice_get}
 use Rattle.std.specs.Option.{option_map, option_and_then, option_or}
-use Rattle.region_mem.specs.declared.layout.TheConstants.{BUFFERS, MAX_BUFFER_SIZE, PAGE_SIZE}
-use Rattle.region_mem.specs.declared.parameter.Param.{Param}
-use Rattle.region_mem.specs.declared.parameter.Param.TheVariants as parameter
-use Rattle.region_mem.specs.declared.arguments.Arg.{Arg}
-use Rattle.region_mem.specs.declared.arguments.Arg.TheVariants as argument
-use Rattle.region_mem.specs.declared.parameter.ArgError.{ArgError}
-use Rattle.region_mem.specs.declared.parameter.ArgError.TheVariants.{WrongKind, ScalarOutOfInterval, WrongSize}
+use Rattle.region_mem.specs.Words.{Param, ArgError, Arg, WrongKind, ScalarOutOfInterval, WrongSize, BUFFERS, MAX_BUFFER_SIZE}
+use Rattle.region_mem.specs.Words.{PAGE_SIZE}
 
 -- an argument, with the bytes of a buffer
 abbrev pub Argument : Type 0
@@ -16,9 +11,9 @@ Argument = Arg (List ℕ)
 
 -- A scalar's interval is not empty, and a buffer is not too large.
 unfoldable pub is_valid : Param → Bool
-is_valid parameter.None = true
-is_valid (parameter.Scalar lo hi) = nat_le lo hi
-is_valid (parameter.Buffer mode size) = nat_le size MAX_BUFFER_SIZE
+is_valid Param.None = true
+is_valid (Param.Scalar lo hi) = nat_le lo hi
+is_valid (Param.Buffer mode size) = nat_le size MAX_BUFFER_SIZE
 
 -- the parameters, where each is valid
 unfoldable pub parameters_of : List Param → Option (List Param)
@@ -26,15 +21,15 @@ parameters_of params = if list_all is_valid params then Some params else None
 
 -- from a buffer's address to the next one's: its size rounded up to whole pages, and one page more
 unfoldable pub room_of : Param → ℕ
-room_of parameter.None = 0
-room_of (parameter.Scalar lo hi) = 0
-room_of (parameter.Buffer mode size) =
+room_of Param.None = 0
+room_of (Param.Scalar lo hi) = 0
+room_of (Param.Buffer mode size) =
     (size + PAGE_SIZE - 1) / PAGE_SIZE * PAGE_SIZE + PAGE_SIZE
 
 unfoldable pub is_buffer : Param → Bool
-is_buffer parameter.None = false
-is_buffer (parameter.Scalar lo hi) = false
-is_buffer (parameter.Buffer mode size) = true
+is_buffer Param.None = false
+is_buffer (Param.Scalar lo hi) = false
+is_buffer (Param.Buffer mode size) = true
 
 -- The buffers lie one after another.
 unfoldable pub address_of : ℕ → List Param → Option ℕ
@@ -45,20 +40,20 @@ address_of place params =
 
 -- The argument is of another kind than the parameter.
 unfoldable pub is_wrong_kind : Param × Argument → Bool
-is_wrong_kind (parameter.None, argument.None) = false
-is_wrong_kind (parameter.Scalar lo hi, argument.Scalar value) = false
-is_wrong_kind (parameter.Buffer mode size, argument.Buffer bytes) = false
+is_wrong_kind (Param.None, Arg.None) = false
+is_wrong_kind (Param.Scalar lo hi, Arg.Scalar value) = false
+is_wrong_kind (Param.Buffer mode size, Arg.Buffer bytes) = false
 is_wrong_kind other = true
 
 -- The argument is a scalar outside the parameter's interval.
 unfoldable pub is_out_of_interval : Param × Argument → Bool
-is_out_of_interval (parameter.Scalar lo hi, argument.Scalar value) =
+is_out_of_interval (Param.Scalar lo hi, Arg.Scalar value) =
     not (nat_le lo value && nat_le value hi)
 is_out_of_interval other = false
 
 -- The argument is a buffer of another size than the parameter's.
 unfoldable pub is_wrong_size : Param × Argument → Bool
-is_wrong_size (parameter.Buffer mode size, argument.Buffer bytes) = not (length bytes == size)
+is_wrong_size (Param.Buffer mode size, Arg.Buffer bytes) = not (length bytes == size)
 is_wrong_size other = false
 
 -- what is wrong with the arguments: a kind before an interval before a size, and the lowest place of each
@@ -80,6 +75,6 @@ AreArguments params args = argument_error params args ≡ None
 
 -- how many bytes an argument brings
 unfoldable pub size_of : Argument → ℕ
-size_of argument.None = 0
-size_of (argument.Scalar value) = 0
-size_of (argument.Buffer bytes) = length bytes
+size_of Arg.None = 0
+size_of (Arg.Scalar value) = 0
+size_of (Arg.Buffer bytes) = length bytes

@@ -2,13 +2,7 @@
 use Rattle.std.specs.Prelude.{ℕ, ◌+◌, ◌-◌, Bool, true, false, nat_lt, List, [], ◌∷◌, ◌++◌, length, map, replicate, unwrap_or, if◌then◌else◌}
 use Rattle.std.specs.List.{slice_get}
 use Rattle.elf_image.specs.Image.{SegmentView, ImageView}
-use Rattle.region_mem.specs.declared.layout.TheConstants.{STACK, STACK_SIZE}
-use Rattle.region_mem.specs.declared.parameter.Mode.TheVariants.{ReadWrite}
-use Rattle.region_mem.specs.declared.parameter.Param.{Param}
-use Rattle.region_mem.specs.declared.parameter.Param.TheVariants as parameter
-use Rattle.region_mem.specs.declared.arguments.Arg.TheVariants as argument
-use Rattle.region_mem.specs.declared.arguments.Passed.{Passed}
-use Rattle.region_mem.specs.declared.arguments.Passed.TheVariants as passed
+use Rattle.region_mem.specs.Words.{Param, Arg, Passed, ReadWrite, STACK, STACK_SIZE}
 use Rattle.region_mem.specs.Parameter.{Argument, address_of}
 use Rattle.region_mem.specs.Areas.{Area}
 use Rattle.region_mem.specs.Memory.{Memory}
@@ -38,7 +32,7 @@ stack_area = record {
 
 -- The place has a buffer that may be written.
 unfoldable pub is_writable : Param → Bool
-is_writable (parameter.Buffer ReadWrite size) = true
+is_writable (Param.Buffer ReadWrite size) = true
 is_writable other = false
 
 -- the area of a buffer at a place
@@ -47,16 +41,16 @@ buffer_area params place bytes = record {
   first = unwrap_or (address_of place params) 0;
   bytes = bytes;
   read = true;
-  write = is_writable (unwrap_or (slice_get params place) parameter.None);
+  write = is_writable (unwrap_or (slice_get params place) Param.None);
   fetch = false;
 }
 
 -- the areas of the buffers at the places from one on
 unfoldable pub buffer_areas : List Param → ℕ → List Argument → List Area
 buffer_areas params place [] = []
-buffer_areas params place (argument.None ∷ args) = buffer_areas params (place + 1) args
-buffer_areas params place (argument.Scalar value ∷ args) = buffer_areas params (place + 1) args
-buffer_areas params place (argument.Buffer bytes ∷ args) =
+buffer_areas params place (Arg.None ∷ args) = buffer_areas params (place + 1) args
+buffer_areas params place (Arg.Scalar value ∷ args) = buffer_areas params (place + 1) args
+buffer_areas params place (Arg.Buffer bytes ∷ args) =
     buffer_area params place bytes ∷ buffer_areas params (place + 1) args
 
 -- the areas with one more, in front of those that begin above it
@@ -78,9 +72,9 @@ start_areas image params args =
 
 -- what a place was passed, without a buffer's bytes
 unfoldable pub passed_of : Argument → Passed
-passed_of argument.None = passed.None
-passed_of (argument.Scalar value) = passed.Scalar value
-passed_of (argument.Buffer bytes) = passed.Buffer
+passed_of Arg.None = Passed.None
+passed_of (Arg.Scalar value) = Passed.Scalar value
+passed_of (Arg.Buffer bytes) = Passed.Buffer
 
 -- the memory at the start of a run of an image with these parameters and arguments
 unfoldable pub start_memory : ImageView → List Param → List Argument → Memory

@@ -1,6 +1,6 @@
 use Rattle.std.proofs.Common.{◌≡◌, ◌<◌, Some, List, length, get_or, ap, refl, ◌∙◌}
 use Rattle.std.specs.List.{position_or_len}
-use Rattle.region_mem.specs.declared.faults.Right.TheVariants.{Write}
+use Rattle.region_mem.specs.Words.{Write}
 use Rattle.region_mem.specs.Areas.{Area, nothing, holds, part_of, window_in}
 use Rattle.region_mem.specs.Memory.{Memory, overlaid_window}
 use Rattle.region_mem.proofs.LendLemmas.{overlaid_placed, overlaid_is, part_is}
