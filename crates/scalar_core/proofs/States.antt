@@ -8,25 +8,11 @@ use Rattle.std.proofs.Math.ListN.{length-set}
 use Rattle.std.proofs.lemmas.Nat.{or_of_32, xor_of_32, widths}
 use Rattle.std.proofs.Math.Nat.{div-le_self, mod-le, mul-le-mul}
 use Rattle.std.proofs.lemmas.Int.{unsigned_abs-mul}
-use Rattle.rv_decode.specs.declared.instructions.Insn.TheVariants as class
-use Rattle.rv_decode.specs.declared.instructions.ScalarInsn.{ScalarInsn}
-use Rattle.rv_decode.specs.declared.instructions.ScalarInsn.TheVariants.{Lui, Auipc, Jal, Jalr, Branch, Load, Store, Immediate, ShiftImmediate, Register, Fence, Ecall}
-use Rattle.rv_decode.specs.declared.instructions.Condition.{Condition}
-use Rattle.rv_decode.specs.declared.instructions.ImmediateOp.{ImmediateOp}
-use Rattle.rv_decode.specs.declared.instructions.ImmediateOp.TheVariants.{Addi, Slti, Sltiu, Xori, Ori, Andi}
-use Rattle.rv_decode.specs.declared.instructions.ShiftOp.{ShiftOp}
-use Rattle.rv_decode.specs.declared.instructions.ShiftOp.TheVariants.{Slli, Srli, Srai}
-use Rattle.rv_decode.specs.declared.instructions.LoadKind.{LoadKind}
-use Rattle.rv_decode.specs.declared.instructions.LoadKind.TheVariants as load
-use Rattle.rv_decode.specs.declared.instructions.Width.{Width as AccessWidth}
-use Rattle.rv_decode.specs.declared.instructions.CsrInsn.{CsrInsn}
-use Rattle.rv_decode.specs.declared.instructions.CsrName.{CsrName}
-use Rattle.rv_decode.specs.declared.instructions.CsrName.TheVariants.{Vxsat, Vxrm, Vcsr, Vl, Vtype, Vlenb}
-use Rattle.region_mem.specs.declared.faults.Fault.{Fault}
-use Rattle.region_mem.specs.Memory.{Memory, IsAccessSize, load_of, store_of}
-use Rattle.vreg_groups.specs.declared.vector_length.Vconfig.{Vconfig}
-use Rattle.rv_decode.specs.declared.instructions.RegisterOp.{RegisterOp}
-use Rattle.rv_decode.specs.declared.instructions.RegisterOp.TheVariants.{Add, Sub, Sll, Slt, Sltu, Xor, Srl, Sra, Or, And, Mul, Mulh, Mulhsu, Mulhu, Div, Divu, Rem, Remu}
+use Rattle.scalar_core.specs.Words.{Insn, ScalarInsn, CsrInsn, Condition, LoadKind, ImmediateOp, ShiftOp, RegisterOp, Width}
+use Rattle.scalar_core.specs.Words.{CsrName, Lui, Auipc, Jal, Jalr, Branch, Load, Store, Immediate, ShiftImmediate, Register}
+use Rattle.scalar_core.specs.Words.{Fence, Ecall, Add, Sub, Sll, Slt, Sltu, Xor, Srl, Sra, Or, And, Mul, Mulh, Mulhsu, Mulhu}
+use Rattle.scalar_core.specs.Words.{Div, Divu, Rem, Remu, Addi, Slti, Sltiu, Xori, Ori, Andi, Slli, Srli, Srai, Vxsat, Vxrm}
+use Rattle.scalar_core.specs.Words.{Vcsr, Vl, Vtype, Vlenb, Fault, Memory, IsAccessSize, load_of, store_of, Vconfig}
 use Rattle.scalar_core.specs.Arithmetic.{immediate_result, is_taken, register_result, shift_result, signed, unsigned, upper_half}
 use Rattle.scalar_core.specs.Csr.{csr_step, csr_value, csr_written, does_write, operand_of, with_csr, written}
 use Rattle.scalar_core.specs.Laws.{HasFittingImmediate, ReadsFit, StepsKeepHarts}
@@ -185,11 +171,11 @@ shift_result-fits Srai a amount p = below_signed (int_shr (signed a) (amount % 3
 
 pub loaded-fits : (kind : LoadKind) (n : ℕ) → n < 2 ^ 32 → loaded kind n < 2 ^ 32
 unfolding loaded
-loaded-fits load.Byte n p = byte_extended (n % 2 ^ 8) (omega arith)
-loaded-fits load.Half n p = half_extended (n % 2 ^ 16) (omega arith)
-loaded-fits load.Word n p = p
-loaded-fits load.ByteUnsigned n p = p
-loaded-fits load.HalfUnsigned n p = p
+loaded-fits LoadKind.Byte n p = byte_extended (n % 2 ^ 8) (omega arith)
+loaded-fits LoadKind.Half n p = half_extended (n % 2 ^ 16) (omega arith)
+loaded-fits LoadKind.Word n p = p
+loaded-fits LoadKind.ByteUnsigned n p = p
+loaded-fits LoadKind.HalfUnsigned n p = p
 
 -- ---- the steps
 
@@ -218,11 +204,11 @@ branch_to-is_hart false target h fits is = advanced-is_hart h is
 
 size_of_load-is_size : (kind : LoadKind) → IsAccessSize (size_of_load kind)
 unfolding size_of_load
-size_of_load-is_size load.Byte = inl refl
-size_of_load-is_size load.Half = inr (inl refl)
-size_of_load-is_size load.Word = inr (inr refl)
-size_of_load-is_size load.ByteUnsigned = inl refl
-size_of_load-is_size load.HalfUnsigned = inr (inl refl)
+size_of_load-is_size LoadKind.Byte = inl refl
+size_of_load-is_size LoadKind.Half = inr (inl refl)
+size_of_load-is_size LoadKind.Word = inr (inr refl)
+size_of_load-is_size LoadKind.ByteUnsigned = inl refl
+size_of_load-is_size LoadKind.HalfUnsigned = inr (inl refl)
 
 load_from-is_hart : (kind : LoadKind) (rd address : ℕ) (h : Hart) (read : Option ℕ) → ((n : ℕ) → read ≡ Some n → n < 2 ^ 32) → IsHart h
     → IfOk (load_from kind rd address h read) IsHart
@@ -243,7 +229,7 @@ unfolding store_from
 store_from-is_hart address h None is = tt
 store_from-is_hart address h (Some m) is = advanced-is_hart h is
 
-store_step-is_hart : (size : AccessWidth) (rs1 rs2 : ℕ) (offset : ℤ) (h : Hart) (m : Memory) → IsHart h
+store_step-is_hart : (size : Width) (rs1 rs2 : ℕ) (offset : ℤ) (h : Hart) (m : Memory) → IsHart h
     → IfOk (store_step size rs1 rs2 offset h m) (λ s. IsHart s.0)
 unfolding store_step
 store_step-is_hart size rs1 rs2 offset h m is =
@@ -265,7 +251,7 @@ unfolding branch_step
 branch_step-is_hart condition rs1 rs2 offset h is =
     branch_to-is_hart (is_taken condition (reg_of rs1 h) (reg_of rs2 h)) (offset_by h.pc offset) h (omega arith) is
 
-rv32im_step-is_hart : (insn : ScalarInsn) (h : Hart) (m : Memory) → HasFittingImmediate (class.Scalar insn) → ReadsFit m → IsHart h
+rv32im_step-is_hart : (insn : ScalarInsn) (h : Hart) (m : Memory) → HasFittingImmediate (Insn.Scalar insn) → ReadsFit m → IsHart h
     → IfOk (rv32im_step insn h m) (λ s. IsHart s.0)
 unfolding rv32im_step
 rv32im_step-is_hart (Lui rd imm) h m fits reads is = put-is_hart rd imm h fits is
@@ -336,6 +322,6 @@ csr_step-is_hart insn vlenb config h p q r is =
 
 pub scalar_step-is_hart : StepsKeepHarts
 unfolding scalar_step
-scalar_step-is_hart vlenb (class.Scalar insn) config h m p q r fits reads is = rv32im_step-is_hart insn h m fits reads is
-scalar_step-is_hart vlenb (class.Csr insn) config h m p q r fits reads is = csr_step-is_hart insn vlenb config h p q r is
+scalar_step-is_hart vlenb (Insn.Scalar insn) config h m p q r fits reads is = rv32im_step-is_hart insn h m fits reads is
+scalar_step-is_hart vlenb (Insn.Csr insn) config h m p q r fits reads is = csr_step-is_hart insn vlenb config h p q r is
 scalar_step-is_hart vlenb _ config h m p q r fits reads is = is

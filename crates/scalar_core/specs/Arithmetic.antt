@@ -1,14 +1,9 @@
 -- What the instructions of RV32I and M compute from the numbers of their operands.
 use Rattle.std.specs.Prelude.{ℕ, ◌+◌, ◌-◌, ◌*◌, ◌/◌, ◌%◌, ◌^◌, ◌==◌, nat_lt, Bool, not, if◌then◌else◌, bit_and, bit_or, bit_xor, ℤ, pos, ◌*ℤ◌, int_lt, int_div, int_rem}
 use Rattle.std.specs.Int.{w32, cast_signed, cast_unsigned, int_shr, from_bool}
-use Rattle.rv_decode.specs.declared.instructions.Condition.{Condition}
-use Rattle.rv_decode.specs.declared.instructions.Condition.TheVariants as condition
-use Rattle.rv_decode.specs.declared.instructions.RegisterOp.{RegisterOp}
-use Rattle.rv_decode.specs.declared.instructions.RegisterOp.TheVariants.{Add, Sub, Sll, Slt, Sltu, Xor, Srl, Sra, Or, And, Mul, Mulh, Mulhsu, Mulhu, Div, Divu, Rem, Remu}
-use Rattle.rv_decode.specs.declared.instructions.ImmediateOp.{ImmediateOp}
-use Rattle.rv_decode.specs.declared.instructions.ImmediateOp.TheVariants.{Addi, Slti, Sltiu, Xori, Ori, Andi}
-use Rattle.rv_decode.specs.declared.instructions.ShiftOp.{ShiftOp}
-use Rattle.rv_decode.specs.declared.instructions.ShiftOp.TheVariants.{Slli, Srli, Srai}
+use Rattle.scalar_core.specs.Words.{Condition, ImmediateOp, ShiftOp, RegisterOp, Add, Sub, Sll, Slt, Sltu, Xor, Srl, Sra, Or}
+use Rattle.scalar_core.specs.Words.{And, Mul, Mulh, Mulhsu, Mulhu, Div, Divu, Rem, Remu, Addi, Slti, Sltiu, Xori, Ori, Andi}
+use Rattle.scalar_core.specs.Words.{Slli, Srli, Srai}
 
 -- a register's 32 bits as a signed number, and a signed number's 32 bits
 abbrev pub signed : ℕ → ℤ
@@ -78,9 +73,9 @@ shift_result Srai a amount = register_result Sra a amount
 
 -- whether a branch on a of rs1 and b of rs2 is taken
 unfoldable pub is_taken : Condition → ℕ → ℕ → Bool
-is_taken condition.Eq a b = a == b
-is_taken condition.Ne a b = not (a == b)
-is_taken condition.Lt a b = int_lt (signed a) (signed b)
-is_taken condition.Ge a b = not (int_lt (signed a) (signed b))
-is_taken condition.Ltu a b = nat_lt a b
-is_taken condition.Geu a b = not (nat_lt a b)
+is_taken Condition.Eq a b = a == b
+is_taken Condition.Ne a b = not (a == b)
+is_taken Condition.Lt a b = int_lt (signed a) (signed b)
+is_taken Condition.Ge a b = not (int_lt (signed a) (signed b))
+is_taken Condition.Ltu a b = nat_lt a b
+is_taken Condition.Geu a b = not (nat_lt a b)

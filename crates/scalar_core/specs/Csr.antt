@@ -1,13 +1,6 @@
 -- The six forms of CSR instructions (Zicsr), over the CSRs of the vector extension.
 use Rattle.std.specs.Prelude.{ℕ, ◌+◌, ◌-◌, ◌*◌, ◌/◌, ◌%◌, ◌^◌, ◌==◌, Bool, true, not, if◌then◌else◌, bit_and, bit_or}
-use Rattle.rv_decode.specs.declared.instructions.CsrInsn.{CsrInsn}
-use Rattle.rv_decode.specs.declared.instructions.CsrAction.{CsrAction}
-use Rattle.rv_decode.specs.declared.instructions.CsrAction.TheVariants as action
-use Rattle.rv_decode.specs.declared.instructions.CsrName.{CsrName}
-use Rattle.rv_decode.specs.declared.instructions.CsrName.TheVariants.{Vxsat, Vxrm, Vcsr, Vl, Vtype, Vlenb}
-use Rattle.rv_decode.specs.declared.instructions.CsrSource.{CsrSource}
-use Rattle.rv_decode.specs.declared.instructions.CsrSource.TheVariants as source
-use Rattle.vreg_groups.specs.declared.vector_length.Vconfig.{Vconfig}
+use Rattle.scalar_core.specs.Words.{CsrInsn, CsrAction, CsrName, CsrSource, Vxsat, Vxrm, Vcsr, Vl, Vtype, Vlenb, Vconfig}
 use Rattle.scalar_core.specs.Hart.{Hart, put, reg_of}
 
 -- what a CSR reads as; vcsr has vxsat at bit 0 and vxrm at bits 2:1
@@ -30,25 +23,25 @@ with_csr Vlenb v h = h
 
 -- the operand: the number in rs1, or the immediate
 unfoldable pub operand_of : CsrSource → Hart → ℕ
-operand_of (source.Register r) h = reg_of r h
-operand_of (source.Immediate n) h = n
+operand_of (CsrSource.Register r) h = reg_of r h
+operand_of (CsrSource.Immediate n) h = n
 
 -- rs1 is x0, or the immediate is 0
 unfoldable pub is_zero_source : CsrSource → Bool
-is_zero_source (source.Register r) = r == 0
-is_zero_source (source.Immediate n) = n == 0
+is_zero_source (CsrSource.Register r) = r == 0
+is_zero_source (CsrSource.Immediate n) = n == 0
 
 -- what the instruction makes of the CSR's old number: it is replaced, or the operand's bits are set or cleared in it
 unfoldable pub written : CsrAction → ℕ → ℕ → ℕ
-written action.Write old operand = operand
-written action.Set old operand = bit_or old operand
-written action.Clear old operand = bit_and old (2 ^ 32 - 1 - operand)
+written CsrAction.Write old operand = operand
+written CsrAction.Set old operand = bit_or old operand
+written CsrAction.Clear old operand = bit_and old (2 ^ 32 - 1 - operand)
 
 -- csrrw and csrrwi always write; the other forms do unless rs1 is x0 or the immediate is 0
 unfoldable pub does_write : CsrAction → CsrSource → Bool
-does_write action.Write s = true
-does_write action.Set s = not (is_zero_source s)
-does_write action.Clear s = not (is_zero_source s)
+does_write CsrAction.Write s = true
+does_write CsrAction.Set s = not (is_zero_source s)
+does_write CsrAction.Clear s = not (is_zero_source s)
 
 -- the CSR's part of the step
 unfoldable pub csr_written : CsrInsn → ℕ → Vconfig → Hart → Hart

@@ -2,13 +2,8 @@
 use Rattle.std.specs.Prelude.{ℕ, ◌≡◌, ◌<◌, ◌+◌, ◌-◌, ◌*◌, ◌^◌, ℤ, pos, ◌≤ℤ◌, ◌+ℤ◌, ◌*ℤ◌, unsigned_abs, int_div, Some, IfOk}
 use Rattle.std.specs.Int.{w32}
 use Rattle.std.specs.Int.RustNames.{FitsSigned}
-use Rattle.rv_decode.specs.declared.instructions.Insn.{Insn}
-use Rattle.rv_decode.specs.declared.instructions.Insn.TheVariants as class
-use Rattle.rv_decode.specs.declared.instructions.RegisterOp.TheVariants.{Div, Divu, Rem, Remu}
-use Rattle.rv_decode.specs.declared.instructions.ScalarInsn.{ScalarInsn}
-use Rattle.rv_decode.specs.declared.instructions.ScalarInsn.TheVariants.{Lui, Auipc, Jal, Jalr, Branch, Load, Store, Immediate, ShiftImmediate, Register, Fence, Ecall}
-use Rattle.region_mem.specs.Memory.{Memory, IsAccessSize, load_of}
-use Rattle.vreg_groups.specs.declared.vector_length.Vconfig.{Vconfig}
+use Rattle.scalar_core.specs.Words.{Insn, ScalarInsn, Lui, Auipc, Jal, Jalr, Branch, Load, Store, Immediate, ShiftImmediate}
+use Rattle.scalar_core.specs.Words.{Register, Fence, Ecall, Div, Divu, Rem, Remu, Memory, IsAccessSize, load_of, Vconfig}
 use Rattle.scalar_core.specs.Arithmetic.{register_result, signed}
 use Rattle.scalar_core.specs.Hart.{Hart, IsHart}
 use Rattle.scalar_core.specs.Step.{scalar_step}
@@ -29,15 +24,15 @@ HasFittingNumber Fence = Unit {0}
 HasFittingNumber Ecall = Unit {0}
 
 abbrev pub HasFittingImmediate : Insn → Type 0
-HasFittingImmediate (class.Scalar insn) = HasFittingNumber insn
-HasFittingImmediate (class.Csr insn) = Unit {0}
-HasFittingImmediate (class.VSet insn) = Unit {0}
-HasFittingImmediate (class.VArith insn) = Unit {0}
-HasFittingImmediate (class.VMask insn) = Unit {0}
-HasFittingImmediate (class.VPerm insn) = Unit {0}
-HasFittingImmediate (class.VReduce insn) = Unit {0}
-HasFittingImmediate (class.VMem insn) = Unit {0}
-HasFittingImmediate (class.VMove insn) = Unit {0}
+HasFittingImmediate (Insn.Scalar insn) = HasFittingNumber insn
+HasFittingImmediate (Insn.Csr insn) = Unit {0}
+HasFittingImmediate (Insn.VSet insn) = Unit {0}
+HasFittingImmediate (Insn.VArith insn) = Unit {0}
+HasFittingImmediate (Insn.VMask insn) = Unit {0}
+HasFittingImmediate (Insn.VPerm insn) = Unit {0}
+HasFittingImmediate (Insn.VReduce insn) = Unit {0}
+HasFittingImmediate (Insn.VMem insn) = Unit {0}
+HasFittingImmediate (Insn.VMove insn) = Unit {0}
 
 -- what a load reads fits 32 bits
 abbrev pub ReadsFit : Memory → Type 0

@@ -3,3 +3,4 @@ pub mod Csr
 pub mod Hart
 pub mod Laws
 pub mod Step
+pub mod Words

@@ -1,19 +1,9 @@
 -- One step of the scalar half of a hart, by the instruction at pc: the new hart and memory, or the fault.
 use Rattle.std.specs.Prelude.{ℕ, ◌+◌, ◌-◌, ◌%◌, ◌^◌, ◌==◌, Bool, true, false, if◌then◌else◌, ℤ, Option, Some, None, Result, Ok, Err}
 use Rattle.std.specs.Int.{w8, w16, cast_signed}
-use Rattle.rv_decode.specs.declared.instructions.Insn.{Insn}
-use Rattle.rv_decode.specs.declared.instructions.Insn.TheVariants as class
-use Rattle.rv_decode.specs.declared.instructions.ScalarInsn.{ScalarInsn}
-use Rattle.rv_decode.specs.declared.instructions.ScalarInsn.TheVariants.{Lui, Auipc, Jal, Jalr, Branch, Load, Store, Immediate, ShiftImmediate, Register, Fence, Ecall}
-use Rattle.rv_decode.specs.declared.instructions.Condition.{Condition}
-use Rattle.rv_decode.specs.declared.instructions.LoadKind.{LoadKind}
-use Rattle.rv_decode.specs.declared.instructions.LoadKind.TheVariants as load
-use Rattle.rv_decode.specs.declared.instructions.Width.{Width}
-use Rattle.rv_decode.specs.declared.instructions.Width.TheVariants as width
-use Rattle.region_mem.specs.declared.faults.Fault.{Fault}
-use Rattle.region_mem.specs.declared.faults.Fault.TheVariants.{JumpMisaligned, LoadFault, StoreFault}
-use Rattle.region_mem.specs.Memory.{Memory, load_of, store_of}
-use Rattle.vreg_groups.specs.declared.vector_length.Vconfig.{Vconfig}
+use Rattle.scalar_core.specs.Words.{Insn, ScalarInsn, Condition, LoadKind, Width, Lui, Auipc, Jal, Jalr, Branch, Load, Store}
+use Rattle.scalar_core.specs.Words.{Immediate, ShiftImmediate, Register, Fence, Ecall, Fault, JumpMisaligned, LoadFault}
+use Rattle.scalar_core.specs.Words.{StoreFault, Memory, load_of, store_of, Vconfig}
 use Rattle.scalar_core.specs.Hart.{Hart, advanced, at_pc, exit, next_pc, put, reg_of, with_reg}
 use Rattle.scalar_core.specs.Arithmetic.{immediate_result, is_taken, register_result, shift_result, unsigned}
 use Rattle.scalar_core.specs.Csr.{csr_step}
@@ -58,24 +48,24 @@ address_of rs1 offset h = offset_by (reg_of rs1 h) offset
 
 -- how many bytes a load reads and a store writes
 unfoldable pub size_of_load : LoadKind → ℕ
-size_of_load load.Byte = 1
-size_of_load load.Half = 2
-size_of_load load.Word = 4
-size_of_load load.ByteUnsigned = 1
-size_of_load load.HalfUnsigned = 2
+size_of_load LoadKind.Byte = 1
+size_of_load LoadKind.Half = 2
+size_of_load LoadKind.Word = 4
+size_of_load LoadKind.ByteUnsigned = 1
+size_of_load LoadKind.HalfUnsigned = 2
 
 unfoldable pub size_of_store : Width → ℕ
-size_of_store width.W8 = 1
-size_of_store width.W16 = 2
-size_of_store width.W32 = 4
+size_of_store Width.W8 = 1
+size_of_store Width.W16 = 2
+size_of_store Width.W32 = 4
 
 -- lb and lh extend their number by its sign, the others by zeros
 unfoldable pub loaded : LoadKind → ℕ → ℕ
-loaded load.Byte n = unsigned (cast_signed w8 (n % 2 ^ 8))
-loaded load.Half n = unsigned (cast_signed w16 (n % 2 ^ 16))
-loaded load.Word n = n
-loaded load.ByteUnsigned n = n
-loaded load.HalfUnsigned n = n
+loaded LoadKind.Byte n = unsigned (cast_signed w8 (n % 2 ^ 8))
+loaded LoadKind.Half n = unsigned (cast_signed w16 (n % 2 ^ 16))
+loaded LoadKind.Word n = n
+loaded LoadKind.ByteUnsigned n = n
+loaded LoadKind.HalfUnsigned n = n
 
 -- what a load does with what memory answers
 unfoldable pub load_from : LoadKind → ℕ → ℕ → Hart → Option ℕ → Result Hart Fault
@@ -119,12 +109,12 @@ rv32im_step Ecall h m = Ok (at_pc exit h, m)
 
 -- the step of an instruction of the classes Scalar and Csr; one of a vector class does nothing here
 unfoldable pub scalar_step : ℕ → Insn → Vconfig → Hart → Memory → Result (Hart × Memory) Fault
-scalar_step vlenb (class.Scalar insn) config h m = rv32im_step insn h m
-scalar_step vlenb (class.Csr insn) config h m = Ok (csr_step insn vlenb config h, m)
-scalar_step vlenb (class.VSet insn) config h m = Ok (h, m)
-scalar_step vlenb (class.VArith insn) config h m = Ok (h, m)
-scalar_step vlenb (class.VMask insn) config h m = Ok (h, m)
-scalar_step vlenb (class.VPerm insn) config h m = Ok (h, m)
-scalar_step vlenb (class.VReduce insn) config h m = Ok (h, m)
-scalar_step vlenb (class.VMem insn) config h m = Ok (h, m)
-scalar_step vlenb (class.VMove insn) config h m = Ok (h, m)
+scalar_step vlenb (Insn.Scalar insn) config h m = rv32im_step insn h m
+scalar_step vlenb (Insn.Csr insn) config h m = Ok (csr_step insn vlenb config h, m)
+scalar_step vlenb (Insn.VSet insn) config h m = Ok (h, m)
+scalar_step vlenb (Insn.VArith insn) config h m = Ok (h, m)
+scalar_step vlenb (Insn.VMask insn) config h m = Ok (h, m)
+scalar_step vlenb (Insn.VPerm insn) config h m = Ok (h, m)
+scalar_step vlenb (Insn.VReduce insn) config h m = Ok (h, m)
+scalar_step vlenb (Insn.VMem insn) config h m = Ok (h, m)
+scalar_step vlenb (Insn.VMove insn) config h m = Ok (h, m)
