@@ -16,7 +16,7 @@ pub struct Given {
 
 impl Given {
     /// No argument at any place.
-    pub fn none() -> Given {
+    pub(crate) fn none() -> Given {
         Given {
             params: [Param::None; 8],
             args: Args {
@@ -35,7 +35,7 @@ impl Given {
     }
 
     /// Gives a scalar at a place.
-    pub fn put_scalar(&mut self, place: usize, value: u32)
+    pub(crate) fn put_scalar(&mut self, place: usize, value: u32)
         requires { place < 8 }
     {
         self.params[place] = Param::Scalar {
@@ -46,7 +46,7 @@ impl Given {
     }
 
     /// Gives a buffer at a place.
-    pub fn put_buffer(&mut self, place: usize, mode: Mode, bytes: Vec<u8>)
+    pub(crate) fn put_buffer(&mut self, place: usize, mode: Mode, bytes: Vec<u8>)
         requires { place < 8 }
     {
         let size = u32::try_from(bytes.len()).unwrap_or(u32::MAX);
@@ -56,7 +56,7 @@ impl Given {
 }
 
 /// The memory in which a run of the image starts.
-pub fn regions(alloc: Global, image: &Image, given: Given) -> Result<Regions, RowError> {
+pub(crate) fn regions(alloc: Global, image: &Image, given: Given) -> Result<Regions, RowError> {
     let Given { params, args } = given;
     let parameters = Parameters::new(params).ok_or(RowError::NoRow)?;
     if parameters.matches(&args).is_err() {

@@ -21,7 +21,7 @@ pub struct Draws {
 
 impl Draws {
     /// The draws of a seed, which is not 0.
-    pub fn new(seed: u32) -> Draws {
+    pub(crate) fn new(seed: u32) -> Draws {
         Draws {
             state: seed,
             at_ends: seed % 2 == 0,
@@ -29,7 +29,7 @@ impl Draws {
     }
 
     /// The next draw.
-    pub fn draw(&mut self) -> u32 {
+    pub(crate) fn draw(&mut self) -> u32 {
         let mut s = self.state;
         s ^= s << 13;
         s ^= s >> 17;

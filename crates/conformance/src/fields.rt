@@ -1,7 +1,6 @@
 //! The fields of a row.
 
-ghost use Rattle.std.specs.Prelude.{◌<◌, IfSome};
-
+use hex::{FromHexError, decode};
 use std::alloc::{AllocError, AllocFailed, Global};
 use std::error::Error;
 use std::fmt;
@@ -39,33 +38,36 @@ impl<T: Drop> From<AllocFailed<T>> for RowError {
     }
 }
 
+impl From<FromHexError> for RowError {
+    fn from(error: FromHexError) -> RowError {
+        match error {
+            FromHexError::InvalidHexCharacter { c: _, index: _ }
+            | FromHexError::OddLength
+            | FromHexError::InvalidStringLength => RowError::NoRow,
+            FromHexError::OutOfMemory => RowError::NoMemory,
+        }
+    }
+}
+
 /// Takes the next field off a row.
-pub fn next<'a>(row: &mut &'a str) -> &'a str {
+pub(crate) fn next<'a>(row: &mut &'a str) -> &'a str {
     let (field, rest) = row.split_once(' ').unwrap_or((*row, ""));
     *row = rest;
     field
 }
 
-/// What follows `start` in a text that begins with it.
-pub fn past<'a>(start: &str, text: &'a str) -> Option<&'a str> {
-    match text.split_once(start) {
-        Some((before, rest)) if before.is_empty() => Some(rest),
-        _ => None,
-    }
-}
-
 /// A number in hex digits.
-pub fn hex(text: &str) -> Result<u32, RowError> {
+pub(crate) fn hex(text: &str) -> Result<u32, RowError> {
     u32::from_str_radix(text, 16).map_err(|_| RowError::NoRow)
 }
 
 /// A number in decimal digits.
-pub fn decimal(text: &str) -> Result<u32, RowError> {
+pub(crate) fn decimal(text: &str) -> Result<u32, RowError> {
     text.parse().map_err(|_| RowError::NoRow)
 }
 
 /// Whether a digit is 1, and not 0.
-pub fn flag(text: &str) -> Result<bool, RowError> {
+pub(crate) fn flag(text: &str) -> Result<bool, RowError> {
     match text {
         "0" => Ok(false),
         "1" => Ok(true),
@@ -74,7 +76,7 @@ pub fn flag(text: &str) -> Result<bool, RowError> {
 }
 
 /// VLEN, by its bytes.
-pub fn vlen(text: &str) -> Result<Vlen, RowError> {
+pub(crate) fn vlen(text: &str) -> Result<Vlen, RowError> {
     match text {
         "16" => Ok(Vlen::V128),
         "32" => Ok(Vlen::V256),
@@ -83,7 +85,7 @@ pub fn vlen(text: &str) -> Result<Vlen, RowError> {
 }
 
 /// The setting for agnostic elements.
-pub fn setting(text: &str) -> Result<Agnostic, RowError> {
+pub(crate) fn setting(text: &str) -> Result<Agnostic, RowError> {
     match text {
         "keep" => Ok(Agnostic::Keep),
         "ones" => Ok(Agnostic::Ones),
@@ -92,31 +94,6 @@ pub fn setting(text: &str) -> Result<Agnostic, RowError> {
 }
 
 /// Bytes of two hex digits each, the first one first.
-pub fn bytes(alloc: Global, text: &str) -> Result<Vec<u8>, RowError> {
-    let digits = text.as_bytes();
-    if digits.len() % 2 != 0 {
-        return Err(RowError::NoRow);
-    }
-    let mut bytes = Vec::with_capacity(alloc, digits.len() / 2)?;
-    for pair in digits.chunks_exact(2) {
-        bytes.push(byte(pair).ok_or(RowError::NoRow)?)?;
-    }
-    Ok(bytes)
-}
-
-fn byte(pair: &[u8]) -> Option<u8> {
-    match pair {
-        [high, low] => Some(16 * digit(*high)? + digit(*low)?),
-        _ => None,
-    }
-}
-
-fn digit(character: u8) -> Option<u8>
-    ensures { IfSome result (λ digit. digit < 16) }
-{
-    match character {
-        b'0'..=b'9' => Some(character - b'0'),
-        b'a'..=b'f' => Some(character - b'a' + 10),
-        _ => None,
-    }
+pub(crate) fn bytes(alloc: Global, text: &str) -> Result<Vec<u8>, RowError> {
+    Ok(decode(alloc, text)?)
 }

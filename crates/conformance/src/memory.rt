@@ -25,7 +25,7 @@ const IMAGE: &str =
 73000000";
 
 /// The image of the code.
-pub fn image(alloc: Global) -> Result<Image, RowError> {
+pub(crate) fn image(alloc: Global) -> Result<Image, RowError> {
     let file = bytes(alloc, IMAGE)?;
     elf_image::read(alloc, file.as_slice()).map_err(|_| RowError::NoMemory)
 }
@@ -62,7 +62,7 @@ fn buffer(alloc: Global) -> Result<Vec<u8>, RowError> {
 }
 
 /// The memory before a step.
-pub fn memory(alloc: Global, image: &Image) -> Result<Regions, RowError> {
+pub(crate) fn memory(alloc: Global, image: &Image) -> Result<Regions, RowError> {
     let mut given = Given::none();
     given.put_buffer(0, Mode::ReadWrite, buffer(alloc)?);
     given.put_buffer(1, Mode::Read, buffer(alloc)?);
@@ -71,7 +71,7 @@ pub fn memory(alloc: Global, image: &Image) -> Result<Regions, RowError> {
 
 /// Compares the bytes from an address on with those that are expected there, and makes them what they were before the
 /// step.
-pub fn take_back(memory: &mut Regions, address: u32, expected: &[u8]) -> Option<Difference> {
+pub(crate) fn take_back(memory: &mut Regions, address: u32, expected: &[u8]) -> Option<Difference> {
     let mut found = None;
     let mut at = address;
     for byte in expected {
@@ -90,7 +90,7 @@ pub fn take_back(memory: &mut Regions, address: u32, expected: &[u8]) -> Option<
 }
 
 /// The first word of the buffers that is not what it was before the step. All are made so.
-pub fn changed(memory: &mut Regions) -> Option<Difference> {
+pub(crate) fn changed(memory: &mut Regions) -> Option<Difference> {
     let mut found = None;
     for i in 0..WORDS {
         found = found.or(changed_word(memory, FIRST + 4 * i));

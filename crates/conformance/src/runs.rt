@@ -3,7 +3,7 @@
 ghost use Rattle.vreg_groups.specs.VectorLength.{IsVlenb};
 
 use crate::arguments::Given;
-use crate::fields::{RowError, bytes, hex, next, past, setting, vlen};
+use crate::fields::{RowError, bytes, hex, next, setting, vlen};
 use crate::state::{Difference, Part, State, differ, vector_bytes};
 use crate::step::Named;
 use crate::table::Table;
@@ -57,10 +57,10 @@ fn read_case(row: &str) -> Result<Case<'_>, RowError> {
 
 /// The text of a buffer's bytes, with its mode, where the argument is a buffer.
 fn buffer_text(argument: &str) -> Option<(Mode, &str)> {
-    if let Some(text) = past("r", argument) {
+    if let Some(text) = argument.strip_prefix("r") {
         return Some((Mode::Read, text));
     }
-    let text = past("w", argument)?;
+    let text = argument.strip_prefix("w")?;
     Some((Mode::ReadWrite, text))
 }
 
@@ -73,7 +73,7 @@ fn given(alloc: Global, arguments: &str) -> Result<Given, RowError> {
         }
         if let Some((mode, text)) = buffer_text(argument) {
             given.put_buffer(place, mode, bytes(alloc, text)?);
-        } else if let Some(number) = past("s", argument) {
+        } else if let Some(number) = argument.strip_prefix("s") {
             given.put_scalar(place, hex(number)?);
         }
     }
@@ -117,7 +117,7 @@ fn run<const VLENB: usize>(alloc: Global, case: &Case<'_>) -> Result<Option<Stri
         }
         Err((error, _)) => return Ok(Some(error.to_string(alloc)?)),
     };
-    let Some(outs) = past(end.as_str(), case.after) else {
+    let Some(outs) = case.after.strip_prefix(end.as_str()) else {
         let after = case.after;
         return Ok(Some(format!(in alloc; "should be{after}, came{end}")?));
     };
@@ -158,7 +158,7 @@ fn difference<const VLENB: usize>(
     for field in outs.split(' ').filter(|field| !field.is_empty()) {
         let (name, value) = field.split_once('=').ok_or(RowError::NoRow)?;
         // Buffers are compared below; an outcome shows no other memory.
-        let is_memory = past("a", name).is_some() || past("m", name).is_some();
+        let is_memory = name.starts_with("a") || name.starts_with("m");
         if !is_memory && !expected.set(alloc, VLENB, name, value)? {
             return Err(RowError::NoRow);
         }
@@ -191,7 +191,7 @@ fn arguments_difference(
 /// The text of the bytes that a buffer has in the end, where the row tells it.
 fn after_of(outs: &str, place: usize) -> Option<&str> {
     for field in outs.split(' ') {
-        if let Some(field) = past("a", field)
+        if let Some(field) = field.strip_prefix("a")
             && let Some((number, value)) = field.split_once('=')
             && number.parse() == Ok(place)
         {

@@ -4,7 +4,7 @@ ghost use Rattle.std.specs.Prelude.{◌<◌};
 ghost use Rattle.vreg_groups.specs.VectorLength.{IsVlenb};
 
 use crate::draws::Draws;
-use crate::fields::{RowError, bytes, decimal, hex, past};
+use crate::fields::{RowError, bytes, decimal, hex};
 use rv_decode::Reg;
 use scalar_core::Scalar;
 use std::alloc::Global;
@@ -24,7 +24,7 @@ pub struct State {
 
 impl State {
     /// Zeros, with vill set.
-    pub fn new(pc: u32) -> State {
+    pub(crate) fn new(pc: u32) -> State {
         State {
             pc,
             x: [0; 32],
@@ -36,7 +36,7 @@ impl State {
     }
 
     /// Fills the registers but x0 with draws.
-    pub fn fill(&mut self, mut draws: Draws, vlenb: usize)
+    pub(crate) fn fill(&mut self, mut draws: Draws, vlenb: usize)
         requires { vlenb < 33 }
     {
         for number in 1..32 {
@@ -48,7 +48,7 @@ impl State {
     }
 
     /// The scalar half.
-    pub fn hart(&self) -> Scalar {
+    pub(crate) fn hart(&self) -> Scalar {
         let mut hart = Scalar::new(self.pc);
         for number in 1..32u8 {
             hart.set_reg(Reg::new(number), self.x[usize::from(number)]);
@@ -59,7 +59,7 @@ impl State {
     }
 
     /// The state that these show.
-    pub fn of<const VLENB: usize>(
+    pub(crate) fn of<const VLENB: usize>(
         hart: &Scalar,
         config: Vconfig,
         registers: &VregFile<VLENB>,
@@ -77,7 +77,7 @@ impl State {
     }
 
     /// Sets the part of the state that has this name; false where none has it.
-    pub fn set(
+    pub(crate) fn set(
         &mut self,
         alloc: Global,
         vlenb: usize,
@@ -106,9 +106,9 @@ impl State {
     ) -> Result<bool, RowError>
         requires { vlenb < 33 }
     {
-        if let Some(number) = past("x", name) {
+        if let Some(number) = name.strip_prefix("x") {
             self.x[usize::from(register(number)?.number())] = hex(value)?;
-        } else if let Some(number) = past("v", name) {
+        } else if let Some(number) = name.strip_prefix("v") {
             self.set_vector(register(number)?, vlenb, bytes(alloc, value)?.as_slice())?;
         } else {
             return Ok(false);
@@ -128,7 +128,7 @@ impl State {
     }
 
     /// The first part in which `came` is not this state.
-    pub fn difference(&self, came: &State, vlenb: usize) -> Option<Difference>
+    pub(crate) fn difference(&self, came: &State, vlenb: usize) -> Option<Difference>
         requires { 0 < vlenb }
     {
         if self.pc != came.pc {
@@ -180,7 +180,7 @@ fn register(text: &str) -> Result<Reg, RowError> {
 }
 
 /// The bytes of all vector registers, and zeros behind them.
-pub fn vector_bytes<const VLENB: usize>(registers: &VregFile<VLENB>) -> [u8; 1024]
+pub(crate) fn vector_bytes<const VLENB: usize>(registers: &VregFile<VLENB>) -> [u8; 1024]
     requires { IsVlenb VLENB }
 {
     let mut bytes = [0; 1024];
@@ -234,7 +234,7 @@ pub struct Difference {
 }
 
 /// The difference in a part.
-pub fn differ(part: Part, expected: u32, came: u32) -> Option<Difference> {
+pub(crate) fn differ(part: Part, expected: u32, came: u32) -> Option<Difference> {
     Some(Difference {
         part,
         expected,

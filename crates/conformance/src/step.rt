@@ -42,7 +42,7 @@ fn parts(fault: Fault) -> (&'static str, u32) {
 }
 
 /// Decodes a word and carries it out.
-pub fn step<const VLENB: usize>(
+pub(crate) fn step<const VLENB: usize>(
     hart: &mut Scalar,
     vectors: &mut VectorState<VLENB>,
     memory: &mut Regions,
@@ -70,7 +70,7 @@ pub fn step<const VLENB: usize>(
 
 /// The vector half of a state, put in by steps that set vtype and load the registers from `memory`, whose first buffer
 /// is overwritten.
-pub fn vectors<const VLENB: usize>(
+pub(crate) fn vectors<const VLENB: usize>(
     agnostic: Agnostic,
     state: &State,
     memory: &mut Regions,

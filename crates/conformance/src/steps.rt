@@ -3,7 +3,7 @@
 ghost use Rattle.vreg_groups.specs.VectorLength.{IsVlenb};
 
 use crate::draws::Draws;
-use crate::fields::{RowError, bytes, decimal, hex, next, past, setting, vlen};
+use crate::fields::{RowError, bytes, decimal, hex, next, setting, vlen};
 use crate::memory::{CODE, changed, image, memory, take_back};
 use crate::state::{Difference, State};
 use crate::step::{Named, step, vectors};
@@ -23,7 +23,7 @@ pub struct Steps {
 
 impl Steps {
     /// The table's memory.
-    pub fn new(alloc: Global) -> Result<Steps, RowError> {
+    pub(crate) fn new(alloc: Global) -> Result<Steps, RowError> {
         let image = image(alloc)?;
         Ok(Steps {
             memory: memory(alloc, &image)?,
@@ -89,11 +89,11 @@ impl Steps {
     {
         let mut expected = case.before;
         let mut found = None;
-        if past(FAULT, case.after).is_none() {
+        if !case.after.starts_with(FAULT) {
             expected.pc = CODE + 4;
             for field in case.after.split(' ').filter(|field| !field.is_empty()) {
                 let (name, value) = field.split_once('=').ok_or(RowError::NoRow)?;
-                if let Some(address) = past("m", name) {
+                if let Some(address) = name.strip_prefix("m") {
                     let expected = bytes(alloc, value)?;
                     let difference = take_back(
                         &mut self.memory,
@@ -122,7 +122,7 @@ fn end_difference(
 ) -> Result<Option<String>, RowError> {
     let after = case.after;
     match came {
-        Ok(()) => match past(FAULT, case.after) {
+        Ok(()) => match case.after.strip_prefix(FAULT) {
             None => Ok(None),
             Some(fault) => Ok(Some(format!(in alloc; "should be a fault, {fault}, came none")?)),
         },

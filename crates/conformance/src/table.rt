@@ -30,7 +30,7 @@ fn told<T: Table>(alloc: Global, table: &mut T, row: &str) -> Result<Option<Stri
 
 /// Tries each row of the file at `path`, and prints the first rows that differ, by their lines, and how many rows came
 /// out as expected. Tells whether all did.
-pub fn run_table<R: Files + AllocGlobal + Print, T: Table>(
+pub(crate) fn run_table<R: Files + AllocGlobal + Print, T: Table>(
     rt: &R,
     name: &str,
     path: &str,

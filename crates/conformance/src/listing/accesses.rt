@@ -4,7 +4,7 @@ use crate::listing::lines::Parts;
 use rv_decode::{Count, Direction, Place, VMem, Width};
 
 /// What is shown of a vector load or store.
-pub fn access(insn: VMem) -> Parts {
+pub(crate) fn access(insn: VMem) -> Parts {
     let VMem {
         direction,
         place,

@@ -10,7 +10,7 @@ use crate::listing::sources::{SINGLE, WIDE, copy, operation, selection};
 use rv_decode::{CarryOutOp, Fraction, Reg, Source, VArith};
 
 /// What is shown of an instruction that computes.
-pub fn arithmetic(insn: VArith) -> Parts {
+pub(crate) fn arithmetic(insn: VArith) -> Parts {
     match insn {
         VArith::Int {
             op,

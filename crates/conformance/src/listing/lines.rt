@@ -36,7 +36,7 @@ pub enum Immediate {
 
 impl Parts {
     /// An instruction without operands.
-    pub fn new(mnemonic: &'static str) -> Parts {
+    pub(crate) fn new(mnemonic: &'static str) -> Parts {
         Parts {
             mnemonic,
             form: None,

@@ -4,7 +4,7 @@ use crate::listing::lines::Parts;
 use rv_decode::{FirstOp, LogicOp, Reg, VMask};
 
 /// What is shown of an instruction on masks.
-pub fn mask(insn: VMask) -> Parts {
+pub(crate) fn mask(insn: VMask) -> Parts {
     match insn {
         VMask::Logic { op, vd, vs2, vs1 } => Parts {
             form: Some("mm"),

@@ -4,7 +4,7 @@ use crate::listing::lines::Parts;
 use rv_decode::{Count, VMove};
 
 /// What is shown of a move.
-pub fn movement(insn: VMove) -> Parts {
+pub(crate) fn movement(insn: VMove) -> Parts {
     match insn {
         VMove::ToScalar { rd, vs2 } => Parts {
             form: Some("x.s"),

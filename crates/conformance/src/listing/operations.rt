@@ -5,7 +5,7 @@ use rv_decode::{
     WidenMultiplyAddOp, WidenOp,
 };
 
-pub fn int_mnemonic(op: IntOp) -> &'static str {
+pub(crate) fn int_mnemonic(op: IntOp) -> &'static str {
     match op {
         IntOp::Add => "vadd",
         IntOp::Sub => "vsub",
@@ -31,7 +31,7 @@ pub fn int_mnemonic(op: IntOp) -> &'static str {
     }
 }
 
-pub fn multiply_add_mnemonic(op: MultiplyAddOp) -> &'static str {
+pub(crate) fn multiply_add_mnemonic(op: MultiplyAddOp) -> &'static str {
     match op {
         MultiplyAddOp::Madd => "vmadd",
         MultiplyAddOp::Nmsub => "vnmsub",
@@ -40,21 +40,21 @@ pub fn multiply_add_mnemonic(op: MultiplyAddOp) -> &'static str {
     }
 }
 
-pub fn carry_mnemonic(op: CarryOp) -> &'static str {
+pub(crate) fn carry_mnemonic(op: CarryOp) -> &'static str {
     match op {
         CarryOp::Adc => "vadc",
         CarryOp::Sbc => "vsbc",
     }
 }
 
-pub fn carry_out_mnemonic(op: CarryOutOp) -> &'static str {
+pub(crate) fn carry_out_mnemonic(op: CarryOutOp) -> &'static str {
     match op {
         CarryOutOp::Madc => "vmadc",
         CarryOutOp::Msbc => "vmsbc",
     }
 }
 
-pub fn compare_mnemonic(op: CompareOp) -> &'static str {
+pub(crate) fn compare_mnemonic(op: CompareOp) -> &'static str {
     match op {
         CompareOp::Eq => "vmseq",
         CompareOp::Ne => "vmsne",
@@ -67,7 +67,7 @@ pub fn compare_mnemonic(op: CompareOp) -> &'static str {
     }
 }
 
-pub fn fixed_mnemonic(op: FixedOp) -> &'static str {
+pub(crate) fn fixed_mnemonic(op: FixedOp) -> &'static str {
     match op {
         FixedOp::Saddu => "vsaddu",
         FixedOp::Sadd => "vsadd",
@@ -83,7 +83,7 @@ pub fn fixed_mnemonic(op: FixedOp) -> &'static str {
     }
 }
 
-pub fn widen_mnemonic(op: WidenOp) -> &'static str {
+pub(crate) fn widen_mnemonic(op: WidenOp) -> &'static str {
     match op {
         WidenOp::Addu => "vwaddu",
         WidenOp::Add => "vwadd",
@@ -95,7 +95,7 @@ pub fn widen_mnemonic(op: WidenOp) -> &'static str {
     }
 }
 
-pub fn wide_mnemonic(op: WideOp) -> &'static str {
+pub(crate) fn wide_mnemonic(op: WideOp) -> &'static str {
     match op {
         WideOp::Addu => "vwaddu",
         WideOp::Add => "vwadd",
@@ -104,7 +104,7 @@ pub fn wide_mnemonic(op: WideOp) -> &'static str {
     }
 }
 
-pub fn widen_multiply_add_mnemonic(op: WidenMultiplyAddOp) -> &'static str {
+pub(crate) fn widen_multiply_add_mnemonic(op: WidenMultiplyAddOp) -> &'static str {
     match op {
         WidenMultiplyAddOp::Maccu => "vwmaccu",
         WidenMultiplyAddOp::Macc => "vwmacc",
@@ -113,14 +113,14 @@ pub fn widen_multiply_add_mnemonic(op: WidenMultiplyAddOp) -> &'static str {
     }
 }
 
-pub fn narrow_mnemonic(op: NarrowOp) -> &'static str {
+pub(crate) fn narrow_mnemonic(op: NarrowOp) -> &'static str {
     match op {
         NarrowOp::Srl => "vnsrl",
         NarrowOp::Sra => "vnsra",
     }
 }
 
-pub fn clip_mnemonic(op: ClipOp) -> &'static str {
+pub(crate) fn clip_mnemonic(op: ClipOp) -> &'static str {
     match op {
         ClipOp::Clipu => "vnclipu",
         ClipOp::Clip => "vnclip",

@@ -5,7 +5,7 @@ use crate::listing::sources::{SINGLE, operation};
 use rv_decode::{Offset, Reg, Source, VPerm};
 
 /// What is shown of an instruction that moves elements among places.
-pub fn permutation(insn: VPerm) -> Parts {
+pub(crate) fn permutation(insn: VPerm) -> Parts {
     match insn {
         VPerm::SlideUp {
             vd,

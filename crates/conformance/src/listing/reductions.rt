@@ -4,7 +4,7 @@ use crate::listing::lines::Parts;
 use rv_decode::{FoldOp, Reg, VReduce};
 
 /// What is shown of a reduction.
-pub fn reduction(insn: VReduce) -> Parts {
+pub(crate) fn reduction(insn: VReduce) -> Parts {
     match insn {
         VReduce::Fold {
             op,

@@ -7,7 +7,7 @@ use rv_decode::{
 };
 
 /// What is shown of a scalar instruction at an address.
-pub fn scalar(insn: ScalarInsn, address: u32) -> Parts {
+pub(crate) fn scalar(insn: ScalarInsn, address: u32) -> Parts {
     match insn {
         ScalarInsn::Lui { rd, imm } => upper("lui", rd, imm),
         ScalarInsn::Auipc { rd, imm } => upper("auipc", rd, imm),
@@ -159,7 +159,7 @@ fn register_mnemonic(op: RegisterOp) -> &'static str {
 }
 
 /// What is shown of an instruction on a CSR.
-pub fn csr(insn: CsrInsn) -> Parts {
+pub(crate) fn csr(insn: CsrInsn) -> Parts {
     let parts = Parts {
         rd: Some(insn.rd),
         csr: Some(csr_number(insn.csr)),

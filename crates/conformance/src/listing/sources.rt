@@ -40,7 +40,7 @@ const ALONE: Forms = Forms {
 };
 
 /// An instruction with two sources.
-pub fn operation(
+pub(crate) fn operation(
     mnemonic: &'static str,
     forms: Forms,
     vd: Reg,
@@ -58,12 +58,12 @@ pub fn operation(
 }
 
 /// An instruction with two sources and v0 as a third.
-pub fn selection(mnemonic: &'static str, vd: Reg, vs2: Reg, b: &Source) -> Parts {
+pub(crate) fn selection(mnemonic: &'static str, vd: Reg, vs2: Reg, b: &Source) -> Parts {
     operation(mnemonic, WITH_MASK, vd, vs2, b, true)
 }
 
 /// vmv.v: one source.
-pub fn copy(vd: Reg, b: &Source) -> Parts {
+pub(crate) fn copy(vd: Reg, b: &Source) -> Parts {
     let parts = with_source("vmv", ALONE, b);
     Parts {
         vd: Some(vd),

@@ -4,7 +4,7 @@ use crate::listing::lines::{Immediate, Parts};
 use rv_decode::VSet;
 
 /// What is shown of an instruction that sets vtype and vl.
-pub fn configuration(insn: VSet) -> Parts {
+pub(crate) fn configuration(insn: VSet) -> Parts {
     match insn {
         VSet::Vsetvli { rd, rs1, vtype } => Parts {
             rd: Some(rd),
