@@ -3,7 +3,8 @@
 use block_checker::{Accepted, CheckError, check};
 use cert_note::{Certificate, Vlen};
 use elf_image::Image;
-use std::alloc::{AllocError, Global};
+use hex::decode;
+use std::alloc::Global;
 use std::test::Fail;
 
 /// beqz a1,end; loop: lbu t0,0(a0); addi a0,a0,1; add a2,a2,t0; addi a1,a1,-1; bnez a1,loop; end: ret
@@ -40,43 +41,17 @@ const CERTIFICATE: [u8; 261] = [
     0xf0, 0xff, 0xff, 0xff, 0xff,
 ];
 
-/// The headers of an executable of one segment at 0x10000, which may be read and executed, as words.
-const HEADERS: [u32; 17] = [
-    0x464c_457f,
-    0x0001_0101,
-    0,
-    0,
-    0x00f3_0002,
-    1,
-    0x1_0000,
-    52,
-    0,
-    0,
-    0x0020_0034,
-    1,
-    0,
-    1,
-    84,
-    0x1_0000,
-    0x1_0000,
-];
-
-fn push_word(file: &mut Vec<u8>, word: u32) -> Result<(), AllocError> {
-    file.extend_from_slice(&word.to_le_bytes())
-}
+/// The headers of an executable of one segment at 0x10000, which may be read and executed, up to the segment's sizes.
+const HEADERS: &str = "\
+7f454c460101010000000000000000000200f30001000000000001003400000000000000000000003400200001000000\
+0000000001000000540000000000010000000100";
 
 /// An image with these words at 0x10000, which is its entry.
 fn image_of(alloc: Global, words: &[u32]) -> Result<Image, Fail> {
     let size = words.len().min(8000) as u32 * 4;
-    let mut file = Vec::new(alloc);
-    for word in HEADERS {
-        push_word(&mut file, word)?;
-    }
-    for word in [size, size, 5, 4] {
-        push_word(&mut file, word)?;
-    }
-    for word in words {
-        push_word(&mut file, *word)?;
+    let mut file = decode(alloc, HEADERS)?;
+    for word in [size, size, 5, 4].iter().chain(words) {
+        file.extend_from_slice(&word.to_le_bytes())?;
     }
     Ok(elf_image::read(alloc, &file)?)
 }

@@ -11,6 +11,8 @@ mod checks;
 #[cfg(test)]
 mod fixed_point;
 #[cfg(test)]
+mod fixture;
+#[cfg(test)]
 mod forms;
 #[cfg(test)]
 mod groups;

@@ -13,7 +13,7 @@ pub struct Refusing<B: Allocator> {
 
 impl<B: Allocator> Refusing<B> {
     /// Serves `after` allocations, refuses the next one, and serves each later one.
-    pub fn new(inner: B, after: u64) -> Refusing<B> {
+    pub(crate) fn new(inner: B, after: u64) -> Refusing<B> {
         Refusing {
             inner,
             left: Cell::new(Some(after)),
@@ -21,7 +21,7 @@ impl<B: Allocator> Refusing<B> {
     }
 
     /// Whether the allocation that it refuses was asked for.
-    pub fn has_refused(&self) -> bool {
+    pub(crate) fn has_refused(&self) -> bool {
         self.left.get().is_none()
     }
 }
