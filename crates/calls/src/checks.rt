@@ -8,7 +8,7 @@ use std::alloc::Global;
 use std::test::Fail;
 
 /// beqz a1,end; loop: lbu t0,0(a0); addi a0,a0,1; add a2,a2,t0; addi a1,a1,-1; bnez a1,loop; end: ret
-const SUM: [u32; 7] = [
+pub const SUM: [u32; 7] = [
     0x0005_8c63,
     0x0005_4283,
     0x0015_0513,
@@ -90,6 +90,11 @@ fn outcome(
     Ok(check(alloc, image, certificate, Vlen::V128).map_err(|refused| refused.0))
 }
 
+/// The kernel, accepted with its certificate.
+pub fn accepted_sum(alloc: Global) -> Result<Accepted, Fail> {
+    outcome(alloc, 0, SUM[0], &[])?.map_err(|_| Fail::from("refused"))
+}
+
 /// The error of the kernel with another word at a place.
 fn with_word(alloc: Global, place: usize, word: u32) -> Result<Option<CheckError>, Fail> {
     Ok(outcome(alloc, place, word, &[])?.err())
@@ -103,9 +108,7 @@ fn with_byte(alloc: Global, at: usize, byte: u8) -> Result<Option<CheckError>, F
 #[test]
 fn accepts_the_sum(rt: HostRuntime) -> Result<(), Fail> {
     let alloc = rt.alloc();
-    let Ok(accepted) = outcome(alloc, 0, SUM[0], &[])? else {
-        return Err(Fail::from("refused"));
-    };
+    let accepted = accepted_sum(alloc)?;
     assert_eq!(rt; accepted.bound(&[0, 0, 0, 0, 0, 0, 0, 0]), 2);
     assert_eq!(rt; accepted.bound(&[7, 1024, 7, 7, 7, 7, 7, 7]), 5122);
     assert_eq!(rt; accepted.vlen(), Vlen::V128);

@@ -29,6 +29,8 @@ mod refusing;
 #[cfg(test)]
 mod scalar_steps;
 #[cfg(test)]
+mod sessions;
+#[cfg(test)]
 mod vector_steps;
 #[cfg(test)]
 mod want_of_memory;

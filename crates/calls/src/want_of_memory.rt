@@ -1,14 +1,15 @@
 //! Calls of the libraries of which each allocation fails in turn: the answer is want of memory, and what was handed in
 //! comes back as it was.
 use crate::refusing::Refusing;
+use block_checker::{Accepted, check};
 use cert_note::CertError;
 use elf_image::ElfError;
 use hex::decode;
 use region_mem::{Arg, Args, Bytes, Mode, Param, Parameters};
-use sandbox_run::{OpenError, Outcome, try_run_in};
+use sandbox_run::{OpenError, Outcome, open_in, try_run_in};
 use std::alloc::{AllocError, Global};
 use std::test::Fail;
-use vreg_groups::Agnostic;
+use vreg_groups::{Agnostic, Vlen};
 
 type Heap<'a> = &'a Refusing<Global>;
 
@@ -151,6 +152,51 @@ fn running(rt: HostRuntime) -> Result<(), Fail> {
                 return Ok(());
             }
             Ok(_) => panic!(rt; "the run ends"),
+            Err((error, args)) => {
+                assert!(rt; heap.has_refused(), "at {after}");
+                assert_eq!(rt; error, OpenError::NoMemory);
+                assert!(rt; are_args(&args, &[0xff, 1, 2]));
+            }
+        }
+    }
+    panic!(rt; "memory is never enough")
+}
+
+/// As `CERTIFICATE`, but its block has no fact and takes one step.
+const ONE_STEP: &str = "\
+010001000203000003000000000000000201000003000000000000000100000003000000030000000000000000000000\
+000000000000000000000000000000000000000000000000000000000000000000000000000000000000000000000000\
+00000000010000000000010001000000000000000000000000000000";
+
+/// The image of `FILE` with ecall as its first word, and a certificate for that.
+fn accepted(alloc: Global) -> Result<Accepted, Fail> {
+    let mut file = file(alloc)?;
+    for (place, byte) in [(0x94, 0x73), (0x95, 0), (0x96, 0), (0x97, 0)] {
+        if let Some(code) = file.get_mut(place) {
+            *code = byte;
+        }
+    }
+    let image = elf_image::read(alloc, file.as_slice())?;
+    let certificate = cert_note::read(alloc, decode(alloc, ONE_STEP)?.as_slice())?;
+    check(alloc, image, certificate, Vlen::V128).map_err(|_| Fail::from("not accepted"))
+}
+
+/// A session takes the memory of its regions alone, as a run does. No step takes any.
+#[test]
+fn opening(rt: HostRuntime) -> Result<(), Fail> {
+    let alloc = rt.alloc();
+    let accepted = accepted(alloc)?;
+    let ample = Refusing::new(alloc, MANY);
+    for after in 0..MANY {
+        let heap = Refusing::new(alloc, after);
+        let args = args(&ample)?;
+        match open_in::<16, Heap<'_>, Global>(&heap, &accepted, args, Agnostic::Keep, 1) {
+            Ok(mut session) => {
+                assert!(rt; !heap.has_refused() && after > 0);
+                assert_eq!(rt; session.run(), 1);
+                assert!(rt; are_args(&session.close(), &[0xff, 1, 2]));
+                return Ok(());
+            }
             Err((error, args)) => {
                 assert!(rt; heap.has_refused(), "at {after}");
                 assert_eq!(rt; error, OpenError::NoMemory);

@@ -152,8 +152,11 @@ impl From<OpenError> for Stop<'_> {
     fn from(error: OpenError) -> Self {
         match error {
             OpenError::NoMemory => Stop::Memory,
-            OpenError::WrongKind(_) | OpenError::ScalarOutOfInterval(_) | OpenError::WrongSize(_) =>
-                Stop::Open(error),
+            OpenError::WrongKind(_)
+            | OpenError::ScalarOutOfInterval(_)
+            | OpenError::WrongSize(_)
+            | OpenError::BoundTooLarge
+            | OpenError::WrongVlen => Stop::Open(error),
         }
     }
 }
@@ -164,6 +167,8 @@ fn open_error_name(error: &OpenError) -> &'static str {
         OpenError::WrongKind(_) => "WrongKind",
         OpenError::ScalarOutOfInterval(_) => "ScalarOutOfInterval",
         OpenError::WrongSize(_) => "WrongSize",
+        OpenError::BoundTooLarge => "BoundTooLarge",
+        OpenError::WrongVlen => "WrongVlen",
         OpenError::NoMemory => "NoMemory",
     }
 }

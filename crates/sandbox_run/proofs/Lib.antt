@@ -1,2 +1,4 @@
+pub mod OpenFaults
 pub mod Refusals
+pub mod SessionLemmas
 pub mod StartLemmas

@@ -1,6 +1,7 @@
 pub mod Answer
 pub mod Errors
 pub mod Rooms
+pub mod Session
 pub mod Laws
 pub use Rattle.region_mem.specs.Parameter
 pub use Rattle.region_mem.specs.Memory

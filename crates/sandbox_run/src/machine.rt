@@ -3,6 +3,7 @@
 ghost use Rattle.std.specs.Prelude.{◌≡◌};
 ghost use Rattle.region_mem.specs.Faults.{Steps};
 
+use crate::outcome::Registers;
 use region_mem::{Fault, Regions};
 use rv_decode::{Insn, decode};
 use scalar_core::{Scalar, step_scalar};
@@ -29,12 +30,28 @@ impl<const VLENB: usize, A: Allocator> Model for Machine<VLENB, A> {
 impl<const VLENB: usize, A: Allocator> Machine<VLENB, A> {
     ghost use Rattle.vector_core.specs.Run.{has_ended as has_ended_of};
     ghost use Rattle.vector_core.specs.MachineStep.{carry_out as carry_out_of, step as step_of};
+    ghost use Rattle.sandbox_run.specs.Answer.{registers_of};
 
     /// Whether the run has ended, which is where pc is EXIT.
     pub(crate) fn has_ended(&self) -> bool
         ensures { result ≡ has_ended_of self.now }
     {
         self.hart.has_ended()
+    }
+
+    /// pc, x0 to x31, vl, vtype, vxrm and vxsat.
+    pub(crate) fn registers(&self) -> Registers
+        ensures { result ≡ registers_of self.now }
+    {
+        let config = self.vectors.config();
+        Registers {
+            pc: self.hart.pc(),
+            x: self.hart.registers(),
+            vl: config.vl,
+            vtype: config.vtype,
+            vxrm: self.hart.vxrm(),
+            vxsat: self.hart.vxsat(),
+        }
     }
 
     /// Fetches the word at pc, decodes it and carries it out. A fault changes nothing.

@@ -58,6 +58,10 @@ pub enum OpenError {
     ScalarOutOfInterval(usize),
     /// The buffer at this place has another size than the parameter says.
     WrongSize(usize),
+    /// The run may take more steps than are allowed.
+    BoundTooLarge,
+    /// The image was accepted for another length of vector registers.
+    WrongVlen,
     /// Memory was refused.
     NoMemory,
 }
@@ -85,6 +89,10 @@ impl fmt::Display for OpenError {
             }
             OpenError::WrongSize(place) => {
                 write!(f, "the buffer at place {place} is of the wrong size")
+            }
+            OpenError::BoundTooLarge => write!(f, "the run may take too many steps"),
+            OpenError::WrongVlen => {
+                write!(f, "the image was accepted for another vector length")
             }
             OpenError::NoMemory => write!(f, "out of memory"),
         }

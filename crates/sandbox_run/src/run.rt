@@ -10,7 +10,7 @@ ghost use Rattle.sandbox_run.specs.Rooms.{StateFitsInMemory};
 ghost use Rattle.vreg_groups.specs.VectorLength.{IsVlenb};
 
 use crate::machine::Machine;
-use crate::outcome::{Final, OpenError, Outcome, Registers};
+use crate::outcome::{Final, OpenError, Outcome};
 use crate::start::start;
 use elf_image::Image;
 use region_mem::{Args, Bytes, Parameters};
@@ -104,20 +104,12 @@ fn finish<const VLENB: usize, A: Allocator>(
 ) -> Final<VLENB, Bytes<A>>
     ensures { result ≡ final_of VLENB steps machine }
 {
+    let registers = machine.registers();
     let Machine {
-        hart,
         vectors,
         memory,
+        ..
     } = machine;
-    let config = vectors.config();
-    let registers = Registers {
-        pc: hart.pc(),
-        x: hart.registers(),
-        vl: config.vl,
-        vtype: config.vtype,
-        vxrm: hart.vxrm(),
-        vxsat: hart.vxsat(),
-    };
     Final {
         steps,
         registers,

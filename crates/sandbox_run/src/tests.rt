@@ -185,6 +185,11 @@ fn prints_reasons(rt: HostRuntime) -> Result<(), Fail> {
             OpenError::WrongSize(2),
             "the buffer at place 2 is of the wrong size",
         ),
+        (OpenError::BoundTooLarge, "the run may take too many steps"),
+        (
+            OpenError::WrongVlen,
+            "the image was accepted for another vector length",
+        ),
         (OpenError::NoMemory, "out of memory"),
     ] {
         assert_eq!(rt; format!(in alloc; "{error}")?.as_str(), text);

@@ -1,4 +1,4 @@
-use Rattle.std.proofs.Common.{◌≡◌, arith}
+use Rattle.std.proofs.Common.{arith}
 use Rattle.scalar_core.specs.Hart.{exit}
 use Rattle.sandbox_run.proofs.laws.exit_is_no_code.Goals as goal
 

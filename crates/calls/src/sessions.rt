@@ -1,0 +1,120 @@
+//! Sessions of the kernel that sums bytes: why none is opened, and what one shows. The steps are counted by hand.
+
+ghost use Rattle.vreg_groups.specs.VectorLength.{IsVlenb};
+
+use crate::checks::{SUM, accepted_sum};
+use block_checker::Accepted;
+use region_mem::{Arg, Args, Bytes};
+use rv_decode::Reg;
+use sandbox_run::{OpenError, Session};
+use std::alloc::{AllocError, Global};
+use std::process::Abort;
+use std::test::Fail;
+use vreg_groups::Agnostic;
+
+fn args_of(bytes: Arg, number: u32) -> Args {
+    Args {
+        places: [
+            bytes,
+            Arg::Scalar(number),
+            Arg::None,
+            Arg::None,
+            Arg::None,
+            Arg::None,
+            Arg::None,
+            Arg::None,
+        ],
+    }
+}
+
+/// A buffer of so many bytes, each 3, and a number.
+fn args(alloc: Global, size: usize, number: u32) -> Result<Args, AllocError> {
+    let bytes = vec![in alloc; 3u8; size]?;
+    Ok(args_of(Arg::Buffer(Bytes::new(bytes)), number))
+}
+
+/// Asserts that no session is opened, and why.
+fn assert_refused<const VLENB: usize>(
+    rt: &(impl Abort + AllocGlobal),
+    accepted: &Accepted,
+    args: Args,
+    max: u64,
+    error: OpenError,
+)
+    requires { IsVlenb VLENB }
+{
+    match Session::<VLENB>::open(rt.alloc(), accepted, args, Agnostic::Keep, max) {
+        Ok(_) => assert!(rt; false, "opened"),
+        Err((had, _)) => assert_eq!(rt; had, error),
+    }
+}
+
+#[test]
+fn opens_no_other_run(rt: HostRuntime) -> Result<(), Fail> {
+    let alloc = rt.alloc();
+    let accepted = accepted_sum(alloc)?;
+    let none = args_of(Arg::None, 1025);
+    assert_refused::<32>(&rt, &accepted, none, 1, OpenError::WrongKind(0));
+    let many = args(alloc, 1023, 1025)?;
+    let error = OpenError::ScalarOutOfInterval(1);
+    assert_refused::<32>(&rt, &accepted, many, 1, error);
+    let short = args(alloc, 1023, 1024)?;
+    assert_refused::<32>(&rt, &accepted, short, 1, OpenError::WrongSize(0));
+    let long = args(alloc, 1024, 1024)?;
+    assert_refused::<32>(&rt, &accepted, long, 5121, OpenError::BoundTooLarge);
+    let other = args(alloc, 1024, 1024)?;
+    assert_refused::<32>(&rt, &accepted, other, 5122, OpenError::WrongVlen);
+    Ok(())
+}
+
+/// Each number of bytes takes exactly the bound's steps.
+#[test]
+fn runs_to_the_end(rt: HostRuntime) -> Result<(), Fail> {
+    let alloc = rt.alloc();
+    let accepted = accepted_sum(alloc)?;
+    for (number, steps) in [(0, 2), (1, 7), (1024, 5122)] {
+        let args = args(alloc, 1024, number)?;
+        match Session::<16>::open(alloc, &accepted, args, Agnostic::Keep, steps) {
+            Ok(mut session) => {
+                assert_eq!(rt; session.run(), steps);
+                assert_eq!(rt; session.run(), steps);
+                assert_eq!(rt; session.registers().x[12], 3 * number);
+            }
+            Err(_) => assert!(rt; false, "not opened"),
+        }
+    }
+    Ok(())
+}
+
+#[test]
+fn shows_each_step(rt: HostRuntime) -> Result<(), Fail> {
+    let alloc = rt.alloc();
+    let accepted = accepted_sum(alloc)?;
+    let opened = Session::<16>::open(alloc, &accepted, args(alloc, 1024, 1)?, Agnostic::Ones, 7);
+    let Ok(mut session) = opened else {
+        return Err(Fail::from("not opened"));
+    };
+    assert_eq!(rt; session.fetch(0x1_0000), Some(SUM[0]));
+    assert_eq!(rt; session.fetch(0x4000_0000), None);
+    assert_eq!(rt; session.peek(0x4000_03ff), Some(3));
+    assert_eq!(rt; session.peek(0x4000_0400), None);
+    assert_eq!(rt; session.vector(Reg::new(31)), [0; 16].as_slice());
+    for (steps, pc) in [
+        (1, 0x1_0004),
+        (2, 0x1_0008),
+        (3, 0x1_000c),
+        (4, 0x1_0010),
+        (5, 0x1_0014),
+        (6, 0x1_0018),
+        (7, 0xffff_fff0),
+    ] {
+        assert_eq!(rt; session.step(), Some(()));
+        assert_eq!(rt; session.steps(), steps);
+        assert_eq!(rt; session.registers().pc, pc);
+    }
+    assert_eq!(rt; session.step(), None);
+    assert_eq!(rt; session.steps(), 7);
+    let args = session.close();
+    assert!(rt; matches!(&args.places[1], Arg::Scalar(1)));
+    Ok(())
+}

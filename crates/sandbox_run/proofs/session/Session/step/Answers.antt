@@ -1,0 +1,21 @@
+use Rattle.std.proofs.Common.{◌+◌, ◌-◌, ◌≤◌, sym, arith}
+use Rattle.sandbox_run.proofs.SessionLemmas.{no_fault, step-well}
+use Rattle.sandbox_run.proofs.session.Session.step.Goals as goal
+
+pub overflow_add-self : goal.overflow_add-self
+overflow_add-self g c =
+    let more = step-well g.row.VLENB c.self.inside.steps c.self.inside.bound c.self.inside.machine c.step.new.self c.self.invariant.1 (sym c.if-has_ended.ensures) c.in-Ok.ensures in
+    let within : c.self.inside.steps + 1 ≤ c.self.inside.bound = more.0 in
+    omega arith
+
+pub invariant_of-self : goal.invariant_of-self
+invariant_of-self g c =
+    step-well g.row.VLENB c.self.inside.steps c.self.inside.bound c.self.inside.machine c.step.new.self c.self.invariant.1 (sym c.if-has_ended.ensures) c.in-Ok.ensures
+
+pub unreachable-requires : goal.unreachable-requires
+unreachable-requires g c =
+    no_fault g.row.VLENB (c.self.inside.bound - c.self.inside.steps) c.self.inside.machine c.in-Err.field-0 c.self.invariant.1 (sym c.if-has_ended.ensures) c.in-Err.ensures.0
+
+pub returns-clause-within : goal.returns-clause-within
+returns-clause-within g c =
+    let more = step-well g.row.VLENB c.self.inside.steps c.self.inside.bound c.self.inside.machine c.step.new.self c.self.invariant.1 (sym c.if-has_ended.ensures) c.in-Ok.ensures in more.0

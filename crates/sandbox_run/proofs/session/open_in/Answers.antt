@@ -1,0 +1,66 @@
+use Rattle.std.proofs.Common.{◌≡◌, ◌<◌, ◌≤◌, ◌∙◌, Some, refl, sym, ap, arith}
+use Rattle.region_mem.specs.Parameter.{AreArguments, argument_error}
+use Rattle.block_checker.specs.Bound.{bound_of, scalars_of}
+use Rattle.vector_core.specs.Start.{start}
+use Rattle.vreg_groups.specs.VectorLength.{vlenb_of}
+use Rattle.sandbox_run.proofs.OpenFaults.{arguments_fault, bound_fault, length_fault_told, no_open_fault}
+use Rattle.sandbox_run.proofs.Refusals.{refused_by-err}
+use Rattle.sandbox_run.proofs.SessionLemmas.{opened-well}
+use Rattle.sandbox_run.proofs.session.open_in.Goals as goal
+
+pub returns-in-Err-clause-refused : goal.returns-in-Err-clause-refused
+returns-in-Err-clause-refused g c =
+    let found : argument_error c.args.accepted.now.certificate.parameters c.args.args.places ≡ Some c.in-Err.error = rw (← c.parameters-parameters.ensures) (refused_by-err _ _ (sym c.in-Err.ensures.meaning)) in
+    rw (arguments_fault g.row.VLENB c.args.accepted.now c.args.args.places c.args.max c.in-Err.error found) c.from.ensures
+
+pub returns-in-Err-clause-memory : goal.returns-in-Err-clause-memory
+returns-in-Err-clause-memory g c =
+    let found : argument_error c.args.accepted.now.certificate.parameters c.args.args.places ≡ Some c.in-Err.error = rw (← c.parameters-parameters.ensures) (refused_by-err _ _ (sym c.in-Err.ensures.meaning)) in
+    λ none. cc (arguments_fault g.row.VLENB c.args.accepted.now c.args.args.places c.args.max c.in-Err.error found, none)
+
+pub returns-then-bound-from-clause-refused : goal.returns-then-bound-from-clause-refused
+returns-then-bound-from-clause-refused g c =
+    let matching : AreArguments c.args.accepted.now.certificate.parameters c.args.args.places = rw (← c.parameters-parameters.ensures) c.in_default.ensures.matching in
+    let bound-is : c.bound-bound.result ≡ bound_of c.args.accepted.now (scalars_of c.args.args.places) = cc (c.bound-bound.ensures, c.scalars.ensures.made) in
+    let above : c.args.max < bound_of c.args.accepted.now (scalars_of c.args.args.places) = omega (arith, bound-is, c.from-2.ensures, c.if-bound-from.true) in
+    rw (bound_fault g.row.VLENB c.args.accepted.now c.args.args.places c.args.max matching above) refl
+
+pub returns-then-bytes-clause-refused : goal.returns-then-bytes-clause-refused
+returns-then-bytes-clause-refused g c =
+    let matching : AreArguments c.args.accepted.now.certificate.parameters c.args.args.places = rw (← c.parameters-parameters.ensures) c.in_default.ensures.matching in
+    let bound-is : c.bound-bound.result ≡ bound_of c.args.accepted.now (scalars_of c.args.args.places) = cc (c.bound-bound.ensures, c.scalars.ensures.made) in
+    let within : bound_of c.args.accepted.now (scalars_of c.args.args.places) ≤ c.args.max = omega (arith, bound-is, c.from-2.ensures, c.if-bound-from.false) in
+    let other : vlenb_of c.args.accepted.now.vlen ≡ g.row.VLENB → ⊥ = λ same. let equal : c.bytes.result ≡ g.row.VLENB = c.bytes.ensures.meaning ∙ (ap vlenb_of c.vlen.ensures ∙ same) in omega arith in
+    rw (length_fault_told g.row.VLENB c.args.accepted.now c.args.args.places c.args.max matching within other) refl
+
+pub returns-then-bytes-clause-memory : goal.returns-then-bytes-clause-memory
+returns-then-bytes-clause-memory g c =
+    let matching : AreArguments c.args.accepted.now.certificate.parameters c.args.args.places = rw (← c.parameters-parameters.ensures) c.in_default.ensures.matching in
+    let bound-is : c.bound-bound.result ≡ bound_of c.args.accepted.now (scalars_of c.args.args.places) = cc (c.bound-bound.ensures, c.scalars.ensures.made) in
+    let within : bound_of c.args.accepted.now (scalars_of c.args.args.places) ≤ c.args.max = omega (arith, bound-is, c.from-2.ensures, c.if-bound-from.false) in
+    let other : vlenb_of c.args.accepted.now.vlen ≡ g.row.VLENB → ⊥ = λ same. let equal : c.bytes.result ≡ g.row.VLENB = c.bytes.ensures.meaning ∙ (ap vlenb_of c.vlen.ensures ∙ same) in omega arith in
+    λ none. cc (length_fault_told g.row.VLENB c.args.accepted.now c.args.args.places c.args.max matching within other, none)
+
+pub invariant_of-result : goal.invariant_of-result
+invariant_of-result g c =
+    let matching : AreArguments c.args.accepted.now.certificate.parameters c.args.args.places = rw (← c.parameters-parameters.ensures) c.in_default.ensures.matching in
+    let bound-is : c.bound-bound.result ≡ bound_of c.args.accepted.now (scalars_of c.args.args.places) = cc (c.bound-bound.ensures, c.scalars.ensures.made) in
+    let length-is : vlenb_of c.args.accepted.now.vlen ≡ g.row.VLENB = sym (ap vlenb_of c.vlen.ensures) ∙ (sym c.bytes.ensures.meaning ∙ c.if-bytes.false) in
+    let state-is : c.in-Ok.machine ≡ start g.row.VLENB c.args.agnostic c.args.accepted.now.image c.args.accepted.now.certificate.parameters c.args.args.places = rw (← c.image.ensures, ← c.parameters-parameters.ensures) c.in-Ok.ensures.start in
+    opened-well g.row.VLENB c.bound-bound.result c.args.accepted.now c.args.args.places c.args.agnostic c.in-Ok.machine c.runs_end.ensures c.scalars.ensures.eight matching c.args_bring_bytes.ensures length-is bound-is state-is
+
+pub returns-in-Ok-clause-refused : goal.returns-in-Ok-clause-refused
+returns-in-Ok-clause-refused g c =
+    let matching : AreArguments c.args.accepted.now.certificate.parameters c.args.args.places = rw (← c.parameters-parameters.ensures) c.in_default.ensures.matching in
+    let bound-is : c.bound-bound.result ≡ bound_of c.args.accepted.now (scalars_of c.args.args.places) = cc (c.bound-bound.ensures, c.scalars.ensures.made) in
+    let within : bound_of c.args.accepted.now (scalars_of c.args.args.places) ≤ c.args.max = omega (arith, bound-is, c.from-2.ensures, c.if-bound-from.false) in
+    let length-is : vlenb_of c.args.accepted.now.vlen ≡ g.row.VLENB = sym (ap vlenb_of c.vlen.ensures) ∙ (sym c.bytes.ensures.meaning ∙ c.if-bytes.false) in
+    rw (no_open_fault g.row.VLENB c.args.accepted.now c.args.args.places c.args.max matching within length-is) tt
+
+pub returns-in-Err-start-clause-refused : goal.returns-in-Err-start-clause-refused
+returns-in-Err-start-clause-refused g c =
+    let matching : AreArguments c.args.accepted.now.certificate.parameters c.args.args.places = rw (← c.parameters-parameters.ensures) c.in_default.ensures.matching in
+    let bound-is : c.bound-bound.result ≡ bound_of c.args.accepted.now (scalars_of c.args.args.places) = cc (c.bound-bound.ensures, c.scalars.ensures.made) in
+    let within : bound_of c.args.accepted.now (scalars_of c.args.args.places) ≤ c.args.max = omega (arith, bound-is, c.from-2.ensures, c.if-bound-from.false) in
+    let length-is : vlenb_of c.args.accepted.now.vlen ≡ g.row.VLENB = sym (ap vlenb_of c.vlen.ensures) ∙ (sym c.bytes.ensures.meaning ∙ c.if-bytes.false) in
+    rw (no_open_fault g.row.VLENB c.args.accepted.now c.args.args.places c.args.max matching within length-is) tt

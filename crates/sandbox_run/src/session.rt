@@ -1,0 +1,233 @@
+//! Runs of images that were accepted.
+ghost use Rattle.std.specs.Prelude.{◌≡◌, ◌≤◌, ◌⊎◌, ◌+◌, ◌-◌, ◌*◌, ◌↔◌, None, Ok, true, length};
+ghost use Rattle.std.specs.Prelude.{IfErr, IfOk, IfSome, IsErrAnd, IsNone, IsSome};
+ghost use Rattle.block_checker.specs.Bound.{bound_of, scalar_of, scalars_of};
+ghost use Rattle.region_mem.specs.Memory.{args_of, byte_of, fetch_of};
+ghost use Rattle.vector_core.specs.MachineStep.{step as step_of};
+ghost use Rattle.vector_core.specs.Run.{Ended, after, has_ended, outcome_from};
+ghost use Rattle.vector_core.specs.Start.{start as start_of};
+ghost use Rattle.vreg_groups.specs.Elements.{bytes_from};
+ghost use Rattle.vreg_groups.specs.VectorLength.{IsVlenb};
+ghost use Rattle.sandbox_run.specs.Answer.{registers_of};
+ghost use Rattle.sandbox_run.specs.Rooms.{StateFitsInMemory};
+ghost use Rattle.sandbox_run.specs.Session.{open_fault};
+
+use crate::machine::Machine;
+use crate::outcome::{OpenError, Registers};
+use crate::start::start;
+use block_checker::Accepted;
+use region_mem::{Arg, Args, Bytes, args_bring_bytes};
+use rv_decode::Reg;
+use std::alloc::{Allocator, Global};
+use std::marker::Model;
+use vreg_groups::Agnostic;
+
+/// A run of an accepted image, between two steps. It ends without a fault, within a number of steps that was known when it
+/// was opened.
+///
+/// `VLENB` is the length of a vector register in bytes, 16 or 32. `A` is the allocator of the run's memory. Only
+/// [`Session::open`] takes memory.
+#[derive(Drop)]
+pub struct Session<const VLENB: usize, A: Allocator = Global> {
+    machine: Machine<VLENB, A>,
+    steps: u64,
+    bound: u64,
+}
+
+impl<const VLENB: usize, A: Allocator> Model for Session<VLENB, A> {
+    ghost use Rattle.std.specs.Prelude.{◌≤◌, ◌-◌};
+    ghost use Rattle.block_checker.specs.Sound.{IsWellBehaved};
+    ghost use Rattle.sandbox_run.specs.Session.{SessionView};
+
+    ghost Value = { SessionView };
+
+    ghost view = { λ s. record { machine = s.machine; steps = s.steps; bound = s.bound } };
+
+    // From here the run ends without a fault, in at most the steps that are left of the bound.
+    ghost invariant = { λ s. (s.steps ≤ s.bound) × IsWellBehaved VLENB (s.bound - s.steps) s.machine };
+}
+
+/// What a scalar argument is, and 0 for any other.
+fn scalar<A: Allocator>(arg: &Arg<Bytes<A>>) -> u32
+    ensures { result ≡ scalar_of arg.now }
+{
+    match arg {
+        Arg::None | Arg::Buffer(_) => 0,
+        Arg::Scalar(value) => *value,
+    }
+}
+
+/// The scalars of arguments, by place.
+fn scalars<A: Allocator>(places: &[Arg<Bytes<A>>; 8]) -> [u32; 8]
+    ensures made { result ≡ scalars_of places.now }
+    ensures eight { length places.now ≡ 8 }
+{
+    let mut made = [0; 8];
+    for place in 0..8 {
+        made[place] = scalar(&places[place]);
+    }
+    made
+}
+
+impl<const VLENB: usize> Session<VLENB> {
+    /// Opens a run of an accepted image on arguments, which are moved in.
+    ///
+    /// No run is opened whose bound, which the image was accepted with for these scalars, is above `max` steps.
+    ///
+    /// # Errors
+    /// The first of: arguments that do not match the image's parameters, in the order of
+    /// [`Parameters::matches`](region_mem::Parameters::matches); `BoundTooLarge`; `WrongVlen` where the image was accepted
+    /// for another length of vector registers; and `NoMemory` where memory for the run was refused. The arguments come
+    /// back as they were.
+    pub fn open(
+        alloc: Global,
+        accepted: &Accepted,
+        args: Args,
+        agnostic: Agnostic,
+        max: u64,
+    ) -> Result<Session<VLENB>, (OpenError, Args)>
+        requires { (VLENB ≡ 16) ⊎ (VLENB ≡ 32) }
+        ensures machine { IfOk result (λ s. s.machine ≡ start_of VLENB agnostic accepted.now.image
+            accepted.now.certificate.parameters args.places) }
+        ensures steps { IfOk result (λ s. s.steps ≡ 0) }
+        ensures bound { IfOk result
+            (λ s. s.bound ≡ bound_of accepted.now (scalars_of args.places)) }
+        ensures refused { IfSome (open_fault VLENB accepted.now args.places max)
+            (λ error. IsErrAnd result (λ e. e.0 ≡ error)) }
+        ensures memory { open_fault VLENB accepted.now args.places max ≡ None
+            → IfErr result (λ e. e.0 ≡ OpenError.NoMemory) }
+        ensures back { IfErr result (λ e. e.1 ≡ args) }
+    {
+        open_in(alloc, accepted, args, agnostic, max)
+    }
+}
+
+/// As [`Session::open`], with the run's memory and the buffers of the arguments from any allocator, whose values are small
+/// enough for the state of a run, which holds some, to fit in memory.
+#[tactic(auto, unfolding(crate::specs::Session::open_fault))]
+pub fn open_in<const VLENB: usize, A: Allocator + Copy, B: Allocator>(
+    alloc: A,
+    accepted: &Accepted<B>,
+    args: Args<Bytes<A>>,
+    agnostic: Agnostic,
+    max: u64,
+) -> Result<Session<VLENB, A>, (OpenError, Args<Bytes<A>>)>
+    requires length { IsVlenb VLENB }
+    requires fits { StateFitsInMemory VLENB.row A.row A.Allocator }
+    ensures machine { IfOk result (λ s. s.machine ≡ start_of VLENB agnostic accepted.now.image
+        accepted.now.certificate.parameters args.places) }
+    ensures steps { IfOk result (λ s. s.steps ≡ 0) }
+    ensures bound { IfOk result (λ s. s.bound ≡ bound_of accepted.now (scalars_of args.places)) }
+    ensures refused { IfSome (open_fault VLENB accepted.now args.places max)
+        (λ error. IsErrAnd result (λ e. e.0 ≡ error)) }
+    ensures memory { open_fault VLENB accepted.now args.places max ≡ None
+        → IfErr result (λ e. e.0 ≡ OpenError.NoMemory) }
+    ensures back { IfErr result (λ e. e.1 ≡ args) }
+{
+    let parameters = accepted.parameters();
+    if let Err(error) = parameters.matches(&args) {
+        return Err((OpenError::from(error), args));
+    }
+    let bound = accepted.bound(&scalars(&args.places));
+    if bound > u128::from(max) {
+        return Err((OpenError::BoundTooLarge, args));
+    }
+    if accepted.vlen().bytes() != VLENB {
+        return Err((OpenError::WrongVlen, args));
+    }
+    accepted.runs_end();
+    args_bring_bytes(&args);
+    match start::<VLENB, A, B>(alloc, accepted.image(), parameters, args, agnostic) {
+        Ok(machine) => Ok(Session {
+            machine,
+            steps: 0,
+            bound: bound as u64,
+        }),
+        Err((_, args)) => Err((OpenError::NoMemory, args)),
+    }
+}
+
+impl<const VLENB: usize, A: Allocator> Session<VLENB, A> {
+    /// Does one step, or nothing where the run has ended. Which it was is told by `Some` and `None`.
+    pub fn step(&mut self) -> Option<()>
+        ensures end { IsNone result ↔ (has_ended self.old.machine ≡ true) }
+        ensures stays { IsNone result → self.new ≡ self.old }
+        ensures moves { IsSome result → step_of VLENB self.old.machine ≡ Ok self.new.machine }
+        ensures counts { IsSome result → self.new.steps ≡ self.old.steps + 1 }
+        ensures bound { self.new.bound ≡ self.old.bound }
+        ensures within { self.new.steps ≤ self.new.bound }
+    {
+        if self.machine.has_ended() {
+            return None;
+        }
+        match self.machine.step() {
+            Ok(()) => {
+                self.steps += 1;
+                Some(())
+            }
+            Err(_) => unreachable!(),
+        }
+    }
+
+    /// Goes on to the end of the run, and answers how many steps have been done since it was opened. A run that has ended
+    /// stays as it is.
+    pub fn run(&mut self) -> u64
+        ensures ended { has_ended self.new.machine ≡ true }
+        ensures steps { result ≡ self.new.steps }
+        ensures grows { self.old.steps ≤ self.new.steps }
+        ensures after { after VLENB self.old.machine (self.new.steps - self.old.steps)
+            ≡ Ok self.new.machine }
+        ensures first { outcome_from VLENB (self.old.bound - self.old.steps) self.old.steps
+            self.old.machine ≡ Ended result self.new.machine }
+        ensures bound { self.new.bound ≡ self.old.bound }
+        ensures within { self.new.steps ≤ self.new.bound }
+    {
+        'stepping: while self.step().is_some() {}
+        self.steps
+    }
+
+    /// How many steps have been done.
+    pub fn steps(&self) -> u64
+        ensures { result ≡ self.now.steps }
+    {
+        self.steps
+    }
+
+    /// pc, x0 to x31, vl, vtype, vxrm and vxsat.
+    pub fn registers(&self) -> Registers
+        ensures { result ≡ registers_of self.now.machine }
+    {
+        self.machine.registers()
+    }
+
+    /// The bytes of a vector register, the lowest element's first: `VLENB` of them.
+    pub fn vector(&self, register: Reg) -> &[u8]
+        ensures { result.now ≡ bytes_from (register * VLENB) VLENB self.now.machine.vectors.registers }
+    {
+        self.machine.vectors.registers().register_bytes(register, 1)
+    }
+
+    /// The byte at an address, whatever the rights; `None` where no region of memory holds it.
+    pub fn peek(&self, address: u32) -> Option<u8>
+        ensures { result ≡ byte_of address self.now.machine.memory }
+    {
+        self.machine.memory.byte(address)
+    }
+
+    /// The word at an address, the lowest byte first; `None` where one of its bytes may not be fetched.
+    pub fn fetch(&self, address: u32) -> Option<u32>
+        ensures { result ≡ fetch_of address self.now.machine.memory }
+    {
+        self.machine.memory.fetch(address)
+    }
+
+    /// Ends the session, wherever the run stands. The arguments come out: buffers as they stand, scalars as they were
+    /// passed.
+    pub fn close(self) -> Args<Bytes<A>>
+        ensures { result.places ≡ args_of self.machine.memory }
+    {
+        let Session { machine, .. } = self;
+        let Machine { memory, .. } = machine;
+        memory.into_args()
+    }
+}
