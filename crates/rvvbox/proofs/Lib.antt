@@ -1,3 +1,4 @@
+pub mod AcceptedLemmas
 pub mod FilledRows
 pub mod LineLemmas
 pub mod ProgramLemmas

@@ -1,5 +1,9 @@
 -- How the program ends: the reason to stop that each error is, the status of each reason, and each status as a number.
-use Rattle.std.specs.Prelude.{ℕ, List, Bool, true, false}
+use Rattle.std.specs.Prelude.{ℕ, List, Bool, true, false, Option, Some, None}
+use Rattle.block_checker.specs.declared.errors.CheckError.{CheckError}
+use Rattle.block_checker.specs.declared.errors.CheckError.TheVariants as check_error
+use Rattle.cert_note.specs.declared.refusals.CertError.{CertError}
+use Rattle.cert_note.specs.declared.refusals.CertError.TheVariants as certificate_error
 use Rattle.clap.specs.Words.{kind_of}
 use Rattle.clap.specs.declared.error.kind.ErrorKind.{ErrorKind}
 use Rattle.clap.specs.declared.error.kind.ErrorKind.TheVariants.{DisplayHelp, DisplayVersion}
@@ -38,6 +42,9 @@ status_of (stop.Usage error) = status.Usage
 status_of (stop.Job error) = status.Usage
 status_of (stop.File path) = status.File
 status_of (stop.Image error) = status.Refused
+status_of stop.NoCertificate = status.Refused
+status_of (stop.Certificate error) = status.Refused
+status_of (stop.Check error) = status.Refused
 status_of (stop.Open error) = status.Refused
 status_of stop.Memory = status.Memory
 status_of stop.Output = status.File
@@ -56,6 +63,14 @@ abbrev pub stop_of_image : ElfError → Stop
 stop_of_image image_error.NoMemory = stop.Memory
 stop_of_image error = stop.Image error
 
+abbrev pub stop_of_certificate : CertError → Stop
+stop_of_certificate certificate_error.NoMemory = stop.Memory
+stop_of_certificate error = stop.Certificate error
+
+abbrev pub stop_of_check : CheckError → Stop
+stop_of_check check_error.NoMemory = stop.Memory
+stop_of_check error = stop.Check error
+
 abbrev pub stop_of_open : OpenError → Stop
 stop_of_open open_error.NoMemory = stop.Memory
 stop_of_open error = stop.Open error
@@ -68,6 +83,23 @@ store_error_of _ = store_error.Failed
 abbrev pub stop_at_file : StoreError → Bor (List ℕ) → Stop
 stop_at_file store_error.Failed path = stop.File path
 stop_at_file store_error.NoMemory path = stop.Memory
+
+-- the address that is told with a refusal of the check
+abbrev pub address_of : CheckError → Option ℕ
+address_of check_error.WrongVlen = None
+address_of check_error.NoEntryBlock = None
+address_of (check_error.NotCode pc) = Some pc
+address_of (check_error.IllegalWord pc) = Some pc
+address_of (check_error.VtypeUnknown pc) = Some pc
+address_of (check_error.AccessNotProved pc) = Some pc
+address_of (check_error.ReadOnly pc) = Some pc
+address_of (check_error.TargetNotABlock pc) = Some pc
+address_of (check_error.IntervalNotProved pc) = Some pc
+address_of (check_error.EqualityNotProved pc) = Some pc
+address_of (check_error.VectorFactNotProved pc) = Some pc
+address_of (check_error.BudgetNotProved pc) = Some pc
+address_of (check_error.BlockTooLong pc) = Some pc
+address_of check_error.NoMemory = None
 
 -- the status of a run that was printed
 abbrev pub status_of_end : End → Status

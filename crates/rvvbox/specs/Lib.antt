@@ -1,3 +1,4 @@
+pub mod Accepted
 pub mod Ending
 pub mod Line
 pub mod Program

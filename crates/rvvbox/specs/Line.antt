@@ -6,7 +6,7 @@ use Rattle.clap.specs.Kinds.{Kinds}
 use Rattle.clap.specs.Simple.{new_shape}
 use Rattle.clap.specs.declared.builder.action.ArgAction.TheVariants.{Set}
 use Rattle.rvvbox.specs.declared.line.asked.Line.{Line}
-use Rattle.rvvbox.specs.declared.line.asked.Line.TheVariants.{Try}
+use Rattle.rvvbox.specs.declared.line.asked.Line.TheVariants.{Check, Run, Try}
 use Rattle.rvvbox.specs.declared.line.asked.LineError.{LineError}
 use Rattle.rvvbox.specs.declared.line.asked.LineError.TheVariants.{Usage, NoMemory}
 
@@ -14,9 +14,9 @@ use Rattle.rvvbox.specs.declared.line.asked.LineError.TheVariants.{Usage, NoMemo
 abbrev pub path_rule : Text → Rule
 path_rule id = record (new_rule id) { action = Some Set; required = true; value_names = 1 }
 
--- `try JOB`
-abbrev pub try_shape : Shape
-try_shape = (with_rule (new_app (codes "try")) (path_rule (codes "job"))).top
+-- a subcommand of this name, with one path
+abbrev pub path_shape : Text → Text → Shape
+path_shape name id = (with_rule (new_app name) (path_rule id)).top
 
 -- `rvvbox` with no subcommand yet
 abbrev pub bare_app : App
@@ -29,19 +29,35 @@ bare_app = record {
   subs = [];
 }
 
+-- `check IMAGE`, `run JOB` and `try JOB`
+abbrev pub check_shape : Shape
+check_shape = path_shape (codes "check") (codes "image")
+
+abbrev pub run_shape : Shape
+run_shape = path_shape (codes "run") (codes "job")
+
+abbrev pub try_shape : Shape
+try_shape = path_shape (codes "try") (codes "job")
+
 -- `rvvbox` as `clap` sees it
 abbrev pub app : App
-app = with_subcommand bare_app try_shape
+app = with_subcommand (with_subcommand (with_subcommand bare_app check_shape) run_shape) try_shape
 
 -- the path that matches of a subcommand hold under an id, where the subcommand has this name
 abbrev pub path_of : Text → Text → Option (Text × List Row) → Option Text
 path_of name id entered =
     option_and_then (λ p. if bytes_eq p.0 name then first_of id p.1 else None) entered
 
--- `clap` takes the words, and its matches give this subcommand and these paths
+-- `clap` takes the words, and its matches give the subcommand of this name this path
+abbrev pub IsPathOf : List Text → Text → Text → Text → Type 0
+IsPathOf words name id path =
+    (fault_of app words ≡ []) × (path_of name id (subcommand_of app words) ≡ Some path)
+
+-- the subcommand and its path
 abbrev pub IsLineOf : List Text → Line → Type 0
-IsLineOf words (Try job) = (fault_of app words ≡ [])
-    × (path_of (codes "try") (codes "job") (subcommand_of app words) ≡ Some job.now)
+IsLineOf words (Check image) = IsPathOf words (codes "check") (codes "image") image.now
+IsLineOf words (Run job) = IsPathOf words (codes "run") (codes "job") job.now
+IsLineOf words (Try job) = IsPathOf words (codes "try") (codes "job") job.now
 
 -- a fault of usage is one of those that `clap` finds, of the kind that the error shows
 abbrev pub IsFaultIn : Kinds → LineError → Type 0

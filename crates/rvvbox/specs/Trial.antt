@@ -4,6 +4,8 @@ use Rattle.std.specs.List.{zip}
 use Rattle.elf_image.specs.Image.{ImageView}
 use Rattle.job_file.specs.Job.{Text}
 use Rattle.job_file.specs.declared.values.JobError.TheVariants.{BadKey}
+use Rattle.job_file.specs.declared.values.RunParam.{RunParam}
+use Rattle.job_file.specs.declared.values.RunParam.TheVariants as given
 use Rattle.job_file.specs.declared.values.TryJob.{TryJob}
 use Rattle.job_file.specs.declared.values.TryParam.{TryParam}
 use Rattle.job_file.specs.declared.values.TryParam.TheVariants as taken
@@ -82,20 +84,26 @@ OrMemory (Ok value) answer = MatchResult answer (λ a. a ≡ value) (λ reason. 
 
 -- ---- what is read before it, and written after it
 
+-- what a parameter of `try` passes, as one of `run` does
+abbrev pub passed_by : TryParam Text → RunParam Text
+passed_by taken.None = given.None
+passed_by (taken.Scalar value) = given.Scalar value
+passed_by (taken.Buffer mode file out) = given.Buffer file out
+
 -- what a job passes at a place: nothing, its scalar, or the bytes of a file
-abbrev pub IsPassed : TryParam Text → Argument → Type 0
-IsPassed taken.None arg = arg ≡ argument.None
-IsPassed (taken.Scalar value) arg = arg ≡ argument.Scalar value
-IsPassed (taken.Buffer mode file out) arg = (bytes : List ℕ) × (arg ≡ argument.Buffer bytes)
+abbrev pub IsPassed : RunParam Text → Argument → Type 0
+IsPassed given.None arg = arg ≡ argument.None
+IsPassed (given.Scalar value) arg = arg ≡ argument.Scalar value
+IsPassed (given.Buffer file out) arg = (bytes : List ℕ) × (arg ≡ argument.Buffer bytes)
 
 -- place by place
-abbrev pub ArePassed : List (TryParam Text) → List Argument → Type 0
+abbrev pub ArePassed : List (RunParam Text) → List Argument → Type 0
 ArePassed params args =
-    (length args ≡ 8) × ((k : ℕ) → k < 8 → IsPassed (get_or params k taken.None) (get_or args k argument.None))
+    (length args ≡ 8) × ((k : ℕ) → k < 8 → IsPassed (get_or params k given.None) (get_or args k argument.None))
 
 -- the file that a place has after the run, where the job names one: its path, and the buffer's bytes
-abbrev pub out_file : TryParam Text × Argument → Option (Text × List ℕ)
-out_file (taken.Buffer mode file (Some path), argument.Buffer bytes) = Some (path, bytes)
+abbrev pub out_file : RunParam Text × Argument → Option (Text × List ℕ)
+out_file (given.Buffer file (Some path), argument.Buffer bytes) = Some (path, bytes)
 out_file other = None
 
 -- ---- how it is told

@@ -1,17 +1,87 @@
 //! The subcommands: what each reads, in order, what it does with it, and what it writes.
 ghost use Rattle.std.specs.Prelude.{◌≡◌, IfOk, map, replicate};
-ghost use Rattle.job_file.specs.Needs.{try_param_lent};
+ghost use Rattle.job_file.specs.Needs.{run_param_lent};
 ghost use Rattle.rvvbox.specs.Trial.{ArePassed, IsPassed};
 
+use crate::accepted::{accept, entry_budget, print_bound, run_accepted};
 use crate::stop::{Status, Stop};
 use crate::store::Store;
-use crate::trial::{out_file, run_job};
+use crate::trial::{Trial, out_file, passed_params, run_tried};
 use elf_image::Image;
-use job_file::{JobError, TryParam, parse, try_job_in};
+use job_file::{JobError, RunParam, parse, run_job_in, try_job_in};
 use region_mem::{Arg, Args, Bytes};
 use std::alloc::Global;
 use std::io::Write;
 use toml::Table;
+
+/// `check`: checks the image at `path` against its certificate, at the certificate's length of vector registers, and prints
+/// the bound that the certificate states.
+///
+/// In this order, up to the first that is refused or fails, which is told: the image file, the image, the certificate, the
+/// check, the printed line.
+pub fn check_image<S: Store, O: Write, E: Write>(
+    alloc: Global,
+    path: &str,
+    store: &mut S,
+    output: &mut O,
+    errors: &mut E,
+) -> Status {
+    match check_at(alloc, path, store, output) {
+        Ok(status) => status,
+        Err(stop) => stop.tell(output, errors),
+    }
+}
+
+fn check_at<'a, S: Store, O: Write>(
+    alloc: Global,
+    path: &'a str,
+    store: &mut S,
+    output: &mut O,
+) -> Result<Status, Stop<'a>> {
+    let image = read_image(alloc, path, store)?;
+    let accepted = accept(alloc, image, None)?;
+    match print_bound(entry_budget(&accepted), output) {
+        Ok(()) => Ok(Status::Done),
+        Err(_) => Err(Stop::Output),
+    }
+}
+
+/// `run`: checks the image of the job at `path` against its certificate, at the job's length of vector registers, runs it if
+/// it is accepted, writes the job's out files and prints how many steps the run took.
+///
+/// In this order, up to the first that is refused or fails, which is told: the job file, the job, the image file, the
+/// image, the certificate, the check, the parameters' files by place, the start of the run, the run, the out files by
+/// place, the printed line.
+pub fn run_job<S: Store, O: Write, E: Write>(
+    alloc: Global,
+    path: &str,
+    store: &mut S,
+    output: &mut O,
+    errors: &mut E,
+) -> Status {
+    match read_table(alloc, path, store) {
+        Ok(table) => match run_table(alloc, &table, store, output) {
+            Ok(status) => status,
+            Err(stop) => stop.tell(output, errors),
+        },
+        Err(stop) => stop.tell(output, errors),
+    }
+}
+
+/// `run` on a job's table.
+fn run_table<'a, S: Store, O: Write>(
+    alloc: Global,
+    table: &'a Table,
+    store: &mut S,
+    output: &mut O,
+) -> Result<Status, Stop<'a>> {
+    let job = run_job_in(table).ok_or(JobError::BadKey)?;
+    let image = read_image(alloc, job.image, store)?;
+    let accepted = accept(alloc, image, Some(job.vlen))?;
+    let args = read_args(alloc, &job.params, store)?;
+    let trial = run_accepted(alloc, &job, &accepted, args)?;
+    finish(&job.params, &trial, store, output)
+}
 
 /// `try`: runs the image of the job at `path`, accepted or not, with every test at each step, writes the job's out files
 /// and prints how the run ended.
@@ -43,9 +113,20 @@ fn try_table<'a, S: Store, O: Write>(
 ) -> Result<Status, Stop<'a>> {
     let job = try_job_in(table).ok_or(JobError::BadKey)?;
     let image = read_image(alloc, job.image, store)?;
-    let args = read_args(alloc, &job.params, store)?;
-    let trial = run_job(alloc, &job, &image, args)?;
-    write_outs(&job.params, &trial.args, store)?;
+    let passed = passed_params(&job.params);
+    let args = read_args(alloc, &passed, store)?;
+    let trial = run_tried(alloc, &job, &image, args)?;
+    finish(&passed, &trial, store, output)
+}
+
+/// Writes the out files of a run by place, and then prints how it ended.
+fn finish<'a, S: Store, O: Write>(
+    params: &[RunParam<&'a str>; 8],
+    trial: &Trial,
+    store: &mut S,
+    output: &mut O,
+) -> Result<Status, Stop<'a>> {
+    write_outs(params, &trial.args, store)?;
     match trial.print(output) {
         Ok(()) => Ok(trial.status()),
         Err(_) => Err(Stop::Output),
@@ -84,10 +165,10 @@ fn read_image<'a, S: Store>(
 /// What a job passes, by place: its scalars, and the bytes of its files.
 fn read_args<'a, S: Store>(
     alloc: Global,
-    params: &[TryParam<&'a str>; 8],
+    params: &[RunParam<&'a str>; 8],
     store: &mut S,
 ) -> Result<Args, Stop<'a>>
-    ensures { IfOk result (λ args. ArePassed (map try_param_lent params.now) args.places) }
+    ensures { IfOk result (λ args. ArePassed (map run_param_lent params.now) args.places) }
 {
     let mut places = no_args();
     for place in 0..8 {
@@ -113,15 +194,15 @@ fn no_args() -> [Arg; 8]
 
 fn read_arg<'a, S: Store>(
     alloc: Global,
-    param: &TryParam<&'a str>,
+    param: &RunParam<&'a str>,
     store: &mut S,
 ) -> Result<Arg, Stop<'a>>
-    ensures { IfOk result (λ arg. IsPassed (try_param_lent param.now) arg) }
+    ensures { IfOk result (λ arg. IsPassed (run_param_lent param.now) arg) }
 {
     match param {
-        TryParam::None => Ok(Arg::None),
-        TryParam::Scalar(value) => Ok(Arg::Scalar(*value)),
-        TryParam::Buffer { file, .. } => {
+        RunParam::None => Ok(Arg::None),
+        RunParam::Scalar(value) => Ok(Arg::Scalar(*value)),
+        RunParam::Buffer { file, .. } => {
             let bytes = read(alloc, *file, store)?;
             Ok(Arg::Buffer(Bytes::new(bytes)))
         }
@@ -130,7 +211,7 @@ fn read_arg<'a, S: Store>(
 
 /// Writes the out files of a job, by place.
 fn write_outs<'a, S: Store>(
-    params: &[TryParam<&'a str>; 8],
+    params: &[RunParam<&'a str>; 8],
     args: &Args,
     store: &mut S,
 ) -> Result<(), Stop<'a>> {

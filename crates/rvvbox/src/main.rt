@@ -1,7 +1,9 @@
-//! `rvvbox` runs RISC-V vector kernels in a sandbox. `rvvbox try JOB` runs the image that a job file
-//! names on the job's buffers, with every test at each step, and prints how the run ended.
+//! `rvvbox` runs RISC-V vector kernels in a sandbox. `rvvbox check IMAGE` checks an image against its certificate. `rvvbox
+//! run JOB` runs the image that a job file names on the job's buffers, if it is accepted: such a run ends within its bound,
+//! without a fault. `rvvbox try JOB` runs any image, with every test at each step. Each prints what came of it.
 #![tactic(auto)]
 
+mod accepted;
 mod commands;
 mod line;
 mod program;

@@ -4,7 +4,7 @@ ghost use Rattle.clap.specs.Words.{fault_of};
 ghost use Rattle.rvvbox.specs.Line.{app};
 ghost use Rattle.rvvbox.specs.Program.{IsStatusFor};
 
-use crate::commands::try_job;
+use crate::commands::{check_image, run_job, try_job};
 use crate::line::asked::Line;
 use crate::line::line;
 use crate::stop::{Status, Stop};
@@ -29,6 +29,8 @@ pub fn perform<'a, S: Store, I: Read, O: Write, E: Write>(
     ensures { IsStatusFor (fault_of app (map (λ w. w.now) words.entry.now)) result }
 {
     match line(alloc, words) {
+        Ok(Line::Check { image }) => check_image(alloc, image, store, output, errors),
+        Ok(Line::Run { job }) => run_job(alloc, job, store, output, errors),
         Ok(Line::Try { job }) => try_job(alloc, job, store, output, errors),
         Err(error) => Stop::from(error).tell(output, errors),
     }

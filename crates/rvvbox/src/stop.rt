@@ -1,15 +1,19 @@
 //! How the program ends.
 ghost use Rattle.std.specs.Prelude.{◌≡◌, ◌⊎◌, true, false};
-ghost use Rattle.rvvbox.specs.Ending.{code_of, is_request, status_of, stop_at_file, stop_of_image};
+ghost use Rattle.rvvbox.specs.Ending.{address_of, code_of, is_request, status_of, stop_at_file};
+ghost use Rattle.rvvbox.specs.Ending.{stop_of_certificate, stop_of_check, stop_of_image};
 ghost use Rattle.rvvbox.specs.Ending.{stop_of_job, stop_of_line, stop_of_open};
 ghost use Rattle.rvvbox.specs.declared.stop.Stop.TheVariants.{Memory};
 
 use crate::line::asked::LineError;
 use crate::store::StoreError;
+use block_checker::CheckError;
+use cert_note::CertError;
 use elf_image::ElfError;
 use job_file::JobError;
 use sandbox_run::OpenError;
 use std::alloc::AllocError;
+use std::fmt;
 use std::io::Write;
 use thiserror::Error;
 
@@ -18,7 +22,7 @@ use thiserror::Error;
 pub enum Status {
     /// All was done.
     Done,
-    /// The image was refused.
+    /// The image or its certificate was refused, or the arguments of its run.
     Refused,
     /// The command line or the job was refused.
     Usage,
@@ -58,6 +62,12 @@ pub enum Stop<'a> {
     File(&'a str),
     #[error("refused: {0:?}\n")]
     Image(ElfError),
+    #[error("refused: NoCertificate\n")]
+    NoCertificate,
+    #[error("refused: {0:?}\n")]
+    Certificate(CertError),
+    #[error("refused: {}\n", check_reason(.0))]
+    Check(CheckError),
     #[error("refused: {}\n", open_error_name(.0))]
     Open(OpenError),
     #[error("out of memory\n")]
@@ -83,6 +93,9 @@ impl Stop<'_> {
             | Stop::Job(_)
             | Stop::File(_)
             | Stop::Image(_)
+            | Stop::NoCertificate
+            | Stop::Certificate(_)
+            | Stop::Check(_)
             | Stop::Open(_)
             | Stop::Memory => {
                 // Where standard error takes no text, the status alone tells.
@@ -98,7 +111,11 @@ impl Stop<'_> {
         match self {
             Stop::Usage(_) | Stop::Job(_) => Status::Usage,
             Stop::File(_) | Stop::Output => Status::File,
-            Stop::Image(_) | Stop::Open(_) => Status::Refused,
+            Stop::Image(_)
+            | Stop::NoCertificate
+            | Stop::Certificate(_)
+            | Stop::Check(_)
+            | Stop::Open(_) => Status::Refused,
             Stop::Memory => Status::Memory,
         }
     }
@@ -146,6 +163,30 @@ impl From<ElfError> for Stop<'_> {
     }
 }
 
+impl From<CertError> for Stop<'_> {
+    ghost from_gives = { λ error stop. stop ≡ stop_of_certificate error };
+
+    fn from(error: CertError) -> Self {
+        if let CertError::NoMemory = error {
+            Stop::Memory
+        } else {
+            Stop::Certificate(error)
+        }
+    }
+}
+
+impl From<CheckError> for Stop<'_> {
+    ghost from_gives = { λ error stop. stop ≡ stop_of_check error };
+
+    fn from(error: CheckError) -> Self {
+        if let CheckError::NoMemory = error {
+            Stop::Memory
+        } else {
+            Stop::Check(error)
+        }
+    }
+}
+
 impl From<OpenError> for Stop<'_> {
     ghost from_gives = { λ error stop. stop ≡ stop_of_open error };
 
@@ -159,6 +200,45 @@ impl From<OpenError> for Stop<'_> {
             | OpenError::WrongVlen => Stop::Open(error),
         }
     }
+}
+
+/// Why a check refused: the error's name, and the address of the word at which it stopped, if there is one.
+#[derive(Drop)]
+struct Reason {
+    name: &'static str,
+    address: Option<u32>,
+}
+
+impl fmt::Display for Reason {
+    fn fmt<W: fmt::Write>(&self, f: &mut fmt::Formatter<W>) -> fmt::Result {
+        let name = self.name;
+        match self.address {
+            Some(address) => write!(f, "{name} at {address:08x}"),
+            None => write!(f, "{name}"),
+        }
+    }
+}
+
+fn check_reason(error: &CheckError) -> Reason
+    ensures { result.address ≡ address_of error.now }
+{
+    let (name, address) = match *error {
+        CheckError::WrongVlen => ("WrongVlen", None),
+        CheckError::NoEntryBlock => ("NoEntryBlock", None),
+        CheckError::NotCode(pc) => ("NotCode", Some(pc)),
+        CheckError::IllegalWord(pc) => ("IllegalWord", Some(pc)),
+        CheckError::VtypeUnknown(pc) => ("VtypeUnknown", Some(pc)),
+        CheckError::AccessNotProved(pc) => ("AccessNotProved", Some(pc)),
+        CheckError::ReadOnly(pc) => ("ReadOnly", Some(pc)),
+        CheckError::TargetNotABlock(pc) => ("TargetNotABlock", Some(pc)),
+        CheckError::IntervalNotProved(pc) => ("IntervalNotProved", Some(pc)),
+        CheckError::EqualityNotProved(pc) => ("EqualityNotProved", Some(pc)),
+        CheckError::VectorFactNotProved(pc) => ("VectorFactNotProved", Some(pc)),
+        CheckError::BudgetNotProved(pc) => ("BudgetNotProved", Some(pc)),
+        CheckError::BlockTooLong(pc) => ("BlockTooLong", Some(pc)),
+        CheckError::NoMemory => ("NoMemory", None),
+    };
+    Reason { name, address }
 }
 
 /// The name of an error, without its place.

@@ -1,15 +1,15 @@
 //! What comes of a job: its run on an image and on arguments, how that is told, and which files are written after it.
 ghost use Rattle.std.specs.Prelude.{◌≡◌, map, option_map};
-ghost use Rattle.job_file.specs.Needs.{try_job_lent, try_param_lent};
+ghost use Rattle.job_file.specs.Needs.{run_param_lent, try_job_lent, try_param_lent};
 ghost use Rattle.vreg_groups.specs.VectorLength.{IsVlenb};
 ghost use Rattle.rvvbox.specs.Ending.{status_of_end};
 ghost use Rattle.rvvbox.specs.Trial.{OrMemory, number_of, out_file, param_for};
-ghost use Rattle.rvvbox.specs.Trial.{params_for, passed_size, run_of};
+ghost use Rattle.rvvbox.specs.Trial.{params_for, passed_by, passed_size, run_of};
 ghost use Rattle.rvvbox.specs.Trial.{trial_of};
 
 use crate::stop::{Status, Stop};
 use elf_image::Image;
-use job_file::{JobError, TryJob, TryParam};
+use job_file::{JobError, RunParam, TryJob, TryParam};
 use region_mem::{Arg, Args, Fault, Param, Parameters};
 use sandbox_run::{Final, Outcome, try_run};
 use std::alloc::Global;
@@ -37,7 +37,7 @@ pub struct Trial {
 ///
 /// A scalar may have the one value that the job gives it, and a buffer has the size of what is passed. `BadKey` comes
 /// where there are no such parameters, then the error of arguments that do not match them, and want of memory last.
-pub fn run_job<'a>(
+pub fn run_tried<'a>(
     alloc: Global,
     job: &TryJob<&str>,
     image: &Image,
@@ -118,24 +118,59 @@ fn trial_at<const VLENB: usize>(end: End, last: Final<VLENB>) -> Trial
     Trial { end, steps, args }
 }
 
+fn passed<'a>(param: &TryParam<&'a str>) -> RunParam<&'a str>
+    ensures { run_param_lent result ≡ passed_by (try_param_lent param.now) }
+{
+    match param {
+        TryParam::None => RunParam::None,
+        TryParam::Scalar(value) => RunParam::Scalar(*value),
+        TryParam::Buffer { file, out, .. } => RunParam::Buffer {
+            file: *file,
+            out: *out,
+        },
+    }
+}
+
+/// What the parameters of `try` pass, by place, as those of `run` do.
+pub fn passed_params<'a>(params: &[TryParam<&'a str>; 8]) -> [RunParam<&'a str>; 8]
+    ensures { map run_param_lent result ≡ map passed_by (map try_param_lent params.now) }
+{
+    let mut made = [RunParam::None; 8];
+    for place in 0..8 {
+        made[place] = passed(&params[place]);
+    }
+    made
+}
+
 /// The file that a place has after a run, where it has one: its path, and the buffer's bytes.
-pub fn out_file<'a, 'b>(param: &TryParam<&'a str>, arg: &'b Arg) -> Option<(&'a str, &'b [u8])>
+pub fn out_file<'a, 'b>(param: &RunParam<&'a str>, arg: &'b Arg) -> Option<(&'a str, &'b [u8])>
     ensures { option_map (λ file. (file.0.now, file.1.now)) result
-        ≡ out_file (try_param_lent param.now, arg.now) }
+        ≡ out_file (run_param_lent param.now, arg.now) }
 {
     match (param, arg) {
         (
-            TryParam::Buffer {
+            RunParam::Buffer {
                 out: Some(path),
                 ..
             },
             Arg::Buffer(bytes),
         ) => Some((*path, bytes.as_slice())),
-        (TryParam::None | TryParam::Scalar(_) | TryParam::Buffer { .. }, _) => None,
+        (RunParam::None | RunParam::Scalar(_) | RunParam::Buffer { .. }, _) => None,
     }
 }
 
 impl Trial {
+    /// A run that ended.
+    pub fn ended(steps: u64, args: Args) -> Trial
+        ensures { result ≡ record { end = End.Ended; steps = steps; args = args } }
+    {
+        Trial {
+            end: End::Ended,
+            steps,
+            args,
+        }
+    }
+
     /// Prints how the run ended.
     pub fn print<O: Write>(&self, output: &mut O) -> io::Result<()> {
         let steps = self.steps;

@@ -7,7 +7,11 @@ use std::alloc::AllocError;
 /// What a command line asks for: a subcommand with its paths.
 #[derive(Drop)]
 pub enum Line<'a> {
-    /// Runs the image of the job at `job` with every test at each step.
+    /// Checks the image at `image` against its certificate.
+    Check { image: &'a str },
+    /// Checks the image of the job at `job`, and runs it if it is accepted.
+    Run { job: &'a str },
+    /// Runs the image of the job at `job`, accepted or not, with every test at each step.
     Try { job: &'a str },
 }
 

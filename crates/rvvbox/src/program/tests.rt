@@ -7,6 +7,8 @@ use std::io::{Read, Write};
 use std::process::Abort;
 use std::test::Fail;
 
+mod accepted;
+
 /// Files in memory, of which one may fail to be read or written, and a line for each call.
 #[derive(Drop)]
 struct Shelf {
@@ -319,6 +321,10 @@ fn answers_words_that_ask_for_no_job(rt: HostRuntime) {
     let mut files = Shelf::new(rt.alloc());
     let told = (Status::Usage, "", refused);
     expect(&rt, ["rvvbox", "try"].as_slice(), &mut files, told, "");
+    let refused = "error: the following required arguments were not provided:\n  <IMAGE>\n\n\
+        Usage: rvvbox check <IMAGE>\n\nFor more information, try '--help'.\n";
+    let told = (Status::Usage, "", refused);
+    expect(&rt, ["rvvbox", "check"].as_slice(), &mut files, told, "");
     let told = (Status::Done, "rvvbox 0.1.0\n", "");
     expect(
         &rt,
@@ -334,17 +340,16 @@ fn ends_where_output_fails(rt: HostRuntime) -> Result<(), Fail> {
     let alloc = rt.alloc();
     for words in [TRY.as_slice(), ["rvvbox", "--help"].as_slice()] {
         let mut files = job_files(alloc, ADD_BYTES.as_slice(), 6)?;
-        let mut errors = Vec::new(alloc);
-        let status = perform(
-            alloc,
-            words,
-            &mut files,
-            &mut Broken,
-            &mut Broken,
-            &mut errors,
-        );
-        assert_eq!(rt; status, Status::File);
-        assert!(rt; errors.is_empty());
+        expect_silence(&rt, words, &mut files);
     }
     Ok(())
+}
+
+/// Performs `rvvbox` where standard output takes no text, and asserts that nothing is told.
+fn expect_silence<R: Abort + AllocGlobal>(rt: &R, words: &[&str], shelf: &mut Shelf) {
+    let alloc = rt.alloc();
+    let mut errors = Vec::new(alloc);
+    let status = perform(alloc, words, shelf, &mut Broken, &mut Broken, &mut errors);
+    assert_eq!(rt; status, Status::File);
+    assert!(rt; errors.is_empty());
 }

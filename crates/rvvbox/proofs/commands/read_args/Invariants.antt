@@ -1,6 +1,6 @@
 use Rattle.std.proofs.Common.{◌≡◌, ℕ, ◌<◌, length, get_or}
-use Rattle.job_file.specs.Needs.{try_param_lent}
-use Rattle.job_file.specs.declared.values.TryParam.TheVariants as taken
+use Rattle.job_file.specs.Needs.{run_param_lent}
+use Rattle.job_file.specs.declared.values.RunParam.TheVariants as given
 use Rattle.region_mem.specs.declared.arguments.Arg.TheVariants as argument
 use Rattle.rvvbox.specs.Trial.{IsPassed}
 use Rattle.rvvbox.proofs.commands.read_args.Given as goal
@@ -9,5 +9,5 @@ use Rattle.rvvbox.proofs.commands.read_args.Given as goal
 abbrev pub invariant-loop-place : goal.invariant-loop-place
 invariant-loop-place g l = record {
   eight : length l.places ≡ 8;
-  passed : (k : ℕ) → k < l.place → IsPassed (try_param_lent (get_or l.params k taken.None)) (get_or l.places k argument.None);
+  passed : (k : ℕ) → k < l.place → IsPassed (run_param_lent (get_or l.params k given.None)) (get_or l.places k argument.None);
 }
