@@ -74,6 +74,11 @@ fn certificate_with(alloc: Global, changes: &[Change]) -> Result<Certificate, Fa
     Ok(cert_note::read(alloc, &bytes)?)
 }
 
+/// The kernel and its certificate.
+pub fn sum(alloc: Global) -> Result<(Image, Certificate), Fail> {
+    Ok((image_of(alloc, &SUM)?, certificate_with(alloc, &[])?))
+}
+
 /// The kernel with another word at a place, checked with the certificate with these changes.
 fn outcome(
     alloc: Global,
@@ -188,11 +193,47 @@ fn refuses_other_certificates(rt: HostRuntime) -> Result<(), Fail> {
     Ok(())
 }
 
+/// slli t0,a1,28; add a0,a0,t0; lbu t1,0(a0); ret
+const WRAPS: [u32; 4] = [0x01c5_9293, 0x0055_0533, 0x0005_4303, 0x0000_8067];
+
+/// Its certificate is the first block of the other kernel's: a0 is a buffer of one byte, a1 a number up to 16, and there are
+/// at most four instructions.
+const ONE_BYTE: [Change; 10] = [
+    Change { at: 8, byte: 1 },
+    Change { at: 9, byte: 0 },
+    Change { at: 24, byte: 16 },
+    Change { at: 25, byte: 0 },
+    Change { at: 100, byte: 1 },
+    Change { at: 108, byte: 4 },
+    Change { at: 112, byte: 0 },
+    Change { at: 116, byte: 0 },
+    Change { at: 153, byte: 16 },
+    Change { at: 154, byte: 0 },
+];
+
+/// 16 * 2^28 is 0, so at both ends of what a1 may be the byte is the buffer's, and between them it is none.
+#[test]
+fn refuses_a_sum_that_wraps(rt: HostRuntime) -> Result<(), Fail> {
+    let alloc = rt.alloc();
+    let mut bytes = Vec::from_slice(alloc, &CERTIFICATE[..167])?;
+    for change in &ONE_BYTE {
+        if let Some(byte) = bytes.get_mut(change.at) {
+            *byte = change.byte;
+        }
+    }
+    let certificate = cert_note::read(alloc, &bytes)?;
+    let image = image_of(alloc, &WRAPS)?;
+    let error = check(alloc, image, certificate, Vlen::V128)
+        .err()
+        .map(|refused| refused.0);
+    assert_eq!(rt; error, Some(CheckError::AccessNotProved(0x1_0008)));
+    Ok(())
+}
+
 #[test]
 fn refuses_another_vector_length(rt: HostRuntime) -> Result<(), Fail> {
     let alloc = rt.alloc();
-    let image = image_of(alloc, &SUM)?;
-    let certificate = certificate_with(alloc, &[])?;
+    let (image, certificate) = sum(alloc)?;
     let Err((error, image, certificate)) = check(alloc, image, certificate, Vlen::V256) else {
         return Err(Fail::from("accepted"));
     };

@@ -1,7 +1,8 @@
 //! Calls of the libraries of which each allocation fails in turn: the answer is want of memory, and what was handed in
 //! comes back as it was.
+use crate::checks::sum;
 use crate::refusing::Refusing;
-use block_checker::{Accepted, check};
+use block_checker::{Accepted, CheckError, check, check_in};
 use cert_note::CertError;
 use elf_image::ElfError;
 use hex::decode;
@@ -156,6 +157,30 @@ fn running(rt: HostRuntime) -> Result<(), Fail> {
                 assert!(rt; heap.has_refused(), "at {after}");
                 assert_eq!(rt; error, OpenError::NoMemory);
                 assert!(rt; are_args(&args, &[0xff, 1, 2]));
+            }
+        }
+    }
+    panic!(rt; "memory is never enough")
+}
+
+/// What is known at a block, one block after the other.
+#[test]
+fn checking(rt: HostRuntime) -> Result<(), Fail> {
+    let alloc = rt.alloc();
+    let (mut image, mut certificate) = sum(alloc)?;
+    for after in 0..MANY {
+        let heap = Refusing::new(alloc, after);
+        match check_in(&heap, image, certificate, Vlen::V128) {
+            Ok(accepted) => {
+                assert!(rt; !heap.has_refused() && after > 0);
+                assert_eq!(rt; accepted.bound(&[0, 1024, 0, 0, 0, 0, 0, 0]), 5122);
+                return Ok(());
+            }
+            Err((error, same_image, same_certificate)) => {
+                assert!(rt; heap.has_refused(), "at {after}");
+                assert_eq!(rt; error, CheckError::NoMemory);
+                image = same_image;
+                certificate = same_certificate;
             }
         }
     }
