@@ -159,6 +159,18 @@ unfolding with_number
 number_goes n address value areas i d order below low high =
     bytes_go address (bytes_of n value) areas i d order below low (omega (arith, length_bytes n value))
 
+-- The area that takes an access whole is found, wherever it stands.
+pub found_there : (right : Right) (address n : ℕ) (areas : List Area) (i : ℕ) (d : Area) → AreInOrder 0 areas → i < length areas → 0 < n →
+    admits right address n (get_or areas i d) ≡ true → find (holds address) areas ≡ Some (get_or areas i d)
+found_there right address n areas i d order below some admitted =
+    let area = get_or areas i d in
+    let span = admits_spans right address n area admitted in
+    let low = spans_from address n area span in
+    let high = spans_to address n area span in
+    let here = holds_from address area low (omega (arith, high)) in
+    let place = same_place address areas i d order below here in
+    find_at (holds address) areas ∙ (ap (λ k. slice_get areas k) place ∙ slice_get-get_or areas i d below)
+
 -- The same, of the place that was found.
 pub open_at : (right : Right) (address n : ℕ) (areas : List Area) (i : ℕ) (d : Area) → AreInOrder 0 areas → position (holds address) areas ≡ Some i →
     admits right address n (get_or areas i d) ≡ true → address + n ≤ 2 ^ 32 → is_open_from right address n areas ≡ true

@@ -1,6 +1,6 @@
 //! Regions in order: the one that an address lies in is found by a search, and an access that it holds whole goes to it
 //! at once.
-ghost use Rattle.std.specs.Prelude.{◌≡◌, ◌+◌, ◌<◌, ◌≤◌, ◌^◌, slice_index_or, Some, None, is_some, true, false, length, find, position, if◌then◌else◌};
+ghost use Rattle.std.specs.Prelude.{◌≡◌, ◌+◌, ◌<◌, ◌≤◌, ◌^◌, slice_index_or, unwrap_or, IfSome, Some, None, is_some, true, false, length, find, position, if◌then◌else◌};
 ghost use Rattle.std.specs.Option.{option_copied};
 ghost use Rattle.std.specs.List.{position_or_len};
 ghost use Rattle.region_mem.specs.Memory.{IsAccessSize};
@@ -12,6 +12,7 @@ use crate::walk;
 use std::alloc::Allocator;
 
 /// How many regions begin at an address or below it.
+#[inline(always)]
 fn count_up_to<A: Allocator>(regions: &[Region<A>], address: u64) -> usize
     requires { AreInOrder 0 regions.now }
     ensures split { IsCount address regions.now result }
@@ -21,6 +22,7 @@ fn count_up_to<A: Allocator>(regions: &[Region<A>], address: u64) -> usize
 }
 
 /// The place of the region that holds the byte at an address.
+#[inline(always)]
 #[tactic(auto, using(crate::proofs::SearchLemmas::search_found, crate::proofs::SearchLemmas::search_none))]
 fn place_of<A: Allocator>(regions: &[Region<A>], address: u64) -> Option<usize>
     requires { AreInOrder 0 regions.now }
@@ -38,7 +40,16 @@ fn place_of<A: Allocator>(regions: &[Region<A>], address: u64) -> Option<usize>
     }
 }
 
+/// The place of the region that holds the byte at an address, or 0 where none does.
+pub(crate) fn place_or_first<A: Allocator>(regions: &[Region<A>], address: u64) -> usize
+    requires { AreInOrder 0 regions.now }
+    ensures { result ≡ unwrap_or (position (holds address) regions.now) 0 }
+{
+    place_of(regions, address).unwrap_or(0)
+}
+
 /// The region that holds the byte at an address.
+#[inline(always)]
 #[tactic(auto, using(crate::proofs::AccessLemmas::find_place, crate::proofs::AccessLemmas::find_none))]
 fn region_of<A: Allocator>(regions: &[Region<A>], address: u64) -> Option<&Region<A>>
     requires { AreInOrder 0 regions.now }
@@ -90,7 +101,32 @@ pub(crate) fn permits<A: Allocator>(
     one_permits(regions, right, address, size) || walk::permits(regions, right, address, size)
 }
 
+/// The number in the n bytes from an address on, the lowest first, where the region at this place has all of them, and
+/// the right; `None` where it has not, or there is none.
+#[inline(always)]
+#[tactic(auto, using(crate::proofs::AccessLemmas::found_there, crate::proofs::AccessLemmas::open_in_one, crate::proofs::AccessLemmas::number_in_one))]
+pub(crate) fn number_at<A: Allocator>(
+    regions: &[Region<A>],
+    place: usize,
+    right: Right,
+    address: u64,
+    n: usize,
+) -> Option<u32>
+    requires order { AreInOrder 0 regions.now }
+    requires address { address < 2 ^ 32 }
+    requires size { IsAccessSize n }
+    ensures open { IfSome result (λ _. is_open_from right address n regions.now ≡ true) }
+    ensures number { IfSome result (λ number. number ≡ number_at address n regions.now) }
+{
+    if place < regions.len() {
+        regions[place].number_for(right, address, n)
+    } else {
+        None
+    }
+}
+
 /// The number in the n bytes from an address on, the lowest first, where all of them may be accessed.
+#[inline(always)]
 #[tactic(auto, using(crate::proofs::AccessLemmas::open_in_one, crate::proofs::AccessLemmas::number_in_one))]
 pub(crate) fn number<A: Allocator>(
     regions: &[Region<A>],
@@ -112,6 +148,7 @@ pub(crate) fn number<A: Allocator>(
     number_by_bytes(regions, right, address, n)
 }
 
+#[inline(never)]
 fn number_by_bytes<A: Allocator>(
     regions: &[Region<A>],
     right: Right,
@@ -132,6 +169,7 @@ fn number_by_bytes<A: Allocator>(
 
 /// Writes the n lowest bytes of a value from an address on, and tells whether each of them may be written. Where one
 /// may not, nothing is.
+#[inline(always)]
 #[tactic(auto, using(crate::proofs::AccessLemmas::open_at, crate::proofs::AccessLemmas::goes_at, crate::proofs::ExtentLemmas::number_order, crate::proofs::ExtentLemmas::number_inside, crate::proofs::AccessLemmas::admits_spans))]
 pub(crate) fn set_number<A: Allocator>(
     regions: &mut [Region<A>],
@@ -158,6 +196,7 @@ pub(crate) fn set_number<A: Allocator>(
     set_by_bytes(regions, address, n, value)
 }
 
+#[inline(never)]
 #[tactic(auto, using(crate::proofs::ExtentLemmas::number_order, crate::proofs::ExtentLemmas::number_inside))]
 fn set_by_bytes<A: Allocator>(regions: &mut [Region<A>], address: u64, n: usize, value: u32) -> bool
     requires order { AreInOrder 0 regions.old }

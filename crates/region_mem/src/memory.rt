@@ -17,6 +17,8 @@ use std::marker::Model;
 pub struct Regions<A: Allocator = Global> {
     regions: Vec<Region<A>, A>,
     passed: [Passed; 8],
+    // The place of the region where `fetch_next` looks first. Contracts do not see it.
+    recent: usize,
 }
 
 impl<A: Allocator> Model for Regions<A> {
@@ -60,7 +62,11 @@ impl<A: Allocator> Regions<A> {
                 parameters.start_in_place(image, &args);
                 let passed = start::passed(&args);
                 start::put_all(&mut regions, parameters, args);
-                Ok(Regions { regions, passed })
+                Ok(Regions {
+                    regions,
+                    passed,
+                    recent: 0,
+                })
             }
             Err(error) => Err((error, args)),
         }
@@ -78,7 +84,11 @@ impl<A: Allocator> Regions<A> {
     pub fn into_args(self) -> Args<Bytes<A>>
         ensures { result.places ≡ args_of self }
     {
-        let Regions { regions, passed } = self;
+        let Regions {
+            regions,
+            passed,
+            recent: _,
+        } = self;
         start::args_with(passed, regions.into_iter())
     }
 
@@ -120,6 +130,30 @@ impl<A: Allocator> Regions<A> {
         ensures { result ≡ fetch_of pc self.now }
     {
         areas::number(self.regions.as_slice(), Right::Fetch, u64::from(pc), 4)
+    }
+
+    /// The same, where the region in which such a word was found last is looked at first.
+    #[inline(always)]
+    #[tactic(auto, unfolding(crate::specs::Memory::fetch_of, crate::specs::Memory::is_permitted))]
+    pub fn fetch_next(&mut self, pc: u32) -> Option<u32>
+        ensures word { result ≡ fetch_of pc self.old }
+        ensures kept { self.new ≡ self.old }
+    {
+        let regions = self.regions.as_slice();
+        match areas::number_at(regions, self.recent, Right::Fetch, u64::from(pc), 4) {
+            Some(word) => Some(word),
+            None => self.fetch_anew(pc),
+        }
+    }
+
+    /// The same by a search. The next call begins where it ended.
+    #[inline(never)]
+    fn fetch_anew(&mut self, pc: u32) -> Option<u32>
+        ensures word { result ≡ fetch_of pc self.old }
+        ensures kept { self.new ≡ self.old }
+    {
+        self.recent = areas::place_or_first(self.regions.as_slice(), u64::from(pc));
+        self.fetch(pc)
     }
 
     /// The n bytes from an address on, where one region has them all and they may be read. n is at least 1.

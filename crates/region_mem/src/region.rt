@@ -79,6 +79,7 @@ impl<A: Allocator> Region<A> {
         u64::from(BUFFERS) <= self.first && self.first < u64::from(BUFFERS_END)
     }
 
+    #[inline(always)]
     #[tactic(auto, unfolding(crate::specs::Areas::holds))]
     pub(crate) fn holds(&self, address: u64) -> bool
         ensures { result ≡ holds address self.now }
@@ -86,6 +87,7 @@ impl<A: Allocator> Region<A> {
         self.first <= address && address < self.first + self.bytes.len() as u64
     }
 
+    #[inline(always)]
     #[tactic(auto, unfolding(crate::specs::Areas::has_right))]
     pub(crate) fn has_right(&self, right: Right) -> bool
         ensures { result ≡ has_right right self.now }
@@ -97,6 +99,7 @@ impl<A: Allocator> Region<A> {
         }
     }
 
+    #[inline(always)]
     #[tactic(auto, unfolding(crate::specs::Areas::holds))]
     pub(crate) fn byte(&self, address: u64) -> u8
         requires { IsTrue (holds address self.now) }
@@ -114,6 +117,7 @@ impl<A: Allocator> Region<A> {
     }
 
     /// Whether the n bytes from an address on are all the region's, which has the right.
+    #[inline(always)]
     #[tactic(auto, unfolding(crate::specs::Areas::spans, crate::specs::Areas::admits))]
     pub(crate) fn admits(&self, right: Right, address: u64, n: u64) -> bool
         requires { address + n < 2 ^ 64 }
@@ -125,6 +129,7 @@ impl<A: Allocator> Region<A> {
             && self.has_right(right)
     }
 
+    #[inline(always)]
     #[tactic(auto, unfolding(crate::specs::Areas::spans, crate::specs::Areas::holds, crate::specs::Areas::number_in, crate::specs::Areas::number_of))]
     fn byte_number(&self, address: u64) -> u32
         requires low { address < 2 ^ 33 }
@@ -134,6 +139,7 @@ impl<A: Allocator> Region<A> {
         u32::from(self.byte(address))
     }
 
+    #[inline(always)]
     #[tactic(auto, unfolding(crate::specs::Areas::spans, crate::specs::Areas::holds, crate::specs::Areas::number_in, crate::specs::Areas::number_of))]
     fn half_number(&self, address: u64) -> u32
         requires low { address < 2 ^ 33 }
@@ -143,6 +149,7 @@ impl<A: Allocator> Region<A> {
         u32::from(self.byte(address)) + 256 * u32::from(self.byte(address + 1))
     }
 
+    #[inline(always)]
     #[tactic(auto, unfolding(crate::specs::Areas::spans, crate::specs::Areas::holds, crate::specs::Areas::number_in, crate::specs::Areas::number_of))]
     fn word_number(&self, address: u64) -> u32
         requires low { address < 2 ^ 33 }
@@ -156,6 +163,7 @@ impl<A: Allocator> Region<A> {
     }
 
     /// The number in the n bytes from an address on, the lowest first.
+    #[inline(always)]
     fn number(&self, address: u64, n: usize) -> u32
         requires low { address < 2 ^ 32 }
         requires size { IsAccessSize n }
@@ -170,6 +178,7 @@ impl<A: Allocator> Region<A> {
     }
 
     /// The same, where the region has all of them and the right.
+    #[inline(always)]
     #[tactic(auto, using(crate::proofs::AccessLemmas::admits_spans))]
     pub(crate) fn number_for(&self, right: Right, address: u64, n: usize) -> Option<u32>
         requires low { address < 2 ^ 32 }
