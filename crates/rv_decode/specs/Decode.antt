@@ -1,5 +1,6 @@
 -- The table of all words, and the meaning of a word.
-use Rattle.std.specs.Prelude.{ℕ, Option, List, [], ◌∷◌}
+use Rattle.std.specs.Prelude.{ℕ, ◌==◌, Bool, ◌||◌, Option, List, [], ◌∷◌, if◌then◌else◌}
+use Rattle.rv_decode.specs.Bits.{bits}
 use Rattle.rv_decode.specs.Rows.{Section, section, opcode, meanings, first}
 use Rattle.rv_decode.specs.Scalar.{lui_groups, auipc_groups, jal_groups, jalr_groups, branch_groups, load_groups, store_groups, immediate_groups, register_groups, fence_groups}
 use Rattle.rv_decode.specs.System.{system_groups}
@@ -28,3 +29,12 @@ table =
 -- a word means the one row that it matches; a word that matches none means nothing
 unfoldable pub meaning_of : ℕ → Option Insn
 meaning_of word = first (meanings table word)
+
+-- the opcodes of RV32I and M but those of fence and SYSTEM
+unfoldable pub is_scalar_opcode : ℕ → Bool
+is_scalar_opcode n =
+    n == 0x03 || n == 0x13 || n == 0x17 || n == 0x23 || n == 0x33 || n == 0x37 || n == 0x63 || n == 0x67 || n == 0x6f
+
+-- the meanings of a word of these opcodes
+unfoldable pub scalar_meanings : ℕ → List Insn
+scalar_meanings word = if is_scalar_opcode (bits 0 7 word) then meanings table word else []

@@ -19,6 +19,7 @@ use crate::word::{
 use crate::{Condition, ImmediateOp, Insn, LoadKind, RegisterOp, ScalarInsn, ShiftOp, Width};
 
 /// Opcode 37.
+#[inline(always)]
 #[tactic(auto, unfolding(crate::specs::Scalar::lui_groups))]
 pub(crate) fn decode_lui(word: u32) -> Option<Insn>
     ensures { option_to_list result ≡ meanings_by_groups lui_groups word }
@@ -30,6 +31,7 @@ pub(crate) fn decode_lui(word: u32) -> Option<Insn>
 }
 
 /// Opcode 17.
+#[inline(always)]
 #[tactic(auto, unfolding(crate::specs::Scalar::auipc_groups))]
 pub(crate) fn decode_auipc(word: u32) -> Option<Insn>
     ensures { option_to_list result ≡ meanings_by_groups auipc_groups word }
@@ -41,6 +43,7 @@ pub(crate) fn decode_auipc(word: u32) -> Option<Insn>
 }
 
 /// Opcode 6f.
+#[inline(always)]
 #[tactic(auto, unfolding(crate::specs::Scalar::jal_groups))]
 pub(crate) fn decode_jal(word: u32) -> Option<Insn>
     ensures { option_to_list result ≡ meanings_by_groups jal_groups word }
@@ -52,6 +55,7 @@ pub(crate) fn decode_jal(word: u32) -> Option<Insn>
 }
 
 /// Opcode 67.
+#[inline(always)]
 #[tactic(auto, unfolding(crate::specs::Scalar::jalr_groups))]
 pub(crate) fn decode_jalr(word: u32) -> Option<Insn>
     ensures { option_to_list result ≡ meanings_by_groups jalr_groups word }
@@ -66,6 +70,7 @@ pub(crate) fn decode_jalr(word: u32) -> Option<Insn>
     }
 }
 
+#[inline(always)]
 fn branch(word: u32, condition: Condition) -> Insn
     ensures { result ≡ branch_of condition word }
 {
@@ -78,6 +83,7 @@ fn branch(word: u32, condition: Condition) -> Insn
 }
 
 /// Opcode 63.
+#[inline(always)]
 #[tactic(auto, unfolding(crate::specs::Scalar::branch_groups))]
 pub(crate) fn decode_branch(word: u32) -> Option<Insn>
     ensures { option_to_list result ≡ meanings_by_groups branch_groups word }
@@ -93,6 +99,7 @@ pub(crate) fn decode_branch(word: u32) -> Option<Insn>
     }
 }
 
+#[inline(always)]
 fn load(word: u32, kind: LoadKind) -> Insn
     ensures { result ≡ load_of kind word }
 {
@@ -105,6 +112,7 @@ fn load(word: u32, kind: LoadKind) -> Insn
 }
 
 /// Opcode 03.
+#[inline(always)]
 #[tactic(auto, unfolding(crate::specs::Scalar::load_groups))]
 pub(crate) fn decode_load(word: u32) -> Option<Insn>
     ensures { option_to_list result ≡ meanings_by_groups load_groups word }
@@ -119,6 +127,7 @@ pub(crate) fn decode_load(word: u32) -> Option<Insn>
     }
 }
 
+#[inline(always)]
 fn store(word: u32, size: Width) -> Insn
     ensures { result ≡ store_of size word }
 {
@@ -131,6 +140,7 @@ fn store(word: u32, size: Width) -> Insn
 }
 
 /// Opcode 23.
+#[inline(always)]
 #[tactic(auto, unfolding(crate::specs::Scalar::store_groups))]
 pub(crate) fn decode_store(word: u32) -> Option<Insn>
     ensures { option_to_list result ≡ meanings_by_groups store_groups word }
@@ -143,6 +153,7 @@ pub(crate) fn decode_store(word: u32) -> Option<Insn>
     }
 }
 
+#[inline(always)]
 fn immediate(word: u32, op: ImmediateOp) -> Insn
     ensures { result ≡ immediate_of op word }
 {
@@ -154,6 +165,7 @@ fn immediate(word: u32, op: ImmediateOp) -> Insn
     })
 }
 
+#[inline(always)]
 fn shift(word: u32, op: ShiftOp) -> Insn
     ensures { result ≡ shift_of op word }
 {
@@ -166,6 +178,7 @@ fn shift(word: u32, op: ShiftOp) -> Insn
 }
 
 /// Opcode 13: a register and an immediate.
+#[inline(always)]
 #[tactic(auto, unfolding(crate::specs::Scalar::immediate_groups))]
 pub(crate) fn decode_immediate(word: u32) -> Option<Insn>
     ensures { option_to_list result ≡ meanings_by_groups immediate_groups word }
@@ -190,6 +203,7 @@ pub(crate) fn decode_immediate(word: u32) -> Option<Insn>
     }
 }
 
+#[inline(always)]
 fn two_registers(word: u32, op: RegisterOp) -> Insn
     ensures { result ≡ register_of op word }
 {
@@ -202,6 +216,7 @@ fn two_registers(word: u32, op: RegisterOp) -> Insn
 }
 
 /// Opcode 33 with f7 00.
+#[inline(always)]
 #[tactic(auto, unfolding(crate::specs::Scalar::base_rows))]
 fn decode_base(word: u32) -> Option<Insn>
     ensures { option_to_list result ≡ meanings_by_rows base_rows word }
@@ -220,6 +235,7 @@ fn decode_base(word: u32) -> Option<Insn>
 }
 
 /// Opcode 33 with f7 01: the M extension.
+#[inline(always)]
 #[tactic(auto, unfolding(crate::specs::Scalar::multiply_rows))]
 fn decode_multiply(word: u32) -> Option<Insn>
     ensures { option_to_list result ≡ meanings_by_rows multiply_rows word }
@@ -238,6 +254,7 @@ fn decode_multiply(word: u32) -> Option<Insn>
 }
 
 /// Opcode 33: two registers.
+#[inline(always)]
 #[tactic(auto, unfolding(crate::specs::Scalar::register_groups))]
 pub(crate) fn decode_register(word: u32) -> Option<Insn>
     ensures { option_to_list result ≡ meanings_by_groups register_groups word }

@@ -5,7 +5,7 @@ ghost use Rattle.region_mem.specs.Faults.{Steps};
 
 use crate::outcome::Registers;
 use region_mem::{Fault, Regions};
-use rv_decode::{Insn, decode};
+use rv_decode::{Insn, decode, decode_scalar};
 use scalar_core::{Scalar, step_scalar};
 use std::alloc::{Allocator, Global};
 use std::marker::Model;
@@ -29,7 +29,8 @@ impl<const VLENB: usize, A: Allocator> Model for Machine<VLENB, A> {
 
 impl<const VLENB: usize, A: Allocator> Machine<VLENB, A> {
     ghost use Rattle.vector_core.specs.Run.{has_ended as has_ended_of};
-    ghost use Rattle.vector_core.specs.MachineStep.{carry_out as carry_out_of, step as step_of};
+    ghost use Rattle.rv_decode.specs.Decode.{meaning_of};
+    ghost use Rattle.vector_core.specs.MachineStep.{carry_out as carry_out_of, decoded, step as step_of};
     ghost use Rattle.sandbox_run.specs.Answer.{registers_of};
 
     /// Whether the run has ended, which is where pc is EXIT.
@@ -60,9 +61,21 @@ impl<const VLENB: usize, A: Allocator> Machine<VLENB, A> {
         ensures { Steps (step_of VLENB self.old) self.old self.new result }
     {
         let pc = self.hart.pc();
-        let Some(word) = self.memory.fetch(pc) else {
+        let Some(word) = self.memory.fetch_next(pc) else {
             return Err(Fault::FetchFault(pc));
         };
+        match decode_scalar(word) {
+            Some(insn) => self.carry_out(word, insn),
+            None => self.carry_out_word(word),
+        }
+    }
+
+    /// Decodes any word and carries it out. It stands apart so that the instructions that are most often met are never
+    /// written to memory between decode and step.
+    #[inline(never)]
+    fn carry_out_word(&mut self, word: u32) -> Result<(), Fault>
+        ensures { Steps (decoded VLENB word self.old (meaning_of word)) self.old self.new result }
+    {
         let Some(insn) = decode(word) else {
             return Err(Fault::Illegal(word));
         };
@@ -70,6 +83,7 @@ impl<const VLENB: usize, A: Allocator> Machine<VLENB, A> {
     }
 
     /// Carries an instruction out, by its class.
+    #[inline(always)]
     #[tactic(auto, unfolding(vector_core::specs::MachineStep::carry_out))]
     fn carry_out(&mut self, word: u32, insn: Insn) -> Result<(), Fault>
         ensures { Steps (carry_out_of VLENB word self.old insn) self.old self.new result }

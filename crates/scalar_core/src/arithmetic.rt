@@ -13,6 +13,7 @@ use rv_decode::{Condition, ImmediateOp, RegisterOp, ShiftOp};
 
 /// The result of an instruction on two registers, `a` of rs1 and `b` of rs2 ("Integer
 /// Register-Register Operations", "Multiplication Operations" and "Division Operations").
+#[inline]
 #[tactic(auto, unfolding(crate::specs::Arithmetic::register_result))]
 pub(crate) fn register_result(op: RegisterOp, a: u32, b: u32) -> u32
     ensures { result ≡ register_result_of op a b }
@@ -41,6 +42,7 @@ pub(crate) fn register_result(op: RegisterOp, a: u32, b: u32) -> u32
 
 /// The upper 32 bits of the product of a signed number of 32 bits and one of 32 bits, signed or
 /// not.
+#[inline]
 fn upper_half(a: i64, b: i64) -> u32
     requires a_fits { unsigned_abs a ≤ 2 ^ 31 }
     requires b_fits { unsigned_abs b < 2 ^ 32 }
@@ -51,6 +53,7 @@ fn upper_half(a: i64, b: i64) -> u32
 }
 
 /// The upper 32 bits of the product of two unsigned numbers.
+#[inline]
 fn unsigned_upper_half(a: u32, b: u32) -> u32
     ensures { result ≡ upper_half_of (pos a *ℤ pos b) }
 {
@@ -59,6 +62,7 @@ fn unsigned_upper_half(a: u32, b: u32) -> u32
 }
 
 /// The signed quotient; all ones where the divisor is 0.
+#[inline]
 fn quotient(a: u32, b: u32) -> u32
     ensures { result ≡ quotient_of a b }
 {
@@ -72,6 +76,7 @@ fn quotient(a: u32, b: u32) -> u32
 }
 
 /// The signed remainder; the dividend where the divisor is 0.
+#[inline]
 fn remainder(a: u32, b: u32) -> u32
     ensures { result ≡ remainder_of a b }
 {
@@ -85,6 +90,7 @@ fn remainder(a: u32, b: u32) -> u32
 }
 
 /// The unsigned quotient; all ones where the divisor is 0.
+#[inline]
 fn unsigned_quotient(a: u32, b: u32) -> u32
     ensures { result ≡ unsigned_quotient_of a b }
 {
@@ -92,6 +98,7 @@ fn unsigned_quotient(a: u32, b: u32) -> u32
 }
 
 /// The unsigned remainder; the dividend where the divisor is 0.
+#[inline]
 fn unsigned_remainder(a: u32, b: u32) -> u32
     ensures { result ≡ unsigned_remainder_of a b }
 {
@@ -100,6 +107,7 @@ fn unsigned_remainder(a: u32, b: u32) -> u32
 
 /// The result of an instruction on a register and a sign-extended immediate ("Integer
 /// Register-Immediate Instructions").
+#[inline]
 #[tactic(auto, unfolding(crate::specs::Arithmetic::immediate_result))]
 pub(crate) fn immediate_result(op: ImmediateOp, a: u32, imm: i32) -> u32
     ensures { result ≡ immediate_result_of op a imm }
@@ -116,6 +124,7 @@ pub(crate) fn immediate_result(op: ImmediateOp, a: u32, imm: i32) -> u32
 }
 
 /// The result of a shift by an amount that stands in the instruction.
+#[inline]
 #[tactic(auto, unfolding(crate::specs::Arithmetic::shift_result))]
 pub(crate) fn shift_result(op: ShiftOp, a: u32, amount: u32) -> u32
     ensures { result ≡ shift_result_of op a amount }
@@ -128,6 +137,7 @@ pub(crate) fn shift_result(op: ShiftOp, a: u32, amount: u32) -> u32
 }
 
 /// Whether a branch on `a` of rs1 and `b` of rs2 is taken ("Conditional Branches").
+#[inline]
 #[tactic(auto, unfolding(crate::specs::Arithmetic::is_taken))]
 pub(crate) fn is_taken(condition: Condition, a: u32, b: u32) -> bool
     ensures { result ≡ is_taken_of condition a b }

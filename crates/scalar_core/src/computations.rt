@@ -11,6 +11,7 @@ use crate::hart::Scalar;
 use rv_decode::{ImmediateOp, Reg, RegisterOp, ShiftOp};
 
 /// Puts a number into `rd`, and goes to the next word.
+#[inline]
 pub(crate) fn put(scalar: &mut Scalar, rd: Reg, value: u32)
     ensures { scalar.new ≡ put_of rd value scalar.old }
 {
@@ -19,6 +20,7 @@ pub(crate) fn put(scalar: &mut Scalar, rd: Reg, value: u32)
 }
 
 /// auipc: pc and an immediate.
+#[inline]
 pub(crate) fn auipc(scalar: &mut Scalar, rd: Reg, imm: u32)
     ensures { scalar.new ≡ put_of rd ((scalar.old.pc + imm) % 2 ^ 32) scalar.old }
 {
@@ -27,6 +29,7 @@ pub(crate) fn auipc(scalar: &mut Scalar, rd: Reg, imm: u32)
 }
 
 /// An instruction on a register and an immediate.
+#[inline]
 pub(crate) fn immediate(scalar: &mut Scalar, op: ImmediateOp, rd: Reg, rs1: Reg, imm: i32)
     ensures { scalar.new ≡ put_of rd
         (immediate_result_of op (reg_of rs1 scalar.old) imm) scalar.old }
@@ -36,6 +39,7 @@ pub(crate) fn immediate(scalar: &mut Scalar, op: ImmediateOp, rd: Reg, rs1: Reg,
 }
 
 /// A shift by an amount that stands in the instruction.
+#[inline]
 pub(crate) fn shift_immediate(scalar: &mut Scalar, op: ShiftOp, rd: Reg, rs1: Reg, amount: u32)
     ensures { scalar.new ≡ put_of rd
         (shift_result_of op (reg_of rs1 scalar.old) amount) scalar.old }
@@ -45,6 +49,7 @@ pub(crate) fn shift_immediate(scalar: &mut Scalar, op: ShiftOp, rd: Reg, rs1: Re
 }
 
 /// An instruction on two registers.
+#[inline]
 pub(crate) fn register(scalar: &mut Scalar, op: RegisterOp, rd: Reg, rs1: Reg, rs2: Reg)
     ensures { scalar.new ≡ put_of rd
         (register_result_of op (reg_of rs1 scalar.old) (reg_of rs2 scalar.old)) scalar.old }

@@ -11,6 +11,7 @@ use region_mem::Fault;
 use rv_decode::{Condition, Reg};
 
 /// jal: jumps by an offset from pc.
+#[inline]
 #[tactic(auto, unfolding(crate::specs::Step::jal_step))]
 pub(crate) fn jal(scalar: &mut Scalar, rd: Reg, offset: i32) -> Result<(), Fault>
     ensures { Steps (jal_step rd offset scalar.old) scalar.old scalar.new result }
@@ -20,6 +21,7 @@ pub(crate) fn jal(scalar: &mut Scalar, rd: Reg, offset: i32) -> Result<(), Fault
 }
 
 /// jalr: jumps by an offset from rs1, with bit 0 of the target cleared.
+#[inline]
 #[tactic(auto, unfolding(crate::specs::Step::jalr_step))]
 pub(crate) fn jalr(scalar: &mut Scalar, rd: Reg, rs1: Reg, offset: i32) -> Result<(), Fault>
     ensures { Steps (jalr_step rd rs1 offset scalar.old) scalar.old scalar.new result }
@@ -29,6 +31,7 @@ pub(crate) fn jalr(scalar: &mut Scalar, rd: Reg, rs1: Reg, offset: i32) -> Resul
 }
 
 /// Jumps to the target, and leaves the next word's address in `rd`.
+#[inline]
 #[tactic(auto, unfolding(crate::specs::Step::jump_to, crate::specs::Step::jump_and_link))]
 fn jump_and_link(scalar: &mut Scalar, rd: Reg, target: u32) -> Result<(), Fault>
     ensures { Steps (jump_and_link_of rd target scalar.old) scalar.old scalar.new result }
@@ -43,6 +46,7 @@ fn jump_and_link(scalar: &mut Scalar, rd: Reg, target: u32) -> Result<(), Fault>
 }
 
 /// A branch: jumps by an offset from pc where the two registers meet the condition.
+#[inline]
 #[tactic(auto, unfolding(crate::specs::Step::branch_step))]
 pub(crate) fn branch(
     scalar: &mut Scalar,
@@ -59,6 +63,7 @@ pub(crate) fn branch(
 }
 
 /// Jumps to the target where the branch is taken, and else goes to the next word.
+#[inline]
 #[tactic(auto, unfolding(crate::specs::Step::jump_to, crate::specs::Step::branch_to))]
 fn branch_to(scalar: &mut Scalar, taken: bool, target: u32) -> Result<(), Fault>
     ensures { Steps (branch_to_of taken target scalar.old) scalar.old scalar.new result }

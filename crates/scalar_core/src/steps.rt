@@ -23,6 +23,7 @@ use vreg_groups::Vconfig;
 /// address. A step that faults changes nothing. `config` gives what vl and vtype read as, and `vlenb`
 /// what vlenb reads as, VLEN / 8 ("RV32I Base Integer Instruction Set", "M Extension for Integer
 /// Multiplication and Division", "Zicsr Extension for Control and Status Register Instructions").
+#[inline(always)]
 pub fn step_scalar<A: Allocator>(
     scalar: &mut Scalar,
     insn: Insn,
@@ -41,6 +42,7 @@ pub fn step_scalar<A: Allocator>(
 }
 
 /// The step of an instruction of either class.
+#[inline(always)]
 #[tactic(auto, unfolding(crate::specs::Step::scalar_step))]
 fn step_class<A: Allocator>(
     scalar: &mut Scalar,
@@ -70,6 +72,7 @@ fn step_class<A: Allocator>(
 }
 
 /// The step of an instruction of RV32I or M.
+#[inline(always)]
 #[tactic(auto, unfolding(crate::specs::Step::rv32im_step, crate::specs::Step::beside))]
 fn step_rv32im<A: Allocator>(
     scalar: &mut Scalar,

@@ -14,6 +14,7 @@ use rv_decode::{LoadKind, Reg, Width};
 use std::alloc::Allocator;
 
 /// A load from rs1 and an offset into `rd`.
+#[inline]
 #[tactic(auto, unfolding(crate::specs::Step::load_step, crate::specs::Step::load_from))]
 pub(crate) fn load<A: Allocator>(
     scalar: &mut Scalar,
@@ -38,6 +39,7 @@ pub(crate) fn load<A: Allocator>(
 }
 
 /// How many bytes a load reads.
+#[inline]
 #[tactic(auto, unfolding(crate::specs::Step::size_of_load))]
 fn size_of_load(kind: LoadKind) -> usize
     ensures value { result ≡ size_of_load_of kind }
@@ -51,6 +53,7 @@ fn size_of_load(kind: LoadKind) -> usize
 }
 
 /// What a load puts into its register: the number, extended to 32 bits by its sign or by zeros.
+#[inline]
 #[tactic(auto, unfolding(crate::specs::Step::loaded))]
 fn loaded(kind: LoadKind, number: u32) -> u32
     ensures { result ≡ loaded_of kind number }
@@ -63,6 +66,7 @@ fn loaded(kind: LoadKind, number: u32) -> u32
 }
 
 /// A store of rs2's low bytes at rs1 and an offset.
+#[inline]
 #[tactic(auto, unfolding(crate::specs::Step::store_step, crate::specs::Step::store_from))]
 pub(crate) fn store<A: Allocator>(
     scalar: &mut Scalar,
@@ -85,6 +89,7 @@ pub(crate) fn store<A: Allocator>(
 }
 
 /// How many bytes a store writes.
+#[inline]
 #[tactic(auto, unfolding(crate::specs::Step::size_of_store))]
 fn size_of_store(size: Width) -> usize
     ensures value { result ≡ size_of_store_of size }

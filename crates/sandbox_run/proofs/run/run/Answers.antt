@@ -1,4 +1,5 @@
-use Rattle.std.proofs.Common.{arith, rules, sym, ap, ◌∙◌}
+use Rattle.std.proofs.Common.{◌≡◌, ◌-◌, arith, rules, sym, ap, ◌∙◌}
+use Rattle.vector_core.specs.Run.{outcome, outcome_from}
 use Rattle.sandbox_run.specs.declared.outcome.Outcome.TheVariants.{Ended, Trapped, OutOfSteps}
 use Rattle.sandbox_run.specs.Answer.{answer_of, final_of}
 use Rattle.vector_core.proofs.RunLemmas.{outcome_from-next, outcome_from-trap, outcome_from-ended, outcome_from-out}
@@ -22,3 +23,9 @@ returns-in-Err g c =
 pub stepping-preserved : goal.stepping-preserved
 stepping-preserved g c =
     (omega arith, sym (outcome_from-next g.row.VLENB _ _ _ _ (omega arith) (search rules) (search rules)) ∙ c.stepping.invariant.1)
+
+pub stepping-init : goal.stepping-init
+unfolding outcome
+stepping-init g c =
+    let whole : c.args.max - 0 ≡ c.args.max = omega arith in
+    (omega arith, ap (λ n. outcome_from g.row.VLENB n 0 c.args.machine) whole)
