@@ -5,3 +5,4 @@ pub mod Writes
 pub mod Rooms
 pub mod Parts
 pub mod Spans
+pub mod Plain

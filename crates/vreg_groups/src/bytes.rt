@@ -3,7 +3,7 @@
 ghost use Rattle.std.specs.Prelude.{◌≡◌, ℕ, ◌+◌, ◌*◌, ◌<◌, ◌≤◌, true, length, map, replicate, All};
 ghost use Rattle.std.specs.List.{flat_map, list_all, range_with_len};
 ghost use Rattle.vreg_groups.specs.Elements.{bytes_of, element_at, bit_of, bit_at, number_of_bits};
-ghost use Rattle.vreg_groups.specs.NewElements.{bytes_written, filled, overlaid, replaced, new_bytes, new_mask_byte, new_mask_bytes};
+ghost use Rattle.vreg_groups.specs.NewElements.{bytes_written, filled, overlaid, replaced, new_bytes, new_element, new_mask_byte, new_mask_bytes};
 
 use crate::elements::Element;
 use crate::policies::{Agnostic, Policy, body_element, new_element};
@@ -243,6 +243,9 @@ fn new_mask_byte(policy: Policy, values: &[bool], active: &[bool], j: usize, old
     requires { j < 32 }
     ensures { result ≡ new_mask_byte policy values.now active.now j old }
 {
+    if 8 * j + 8 <= values.len() && 8 * j + 8 <= active.len() {
+        return body_mask_byte(policy, values, active, j, old);
+    }
     let mut byte = 0;
     for k in 0..8 {
         if new_element(policy, true, values, active, 8 * j + k, bit_of(old, k)) {
@@ -250,4 +253,32 @@ fn new_mask_byte(policy: Policy, values: &[bool], active: &[bool], j: usize, old
         }
     }
     byte
+}
+
+/// The same where all eight bits are of the body.
+#[tactic(auto, unfolding(crate::specs::NewElements::new_mask_byte, crate::specs::Elements::number_of_bits))]
+fn body_mask_byte(policy: Policy, values: &[bool], active: &[bool], j: usize, old: u8) -> u8
+    requires few { j < 32 }
+    requires results { 8 * j + 8 ≤ length values.now }
+    requires told { 8 * j + 8 ≤ length active.now }
+    ensures { result ≡ new_mask_byte policy values.now active.now j old }
+{
+    let mut byte = 0;
+    for k in 0..8 {
+        if body_bit(policy, values, active, 8 * j + k, bit_of(old, k)) {
+            byte += 1 << k;
+        }
+    }
+    byte
+}
+
+/// What bit `i` of a mask becomes, where it is one of the body.
+#[inline]
+#[tactic(auto, unfolding(crate::specs::NewElements::new_element))]
+fn body_bit(policy: Policy, values: &[bool], active: &[bool], i: usize, old: bool) -> bool
+    requires result { i < length values.now }
+    requires told { i < length active.now }
+    ensures { result ≡ new_element policy true values.now active.now i old }
+{
+    body_element(policy.inactive, true, values[i], active[i], old)
 }

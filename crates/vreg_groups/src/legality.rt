@@ -1,15 +1,18 @@
 //! Which vector instructions are legal under a vector type.
 
-ghost use Rattle.std.specs.Prelude.{◌≡◌, ◌+◌, ◌^◌, ◌≤◌, ◌<◌, ◌⊎◌, Option, Some, None, true, IfSome, if◌then◌else◌, ℕ};
+ghost use Rattle.std.specs.Prelude.{◌≡◌, ◌==◌, ◌+◌, ◌%◌, ◌^◌, ◌≤◌, ◌<◌, ◌⊎◌, Option, Some, None, true, IfSome, if◌then◌else◌, ℕ};
 ghost use Rattle.std.specs.List.{range_with_len};
-ghost use Rattle.rv_decode.specs.Needs.{needs_of};
+ghost use Rattle.rv_decode.specs.Needs.{needs_of, needs_of_access, group, operands, second};
+ghost use Rattle.rv_decode.specs.declared.extents.Eew.TheVariants.{Same};
 ghost use Rattle.vreg_groups.specs.VectorLength.{IsConfig, IsLength, IsVlenb};
 ghost use Rattle.vreg_groups.specs.VectorType.{type_in, vlmax_of, vtype_of};
 ghost use Rattle.vreg_groups.specs.Legality.{eew_bits, emul_eighths, group_count, whole_count, count_of, registers_of, is_among, are_apart, is_width, is_group_legal, is_operand_legal, element_bits, is_emul_whole, may_overlap, is_overlap_legal, is_grouped, is_pair_legal, keeps_mask, is_mask_legal, is_present_legal, is_source_legal, is_destination_legal, are_operands_legal, is_legal, AreAllInside, IsInside};
 
 use crate::vector_length::Vconfig;
 use crate::vector_type::{Vtype, eew_bits, emul_eighths, type_in};
-use rv_decode::{Count, Eew, Extent, Insn, Operand, Operands, Sharing, needs};
+use rv_decode::{
+    Count, Eew, Extent, Insn, Operand, Operands, Place, Reg, Sharing, Source, VArith, VMem, needs,
+};
 
 /// Tells whether an instruction is legal under `config`.
 ///
@@ -35,10 +38,103 @@ pub fn legal_type(config: &Vconfig, insn: &Insn) -> Option<Vtype>
         → IsLength vlenb t config.now.vl) }
 {
     let vtype = config.vector_type();
-    if are_operands_legal(vtype, &needs(insn)) {
+    if is_plain(vtype, insn) || are_operands_legal(vtype, &needs(insn)) {
         Some(type_in(vtype))
     } else {
         None
+    }
+}
+
+// Whether an instruction is one of the most common, and legal. All its operands have elements of one width, so how they
+// overlap does not matter, and this is told without a look at each pair.
+#[tactic(auto, unfolding(rv_decode::specs::Needs::needs_of, rv_decode::specs::Needs::needs_of_arith))]
+fn is_plain(vtype: Option<Vtype>, insn: &Insn) -> bool
+    ensures meaning { result ≡ true → are_operands_legal vtype (needs_of insn.now) ≡ true }
+    ensures inside { result ≡ true → AreAllInside (type_in vtype) (needs_of insn.now) }
+{
+    let Some(vtype) = vtype else {
+        return false;
+    };
+    match insn {
+        Insn::VArith(
+            VArith::Int {
+                vd,
+                vs2,
+                b,
+                masked,
+                ..
+            },
+        ) => is_plain_operation(&vtype, *vd, *vs2, b, *masked),
+        Insn::VMem(access) => is_plain_access(&vtype, access),
+        Insn::Scalar(_)
+        | Insn::Csr(_)
+        | Insn::VSet(_)
+        | Insn::VArith(_)
+        | Insn::VMask(_)
+        | Insn::VPerm(_)
+        | Insn::VReduce(_)
+        | Insn::VMove(_) => false,
+    }
+}
+
+// Whether an operation on groups of SEW is legal.
+#[inline]
+#[tactic(auto, using(crate::proofs::Plain::same_width), unfolding(crate::specs::Legality::are_operands_legal, crate::specs::Legality::is_destination_legal, crate::specs::Legality::is_source_legal))]
+fn is_plain_operation(vtype: &Vtype, vd: Reg, vs2: Reg, b: &Source, masked: bool) -> bool
+    ensures meaning { result ≡ true → are_operands_legal (Some vtype.now) (operands (group Same vd)
+        (group Same vs2) (second b.now) masked Sharing.ByWidth) ≡ true }
+    ensures inside { result ≡ true → AreAllInside vtype.now (operands (group Same vd)
+        (group Same vs2) (second b.now) masked Sharing.ByWidth) }
+{
+    let destination = same_group(vd);
+    is_operand_legal(Some(*vtype), &destination)
+        && is_operand_legal(Some(*vtype), &same_group(vs2))
+        && is_second_legal(vtype, b)
+        && is_mask_legal(masked, Sharing::ByWidth, &destination)
+}
+
+// The group of SEW that begins at this register.
+#[inline]
+fn same_group(first: Reg) -> Operand
+    ensures { result ≡ record { first = first; extent = Extent.Group Same } }
+{
+    Operand {
+        first,
+        extent: Extent::Group(Eew::Same),
+    }
+}
+
+// Whether the second operand is legal by itself.
+#[inline]
+fn is_second_legal(vtype: &Vtype, b: &Source) -> bool
+    ensures meaning { result ≡ is_present_legal (Some vtype.now) (second b.now) }
+    ensures inside { result ≡ true → IfSome (second b.now) (IsInside vtype.now) }
+{
+    match b {
+        Source::Vector(vs1) => is_operand_legal(Some(*vtype), &same_group(*vs1)),
+        Source::Scalar(_) | Source::Immediate(_) => true,
+    }
+}
+
+// Whether a load or store is one of elements that lie one after another, and legal.
+#[inline]
+#[tactic(auto, unfolding(rv_decode::specs::Needs::needs_of_access, rv_decode::specs::Needs::needs_of_place, rv_decode::specs::Needs::access_operands, crate::specs::Legality::are_operands_legal, crate::specs::Legality::is_destination_legal, crate::specs::Legality::is_source_legal))]
+fn is_plain_access(vtype: &Vtype, access: &VMem) -> bool
+    ensures meaning { result ≡ true → are_operands_legal (Some vtype.now)
+        (needs_of_access access.now) ≡ true }
+    ensures inside { result ≡ true → AreAllInside vtype.now (needs_of_access access.now) }
+{
+    let place = access.place;
+    match place {
+        Place::Unit { width, masked } => {
+            let values = Operand {
+                first: access.values,
+                extent: Extent::Group(Eew::Fixed(width)),
+            };
+            is_operand_legal(Some(*vtype), &values)
+                && is_mask_legal(masked, Sharing::ByWidth, &values)
+        }
+        Place::Strided { .. } | Place::Indexed { .. } | Place::Mask | Place::Whole { .. } => false,
     }
 }
 
@@ -72,7 +168,7 @@ fn is_operand_legal(vtype: Option<Vtype>, operand: &Operand) -> bool
     let first = usize::from(operand.first.number());
     let extent = operand.extent;
     match extent {
-        Extent::Whole(count) => first % whole_count(count) == 0,
+        Extent::Whole(count) => is_multiple(first, whole_count(count)),
         Extent::Group(eew) => match vtype {
             None => false,
             Some(vtype) => is_group_legal(&vtype, eew, first),
@@ -96,7 +192,23 @@ fn is_group_legal(vtype: &Vtype, eew: Eew, first: usize) -> bool
 {
     is_width(eew_bits(vtype.sew, eew))
         && emul_eighths(vtype, eew) <= 64
-        && first % vtype.group_count(eew) == 0
+        && is_multiple(first, vtype.group_count(eew))
+}
+
+// Whether a register's number is a multiple of how many registers a group has. These are few, and to divide by them
+// takes no division.
+#[inline]
+fn is_multiple(first: usize, count: usize) -> bool
+    requires { 0 < count }
+    ensures { result ≡ (first % count == 0) }
+{
+    match count {
+        1 => true,
+        2 => first % 2 == 0,
+        4 => first % 4 == 0,
+        8 => first % 8 == 0,
+        _ => first % count == 0,
+    }
 }
 
 #[tactic(auto, unfolding(crate::specs::Legality::is_destination_legal))]

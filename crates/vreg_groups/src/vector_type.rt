@@ -1,7 +1,7 @@
 //! The vector type, vtype: the width of elements, the size of register groups, and what becomes of elements that no
 //! result is written to.
 
-ghost use Rattle.std.specs.Prelude.{◌≡◌, ℕ, ◌*◌, ◌<◌, ◌≤◌, ◌⊎◌};
+ghost use Rattle.std.specs.Prelude.{◌≡◌, ℕ, ◌*◌, ◌/◌, ◌<◌, ◌≤◌, ◌⊎◌};
 ghost use Rattle.vreg_groups.specs.Legality.{eew_bits, emul_eighths, group_count};
 ghost use Rattle.vreg_groups.specs.VectorLength.{IsVlenb};
 ghost use Rattle.vreg_groups.specs.VectorType.{bits_of_width, bytes_of_width, eighths_of, sew_of, lmul_of, is_supported, type_in, vtype_of, vlmax_of};
@@ -68,7 +68,7 @@ impl Vtype {
         ensures bound { result ≤ MOST_ELEMENTS }
         ensures bytes { bytes_of_width self.now.sew * result ≤ MOST_ELEMENTS }
     {
-        (eighths(self.lmul) * vlenb / bits_of(self.sew)) as u32
+        over_bits(eighths(self.lmul) * vlenb, self.sew) as u32
     }
 
     /// How many registers a group has whose elements have this width: EMUL = EEW / SEW * LMUL of them, or one where EMUL
@@ -106,7 +106,7 @@ pub(crate) fn emul_eighths(vtype: &Vtype, eew: Eew) -> usize
     ensures meaning { result ≡ emul_eighths vtype.now eew }
     ensures bound { result ≤ 512 }
 {
-    eew_bits(vtype.sew, eew) * eighths(vtype.lmul) / bits_of(vtype.sew)
+    over_bits(eew_bits(vtype.sew, eew) * eighths(vtype.lmul), vtype.sew)
 }
 
 // EEW, in bits.
@@ -135,6 +135,18 @@ pub(crate) fn eighths(lmul: Lmul) -> usize
         Lmul::Two => 16,
         Lmul::Four => 32,
         Lmul::Eight => 64,
+    }
+}
+
+// A number over how many bits an element of this width has. Each of these quotients is a shift.
+#[inline]
+fn over_bits(n: usize, width: Width) -> usize
+    ensures { result ≡ n / bits_of_width width }
+{
+    match width {
+        Width::W8 => n / 8,
+        Width::W16 => n / 16,
+        Width::W32 => n / 32,
     }
 }
 
