@@ -9,6 +9,7 @@ ghost use Rattle.rv_decode.specs.Access.{vector_load_groups, vector_store_groups
 use crate::word::{bits, register};
 use crate::{Count, Direction, Insn, Place, VMem, Width};
 
+#[inline(always)]
 fn unit(word: u32, direction: Direction, width: Width) -> Insn
     ensures { result ≡ unit_of direction width word }
 {
@@ -21,6 +22,7 @@ fn unit(word: u32, direction: Direction, width: Width) -> Insn
     })
 }
 
+#[inline(always)]
 fn strided(word: u32, direction: Direction, width: Width) -> Insn
     ensures { result ≡ strided_of direction width word }
 {
@@ -37,6 +39,7 @@ fn strided(word: u32, direction: Direction, width: Width) -> Insn
     })
 }
 
+#[inline(always)]
 fn indexed(word: u32, ordered: bool, direction: Direction, width: Width) -> Insn
     ensures { result ≡ indexed_of ordered direction width word }
 {
@@ -54,6 +57,7 @@ fn indexed(word: u32, ordered: bool, direction: Direction, width: Width) -> Insn
     })
 }
 
+#[inline(always)]
 fn whole(word: u32, count: Count, direction: Direction, width: Width) -> Insn
     ensures { result ≡ whole_of count direction width word }
 {
@@ -66,6 +70,7 @@ fn whole(word: u32, count: Count, direction: Direction, width: Width) -> Insn
 }
 
 /// The accesses of elements, one field each: unit-stride, strided, indexed.
+#[inline(always)]
 #[tactic(auto, unfolding(crate::specs::Access::element_rows))]
 fn decode_elements(word: u32, direction: Direction, width: Width) -> Option<Insn>
     ensures { option_to_list result ≡ meanings_by_rows (element_rows direction width) word }
@@ -84,6 +89,7 @@ fn decode_elements(word: u32, direction: Direction, width: Width) -> Option<Insn
 }
 
 /// The accesses of whole registers, from a multiple of their number on.
+#[inline(always)]
 #[tactic(auto, unfolding(crate::specs::Access::whole_rows))]
 fn decode_whole(word: u32, direction: Direction, width: Width) -> Option<Insn>
     ensures { option_to_list result ≡ meanings_by_rows (whole_rows direction width) word }
@@ -102,6 +108,7 @@ fn decode_whole(word: u32, direction: Direction, width: Width) -> Option<Insn>
 }
 
 /// The accesses of a mask.
+#[inline(always)]
 #[tactic(auto, unfolding(crate::specs::Access::mask_rows))]
 fn decode_mask(word: u32, direction: Direction) -> Option<Insn>
     ensures { option_to_list result ≡ meanings_by_rows (mask_rows direction) word }
@@ -123,6 +130,7 @@ fn decode_mask(word: u32, direction: Direction) -> Option<Insn>
 }
 
 /// The accesses of width 8.
+#[inline(always)]
 #[tactic(auto, unfolding(crate::specs::Access::byte_rows, crate::specs::Access::element_rows, crate::specs::Access::whole_rows, crate::specs::Access::mask_rows))]
 fn decode_bytes(word: u32, direction: Direction) -> Option<Insn>
     ensures { option_to_list result ≡ meanings_by_rows (byte_rows direction) word }
@@ -136,6 +144,7 @@ fn decode_bytes(word: u32, direction: Direction) -> Option<Insn>
 }
 
 /// The loads of width 16 and 32.
+#[inline(always)]
 #[tactic(auto, unfolding(crate::specs::Access::wide_load_rows, crate::specs::Access::element_rows, crate::specs::Access::whole_rows))]
 fn decode_wide_load(word: u32, width: Width) -> Option<Insn>
     ensures { option_to_list result ≡ meanings_by_rows (wide_load_rows width) word }
@@ -148,6 +157,7 @@ fn decode_wide_load(word: u32, width: Width) -> Option<Insn>
 }
 
 /// Opcode 07: loads.
+#[inline(always)]
 #[tactic(auto, unfolding(crate::specs::Access::vector_load_groups))]
 pub(crate) fn decode_vector_load(word: u32) -> Option<Insn>
     ensures { option_to_list result ≡ meanings_by_groups vector_load_groups word }
@@ -161,6 +171,7 @@ pub(crate) fn decode_vector_load(word: u32) -> Option<Insn>
 }
 
 /// Opcode 27: stores.
+#[inline(always)]
 #[tactic(auto, unfolding(crate::specs::Access::vector_store_groups))]
 pub(crate) fn decode_vector_store(word: u32) -> Option<Insn>
     ensures { option_to_list result ≡ meanings_by_groups vector_store_groups word }

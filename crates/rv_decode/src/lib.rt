@@ -53,6 +53,33 @@ pub fn decode(word: u32) -> Option<Insn>
     }
 }
 
+/// The vector load or store that `word` encodes, or `None` for all other words: again for callers that do these apart.
+#[inline(always)]
+#[tactic(auto, unfolding(crate::specs::Decode::meaning_of, crate::specs::Decode::table))]
+pub fn decode_access(word: u32) -> Option<VMem>
+    ensures meaning { IfSome result (λ access. meaning_of word ≡ Some (Insn.VMem access)) }
+{
+    let insn = match bits(word, 0, 7) {
+        0x07 => decode_vector_load(word),
+        0x27 => decode_vector_store(word),
+        _ => None,
+    };
+    match insn {
+        Some(Insn::VMem(access)) => Some(access),
+        Some(
+            Insn::Scalar(_)
+            | Insn::Csr(_)
+            | Insn::VSet(_)
+            | Insn::VArith(_)
+            | Insn::VMask(_)
+            | Insn::VPerm(_)
+            | Insn::VReduce(_)
+            | Insn::VMove(_),
+        )
+        | None => None,
+    }
+}
+
 /// The same for the words of the opcodes of RV32I and M but those of fence and SYSTEM, and `None` for all others: what a
 /// run does most, for callers that do these apart.
 #[inline(always)]

@@ -5,11 +5,11 @@ ghost use Rattle.region_mem.specs.Faults.{Steps};
 
 use crate::outcome::Registers;
 use region_mem::{Fault, Regions};
-use rv_decode::{Insn, decode, decode_scalar};
+use rv_decode::{Insn, decode, decode_access, decode_scalar};
 use scalar_core::{Scalar, step_scalar};
 use std::alloc::{Allocator, Global};
 use std::marker::Model;
-use vector_core::{VectorState, step_vector};
+use vector_core::{VectorState, step_access, step_vector};
 
 /// The scalar registers, the vector registers, and memory.
 #[derive(Drop)]
@@ -71,9 +71,29 @@ impl<const VLENB: usize, A: Allocator> Machine<VLENB, A> {
     }
 
     /// Decodes any word and carries it out. It stands apart so that the instructions that are most often met are never
-    /// written to memory between decode and step.
+    /// written to memory between decode and step; and so do loads and stores.
     #[inline(never)]
+    #[tactic(auto, unfolding(vector_core::specs::MachineStep::carry_out))]
     fn carry_out_word(&mut self, word: u32) -> Result<(), Fault>
+        ensures { Steps (decoded VLENB word self.old (meaning_of word)) self.old self.new result }
+    {
+        match decode_access(word) {
+            Some(access) => {
+                step_access(
+                    &mut self.vectors,
+                    &mut self.hart,
+                    word,
+                    &access,
+                    &mut self.memory,
+                )
+            }
+            None => self.carry_out_any(word),
+        }
+    }
+
+    /// The same by the decode of all words.
+    #[inline(never)]
+    fn carry_out_any(&mut self, word: u32) -> Result<(), Fault>
         ensures { Steps (decoded VLENB word self.old (meaning_of word)) self.old self.new result }
     {
         let Some(insn) = decode(word) else {

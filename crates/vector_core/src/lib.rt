@@ -30,4 +30,4 @@ mod step;
 mod widening;
 
 pub use state::VectorState;
-pub use step::step_vector;
+pub use step::{step_access, step_vector};

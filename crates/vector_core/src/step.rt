@@ -17,10 +17,10 @@ use crate::reductions::step_reduce;
 use crate::setup::Setup;
 use crate::state::VectorState;
 use region_mem::{Fault, Regions};
-use rv_decode::{Insn, VArith};
+use rv_decode::{Insn, VArith, VMem};
 use scalar_core::Scalar;
 use std::alloc::Allocator;
-use vreg_groups::legal_type;
+use vreg_groups::{legal_access_type, legal_type};
 
 /// An instruction that computes. vxsat becomes 1 where an active element saturated.
 #[tactic(auto, unfolding(crate::specs::Step::arith_step))]
@@ -106,4 +106,26 @@ pub fn step_vector<const VLENB: usize, A: Allocator>(
     };
     let setup = vectors.setup(vtype);
     step_legal(vectors, scalar, &setup, &insn, memory)
+}
+
+/// The same by a vector load or store.
+#[tactic(auto, unfolding(crate::specs::Step::vector_step, crate::specs::Step::legal_step, rv_decode::specs::Needs::needs_of))]
+pub fn step_access<const VLENB: usize, A: Allocator>(
+    vectors: &mut VectorState<VLENB>,
+    scalar: &mut Scalar,
+    word: u32,
+    access: &VMem,
+    memory: &mut Regions<A>,
+) -> Result<(), Fault>
+    ensures { Steps (vector_step VLENB (Insn.VMem access.now) word scalar.old vectors.old memory.old)
+        (scalar.old, vectors.old, memory.old) (scalar.new, vectors.new, memory.new) result }
+{
+    vectors.state_law();
+    match legal_access_type(&vectors.config, access) {
+        None => Err(Fault::Illegal(word)),
+        Some(vtype) => {
+            let setup = vectors.setup(vtype);
+            step_memory(vectors, scalar, &setup, access, memory)
+        }
+    }
 }

@@ -45,8 +45,24 @@ pub fn legal_type(config: &Vconfig, insn: &Insn) -> Option<Vtype>
     }
 }
 
+/// The same of a vector load or store.
+#[tactic(auto, unfolding(crate::specs::Legality::is_legal, rv_decode::specs::Needs::needs_of))]
+pub fn legal_access_type(config: &Vconfig, access: &VMem) -> Option<Vtype>
+    ensures meaning { result ≡ (if is_legal config.now (Insn.VMem access.now)
+        then Some (type_in (vtype_of config.now.vtype)) else None) }
+    ensures inside { IfSome result (λ t. AreAllInside t (needs_of_access access.now)) }
+    ensures length { IfSome result (λ t. (vlenb : ℕ) → IsVlenb vlenb → IsConfig vlenb config.now
+        → IsLength vlenb t config.now.vl) }
+{
+    match config.vector_type() {
+        Some(vtype) if is_plain_access(&vtype, access) => Some(vtype),
+        _ => legal_type(config, &Insn::VMem(*access)),
+    }
+}
+
 // Whether an instruction is one of the most common, and legal. All its operands have elements of one width, so how they
 // overlap does not matter, and this is told without a look at each pair.
+#[inline(always)]
 #[tactic(auto, unfolding(rv_decode::specs::Needs::needs_of, rv_decode::specs::Needs::needs_of_arith))]
 fn is_plain(vtype: Option<Vtype>, insn: &Insn) -> bool
     ensures meaning { result ≡ true → are_operands_legal vtype (needs_of insn.now) ≡ true }
@@ -78,7 +94,7 @@ fn is_plain(vtype: Option<Vtype>, insn: &Insn) -> bool
 }
 
 // Whether an operation on groups of SEW is legal.
-#[inline]
+#[inline(always)]
 #[tactic(auto, using(crate::proofs::Plain::same_width), unfolding(crate::specs::Legality::are_operands_legal, crate::specs::Legality::is_destination_legal, crate::specs::Legality::is_source_legal))]
 fn is_plain_operation(vtype: &Vtype, vd: Reg, vs2: Reg, b: &Source, masked: bool) -> bool
     ensures meaning { result ≡ true → are_operands_legal (Some vtype.now) (operands (group Same vd)
@@ -94,7 +110,7 @@ fn is_plain_operation(vtype: &Vtype, vd: Reg, vs2: Reg, b: &Source, masked: bool
 }
 
 // The group of SEW that begins at this register.
-#[inline]
+#[inline(always)]
 fn same_group(first: Reg) -> Operand
     ensures { result ≡ record { first = first; extent = Extent.Group Same } }
 {
@@ -105,7 +121,7 @@ fn same_group(first: Reg) -> Operand
 }
 
 // Whether the second operand is legal by itself.
-#[inline]
+#[inline(always)]
 fn is_second_legal(vtype: &Vtype, b: &Source) -> bool
     ensures meaning { result ≡ is_present_legal (Some vtype.now) (second b.now) }
     ensures inside { result ≡ true → IfSome (second b.now) (IsInside vtype.now) }
@@ -117,7 +133,7 @@ fn is_second_legal(vtype: &Vtype, b: &Source) -> bool
 }
 
 // Whether a load or store is one of elements that lie one after another, and legal.
-#[inline]
+#[inline(always)]
 #[tactic(auto, unfolding(rv_decode::specs::Needs::needs_of_access, rv_decode::specs::Needs::needs_of_place, rv_decode::specs::Needs::access_operands, crate::specs::Legality::are_operands_legal, crate::specs::Legality::is_destination_legal, crate::specs::Legality::is_source_legal))]
 fn is_plain_access(vtype: &Vtype, access: &VMem) -> bool
     ensures meaning { result ≡ true → are_operands_legal (Some vtype.now)
@@ -138,6 +154,7 @@ fn is_plain_access(vtype: &Vtype, access: &VMem) -> bool
     }
 }
 
+#[inline(never)]
 #[tactic(auto, unfolding(crate::specs::Legality::are_operands_legal))]
 pub(crate) fn are_operands_legal(vtype: Option<Vtype>, operands: &Operands) -> bool
     ensures meaning { result ≡ are_operands_legal vtype operands.now }
@@ -160,6 +177,7 @@ fn is_present_legal(vtype: Option<Vtype>, operand: &Option<Operand>) -> bool
 }
 
 // The rules on an operand by itself.
+#[inline(always)]
 #[tactic(auto, unfolding(crate::specs::Legality::is_operand_legal, crate::specs::Legality::count_of, crate::specs::Legality::element_bits))]
 fn is_operand_legal(vtype: Option<Vtype>, operand: &Operand) -> bool
     ensures meaning { result ≡ is_operand_legal vtype operand.now.extent operand.now.first }
@@ -182,6 +200,7 @@ fn is_operand_legal(vtype: Option<Vtype>, operand: &Operand) -> bool
 }
 
 // EEW and EMUL are in range, and the group stands at a multiple of its size.
+#[inline(always)]
 #[tactic(auto, using(crate::proofs::Sizes::group_ends, crate::proofs::Sizes::group_small))]
 fn is_group_legal(vtype: &Vtype, eew: Eew, first: usize) -> bool
     requires { first < 32 }
@@ -197,7 +216,7 @@ fn is_group_legal(vtype: &Vtype, eew: Eew, first: usize) -> bool
 
 // Whether a register's number is a multiple of how many registers a group has. These are few, and to divide by them
 // takes no division.
-#[inline]
+#[inline(always)]
 fn is_multiple(first: usize, count: usize) -> bool
     requires { 0 < count }
     ensures { result ≡ (first % count == 0) }
@@ -340,6 +359,7 @@ fn is_emul_whole(vtype: &Vtype, extent: Extent) -> bool
 }
 
 // Whether a masked instruction leaves its mask alone.
+#[inline(always)]
 #[tactic(auto, unfolding(crate::specs::Legality::is_mask_legal))]
 fn is_mask_legal(masked: bool, sharing: Sharing, destination: &Operand) -> bool
     ensures { (vtype : Option Vtype) → result ≡ is_mask_legal vtype masked sharing destination.now }
@@ -348,6 +368,7 @@ fn is_mask_legal(masked: bool, sharing: Sharing, destination: &Operand) -> bool
 }
 
 // Whether an operand covers v0.
+#[inline(always)]
 #[tactic(auto, unfolding(crate::specs::Legality::registers_of))]
 fn has_v0(operand: &Operand) -> bool
     ensures { (vtype : Option Vtype) → result ≡ is_among 0 (registers_of vtype operand.now) }
@@ -355,6 +376,7 @@ fn has_v0(operand: &Operand) -> bool
     operand.first.number() == 0
 }
 
+#[inline(always)]
 #[tactic(auto, unfolding(crate::specs::Legality::keeps_mask))]
 fn keeps_mask(sharing: Sharing, extent: Extent) -> bool
     ensures { result ≡ keeps_mask sharing extent }
@@ -386,6 +408,7 @@ fn count_of(vtype: Option<Vtype>, extent: Extent) -> usize
 }
 
 /// How many registers a whole-register form has.
+#[inline(always)]
 pub fn whole_count(count: Count) -> usize
     ensures meaning { result ≡ whole_count count }
     ensures positive { 0 < result }
@@ -399,6 +422,7 @@ pub fn whole_count(count: Count) -> usize
     }
 }
 
+#[inline(always)]
 #[tactic(auto, unfolding(crate::specs::Legality::is_width))]
 fn is_width(bits: usize) -> bool
     ensures meaning { result ≡ is_width bits }

@@ -15,7 +15,7 @@ mod vector_type;
 
 pub use elements::Element;
 pub use group::Group;
-pub use legality::{legal, legal_type, whole_count};
+pub use legality::{legal, legal_access_type, legal_type, whole_count};
 pub use policies::{Agnostic, Policy};
 pub use registers::VregFile;
 pub use setup::Setup;

@@ -40,6 +40,7 @@ impl Vtype {
     ///
     /// Not supported are SEW above 32, LMUL 1/8, a fractional LMUL with SEW above LMUL * 32, the reserved values, and
     /// any of the bits 31 to 8 ("Vector Type Register, vtype").
+    #[inline(always)]
     #[tactic(auto, unfolding(crate::specs::VectorType::vtype_of))]
     pub fn from_bits(bits: u32) -> Option<Vtype>
         ensures meaning { result ≡ vtype_of bits }
@@ -73,6 +74,7 @@ impl Vtype {
 
     /// How many registers a group has whose elements have this width: EMUL = EEW / SEW * LMUL of them, or one where EMUL
     /// is a fraction.
+    #[inline(always)]
     #[tactic(auto, unfolding(crate::specs::Legality::group_count))]
     pub fn group_count(&self, eew: Eew) -> usize
         ensures meaning { result ≡ group_count self.now eew }
@@ -86,6 +88,7 @@ impl Vtype {
 }
 
 /// The type that an instruction works under; where there is none, any will do.
+#[inline(always)]
 pub(crate) fn type_in(vtype: Option<Vtype>) -> Vtype
     ensures { result ≡ type_in vtype }
 {
@@ -101,6 +104,7 @@ pub(crate) fn type_in(vtype: Option<Vtype>) -> Vtype
 }
 
 // EMUL = EEW / SEW * LMUL, in eighths.
+#[inline(always)]
 #[tactic(auto, unfolding(crate::specs::Legality::emul_eighths))]
 pub(crate) fn emul_eighths(vtype: &Vtype, eew: Eew) -> usize
     ensures meaning { result ≡ emul_eighths vtype.now eew }
@@ -110,6 +114,7 @@ pub(crate) fn emul_eighths(vtype: &Vtype, eew: Eew) -> usize
 }
 
 // EEW, in bits.
+#[inline(always)]
 pub(crate) fn eew_bits(sew: Width, eew: Eew) -> usize
     ensures meaning { result ≡ eew_bits sew eew }
     ensures bound { result ≤ 64 }
@@ -124,6 +129,7 @@ pub(crate) fn eew_bits(sew: Width, eew: Eew) -> usize
 }
 
 // LMUL, counted in eighths.
+#[inline(always)]
 pub(crate) fn eighths(lmul: Lmul) -> usize
     ensures meaning { result ≡ eighths_of lmul }
     ensures bound { result ≤ 64 }
@@ -139,7 +145,7 @@ pub(crate) fn eighths(lmul: Lmul) -> usize
 }
 
 // A number over how many bits an element of this width has. Each of these quotients is a shift.
-#[inline]
+#[inline(always)]
 fn over_bits(n: usize, width: Width) -> usize
     ensures { result ≡ n / bits_of_width width }
 {
@@ -151,6 +157,7 @@ fn over_bits(n: usize, width: Width) -> usize
 }
 
 // How many bits an element of this width has.
+#[inline(always)]
 pub(crate) fn bits_of(width: Width) -> usize
     ensures meaning { result ≡ bits_of_width width }
     ensures bound { (result ≡ 8) ⊎ (result ≡ 16) ⊎ (result ≡ 32) }
@@ -162,6 +169,7 @@ pub(crate) fn bits_of(width: Width) -> usize
     }
 }
 
+#[inline(always)]
 #[tactic(auto, unfolding(crate::specs::VectorType::sew_of))]
 fn sew_of(vsew: u32) -> Option<Width>
     ensures { result ≡ sew_of vsew }
@@ -174,6 +182,7 @@ fn sew_of(vsew: u32) -> Option<Width>
     }
 }
 
+#[inline(always)]
 #[tactic(auto, unfolding(crate::specs::VectorType::lmul_of))]
 fn lmul_of(vlmul: u32) -> Option<Lmul>
     ensures { result ≡ lmul_of vlmul }
@@ -190,6 +199,7 @@ fn lmul_of(vlmul: u32) -> Option<Lmul>
 }
 
 // SEW is at most LMUL * 32.
+#[inline(always)]
 #[tactic(auto, unfolding(crate::specs::VectorType::is_supported))]
 fn is_supported(sew: Width, lmul: Lmul) -> bool
     ensures { result ≡ is_supported sew lmul }
