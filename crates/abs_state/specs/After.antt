@@ -1,20 +1,30 @@
 -- What an instruction makes of what is known, and where it leads.
-use Rattle.std.specs.Prelude.{ℕ, ◌+◌, ◌%◌, ◌^◌, Option, Some, None, Result, Ok, Err}
+use Rattle.std.specs.Prelude.{ℕ, ◌+◌, ◌%◌, ◌^◌, if◌then◌else◌, Option, Some, None, Result, Ok, Err}
 use Rattle.rv_decode.specs.declared.instructions.Insn.{Insn}
 use Rattle.rv_decode.specs.declared.instructions.Insn.TheVariants.{Scalar, Csr, VSet, VArith, VMask, VPerm, VReduce, VMem, VMove}
+use Rattle.rv_decode.specs.declared.instructions.VMask.TheVariants.{Logic, Count, First, SetFirst, Iota, Index}
+use Rattle.rv_decode.specs.declared.instructions.VMask.{VMask}
+use Rattle.rv_decode.specs.declared.instructions.VMove.TheVariants.{ToScalar, FromScalar, Whole}
+use Rattle.rv_decode.specs.declared.instructions.VMove.{VMove}
+use Rattle.rv_decode.specs.declared.instructions.VSet as vset
 use Rattle.rv_decode.specs.declared.instructions.ScalarInsn.{ScalarInsn}
 use Rattle.rv_decode.specs.declared.instructions.ScalarInsn.TheVariants.{Lui, Auipc, Jal, Jalr, Branch, Load, Store, Immediate, ShiftImmediate, Register, Fence, Ecall}
 use Rattle.scalar_core.specs.Arithmetic.{unsigned}
 use Rattle.scalar_core.specs.Hart.{exit}
 use Rattle.scalar_core.specs.Step.{offset_by, without_bit_0}
 use Rattle.abs_state.specs.declared.why.Why.{Why}
-use Rattle.abs_state.specs.declared.why.Why.TheVariants.{IllegalWord}
+use Rattle.abs_state.specs.declared.values.Effect.TheVariants.{Fresh}
 use Rattle.abs_state.specs.declared.state.Way.{Way}
 use Rattle.abs_state.specs.declared.state.Way.TheVariants.{To, Unknown, Fork}
-use Rattle.abs_state.specs.Values.{known_of}
-use Rattle.abs_state.specs.Numbers.{NumbersView}
+use Rattle.vreg_groups.specs.VectorType.{type_in}
+use Rattle.abs_state.specs.Values.{full_range, known_of, up_to}
+use Rattle.abs_state.specs.Numbers.{NumbersView, value_at, with_result}
 use Rattle.abs_state.specs.Steps.{address_range, scalar_after, csr_after}
 use Rattle.abs_state.specs.State.{AbstractView}
+use Rattle.abs_state.specs.Legal.{legal_check}
+use Rattle.abs_state.specs.Lengths.{configured, wanted_of, with_length_in}
+use Rattle.abs_state.specs.Reaches.{transfer_check}
+use Rattle.abs_state.specs.Groups.{cut_groups, groups_after, known_type}
 
 -- the word after the one at pc
 abbrev pub next_word : ℕ → ℕ
@@ -46,15 +56,86 @@ unfoldable pub taken : Way → AbstractView → Result NumbersView Why → Resul
 taken way a (Ok numbers) = Ok record a { numbers = numbers; words = a.words + 1; way = way }
 taken way a (Err why) = Err why
 
--- The instruction at pc, by its class. Those of the vector classes are not known yet.
+-- ---- vector instructions
+
+-- an instruction that sets vtype and vl; where vl may change, so may what is known of elements below it
+unfoldable pub vset_after : ℕ → vset.VSet → AbstractView → AbstractView
+vset_after pc insn a =
+    let wanted = wanted_of insn a.numbers in
+    let next = configured a.vlenb a.vtype wanted.length wanted.vtype a.numbers in
+    record a {
+      numbers = with_length_in wanted.rd next.numbers;
+      vtype = next.vtype;
+      groups = if next.is_kept then a.groups
+          else cut_groups a.vlenb (value_at a.numbers 32).range.lo a.groups;
+      words = a.words + 1;
+      way = To (next_word pc);
+    }
+
+-- a count of bits is at most vl
+unfoldable pub mask_numbers : VMask → NumbersView → NumbersView
+mask_numbers (Logic op vd vs2 vs1) s = s
+mask_numbers (Count rd vs2 masked) s = with_result rd (Fresh (up_to (value_at s 32).range.hi)) s
+mask_numbers (First rd vs2 masked) s = with_result rd (Fresh full_range) s
+mask_numbers (SetFirst op vd vs2 masked) s = s
+mask_numbers (Iota vd vs2 masked) s = s
+mask_numbers (Index vd masked) s = s
+
+unfoldable pub move_numbers : VMove → NumbersView → NumbersView
+move_numbers (ToScalar rd vs2) s = with_result rd (Fresh full_range) s
+move_numbers (FromScalar vd rs1) s = s
+move_numbers (Whole count vd vs2) s = s
+
+-- what a vector instruction makes of the registers' numbers
+unfoldable pub vector_numbers : Insn → NumbersView → NumbersView
+vector_numbers (Scalar insn) s = s
+vector_numbers (Csr insn) s = s
+vector_numbers (VSet insn) s = s
+vector_numbers (VArith insn) s = s
+vector_numbers (VMask insn) s = mask_numbers insn s
+vector_numbers (VPerm insn) s = s
+vector_numbers (VReduce insn) s = s
+vector_numbers (VMem insn) s = s
+vector_numbers (VMove insn) s = move_numbers insn s
+
+-- the test of what an instruction accesses
+unfoldable pub access_check : AbstractView → Insn → Result (Unit {0}) Why
+access_check a (Scalar insn) = Ok tt
+access_check a (Csr insn) = Ok tt
+access_check a (VSet insn) = Ok tt
+access_check a (VArith insn) = Ok tt
+access_check a (VMask insn) = Ok tt
+access_check a (VPerm insn) = Ok tt
+access_check a (VReduce insn) = Ok tt
+access_check a (VMem insn) =
+    transfer_check a.vlenb (type_in (known_type a.vtype)) a.numbers a.groups a.zones insn
+access_check a (VMove insn) = Ok tt
+
+-- what is known where two tests are passed
+unfoldable pub passed : Result (Unit {0}) Why → Result (Unit {0}) Why → AbstractView → Result AbstractView Why
+passed (Ok first) (Ok second) b = Ok b
+passed (Ok first) (Err why) b = Err why
+passed (Err why) second b = Err why
+
+-- a vector instruction of any other class: it is legal, and what it accesses is allowed
+unfoldable pub vector_after : ℕ → Insn → AbstractView → Result AbstractView Why
+vector_after pc insn a =
+    passed (legal_check a.vtype insn) (access_check a insn) record a {
+      numbers = vector_numbers insn a.numbers;
+      groups = groups_after a.vlenb a.vtype a.numbers insn a.groups;
+      words = a.words + 1;
+      way = To (next_word pc);
+    }
+
+-- the instruction at pc, by its class
 unfoldable pub after_of : ℕ → Insn → AbstractView → Result AbstractView Why
 after_of pc (Scalar insn) a =
     taken (way_of pc insn a.numbers) a (scalar_after pc insn a.zones a.numbers)
 after_of pc (Csr insn) a = taken (To (next_word pc)) a (Ok (csr_after a.vlenb insn a.numbers))
-after_of pc (VSet insn) a = Err IllegalWord
-after_of pc (VArith insn) a = Err IllegalWord
-after_of pc (VMask insn) a = Err IllegalWord
-after_of pc (VPerm insn) a = Err IllegalWord
-after_of pc (VReduce insn) a = Err IllegalWord
-after_of pc (VMem insn) a = Err IllegalWord
-after_of pc (VMove insn) a = Err IllegalWord
+after_of pc (VSet insn) a = Ok (vset_after pc insn a)
+after_of pc (VArith insn) a = vector_after pc (VArith insn) a
+after_of pc (VMask insn) a = vector_after pc (VMask insn) a
+after_of pc (VPerm insn) a = vector_after pc (VPerm insn) a
+after_of pc (VReduce insn) a = vector_after pc (VReduce insn) a
+after_of pc (VMem insn) a = vector_after pc (VMem insn) a
+after_of pc (VMove insn) a = vector_after pc (VMove insn) a

@@ -1,5 +1,5 @@
 -- That what is known is true of a machine, throughout a run.
-use Rattle.std.specs.Prelude.{ℕ, nat_le, ◌≡◌, ◌<◌, ◌≤◌, ◌+◌, ◌*◌, ◌/◌, ◌-◌, ◌==◌, min, if◌then◌else◌, List, length, get_or, Option, Some, None, IfSome}
+use Rattle.std.specs.Prelude.{ℕ, nat_le, ◌≡◌, ◌<◌, ◌≤◌, ◌+◌, ◌*◌, ◌/◌, ◌-◌, ◌==◌, min, if◌then◌else◌, List, length, Option, Some, None, IfSome}
 use Rattle.std.specs.List.{AllByRecursion}
 use Rattle.elf_image.specs.Image.{ImageView}
 use Rattle.linear_facts.specs.Forms.{value}
@@ -9,6 +9,7 @@ use Rattle.vreg_groups.specs.Elements.{element_at}
 use Rattle.vreg_groups.specs.VectorLength.{vlenb_of}
 use Rattle.scalar_core.specs.Arithmetic.{is_taken}
 use Rattle.scalar_core.specs.Hart.{Hart, IsHart, reg_of}
+use Rattle.vector_core.specs.KeepLaws.{AreRegisters}
 use Rattle.vector_core.specs.Machine.{Machine}
 use Rattle.vector_core.specs.Vectors.{Vectors, IsVectors}
 use Rattle.cert_note.specs.declared.values.Budget.{Budget}
@@ -36,11 +37,6 @@ abbrev pub vlenb_in : Setting → ℕ
 vlenb_in e = vlenb_of e.certificate.vlen
 
 -- ---- what is true of every state of a run
-
--- The registers are 32 of vlenb bytes.
-pub record AreRegisters (vlenb : ℕ) (registers : List ℕ) : Type 0 where
-  pub count : length registers ≡ 32 * vlenb
-  pub bytes : (i : ℕ) → get_or registers i 0 < 256
 
 pub record IsProper (e : Setting) (m : Machine) : Type 0 where
   pub hart : IsHart m.hart

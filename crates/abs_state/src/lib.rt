@@ -11,13 +11,18 @@ mod branches;
 mod edge_laws;
 mod edges;
 mod effects;
+mod groups;
 mod laws;
+mod legal;
+mod lengths;
 mod numbers;
+mod reaches;
 mod start_laws;
 mod state;
 mod step_laws;
 mod steps;
 mod values;
+mod vectors;
 mod why;
 mod zones;
 

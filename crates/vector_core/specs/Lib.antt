@@ -4,6 +4,7 @@ pub mod Configuration
 pub mod FixedPoint
 pub mod Integer
 pub mod Laws
+pub mod KeepLaws
 pub mod LoadsStores
 pub mod Machine
 pub mod MachineStep

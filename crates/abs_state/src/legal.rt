@@ -1,0 +1,1 @@
+//! Whether a vector instruction is legal, as far as vtype is known.

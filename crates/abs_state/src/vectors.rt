@@ -1,0 +1,1 @@
+//! What each vector instruction makes of what is known.
