@@ -3,9 +3,9 @@ use Rattle.std.specs.Prelude.{ℕ, ◌+◌, ◌%◌, ◌^◌, if◌then◌else�
 use Rattle.rv_decode.specs.declared.instructions.Insn.{Insn}
 use Rattle.rv_decode.specs.declared.instructions.Insn.TheVariants.{Scalar, Csr, VSet, VArith, VMask, VPerm, VReduce, VMem, VMove}
 use Rattle.rv_decode.specs.declared.instructions.VMask.TheVariants.{Logic, Count, First, SetFirst, Iota, Index}
-use Rattle.rv_decode.specs.declared.instructions.VMask.{VMask}
+use Rattle.rv_decode.specs.declared.instructions.VMask as mask
 use Rattle.rv_decode.specs.declared.instructions.VMove.TheVariants.{ToScalar, FromScalar, Whole}
-use Rattle.rv_decode.specs.declared.instructions.VMove.{VMove}
+use Rattle.rv_decode.specs.declared.instructions.VMove as move
 use Rattle.rv_decode.specs.declared.instructions.VSet as vset
 use Rattle.rv_decode.specs.declared.instructions.ScalarInsn.{ScalarInsn}
 use Rattle.rv_decode.specs.declared.instructions.ScalarInsn.TheVariants.{Lui, Auipc, Jal, Jalr, Branch, Load, Store, Immediate, ShiftImmediate, Register, Fence, Ecall}
@@ -73,7 +73,7 @@ vset_after pc insn a =
     }
 
 -- a count of bits is at most vl
-unfoldable pub mask_numbers : VMask → NumbersView → NumbersView
+unfoldable pub mask_numbers : mask.VMask → NumbersView → NumbersView
 mask_numbers (Logic op vd vs2 vs1) s = s
 mask_numbers (Count rd vs2 masked) s = with_result rd (Fresh (up_to (value_at s 32).range.hi)) s
 mask_numbers (First rd vs2 masked) s = with_result rd (Fresh full_range) s
@@ -81,7 +81,7 @@ mask_numbers (SetFirst op vd vs2 masked) s = s
 mask_numbers (Iota vd vs2 masked) s = s
 mask_numbers (Index vd masked) s = s
 
-unfoldable pub move_numbers : VMove → NumbersView → NumbersView
+unfoldable pub move_numbers : move.VMove → NumbersView → NumbersView
 move_numbers (ToScalar rd vs2) s = with_result rd (Fresh full_range) s
 move_numbers (FromScalar vd rs1) s = s
 move_numbers (Whole count vd vs2) s = s

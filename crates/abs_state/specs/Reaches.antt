@@ -7,7 +7,7 @@ use Rattle.rv_decode.specs.declared.extents.Eew.TheVariants.{Fixed}
 use Rattle.rv_decode.specs.declared.instructions.Direction.{Direction}
 use Rattle.rv_decode.specs.declared.instructions.Direction.TheVariants.{Load, Store}
 use Rattle.rv_decode.specs.declared.instructions.Place.{Place}
-use Rattle.rv_decode.specs.declared.instructions.Place.TheVariants.{Unit, Strided, Indexed, Mask, Whole}
+use Rattle.rv_decode.specs.declared.instructions.Place.TheVariants as place
 use Rattle.rv_decode.specs.declared.instructions.VMem.{VMem}
 use Rattle.vreg_groups.specs.declared.vector_type.Vtype.{Vtype}
 use Rattle.vreg_groups.specs.VectorType.{bytes_of_width}
@@ -96,18 +96,18 @@ abbrev pub indexed_reach : ℕ → Range → Range → Reach
 indexed_reach size x i = record { first = x.lo + i.lo; end = x.hi + i.hi + size }
 
 unfoldable pub reach_at : ℕ → Vtype → NumbersView → List VectorFact → Place → ValueView → Option Reach
-reach_at vlenb t s facts (Unit width masked) x =
+reach_at vlenb t s facts (place.Unit width masked) x =
     Some (unit_reach s (bytes_of_width width) x (value_at s 32))
-reach_at vlenb t s facts (Strided width rs2 masked) x =
+reach_at vlenb t s facts (place.Strided width rs2 masked) x =
     strided_reach s (bytes_of_width width) (known_of (value_at s rs2).range) x (value_at s 32)
-reach_at vlenb t s facts (Indexed width vs2 ordered masked) x =
+reach_at vlenb t s facts (place.Indexed width vs2 ordered masked) x =
     Some (indexed_reach (bytes_of_width t.sew) x.range
     (source_range t (value_at s 32).range vs2 (Fixed width) facts))
-reach_at vlenb t s facts Mask x = Some record {
+reach_at vlenb t s facts place.Mask x = Some record {
   first = x.range.lo;
   end = x.range.hi + ((value_at s 32).range.hi + 7) / 8;
 }
-reach_at vlenb t s facts (Whole width count) x = Some record {
+reach_at vlenb t s facts (place.Whole width count) x = Some record {
   first = x.range.lo;
   end = x.range.hi + whole_count count * vlenb;
 }
@@ -116,11 +116,11 @@ reach_at vlenb t s facts (Whole width count) x = Some record {
 
 -- whole registers are moved whatever vl is
 unfoldable pub is_whole : Place → Bool
-is_whole (Unit width masked) = false
-is_whole (Strided width rs2 masked) = false
-is_whole (Indexed width vs2 ordered masked) = false
-is_whole Mask = false
-is_whole (Whole width count) = true
+is_whole (place.Unit width masked) = false
+is_whole (place.Strided width rs2 masked) = false
+is_whole (place.Indexed width vs2 ordered masked) = false
+is_whole place.Mask = false
+is_whole (place.Whole width count) = true
 
 unfoldable pub reach_allowed : Direction → Option Reach → List Zone → Result (Unit {0}) Why
 reach_allowed direction None zones = Err AccessNotProved

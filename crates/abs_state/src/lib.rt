@@ -22,6 +22,7 @@ mod state;
 mod step_laws;
 mod steps;
 mod values;
+mod vector_laws;
 mod vectors;
 mod why;
 mod zones;
@@ -45,5 +46,9 @@ pub use start_laws::{blocks_are_held, entries_are_held, zones_are_there};
 pub use state::{Abstract, MOST_WORDS, Way};
 pub use step_laws::{csr_steps_hold, scalar_steps_hold, steps_are_held, steps_count, steps_go_on};
 pub use values::{Effect, Value, computed_range};
+pub use vector_laws::{
+    checks_are_legal, cut_are_true, stated_are_true, transfers_are_permitted,
+    transfers_keep_memory, untouched_are_true, vsets_are_held,
+};
 pub use why::Why;
 pub use zones::{Zone, load_allowed, memory_zones, store_allowed};
