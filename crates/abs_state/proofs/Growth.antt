@@ -1,5 +1,5 @@
 -- An instruction makes at most one atom more, and counts as one.
-use Rattle.std.proofs.Common.{◌≡◌, ◌≤◌, ◌+◌, ℕ, Bool, true, false, arith, subst, length, length-append, List, [], ◌∷◌, Option, Some, None}
+use Rattle.std.proofs.Common.{◌≡◌, ◌≤◌, ◌+◌, ℕ, Bool, true, false, arith, refl, subst, length, length-append, List, [], ◌∷◌, Option, Some, None}
 use Rattle.std.specs.Prelude.{Result, Ok, Err, if◌then◌else◌, ◌==◌}
 use Rattle.linear_facts.specs.declared.ranges.Range.{Range}
 use Rattle.linear_facts.specs.Forms.{Linear, within}
@@ -8,6 +8,11 @@ use Rattle.rv_decode.specs.declared.instructions.Insn.TheVariants.{Scalar, Csr, 
 use Rattle.rv_decode.specs.declared.instructions.ScalarInsn.{ScalarInsn}
 use Rattle.rv_decode.specs.declared.instructions.ScalarInsn.TheVariants.{Lui, Auipc, Jal, Jalr, Branch, Load, Store, Immediate, ShiftImmediate, Register, Fence, Ecall}
 use Rattle.rv_decode.specs.declared.instructions.CsrInsn.{CsrInsn}
+use Rattle.rv_decode.specs.declared.instructions.VMask as mask
+use Rattle.rv_decode.specs.declared.instructions.VMask.TheVariants.{Logic, Count, First, SetFirst, Iota, Index}
+use Rattle.rv_decode.specs.declared.instructions.VMove as move
+use Rattle.rv_decode.specs.declared.instructions.VSet as vset
+use Rattle.rv_decode.specs.declared.instructions.VMove.TheVariants.{ToScalar, FromScalar, Whole}
 use Rattle.abs_state.specs.declared.why.Why.{Why}
 use Rattle.abs_state.specs.declared.zones.Zone.{Zone}
 use Rattle.abs_state.specs.declared.state.Way.{Way}
@@ -16,7 +21,8 @@ use Rattle.abs_state.specs.declared.values.Effect.TheVariants.{Computed, Fresh, 
 use Rattle.abs_state.specs.Numbers.{NumbersView, plain, with_value, with_fresh, with_short, with_computed, with_effect, with_result}
 use Rattle.abs_state.specs.Steps.{if_allowed, scalar_after, csr_after}
 use Rattle.abs_state.specs.State.{AbstractView}
-use Rattle.abs_state.specs.After.{after_of, taken}
+use Rattle.abs_state.specs.Legal.{legal_check}
+use Rattle.abs_state.specs.After.{access_check, after_of, mask_numbers, move_numbers, passed, taken, vector_after, vector_numbers, vset_after}
 
 -- at most one atom more
 abbrev Grows : NumbersView → NumbersView → Type 0
@@ -80,6 +86,35 @@ pub csr_grows : (vlenb : ℕ) (insn : CsrInsn) (s : NumbersView) → length (csr
 unfolding csr_after
 csr_grows vlenb insn s = result_grows insn.rd _ s
 
+-- ---- vector instructions
+
+mask_grows : (insn : mask.VMask) (s : NumbersView) → Grows s (mask_numbers insn s)
+unfolding mask_numbers
+mask_grows (Logic op vd vs2 vs1) s = omega arith
+mask_grows (Count rd vs2 masked) s = result_grows rd _ s
+mask_grows (First rd vs2 masked) s = result_grows rd _ s
+mask_grows (SetFirst op vd vs2 masked) s = omega arith
+mask_grows (Iota vd vs2 masked) s = omega arith
+mask_grows (Index vd masked) s = omega arith
+
+move_grows : (insn : move.VMove) (s : NumbersView) → Grows s (move_numbers insn s)
+unfolding move_numbers
+move_grows (ToScalar rd vs2) s = result_grows rd _ s
+move_grows (FromScalar vd rs1) s = omega arith
+move_grows (Whole count vd vs2) s = omega arith
+
+pub vector_grows : (insn : Insn) (s : NumbersView) → length (vector_numbers insn s).atoms ≤ length s.atoms + 1
+unfolding vector_numbers
+vector_grows (Scalar insn) s = omega arith
+vector_grows (Csr insn) s = omega arith
+vector_grows (VSet insn) s = omega arith
+vector_grows (VArith insn) s = omega arith
+vector_grows (VMask insn) s = mask_grows insn s
+vector_grows (VPerm insn) s = omega arith
+vector_grows (VReduce insn) s = omega arith
+vector_grows (VMem insn) s = omega arith
+vector_grows (VMove insn) s = move_grows insn s
+
 -- ---- words
 
 taken_counts : (way : Way) (a b : AbstractView) (r : Result NumbersView Why) → taken way a r ≡ Ok b → b.words ≡ a.words + 1
@@ -87,14 +122,31 @@ unfolding taken
 taken_counts way a b (Ok numbers) e = cc
 taken_counts way a b (Err why) e = cc
 
+passed_counts : (first second : Result (Unit {0}) Why) (n : ℕ) (a b : AbstractView) → a.words ≡ n → passed first second a ≡ Ok b → b.words ≡ n
+unfolding passed
+passed_counts (Ok first) (Ok second) n a b is e = cc
+passed_counts (Ok first) (Err why) n a b is e = cc
+passed_counts (Err why) second n a b is e = cc
+
+vector_counts : (pc : ℕ) (insn : Insn) (a b : AbstractView) → vector_after pc insn a ≡ Ok b → b.words ≡ a.words + 1
+unfolding vector_after
+vector_counts pc insn a b e = passed_counts (legal_check a.vtype insn) (access_check a insn) (a.words + 1) _ b refl e
+
+vset_counts : (pc : ℕ) (insn : vset.VSet) (a : AbstractView) → (vset_after pc insn a).words ≡ a.words + 1
+unfolding vset_after
+vset_counts pc insn a = refl
+
+ok_counts : (n : ℕ) (a b : AbstractView) (r : Result AbstractView Why) → r ≡ Ok a → a.words ≡ n → r ≡ Ok b → b.words ≡ n
+ok_counts n a b r is w e = cc
+
 pub after_counts : (pc : ℕ) (insn : Insn) (a b : AbstractView) → after_of pc insn a ≡ Ok b → b.words ≡ a.words + 1
 unfolding after_of
 after_counts pc (Scalar insn) a b e = taken_counts _ a b _ e
 after_counts pc (Csr insn) a b e = taken_counts _ a b _ e
-after_counts pc (VSet insn) a b e = cc
-after_counts pc (VArith insn) a b e = cc
-after_counts pc (VMask insn) a b e = cc
-after_counts pc (VPerm insn) a b e = cc
-after_counts pc (VReduce insn) a b e = cc
-after_counts pc (VMem insn) a b e = cc
-after_counts pc (VMove insn) a b e = cc
+after_counts pc (VSet insn) a b e = ok_counts (a.words + 1) (vset_after pc insn a) b _ refl (vset_counts pc insn a) e
+after_counts pc (VArith insn) a b e = vector_counts pc (VArith insn) a b e
+after_counts pc (VMask insn) a b e = vector_counts pc (VMask insn) a b e
+after_counts pc (VPerm insn) a b e = vector_counts pc (VPerm insn) a b e
+after_counts pc (VReduce insn) a b e = vector_counts pc (VReduce insn) a b e
+after_counts pc (VMem insn) a b e = vector_counts pc (VMem insn) a b e
+after_counts pc (VMove insn) a b e = vector_counts pc (VMove insn) a b e

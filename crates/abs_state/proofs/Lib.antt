@@ -2,6 +2,7 @@ pub mod Addresses
 pub mod EdgeLemmas
 pub mod EntryHart
 pub mod Growth
+pub mod LegalLemmas
 pub mod Lists
 pub mod Memories
 pub mod Operations
@@ -16,5 +17,8 @@ pub mod StartZones
 pub mod States
 pub mod StepMachines
 pub mod StepScalars
+pub mod StepsHeld
 pub mod Substitutions
+pub mod VectorMachines
+pub mod VectorSteps
 pub mod Ways

@@ -5,6 +5,11 @@ use Rattle.std.proofs.lemmas.Bool.Decides.{nat_tests}
 use Rattle.linear_facts.proofs.LocalityLemmas.{forms-stay, agree-below}
 use Rattle.rv_decode.specs.declared.instructions.Insn.TheVariants.{Scalar, Csr, VSet, VArith, VMask, VPerm, VReduce, VMem, VMove}
 use Rattle.rv_decode.specs.declared.instructions.ScalarInsn.TheVariants.{Lui, Auipc, Jal, Jalr, Branch, Load, Store, Immediate, ShiftImmediate, Register, Fence, Ecall}
+use Rattle.rv_decode.specs.declared.instructions.Insn.{Insn}
+use Rattle.rv_decode.specs.declared.instructions.CsrInsn.{CsrInsn}
+use Rattle.rv_decode.specs.declared.instructions.ScalarInsn.{ScalarInsn}
+use Rattle.rv_decode.specs.declared.instructions.VSet as vset
+use Rattle.rv_decode.specs.Decode.{meaning_of}
 use Rattle.rv_decode.proofs.Meant.{meant}
 use Rattle.region_mem.specs.declared.faults.Fault.{Fault}
 use Rattle.region_mem.specs.declared.faults.Fault.TheVariants.{JumpMisaligned}
@@ -30,9 +35,10 @@ use Rattle.abs_state.specs.Described.{IsNumber}
 use Rattle.abs_state.specs.Memories.{HasZones}
 use Rattle.abs_state.specs.Steps.{csr_after}
 use Rattle.abs_state.specs.State.{AbstractView}
-use Rattle.abs_state.specs.After.{next_word, way_of, taken, after_of}
+use Rattle.abs_state.specs.Legal.{legal_check}
+use Rattle.abs_state.specs.After.{access_check, after_of, next_word, passed, taken, vector_after, vset_after, way_of}
 use Rattle.abs_state.specs.Held.{Setting, IsProper, IsPaid, Held, vlenb_in}
-use Rattle.abs_state.specs.StepLaws.{or_misaligned, KeepsMemory, StepIsHeld, MachineIsHeld, StepsAreHeld, StepsGoOn, jumps}
+use Rattle.abs_state.specs.StepLaws.{or_misaligned, KeepsMemory, StepIsHeld, MachineIsHeld, StepsGoOn, jumps}
 use Rattle.abs_state.proofs.StepScalars.{scalars_hold, csrs_hold}
 
 -- ---- what an instruction makes of what is known
@@ -43,10 +49,10 @@ record IsTaken (way : Way) (a b : AbstractView) (r : Result NumbersView Why) : T
   is : r ≡ Ok numbers
   same : record a { numbers = numbers; words = a.words + 1; way = way } ≡ b
 
-abbrev ok_state : AbstractView → Result AbstractView Why
+abbrev pub ok_state : AbstractView → Result AbstractView Why
 ok_state a = Ok a
 
-same_state : (a b : AbstractView) → ok_state a ≡ Ok b → a ≡ b
+pub same_state : (a b : AbstractView) → ok_state a ≡ Ok b → a ≡ b
 same_state a b e = cc
 
 taken_is : (way : Way) (a b : AbstractView) (r : Result NumbersView Why) → taken way a r ≡ Ok b → IsTaken way a b r
@@ -56,6 +62,20 @@ taken_is way a b (Err why) e = cc
 
 taken_leads : (way : Way) (a b : AbstractView) (r : Result NumbersView Why) → taken way a r ≡ Ok b → b.way ≡ way
 taken_leads way a b r e = sym (ap (λ (c : AbstractView). c.way) (taken_is way a b r e).same)
+
+passed_leads : (first second : Result (Unit {0}) Why) (way : Way) (a b : AbstractView) → a.way ≡ way → passed first second a ≡ Ok b → b.way ≡ way
+unfolding passed
+passed_leads (Ok first) (Ok second) way a b is e = cc
+passed_leads (Ok first) (Err why) way a b is e = cc
+passed_leads (Err why) second way a b is e = cc
+
+vector_leads : (pc : ℕ) (insn : Insn) (a b : AbstractView) → vector_after pc insn a ≡ Ok b → b.way ≡ To (next_word pc)
+unfolding vector_after
+vector_leads pc insn a b e = passed_leads (legal_check a.vtype insn) (access_check a insn) (To (next_word pc)) _ b refl e
+
+vset_leads : (pc : ℕ) (insn : vset.VSet) (a : AbstractView) → (vset_after pc insn a).way ≡ To (next_word pc)
+unfolding vset_after
+vset_leads pc insn a = refl
 
 pub goes_on : StepsGoOn
 unfolding jumps after_of way_of
@@ -72,13 +92,13 @@ goes_on pc (Scalar (ShiftImmediate op rd rs1 amount)) a b j e = taken_leads _ a 
 goes_on pc (Scalar (Register op rd rs1 rs2)) a b j e = taken_leads _ a b _ e
 goes_on pc (Scalar Fence) a b j e = taken_leads _ a b _ e
 goes_on pc (Csr insn) a b j e = taken_leads _ a b _ e
-goes_on pc (VSet insn) a b j e = cc
-goes_on pc (VArith insn) a b j e = cc
-goes_on pc (VMask insn) a b j e = cc
-goes_on pc (VPerm insn) a b j e = cc
-goes_on pc (VReduce insn) a b j e = cc
-goes_on pc (VMem insn) a b j e = cc
-goes_on pc (VMove insn) a b j e = cc
+goes_on pc (VSet insn) a b j e = sym (ap (λ (c : AbstractView). c.way) (same_state (vset_after pc insn a) b e)) ∙ vset_leads pc insn a
+goes_on pc (VArith insn) a b j e = vector_leads pc (VArith insn) a b e
+goes_on pc (VMask insn) a b j e = vector_leads pc (VMask insn) a b e
+goes_on pc (VPerm insn) a b j e = vector_leads pc (VPerm insn) a b e
+goes_on pc (VReduce insn) a b j e = vector_leads pc (VReduce insn) a b e
+goes_on pc (VMem insn) a b j e = vector_leads pc (VMem insn) a b e
+goes_on pc (VMove insn) a b j e = vector_leads pc (VMove insn) a b e
 
 -- ---- configurations
 
@@ -146,7 +166,7 @@ proper_stays e s hart memory p is kept =
       safe = code.0;
     }
 
-paid_stays : (v w : ℕ → ℕ) (n : ℕ) (budget : Option Budget) (a b : AbstractView) → a.paid ≡ b.paid → length a.numbers.atoms ≤ length b.numbers.atoms
+pub paid_stays : (v w : ℕ → ℕ) (n : ℕ) (budget : Option Budget) (a b : AbstractView) → a.paid ≡ b.paid → length a.numbers.atoms ≤ length b.numbers.atoms
     → ((k : ℕ) → k < length a.numbers.atoms → w k ≡ v k) → IsPaid v n budget a → IsPaid w n budget b
 paid_stays v w n None a b e l same paid = tt
 paid_stays v w n (Some budget) a b e l same paid = (
@@ -187,16 +207,24 @@ module _ (e : Setting) (n : ℕ) (a : AbstractView) (s : Machine) (held : Held e
         };
       }
 
-pub held_steps : StepsAreHeld
-unfolding after_of taken carry_out scalar_step
-held_steps e n a b s word (Scalar insn) image certificate held aligned m eq =
+abbrev HeldBy : (e : Setting) → ℕ → (a b : AbstractView) → (s : Machine) → ℕ → Insn → Type 0
+HeldBy e n a b s word insn =
+    Held e n a s → s.hart.pc % 4 ≡ 0 → meaning_of word ≡ Some insn → after_of s.hart.pc insn a ≡ Ok b
+    → MachineIsHeld e n b (carry_out (vlenb_in e) word s insn)
+
+pub held_scalars : (e : Setting) (n : ℕ) (a b : AbstractView) (s : Machine) (word : ℕ) (insn : ScalarInsn) → HeldBy e n a b s word (Scalar insn)
+unfolding after_of carry_out scalar_step
+held_scalars e n a b s word insn held aligned m eq =
     let known = held.known in
     let t = taken_is _ a b _ eq in
     subst (λ (c : AbstractView). MachineIsHeld e n c (with_scalar s (rv32im_step insn s.hart s.memory))) t.same
     (step_held e n a s held t.numbers (way_of s.hart.pc insn a.numbers) (rv32im_step insn s.hart s.memory)
     (scalars_hold a.numbers t.numbers held.numbers a.zones insn s.hart s.vectors.config s.memory (meant word m) known.proper.hart
     (subst (λ (zs : List Zone). HasZones zs s.memory) (sym known.zones) known.proper.zones) known.proper.bytes aligned known.known t.is))
-held_steps e n a b s word (Csr insn) image certificate held aligned m eq =
+
+pub held_csrs : (e : Setting) (n : ℕ) (a b : AbstractView) (s : Machine) (word : ℕ) (insn : CsrInsn) → HeldBy e n a b s word (Csr insn)
+unfolding after_of taken carry_out scalar_step
+held_csrs e n a b s word insn held aligned m eq =
     let known = held.known in
     let config : Vconfig = s.vectors.config in
     let small : vlenb_in e < 2 ^ 32 = vlenb_fits (vlenb_in e) known.proper.vectors.vlenb_is in
@@ -210,10 +238,3 @@ held_steps e n a b s word (Csr insn) image certificate held aligned m eq =
     (same_state (next_state e n a s held new way) b eq)
     (step_held e n a s held new way (Ok (csr_step insn (vlenb_in e) config s.hart, s.memory))
     (subst (λ (k : ℕ). StepIsHeld a.numbers new held.numbers config way s.memory (Ok (csr_step insn k config s.hart, s.memory))) known.vlenb step))
-held_steps e n a b s word (VSet insn) image certificate held aligned m eq = cc
-held_steps e n a b s word (VArith insn) image certificate held aligned m eq = cc
-held_steps e n a b s word (VMask insn) image certificate held aligned m eq = cc
-held_steps e n a b s word (VPerm insn) image certificate held aligned m eq = cc
-held_steps e n a b s word (VReduce insn) image certificate held aligned m eq = cc
-held_steps e n a b s word (VMem insn) image certificate held aligned m eq = cc
-held_steps e n a b s word (VMove insn) image certificate held aligned m eq = cc

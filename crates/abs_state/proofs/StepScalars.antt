@@ -56,7 +56,7 @@ use Rattle.abs_state.proofs.Memories.{inside_permitted, stores_kept}
 -- ---- harts
 
 -- a write to a register leaves pc
-pc_stays : (rd x : ℕ) (h : Hart) → (with_reg rd x h).pc ≡ h.pc
+pub pc_stays : (rd x : ℕ) (h : Hart) → (with_reg rd x h).pc ≡ h.pc
 unfolding with_reg
 pc_stays rd x h = by_test (rd == 0)
   where
@@ -65,7 +65,7 @@ pc_stays rd x h = by_test (rd == 0)
     by_test false = refl
 
 -- what is known of the registers is true of another hart with the same ones
-same_registers : (s : NumbersView) (v : ℕ → ℕ) (g h : Hart) (config : Vconfig) → g.x ≡ h.x → Holds s v h config → Holds s v g config
+pub same_registers : (s : NumbersView) (v : ℕ → ℕ) (g h : Hart) (config : Vconfig) → g.x ≡ h.x → Holds s v h config → Holds s v g config
 same_registers s v g h config e holds =
     record {
       atoms = holds.atoms;
@@ -78,10 +78,10 @@ same_registers s v g h config e holds =
     }
 
 -- it follows from itself, and at another pc
-stays : (s : NumbersView) (v : ℕ → ℕ) (h : Hart) (config : Vconfig) → Holds s v h config → Follows s s v h config
+pub stays : (s : NumbersView) (v : ℕ → ℕ) (h : Hart) (config : Vconfig) → Holds s v h config → Follows s s v h config
 stays s v h config holds = record { numbers = v; same = λ a l. refl; grows = omega arith; holds = holds }
 
-moved : (s new : NumbersView) (v : ℕ → ℕ) (pc : ℕ) (h : Hart) (config : Vconfig) → Follows s new v h config → Follows s new v (at_pc pc h) config
+pub moved : (s new : NumbersView) (v : ℕ → ℕ) (pc : ℕ) (h : Hart) (config : Vconfig) → Follows s new v h config → Follows s new v (at_pc pc h) config
 moved s new v pc h config f =
     record {
       numbers = f.numbers;
@@ -141,7 +141,7 @@ jump_at r x g lies = by_test (r.lo == r.hi) refl
 
 -- ---- memory
 
-nothing_changes : (m : Memory) → KeepsMemory m m
+pub nothing_changes : (m : Memory) → KeepsMemory m m
 nothing_changes m = record { zones = λ zones has. has; code = λ safe. (safe, λ pc. refl); bytes = λ are. are }
 
 store_keeps : (address n x : ℕ) (m stored : Memory) → store_of address n x m ≡ Some stored → KeepsMemory m stored

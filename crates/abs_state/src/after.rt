@@ -111,8 +111,10 @@ impl<A: Allocator> Abstract<A> {
     }
 
     /// What the instruction at `pc` makes of what is known, after fewer than [`MOST_WORDS`](crate::MOST_WORDS)
-    /// instructions. Where it is refused nothing is changed: a load or store has to lie in one of the zones, whatever its
-    /// address may be, and no vector instruction is known yet ([`Why::IllegalWord`]).
+    /// instructions. Where it is refused nothing is changed: a vector instruction has to be legal
+    /// ([`Why::IllegalWord`]), for which vtype may have to be known ([`Why::VtypeUnknown`]), and what a load or store
+    /// accesses has to lie in one of the zones, whatever its address may be ([`Why::AccessNotProved`],
+    /// [`Why::ReadOnly`]).
     #[tactic(auto, unfolding(crate::specs::After::after_of))]
     pub fn after(&mut self, pc: u32, insn: &Insn) -> Result<(), Why>
         requires { self.old.words < 4096 }
@@ -127,13 +129,16 @@ impl<A: Allocator> Abstract<A> {
                 self.take_csr(pc, insn);
                 Ok(())
             }
-            Insn::VSet(_)
-            | Insn::VArith(_)
+            Insn::VSet(insn) => {
+                self.take_vset(pc, insn);
+                Ok(())
+            }
+            Insn::VArith(_)
             | Insn::VMask(_)
             | Insn::VPerm(_)
             | Insn::VReduce(_)
             | Insn::VMem(_)
-            | Insn::VMove(_) => Err(Why::IllegalWord),
+            | Insn::VMove(_) => self.take_vector(pc, insn),
         }
     }
 }

@@ -52,6 +52,7 @@ pub struct Abstract<A: Allocator = Global> {
 
 impl<A: Allocator> Model for Abstract<A> {
     ghost use Rattle.std.specs.Prelude.{ℕ, ◌≡◌, ◌≤◌, ◌+◌, ◌*◌, length, vec_capacity};
+    ghost use Rattle.vreg_groups.specs.VectorLength.{IsVlenb};
     ghost use Rattle.abs_state.specs.State.{AbstractView};
 
     ghost Value = { AbstractView };
@@ -68,8 +69,8 @@ impl<A: Allocator> Model for Abstract<A> {
       way = a.way;
     } };
 
-    // An instruction makes at most two atoms and one fact on vector registers more.
-    ghost invariant = { λ a. (a.words ≤ 4096) × (length a.numbers.atoms ≤ 41 + 2 * a.words)
+    // VLEN is 128 or 256. An instruction makes at most two atoms and one fact on vector registers more.
+    ghost invariant = { λ a. IsVlenb a.vlenb × (a.words ≤ 4096) × (length a.numbers.atoms ≤ 41 + 2 * a.words)
         × (length a.groups.items ≤ 32 + a.words) × (32 + 4096 ≤ vec_capacity a.groups) };
 }
 

@@ -1,1 +1,168 @@
 //! What each vector instruction makes of what is known.
+ghost use Rattle.std.specs.Prelude.{◌≡◌, ◌<◌, ◌≤◌, ◌+◌, length, IfErr, OnErr, OnOk, Ok, Err};
+ghost use Rattle.vreg_groups.specs.VectorType.{type_in as type_in_of};
+ghost use Rattle.abs_state.specs.Groups.{known_type as known_type_of};
+ghost use Rattle.abs_state.specs.Numbers.{with_result};
+ghost use Rattle.abs_state.specs.After.{access_check as access_check_of, mask_numbers, move_numbers};
+ghost use Rattle.abs_state.specs.After.{vector_after, vector_numbers, vset_after};
+
+use crate::groups::{after_groups, cut_groups};
+use crate::legal::legal_check;
+use crate::numbers::{MOST_ATOMS, Numbers, VL};
+use crate::state::{Abstract, Way};
+use crate::values::Effect;
+use crate::why::Why;
+use linear_facts::Range;
+use rv_decode::{Insn, Reg, VMask, VMove, VSet, Width};
+use std::alloc::Allocator;
+use vreg_groups::{Lmul, Vtype};
+
+/// The vector type, where vtype is known.
+fn known_type(vtype: Option<u8>) -> Option<Vtype>
+    ensures { result ≡ known_type_of vtype }
+{
+    match vtype {
+        None => None,
+        Some(bits) => Vtype::from_bits(u32::from(bits)),
+    }
+}
+
+/// The type that an instruction works under; where there is none, any will do.
+fn type_in(vtype: Option<Vtype>) -> Vtype
+    ensures { result ≡ type_in_of vtype }
+{
+    match vtype {
+        Some(vtype) => vtype,
+        None => Vtype {
+            sew: Width::W8,
+            lmul: Lmul::One,
+            vta: false,
+            vma: false,
+        },
+    }
+}
+
+impl<A: Allocator> Numbers<A> {
+    /// A register gets a number in this range.
+    fn set_register(&mut self, rd: Reg, range: Range)
+        requires { length self.old.atoms < MOST_ATOMS }
+        ensures { self.new ≡ with_result rd (Effect.Fresh range) self.old }
+    {
+        self.set_result(rd, Effect::Fresh { range });
+    }
+
+    /// What an instruction on masks makes of the registers' numbers: a count of bits is at most vl.
+    #[tactic(auto, unfolding(crate::specs::After::mask_numbers))]
+    fn after_mask(&mut self, insn: &VMask)
+        requires { length self.old.atoms < MOST_ATOMS }
+        ensures { self.new ≡ mask_numbers insn.now self.old }
+    {
+        match *insn {
+            VMask::Count { rd, .. } => {
+                let most = self.range_at(VL).hi;
+                self.set_register(rd, Range { lo: 0, hi: most });
+            }
+            VMask::First { rd, .. } => self.set_register(rd, Range::FULL),
+            VMask::Logic { .. }
+            | VMask::SetFirst { .. }
+            | VMask::Iota { .. }
+            | VMask::Index { .. } => {}
+        }
+    }
+
+    /// What a move between registers makes of the numbers of x registers.
+    #[tactic(auto, unfolding(crate::specs::After::move_numbers))]
+    fn after_move(&mut self, insn: &VMove)
+        requires { length self.old.atoms < MOST_ATOMS }
+        ensures { self.new ≡ move_numbers insn.now self.old }
+    {
+        match *insn {
+            VMove::ToScalar { rd, .. } => self.set_register(rd, Range::FULL),
+            VMove::FromScalar { .. } | VMove::Whole { .. } => {}
+        }
+    }
+
+    /// What a vector instruction makes of the registers' numbers.
+    #[tactic(auto, unfolding(crate::specs::After::vector_numbers), using(crate::proofs::Growth::vector_grows))]
+    fn after_vector(&mut self, insn: &Insn)
+        requires { length self.old.atoms < MOST_ATOMS }
+        ensures numbers { self.new ≡ vector_numbers insn.now self.old }
+        ensures grows { length self.new.atoms ≤ length self.old.atoms + 1 }
+    {
+        match insn {
+            Insn::VMask(insn) => self.after_mask(insn),
+            Insn::VMove(insn) => self.after_move(insn),
+            Insn::Scalar(_)
+            | Insn::Csr(_)
+            | Insn::VSet(_)
+            | Insn::VArith(_)
+            | Insn::VPerm(_)
+            | Insn::VReduce(_)
+            | Insn::VMem(_) => {}
+        }
+    }
+}
+
+impl<A: Allocator> Abstract<A> {
+    /// The answer on what an instruction accesses.
+    #[tactic(auto, unfolding(crate::specs::After::access_check))]
+    fn access_check(&self, insn: &Insn) -> Result<(), Why>
+        ensures { result ≡ access_check_of self.now insn.now }
+    {
+        match insn {
+            Insn::VMem(insn) => self.numbers.transfer_check(
+                self.vlenb,
+                &type_in(known_type(self.vtype)),
+                self.groups.as_slice(),
+                self.zones.as_slice(),
+                insn,
+            ),
+            Insn::Scalar(_)
+            | Insn::Csr(_)
+            | Insn::VSet(_)
+            | Insn::VArith(_)
+            | Insn::VMask(_)
+            | Insn::VPerm(_)
+            | Insn::VReduce(_)
+            | Insn::VMove(_) => Ok(()),
+        }
+    }
+
+    /// An instruction that sets vtype and vl.
+    #[tactic(auto, unfolding(crate::specs::After::vset_after))]
+    pub(crate) fn take_vset(&mut self, pc: u32, insn: VSet)
+        requires { self.old.words < 4096 }
+        ensures { self.new ≡ vset_after pc insn self.old }
+    {
+        let least = self.numbers.range_at(VL).lo;
+        let set = self.numbers.after_vset(self.vlenb, self.vtype, insn);
+        if !set.is_kept {
+            cut_groups(self.vlenb, least, &mut self.groups);
+        }
+        self.vtype = set.vtype;
+        self.words += 1;
+        self.way = Way::To {
+            target: pc.wrapping_add(4),
+        };
+    }
+
+    /// A vector instruction of any other class. Where it is refused nothing is changed.
+    #[tactic(auto, unfolding(crate::specs::After::vector_after, crate::specs::After::passed, crate::specs::Groups::groups_after))]
+    pub(crate) fn take_vector(&mut self, pc: u32, insn: &Insn) -> Result<(), Why>
+        requires { self.old.words < 4096 }
+        ensures ok { OnOk result (vector_after pc insn.now self.old ≡ Ok self.new) }
+        ensures err { IfErr result (λ why. vector_after pc insn.now self.old ≡ Err why) }
+        ensures kept { OnErr result (self.new ≡ self.old) }
+    {
+        legal_check(self.vtype, insn)?;
+        self.access_check(insn)?;
+        let vtype = known_type(self.vtype);
+        after_groups(self.vlenb, vtype, &self.numbers, insn, &mut self.groups);
+        self.numbers.after_vector(insn);
+        self.words += 1;
+        self.way = Way::To {
+            target: pc.wrapping_add(4),
+        };
+        Ok(())
+    }
+}

@@ -1,0 +1,32 @@
+-- What is known after an instruction is true of the machine to which it leads, whatever its class.
+use Rattle.std.proofs.Common.{◌≡◌, ℕ, List, Some, refl, subst}
+use Rattle.std.specs.Prelude.{Result, Ok}
+use Rattle.rv_decode.specs.declared.instructions.Insn.{Insn}
+use Rattle.rv_decode.specs.declared.instructions.Insn.TheVariants.{Scalar, Csr, VSet, VArith, VMask, VPerm, VReduce, VMem, VMove}
+use Rattle.rv_decode.specs.Decode.{meaning_of}
+use Rattle.rv_decode.proofs.Meant.{meant}
+use Rattle.vector_core.specs.Machine.{Machine}
+use Rattle.vector_core.specs.MachineStep.{carry_out}
+use Rattle.abs_state.specs.State.{AbstractView}
+use Rattle.abs_state.specs.After.{after_of, vset_after}
+use Rattle.abs_state.specs.Held.{Setting, Held, vlenb_in}
+use Rattle.abs_state.specs.StepLaws.{MachineIsHeld, StepsAreHeld}
+use Rattle.abs_state.specs.VectorLaws.{VsetsAreHeld}
+use Rattle.abs_state.proofs.StepMachines.{held_csrs, held_scalars, same_state}
+use Rattle.abs_state.proofs.VectorMachines.{Parts, vector_held}
+
+-- by the parts of what is said of vector instructions
+module _ (vsets : VsetsAreHeld) (parts : Parts) where
+  pub steps_held : StepsAreHeld
+  unfolding after_of carry_out
+  steps_held e n a b s word (Scalar insn) image certificate held aligned m eq = held_scalars e n a b s word insn held aligned m eq
+  steps_held e n a b s word (Csr insn) image certificate held aligned m eq = held_csrs e n a b s word insn held aligned m eq
+  steps_held e n a b s word (VSet insn) image certificate held aligned m eq =
+      subst (λ (c : AbstractView). MachineIsHeld e n c (carry_out (vlenb_in e) word s (VSet insn))) (same_state (vset_after s.hart.pc insn a) b eq)
+      (vsets e n a s word insn held aligned (meant word m))
+  steps_held e n a b s word (VArith insn) image certificate held aligned m eq = vector_held parts e n a s held aligned word (VArith insn) b refl (meant word m) eq
+  steps_held e n a b s word (VMask insn) image certificate held aligned m eq = vector_held parts e n a s held aligned word (VMask insn) b refl (meant word m) eq
+  steps_held e n a b s word (VPerm insn) image certificate held aligned m eq = vector_held parts e n a s held aligned word (VPerm insn) b refl (meant word m) eq
+  steps_held e n a b s word (VReduce insn) image certificate held aligned m eq = vector_held parts e n a s held aligned word (VReduce insn) b refl (meant word m) eq
+  steps_held e n a b s word (VMem insn) image certificate held aligned m eq = vector_held parts e n a s held aligned word (VMem insn) b refl (meant word m) eq
+  steps_held e n a b s word (VMove insn) image certificate held aligned m eq = vector_held parts e n a s held aligned word (VMove insn) b refl (meant word m) eq
