@@ -1,6 +1,7 @@
 pub mod Addresses
 pub mod EdgeLemmas
 pub mod EntryHart
+pub mod GroupLemmas
 pub mod Growth
 pub mod LegalLemmas
 pub mod Lists
