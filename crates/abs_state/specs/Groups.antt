@@ -46,12 +46,12 @@ is_source vl first width registers fact =
 abbrev pub fact_range : VectorFact → Range
 fact_range fact = record { lo = fact.low; hi = fact.high }
 
--- the range of the elements below vl of the group that begins at a register
+-- the range of the elements below vl of the group that begins at a register; no legal EEW is above 32
 unfoldable pub source_range : Vtype → Range → ℕ → Eew → List VectorFact → Range
 source_range t vl first eew facts =
     option_map_or fact_range
     (find (is_source vl first (eew_bits t.sew eew) (group_count t eew)) facts)
-    (all_of_bits (eew_bits t.sew eew))
+    (all_of_bits (min 32 (eew_bits t.sew eew)))
 
 -- the range of the low bits of a number
 unfoldable pub low_range : ℕ → Range → Range
