@@ -67,7 +67,8 @@ second_range t s facts (Immediate imm) = just (unsigned imm % 2 ^ bits_of_width 
 
 -- the range between two ends that both have this many bits
 abbrev pub fitting_bits : ℕ → ℕ → ℕ → Option Range
-fitting_bits bits lo hi = if nat_lt hi (2 ^ bits) then Some record { lo = lo; hi = hi } else None
+fitting_bits bits lo hi =
+    if nat_lt lo (2 ^ bits) && nat_lt hi (2 ^ bits) then Some record { lo = lo; hi = hi } else None
 
 -- a shift to the left by an amount, of which the low bits count, where it is known
 unfoldable pub left_elements : ℕ → Range → Option ℕ → Option Range
