@@ -20,7 +20,7 @@ use linear_facts::{Form, Range};
 use rv_decode::{CsrName, ImmediateOp, LoadKind, RegisterOp, ShiftOp};
 
 /// The numbers from 0 to one.
-fn up_to(hi: u32) -> Range
+pub(crate) fn up_to(hi: u32) -> Range
     ensures { result ≡ up_to_of hi }
 {
     Range { lo: 0, hi }

@@ -1,14 +1,32 @@
 //! What is known of the elements of groups of vector registers.
-ghost use Rattle.std.specs.Prelude.{◌≡◌, ◌≤◌, find};
+ghost use Rattle.std.specs.Prelude.{◌≡◌, ◌+◌, ◌*◌, ◌%◌, ◌^◌, ◌<◌, ◌≤◌, ◌++◌, filter, find, length, map, option_to_list, vec_capacity};
 ghost use Rattle.std.specs.Option.{option_map};
-ghost use Rattle.abs_state.specs.Groups.{all_of_bits as all_of_bits_of, is_source as is_source_of, source_range as source_range_of};
-ghost use Rattle.vreg_groups.specs.Legality.{eew_bits as eew_bits_of};
+ghost use Rattle.rv_decode.specs.Needs.{eew_of as eew_of_of, needs_of};
+ghost use Rattle.vreg_groups.specs.Legality.{count_of as count_of_of, eew_bits as eew_bits_of};
+ghost use Rattle.vreg_groups.specs.VectorLength.{IsVlenb};
 ghost use Rattle.vreg_groups.specs.VectorType.{bits_of_width};
+ghost use Rattle.abs_state.specs.Groups.{all_of_bits as all_of_bits_of, is_source as is_source_of, source_range as source_range_of};
+ghost use Rattle.abs_state.specs.Groups.{low_range as low_range_of, second_range as second_range_of};
+ghost use Rattle.abs_state.specs.Groups.{fitting_bits as fitting_bits_of, left_elements as left_elements_of};
+ghost use Rattle.abs_state.specs.Groups.{right_elements as right_elements_of, remainder_by as remainder_by_of};
+ghost use Rattle.abs_state.specs.Groups.{int_range as int_range_of, narrow_range as narrow_range_of};
+ghost use Rattle.abs_state.specs.Groups.{arith_range as arith_range_of, mask_range as mask_range_of, place_range as place_range_of};
+ghost use Rattle.abs_state.specs.Groups.{stated_range as stated_range_of, fact_if as fact_if_of, stated_by as stated_by_of};
+ghost use Rattle.abs_state.specs.Groups.{is_apart as is_apart_of, untouched as untouched_of};
+ghost use Rattle.abs_state.specs.Groups.{elements_in as elements_in_of, counted as counted_of, is_lasting as is_lasting_of};
+ghost use Rattle.abs_state.specs.Groups.{cut_groups as cut_groups_of};
+ghost use Rattle.abs_state.specs.Values.{just as just_of};
 
+use crate::effects::up_to;
+use crate::numbers::{Numbers, VL};
+use crate::values::known;
 use cert_note::VectorFact;
 use linear_facts::Range;
-use rv_decode::{Eew, Reg, Width};
-use vreg_groups::Vtype;
+use rv_decode::{
+    Eew, Extent, Fraction, Insn, IntOp, NarrowOp, Operand, Reg, Source, VArith, VMask, Width, needs,
+};
+use std::alloc::Allocator;
+use vreg_groups::{Vtype, whole_count};
 
 /// How many bits an element has.
 fn bits_of(width: Width) -> u32
@@ -91,5 +109,244 @@ pub(crate) fn source_range(
             hi: fact.high,
         },
         None => all_of_bits(width.min(32)),
+    }
+}
+
+/// The width of what is extended to SEW.
+fn eew_of(of: Fraction) -> Eew
+    ensures { result ≡ eew_of_of of }
+{
+    match of {
+        Fraction::Half => Eew::Half,
+        Fraction::Quarter => Eew::Quarter,
+    }
+}
+
+/// The range of the low bits of a number.
+#[tactic(auto, unfolding(crate::specs::Groups::low_range))]
+fn low_range(bits: u32, r: Range) -> Range
+    requires { bits ≤ 32 }
+    ensures { result ≡ low_range_of bits r }
+{
+    if u64::from(r.hi) < 1 << bits {
+        r
+    } else {
+        all_of_bits(bits)
+    }
+}
+
+/// The range of the low bits of an immediate.
+fn immediate_range(bits: u32, imm: u32) -> Range
+    requires { bits ≤ 32 }
+    ensures { result ≡ just_of (imm % 2 ^ bits) }
+{
+    let n = (u64::from(imm) % (1 << bits)) as u32;
+    Range { lo: n, hi: n }
+}
+
+/// The range of the elements of the second operand.
+#[tactic(auto, unfolding(crate::specs::Groups::second_range))]
+fn second_range<A: Allocator>(
+    t: &Vtype,
+    numbers: &Numbers<A>,
+    facts: &[VectorFact],
+    b: Source,
+) -> Range
+    ensures { result ≡ second_range_of t.now numbers.now facts.now b }
+{
+    match b {
+        Source::Vector(vs1) => source_range(t, numbers.range_at(VL), vs1, Eew::Same, facts),
+        Source::Scalar(rs1) => {
+            low_range(bits_of(t.sew), numbers.range_at(usize::from(rs1.number())))
+        }
+        Source::Immediate(imm) => immediate_range(bits_of(t.sew), imm.cast_unsigned()),
+    }
+}
+
+/// The range between two ends, where both have this many bits.
+fn fitting_bits(bits: u32, lo: u64, hi: u64) -> Option<Range>
+    requires { bits ≤ 32 }
+    ensures { result ≡ fitting_bits_of bits lo hi }
+{
+    if lo < 1 << bits && hi < 1 << bits {
+        Some(Range {
+            lo: lo as u32,
+            hi: hi as u32,
+        })
+    } else {
+        None
+    }
+}
+
+/// The multiples of a range's numbers, where both ends have this many bits.
+fn multiple_range(bits: u32, a: Range, k: u32) -> Option<Range>
+    requires { bits ≤ 32 }
+    ensures { result ≡ fitting_bits_of bits (a.lo * k) (a.hi * k) }
+{
+    fitting_bits(
+        bits,
+        u64::from(a.lo) * u64::from(k),
+        u64::from(a.hi) * u64::from(k),
+    )
+}
+
+/// A shift to the left by an amount, of which the low bits count, where it is known.
+#[tactic(auto, unfolding(crate::specs::Groups::left_elements))]
+fn left_elements(bits: u32, a: Range, amount: Option<u32>) -> Option<Range>
+    requires least { 0 < bits }
+    requires most { bits ≤ 32 }
+    ensures { result ≡ left_elements_of bits a amount }
+{
+    match amount {
+        Some(n) => multiple_range(bits, a, 1 << (n % bits)),
+        None => None,
+    }
+}
+
+/// A shift to the right of elements with `of` bits, where what it leaves has `bits`.
+#[tactic(auto, unfolding(crate::specs::Groups::right_elements))]
+fn right_elements(of: u32, bits: u32, a: Range, amount: Option<u32>) -> Option<Range>
+    requires least { 0 < of }
+    requires most { of ≤ 64 }
+    requires bits { bits ≤ 32 }
+    ensures { result ≡ right_elements_of of bits a amount }
+{
+    match amount {
+        Some(n) => fitting_bits(
+            bits,
+            u64::from(a.lo) >> (n % of),
+            u64::from(a.hi) >> (n % of),
+        ),
+        None => None,
+    }
+}
+
+/// The remainder by a number of an x register, where it is known and not 0.
+#[tactic(auto, unfolding(crate::specs::Groups::remainder_by, crate::specs::Groups::remainder_elements))]
+fn remainder_by(b: Source, a: Range, divisor: Option<u32>) -> Option<Range>
+    ensures { result ≡ remainder_by_of b a divisor }
+{
+    match b {
+        Source::Scalar(_) => match divisor {
+            Some(c) => if c == 0 {
+                None
+            } else {
+                Some(up_to(a.hi.min(c - 1)))
+            },
+            None => None,
+        },
+        Source::Vector(_) | Source::Immediate(_) => None,
+    }
+}
+
+/// The range of what an operation gives for elements of vs2 and of the second operand that lie in these.
+#[tactic(auto, unfolding(crate::specs::Groups::int_range))]
+fn int_range(bits: u32, op: IntOp, b: Source, x: Range, y: Range) -> Option<Range>
+    requires least { 0 < bits }
+    requires most { bits ≤ 32 }
+    ensures { result ≡ int_range_of bits op b x y }
+{
+    match op {
+        IntOp::Add => fitting_bits(
+            bits,
+            u64::from(x.lo) + u64::from(y.lo),
+            u64::from(x.hi) + u64::from(y.hi),
+        ),
+        IntOp::Minu => Some(Range {
+            lo: x.lo.min(y.lo),
+            hi: x.hi.min(y.hi),
+        }),
+        IntOp::Maxu => Some(Range {
+            lo: x.lo.max(y.lo),
+            hi: x.hi.max(y.hi),
+        }),
+        IntOp::And => Some(up_to(x.hi.min(y.hi))),
+        IntOp::Sll => left_elements(bits, x, known(y)),
+        IntOp::Srl => right_elements(bits, bits, x, known(y)),
+        IntOp::Remu => remainder_by(b, x, known(y)),
+        IntOp::Sub
+        | IntOp::Rsub
+        | IntOp::Min
+        | IntOp::Max
+        | IntOp::Or
+        | IntOp::Xor
+        | IntOp::Sra
+        | IntOp::Mul
+        | IntOp::Mulh
+        | IntOp::Mulhu
+        | IntOp::Mulhsu
+        | IntOp::Divu
+        | IntOp::Div
+        | IntOp::Rem => None,
+    }
+}
+
+/// The same for a shift of elements of 2*SEW to SEW.
+#[tactic(auto, unfolding(crate::specs::Groups::narrow_range))]
+fn narrow_range(bits: u32, op: NarrowOp, x: Range, y: Range) -> Option<Range>
+    requires least { 0 < bits }
+    requires most { bits ≤ 32 }
+    ensures { result ≡ narrow_range_of bits op x y }
+{
+    match op {
+        NarrowOp::Srl => right_elements(2 * bits, bits, x, known(y)),
+        NarrowOp::Sra => None,
+    }
+}
+
+/// The range of an unmasked operation's results, from those of vs2 and the second operand.
+#[tactic(auto, unfolding(crate::specs::Groups::arith_range))]
+fn arith_range<A: Allocator>(
+    t: &Vtype,
+    numbers: &Numbers<A>,
+    facts: &[VectorFact],
+    insn: &VArith,
+) -> Option<Range>
+    ensures { result ≡ arith_range_of t.now numbers.now facts.now insn.now }
+{
+    let vl = numbers.range_at(VL);
+    let bits = bits_of(t.sew);
+    match insn {
+        VArith::Int {
+            op,
+            vs2,
+            b,
+            masked: false,
+            ..
+        } => {
+            let x = source_range(t, vl, *vs2, Eew::Same, facts);
+            int_range(bits, *op, *b, x, second_range(t, numbers, facts, *b))
+        }
+        VArith::Copy { b, .. } => Some(second_range(t, numbers, facts, *b)),
+        VArith::Narrow {
+            op,
+            vs2,
+            b,
+            masked: false,
+            ..
+        } => {
+            let x = source_range(t, vl, *vs2, Eew::Double, facts);
+            narrow_range(bits, *op, x, second_range(t, numbers, facts, *b))
+        }
+        VArith::Extend {
+            signed: false,
+            of,
+            vs2,
+            masked: false,
+            ..
+        } => Some(source_range(t, vl, *vs2, eew_of(*of), facts)),
+        VArith::Int { masked: true, .. }
+        | VArith::Narrow { masked: true, .. }
+        | VArith::Extend { .. }
+        | VArith::MultiplyAdd { .. }
+        | VArith::Carry { .. }
+        | VArith::CarryOut { .. }
+        | VArith::Merge { .. }
+        | VArith::Compare { .. }
+        | VArith::Fixed { .. }
+        | VArith::Widen { .. }
+        | VArith::Wide { .. }
+        | VArith::WidenMultiplyAdd { .. }
+        | VArith::Clip { .. } => None,
     }
 }
