@@ -350,3 +350,97 @@ fn arith_range<A: Allocator>(
         | VArith::Clip { .. } => None,
     }
 }
+
+/// The range of the numbers of elements, where all of them fit.
+fn place_range(vlenb: u32, t: &Vtype) -> Option<Range>
+    requires { IsVlenb vlenb }
+    ensures { result ≡ place_range_of vlenb t.now }
+{
+    let last = t.vlmax(vlenb as usize).saturating_sub(1);
+    fitting_bits(bits_of(t.sew), 0, u64::from(last))
+}
+
+/// The range of what an unmasked instruction on masks gives.
+#[tactic(auto, unfolding(crate::specs::Groups::mask_range))]
+fn mask_range(vlenb: u32, t: &Vtype, insn: &VMask) -> Option<Range>
+    requires { IsVlenb vlenb }
+    ensures { result ≡ mask_range_of vlenb t.now insn.now }
+{
+    match insn {
+        VMask::Iota { masked: false, .. } | VMask::Index { masked: false, .. } => {
+            place_range(vlenb, t)
+        }
+        VMask::Iota { masked: true, .. }
+        | VMask::Index { masked: true, .. }
+        | VMask::Logic { .. }
+        | VMask::Count { .. }
+        | VMask::First { .. }
+        | VMask::SetFirst { .. } => None,
+    }
+}
+
+/// The range of the elements below vl that an instruction leaves in its destination, where it states one.
+#[tactic(auto, unfolding(crate::specs::Groups::stated_range))]
+fn stated_range<A: Allocator>(
+    vlenb: u32,
+    t: &Vtype,
+    numbers: &Numbers<A>,
+    facts: &[VectorFact],
+    insn: &Insn,
+) -> Option<Range>
+    requires { IsVlenb vlenb }
+    ensures { result ≡ stated_range_of vlenb t.now numbers.now facts.now insn.now }
+{
+    match insn {
+        Insn::VArith(insn) => arith_range(t, numbers, facts, insn),
+        Insn::VMask(insn) => mask_range(vlenb, t, insn),
+        Insn::Scalar(_)
+        | Insn::Csr(_)
+        | Insn::VSet(_)
+        | Insn::VPerm(_)
+        | Insn::VReduce(_)
+        | Insn::VMem(_)
+        | Insn::VMove(_) => None,
+    }
+}
+
+/// The fact for vl on a group of SEW. One on all numbers would say nothing.
+#[tactic(auto, unfolding(crate::specs::Groups::fact_if))]
+fn fact_if(t: &Vtype, first: Reg, range: Option<Range>) -> Option<VectorFact>
+    ensures { option_to_list result ≡ fact_if_of t.now first range }
+{
+    let bits = bits_of(t.sew);
+    match range {
+        Some(r) => if r == all_of_bits(bits) {
+            None
+        } else {
+            Some(VectorFact {
+                register: first.number(),
+                width: bits as u8,
+                registers: t.group_count(Eew::Same) as u8,
+                count: 0,
+                low: r.lo,
+                high: r.hi,
+            })
+        },
+        None => None,
+    }
+}
+
+/// What an instruction states of its destination, where vtype is known.
+#[tactic(auto, unfolding(crate::specs::Groups::stated_by, crate::specs::Groups::stated_at))]
+fn stated_by<A: Allocator>(
+    vlenb: u32,
+    vtype: Option<Vtype>,
+    numbers: &Numbers<A>,
+    facts: &[VectorFact],
+    insn: &Insn,
+) -> Option<VectorFact>
+    requires { IsVlenb vlenb }
+    ensures { option_to_list result ≡ stated_by_of vlenb vtype numbers.now facts.now insn.now }
+{
+    let t = vtype?;
+    let destination = needs(insn).destination?;
+    let range = stated_range(vlenb, &t, numbers, facts, insn);
+    fact_if(&t, destination.first, range)
+}
