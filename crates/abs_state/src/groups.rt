@@ -444,3 +444,150 @@ fn stated_by<A: Allocator>(
     let range = stated_range(vlenb, &t, numbers, facts, insn);
     fact_if(&t, destination.first, range)
 }
+
+// ---- what stays true
+
+/// How many registers an operand covers.
+#[tactic(auto, unfolding(vreg_groups::specs::Legality::count_of))]
+fn count_of(vtype: Option<Vtype>, extent: Extent) -> u32
+    ensures meaning { result ≡ count_of_of vtype extent }
+    ensures bound { result ≤ 64 }
+{
+    match extent {
+        Extent::Group(eew) => match vtype {
+            Some(t) => t.group_count(eew) as u32,
+            None => 1,
+        },
+        Extent::Single(_) | Extent::Mask => 1,
+        Extent::Whole(count) => whole_count(count) as u32,
+    }
+}
+
+/// Whether a fact's group has none of `count` registers from `first` on.
+#[tactic(auto, unfolding(crate::specs::Groups::is_apart))]
+fn is_apart(first: Reg, count: u32, fact: &VectorFact) -> bool
+    requires { count ≤ 64 }
+    ensures { result ≡ is_apart_of first count fact.now }
+{
+    let first = u32::from(first.number());
+    let register = u32::from(fact.register);
+    register + u32::from(fact.registers) <= first || first + count <= register
+}
+
+/// Leaves the facts on groups that have none of `count` registers from `first` on.
+fn retain_apart<A: Allocator>(first: Reg, count: u32, facts: &mut Vec<VectorFact, A>)
+    requires { count ≤ 64 }
+    ensures items { facts.new.items ≡ filter (is_apart_of first count) facts.old.items }
+    ensures bound { length facts.new.items ≤ length facts.old.items }
+    ensures capacity { vec_capacity facts.new ≡ vec_capacity facts.old }
+{
+    facts.retain(|fact| is_apart(first, count, fact));
+}
+
+/// Leaves the facts that a write to a destination leaves.
+#[tactic(auto, unfolding(crate::specs::Groups::untouched))]
+fn untouched<A: Allocator>(
+    vtype: Option<Vtype>,
+    destination: Option<Operand>,
+    facts: &mut Vec<VectorFact, A>,
+)
+    ensures items { facts.new.items ≡ untouched_of vtype destination facts.old.items }
+    ensures bound { length facts.new.items ≤ length facts.old.items }
+    ensures capacity { vec_capacity facts.new ≡ vec_capacity facts.old }
+{
+    if let Some(destination) = destination {
+        let count = count_of(vtype, destination.extent);
+        retain_apart(destination.first, count, facts);
+    }
+}
+
+/// The facts after an instruction that leaves vl as it is.
+pub(crate) fn after_groups<A: Allocator, B: Allocator>(
+    vlenb: u32,
+    vtype: Option<Vtype>,
+    numbers: &Numbers<A>,
+    insn: &Insn,
+    facts: &mut Vec<VectorFact, B>,
+)
+    requires vlenb { IsVlenb vlenb }
+    requires room { length facts.old.items < vec_capacity facts.old }
+    ensures items { facts.new.items ≡ untouched_of vtype (needs_of insn.now).destination facts.old.items
+        ++ stated_by_of vlenb vtype numbers.now facts.old.items insn.now }
+    ensures growth { length facts.new.items ≤ length facts.old.items + 1 }
+    ensures capacity { vec_capacity facts.old ≤ vec_capacity facts.new }
+{
+    let stated = stated_by(vlenb, vtype, numbers, facts.as_slice(), insn);
+    untouched(vtype, needs(insn).destination, facts);
+    if let Some(fact) = stated {
+        facts.push(fact).unwrap();
+    }
+}
+
+/// How many elements a fact's group has.
+fn elements_in(vlenb: u32, fact: &VectorFact) -> u32
+    requires { IsVlenb vlenb }
+    ensures meaning { result ≡ elements_in_of vlenb fact.now }
+    ensures bound { result < 65536 }
+{
+    let size = u32::from(fact.width / 8);
+    if size == 0 {
+        0
+    } else {
+        u32::from(fact.registers) * vlenb / size
+    }
+}
+
+/// The fact for as many elements as vl is at least, where it is one for vl.
+#[tactic(auto, unfolding(crate::specs::Groups::counted))]
+fn counted(vlenb: u32, least: u32, fact: &VectorFact) -> VectorFact
+    requires { IsVlenb vlenb }
+    ensures { result ≡ counted_of vlenb least fact.now }
+{
+    if fact.count == 0 {
+        VectorFact {
+            count: least.min(elements_in(vlenb, fact)) as u16,
+            ..*fact
+        }
+    } else {
+        *fact
+    }
+}
+
+/// Makes of each fact for vl one for as many elements as vl is at least.
+fn count_all(vlenb: u32, least: u32, facts: &mut [VectorFact])
+    requires { IsVlenb vlenb }
+    ensures { facts.new ≡ map (counted_of vlenb least) facts.old }
+{
+    for fact in facts.iter_mut() {
+        *fact = counted(vlenb, least, fact);
+    }
+}
+
+/// Whether a fact is not for vl, or vl is at least 1.
+#[tactic(auto, unfolding(crate::specs::Groups::is_lasting))]
+fn is_lasting(least: u32, fact: &VectorFact) -> bool
+    ensures { result ≡ is_lasting_of least fact.now }
+{
+    fact.count != 0 || least > 0
+}
+
+/// Leaves the facts that are not for vl, and the others where vl is at least 1.
+fn retain_lasting<A: Allocator>(least: u32, facts: &mut Vec<VectorFact, A>)
+    ensures items { facts.new.items ≡ filter (is_lasting_of least) facts.old.items }
+    ensures bound { length facts.new.items ≤ length facts.old.items }
+    ensures capacity { vec_capacity facts.new ≡ vec_capacity facts.old }
+{
+    facts.retain(|fact| is_lasting(least, fact));
+}
+
+/// The facts where vl, which was at least `least`, changes: one for vl becomes one for as many elements as `least`.
+#[tactic(auto, unfolding(crate::specs::Groups::cut_groups))]
+pub(crate) fn cut_groups<A: Allocator>(vlenb: u32, least: u32, facts: &mut Vec<VectorFact, A>)
+    requires { IsVlenb vlenb }
+    ensures items { facts.new.items ≡ cut_groups_of vlenb least facts.old.items }
+    ensures bound { length facts.new.items ≤ length facts.old.items }
+    ensures capacity { vec_capacity facts.new ≡ vec_capacity facts.old }
+{
+    retain_lasting(least, facts);
+    count_all(vlenb, least, facts.as_mut_slice());
+}
