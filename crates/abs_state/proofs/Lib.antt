@@ -16,6 +16,7 @@ pub mod StartNumbers
 pub mod StartRanges
 pub mod StartZones
 pub mod States
+pub mod StatedWrites
 pub mod StepMachines
 pub mod StepScalars
 pub mod StepsHeld
