@@ -1,5 +1,6 @@
 pub mod Addresses
 pub mod EdgeLemmas
+pub mod Elements
 pub mod EntryHart
 pub mod GroupLemmas
 pub mod Growth

@@ -201,7 +201,7 @@ left_shift_describes n v a x y (Some c) h is =
 
 -- ---- effects by their ranges alone
 
-div_up : (a b d : ℕ) → a ≤ b → a / d ≤ b / d
+pub div_up : (a b d : ℕ) → a ≤ b → a / d ≤ b / d
 div_up a b zero l = omega arith
 div_up a b (suc d) l = le-div (a / suc d) b (suc d) (omega arith) (omega (arith, div-mul-le_self a (suc d), l))
 

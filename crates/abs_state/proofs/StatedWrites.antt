@@ -46,6 +46,9 @@ second_true : (a b : Bool) → (a && b) ≡ true → b ≡ true
 second_true true b e = e
 second_true false b e = cc
 
+none_is : (n : ℕ) → (n == 0) ≡ true → n ≡ 0
+none_is n e = grind (arith, nat_tests)
+
 -- bits that are 8 to 32 are those of a size
 size_of_bits : (sew : Width) (eew : Eew) → is_width (eew_bits sew eew) ≡ true → IsSize (eew_bits sew eew / 8)
 unfolding is_width
@@ -70,10 +73,10 @@ pub legal_group : (vlenb : ℕ) (s : Setup) (first : ℕ) (eew : Eew) → first 
 legal_group vlenb s first eew l fits legal =
     let t = s.vtype in
     let widths = first_true _ _ (first_true _ _ legal) in
-    let multiple : (first % group_count t eew == 0) ≡ true = second_true _ _ legal in
+    let multiple = none_is (first % group_count t eew) (second_true _ _ legal) in
     record {
       size = size_of_bits t.sew eew widths;
-      registers = group_ends t eew first l (grind (arith, nat_tests));
+      registers = group_ends t eew first l multiple;
       room = bytes_fit (eew_bits t.sew eew) s.vl (group_count t eew * vlenb) (group_room t eew vlenb s.vl fits);
       length = refl;
     }
