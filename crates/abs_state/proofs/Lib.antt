@@ -17,6 +17,7 @@ pub mod StartNumbers
 pub mod StartRanges
 pub mod StartZones
 pub mod States
+pub mod StatedOperands
 pub mod StatedWrites
 pub mod StepMachines
 pub mod StepScalars

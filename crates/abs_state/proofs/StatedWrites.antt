@@ -1,5 +1,6 @@
 -- What an unmasked instruction wrote to its destination: each element of the body is its result.
-use Rattle.std.proofs.Common.{◌≡◌, ◌<◌, ◌≤◌, ◌+◌, ◌-◌, ◌*◌, ◌/◌, ◌%◌, ◌^◌, ◌⊎◌, inl, inr, ℕ, Bool, true, false, arith, refl, sym, ap, ◌∙◌, subst, length, get_or, replicate, List}
+use Rattle.std.proofs.Common.{◌≡◌, ◌<◌, ◌≤◌, ◌+◌, ◌-◌, ◌*◌, ◌/◌, ◌%◌, ◌^◌, ◌⊎◌, inl, inr, ℕ, Bool, true, false, arith, refl, sym, ap, ◌∙◌, subst, length, get_or, replicate, List, [], ◌∷◌, Option, Some, None, IfSome}
+use Rattle.std.specs.List.{AllByRecursion}
 use Rattle.std.specs.Prelude.{if◌then◌else◌, ◌==◌, ◌&&◌, nat_lt, nat_le, All, min}
 use Rattle.std.proofs.lemmas.Bool.Decides.{nat_tests}
 use Rattle.std.proofs.lemmas.List.{get_or-replicate, get_or_default}
@@ -26,17 +27,18 @@ use Rattle.vreg_groups.proofs.Sizes.{bytes_fit, group_ends, group_room}
 use Rattle.vreg_groups.proofs.Writes.{element_after}
 use Rattle.vector_core.specs.KeepLaws.{AreRegisters}
 use Rattle.vector_core.specs.Operands.{results_written}
-use Rattle.abs_state.specs.Groups.{group_fact}
+use Rattle.abs_state.specs.Groups.{fact_if, group_fact}
 use Rattle.abs_state.specs.Held.{IsTrueOf}
+use Rattle.abs_state.proofs.Elements.{IsWithin}
 
 -- ---- groups of legal instructions
 
--- a group is inside the registers, its elements have 8 to 32 bits, and it has room for vl of them
-pub record IsGroup (vlenb vl : ℕ) (group : Span) : Type 0 where
+-- a group is inside the registers, its elements have this many bits, which are 8 to 32, and it has room for the body
+pub record IsGroup (vlenb bits : ℕ) (group : Span) : Type 0 where
   pub size : IsSize group.bytes
+  pub limit : 256 ^ group.bytes ≡ 2 ^ bits
   pub registers : group.first + group.count ≤ 32
   pub room : group.bytes * group.vl ≤ group.count * vlenb
-  pub length : group.vl ≡ vl
 
 first_true : (a b : Bool) → (a && b) ≡ true → a ≡ true
 first_true true b e = refl
@@ -50,49 +52,53 @@ none_is : (n : ℕ) → (n == 0) ≡ true → n ≡ 0
 none_is n e = grind (arith, nat_tests)
 
 -- bits that are 8 to 32 are those of a size
-size_of_bits : (sew : Width) (eew : Eew) → is_width (eew_bits sew eew) ≡ true → IsSize (eew_bits sew eew / 8)
+size_of_bits : (sew : Width) (eew : Eew) → is_width (eew_bits sew eew) ≡ true
+    → IsSize (eew_bits sew eew / 8) × (256 ^ (eew_bits sew eew / 8) ≡ 2 ^ eew_bits sew eew)
 unfolding is_width
 size_of_bits W8 eew.Quarter e = cc
 size_of_bits W8 eew.Half e = cc
-size_of_bits W8 eew.Same e = inl refl
-size_of_bits W8 eew.Double e = inr (inl refl)
+size_of_bits W8 eew.Same e = (inl refl, refl)
+size_of_bits W8 eew.Double e = (inr (inl refl), refl)
 size_of_bits W16 eew.Quarter e = cc
-size_of_bits W16 eew.Half e = inl refl
-size_of_bits W16 eew.Same e = inr (inl refl)
-size_of_bits W16 eew.Double e = inr (inr refl)
-size_of_bits W32 eew.Quarter e = inl refl
-size_of_bits W32 eew.Half e = inr (inl refl)
-size_of_bits W32 eew.Same e = inr (inr refl)
+size_of_bits W16 eew.Half e = (inl refl, refl)
+size_of_bits W16 eew.Same e = (inr (inl refl), refl)
+size_of_bits W16 eew.Double e = (inr (inr refl), refl)
+size_of_bits W32 eew.Quarter e = (inl refl, refl)
+size_of_bits W32 eew.Half e = (inr (inl refl), refl)
+size_of_bits W32 eew.Same e = (inr (inr refl), refl)
 size_of_bits W32 eew.Double e = cc
-size_of_bits sew (eew.Fixed W8) e = inl refl
-size_of_bits sew (eew.Fixed W16) e = inr (inl refl)
-size_of_bits sew (eew.Fixed W32) e = inr (inr refl)
+size_of_bits sew (eew.Fixed W8) e = (inl refl, refl)
+size_of_bits sew (eew.Fixed W16) e = (inr (inl refl), refl)
+size_of_bits sew (eew.Fixed W32) e = (inr (inr refl), refl)
 
 pub legal_group : (vlenb : ℕ) (s : Setup) (first : ℕ) (eew : Eew) → first < 32 → s.vl ≤ vlmax_of vlenb s.vtype
-    → is_group_legal s.vtype eew first ≡ true → IsGroup vlenb s.vl (group_at s first eew)
+    → is_group_legal s.vtype eew first ≡ true → IsGroup vlenb (eew_bits s.vtype.sew eew) (group_at s first eew)
 legal_group vlenb s first eew l fits legal =
     let t = s.vtype in
-    let widths = first_true _ _ (first_true _ _ legal) in
+    let widths = size_of_bits t.sew eew (first_true _ _ (first_true _ _ legal)) in
     let multiple = none_is (first % group_count t eew) (second_true _ _ legal) in
     record {
-      size = size_of_bits t.sew eew widths;
+      size = widths.0;
+      limit = widths.1;
       registers = group_ends t eew first l multiple;
       room = bytes_fit (eew_bits t.sew eew) s.vl (group_count t eew * vlenb) (group_room t eew vlenb s.vl fits);
-      length = refl;
     }
+
+-- an element of the body lies within the group
+pub element_inside : (vlenb bits : ℕ) (group : Span) (i : ℕ) → IsGroup vlenb bits group → i < group.vl
+    → group.bytes * i + group.bytes ≤ group.count * vlenb
+element_inside vlenb bits group i inside l =
+    let m = mul-le-mul_left group.bytes (next i group.vl l) in omega (arith, m, inside.room)
+  where
+    next : (i n : ℕ) → i < n → i + 1 ≤ n
+    next i n l = omega (arith, l)
 
 -- ---- elements that were written
 
--- x is a result of this many bytes in a range
-pub record IsResult (size : ℕ) (r : Range) (x : ℕ) : Type 0 where
-  pub low : r.lo ≤ x
-  pub high : x ≤ r.hi
-  pub fits : x < 256 ^ size
-
--- so is each of vl results
-pub record AreResults (size vl : ℕ) (r : Range) (results : List ℕ) : Type 0 where
+-- each of vl results lies in the range, where there is one, and has this many bits
+pub record AreResults (bits vl : ℕ) (range : Option Range) (results : List ℕ) : Type 0 where
   pub count : length results ≡ vl
-  pub each : (i : ℕ) → i < vl → IsResult size r (get_or results i 0)
+  pub each : (i : ℕ) → i < vl → IfSome range (λ r. IsWithin (2 ^ bits) r (get_or results i 0))
 
 below : (i n : ℕ) → i < n → nat_lt i n ≡ true
 below i n l = grind (arith, nat_tests)
@@ -106,30 +112,26 @@ result_is policy ones n i old results len l =
     (get_or_default results i old 0 (omega (arith, len, l)))
 
 -- element i of the body, after results were written to all of it
-pub written_is : (vlenb : ℕ) (group : Span) (policy : Policy) (r : Range) (results file : List ℕ) (i : ℕ) → IsVlenb vlenb
-    → IsGroup vlenb group.vl group → AreRegisters vlenb file → AreResults group.bytes group.vl r results → i < group.vl
+pub written_is : (vlenb bits : ℕ) (group : Span) (policy : Policy) (r : Range) (results file : List ℕ) (i : ℕ) → IsVlenb vlenb
+    → IsGroup vlenb bits group → AreRegisters vlenb file → AreResults bits group.vl (Some r) results → i < group.vl
     → element_at group.bytes (group.first * vlenb) (written vlenb group policy results (replicate group.vl true) file) i
     ≡ get_or results i 0
 unfolding written write_of
-written_is vlenb group policy r results file i v inside registers are l =
+written_is vlenb bits group policy r results file i v inside registers are l =
     let size = group.bytes in
     let at = group.first * vlenb in
-    let within : size * i + size ≤ group.count * vlenb =
-    (let m = mul-le-mul_left size (next i group.vl l) in omega (arith, m, inside.room)) in
     let fit : All (λ x. x < 256 ^ size) results =
-    All-from_get_or (λ x. x < 256 ^ size) results 0 (λ j m. (are.each j (omega (arith, m, are.count))).fits) in
+    All-from_get_or (λ x. x < 256 ^ size) results 0
+    (λ j m. omega (arith, inside.limit, (are.each j (omega (arith, m, are.count))).fits)) in
     element_after size at (group.count * vlenb / size) policy results (replicate group.vl true) file i
     (group_within vlenb size group.first group.count (length file) v inside.size inside.registers registers.count)
-    (element_within vlenb size group.count i inside.size within) registers.bytes fit
+    (element_within vlenb size group.count i inside.size (element_inside vlenb bits group i inside l)) registers.bytes fit
     ∙ result_is policy (256 ^ size - 1) group.vl i (element_at size at file i) results are.count l
-  where
-    next : (i n : ℕ) → i < n → i + 1 ≤ n
-    next i n l = omega (arith, l)
 
 -- what is stated of results is true of the registers to which they were written
-pub written_true : (vlenb : ℕ) (s : Setup) (first : ℕ) (r : Range) (results file : List ℕ) → IsVlenb vlenb
-    → IsGroup vlenb s.vl (group_at s first Same) → AreRegisters vlenb file
-    → AreResults (bits_of_width s.vtype.sew / 8) s.vl r results
+written_true : (vlenb : ℕ) (s : Setup) (first : ℕ) (r : Range) (results file : List ℕ) → IsVlenb vlenb
+    → IsGroup vlenb (bits_of_width s.vtype.sew) (group_at s first Same) → AreRegisters vlenb file
+    → AreResults (bits_of_width s.vtype.sew) s.vl (Some r) results
     → IsTrueOf vlenb s.vl (results_written vlenb s (group_at s first Same) false results file) (group_fact s.vtype first r)
 unfolding results_written active_of
 written_true vlenb s first r results file v inside registers are i l =
@@ -149,6 +151,25 @@ written_true vlenb s first r results file v inside registers are i l =
         × (element_at size (first * vlenb) (if t then file else after) i ≤ r.hi)
     go true e = absurd (let none : s.vl ≡ 0 = grind (arith, nat_tests) in omega (arith, none, short))
     go false e =
-        let is = written_is vlenb (group_at s first Same) (policy_of s.agnostic s.vtype) r results file i v inside registers are short in
+        let bits = bits_of_width s.vtype.sew in
+        let policy = policy_of s.agnostic s.vtype in
+        let is = written_is vlenb bits (group_at s first Same) policy r results file i v inside registers are short in
         let x = are.each i short in
         (omega (arith, is, x.low), omega (arith, is, x.high))
+
+-- so is the fact on them, where there is one
+pub fact_true : (vlenb : ℕ) (s : Setup) (first : ℕ) (range : Option Range) (results file : List ℕ) → IsVlenb vlenb
+    → IsGroup vlenb (bits_of_width s.vtype.sew) (group_at s first Same) → AreRegisters vlenb file
+    → AreResults (bits_of_width s.vtype.sew) s.vl range results
+    → AllByRecursion (IsTrueOf vlenb s.vl (results_written vlenb s (group_at s first Same) false results file))
+    (fact_if s.vtype first range)
+unfolding fact_if
+fact_true vlenb s first None results file v inside registers are = tt
+fact_true vlenb s first (Some r) results file v inside registers are =
+    go ((r.lo == 0) && (r.hi == 2 ^ bits_of_width s.vtype.sew - 1))
+  where
+    go : (t : Bool)
+        → AllByRecursion (IsTrueOf vlenb s.vl (results_written vlenb s (group_at s first Same) false results file))
+        (if t then [] else group_fact s.vtype first r ∷ [])
+    go true = tt
+    go false = (written_true vlenb s first r results file v inside registers are, tt)
