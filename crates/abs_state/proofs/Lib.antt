@@ -18,6 +18,7 @@ pub mod StartRanges
 pub mod StartZones
 pub mod States
 pub mod StatedOperands
+pub mod StatedSteps
 pub mod StatedWrites
 pub mod StepMachines
 pub mod StepScalars
