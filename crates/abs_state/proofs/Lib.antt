@@ -9,8 +9,10 @@ pub mod Lists
 pub mod Memories
 pub mod Operations
 pub mod Payments
+pub mod ReachLemmas
 pub mod Refinements
 pub mod Rooms
+pub mod SourceLemmas
 pub mod StartForms
 pub mod StartMachines
 pub mod StartNumbers
@@ -26,4 +28,5 @@ pub mod StepsHeld
 pub mod Substitutions
 pub mod VectorMachines
 pub mod VectorSteps
+pub mod Transfers
 pub mod Ways

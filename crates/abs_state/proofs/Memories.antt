@@ -1,17 +1,22 @@
--- What lies in a zone is permitted.
+-- What lies in a zone is permitted, and what is allowed lies in one; what stores keep of memory.
 use Rattle.std.proofs.Common.{◌≡◌, ◌<◌, ◌≤◌, ◌+◌, ◌^◌, ℕ, zero, suc, Bool, true, false, arith, refl, sym, ap, ◌∙◌, subst, List, [], ◌∷◌, map, length}
-use Rattle.std.specs.Prelude.{◌&&◌, ◌||◌, nat_le, nat_lt}
+use Rattle.std.specs.Prelude.{◌&&◌, ◌||◌, nat_le, nat_lt, if◌then◌else◌, Some, Result, Ok, Err}
 use Rattle.std.specs.List.{list_any, list_all, range_with_len}
 use Rattle.std.proofs.lemmas.Bool.Decides.{nat_tests}
 use Rattle.std.proofs.lemmas.Grind.{common_steps}
 use Rattle.region_mem.specs.declared.faults.Right.{Right}
 use Rattle.region_mem.specs.declared.faults.Right.TheVariants.{Read, Write, Fetch}
 use Rattle.region_mem.specs.Areas.{Area, AreInside, holds, has_right, is_open, is_open_from}
-use Rattle.region_mem.specs.Memory.{Memory, is_permitted}
-use Rattle.abs_state.specs.Zones.{zone_of, spans, zone_right, is_inside}
+use Rattle.region_mem.specs.Memory.{Memory, is_permitted, store_of}
+use Rattle.abs_state.specs.Zones.{zone_of, spans, zone_right, is_inside, load_allowed, store_allowed}
 use Rattle.region_mem.specs.Laws.{Extent, extent_of}
+use Rattle.region_mem.proofs.ByteLemmas.{stores_keep_bytes}
 use Rattle.region_mem.proofs.ExtentLemmas.{stores_keep_extents}
+use Rattle.region_mem.proofs.KeptCode.{stores_keep_code}
+use Rattle.abs_state.specs.declared.why.Why.{Why}
+use Rattle.abs_state.specs.declared.why.Why.TheVariants.{AccessNotProved, ReadOnly}
 use Rattle.abs_state.specs.declared.zones.Zone.{Zone}
+use Rattle.abs_state.specs.StepLaws.{KeepsMemory}
 use Rattle.abs_state.specs.Memories.{HasZones, StoresKeepZones, ZonesArePermitted}
 
 -- each address from first on and below end is open, and none is past the last one
@@ -99,6 +104,12 @@ inside_permitted right first end zones m a n has e l g =
     let o : IsOpen right first end m.areas = zone_open right first end m.areas has.inside (has.there _ e) in
     both _ _ (le_true (a + n) (2 ^ 32) (omega (arith, o.low, g))) (all_open right first end m.areas a n o l g)
 
+-- what lies in a zone is not past the last address
+pub inside_fits : (right : Right) (first end : ℕ) (zones : List Zone) (m : Memory) → HasZones zones m
+    → is_inside right first end zones ≡ true → end ≤ 2 ^ 32
+unfolding is_inside
+inside_fits right first end zones m has e = (zone_open right first end m.areas has.inside (has.there _ e)).low
+
 -- ---- stores
 
 -- the zone of an area, by where it lies and its rights
@@ -137,3 +148,36 @@ zones_kept zones m stored e has =
 -- a store keeps the zones
 pub stores_kept : StoresKeepZones
 stores_kept address n value zones m stored has e = zones_kept zones m stored (stores_keep_extents address n value m stored e).0 has
+
+-- what a step keeps of memory is kept where it stays, and by a store
+pub nothing_changes : (m : Memory) → KeepsMemory m m
+nothing_changes m = record { zones = λ zones has. has; code = λ safe. (safe, λ pc. refl); bytes = λ are. are }
+
+pub store_keeps : (address n x : ℕ) (m stored : Memory) → store_of address n x m ≡ Some stored → KeepsMemory m stored
+store_keeps address n x m stored e =
+    record {
+      zones = λ zones has. stores_kept address n x zones m stored has e;
+      code = λ safe. stores_keep_code address n x m stored safe e;
+      bytes = λ are. stores_keep_bytes address n x m stored are e;
+    }
+
+-- ---- tests
+
+-- what is allowed lies inside a zone
+inside_if : (t : Bool) (other : Result (Unit {0}) Why) (u : Unit {0}) → (other ≡ Ok u → false ≡ true) → (if t then Ok tt else other) ≡ Ok u
+    → t ≡ true
+inside_if true other u never e = refl
+inside_if false other u never e = never e
+
+pub load_inside : (first end : ℕ) (zones : List Zone) (u : Unit {0}) → load_allowed first end zones ≡ Ok u → is_inside Read first end zones ≡ true
+unfolding load_allowed
+load_inside first end zones u e = inside_if (is_inside Read first end zones) (Err AccessNotProved) u (λ f. cc) e
+
+pub store_inside : (first end : ℕ) (zones : List Zone) (u : Unit {0}) → store_allowed first end zones ≡ Ok u → is_inside Write first end zones ≡ true
+unfolding store_allowed
+store_inside first end zones u e =
+    inside_if (is_inside Write first end zones) _ u (refused (list_any (spans first end) zones)) e
+  where
+    refused : (k : Bool) → (if k then Err ReadOnly else Err AccessNotProved) ≡ Ok u → false ≡ true
+    refused true f = cc
+    refused false f = cc

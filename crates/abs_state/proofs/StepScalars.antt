@@ -1,7 +1,6 @@
 -- What is known after a scalar instruction is true of the hart and memory to which it leads.
 use Rattle.std.proofs.Common.{◌≡◌, ◌<◌, ◌+◌, ◌/◌, ◌%◌, ◌^◌, ℕ, Bool, true, false, arith, refl, sym, ap, ◌∙◌, subst, eq-eqb, length, List, Some, None, lit<}
 use Rattle.std.specs.Prelude.{if◌then◌else◌, ◌==◌, slice_index, slice_set, ℤ, Result, Ok, Err}
-use Rattle.std.specs.List.{list_any}
 use Rattle.std.specs.Int.{w32}
 use Rattle.std.specs.Int.RustNames.{FitsSigned}
 use Rattle.std.proofs.lemmas.Bool.Decides.{nat_tests}
@@ -21,8 +20,7 @@ use Rattle.region_mem.specs.declared.faults.Right.TheVariants.{Read, Write}
 use Rattle.region_mem.specs.Areas.{number_at, with_number}
 use Rattle.region_mem.specs.Memory.{Memory, is_permitted, load_of, store_of}
 use Rattle.region_mem.specs.Laws.{AreBytes}
-use Rattle.region_mem.proofs.ByteLemmas.{numbers_fit, stores_keep_bytes}
-use Rattle.region_mem.proofs.KeptCode.{stores_keep_code}
+use Rattle.region_mem.proofs.ByteLemmas.{numbers_fit}
 use Rattle.vreg_groups.specs.declared.vector_length.Vconfig.{Vconfig}
 use Rattle.scalar_core.specs.Arithmetic.{immediate_result, is_taken, register_result, shift_result, unsigned}
 use Rattle.scalar_core.specs.Csr.{csr_step, csr_value, csr_written, does_write, operand_of, with_csr, written}
@@ -30,14 +28,13 @@ use Rattle.scalar_core.specs.Hart.{Hart, IsHart, advanced, at_pc, exit, next_pc,
 use Rattle.scalar_core.specs.Step.{address_of, beside, branch_step, branch_to, jal_step, jalr_step, jump_and_link, jump_to, load_from, load_step, loaded, offset_by, rv32im_step, size_of_load, size_of_store, store_from, store_step, without_bit_0}
 use Rattle.scalar_core.proofs.States.{at_pc-is_hart, with_reg-is_hart}
 use Rattle.abs_state.specs.declared.why.Why.{Why}
-use Rattle.abs_state.specs.declared.why.Why.TheVariants.{AccessNotProved, ReadOnly}
 use Rattle.abs_state.specs.declared.zones.Zone.{Zone}
 use Rattle.abs_state.specs.declared.state.Way.{Way}
 use Rattle.abs_state.specs.declared.state.Way.TheVariants.{To, Fork}
 use Rattle.abs_state.specs.declared.values.Effect.{Effect}
 use Rattle.abs_state.specs.declared.values.Effect.TheVariants.{Computed, Fresh, Copied}
 use Rattle.abs_state.specs.Values.{known_of}
-use Rattle.abs_state.specs.Zones.{is_inside, spans, load_allowed, store_allowed}
+use Rattle.abs_state.specs.Zones.{is_inside, load_allowed, store_allowed}
 use Rattle.abs_state.specs.Numbers.{NumbersView, value_at, with_result}
 use Rattle.abs_state.specs.Effects.{constant_effect, csr_effect, load_effect}
 use Rattle.abs_state.specs.Described.{LiesIn, IsNumber, Describes}
@@ -51,7 +48,7 @@ use Rattle.abs_state.proofs.Operations.{constant_describes, csr_describes, immed
 use Rattle.abs_state.proofs.States.{result_holds, value_fits}
 use Rattle.abs_state.proofs.Growth.{ok_numbers, same_ok}
 use Rattle.abs_state.proofs.Addresses.{address_lies, register_number}
-use Rattle.abs_state.proofs.Memories.{inside_permitted, stores_kept}
+use Rattle.abs_state.proofs.Memories.{inside_permitted, load_inside, nothing_changes, store_inside, store_keeps}
 
 -- ---- harts
 
@@ -141,17 +138,6 @@ jump_at r x g lies = by_test (r.lo == r.hi) refl
 
 -- ---- memory
 
-pub nothing_changes : (m : Memory) → KeepsMemory m m
-nothing_changes m = record { zones = λ zones has. has; code = λ safe. (safe, λ pc. refl); bytes = λ are. are }
-
-store_keeps : (address n x : ℕ) (m stored : Memory) → store_of address n x m ≡ Some stored → KeepsMemory m stored
-store_keeps address n x m stored e =
-    record {
-      zones = λ zones has. stores_kept address n x zones m stored has e;
-      code = λ safe. stores_keep_code address n x m stored safe e;
-      bytes = λ are. stores_keep_bytes address n x m stored are e;
-    }
-
 load_reads : (address n : ℕ) (m : Memory) → is_permitted Read address n m ≡ true → load_of address n m ≡ Some (number_at address n m.areas)
 unfolding load_of
 load_reads address n m e = rw e refl
@@ -163,25 +149,6 @@ record IsStored (address n x : ℕ) (m : Memory) : Type 0 where
 store_writes : (address n x : ℕ) (m : Memory) → is_permitted Write address n m ≡ true → IsStored address n x m
 unfolding store_of
 store_writes address n x m e = record { stored = record m { areas = with_number address n x m.areas }; is = rw e refl }
-
--- what is allowed lies inside a zone
-inside_if : (t : Bool) (other : Result (Unit {0}) Why) (u : Unit {0}) → (other ≡ Ok u → false ≡ true) → (if t then Ok tt else other) ≡ Ok u
-    → t ≡ true
-inside_if true other u never e = refl
-inside_if false other u never e = never e
-
-load_inside : (first end : ℕ) (zones : List Zone) (u : Unit {0}) → load_allowed first end zones ≡ Ok u → is_inside Read first end zones ≡ true
-unfolding load_allowed
-load_inside first end zones u e = inside_if (is_inside Read first end zones) (Err AccessNotProved) u (λ f. cc) e
-
-store_inside : (first end : ℕ) (zones : List Zone) (u : Unit {0}) → store_allowed first end zones ≡ Ok u → is_inside Write first end zones ≡ true
-unfolding store_allowed
-store_inside first end zones u e =
-    inside_if (is_inside Write first end zones) _ u (refused (list_any (spans first end) zones)) e
-  where
-    refused : (k : Bool) → (if k then Err ReadOnly else Err AccessNotProved) ≡ Ok u → false ≡ true
-    refused true f = cc
-    refused false f = cc
 
 -- an access that was allowed, and what follows it
 record IsAllowed (check : Result (Unit {0}) Why) (s new : NumbersView) : Type 0 where
