@@ -38,7 +38,7 @@ bit_lies true = up_lies 1 1 (omega arith) (lit< tt)
 bit_lies false = up_lies 1 0 (omega arith) (lit< tt)
 
 -- a number that is known is the one of its range
-known_is : (r : Range) (x c : ℕ) → LiesIn r x → known_of r ≡ Some c → x ≡ c
+pub known_is : (r : Range) (x c : ℕ) → LiesIn r x → known_of r ≡ Some c → x ≡ c
 known_is r x c l e = go (r.lo == r.hi) refl e
   where
     go : (t : Bool) → (r.lo == r.hi) ≡ t → (if t then Some r.lo else None) ≡ Some c → x ≡ c
