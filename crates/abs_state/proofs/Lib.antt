@@ -1,4 +1,5 @@
 pub mod Addresses
+pub mod Configurations
 pub mod EdgeLemmas
 pub mod Elements
 pub mod EntryHart
@@ -13,6 +14,7 @@ pub mod ReachLemmas
 pub mod Refinements
 pub mod Rooms
 pub mod SourceLemmas
+pub mod Splits
 pub mod StartForms
 pub mod StartMachines
 pub mod StartNumbers

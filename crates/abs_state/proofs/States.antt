@@ -26,18 +26,18 @@ use Rattle.abs_state.proofs.Operations.{full_lies}
 -- ---- a new atom
 
 -- the numbering with one atom more
-with_number : (ℕ → ℕ) → ℕ → ℕ → ℕ → ℕ
+pub with_number : (ℕ → ℕ) → ℕ → ℕ → ℕ → ℕ
 with_number v n x a = if a == n then x else v a
 
-number_here : (v : ℕ → ℕ) (n x : ℕ) → with_number v n x n ≡ x
+pub number_here : (v : ℕ → ℕ) (n x : ℕ) → with_number v n x n ≡ x
 unfolding with_number
 number_here v n x = grind (arith, nat_tests)
 
-number_there : (v : ℕ → ℕ) (n x a : ℕ) → a ≢ n → with_number v n x a ≡ v a
+pub number_there : (v : ℕ → ℕ) (n x a : ℕ) → a ≢ n → with_number v n x a ≡ v a
 unfolding with_number
 number_there v n x a ne = grind (arith, nat_tests)
 
-length_push : (xs : List Atom) (y : Atom) → length (xs ++ y ∷ []) ≡ length xs + 1
+pub length_push : (xs : List Atom) (y : Atom) → length (xs ++ y ∷ []) ≡ length xs + 1
 length_push xs y = length-append xs (y ∷ [])
 
 push_at : (xs : List Atom) (y d : Atom) → get_or (xs ++ y ∷ []) (length xs) d ≡ y
@@ -126,7 +126,7 @@ number_grows n m v w a x e same h =
     }
 
 -- the number of a new atom
-atom_number : (n m : ℕ) (w : ℕ → ℕ) (r : Range) (x : ℕ) → m ≡ n + 1 → w n ≡ x → LiesIn r x
+pub atom_number : (n m : ℕ) (w : ℕ → ℕ) (r : Range) (x : ℕ) → m ≡ n + 1 → w n ≡ x → LiesIn r x
     → IsNumber m w record { form = atom_form n; range = r } x
 atom_number n m w r x e is lies =
     let small : x < 2 ^ 32 = omega (arith, lies.high, lies.fits) in
@@ -140,7 +140,7 @@ atom_number n m w r x e is lies =
       lies = lies;
     }
 
-atom_holds : (s : NumbersView) (v : ℕ → ℕ) (h : Hart) (config : Vconfig) (r : Range) (x : ℕ) → Holds s v h config → LiesIn r x
+pub atom_holds : (s : NumbersView) (v : ℕ → ℕ) (h : Hart) (config : Vconfig) (r : Range) (x : ℕ) → Holds s v h config → LiesIn r x
     → Holds (with_atom r s) (with_number v (length s.atoms) x) h config
 unfolding value_at
 atom_holds s v h config r x holds lies =
@@ -163,12 +163,12 @@ view_of f r = record { form = f; range = r }
 view_is : (a : ValueView) (f : Linear) (r : Range) → f ≡ a.form → r ≡ a.range → view_of f r ≡ a
 view_is a f r e g = ap (λ (k : Linear). view_of k r) e ∙ ap (λ (q : Range). view_of a.form q) g
 
-this_value : (s : NumbersView) (rd : ℕ) (a : ValueView) → rd < length s.forms → rd < length s.ranges → value_at (with_value rd a s) rd ≡ a
+pub this_value : (s : NumbersView) (rd : ℕ) (a : ValueView) → rd < length s.forms → rd < length s.ranges → value_at (with_value rd a s) rd ≡ a
 unfolding value_at with_value
 this_value s rd a l g =
     view_is a _ _ (get_or-set_same s.forms rd a.form (number_form 0) l) (get_or-set_same s.ranges rd a.range (just 0) g)
 
-other_value : (s : NumbersView) (rd i : ℕ) (a : ValueView) → i ≢ rd → value_at (with_value rd a s) i ≡ value_at s i
+pub other_value : (s : NumbersView) (rd i : ℕ) (a : ValueView) → i ≢ rd → value_at (with_value rd a s) i ≡ value_at s i
 unfolding value_at with_value
 other_value s rd i a ne = rw (get_or-set_other, get_or-set_other) refl
 

@@ -53,7 +53,7 @@ changed_agrees atoms first second v agrees h k = record {
 }
 
 -- a form that is one whole atom is that atom's number
-whole_is : (v : ℕ → ℕ) (c : ℕ) (ts : List Term) (a : ℕ) → ((b : ℕ) → v b < 2 ^ 32)
+pub whole_is : (v : ℕ → ℕ) (c : ℕ) (ts : List Term) (a : ℕ) → ((b : ℕ) → v b < 2 ^ 32)
     → (if c == 0 then atom_of_terms ts else None) ≡ Some a → value v record { constant = c; terms = ts } ≡ v a
 unfolding value
 whole_is v c [] a fits e = by_test (c == 0) e
