@@ -9,6 +9,7 @@ pub mod LegalLemmas
 pub mod Lists
 pub mod Memories
 pub mod Operations
+pub mod Paid
 pub mod Payments
 pub mod ReachLemmas
 pub mod Refinements
@@ -31,4 +32,5 @@ pub mod Substitutions
 pub mod VectorMachines
 pub mod VectorSteps
 pub mod Transfers
+pub mod Vsets
 pub mod Ways
