@@ -1,8 +1,7 @@
 -- What is known after an instruction is true of the machine to which it leads.
-use Rattle.std.proofs.Common.{◌≡◌, ◌<◌, ◌≤◌, ◌+◌, ◌-◌, ◌%◌, ◌^◌, inl, inr, ℕ, Bool, true, false, arith, refl, sym, ap, ◌∙◌, subst, length, List, Option, Some, None}
+use Rattle.std.proofs.Common.{◌≡◌, ◌<◌, ◌≤◌, ◌+◌, ◌%◌, ◌^◌, inl, inr, ℕ, Bool, true, false, arith, refl, sym, ap, ◌∙◌, subst, List, Option, Some, None}
 use Rattle.std.specs.Prelude.{if◌then◌else◌, ◌==◌, nat_le, Result, Ok, Err, MatchOption}
 use Rattle.std.proofs.lemmas.Bool.Decides.{nat_tests}
-use Rattle.linear_facts.proofs.LocalityLemmas.{forms-stay, agree-below}
 use Rattle.rv_decode.specs.declared.instructions.Insn.TheVariants.{Scalar, Csr, VSet, VArith, VMask, VPerm, VReduce, VMem, VMove}
 use Rattle.rv_decode.specs.declared.instructions.ScalarInsn.TheVariants.{Lui, Auipc, Jal, Jalr, Branch, Load, Store, Immediate, ShiftImmediate, Register, Fence, Ecall}
 use Rattle.rv_decode.specs.declared.instructions.Insn.{Insn}
@@ -23,22 +22,20 @@ use Rattle.scalar_core.specs.Hart.{Hart, IsHart}
 use Rattle.scalar_core.specs.Step.{rv32im_step, scalar_step}
 use Rattle.vector_core.specs.Machine.{Machine}
 use Rattle.vector_core.specs.MachineStep.{carry_out, unless_misaligned, with_scalar}
-use Rattle.cert_note.specs.declared.values.Budget.{Budget}
 use Rattle.abs_state.specs.declared.why.Why.{Why}
 use Rattle.abs_state.specs.declared.zones.Zone.{Zone}
 use Rattle.abs_state.specs.declared.state.Way.{Way}
 use Rattle.abs_state.specs.declared.state.Way.TheVariants.{To}
-use Rattle.abs_state.specs.Values.{ValueView}
 use Rattle.abs_state.specs.Zones.{zones_of}
 use Rattle.abs_state.specs.Numbers.{NumbersView}
-use Rattle.abs_state.specs.Described.{IsNumber}
 use Rattle.abs_state.specs.Memories.{HasZones}
 use Rattle.abs_state.specs.Steps.{csr_after}
 use Rattle.abs_state.specs.State.{AbstractView}
 use Rattle.abs_state.specs.Legal.{legal_check}
 use Rattle.abs_state.specs.After.{access_check, after_of, next_word, passed, taken, vector_after, vset_after, way_of}
-use Rattle.abs_state.specs.Held.{Setting, IsProper, IsPaid, Held, vlenb_in}
+use Rattle.abs_state.specs.Held.{Setting, IsProper, Held, vlenb_in}
 use Rattle.abs_state.specs.StepLaws.{or_misaligned, KeepsMemory, StepIsHeld, MachineIsHeld, StepsGoOn, jumps}
+use Rattle.abs_state.proofs.Paid.{paid_stays}
 use Rattle.abs_state.proofs.StepScalars.{scalars_hold, csrs_hold}
 
 -- ---- what an instruction makes of what is known
@@ -138,20 +135,6 @@ whole_is s hart memory = by_test (hart.pc % 4 == 0)
     by_test true = refl
     by_test false = refl
 
--- what is known of a number stays right as atoms are added
-number_stays : (n m : ℕ) (v w : ℕ → ℕ) (a : ValueView) (x : ℕ) → n ≤ m → ((b : ℕ) → b < n → w b ≡ v b) → IsNumber n v a x → IsNumber m w a x
-number_stays n m v w a x l same h =
-    let is : n + (m - n) ≡ m = omega (arith, l) in
-    subst (λ (k : ℕ). IsNumber k w a x) is
-    record {
-      means = record {
-        form = h.means.form;
-        below = forms-stay n (m - n) a.form h.means.below;
-        number = h.means.number ∙ agree-below n v w a.form (λ b k. sym (same b k)) h.means.below;
-      };
-      lies = h.lies;
-    }
-
 proper_stays : (e : Setting) (s : Machine) (hart : Hart) (memory : Memory) → IsProper e s → IsHart hart → KeepsMemory s.memory memory
     → IsProper e (with_both s hart memory)
 proper_stays e s hart memory p is kept =
@@ -165,16 +148,6 @@ proper_stays e s hart memory p is kept =
       code = λ pc word there. code.1 pc ∙ p.code pc word there;
       safe = code.0;
     }
-
-pub paid_stays : (v w : ℕ → ℕ) (n : ℕ) (budget : Option Budget) (a b : AbstractView) → a.paid ≡ b.paid → length a.numbers.atoms ≤ length b.numbers.atoms
-    → ((k : ℕ) → k < length a.numbers.atoms → w k ≡ v k) → IsPaid v n budget a → IsPaid w n budget b
-paid_stays v w n None a b e l same paid = tt
-paid_stays v w n (Some budget) a b e l same paid = (
-  paid.0,
-  paid.1,
-  subst (λ (p : ValueView). IsNumber (length b.numbers.atoms) w p paid.0) e
-      (number_stays (length a.numbers.atoms) (length b.numbers.atoms) v w a.paid paid.0 l same paid.2),
-)
 
 -- what is known after a step that leads to a hart and memory
 module _ (e : Setting) (n : ℕ) (a : AbstractView) (s : Machine) (held : Held e n a s) where

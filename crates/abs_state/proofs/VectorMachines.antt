@@ -35,7 +35,8 @@ use Rattle.abs_state.specs.VectorLaws.{ChecksAreLegal, StatedAreTrue, TransfersA
 use Rattle.abs_state.specs.Zones.{zones_of}
 use Rattle.abs_state.proofs.VectorSteps.{IsDone, IsPermitted, vector_done}
 use Rattle.abs_state.proofs.LegalLemmas.{counts_known}
-use Rattle.abs_state.proofs.StepMachines.{paid_stays, same_state}
+use Rattle.abs_state.proofs.Paid.{paid_stays}
+use Rattle.abs_state.proofs.StepMachines.{same_state}
 
 -- the two tests are passed, and what is known next is this
 record IsPassed (a b : AbstractView) (first second : Result (Unit {0}) Why) : Type 0 where
