@@ -1,15 +1,18 @@
 -- Which facts on groups of vector registers stay true.
-use Rattle.std.proofs.Common.{arith, refl, sym, ap, ◌∙◌, ◌≡◌, ◌+◌, ◌*◌, ◌/◌, ◌<◌, ◌≤◌, ◌||◌, not, min, ℕ, Bool, true, false, cond, List, [], ◌∷◌, map, filter, length, take, drop, get_or}
-use Rattle.std.specs.Prelude.{if◌then◌else◌, ◌==◌, nat_lt, slice_set}
+use Rattle.std.proofs.Common.{arith, refl, sym, ap, ◌∙◌, ◌≡◌, ◌+◌, ◌*◌, ◌/◌, ◌<◌, ◌≤◌, ◌||◌, not, min, ℕ, Bool, true, false, cond, List, [], ◌∷◌, map, filter, length, take, drop, get_or, zero, suc, ◌⊎◌, inl, inr, Option, Some, None}
+use Rattle.std.specs.Prelude.{if◌then◌else◌, ◌==◌, nat_lt, nat_le, slice_set}
 use Rattle.std.specs.List.{AllByRecursion}
+use Rattle.std.proofs.Math.Nat.{mul-div-le, mul-le-mul_left}
 use Rattle.std.proofs.lemmas.Bool.Decides.{nat_tests}
 use Rattle.std.proofs.lemmas.Grind.{drop_more_same}
 use Rattle.std.proofs.lemmas.List.{drop-set-lt, get_or-drop}
+use Rattle.vreg_groups.specs.Elements.{element_at, number_at}
+use Rattle.vreg_groups.specs.Legality.{count_of as registers_in}
 use Rattle.vector_core.specs.Vectors.{Vectors}
 use Rattle.cert_note.specs.declared.values.VectorFact.{VectorFact}
-use Rattle.abs_state.specs.Groups.{counted, cut_groups, elements_in, is_lasting}
-use Rattle.abs_state.specs.Held.{AreTrueOf, IsTrueOf, count_of}
-use Rattle.abs_state.specs.VectorLaws.{CutAreTrue}
+use Rattle.abs_state.specs.Groups.{counted, cut_groups, elements_in, is_apart, is_lasting, untouched}
+use Rattle.abs_state.specs.Held.{IsTrueOf, fact_element}
+use Rattle.abs_state.specs.VectorLaws.{CutAreTrue, UntouchedAreTrue}
 use Rattle.abs_state.proofs.StartForms.{mapped_more}
 
 -- ---- where vl changes
@@ -76,3 +79,98 @@ changed_more f xs old n d y l same done rest is =
 pub others_more : {X : Type 0} (xs old : List X) (n : ℕ) (y : X) → drop n old ≡ drop n xs
     → drop (n + 1) (slice_set old n y) ≡ drop (n + 1) xs
 others_more xs old n y rest = drop-set-lt (n + 1) old n y (omega arith) ∙ drop_more_same old xs n rest
+
+-- ---- where registers are written
+
+-- a number is that of its bytes
+same_number : (n i : ℕ) (xs ys : List ℕ) → ((k : ℕ) → i ≤ k → k < i + n → get_or xs k 0 ≡ get_or ys k 0)
+    → number_at n i xs ≡ number_at n i ys
+unfolding number_at
+same_number zero i xs ys h = refl
+same_number (suc n) i xs ys h =
+    let head : get_or xs i 0 ≡ get_or ys i 0 = h i (omega arith) (omega arith) in
+    let tail : number_at n (suc i) xs ≡ number_at n (suc i) ys =
+        same_number n (suc i) xs ys (λ k l b. h k (omega (arith, l)) (omega (arith, b))) in
+    rw (head, tail) refl
+
+-- the elements of a group lie in its bytes
+element_room : (size room i : ℕ) → i < room / size → size * i + size ≤ room
+element_room size room i b =
+    let within = mul-le-mul_left size (next i (room / size) b) in
+    omega (arith, within, mul-div-le room size)
+  where
+    next : (i n : ℕ) → i < n → i + 1 ≤ n
+    next i n b = omega arith
+
+-- byte k of a group that is apart from a destination is none of the destination's
+outside : (vlenb first count register registers k : ℕ)
+    → (nat_le (register + registers) first || nat_le (first + count) register) ≡ true
+    → register * vlenb ≤ k → k < register * vlenb + registers * vlenb
+    → (k < first * vlenb) ⊎ ((first + count) * vlenb ≤ k)
+outside vlenb first count register registers k e l b = go (nat_le (register + registers) first) refl e
+  where
+    go : (t : Bool) → nat_le (register + registers) first ≡ t → (t || nat_le (first + count) register) ≡ true
+        → (k < first * vlenb) ⊎ ((first + count) * vlenb ≤ k)
+    go true f e =
+        let below : register + registers ≤ first = grind (arith, nat_tests) in
+        let bytes = mul-le-mul_left vlenb below in
+        inl (omega (arith, bytes, b))
+    go false f e =
+        let above : first + count ≤ register = grind (arith, nat_tests) in
+        let bytes = mul-le-mul_left vlenb above in
+        inr (omega (arith, bytes, l))
+
+-- an element of a group whose bytes stay stays
+same_element : (vlenb i : ℕ) (xs ys : List ℕ) (fact : VectorFact) → i < elements_in vlenb fact
+    → ((k : ℕ) → fact.register * vlenb ≤ k → k < fact.register * vlenb + fact.registers * vlenb → get_or ys k 0 ≡ get_or xs k 0)
+    → fact_element vlenb ys fact i ≡ fact_element vlenb xs fact i
+unfolding element_at
+same_element vlenb i xs ys fact b same =
+    let size = fact.width / 8 in
+    let room = element_room size (fact.registers * vlenb) i b in
+    same_number size (fact.register * vlenb + size * i) ys xs
+    (λ k l h. same k (omega (arith, l)) (omega (arith, h, room)))
+
+-- a fact on a group that is apart from what is written stays true
+apart_true : (vlenb first count vl : ℕ) (xs ys : List ℕ) (fact : VectorFact) → is_apart first count fact ≡ true
+    → ((k : ℕ) → (k < first * vlenb) ⊎ ((first + count) * vlenb ≤ k) → get_or ys k 0 ≡ get_or xs k 0)
+    → IsTrueOf vlenb vl xs fact → IsTrueOf vlenb vl ys fact
+unfolding is_apart
+apart_true vlenb first count vl xs ys fact e same h i b =
+    let here : fact_element vlenb ys fact i ≡ fact_element vlenb xs fact i =
+        same_element vlenb i xs ys fact (omega (arith, b))
+        (λ k l u. same k (outside vlenb first count fact.register fact.registers k e l u)) in
+    rw here (h i b)
+
+filtered_true : (vlenb first count vl : ℕ) (xs ys : List ℕ) (facts : List VectorFact)
+    → ((k : ℕ) → (k < first * vlenb) ⊎ ((first + count) * vlenb ≤ k) → get_or ys k 0 ≡ get_or xs k 0)
+    → AllByRecursion (IsTrueOf vlenb vl xs) facts
+    → AllByRecursion (IsTrueOf vlenb vl ys) (filter (is_apart first count) facts)
+filtered_true vlenb first count vl xs ys [] same h = tt
+filtered_true vlenb first count vl xs ys (fact ∷ facts) same h =
+    go (is_apart first count fact) refl (filtered_true vlenb first count vl xs ys facts same h.1)
+  where
+    Rest : Type 0
+    Rest = AllByRecursion (IsTrueOf vlenb vl ys) (filter (is_apart first count) facts)
+
+    go : (t : Bool) → is_apart first count fact ≡ t → Rest
+        → AllByRecursion (IsTrueOf vlenb vl ys)
+        (cond t (fact ∷ filter (is_apart first count) facts) (filter (is_apart first count) facts))
+    go true e rest = (apart_true vlenb first count vl xs ys fact e same h.0, rest)
+    go false e rest = rest
+
+-- facts stay true of registers that are the same
+same_true : (vlenb vl : ℕ) (xs ys : List ℕ) (facts : List VectorFact) → ((k : ℕ) → get_or ys k 0 ≡ get_or xs k 0)
+    → AllByRecursion (IsTrueOf vlenb vl xs) facts → AllByRecursion (IsTrueOf vlenb vl ys) facts
+same_true vlenb vl xs ys [] same h = tt
+same_true vlenb vl xs ys (fact ∷ facts) same h = (here, same_true vlenb vl xs ys facts same h.1)
+  where
+    here : IsTrueOf vlenb vl ys fact
+    here i b = rw (same_element vlenb i xs ys fact (omega (arith, b)) (λ k l u. same k)) (h.0 i b)
+
+pub untouched_are_true : UntouchedAreTrue
+unfolding untouched
+untouched_are_true vlenb t None v next facts vl same h =
+    rw vl (same_true vlenb v.config.vl v.registers next.registers facts (λ k. same k tt) h)
+untouched_are_true vlenb t (Some destination) v next facts vl same h =
+    rw vl (filtered_true vlenb destination.first (registers_in t destination.extent) v.config.vl v.registers next.registers facts same h)
