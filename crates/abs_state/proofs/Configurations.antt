@@ -1,8 +1,7 @@
 -- What is known after an instruction that sets vtype and vl is true of the machine to which it leads.
-use Rattle.std.proofs.Common.{◌≡◌, ◌<◌, ◌≤◌, ◌+◌, ◌*◌, ◌%◌, ◌^◌, inl, inr, ℕ, Bool, true, false, arith, refl, sym, ap, ◌∙◌, subst, eq-eqb, length, List, Option, Some, None, IfSome}
-use Rattle.std.specs.Prelude.{if◌then◌else◌, ◌==◌, min, Result, Ok, Err, MatchOption}
+use Rattle.std.proofs.Common.{◌≡◌, ◌<◌, ◌≤◌, ◌*◌, ◌^◌, inl, inr, ℕ, Bool, true, false, arith, refl, sym, ap, ◌∙◌, subst, length, Option, Some, None, IfSome}
+use Rattle.std.specs.Prelude.{if◌then◌else◌, ◌==◌, nat_le, min, MatchOption}
 use Rattle.std.proofs.lemmas.Bool.Decides.{nat_tests}
-use Rattle.linear_facts.specs.declared.ranges.Range.{Range}
 use Rattle.linear_facts.specs.Forms.{number_form}
 use Rattle.linear_facts.proofs.FormLaws.{number-IsForm}
 use Rattle.vreg_groups.specs.declared.vector_length.Avl.{Avl}
@@ -16,7 +15,7 @@ use Rattle.scalar_core.specs.Hart.{Hart, reg_of}
 use Rattle.abs_state.specs.declared.lengths.Asked.{Asked}
 use Rattle.abs_state.specs.declared.lengths.Asked.TheVariants.{Keep, Greatest, Register, Number}
 use Rattle.abs_state.specs.Values.{ValueView, just, up_to}
-use Rattle.abs_state.specs.Numbers.{NumbersView, value_at, with_fresh, with_value}
+use Rattle.abs_state.specs.Numbers.{NumbersView, value_at, with_value}
 use Rattle.abs_state.specs.Described.{LiesIn, IsNumber}
 use Rattle.abs_state.specs.Holds.{Holds, Follows}
 use Rattle.abs_state.specs.Lengths.{Configured, configured, has_vlmax, kept_or_zero, known_request, limited, supported_request, unknown_length, unknown_request}
@@ -25,6 +24,15 @@ use Rattle.abs_state.proofs.Operations.{value_number}
 use Rattle.abs_state.proofs.Splits.{fresh_length, length_holds, limited_holds, same_length}
 
 -- ---- vtype and vl
+
+-- the bits of a type that is supported
+pub type_fits : (bits : ℕ) (t : Vtype) → vtype_of bits ≡ Some t → bits < 256
+unfolding vtype_of
+type_fits bits t e = by_test (nat_le 256 bits) _ refl e
+  where
+    by_test : (c : Bool) (others : Option Vtype) → nat_le 256 bits ≡ c → (if c then None else others) ≡ Some t → bits < 256
+    by_test true others k e = cc
+    by_test false others k e = grind (arith, nat_tests)
 
 no_config_is : (vlenb : ℕ) → IsConfig vlenb no_config
 unfolding IsConfig vtype_of

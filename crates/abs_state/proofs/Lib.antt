@@ -6,6 +6,7 @@ pub mod EntryHart
 pub mod GroupLemmas
 pub mod Growth
 pub mod LegalLemmas
+pub mod Lengthened
 pub mod Lists
 pub mod Memories
 pub mod Operations

@@ -1,5 +1,5 @@
 -- What is known stays right where vl gets a new number, and where an atom is split into two others.
-use Rattle.std.proofs.Common.{◌≡◌, ◌≢◌, ◌<◌, ◌≤◌, ◌+◌, ◌-◌, ◌^◌, ℕ, Bool, true, false, arith, refl, sym, ap, ◌∙◌, subst, inl, inr, length, List, [], ◌∷◌, ◌++◌, get_or-set_same, get_or-set_other, Option, Some, None}
+use Rattle.std.proofs.Common.{◌≡◌, ◌≢◌, ◌<◌, ◌+◌, ◌-◌, ℕ, Bool, true, false, arith, refl, sym, ap, ◌∙◌, subst, inl, inr, length, List, [], ◌∷◌, ◌++◌, get_or-set_same, get_or-set_other, Option, Some, None}
 use Rattle.std.specs.Prelude.{if◌then◌else◌, ◌==◌, min}
 use Rattle.std.proofs.lemmas.Bool.{cases_eq}
 use Rattle.std.proofs.lemmas.Bool.Decides.{nat_tests}
@@ -8,9 +8,9 @@ use Rattle.linear_facts.specs.declared.forms.Term.{Term}
 use Rattle.linear_facts.specs.declared.ranges.Range.{Range}
 use Rattle.linear_facts.specs.declared.ranges.Atom.{Atom}
 use Rattle.linear_facts.specs.declared.ranges.Split.{Split}
-use Rattle.linear_facts.specs.Forms.{Linear, atom_form}
+use Rattle.linear_facts.specs.Forms.{atom_form}
 use Rattle.linear_facts.specs.Laws.{AreBelow}
-use Rattle.linear_facts.specs.Ranges.{AgreesWith, atom_at, range_at, split_at, unknown_atom}
+use Rattle.linear_facts.specs.Ranges.{AgreesWith, atom_at, range_at, split_at}
 use Rattle.vreg_groups.specs.declared.vector_length.Vconfig.{Vconfig}
 use Rattle.scalar_core.specs.Hart.{Hart}
 use Rattle.abs_state.specs.Values.{ValueView}

@@ -1,7 +1,6 @@
 -- What is known after an instruction is true of the machine to which it leads.
 use Rattle.std.proofs.Common.{◌≡◌, ◌<◌, ◌≤◌, ◌+◌, ◌%◌, ◌^◌, inl, inr, ℕ, Bool, true, false, arith, refl, sym, ap, ◌∙◌, subst, List, Option, Some, None}
-use Rattle.std.specs.Prelude.{if◌then◌else◌, ◌==◌, nat_le, Result, Ok, Err, MatchOption}
-use Rattle.std.proofs.lemmas.Bool.Decides.{nat_tests}
+use Rattle.std.specs.Prelude.{if◌then◌else◌, ◌==◌, Result, Ok, Err, MatchOption}
 use Rattle.rv_decode.specs.declared.instructions.Insn.TheVariants.{Scalar, Csr, VSet, VArith, VMask, VPerm, VReduce, VMem, VMove}
 use Rattle.rv_decode.specs.declared.instructions.ScalarInsn.TheVariants.{Lui, Auipc, Jal, Jalr, Branch, Load, Store, Immediate, ShiftImmediate, Register, Fence, Ecall}
 use Rattle.rv_decode.specs.declared.instructions.Insn.{Insn}
@@ -35,6 +34,7 @@ use Rattle.abs_state.specs.Legal.{legal_check}
 use Rattle.abs_state.specs.After.{access_check, after_of, next_word, passed, taken, vector_after, vset_after, way_of}
 use Rattle.abs_state.specs.Held.{Setting, IsProper, Held, vlenb_in}
 use Rattle.abs_state.specs.StepLaws.{or_misaligned, KeepsMemory, StepIsHeld, MachineIsHeld, StepsGoOn, jumps}
+use Rattle.abs_state.proofs.Configurations.{type_fits}
 use Rattle.abs_state.proofs.Paid.{paid_stays}
 use Rattle.abs_state.proofs.StepScalars.{scalars_hold, csrs_hold}
 
@@ -102,14 +102,6 @@ goes_on pc (VMove insn) a b j e = vector_leads pc (VMove insn) a b e
 vlenb_fits : (vlenb : ℕ) → IsVlenb vlenb → vlenb < 2 ^ 32
 vlenb_fits vlenb (inl e) = omega (arith, e)
 vlenb_fits vlenb (inr e) = omega (arith, e)
-
-type_fits : (bits : ℕ) (t : Vtype) → vtype_of bits ≡ Some t → bits < 256
-unfolding vtype_of
-type_fits bits t e = by_test (nat_le 256 bits) _ refl e
-  where
-    by_test : (c : Bool) (others : Option Vtype) → nat_le 256 bits ≡ c → (if c then None else others) ≡ Some t → bits < 256
-    by_test true others k e = cc
-    by_test false others k e = grind (arith, nat_tests)
 
 config_fits : (vlenb : ℕ) (config : Vconfig) → IsConfig vlenb config → config.vtype < 2 ^ 32
 unfolding IsConfig

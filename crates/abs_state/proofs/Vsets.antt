@@ -235,7 +235,7 @@ vset_held cut e n a s word insn held aligned fits =
     let c : Configured = configured a.vlenb a.vtype w.length w.vtype a.numbers in
     let same : IsConfigured (configured vlenb a.vtype w.length w.vtype a.numbers) a.numbers held.numbers s.hart s.vectors.config next =
     subst (λ (asked : Avl). IsConfigured (configured vlenb a.vtype w.length w.vtype a.numbers) a.numbers held.numbers s.hart s.vectors.config
-        (vset_of vlenb s.vectors.config asked r.vtype)) is.length
+    (vset_of vlenb s.vectors.config asked r.vtype)) is.length
     (configured_held vlenb a.numbers held.numbers s.hart s.vectors.config known.proper.vectors.vlenb_is known.proper.vectors.config known.known
     a.vtype w.length w.vtype r.vtype known.vtype is.vtype is.fits) in
     let are : IsConfigured c a.numbers held.numbers s.hart s.vectors.config next =

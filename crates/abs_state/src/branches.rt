@@ -131,7 +131,7 @@ fn related_ranges(relation: Relation, a: Range, b: Range) -> Option<(Range, Rang
 
 /// The atom that a form is, if it is one.
 #[tactic(auto, unfolding(crate::specs::Branches::whole_atom))]
-fn whole_atom(form: &Form<8>) -> Option<u16>
+pub(crate) fn whole_atom(form: &Form<8>) -> Option<u16>
     ensures { result ≡ whole_atom_of form.now }
 {
     match form.terms() {

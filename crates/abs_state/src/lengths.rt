@@ -1,5 +1,19 @@
 //! What each instruction that sets vtype and vl makes of what is known.
-use rv_decode::Reg;
+ghost use Rattle.std.specs.Prelude.{◌≡◌, ◌<◌, ◌≤◌, ◌+◌, length};
+ghost use Rattle.vreg_groups.specs.VectorLength.{IsVlenb};
+ghost use Rattle.vreg_groups.specs.VectorType.{vtype_of};
+ghost use Rattle.abs_state.specs.Lengths.{asked_of, configured, excess_range, has_vlmax as has_vlmax_of};
+ghost use Rattle.abs_state.specs.Lengths.{kept_or_zero, known_request, lesser_range, limited_by, supported_request};
+ghost use Rattle.abs_state.specs.Lengths.{unknown_length, unknown_request, wanted_of, with_length_in};
+
+use crate::branches::whole_atom;
+use crate::effects::copy_of;
+use crate::numbers::{MOST_ATOMS, Numbers, VL};
+use crate::values::known;
+use linear_facts::{Form, Range, Split};
+use rv_decode::{Reg, VSet};
+use std::alloc::Allocator;
+use vreg_groups::Vtype;
 
 /// The application vector length that an instruction asks for.
 #[derive(Clone, Copy, Debug, PartialEq, Eq)]
@@ -9,13 +23,9 @@ pub enum Asked {
     /// VLMAX.
     Greatest,
     /// A register's number.
-    Register {
-        register: Reg,
-    },
+    Register { register: Reg },
     /// A number that stands in the instruction.
-    Number {
-        number: u32,
-    },
+    Number { number: u32 },
 }
 
 /// What an instruction asks for, as far as it is known.
@@ -26,4 +36,260 @@ pub struct Wanted {
     pub length: Asked,
     /// The bits of the new vtype.
     pub vtype: Option<u32>,
+}
+
+/// What an instruction sets: vtype, if it is known. Whether vl is what it was.
+#[derive(Clone, Copy, Debug, PartialEq, Eq)]
+pub(crate) struct Set {
+    pub(crate) vtype: Option<u8>,
+    pub(crate) is_kept: bool,
+}
+
+/// The application vector length: x[rs1]; with rs1 = x0 the greatest, or the present vl where rd is x0 too.
+fn length_asked(rd: Reg, rs1: Reg) -> Asked
+    ensures { result ≡ asked_of rd rs1 }
+{
+    if rs1.number() != 0 {
+        Asked::Register { register: rs1 }
+    } else if rd.number() != 0 {
+        Asked::Greatest
+    } else {
+        Asked::Keep
+    }
+}
+
+/// The range of the lesser of a number and another one.
+fn lesser(most: u32, range: Range) -> Range
+    ensures { result ≡ lesser_range most range }
+{
+    Range {
+        lo: range.lo.min(most),
+        hi: range.hi.min(most),
+    }
+}
+
+/// The range of what a number is above another one.
+fn excess(most: u32, range: Range) -> Range
+    ensures { result ≡ excess_range most range }
+{
+    Range {
+        lo: range.lo.saturating_sub(most),
+        hi: range.hi.saturating_sub(most),
+    }
+}
+
+/// The type that is known has this VLMAX.
+#[tactic(auto, unfolding(crate::specs::Lengths::has_vlmax))]
+fn has_vlmax(vlenb: u32, known: Option<u8>, vlmax: u32) -> bool
+    requires { IsVlenb vlenb }
+    ensures { result ≡ has_vlmax_of vlenb known vlmax }
+{
+    match known {
+        None => false,
+        Some(bits) => match Vtype::from_bits(u32::from(bits)) {
+            None => false,
+            Some(before) => before.vlmax(vlenb as usize) == vlmax,
+        },
+    }
+}
+
+impl<A: Allocator> Numbers<A> {
+    /// What an instruction asks for.
+    #[tactic(auto, unfolding(crate::specs::Lengths::wanted_of))]
+    fn wanted(&self, insn: VSet) -> Wanted
+        ensures { result ≡ wanted_of insn self.now }
+    {
+        match insn {
+            VSet::Vsetvli { rd, rs1, vtype } => Wanted {
+                rd,
+                length: length_asked(rd, rs1),
+                vtype: Some(vtype),
+            },
+            VSet::Vsetivli { rd, avl, vtype } => Wanted {
+                rd,
+                length: Asked::Number { number: avl },
+                vtype: Some(vtype),
+            },
+            VSet::Vsetvl { rd, rs1, rs2 } => Wanted {
+                rd,
+                length: length_asked(rd, rs1),
+                vtype: known(self.range_at(usize::from(rs2.number()))),
+            },
+        }
+    }
+
+    /// vl is a new atom in the first range. A number that is an atom as a whole is the sum of that and of one in the other.
+    #[tactic(auto, unfolding(crate::specs::Lengths::limited_by, crate::specs::Lengths::split_into))]
+    fn limit(&mut self, whole: Option<u16>, vl: Range, rest: Range)
+        requires { length self.old.atoms + 1 < MOST_ATOMS }
+        ensures { self.new ≡ limited_by whole vl rest self.old }
+    {
+        match whole {
+            None => self.set_fresh(VL, vl),
+            Some(atom) => {
+                let first = self.push_atom(vl);
+                let second = self.push_atom(rest);
+                self.split_atom(atom, Split { first, second });
+                self.set_value(VL, Form::atom(first), vl);
+            }
+        }
+    }
+
+    /// vl is a new number in a range, and vtype is not known.
+    fn set_unknown(&mut self, range: Range) -> Set
+        requires { length self.old.atoms + 1 < MOST_ATOMS }
+        ensures { unknown_length range self.old
+            ≡ record { numbers = self.new; vtype = result.vtype; is_kept = result.is_kept } }
+    {
+        self.set_fresh(VL, range);
+        Set {
+            vtype: None,
+            is_kept: false,
+        }
+    }
+
+    /// vl was kept, or is 0.
+    fn set_kept_or_zero(&mut self) -> Set
+        requires { length self.old.atoms + 1 < MOST_ATOMS }
+        ensures { kept_or_zero self.old
+            ≡ record { numbers = self.new; vtype = result.vtype; is_kept = result.is_kept } }
+    {
+        let hi = self.range_at(VL).hi;
+        self.set_unknown(Range { lo: 0, hi })
+    }
+
+    /// A supported type of these bits, of which this is VLMAX.
+    #[tactic(auto, unfolding(crate::specs::Lengths::supported_request, crate::specs::Lengths::limited))]
+    fn set_supported(
+        &mut self,
+        vlenb: u32,
+        known: Option<u8>,
+        asked: Asked,
+        bits: u8,
+        vlmax: u32,
+    ) -> Set
+        requires vlenb { IsVlenb vlenb }
+        requires room { length self.old.atoms + 1 < MOST_ATOMS }
+        ensures { supported_request vlenb known asked bits vlmax self.old
+            ≡ record { numbers = self.new; vtype = result.vtype; is_kept = result.is_kept } }
+    {
+        let set = Set {
+            vtype: Some(bits),
+            is_kept: false,
+        };
+        match asked {
+            Asked::Keep => if has_vlmax(vlenb, known, vlmax) {
+                Set {
+                    vtype: Some(bits),
+                    is_kept: true,
+                }
+            } else {
+                self.set_kept_or_zero()
+            },
+            Asked::Greatest => {
+                self.set_fresh(
+                    VL,
+                    Range {
+                        lo: vlmax,
+                        hi: vlmax,
+                    },
+                );
+                set
+            }
+            Asked::Register { register } => {
+                let length = self.value(usize::from(register.number()));
+                let whole = whole_atom(length.form);
+                let range = length.range;
+                self.limit(whole, lesser(vlmax, range), excess(vlmax, range));
+                set
+            }
+            Asked::Number { number } => {
+                let whole = whole_atom(&Form::number(number));
+                let range = Range {
+                    lo: number,
+                    hi: number,
+                };
+                self.limit(whole, lesser(vlmax, range), excess(vlmax, range));
+                set
+            }
+        }
+    }
+
+    /// Bits that are known: vl is 0 where they are no supported type's.
+    #[tactic(auto, unfolding(crate::specs::Lengths::known_request), using(crate::proofs::Configurations::type_fits))]
+    fn set_known(&mut self, vlenb: u32, known: Option<u8>, asked: Asked, bits: u32) -> Set
+        requires vlenb { IsVlenb vlenb }
+        requires room { length self.old.atoms + 1 < MOST_ATOMS }
+        ensures { known_request vlenb known asked bits (vtype_of bits) self.old
+            ≡ record { numbers = self.new; vtype = result.vtype; is_kept = result.is_kept } }
+    {
+        match Vtype::from_bits(bits) {
+            None => {
+                self.set_value(VL, Form::number(0), Range { lo: 0, hi: 0 });
+                Set {
+                    vtype: None,
+                    is_kept: false,
+                }
+            }
+            Some(vtype) => {
+                let vlmax = vtype.vlmax(vlenb as usize);
+                self.set_supported(vlenb, known, asked, bits as u8, vlmax)
+            }
+        }
+    }
+
+    /// What an instruction asks for becomes vl and vtype.
+    #[tactic(auto, unfolding(crate::specs::Lengths::configured, crate::specs::Lengths::unknown_request))]
+    fn configure(&mut self, vlenb: u32, known: Option<u8>, asked: Asked, bits: Option<u32>) -> Set
+        requires vlenb { IsVlenb vlenb }
+        requires room { length self.old.atoms + 1 < MOST_ATOMS }
+        ensures { configured vlenb known asked bits self.old
+            ≡ record { numbers = self.new; vtype = result.vtype; is_kept = result.is_kept } }
+    {
+        match bits {
+            Some(bits) => self.set_known(vlenb, known, asked, bits),
+            None => match asked {
+                Asked::Keep => self.set_kept_or_zero(),
+                Asked::Greatest | Asked::Register { .. } | Asked::Number { .. } => {
+                    self.set_unknown(Range {
+                        lo: 0,
+                        hi: 8 * vlenb,
+                    })
+                }
+            },
+        }
+    }
+
+    /// A register gets vl's number. x0 stays 0.
+    #[tactic(auto, unfolding(crate::specs::Lengths::with_length_in, crate::specs::Numbers::with_result, crate::specs::Numbers::with_effect))]
+    fn set_length_in(&mut self, rd: Reg)
+        ensures { self.new ≡ with_length_in rd self.old }
+    {
+        let number = usize::from(rd.number());
+        if number != 0 {
+            let length = self.value(VL);
+            let form = copy_of(length.form);
+            let range = length.range;
+            self.set_value(number, form, range);
+        }
+    }
+
+    /// What an instruction that sets vtype and vl makes of the numbers, where vtype is known to have these bits or is not
+    /// known. The answer is vtype next, if it is known, and whether vl stays.
+    pub(crate) fn after_vset(&mut self, vlenb: u32, known: Option<u8>, insn: VSet) -> Set
+        requires vlenb { IsVlenb vlenb }
+        requires room { length self.old.atoms + 1 < MOST_ATOMS }
+        ensures numbers { let w = wanted_of insn self.old in
+            self.new ≡ with_length_in w.rd (configured vlenb known w.length w.vtype self.old).numbers }
+        ensures vtype { let w = wanted_of insn self.old in
+            result.vtype ≡ (configured vlenb known w.length w.vtype self.old).vtype }
+        ensures kept { let w = wanted_of insn self.old in
+            result.is_kept ≡ (configured vlenb known w.length w.vtype self.old).is_kept }
+        ensures grows { length self.new.atoms ≤ length self.old.atoms + 2 }
+    {
+        let wanted = self.wanted(insn);
+        let set = self.configure(vlenb, known, wanted.length, wanted.vtype);
+        self.set_length_in(wanted.rd);
+        set
+    }
 }

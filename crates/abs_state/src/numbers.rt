@@ -2,10 +2,11 @@
 ghost use Rattle.std.specs.Prelude.{◌≡◌, ◌<◌, ◌≤◌, length, replicate, vec_capacity, IfOk};
 ghost use Rattle.linear_facts.specs.Forms.{number_form};
 ghost use Rattle.abs_state.specs.Numbers.{zero_numbers, table_of, value_at};
-ghost use Rattle.abs_state.specs.Numbers.{with_value, with_fresh, with_computed, with_effect, with_result};
+ghost use Rattle.abs_state.specs.Numbers.{with_atom, with_value, with_fresh, with_computed, with_effect, with_result};
+ghost use Rattle.abs_state.specs.Lengths.{with_split};
 
 use crate::values::{Effect, Value, computed_range, or_full};
-use linear_facts::{Atom, Atoms, Form, Range};
+use linear_facts::{Atom, Atoms, Form, Range, Split};
 use rv_decode::Reg;
 use std::alloc::{AllocError, Allocator, Global};
 use std::marker::Model;
@@ -122,9 +123,31 @@ impl<A: Allocator> Numbers<A> {
         self.ranges
     }
 
+    /// A new atom in this range. The answer is its number.
+    pub(crate) fn push_atom(&mut self, range: Range) -> u16
+        requires { length self.old.atoms < MOST_ATOMS }
+        ensures atoms { self.new ≡ with_atom range self.old }
+        ensures number { result ≡ length self.old.atoms }
+    {
+        let atom = self.atoms.len() as u16;
+        self.atoms.push(Atom { range, split: None }).unwrap();
+        atom
+    }
+
+    /// An atom, if there is one of this number, is the sum of two others, whatever it was before.
+    #[tactic(auto, unfolding(crate::specs::Lengths::with_split))]
+    pub(crate) fn split_atom(&mut self, atom: u16, split: Split)
+        ensures { self.new ≡ record self.old { atoms = with_split atom split self.old.atoms } }
+    {
+        let atom = usize::from(atom);
+        if atom < self.atoms.len() {
+            self.atoms[atom].split = Some(split);
+        }
+    }
+
     /// The number is one that is known.
     #[tactic(auto, unfolding(crate::specs::Numbers::with_value))]
-    fn set_value(&mut self, number: usize, form: Form<8>, range: Range)
+    pub(crate) fn set_value(&mut self, number: usize, form: Form<8>, range: Range)
         requires { number < 33 }
         ensures { self.new ≡ with_value number record { form = form; range = range } self.old }
     {
@@ -139,8 +162,7 @@ impl<A: Allocator> Numbers<A> {
         requires room { length self.old.atoms < MOST_ATOMS }
         ensures { self.new ≡ with_fresh number range self.old }
     {
-        let atom = self.atoms.len() as u16;
-        self.atoms.push(Atom { range, split: None }).unwrap();
+        let atom = self.push_atom(range);
         self.set_value(number, Form::atom(atom), range);
     }
 
