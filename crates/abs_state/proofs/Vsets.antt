@@ -1,6 +1,6 @@
 -- What is known after an instruction that sets vtype and vl is true of the machine to which it leads.
-use Rattle.std.proofs.Common.{◌≡◌, ◌<◌, ◌≤◌, ◌+◌, ◌%◌, ◌^◌, ℕ, Bool, true, false, arith, refl, sym, ap, ◌∙◌, subst, eq-eqb, length, List, Option, Some, None, IfSome}
-use Rattle.std.specs.Prelude.{if◌then◌else◌, ◌==◌, Result, Ok, Err}
+use Rattle.std.proofs.Common.{◌≡◌, ◌<◌, ◌+◌, ◌%◌, ◌^◌, ℕ, Bool, true, false, arith, refl, sym, ap, ◌∙◌, subst, eq-eqb, length, Some, None, IfSome}
+use Rattle.std.specs.Prelude.{if◌then◌else◌, ◌==◌, Ok, Err}
 use Rattle.std.specs.List.{AllByRecursion}
 use Rattle.std.proofs.lemmas.Bool.Decides.{nat_tests}
 use Rattle.linear_facts.specs.declared.ranges.Range.{Range}
@@ -9,14 +9,13 @@ use Rattle.rv_decode.specs.declared.instructions.VSet.{VSet}
 use Rattle.rv_decode.specs.declared.instructions.VSet.TheVariants.{Vsetvli, Vsetivli, Vsetvl}
 use Rattle.rv_decode.specs.EncodeVector.{VSetFits}
 use Rattle.rv_decode.specs.Needs.{needs_of}
-use Rattle.region_mem.specs.declared.faults.Fault.{Fault}
 use Rattle.region_mem.specs.declared.faults.Fault.TheVariants.{JumpMisaligned}
 use Rattle.vreg_groups.specs.declared.vector_length.Avl.{Avl}
 use Rattle.vreg_groups.specs.declared.vector_length.Avl.TheVariants as avl
 use Rattle.vreg_groups.specs.declared.vector_length.Vconfig.{Vconfig}
 use Rattle.vreg_groups.specs.Legality.{are_operands_legal, is_destination_legal, is_legal}
 use Rattle.vreg_groups.specs.VectorLength.{vset_of}
-use Rattle.scalar_core.specs.Hart.{Hart, IsHart, advanced, next_pc, put, reg_of, with_reg}
+use Rattle.scalar_core.specs.Hart.{Hart, IsHart, next_pc, put, reg_of, with_reg}
 use Rattle.scalar_core.proofs.States.{put-is_hart}
 use Rattle.vector_core.specs.Configuration.{avl_of, request_of, vset_step}
 use Rattle.vector_core.specs.declared.configuration.Request.{Request}
@@ -24,9 +23,7 @@ use Rattle.vector_core.specs.Machine.{Machine}
 use Rattle.vector_core.specs.MachineStep.{carry_out, unless_misaligned}
 use Rattle.vector_core.specs.Step.{legal_step, vector_step}
 use Rattle.vector_core.specs.Vectors.{Vectors}
-use Rattle.cert_note.specs.declared.values.VectorFact.{VectorFact}
-use Rattle.abs_state.specs.declared.lengths.Asked.{Asked}
-use Rattle.abs_state.specs.declared.lengths.Asked.TheVariants.{Keep, Greatest, Register, Number}
+use Rattle.abs_state.specs.declared.lengths.Asked.TheVariants.{Keep, Greatest, Register}
 use Rattle.abs_state.specs.declared.lengths.Wanted.{Wanted}
 use Rattle.abs_state.specs.declared.state.Way.TheVariants.{To}
 use Rattle.abs_state.specs.declared.values.Effect.TheVariants.{Copied}
@@ -39,7 +36,6 @@ use Rattle.abs_state.specs.Lengths.{Configured, asked_of, configured, wanted_of,
 use Rattle.abs_state.specs.State.{AbstractView}
 use Rattle.abs_state.specs.After.{next_word, vset_after}
 use Rattle.abs_state.specs.Held.{Setting, Held, IsProper, IsTrueOf, AreTrueOf, vlenb_in}
-use Rattle.abs_state.specs.StepLaws.{MachineIsHeld}
 use Rattle.abs_state.specs.VectorLaws.{CutAreTrue, VsetsAreHeld}
 use Rattle.abs_state.proofs.Addresses.{register_number}
 use Rattle.abs_state.proofs.Configurations.{AskedFits, IsConfigured, avl_asked, configured_held, vset_is}

@@ -280,7 +280,8 @@ impl<A: Allocator> Numbers<A> {
         requires vlenb { IsVlenb vlenb }
         requires room { length self.old.atoms + 1 < MOST_ATOMS }
         ensures numbers { let w = wanted_of insn self.old in
-            self.new ≡ with_length_in w.rd (configured vlenb known w.length w.vtype self.old).numbers }
+            let c = configured vlenb known w.length w.vtype self.old in
+            self.new ≡ with_length_in w.rd c.numbers }
         ensures vtype { let w = wanted_of insn self.old in
             result.vtype ≡ (configured vlenb known w.length w.vtype self.old).vtype }
         ensures kept { let w = wanted_of insn self.old in
