@@ -27,7 +27,7 @@ use Rattle.vector_core.specs.Singles.{first_written}
 use Rattle.vector_core.specs.Words.{Setup, Vtype}
 use Rattle.vector_core.proofs.Kept.{Beside, IsKept, copy_kept, mask_kept, span_kept, unless_kept, write_kept}
 
--- ---- where a legal operand ends
+-- ---- the registers of an operand
 
 -- masks and single elements have one register, and whole registers are as many as they say
 mask_size : (vtype : Option Vtype) → count_of vtype Mask ≡ 1
@@ -40,11 +40,12 @@ unfolding count_of
 single_size (Some t) eew = refl
 single_size None eew = refl
 
-pub whole_size : (vtype : Option Vtype) (count : Count) → count_of vtype (Whole count) ≡ whole_count count
+whole_size : (vtype : Option Vtype) (count : Count) → count_of vtype (Whole count) ≡ whole_count count
 unfolding count_of
 whole_size (Some t) count = refl
 whole_size None count = refl
 
+-- whole registers stand at a multiple of their number, and so end within the 32
 whole_multiple : (vtype : Option Vtype) (count : Count) (first : ℕ) → is_operand_legal vtype (Whole count) first ≡ true
     → first % whole_count count ≡ 0
 unfolding is_operand_legal
@@ -57,11 +58,11 @@ whole_ends number.Two first below multiple = omega arith
 whole_ends number.Four first below multiple = omega arith
 whole_ends number.Eight first below multiple = omega arith
 
+-- the registers of a legal operand exist
 pub operand_ends : (vtype : Option Vtype) (extent : Extent) (first : ℕ) → first < 32
     → is_operand_legal vtype extent first ≡ true → first + count_of vtype extent ≤ 32
 unfolding is_operand_legal count_of
-operand_ends (Some t) (Group eew) first below legal =
-    group_ends t eew first below (grind (arith, nat_tests))
+operand_ends (Some t) (Group eew) first below legal = group_ends t eew first below (grind (arith, nat_tests))
 operand_ends None (Group eew) first below legal = absurd (cc)
 operand_ends vtype (Single eew) first below legal = omega (arith, single_size vtype eew)
 operand_ends vtype Mask first below legal = omega (arith, mask_size vtype)

@@ -9,8 +9,9 @@ pub fn elements_are_register_results()
     ensures { ElementsAreRegisterResults }
 {}
 
-/// A step of a vector instruction, other than one that sets vtype and vl, leaves both as they are, and the registers are
-/// as many bytes as before. Every byte outside the registers of the instruction's destination stays as it was.
+/// A step of a vector instruction, other than one that sets vtype and vl, leaves both as they are, and the registers 32 of
+/// vlenb bytes. Every byte outside the registers of the instruction's destination stays as it was: all of them where it
+/// has none.
 pub fn steps_keep_vectors()
     ensures { StepsKeepVectors }
 {}
