@@ -1,6 +1,6 @@
 -- What operations on elements make of elements that lie in ranges.
-use Rattle.std.proofs.Common.{◌≡◌, ◌<◌, ◌≤◌, ◌+◌, ◌-◌, ◌*◌, ◌/◌, ◌%◌, ◌^◌, ℕ, Bool, true, false, arith, refl, sym, ap, ◌∙◌, subst, Option, Some, None, IfSome}
-use Rattle.std.specs.Prelude.{if◌then◌else◌, ◌==◌, nat_lt, bit_and, min, max}
+use Rattle.std.proofs.Common.{◌≡◌, ◌<◌, ◌≤◌, ◌+◌, ◌-◌, ◌*◌, ◌/◌, ◌%◌, ◌^◌, ℕ, Bool, true, false, arith, refl, sym, subst, Option, Some, None, IfSome}
+use Rattle.std.specs.Prelude.{if◌then◌else◌, ◌==◌, nat_lt, bit_and, min}
 use Rattle.std.specs.Int.{Width}
 use Rattle.std.specs.Int as int
 use mir.Val.{bits}
@@ -76,7 +76,7 @@ left_lies n a x y (Some c) h is =
     subst (λ (z : ℕ). IfSome (left_elements n a (Some c)) (λ r. IsWithin (2 ^ n) r (x * 2 ^ (z % n) % 2 ^ n))) (sym (is c refl))
     (cut_lies n (a.lo * k) (a.hi * k) (x * k) l u)
 
-right_lies : (of n : ℕ) (limit : ℕ) (a : Range) (x y : ℕ) (o : Option ℕ) → IsWithin limit a x → ((c : ℕ) → o ≡ Some c → y ≡ c)
+right_lies : (of n limit : ℕ) (a : Range) (x y : ℕ) (o : Option ℕ) → IsWithin limit a x → ((c : ℕ) → o ≡ Some c → y ≡ c)
     → IfSome (right_elements of n a o) (λ r. IsWithin (2 ^ n) r (x / 2 ^ (y % of)))
 unfolding right_elements
 right_lies of n limit a x y None h is = tt
@@ -85,7 +85,7 @@ right_lies of n limit a x y (Some c) h is =
     subst (λ (z : ℕ). IfSome (right_elements of n a (Some c)) (λ r. IsWithin (2 ^ n) r (x / 2 ^ (z % of)))) (sym (is c refl))
     (fitting_lies n (a.lo / k) (a.hi / k) (x / k) (div_up a.lo x k h.low) (div_up x a.hi k h.high))
 
-right_cut_lies : (of n : ℕ) (limit : ℕ) (a : Range) (x y : ℕ) (o : Option ℕ) → IsWithin limit a x → ((c : ℕ) → o ≡ Some c → y ≡ c)
+right_cut_lies : (of n limit : ℕ) (a : Range) (x y : ℕ) (o : Option ℕ) → IsWithin limit a x → ((c : ℕ) → o ≡ Some c → y ≡ c)
     → IfSome (right_elements of n a o) (λ r. IsWithin (2 ^ n) r (x / 2 ^ (y % of) % 2 ^ n))
 unfolding right_elements
 right_cut_lies of n limit a x y None h is = tt

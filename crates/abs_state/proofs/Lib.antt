@@ -22,10 +22,10 @@ pub mod StartMachines
 pub mod StartNumbers
 pub mod StartRanges
 pub mod StartZones
-pub mod States
 pub mod StatedOperands
 pub mod StatedSteps
 pub mod StatedWrites
+pub mod States
 pub mod StepMachines
 pub mod StepScalars
 pub mod StepsHeld

@@ -1,8 +1,8 @@
 -- What is known of the elements that an instruction reads is true of them.
 use Rattle.std.proofs.Common.{◌≡◌, ◌<◌, ◌≤◌, ◌+◌, ◌-◌, ◌*◌, ◌/◌, ◌%◌, ◌^◌, ℕ, Bool, true, false, arith, refl, sym, ap, ◌∙◌, subst, length, get_or, map, replicate, List, [], ◌∷◌, Option, Some, None, IfSome}
-use Rattle.std.specs.List.{AllByRecursion, find, range_with_len}
+use Rattle.std.specs.List.{AllByRecursion, find}
 use Rattle.std.specs.Option.{option_map_or}
-use Rattle.std.specs.Prelude.{if◌then◌else◌, ◌==◌, ◌&&◌, ◌||◌, nat_lt, nat_le, min}
+use Rattle.std.specs.Prelude.{if◌then◌else◌, ◌==◌, ◌||◌, nat_lt, nat_le}
 use Rattle.std.proofs.lemmas.Bool.Decides.{nat_tests}
 use Rattle.std.proofs.Math.Nat.{mod-eq_of_lt, mod-lt}
 use Rattle.std.proofs.lemmas.List.{get_or-map, get_or-replicate, length-map, length-replicate}
@@ -18,7 +18,7 @@ use Rattle.rv_decode.specs.declared.instructions.Source.{Source}
 use Rattle.rv_decode.specs.declared.instructions.Source.TheVariants.{Vector, Scalar, Immediate}
 use Rattle.vreg_groups.specs.declared.setup.Setup.{Setup}
 use Rattle.vreg_groups.specs.Elements.{element_at, elements_of}
-use Rattle.vreg_groups.specs.Group.{Span, body_of}
+use Rattle.vreg_groups.specs.Group.{body_of}
 use Rattle.vreg_groups.specs.Legality.{eew_bits, group_count}
 use Rattle.vreg_groups.specs.Setup.{group_at}
 use Rattle.vreg_groups.specs.VectorLength.{IsVlenb}
@@ -36,7 +36,7 @@ use Rattle.abs_state.specs.Held.{IsTrueOf, fact_element}
 use Rattle.abs_state.specs.Numbers.{NumbersView, value_at}
 use Rattle.abs_state.specs.Values.{just, up_to}
 use Rattle.abs_state.proofs.Elements.{IsWithin}
-use Rattle.abs_state.proofs.StatedWrites.{AreResults, IsGroup, element_inside}
+use Rattle.abs_state.proofs.StatedWrites.{AreResults, IsGroup, are_equal, both_true, element_inside}
 
 -- What is known before an instruction is true of what it reads.
 pub record IsRead (vlenb : ℕ) (s : Setup) (hart : Hart) (file : List ℕ) (numbers : NumbersView) (facts : List VectorFact)
@@ -148,21 +148,14 @@ record IsFactOf (first bits of most : ℕ) (fact : VectorFact) : Type 0 where
   registers : fact.registers ≡ of
   count : ((fact.count == 0) || nat_le most fact.count) ≡ true
 
-both : (a b : Bool) → (a && b) ≡ true → (a ≡ true) × (b ≡ true)
-both true b e = (refl, e)
-both false b e = cc
-
-same : (a b : ℕ) → (a == b) ≡ true → a ≡ b
-same a b e = grind (arith, nat_tests)
-
 fact_of : (vl : Range) (first width registers : ℕ) (fact : VectorFact) → is_source vl first width registers fact ≡ true
     → IsFactOf first width registers vl.hi fact
 unfolding is_source
 fact_of vl first width registers fact e =
-    let a = both _ _ e in
-    let b = both _ _ a.0 in
-    let c = both _ _ b.0 in
-    record { register = same _ _ c.0; width = same _ _ c.1; registers = same _ _ b.1; count = a.1 }
+    let a = both_true _ _ e in
+    let b = both_true _ _ a.0 in
+    let c = both_true _ _ b.0 in
+    record { register = are_equal _ _ c.0; width = are_equal _ _ c.1; registers = are_equal _ _ b.1; count = a.1 }
 
 module _ (vlenb : ℕ) (s : Setup) (hart : Hart) (file : List ℕ) (numbers : NumbersView) (facts : List VectorFact)
     (h : IsRead vlenb s hart file numbers facts) where
@@ -210,7 +203,9 @@ module _ (vlenb : ℕ) (s : Setup) (hart : Hart) (file : List ℕ) (numbers : Nu
 
     element_lies : IsWithin (2 ^ eew_bits s.vtype.sew eew) (source_range s.vtype vl_range first eew facts) x
     unfolding source_range
-    element_lies = by_found _ (find_holds (is_source vl_range first (eew_bits s.vtype.sew eew) (group_count s.vtype eew)) (IsTrueOf vlenb s.vl file) facts h.holds)
+    element_lies =
+        by_found _
+        (find_holds (is_source vl_range first (eew_bits s.vtype.sew eew) (group_count s.vtype eew)) (IsTrueOf vlenb s.vl file) facts h.holds)
 
   -- so do all that are read
   pub source_lies : (first : ℕ) (eew : Eew) → IsGroup vlenb (eew_bits s.vtype.sew eew) (group_at s first eew)
@@ -244,7 +239,8 @@ module _ (vlenb : ℕ) (s : Setup) (hart : Hart) (file : List ℕ) (numbers : Nu
   second_lies (Vector vs1) inside = source_lies vs1 Same inside
   second_lies (Scalar rs1) l =
       all_lie (bits_of_width s.vtype.sew) (low_range (bits_of_width s.vtype.sew) (value_at numbers rs1).range)
-      (low_bits (bytes_of_width s.vtype.sew) (reg_of rs1 hart)) (low_lies s.vtype.sew (value_at numbers rs1).range (reg_of rs1 hart) (h.scalars rs1 l))
+      (low_bits (bytes_of_width s.vtype.sew) (reg_of rs1 hart))
+      (low_lies s.vtype.sew (value_at numbers rs1).range (reg_of rs1 hart) (h.scalars rs1 l))
   second_lies (Immediate imm) inside =
       all_lie (bits_of_width s.vtype.sew) (just (unsigned imm % 2 ^ bits_of_width s.vtype.sew))
       (low_bits (bytes_of_width s.vtype.sew) (unsigned imm)) (just_lies s.vtype.sew (unsigned imm))

@@ -1,7 +1,7 @@
 -- What a legal vector instruction states of its destination is true of the registers that it leaves.
-use Rattle.std.proofs.Common.{◌≡◌, ◌<◌, ◌≤◌, ◌+◌, ◌-◌, ◌*◌, ◌%◌, ◌^◌, ℕ, Bool, true, false, arith, refl, sym, ap, ◌∙◌, subst, length, map, take, List, [], ◌∷◌, Option, Some, None, IfSome}
+use Rattle.std.proofs.Common.{◌≡◌, ◌≤◌, ◌*◌, ◌%◌, ◌^◌, ℕ, Bool, true, false, arith, refl, sym, ap, ◌∙◌, subst, length, map, take, List, Option, Some, None, IfSome}
 use Rattle.std.specs.List.{AllByRecursion, range_with_len}
-use Rattle.std.specs.Prelude.{if◌then◌else◌, ◌&&◌, ◌||◌, Result, Ok, MatchOption}
+use Rattle.std.specs.Prelude.{◌||◌, Ok}
 use Rattle.std.proofs.lemmas.List.{length-replicate, length-take}
 use Rattle.std.proofs.lemmas.List.FromFn.{get_or-map-range_with_len, length-map-range_with_len}
 use Rattle.std.proofs.lemmas.List.Sums.{count_by-le-length}
@@ -33,11 +33,10 @@ use Rattle.vreg_groups.specs.declared.setup.Setup.{Setup}
 use Rattle.vreg_groups.specs.declared.vector_length.Vconfig.{Vconfig}
 use Rattle.vreg_groups.specs.declared.vector_type.Vtype.{Vtype}
 use Rattle.vreg_groups.specs.Elements.{active_of, bit_at, mask_bits}
-use Rattle.vreg_groups.specs.Group.{body_of}
 use Rattle.vreg_groups.specs.Legality.{are_operands_legal, eew_bits, is_legal, is_operand_legal, is_present_legal}
 use Rattle.vreg_groups.specs.Setup.{group_at}
 use Rattle.vreg_groups.specs.VectorLength.{IsConfig}
-use Rattle.vreg_groups.specs.VectorType.{bits_of_width, type_in, vlmax_of, vtype_of}
+use Rattle.vreg_groups.specs.VectorType.{bits_of_width, vlmax_of, vtype_of}
 use Rattle.scalar_core.specs.Hart.{Hart}
 use Rattle.lane_int.specs.Integer.{element}
 use Rattle.lane_int.specs.Resizing.{cut_to, extended_to}
@@ -48,12 +47,12 @@ use Rattle.vector_core.specs.Machine.{Machine}
 use Rattle.vector_core.specs.Masks.{index_of, iota_of, mask_step, set_and_active}
 use Rattle.vector_core.specs.Moves.{copy_of}
 use Rattle.vector_core.specs.Narrowing.{narrow_of}
-use Rattle.vector_core.specs.Operands.{results_written, second_of}
+use Rattle.vector_core.specs.Operands.{results_written}
 use Rattle.vector_core.specs.Operations.{int_lanes, narrow_lanes}
 use Rattle.vector_core.specs.Setup.{setup_of}
 use Rattle.vector_core.specs.Step.{arith_step, legal_step, vector_step}
 use Rattle.vector_core.specs.Vectors.{Stepped, Vectors}
-use Rattle.vector_core.specs.Widening.{double_width, doubled, extend_of, fraction_width}
+use Rattle.vector_core.specs.Widening.{double_width, extend_of, fraction_width}
 use Rattle.cert_note.specs.declared.values.VectorFact.{VectorFact}
 use Rattle.abs_state.specs.Described.{LiesIn}
 use Rattle.abs_state.specs.Groups.{arith_range, fact_if, int_range, known_type, mask_range, narrow_range, place_range, second_range, source_range, stated_at, stated_by, stated_range, unless_masked}
@@ -64,7 +63,7 @@ use Rattle.abs_state.specs.VectorLaws.{StatedAreTrue}
 use Rattle.abs_state.proofs.Addresses.{register_number}
 use Rattle.abs_state.proofs.Elements.{IsWithin, int_element, narrow_element, place_lies}
 use Rattle.abs_state.proofs.StatedOperands.{IsRead, IsSecond, map_lies, map_zip_lies, second_lies, source_lies, zip_lies}
-use Rattle.abs_state.proofs.StatedWrites.{AreResults, IsGroup, fact_true, legal_group}
+use Rattle.abs_state.proofs.StatedWrites.{AreResults, IsGroup, both_true, fact_true, legal_group}
 
 -- ---- operands of a legal instruction
 
@@ -73,16 +72,12 @@ record AreOperands (t : Vtype) (operands : Operands) : Type 0 where
   vs2 : is_present_legal (Some t) operands.vs2 ≡ true
   vs1 : is_present_legal (Some t) operands.vs1 ≡ true
 
-both : (a b : Bool) → (a && b) ≡ true → (a ≡ true) × (b ≡ true)
-both true b e = (refl, e)
-both false b e = cc
-
 legal_operands : (t : Vtype) (operands : Operands) → are_operands_legal (Some t) operands ≡ true → AreOperands t operands
 unfolding are_operands_legal
 legal_operands t operands e =
-    let a = both _ _ e in
-    let b = both _ _ a.0 in
-    let c = both _ _ b.0 in
+    let a = both_true _ _ e in
+    let b = both_true _ _ a.0 in
+    let c = both_true _ _ b.0 in
     record { destination = c.0; vs2 = c.1; vs1 = b.1 }
 
 lane_bits : (w : Width) → bits_of_width w ≡ bits (lane_width w)
@@ -104,7 +99,6 @@ wider W32 Quarter r x h = record { low = h.low; high = h.high; fits = omega (ari
 
 module _ (vlenb : ℕ) (s : Setup) (hart : Hart) (file : List ℕ) (numbers : NumbersView) (facts : List VectorFact)
     (h : IsRead vlenb s hart file numbers facts) where
-
   abbrev sew : ℕ
   sew = bits_of_width s.vtype.sew
 
@@ -257,7 +251,6 @@ nothing vlenb v t numbers facts insn (Some destination) e =
 
 module _ (vlenb : ℕ) (t : Vtype) (hart after : Hart) (v next : Vectors) (m memory : Memory) (numbers : NumbersView)
     (facts : List VectorFact) (h : IsRead vlenb (setup_of t v) hart v.registers numbers facts) where
-
   abbrev s : Setup
   s = setup_of t v
 

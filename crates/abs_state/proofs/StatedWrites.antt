@@ -1,7 +1,7 @@
 -- What an unmasked instruction wrote to its destination: each element of the body is its result.
-use Rattle.std.proofs.Common.{◌≡◌, ◌<◌, ◌≤◌, ◌+◌, ◌-◌, ◌*◌, ◌/◌, ◌%◌, ◌^◌, ◌⊎◌, inl, inr, ℕ, Bool, true, false, arith, refl, sym, ap, ◌∙◌, subst, length, get_or, replicate, List, [], ◌∷◌, Option, Some, None, IfSome}
+use Rattle.std.proofs.Common.{◌≡◌, ◌<◌, ◌≤◌, ◌+◌, ◌-◌, ◌*◌, ◌/◌, ◌%◌, ◌^◌, inl, inr, ℕ, Bool, true, false, arith, refl, ◌∙◌, length, get_or, replicate, List, [], ◌∷◌, Option, Some, None, IfSome}
 use Rattle.std.specs.List.{AllByRecursion}
-use Rattle.std.specs.Prelude.{if◌then◌else◌, ◌==◌, ◌&&◌, nat_lt, nat_le, All, min}
+use Rattle.std.specs.Prelude.{if◌then◌else◌, ◌==◌, ◌&&◌, nat_lt, All}
 use Rattle.std.proofs.lemmas.Bool.Decides.{nat_tests}
 use Rattle.std.proofs.lemmas.List.{get_or-replicate, get_or_default}
 use Rattle.std.proofs.lemmas.List.Elements.{All-from_get_or}
@@ -14,11 +14,10 @@ use Rattle.rv_decode.specs.declared.extents.Eew.TheVariants as eew
 use Rattle.rv_decode.specs.declared.extents.Eew.TheVariants.{Same}
 use Rattle.vreg_groups.specs.declared.policies.Policy.{Policy}
 use Rattle.vreg_groups.specs.declared.setup.Setup.{Setup}
-use Rattle.vreg_groups.specs.declared.vector_type.Vtype.{Vtype}
 use Rattle.vreg_groups.specs.Elements.{active_of, element_at}
 use Rattle.vreg_groups.specs.Group.{Span, IsSize, written}
 use Rattle.vreg_groups.specs.Legality.{eew_bits, group_count, is_group_legal, is_width}
-use Rattle.vreg_groups.specs.NewElements.{filled, new_element, policy_of, write_of}
+use Rattle.vreg_groups.specs.NewElements.{new_element, policy_of, write_of}
 use Rattle.vreg_groups.specs.Setup.{group_at}
 use Rattle.vreg_groups.specs.VectorLength.{IsVlenb}
 use Rattle.vreg_groups.specs.VectorType.{bits_of_width, vlmax_of}
@@ -40,16 +39,12 @@ pub record IsGroup (vlenb bits : ℕ) (group : Span) : Type 0 where
   pub registers : group.first + group.count ≤ 32
   pub room : group.bytes * group.vl ≤ group.count * vlenb
 
-first_true : (a b : Bool) → (a && b) ≡ true → a ≡ true
-first_true true b e = refl
-first_true false b e = e
+pub both_true : (a b : Bool) → (a && b) ≡ true → (a ≡ true) × (b ≡ true)
+both_true true b e = (refl, e)
+both_true false b e = cc
 
-second_true : (a b : Bool) → (a && b) ≡ true → b ≡ true
-second_true true b e = e
-second_true false b e = cc
-
-none_is : (n : ℕ) → (n == 0) ≡ true → n ≡ 0
-none_is n e = grind (arith, nat_tests)
+pub are_equal : (a b : ℕ) → (a == b) ≡ true → a ≡ b
+are_equal a b e = grind (arith, nat_tests)
 
 -- bits that are 8 to 32 are those of a size
 size_of_bits : (sew : Width) (eew : Eew) → is_width (eew_bits sew eew) ≡ true
@@ -75,12 +70,12 @@ pub legal_group : (vlenb : ℕ) (s : Setup) (first : ℕ) (eew : Eew) → first 
     → is_group_legal s.vtype eew first ≡ true → IsGroup vlenb (eew_bits s.vtype.sew eew) (group_at s first eew)
 legal_group vlenb s first eew l fits legal =
     let t = s.vtype in
-    let widths = size_of_bits t.sew eew (first_true _ _ (first_true _ _ legal)) in
-    let multiple = none_is (first % group_count t eew) (second_true _ _ legal) in
+    let both = both_true _ _ legal in
+    let widths = size_of_bits t.sew eew (both_true _ _ both.0).0 in
     record {
       size = widths.0;
       limit = widths.1;
-      registers = group_ends t eew first l multiple;
+      registers = group_ends t eew first l (are_equal (first % group_count t eew) 0 both.1);
       room = bytes_fit (eew_bits t.sew eew) s.vl (group_count t eew * vlenb) (group_room t eew vlenb s.vl fits);
     }
 
