@@ -1,6 +1,6 @@
 -- Which facts on groups of vector registers stay true.
-use Rattle.std.proofs.Common.{arith, refl, sym, ap, ◌∙◌, ◌≡◌, ◌+◌, ◌*◌, ◌/◌, ◌<◌, ◌≤◌, ◌||◌, not, min, ℕ, Bool, true, false, cond, List, [], ◌∷◌, map, filter, length, take, drop, get_or, zero, suc, ◌⊎◌, inl, inr, Option, Some, None}
-use Rattle.std.specs.Prelude.{if◌then◌else◌, ◌==◌, nat_lt, nat_le, slice_set}
+use Rattle.std.proofs.Common.{arith, refl, sym, ap, ◌∙◌, ◌≡◌, ◌+◌, ◌*◌, ◌/◌, ◌<◌, ◌≤◌, ◌||◌, min, ℕ, Bool, true, false, cond, List, [], ◌∷◌, map, filter, length, take, drop, get_or, zero, suc, ◌⊎◌, inl, inr, Some, None}
+use Rattle.std.specs.Prelude.{if◌then◌else◌, ◌==◌, nat_le, slice_set}
 use Rattle.std.specs.List.{AllByRecursion}
 use Rattle.std.proofs.Math.Nat.{mul-div-le, mul-le-mul_left}
 use Rattle.std.proofs.lemmas.Bool.Decides.{nat_tests}
@@ -8,7 +8,6 @@ use Rattle.std.proofs.lemmas.Grind.{drop_more_same}
 use Rattle.std.proofs.lemmas.List.{drop-set-lt, get_or-drop}
 use Rattle.vreg_groups.specs.Elements.{element_at, number_at}
 use Rattle.vreg_groups.specs.Legality.{count_of as registers_in}
-use Rattle.vector_core.specs.Vectors.{Vectors}
 use Rattle.cert_note.specs.declared.values.VectorFact.{VectorFact}
 use Rattle.abs_state.specs.Groups.{counted, cut_groups, elements_in, is_apart, is_lasting, untouched}
 use Rattle.abs_state.specs.Held.{IsTrueOf, fact_element}
@@ -90,7 +89,7 @@ same_number zero i xs ys h = refl
 same_number (suc n) i xs ys h =
     let head : get_or xs i 0 ≡ get_or ys i 0 = h i (omega arith) (omega arith) in
     let tail : number_at n (suc i) xs ≡ number_at n (suc i) ys =
-        same_number n (suc i) xs ys (λ k l b. h k (omega (arith, l)) (omega (arith, b))) in
+    same_number n (suc i) xs ys (λ k l b. h k (omega (arith, l)) (omega (arith, b))) in
     rw (head, tail) refl
 
 -- the elements of a group lie in its bytes
@@ -138,8 +137,8 @@ apart_true : (vlenb first count vl : ℕ) (xs ys : List ℕ) (fact : VectorFact)
 unfolding is_apart
 apart_true vlenb first count vl xs ys fact e same h i b =
     let here : fact_element vlenb ys fact i ≡ fact_element vlenb xs fact i =
-        same_element vlenb i xs ys fact (omega (arith, b))
-        (λ k l u. same k (outside vlenb first count fact.register fact.registers k e l u)) in
+    same_element vlenb i xs ys fact (omega (arith, b))
+    (λ k l u. same k (outside vlenb first count fact.register fact.registers k e l u)) in
     rw here (h i b)
 
 filtered_true : (vlenb first count vl : ℕ) (xs ys : List ℕ) (facts : List VectorFact)

@@ -10,11 +10,13 @@ ghost use Rattle.abs_state.specs.Groups.{low_range as low_range_of, second_range
 ghost use Rattle.abs_state.specs.Groups.{fitting_bits as fitting_bits_of, left_elements as left_elements_of};
 ghost use Rattle.abs_state.specs.Groups.{right_elements as right_elements_of, remainder_by as remainder_by_of};
 ghost use Rattle.abs_state.specs.Groups.{int_range as int_range_of, narrow_range as narrow_range_of};
-ghost use Rattle.abs_state.specs.Groups.{arith_range as arith_range_of, mask_range as mask_range_of, place_range as place_range_of};
+ghost use Rattle.abs_state.specs.Groups.{unless_masked as unless_masked_of, arith_range as arith_range_of};
+ghost use Rattle.abs_state.specs.Groups.{mask_range as mask_range_of, place_range as place_range_of};
 ghost use Rattle.abs_state.specs.Groups.{stated_range as stated_range_of, fact_if as fact_if_of, stated_by as stated_by_of};
 ghost use Rattle.abs_state.specs.Groups.{is_apart as is_apart_of, untouched as untouched_of};
 ghost use Rattle.abs_state.specs.Groups.{elements_in as elements_in_of, counted as counted_of, is_lasting as is_lasting_of};
 ghost use Rattle.abs_state.specs.Groups.{cut_groups as cut_groups_of};
+ghost use Rattle.abs_state.specs.Numbers.{value_at};
 ghost use Rattle.abs_state.specs.Values.{just as just_of};
 
 use crate::effects::up_to;
@@ -84,7 +86,8 @@ fn source_fact(
     registers: usize,
     facts: &[VectorFact],
 ) -> Option<&VectorFact>
-    ensures { option_map (λ fact. fact.now) result ≡ find (is_source_of vl first width registers) facts.now }
+    ensures { option_map (λ fact. fact.now) result
+        ≡ find (is_source_of vl first width registers) facts.now }
 {
     facts
         .iter()
@@ -294,7 +297,50 @@ fn narrow_range(bits: u32, op: NarrowOp, x: Range, y: Range) -> Option<Range>
     }
 }
 
-/// The range of an unmasked operation's results, from those of vs2 and the second operand.
+/// Nothing is stated where an instruction is masked.
+fn unless_masked(masked: bool, range: Option<Range>) -> Option<Range>
+    ensures { result ≡ unless_masked_of masked range }
+{
+    if masked { None } else { range }
+}
+
+/// The range of an operation's results, from those of vs2 and the second operand.
+fn int_results<A: Allocator>(
+    t: &Vtype,
+    numbers: &Numbers<A>,
+    facts: &[VectorFact],
+    op: IntOp,
+    vs2: Reg,
+    b: &Source,
+) -> Option<Range>
+    ensures { result ≡ int_range_of (bits_of_width t.now.sew) op b.now
+        (source_range_of t.now (value_at numbers.now 32).range vs2 Eew.Same facts.now)
+        (second_range_of t.now numbers.now facts.now b.now) }
+{
+    let x = source_range(t, numbers.range_at(VL), vs2, Eew::Same, facts);
+    let y = second_range(t, numbers, facts, *b);
+    int_range(bits_of(t.sew), op, *b, x, y)
+}
+
+/// The same for a shift of elements of 2*SEW to SEW.
+fn narrow_results<A: Allocator>(
+    t: &Vtype,
+    numbers: &Numbers<A>,
+    facts: &[VectorFact],
+    op: NarrowOp,
+    vs2: Reg,
+    b: &Source,
+) -> Option<Range>
+    ensures { result ≡ narrow_range_of (bits_of_width t.now.sew) op
+        (source_range_of t.now (value_at numbers.now 32).range vs2 Eew.Double facts.now)
+        (second_range_of t.now numbers.now facts.now b.now) }
+{
+    let x = source_range(t, numbers.range_at(VL), vs2, Eew::Double, facts);
+    let y = second_range(t, numbers, facts, *b);
+    narrow_range(bits_of(t.sew), op, x, y)
+}
+
+/// The range of the results of vector arithmetic, where one is stated.
 #[tactic(auto, unfolding(crate::specs::Groups::arith_range))]
 fn arith_range<A: Allocator>(
     t: &Vtype,
@@ -304,41 +350,33 @@ fn arith_range<A: Allocator>(
 ) -> Option<Range>
     ensures { result ≡ arith_range_of t.now numbers.now facts.now insn.now }
 {
-    let vl = numbers.range_at(VL);
-    let bits = bits_of(t.sew);
     match insn {
         VArith::Int {
             op,
             vs2,
             b,
-            masked: false,
+            masked,
             ..
-        } => {
-            let x = source_range(t, vl, *vs2, Eew::Same, facts);
-            int_range(bits, *op, *b, x, second_range(t, numbers, facts, *b))
-        }
-        VArith::Copy { b, .. } => Some(second_range(t, numbers, facts, *b)),
+        } => unless_masked(*masked, int_results(t, numbers, facts, *op, *vs2, b)),
         VArith::Narrow {
             op,
             vs2,
             b,
-            masked: false,
+            masked,
             ..
-        } => {
-            let x = source_range(t, vl, *vs2, Eew::Double, facts);
-            narrow_range(bits, *op, x, second_range(t, numbers, facts, *b))
-        }
+        } => unless_masked(*masked, narrow_results(t, numbers, facts, *op, *vs2, b)),
         VArith::Extend {
-            signed: false,
+            signed,
             of,
             vs2,
-            masked: false,
+            masked,
             ..
-        } => Some(source_range(t, vl, *vs2, eew_of(*of), facts)),
-        VArith::Int { masked: true, .. }
-        | VArith::Narrow { masked: true, .. }
-        | VArith::Extend { .. }
-        | VArith::MultiplyAdd { .. }
+        } => {
+            let range = source_range(t, numbers.range_at(VL), *vs2, eew_of(*of), facts);
+            unless_masked(*masked || *signed, Some(range))
+        }
+        VArith::Copy { b, .. } => Some(second_range(t, numbers, facts, *b)),
+        VArith::MultiplyAdd { .. }
         | VArith::Carry { .. }
         | VArith::CarryOut { .. }
         | VArith::Merge { .. }
@@ -360,22 +398,18 @@ fn place_range(vlenb: u32, t: &Vtype) -> Option<Range>
     fitting_bits(bits_of(t.sew), 0, u64::from(last))
 }
 
-/// The range of what an unmasked instruction on masks gives.
+/// The range of what an instruction on masks gives.
 #[tactic(auto, unfolding(crate::specs::Groups::mask_range))]
 fn mask_range(vlenb: u32, t: &Vtype, insn: &VMask) -> Option<Range>
     requires { IsVlenb vlenb }
     ensures { result ≡ mask_range_of vlenb t.now insn.now }
 {
     match insn {
-        VMask::Iota { masked: false, .. } | VMask::Index { masked: false, .. } => {
-            place_range(vlenb, t)
+        VMask::Iota { masked, .. } | VMask::Index { masked, .. } => {
+            unless_masked(*masked, place_range(vlenb, t))
         }
-        VMask::Iota { masked: true, .. }
-        | VMask::Index { masked: true, .. }
-        | VMask::Logic { .. }
-        | VMask::Count { .. }
-        | VMask::First { .. }
-        | VMask::SetFirst { .. } => None,
+        VMask::Logic { .. } | VMask::Count { .. } | VMask::First { .. } | VMask::SetFirst { .. } =>
+            None,
     }
 }
 
@@ -445,8 +479,6 @@ fn stated_by<A: Allocator>(
     fact_if(&t, destination.first, range)
 }
 
-// ---- what stays true
-
 /// How many registers an operand covers.
 #[tactic(auto, unfolding(vreg_groups::specs::Legality::count_of))]
 fn count_of(vtype: Option<Vtype>, extent: Extent) -> u32
@@ -501,7 +533,7 @@ fn untouched<A: Allocator>(
     }
 }
 
-/// The facts after an instruction that leaves vl as it is.
+/// The facts after an instruction that leaves vl as it is: those that its destination leaves, and what it states of that.
 pub(crate) fn after_groups<A: Allocator, B: Allocator>(
     vlenb: u32,
     vtype: Option<Vtype>,
@@ -511,7 +543,8 @@ pub(crate) fn after_groups<A: Allocator, B: Allocator>(
 )
     requires vlenb { IsVlenb vlenb }
     requires room { length facts.old.items < vec_capacity facts.old }
-    ensures items { facts.new.items ≡ untouched_of vtype (needs_of insn.now).destination facts.old.items
+    ensures items { facts.new.items
+        ≡ untouched_of vtype (needs_of insn.now).destination facts.old.items
         ++ stated_by_of vlenb vtype numbers.now facts.old.items insn.now }
     ensures growth { length facts.new.items ≤ length facts.old.items + 1 }
     ensures capacity { vec_capacity facts.old ≤ vec_capacity facts.new }
@@ -580,7 +613,8 @@ fn retain_lasting<A: Allocator>(least: u32, facts: &mut Vec<VectorFact, A>)
     facts.retain(|fact| is_lasting(least, fact));
 }
 
-/// The facts where vl, which was at least `least`, changes: one for vl becomes one for as many elements as `least`.
+/// The facts where vl, which was at least `least`, changes: one for vl becomes one for that many elements, and is left out
+/// where that is 0.
 #[tactic(auto, unfolding(crate::specs::Groups::cut_groups))]
 pub(crate) fn cut_groups<A: Allocator>(vlenb: u32, least: u32, facts: &mut Vec<VectorFact, A>)
     requires { IsVlenb vlenb }
