@@ -1,6 +1,6 @@
 -- What operations on elements make of elements that lie in ranges.
 use Rattle.std.proofs.Common.{◌≡◌, ◌<◌, ◌≤◌, ◌+◌, ◌-◌, ◌*◌, ◌/◌, ◌%◌, ◌^◌, ℕ, Bool, true, false, arith, refl, sym, subst, Option, Some, None, IfSome}
-use Rattle.std.specs.Prelude.{if◌then◌else◌, ◌==◌, nat_lt, bit_and, min}
+use Rattle.std.specs.Prelude.{if◌then◌else◌, ◌==◌, nat_lt, ◌&&◌, bit_and, min}
 use Rattle.std.specs.Int.{Width}
 use Rattle.std.specs.Int as int
 use mir.Val.{bits}
@@ -44,9 +44,9 @@ known_one limit r x l c e = go (r.lo == r.hi) refl e
 
 -- a number between two ends that both have this many bits
 fitting_lies : (n lo hi x : ℕ) → lo ≤ x → x ≤ hi → IfSome (fitting_bits n lo hi) (λ r. IsWithin (2 ^ n) r x)
-fitting_lies n lo hi x l h = go (nat_lt hi (2 ^ n)) refl
+fitting_lies n lo hi x l h = go (nat_lt lo (2 ^ n) && nat_lt hi (2 ^ n)) refl
   where
-    go : (t : Bool) → nat_lt hi (2 ^ n) ≡ t → IfSome (if t then Some record { lo = lo; hi = hi } else None) (λ r. IsWithin (2 ^ n) r x)
+    go : (t : Bool) → nat_lt lo (2 ^ n) && nat_lt hi (2 ^ n) ≡ t → IfSome (if t then Some record { lo = lo; hi = hi } else None) (λ r. IsWithin (2 ^ n) r x)
     go true f =
         let k : hi < 2 ^ n = grind (arith, nat_tests) in
         record { low = l; high = h; fits = omega (arith, h, k) }
@@ -54,9 +54,9 @@ fitting_lies n lo hi x l h = go (nat_lt hi (2 ^ n)) refl
 
 -- so are its low bits
 cut_lies : (n lo hi x : ℕ) → lo ≤ x → x ≤ hi → IfSome (fitting_bits n lo hi) (λ r. IsWithin (2 ^ n) r (x % 2 ^ n))
-cut_lies n lo hi x l h = go (nat_lt hi (2 ^ n)) refl
+cut_lies n lo hi x l h = go (nat_lt lo (2 ^ n) && nat_lt hi (2 ^ n)) refl
   where
-    go : (t : Bool) → nat_lt hi (2 ^ n) ≡ t
+    go : (t : Bool) → nat_lt lo (2 ^ n) && nat_lt hi (2 ^ n) ≡ t
         → IfSome (if t then Some record { lo = lo; hi = hi } else None) (λ r. IsWithin (2 ^ n) r (x % 2 ^ n))
     go true f =
         let k : hi < 2 ^ n = grind (arith, nat_tests) in

@@ -22,7 +22,7 @@ use Rattle.abs_state.specs.Numbers.{NumbersView, plain, with_value, with_fresh, 
 use Rattle.abs_state.specs.Steps.{if_allowed, scalar_after, csr_after}
 use Rattle.abs_state.specs.State.{AbstractView}
 use Rattle.abs_state.specs.Legal.{legal_check}
-use Rattle.abs_state.specs.After.{access_check, after_of, mask_numbers, move_numbers, passed, taken, vector_after, vector_numbers, vset_after}
+use Rattle.abs_state.specs.After.{access_check, after_of, mask_numbers, move_numbers, passed, taken, vector_after, vset_after}
 
 -- at most one atom more
 abbrev Grows : NumbersView → NumbersView → Type 0
@@ -88,7 +88,7 @@ csr_grows vlenb insn s = result_grows insn.rd _ s
 
 -- ---- vector instructions
 
-mask_grows : (insn : mask.VMask) (s : NumbersView) → Grows s (mask_numbers insn s)
+pub mask_grows : (insn : mask.VMask) (s : NumbersView) → length (mask_numbers insn s).atoms ≤ length s.atoms + 1
 unfolding mask_numbers
 mask_grows (Logic op vd vs2 vs1) s = omega arith
 mask_grows (Count rd vs2 masked) s = result_grows rd _ s
@@ -97,23 +97,11 @@ mask_grows (SetFirst op vd vs2 masked) s = omega arith
 mask_grows (Iota vd vs2 masked) s = omega arith
 mask_grows (Index vd masked) s = omega arith
 
-move_grows : (insn : move.VMove) (s : NumbersView) → Grows s (move_numbers insn s)
+pub move_grows : (insn : move.VMove) (s : NumbersView) → length (move_numbers insn s).atoms ≤ length s.atoms + 1
 unfolding move_numbers
 move_grows (ToScalar rd vs2) s = result_grows rd _ s
 move_grows (FromScalar vd rs1) s = omega arith
 move_grows (Whole count vd vs2) s = omega arith
-
-pub vector_grows : (insn : Insn) (s : NumbersView) → length (vector_numbers insn s).atoms ≤ length s.atoms + 1
-unfolding vector_numbers
-vector_grows (Scalar insn) s = omega arith
-vector_grows (Csr insn) s = omega arith
-vector_grows (VSet insn) s = omega arith
-vector_grows (VArith insn) s = omega arith
-vector_grows (VMask insn) s = mask_grows insn s
-vector_grows (VPerm insn) s = omega arith
-vector_grows (VReduce insn) s = omega arith
-vector_grows (VMem insn) s = omega arith
-vector_grows (VMove insn) s = move_grows insn s
 
 -- ---- words
 

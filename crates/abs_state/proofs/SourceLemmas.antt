@@ -42,6 +42,11 @@ element_fits W8 at file i bytes = omega (arith, number_at-lt 1 (at + 1 * i) file
 element_fits W16 at file i bytes = omega (arith, number_at-lt 2 (at + 2 * i) file bytes)
 element_fits W32 at file i bytes = omega (arith, number_at-lt 4 (at + 4 * i) file bytes)
 
+full_width : (width : Width) → min 32 (bits_of_width width) ≡ bits_of_width width
+full_width W8 = refl
+full_width W16 = refl
+full_width W32 = refl
+
 module _ (vlenb : ℕ) (t : Vtype) (vl : ℕ) (r : Range) (first : ℕ) (width : Width) (file : List ℕ) (below : vl ≤ r.hi)
     (within : vl ≤ vlmax_of vlenb t) where
   abbrev bits : ℕ
@@ -101,7 +106,7 @@ module _ (vlenb : ℕ) (t : Vtype) (vl : ℕ) (r : Range) (first : ℕ) (width :
       × (element_at (bytes_of_width width) (first * vlenb) file i ≤ (source_range t r first (Fixed width) facts).hi)
   unfolding source_range
   source_lies facts true_of bytes i l =
-      by_found (find (is_source r first bits (group_count t (Fixed width))) facts) refl
+      rw (full_width width) (by_found (find (is_source r first bits (group_count t (Fixed width))) facts) refl)
     where
       x : ℕ
       x = element_at (bytes_of_width width) (first * vlenb) file i

@@ -2,7 +2,7 @@
 use Rattle.std.proofs.Common.{◌≡◌, ◌<◌, ◌≤◌, ◌+◌, ◌-◌, ◌*◌, ◌/◌, ◌%◌, ◌^◌, ℕ, Bool, true, false, arith, refl, sym, ap, ◌∙◌, subst, length, get_or, map, replicate, List, [], ◌∷◌, Option, Some, None, IfSome}
 use Rattle.std.specs.List.{AllByRecursion, find}
 use Rattle.std.specs.Option.{option_map_or}
-use Rattle.std.specs.Prelude.{if◌then◌else◌, ◌==◌, ◌||◌, nat_lt, nat_le}
+use Rattle.std.specs.Prelude.{if◌then◌else◌, ◌==◌, ◌||◌, min, nat_lt, nat_le}
 use Rattle.std.proofs.lemmas.Bool.Decides.{nat_tests}
 use Rattle.std.proofs.Math.Nat.{mod-eq_of_lt, mod-lt}
 use Rattle.std.proofs.lemmas.List.{get_or-map, get_or-replicate, length-map, length-replicate}
@@ -157,6 +157,9 @@ fact_of vl first width registers fact e =
     let c = both_true _ _ b.0 in
     record { register = are_equal _ _ c.0; width = are_equal _ _ c.1; registers = are_equal _ _ b.1; count = a.1 }
 
+min_low : (n : ℕ) → n ≤ 32 → min 32 n ≡ n
+min_low n l = omega (arith, l)
+
 module _ (vlenb : ℕ) (s : Setup) (hart : Hart) (file : List ℕ) (numbers : NumbersView) (facts : List VectorFact)
     (h : IsRead vlenb s hart file numbers facts) where
   abbrev vl_range : Range
@@ -204,8 +207,12 @@ module _ (vlenb : ℕ) (s : Setup) (hart : Hart) (file : List ℕ) (numbers : Nu
     element_lies : IsWithin (2 ^ eew_bits s.vtype.sew eew) (source_range s.vtype vl_range first eew facts) x
     unfolding source_range
     element_lies =
-        by_found _
-        (find_holds (is_source vl_range first (eew_bits s.vtype.sew eew) (group_count s.vtype eew)) (IsTrueOf vlenb s.vl file) facts h.holds)
+        subst
+        (λ n. IsWithin (2 ^ eew_bits s.vtype.sew eew)
+            (option_map_or fact_range (find (is_source vl_range first (eew_bits s.vtype.sew eew) (group_count s.vtype eew)) facts) (all_of_bits n)) x)
+        (sym (min_low (eew_bits s.vtype.sew eew) inside.width))
+        (by_found _
+        (find_holds (is_source vl_range first (eew_bits s.vtype.sew eew) (group_count s.vtype eew)) (IsTrueOf vlenb s.vl file) facts h.holds))
 
   -- so do all that are read
   pub source_lies : (first : ℕ) (eew : Eew) → IsGroup vlenb (eew_bits s.vtype.sew eew) (group_at s first eew)

@@ -35,6 +35,7 @@ use Rattle.abs_state.proofs.Elements.{IsWithin}
 -- a group is inside the registers, its elements have this many bits, which are 8 to 32, and it has room for the body
 pub record IsGroup (vlenb bits : ℕ) (group : Span) : Type 0 where
   pub size : IsSize group.bytes
+  pub width : bits ≤ 32
   pub limit : 256 ^ group.bytes ≡ 2 ^ bits
   pub registers : group.first + group.count ≤ 32
   pub room : group.bytes * group.vl ≤ group.count * vlenb
@@ -66,6 +67,10 @@ size_of_bits sew (eew.Fixed W8) e = (inl refl, refl)
 size_of_bits sew (eew.Fixed W16) e = (inr (inl refl), refl)
 size_of_bits sew (eew.Fixed W32) e = (inr (inr refl), refl)
 
+width_low : (bits : ℕ) → is_width bits ≡ true → bits ≤ 32
+unfolding is_width
+width_low bits e = grind (arith, nat_tests)
+
 pub legal_group : (vlenb : ℕ) (s : Setup) (first : ℕ) (eew : Eew) → first < 32 → s.vl ≤ vlmax_of vlenb s.vtype
     → is_group_legal s.vtype eew first ≡ true → IsGroup vlenb (eew_bits s.vtype.sew eew) (group_at s first eew)
 legal_group vlenb s first eew l fits legal =
@@ -74,6 +79,7 @@ legal_group vlenb s first eew l fits legal =
     let widths = size_of_bits t.sew eew (both_true _ _ both.0).0 in
     record {
       size = widths.0;
+      width = width_low (eew_bits t.sew eew) (both_true _ _ both.0).0;
       limit = widths.1;
       registers = group_ends t eew first l (are_equal (first % group_count t eew) 0 both.1);
       room = bytes_fit (eew_bits t.sew eew) s.vl (group_count t eew * vlenb) (group_room t eew vlenb s.vl fits);

@@ -56,8 +56,9 @@ use Rattle.abs_state.specs.Described.{LiesIn}
 use Rattle.abs_state.specs.Holds.{Holds, Follows}
 use Rattle.abs_state.specs.After.{mask_numbers, move_numbers, next_word, vector_numbers}
 use Rattle.abs_state.specs.StepLaws.{KeepsMemory}
+use Rattle.abs_state.proofs.Memories.{nothing_changes}
 use Rattle.abs_state.proofs.States.{result_holds}
-use Rattle.abs_state.proofs.StepScalars.{moved, nothing_changes, pc_stays, same_registers, stays}
+use Rattle.abs_state.proofs.StepScalars.{moved, pc_stays, same_registers, stays}
 
 -- a step that goes on at the next word, and what is known there
 pub record IsDone (s new : NumbersView) (v : ℕ → ℕ) (pc : ℕ) (config : Vconfig) (m : Memory) (result : Stepped) : Type 0 where

@@ -83,7 +83,7 @@ impl<A: Allocator> Numbers<A> {
     }
 
     /// What a vector instruction makes of the registers' numbers.
-    #[tactic(auto, unfolding(crate::specs::After::vector_numbers), using(crate::proofs::Growth::vector_grows))]
+    #[tactic(auto, unfolding(crate::specs::After::vector_numbers), using(crate::proofs::Growth::mask_grows, crate::proofs::Growth::move_grows))]
     fn after_vector(&mut self, insn: &Insn)
         requires { length self.old.atoms < MOST_ATOMS }
         ensures numbers { self.new ≡ vector_numbers insn.now self.old }
@@ -132,7 +132,8 @@ impl<A: Allocator> Abstract<A> {
     #[tactic(auto, unfolding(crate::specs::After::vset_after))]
     pub(crate) fn take_vset(&mut self, pc: u32, insn: VSet)
         requires { self.old.words < 4096 }
-        ensures { self.new ≡ vset_after pc insn self.old }
+        ensures state { self.new ≡ vset_after pc insn self.old }
+        ensures counts { self.new.words ≡ self.old.words + 1 }
     {
         let least = self.numbers.range_at(VL).lo;
         let set = self.numbers.after_vset(self.vlenb, self.vtype, insn);
@@ -151,6 +152,7 @@ impl<A: Allocator> Abstract<A> {
     pub(crate) fn take_vector(&mut self, pc: u32, insn: &Insn) -> Result<(), Why>
         requires { self.old.words < 4096 }
         ensures ok { OnOk result (vector_after pc insn.now self.old ≡ Ok self.new) }
+        ensures counts { OnOk result (self.new.words ≡ self.old.words + 1) }
         ensures err { IfErr result (λ why. vector_after pc insn.now self.old ≡ Err why) }
         ensures kept { OnErr result (self.new ≡ self.old) }
     {
