@@ -27,7 +27,7 @@ pub(crate) fn up_to(hi: u32) -> Range
 }
 
 /// The range between two ends, where both fit 32 bits.
-fn fitting(lo: u64, hi: u64) -> Option<Range>
+pub(crate) fn fitting(lo: u64, hi: u64) -> Option<Range>
     ensures { result ≡ fitting_of lo hi }
 {
     if lo < 1 << 32 && hi < 1 << 32 {
