@@ -6,6 +6,7 @@ use Rattle.std.specs.Option.{option_map}
 use Rattle.std.proofs.lemmas.Bool.Decides.{nat_tests}
 use Rattle.elf_image.specs.Image.{ImageView, SegmentView, IsImage, IsSegment, holds_code, word_in, code_at}
 use Rattle.rv_decode.specs.declared.instructions.Insn.{Insn}
+use Rattle.rv_decode.specs.declared.instructions.VSet as vset
 use Rattle.rv_decode.specs.declared.instructions.Insn.TheVariants.{Scalar, Csr, VSet, VArith, VMask, VPerm, VReduce, VMem, VMove}
 use Rattle.rv_decode.specs.declared.instructions.ScalarInsn.{ScalarInsn}
 use Rattle.rv_decode.specs.declared.instructions.ScalarInsn.TheVariants.{Lui, Auipc, Jal, Jalr, Branch, Load, Store, Immediate, ShiftImmediate, Register, Fence, Ecall}
@@ -21,14 +22,16 @@ use Rattle.abs_state.specs.declared.state.Way.{Way}
 use Rattle.abs_state.specs.declared.state.Way.TheVariants.{To}
 use Rattle.abs_state.specs.Numbers.{NumbersView}
 use Rattle.abs_state.specs.State.{AbstractView}
-use Rattle.abs_state.specs.After.{after_of, taken, way_of, jump_way}
+use Rattle.abs_state.specs.After.{access_check, after_of, jump_way, passed, taken, vector_after, vset_after, way_of}
+use Rattle.abs_state.specs.Legal.{legal_check}
 use Rattle.abs_state.specs.Blocks.{at_block_of, at_entry_of}
 use Rattle.abs_state.specs.Branches.{EdgeView, refined}
 use Rattle.abs_state.specs.Edges.{implied_by}
 use Rattle.abs_state.specs.Held.{Setting, vlenb_in, Held, Goes, Fits}
 use Rattle.abs_state.specs.StepLaws.{jumps}
 use Rattle.abs_state.specs.EdgeLaws.{block_of, is_fork}
-use Rattle.abs_state.proofs.StepMachines.{held_steps, goes_on}
+use Rattle.abs_state.proofs.StepsHeld.{steps_held}
+use Rattle.abs_state.proofs.StepMachines.{goes_on, same_state}
 use Rattle.abs_state.proofs.StartMachines.{blocks-are_held, entries-are_held, setting_by, passed_by_them}
 use Rattle.abs_state.specs.BlockLaws.{ArePassed}
 use Rattle.abs_state.specs.StartLaws.{IsSetting}
@@ -106,17 +109,33 @@ taken-way way a b (Ok numbers) e =
     ap (λ (k : AbstractView). k.way) (sym same)
 taken-way way a b (Err why) e = absurd (let bad : ⊥ = cc in bad)
 
+passed-budget : (first second : Result (Unit {0}) Why) (budget : Option Budget) (a b : AbstractView) → a.budget ≡ budget → passed first second a ≡ Ok b
+    → b.budget ≡ budget
+unfolding passed
+passed-budget (Ok first) (Ok second) budget a b is e = cc
+passed-budget (Ok first) (Err why) budget a b is e = absurd (let bad : ⊥ = cc in bad)
+passed-budget (Err why) second budget a b is e = absurd (let bad : ⊥ = cc in bad)
+
+vector-budget : (pc : ℕ) (insn : Insn) (a b : AbstractView) → vector_after pc insn a ≡ Ok b → b.budget ≡ a.budget
+unfolding vector_after
+vector-budget pc insn a b e = passed-budget (legal_check a.vtype insn) (access_check a insn) a.budget _ b refl e
+
+vset-budget : (pc : ℕ) (insn : vset.VSet) (a : AbstractView) → (vset_after pc insn a).budget ≡ a.budget
+unfolding vset_after
+vset-budget pc insn a = refl
+
 after-budget : (pc : ℕ) (insn : Insn) (a b : AbstractView) → after_of pc insn a ≡ Ok b → b.budget ≡ a.budget
 unfolding after_of
 after-budget pc (Scalar insn) a b e = taken-budget _ a b _ e
 after-budget pc (Csr insn) a b e = taken-budget _ a b _ e
-after-budget pc (VSet insn) a b e = absurd (let bad : ⊥ = cc in bad)
-after-budget pc (VArith insn) a b e = absurd (let bad : ⊥ = cc in bad)
-after-budget pc (VMask insn) a b e = absurd (let bad : ⊥ = cc in bad)
-after-budget pc (VPerm insn) a b e = absurd (let bad : ⊥ = cc in bad)
-after-budget pc (VReduce insn) a b e = absurd (let bad : ⊥ = cc in bad)
-after-budget pc (VMem insn) a b e = absurd (let bad : ⊥ = cc in bad)
-after-budget pc (VMove insn) a b e = absurd (let bad : ⊥ = cc in bad)
+after-budget pc (VSet insn) a b e =
+    ap (λ (k : AbstractView). k.budget) (sym (same_state (vset_after pc insn a) b e)) ∙ vset-budget pc insn a
+after-budget pc (VArith insn) a b e = vector-budget pc (VArith insn) a b e
+after-budget pc (VMask insn) a b e = vector-budget pc (VMask insn) a b e
+after-budget pc (VPerm insn) a b e = vector-budget pc (VPerm insn) a b e
+after-budget pc (VReduce insn) a b e = vector-budget pc (VReduce insn) a b e
+after-budget pc (VMem insn) a b e = vector-budget pc (VMem insn) a b e
+after-budget pc (VMove insn) a b e = vector-budget pc (VMove insn) a b e
 
 jump-single : (o : Option ℕ) → is_fork (jump_way o) ≡ false
 unfolding jump_way
@@ -142,13 +161,13 @@ after-single : (pc : ℕ) (insn : Insn) (a b : AbstractView) → is_branch insn 
 unfolding after_of is_branch
 after-single pc (Scalar insn) a b h e = ap is_fork (taken-way _ a b _ e) ∙ way-single pc insn a.numbers h
 after-single pc (Csr insn) a b h e = ap is_fork (taken-way _ a b _ e)
-after-single pc (VSet insn) a b h e = absurd (let bad : ⊥ = cc in bad)
-after-single pc (VArith insn) a b h e = absurd (let bad : ⊥ = cc in bad)
-after-single pc (VMask insn) a b h e = absurd (let bad : ⊥ = cc in bad)
-after-single pc (VPerm insn) a b h e = absurd (let bad : ⊥ = cc in bad)
-after-single pc (VReduce insn) a b h e = absurd (let bad : ⊥ = cc in bad)
-after-single pc (VMem insn) a b h e = absurd (let bad : ⊥ = cc in bad)
-after-single pc (VMove insn) a b h e = absurd (let bad : ⊥ = cc in bad)
+after-single pc (VSet insn) a b h e = ap is_fork (goes_on pc (VSet insn) a b refl e)
+after-single pc (VArith insn) a b h e = ap is_fork (goes_on pc (VArith insn) a b refl e)
+after-single pc (VMask insn) a b h e = ap is_fork (goes_on pc (VMask insn) a b refl e)
+after-single pc (VPerm insn) a b h e = ap is_fork (goes_on pc (VPerm insn) a b refl e)
+after-single pc (VReduce insn) a b h e = ap is_fork (goes_on pc (VReduce insn) a b refl e)
+after-single pc (VMem insn) a b h e = ap is_fork (goes_on pc (VMem insn) a b refl e)
+after-single pc (VMove insn) a b h e = ap is_fork (goes_on pc (VMove insn) a b refl e)
 
 same-insn : (insn : ScalarInsn) → jumps (Scalar insn) ≡ is_jump_insn insn
 unfolding jumps is_jump_insn
@@ -266,7 +285,7 @@ module _ (e : Setting) (begin : Machine) (is_image : IsImage e.image) (is_certif
     code = λ n word a s h c. h.held.known.proper.code s.hart.pc word c;
     block = block-held;
     step = λ n word insn a b s h even means after.
-        let next = held_steps e n a b s word insn is_image is_certificate h.held even means after in
+        let next = steps_held e n a b s word insn is_image is_certificate h.held even means after in
         (next.t, next.is, record { held = next.held; own = h.own; budget = after-budget s.hart.pc insn a b after ∙ h.budget });
     edge = λ n a t h. let way = edges-are_taken e n a t h.held in (way.taken, way.edge, way.is, way.goes);
     one_edge = λ pc insn a b taken h after. one-edge taken b (after-single pc insn a b h after);
