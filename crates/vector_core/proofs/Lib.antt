@@ -5,4 +5,5 @@ pub mod Kept
 pub mod KeptSteps
 pub mod Moved
 pub mod Numbers
+pub mod Permits
 pub mod RunLemmas

@@ -13,6 +13,7 @@ pub mod Moves
 pub mod Narrowing
 pub mod Operands
 pub mod Operations
+pub mod Permitted
 pub mod Permutations
 pub mod Reductions
 pub mod Run

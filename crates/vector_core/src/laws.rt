@@ -2,6 +2,7 @@
 
 ghost use Rattle.vector_core.specs.KeepLaws.{StepsKeepVectors};
 ghost use Rattle.vector_core.specs.Laws.{ElementsAreRegisterResults};
+ghost use Rattle.vector_core.specs.Permitted.{RunsArePermitted, StepsArePermitted};
 
 /// At SEW 32 an operation that the scalar instructions have too, from add to remu, makes of an element what the scalar
 /// instruction makes of its registers: two definitions, written apart, that agree.
@@ -14,4 +15,15 @@ pub fn elements_are_register_results()
 /// has none.
 pub fn steps_keep_vectors()
     ensures { StepsKeepVectors }
+{}
+
+/// A step that is no fault fetches its word, loads and stores only where it may: each byte lies in a region with the right.
+/// A vector load or store is permitted at every active element.
+pub fn steps_are_permitted()
+    ensures { StepsArePermitted }
+{}
+
+/// So is every step of a run up to a state that it reaches: no byte is fetched, loaded or stored without the right.
+pub fn runs_are_permitted()
+    ensures { RunsArePermitted }
 {}
