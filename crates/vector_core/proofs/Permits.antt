@@ -31,14 +31,16 @@ use Rattle.vector_core.specs.Words.{Fault, Hart, Illegal, Insn, Memory, Setup, r
 -- ---- lists of accesses
 
 -- none of a list is refused where the first that is refused is none
-none_refused : (memory : Memory) (list : List Access) → find (is_refused memory) list ≡ None → ArePermitted memory list
+none_refused : (memory : Memory) (list : List Access) → find (is_refused memory) list ≡ None
+    → ArePermitted memory list
 none_refused memory [] e = tt
 none_refused memory (a ∷ list) e =
-    by_test (is_permitted a.right a.address a.size memory) refl e (λ rest. none_refused memory list rest)
+    by_test (is_permitted a.right a.address a.size memory) refl e (none_refused memory list)
   where
     by_test : (b : Bool) → is_permitted a.right a.address a.size memory ≡ b
         → (if not b then Some a else find (is_refused memory) list) ≡ None
-        → (find (is_refused memory) list ≡ None → ArePermitted memory list) → ArePermitted memory (a ∷ list)
+        → (find (is_refused memory) list ≡ None → ArePermitted memory list)
+        → ArePermitted memory (a ∷ list)
     by_test true permitted rest more = (permitted, more rest)
     by_test false refused rest more = absurd (cc)
 
@@ -52,8 +54,8 @@ module _ (m t : Machine) where
   load_permitted kind rd rs1 offset e = by_test _ _ e
     where
       by_test : (b : Bool) (n : ℕ)
-          → with_scalar m (beside m.memory (load_from kind rd (address_of rs1 offset m.hart) m.hart (if b then Some n else None))) ≡ Ok t
-          → b ≡ true
+          → with_scalar m (beside m.memory (load_from kind rd (address_of rs1 offset m.hart) m.hart
+          (if b then Some n else None))) ≡ Ok t → b ≡ true
       by_test true n k = refl
       by_test false n k = absurd (cc)
 
@@ -64,8 +66,8 @@ module _ (m t : Machine) where
   store_permitted size rs1 rs2 offset e = by_test _ _ e
     where
       by_test : (b : Bool) (new : Memory)
-          → with_scalar m (store_from (address_of rs1 offset m.hart) m.hart (if b then Some new else None)) ≡ Ok t
-          → b ≡ true
+          → with_scalar m (store_from (address_of rs1 offset m.hart) m.hart
+          (if b then Some new else None)) ≡ Ok t → b ≡ true
       by_test true new k = refl
       by_test false new k = absurd (cc)
 
@@ -88,24 +90,31 @@ module _ (m t : Machine) where
 -- ---- vector loads and stores
 
 module _ (vlenb : ℕ) (s : Setup) (h : Hart) (v : Vectors) (memory : Memory) (t : Machine) where
+  abbrev Permitted : mem.VMem → Type 0
+  Permitted insn =
+      ArePermitted memory
+      (accesses_of vlenb s insn (reg_of insn.rs1 h) (stride_of insn.place h) v.registers)
+
   load_refuses : (refused : Option Access) (fault : ℕ → Fault) (new : List ℕ)
-      → with_vector (loaded_step (unless_refused fault refused new) h v memory) ≡ Ok t → refused ≡ None
+      → with_vector (loaded_step (unless_refused fault refused new) h v memory) ≡ Ok t
+      → refused ≡ None
   load_refuses None fault new e = refl
   load_refuses (Some a) fault new e = absurd (cc)
 
   store_refuses : (refused : Option Access) (fault : ℕ → Fault) (new : Memory)
-      → with_vector (stored_step (unless_refused fault refused new) h v) ≡ Ok t → refused ≡ None
+      → with_vector (stored_step (unless_refused fault refused new) h v) ≡ Ok t
+      → refused ≡ None
   store_refuses None fault new e = refl
   store_refuses (Some a) fault new e = absurd (cc)
 
-  direction_permitted : (d : Direction) (insn : mem.VMem) → with_vector (direction_step d vlenb s insn h v memory) ≡ Ok t
-      → ArePermitted memory (accesses_of vlenb s insn (reg_of insn.rs1 h) (stride_of insn.place h) v.registers)
+  direction_permitted : (d : Direction) (insn : mem.VMem)
+      → with_vector (direction_step d vlenb s insn h v memory) ≡ Ok t → Permitted insn
   unfolding direction_step vector_load vector_store first_refused
   direction_permitted way.Load insn e = none_refused memory _ (load_refuses _ _ _ e)
   direction_permitted way.Store insn e = none_refused memory _ (store_refuses _ _ _ e)
 
-  access_permitted : (insn : mem.VMem) → with_vector (legal_step vlenb s (VMem insn) h v memory) ≡ Ok t
-      → ArePermitted memory (accesses_of vlenb s insn (reg_of insn.rs1 h) (stride_of insn.place h) v.registers)
+  access_permitted : (insn : mem.VMem)
+      → with_vector (legal_step vlenb s (VMem insn) h v memory) ≡ Ok t → Permitted insn
   unfolding legal_step memory_step
   access_permitted insn e = direction_permitted insn.direction insn e
 
@@ -116,16 +125,18 @@ unfolding vector_step accesses_of_insn
 vector_permitted vlenb word insn m t e = by_test (is_legal m.vectors.config (VMem insn)) e
   where
     by_test : (b : Bool)
-        → with_vector (if b then legal_step vlenb (setup_of (type_in (vtype_of m.vectors.config.vtype)) m.vectors)
-        (VMem insn) m.hart m.vectors m.memory else Err (Illegal word)) ≡ Ok t
+        → with_vector (if b
+        then legal_step vlenb (setup_of (type_in (vtype_of m.vectors.config.vtype)) m.vectors)
+        (VMem insn) m.hart m.vectors m.memory
+        else Err (Illegal word)) ≡ Ok t
         → ArePermitted m.memory (accesses_of_insn vlenb (VMem insn) m)
     by_test true k = access_permitted vlenb _ m.hart m.vectors m.memory t insn k
     by_test false k = absurd (cc)
 
 -- ---- a step, and the steps of a run
 
-carried_permitted : (vlenb word : ℕ) (m t : Machine) (insn : Insn) → carry_out vlenb word m insn ≡ Ok t
-    → ArePermitted m.memory (accesses_of_insn vlenb insn m)
+carried_permitted : (vlenb word : ℕ) (m t : Machine) (insn : Insn)
+    → carry_out vlenb word m insn ≡ Ok t → ArePermitted m.memory (accesses_of_insn vlenb insn m)
 unfolding carry_out scalar_step accesses_of_insn
 carried_permitted vlenb word m t (Scalar insn) e = scalar_permitted m t insn e
 carried_permitted vlenb word m t (Csr insn) e = tt
@@ -150,23 +161,30 @@ pub steps_permitted : StepsArePermitted
 unfolding step
 steps_permitted vlenb m t e = (fetch_permitted vlenb m t e, carried)
   where
-    carried : (word : ℕ) (insn : Insn) → fetch_of m.hart.pc m.memory ≡ Some word → meaning_of word ≡ Some insn
-        → ArePermitted m.memory (accesses_of_insn vlenb insn m)
+    carried : (word : ℕ) (insn : Insn) → fetch_of m.hart.pc m.memory ≡ Some word
+        → meaning_of word ≡ Some insn → ArePermitted m.memory (accesses_of_insn vlenb insn m)
     carried word insn fetch meaning =
         let same : carry_out vlenb word m insn ≡ Ok t = rw (fetch, meaning) at e in
         carried_permitted vlenb word m t insn same
 
+-- step j of a run, where there is one
+abbrev IsPermittedAt : ℕ → Machine → ℕ → Type 0
+IsPermittedAt vlenb m j = (u : Machine) → after vlenb m j ≡ Ok u → IsPermittedStep vlenb u
+
 -- by induction on the steps, of which `after` takes the last one apart
 pub runs_permitted : RunsArePermitted
 unfolding after
-runs_permitted vlenb m t zero e j below u there = absurd (omega arith)
-runs_permitted vlenb m t (suc k) e j below u there = by_state (after vlenb m k) refl e (λ w is. runs_permitted vlenb m w k is)
+runs_permitted vlenb m t zero e j below = absurd (omega arith)
+runs_permitted vlenb m t (suc k) e j below =
+    by_state (after vlenb m k) refl e (λ w is. runs_permitted vlenb m w k is)
   where
     by_state : (r : Result Machine Fault) → after vlenb m k ≡ r → then_step vlenb r ≡ Ok t
-        → ((w : Machine) → after vlenb m k ≡ Ok w → (i : ℕ) → i < k → (s : Machine) → after vlenb m i ≡ Ok s → IsPermittedStep vlenb s)
-        → IsPermittedStep vlenb u
+        → ((w : Machine) → after vlenb m k ≡ Ok w → (i : ℕ) → i < k → IsPermittedAt vlenb m i)
+        → IsPermittedAt vlenb m j
     by_state (Ok w) is next before =
-        let last : (s : Machine) → after vlenb m k ≡ Ok s → IsPermittedStep vlenb s =
-        λ s here. let same : w ≡ s = cc (is, here) in steps_permitted vlenb s t (rw same at next) in
-        below_more (λ i. (s : Machine) → after vlenb m i ≡ Ok s → IsPermittedStep vlenb s) k (before w is) last j (omega arith) u there
+        let last : IsPermittedAt vlenb m k =
+        λ u there.
+        let same : w ≡ u = cc (is, there) in
+        steps_permitted vlenb u t (rw same at next) in
+        below_more (IsPermittedAt vlenb m) k (before w is) last j (omega arith)
     by_state (Err fault) is next before = absurd (cc)

@@ -29,15 +29,17 @@ accesses_of_scalar (Auipc rd imm) h = []
 accesses_of_scalar (Jal rd offset) h = []
 accesses_of_scalar (Jalr rd rs1 offset) h = []
 accesses_of_scalar (Branch condition rs1 rs2 offset) h = []
-accesses_of_scalar (Load kind rd rs1 offset) h = one Read (address_of rs1 offset h) (size_of_load kind)
-accesses_of_scalar (Store size rs1 rs2 offset) h = one Write (address_of rs1 offset h) (size_of_store size)
+accesses_of_scalar (Load kind rd rs1 offset) h =
+    one Read (address_of rs1 offset h) (size_of_load kind)
+accesses_of_scalar (Store size rs1 rs2 offset) h =
+    one Write (address_of rs1 offset h) (size_of_store size)
 accesses_of_scalar (Immediate op rd rs1 imm) h = []
 accesses_of_scalar (ShiftImmediate op rd rs1 amount) h = []
 accesses_of_scalar (Register op rd rs1 rs2) h = []
 accesses_of_scalar Fence h = []
 accesses_of_scalar Ecall h = []
 
--- The accesses of an instruction, besides the fetch of its word. A vector load or store has one for each active element.
+-- The accesses of an instruction, beside the fetch of its word. A vector load or store has one for each active element.
 unfoldable pub accesses_of_insn : ℕ → Insn → Machine → List Access
 accesses_of_insn vlenb (Scalar insn) m = accesses_of_scalar insn m.hart
 accesses_of_insn vlenb (Csr insn) m = []
@@ -54,14 +56,15 @@ accesses_of_insn vlenb (VMem insn) m =
 -- Each byte of each access lies in an area with the right, and none past the last address: that is what `is_permitted`
 -- says. Areas do not overlap (`AreInOrder`), so that it is one area for each byte.
 abbrev pub ArePermitted : Memory → List Access → Type 0
-ArePermitted memory list = AllByRecursion (λ a. is_permitted a.right a.address a.size memory ≡ true) list
+ArePermitted memory list =
+    AllByRecursion (λ a. is_permitted a.right a.address a.size memory ≡ true) list
 
 -- The four bytes at pc may be fetched, and the instruction that they mean accesses nothing but what it may.
 abbrev pub IsPermittedStep : ℕ → Machine → Type 0
 IsPermittedStep vlenb m =
     (is_permitted Fetch m.hart.pc 4 m.memory ≡ true) ×
-    ((word : ℕ) (insn : Insn) → fetch_of m.hart.pc m.memory ≡ Some word → meaning_of word ≡ Some insn →
-    ArePermitted m.memory (accesses_of_insn vlenb insn m))
+    ((word : ℕ) (insn : Insn) → fetch_of m.hart.pc m.memory ≡ Some word →
+    meaning_of word ≡ Some insn → ArePermitted m.memory (accesses_of_insn vlenb insn m))
 
 -- A step that is no fault is permitted,
 abbrev pub StepsArePermitted : Type 0
