@@ -1,4 +1,4 @@
-//! What is known of a machine at an instruction of a certified kernel, and what each scalar instruction makes of it.
+//! What is known of a machine at an instruction of a certified kernel, and what each instruction makes of it.
 //!
 //! A number that is not known is an atom. A register's number is known as a form over atoms and a range; memory is known
 //! by the zones that may be read and written throughout a run.

@@ -28,7 +28,7 @@ use Rattle.abs_state.specs.Blocks.{at_block_of, at_entry_of}
 use Rattle.abs_state.specs.Branches.{EdgeView, refined}
 use Rattle.abs_state.specs.Edges.{implied_by}
 use Rattle.abs_state.specs.Held.{Setting, vlenb_in, Held, Goes, Fits}
-use Rattle.abs_state.specs.StepLaws.{jumps}
+use Rattle.abs_state.specs.StepLaws.{jumps, jumps}
 use Rattle.abs_state.specs.EdgeLaws.{block_of, is_fork}
 use Rattle.abs_state.proofs.StepsHeld.{steps_held}
 use Rattle.abs_state.proofs.StepMachines.{goes_on, same_state}
@@ -158,7 +158,7 @@ way-single pc Fence s h = refl
 way-single pc Ecall s h = refl
 
 after-single : (pc : ℕ) (insn : Insn) (a b : AbstractView) → is_branch insn ≡ false → after_of pc insn a ≡ Ok b → is_fork b.way ≡ false
-unfolding after_of is_branch
+unfolding after_of is_branch jumps
 after-single pc (Scalar insn) a b h e = ap is_fork (taken-way _ a b _ e) ∙ way-single pc insn a.numbers h
 after-single pc (Csr insn) a b h e = ap is_fork (taken-way _ a b _ e)
 after-single pc (VSet insn) a b h e = ap is_fork (goes_on pc (VSet insn) a b refl e)

@@ -1,5 +1,6 @@
 pub mod Answer
 pub mod Errors
+pub mod Headline
 pub mod Rooms
 pub mod Session
 pub mod Laws

@@ -11,7 +11,7 @@ mod run;
 mod session;
 mod start;
 
-pub use laws::exit_is_no_code;
+pub use laws::{accepted_runs, exit_is_no_code};
 pub use outcome::{Final, OpenError, Outcome, Registers};
 pub use run::{outcome_is_first, runs_go_on, try_run, try_run_in};
 pub use session::{Session, open_in};

@@ -1,0 +1,21 @@
+use Rattle.vector_core.proofs.Permits.{runs_permitted}
+use Rattle.vreg_groups.specs.VectorLength.{vlenb_of}
+use Rattle.vector_core.specs.Start.{start}
+use Rattle.sandbox_run.specs.Headline.{RunsWell}
+use Rattle.sandbox_run.proofs.laws.accepted_runs.Goals as goal
+
+-- the run ends; and so each of its steps is permitted
+pub returns : goal.returns
+returns g c args agnostic eight matching bytes =
+    let a = c.args.accepted.now in
+    let run = c.runs_end.ensures args agnostic eight matching bytes in
+    let vlenb = vlenb_of a.vlen in
+    let first = start vlenb agnostic a.image a.certificate.parameters args in
+    record {
+      steps = run.0;
+      last = run.1;
+      within = run.2;
+      leads = run.3;
+      ended = run.4;
+      permitted = runs_permitted vlenb first run.1 run.0 run.3;
+    }

@@ -1,0 +1,33 @@
+-- The theorem on accepted images.
+use Rattle.std.specs.Prelude.{ℕ, ◌≡◌, ◌<◌, ◌≤◌, true, List, length, Ok}
+use Rattle.std.specs.List.{AllByRecursion}
+use Rattle.region_mem.specs.Laws.{BringsBytes}
+use Rattle.region_mem.specs.Parameter.{Argument, AreArguments}
+use Rattle.vreg_groups.specs.declared.policies.Agnostic.{Agnostic}
+use Rattle.vreg_groups.specs.VectorLength.{vlenb_of}
+use Rattle.vector_core.specs.Machine.{Machine}
+use Rattle.vector_core.specs.Permitted.{IsPermittedStep}
+use Rattle.vector_core.specs.Run.{after, has_ended}
+use Rattle.vector_core.specs.Start.{start}
+use Rattle.block_checker.specs.Accepted.{AcceptedView}
+use Rattle.block_checker.specs.Bound.{bound_of, scalars_of}
+
+-- After at most n steps without a fault the run from here has ended, and each byte that one of them fetched, loaded or
+-- stored was permitted.
+pub record RunsWell (vlenb n : ℕ) (first : Machine) : Type 0 where
+  pub steps : ℕ
+  pub last : Machine
+  pub within : steps ≤ n
+  pub leads : after vlenb first steps ≡ Ok last
+  pub ended : has_ended last ≡ true
+  pub permitted : (j : ℕ) → j < steps → (m : Machine) → after vlenb first j ≡ Ok m
+      → IsPermittedStep vlenb m
+
+-- An accepted image, run with any arguments that match its parameters, and any setting for agnostic elements, does so
+-- within the bound of its certificate for the scalars among them.
+abbrev pub AcceptedRuns : AcceptedView → Type 0
+AcceptedRuns a =
+    (args : List Argument) (agnostic : Agnostic) → length args ≡ 8
+    → AreArguments a.certificate.parameters args → AllByRecursion BringsBytes args
+    → RunsWell (vlenb_of a.vlen) (bound_of a (scalars_of args))
+    (start (vlenb_of a.vlen) agnostic a.image a.certificate.parameters args)
