@@ -15,6 +15,8 @@ mod fixture;
 #[cfg(test)]
 mod forms;
 #[cfg(test)]
+mod gathers;
+#[cfg(test)]
 mod groups;
 #[cfg(test)]
 mod images;
@@ -25,11 +27,15 @@ mod masks;
 #[cfg(test)]
 mod memory;
 #[cfg(test)]
+mod notes;
+#[cfg(test)]
 mod refusing;
 #[cfg(test)]
 mod scalar_steps;
 #[cfg(test)]
 mod sessions;
+#[cfg(test)]
+mod vector_checks;
 #[cfg(test)]
 mod vector_steps;
 #[cfg(test)]
