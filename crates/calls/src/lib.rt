@@ -37,6 +37,8 @@ mod sessions;
 #[cfg(test)]
 mod vector_checks;
 #[cfg(test)]
+mod vector_rules;
+#[cfg(test)]
 mod vector_steps;
 #[cfg(test)]
 mod want_of_memory;
