@@ -39,6 +39,8 @@ mod vector_checks;
 #[cfg(test)]
 mod vector_rules;
 #[cfg(test)]
+mod vector_sessions;
+#[cfg(test)]
 mod vector_steps;
 #[cfg(test)]
 mod want_of_memory;

@@ -34,7 +34,7 @@ fn args(alloc: Global, size: usize, number: u32) -> Result<Args, AllocError> {
 }
 
 /// Asserts that no session is opened, and why.
-fn assert_refused<const VLENB: usize>(
+pub fn assert_refused<const VLENB: usize>(
     rt: &(impl Abort + AllocGlobal),
     accepted: &Accepted,
     args: Args,
