@@ -1,7 +1,8 @@
 #!/usr/bin/env python3
 """Puts a certificate into an image: `examples/certify.py sum_bytes` reads sum_bytes/certificate.toml and writes the note
 into sum_bytes/sum_bytes.elf, which `build.sh` has just built. docs/CERTIFICATES.md has the form of a certificate, docs/IMAGES.md
-that of a note. It checks nothing: whether
+that of a note. Where it states a list for vlen, the claims are those for each of these lengths, and each further one gets an image of its own,
+as raise_words-256.elf. It checks nothing: whether
 the certificate is one, and whether the code keeps to it, `cert_note::read` and `block_checker::check` say."""
 import pathlib
 import struct
@@ -53,9 +54,9 @@ def block(block):
             + b"".join(map(register_fact, facts)) + b"".join(map(vector_fact, vectors)))
 
 
-def certificate(stated):
+def certificate(stated, vlen):
     params = stated.get("param", []) + [{"kind": "none"}] * (8 - len(stated.get("param", [])))
-    return (struct.pack("<HBB", 1, {128: 1, 256: 2}[stated["vlen"]], 0) + b"".join(map(parameter, params))
+    return (struct.pack("<HBB", 1, {128: 1, 256: 2}[vlen], 0) + b"".join(map(parameter, params))
             + struct.pack("<HH", len(stated["block"]), 0) + b"".join(map(block, stated["block"])))
 
 
@@ -85,7 +86,11 @@ def main():
     folder = pathlib.Path(__file__).parent / sys.argv[1]
     stated = tomllib.loads((folder / "certificate.toml").read_text())
     image = folder / f"{folder.name}.elf"
-    image.write_bytes(with_note(image.read_bytes(), certificate(stated)))
+    built = image.read_bytes()
+    first, *more = stated["vlen"] if isinstance(stated["vlen"], list) else [stated["vlen"]]
+    image.write_bytes(with_note(built, certificate(stated, first)))
+    for vlen in more:
+        (folder / f"{folder.name}-{vlen}.elf").write_bytes(with_note(built, certificate(stated, vlen)))
 
 
 main()

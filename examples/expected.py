@@ -1,5 +1,5 @@
 #!/usr/bin/env python3
-"""Writes the inputs of histogram and clamp_add, and what they must leave, computed apart from any machine."""
+"""Writes the inputs of histogram, clamp_add, raise_words and translate, and what they must leave, computed apart from any machine."""
 import os
 import struct
 
@@ -19,3 +19,15 @@ write("histogram/expected.bin", struct.pack("<256I", *(text.count(value) for val
 numbers = [(37 * i + 11) % 256 for i in range(100)]
 write("clamp_add/a.bin", numbers)
 write("clamp_add/expected.bin", [min(number + 100, 255) for number in numbers])
+
+words = [0xFFFFFFFF - 5003 * i if i % 3 else 0x9E3779B1 * i % 2**32 for i in range(1023)] + [0xFFFFFFFF]
+raised = [(word + 1) % 2**32 for word in words[:1000]] + words[1000:]
+write("raise_words/a.bin", struct.pack("<1024I", *words))
+write("raise_words/expected.bin", struct.pack("<1024I", *raised))
+
+table = bytes(range(128)).upper()
+letters = [(91 * i + 7) % 256 for i in range(1024)]
+write("translate/table.bin", table)
+write("translate/a.bin", letters)
+write("translate/zeros.bin", 1024 * [0])
+write("translate/expected.bin", [table[letter % 128] for letter in letters])
