@@ -13,6 +13,9 @@ pub const CODE: u32 = 0x1_0000;
 /// The address that ends a run.
 pub const EXIT: u32 = 0xffff_fff0;
 
+/// vsetivli x0,16,e8,m1,ta,ma
+pub const VSETIVLI_16: u32 = 0xcc08_7057;
+
 /// A sum that a register is said to be.
 #[derive(Clone, Copy)]
 pub struct Sum {
@@ -207,7 +210,7 @@ pub fn entry_facts(alloc: Global, params: &[Param; 8]) -> Result<Vec<Fact>, Fail
     let parameters = Parameters::new(*params).ok_or("parameters")?;
     let mut facts = Vec::from_slice(alloc, &[between(1, EXIT, EXIT)])?;
     for place in 0..8 {
-        let number = 10 + place as u8;
+        let number = (10 + place) as u8;
         match parameters.param(place) {
             Param::None => {}
             Param::Scalar { lo, hi } => facts.push(between(number, lo, hi))?,
@@ -236,4 +239,14 @@ pub fn straight(
         vectors: &[],
     };
     answer(alloc, vlen, params, &[block], words)
+}
+
+/// Why words of one block are refused, if they are.
+pub fn error_of(
+    alloc: Global,
+    vlen: Vlen,
+    params: &[Param; 8],
+    words: &[u32],
+) -> Result<Option<CheckError>, Fail> {
+    Ok(straight(alloc, vlen, params, words)?.err())
 }

@@ -10,7 +10,6 @@ use block_checker::{Accepted, CheckError};
 use cert_note::{Budget, Term, VectorFact, Vlen};
 use region_mem::Param;
 use std::alloc::Global;
-use std::process::Abort;
 use std::test::Fail;
 
 /// Both lengths of a vector register.

@@ -1,8 +1,8 @@
 //! The checker's rules on vset, and on vector loads and stores of each form: programs of a few words, each accepted and, with a small
 //! change, refused.
 use crate::notes::{
-    CODE, EXIT, Fact, Stated, answer, at_most, between, entry_facts, number, reads, straight,
-    takes, writes,
+    CODE, EXIT, Fact, Stated, VSETIVLI_16, answer, at_most, between, entry_facts, error_of, number,
+    reads, takes, writes,
 };
 use crate::vector_checks::LENGTHS;
 use block_checker::CheckError;
@@ -14,8 +14,6 @@ use std::test::Fail;
 const RET: u32 = 0x0000_8067;
 
 const VADD: u32 = 0x0284_0457; // vadd.vv v8,v8,v8
-
-const VSETIVLI_16: u32 = 0xcc08_7057; // vsetivli x0,16,e8,m1
 
 /// The answer on words and ret, of which ret is a block that states one fact beside ra's.
 fn then(
@@ -48,16 +46,6 @@ fn then(
     Ok(answer(alloc, vlen, params, &blocks, &all)?.err())
 }
 
-/// The error of words of one block.
-fn error_of(
-    alloc: Global,
-    vlen: Vlen,
-    params: &[Param; 8],
-    words: &[u32],
-) -> Result<Option<CheckError>, Fail> {
-    Ok(straight(alloc, vlen, params, words)?.err())
-}
-
 /// The interval that was claimed behind the second word is not known.
 const REFUSED: Option<CheckError> = Some(CheckError::IntervalNotProved(0x1_0004));
 
@@ -71,15 +59,17 @@ const UNTYPED_8: Option<CheckError> = Some(CheckError::VtypeUnknown(0x1_0008));
 fn a_number_is_split(rt: HostRuntime) -> Result<(), Fail> {
     let alloc = rt.alloc();
     let words = [0x0d05_f2d7, 0x4055_85b3];
-    for (vlen, most) in [(Vlen::V128, 4), (Vlen::V256, 8)] {
-        let params = takes(Param::None, number(most + 2, 1024), Param::None);
+    for (vlen, most, least, left) in [(Vlen::V128, 4u32, 6, 1020u32), (Vlen::V256, 8, 10, 1016)] {
+        let params = takes(Param::None, number(least, 1024), Param::None);
+        let less = left.saturating_sub(1);
+        let shorter = most.saturating_sub(1);
         for (claim, answered) in [
-            (between(11, 2, 1024 - most), None),
-            (between(11, 3, 1024 - most), REFUSED),
-            (between(11, 2, 1023 - most), REFUSED),
+            (between(11, 2, left), None),
+            (between(11, 3, left), REFUSED),
+            (between(11, 2, less), REFUSED),
             (between(5, most, most), None),
             (between(32, most, most), None),
-            (between(32, 0, most - 1), REFUSED),
+            (between(32, 0, shorter), REFUSED),
         ] {
             let error = then(alloc, vlen, &params, &words, claim)?;
             assert_eq!(rt; error, answered);
@@ -153,12 +143,26 @@ fn a_type_is_not_supported(rt: HostRuntime) -> Result<(), Fail> {
             let error = then(alloc, vlen, &params, &[e64, whole], between(number, 0, 0))?;
             assert_eq!(rt; error, None);
         }
-        let short = takes(reads(size - 1), Param::None, number(0, 64));
+        let short = takes(reads(size.saturating_sub(1)), Param::None, number(0, 64));
         let error = error_of(alloc, vlen, &short, &[e64, whole, RET])?;
         assert_eq!(rt; error, refused);
         // vs1r.v v8,(a0)
         let error = error_of(alloc, vlen, &params, &[e64, 0x0285_0427, RET])?;
         assert_eq!(rt; error, Some(CheckError::ReadOnly(0x1_0004)));
+    }
+    Ok(())
+}
+
+/// Whole registers need no type: vmv1r.v v9,v12. A group of two begins at an even number: vmv2r.v v9,v8
+#[test]
+fn whole_registers_are_moved(rt: HostRuntime) -> Result<(), Fail> {
+    let alloc = rt.alloc();
+    let params = takes(Param::None, Param::None, Param::None);
+    for vlen in LENGTHS {
+        let error = error_of(alloc, vlen, &params, &[0x9ec0_34d7, RET])?;
+        assert_eq!(rt; error, None);
+        let error = error_of(alloc, vlen, &params, &[0x9e80_b4d7, RET])?;
+        assert_eq!(rt; error, Some(CheckError::IllegalWord(0x1_0000)));
     }
     Ok(())
 }
@@ -250,7 +254,7 @@ fn an_access_lies_in_its_buffer(rt: HostRuntime) -> Result<(), Fail> {
         for Access { words, size, at } in &ACCESSES {
             let params = takes(writes(*size), Param::None, Param::None);
             assert_eq!(rt; error_of(alloc, vlen, &params, words)?, None, "{at} {size}");
-            let params = takes(writes(*size - 1), Param::None, Param::None);
+            let params = takes(writes(size.saturating_sub(1)), Param::None, Param::None);
             let error = error_of(alloc, vlen, &params, words)?;
             assert_eq!(rt; error, Some(CheckError::AccessNotProved(*at)));
         }
@@ -313,7 +317,7 @@ fn no_or_all_elements(rt: HostRuntime) -> Result<(), Fail> {
         assert_eq!(rt; error, None);
         let whole = takes(reads(size), Param::None, Param::None);
         assert_eq!(rt; error_of(alloc, vlen, &whole, &all)?, None);
-        let short = takes(reads(size - 1), Param::None, Param::None);
+        let short = takes(reads(size.saturating_sub(1)), Param::None, Param::None);
         assert_eq!(rt; error_of(alloc, vlen, &short, &all)?, refused);
     }
     Ok(())
