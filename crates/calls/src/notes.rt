@@ -118,18 +118,28 @@ fn put_param(bytes: &mut Vec<u8>, param: Param) -> Result<(), AllocError> {
     }
 }
 
+/// A count of fewer than 256 things, in its byte.
+fn byte(count: usize) -> u8 {
+    (count % 256) as u8
+}
+
+fn put_terms(bytes: &mut Vec<u8>, terms: &[Term]) -> Result<(), AllocError> {
+    for term in terms {
+        bytes.push(term.atom)?;
+        put(bytes, &[term.coefficient])?;
+    }
+    Ok(())
+}
+
 fn put_fact(bytes: &mut Vec<u8>, fact: &Fact) -> Result<(), AllocError> {
     bytes.push(fact.number)?;
     put(bytes, &[fact.low, fact.high])?;
     match fact.sum {
         None => bytes.push(255)?,
         Some(sum) => {
-            bytes.push(sum.terms.len() as u8)?;
+            bytes.push(byte(sum.terms.len()))?;
             put(bytes, &[sum.constant])?;
-            for term in sum.terms {
-                bytes.push(term.atom)?;
-                put(bytes, &[term.coefficient])?;
-            }
+            put_terms(bytes, sum.terms)?;
         }
     }
     Ok(())
@@ -149,7 +159,7 @@ fn put_block(bytes: &mut Vec<u8>, block: &Stated<'_>) -> Result<(), AllocError> 
     put(bytes, &[block.start, constant, factor])?;
     let vtype = block.vtype.unwrap_or(0);
     bytes.extend_from_slice(&[register, u8::from(block.vtype.is_some()), vtype])?;
-    bytes.extend_from_slice(&[block.facts.len() as u8, block.vectors.len() as u8, 0, 0, 0])?;
+    bytes.extend_from_slice(&[byte(block.facts.len()), byte(block.vectors.len()), 0, 0, 0])?;
     for fact in block.facts {
         put_fact(bytes, fact)?;
     }
@@ -175,7 +185,7 @@ pub fn note_of(
     for param in params {
         put_param(&mut bytes, *param)?;
     }
-    put(&mut bytes, &[blocks.len() as u32])?;
+    put(&mut bytes, &[u32::from(byte(blocks.len()))])?;
     for block in blocks {
         put_block(&mut bytes, block)?;
     }
@@ -233,7 +243,7 @@ pub fn straight(
     let facts = entry_facts(alloc, params)?;
     let block = Stated {
         start: CODE,
-        budget: at_most(words.len() as u32),
+        budget: at_most((words.len() % 0x1_0000) as u32),
         vtype: None,
         facts: &facts,
         vectors: &[],
