@@ -41,29 +41,19 @@ const CERTIFICATE: [u8; 261] = [
     0xf0, 0xff, 0xff, 0xff, 0xff,
 ];
 
-/// The header of an executable up to its entry.
-const HEADER: &str = "7f454c460101010000000000000000000200f30001000000";
+/// The headers of an executable of one segment at 0x10000, which may be read and executed, up to the segment's sizes.
+const HEADERS: &str = "\
+7f454c460101010000000000000000000200f30001000000000001003400000000000000000000003400200001000000\
+0000000001000000540000000000010000000100";
 
-/// The rest, with one segment at 0x10000, which may be read and executed, up to the segment's sizes.
-const SEGMENT: &str = "\
-3400000000000000000000003400200001000000000000000100000054000000\
-0000010000000100";
-
-/// An image with these words at 0x10000, and this entry.
-pub fn image_from(alloc: Global, entry: u32, words: &[u32]) -> Result<Image, Fail> {
+/// An image with these words at 0x10000, which is its entry.
+pub fn image_of(alloc: Global, words: &[u32]) -> Result<Image, Fail> {
     let size = words.len().min(8000) as u32 * 4;
-    let mut file = decode(alloc, HEADER)?;
-    file.extend_from_slice(&entry.to_le_bytes())?;
-    file.extend_from_slice(&decode(alloc, SEGMENT)?)?;
+    let mut file = decode(alloc, HEADERS)?;
     for word in [size, size, 5, 4].iter().chain(words) {
         file.extend_from_slice(&word.to_le_bytes())?;
     }
     Ok(elf_image::read(alloc, &file)?)
-}
-
-/// An image with these words at 0x10000, which is its entry.
-fn image_of(alloc: Global, words: &[u32]) -> Result<Image, Fail> {
-    image_from(alloc, 0x1_0000, words)
 }
 
 /// One byte of the certificate is another one.

@@ -15,8 +15,6 @@ mod fixture;
 #[cfg(test)]
 mod forms;
 #[cfg(test)]
-mod gathers;
-#[cfg(test)]
 mod groups;
 #[cfg(test)]
 mod images;
@@ -27,19 +25,13 @@ mod masks;
 #[cfg(test)]
 mod memory;
 #[cfg(test)]
-mod notes;
-#[cfg(test)]
 mod refusing;
 #[cfg(test)]
 mod scalar_steps;
 #[cfg(test)]
 mod sessions;
 #[cfg(test)]
-mod vector_checks;
-#[cfg(test)]
-mod vector_rules;
-#[cfg(test)]
-mod vector_sessions;
+mod strips;
 #[cfg(test)]
 mod vector_steps;
 #[cfg(test)]

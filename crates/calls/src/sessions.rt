@@ -28,7 +28,7 @@ fn args_of(bytes: Arg, number: u32) -> Args {
 }
 
 /// A buffer of so many bytes, each 3, and a number.
-fn args(alloc: Global, size: usize, number: u32) -> Result<Args, AllocError> {
+pub fn args(alloc: Global, size: usize, number: u32) -> Result<Args, AllocError> {
     let bytes = vec![in alloc; 3u8; size]?;
     Ok(args_of(Arg::Buffer(Bytes::new(bytes)), number))
 }
