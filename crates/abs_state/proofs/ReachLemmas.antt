@@ -66,9 +66,9 @@ pub falling_lies : (x size k m n first end : ℕ) → k + m ≡ 2 ^ 32 → x < 2
 falling_lies x size k m n first end e small above low high =
     let down : (i : ℕ) → i < n → k * i + k ≤ k * n = λ i l. next_below k i n l in
     let own : (i : ℕ) → i < n → (x + m * i) % 2 ^ 32 ≡ x - k * i = λ i l.
-        let d = down i l in
-        let t = taken_away k m i e in
-        residue (k * i) (m * i) i (omega (arith, d, above)) t in
+    let d = down i l in
+    let t = taken_away k m i e in
+    residue (k * i) (m * i) i (omega (arith, d, above)) t in
     record {
       low = λ i l. omega (arith, own i l, down i l, low, above);
       high = λ i l. omega (arith, own i l, high);
@@ -83,7 +83,7 @@ pub indexed_lies : (x lo hi size n first end : ℕ) (index : ℕ → ℕ) → 0 
     → LieWithin first end size n (λ i. x + index i)
 indexed_lies x lo hi size n first end index some above below low high fits =
     let own : (i : ℕ) → i < n → (x + index i) % 2 ^ 32 ≡ x + index i = λ i l.
-        own_residue (x + index i) size end some (omega (arith, below i l, high)) fits in
+    own_residue (x + index i) size end some (omega (arith, below i l, high)) fits in
     record {
       low = λ i l. omega (arith, own i l, above i l, low);
       high = λ i l. omega (arith, own i l, below i l, high);

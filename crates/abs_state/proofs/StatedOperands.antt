@@ -209,7 +209,7 @@ module _ (vlenb : ℕ) (s : Setup) (hart : Hart) (file : List ℕ) (numbers : Nu
     element_lies =
         subst
         (λ n. IsWithin (2 ^ eew_bits s.vtype.sew eew)
-            (option_map_or fact_range (find (is_source vl_range first (eew_bits s.vtype.sew eew) (group_count s.vtype eew)) facts) (all_of_bits n)) x)
+        (option_map_or fact_range (find (is_source vl_range first (eew_bits s.vtype.sew eew) (group_count s.vtype eew)) facts) (all_of_bits n)) x)
         (sym (min_low (eew_bits s.vtype.sew eew) inside.width))
         (by_found _
         (find_holds (is_source vl_range first (eew_bits s.vtype.sew eew) (group_count s.vtype eew)) (IsTrueOf vlenb s.vl file) facts h.holds))

@@ -149,7 +149,6 @@ accesses_at vlenb setup direction place values base stride file =
     accesses (right_of direction) (data_at vlenb setup place values).bytes (place_at vlenb setup place base stride file)
     (active_of vlenb (is_masked place) (data_at vlenb setup place values).vl file)
 
-
 -- ---- by place
 
 -- Where a place's bytes may lie, and vl is not 0, its elements lie there.

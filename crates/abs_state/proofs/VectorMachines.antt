@@ -121,7 +121,7 @@ module _ (parts : Parts) (e : Setting) (n : ℕ) (a : AbstractView) (s : Machine
 
   done_held : (word : ℕ) (insn : Insn) → is_computing insn ≡ true → FieldsFit insn → is_legal s.vectors.config insn ≡ true → legal_check a.vtype insn ≡ Ok tt
       → IsDone a.numbers (vector_numbers insn a.numbers) held.numbers s.hart.pc s.vectors.config s.memory
-          (vector_step (vlenb_in e) insn word s.hart s.vectors s.memory)
+      (vector_step (vlenb_in e) insn word s.hart s.vectors s.memory)
       → MachineIsHeld e n (next_state insn) (with_vector (vector_step (vlenb_in e) insn word s.hart s.vectors s.memory))
   done_held word insn c f legal l done =
       let known = held.known in

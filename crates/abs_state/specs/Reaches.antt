@@ -132,4 +132,4 @@ unfoldable pub transfer_check : ℕ → Vtype → NumbersView → List VectorFac
 transfer_check vlenb t s facts zones insn =
     if not (is_whole insn.place) && ((value_at s 32).range.hi == 0) then Ok tt
     else reach_allowed insn.direction
-        (reach_at vlenb t s facts insn.place (value_at s insn.rs1)) zones
+    (reach_at vlenb t s facts insn.place (value_at s insn.rs1)) zones

@@ -199,13 +199,7 @@ impl<A: Allocator> Numbers<A> {
 
     /// Elements as many bytes apart as a stride says, where it is known: a signed number, which is given by its bits.
     #[tactic(auto, unfolding(crate::specs::Reaches::strided_reach))]
-    fn strided_reach(
-        &self,
-        size: u32,
-        stride: Option<u32>,
-        x: &Value,
-        vl: &Value,
-    ) -> Option<Reach>
+    fn strided_reach(&self, size: u32, stride: Option<u32>, x: &Value, vl: &Value) -> Option<Reach>
         requires { size ≤ 4 }
         ensures { result ≡ strided_reach_of self.now size stride x.now vl.now }
     {
