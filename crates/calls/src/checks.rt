@@ -47,7 +47,7 @@ const HEADERS: &str = "\
 0000000001000000540000000000010000000100";
 
 /// An image with these words at 0x10000, which is its entry.
-pub fn image_of(alloc: Global, words: &[u32]) -> Result<Image, Fail> {
+pub(crate) fn image_of(alloc: Global, words: &[u32]) -> Result<Image, Fail> {
     let size = words.len().min(8000) as u32 * 4;
     let mut file = decode(alloc, HEADERS)?;
     for word in [size, size, 5, 4].iter().chain(words) {
@@ -75,7 +75,7 @@ fn certificate_with(alloc: Global, changes: &[Change]) -> Result<Certificate, Fa
 }
 
 /// The kernel and its certificate.
-pub fn sum(alloc: Global) -> Result<(Image, Certificate), Fail> {
+pub(crate) fn sum(alloc: Global) -> Result<(Image, Certificate), Fail> {
     Ok((image_of(alloc, &SUM)?, certificate_with(alloc, &[])?))
 }
 
@@ -96,7 +96,7 @@ fn outcome(
 }
 
 /// The kernel, accepted with its certificate.
-pub fn accepted_sum(alloc: Global) -> Result<Accepted, Fail> {
+pub(crate) fn accepted_sum(alloc: Global) -> Result<Accepted, Fail> {
     outcome(alloc, 0, SUM[0], &[])?.map_err(|_| Fail::from("refused"))
 }
 

@@ -28,13 +28,13 @@ fn args_of(bytes: Arg, number: u32) -> Args {
 }
 
 /// A buffer of so many bytes, each 3, and a number.
-pub fn args(alloc: Global, size: usize, number: u32) -> Result<Args, AllocError> {
+pub(crate) fn args(alloc: Global, size: usize, number: u32) -> Result<Args, AllocError> {
     let bytes = vec![in alloc; 3u8; size]?;
     Ok(args_of(Arg::Buffer(Bytes::new(bytes)), number))
 }
 
 /// Asserts that no session is opened, and why.
-pub fn assert_refused<const VLENB: usize>(
+pub(crate) fn assert_refused<const VLENB: usize>(
     rt: &(impl Abort + AllocGlobal),
     accepted: &Accepted,
     args: Args,

@@ -26,7 +26,17 @@ pub fn check_image<S: Store, O: Write, E: Write>(
     output: &mut O,
     errors: &mut E,
 ) -> Status {
-    match check_at(alloc, path, store, output) {
+    let done = check_at(alloc, path, store, output);
+    told(done, output, errors)
+}
+
+/// The status of what was done, or of the reason to stop, which is told.
+fn told<O: Write, E: Write>(
+    done: Result<Status, Stop<'_>>,
+    output: &mut O,
+    errors: &mut E,
+) -> Status {
+    match done {
         Ok(status) => status,
         Err(stop) => stop.tell(output, errors),
     }
@@ -60,10 +70,10 @@ pub fn run_job<S: Store, O: Write, E: Write>(
     errors: &mut E,
 ) -> Status {
     match read_table(alloc, path, store) {
-        Ok(table) => match run_table(alloc, &table, store, output) {
-            Ok(status) => status,
-            Err(stop) => stop.tell(output, errors),
-        },
+        Ok(table) => {
+            let done = run_table(alloc, &table, store, output);
+            told(done, output, errors)
+        }
         Err(stop) => stop.tell(output, errors),
     }
 }
@@ -96,10 +106,10 @@ pub fn try_job<S: Store, O: Write, E: Write>(
     errors: &mut E,
 ) -> Status {
     match read_table(alloc, path, store) {
-        Ok(table) => match try_table(alloc, &table, store, output) {
-            Ok(status) => status,
-            Err(stop) => stop.tell(output, errors),
-        },
+        Ok(table) => {
+            let done = try_table(alloc, &table, store, output);
+            told(done, output, errors)
+        }
         Err(stop) => stop.tell(output, errors),
     }
 }
