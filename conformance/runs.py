@@ -205,9 +205,9 @@ class Run:
             steps -= 1
         return end, steps, self.changes(x, areas, pc, r.x, r.v, r.vl, r.vtype, r.vxrm, r.vxsat, after)
 
-    def row(self, end, steps, out):
+    def row(self, *after):
         args = ['-' if a is None else 's%08x' % a if isinstance(a, int) else a[0] + a[1].hex() for a in self.args]
-        return ' '.join([str(self.vlenb), 'ones' if self.ones else 'keep', str(self.most), self.image.hex()] + args + ['=', end, str(steps), out])
+        return ' '.join([str(self.vlenb), 'ones' if self.ones else 'keep', str(self.most), self.image.hex()] + args + ['='] + [str(a) for a in after])
 
 
 r = lambda data: ('r', bytes(data))

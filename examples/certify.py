@@ -93,4 +93,5 @@ def main():
         (folder / f"{folder.name}-{vlen}.elf").write_bytes(with_note(built, certificate(stated, vlen)))
 
 
-main()
+if __name__ == "__main__":
+    main()

@@ -3,6 +3,7 @@
 #![tactic(auto)]
 
 mod arguments;
+mod checks;
 mod draws;
 mod fields;
 mod images;
@@ -10,6 +11,7 @@ mod legality;
 mod listing;
 mod memory;
 mod runs;
+mod sessions;
 mod state;
 mod step;
 mod steps;
@@ -17,9 +19,11 @@ mod table;
 mod words;
 
 use anyhow::Result;
+use checks::Checks;
 use images::Images;
 use legality::Legality;
 use runs::Runs;
+use sessions::Sessions;
 use steps::Steps;
 use table::run_table;
 use words::Words;
@@ -30,5 +34,7 @@ fn main(rt: HostRuntime) -> Result<()> {
     run_table(&rt, "steps", "steps.txt", &mut Steps::new(rt.alloc())?)?;
     run_table(&rt, "images", "images.txt", &mut Images)?;
     run_table(&rt, "runs", "runs.txt", &mut Runs)?;
+    run_table(&rt, "checks", "checks.txt", &mut Checks)?;
+    run_table(&rt, "sessions", "sessions.txt", &mut Sessions)?;
     Ok(())
 }

@@ -8,7 +8,7 @@ use crate::state::{Difference, Part, State, differ, vector_bytes};
 use crate::step::Named;
 use crate::table::Table;
 use region_mem::{Arg, Args, Mode, Parameters};
-use sandbox_run::{Final, Outcome, try_run};
+use sandbox_run::{Outcome, Registers, try_run};
 use scalar_core::EXIT;
 use std::alloc::Global;
 use vreg_groups::{Agnostic, Vconfig, Vlen};
@@ -22,14 +22,22 @@ pub struct Runs;
 
 /// A row: what is run on what, and the text of what comes after.
 #[derive(Clone, Copy)]
-struct Case<'a> {
-    vlen: Vlen,
-    agnostic: Agnostic,
-    max: u64,
-    image: &'a str,
+pub struct Case<'a> {
+    pub vlen: Vlen,
+    pub agnostic: Agnostic,
+    pub max: u64,
+    pub image: &'a str,
     /// The texts of the arguments, by place.
     arguments: &'a str,
     after: &'a str,
+}
+
+/// What a run left: how it ended, as the row says it, its registers and its arguments.
+#[derive(Drop)]
+pub struct Last {
+    pub end: String,
+    pub state: State,
+    pub args: Args,
 }
 
 impl Table for Runs {
@@ -43,8 +51,8 @@ impl Table for Runs {
 }
 
 /// The case of a row.
-fn read_case(row: &str) -> Result<Case<'_>, RowError> {
-    let (mut fields, after) = row.split_once(" =").ok_or(RowError::NoRow)?;
+pub(crate) fn read_case(row: &str) -> Result<Case<'_>, RowError> {
+    let (mut fields, after) = row.split_once(" = ").ok_or(RowError::NoRow)?;
     Ok(Case {
         vlen: vlen(next(&mut fields))?,
         agnostic: setting(next(&mut fields))?,
@@ -64,24 +72,8 @@ fn buffer_text(argument: &str) -> Option<(Mode, &str)> {
     Some((Mode::ReadWrite, text))
 }
 
-/// The arguments.
-fn given(alloc: Global, arguments: &str) -> Result<Given, RowError> {
-    let mut given = Given::none();
-    for (place, argument) in arguments.split(' ').enumerate() {
-        if place >= 8 {
-            return Err(RowError::NoRow);
-        }
-        if let Some((mode, text)) = buffer_text(argument) {
-            given.put_buffer(place, mode, bytes(alloc, text)?);
-        } else if let Some(number) = argument.strip_prefix("s") {
-            given.put_scalar(place, hex(number)?);
-        }
-    }
-    Ok(given)
-}
-
 /// The state in which a run starts, but for pc.
-fn start(parameters: &Parameters, given: &Given) -> State {
+pub(crate) fn start(parameters: &Parameters, given: &Given) -> State {
     let mut state = State::new(0);
     state.x[1] = EXIT;
     state.x[2] = STACK_END;
@@ -103,35 +95,27 @@ fn run<const VLENB: usize>(alloc: Global, case: &Case<'_>) -> Result<Option<Stri
         Ok(image) => image,
         Err(error) => return Ok(Some(error.to_string(alloc)?)),
     };
-    let given = given(alloc, case.arguments)?;
+    let given = case.given(alloc)?;
     let parameters = Parameters::new(given.params).ok_or(RowError::NoRow)?;
     let expected = start(&parameters, &given);
     let Given { params: _, args } = given;
     let agnostic = case.agnostic;
     let (end, last) = match try_run::<VLENB>(alloc, &image, &parameters, args, agnostic, case.max) {
-        Ok(Outcome::Ended(last)) => (format!(in alloc; " ended {}", last.steps)?, last),
-        Ok(Outcome::OutOfSteps(last)) => (format!(in alloc; " steps {}", last.steps)?, last),
+        Ok(Outcome::Ended(last)) => (format!(in alloc; "ended {}", last.steps)?, last),
+        Ok(Outcome::OutOfSteps(last)) => (format!(in alloc; "steps {}", last.steps)?, last),
         Ok(Outcome::Trapped(fault, last)) => {
             let fault = Named(fault);
-            (format!(in alloc; " trapped {fault} {}", last.steps)?, last)
+            (format!(in alloc; "trapped {fault} {}", last.steps)?, last)
         }
         Err((error, _)) => return Ok(Some(error.to_string(alloc)?)),
     };
-    let Some(outs) = case.after.strip_prefix(end.as_str()) else {
-        let after = case.after;
-        return Ok(Some(format!(in alloc; "should be{after}, came{end}")?));
-    };
-    match difference::<VLENB>(alloc, expected, case.arguments, outs, last)? {
-        Some(difference) => Ok(Some(format!(in alloc; "{difference}")?)),
-        None => Ok(None),
-    }
+    let state = last_state(&last.registers, vector_bytes(&last.vectors));
+    let args = last.args;
+    case.difference::<VLENB>(alloc, expected, &Last { end, state, args })
 }
 
 /// The registers in the end.
-fn last_state<const VLENB: usize>(last: &Final<VLENB>) -> State
-    requires { IsVlenb VLENB }
-{
-    let registers = &last.registers;
+pub(crate) fn last_state(registers: &Registers, v: [u8; 1024]) -> State {
     State {
         pc: registers.pc,
         x: registers.x,
@@ -141,32 +125,77 @@ fn last_state<const VLENB: usize>(last: &Final<VLENB>) -> State
         },
         vxrm: registers.vxrm,
         vxsat: registers.vxsat,
-        v: vector_bytes(&last.vectors),
+        v,
     }
 }
 
-/// In what the last state is not as the row says.
-fn difference<const VLENB: usize>(
-    alloc: Global,
-    mut expected: State,
-    arguments: &str,
-    outs: &str,
-    last: Final<VLENB>,
-) -> Result<Option<Difference>, RowError>
-    requires { IsVlenb VLENB }
-{
-    for field in outs.split(' ').filter(|field| !field.is_empty()) {
-        let (name, value) = field.split_once('=').ok_or(RowError::NoRow)?;
-        // Buffers are compared below; an outcome shows no other memory.
-        let is_memory = name.starts_with("a") || name.starts_with("m");
-        if !is_memory && !expected.set(alloc, VLENB, name, value)? {
-            return Err(RowError::NoRow);
+impl Case<'_> {
+    /// The arguments.
+    pub(crate) fn given(&self, alloc: Global) -> Result<Given, RowError> {
+        let mut given = Given::none();
+        for (place, argument) in self.arguments.split(' ').enumerate() {
+            if place >= 8 {
+                return Err(RowError::NoRow);
+            }
+            if let Some((mode, text)) = buffer_text(argument) {
+                given.put_buffer(place, mode, bytes(alloc, text)?);
+            } else if let Some(number) = argument.strip_prefix("s") {
+                given.put_scalar(place, hex(number)?);
+            }
+        }
+        Ok(given)
+    }
+
+    /// What is told where the row says another end than this one.
+    pub(crate) fn other_end(&self, alloc: Global, end: &str) -> Result<Option<String>, RowError> {
+        let after = self.after;
+        if after == end {
+            return Ok(None);
+        }
+        Ok(Some(format!(in alloc; "should be {after}, came {end}")?))
+    }
+
+    /// In what a run that started in the state `expected` is not as the row says.
+    pub(crate) fn difference<const VLENB: usize>(
+        &self,
+        alloc: Global,
+        expected: State,
+        last: &Last,
+    ) -> Result<Option<String>, RowError>
+        requires { IsVlenb VLENB }
+    {
+        match self.after.strip_prefix(last.end.as_str()) {
+            None => self.other_end(alloc, last.end.as_str()),
+            Some(outs) => match self.left::<VLENB>(alloc, expected, outs, last)? {
+                Some(difference) => Ok(Some(format!(in alloc; "{difference}")?)),
+                None => Ok(None),
+            },
         }
     }
-    if let Some(difference) = expected.difference(&last_state(&last), VLENB) {
-        return Ok(Some(difference));
+
+    /// In what the last state and the arguments are not as the row's fields `outs` say.
+    fn left<const VLENB: usize>(
+        &self,
+        alloc: Global,
+        mut expected: State,
+        outs: &str,
+        last: &Last,
+    ) -> Result<Option<Difference>, RowError>
+        requires { IsVlenb VLENB }
+    {
+        for field in outs.split(' ').filter(|field| !field.is_empty()) {
+            let (name, value) = field.split_once('=').ok_or(RowError::NoRow)?;
+            // Buffers are compared below; what comes of a run shows no other memory.
+            let is_memory = name.starts_with("a") || name.starts_with("m");
+            if !is_memory && !expected.set(alloc, VLENB, name, value)? {
+                return Err(RowError::NoRow);
+            }
+        }
+        if let Some(difference) = expected.difference(&last.state, VLENB) {
+            return Ok(Some(difference));
+        }
+        arguments_difference(alloc, self.arguments, outs, &last.args)
     }
-    arguments_difference(alloc, arguments, outs, &last.args)
 }
 
 /// The first byte of the buffers that is not as the row says.

@@ -1,0 +1,120 @@
+//! Rows `VLENB FILE = ANSWER`: what the check of an image against the certificate in its note answers.
+
+use crate::fields::{RowError, bytes, next, vlen};
+use crate::table::Table;
+use block_checker::{Accepted, CheckError, check};
+use cert_note::CertError;
+use elf_image::{ElfError, Image};
+use std::alloc::Global;
+use std::fmt;
+use vreg_groups::Vlen;
+
+/// The table of checks.
+#[derive(Drop)]
+pub struct Checks;
+
+/// Why a file is not accepted.
+#[derive(Clone, Copy)]
+pub enum Refusal {
+    Image(ElfError),
+    NoCertificate,
+    Certificate(CertError),
+    Check(CheckError),
+}
+
+impl From<ElfError> for Refusal {
+    fn from(error: ElfError) -> Refusal {
+        Refusal::Image(error)
+    }
+}
+
+impl From<CertError> for Refusal {
+    fn from(error: CertError) -> Refusal {
+        Refusal::Certificate(error)
+    }
+}
+
+impl fmt::Display for Refusal {
+    fn fmt<W: fmt::Write>(&self, f: &mut fmt::Formatter<W>) -> fmt::Result {
+        match self {
+            Refusal::Image(error) => write!(f, "image {error:?}"),
+            Refusal::NoCertificate => write!(f, "no certificate"),
+            Refusal::Certificate(error) => write!(f, "certificate {error:?}"),
+            Refusal::Check(error) => {
+                let (name, pc) = parts(*error);
+                match pc {
+                    Some(pc) => write!(f, "{name} {pc:08x}"),
+                    None => write!(f, "{name}"),
+                }
+            }
+        }
+    }
+}
+
+/// An error's name and its address.
+fn parts(error: CheckError) -> (&'static str, Option<u32>) {
+    match error {
+        CheckError::WrongVlen => ("WrongVlen", None),
+        CheckError::NoEntryBlock => ("NoEntryBlock", None),
+        CheckError::NotCode(pc) => ("NotCode", Some(pc)),
+        CheckError::IllegalWord(pc) => ("IllegalWord", Some(pc)),
+        CheckError::VtypeUnknown(pc) => ("VtypeUnknown", Some(pc)),
+        CheckError::AccessNotProved(pc) => ("AccessNotProved", Some(pc)),
+        CheckError::ReadOnly(pc) => ("ReadOnly", Some(pc)),
+        CheckError::TargetNotABlock(pc) => ("TargetNotABlock", Some(pc)),
+        CheckError::IntervalNotProved(pc) => ("IntervalNotProved", Some(pc)),
+        CheckError::EqualityNotProved(pc) => ("EqualityNotProved", Some(pc)),
+        CheckError::VectorFactNotProved(pc) => ("VectorFactNotProved", Some(pc)),
+        CheckError::BudgetNotProved(pc) => ("BudgetNotProved", Some(pc)),
+        CheckError::BlockTooLong(pc) => ("BlockTooLong", Some(pc)),
+        CheckError::NoMemory => ("NoMemory", None),
+    }
+}
+
+fn certificate_of(image: &Image) -> Result<&[u8], Refusal> {
+    image.certificate().ok_or(Refusal::NoCertificate)
+}
+
+/// The image of a file with the certificate in its note, where they pass the check: at a length of vector registers, or at
+/// the certificate's own where that is `None`.
+pub(crate) fn accept(alloc: Global, file: &[u8], vlen: Option<Vlen>) -> Result<Accepted, Refusal> {
+    let image = elf_image::read(alloc, file)?;
+    let certificate = cert_note::read(alloc, certificate_of(&image)?)?;
+    let vlen = vlen.unwrap_or(certificate.contents().vlen);
+    match check(alloc, image, certificate, vlen) {
+        Ok(accepted) => Ok(accepted),
+        Err((error, _image, _certificate)) => Err(Refusal::Check(error)),
+    }
+}
+
+/// The name of the refusal, or `accepted` and the budget of the block at the entry.
+fn text_of(alloc: Global, checked: Result<Accepted, Refusal>) -> Result<String, RowError> {
+    let accepted = match checked {
+        Ok(accepted) => accepted,
+        Err(refusal) => return Ok(format!(in alloc; "{refusal}")?),
+    };
+    let entry = accepted.image().entry();
+    for block in &accepted.certificate().contents().blocks {
+        if block.start == entry {
+            let budget = block.budget;
+            return Ok(format!(in alloc;
+                "accepted {} {} {}",
+                budget.constant, budget.factor, budget.register
+            )?);
+        }
+    }
+    Err(RowError::NoRow)
+}
+
+impl Table for Checks {
+    fn difference(&mut self, alloc: Global, row: &str) -> Result<Option<String>, RowError> {
+        let (mut fields, expected) = row.split_once(" = ").ok_or(RowError::NoRow)?;
+        let vlen = vlen(next(&mut fields))?;
+        let file = bytes(alloc, next(&mut fields))?;
+        let came = text_of(alloc, accept(alloc, file.as_slice(), Some(vlen)))?;
+        if came.as_str() == expected {
+            return Ok(None);
+        }
+        Ok(Some(format!(in alloc; "should be {expected}, came {came}")?))
+    }
+}

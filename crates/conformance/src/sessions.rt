@@ -1,0 +1,64 @@
+//! Rows `VLENB SETTING MAX FILE A0 .. A7 = ANSWER`: what comes of a run of an image that its certificate lets pass.
+
+ghost use Rattle.vreg_groups.specs.VectorLength.{IsVlenb};
+
+use crate::arguments::Given;
+use crate::checks::accept;
+use crate::fields::{RowError, bytes};
+use crate::runs::{Case, Last, last_state, read_case, start};
+use crate::table::Table;
+use rv_decode::Reg;
+use sandbox_run::Session;
+use std::alloc::Global;
+use vreg_groups::Vlen;
+
+/// The table of runs of accepted images.
+#[derive(Drop)]
+pub struct Sessions;
+
+impl Table for Sessions {
+    fn difference(&mut self, alloc: Global, row: &str) -> Result<Option<String>, RowError> {
+        let case = read_case(row)?;
+        match case.vlen {
+            Vlen::V128 => run::<16>(alloc, &case),
+            Vlen::V256 => run::<32>(alloc, &case),
+        }
+    }
+}
+
+/// Checks the image at its certificate's own length of vector registers, and runs it at the row's.
+fn run<const VLENB: usize>(alloc: Global, case: &Case<'_>) -> Result<Option<String>, RowError>
+    requires { IsVlenb VLENB }
+{
+    let file = bytes(alloc, case.image)?;
+    let accepted = match accept(alloc, file.as_slice(), None) {
+        Ok(accepted) => accepted,
+        Err(refusal) => return case.other_end(alloc, format!(in alloc; "{refusal}")?.as_str()),
+    };
+    let given = case.given(alloc)?;
+    let expected = start(accepted.parameters(), &given);
+    let Given { params: _, args } = given;
+    match Session::<VLENB>::open(alloc, &accepted, args, case.agnostic, case.max) {
+        Err((error, _args)) => case.other_end(alloc, format!(in alloc; "{error:?}")?.as_str()),
+        Ok(mut session) => {
+            let end = format!(in alloc; "ended {}", session.run())?;
+            let state = last_state(&session.registers(), vectors_of(&session));
+            let args = session.close();
+            case.difference::<VLENB>(alloc, expected, &Last { end, state, args })
+        }
+    }
+}
+
+/// The bytes of all vector registers, and zeros behind them.
+fn vectors_of<const VLENB: usize>(session: &Session<VLENB>) -> [u8; 1024]
+    requires { IsVlenb VLENB }
+{
+    let mut bytes = [0; 1024];
+    for number in 0..32u8 {
+        let to = &mut bytes[usize::from(number) * VLENB..];
+        for (to, from) in to.iter_mut().zip(session.vector(Reg::new(number))) {
+            *to = *from;
+        }
+    }
+    bytes
+}
