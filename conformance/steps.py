@@ -3,6 +3,7 @@
 Usage: steps.py > steps.txt. Every result is that of qemu-riscv32; model.py has to say the same, but for the cases of `by_hand`, each with the section by which
 this profile differs from what qemu does or can show; there the result is the model's.
 """
+import itertools
 import os
 import re
 import struct
@@ -404,6 +405,28 @@ def access_cases(per):
                             add(vlenb, ones, vtype, vl, seed(), i.encode(vm=vm, **f), x=x, v=v)
 
 
+# Lengths about those of whole chunks of 16 bytes, and the greatest.
+LENGTHS = (0, 1, 15, 16, 17, 31, 32, 33, 255, 256)
+
+
+def length_cases():
+    """Each operation at each length that a group of 8 registers of 256 bits has room for, its forms in turn; of 4 registers where it widens."""
+    stems = {}
+    for i in VECTOR:
+        if i.base & 0x7f == 0x57:
+            stems.setdefault(i.stem, []).extend((i, vm) for vm in i.vms)
+    for forms in stems.values():
+        turn = itertools.cycle(forms)
+        for sew_bits, length in itertools.product(range(3), LENGTHS):
+            i, vm = next(turn)
+            for low in (sew_bits << 3 | 3, sew_bits << 3 | 2):
+                vtype = low | rng.randrange(4) << 6
+                f = None if length > vlmax_of(vtype, 32) else fields_of(i, vtype, vm, 'apart')
+                if f is not None:
+                    add(32, length % 2 == 0, vtype, length, seed(), i.encode(vm=vm, **f), vxrm=rng.randrange(4) if i.shape in ('fixed', 'narrow') else 0)
+                    break
+
+
 def main():
     scalar_cases()
     csr_cases()
@@ -412,6 +435,7 @@ def main():
     access_cases(1)
     for args, more in chosen.cases():
         add(*args, **more)
+    length_cases()
     groups = {}
     for n, c in enumerate(cases):
         groups.setdefault((c.vlenb, c.ones), []).append(n)

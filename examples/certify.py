@@ -93,5 +93,4 @@ def main():
         (folder / f"{folder.name}-{vlen}.elf").write_bytes(with_note(built, certificate(stated, vlen)))
 
 
-if __name__ == "__main__":
-    main()
+main()

@@ -29,7 +29,7 @@ pub struct Case<'a> {
     pub image: &'a str,
     /// The texts of the arguments, by place.
     arguments: &'a str,
-    after: &'a str,
+    pub after: &'a str,
 }
 
 /// What a run left: how it ended, as the row says it, its registers and its arguments.
@@ -185,7 +185,7 @@ impl Case<'_> {
     {
         for field in outs.split(' ').filter(|field| !field.is_empty()) {
             let (name, value) = field.split_once('=').ok_or(RowError::NoRow)?;
-            // Buffers are compared below; what comes of a run shows no other memory.
+            // Buffers are compared below; an outcome shows no other memory.
             let is_memory = name.starts_with("a") || name.starts_with("m");
             if !is_memory && !expected.set(alloc, VLENB, name, value)? {
                 return Err(RowError::NoRow);

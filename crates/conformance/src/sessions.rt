@@ -4,8 +4,9 @@ ghost use Rattle.vreg_groups.specs.VectorLength.{IsVlenb};
 
 use crate::arguments::Given;
 use crate::checks::accept;
-use crate::fields::{RowError, bytes};
+use crate::fields::{RowError, bytes, hex};
 use crate::runs::{Case, Last, last_state, read_case, start};
+use crate::state::{Difference, Part, differ};
 use crate::table::Table;
 use rv_decode::Reg;
 use sandbox_run::Session;
@@ -42,6 +43,9 @@ fn run<const VLENB: usize>(alloc: Global, case: &Case<'_>) -> Result<Option<Stri
         Err((error, _args)) => case.other_end(alloc, format!(in alloc; "{error:?}")?.as_str()),
         Ok(mut session) => {
             let end = format!(in alloc; "ended {}", session.run())?;
+            if let Some(difference) = memory_difference(alloc, &session, case)? {
+                return Ok(Some(format!(in alloc; "{difference}")?));
+            }
             let state = last_state(&session.registers(), vectors_of(&session));
             let args = session.close();
             case.difference::<VLENB>(alloc, expected, &Last { end, state, args })
@@ -61,4 +65,29 @@ fn vectors_of<const VLENB: usize>(session: &Session<VLENB>) -> [u8; 1024]
         }
     }
     bytes
+}
+
+/// The first byte of memory that is not as a field `mADDRESS=BYTES` of the row says.
+fn memory_difference<const VLENB: usize>(
+    alloc: Global,
+    session: &Session<VLENB>,
+    case: &Case<'_>,
+) -> Result<Option<Difference>, RowError>
+    requires { IsVlenb VLENB }
+{
+    for field in case.after.split(' ') {
+        if let Some(field) = field.strip_prefix("m")
+            && let Some((address, expected)) = field.split_once('=')
+        {
+            let mut address = hex(address)?;
+            for byte in bytes(alloc, expected)?.as_slice() {
+                let came = session.peek(address).map_or(u32::MAX, u32::from);
+                if u32::from(*byte) != came {
+                    return Ok(differ(Part::Memory(address), u32::from(*byte), came));
+                }
+                address = address.wrapping_add(1);
+            }
+        }
+    }
+    Ok(None)
 }
