@@ -1,11 +1,11 @@
-//! A vector kernel that is accepted, and small changes of it that are refused: a loop over strips, which raises each word of a
-//! buffer by one. Its words come from the LLVM assembler, its certificate is the one that was laid out by hand.
+//! A vector kernel that is accepted: a loop over strips, which raises each word of a buffer by one. Its words come from the LLVM
+//! assembler, its certificate is the one that was laid out by hand.
 ghost use Rattle.vreg_groups.specs.VectorLength.{IsVlenb};
 
 use crate::certificates::BYTES;
 use crate::checks::image_of;
 use crate::sessions::{args, assert_refused};
-use block_checker::{Accepted, CheckError, check};
+use block_checker::{Accepted, check};
 use cert_note::Vlen;
 use region_mem::Arg;
 use sandbox_run::{OpenError, Session};
@@ -29,45 +29,16 @@ const RAISE: [u32; 10] = [
     0x0000_8067,
 ];
 
-/// The kernel with another word at a place, checked with its certificate, of which one byte is another one.
-fn outcome(
-    alloc: Global,
-    vlen: Vlen,
-    place: usize,
-    word: u32,
-    at: usize,
-    byte: u8,
-) -> Result<Result<Accepted, CheckError>, Fail> {
-    let mut words = RAISE;
-    if let Some(old) = words.get_mut(place) {
-        *old = word;
-    }
+/// The kernel, accepted with its certificate for a length of vector registers.
+fn accepted_raise(alloc: Global, vlen: Vlen) -> Result<Accepted, Fail> {
     let mut bytes = Vec::from_slice(alloc, &BYTES)?;
     bytes[2] = match vlen {
         Vlen::V128 => 1,
         Vlen::V256 => 2,
     };
-    if let Some(old) = bytes.get_mut(at) {
-        *old = byte;
-    }
-    let image = image_of(alloc, &words)?;
     let certificate = cert_note::read(alloc, &bytes)?;
-    Ok(check(alloc, image, certificate, vlen).map_err(|refused| refused.0))
-}
-
-/// The kernel, accepted for a length of vector registers.
-fn accepted_raise(alloc: Global, vlen: Vlen) -> Result<Accepted, Fail> {
-    outcome(alloc, vlen, 0, RAISE[0], 0, BYTES[0])?.map_err(|_| Fail::from("refused"))
-}
-
-/// The error of the kernel with another word at a place.
-fn with_word(alloc: Global, place: usize, word: u32) -> Result<Option<CheckError>, Fail> {
-    Ok(outcome(alloc, Vlen::V256, place, word, 0, BYTES[0])?.err())
-}
-
-/// The error of the kernel with one byte of its certificate changed.
-fn with_byte(alloc: Global, at: usize, byte: u8) -> Result<Option<CheckError>, Fail> {
-    Ok(outcome(alloc, Vlen::V256, 0, RAISE[0], at, byte)?.err())
+    let image = image_of(alloc, &RAISE)?;
+    check(alloc, image, certificate, vlen).map_err(|_| Fail::from("refused"))
 }
 
 #[test]
@@ -78,48 +49,6 @@ fn accepts_a_loop_over_strips(rt: HostRuntime) -> Result<(), Fail> {
         assert_eq!(rt; accepted.bound(&[0, 0, 0, 0, 0, 0, 0, 0]), 2);
         assert_eq!(rt; accepted.bound(&[7, 1024, 7, 7, 7, 7, 7, 7]), 8194);
     }
-    Ok(())
-}
-
-#[test]
-fn refuses_other_vector_words(rt: HostRuntime) -> Result<(), Fail> {
-    let alloc = rt.alloc();
-    // nop: no vector type is known
-    let error = with_word(alloc, 1, 0x0000_0013)?;
-    assert_eq!(rt; error, Some(CheckError::VtypeUnknown(0x1_0008)));
-    // vsetvli t0,x0,e32,m1,ta,ma: vl is VLMAX, which may be more than is left
-    let error = with_word(alloc, 1, 0x0d00_72d7)?;
-    assert_eq!(rt; error, Some(CheckError::AccessNotProved(0x1_0008)));
-    // vlse32.v v8,(a0),a1: the stride is not known
-    let error = with_word(alloc, 2, 0x0ab5_6407)?;
-    assert_eq!(rt; error, Some(CheckError::AccessNotProved(0x1_0008)));
-    // vluxei32.v v8,(a0),v16: nothing is known of the indices
-    let error = with_word(alloc, 2, 0x0705_6407)?;
-    assert_eq!(rt; error, Some(CheckError::AccessNotProved(0x1_0008)));
-    // vadd.vi v0,v0,1,v0.t: it has its mask for a destination
-    let error = with_word(alloc, 3, 0x0000_b057)?;
-    assert_eq!(rt; error, Some(CheckError::IllegalWord(0x1_000c)));
-    // vmv2r.v v9,v8: the group is not at a multiple of its size
-    let error = with_word(alloc, 3, 0x9e80_b4d7)?;
-    assert_eq!(rt; error, Some(CheckError::IllegalWord(0x1_000c)));
-    // slli t1,t0,1
-    let error = with_word(alloc, 5, 0x0012_9313)?;
-    assert_eq!(rt; error, Some(CheckError::EqualityNotProved(0x1_0020)));
-    Ok(())
-}
-
-#[test]
-fn refuses_other_vector_certificates(rt: HostRuntime) -> Result<(), Fail> {
-    let alloc = rt.alloc();
-    // a buffer to read
-    let error = with_byte(alloc, 5, 1)?;
-    assert_eq!(rt; error, Some(CheckError::ReadOnly(0x1_0010)));
-    // a buffer of 3840 bytes
-    let error = with_byte(alloc, 9, 0x0f)?;
-    assert_eq!(rt; error, Some(CheckError::AccessNotProved(0x1_0008)));
-    // x11 from 0 on in the loop, so that vl may be 0
-    let error = with_byte(alloc, 222, 0)?;
-    assert_eq!(rt; error, Some(CheckError::BudgetNotProved(0x1_0020)));
     Ok(())
 }
 
