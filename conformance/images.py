@@ -156,11 +156,16 @@ def order_rows():
         row(whole(patches=[patch for _, patch in faults[place:]]), name)
 
 
-for line in __doc__.split("\n")[4:]:
-    print(f"# {line}".rstrip())
-row(whole(), "read", bytes([1, 2, 3, 4]))
-header_rows()
-segment_rows()
-note_rows()
-order_rows()
-print("\n".join(ROWS))
+def main():
+    for line in __doc__.split("\n")[4:]:
+        print(f"# {line}".rstrip())
+    row(whole(), "read", bytes([1, 2, 3, 4]))
+    header_rows()
+    segment_rows()
+    note_rows()
+    order_rows()
+    print("\n".join(ROWS))
+
+
+if __name__ == "__main__":
+    main()
