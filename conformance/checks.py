@@ -435,10 +435,57 @@ def sums_of_addresses():
     for size, base, expected in ((64, 63, 'accepted 5 0 0'), (63, 63, 'IntervalNotProved 00010000'), (64, 62, 'EqualityNotProved 00010000')):
         case('a pointer that goes back', expected if size == 64 else 'AccessNotProved 0001000c', back, 'r %d, s 1 64' % size,
              '0x10000 5; R; x10 is 0x40000000; x11 1..64 = p1\nsecond 4; R; x10 0x3fffffff..0x4000003f = %d + x11 - 1 p1; x11 1..64' % (0x40000000 + base))
-    # A stride that is longer than the address: interval arithmetic goes below 0, and the form is not asked.
-    low = [(0x1000, b'', 64, 4)]
-    for name, passed in (('a long stride from a low address', 's 0 1'), ('a long stride from a low address, one element', 's 1 1')):
-        straight(name, 'accepted 5 0 0', 'lui t1,2; lui t0,1; vsetvli x0,a0,e8,m1; vlse8.v v8,(t0),t1; ret', passed, more=low)
+    # A stride that is longer than the address: where vl may be 0 interval arithmetic goes below 0, and the form is not asked.
+    low = 'lui a0,1; second: lui t1,2; vsetvli t0,a1,e8,m1; vlse8.v v8,(a0),t1; ret'
+    for least, size, expected in ((1, 0x6001, 'accepted 5 0 0'), (1, 0x6000, 'AccessNotProved 0001000c'), (0, 0x6001, 'AccessNotProved 0001000c'), (0, 0x8001, 'AccessNotProved 0001000c')):
+        case('a stride that is longer than the address', expected, low, '-, s %d 4' % least, """0x10000 5; R; x11 %d..4 = p1
+            second 4; R; x10 0x1000..0x9000 = 0x1000 - 0x2000 x11 + 0x2000 p1; x11 %d..4""" % (least, least), more=[(0x1000, b'', size, 4)])
+    # A sum that says that less than nothing is accessed.
+    case('a stride over an empty buffer', 'accepted 5 0 0', strided, 'r 0, s 0 0', """0x10000 5; R; x10 is 0x40000000; x11 0..0 = p1
+        second 4; R; x10 0x40000000..0x40000000 = 0x40000000 - 2 x11 + 2 p1; x11 0..16""")
+    # The sum of pointer and vl has nine terms, or eight.
+    for count, expected in ((6, 'AccessNotProved 00010008'), (5, 'accepted 4 0 0')):
+        others = ['x%d' % n for n in range(18, 18 + count)]
+        zeros = ''.join('; %s 0..0' % name for name in others)
+        case('a pointer of %d terms' % (count + 2), expected, text, 'r 64, s 0 64', """0x10000 4; R; x10 is 0x40000000; x11 0..64 = p1%s
+            second 3; R; x10 0x40000000..0x40000040 = 0x40000000 - 1 x11 + p1 + %s; x11 0..64%s""" % (''.join('; %s is 0' % name for name in others), ' + '.join(others), zeros))
+
+
+def many_splits():
+    # Three counts are split; with as many other terms the sum after it has eight terms, or nine.
+    for count, expected in ((3, 'accepted'), (4, 'IntervalNotProved')):
+        others = ['x%d' % n for n in range(18, 18 + count)]
+        zeros = ''.join('; %s 0..0' % name for name in others)
+        text = 'vsetvli t0,a0,e8,m1; vsetvli t1,a1,e8,m1; vsetvli t2,a2,e8,m1; add t3,a0,a1; add t3,t3,a2; %s; sub t3,t3,t0; end: ret' % '; '.join('add t3,t3,%s' % name for name in others)
+        words = 7 + count
+        case('a sum of three counts, split', 'accepted %d 0 0' % words if expected == 'accepted' else '%s %08x' % (expected, CODE + 4 * words - 8), text, 's 0 99, s 0 99, s 0 99',
+             '0x10000 %d; R; x10 0..99; x11 0..99; x12 0..99%s\nend 1; R; x28 0..281' % (words, zeros))
+    # What was passed is split as well, and vl itself.
+    for passed, hi, expected in (('s 1 99', 83, 'accepted 3 0 0'), ('s 1 99', 82, 'IntervalNotProved 00010004')):
+        case('what was passed is split', expected, 'vsetvli t0,a0,e8,m1; sub t1,a0,t0; end: ret', passed, '0x10000 3; R; x10 1..99 = p0\nend 1; R; x6 0..%d' % hi)
+    case('vl is split', 'accepted 5 0 0', 'vsetvli x0,a0,e8,m8; csrrs a0,vl,x0; vsetvli t0,a0,e8,m1; sub t1,a0,t0; end: ret', 's 1 99', '0x10000 5; R; x10 1..99\nend 1; R; x6 0..83')
+    # A branch on a number that is vl tells of vl.
+    for stated, expected in (('vl 1..16', 'accepted 3 0 0'), ('vl 2..16', 'IntervalNotProved 00010004'), ('vl 1..16; v8*1 e8 #1 5..5', 'VectorFactNotProved 00010004')):
+        case('vl is not 0', expected, 'vsetvli t0,a0,e8,m1; beqz t0,yes; no: ret; yes: ret', 's 0 99', '0x10000 3; R; x10 0..99\nno 1; R; %s\nyes 1; R; vl 0..0' % stated)
+    for count, expected in ((1, 'accepted 4 0 0'), (2, 'VectorFactNotProved 00010008')):
+        case('vl is not 0, and elements', expected, 'vsetvli t0,a0,e8,m1; vmv.v.i v8,5; beqz t0,yes; no: ret; yes: ret', 's 0 99',
+             '0x10000 4; R; x10 0..99\nno 1; R; v8*1 e8 #%d 5..5\nyes 1; R; vl 0..0; v8*1 e8 5..5' % count)
+
+
+def contradictions():
+    """A block that is not reached may state what can't be: each rule has an answer there too."""
+    dead = 'ecall; dead: %s; no: ecall; yes: ecall'
+    odd = 'x5 100..200 = x6; x6 0..9'
+    for text, facts, first, no, yes, expected in (
+            ('mv t2,t0', odd, '2', 'x7 100..200', '', A), ('mv t2,t0', odd, '2', 'x7 101..200', '', 'IntervalNotProved 00010004'), ('mv t2,t1', odd, '2', 'x7 0..9', '', A), ('nop', odd, '2', 'x5 100..200', '', A),
+            ('addi t2,t0,-150', odd, '2', 'x7 0xffffff6a..0xffffff73', '', A), ('addi t2,t0,-90', odd, '2', 'x7 10..110', '', A), ('bne t0,t1,yes', odd, '2', 'x8 1..1', 'x8 1..1', A),
+            ('bltu t1,t0,yes', odd, '2', 'x8 1..1', 'x8 1..1', A), ('bnez t0,yes', odd, '0 1*x6', 'x8 1..1', 'x5 100..200', A), ('bnez t0,yes', odd, '0 1*x6', 'x8 1..1', 'x6 0..9', A),
+            ('bnez t0,yes', odd, '0 1*x5', 'x8 1..1', 'x6 1..9', 'IntervalNotProved 00010004')):
+        case('what can not be: ' + text, 'accepted 1 0 0' if expected == A else expected, dead % text, '', '0x10000 1\ndead %s; %s\nno 1; %s\nyes 99; %s' % (first, facts, no, yes))
+    case('what can not be: an atom with the range of another register', 'BudgetNotProved 00010004', dead % 'bnez t0,yes', '', '0x10000 1\ndead 0 1*x6; %s\nno 1; x8 1..1\nyes 100' % odd)
+
+
+A = 'accepted'
 
 
 # ---- Facts on vector registers ------------------------------------------------------------------------------------------------------------
@@ -597,7 +644,7 @@ def jumps():
         case(name, expected, text, 's 0 1', blocks)
     case('a jump round 0 to EXIT', 'accepted 1 0 0', '.word 0xff1fe06f', '', '0x1000 1', at=0x1000)
     case('a jump round 0, past EXIT', 'TargetNotABlock 00001000', '.word 0xff5fe06f', '', '0x1000 1', at=0x1000)
-    case('a jump to a block at EXIT', 'NotCode fffffff0', 'ecall', '', '0x10000 1\n0xfffffff0 9')
+    case('a block at EXIT', 'NotCode fffffff0', 'ecall', '', '0x10000 1\n0xfffffff0 0')
     for name, expected, facts in (('what is so at the start', 'accepted 1 0 0', 'x1 EXIT..EXIT; x2 0x30000000..0x30000000 = 0x30000000; x3 is 0; x31 is 0; vl is 0; x10 is 0; x17 is 0'), ('x2 at the start', 'IntervalNotProved 00010000', 'x2 0x2fffffff..0x2fffffff'),
                                   ('x2 as another sum', 'EqualityNotProved 00010000', 'x2 0x30000000..0x30000000 = 0x30000001'), ('vl at the start', 'IntervalNotProved 00010000', 'vl 1..1'),
                                   ('intervals come first', 'IntervalNotProved 00010000', 'x2 0x30000000..0x30000000 = 1; x3 1..1')):
@@ -693,6 +740,11 @@ def budgets():
     text = 'bgeu a0,a1,yes; no: ecall; yes: ecall'
     case('a budget that the branch makes known', 'accepted 0 1 10', text, 's 2 20, s 3 9', '0x10000 0 1*x10; x10 2..20; x11 3..9\nno 1\nyes 2')
     case('a budget that the branch does not make known', 'BudgetNotProved 00010000', text, 's 2 20, s 3 9', '0x10000 0 1*x10; x10 2..20; x11 3..9\nno 1\nyes 3')
+    # By the ends of an interval that the sum does not show, and by forms that are not taken apart.
+    for last, expected in ((11, 'accepted 1 0 0'), (12, 'BudgetNotProved 00010004')):
+        case('a budget by the ends alone', expected, 'ecall; dead: nop; end: ecall', '', '0x10000 1\ndead 0 4*x5; x5 3..9 = x6 + x7\nend %d' % last)
+    for first, expected in (('2 8*x11', 'BudgetNotProved 00010000'), ('122 8*x11', 'accepted 122 8 11'), ('121 8*x11', 'BudgetNotProved 00010000')):
+        case('a budget of a count, paid for vl', expected, 'vsetvli t0,a1,e8,m1; end: ret', '-, s 1 1024', '0x10000 %s; R; x11 1..1024\nend 1 8*x5; R' % first)
     case('a budget of the greatest numbers', 'accepted 4294967295 4294967295 10', 'ecall', 's 0 0xffffffff', '0x10000 4294967295 4294967295*x10')
     case('a budget that 32 bits do not hold', 'BudgetNotProved 00010000', 'nop; end: ecall', 's 0 0xffffffff', '0x10000 4294967295\nend 1 4294967295*x10')
     case('a budget that 32 bits do not hold, twice', 'accepted 4294967295 4294967295 10', 'nop; end: ecall', 's 0 0xffffffff', '0x10000 4294967295 4294967295*x10\nend 4294967294 4294967295*x10')
@@ -705,6 +757,8 @@ def hand_rows():
     equalities()
     vset_rows()
     access_rows()
+    many_splits()
+    contradictions()
     vector_facts()
     words()
     jumps()
