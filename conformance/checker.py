@@ -8,8 +8,8 @@ import copy
 from collections import namedtuple
 
 import model
-from certificates import EXECUTE, FULL, READ, WRITE, RegisterFact, Refused, VectorFact, code_segment, read_certificate, read_image
-from table import M32, lmul4_of, sew_of, vlmax_of
+from certificates import FULL, READ, WRITE, RegisterFact, Refused, VectorFact, code_segment, read_certificate, read_image
+from table import M32, sew_of, vlmax_of
 
 TERMS, WORDS = 8, 4096
 VL = 32                     # vl stands behind the 32 registers

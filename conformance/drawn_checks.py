@@ -9,8 +9,7 @@ import certificates as c
 import checker
 import model
 from assembly import assembled
-from checker import PASSED, VL, Form, Refused, Walk, check
-from images import elf, note
+from checker import PASSED, VL, Refused, Walk, check
 from kernels import CODE, Kernel, code_bytes, file_of, kernel
 from table import ALL, M32, SCALAR, VECTOR, VTYPES, lmul4_of, sew_of
 
@@ -242,7 +241,7 @@ def lines(draw, vlenb):
 def strips(d, vlenb):
     """A strip-mined loop over one to three pointers, at any SEW and LMUL."""
     vtype = d.one(VTYPES)
-    sew, group = sew_of(vtype), max(1, lmul4_of(vtype) // 4)
+    sew = sew_of(vtype)
     most, count = d.one((1, 7, 64, 100, 1024)), d.one((1, 1, 2, 3))
     pointers = [(13 + k, d.one((8, 16, 32)) if d.is_in(0.3) else sew, d.is_in(0.5)) for k in range(count)]
     body, steps = [], []
@@ -254,7 +253,10 @@ def strips(d, vlenb):
         steps += ['slli t1,t0,%d' % shift, 'add x%d,x%d,t1' % (register, register)] if shift else ['add x%d,x%d,t0' % (register, register)]
     body.insert(d.below(len(body)), d.one(('vadd.vi v%d,v%d,1', 'vmul.vv v%d,v%d,v24', 'vmax.vv v%d,v%d,v8')) % (8, 8 + 8 * d.below(2)))
     words = ['beqz a2,end', 'loop: vsetvli t0,a2,%d' % vtype] + body + steps + ['sub a2,a2,t0', 'bnez a2,loop', 'end: ret']
-    passed = ['-', '-', 's 0 %d' % most] + ['%s %d' % ('rw' if any('vs' in w and '(x%d)' % r in w for w in body) else 'r', most * width // 8) for r, width, _ in pointers]
+    passed = ['-', '-', 's 0 %d' % most]
+    for register, width, _ in pointers:
+        is_stored = any(w.startswith('vs') and '(x%d)' % register in w for w in body)
+        passed.append('%s %d' % ('rw' if is_stored else 'r', most * width // 8))
     at, first, inside = 0x40000000, '', ''
     for register, width, _ in pointers:
         size = most * width // 8
@@ -363,8 +365,25 @@ def changed_param(d, p):
     if p.kind == 'scalar':
         return d.one((lambda: p._replace(a=moved(d, p.a)), lambda: p._replace(b=moved(d, p.b)), lambda: c.Param('buffer', c.READ, 64)))()
     if p.kind == 'buffer':
-        return d.one((lambda: p._replace(a=moved(d, p.a)), lambda: p._replace(a=max(p.a - 1, 0)), lambda: p._replace(a=max(p.a - 1, 0)), lambda: p._replace(mode=c.READ), lambda: p._replace(mode=c.READ), lambda: c.Param('scalar', 0, 0, 9)))()
+        if p.mode & c.WRITE and d.is_in(0.5):
+            return p._replace(mode=c.READ)
+        return d.one((p._replace(a=moved(d, p.a)), p._replace(a=max(p.a - 1, 0)), p._replace(a=max(p.a - 1, 0)), c.Param('scalar', 0, 0, 9)))
     return c.Param('scalar', 0, 0, 9)
+
+
+def changed_blocks(d, blocks):
+    vectors = [place for place, b in enumerate(blocks) if b.vectors]
+    place = d.one(vectors) if vectors and d.is_in(0.3) else d.below(len(blocks))
+    if d.is_in(0.03):
+        return list(blocks[:place]) + list(blocks[place + 1:])
+    return list(change_at(blocks, place, changed_block(d, blocks[place])))
+
+
+def changed_code(d, code):
+    at = 4 * d.below(len(code) // 4)
+    word = int.from_bytes(code[at:at + 4], 'little') ^ 1 << d.below(32)
+    code = code[:at] + code_bytes([word]) + code[at + 4:]
+    return code[:-4] or code if d.is_in(0.05) else code
 
 
 def changed(d, k):
@@ -372,24 +391,15 @@ def changed(d, k):
     certificate = k.certificate
     kind = d.below(20)
     if kind < 11:
-        place = d.below(len(certificate.blocks))
-        blocks = list(change_at(certificate.blocks, place, changed_block(d, certificate.blocks[place])))
-        if d.is_in(0.04):
-            blocks.pop(place)
-        return k._replace(certificate=certificate._replace(blocks=blocks))
-    if kind < 14:
-        used = [n for n, p in enumerate(certificate.params) if p.kind != 'none'] or [0]
-        place = d.one(used)
+        return k._replace(certificate=certificate._replace(blocks=changed_blocks(d, certificate.blocks)))
+    if kind < 15:
+        place = d.one([n for n, p in enumerate(certificate.params) if p.kind != 'none'] or [0])
         return k._replace(certificate=certificate._replace(params=change_at(certificate.params, place, changed_param(d, certificate.params[place]))))
     if kind < 19:
         address, code, _, flags = k.segments[0]
-        at = d.below(len(code) // 4)
-        word = int.from_bytes(code[4 * at:4 * at + 4], 'little') ^ 1 << d.below(32)
-        code = code[:4 * at] + code_bytes([word]) + code[4 * at + 4:]
-        if d.is_in(0.05):
-            code = code[:-4] or code
+        code = changed_code(d, code)
         return k._replace(segments=[(address, code, len(code), flags)])
-    return k._replace(entry=k.entry + d.one((0, 0, 0, 4))) if d.is_in(0.5) else k._replace(certificate=certificate._replace(vlen=384 - certificate.vlen))
+    return k._replace(entry=k.entry + 4)
 
 
 def one_row(d):
@@ -398,20 +408,26 @@ def one_row(d):
     k = d.one((lines, lines, lines, lines, strips, strips, counts, tables))(d, vlenb)
     for _ in range(d.one((0, 1, 1, 1, 2))):
         k = changed(d, k)
-    k = k._replace(certificate=k.certificate._replace(blocks=sorted(k.certificate.blocks, key=lambda b: b.start) if d.is_in(0.98) else k.certificate.blocks))
-    file = file_of(k)
-    if d.is_in(0.04):
+    certificate = k.certificate
+    if d.is_in(0.05):
+        # The same claims of the other length.
+        vlenb = 48 - vlenb
+        certificate = certificate._replace(vlen=8 * vlenb)
+    if d.is_in(0.98):
+        certificate = certificate._replace(blocks=sorted(certificate.blocks, key=lambda b: b.start))
+    file = file_of(k._replace(certificate=certificate))
+    if d.is_in(0.03):
         at = d.below(len(file))
         file = file[:at] + bytes([file[at] ^ 1 << d.below(8)]) + file[at + 1:]
-    return (vlenb if d.is_in(0.99) else 48 - vlenb), file
+    return (vlenb if d.is_in(0.985) else 48 - vlenb), file
 
 
-def drawn(count, seed):
-    """(vlenb, file, answer) of each row; files above 900 bytes are passed over."""
+def drawn(count, seed, most=600):
+    """(vlenb, file, answer) of each row; files above so many bytes are passed over."""
     d = Draw(seed)
     out = []
     while len(out) < count:
         vlenb, file = one_row(d)
-        if len(file) <= 900:
+        if len(file) <= most:
             out.append((vlenb, file, check(file, vlenb)))
     return out
