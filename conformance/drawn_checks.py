@@ -190,46 +190,95 @@ class Line:
             if bounds and address <= bounds[0] and bounds[1] <= address + ROOM:
                 self.sizes[place] = max(self.sizes.get(place, 1), bounds[1] - address)
 
+    def claimed(self, start):
+        """A block whose facts need not hold: sums that wrap, intervals that their sums do not meet, pointers into buffers."""
+        d, facts = self.draw, []
+        atoms = [n for n in REGISTERS + (VL,) if d.is_in(0.6)]
+        for n in REGISTERS + (VL,):
+            lo, hi = d.interval()
+            base = d.one(list(self.places) + [lo]) if d.is_in(0.5) else lo
+            if n in atoms:
+                if (lo, hi) != c.FULL:
+                    facts.append(c.RegisterFact(n, lo, hi))
+            elif d.is_in(0.8):
+                chosen = [m for m in atoms if d.is_in(0.4)] + [PASSED + place for place, p in enumerate(self.params) if p.kind == 'scalar' and d.is_in(0.4)]
+                terms = tuple((m, d.one((1, 1, 1, 2, 4, M32, M32, M32 - 1, M32 - 3, 0x80000000, d.below(1 << 32) or 1))) for m in chosen)
+                ends = (base, min(M32, base + d.one((0, 16, 64, 4000)))) if d.is_in(0.5) else c.FULL
+                facts.append(c.RegisterFact(n, *ends, (base, terms)))
+        vectors, free = [], 0
+        while free < 24 and d.is_in(0.6):
+            registers, width = d.one((1, 1, 2, 4)), d.one((8, 16, 32))
+            register = free + -free % registers + registers * d.below(3)
+            lo = d.below(20)
+            vectors.append(c.VectorFact(register, width, registers, d.one((0, 0, 1, 4, registers * 8 * self.vlenb // width)) % 256, lo, lo + d.below(200)))
+            free = register + registers
+        return c.Block(start, 0, 0, 0, d.one(VTYPES) if d.is_in(0.7) else None, tuple(facts), tuple(vectors))
+
     def run(self):
-        """The kernel: some blocks one behind the other, and a branch or none at the end."""
-        d = self.draw
+        """The kernel: some blocks one behind the other, and a branch or none at the end. Each has the least budget that is enough."""
+        d, blocks, ways = self.draw, [], []
         block = self.stated(self.entry, CODE, 0.9)._replace(vtype=None)
-        blocks, costs = [], []
-        for _ in range(d.one((2, 2, 3, 3, 4))):
-            s = checker.at_block(self.walk.certificate, block, self.vlenb)
+        if d.is_in(0.4):
+            # The end comes first, and what stands behind it is never reached: it is checked all the same.
+            self.words.append(0x73)
+            blocks.append(block)
+            ways.append([(self.after_words(block, 1), None)])
+            block = self.claimed(self.pc)
+        for _ in range(d.one((1, 2, 2, 3))):
+            s = self.after_words(block, 0)
             for _ in range(d.one((1, 2, 3, 4, 5))):
                 s = self.step(s)
             blocks.append(block)
-            costs.append(s.words)
+            ways.append([(s, len(blocks))])
             block = self.stated(s, self.pc)
-        blocks.append(block)
-        costs.append(0)
-        ends = self.ends(block)
-        costs[-1] += ends.pop('words')
-        total, out = 0, []
-        for b, cost in list(zip(blocks, costs))[::-1]:
-            total += cost
-            out.append(b._replace(c=total))
+        self.end(block, blocks, ways)
+        for place in range(len(blocks))[::-1]:
+            blocks[place] = self.paid(blocks[place], [(s, None if to is None else blocks[to]) for s, to in ways[place]])
         params = [p._replace(a=self.sizes.get(place, 1)) if p.kind == 'buffer' and d.is_in(0.9) else p for place, p in enumerate(self.params)]
         code = code_bytes(self.words)
-        return Kernel([(CODE, code, len(code), 5)], CODE, c.Certificate(8 * self.vlenb, params, out[::-1] + ends['more']))
+        return Kernel([(CODE, code, len(code), 5)], CODE, c.Certificate(8 * self.vlenb, params, blocks))
 
-    def ends(self, block):
-        """The last words: ecall, ret, a jump, or a branch with a block on each side."""
-        d = self.draw
+    def after_words(self, block, words):
         s = checker.at_block(self.walk.certificate, block, self.vlenb)
+        s.words = words
+        return s
+
+    def paid(self, block, ways):
+        """The block with the least c that is enough for its ways, for some factor."""
+        d = self.draw
+        values = self.after_words(block, 0).x
+        small = [n for n in REGISTERS if values[n].range[1] < 1 << 24]
+        k = d.one((1, 2, 3, 8, d.below(100) + 1)) if small and d.is_in(0.5) else 0
+        r = d.one(small) if k else 0
+        value = values[r]
+        enough = lambda least: all(checker.is_paid(s, checker.Start(least, k, value), to) for s, to in ways)
+        lo, hi = 0, M32
+        while lo < hi:
+            middle = (lo + hi) // 2
+            lo, hi = (lo, middle) if enough(middle) else (middle + 1, hi)
+        return block._replace(c=lo, k=k, r=r)
+
+    def end(self, block, blocks, ways):
+        """The last words: ecall, ret, or a branch with a block on each side."""
+        d = self.draw
+        blocks.append(block)
         if d.is_in(0.35):
+            s = self.after_words(block, 1)
             self.words.append(0x73 if d.is_in(0.3) or s.x[1].range[0] != model.EXIT else 0x8067)
-            return {'words': 1, 'more': []}
+            ways.append([(s, None)])
+            return
         i = d.one([j for j in SCALAR if j.shape == 'branch'])
         f = {'rs1': d.one(REGISTERS), 'rs2': d.one(REGISTERS + (0,))}
-        at = self.pc
+        at, place = self.pc, len(blocks)
         self.words += [i.encode(to=CODE + 8, **f), 0x73, 0x73]
-        more = []
+        gone = []
         for taken, start in ((False, at + 4), (True, at + 8)):
-            way = checker.refined(s, i, f, taken)
-            more.append((self.stated(way, start) if way else c.Block(start, 0, 0, 0, None, (c.RegisterFact(5, 1, 1),), ()))._replace(c=1))
-        return {'words': 2, 'more': more}
+            way = checker.refined(self.after_words(block, 1), i, f, taken)
+            blocks.append(self.stated(way, start) if way else c.Block(start, 0, 0, 0, None, (c.RegisterFact(5, 1, 1),), ()))
+            if way:
+                gone.append((way, len(blocks) - 1))
+        ways.append(gone)
+        ways += [[(self.after_words(b, 1), None)] for b in blocks[place:]]
 
 
 def lines(draw, vlenb):
