@@ -387,8 +387,8 @@ def changed_fact(d, fact):
 
 def changed_vector(d, v):
     return d.one((
-        lambda: v._replace(lo=moved(d, v.lo)), lambda: v._replace(hi=moved(d, v.hi)), lambda: v._replace(count=d.one((0, v.count + 1, max(0, v.count - 1), 4))),
-        lambda: v._replace(width=d.one((8, 16, 32))), lambda: v._replace(registers=d.one((1, 2, 4, 8))), lambda: v._replace(register=(v.register + d.one((1, 2, 255))) & 31)))()
+        v._replace(lo=moved(d, v.lo)), v._replace(hi=moved(d, v.hi)), v._replace(count=d.one((0, v.count + 1, max(0, v.count - 1), 4))),
+        v._replace(width=d.one((8, 16, 32))), v._replace(registers=d.one((1, 2, 4, 8))), v._replace(register=(v.register + d.one((1, 2, 255))) & 31)))
 
 
 def changed_block(d, b):

@@ -321,6 +321,8 @@ def equalities():
             ('accepted', 'mv t0,a0; mv a0,a1; mv a1,t0', start, 'x5 0..100 = x11; x10 0..50 = p1'),
             ('EqualityNotProved', 'mv t0,a0; mv a0,a1; mv a1,t0', start, 'x10 0..50 = p0; x11 0..100 = p1'),
             ('IntervalNotProved', 'mv t0,a0; mv a0,a1; mv a1,t0', start, 'x10 0..50 = p0; x11 0..50 = p1'),
+            ('EqualityNotProved', 'andi t1,a0,0; li t2,3; mul t0,t1,t2', start, 'x5 0..0 = 0'),
+            ('accepted', 'andi t1,a0,0; li t2,3; mul t0,t2,t1', start, 'x5 0..0 = 0'),
             ('accepted', 'slli t0,a0,31; slli t0,t0,1', loose, 'x5 0..0 = 0'),
             ('accepted', 'li t1,-1; mul t0,a0,t1; add t0,t0,a0', loose, 'x5 0..0 = 0')):
         count = text.count(';') + 1
@@ -374,6 +376,8 @@ def vset_rows():
             ('vsetvli t1,a0,e8,m1; vsetvli t2,t1,e32,m1; sub t0,a0,t2', 's 1 99', 0, M32)):
         probe(text, passed, lo, hi)
     probe('vsetvli t0,x0,e8,m1', '', 16, 16)
+    for text, lo, hi in (('vcpop.m t0,v8', 0, 5), ('vcpop.m t0,v8,v0.t', 0, 5), ('vfirst.m t0,v8', 0, M32), ('vmv.x.s t0,v8', 0, M32)):
+        probe('vsetivli x0,5,e8,m1; ' + text, '', lo, hi)
     for vlenb, most in ((16, 16), (32, 32)):
         for lo, expected in ((most, 'accepted 2 0 0'), (most - 1, 'IntervalNotProved 00010000')):
             case('the greatest vl', expected, 'vsetvli t0,x0,e8,m1; end: ret', '', '0x10000 2; R\nend 1; R; x5 0..%d' % lo, vlenb)
@@ -395,6 +399,8 @@ def vset_rows():
             ('vsetvli x0,a0,e8,m1', 'vl 1..15', 'IntervalNotProved 00010000'), ('vsetvli t0,a0,e8,m1', 'x5 1..16 = vl', 'accepted 2 0 0'),
             ('vsetvli t0,a0,e8,m1', 'vl 1..16 = x5', 'accepted 2 0 0'),
             ('vsetvli t0,a0,e8,m1', 'vl 1..16 = x10', 'EqualityNotProved 00010000'),
+            ('vsetvli t0,x0,e8,m1', 'x5 16..16 = 16', 'EqualityNotProved 00010000'),
+            ('vsetvli t0,x0,e8,m1', 'x5 16..16 = vl', 'accepted 2 0 0'),
             ('vsetivli t0,9,e8,m1', 'vl 9..9 = 9', 'EqualityNotProved 00010000'), ('vsetivli t0,9,e64,m1', 'vl 0..0 = 0', 'accepted 2 0 0'),
             ('nop', 'vl 0..0 = 0', 'accepted 2 0 0'), ('vsetvli t0,a0,e8,m1; sub t1,a0,t0', 'x6 0..83 = x10 - 1 vl', 'accepted 3 0 0')):
         count = text.count(';') + 1
@@ -434,6 +440,7 @@ def access_rows():
             ('vsetivli x0,0,e8,m1; vluxei8.v v9,(a0),v8', 0), ('vsetivli x0,0,e8,m1; vsoxei8.v v9,(x0),v8', 0),
             ('vsetivli x0,4,e8,m1; vluxei16.v v10,(a0),v8', 65536),
             ('vsetivli x0,4,e8,m1; vmv.v.i v8,9; vsetivli x0,4,e8,m1; vluxei8.v v9,(a0),v8', 10),
+            ('vsetivli x0,4,e8,m2; vmv.v.i v8,9; vsetivli x0,4,e8,m1; vluxei8.v v10,(a0),v8', 256),
             ('vsetivli x0,4,e8,m1; vmv.v.i v8,9; vsetivli x0,5,e8,m1; vluxei8.v v9,(a0),v8', 256),
             ('vsetvli x0,a1,e8,m1; vmv.v.i v8,9; vsetvli x0,a1,e8,m1; vluxei8.v v9,(a0),v8', 256)):
         last = CODE + 4 * text.count(';')
@@ -509,6 +516,9 @@ def sums_of_addresses():
             (0, 0x8001, 'AccessNotProved 0001000c')):
         case('a stride that is longer than the address', expected, low, '-, s %d 4' % least, """0x10000 5; R; x11 %d..4 = p1
             second 4; R; x10 0x1000..0x9000 = 0x1000 - 0x2000 x11 + 0x2000 p1; x11 %d..4""" % (least, least), more=[(0x1000, b'', size, 4)])
+    for least, expected in ((1, 'accepted 5 0 0'), (0, 'AccessNotProved 0001000c')):
+        case('a stride that is longer than the address, and a count that is known', expected, low, '-, s 4 4', """0x10000 5; R; x11 4..4 = p1
+            second 4; R; x10 0x1000..0x9000 = 0x1000 - 0x2000 x11 + 0x2000 p1; x11 %d..4""" % least, more=[(0x1000, b'', 0x8001, 4)])
     # A sum that says that less than nothing is accessed.
     case('a stride over an empty buffer', 'accepted 5 0 0', strided, 'r 0, s 0 0', """0x10000 5; R; x10 is 0x40000000; x11 0..0 = p1
         second 4; R; x10 0x40000000..0x40000000 = 0x40000000 - 2 x11 + 2 p1; x11 0..16""")
@@ -532,6 +542,12 @@ def many_splits():
         case('a sum of three counts, split',
              'accepted %d 0 0' % words if expected == 'accepted' else '%s %08x' % (expected, CODE + 4 * words - 8), text,
              's 0 99, s 0 99, s 0 99', '0x10000 %d; R; x10 0..99; x11 0..99; x12 0..99%s\nend 1; R; x28 0..281' % (words, zeros))
+    # Ten terms come between, of registers that are sums themselves.
+    text = '; '.join('add x%d,x%d,x%d' % (5 + k, 18 + 2 * k, 19 + 2 * k) for k in range(5))
+    text += '; add x10,x19,x21; add x10,x10,x23; add x10,x10,x25; add x10,x10,x27; add x11,x18,x20; add x11,x11,x22; add x11,x11,x24; add x11,x11,x26'
+    for sum_of, expected in (
+            ('x5 + x6 + x7 + x8 + x9 - 1 x10', 'accepted 14 0 0'), ('x5 + x6 + x7 + x8 + x9 - 2 x10', 'EqualityNotProved 00010030')):
+        case('a sum of sums', expected, text + '; end: ret', '', '0x10000 14; R\nend 1; R; x11 = ' + sum_of)
     # What was passed is split as well, and vl itself.
     for passed, hi, expected in (('s 1 99', 83, 'accepted 3 0 0'), ('s 1 99', 82, 'IntervalNotProved 00010004')):
         case('what was passed is split', expected, 'vsetvli t0,a0,e8,m1; sub t1,a0,t0; end: ret', passed,
@@ -562,6 +578,12 @@ def contradictions():
             ('bnez t0,yes', odd, '0 1*x5', 'x8 1..1', 'x6 1..9', 'IntervalNotProved 00010004')):
         case('what can not be: ' + text, 'accepted 1 0 0' if expected == A else expected, dead % text, '',
              '0x10000 1\ndead %s; %s\nno 1; %s\nyes 99; %s' % (first, facts, no, yes))
+    for hi, expected in ((9, 'accepted 1 0 0'), (8, 'IntervalNotProved 00010004')):
+        case('an interval that the sum cuts', expected, 'ecall; dead: nop; end: ecall', '',
+             '0x10000 1\ndead 2; x5 0..100 = x6; x6 0..9\nend 1; x5 0..%d' % hi)
+    for stated, expected in (('#16', 'accepted 1 0 0'), ('', 'VectorFactNotProved 00010004')):
+        case('a fact of more elements than there are', expected, 'ecall; dead: vsetvl x0,x0,a0; end: ecall', '',
+             '0x10000 1\ndead 2; vl 32..32; v8*1 e8 0..5\nend 1; v8*1 e8 %s 0..5' % stated)
     case('what can not be: an atom with the range of another register', 'BudgetNotProved 00010004', dead % 'bnez t0,yes', '',
          '0x10000 1\ndead 0 1*x6; %s\nno 1; x8 1..1\nyes 100' % odd)
 
@@ -578,7 +600,8 @@ def vector_probe(text, group, lo, hi, passed='', top=None, vlenb=16):
     if lo is None:
         tried = [(0, top - 1, False)]
     else:
-        tried = [(lo, hi, True)] + [(a, b, False) for a, b in (((lo + 1, hi), (lo, hi - 1)) if lo < hi else ((lo + 1, lo + 1), (lo - 1, lo - 1))) if 0 <= a <= b <= top]
+        others = ((lo + 1, hi), (lo, hi - 1)) if lo < hi else ((lo + 1, lo + 1), (lo - 1, lo - 1))
+        tried = [(lo, hi, True)] + [(a, b, False) for a, b in others if 0 <= a <= b <= top]
     for a, b, holds in tried:
         case('%s; then %s %d..%d' % (text, group, a, b), 'accepted %d 0 0' % (count + 1) if holds else 'VectorFactNotProved ' + last,
              text + '; end: ret', passed, '0x10000 %d; R%s\nend 1; R; %s %d..%d' % (count + 1, stated, group, a, b), vlenb)
@@ -672,7 +695,8 @@ def kept_facts():
             ('vsetvli x0,x0,e16,m4', 'v8*2 e8 5..5', True), ('vsetvli x0,x0,e16,m4', 'v8*2 e8 #4 5..5', True),
             ('vsetvli x0,x0,e16,m4', 'v8*2 e8 #5 5..5', False), ('nop', 'v8*2 e8 #4 5..5', True), ('nop', 'v8*2 e8 #5 5..5', False),
             ('nop', 'v8*2 e8 #1 0..9', True), ('nop', 'v8*2 e16 5..5', False), ('nop', 'v8*1 e8 5..5', False),
-            ('nop', 'v10*2 e8 5..5', False), ('vsetivli x0,4,e8,m2', 'v8*2 e8 #4 5..5', True),
+            ('nop', 'v10*2 e8 5..5', False), ('vsetivli x0,0,e8,m2; nop', 'v8*2 e8 #4 5..5', True),
+            ('vsetivli x0,0,e8,m2; vadd.vv v8,v10,v10', 'v8*2 e8 #4 5..5', False), ('vsetivli x0,4,e8,m2', 'v8*2 e8 #4 5..5', True),
             ('vsetivli x0,4,e8,m2', 'v8*2 e8 #5 5..5', False), ('vsetivli x0,4,e8,m2', 'v8*2 e8 5..5', True),
             ('vsetivli x0,5,e8,m2', 'v8*2 e8 5..5', False), ('vsetivli x0,5,e8,m2', 'v8*2 e8 #4 5..5', True),
             ('vsetivli x0,3,e8,m2', 'v8*2 e8 5..5', True), ('vsetivli x0,3,e8,m2', 'v8*2 e8 #4 5..5', True),
@@ -789,12 +813,19 @@ def jumps():
         case(name, expected, text, 's 0 1', blocks)
     calls = '0x10000 5; R\nback 2; x31 EXIT..EXIT\ncall %d; x1 %s; x31 EXIT..EXIT'
     for name, expected, cost, back in (
-            ('its way back', 'accepted 5 0 0', 3, 'is 0x10008'), ('a way back that is not known', 'TargetNotABlock 00010010', 3, '0x10008..0x1000c'),
+            ('its way back', 'accepted 5 0 0', 3, 'is 0x10008'),
+            ('a way back that is not known', 'TargetNotABlock 00010010', 3, '0x10008..0x1000c'),
             ('too little for the way back', 'BudgetNotProved 00010010', 2, 'is 0x10008')):
         case('a call and ' + name, expected, 'mv t6,ra; jal ra,call; back: mv ra,t6; ret; call: ret', '', calls % (cost, back))
     case('a jump round 0 to EXIT', 'accepted 1 0 0', '.word 0xff1fe06f', '', '0x1000 1', at=0x1000)
     case('a jump round 0, past EXIT', 'TargetNotABlock 00001000', '.word 0xff5fe06f', '', '0x1000 1', at=0x1000)
     case('a block at EXIT', 'NotCode fffffff0', 'ecall', '', '0x10000 1\n0xfffffff0 0')
+    both = '0x10000 2; x10 0..9\nno %s\nyes %s'
+    for no, yes, expected in (
+            ('1; x5 1..1', '2', 'BudgetNotProved 00010000'), ('2', '1; x5 1..1', 'IntervalNotProved 00010000'),
+            ('2', '1', 'BudgetNotProved 00010000')):
+        case('two ways, the one that is taken first: %s and %s' % (yes, no), expected, 'beqz a0,yes; no: ecall; yes: ecall', 's 0 9',
+             both % (no, yes))
     for name, expected, facts in (
             ('what is so at the start', 'accepted 1 0 0', 'x1 EXIT..EXIT; x2 0x30000000..0x30000000 = 0x30000000; x3 is 0; x31 is 0; vl is 0; x10 is 0; x17 is 0'),
             ('x2 at the start', 'IntervalNotProved 00010000', 'x2 0x2fffffff..0x2fffffff'),
