@@ -7,6 +7,7 @@ use Rattle.rv_decode.specs.declared.instructions.Insn.{Insn}
 use Rattle.rv_decode.specs.declared.instructions.Insn.TheVariants.{Scalar, Csr, VSet, VArith, VMask, VPerm, VReduce, VMem, VMove}
 use Rattle.rv_decode.specs.declared.instructions.ScalarInsn.{ScalarInsn}
 use Rattle.rv_decode.specs.declared.instructions.ScalarInsn.TheVariants.{Lui, Auipc, Jal, Jalr, Branch, Load, Store, Immediate, ShiftImmediate, Register, Fence, Ecall}
+use Rattle.scalar_core.specs.Hart.{exit}
 use Rattle.abs_state.specs.After.{after_of}
 use Rattle.abs_state.specs.Blocks.{at_block_of, at_entry_of}
 use Rattle.abs_state.specs.Branches.{EdgeView, refined}
@@ -82,10 +83,10 @@ is_jump (VMove insn) = false
 
 -- ---- edges
 
--- the block to which an edge leads, if its target is known and a block begins there
+-- the block to which an edge leads, if its target is known, the run goes on there, and a block begins there
 unfoldable pub block_for : Option ℕ → List Block → Option Block
 block_for None blocks = None
-block_for (Some address) blocks = block_at address blocks
+block_for (Some address) blocks = if address == exit then None else block_at address blocks
 
 -- an edge's answer, told at the word at pc
 abbrev pub told_at : ℕ → Result (Unit {0}) Why → Checked

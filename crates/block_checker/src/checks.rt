@@ -16,6 +16,7 @@ use abs_state::{Abstract, Edge, MOST_WORDS, implies};
 use cert_note::{Block, Certificate};
 use elf_image::Image;
 use rv_decode::{Insn, ScalarInsn, decode};
+use scalar_core::EXIT;
 use std::alloc::Allocator;
 use vreg_groups::Vlen;
 
@@ -58,13 +59,14 @@ pub(crate) fn block_at<C: Allocator>(certificate: &Certificate<C>, address: u32)
     find_block(&contents.blocks, address)
 }
 
-/// The block to which an edge leads.
+/// The block to which an edge leads; none where it ends the run.
 #[tactic(auto, unfolding(crate::specs::Passes::block_for))]
 fn block_for<C: Allocator>(certificate: &Certificate<C>, target: Option<u32>) -> Option<&Block>
     ensures { option_copied result ≡ block_for_of target certificate.now.blocks }
 {
     match target {
         None => None,
+        Some(EXIT) => None,
         Some(address) => block_at(certificate, address),
     }
 }
