@@ -19,8 +19,8 @@ operation SatSub = fixed.SatSub
 abbrev pub AllFit : Width → ℕ → (ℕ → ℕ) → Type 0
 AllFit w n lane = (i : ℕ) → i < n → lane i < 2 ^ bits w
 
--- one lane of the results, and of the second chunk: all ones where it saturated; nothing is rounded off, so that this is the
--- same in each mode
+-- one lane of the results, and of the second chunk: all ones where it saturated; nothing is rounded off, so that this
+-- is the same in each mode
 abbrev pub lane_result : Op → Width → ℕ → ℕ → ℕ
 lane_result op = element (operation op) Down
 

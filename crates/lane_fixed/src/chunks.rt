@@ -1,5 +1,5 @@
-//! The kernels' operations on chunks of sixteen bytes, by operations of `std::simd` alone. Signed lanes are computed with
-//! their top bit turned over, which makes them unsigned ones in the same order.
+//! The kernels' operations on chunks of sixteen bytes, by operations of `std::simd` alone. Signed lanes are computed
+//! with their top bit turned over, which makes them unsigned ones in the same order.
 ghost use Rattle.std.specs.Prelude.{◌≡◌, ℕ, ◌-◌, ◌^◌, ◌<◌, ◌==◌, ◌+ℤ◌, ◌-ℤ◌, if◌then◌else◌};
 ghost use Rattle.std.specs.Int.{w8, w16, w32, cast_signed, saturate_signed};
 ghost use mir.Val.{bits};
@@ -70,8 +70,8 @@ fn saturating<T: Chunk>(op: Op, a: T, b: T) -> (T, T)
 }
 
 /// What `op` makes of sixteen elements of 8 bits: of vs2's, which are `values`, and of vs1's, the scalar's or the
-/// immediate's, which are `b`. The first chunk has the results, the second all ones in each lane that saturates and 0 in
-/// the others ("Vector Single-Width Saturating Add and Subtract").
+/// immediate's, which are `b`. The first chunk has the results, the second all ones in each lane that saturates and 0
+/// in the others ("Vector Single-Width Saturating Add and Subtract").
 #[inline(always)]
 pub fn chunk_u8(op: Op, values: u8x16, b: u8x16) -> (u8x16, u8x16)
     ensures results { result.0 ≡ zip2 (lane_result op w8) values b }
