@@ -187,7 +187,7 @@ impl<const VLENB: usize> VregFile<VLENB> {
     }
 
     /// The bytes of `count` registers, from register `first` on.
-    pub fn register_bytes(&self, first: Reg, count: usize) -> &[u8]
+    pub fn group(&self, first: Reg, count: usize) -> &[u8]
         requires { first + count ≤ 32 }
         ensures meaning { result.now ≡ bytes_from (first * VLENB) (count * VLENB) self.now }
         ensures size { length result.now ≡ count * VLENB }
