@@ -40,3 +40,13 @@ part_length at m xs h = length-take-le m (drop at xs) (omega (arith, h, length-d
 -- the registers of a group are among the 32
 pub group_room : (first count vlenb : ℕ) → first + count ≤ 32 → first * vlenb + count * vlenb ≤ 32 * vlenb
 group_room first count vlenb h = omega (arith, add-mul first count vlenb, mul-le-mul_right vlenb h)
+
+-- what fits over a list leaves as many items
+pub overlaid_fits : {X : Type 0} (at : ℕ) (xs ws : List X) → at + length ws ≤ length xs → overlaid_within at xs ws ≡ overlaid at ws xs
+unfolding overlaid
+overlaid_fits at xs ws h =
+    let front = length-take-le at xs (omega (arith, h)) in
+    let both = length-append (take at xs) ws in
+    let all = length-append (take at xs ++ ws) (drop (at + length ws) xs) in
+    take_all (length xs) (take at xs ++ ws ++ drop (at + length ws) xs)
+    (omega (arith, h, front, both, all, length-drop (at + length ws) xs))
