@@ -1,17 +1,17 @@
 -- An element with its top bit turned over has the order of the signed number that it stands for, and 2^(SEW-1) more.
-use Rattle.std.proofs.Common.{◌≡◌, ℕ, ◌+◌, ◌-◌, ◌*◌, ◌/◌, ◌%◌, ◌^◌, ◌<◌, ◌≤◌, ◌⊎◌, cond, ltb, leb, pos, negsuc, suc, refl, sym, ap, ◌∙◌, arith, inl, inr, w8, w16, w32, w64, int_lt, int_le, pow_pos, pow-add, mod-eq_of_lt, mod-lt, add-mul, div-add-mod', div-le_self, suc-mul, List, map, replicate, length, ap₂, Fits, lit<, lt_of_mul-lt-mul_right, le-mul_of_pos_right}
+use Rattle.std.proofs.Common.{◌≡◌, ℕ, ◌+◌, ◌-◌, ◌*◌, ◌/◌, ◌%◌, ◌^◌, ◌<◌, ◌≤◌, ◌⊎◌, Bool, true, false, ℤ, cond, ltb, leb, pos, negsuc, suc, refl, sym, ap, ◌∙◌, arith, inl, inr, w8, w16, w32, w64, int_lt, int_le, pow_pos, pow-add, mod-eq_of_lt, mod-lt, add-mul, div-add-mod', div-le_self, suc-mul, List, map, replicate, length, ap₂, Fits, lit<, lt_of_mul-lt-mul_right, le-mul_of_pos_right}
 use Rattle.std.specs.Int.{Width, w128, cast_signed, cast_unsigned, int_min, int_max, int_shr}
 use mir.Val.{bits, hbits, sel}
 use Rattle.std.proofs.lemmas.Bool.{cases_lt, lt-ltb, le-ltb, le-leb, lt-leb}
 use Rattle.std.proofs.Math.Nat.{add-mod_right, add-mul-div_right, div-eq_of_lt-le, mul-div_left}
-use Rattle.std.specs.Simd.Lanes.{zip2, sel_l, top}
+use Rattle.std.specs.Simd.Lanes.{zip2}
 use lib.Lanes.{Each1}
 use Rattle.std.proofs.lemmas.Int.{of_z-to_z}
 use Rattle.std.proofs.lemmas.List.{length-map}
 use Rattle.lane_int.specs.Chunks.{turned}
 use Rattle.lane_int.specs.Integer.{element, shift_amount}
 use Rattle.lane_int.specs.declared.operations.IntOp.TheVariants.{ShiftRightSigned}
-use Rattle.lane_int.proofs.VectorLemmas.{picked, picked_other, zip2_maps, map_zip2, zip2_splat_of, zip2_agrees}
+use Rattle.lane_int.proofs.VectorLemmas.{zip2_maps, zip2_splat_of, zip2_agrees}
 
 half : (w : Width) → 2 ^ bits w ≡ 2 ^ hbits w + 2 ^ hbits w
 half w8 = refl
@@ -81,13 +81,6 @@ less_equal_turned w a b fits_a fits_b = elim (signs w a fits_a) [
   ]
 ]
 
--- turned twice
-pub turned_back : (w : Width) (a : ℕ) → a < 2 ^ bits w → turned w (turned w a) ≡ a
-turned_back w a fits = elim (signs w a fits) [
-  | inl p ↦ rw p.turns (ap (λ n. n % 2 ^ bits w) (omega (arith, half w)) ∙ add-mod_right a (2 ^ bits w) ∙ mod-eq_of_lt fits)
-  | inr p ↦ rw p.turns (ap (λ n. n % 2 ^ bits w) (omega (arith, p.large)) ∙ mod-eq_of_lt fits)
-]
-
 -- a multiple of k less one more than e
 pub below_multiple : (q k e : ℕ) → 0 < k → e < q * k → (q * k - suc e) / k ≡ q - suc (e / k)
 below_multiple q k e some lt =
@@ -130,40 +123,16 @@ shift_turned w a s fits le =
       | inr p ↦ rw (p.number, p.turns, top) (high_shifted (2 ^ bits w) (2 ^ hbits w) q (2 ^ s) a some whole (half w) p.large fits)
     ]
 
--- the lesser and the greater of two turned elements, turned back
-turned_inj : (w : Width) (a b : ℕ) → a < 2 ^ bits w → b < 2 ^ bits w → turned w a ≡ turned w b → a ≡ b
-turned_inj w a b p q e = sym (turned_back w a p) ∙ ap (turned w) e ∙ turned_back w b q
+chosen : (w : Width) (t : Bool) (y x : ℤ) → cond t (cast_unsigned w y) (cast_unsigned w x) ≡ cast_unsigned w (cond t y x)
+chosen w true y x = refl
+chosen w false y x = refl
 
-pub least_turned : (w : Width) (a b : ℕ) → a < 2 ^ bits w → b < 2 ^ bits w → turned w (cond (ltb (turned w a) (turned w b)) (turned w a) (turned w b)) ≡ cast_unsigned w (int_min (cast_signed w a) (cast_signed w b))
-least_turned w a b p q = elim (cases_lt (turned w b) (turned w a)) [
-  | inl l ↦ rw (le-ltb (turned w a) (turned w b) (omega (arith, l)), sym (less_turned w b a q p), lt-ltb (turned w b) (turned w a) l) (turned_back w b q ∙ sym (of_z-to_z w b q))
-  | inr l ↦ elim (cases_lt (turned w a) (turned w b)) [
-    | inl k ↦ rw (lt-ltb (turned w a) (turned w b) k, sym (less_turned w b a q p), le-ltb (turned w b) (turned w a) l) (turned_back w a p ∙ sym (of_z-to_z w a p))
-    | inr k ↦ rw (le-ltb (turned w a) (turned w b) k, sym (less_turned w b a q p), le-ltb (turned w b) (turned w a) l) (turned_back w b q ∙ sym (turned_inj w a b p q (omega (arith, l, k))) ∙ sym (of_z-to_z w a p))
-  ]
-]
+-- b where it is turned below a, else a, and the other of the two
+pub least_turned : (w : Width) (a b : ℕ) → a < 2 ^ bits w → b < 2 ^ bits w → cond (ltb (turned w b) (turned w a)) b a ≡ cast_unsigned w (int_min (cast_signed w a) (cast_signed w b))
+least_turned w a b p q = ap₂ (λ n m. cond (ltb (turned w b) (turned w a)) n m) (sym (of_z-to_z w b q)) (sym (of_z-to_z w a p)) ∙ rw (less_turned w b a q p) (chosen w (int_lt (cast_signed w b) (cast_signed w a)) (cast_signed w b) (cast_signed w a))
 
-pub greatest_turned : (w : Width) (a b : ℕ) → a < 2 ^ bits w → b < 2 ^ bits w → turned w (cond (ltb (turned w a) (turned w b)) (turned w b) (turned w a)) ≡ cast_unsigned w (int_max (cast_signed w a) (cast_signed w b))
-greatest_turned w a b p q = elim (cases_lt (turned w b) (turned w a)) [
-  | inl l ↦ rw (le-ltb (turned w a) (turned w b) (omega (arith, l)), sym (less_turned w b a q p), lt-ltb (turned w b) (turned w a) l) (turned_back w a p ∙ sym (of_z-to_z w a p))
-  | inr l ↦ elim (cases_lt (turned w a) (turned w b)) [
-    | inl k ↦ rw (lt-ltb (turned w a) (turned w b) k, sym (less_turned w b a q p), le-ltb (turned w b) (turned w a) l) (turned_back w b q ∙ sym (of_z-to_z w b q))
-    | inr k ↦ rw (le-ltb (turned w a) (turned w b) k, sym (less_turned w b a q p), le-ltb (turned w b) (turned w a) l) (turned_back w a p ∙ turned_inj w a b p q (omega (arith, l, k)) ∙ sym (of_z-to_z w b q))
-  ]
-]
-
--- the same for vectors
-pub least_lanes : (w : Width) {us vs : List ℕ} (xs ys : List ℕ) → us ≡ map (turned w) xs → vs ≡ map (turned w) ys
-    → map (turned w) (sel_l (map (top (hbits w)) (zip2 (λ a b. cond (ltb a b) (2 ^ bits w - 1) 0) us vs)) us vs) ≡ zip2 (λ a b. turned w (cond (ltb (turned w a) (turned w b)) (turned w a) (turned w b))) xs ys
-least_lanes w {us} {vs} xs ys e f =
-    ap (map (turned w)) (picked w ltb us vs ∙ ap₂ (zip2 (λ a b. cond (ltb a b) a b)) e f ∙ zip2_maps (λ a b. cond (ltb a b) a b) (turned w) (turned w) xs ys)
-    ∙ map_zip2 (turned w) (λ a b. cond (ltb (turned w a) (turned w b)) (turned w a) (turned w b)) xs ys
-
-pub greatest_lanes : (w : Width) {us vs : List ℕ} (xs ys : List ℕ) → us ≡ map (turned w) xs → vs ≡ map (turned w) ys
-    → map (turned w) (sel_l (map (top (hbits w)) (zip2 (λ a b. cond (ltb a b) (2 ^ bits w - 1) 0) us vs)) vs us) ≡ zip2 (λ a b. turned w (cond (ltb (turned w a) (turned w b)) (turned w b) (turned w a))) xs ys
-greatest_lanes w {us} {vs} xs ys e f =
-    ap (map (turned w)) (picked_other w ltb us vs ∙ ap₂ (zip2 (λ a b. cond (ltb a b) b a)) e f ∙ zip2_maps (λ a b. cond (ltb a b) b a) (turned w) (turned w) xs ys)
-    ∙ map_zip2 (turned w) (λ a b. cond (ltb (turned w a) (turned w b)) (turned w b) (turned w a)) xs ys
+pub greatest_turned : (w : Width) (a b : ℕ) → a < 2 ^ bits w → b < 2 ^ bits w → cond (ltb (turned w b) (turned w a)) a b ≡ cast_unsigned w (int_max (cast_signed w a) (cast_signed w b))
+greatest_turned w a b p q = ap₂ (λ n m. cond (ltb (turned w b) (turned w a)) n m) (sym (of_z-to_z w a p)) (sym (of_z-to_z w b q)) ∙ rw (less_turned w b a q p) (chosen w (int_lt (cast_signed w b) (cast_signed w a)) (cast_signed w a) (cast_signed w b))
 
 -- turned lanes that are shifted, less the shifted top bits
 below_width : (w : Width) (b : ℕ) → shift_amount w b ≤ hbits w

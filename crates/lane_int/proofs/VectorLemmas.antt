@@ -1,5 +1,5 @@
 -- Vectors that are computed lane by lane from the lanes of two or three others.
-use Rattle.std.proofs.Common.{◌≡◌, ℕ, ◌-◌, ◌^◌, ◌<◌, List, [], ◌∷◌, Bool, cond, zero, suc, length, map, replicate, refl, ap, ap₂, ◌∙◌, arith, min, max, ltb, inl, inr, Fits, lit<, mod-lt, w8, w16, w32, w64}
+use Rattle.std.proofs.Common.{◌≡◌, ℕ, ◌-◌, ◌^◌, ◌<◌, List, [], ◌∷◌, Bool, cond, zero, suc, length, get_or, map, replicate, refl, ap, ap₂, ◌∙◌, arith, min, max, ltb, inl, inr, Fits, lit<, mod-lt, w8, w16, w32, w64}
 use Rattle.std.specs.Int.{Width, w128}
 use Rattle.std.specs.Simd.Lanes.{zip2, sel_l, top}
 use lib.Lanes.{Each1, Each2}
@@ -9,6 +9,7 @@ use Rattle.std.proofs.lemmas.Simd.{tops_compared}
 use Rattle.lane_int.specs.Integer.{shift_amount}
 use Rattle.lane_int.specs.Lists.{zip3}
 use Rattle.lane_int.specs.Chunks.{all_ones}
+use Rattle.lane_int.proofs.Overlay.{get_or-zip3}
 
 -- two functions agree on numbers below 2^SEW
 pub zip2_agrees : (w : Width) {f g : ℕ → ℕ → ℕ} (xs ys : List ℕ) → ((a b : ℕ) → a < 2 ^ bits w → b < 2 ^ bits w → f a b ≡ g a b) → Each1 (Fits w) xs → Each1 (Fits w) ys → zip2 f xs ys ≡ zip2 g xs ys
@@ -31,11 +32,6 @@ pub zip2_map_right : (f : ℕ → ℕ → ℕ) (h : ℕ → ℕ) (xs ys : List �
 zip2_map_right f h [] ys = refl
 zip2_map_right f h (x ∷ xs) [] = refl
 zip2_map_right f h (x ∷ xs) (y ∷ ys) = ap (λ rs. f x (h y) ∷ rs) (zip2_map_right f h xs ys)
-
-pub map_zip2 : (g : ℕ → ℕ) (f : ℕ → ℕ → ℕ) (xs ys : List ℕ) → map g (zip2 f xs ys) ≡ zip2 (λ a b. g (f a b)) xs ys
-map_zip2 g f [] ys = refl
-map_zip2 g f (x ∷ xs) [] = refl
-map_zip2 g f (x ∷ xs) (y ∷ ys) = ap (λ rs. g (f x y) ∷ rs) (map_zip2 g f xs ys)
 
 -- f of what g makes of the lanes, and of what h makes of a splat and the second lane
 pub zip2_splat_of : (f g h : ℕ → ℕ → ℕ) (n z : ℕ) (xs ys : List ℕ) → length ys ≡ n → zip2 f (zip2 g xs ys) (zip2 h (replicate n z) ys) ≡ zip2 (λ a b. f (g a b) (h z b)) xs ys
@@ -111,22 +107,14 @@ greatest a b = elim (cases_lt a b) [
   | inr l ↦ rw (le-ltb a b l) (omega (arith, l))
 ]
 
--- the lane of one vector or of the other, by a comparison of the two
-pub picked : (w : Width) (t : ℕ → ℕ → Bool) (us vs : List ℕ) → sel_l (map (top (hbits w)) (zip2 (λ a b. cond (t a b) (2 ^ bits w - 1) 0) us vs)) us vs ≡ zip2 (λ a b. cond (t a b) a b) us vs
-picked w t us vs = ap (λ ms. sel_l ms us vs) (tops_compared w t us vs) ∙ pick us vs
+-- the lane of one vector or of the other, by a comparison
+pub picked : (w : Width) (t : ℕ → ℕ → Bool) {holds : List ℕ} (xs ys : List ℕ) → holds ≡ zip2 (λ a b. cond (t a b) (2 ^ bits w - 1) 0) xs ys → sel_l (map (top (hbits w)) holds) xs ys ≡ zip2 (λ a b. cond (t a b) a b) xs ys
+picked w t xs ys is = ap (λ hs. sel_l (map (top (hbits w)) hs) xs ys) is ∙ ap (λ ms. sel_l ms xs ys) (tops_compared w t xs ys) ∙ pick xs ys
   where
-    pick : (us vs : List ℕ) → sel_l (zip2 t us vs) us vs ≡ zip2 (λ a b. cond (t a b) a b) us vs
-    pick [] vs = refl
-    pick (u ∷ us) [] = refl
-    pick (u ∷ us) (v ∷ vs) = ap (λ rs. cond (t u v) u v ∷ rs) (pick us vs)
-
-pub picked_other : (w : Width) (t : ℕ → ℕ → Bool) (us vs : List ℕ) → sel_l (map (top (hbits w)) (zip2 (λ a b. cond (t a b) (2 ^ bits w - 1) 0) us vs)) vs us ≡ zip2 (λ a b. cond (t a b) b a) us vs
-picked_other w t us vs = ap (λ ms. sel_l ms vs us) (tops_compared w t us vs) ∙ pick us vs
-  where
-    pick : (us vs : List ℕ) → sel_l (zip2 t us vs) vs us ≡ zip2 (λ a b. cond (t a b) b a) us vs
-    pick [] vs = refl
-    pick (u ∷ us) [] = refl
-    pick (u ∷ us) (v ∷ vs) = ap (λ rs. cond (t u v) v u ∷ rs) (pick us vs)
+    pick : (xs ys : List ℕ) → sel_l (zip2 t xs ys) xs ys ≡ zip2 (λ a b. cond (t a b) a b) xs ys
+    pick [] ys = refl
+    pick (x ∷ xs) [] = refl
+    pick (x ∷ xs) (y ∷ ys) = ap (λ rs. cond (t x y) x y ∷ rs) (pick xs ys)
 
 -- all ones in the lanes where t holds, which is a compare on numbers below 2^SEW
 pub compared : (w : Width) {t u : ℕ → ℕ → Bool} (n : ℕ) {holds : List ℕ} (xs ys : List ℕ) → holds ≡ zip2 (λ a b. cond (t a b) (2 ^ bits w - 1) 0) xs ys → ((a b : ℕ) → a < 2 ^ bits w → b < 2 ^ bits w → t a b ≡ u a b) → length xs ≡ n → Each1 (Fits w) xs → Each1 (Fits w) ys
@@ -136,3 +124,7 @@ compared w {t} {u} n xs ys is same long fits_x fits_y =
     ∙ ap (λ ms. sel_l ms (replicate n (2 ^ bits w - 1)) (replicate n 0)) (tops_compared w t xs ys)
     ∙ select_splats t n (2 ^ bits w - 1) 0 xs ys long
     ∙ zip2_agrees w xs ys (λ a b p q. ap (all_ones w) (same a b p q)) fits_x fits_y
+
+-- a lane that was read
+pub zip3_lane : (f : ℕ → ℕ → ℕ → ℕ) (n : ℕ) (xs ys zs : List ℕ) (i x : ℕ) → length xs ≡ n → length ys ≡ n → length zs ≡ n → i < n → x ≡ get_or (zip3 f xs ys zs) i x → x ≡ f (get_or xs i 0) (get_or ys i 0) (get_or zs i 0)
+zip3_lane f n xs ys zs i x long_x long_y long_z lt is = is ∙ get_or-zip3 f xs ys zs i 0 0 0 x (omega (arith, long_x, lt)) (omega (arith, long_y, lt)) (omega (arith, long_z, lt))

@@ -1,5 +1,0 @@
-use Rattle.std.proofs.lemmas.Simd.{zip2_splat}
-use Rattle.lane_int.proofs.chunks.turned_u16.Goals as goal
-
-pub returns : goal.returns
-returns c = zip2_splat _ c.args.lanes 8 32768 c.fits-lanes.0
