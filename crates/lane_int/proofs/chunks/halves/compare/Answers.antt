@@ -1,4 +1,4 @@
-use Rattle.std.proofs.Common.{◌∙◌, ap₂, eqb, ltb, leb, not, refl, w16}
+use Rattle.std.proofs.Common.{◌∙◌, ap₂, refl, w16}
 use Rattle.std.specs.Simd.Lanes.{zip2}
 use Rattle.lane_int.specs.Integer.{compares}
 use Rattle.lane_int.proofs.TurnedLemmas.{less_turned, less_equal_turned}
