@@ -1,9 +1,9 @@
 -- Blocks rise by their starts: a search finds the one that begins at an address.
-use Rattle.std.proofs.Common.{◌≡◌, inl, inr, ℕ, zero, suc, ◌+◌, ◌<◌, ◌≤◌, ◌==◌, ◌&&◌, Bool, true, false, ap, ◌∙◌, List, [], ◌∷◌, length, find, Some, None, get_or, arith, refl}
+use Rattle.std.proofs.Common.{◌≡◌, inl, inr, ℕ, zero, suc, ◌<◌, ◌≤◌, ◌==◌, ◌%◌, ◌&&◌, Bool, true, false, ap, ◌∙◌, List, [], ◌∷◌, length, find, Some, None, get_or, arith, refl, sym}
 use Rattle.std.specs.Prelude.{IsTrue, nat_lt, nat_le}
 use Rattle.std.specs.List.{position_or_len, slice_get}
 use Rattle.std.specs.List.Sorted.{IsNonDecreasingBy}
-use Rattle.std.proofs.lemmas.Bool.{cases_eq, cases_lt}
+use Rattle.std.proofs.lemmas.Bool.{cases_lt}
 use Rattle.std.proofs.lemmas.Bool.Decides.{nat_tests}
 use Rattle.std.proofs.lemmas.List.Folds.{find_at}
 use Rattle.std.proofs.lemmas.List.Sums.{position_or_len_is}
@@ -39,10 +39,6 @@ starts_rise vlen params from (b ∷ blocks) (suc i) (suc j) d valid le below =
 pub blocks_rise : (certificate : CertificateView) → IsCertificate certificate → IsNonDecreasingBy (λ block. block.start) certificate.blocks
 blocks_rise certificate is i j d le below = starts_rise certificate.vlen certificate.parameters 0 certificate.blocks i j d is.blocks le below
 
--- So do the addresses behind the starts.
-pub next_rise : (blocks : List Block) → IsNonDecreasingBy (λ block. block.start) blocks → IsNonDecreasingBy (λ block. block.start + 1) blocks
-next_rise blocks rise i j d le below = omega (arith, rise i j d le below)
-
 begins_below : (address start : ℕ) → nat_lt start address ≡ true → (start == address) ≡ false
 begins_below address start h = grind (arith, nat_tests)
 
@@ -56,21 +52,36 @@ unfolding block_at
 found_there address blocks count d split inside here =
     let at : position_or_len (λ block. block.start == address) blocks ≡ count =
     position_or_len_is (λ block. block.start == address) blocks count d (omega arith)
-    (λ k lt. begins_below address (get_or blocks k d).start (split.0 k d lt (omega arith))) (λ lt. here) in
+    (λ k lt. begins_below address (get_or blocks k d).start (split.0 k d (omega arith) lt)) (λ lt. here) in
     find_at (λ block. block.start == address) blocks ∙ (ap (λ k. slice_get blocks k) at ∙ slice_get-get_or blocks count d inside)
 
--- or that there is none.
-pub found_nowhere : (address : ℕ) (blocks : List Block) (count : ℕ) (d : Block) → IsNonDecreasingBy (λ block. block.start) blocks
-    → IsCountBelow address blocks count → count ≤ length blocks
-    → (count < length blocks → ((get_or blocks count d).start == address) ≡ false) → block_at address blocks ≡ None
-unfolding block_at
-found_nowhere address blocks count d rise split inside other =
+nowhere : (address : ℕ) (blocks : List Block) (count : ℕ) (d : Block) → IsNonDecreasingBy (λ block. block.start) blocks
+    → IsCountBelow address blocks count → (count < length blocks → ((get_or blocks count d).start == address) ≡ false)
+    → find (λ block. block.start == address) blocks ≡ None
+nowhere address blocks count d rise split other =
     let past : position_or_len (λ block. block.start == address) blocks ≡ length blocks =
     position_or_len_is (λ block. block.start == address) blocks (length blocks) d (omega arith)
     (λ k lt. elim (cases_lt k count) [
-      | inl below ↦ begins_below address (get_or blocks k d).start (split.0 k d below lt)
+      | inl below ↦ begins_below address (get_or blocks k d).start (split.0 k d (omega arith) below)
       | inr above ↦ begins_above address (get_or blocks count d).start (get_or blocks k d).start
           (split.1 count d (omega arith) (omega arith)) (other (omega arith)) (rise count k d above lt)
     ])
     (λ lt. absurd (omega arith)) in
     find_at (λ block. block.start == address) blocks ∙ (ap (λ k. slice_get blocks k) past ∙ slice_get_past blocks (length blocks) (omega arith))
+
+other_start : (start address : ℕ) → (start ≡ address → ⊥) → (start == address) ≡ false
+other_start start address other = grind (arith, nat_tests, other)
+
+-- or that there is none: the block at its place begins elsewhere,
+pub found_elsewhere : (address : ℕ) (blocks : List Block) (count : ℕ) (d : Block) → IsNonDecreasingBy (λ block. block.start) blocks
+    → IsCountBelow address blocks count → ((get_or blocks count d).start ≡ address → ⊥) → None ≡ block_at address blocks
+unfolding block_at
+found_elsewhere address blocks count d rise split other =
+    sym (nowhere address blocks count d rise split (λ below. other_start (get_or blocks count d).start address other))
+
+-- or no block is there.
+pub found_past : (address : ℕ) (blocks : List Block) (count : ℕ) → IsNonDecreasingBy (λ block. block.start) blocks
+    → IsCountBelow address blocks count → length blocks ≤ count → None ≡ block_at address blocks
+unfolding block_at
+found_past address [] count rise split past = refl
+found_past address (b ∷ blocks) count rise split past = sym (nowhere address (b ∷ blocks) count b rise split (λ below. absurd (omega (arith, past))))

@@ -37,7 +37,7 @@ fn count_below(blocks: &[Block], address: u32) -> usize
 }
 
 /// The block that begins at an address, by a search: blocks rise by their starts.
-#[tactic(auto, using(crate::proofs::SearchLemmas::found_there, crate::proofs::SearchLemmas::found_nowhere))]
+#[tactic(auto, using(crate::proofs::SearchLemmas::found_there))]
 fn find_block(blocks: &[Block], address: u32) -> Option<&Block>
     requires { IsNonDecreasingBy (λ block. block.start) blocks.now }
     ensures { option_copied result ≡ block_at_of address blocks.now }
