@@ -820,6 +820,7 @@ def jumps():
     case('a jump round 0 to EXIT', 'accepted 1 0 0', '.word 0xff1fe06f', '', '0x1000 1', at=0x1000)
     case('a jump round 0, past EXIT', 'TargetNotABlock 00001000', '.word 0xff5fe06f', '', '0x1000 1', at=0x1000)
     case('a block at EXIT', 'NotCode fffffff0', 'ecall', '', '0x10000 1\n0xfffffff0 0')
+    case('a block at EXIT, which is not entered', 'NotCode fffffff0', 'ecall', '', '0x10000 1\n0xfffffff0 9')
     both = '0x10000 2; x10 0..9\nno %s\nyes %s'
     for no, yes, expected in (
             ('1; x5 1..1', '2', 'BudgetNotProved 00010000'), ('2', '1; x5 1..1', 'IntervalNotProved 00010000'),

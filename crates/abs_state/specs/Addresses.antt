@@ -2,9 +2,7 @@
 use Rattle.std.specs.Prelude.{ℕ, ◌<◌, ℤ}
 use Rattle.std.specs.Int.{w32}
 use Rattle.std.specs.Int.RustNames.{FitsSigned}
-use Rattle.vreg_groups.specs.declared.vector_length.Vconfig.{Vconfig}
-use Rattle.scalar_core.specs.Hart.{Hart}
-use Rattle.scalar_core.specs.Arithmetic.{unsigned}
+use Rattle.abs_state.specs.Words.{Vconfig, Hart, unsigned}
 use Rattle.scalar_core.specs.Step.{address_of}
 use Rattle.abs_state.specs.Numbers.{NumbersView}
 use Rattle.abs_state.specs.Described.{LiesIn}

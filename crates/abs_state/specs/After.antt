@@ -1,22 +1,17 @@
 -- What an instruction makes of what is known, and where it leads.
 use Rattle.std.specs.Prelude.{ℕ, ◌+◌, ◌%◌, ◌^◌, if◌then◌else◌, Option, Some, None, Result, Ok, Err}
-use Rattle.rv_decode.specs.declared.instructions.Insn.{Insn}
-use Rattle.rv_decode.specs.declared.instructions.Insn.TheVariants.{Scalar, Csr, VSet, VArith, VMask, VPerm, VReduce, VMem, VMove}
-use Rattle.rv_decode.specs.declared.instructions.VMask.TheVariants.{Logic, Count, First, SetFirst, Iota, Index}
+use Rattle.abs_state.specs.Words.{Insn, Csr, VPerm, VReduce, VMove, Logic, Count, First, SetFirst, Iota, Index, ScalarInsn, Lui, Auipc, Jal, Jalr, Branch, ShiftImmediate, Register, Fence, Ecall, unsigned, exit, type_in}
+use Rattle.rv_decode.specs.declared.instructions.Insn.TheVariants.{Scalar, VSet, VArith, VMask, VMem}
 use Rattle.rv_decode.specs.declared.instructions.VMask as mask
 use Rattle.rv_decode.specs.declared.instructions.VMove.TheVariants.{ToScalar, FromScalar, Whole}
 use Rattle.rv_decode.specs.declared.instructions.VMove as move
 use Rattle.rv_decode.specs.declared.instructions.VSet as vset
-use Rattle.rv_decode.specs.declared.instructions.ScalarInsn.{ScalarInsn}
-use Rattle.rv_decode.specs.declared.instructions.ScalarInsn.TheVariants.{Lui, Auipc, Jal, Jalr, Branch, Load, Store, Immediate, ShiftImmediate, Register, Fence, Ecall}
-use Rattle.scalar_core.specs.Arithmetic.{unsigned}
-use Rattle.scalar_core.specs.Hart.{exit}
+use Rattle.rv_decode.specs.declared.instructions.ScalarInsn.TheVariants.{Load, Store, Immediate}
 use Rattle.scalar_core.specs.Step.{offset_by, without_bit_0}
 use Rattle.abs_state.specs.declared.why.Why.{Why}
 use Rattle.abs_state.specs.declared.values.Effect.TheVariants.{Fresh}
 use Rattle.abs_state.specs.declared.state.Way.{Way}
 use Rattle.abs_state.specs.declared.state.Way.TheVariants.{To, Unknown, Fork}
-use Rattle.vreg_groups.specs.VectorType.{type_in}
 use Rattle.abs_state.specs.Values.{full_range, known_of, up_to}
 use Rattle.abs_state.specs.Numbers.{NumbersView, value_at, with_result}
 use Rattle.abs_state.specs.Steps.{address_range, scalar_after, csr_after}

@@ -1,16 +1,9 @@
 -- That what is known where a block or a run begins is true of the hart there.
 use Rattle.std.specs.Prelude.{ℕ, ◌≡◌, ◌≢◌, ◌<◌, ◌≤◌, ◌+◌, ◌-◌, ◌^◌, ◌==◌, ◌⊎◌, nat_le, if◌then◌else◌, List, Option, Some, None, find, unwrap_or, IfSome}
 use Rattle.std.specs.List.{AllByRecursion, slice_get}
-use Rattle.linear_facts.specs.Forms.{value}
-use Rattle.region_mem.specs.declared.layout.TheConstants.{STACK_END}
+use Rattle.abs_state.specs.Words.{value, STACK_END, Vconfig, Hart, IsHart, exit, reg_of, Param, RegisterFact, Block, CertificateView, IsCertificate}
 use Rattle.region_mem.specs.declared.parameter.Param.TheVariants as parameter
 use Rattle.region_mem.specs.Parameter.{address_of}
-use Rattle.vreg_groups.specs.declared.vector_length.Vconfig.{Vconfig}
-use Rattle.scalar_core.specs.Hart.{Hart, IsHart, exit, reg_of}
-use Rattle.region_mem.specs.declared.parameter.Param.{Param}
-use Rattle.cert_note.specs.declared.values.RegisterFact.{RegisterFact}
-use Rattle.cert_note.specs.declared.values.Block.{Block}
-use Rattle.cert_note.specs.Certificate.{CertificateView, IsCertificate}
 use Rattle.abs_state.specs.Holds.{Holds, number_of}
 use Rattle.abs_state.specs.Blocks.{equality_form, start_numbers, entry_numbers}
 

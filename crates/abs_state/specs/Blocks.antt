@@ -3,24 +3,11 @@
 use Rattle.std.specs.Prelude.{ℕ, ◌<◌, ◌≤◌, ◌+◌, ◌-◌, ◌==◌, nat_le, nat_lt, ◌&&◌, if◌then◌else◌, List, [], ◌++◌, length, map, find, unwrap_or, Option, Some, None, IfSome}
 use Rattle.std.specs.List.{slice_get, range_with_len, AllByRecursion}
 use Rattle.std.specs.Option.{option_and_then}
-use Rattle.elf_image.specs.Image.{ImageView}
+use Rattle.abs_state.specs.Words.{ImageView, Range, Atom, Linear, IsForm, number_form, atom_form, AtomTable, range_of_form, STACK_END, vlenb_of, exit, Param, Equality, RegisterFact, Block, CertificateView}
 use Rattle.linear_facts.specs.declared.forms.Term.{Term as FormTerm}
-use Rattle.linear_facts.specs.declared.ranges.Range.{Range}
-use Rattle.linear_facts.specs.declared.ranges.Atom.{Atom}
-use Rattle.linear_facts.specs.Forms.{Linear, IsForm, number_form, atom_form}
-use Rattle.linear_facts.specs.Ranges.{AtomTable}
-use Rattle.linear_facts.specs.Sums.{range_of_form}
-use Rattle.region_mem.specs.declared.layout.TheConstants.{STACK_END}
 use Rattle.region_mem.specs.declared.parameter.Param.TheVariants as parameter
 use Rattle.region_mem.specs.Parameter.{address_of}
-use Rattle.vreg_groups.specs.VectorLength.{vlenb_of}
-use Rattle.scalar_core.specs.Hart.{exit}
-use Rattle.region_mem.specs.declared.parameter.Param.{Param}
 use Rattle.cert_note.specs.declared.values.Term.{Term}
-use Rattle.cert_note.specs.declared.values.Equality.{Equality}
-use Rattle.cert_note.specs.declared.values.RegisterFact.{RegisterFact}
-use Rattle.cert_note.specs.declared.values.Block.{Block}
-use Rattle.cert_note.specs.Certificate.{CertificateView}
 use Rattle.abs_state.specs.declared.state.Way.TheVariants.{To}
 use Rattle.abs_state.specs.Values.{full_range, just, computed_range}
 use Rattle.abs_state.specs.Numbers.{NumbersView, plain, value_at}

@@ -2,11 +2,8 @@
 use Rattle.std.specs.Prelude.{ℕ, ◌+◌, ◌-◌, ◌^◌, ◌==◌, Bool, true, false, nat_le, nat_lt, ◌&&◌, min, max, if◌then◌else◌, List, [], ◌∷◌, slice_set, slice_index_or, Option, Some, None}
 use Rattle.std.specs.Option.{option_map, option_and_then}
 use Rattle.linear_facts.specs.declared.forms.Term.{Term}
-use Rattle.linear_facts.specs.declared.ranges.Range.{Range}
+use Rattle.abs_state.specs.Words.{Range, Linear, AtomTable, meet_of, range_of_form}
 use Rattle.linear_facts.specs.declared.ranges.Change.{Change}
-use Rattle.linear_facts.specs.Forms.{Linear}
-use Rattle.linear_facts.specs.Ranges.{AtomTable, meet_of}
-use Rattle.linear_facts.specs.Sums.{range_of_form}
 use Rattle.rv_decode.specs.declared.instructions.Condition.{Condition}
 use Rattle.rv_decode.specs.declared.instructions.Condition.TheVariants.{Eq, Ne, Lt, Ge, Ltu, Geu}
 use Rattle.abs_state.specs.declared.state.Way.{Way}

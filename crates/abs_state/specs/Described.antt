@@ -2,19 +2,11 @@
 use Rattle.std.specs.Prelude.{ℕ, ◌≡◌, ◌<◌, ◌≤◌, ◌^◌, ℤ, IfSome}
 use Rattle.std.specs.Int.{w32}
 use Rattle.std.specs.Int.RustNames.{FitsSigned}
-use Rattle.linear_facts.specs.declared.ranges.Range.{Range}
-use Rattle.linear_facts.specs.Forms.{Linear, value, IsForm}
+use Rattle.abs_state.specs.Words.{Range, Linear, value, IsForm, RegisterOp, ImmediateOp, ShiftOp, LoadKind, CsrName, Vconfig, Hart, IsHart, unsigned, size_of_load}
 use Rattle.linear_facts.specs.Laws.{AreBelow}
-use Rattle.rv_decode.specs.declared.instructions.RegisterOp.{RegisterOp}
-use Rattle.rv_decode.specs.declared.instructions.ImmediateOp.{ImmediateOp}
-use Rattle.rv_decode.specs.declared.instructions.ShiftOp.{ShiftOp}
-use Rattle.rv_decode.specs.declared.instructions.LoadKind.{LoadKind}
-use Rattle.rv_decode.specs.declared.instructions.CsrName.{CsrName}
-use Rattle.vreg_groups.specs.declared.vector_length.Vconfig.{Vconfig}
 use Rattle.scalar_core.specs.Csr.{csr_value}
-use Rattle.scalar_core.specs.Hart.{Hart, IsHart}
-use Rattle.scalar_core.specs.Arithmetic.{register_result, immediate_result, shift_result, unsigned}
-use Rattle.scalar_core.specs.Step.{loaded, size_of_load}
+use Rattle.scalar_core.specs.Arithmetic.{register_result, immediate_result, shift_result}
+use Rattle.scalar_core.specs.Step.{loaded}
 use Rattle.abs_state.specs.declared.values.Effect.{Effect}
 use Rattle.abs_state.specs.declared.values.Effect.TheVariants.{Computed, Fresh, Copied}
 use Rattle.abs_state.specs.Values.{ValueView}

@@ -1,9 +1,6 @@
 -- What is true where an edge leads, and what an edge that implies a block, or the end of the run, is good for.
 use Rattle.std.specs.Prelude.{ℕ, ◌≡◌, ◌≤◌, ◌+◌, ◌==◌, Bool, true, false, find, Option, Some, None, Ok, IfSome}
-use Rattle.scalar_core.specs.Hart.{exit}
-use Rattle.vector_core.specs.Machine.{Machine}
-use Rattle.cert_note.specs.declared.values.Block.{Block}
-use Rattle.cert_note.specs.Certificate.{IsCertificate}
+use Rattle.abs_state.specs.Words.{exit, Machine, Block, IsCertificate}
 use Rattle.abs_state.specs.declared.state.Way.{Way}
 use Rattle.abs_state.specs.declared.state.Way.TheVariants.{To, Unknown, Fork}
 use Rattle.abs_state.specs.State.{AbstractView}

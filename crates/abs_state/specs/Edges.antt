@@ -3,16 +3,9 @@ use Rattle.std.specs.Prelude.{ℕ, ◌+◌, ◌*◌, ◌==◌, Bool, true, false
 use Rattle.std.specs.List.{list_all, list_any}
 use Rattle.std.specs.Option.{option_map_or}
 use Rattle.linear_facts.specs.declared.forms.Term.{Term}
-use Rattle.linear_facts.specs.declared.ranges.Range.{Range}
-use Rattle.linear_facts.specs.Forms.{Linear, substituted}
+use Rattle.abs_state.specs.Words.{Range, Linear, AtomTable, exit, Budget, Equality, RegisterFact, VectorFact, Block}
+use Rattle.linear_facts.specs.Forms.{substituted}
 use Rattle.linear_facts.specs.Differences.{Product, is_at_least_of}
-use Rattle.linear_facts.specs.Ranges.{AtomTable}
-use Rattle.scalar_core.specs.Hart.{exit}
-use Rattle.cert_note.specs.declared.values.Budget.{Budget}
-use Rattle.cert_note.specs.declared.values.Equality.{Equality}
-use Rattle.cert_note.specs.declared.values.RegisterFact.{RegisterFact}
-use Rattle.cert_note.specs.declared.values.VectorFact.{VectorFact}
-use Rattle.cert_note.specs.declared.values.Block.{Block}
 use Rattle.abs_state.specs.declared.why.Why.{Why}
 use Rattle.abs_state.specs.declared.why.Why.TheVariants.{VtypeUnknown, TargetNotABlock, IntervalNotProved, EqualityNotProved, VectorFactNotProved, BudgetNotProved}
 use Rattle.abs_state.specs.Values.{ValueView}

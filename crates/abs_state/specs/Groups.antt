@@ -2,11 +2,9 @@
 -- destination, and which facts stay true where registers are written or vl changes.
 use Rattle.std.specs.Prelude.{ℕ, ◌+◌, ◌-◌, ◌*◌, ◌/◌, ◌%◌, ◌^◌, ◌==◌, nat_lt, nat_le, ◌&&◌, ◌||◌, not, min, max, Bool, true, false, if◌then◌else◌, List, [], ◌∷◌, ◌++◌, map, filter, find, Option, Some, None}
 use Rattle.std.specs.Option.{option_and_then, option_map_or}
-use Rattle.linear_facts.specs.declared.ranges.Range.{Range}
+use Rattle.abs_state.specs.Words.{Range, Operand, Insn, Logic, Count, First, SetFirst, Iota, Index, needs_of, unsigned, Vtype, vlmax_of, vtype_of, VectorFact}
 use Rattle.rv_decode.specs.declared.extents.Eew.{Eew}
 use Rattle.rv_decode.specs.declared.extents.Eew.TheVariants.{Same, Double}
-use Rattle.rv_decode.specs.declared.extents.Operand.{Operand}
-use Rattle.rv_decode.specs.declared.instructions.Insn.{Insn}
 use Rattle.rv_decode.specs.declared.instructions.Insn.TheVariants as class
 use Rattle.rv_decode.specs.declared.instructions.Source.{Source}
 use Rattle.rv_decode.specs.declared.instructions.Source.TheVariants.{Vector, Scalar, Immediate}
@@ -17,13 +15,9 @@ use Rattle.rv_decode.specs.declared.instructions.IntOp.TheVariants as int
 use Rattle.rv_decode.specs.declared.instructions.NarrowOp.{NarrowOp}
 use Rattle.rv_decode.specs.declared.instructions.NarrowOp.TheVariants as narrow
 use Rattle.rv_decode.specs.declared.instructions.VMask.{VMask}
-use Rattle.rv_decode.specs.declared.instructions.VMask.TheVariants.{Logic, Count, First, SetFirst, Iota, Index}
-use Rattle.rv_decode.specs.Needs.{eew_of, needs_of}
-use Rattle.scalar_core.specs.Arithmetic.{unsigned}
-use Rattle.vreg_groups.specs.declared.vector_type.Vtype.{Vtype}
-use Rattle.vreg_groups.specs.VectorType.{bits_of_width, vlmax_of, vtype_of}
+use Rattle.rv_decode.specs.Needs.{eew_of}
+use Rattle.vreg_groups.specs.VectorType.{bits_of_width}
 use Rattle.vreg_groups.specs.Legality.{count_of, eew_bits, group_count}
-use Rattle.cert_note.specs.declared.values.VectorFact.{VectorFact}
 use Rattle.abs_state.specs.Values.{just, known_of, up_to}
 use Rattle.abs_state.specs.Numbers.{NumbersView, value_at}
 

@@ -1,22 +1,12 @@
 -- That what is known is true of a machine, throughout a run.
 use Rattle.std.specs.Prelude.{ℕ, nat_le, ◌≡◌, ◌<◌, ◌≤◌, ◌+◌, ◌*◌, ◌/◌, ◌-◌, ◌==◌, min, if◌then◌else◌, List, length, Option, Some, None, IfSome}
 use Rattle.std.specs.List.{AllByRecursion}
-use Rattle.elf_image.specs.Image.{ImageView}
-use Rattle.linear_facts.specs.Forms.{value}
-use Rattle.linear_facts.specs.Ranges.{AgreesWith}
-use Rattle.region_mem.specs.Laws.{HasCode, IsCodeSafe, AreBytes}
+use Rattle.abs_state.specs.Words.{ImageView, value, AgreesWith, IsCodeSafe, AreBytes, vlenb_of, Hart, IsHart, reg_of, Machine, Vectors, Budget, RegisterFact, VectorFact, Block, CertificateView}
+use Rattle.region_mem.specs.Laws.{HasCode}
 use Rattle.vreg_groups.specs.Elements.{element_at}
-use Rattle.vreg_groups.specs.VectorLength.{vlenb_of}
 use Rattle.scalar_core.specs.Arithmetic.{is_taken}
-use Rattle.scalar_core.specs.Hart.{Hart, IsHart, reg_of}
 use Rattle.vector_core.specs.KeepLaws.{AreRegisters}
-use Rattle.vector_core.specs.Machine.{Machine}
-use Rattle.vector_core.specs.Vectors.{Vectors, IsVectors}
-use Rattle.cert_note.specs.declared.values.Budget.{Budget}
-use Rattle.cert_note.specs.declared.values.RegisterFact.{RegisterFact}
-use Rattle.cert_note.specs.declared.values.VectorFact.{VectorFact}
-use Rattle.cert_note.specs.declared.values.Block.{Block}
-use Rattle.cert_note.specs.Certificate.{CertificateView}
+use Rattle.vector_core.specs.Vectors.{IsVectors}
 use Rattle.abs_state.specs.declared.state.Way.{Way}
 use Rattle.abs_state.specs.declared.state.Way.TheVariants.{To, Unknown, Fork}
 use Rattle.abs_state.specs.Described.{IsNumber}

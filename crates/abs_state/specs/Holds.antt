@@ -1,10 +1,8 @@
 -- That what is known of the registers and of vl is true of a hart.
 use Rattle.std.specs.Prelude.{ℕ, ◌≡◌, ◌<◌, ◌≤◌, ◌==◌, if◌then◌else◌, List, length, Some, None}
-use Rattle.linear_facts.specs.declared.ranges.Atom.{Atom}
-use Rattle.linear_facts.specs.declared.ranges.Split.{Split}
-use Rattle.linear_facts.specs.Ranges.{AtomTable, AgreesWith, split_at}
-use Rattle.vreg_groups.specs.declared.vector_length.Vconfig.{Vconfig}
-use Rattle.scalar_core.specs.Hart.{Hart, IsHart, reg_of, with_reg}
+use Rattle.abs_state.specs.Words.{Atom, Split, AtomTable, AgreesWith, Vconfig, Hart, IsHart, reg_of}
+use Rattle.linear_facts.specs.Ranges.{split_at}
+use Rattle.scalar_core.specs.Hart.{with_reg}
 use Rattle.abs_state.specs.declared.values.Effect.{Effect}
 use Rattle.abs_state.specs.Numbers.{NumbersView, value_at, with_result}
 use Rattle.abs_state.specs.Described.{IsNumber, Describes}

@@ -1,15 +1,10 @@
 -- What an instruction that sets vtype and vl makes of what is known ("Vector Configuration-Setting Instructions").
 use Rattle.std.specs.Prelude.{ℕ, ◌+◌, ◌-◌, ◌*◌, ◌==◌, min, Bool, true, false, if◌then◌else◌, List, [], ◌∷◌, ◌++◌, length, slice_index_or, slice_set, Option, Some, None}
 use Rattle.std.specs.Option.{option_and_then, option_map_or}
-use Rattle.linear_facts.specs.declared.ranges.Range.{Range}
-use Rattle.linear_facts.specs.declared.ranges.Atom.{Atom}
-use Rattle.linear_facts.specs.declared.ranges.Split.{Split}
-use Rattle.linear_facts.specs.Forms.{number_form, atom_form}
+use Rattle.abs_state.specs.Words.{Range, Atom, Split, number_form, atom_form, Vtype, vtype_of, vlmax_of}
 use Rattle.linear_facts.specs.Ranges.{unknown_atom}
 use Rattle.rv_decode.specs.declared.instructions.VSet.{VSet}
 use Rattle.rv_decode.specs.declared.instructions.VSet.TheVariants.{Vsetvli, Vsetivli, Vsetvl}
-use Rattle.vreg_groups.specs.declared.vector_type.Vtype.{Vtype}
-use Rattle.vreg_groups.specs.VectorType.{vtype_of, vlmax_of}
 use Rattle.abs_state.specs.declared.lengths.Asked.{Asked}
 use Rattle.abs_state.specs.declared.lengths.Asked.TheVariants.{Keep, Greatest, Register, Number}
 use Rattle.abs_state.specs.declared.lengths.Wanted.{Wanted}

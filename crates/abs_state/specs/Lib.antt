@@ -23,3 +23,4 @@ pub mod Steps
 pub mod Values
 pub mod VectorLaws
 pub mod Zones
+pub mod Words

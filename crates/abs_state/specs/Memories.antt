@@ -1,9 +1,9 @@
 -- Zones of a memory, and what is permitted there.
 use Rattle.std.specs.Prelude.{ℕ, ◌≡◌, ◌≤◌, ◌+◌, Bool, true, List, map, Some}
 use Rattle.std.specs.List.{list_any}
-use Rattle.region_mem.specs.declared.faults.Right.{Right}
+use Rattle.abs_state.specs.Words.{Right, Memory}
 use Rattle.region_mem.specs.Areas.{AreInside}
-use Rattle.region_mem.specs.Memory.{Memory, is_permitted, store_of}
+use Rattle.region_mem.specs.Memory.{is_permitted, store_of}
 use Rattle.abs_state.specs.declared.zones.Zone.{Zone}
 use Rattle.abs_state.specs.Zones.{zone_of, is_inside}
 

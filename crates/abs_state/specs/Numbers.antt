@@ -1,10 +1,6 @@
 -- The numbers of the registers and of vl, as far as they are known, over atoms.
 use Rattle.std.specs.Prelude.{ℕ, ◌==◌, if◌then◌else◌, List, [], ◌∷◌, ◌++◌, length, replicate, slice_set, slice_index_or, Option, Some, None}
-use Rattle.linear_facts.specs.declared.ranges.Range.{Range}
-use Rattle.linear_facts.specs.declared.ranges.Atom.{Atom}
-use Rattle.linear_facts.specs.Forms.{Linear, number_form, atom_form, within}
-use Rattle.linear_facts.specs.Ranges.{AtomTable}
-use Rattle.linear_facts.specs.Sums.{range_of_form}
+use Rattle.abs_state.specs.Words.{Range, Atom, Linear, number_form, atom_form, within, AtomTable, range_of_form}
 use Rattle.abs_state.specs.declared.values.Effect.{Effect}
 use Rattle.abs_state.specs.declared.values.Effect.TheVariants.{Computed, Fresh, Copied}
 use Rattle.abs_state.specs.Values.{ValueView, just, or_full, computed_range}

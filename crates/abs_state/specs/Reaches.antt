@@ -1,18 +1,14 @@
 -- Where the bytes of a vector load or store may lie, and its test: they have to lie in one zone. Masks are ignored.
 use Rattle.std.specs.Prelude.{ℕ, ◌+◌, ◌-◌, ◌*◌, ◌/◌, ◌^◌, ◌==◌, ◌%◌, nat_lt, nat_le, ◌&&◌, not, Bool, true, false, if◌then◌else◌, List, Option, Some, None, Result, Ok, Err}
-use Rattle.linear_facts.specs.declared.ranges.Range.{Range}
-use Rattle.linear_facts.specs.Forms.{Linear, number_form, scaled, sum_of, within}
-use Rattle.linear_facts.specs.Sums.{range_of_form}
+use Rattle.abs_state.specs.Words.{Range, Linear, number_form, scaled, sum_of, within, range_of_form, Vtype, VectorFact}
 use Rattle.rv_decode.specs.declared.extents.Eew.TheVariants.{Fixed}
 use Rattle.rv_decode.specs.declared.instructions.Direction.{Direction}
 use Rattle.rv_decode.specs.declared.instructions.Direction.TheVariants.{Load, Store}
 use Rattle.rv_decode.specs.declared.instructions.Place.{Place}
 use Rattle.rv_decode.specs.declared.instructions.Place.TheVariants as place
 use Rattle.rv_decode.specs.declared.instructions.VMem.{VMem}
-use Rattle.vreg_groups.specs.declared.vector_type.Vtype.{Vtype}
 use Rattle.vreg_groups.specs.VectorType.{bytes_of_width}
 use Rattle.vreg_groups.specs.Legality.{whole_count}
-use Rattle.cert_note.specs.declared.values.VectorFact.{VectorFact}
 use Rattle.abs_state.specs.declared.reaches.Reach.{Reach}
 use Rattle.abs_state.specs.declared.why.Why.{Why}
 use Rattle.abs_state.specs.declared.why.Why.TheVariants.{AccessNotProved}

@@ -1,15 +1,12 @@
 -- That what is known where a block or a run begins is true of the machine there.
 use Rattle.std.specs.Prelude.{ℕ, ◌≡◌, ◌<◌, ◌≤◌, ◌^◌, List, length, slice_index_or, Some}
 use Rattle.std.specs.List.{AllByRecursion}
-use Rattle.elf_image.specs.Image.{IsImage}
+use Rattle.abs_state.specs.Words.{IsImage, Machine, Block, IsCertificate}
 use Rattle.region_mem.specs.declared.arguments.Arg.TheVariants as argument
 use Rattle.region_mem.specs.Laws.{BringsBytes}
 use Rattle.region_mem.specs.Parameter.{Argument, AreArguments}
 use Rattle.vreg_groups.specs.declared.policies.Agnostic.{Agnostic}
-use Rattle.vector_core.specs.Machine.{Machine}
 use Rattle.vector_core.specs.Start.{passed_number, start}
-use Rattle.cert_note.specs.declared.values.Block.{Block}
-use Rattle.cert_note.specs.Certificate.{IsCertificate}
 use Rattle.abs_state.specs.BlockLaws.{ArePassed}
 use Rattle.abs_state.specs.Blocks.{at_block_of, at_entry_of}
 use Rattle.abs_state.specs.Held.{Setting, Held, Fits, budget_of, vlenb_in}

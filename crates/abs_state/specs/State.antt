@@ -1,7 +1,6 @@
 -- What is known of a machine at an instruction of a kernel.
 use Rattle.std.specs.Prelude.{ℕ, List, Option}
-use Rattle.cert_note.specs.declared.values.Budget.{Budget}
-use Rattle.cert_note.specs.declared.values.VectorFact.{VectorFact}
+use Rattle.abs_state.specs.Words.{Budget, VectorFact}
 use Rattle.abs_state.specs.declared.zones.Zone.{Zone}
 use Rattle.abs_state.specs.declared.state.Way.{Way}
 use Rattle.abs_state.specs.Values.{ValueView}

@@ -1,24 +1,15 @@
 -- Laws of one step: what is known after an instruction is true of the machine that it leads to.
 use Rattle.std.specs.Prelude.{ℕ, ◌≡◌, ◌<◌, ◌+◌, ◌%◌, ◌^◌, ◌==◌, Bool, true, false, if◌then◌else◌, List, Some, Result, Ok, Err}
-use Rattle.elf_image.specs.Image.{IsImage}
-use Rattle.rv_decode.specs.declared.instructions.Insn.{Insn}
-use Rattle.rv_decode.specs.declared.instructions.Insn.TheVariants.{Scalar, Csr, VSet, VArith, VMask, VPerm, VReduce, VMem, VMove}
-use Rattle.rv_decode.specs.declared.instructions.ScalarInsn.{ScalarInsn}
-use Rattle.rv_decode.specs.declared.instructions.ScalarInsn.TheVariants.{Lui, Auipc, Jal, Jalr, Branch, Load, Store, Immediate, ShiftImmediate, Register, Fence, Ecall}
-use Rattle.rv_decode.specs.declared.instructions.CsrInsn.{CsrInsn}
+use Rattle.abs_state.specs.Words.{IsImage, Insn, Csr, VPerm, VReduce, VMove, ScalarInsn, Lui, Auipc, Jal, Jalr, Branch, ShiftImmediate, Register, Fence, Ecall, CsrInsn, FieldsFit, Memory, AreBytes, IsCodeSafe, Vconfig, Hart, IsHart, Machine, carry_out, IsCertificate}
+use Rattle.rv_decode.specs.declared.instructions.Insn.TheVariants.{Scalar, VSet, VArith, VMask, VMem}
+use Rattle.rv_decode.specs.declared.instructions.ScalarInsn.TheVariants.{Load, Store, Immediate}
 use Rattle.rv_decode.specs.Decode.{meaning_of}
-use Rattle.rv_decode.specs.Encodings.{FieldsFit}
 use Rattle.region_mem.specs.declared.faults.Fault.{Fault}
 use Rattle.region_mem.specs.declared.faults.Fault.TheVariants.{JumpMisaligned}
-use Rattle.region_mem.specs.Memory.{Memory, fetch_of}
-use Rattle.region_mem.specs.Laws.{AreBytes, IsCodeSafe}
-use Rattle.vreg_groups.specs.declared.vector_length.Vconfig.{Vconfig}
+use Rattle.region_mem.specs.Memory.{fetch_of}
 use Rattle.scalar_core.specs.Csr.{csr_step}
-use Rattle.scalar_core.specs.Hart.{Hart, IsHart}
 use Rattle.scalar_core.specs.Step.{rv32im_step}
-use Rattle.vector_core.specs.Machine.{Machine}
-use Rattle.vector_core.specs.MachineStep.{carry_out, unless_misaligned}
-use Rattle.cert_note.specs.Certificate.{IsCertificate}
+use Rattle.vector_core.specs.MachineStep.{unless_misaligned}
 use Rattle.abs_state.specs.declared.state.Way.{Way}
 use Rattle.abs_state.specs.declared.state.Way.TheVariants.{To}
 use Rattle.abs_state.specs.declared.zones.Zone.{Zone}

@@ -1,13 +1,9 @@
 -- What a scalar instruction makes of what is known, or why it is refused. An access has to lie in one zone, whatever its
 -- address may be.
 use Rattle.std.specs.Prelude.{ℕ, ◌+◌, ◌%◌, ◌^◌, ℤ, List, Result, Ok, Err}
-use Rattle.linear_facts.specs.declared.ranges.Range.{Range}
-use Rattle.linear_facts.specs.Sums.{range_of_form}
-use Rattle.rv_decode.specs.declared.instructions.ScalarInsn.{ScalarInsn}
-use Rattle.rv_decode.specs.declared.instructions.ScalarInsn.TheVariants.{Lui, Auipc, Jal, Jalr, Branch, Load, Store, Immediate, ShiftImmediate, Register, Fence, Ecall}
-use Rattle.rv_decode.specs.declared.instructions.CsrInsn.{CsrInsn}
-use Rattle.scalar_core.specs.Arithmetic.{unsigned}
-use Rattle.scalar_core.specs.Step.{size_of_load, size_of_store}
+use Rattle.abs_state.specs.Words.{Range, range_of_form, ScalarInsn, Lui, Auipc, Jal, Jalr, Branch, ShiftImmediate, Register, Fence, Ecall, CsrInsn, unsigned, size_of_load}
+use Rattle.rv_decode.specs.declared.instructions.ScalarInsn.TheVariants.{Load, Store, Immediate}
+use Rattle.scalar_core.specs.Step.{size_of_store}
 use Rattle.abs_state.specs.declared.why.Why.{Why}
 use Rattle.abs_state.specs.declared.zones.Zone.{Zone}
 use Rattle.abs_state.specs.Values.{computed_range}

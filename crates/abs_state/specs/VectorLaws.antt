@@ -1,30 +1,18 @@
 -- Laws of one vector instruction: what is known after it is true of the machine that it leads to.
 use Rattle.std.specs.Prelude.{ℕ, ◌≡◌, ◌≤◌, ◌%◌, true, List, Option, Some, None, Result, Ok, IfSome}
 use Rattle.std.specs.List.{AllByRecursion}
-use Rattle.rv_decode.specs.declared.extents.Operand.{Operand}
-use Rattle.rv_decode.specs.declared.instructions.Insn.{Insn}
+use Rattle.abs_state.specs.Words.{Operand, Insn, FieldsFit, Memory, Vconfig, Vtype, type_in, vtype_of, is_legal, Hart, reg_of, Machine, carry_out, Vectors, VectorFact}
 use Rattle.rv_decode.specs.declared.instructions.Insn.TheVariants as class
 use Rattle.rv_decode.specs.declared.instructions.VSet as vset
 use Rattle.rv_decode.specs.declared.instructions.VMem as mem
-use Rattle.rv_decode.specs.Encodings.{FieldsFit}
-use Rattle.region_mem.specs.Memory.{Memory}
-use Rattle.vreg_groups.specs.declared.vector_length.Vconfig.{Vconfig}
-use Rattle.vreg_groups.specs.declared.vector_type.Vtype.{Vtype}
-use Rattle.vreg_groups.specs.VectorType.{type_in, vtype_of}
-use Rattle.vreg_groups.specs.Legality.{is_legal}
-use Rattle.scalar_core.specs.Hart.{Hart, reg_of}
 use Rattle.vector_mem.specs.Accesses.{first_refused, stored}
 use Rattle.vector_mem.specs.Transfers.{accesses_of}
 use Rattle.vector_mem.specs.declared.plan.Access.{Access}
 use Rattle.vector_core.specs.KeepLaws.{IsOutside}
 use Rattle.vector_core.specs.LoadsStores.{stride_of}
-use Rattle.vector_core.specs.Machine.{Machine}
-use Rattle.vector_core.specs.MachineStep.{carry_out}
 use Rattle.vector_core.specs.Setup.{setup_of}
 use Rattle.vector_core.specs.Step.{vector_step}
-use Rattle.vector_core.specs.Vectors.{Vectors}
 use Rattle.std.specs.Prelude.{get_or}
-use Rattle.cert_note.specs.declared.values.VectorFact.{VectorFact}
 use Rattle.abs_state.specs.State.{AbstractView}
 use Rattle.abs_state.specs.Legal.{legal_check}
 use Rattle.abs_state.specs.Reaches.{transfer_check}

@@ -2,13 +2,12 @@
 use Rattle.std.specs.Prelude.{ℕ, ◌+◌, Bool, true, false, ◌&&◌, nat_le, List, [], ◌∷◌, ◌++◌, length, map, unwrap_or, if◌then◌else◌, Option, Some, None, Result, Ok, Err}
 use Rattle.std.specs.Option.{option_to_list}
 use Rattle.std.specs.List.{list_any}
-use Rattle.elf_image.specs.Image.{SegmentView, ImageView}
+use Rattle.abs_state.specs.Words.{ImageView, Right, Param}
+use Rattle.elf_image.specs.Image.{SegmentView}
 use Rattle.region_mem.specs.declared.layout.TheConstants.{STACK, STACK_SIZE}
-use Rattle.region_mem.specs.declared.faults.Right.{Right}
 use Rattle.region_mem.specs.declared.faults.Right.TheVariants.{Read, Write, Fetch}
 use Rattle.region_mem.specs.declared.parameter.Mode.{Mode}
 use Rattle.region_mem.specs.declared.parameter.Mode.TheVariants as mode
-use Rattle.region_mem.specs.declared.parameter.Param.{Param}
 use Rattle.region_mem.specs.declared.parameter.Param.TheVariants as parameter
 use Rattle.region_mem.specs.Areas.{Area}
 use Rattle.region_mem.specs.Parameter.{address_of}

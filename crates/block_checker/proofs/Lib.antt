@@ -3,6 +3,7 @@ pub mod Finding
 pub mod Instance
 pub mod Passing
 pub mod Runs
+pub mod SearchLemmas
 pub mod StepLaws
 pub mod Walks
 pub mod Words

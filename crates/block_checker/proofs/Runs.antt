@@ -1,7 +1,9 @@
 -- A run of what passes goes from block to block, each with a smaller budget, until it ends.
-use Rattle.std.proofs.Common.{◌≡◌, ◌<◌, ◌+◌, ◌%◌, ℕ, zero, suc, false, arith, refl, sym, ap, ◌∙◌, subst, inl, inr, Some, Result, Ok, Err}
+use Rattle.std.proofs.Common.{◌≡◌, ◌<◌, ◌+◌, ◌%◌, ◌==◌, ℕ, zero, suc, Bool, true, false, arith, refl, sym, ap, ◌∙◌, subst, inl, inr, Some, None, Result, Ok, Err}
+use Rattle.std.specs.Prelude.{if◌then◌else◌}
 use Rattle.std.proofs.lemmas.Bool.Decides.{nat_tests}
 use Rattle.elf_image.specs.Image.{ImageView}
+use Rattle.scalar_core.specs.Hart.{exit}
 use Rattle.vector_core.specs.Machine.{Machine}
 use Rattle.vector_core.specs.MachineStep.{step}
 use Rattle.vector_core.specs.Run.{after}
@@ -108,27 +110,39 @@ module _ (image : ImageView) (certificate : CertificateView) (vlenb : ℕ) (begi
 
   -- ---- the entry
 
-  entry-shown : (b : Block) (edge : EdgeView) → edge.target ≡ Some image.entry → block_at image.entry certificate.blocks ≡ Some b
-      → edge_passes certificate image.entry edge ≡ Ok tt → implied_by edge (Some b) ≡ Ok tt
-  unfolding edge_passes block_for
-  entry-shown b edge target found passes =
+  goes-on : (address : ℕ) (b : Block) → (address == exit) ≡ false → block_at address certificate.blocks ≡ Some b
+      → block_for (Some address) certificate.blocks ≡ Some b
+  unfolding block_for
+  goes-on address b on found = ap (λ t. if t then None else block_at address certificate.blocks) on ∙ found
+
+  entry-shown : (b : Block) (edge : EdgeView) → edge.target ≡ Some image.entry → (image.entry == exit) ≡ false
+      → block_at image.entry certificate.blocks ≡ Some b → edge_passes certificate image.entry edge ≡ Ok tt → implied_by edge (Some b) ≡ Ok tt
+  unfolding edge_passes
+  entry-shown b edge target on found passes =
       let shown : implied_by edge (block_for edge.target certificate.blocks) ≡ Ok tt = told-ok image.entry _ passes in
-      let block : block_for edge.target certificate.blocks ≡ Some b = ap (λ o. block_for o certificate.blocks) target ∙ found in
+      let block : block_for edge.target certificate.blocks ≡ Some b = ap (λ o. block_for o certificate.blocks) target ∙ goes-on image.entry b on found in
       ap (implied_by edge) (sym block) ∙ shown
 
-  entry-fits : (b : Block) → block_at image.entry certificate.blocks ≡ Some b → entry_passes image certificate ≡ Ok tt → Fits b begin
+  entry-fits : (b : Block) → (image.entry == exit) ≡ false → block_at image.entry certificate.blocks ≡ Some b
+      → entry_passes image certificate ≡ Ok tt → Fits b begin
   unfolding entry_passes entry_passes_to possible_passes
-  entry-fits b found passes =
+  entry-fits b on found passes =
       let way = laws.entry_edge in
       let here : possible_passes certificate image.entry (refined false (at_entry_of image certificate)) ≡ Ok tt =
       ap (entry_passes_to image certificate) (sym found) ∙ passes in
       let edge : edge_passes certificate image.entry way.0 ≡ Ok tt =
       ap (possible_passes certificate image.entry) (sym way.1) ∙ here in
-      laws.entry way.0 b way.1 found (entry-shown b way.0 way.2 found edge)
+      laws.entry way.0 b way.1 found (entry-shown b way.0 way.2 on found edge)
 
   pub passing-ends : (b : Block) → begin.hart.pc ≡ image.entry → block_at image.entry certificate.blocks ≡ Some b
       → entry_passes image certificate ≡ Ok tt → blocks_pass image certificate certificate.blocks ≡ Ok tt
       → IsWellBehaved vlenb (budget_in b begin) begin
-  passing-ends b starts found entry passes =
-      let here : block_at begin.hart.pc certificate.blocks ≡ Some b = ap (λ pc. block_at pc certificate.blocks) starts ∙ found in
-      run-ends passes (suc (budget_in b begin)) b begin here (entry-fits b found entry) (omega arith)
+  unfolding after
+  passing-ends b starts found entry passes = by_end (image.entry == exit) refl
+    where
+      -- a run that begins at its end
+      by_end : (t : Bool) → (image.entry == exit) ≡ t → IsWellBehaved vlenb (budget_in b begin) begin
+      by_end true h = (0, begin, omega arith, refl, ap (λ pc. pc == exit) starts ∙ h)
+      by_end false h =
+          let here : block_at begin.hart.pc certificate.blocks ≡ Some b = ap (λ pc. block_at pc certificate.blocks) starts ∙ found in
+          run-ends passes (suc (budget_in b begin)) b begin here (entry-fits b h found entry) (omega arith)

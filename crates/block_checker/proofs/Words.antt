@@ -1,5 +1,5 @@
 -- A word that passes leads, without a fault, to the next word, to a block that may be entered, or to the end of the run.
-use Rattle.std.proofs.Common.{◌≡◌, ◌<◌, ◌≤◌, ◌+◌, ◌%◌, ◌^◌, ℕ, Bool, true, false, arith, refl, sym, ap, ◌∙◌, subst, inl, inr, ◌⊎◌, Option, Some, None, Result, Ok, Err}
+use Rattle.std.proofs.Common.{◌≡◌, ◌<◌, ◌≤◌, ◌+◌, ◌%◌, ◌^◌, ◌==◌, ℕ, Bool, true, false, arith, refl, sym, ap, ◌∙◌, subst, inl, inr, ◌⊎◌, Option, Some, None, Result, Ok, Err}
 use Rattle.std.specs.Prelude.{◌||◌, is_some, if◌then◌else◌}
 use Rattle.std.proofs.lemmas.Bool.Decides.{nat_tests}
 use Rattle.elf_image.specs.Image.{ImageView, code_at}
@@ -85,6 +85,13 @@ module _ (image : ImageView) (certificate : CertificateView) (vlenb : ℕ) (begi
       let same : edge.state.words ≡ b.words = laws.keeps taken b edge e in
       inr (block, h, there.0, omega (arith, there.1, same))
 
+  towards : (n : ℕ) (edge : EdgeView) (t : Machine) (taken : Bool) (b : AbstractView) → Held n b t → refined taken b ≡ Some edge
+      → Goes n edge t → (pc : ℕ) → t.hart.pc ≡ pc → (is_end : Bool)
+      → implied_by edge (if is_end then None else block_at pc certificate.blocks) ≡ Ok tt → Arrives certificate Fits n b.words t
+  towards n edge t taken b held e goes pc here true shown = ended-there n edge t taken b held e goes shown
+  towards n edge t taken b held e goes pc here false shown =
+      entered n edge t taken b held e goes (block_at pc certificate.blocks) (ap (λ (p : ℕ). block_at p certificate.blocks) here) shown
+
   targeted : (n : ℕ) (edge : EdgeView) (t : Machine) (taken : Bool) (b : AbstractView) → Held n b t → refined taken b ≡ Some edge
       → Goes n edge t → (target : Option ℕ) → edge.target ≡ target
       → implied_by edge (block_for target certificate.blocks) ≡ Ok tt → Arrives certificate Fits n b.words t
@@ -92,7 +99,7 @@ module _ (image : ImageView) (certificate : CertificateView) (vlenb : ℕ) (begi
   targeted n edge t taken b held e goes None h shown = ended-there n edge t taken b held e goes shown
   targeted n edge t taken b held e goes (Some pc) h shown =
       let here : t.hart.pc ≡ pc = laws.at n pc edge t goes h in
-      entered n edge t taken b held e goes (block_at pc certificate.blocks) (ap (λ (p : ℕ). block_at p certificate.blocks) here) shown
+      towards n edge t taken b held e goes pc here (pc == exit) shown
 
   -- an edge that passes, and is taken, arrives
   edge-arrives : (n pc : ℕ) (edge : EdgeView) (t : Machine) (taken : Bool) (b : AbstractView) → Held n b t → refined taken b ≡ Some edge

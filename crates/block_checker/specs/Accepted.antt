@@ -1,8 +1,6 @@
 -- An image that passed the check with its certificate, and what a check answers.
 use Rattle.std.specs.Prelude.{◌≡◌, ◌⊎◌, Ok, Err}
-use Rattle.elf_image.specs.Image.{ImageView}
-use Rattle.vreg_groups.specs.declared.vector_length.Vlen.{Vlen}
-use Rattle.cert_note.specs.Certificate.{CertificateView}
+use Rattle.block_checker.specs.Words.{ImageView, Vlen, CertificateView}
 use Rattle.block_checker.specs.declared.errors.CheckError.TheVariants.{NoMemory}
 use Rattle.block_checker.specs.Passes.{Checked, checked}
 

@@ -5,10 +5,10 @@ use Rattle.region_mem.specs.declared.layout.TheConstants.{STACK_END}
 use Rattle.region_mem.specs.declared.parameter.Param.{Param}
 use Rattle.region_mem.specs.declared.parameter.Param.TheVariants as parameter
 use Rattle.region_mem.specs.declared.arguments.Arg.TheVariants as argument
-use Rattle.region_mem.specs.Parameter.{Argument, address_of}
+use Rattle.block_checker.specs.Words.{Argument, Block}
+use Rattle.region_mem.specs.Parameter.{address_of}
 use Rattle.scalar_core.specs.Hart.{exit}
 use Rattle.cert_note.specs.declared.values.Budget.{Budget}
-use Rattle.cert_note.specs.declared.values.Block.{Block}
 use Rattle.block_checker.specs.Passes.{block_at}
 use Rattle.block_checker.specs.Accepted.{AcceptedView}
 

@@ -4,3 +4,4 @@ pub mod Accepted
 pub mod Bound
 pub mod Sound
 pub mod Walking
+pub mod Words

@@ -1,17 +1,13 @@
 -- The check of an image against its certificate, in the order in which it looks.
 use Rattle.std.specs.Prelude.{ℕ, zero, suc, ◌+◌, ◌==◌, Bool, true, false, ◌||◌, is_some, List, [], ◌∷◌, find, Option, Some, None, Result, Ok, Err, if◌then◌else◌}
-use Rattle.elf_image.specs.Image.{ImageView, code_at}
+use Rattle.block_checker.specs.Words.{ImageView, vlenb_of, Vlen, Block, CertificateView, Why, AbstractView}
+use Rattle.elf_image.specs.Image.{code_at}
 use Rattle.rv_decode.specs.Decode.{meaning_of}
 use Rattle.rv_decode.specs.declared.instructions.Insn.{Insn}
 use Rattle.rv_decode.specs.declared.instructions.Insn.TheVariants.{Scalar, Csr, VSet, VArith, VMask, VPerm, VReduce, VMem, VMove}
 use Rattle.rv_decode.specs.declared.instructions.ScalarInsn.{ScalarInsn}
 use Rattle.rv_decode.specs.declared.instructions.ScalarInsn.TheVariants.{Lui, Auipc, Jal, Jalr, Branch, Load, Store, Immediate, ShiftImmediate, Register, Fence, Ecall}
-use Rattle.vreg_groups.specs.VectorLength.{vlenb_of}
-use Rattle.vreg_groups.specs.declared.vector_length.Vlen.{Vlen}
-use Rattle.cert_note.specs.declared.values.Block.{Block}
-use Rattle.cert_note.specs.Certificate.{CertificateView}
-use Rattle.abs_state.specs.declared.why.Why.{Why}
-use Rattle.abs_state.specs.State.{AbstractView}
+use Rattle.scalar_core.specs.Hart.{exit}
 use Rattle.abs_state.specs.After.{after_of}
 use Rattle.abs_state.specs.Blocks.{at_block_of, at_entry_of}
 use Rattle.abs_state.specs.Branches.{EdgeView, refined}
@@ -87,10 +83,10 @@ is_jump (VMove insn) = false
 
 -- ---- edges
 
--- the block to which an edge leads, if its target is known and a block begins there
+-- the block to which an edge leads, if its target is known, the run goes on there, and a block begins there
 unfoldable pub block_for : Option ℕ → List Block → Option Block
 block_for None blocks = None
-block_for (Some address) blocks = block_at address blocks
+block_for (Some address) blocks = if address == exit then None else block_at address blocks
 
 -- an edge's answer, told at the word at pc
 abbrev pub told_at : ℕ → Result (Unit {0}) Why → Checked

@@ -1,6 +1,6 @@
 -- The error of what could not be proved at a word.
 use Rattle.std.specs.Prelude.{ℕ}
-use Rattle.abs_state.specs.declared.why.Why.{Why}
+use Rattle.block_checker.specs.Words.{Why}
 use Rattle.abs_state.specs.declared.why.Why.TheVariants as why
 use Rattle.block_checker.specs.declared.errors.CheckError.{CheckError}
 use Rattle.block_checker.specs.declared.errors.CheckError.TheVariants.{IllegalWord, VtypeUnknown, AccessNotProved, ReadOnly, TargetNotABlock, IntervalNotProved, EqualityNotProved, VectorFactNotProved, BudgetNotProved}

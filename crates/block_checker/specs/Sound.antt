@@ -1,18 +1,16 @@
 -- What passes the check ends, within the number that its certificate states, without a fault.
 use Rattle.std.specs.Prelude.{ℕ, ◌≡◌, ◌≤◌, true, List, length, Some, Ok}
-use Rattle.elf_image.specs.Image.{ImageView, IsImage}
+use Rattle.block_checker.specs.Words.{ImageView, Argument, vlenb_of, Vlen, Block, CertificateView}
+use Rattle.elf_image.specs.Image.{IsImage}
 use Rattle.std.specs.List.{AllByRecursion}
 use Rattle.region_mem.specs.Laws.{BringsBytes}
-use Rattle.region_mem.specs.Parameter.{Argument, AreArguments}
+use Rattle.region_mem.specs.Parameter.{AreArguments}
 use Rattle.vreg_groups.specs.declared.policies.Agnostic.{Agnostic}
-use Rattle.vreg_groups.specs.VectorLength.{vlenb_of}
 use Rattle.scalar_core.specs.Hart.{reg_of}
 use Rattle.vector_core.specs.Machine.{Machine}
 use Rattle.vector_core.specs.Run.{after, has_ended}
 use Rattle.vector_core.specs.Start.{start}
-use Rattle.vreg_groups.specs.declared.vector_length.Vlen.{Vlen}
-use Rattle.cert_note.specs.declared.values.Block.{Block}
-use Rattle.cert_note.specs.Certificate.{CertificateView, IsCertificate}
+use Rattle.cert_note.specs.Certificate.{IsCertificate}
 use Rattle.block_checker.specs.Passes.{block_at, checked}
 use Rattle.block_checker.specs.Accepted.{AcceptedView}
 use Rattle.block_checker.specs.Bound.{budget_at, bound_of, scalars_of}

@@ -1,6 +1,7 @@
 //! The check, word by word and block by block.
 ghost use Rattle.std.specs.Prelude.{◌≡◌, ◌≤◌, ◌<◌, ◌+◌, ◌^◌, ◌||◌, is_some, length, option_copied, IsOk, Ok, Some};
 ghost use Rattle.std.specs.List.{slice_get};
+ghost use Rattle.std.specs.List.Sorted.{IsNonDecreasingBy};
 ghost use Rattle.cert_note.specs.declared.values.Block.{Block};
 ghost use Rattle.abs_state.specs.Branches.{refined};
 ghost use Rattle.block_checker.specs.Passes.{block_at as block_at_of, block_for as block_for_of, is_branch as is_branch_of, is_jump as is_jump_of};
@@ -8,13 +9,14 @@ ghost use Rattle.block_checker.specs.Passes.{edge_passes as edge_passes_of, poss
 ghost use Rattle.block_checker.specs.Passes.{word_passes as word_passes_of, walk as walk_of, block_passes as block_passes_of, blocks_pass as blocks_pass_of};
 ghost use Rattle.block_checker.specs.Passes.{entry_passes as entry_passes_of, checked as checked_of};
 ghost use Rattle.block_checker.specs.Accepted.{IsAnswer};
-ghost use Rattle.block_checker.specs.Walking.{progress_of};
+ghost use Rattle.block_checker.specs.Walking.{IsCountBelow, progress_of};
 
 use crate::errors::{CheckError, told};
 use abs_state::{Abstract, Edge, MOST_WORDS, implies};
 use cert_note::{Block, Certificate};
 use elf_image::Image;
 use rv_decode::{Insn, ScalarInsn, decode};
+use scalar_core::EXIT;
 use std::alloc::Allocator;
 use vreg_groups::Vlen;
 
@@ -25,28 +27,46 @@ pub(crate) enum Told {
     On,
 }
 
-/// The block that begins at an address.
-#[tactic(auto, unfolding(crate::specs::Passes::block_at))]
+/// How many blocks begin below an address.
+fn count_below(blocks: &[Block], address: u32) -> usize
+    requires { IsNonDecreasingBy (λ block. block.start) blocks.now }
+    ensures split { IsCountBelow address blocks.now result }
+    ensures inside { result ≤ length blocks.now }
+{
+    blocks.partition_point(|block| block.start < address)
+}
+
+/// The block that begins at an address, by a search: blocks rise by their starts.
+#[tactic(auto, using(crate::proofs::SearchLemmas::found_there))]
 fn find_block(blocks: &[Block], address: u32) -> Option<&Block>
+    requires { IsNonDecreasingBy (λ block. block.start) blocks.now }
     ensures { option_copied result ≡ block_at_of address blocks.now }
 {
-    blocks.iter().find(|block| block.start == address)
+    let place = count_below(blocks, address);
+    if place < blocks.len() && blocks[place].start == address {
+        Some(&blocks[place])
+    } else {
+        None
+    }
 }
 
 /// The block of a certificate that begins at an address.
+#[tactic(auto, using(crate::proofs::SearchLemmas::blocks_rise))]
 pub(crate) fn block_at<C: Allocator>(certificate: &Certificate<C>, address: u32) -> Option<&Block>
     ensures { option_copied result ≡ block_at_of address certificate.now.blocks }
 {
-    find_block(&certificate.contents().blocks, address)
+    let contents = certificate.contents();
+    find_block(&contents.blocks, address)
 }
 
-/// The block to which an edge leads.
+/// The block to which an edge leads; none where it ends the run.
 #[tactic(auto, unfolding(crate::specs::Passes::block_for))]
 fn block_for<C: Allocator>(certificate: &Certificate<C>, target: Option<u32>) -> Option<&Block>
     ensures { option_copied result ≡ block_for_of target certificate.now.blocks }
 {
     match target {
         None => None,
+        Some(EXIT) => None,
         Some(address) => block_at(certificate, address),
     }
 }

@@ -77,10 +77,7 @@ fn a_body_is_written_and_read_by_its_bytes(rt: HostRuntime) -> Result<(), Fail> 
     );
     assert_eq!(rt; registers.byte(Reg::new(4), 6), 0xff);
     registers.set_register_bytes(Reg::new(4), &[11; 16]);
-    assert_eq!(rt;
-        registers.register_bytes(Reg::new(4), 1),
-        [11; 16].as_slice()
-    );
+    assert_eq!(rt; registers.group(Reg::new(4), 1), [11; 16].as_slice());
     assert_eq!(rt; registers.byte(Reg::new(5), 0), 0);
     Ok(())
 }

@@ -9,6 +9,8 @@ mod certificates;
 #[cfg(test)]
 mod checks;
 #[cfg(test)]
+mod chunks;
+#[cfg(test)]
 mod fixed_point;
 #[cfg(test)]
 mod fixture;

@@ -1,2 +1,4 @@
+pub mod ChunkLaneLemmas
+pub mod ChunkLemmas
 pub mod KernelLemmas
 pub mod RoundingLemmas

@@ -49,3 +49,16 @@ pub enum ClipOp {
     /// vnclip
     Clip,
 }
+
+/// An operation of the chunk calls.
+#[derive(Clone, Copy, PartialEq, Eq, Debug)]
+pub enum Op {
+    /// vsaddu
+    SatAddU,
+    /// vsadd
+    SatAdd,
+    /// vssubu: vs2 - b
+    SatSubU,
+    /// vssub: vs2 - b
+    SatSub,
+}

@@ -1,2 +1,4 @@
 pub mod Overlay
 pub mod ResizingLemmas
+pub mod TurnedLemmas
+pub mod VectorLemmas

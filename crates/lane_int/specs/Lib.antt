@@ -1,3 +1,4 @@
+pub mod Chunks
 pub mod Integer
 pub mod Lists
 pub mod Resizing

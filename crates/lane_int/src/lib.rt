@@ -3,6 +3,7 @@
 #![tactic(auto)]
 
 mod bytes;
+mod chunks;
 mod halves;
 mod kernels;
 mod lane;
@@ -10,7 +11,8 @@ mod operations;
 mod resizing;
 mod words;
 
+pub use chunks::{chunk_u8, chunk_u16, chunk_u32, lane_u8, lane_u16, lane_u32};
 pub use kernels::{compare, compute, compute_carried, compute_carries, multiply_add};
 pub use lane::Lane;
-pub use operations::{CarryOp, CompareOp, IntOp, MultiplyAddOp};
+pub use operations::{CarryOp, CompareOp, IntOp, MultiplyAddOp, Op};
 pub use resizing::{Narrow, cut, extend};

@@ -89,3 +89,40 @@ pub enum MultiplyAddOp {
     /// vnmsub: -(b * vd) + vs2
     Nmsub,
 }
+
+/// An operation of the chunk calls: on vs2's lane, on b and on vd's old lane.
+#[derive(Clone, Copy, PartialEq, Eq, Debug)]
+pub enum Op {
+    /// vadd
+    Add,
+    /// vsub: vs2 - b
+    Sub,
+    /// vrsub: b - vs2
+    ReverseSub,
+    /// vminu
+    MinU,
+    /// vmin
+    Min,
+    /// vmaxu
+    MaxU,
+    /// vmax
+    Max,
+    /// vand
+    And,
+    /// vor
+    Or,
+    /// vxor
+    Xor,
+    /// vsll
+    ShiftLeft,
+    /// vsrl
+    ShiftRight,
+    /// vsra
+    ShiftRightSigned,
+    /// vmul
+    Mul,
+    /// vmseq to vmsgt: all ones where it holds, else 0
+    Compare(CompareOp),
+    /// vmacc to vnmsub
+    MultiplyAdd(MultiplyAddOp),
+}

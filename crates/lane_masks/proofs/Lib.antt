@@ -1,2 +1,3 @@
+pub mod ChunkLemmas
 pub mod FoldLemmas
 pub mod OverlayLemmas

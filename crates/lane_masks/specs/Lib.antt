@@ -1,3 +1,4 @@
+pub mod Chunks
 pub mod Folds
 pub mod Masks
 pub mod Permutations

@@ -2,6 +2,7 @@
 //! slides, gathers and compressions, each over whole slices.
 #![tactic(auto)]
 
+mod chunks;
 mod counts;
 mod folds;
 mod lane;
@@ -9,6 +10,7 @@ mod logic;
 mod operations;
 mod permutations;
 
+pub use chunks::chunk_u8;
 pub use counts::{count, first, index, iota, set_first};
 pub use folds::{fold, fold_extended};
 pub use lane::FoldLane;

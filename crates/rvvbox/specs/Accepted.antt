@@ -5,16 +5,10 @@ use Rattle.block_checker.specs.Bound.{bound_of, scalars_of}
 use Rattle.block_checker.specs.Passes.{Checked, checked}
 use Rattle.cert_note.specs.Certificate.{CertificateView}
 use Rattle.cert_note.specs.Reading.{certificate_of}
-use Rattle.cert_note.specs.declared.refusals.CertError.{CertError}
-use Rattle.elf_image.specs.Image.{ImageView}
+use Rattle.rvvbox.specs.Words.{CertError, ImageView, Argument, OpenError, start, vlenb_of, Agnostic}
 use Rattle.job_file.specs.Job.{Text}
 use Rattle.job_file.specs.declared.values.RunJob.{RunJob}
-use Rattle.region_mem.specs.Parameter.{Argument}
 use Rattle.sandbox_run.specs.Session.{open_fault}
-use Rattle.sandbox_run.specs.declared.outcome.OpenError.{OpenError}
-use Rattle.vector_core.specs.Start.{start}
-use Rattle.vreg_groups.specs.VectorLength.{vlenb_of}
-use Rattle.vreg_groups.specs.declared.policies.Agnostic.{Agnostic}
 use Rattle.vreg_groups.specs.declared.vector_length.Vlen.{Vlen}
 use Rattle.rvvbox.specs.Ending.{stop_of_certificate, stop_of_check, stop_of_open}
 use Rattle.rvvbox.specs.Trial.{trial_from}

@@ -2,14 +2,12 @@
 use Rattle.std.specs.Prelude.{ℕ, List, Bool, true, false, Option, Some, None}
 use Rattle.block_checker.specs.declared.errors.CheckError.{CheckError}
 use Rattle.block_checker.specs.declared.errors.CheckError.TheVariants as check_error
-use Rattle.cert_note.specs.declared.refusals.CertError.{CertError}
+use Rattle.rvvbox.specs.Words.{CertError, kind_of, OpenError}
 use Rattle.cert_note.specs.declared.refusals.CertError.TheVariants as certificate_error
-use Rattle.clap.specs.Words.{kind_of}
 use Rattle.clap.specs.declared.error.kind.ErrorKind.{ErrorKind}
 use Rattle.clap.specs.declared.error.kind.ErrorKind.TheVariants.{DisplayHelp, DisplayVersion}
 use Rattle.elf_image.specs.declared.error.ElfError.{ElfError}
 use Rattle.elf_image.specs.declared.error.ElfError.TheVariants as image_error
-use Rattle.sandbox_run.specs.declared.outcome.OpenError.{OpenError}
 use Rattle.sandbox_run.specs.declared.outcome.OpenError.TheVariants as open_error
 use Rattle.std.specs.Borrow.{Bor}
 use Rattle.std.specs.declared.io.ErrorKind.{ErrorKind as IoErrorKind}

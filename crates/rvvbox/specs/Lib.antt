@@ -3,3 +3,4 @@ pub mod Ending
 pub mod Line
 pub mod Program
 pub mod Trial
+pub mod Words

@@ -1,8 +1,8 @@
 -- The command line: which words name which subcommand and paths, over `clap`'s own account of a command.
 use Rattle.std.specs.Prelude.{◌≡◌, List, [], Option, Some, None, option_and_then, if◌then◌else◌, codes, true}
 use Rattle.std.specs.Str.{bytes_eq}
-use Rattle.clap.specs.Words.{App, Row, Rule, Shape, Text, fault_of, first_of, kind_of, new_app, new_rule, subcommand_of, with_rule, with_subcommand, IsAmong}
-use Rattle.clap.specs.Kinds.{Kinds}
+use Rattle.rvvbox.specs.Words.{kind_of, Kinds}
+use Rattle.clap.specs.Words.{App, Row, Rule, Shape, Text, fault_of, first_of, new_app, new_rule, subcommand_of, with_rule, with_subcommand, IsAmong}
 use Rattle.clap.specs.Simple.{new_shape}
 use Rattle.clap.specs.declared.builder.action.ArgAction.TheVariants.{Set}
 use Rattle.rvvbox.specs.declared.line.asked.Line.{Line}

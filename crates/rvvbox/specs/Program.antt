@@ -1,7 +1,7 @@
 -- What the words alone say of how the program ends.
 use Rattle.std.specs.Prelude.{◌≡◌, not, true, []}
 use Rattle.std.specs.List.{list_any}
-use Rattle.clap.specs.Kinds.{Kinds}
+use Rattle.rvvbox.specs.Words.{Kinds}
 use Rattle.rvvbox.specs.Ending.{is_help}
 use Rattle.rvvbox.specs.declared.stop.Status.{Status}
 use Rattle.rvvbox.specs.declared.stop.Status.TheVariants as status

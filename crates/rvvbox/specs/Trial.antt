@@ -1,7 +1,7 @@
 -- What comes of a job: its run on an image and on arguments, and which files are written after it.
 use Rattle.std.specs.Prelude.{◌≡◌, ◌<◌, ◌-◌, ◌^◌, ℕ, min, List, length, map, get_or, Option, Some, None, Result, Ok, Err, MatchResult}
 use Rattle.std.specs.List.{zip}
-use Rattle.elf_image.specs.Image.{ImageView}
+use Rattle.rvvbox.specs.Words.{ImageView, Argument, start, vlenb_of, Agnostic}
 use Rattle.job_file.specs.Job.{Text}
 use Rattle.job_file.specs.declared.values.JobError.TheVariants.{BadKey}
 use Rattle.job_file.specs.declared.values.RunParam.{RunParam}
@@ -9,7 +9,7 @@ use Rattle.job_file.specs.declared.values.RunParam.TheVariants as given
 use Rattle.job_file.specs.declared.values.TryJob.{TryJob}
 use Rattle.job_file.specs.declared.values.TryParam.{TryParam}
 use Rattle.job_file.specs.declared.values.TryParam.TheVariants as taken
-use Rattle.region_mem.specs.Parameter.{Argument, argument_error, parameters_of}
+use Rattle.region_mem.specs.Parameter.{argument_error, parameters_of}
 use Rattle.region_mem.specs.declared.arguments.Arg.TheVariants as argument
 use Rattle.region_mem.specs.declared.faults.Fault.{Fault}
 use Rattle.region_mem.specs.declared.faults.Fault.TheVariants.{Illegal, FetchFault, LoadFault, StoreFault, JumpMisaligned}
@@ -20,11 +20,8 @@ use Rattle.sandbox_run.specs.Answer.{answer_of}
 use Rattle.sandbox_run.specs.Errors.{open_error_of}
 use Rattle.vector_core.specs.Machine.{Machine}
 use Rattle.vector_core.specs.Run.{outcome}
-use Rattle.vector_core.specs.Start.{start}
 use Rattle.sandbox_run.specs.declared.outcome.Outcome.{Outcome}
 use Rattle.sandbox_run.specs.declared.outcome.Outcome.TheVariants as stopped
-use Rattle.vreg_groups.specs.VectorLength.{vlenb_of}
-use Rattle.vreg_groups.specs.declared.policies.Agnostic.{Agnostic}
 use Rattle.rvvbox.specs.declared.stop.Stop.{Stop}
 use Rattle.rvvbox.specs.declared.stop.Stop.TheVariants as stop
 use Rattle.rvvbox.specs.declared.trial.End.TheVariants as end

@@ -1,7 +1,7 @@
 -- What a run answers.
 use Rattle.std.specs.Prelude.{ℕ, List}
 use Rattle.region_mem.specs.Memory.{args_of}
-use Rattle.vector_core.specs.Machine.{Machine}
+use Rattle.sandbox_run.specs.Words.{Machine}
 use Rattle.vector_core.specs.Run.{Stop, Ended, Trapped, OutOfSteps}
 use Rattle.sandbox_run.specs.declared.outcome.Registers.{Registers}
 use Rattle.sandbox_run.specs.declared.outcome.Final.{Final}

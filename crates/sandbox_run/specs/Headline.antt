@@ -2,15 +2,12 @@
 use Rattle.std.specs.Prelude.{ℕ, ◌≡◌, ◌<◌, ◌≤◌, true, List, length, Ok}
 use Rattle.std.specs.List.{AllByRecursion}
 use Rattle.region_mem.specs.Laws.{BringsBytes}
-use Rattle.region_mem.specs.Parameter.{Argument, AreArguments}
+use Rattle.sandbox_run.specs.Words.{Argument, vlenb_of, Machine, AcceptedView, bound_of, scalars_of}
+use Rattle.region_mem.specs.Parameter.{AreArguments}
 use Rattle.vreg_groups.specs.declared.policies.Agnostic.{Agnostic}
-use Rattle.vreg_groups.specs.VectorLength.{vlenb_of}
-use Rattle.vector_core.specs.Machine.{Machine}
 use Rattle.vector_core.specs.Permitted.{IsPermittedStep}
 use Rattle.vector_core.specs.Run.{after, has_ended}
 use Rattle.vector_core.specs.Start.{start}
-use Rattle.block_checker.specs.Accepted.{AcceptedView}
-use Rattle.block_checker.specs.Bound.{bound_of, scalars_of}
 
 -- After at most n steps without a fault the run from here has ended, and each byte that one of them fetched, loaded or
 -- stored was permitted.

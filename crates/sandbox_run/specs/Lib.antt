@@ -4,6 +4,7 @@ pub mod Headline
 pub mod Rooms
 pub mod Session
 pub mod Laws
+pub mod Words
 pub use Rattle.region_mem.specs.Parameter
 pub use Rattle.region_mem.specs.Memory
 pub use Rattle.vector_core.specs.Machine

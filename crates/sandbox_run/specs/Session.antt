@@ -1,11 +1,8 @@
 -- A run of an image that was accepted.
 use Rattle.std.specs.Prelude.{ℕ, ◌==◌, nat_le, List, Option, Some, None, if◌then◌else◌}
 use Rattle.std.specs.Option.{option_map, option_or}
-use Rattle.block_checker.specs.Accepted.{AcceptedView}
-use Rattle.block_checker.specs.Bound.{bound_of, scalars_of}
-use Rattle.region_mem.specs.Parameter.{Argument, argument_error}
-use Rattle.vreg_groups.specs.VectorLength.{vlenb_of}
-use Rattle.vector_core.specs.Machine.{Machine}
+use Rattle.sandbox_run.specs.Words.{AcceptedView, bound_of, scalars_of, Argument, vlenb_of, Machine}
+use Rattle.region_mem.specs.Parameter.{argument_error}
 use Rattle.sandbox_run.specs.Errors.{open_error_of}
 use Rattle.sandbox_run.specs.declared.outcome.OpenError.{OpenError}
 use Rattle.sandbox_run.specs.declared.outcome.OpenError.TheVariants.{BoundTooLarge, WrongVlen}

@@ -204,7 +204,7 @@ impl<const VLENB: usize, A: Allocator> Session<VLENB, A> {
     pub fn vector(&self, register: Reg) -> &[u8]
         ensures { result.now ≡ bytes_from (register * VLENB) VLENB self.now.machine.vectors.registers }
     {
-        self.machine.vectors.registers().register_bytes(register, 1)
+        self.machine.vectors.registers().group(register, 1)
     }
 
     /// The byte at an address, whatever the rights; `None` where no region of memory holds it.

@@ -9,3 +9,5 @@ pub mod Setup
 pub mod Words
 pub use Rattle.rv_decode.specs.Needs
 pub mod Copies
+pub mod Lends
+pub mod Chunks

@@ -30,8 +30,12 @@ new_element policy ones results active i old =
     else filled policy.tail ones old
 
 -- the bytes after others were put over them, from place `at` on
-unfoldable pub overlaid : ℕ → List ℕ → List ℕ → List ℕ
+unfoldable pub overlaid : {A : Type 0} → ℕ → List A → List A → List A
 overlaid at others bytes = take at bytes ++ others ++ drop (at + length others) bytes
+
+-- the same, and no more of them than before
+abbrev pub overlaid_within : {A : Type 0} → ℕ → List A → List A → List A
+overlaid_within at bytes others = take (length bytes) (overlaid at others bytes)
 
 -- the bytes after `count` pieces of `size` bytes each, from place `at` on, were replaced
 unfoldable pub replaced : ℕ → ℕ → ℕ → (ℕ → List ℕ) → List ℕ → List ℕ

@@ -147,8 +147,8 @@ impl<const VLENB: usize> Group<VLENB> {
         ensures bytes { flat_map (bytes_of self.now.bytes) (body_of VLENB self.now registers.now)
             ≡ result.now }
     {
-        let group = registers.register_bytes(self.first, self.count);
-        let bytes = &group[..self.bytes * self.vl];
+        let whole = registers.group(self.first, self.count);
+        let bytes = &whole[..self.bytes * self.vl];
         are_bytes(bytes);
         bytes
     }

@@ -1,7 +1,7 @@
 //! Laws of writes: what one element, one mask bit and the other bytes become. Each law is a function's contract.
 
 ghost use Rattle.std.specs.Prelude.{◌≡◌, ◌+◌, ◌*◌, ◌^◌, ◌<◌, ◌≤◌, ◌⊎◌, length, slice_index, All};
-ghost use Rattle.vreg_groups.specs.NewElements.{write_of, mask_write_of};
+ghost use Rattle.vreg_groups.specs.NewElements.{write_of, mask_write_of, overlaid, overlaid_within};
 ghost use Rattle.vreg_groups.specs.VectorLength.{IsVlenb};
 ghost use Rattle.vreg_groups.specs.Laws.{ElementIsNew, MaskBitIsNew};
 
@@ -90,4 +90,13 @@ pub fn other_registers_stay(
         ≡ slice_index file.now k }
 {
     let _ = register.number();
+}
+
+/// Bytes that were written to a group that `group_mut` lent, as many as it has or fewer, are put over the registers as
+/// `set_register_bytes` puts them.
+pub fn lent_bytes_are_written(file: &[u8], at: usize, written: &[u8])
+    requires { at + length written.now ≤ length file.now }
+    ensures { overlaid_within at file.now written.now ≡ overlaid at written.now file.now }
+{
+    let _ = file;
 }

@@ -2,7 +2,9 @@
 //! are legal.
 #![tactic(auto)]
 
+mod block;
 mod bytes;
+mod chunks;
 mod elements;
 mod group;
 pub mod laws;
@@ -13,6 +15,7 @@ mod setup;
 mod vector_length;
 mod vector_type;
 
+pub use chunks::choose;
 pub use elements::Element;
 pub use group::Group;
 pub use legality::{legal, legal_access_type, legal_type, whole_count};

@@ -1,11 +1,13 @@
 //! The 32 vector registers.
 
+ghost use Rattle.std.specs.Borrow.{sem};
 ghost use Rattle.std.specs.Prelude.{◌≡◌, ℕ, ◌+◌, ◌*◌, ◌/◌, ◌<◌, ◌≤◌, ◌⊎◌, ◌++◌, true, length, map, replicate, take, drop, slice_index, All};
 ghost use Rattle.vreg_groups.specs.Copies.{copied};
 ghost use Rattle.vreg_groups.specs.Elements.{mask_bit, bytes_from, element_at, elements_of, mask_bits, active_of};
 ghost use Rattle.vreg_groups.specs.VectorLength.{IsVlenb};
 ghost use Rattle.vreg_groups.specs.NewElements.{bytes_written, overlaid, write_of, mask_write_of};
 
+use crate::block::Block;
 use crate::bytes::{
     are_bytes, bit_at, overlay, read_bits, read_elements, write_all_bytes, write_all_elements,
     write_bits, write_elements,
@@ -18,7 +20,7 @@ use std::marker::Model;
 /// The 32 vector registers, of `VLENB` bytes each: 16 or 32. Register n begins at byte n * VLENB.
 #[derive(Drop)]
 pub struct VregFile<const VLENB: usize> {
-    bytes: [u8; 1024],
+    bytes: Block<u8, 1024>,
 }
 
 impl<const VLENB: usize> Model for VregFile<VLENB> {
@@ -27,18 +29,22 @@ impl<const VLENB: usize> Model for VregFile<VLENB> {
 
     ghost Value = { List ℕ };
 
-    ghost view = { λ f. take (32 * VLENB) f.bytes };
+    ghost view = { λ f. take (32 * VLENB) f.bytes.items };
 
     ghost invariant = { λ f. IsVlenb VLENB };
 }
 
 impl<const VLENB: usize> VregFile<VLENB> {
+    ghost use Rattle.vreg_groups.specs.Lends.{lends_group};
+
     /// Registers that hold zeros.
     pub fn new() -> VregFile<VLENB>
         requires { IsVlenb VLENB }
         ensures { result ≡ replicate (32 * VLENB) 0 }
     {
-        VregFile { bytes: [0; 1024] }
+        VregFile {
+            bytes: Block { items: [0; 1024] },
+        }
     }
 
     /// Byte `i` of a register.
@@ -47,7 +53,7 @@ impl<const VLENB: usize> VregFile<VLENB> {
         ensures meaning { result ≡ slice_index self.now (register * VLENB + i) }
         ensures shape { length self.now ≡ 32 * VLENB }
     {
-        let bytes = &self.bytes;
+        let bytes = &self.bytes.items;
         let bytes = &bytes[..32 * VLENB];
         bytes[place_of(register, VLENB) + i]
     }
@@ -59,7 +65,7 @@ impl<const VLENB: usize> VregFile<VLENB> {
         ensures meaning { result ≡ mask_bit VLENB register self.now i }
         ensures shape { length self.now ≡ 32 * VLENB }
     {
-        let bytes = &self.bytes;
+        let bytes = &self.bytes.items;
         let bytes = &bytes[..32 * VLENB];
         bit_at(bytes, place_of(register, VLENB), i)
     }
@@ -75,7 +81,7 @@ impl<const VLENB: usize> VregFile<VLENB> {
             self.now }
         ensures shape { length self.now ≡ 32 * VLENB }
     {
-        let bytes = &self.bytes;
+        let bytes = &self.bytes.items;
         let bytes = &bytes[..32 * VLENB];
         read_elements(bytes, place_of(first, VLENB), out);
     }
@@ -87,7 +93,7 @@ impl<const VLENB: usize> VregFile<VLENB> {
         ensures meaning { out.new ≡ mask_bits VLENB register (length out.old) self.now }
         ensures shape { length self.now ≡ 32 * VLENB }
     {
-        let bytes = &self.bytes;
+        let bytes = &self.bytes.items;
         let bytes = &bytes[..32 * VLENB];
         read_bits(bytes, place_of(register, VLENB), out);
     }
@@ -100,7 +106,8 @@ impl<const VLENB: usize> VregFile<VLENB> {
         ensures meaning { active.new ≡ active_of VLENB masked (length active.old) self.now }
         ensures shape { length self.now ≡ 32 * VLENB }
     {
-        let _ = &self.bytes;
+        let bytes = &self.bytes.items;
+        let _ = &bytes[..32 * VLENB];
         if masked {
             self.read_mask(Reg::new(0), active);
         } else {
@@ -128,7 +135,7 @@ impl<const VLENB: usize> VregFile<VLENB> {
         ensures shape { length self.new ≡ 32 * VLENB }
     {
         let _ = &self.bytes;
-        let bytes = &mut self.bytes[..32 * VLENB];
+        let bytes = &mut self.bytes.items[..32 * VLENB];
         write_elements(
             bytes,
             place_of(first, VLENB),
@@ -154,7 +161,7 @@ impl<const VLENB: usize> VregFile<VLENB> {
         ensures shape { length self.new ≡ 32 * VLENB }
     {
         let _ = &self.bytes;
-        let bytes = &mut self.bytes[..32 * VLENB];
+        let bytes = &mut self.bytes.items[..32 * VLENB];
         write_all_elements(
             bytes,
             place_of(first, VLENB),
@@ -180,22 +187,34 @@ impl<const VLENB: usize> VregFile<VLENB> {
         ensures shape { length self.old ≡ 32 * VLENB }
     {
         let _ = &self.bytes;
-        let bytes = &mut self.bytes[..32 * VLENB];
+        let bytes = &mut self.bytes.items[..32 * VLENB];
         are_bytes(bytes);
         let at = place_of(first, VLENB);
         write_all_bytes(bytes, at, at + count * VLENB, results, tail);
     }
 
-    /// The bytes of `count` registers, from register `first` on.
-    pub fn register_bytes(&self, first: Reg, count: usize) -> &[u8]
+    /// The bytes of the group of `count` registers that begins at `first`: its registers lie end to end.
+    pub fn group(&self, first: Reg, count: usize) -> &[u8]
         requires { first + count ≤ 32 }
         ensures meaning { result.now ≡ bytes_from (first * VLENB) (count * VLENB) self.now }
         ensures size { length result.now ≡ count * VLENB }
     {
-        let bytes = &self.bytes;
+        let bytes = &self.bytes.items;
         let bytes = &bytes[..32 * VLENB];
         let at = place_of(first, VLENB);
         &bytes[at..at + count * VLENB]
+    }
+
+    /// The same bytes, to be written: what is written to them changes these registers, and no other.
+    pub fn group_mut(&mut self, first: Reg, count: usize) -> &mut [u8]
+        requires { first + count ≤ 32 }
+        ensures* lent { sem 𝓛 (lends_group VLENB.row self.entry (first * VLENB) result) }
+        ensures meaning { result.now ≡ bytes_from (first * VLENB) (count * VLENB) self.old }
+        ensures size { length result.now ≡ count * VLENB }
+    {
+        let _ = &self.bytes;
+        let at = place_of(first, VLENB);
+        self.bytes.part_mut(at, count * VLENB)
     }
 
     /// Replaces the bytes of registers, from register `first` on.
@@ -205,7 +224,7 @@ impl<const VLENB: usize> VregFile<VLENB> {
         ensures shape { length self.old ≡ 32 * VLENB }
     {
         let _ = &self.bytes;
-        let bytes = &mut self.bytes[..32 * VLENB];
+        let bytes = &mut self.bytes.items[..32 * VLENB];
         overlay(bytes, place_of(first, VLENB), others);
     }
 
@@ -218,7 +237,7 @@ impl<const VLENB: usize> VregFile<VLENB> {
         ensures shape { length self.new ≡ 32 * VLENB }
     {
         let _ = &self.bytes;
-        let bytes = &mut self.bytes[..32 * VLENB];
+        let bytes = &mut self.bytes.items[..32 * VLENB];
         write_bits(
             bytes,
             place_of(register, VLENB),
@@ -246,7 +265,7 @@ impl<const VLENB: usize> VregFile<VLENB> {
         ensures meaning { E.number result ≡ element_at E.SIZE (register * VLENB) self.now 0 }
         ensures shape { length self.now ≡ 32 * VLENB }
     {
-        let bytes = &self.bytes;
+        let bytes = &self.bytes.items;
         let bytes = &bytes[..32 * VLENB];
         E::get(bytes, place_of(register, VLENB))
     }
@@ -260,7 +279,7 @@ impl<const VLENB: usize> VregFile<VLENB> {
         ensures shape { length self.new ≡ 32 * VLENB }
     {
         let _ = &self.bytes;
-        let bytes = &mut self.bytes[..32 * VLENB];
+        let bytes = &mut self.bytes.items[..32 * VLENB];
         copy_bytes(
             bytes,
             place_of(first, VLENB),

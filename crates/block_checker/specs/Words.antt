@@ -1,0 +1,9 @@
+-- What definitions here speak of that other crates define.
+pub use Rattle.elf_image.specs.Image.{ImageView}
+pub use Rattle.vreg_groups.specs.VectorLength.{vlenb_of}
+pub use Rattle.vreg_groups.specs.declared.vector_length.Vlen.{Vlen}
+pub use Rattle.region_mem.specs.Parameter.{Argument}
+pub use Rattle.cert_note.specs.Certificate.{CertificateView}
+pub use Rattle.cert_note.specs.declared.values.Block.{Block}
+pub use Rattle.abs_state.specs.State.{AbstractView}
+pub use Rattle.abs_state.specs.declared.why.Why.{Why}

@@ -1,0 +1,6 @@
+use Rattle.std.proofs.Common.{w32, nat_eq}
+use Rattle.lane_fixed.proofs.ChunkLaneLemmas.{sel_at}
+use Rattle.lane_fixed.proofs.chunk_lanes.U32x4Chunk.if_same.Goals as goal
+
+pub returns : goal.returns
+returns c i lt = sel_at w32 nat_eq c.args.self c.args.b c.args.yes c.args.no 4 i c.fits-self.0 c.fits-b.0 c.fits-yes.0 c.fits-no.0 lt

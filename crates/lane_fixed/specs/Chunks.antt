@@ -1,0 +1,28 @@
+-- The operations of the chunk calls, as those of `FixedPoint`.
+use Rattle.std.specs.Prelude.{ℕ, ◌-◌, ◌^◌, ◌<◌, if◌then◌else◌}
+use Rattle.std.specs.Int.{Width}
+use mir.Val.{bits}
+use Rattle.lane_fixed.specs.FixedPoint.{element, saturates}
+use Rattle.lane_fixed.specs.declared.operations.RoundingMode.TheVariants.{Down}
+use Rattle.lane_fixed.specs.declared.operations.FixedOp.{FixedOp}
+use Rattle.lane_fixed.specs.declared.operations.FixedOp.TheVariants as fixed
+use Rattle.lane_fixed.specs.declared.operations.Op.{Op}
+use Rattle.lane_fixed.specs.declared.operations.Op.TheVariants.{SatAddU, SatAdd, SatSubU, SatSub}
+
+abbrev pub operation : Op → FixedOp
+operation SatAddU = fixed.SatAddU
+operation SatAdd = fixed.SatAdd
+operation SatSubU = fixed.SatSubU
+operation SatSub = fixed.SatSub
+
+-- the first n lanes are numbers of the width
+abbrev pub AllFit : Width → ℕ → (ℕ → ℕ) → Type 0
+AllFit w n lane = (i : ℕ) → i < n → lane i < 2 ^ bits w
+
+-- one lane of the results, and of the second chunk: all ones where it saturated; nothing is rounded off, so that this
+-- is the same in each mode
+abbrev pub lane_result : Op → Width → ℕ → ℕ → ℕ
+lane_result op = element (operation op) Down
+
+abbrev pub lane_flag : Op → Width → ℕ → ℕ → ℕ
+lane_flag op w a b = if saturates (operation op) Down w a b then 2 ^ bits w - 1 else 0

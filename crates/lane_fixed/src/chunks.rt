@@ -1,0 +1,99 @@
+//! The kernels' operations on chunks of sixteen bytes, by operations of `std::simd` alone. Signed lanes are computed
+//! with their top bit turned over, which makes them unsigned ones in the same order.
+ghost use Rattle.std.specs.Prelude.{◌≡◌, ℕ, ◌-◌, ◌^◌, ◌<◌, ◌==◌, ◌+ℤ◌, ◌-ℤ◌, if◌then◌else◌};
+ghost use Rattle.std.specs.Int.{w8, w16, w32, cast_signed, saturate_signed};
+ghost use mir.Val.{bits};
+ghost use lib.Lanes.{zip2};
+ghost use Rattle.lane_fixed.specs.Chunks.{AllFit, lane_flag, lane_result};
+ghost use Rattle.lane_fixed.specs.Rounding.{low_bits};
+
+use crate::chunk_lanes::Chunk;
+use crate::operations::Op;
+use std::simd::prelude::*;
+
+/// The signed sum, clipped.
+#[inline(always)]
+fn signed_sum<T: Chunk>(a: T, b: T) -> T
+    requires a_fits { AllFit T.width T.count (T.lane a) }
+    requires b_fits { AllFit T.width T.count (T.lane b) }
+    ensures { (i : ℕ) → i < T.count → T.lane result i ≡ low_bits (bits T.width) (saturate_signed T.width
+        (cast_signed T.width (T.lane a i) +ℤ cast_signed T.width (T.lane b i))) }
+{
+    let raised = a.sum(T::top());
+    let negated = T::zero().difference(b);
+    let with_b = raised.saturating_sum(b);
+    let without = raised.saturating_difference(negated);
+    b.if_below(T::top(), with_b, without).sum(T::top())
+}
+
+/// The signed difference, clipped.
+#[inline(always)]
+fn signed_difference<T: Chunk>(a: T, b: T) -> T
+    requires a_fits { AllFit T.width T.count (T.lane a) }
+    requires b_fits { AllFit T.width T.count (T.lane b) }
+    ensures { (i : ℕ) → i < T.count → T.lane result i ≡ low_bits (bits T.width) (saturate_signed T.width
+        (cast_signed T.width (T.lane a i) -ℤ cast_signed T.width (T.lane b i))) }
+{
+    let raised = a.sum(T::top());
+    let negated = T::zero().difference(b);
+    let without = raised.saturating_difference(b);
+    let with_b = raised.saturating_sum(negated);
+    b.if_below(T::top(), without, with_b).sum(T::top())
+}
+
+/// A result that was clipped, and all ones where that is not the number before.
+#[inline(always)]
+fn flagged<T: Chunk>(clipped: T, wrapped: T) -> (T, T)
+    ensures result { result.0 ≡ clipped }
+    ensures flags { (i : ℕ) → i < T.count → T.lane result.1 i
+        ≡ (if T.lane clipped i == T.lane wrapped i then 0 else 2 ^ bits T.width - 1) }
+{
+    (clipped, clipped.if_same(wrapped, T::zero(), T::ones()))
+}
+
+/// "Vector Single-Width Saturating Add and Subtract".
+#[inline(always)]
+fn saturating<T: Chunk>(op: Op, a: T, b: T) -> (T, T)
+    requires a_fits { AllFit T.width T.count (T.lane a) }
+    requires b_fits { AllFit T.width T.count (T.lane b) }
+    ensures results { (i : ℕ) → i < T.count → T.lane result.0 i
+        ≡ lane_result op T.width (T.lane a i) (T.lane b i) }
+    ensures flags { (i : ℕ) → i < T.count → T.lane result.1 i
+        ≡ lane_flag op T.width (T.lane a i) (T.lane b i) }
+{
+    match op {
+        Op::SatAddU => flagged(a.saturating_sum(b), a.sum(b)),
+        Op::SatAdd => flagged(signed_sum(a, b), a.sum(b)),
+        Op::SatSubU => flagged(a.saturating_difference(b), a.difference(b)),
+        Op::SatSub => flagged(signed_difference(a, b), a.difference(b)),
+    }
+}
+
+/// What `op` makes of sixteen elements of 8 bits: of vs2's, which are `values`, and of vs1's, the scalar's or the
+/// immediate's, which are `b`. The first chunk has the results, the second all ones in each lane that saturates and 0
+/// in the others ("Vector Single-Width Saturating Add and Subtract").
+#[inline(always)]
+pub fn chunk_u8(op: Op, values: u8x16, b: u8x16) -> (u8x16, u8x16)
+    ensures results { result.0 ≡ zip2 (lane_result op w8) values b }
+    ensures flags { result.1 ≡ zip2 (lane_flag op w8) values b }
+{
+    saturating(op, values, b)
+}
+
+/// What `op` makes of eight elements of 16 bits; otherwise as `chunk_u8`.
+#[inline(always)]
+pub fn chunk_u16(op: Op, values: u16x8, b: u16x8) -> (u16x8, u16x8)
+    ensures results { result.0 ≡ zip2 (lane_result op w16) values b }
+    ensures flags { result.1 ≡ zip2 (lane_flag op w16) values b }
+{
+    saturating(op, values, b)
+}
+
+/// What `op` makes of four elements of 32 bits; otherwise as `chunk_u8`.
+#[inline(always)]
+pub fn chunk_u32(op: Op, values: u32x4, b: u32x4) -> (u32x4, u32x4)
+    ensures results { result.0 ≡ zip2 (lane_result op w32) values b }
+    ensures flags { result.1 ≡ zip2 (lane_flag op w32) values b }
+{
+    saturating(op, values, b)
+}

@@ -1,0 +1,5 @@
+use Rattle.std.proofs.lemmas.Simd.{zip2_splat}
+use Rattle.lane_int.proofs.chunks.words.turned.Goals as goal
+
+pub returns : goal.returns
+returns c = zip2_splat _ c.args.lanes 4 2147483648 c.fits-lanes.0

@@ -1,0 +1,103 @@
+//! The chunk call on lanes of 32 bits.
+ghost use Rattle.std.specs.Prelude.{◌≡◌, ◌<◌, map, slice_index};
+ghost use Rattle.std.specs.Int.{w32};
+ghost use Rattle.std.specs.Simd.Lanes.{zip2};
+ghost use Rattle.lane_int.specs.Chunks.{lane_of, all_ones, turned};
+ghost use Rattle.lane_int.specs.Integer.{element, compares, multiply_added, shift_amount};
+ghost use Rattle.lane_int.specs.Lists.{zip3};
+
+use crate::operations::{CompareOp, IntOp, MultiplyAddOp, Op};
+use std::simd::prelude::*;
+
+/// What `op` makes of each lane of `values`, which are vs2's, of `b`'s lane and of vd's old one: 4 elements of 32 bits
+/// ("Vector Integer Arithmetic Instructions"). A compare gives all ones where it holds, else 0.
+#[inline(always)]
+pub fn chunk_u32(op: Op, values: u32x4, b: u32x4, old: u32x4) -> u32x4
+    ensures { result ≡ zip3 (lane_of op w32) values b old }
+{
+    match op {
+        Op::Add => values + b,
+        Op::Sub => values - b,
+        Op::ReverseSub => b - values,
+        Op::MinU => values.simd_min(b),
+        Op::Min => turned(b).simd_lt(turned(values)).select(b, values),
+        Op::MaxU => values.simd_max(b),
+        Op::Max => turned(b).simd_lt(turned(values)).select(values, b),
+        Op::And => values & b,
+        Op::Or => values | b,
+        Op::Xor => values ^ b,
+        Op::ShiftLeft => values << amounts(b),
+        Op::ShiftRight => values >> amounts(b),
+        Op::ShiftRightSigned => shift_right_signed(values, b),
+        Op::Mul => values * b,
+        Op::Compare(op) => compare(op, values, b),
+        Op::MultiplyAdd(op) => multiply_add(op, values, b, old),
+    }
+}
+
+/// Law: lane `i` of the result is what `op` makes of the lanes `i` alone, as `specs/Integer.antt` has it.
+#[tactic(auto, using(crate::proofs::VectorLemmas::zip3_lane))]
+pub fn lane_u32(op: Op, values: u32x4, b: u32x4, old: u32x4, i: usize) -> u32
+    requires { i < 4 }
+    ensures { result ≡ lane_of op w32 (slice_index values i) (slice_index b i) (slice_index old i) }
+{
+    let lanes = chunk_u32(op, values, b, old);
+    lanes[i]
+}
+
+/// The lanes with their top bits turned over, which puts signed numbers into the order of unsigned ones.
+#[inline(always)]
+fn turned(lanes: u32x4) -> u32x4
+    ensures { result ≡ map (turned w32) lanes }
+{
+    lanes + u32x4::splat(1 << 31)
+}
+
+/// By how many bits `b` shifts.
+#[inline(always)]
+fn amounts(b: u32x4) -> u32x4
+    ensures { result ≡ map (shift_amount w32) b }
+{
+    b % u32x4::splat(32)
+}
+
+/// vsra: a turned lane is 2^31 more than its number, so that its shift is more by the shifted 2^31.
+#[inline(always)]
+fn shift_right_signed(values: u32x4, b: u32x4) -> u32x4
+    ensures { result ≡ zip2 (element IntOp.ShiftRightSigned w32) values b }
+{
+    let tops = u32x4::splat(1 << 31);
+    let amounts = amounts(b);
+    (turned(values) >> amounts) - (tops >> amounts)
+}
+
+/// All ones in the lanes where `op` holds of vs2's lane and of `b`'s, and 0 in the others.
+#[inline(always)]
+fn compare(op: CompareOp, values: u32x4, b: u32x4) -> u32x4
+    ensures { result ≡ zip2 (λ x y. all_ones w32 (compares op w32 x y)) values b }
+{
+    let holds = match op {
+        CompareOp::Equal => values.simd_eq(b),
+        CompareOp::NotEqual => values.simd_ne(b),
+        CompareOp::LessU => values.simd_lt(b),
+        CompareOp::Less => turned(values).simd_lt(turned(b)),
+        CompareOp::LessEqualU => values.simd_le(b),
+        CompareOp::LessEqual => turned(values).simd_le(turned(b)),
+        CompareOp::GreaterU => values.simd_gt(b),
+        CompareOp::Greater => turned(values).simd_gt(turned(b)),
+    };
+    holds.select(u32x4::splat(u32::MAX), u32x4::splat(0))
+}
+
+/// vmacc, vnmsac, vmadd and vnmsub
+#[inline(always)]
+fn multiply_add(op: MultiplyAddOp, values: u32x4, b: u32x4, old: u32x4) -> u32x4
+    ensures { result ≡ zip3 (multiply_added op w32) values b old }
+{
+    match op {
+        MultiplyAddOp::Macc => b * values + old,
+        MultiplyAddOp::Nmsac => old - b * values,
+        MultiplyAddOp::Madd => b * old + values,
+        MultiplyAddOp::Nmsub => values - b * old,
+    }
+}
