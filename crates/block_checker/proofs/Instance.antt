@@ -28,7 +28,7 @@ use Rattle.abs_state.specs.Blocks.{at_block_of, at_entry_of}
 use Rattle.abs_state.specs.Branches.{EdgeView, refined}
 use Rattle.abs_state.specs.Edges.{implied_by}
 use Rattle.abs_state.specs.Held.{Setting, vlenb_in, Held, Goes, Fits}
-use Rattle.abs_state.specs.StepLaws.{jumps, jumps}
+use Rattle.abs_state.specs.StepLaws.{jumps}
 use Rattle.abs_state.specs.EdgeLaws.{block_of, is_fork}
 use Rattle.abs_state.proofs.StepsHeld.{steps_held}
 use Rattle.abs_state.proofs.StepMachines.{goes_on, same_state}
@@ -38,7 +38,7 @@ use Rattle.abs_state.specs.StartLaws.{IsSetting}
 use Rattle.abs_state.proofs.Growth.{after_counts}
 use Rattle.abs_state.proofs.EdgeLemmas.{edges-are_taken, implied-ends, implied-fits}
 use Rattle.abs_state.proofs.Ways.{edges-keep, one-edge, straight-edges}
-use Rattle.block_checker.specs.Passes.{checked, block_at, is_branch, is_jump, is_branch_insn, is_jump_insn}
+use Rattle.block_checker.specs.Passes.{checked, block_at, is_branch, is_branch_insn}
 use Rattle.vreg_groups.specs.VectorLength.{vlenb_of}
 use Rattle.vector_core.specs.Start.{start as start_of}
 use Rattle.block_checker.specs.Sound.{PassingRunsEnd, RunsEnd}
@@ -169,33 +169,6 @@ after-single pc (VReduce insn) a b h e = ap is_fork (goes_on pc (VReduce insn) a
 after-single pc (VMem insn) a b h e = ap is_fork (goes_on pc (VMem insn) a b refl e)
 after-single pc (VMove insn) a b h e = ap is_fork (goes_on pc (VMove insn) a b refl e)
 
-same-insn : (insn : ScalarInsn) → jumps (Scalar insn) ≡ is_jump_insn insn
-unfolding jumps is_jump_insn
-same-insn (Branch condition rs1 rs2 offset) = refl
-same-insn (Lui rd imm) = refl
-same-insn (Auipc rd imm) = refl
-same-insn (Jal rd offset) = refl
-same-insn (Jalr rd rs1 offset) = refl
-same-insn (Load kind rd rs1 offset) = refl
-same-insn (Store size rs1 rs2 offset) = refl
-same-insn (Immediate op rd rs1 imm) = refl
-same-insn (ShiftImmediate op rd rs1 amount) = refl
-same-insn (Register op rd rs1 rs2) = refl
-same-insn Fence = refl
-same-insn Ecall = refl
-
-same-jumps : (insn : Insn) → jumps insn ≡ is_jump insn
-unfolding jumps is_jump
-same-jumps (Scalar insn) = same-insn insn
-same-jumps (Csr insn) = refl
-same-jumps (VSet insn) = refl
-same-jumps (VArith insn) = refl
-same-jumps (VMask insn) = refl
-same-jumps (VPerm insn) = refl
-same-jumps (VReduce insn) = refl
-same-jumps (VMem insn) = refl
-same-jumps (VMove insn) = refl
-
 -- ---- the record
 
 module _ (e : Setting) (begin : Machine) (is_image : IsImage e.image) (is_certificate : IsCertificate e.certificate) (passed : ArePassed e.certificate.parameters e.passed)
@@ -268,11 +241,11 @@ module _ (e : Setting) (begin : Machine) (is_image : IsImage e.image) (is_certif
       let way = edges-are_taken e 0 (at_entry_of e.image e.certificate) begin start in
       (way.edge, sym (entry-edges way.taken) ∙ way.is, straight-edges way.taken (at_entry_of e.image e.certificate) e.image.entry way.edge entry-way way.is)
 
-  straight-on : (pc : ℕ) (insn : Insn) (a b : AbstractView) (taken : Bool) (edge : EdgeView) → is_jump insn ≡ false → pc + 4 < 2 ^ 32
+  straight-on : (pc : ℕ) (insn : Insn) (a b : AbstractView) (taken : Bool) (edge : EdgeView) → jumps insn ≡ false → pc + 4 < 2 ^ 32
       → after_of pc insn a ≡ Ok b → refined taken b ≡ Some edge → edge.target ≡ Some (pc + 4)
   straight-on pc insn a b taken edge h low after is =
       let next : (pc + 4) % 2 ^ 32 ≡ pc + 4 = omega (arith, low) in
-      straight-edges taken b ((pc + 4) % 2 ^ 32) edge (goes_on pc insn a b (same-jumps insn ∙ h) after) is ∙ ap (λ (k : ℕ). Some k) next
+      straight-edges taken b ((pc + 4) % 2 ^ 32) edge (goes_on pc insn a b h after) is ∙ ap (λ (k : ℕ). Some k) next
 
   begins-none : (b : Block) → (at_block_of e.image e.certificate b).words ≡ 0
   unfolding at_block_of

@@ -16,7 +16,8 @@ use Rattle.abs_state.specs.After.{after_of}
 use Rattle.abs_state.specs.Blocks.{at_block_of, at_entry_of}
 use Rattle.abs_state.specs.Branches.{EdgeView, refined}
 use Rattle.abs_state.specs.Edges.{implied_by}
-use Rattle.block_checker.specs.Passes.{block_at, is_branch, is_jump}
+use Rattle.abs_state.specs.StepLaws.{jumps}
+use Rattle.block_checker.specs.Passes.{block_at, is_branch}
 use Rattle.block_checker.specs.Bound.{budget_at}
 
 -- what the block's budget comes to in a state
@@ -40,7 +41,7 @@ pub record Laws (image : ImageView) (certificate : CertificateView) (vlenb : ℕ
   pub one_edge : (pc : ℕ) (insn : Insn) (a b : AbstractView) (taken : Bool) → is_branch insn ≡ false
       → after_of pc insn a ≡ Ok b → refined taken b ≡ refined false b
   pub straight : (pc : ℕ) (insn : Insn) (a b : AbstractView) (taken : Bool) (edge : EdgeView)
-      → is_jump insn ≡ false → pc + 4 < 2 ^ 32 → after_of pc insn a ≡ Ok b
+      → jumps insn ≡ false → pc + 4 < 2 ^ 32 → after_of pc insn a ≡ Ok b
       → refined taken b ≡ Some edge → edge.target ≡ Some (pc + 4)
   pub counts : (pc : ℕ) (insn : Insn) (a b : AbstractView) → after_of pc insn a ≡ Ok b
       → b.words ≡ a.words + 1

@@ -18,7 +18,8 @@ use Rattle.abs_state.specs.State.{AbstractView}
 use Rattle.abs_state.specs.After.{after_of}
 use Rattle.abs_state.specs.Branches.{EdgeView, refined}
 use Rattle.abs_state.specs.Edges.{implied_by}
-use Rattle.block_checker.specs.Passes.{Checked, both, block_at, block_for, is_branch, is_jump, told_at, edge_passes, possible_passes, edges_pass, Progress, Ended, On, ends, followed, decoded, fetched, word_passes}
+use Rattle.abs_state.specs.StepLaws.{jumps}
+use Rattle.block_checker.specs.Passes.{Checked, both, block_at, block_for, is_branch, told_at, edge_passes, possible_passes, edges_pass, Progress, Ended, On, ends, followed, decoded, fetched, word_passes}
 use Rattle.block_checker.proofs.Finding.{both_first, both_second}
 use Rattle.block_checker.proofs.StepLaws.{Laws, budget_in}
 
@@ -165,7 +166,7 @@ module _ (image : ImageView) (certificate : CertificateView) (vlenb : ℕ) (begi
 
   on-leads : (n word : ℕ) (insn : Insn) (a b : AbstractView) (s : Machine) → Held n a s → s.hart.pc % 4 ≡ 0
       → code_at s.hart.pc image ≡ Some word → meaning_of word ≡ Some insn → after_of s.hart.pc insn a ≡ Ok b
-      → is_jump insn ≡ false → Leads n a s (On b)
+      → jumps insn ≡ false → Leads n a s (On b)
   on-leads n word insn a b s held aligned code means e straight =
       let next = laws.step n word insn a b s held aligned means e in
       let way = laws.edge n b next.0 next.2 in
@@ -179,7 +180,7 @@ module _ (image : ImageView) (certificate : CertificateView) (vlenb : ℕ) (begi
 
   followed-cases : (n word : ℕ) (insn : Insn) (a b : AbstractView) (s : Machine) (p : Progress) (t : Bool) → Held n a s → s.hart.pc % 4 ≡ 0
       → code_at s.hart.pc image ≡ Some word → meaning_of word ≡ Some insn → after_of s.hart.pc insn a ≡ Ok b
-      → (is_jump insn || is_some (block_at (s.hart.pc + 4) certificate.blocks)) ≡ t
+      → (jumps insn || is_some (block_at (s.hart.pc + 4) certificate.blocks)) ≡ t
       → (if t then ends (edges_pass certificate s.hart.pc insn b) else Ok (On b)) ≡ Ok p → Leads n a s p
   followed-cases n word insn a b s p true held aligned code means e test h =
       let both = ends-ok (edges_pass certificate s.hart.pc insn b) p h in
@@ -194,7 +195,7 @@ module _ (image : ImageView) (certificate : CertificateView) (vlenb : ℕ) (begi
   unfolding followed
   followed-leads n word insn a s p (Err why) held aligned code means e h = absurd (let bad : ⊥ = cc in bad)
   followed-leads n word insn a s p (Ok b) held aligned code means e h =
-      followed-cases n word insn a b s p (is_jump insn || is_some (block_at (s.hart.pc + 4) certificate.blocks)) held aligned code means e refl h
+      followed-cases n word insn a b s p (jumps insn || is_some (block_at (s.hart.pc + 4) certificate.blocks)) held aligned code means e refl h
 
   decoded-leads : (n word : ℕ) (a : AbstractView) (s : Machine) (p : Progress) (o : Option Insn) → Held n a s → s.hart.pc % 4 ≡ 0
       → code_at s.hart.pc image ≡ Some word → meaning_of word ≡ o → decoded certificate s.hart.pc a o ≡ Ok p → Leads n a s p

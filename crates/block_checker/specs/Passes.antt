@@ -1,6 +1,6 @@
 -- The check of an image against its certificate, in the order in which it looks.
 use Rattle.std.specs.Prelude.{ℕ, zero, suc, ◌+◌, ◌==◌, Bool, true, false, ◌||◌, is_some, List, [], ◌∷◌, find, Option, Some, None, Result, Ok, Err, if◌then◌else◌}
-use Rattle.block_checker.specs.Words.{ImageView, vlenb_of, Vlen, Block, CertificateView, Why, AbstractView}
+use Rattle.block_checker.specs.Words.{ImageView, vlenb_of, Vlen, Block, CertificateView, Why, AbstractView, jumps}
 use Rattle.elf_image.specs.Image.{code_at}
 use Rattle.rv_decode.specs.Decode.{meaning_of}
 use Rattle.rv_decode.specs.declared.instructions.Insn.{Insn}
@@ -24,7 +24,7 @@ abbrev pub both : Checked → Checked → Checked
 both (Ok done) next = next
 both (Err error) next = Err error
 
--- ---- where blocks begin, and which words lead elsewhere
+-- ---- where blocks begin, and which words have two ways out
 
 unfoldable pub block_at : ℕ → List Block → Option Block
 block_at address blocks = find (λ block. block.start == address) blocks
@@ -54,32 +54,6 @@ is_branch (VPerm insn) = false
 is_branch (VReduce insn) = false
 is_branch (VMem insn) = false
 is_branch (VMove insn) = false
-
-unfoldable pub is_jump_insn : ScalarInsn → Bool
-is_jump_insn (Branch condition rs1 rs2 offset) = true
-is_jump_insn (Lui rd imm) = false
-is_jump_insn (Auipc rd imm) = false
-is_jump_insn (Jal rd offset) = true
-is_jump_insn (Jalr rd rs1 offset) = true
-is_jump_insn (Load kind rd rs1 offset) = false
-is_jump_insn (Store size rs1 rs2 offset) = false
-is_jump_insn (Immediate op rd rs1 imm) = false
-is_jump_insn (ShiftImmediate op rd rs1 amount) = false
-is_jump_insn (Register op rd rs1 rs2) = false
-is_jump_insn Fence = false
-is_jump_insn Ecall = true
-
--- A branch, a jump or ecall ends a block: it may lead elsewhere than to the next word.
-unfoldable pub is_jump : Insn → Bool
-is_jump (Scalar insn) = is_jump_insn insn
-is_jump (Csr insn) = false
-is_jump (VSet insn) = false
-is_jump (VArith insn) = false
-is_jump (VMask insn) = false
-is_jump (VPerm insn) = false
-is_jump (VReduce insn) = false
-is_jump (VMem insn) = false
-is_jump (VMove insn) = false
 
 -- ---- edges
 
@@ -126,7 +100,7 @@ ends (Err error) = Err error
 unfoldable pub followed : CertificateView → ℕ → Insn → Result AbstractView Why → Result Progress CheckError
 followed certificate pc insn (Err why) = Err (refusal why pc)
 followed certificate pc insn (Ok a) =
-    if is_jump insn || is_some (block_at (pc + 4) certificate.blocks)
+    if jumps insn || is_some (block_at (pc + 4) certificate.blocks)
     then ends (edges_pass certificate pc insn a)
     else Ok (On a)
 

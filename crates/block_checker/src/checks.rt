@@ -4,7 +4,8 @@ ghost use Rattle.std.specs.List.{slice_get};
 ghost use Rattle.std.specs.List.Sorted.{IsNonDecreasingBy};
 ghost use Rattle.cert_note.specs.declared.values.Block.{Block};
 ghost use Rattle.abs_state.specs.Branches.{refined};
-ghost use Rattle.block_checker.specs.Passes.{block_at as block_at_of, block_for as block_for_of, is_branch as is_branch_of, is_jump as is_jump_of};
+ghost use Rattle.abs_state.specs.StepLaws.{jumps};
+ghost use Rattle.block_checker.specs.Passes.{block_at as block_at_of, block_for as block_for_of, is_branch as is_branch_of};
 ghost use Rattle.block_checker.specs.Passes.{edge_passes as edge_passes_of, possible_passes as possible_passes_of, edges_pass as edges_pass_of, followed as followed_of};
 ghost use Rattle.block_checker.specs.Passes.{word_passes as word_passes_of, walk as walk_of, block_passes as block_passes_of, blocks_pass as blocks_pass_of};
 ghost use Rattle.block_checker.specs.Passes.{entry_passes as entry_passes_of, checked as checked_of};
@@ -103,9 +104,9 @@ fn is_branch(insn: &Insn) -> bool
 }
 
 /// Whether the word ends a block: a branch, a jump or ecall.
-#[tactic(auto, unfolding(crate::specs::Passes::is_jump, crate::specs::Passes::is_jump_insn))]
+#[tactic(auto, unfolding(abs_state::specs::StepLaws::jumps))]
 fn is_jump(insn: &Insn) -> bool
-    ensures { result ≡ is_jump_of insn.now }
+    ensures { result ≡ jumps insn.now }
 {
     match *insn {
         Insn::Scalar(insn) => match insn {
@@ -184,7 +185,7 @@ fn edges_pass<A: Allocator, C: Allocator>(
 /// Whether a block ends behind the word at pc: with a branch, a jump or ecall, or before the next block.
 fn ends_block<C: Allocator>(certificate: &Certificate<C>, pc: u32, insn: &Insn) -> bool
     requires { pc + 4 < 2 ^ 32 }
-    ensures { result ≡ (is_jump_of insn.now || is_some (block_at_of (pc + 4) certificate.now.blocks)) }
+    ensures { result ≡ (jumps insn.now || is_some (block_at_of (pc + 4) certificate.now.blocks)) }
 {
     is_jump(insn) || block_at(certificate, pc + 4).is_some()
 }
