@@ -60,10 +60,10 @@ pub fn legal_access_type(config: &Vconfig, access: &VMem) -> Option<Vtype>
     }
 }
 
-// Whether an instruction is one of the most common, and legal. All its operands have elements of one width, so how they
-// overlap does not matter, and this is told without a look at each pair.
+// Whether an instruction is one of the most common, and legal. Its operands, if it has any, have elements of one width, so
+// how they overlap does not matter, and this is told without a look at each pair.
 #[inline(always)]
-#[tactic(auto, unfolding(rv_decode::specs::Needs::needs_of, rv_decode::specs::Needs::needs_of_arith))]
+#[tactic(auto, unfolding(rv_decode::specs::Needs::needs_of, rv_decode::specs::Needs::needs_of_arith, crate::specs::Legality::are_operands_legal, crate::specs::Legality::is_destination_legal))]
 fn is_plain(vtype: Option<Vtype>, insn: &Insn) -> bool
     ensures meaning { result ≡ true → are_operands_legal vtype (needs_of insn.now) ≡ true }
     ensures inside { result ≡ true → AreAllInside (type_in vtype) (needs_of insn.now) }
@@ -82,9 +82,9 @@ fn is_plain(vtype: Option<Vtype>, insn: &Insn) -> bool
             },
         ) => is_plain_operation(&vtype, *vd, *vs2, b, *masked),
         Insn::VMem(access) => is_plain_access(&vtype, access),
+        Insn::VSet(_) => true,
         Insn::Scalar(_)
         | Insn::Csr(_)
-        | Insn::VSet(_)
         | Insn::VArith(_)
         | Insn::VMask(_)
         | Insn::VPerm(_)
