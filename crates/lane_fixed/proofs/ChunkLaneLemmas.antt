@@ -1,16 +1,16 @@
 -- The lanes of a vector, one at a time, after each operation of `std::simd`.
-use Rattle.std.proofs.Common.{◌≡◌, ℕ, ◌+◌, ◌-◌, ◌*◌, ◌/◌, ◌%◌, ◌^◌, ◌<◌, ◌≤◌, Bool, true, false, List, [], ◌∷◌, length, map, slice_index, get_or, nat_lt, refl, ap, sym, ◌∙◌, zero, suc, arith, min, Fits}
+use Rattle.std.proofs.Common.{◌≡◌, ℕ, ◌+◌, ◌-◌, ◌*◌, ◌/◌, ◌%◌, ◌^◌, ◌<◌, ◌≤◌, Bool, true, false, List, [], ◌∷◌, length, map, slice_index, get_or, refl, ap, sym, ◌∙◌, zero, suc, arith, min, Fits, w8, w16, w32, w64}
+use mir.Syntax.{w128}
 use lib.Lanes.{zip2, sel_l, top, Each1, Each2}
 use lib.ListN.{replicate}
-use Rattle.std.specs.Int.{Width, bit_not}
-use Rattle.std.specs.Int.RustNames.{bit_and}
+use Rattle.std.specs.Int.{Width}
 use mir.Val.{bits, hbits}
 use mathlib.Core.Bool.{cond}
 use lib.Dec.{ltb}
-use Rattle.std.proofs.lemmas.Nat.{and_mask, mod-mul-add}
+use Rattle.std.proofs.lemmas.Nat.{mod_below, mod-mul-add}
 use Rattle.std.proofs.Math.Pow.{pow-lt}
 use Rattle.std.proofs.lemmas.List.{get_or-map, length-map}
-use Rattle.std.proofs.lemmas.Simd.{get_or-zip2, get_or-sel_l, length-zip2, tops_compared, Each1-get_or, length-replicate, get_or-replicate}
+use Rattle.std.proofs.lemmas.Simd.{Each1-all, Each2-splat, get_or-zip2, get_or-sel_l, length-zip2, tops_compared, Each1-get_or, length-replicate, get_or-replicate}
 
 abbrev Lanes : Width → ℕ → List ℕ → Type 0
 Lanes w n xs = (length xs ≡ n) × Each1 (Fits w) xs
@@ -73,6 +73,47 @@ saturating_difference_at w xs ys n i fx fy lt =
     let chosen = length_sel w ltb xs ys ys xs n fx.0 fy.0 fy.0 fx.0 in
     rw (lane2 (λ a b. (a + (2 ^ bits w - b)) % 2 ^ bits w) _ ys n i chosen fy.0 lt, sel_at w ltb xs ys ys xs n i fx.0 fy.0 fy.0 fx.0 lt)
     (difference_bounded (2 ^ bits w) (get_or xs i 0) (get_or ys i 0) (lane_below w n xs fx i lt) (lane_below w n ys fy i lt))
+
+-- lanes that are shifted by the low log2(SEW) bits of others
+some_bits : (w : Width) → 0 < bits w
+some_bits w8 = omega arith
+some_bits w16 = omega arith
+some_bits w32 = omega arith
+some_bits w64 = omega arith
+some_bits w128 = omega arith
+
+pub no_zeros : (w : Width) (ys : List ℕ) (n : ℕ) → Each2 (λ (a b : ℕ). 0 < b) ys (replicate n (bits w))
+no_zeros w ys n = Each2-splat _ ys n (bits w) (Each1-all _ (λ x. some_bits w) ys)
+
+pub amounts_fit : (w : Width) (xs ys : List ℕ) (n : ℕ) → Each2 (λ (a s : ℕ). s < bits w) xs (zip2 (λ a b. a % b) ys (replicate n (bits w)))
+amounts_fit w xs ys n = fit xs ys n
+  where
+    fit : (xs ys : List ℕ) (n : ℕ) → Each2 (λ (a s : ℕ). s < bits w) xs (zip2 (λ a b. a % b) ys (replicate n (bits w)))
+    fit [] ys n = tt
+    fit (x ∷ xs) [] n = tt
+    fit (x ∷ xs) (y ∷ ys) zero = tt
+    fit (x ∷ xs) (y ∷ ys) (suc n) = (mod_below y (bits w) (some_bits w), fit xs ys n)
+
+amount_at : (w : Width) (ys : List ℕ) (n i : ℕ) → length ys ≡ n → i < n → get_or (zip2 (λ a b. a % b) ys (replicate n (bits w))) i 0 ≡ get_or ys i 0 % bits w
+amount_at w ys n i long lt = lane2 (λ a b. a % b) ys (replicate n (bits w)) n i long (length-replicate n (bits w)) lt ∙ ap (λ m. get_or ys i 0 % m) (get_or-replicate n i (bits w) 0 lt)
+
+long_amounts : (w : Width) (ys : List ℕ) (n : ℕ) → length ys ≡ n → length (zip2 (λ a b. a % b) ys (replicate n (bits w))) ≡ n
+long_amounts w ys n long = length-zip2 (λ a b. a % b) ys (replicate n (bits w)) (long ∙ sym (length-replicate n (bits w))) ∙ long
+
+pub shifted_at : (w : Width) (xs ys : List ℕ) (n i : ℕ) → length xs ≡ n → length ys ≡ n → i < n → get_or (zip2 (λ a s. a / 2 ^ s) xs (zip2 (λ a b. a % b) ys (replicate n (bits w)))) i 0 ≡ get_or xs i 0 / 2 ^ (get_or ys i 0 % bits w)
+shifted_at w xs ys n i lx ly lt =
+    lane2 (λ a s. a / 2 ^ s) xs _ n i lx (long_amounts w ys n ly) lt ∙ ap (λ s. get_or xs i 0 / 2 ^ s) (amount_at w ys n i ly lt)
+
+pub power_at : (w : Width) (ys : List ℕ) (n i : ℕ) → length ys ≡ n → i < n → get_or (zip2 (λ a s. a * 2 ^ s % 2 ^ bits w) (replicate n 1) (zip2 (λ a b. a % b) ys (replicate n (bits w)))) i 0 ≡ 2 ^ (get_or ys i 0 % bits w)
+power_at w ys n i long lt =
+    let s = get_or ys i 0 % bits w in
+    let below : 2 ^ s < 2 ^ bits w = pow-lt (mod_below (get_or ys i 0) (bits w) (some_bits w)) in
+    let ones : List ℕ = replicate n 1 in
+    let by : List ℕ = zip2 (λ a b. a % b) ys (replicate n (bits w)) in
+    let at : get_or (zip2 (λ a s. a * 2 ^ s % 2 ^ bits w) ones by) i 0 ≡ get_or ones i 0 * 2 ^ get_or by i 0 % 2 ^ bits w = lane2 (λ a s. a * 2 ^ s % 2 ^ bits w) ones by n i (length-replicate n 1) (long_amounts w ys n long) lt in
+    let one : get_or ones i 0 ≡ 1 = get_or-replicate n i 1 0 lt in
+    let once : 1 * 2 ^ s ≡ 2 ^ s = omega arith in
+    at ∙ ap (λ x. x * 2 ^ get_or by i 0 % 2 ^ bits w) one ∙ ap (λ x. 1 * 2 ^ x % 2 ^ bits w) (amount_at w ys n i long lt) ∙ ap (λ x. x % 2 ^ bits w) once ∙ mod_is (2 ^ bits w) (2 ^ s) below
 
 -- a vector from its lanes
 pub from_lanes : (f : ℕ → ℕ → ℕ) (n : ℕ) (xs ys zs : List ℕ) → length xs ≡ n → length ys ≡ n → length zs ≡ n → ((i : ℕ) → i < n → slice_index zs i ≡ f (slice_index xs i) (slice_index ys i)) → zs ≡ zip2 f xs ys

@@ -1,24 +1,20 @@
 -- What the chunk calls make of one lane, as numbers, and that the definitions say the same.
-use Rattle.std.proofs.Common.{◌≡◌, ℕ, ◌+◌, ◌-◌, ◌*◌, ◌/◌, ◌%◌, ◌^◌, ◌<◌, ◌≤◌, ◌==◌, Bool, true, false, not, ◌&&◌, ◌||◌, nat_lt, nat_le, ℤ, pos, negsuc, ◌+ℤ◌, ◌-ℤ◌, refl, ap, sym, ◌∙◌, zero, suc, arith, min}
-use Rattle.std.specs.Int.{Width, cast_signed, saturate_signed, saturate_unsigned, int_rem_euclid, int_div_euclid, from_bool}
+use Rattle.std.proofs.Common.{◌≡◌, ℕ, ◌+◌, ◌-◌, ◌*◌, ◌/◌, ◌%◌, ◌^◌, ◌<◌, ◌≤◌, ◌==◌, Bool, true, false, not, nat_lt, ℤ, pos, negsuc, ◌+ℤ◌, ◌-ℤ◌, refl, ap, sym, ◌∙◌, suc, arith, min}
+use Rattle.std.specs.Int.{Width, cast_signed, saturate_signed, saturate_unsigned}
 use Rattle.std.specs.Ordering.{int_eq}
 use Rattle.std.proofs.Common.{w8, w16, w32, w64, unsigned_abs}
 use mir.Syntax.{w128}
 use mir.Val.{bits, hbits}
 use Rattle.std.proofs.lemmas.Int.{int_rem_euclid_is, ints}
 use Rattle.std.proofs.Math.Nat.{mod-eq_of_lt}
-use Rattle.std.proofs.lemmas.Nat.{and_mask, mod-mul-add, pow_pos, div-add-mod', mod_below, mul-le, div-mul-add, div_below}
-use Rattle.std.proofs.Math.Nat.{div-one, mod-one, add-mul-div_right, mod-add-mod, add-mod_right, mul-div_cancel, div-le_self}
+use Rattle.std.proofs.lemmas.Nat.{mod-mul-add, pow_pos, div-add-mod', mod_below}
+use Rattle.std.proofs.Math.Nat.{div-one, mod-one}
 use Rattle.lane_fixed.proofs.ChunkLaneLemmas.{by_ltb}
-use Rattle.std.proofs.Math.Pow.{pow-lt}
-use Rattle.std.specs.Int.Bits.{xor_add_and, and_le_r}
-use Rattle.std.proofs.lemmas.Nat.{pow-add}
 use mathlib.Core.Bool.{cond}
 use mathlib.Core.Logic.{◌⊎◌, inl, inr}
 use Rattle.std.specs.Bool.{one_answer}
-use Rattle.std.specs.Int.RustNames.{bit_and, bit_xor}
 use Rattle.std.proofs.lemmas.Bool.Decides.{Decides-eqb, Decides-int_eq}
-use Rattle.lane_fixed.specs.Rounding.{rounded, rounds_up, shifted, low_bits, is_odd}
+use Rattle.lane_fixed.specs.Rounding.{rounded, rounds_up, shifted, low_bits}
 use Rattle.lane_fixed.specs.FixedPoint.{element, saturates, clipped, unclipped, exact, dropped}
 use Rattle.lane_fixed.specs.Chunks.{lane_result, lane_flag}
 use Rattle.lane_fixed.specs.declared.operations.Op.TheVariants.{SatAddU, SatAdd, SatSubU, SatSub}

@@ -1,4 +1,5 @@
 pub mod ChunkLaneLemmas
 pub mod ChunkLemmas
 pub mod KernelLemmas
+pub mod RoundedLaneLemmas
 pub mod RoundingLemmas

@@ -6,7 +6,7 @@ use lib.Signed.{shr_z, mag_shr}
 use Rattle.lane_fixed.specs.Rounding.{low_bits, shifted}
 
 -- the complement of a number, by quotient and rest
-complement : (m k n q r : ℕ) → q * m + r ≡ n → r < m → q < k → k * m - suc n ≡ (k - 1 - q) * m + (m - 1 - r)
+pub complement : (m k n q r : ℕ) → q * m + r ≡ n → r < m → q < k → k * m - suc n ≡ (k - 1 - q) * m + (m - 1 - r)
 complement m k n q r is below less =
     let more : (j : ℕ) × (q + suc j ≡ k) = (k - 1 - q, omega arith) in
     let whole : k * m ≡ q * m + m + more.0 * m = rw (sym more.1) (grind arith) in

@@ -5,9 +5,10 @@ use std::simd::prelude::*;
 
 /// A vector of unsigned lanes: `u8x16`, `u16x8` or `u32x4`.
 pub trait Chunk: Copy {
-    ghost use Rattle.std.specs.Prelude.{ℕ, ◌≡◌, ◌+◌, ◌-◌, ◌%◌, ◌^◌, ◌<◌, ◌==◌, nat_lt, min, if◌then◌else◌};
+    ghost use Rattle.std.specs.Prelude.{ℕ, ◌≡◌, ◌+◌, ◌-◌, ◌/◌, ◌%◌, ◌^◌, ◌<◌, ◌==◌, nat_lt, min, if◌then◌else◌};
     ghost use Rattle.std.specs.Int.{Width};
     ghost use mir.Val.{bits, hbits};
+    ghost use Rattle.std.specs.Int.RustNames.{bit_and, bit_xor};
 
     // the width of a lane, how many there are, and the number that one holds
     ghost width: { Width };
@@ -19,6 +20,10 @@ pub trait Chunk: Copy {
     /// Lanes of 0.
     fn zero() -> Self
         ensures { (i : ℕ) → i < count → lane result i ≡ 0 };
+
+    /// Lanes of 1.
+    fn one() -> Self
+        ensures { (i : ℕ) → i < count → lane result i ≡ 1 };
 
     /// Lanes with their top bit alone.
     fn top() -> Self
@@ -47,6 +52,23 @@ pub trait Chunk: Copy {
     fn saturating_difference(self, b: Self) -> Self
         ensures { (i : ℕ) → i < count → lane result i ≡ lane self i - lane b i };
 
+    /// The bits of both.
+    fn both(self, b: Self) -> Self
+        ensures { (i : ℕ) → i < count → lane result i ≡ bit_and (lane self i) (lane b i) };
+
+    /// The bits of one alone.
+    fn differing(self, b: Self) -> Self
+        ensures { (i : ℕ) → i < count → lane result i ≡ bit_xor (lane self i) (lane b i) };
+
+    /// The lane, shifted right by the low log2(SEW) bits of `b`.
+    fn shifted(self, b: Self) -> Self
+        ensures { (i : ℕ) → i < count
+            → lane result i ≡ lane self i / 2 ^ (lane b i % bits width) };
+
+    /// The power of 2 by which `shifted` divides.
+    fn power(self) -> Self
+        ensures { (i : ℕ) → i < count → lane result i ≡ 2 ^ (lane self i % bits width) };
+
     /// `yes` where this lane is below that of `b`, else `no`.
     fn if_below(self, b: Self, yes: Self, no: Self) -> Self
         ensures { (i : ℕ) → i < count
@@ -70,6 +92,11 @@ impl Chunk for u8x16 {
     #[inline(always)]
     fn zero() -> u8x16 {
         u8x16::splat(0)
+    }
+
+    #[inline(always)]
+    fn one() -> u8x16 {
+        u8x16::splat(1)
     }
 
     #[inline(always)]
@@ -103,6 +130,26 @@ impl Chunk for u8x16 {
     }
 
     #[inline(always)]
+    fn both(self, b: u8x16) -> u8x16 {
+        self & b
+    }
+
+    #[inline(always)]
+    fn differing(self, b: u8x16) -> u8x16 {
+        self ^ b
+    }
+
+    #[inline(always)]
+    fn shifted(self, b: u8x16) -> u8x16 {
+        self >> (b % u8x16::splat(8))
+    }
+
+    #[inline(always)]
+    fn power(self) -> u8x16 {
+        u8x16::splat(1) << (self % u8x16::splat(8))
+    }
+
+    #[inline(always)]
     fn if_below(self, b: u8x16, yes: u8x16, no: u8x16) -> u8x16 {
         self.simd_lt(b).select(yes, no)
     }
@@ -125,6 +172,11 @@ impl Chunk for u16x8 {
     #[inline(always)]
     fn zero() -> u16x8 {
         u16x8::splat(0)
+    }
+
+    #[inline(always)]
+    fn one() -> u16x8 {
+        u16x8::splat(1)
     }
 
     #[inline(always)]
@@ -158,6 +210,26 @@ impl Chunk for u16x8 {
     }
 
     #[inline(always)]
+    fn both(self, b: u16x8) -> u16x8 {
+        self & b
+    }
+
+    #[inline(always)]
+    fn differing(self, b: u16x8) -> u16x8 {
+        self ^ b
+    }
+
+    #[inline(always)]
+    fn shifted(self, b: u16x8) -> u16x8 {
+        self >> (b % u16x8::splat(16))
+    }
+
+    #[inline(always)]
+    fn power(self) -> u16x8 {
+        u16x8::splat(1) << (self % u16x8::splat(16))
+    }
+
+    #[inline(always)]
     fn if_below(self, b: u16x8, yes: u16x8, no: u16x8) -> u16x8 {
         self.simd_lt(b).select(yes, no)
     }
@@ -180,6 +252,11 @@ impl Chunk for u32x4 {
     #[inline(always)]
     fn zero() -> u32x4 {
         u32x4::splat(0)
+    }
+
+    #[inline(always)]
+    fn one() -> u32x4 {
+        u32x4::splat(1)
     }
 
     #[inline(always)]
@@ -210,6 +287,26 @@ impl Chunk for u32x4 {
     #[inline(always)]
     fn saturating_difference(self, b: u32x4) -> u32x4 {
         self.saturating_sub(b)
+    }
+
+    #[inline(always)]
+    fn both(self, b: u32x4) -> u32x4 {
+        self & b
+    }
+
+    #[inline(always)]
+    fn differing(self, b: u32x4) -> u32x4 {
+        self ^ b
+    }
+
+    #[inline(always)]
+    fn shifted(self, b: u32x4) -> u32x4 {
+        self >> (b % u32x4::splat(32))
+    }
+
+    #[inline(always)]
+    fn power(self) -> u32x4 {
+        u32x4::splat(1) << (self % u32x4::splat(32))
     }
 
     #[inline(always)]

@@ -50,7 +50,7 @@ pub enum ClipOp {
     Clip,
 }
 
-/// An operation of the chunk calls.
+/// An operation of the chunk calls, with vxrm where it rounds.
 #[derive(Clone, Copy, PartialEq, Eq, Debug)]
 pub enum Op {
     /// vsaddu
@@ -61,4 +61,16 @@ pub enum Op {
     SatSubU,
     /// vssub: vs2 - b
     SatSub,
+    /// vaaddu
+    AverageAddU(RoundingMode),
+    /// vaadd
+    AverageAdd(RoundingMode),
+    /// vasubu: vs2 - b
+    AverageSubU(RoundingMode),
+    /// vasub: vs2 - b
+    AverageSub(RoundingMode),
+    /// vssrl
+    ShiftRight(RoundingMode),
+    /// vssra
+    ShiftRightSigned(RoundingMode),
 }
