@@ -1,3 +1,4 @@
+pub mod ChunkKernelLemmas
 pub mod ChunkLaneLemmas
 pub mod ChunkLemmas
 pub mod KernelLemmas

@@ -1,5 +1,5 @@
 -- The operations of the chunk calls, as those of `FixedPoint`.
-use Rattle.std.specs.Prelude.{ℕ, ◌-◌, ◌^◌, ◌<◌, if◌then◌else◌}
+use Rattle.std.specs.Prelude.{ℕ, ◌-◌, ◌^◌, ◌<◌, Bool, if◌then◌else◌}
 use Rattle.std.specs.Int.{Width}
 use mir.Val.{bits}
 use Rattle.lane_fixed.specs.FixedPoint.{element, saturates}
@@ -43,5 +43,8 @@ AllFit w n lane = (i : ℕ) → i < n → lane i < 2 ^ bits w
 abbrev pub lane_result : Op → Width → ℕ → ℕ → ℕ
 lane_result op = element (operation op) (mode_of op)
 
+abbrev pub lane_saturates : Op → Width → ℕ → ℕ → Bool
+lane_saturates op = saturates (operation op) (mode_of op)
+
 abbrev pub lane_flag : Op → Width → ℕ → ℕ → ℕ
-lane_flag op w a b = if saturates (operation op) (mode_of op) w a b then 2 ^ bits w - 1 else 0
+lane_flag op w a b = if lane_saturates op w a b then 2 ^ bits w - 1 else 0

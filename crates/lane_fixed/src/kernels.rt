@@ -1,20 +1,14 @@
 //! The kernels: one operation over whole slices. Each matches its operation once, outside the loop, so that each loop knows its
 //! own.
-ghost use Rattle.std.specs.Prelude.{◌≡◌, ◌&&◌, ◌||◌, length, map};
+ghost use Rattle.std.specs.Prelude.{◌≡◌, length, map};
 ghost use lib.Lanes.{zip2};
 ghost use Rattle.lane_fixed.specs.FixedPoint.{any_active, clip_element, clip_saturates, element, saturates};
+ghost use Rattle.lane_fixed.specs.Chunks.{lane_result, lane_saturates, mode_of, operation};
 
 use crate::elements::{fixed, narrowed};
+use crate::flags::or_active;
 use crate::lane::Lane;
-use crate::operations::{ClipOp, FixedOp, RoundingMode};
-
-/// Whether an element saturated so far, where one more is clipped or not.
-#[inline(always)]
-fn or_active(so_far: bool, is_active: bool, is_clipped: bool) -> bool
-    ensures { result ≡ (so_far || (is_active && is_clipped)) }
-{
-    so_far || (is_active && is_clipped)
-}
+use crate::operations::{ClipOp, FixedOp, Op, RoundingMode};
 
 /// Writes over each element of `values`, which are vs2's, what `op` makes of it and of `b`'s element, and answers whether an
 /// active element saturated ("Vector Single-Width Saturating Add and Subtract", "Vector Single-Width Averaging Add and
@@ -35,27 +29,80 @@ pub fn compute<T: Lane>(
         ≡ any_active (saturates op mode T.width) (map T.number values.old) (map T.number b.now) active.now }
 {
     match op {
-        FixedOp::SatAddU => compute_each(FixedOp::SatAddU, mode, values, b, active),
-        FixedOp::SatAdd => compute_each(FixedOp::SatAdd, mode, values, b, active),
-        FixedOp::SatSubU => compute_each(FixedOp::SatSubU, mode, values, b, active),
-        FixedOp::SatSub => compute_each(FixedOp::SatSub, mode, values, b, active),
-        FixedOp::AverageAddU => compute_each(FixedOp::AverageAddU, mode, values, b, active),
-        FixedOp::AverageAdd => compute_each(FixedOp::AverageAdd, mode, values, b, active),
-        FixedOp::AverageSubU => compute_each(FixedOp::AverageSubU, mode, values, b, active),
-        FixedOp::AverageSub => compute_each(FixedOp::AverageSub, mode, values, b, active),
+        FixedOp::SatAddU => compute_chunks(Op::SatAddU, values, b, active),
+        FixedOp::SatAdd => compute_chunks(Op::SatAdd, values, b, active),
+        FixedOp::SatSubU => compute_chunks(Op::SatSubU, values, b, active),
+        FixedOp::SatSub => compute_chunks(Op::SatSub, values, b, active),
+        FixedOp::AverageAddU => compute_chunks(Op::AverageAddU(mode), values, b, active),
+        FixedOp::AverageAdd => compute_chunks(Op::AverageAdd(mode), values, b, active),
+        FixedOp::AverageSubU => compute_chunks(Op::AverageSubU(mode), values, b, active),
+        FixedOp::AverageSub => compute_chunks(Op::AverageSub(mode), values, b, active),
         FixedOp::Mul => compute_each(FixedOp::Mul, mode, values, b, active),
-        FixedOp::ShiftRight => compute_each(FixedOp::ShiftRight, mode, values, b, active),
-        FixedOp::ShiftRightSigned => compute_each(
-            FixedOp::ShiftRightSigned,
-            mode,
-            values,
-            b,
-            active,
-        ),
+        FixedOp::ShiftRight => compute_chunks(Op::ShiftRight(mode), values, b, active),
+        FixedOp::ShiftRightSigned => compute_chunks(Op::ShiftRightSigned(mode), values, b, active),
     }
 }
 
-/// The loop of `compute`.
+/// The kernel's operation.
+#[inline(always)]
+fn operation(op: Op) -> FixedOp
+    ensures { result ≡ operation op }
+{
+    match op {
+        Op::SatAddU => FixedOp::SatAddU,
+        Op::SatAdd => FixedOp::SatAdd,
+        Op::SatSubU => FixedOp::SatSubU,
+        Op::SatSub => FixedOp::SatSub,
+        Op::AverageAddU(_) => FixedOp::AverageAddU,
+        Op::AverageAdd(_) => FixedOp::AverageAdd,
+        Op::AverageSubU(_) => FixedOp::AverageSubU,
+        Op::AverageSub(_) => FixedOp::AverageSub,
+        Op::ShiftRight(_) => FixedOp::ShiftRight,
+        Op::ShiftRightSigned(_) => FixedOp::ShiftRightSigned,
+    }
+}
+
+/// How it rounds.
+#[inline(always)]
+fn mode_of(op: Op) -> RoundingMode
+    ensures { result ≡ mode_of op }
+{
+    match op {
+        Op::SatAddU | Op::SatAdd | Op::SatSubU | Op::SatSub => RoundingMode::Down,
+        Op::AverageAddU(mode)
+        | Op::AverageAdd(mode)
+        | Op::AverageSubU(mode)
+        | Op::AverageSub(mode)
+        | Op::ShiftRight(mode)
+        | Op::ShiftRightSigned(mode) => mode,
+    }
+}
+
+/// The loop over chunks, and that over the elements after the last of them.
+#[inline(always)]
+fn compute_chunks<T: Lane>(op: Op, values: &mut [T], b: &[T], active: &[bool]) -> bool
+    requires b_len { length b.now ≡ length values.old }
+    requires active_len { length active.now ≡ length values.old }
+    ensures results { map T.number values.new
+        ≡ zip2 (lane_result op T.width) (map T.number values.old) (map T.number b.now) }
+    ensures saturated { result
+        ≡ any_active (lane_saturates op T.width) (map T.number values.old) (map T.number b.now) active.now }
+{
+    let mut is_saturated = false;
+    let mut at = 0;
+    while values.len() - at >= T::count() {
+        is_saturated = T::chunk(op, values, b, active, at, is_saturated);
+        at += T::count();
+    }
+    for i in at..values.len() {
+        let (value, is_clipped) = fixed(operation(op), mode_of(op), values[i], b[i]);
+        values[i] = value;
+        is_saturated = or_active(is_saturated, active[i], is_clipped);
+    }
+    is_saturated
+}
+
+/// The loop over single elements.
 #[inline(always)]
 fn compute_each<T: Lane>(
     op: FixedOp,

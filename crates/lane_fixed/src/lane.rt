@@ -1,21 +1,30 @@
 //! The widths that the kernels work on.
-ghost use Rattle.std.specs.Prelude.{◌≡◌, ℕ, pos};
+ghost use Rattle.std.specs.Prelude.{◌≡◌, ℕ, ◌||◌, pos};
 ghost use Rattle.std.specs.Int.{saturate_signed, saturate_unsigned};
 ghost use Rattle.lane_fixed.specs.Rounding.{low_bits};
 
+use crate::chunks::{chunk_u8, chunk_u16, chunk_u32};
+use crate::flags::or_flagged;
+use crate::operations::Op;
 use crate::rounding::low;
+use std::simd::prelude::*;
 
 /// An element of one width: `u8`, `u16` or `u32`.
 pub trait Lane: Copy {
-    ghost use Rattle.std.specs.Prelude.{ℕ, ◌≡◌, ◌≤◌, ◌<◌, ◌^◌, pos};
+    ghost use Rattle.std.specs.Prelude.{ℕ, ◌≡◌, ◌≤◌, ◌<◌, ◌+◌, ◌^◌, ◌||◌, length, map, pos};
     ghost use Rattle.std.specs.Int.{Width, cast_signed, saturate_signed, saturate_unsigned};
     ghost use mir.Val.{bits};
+    ghost use lib.Lanes.{chunk, put_chunk, zip2};
     ghost use Rattle.lane_fixed.specs.Rounding.{low_bits};
+    ghost use Rattle.lane_fixed.specs.Chunks.{lane_result, lane_saturates};
+    ghost use Rattle.lane_fixed.specs.FixedPoint.{any_active};
 
-    // the width, and the number that an element holds
+    // the width, the number that an element holds, and how many a chunk has
     ghost width: { Width };
 
     ghost number: { Self → ℕ };
+
+    ghost count: { ℕ };
 
     /// The number of bits.
     fn bits() -> u32
@@ -42,6 +51,30 @@ pub trait Lane: Copy {
     /// The nearest signed number of this width.
     fn clip_signed(value: i64) -> i64
         ensures { result ≡ saturate_signed width value };
+
+    /// How many elements a chunk call takes.
+    fn count() -> usize
+        ensures meaning { result ≡ count }
+        ensures some { 1 ≤ result }
+        ensures few { result ≤ 16 };
+
+    /// Writes over a chunk of `values`, from `at` on, what a chunk call makes of it and of `b`'s, and answers `so_far`, or
+    /// whether an active element of the chunk saturated.
+    fn chunk(
+        op: Op,
+        values: &mut [Self],
+        b: &[Self],
+        active: &[bool],
+        at: usize,
+        so_far: bool,
+    ) -> bool
+        requires values_room { at + count ≤ length values.old }
+        requires b_room { at + count ≤ length b.now }
+        requires active_room { at + count ≤ length active.now }
+        ensures results { map number values.new ≡ put_chunk at (map number values.old)
+            (zip2 (lane_result op width) (chunk at count (map number values.old)) (chunk at count (map number b.now))) }
+        ensures saturated { result ≡ (so_far || any_active (lane_saturates op width)
+            (chunk at count (map number values.old)) (chunk at count (map number b.now)) (chunk at count active.now)) };
 }
 
 impl Lane for u8 {
@@ -50,6 +83,8 @@ impl Lane for u8 {
     ghost width = { w8 };
 
     ghost number = { λ a. a };
+
+    ghost count = { 16 };
 
     #[inline(always)]
     fn bits() -> u32 {
@@ -80,6 +115,30 @@ impl Lane for u8 {
     fn clip_signed(value: i64) -> i64 {
         value.clamp(-0x80, 0x7f)
     }
+
+    #[inline(always)]
+    fn count() -> usize {
+        16
+    }
+
+    #[inline(always)]
+    fn chunk(
+        op: Op,
+        values: &mut [u8],
+        b: &[u8],
+        active: &[bool],
+        at: usize,
+        so_far: bool,
+    ) -> bool {
+        let (results, flags) = chunk_u8(
+            op,
+            u8x16::from_slice(&values[at..]),
+            u8x16::from_slice(&b[at..]),
+        );
+        results.copy_to_slice(&mut values[at..]);
+        let mask = flags.simd_ne(u8x16::splat(0)).to_bitmask();
+        or_flagged(so_far, mask, &flags.to_array(), &active[at..at + 16])
+    }
 }
 
 impl Lane for u16 {
@@ -88,6 +147,8 @@ impl Lane for u16 {
     ghost width = { w16 };
 
     ghost number = { λ a. a };
+
+    ghost count = { 8 };
 
     #[inline(always)]
     fn bits() -> u32 {
@@ -118,6 +179,30 @@ impl Lane for u16 {
     fn clip_signed(value: i64) -> i64 {
         value.clamp(-0x8000, 0x7fff)
     }
+
+    #[inline(always)]
+    fn count() -> usize {
+        8
+    }
+
+    #[inline(always)]
+    fn chunk(
+        op: Op,
+        values: &mut [u16],
+        b: &[u16],
+        active: &[bool],
+        at: usize,
+        so_far: bool,
+    ) -> bool {
+        let (results, flags) = chunk_u16(
+            op,
+            u16x8::from_slice(&values[at..]),
+            u16x8::from_slice(&b[at..]),
+        );
+        results.copy_to_slice(&mut values[at..]);
+        let mask = flags.simd_ne(u16x8::splat(0)).to_bitmask();
+        or_flagged(so_far, mask, &flags.to_array(), &active[at..at + 8])
+    }
 }
 
 impl Lane for u32 {
@@ -126,6 +211,8 @@ impl Lane for u32 {
     ghost width = { w32 };
 
     ghost number = { λ a. a };
+
+    ghost count = { 4 };
 
     #[inline(always)]
     fn bits() -> u32 {
@@ -155,5 +242,29 @@ impl Lane for u32 {
     #[inline(always)]
     fn clip_signed(value: i64) -> i64 {
         value.clamp(-0x8000_0000, 0x7fff_ffff)
+    }
+
+    #[inline(always)]
+    fn count() -> usize {
+        4
+    }
+
+    #[inline(always)]
+    fn chunk(
+        op: Op,
+        values: &mut [u32],
+        b: &[u32],
+        active: &[bool],
+        at: usize,
+        so_far: bool,
+    ) -> bool {
+        let (results, flags) = chunk_u32(
+            op,
+            u32x4::from_slice(&values[at..]),
+            u32x4::from_slice(&b[at..]),
+        );
+        results.copy_to_slice(&mut values[at..]);
+        let mask = flags.simd_ne(u32x4::splat(0)).to_bitmask();
+        or_flagged(so_far, mask, &flags.to_array(), &active[at..at + 4])
     }
 }

@@ -5,6 +5,7 @@
 mod chunk_lanes;
 mod chunks;
 mod elements;
+mod flags;
 mod kernels;
 mod lane;
 mod operations;
