@@ -1,7 +1,8 @@
 //! The chunk calls, on one chunk each. What is expected was computed apart, by numbers.
 
 use lane_fixed::{
-    Op as FixedOp, chunk_u8 as fixed_u8, chunk_u16 as fixed_u16, chunk_u32 as fixed_u32,
+    Op as FixedOp, RoundingMode, chunk_u8 as fixed_u8, chunk_u16 as fixed_u16,
+    chunk_u32 as fixed_u32,
 };
 use lane_int::{CompareOp, MultiplyAddOp, Op, chunk_u8, chunk_u16, chunk_u32};
 use lane_masks::LogicOp;
@@ -82,6 +83,17 @@ fn a_chunk_of_words_saturates(rt: HostRuntime) {
     let (left, flags) = fixed_u32(FixedOp::SatSubU, a, b);
     assert_eq!(rt; left.to_array(), [0x7fff_fffe, 0, 0, 0x7fff_ffff]);
     assert_eq!(rt; flags.to_array(), [0, 0xffff_ffff, 0xffff_ffff, 0]);
+}
+
+#[test]
+fn a_chunk_of_words_is_rounded(rt: HostRuntime) {
+    let a = u32x4::from_array([0x7, 0x8000_0005, 0xffff_ffff, 0x6]);
+    let b = u32x4::from_array([0x4, 0x1, 0x1, 0x3]);
+    let (means, flags) = fixed_u32(FixedOp::AverageAddU(RoundingMode::NearestEven), a, b);
+    assert_eq!(rt; means.to_array(), [0x6, 0x4000_0003, 0x8000_0000, 0x4]);
+    assert_eq!(rt; flags.to_array(), [0; 4]);
+    let (scaled, _) = fixed_u32(FixedOp::ShiftRightSigned(RoundingMode::NearestUp), a, b);
+    assert_eq!(rt; scaled.to_array(), [0x0, 0xc000_0003, 0x0, 0x1]);
 }
 
 #[test]

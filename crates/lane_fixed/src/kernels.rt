@@ -1,5 +1,5 @@
 //! The kernels: one operation over whole slices. Each matches its operation once, outside the loop, so that each loop knows its
-//! own.
+//! own. What has a chunk call works by it, chunk after chunk, and by single elements after the last.
 ghost use Rattle.std.specs.Prelude.{◌≡◌, length, map};
 ghost use lib.Lanes.{zip2};
 ghost use Rattle.lane_fixed.specs.FixedPoint.{any_active, clip_element, clip_saturates, element, saturates};
