@@ -1,15 +1,13 @@
 -- Chunks that are written one after the other, and whether an active element of one saturates.
-use Rattle.std.proofs.Common.{◌≡◌, ℕ, ◌+◌, ◌-◌, ◌*◌, ◌^◌, ◌<◌, ◌≤◌, ◌==◌, Bool, true, false, not, ◌&&◌, ◌||◌, List, [], ◌∷◌, ◌++◌, zero, suc, length, take, drop, map, refl, ap, sym, ◌∙◌, arith, w8, w16, w32, w64}
+use Rattle.std.proofs.Common.{◌≡◌, ℕ, ◌+◌, ◌-◌, ◌^◌, ◌<◌, ◌≤◌, ◌==◌, Bool, true, false, not, ◌&&◌, ◌||◌, List, [], ◌∷◌, zero, suc, length, take, drop, map, refl, ap, sym, ◌∙◌, arith}
 use lib.Lanes.{zip2, chunk, put_chunk, mask_l}
-use mir.Syntax.{w128}
-use mir.Val.{bits, hbits}
+use mir.Val.{bits}
 use mathlib.Core.Bool.{cond}
 use mathlib.Core.Logic.{inl, inr}
 use Rattle.std.specs.Int.{Width}
 use Rattle.std.specs.List.{list_any}
 use Rattle.std.proofs.Math.Seq.{take-add}
 use Rattle.std.proofs.lemmas.Bool.Decides.{eqb_tells}
-use Rattle.std.proofs.lemmas.List.{length-map}
 use Rattle.std.proofs.lemmas.List.Folds.{list_any-append}
 use Rattle.std.proofs.lemmas.Simd.{length-zip2}
 use Rattle.std.specs.Ordering.{int_eq}

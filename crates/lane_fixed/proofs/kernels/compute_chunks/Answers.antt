@@ -1,6 +1,5 @@
 use Rattle.std.proofs.Common.{◌≡◌, ◌∙◌, ◌+◌, ◌≤◌, ◌||◌, ◌&&◌, false, ap, ap₂, sym, get_or, map, length, refl, arith}
 use lib.Lanes.{zip2}
-use mir.Val.{bits}
 use Rattle.std.proofs.lemmas.List.{length-map, length-set}
 use Rattle.std.proofs.lemmas.Simd.{length-put_chunk, length-zip2}
 use Rattle.lane_fixed.specs.FixedPoint.{element, saturates}
