@@ -228,7 +228,8 @@ fn entry_forms<A: Allocator>(
 /// The ranges of these forms.
 fn form_ranges(atoms: &Atoms<'_>, forms: &[Form<8>]) -> [Range; 33]
     requires { length forms.now ≡ 33 }
-    ensures { result ≡ map (λ form. computed_range_of None (range_of_form atoms.now form)) forms.now }
+    ensures { result
+        ≡ map (λ form. computed_range_of None (range_of_form atoms.now form)) forms.now }
 {
     let mut ranges = [Range::FULL; 33];
     for (place, form) in forms.iter().enumerate() {

@@ -93,6 +93,9 @@ fn refuses_a_store_in_place_of_the_load(rt: HostRuntime) -> Result<(), Fail> {
     assert_eq!(rt; error, Some(CheckError::ReadOnly(0x1_0004)));
     let text = format!(in alloc; "{}", CheckError::ReadOnly(0x1_0004))?;
     assert_eq!(rt; text.as_str(), "a store to read-only memory at 00010004");
+    assert_eq!(rt; CheckError::ReadOnly(0x1_0004).name(), "ReadOnly");
+    assert_eq!(rt; CheckError::ReadOnly(0x1_0004).address(), Some(0x1_0004));
+    assert_eq!(rt; CheckError::WrongVlen.address(), None);
     Ok(())
 }
 

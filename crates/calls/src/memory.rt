@@ -123,5 +123,7 @@ fn tells_what_is_wrong(rt: HostRuntime) -> Result<(), Fail> {
     ] {
         assert_eq!(rt; text.as_str(), expected);
     }
+    assert_eq!(rt; Fault::FetchFault(0x20).name(), "FetchFault");
+    assert_eq!(rt; Fault::FetchFault(0x20).number(), 0x20);
     Ok(())
 }

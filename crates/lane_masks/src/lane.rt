@@ -21,7 +21,8 @@ pub trait FoldLane: Copy {
 
     /// The element extended to 32 bits, by zeros or by its sign.
     fn extended(self, is_signed: bool) -> u32
-        ensures { result ≡ (if is_signed then cast_unsigned w32 (cast_signed width (number self)) else number self) };
+        ensures { result ≡ (if is_signed then cast_unsigned w32 (cast_signed width (number self))
+            else number self) };
 
     /// The value so far and one more element.
     fn join(op: FoldOp, a: Self, b: Self) -> Self

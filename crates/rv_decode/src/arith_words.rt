@@ -73,7 +73,8 @@ pub(crate) fn carry_out(word: u32, op: CarryOutOp, b: Source) -> Insn
 
 /// vmerge with vm 0, vmv.v with vm 1 and vs2 0.
 pub(crate) fn merge_or_copy(word: u32, b: Source) -> Option<Insn>
-    ensures { option_to_list result ≡ meanings_by_rows (row (vm 0 ∷ []) (merge_of b) ∷ row (vm 1 ∷ vs2 0 ∷ []) (copy_of b) ∷ []) word }
+    ensures { option_to_list result ≡ meanings_by_rows
+        (row (vm 0 ∷ []) (merge_of b) ∷ row (vm 1 ∷ vs2 0 ∷ []) (copy_of b) ∷ []) word }
 {
     match bits(word, 25, 1) {
         0 => Some(Insn::VArith(VArith::Merge {

@@ -168,21 +168,24 @@ fn apart(
 
 /// The operands of an operation on groups at `vd` and `vs2`, of these widths, and on `b`.
 fn two_sources(vd: Reg, to: Eew, vs2: Reg, from: Eew, b: &Source, is_masked: bool) -> Operands
-    ensures { result ≡ operands_of (group_of to vd) (group_of from vs2) (second_of b.now) is_masked Sharing.ByWidth }
+    ensures { result ≡ operands_of (group_of to vd) (group_of from vs2)
+        (second_of b.now) is_masked Sharing.ByWidth }
 {
     by_width(group(vd, to), group(vs2, from), second(b), is_masked)
 }
 
 /// The same where all are of SEW.
 fn same(vd: Reg, vs2: Reg, b: &Source, is_masked: bool) -> Operands
-    ensures { result ≡ operands_of (group_of eew.Same vd) (group_of eew.Same vs2) (second_of b.now) is_masked Sharing.ByWidth }
+    ensures { result ≡ operands_of (group_of eew.Same vd) (group_of eew.Same vs2)
+        (second_of b.now) is_masked Sharing.ByWidth }
 {
     two_sources(vd, Eew::Same, vs2, Eew::Same, b, is_masked)
 }
 
 /// The same where the destination is a mask.
 fn to_mask(vd: Reg, vs2: Reg, b: &Source, is_masked: bool) -> Operands
-    ensures { result ≡ operands_of (mask_of vd) (group_of eew.Same vs2) (second_of b.now) is_masked Sharing.ByWidth }
+    ensures { result ≡ operands_of (mask_of vd) (group_of eew.Same vs2)
+        (second_of b.now) is_masked Sharing.ByWidth }
 {
     by_width(mask(vd), group(vs2, Eew::Same), second(b), is_masked)
 }
@@ -303,7 +306,8 @@ fn needs_mask(insn: &VMask) -> Operands
 
 /// The operands of an instruction from a group to a group of SEW that shares no register with it.
 fn group_apart(vd: Reg, vs2: Reg, vs1: Option<Operand>, is_masked: bool) -> Operands
-    ensures { result ≡ operands_of (group_of eew.Same vd) (group_of eew.Same vs2) vs1 is_masked Sharing.Nothing }
+    ensures { result ≡ operands_of (group_of eew.Same vd) (group_of eew.Same vs2)
+        vs1 is_masked Sharing.Nothing }
 {
     apart(group(vd, Eew::Same), group(vs2, Eew::Same), vs1, is_masked)
 }
@@ -350,7 +354,8 @@ fn needs_perm(insn: &VPerm) -> Operands
 
 /// The operands of a reduction to a single element of this width.
 fn fold(vd: Reg, to: Eew, vs2: Reg, vs1: Reg, is_masked: bool) -> Operands
-    ensures { result ≡ operands_of (single_of to vd) (group_of eew.Same vs2) (single_of to vs1) is_masked Sharing.ByWidth }
+    ensures { result ≡ operands_of (single_of to vd) (group_of eew.Same vs2)
+        (single_of to vs1) is_masked Sharing.ByWidth }
 {
     by_width(
         single(vd, to),

@@ -20,7 +20,8 @@ fn csr_form(word: u32, action: CsrAction, csr: CsrName, source: CsrSource) -> In
 
 /// A form that always writes: it can't name a read-only CSR.
 fn decode_write(word: u32, source: CsrSource) -> Option<Insn>
-    ensures { option_to_list result ≡ meanings_by_rows (writable CsrAction.Write (λ _. source)) word }
+    ensures { option_to_list result
+        ≡ meanings_by_rows (writable CsrAction.Write (λ _. source)) word }
 {
     match bits(word, 20, 12) {
         0x009 => Some(csr_form(word, CsrAction::Write, CsrName::Vxsat, source)),
@@ -32,7 +33,8 @@ fn decode_write(word: u32, source: CsrSource) -> Option<Insn>
 
 /// A form that sets or clears bits: it may name a read-only CSR where its register is x0, or its immediate 0.
 fn decode_change(word: u32, action: CsrAction, source: CsrSource) -> Option<Insn>
-    ensures { option_to_list result ≡ meanings_by_rows (writable action (λ _. source) ++ read_only action (λ _. source)) word }
+    ensures { option_to_list result
+        ≡ meanings_by_rows (writable action (λ _. source) ++ read_only action (λ _. source)) word }
 {
     let read_only = bits(word, 15, 5) == 0;
     match bits(word, 20, 12) {

@@ -202,7 +202,8 @@ impl<const VLENB: usize, A: Allocator> Session<VLENB, A> {
 
     /// The bytes of a vector register, the lowest element's first: `VLENB` of them.
     pub fn vector(&self, register: Reg) -> &[u8]
-        ensures { result.now ≡ bytes_from (register * VLENB) VLENB self.now.machine.vectors.registers }
+        ensures { result.now
+            ≡ bytes_from (register * VLENB) VLENB self.now.machine.vectors.registers }
     {
         self.machine.vectors.registers().group(register, 1)
     }

@@ -156,7 +156,8 @@ pub fn compare<E: VectorElement, const VLENB: usize>(
     requires c_len { length c.old ≡ setup.now.vl }
     requires width { E.sew ≡ setup.now.vtype.sew }
     requires ready { IsReady VLENB setup.now (needs_of_arith (VArith.Compare op vd vs2 b masked)) }
-    ensures { registers.new ≡ compare_of VLENB setup.now scalar.now op vd vs2 b masked registers.old }
+    ensures { registers.new
+        ≡ compare_of VLENB setup.now scalar.now op vd vs2 b masked registers.old }
 {
     let mut bits = [false; MOST_ELEMENTS];
     let results = &mut bits[..setup.vl];

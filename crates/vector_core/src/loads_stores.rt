@@ -58,7 +58,8 @@ fn step_store<const VLENB: usize, A: Allocator>(
 ) -> Result<(), Fault>
     requires ready { IsReady VLENB setup.now (needs_of_access insn.now) }
     requires direction { insn.now.direction ≡ Store }
-    ensures { Steps (direction_step Store VLENB setup.now insn.now scalar.old vectors.now memory.old)
+    ensures { Steps
+        (direction_step Store VLENB setup.now insn.now scalar.old vectors.now memory.old)
         (scalar.old, vectors.now, memory.old) (scalar.new, vectors.now, memory.new) result }
 {
     let base = scalar.reg(insn.rs1);

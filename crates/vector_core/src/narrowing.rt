@@ -37,7 +37,8 @@ pub fn narrow<N: HalfOf<W>, W: VectorElement, const VLENB: usize>(
     requires y_len { length y.old ≡ setup.now.vl }
     requires width { N.sew ≡ setup.now.vtype.sew }
     requires ready { IsReady VLENB setup.now (needs_of_arith (VArith.Narrow op vd vs2 b masked)) }
-    ensures { registers.new ≡ narrow_of VLENB setup.now scalar.now op vd vs2 b masked registers.old }
+    ensures { registers.new
+        ≡ narrow_of VLENB setup.now scalar.now op vd vs2 b masked registers.old }
 {
     let destination = setup.group(vd, Eew::Same);
     let source = setup.group::<VLENB>(vs2, Eew::Double);

@@ -24,7 +24,8 @@ pub fn multiply_add_results<E: VectorElement>(op: MultiplyAddOp, a: &[E], b: &[E
     requires a_len { length a.now ≡ length values.old }
     requires b_len { length b.now ≡ length values.old }
     ensures { map E.Element.number values.new ≡ zip3 (multiply_added op (lane_width E.sew))
-        (map E.Element.number a.now) (map E.Element.number b.now) (map E.Element.number values.old) }
+        (map E.Element.number a.now) (map E.Element.number b.now)
+        (map E.Element.number values.old) }
 {
     lane_int::multiply_add(op, a, b, values);
 }

@@ -117,7 +117,8 @@ pub fn step_access<const VLENB: usize, A: Allocator>(
     access: &VMem,
     memory: &mut Regions<A>,
 ) -> Result<(), Fault>
-    ensures { Steps (vector_step VLENB (Insn.VMem access.now) word scalar.old vectors.old memory.old)
+    ensures { Steps
+        (vector_step VLENB (Insn.VMem access.now) word scalar.old vectors.old memory.old)
         (scalar.old, vectors.old, memory.old) (scalar.new, vectors.new, memory.new) result }
 {
     vectors.state_law();

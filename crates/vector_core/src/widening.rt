@@ -196,7 +196,8 @@ fn extend_quarter<const VLENB: usize>(
     vs2: Reg,
     masked: bool,
 )
-    requires { IsReady VLENB setup.now (needs_of_arith (VArith.Extend signed Quarter vd vs2 masked)) }
+    requires { IsReady VLENB setup.now
+        (needs_of_arith (VArith.Extend signed Quarter vd vs2 masked)) }
     ensures { registers.new ≡ extend_of VLENB setup.now signed Quarter vd vs2 masked registers.old }
 {
     let vl = setup.vl;

@@ -293,7 +293,8 @@ impl<const VLENB: usize> VregFile<VLENB> {
 fn copy_bytes(bytes: &mut [u8], at: usize, source: usize, count: usize)
     requires within { at + count ≤ length bytes.old }
     requires source { source + count ≤ length bytes.old }
-    ensures { bytes.new ≡ take at bytes.old ++ take count (drop source bytes.old) ++ drop (at + count) bytes.old }
+    ensures { bytes.new ≡ take at bytes.old ++ take count (drop source bytes.old)
+        ++ drop (at + count) bytes.old }
 {
     bytes.copy_within(source..source + count, at);
 }
