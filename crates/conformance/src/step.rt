@@ -26,18 +26,9 @@ pub struct Named(pub Fault);
 
 impl fmt::Display for Named {
     fn fmt<W: fmt::Write>(&self, f: &mut fmt::Formatter<W>) -> fmt::Result {
-        let (name, number) = parts(self.0);
+        let name = self.0.name();
+        let number = self.0.number();
         write!(f, "{name} {number:08x}")
-    }
-}
-
-fn parts(fault: Fault) -> (&'static str, u32) {
-    match fault {
-        Fault::Illegal(word) => ("Illegal", word),
-        Fault::FetchFault(pc) => ("FetchFault", pc),
-        Fault::LoadFault(address) => ("LoadFault", address),
-        Fault::StoreFault(address) => ("StoreFault", address),
-        Fault::JumpMisaligned(target) => ("JumpMisaligned", target),
     }
 }
 

@@ -92,7 +92,8 @@ impl<A: Allocator> Bytes<A> {
     /// Puts these bytes in the place of as many from an index on.
     pub(crate) fn set_part(&mut self, at: usize, bytes: &[u8])
         requires { at + length bytes.now ≤ length self.old }
-        ensures { self.new ≡ take at self.old ++ bytes.now ++ drop (at + length bytes.now) self.old }
+        ensures { self.new ≡ take at self.old ++ bytes.now
+            ++ drop (at + length bytes.now) self.old }
     {
         self.items[at..at + bytes.len()].copy_from_slice(bytes);
     }

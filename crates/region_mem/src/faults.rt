@@ -1,4 +1,7 @@
 //! What stops a run, and the rights that an access asks for.
+ghost use Rattle.std.specs.Prelude.{◌≡◌};
+ghost use Rattle.region_mem.specs.Faults.{name_of, number_of};
+
 use std::error::Error;
 use std::fmt;
 
@@ -23,6 +26,33 @@ pub enum Fault {
     StoreFault(u32),
     /// A jump was taken to this address, which is no multiple of 4.
     JumpMisaligned(u32),
+}
+
+impl Fault {
+    /// The fault's name, as it stands above, without its number.
+    pub fn name(self) -> &'static str
+        ensures { result.now ≡ name_of self }
+    {
+        match self {
+            Fault::Illegal(_) => "Illegal",
+            Fault::FetchFault(_) => "FetchFault",
+            Fault::LoadFault(_) => "LoadFault",
+            Fault::StoreFault(_) => "StoreFault",
+            Fault::JumpMisaligned(_) => "JumpMisaligned",
+        }
+    }
+
+    /// The word or the address that the fault carries.
+    pub fn number(self) -> u32
+        ensures { result ≡ number_of self }
+    {
+        match self {
+            Fault::Illegal(word) => word,
+            Fault::FetchFault(pc) => pc,
+            Fault::LoadFault(address) | Fault::StoreFault(address) => address,
+            Fault::JumpMisaligned(target) => target,
+        }
+    }
 }
 
 impl fmt::Display for Fault {

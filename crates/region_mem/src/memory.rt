@@ -53,7 +53,8 @@ impl<A: Allocator> Regions<A> {
     where
         A: Copy,
         requires { AreArguments parameters.now args.places }
-        ensures start { IfOk result (λ regions. regions ≡ start_memory image.now parameters.now args.places) }
+        ensures start { IfOk result (λ regions.
+            regions ≡ start_memory image.now parameters.now args.places) }
         ensures back { IfErr result (λ e. e.1 ≡ args) }
     {
         match start::fixed_regions(alloc, image) {
@@ -206,7 +207,8 @@ impl<A: Allocator> Regions<A> {
     #[tactic(auto, unfolding(crate::specs::Memory::store_of, crate::specs::Memory::is_permitted))]
     pub fn store(&mut self, address: u32, n: usize, value: u32) -> bool
         requires { IsAccessSize n }
-        ensures meaning { (if result then Some self.new else None) ≡ store_of address n value self.old }
+        ensures meaning { (if result then Some self.new else None)
+            ≡ store_of address n value self.old }
         ensures refused { result ≡ false → self.new ≡ self.old }
     {
         areas::set_number(self.regions.as_mut_slice(), u64::from(address), n, value)

@@ -42,7 +42,13 @@ impl<A: Allocator> Region<A> {
         fetch: bool,
     ) -> Region<A>
         requires { first + length bytes ≤ 2 ^ 32 }
-        ensures { result ≡ record { first = first; bytes = bytes; read = read; write = write; fetch = fetch } }
+        ensures { result ≡ record {
+          first = first;
+          bytes = bytes;
+          read = read;
+          write = write;
+          fetch = fetch;
+        } }
     {
         Region {
             first,
@@ -111,7 +117,8 @@ impl<A: Allocator> Region<A> {
     #[tactic(auto, unfolding(crate::specs::Areas::holds))]
     pub(crate) fn set_byte(&mut self, address: u64, byte: u8)
         requires { IsTrue (holds address self.old) }
-        ensures { self.new ≡ record self.old { bytes = slice_set self.old.bytes (address - self.old.first) byte } }
+        ensures { self.new
+            ≡ record self.old { bytes = slice_set self.old.bytes (address - self.old.first) byte } }
     {
         self.bytes.set((address - self.first) as usize, byte);
     }
@@ -210,7 +217,8 @@ impl<A: Allocator> Region<A> {
         requires low { address < 2 ^ 32 }
         requires fits { n < 2 ^ 63 }
         ensures { option_copied result
-            ≡ (if admits right address n self.now then Some (part_of address n self.now) else None) }
+            ≡ (if admits right address n self.now then Some (part_of address n self.now)
+            else None) }
     {
         if self.admits(right, address, n as u64) {
             Some(self.part(address, n))

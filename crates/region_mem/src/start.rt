@@ -92,7 +92,8 @@ pub(crate) fn fixed_regions<A: Allocator + Copy, B: Allocator>(
     alloc: A,
     image: &Image<B>,
 ) -> Result<Vec<Region<A>, A>, AllocError>
-    ensures items { IfOk result (λ v. v.items ≡ insert_area stack_area (insert_areas (map segment_area image.now.segments) [])) }
+    ensures items { IfOk result (λ v.
+        v.items ≡ insert_area stack_area (insert_areas (map segment_area image.now.segments) [])) }
     ensures room { IfOk result (λ v. vec_len v + 8 ≤ vec_capacity v) }
 {
     let mut regions = segment_regions(alloc, image.segments())?;
@@ -151,7 +152,8 @@ fn put<A: Allocator>(
     requires room { vec_len regions.old < vec_capacity regions.old }
     requires place { place < 8 }
     requires small { size_of arg ≤ MAX_BUFFER_SIZE }
-    ensures items { regions.new.items ≡ insert_areas (buffer_areas parameters.now place (arg ∷ [])) regions.old.items }
+    ensures items { regions.new.items
+        ≡ insert_areas (buffer_areas parameters.now place (arg ∷ [])) regions.old.items }
     ensures len { vec_len regions.new ≤ vec_len regions.old + 1 }
     ensures capacity { vec_capacity regions.old ≤ vec_capacity regions.new }
 {
@@ -168,7 +170,8 @@ pub(crate) fn put_all<A: Allocator>(
 )
     requires room { vec_len regions.old + 8 ≤ vec_capacity regions.old }
     requires small { AllByRecursion (λ arg. size_of arg ≤ MAX_BUFFER_SIZE) args.places }
-    ensures { regions.new.items ≡ insert_areas (buffer_areas parameters.now 0 args.places) regions.old.items }
+    ensures { regions.new.items
+        ≡ insert_areas (buffer_areas parameters.now 0 args.places) regions.old.items }
 {
     let Args {
         places: [a, b, c, d, e, f, g, h],
@@ -213,7 +216,8 @@ pub(crate) fn passed<A: Allocator>(args: &Args<Bytes<A>>) -> [Passed; 8]
 
 /// The next of the regions that is a buffer's.
 fn next_buffer<A: Allocator>(regions: &mut IntoIter<Region<A>, A>) -> Option<Region<A>>
-    ensures next { filter is_buffer_area (into_iter_items regions.old) ≡ option_to_list result ++ filter is_buffer_area (into_iter_items regions.new) }
+    ensures next { filter is_buffer_area (into_iter_items regions.old) ≡ option_to_list result
+        ++ filter is_buffer_area (into_iter_items regions.new) }
     ensures none { IfNone result (filter is_buffer_area (into_iter_items regions.old) ≡ []) }
 {
     while let Some(region) = regions.next() {
@@ -228,7 +232,8 @@ fn next_buffer<A: Allocator>(regions: &mut IntoIter<Region<A>, A>) -> Option<Reg
 #[tactic(auto, unfolding(crate::specs::Memory::arg_with, crate::specs::Memory::left_after))]
 fn arg_with<A: Allocator>(place: Passed, regions: &mut IntoIter<Region<A>, A>) -> Arg<Bytes<A>>
     ensures value { result ≡ arg_with place (filter is_buffer_area (into_iter_items regions.old)) }
-    ensures left { filter is_buffer_area (into_iter_items regions.new) ≡ left_after place (filter is_buffer_area (into_iter_items regions.old)) }
+    ensures left { filter is_buffer_area (into_iter_items regions.new)
+        ≡ left_after place (filter is_buffer_area (into_iter_items regions.old)) }
 {
     match place {
         Passed::None => Arg::None,
