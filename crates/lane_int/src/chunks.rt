@@ -1,4 +1,5 @@
 //! The chunk calls: one operation on all lanes of vectors of 128 bits, by operations on vectors alone.
+mod bodies;
 mod bytes;
 mod halves;
 mod words;

@@ -1,8 +1,10 @@
 //! The widths that the kernels work on.
 ghost use Rattle.std.specs.Prelude.{◌≡◌, ℕ, Bool};
 
+use crate::elements::{
+    by_sign, carry_out, carry_result, extended, high_half, int_result, int_test, multiply_add,
+};
 use crate::operations::{CarryOp, CompareOp, IntOp, MultiplyAddOp};
-use crate::{bytes, halves, words};
 
 /// An element of one width: `u8`, `u16` or `u32`.
 pub trait Lane: Copy {
@@ -82,28 +84,33 @@ impl Lane for u8 {
     ghost added_of = { λ op a b d. multiply_added op w8 a b d };
 
     #[inline(always)]
+    #[tactic(auto, unfolding(crate::specs::Integer::element))]
     fn int_result(op: IntOp, a: u8, b: u8) -> u8 {
-        bytes::int_result(op, a, b)
+        int_result!(u8, u16, i16, 8, op, a, b)
     }
 
     #[inline(always)]
+    #[tactic(auto, unfolding(crate::specs::Integer::compares))]
     fn int_test(op: CompareOp, a: u8, b: u8) -> bool {
-        bytes::int_test(op, a, b)
+        int_test!(op, a, b)
     }
 
     #[inline(always)]
+    #[tactic(auto, unfolding(crate::specs::Integer::carried))]
     fn carry_result(op: CarryOp, a: u8, b: u8, carry: bool) -> u8 {
-        bytes::carry_result(op, a, b, carry)
+        carry_result!(u8, op, a, b, carry)
     }
 
     #[inline(always)]
+    #[tactic(auto, unfolding(crate::specs::Integer::carries))]
     fn carry_out(op: CarryOp, a: u8, b: u8, carry: bool) -> bool {
-        bytes::carry_out(op, a, b, carry)
+        carry_out!(u8, u16, op, a, b, carry)
     }
 
     #[inline(always)]
+    #[tactic(auto, unfolding(crate::specs::Integer::multiply_added))]
     fn multiply_add(op: MultiplyAddOp, a: u8, b: u8, d: u8) -> u8 {
-        bytes::multiply_add(op, a, b, d)
+        multiply_add!(op, a, b, d)
     }
 
     ghost result_is = { λ op a b. refl };
@@ -137,28 +144,33 @@ impl Lane for u16 {
     ghost added_of = { λ op a b d. multiply_added op w16 a b d };
 
     #[inline(always)]
+    #[tactic(auto, unfolding(crate::specs::Integer::element))]
     fn int_result(op: IntOp, a: u16, b: u16) -> u16 {
-        halves::int_result(op, a, b)
+        int_result!(u16, u32, i32, 16, op, a, b)
     }
 
     #[inline(always)]
+    #[tactic(auto, unfolding(crate::specs::Integer::compares))]
     fn int_test(op: CompareOp, a: u16, b: u16) -> bool {
-        halves::int_test(op, a, b)
+        int_test!(op, a, b)
     }
 
     #[inline(always)]
+    #[tactic(auto, unfolding(crate::specs::Integer::carried))]
     fn carry_result(op: CarryOp, a: u16, b: u16, carry: bool) -> u16 {
-        halves::carry_result(op, a, b, carry)
+        carry_result!(u16, op, a, b, carry)
     }
 
     #[inline(always)]
+    #[tactic(auto, unfolding(crate::specs::Integer::carries))]
     fn carry_out(op: CarryOp, a: u16, b: u16, carry: bool) -> bool {
-        halves::carry_out(op, a, b, carry)
+        carry_out!(u16, u32, op, a, b, carry)
     }
 
     #[inline(always)]
+    #[tactic(auto, unfolding(crate::specs::Integer::multiply_added))]
     fn multiply_add(op: MultiplyAddOp, a: u16, b: u16, d: u16) -> u16 {
-        halves::multiply_add(op, a, b, d)
+        multiply_add!(op, a, b, d)
     }
 
     ghost result_is = { λ op a b. refl };
@@ -192,28 +204,33 @@ impl Lane for u32 {
     ghost added_of = { λ op a b d. multiply_added op w32 a b d };
 
     #[inline(always)]
+    #[tactic(auto, unfolding(crate::specs::Integer::element))]
     fn int_result(op: IntOp, a: u32, b: u32) -> u32 {
-        words::int_result(op, a, b)
+        int_result!(u32, u64, i64, 32, op, a, b)
     }
 
     #[inline(always)]
+    #[tactic(auto, unfolding(crate::specs::Integer::compares))]
     fn int_test(op: CompareOp, a: u32, b: u32) -> bool {
-        words::int_test(op, a, b)
+        int_test!(op, a, b)
     }
 
     #[inline(always)]
+    #[tactic(auto, unfolding(crate::specs::Integer::carried))]
     fn carry_result(op: CarryOp, a: u32, b: u32, carry: bool) -> u32 {
-        words::carry_result(op, a, b, carry)
+        carry_result!(u32, op, a, b, carry)
     }
 
     #[inline(always)]
+    #[tactic(auto, unfolding(crate::specs::Integer::carries))]
     fn carry_out(op: CarryOp, a: u32, b: u32, carry: bool) -> bool {
-        words::carry_out(op, a, b, carry)
+        carry_out!(u32, u64, op, a, b, carry)
     }
 
     #[inline(always)]
+    #[tactic(auto, unfolding(crate::specs::Integer::multiply_added))]
     fn multiply_add(op: MultiplyAddOp, a: u32, b: u32, d: u32) -> u32 {
-        words::multiply_add(op, a, b, d)
+        multiply_add!(op, a, b, d)
     }
 
     ghost result_is = { λ op a b. refl };

@@ -2,14 +2,12 @@
 //! Instructions" of the "V" extension).
 #![tactic(auto)]
 
-mod bytes;
 mod chunks;
-mod halves;
+mod elements;
 mod kernels;
 mod lane;
 mod operations;
 mod resizing;
-mod words;
 
 pub use chunks::{chunk_u8, chunk_u16, chunk_u32, lane_u8, lane_u16, lane_u32};
 pub use kernels::{compare, compute, compute_carried, compute_carries, multiply_add};

@@ -6,6 +6,7 @@ ghost use Rattle.lane_int.specs.Chunks.{lane_of, all_ones, turned};
 ghost use Rattle.lane_int.specs.Integer.{element, compares, multiply_added, shift_amount};
 ghost use Rattle.lane_int.specs.Lists.{zip3};
 
+use crate::chunks::bodies::{chunk_cases, compare_cases, multiply_add_cases};
 use crate::operations::{CompareOp, IntOp, MultiplyAddOp, Op};
 use std::simd::prelude::*;
 
@@ -15,24 +16,7 @@ use std::simd::prelude::*;
 pub fn chunk_u32(op: Op, values: u32x4, b: u32x4, old: u32x4) -> u32x4
     ensures { result ≡ zip3 (lane_of op w32) values b old }
 {
-    match op {
-        Op::Add => values + b,
-        Op::Sub => values - b,
-        Op::ReverseSub => b - values,
-        Op::MinU => values.simd_min(b),
-        Op::Min => turned(b).simd_lt(turned(values)).select(b, values),
-        Op::MaxU => values.simd_max(b),
-        Op::Max => turned(b).simd_lt(turned(values)).select(values, b),
-        Op::And => values & b,
-        Op::Or => values | b,
-        Op::Xor => values ^ b,
-        Op::ShiftLeft => values << amounts(b),
-        Op::ShiftRight => values >> amounts(b),
-        Op::ShiftRightSigned => shift_right_signed(values, b),
-        Op::Mul => values * b,
-        Op::Compare(op) => compare(op, values, b),
-        Op::MultiplyAdd(op) => multiply_add(op, values, b, old),
-    }
+    chunk_cases!(op, values, b, old)
 }
 
 /// Law: lane `i` of the result is what `op` makes of the lanes `i` alone, as `specs/Integer.antt` has it.
@@ -76,16 +60,7 @@ fn shift_right_signed(values: u32x4, b: u32x4) -> u32x4
 fn compare(op: CompareOp, values: u32x4, b: u32x4) -> u32x4
     ensures { result ≡ zip2 (λ x y. all_ones w32 (compares op w32 x y)) values b }
 {
-    let holds = match op {
-        CompareOp::Equal => values.simd_eq(b),
-        CompareOp::NotEqual => values.simd_ne(b),
-        CompareOp::LessU => values.simd_lt(b),
-        CompareOp::Less => turned(values).simd_lt(turned(b)),
-        CompareOp::LessEqualU => values.simd_le(b),
-        CompareOp::LessEqual => turned(values).simd_le(turned(b)),
-        CompareOp::GreaterU => values.simd_gt(b),
-        CompareOp::Greater => turned(values).simd_gt(turned(b)),
-    };
+    let holds = compare_cases!(op, values, b);
     holds.select(u32x4::splat(u32::MAX), u32x4::splat(0))
 }
 
@@ -94,10 +69,5 @@ fn compare(op: CompareOp, values: u32x4, b: u32x4) -> u32x4
 fn multiply_add(op: MultiplyAddOp, values: u32x4, b: u32x4, old: u32x4) -> u32x4
     ensures { result ≡ zip3 (multiply_added op w32) values b old }
 {
-    match op {
-        MultiplyAddOp::Macc => b * values + old,
-        MultiplyAddOp::Nmsac => old - b * values,
-        MultiplyAddOp::Madd => b * old + values,
-        MultiplyAddOp::Nmsub => values - b * old,
-    }
+    multiply_add_cases!(op, values, b, old)
 }

@@ -1,0 +1,58 @@
+//! The bodies that the chunk calls share. The operations on lanes that they name, as `turned`, are those of the file that
+//! the body stands in.
+
+/// What `op` makes of the lanes `values` of vs2, `b` and `old` of vd.
+macro_rules! chunk_cases {
+    ($op:ident, $values:ident, $b:ident, $old:ident) => {
+        match $op {
+            Op::Add => $values + $b,
+            Op::Sub => $values - $b,
+            Op::ReverseSub => $b - $values,
+            Op::MinU => $values.simd_min($b),
+            Op::Min => turned($b).simd_lt(turned($values)).select($b, $values),
+            Op::MaxU => $values.simd_max($b),
+            Op::Max => turned($b).simd_lt(turned($values)).select($values, $b),
+            Op::And => $values & $b,
+            Op::Or => $values | $b,
+            Op::Xor => $values ^ $b,
+            Op::ShiftLeft => $values << amounts($b),
+            Op::ShiftRight => $values >> amounts($b),
+            Op::ShiftRightSigned => shift_right_signed($values, $b),
+            Op::Mul => $values * $b,
+            Op::Compare(op) => compare(op, $values, $b),
+            Op::MultiplyAdd(op) => multiply_add(op, $values, $b, $old),
+        }
+    };
+}
+
+/// The lanes where `op` holds of vs2's lane and of `b`'s.
+macro_rules! compare_cases {
+    ($op:ident, $values:ident, $b:ident) => {
+        match $op {
+            CompareOp::Equal => $values.simd_eq($b),
+            CompareOp::NotEqual => $values.simd_ne($b),
+            CompareOp::LessU => $values.simd_lt($b),
+            CompareOp::Less => turned($values).simd_lt(turned($b)),
+            CompareOp::LessEqualU => $values.simd_le($b),
+            CompareOp::LessEqual => turned($values).simd_le(turned($b)),
+            CompareOp::GreaterU => $values.simd_gt($b),
+            CompareOp::Greater => turned($values).simd_gt(turned($b)),
+        }
+    };
+}
+
+/// vmacc, vnmsac, vmadd and vnmsub
+macro_rules! multiply_add_cases {
+    ($op:ident, $values:ident, $b:ident, $old:ident) => {
+        match $op {
+            MultiplyAddOp::Macc => $b * $values + $old,
+            MultiplyAddOp::Nmsac => $old - $b * $values,
+            MultiplyAddOp::Madd => $b * $old + $values,
+            MultiplyAddOp::Nmsub => $values - $b * $old,
+        }
+    };
+}
+
+pub(crate) use chunk_cases;
+pub(crate) use compare_cases;
+pub(crate) use multiply_add_cases;
