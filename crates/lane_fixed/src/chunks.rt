@@ -16,7 +16,8 @@ use std::simd::prelude::*;
 fn signed_sum<T: Chunk>(a: T, b: T) -> T
     requires a_fits { AllFit T.width T.count (T.lane a) }
     requires b_fits { AllFit T.width T.count (T.lane b) }
-    ensures { (i : ℕ) → i < T.count → T.lane result i ≡ low_bits (bits T.width) (saturate_signed T.width
+    ensures { (i : ℕ) → i < T.count → T.lane result i
+        ≡ low_bits (bits T.width) (saturate_signed T.width
         (cast_signed T.width (T.lane a i) +ℤ cast_signed T.width (T.lane b i))) }
 {
     let raised = a.sum(T::top());
@@ -31,7 +32,8 @@ fn signed_sum<T: Chunk>(a: T, b: T) -> T
 fn signed_difference<T: Chunk>(a: T, b: T) -> T
     requires a_fits { AllFit T.width T.count (T.lane a) }
     requires b_fits { AllFit T.width T.count (T.lane b) }
-    ensures { (i : ℕ) → i < T.count → T.lane result i ≡ low_bits (bits T.width) (saturate_signed T.width
+    ensures { (i : ℕ) → i < T.count → T.lane result i
+        ≡ low_bits (bits T.width) (saturate_signed T.width
         (cast_signed T.width (T.lane a i) -ℤ cast_signed T.width (T.lane b i))) }
 {
     let raised = a.sum(T::top());
@@ -56,7 +58,8 @@ fn flagged<T: Chunk>(clipped: T, wrapped: T) -> (T, T)
 fn at_half<T: Chunk>(rest: T, power: T, extra: T) -> T
     ensures { (i : ℕ) → i < T.count → T.lane rest i < T.lane power i → T.lane extra i ≤ 1
         → T.lane power i < 2 ^ bits T.width
-        → T.lane result i ≡ from_bool (nat_lt (T.lane power i) (2 * T.lane rest i + T.lane extra i)) }
+        → T.lane result i
+        ≡ from_bool (nat_lt (T.lane power i) (2 * T.lane rest i + T.lane extra i)) }
 {
     power
         .difference(rest)
@@ -66,7 +69,8 @@ fn at_half<T: Chunk>(rest: T, power: T, extra: T) -> T
 /// 1 where the mode rounds up: `floor` is left, and the bits that were lost held `rest`. `power` is 2 to their number.
 #[inline(always)]
 fn increment<T: Chunk>(mode: RoundingMode, floor: T, rest: T, power: T) -> T
-    ensures { (i d : ℕ) → i < T.count → d < bits T.width → T.lane power i ≡ 2 ^ d → T.lane rest i < 2 ^ d
+    ensures { (i d : ℕ) → i < T.count → d < bits T.width → T.lane power i ≡ 2 ^ d
+        → T.lane rest i < 2 ^ d
         → T.lane result i ≡ from_bool (rounds_up mode (pos (T.lane floor i)) (T.lane rest i) d) }
 {
     let odd = floor.both(T::one());
@@ -109,7 +113,8 @@ fn scaled<T: Chunk>(mode: RoundingMode, a: T, b: T, less: T) -> T
 /// A lane with its top bit turned over.
 #[inline(always)]
 fn turned<T: Chunk>(a: T) -> T
-    ensures { (i : ℕ) → i < T.count → T.lane result i ≡ (T.lane a i + 2 ^ hbits T.width) % 2 ^ bits T.width }
+    ensures { (i : ℕ) → i < T.count → T.lane result i
+        ≡ (T.lane a i + 2 ^ hbits T.width) % 2 ^ bits T.width }
 {
     a.sum(T::top())
 }

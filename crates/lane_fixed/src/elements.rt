@@ -165,8 +165,10 @@ fn clip_to<N: Lane>(op: ClipOp, value: i64) -> i64
 #[inline(always)]
 #[tactic(auto, unfolding(crate::specs::FixedPoint::clip_element, crate::specs::FixedPoint::clip_saturates, crate::specs::FixedPoint::clip_unclipped))]
 pub fn narrowed<W: Lane, N: Lane>(op: ClipOp, mode: RoundingMode, a: W, b: N) -> (N, bool)
-    ensures value { N.number result.0 ≡ clip_element op mode W.width N.width (W.number a) (N.number b) }
-    ensures saturated { result.1 ≡ clip_saturates op mode W.width N.width (W.number a) (N.number b) }
+    ensures value { N.number result.0
+        ≡ clip_element op mode W.width N.width (W.number a) (N.number b) }
+    ensures saturated { result.1
+        ≡ clip_saturates op mode W.width N.width (W.number a) (N.number b) }
 {
     let value = rounded(mode, clip_exact(op, a), b.unsigned() % W::bits());
     let clipped = clip_to::<N>(op, value);

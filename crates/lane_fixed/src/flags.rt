@@ -51,7 +51,8 @@ pub fn or_active(so_far: bool, is_active: bool, is_clipped: bool) -> bool
 fn any_flagged<T: Flag>(flags: &[T], active: &[bool]) -> bool
     requires { length active.now ≡ length flags.now }
     ensures { result
-        ≡ any_active (λ f g. not (f == 0)) (map T.number flags.now) (map T.number flags.now) active.now }
+        ≡ any_active (λ f g. not (f == 0)) (map T.number flags.now)
+        (map T.number flags.now) active.now }
 {
     let mut is_saturated = false;
     for i in 0..flags.len() {
@@ -65,7 +66,8 @@ fn any_flagged<T: Flag>(flags: &[T], active: &[bool]) -> bool
 pub fn or_flagged<T: Flag>(so_far: bool, mask: u64, flags: &[T], active: &[bool]) -> bool
     requires { length active.now ≡ length flags.now }
     ensures { result ≡ (so_far || (not (mask == 0)
-        && any_active (λ f g. not (f == 0)) (map T.number flags.now) (map T.number flags.now) active.now)) }
+        && any_active (λ f g. not (f == 0)) (map T.number flags.now)
+        (map T.number flags.now) active.now)) }
 {
     so_far || (mask != 0 && any_flagged(flags, active))
 }

@@ -26,7 +26,8 @@ pub fn compute<T: Lane>(
     ensures results { map T.number values.new
         ≡ zip2 (element op mode T.width) (map T.number values.old) (map T.number b.now) }
     ensures saturated { result
-        ≡ any_active (saturates op mode T.width) (map T.number values.old) (map T.number b.now) active.now }
+        ≡ any_active (saturates op mode T.width) (map T.number values.old)
+        (map T.number b.now) active.now }
 {
     match op {
         FixedOp::SatAddU => compute_chunks(Op::SatAddU, values, b, active),
@@ -86,7 +87,8 @@ fn compute_chunks<T: Lane>(op: Op, values: &mut [T], b: &[T], active: &[bool]) -
     ensures results { map T.number values.new
         ≡ zip2 (lane_result op T.width) (map T.number values.old) (map T.number b.now) }
     ensures saturated { result
-        ≡ any_active (lane_saturates op T.width) (map T.number values.old) (map T.number b.now) active.now }
+        ≡ any_active (lane_saturates op T.width) (map T.number values.old)
+        (map T.number b.now) active.now }
 {
     let mut is_saturated = false;
     let mut at = 0;
@@ -116,7 +118,8 @@ fn compute_each<T: Lane>(
     ensures results { map T.number values.new
         ≡ zip2 (element op mode T.width) (map T.number values.old) (map T.number b.now) }
     ensures saturated { result
-        ≡ any_active (saturates op mode T.width) (map T.number values.old) (map T.number b.now) active.now }
+        ≡ any_active (saturates op mode T.width) (map T.number values.old)
+        (map T.number b.now) active.now }
 {
     let mut is_saturated = false;
     for i in 0..values.len() {
@@ -143,7 +146,8 @@ pub fn clip<W: Lane, N: Lane>(
     ensures results { map N.number results.new
         ≡ zip2 (clip_element op mode W.width N.width) (map W.number a.now) (map N.number b.now) }
     ensures saturated { result
-        ≡ any_active (clip_saturates op mode W.width N.width) (map W.number a.now) (map N.number b.now) active.now }
+        ≡ any_active (clip_saturates op mode W.width N.width) (map W.number a.now)
+        (map N.number b.now) active.now }
 {
     match op {
         ClipOp::ClipU => clip_each(ClipOp::ClipU, mode, a, b, active, results),
@@ -167,7 +171,8 @@ fn clip_each<W: Lane, N: Lane>(
     ensures results { map N.number results.new
         ≡ zip2 (clip_element op mode W.width N.width) (map W.number a.now) (map N.number b.now) }
     ensures saturated { result
-        ≡ any_active (clip_saturates op mode W.width N.width) (map W.number a.now) (map N.number b.now) active.now }
+        ≡ any_active (clip_saturates op mode W.width N.width) (map W.number a.now)
+        (map N.number b.now) active.now }
 {
     let mut is_saturated = false;
     for i in 0..results.len() {

@@ -72,9 +72,28 @@ pub trait Lane: Copy {
         requires b_room { at + count ≤ length b.now }
         requires active_room { at + count ≤ length active.now }
         ensures results { map number values.new ≡ put_chunk at (map number values.old)
-            (zip2 (lane_result op width) (chunk at count (map number values.old)) (chunk at count (map number b.now))) }
+            (zip2 (lane_result op width) (chunk at count (map number values.old))
+            (chunk at count (map number b.now))) }
         ensures saturated { result ≡ (so_far || any_active (lane_saturates op width)
-            (chunk at count (map number values.old)) (chunk at count (map number b.now)) (chunk at count active.now)) };
+            (chunk at count (map number values.old)) (chunk at count (map number b.now))
+            (chunk at count active.now)) };
+}
+
+/// The body of `chunk`: `$call` on the `$lanes` of `values` and `b` from `at` on, `$count` of them.
+macro_rules! by_chunk {
+    (
+        $call:ident, $lanes:ident, $count:literal,
+        $op:ident, $values:ident, $b:ident, $active:ident, $at:ident, $so_far:ident
+    ) => {{
+        let (results, flags) = $call(
+            $op,
+            $lanes::from_slice(&$values[$at..]),
+            $lanes::from_slice(&$b[$at..]),
+        );
+        results.copy_to_slice(&mut $values[$at..]);
+        let mask = flags.simd_ne($lanes::splat(0)).to_bitmask();
+        or_flagged($so_far, mask, &flags.to_array(), &$active[$at..$at + $count])
+    }};
 }
 
 impl Lane for u8 {
@@ -130,14 +149,7 @@ impl Lane for u8 {
         at: usize,
         so_far: bool,
     ) -> bool {
-        let (results, flags) = chunk_u8(
-            op,
-            u8x16::from_slice(&values[at..]),
-            u8x16::from_slice(&b[at..]),
-        );
-        results.copy_to_slice(&mut values[at..]);
-        let mask = flags.simd_ne(u8x16::splat(0)).to_bitmask();
-        or_flagged(so_far, mask, &flags.to_array(), &active[at..at + 16])
+        by_chunk!(chunk_u8, u8x16, 16, op, values, b, active, at, so_far)
     }
 }
 
@@ -194,14 +206,7 @@ impl Lane for u16 {
         at: usize,
         so_far: bool,
     ) -> bool {
-        let (results, flags) = chunk_u16(
-            op,
-            u16x8::from_slice(&values[at..]),
-            u16x8::from_slice(&b[at..]),
-        );
-        results.copy_to_slice(&mut values[at..]);
-        let mask = flags.simd_ne(u16x8::splat(0)).to_bitmask();
-        or_flagged(so_far, mask, &flags.to_array(), &active[at..at + 8])
+        by_chunk!(chunk_u16, u16x8, 8, op, values, b, active, at, so_far)
     }
 }
 
@@ -258,13 +263,6 @@ impl Lane for u32 {
         at: usize,
         so_far: bool,
     ) -> bool {
-        let (results, flags) = chunk_u32(
-            op,
-            u32x4::from_slice(&values[at..]),
-            u32x4::from_slice(&b[at..]),
-        );
-        results.copy_to_slice(&mut values[at..]);
-        let mask = flags.simd_ne(u32x4::splat(0)).to_bitmask();
-        or_flagged(so_far, mask, &flags.to_array(), &active[at..at + 4])
+        by_chunk!(chunk_u32, u32x4, 4, op, values, b, active, at, so_far)
     }
 }
