@@ -84,7 +84,8 @@ pub fn check_in<A: Allocator + Copy, B: Allocator>(
 #[tactic(auto, unfolding(crate::specs::Bound::place_number))]
 fn place_number(parameters: &Parameters, place: usize, scalar: u32) -> u32
     requires { place < 8 }
-    ensures { result ≡ place_number_of parameters.now place scalar (slice_get parameters.now place) }
+    ensures { result ≡ place_number_of parameters.now place scalar
+        (slice_get parameters.now place) }
 {
     match parameters.param(place) {
         Param::None => 0,

@@ -199,7 +199,8 @@ fn followed<A: Allocator, C: Allocator>(
     state: &Abstract<A>,
 ) -> Result<Told, CheckError>
     requires { pc + 4 < 2 ^ 32 }
-    ensures { progress_of result state.now ≡ followed_of certificate.now pc insn.now (Ok state.now) }
+    ensures { progress_of result state.now
+        ≡ followed_of certificate.now pc insn.now (Ok state.now) }
 {
     if !ends_block(certificate, pc, insn) {
         return Ok(Told::On);
@@ -219,7 +220,8 @@ fn word_passes<A: Allocator, B: Allocator, C: Allocator>(
     state: &mut Abstract<A>,
 ) -> Result<Told, CheckError>
     requires { state.old.words < 4096 }
-    ensures value { progress_of result state.new ≡ word_passes_of image.now certificate.now pc state.old }
+    ensures value { progress_of result state.new
+        ≡ word_passes_of image.now certificate.now pc state.old }
     ensures counts { result ≡ Ok Told.On → state.new.words ≡ state.old.words + 1 }
     ensures low { IsOk result → pc + 4 ≤ 0xC000_0000 }
 {

@@ -1,6 +1,6 @@
 //! Why an image is not accepted.
 ghost use Rattle.std.specs.Prelude.{◌≡◌};
-ghost use Rattle.block_checker.specs.Refusals.{refusal};
+ghost use Rattle.block_checker.specs.Refusals.{address_of, name_of, refusal};
 
 use abs_state::Why;
 use std::error::Error;
@@ -39,6 +39,50 @@ pub enum CheckError {
     BlockTooLong(u32),
     /// An allocation was refused.
     NoMemory,
+}
+
+impl CheckError {
+    /// The error's name, as it stands above, without its address.
+    pub fn name(self) -> &'static str
+        ensures { result.now ≡ name_of self }
+    {
+        match self {
+            CheckError::WrongVlen => "WrongVlen",
+            CheckError::NoEntryBlock => "NoEntryBlock",
+            CheckError::NotCode(_) => "NotCode",
+            CheckError::IllegalWord(_) => "IllegalWord",
+            CheckError::VtypeUnknown(_) => "VtypeUnknown",
+            CheckError::AccessNotProved(_) => "AccessNotProved",
+            CheckError::ReadOnly(_) => "ReadOnly",
+            CheckError::TargetNotABlock(_) => "TargetNotABlock",
+            CheckError::IntervalNotProved(_) => "IntervalNotProved",
+            CheckError::EqualityNotProved(_) => "EqualityNotProved",
+            CheckError::VectorFactNotProved(_) => "VectorFactNotProved",
+            CheckError::BudgetNotProved(_) => "BudgetNotProved",
+            CheckError::BlockTooLong(_) => "BlockTooLong",
+            CheckError::NoMemory => "NoMemory",
+        }
+    }
+
+    /// The address that the error carries: that of the word at which the check stopped.
+    pub fn address(self) -> Option<u32>
+        ensures { result ≡ address_of self }
+    {
+        match self {
+            CheckError::WrongVlen | CheckError::NoEntryBlock | CheckError::NoMemory => None,
+            CheckError::NotCode(pc)
+            | CheckError::IllegalWord(pc)
+            | CheckError::VtypeUnknown(pc)
+            | CheckError::AccessNotProved(pc)
+            | CheckError::ReadOnly(pc)
+            | CheckError::TargetNotABlock(pc)
+            | CheckError::IntervalNotProved(pc)
+            | CheckError::EqualityNotProved(pc)
+            | CheckError::VectorFactNotProved(pc)
+            | CheckError::BudgetNotProved(pc)
+            | CheckError::BlockTooLong(pc) => Some(pc),
+        }
+    }
 }
 
 /// What could not be proved, at the word at this address.

@@ -41,33 +41,13 @@ impl fmt::Display for Refusal {
             Refusal::NoCertificate => write!(f, "no certificate"),
             Refusal::Certificate(error) => write!(f, "certificate {error:?}"),
             Refusal::Check(error) => {
-                let (name, pc) = parts(*error);
-                match pc {
+                let name = error.name();
+                match error.address() {
                     Some(pc) => write!(f, "{name} {pc:08x}"),
                     None => write!(f, "{name}"),
                 }
             }
         }
-    }
-}
-
-/// An error's name and its address.
-fn parts(error: CheckError) -> (&'static str, Option<u32>) {
-    match error {
-        CheckError::WrongVlen => ("WrongVlen", None),
-        CheckError::NoEntryBlock => ("NoEntryBlock", None),
-        CheckError::NotCode(pc) => ("NotCode", Some(pc)),
-        CheckError::IllegalWord(pc) => ("IllegalWord", Some(pc)),
-        CheckError::VtypeUnknown(pc) => ("VtypeUnknown", Some(pc)),
-        CheckError::AccessNotProved(pc) => ("AccessNotProved", Some(pc)),
-        CheckError::ReadOnly(pc) => ("ReadOnly", Some(pc)),
-        CheckError::TargetNotABlock(pc) => ("TargetNotABlock", Some(pc)),
-        CheckError::IntervalNotProved(pc) => ("IntervalNotProved", Some(pc)),
-        CheckError::EqualityNotProved(pc) => ("EqualityNotProved", Some(pc)),
-        CheckError::VectorFactNotProved(pc) => ("VectorFactNotProved", Some(pc)),
-        CheckError::BudgetNotProved(pc) => ("BudgetNotProved", Some(pc)),
-        CheckError::BlockTooLong(pc) => ("BlockTooLong", Some(pc)),
-        CheckError::NoMemory => ("NoMemory", None),
     }
 }
 
