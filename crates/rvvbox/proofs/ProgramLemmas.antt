@@ -1,12 +1,17 @@
--- The status that a fault of the words leads to.
-use Rattle.std.proofs.Common.{◌≡◌, ◌⊎◌, Bool, true, false, not, ◌||◌, [], ◌∷◌, refl, sym, subst, inl, inr}
+-- What words lead to: the status of a fault, or what their subcommand does.
+use Rattle.std.proofs.Common.{◌≡◌, ◌⊎◌, ℕ, List, Option, Bool, true, false, not, ◌||◌, [], ◌∷◌, refl, sym, subst, inl, inr}
 use Rattle.std.specs.List.{list_any}
 use Rattle.clap.specs.Kinds.{Kinds, IsAmong}
 use Rattle.clap.specs.Words.{kind_of}
 use Rattle.clap.specs.declared.error.kind.ErrorKind.{ErrorKind}
-use Rattle.rvvbox.specs.Ending.{is_help, is_request, status_of, stop_of_line}
-use Rattle.rvvbox.specs.Program.{IsRefusal, IsStatusFor}
-use Rattle.rvvbox.specs.Line.{IsFaultIn}
+use Rattle.rvvbox.specs.Ending.{is_help, is_request, status_of_line}
+use Rattle.rvvbox.specs.Commands.{Ends}
+use Rattle.rvvbox.specs.Program.{Does, IsAsAsked, IsRefusal, IsStatusFor}
+use Rattle.rvvbox.specs.Line.{IsFaultIn, IsFaultOf, IsLineOf}
+use Rattle.rvvbox.specs.Trial.{Files}
+use Rattle.rvvbox.specs.declared.line.asked.Line.{Line}
+use Rattle.job_file.specs.Job.{Text}
+use Rattle.rvvbox.proofs.CommandLemmas.{ends_more}
 use Rattle.rvvbox.specs.declared.line.asked.LineError.{LineError}
 use Rattle.rvvbox.specs.declared.line.asked.LineError.TheVariants as line_error
 use Rattle.rvvbox.specs.declared.stop.Status.{Status}
@@ -38,8 +43,21 @@ usage_for k kinds s among told answered = go (is_help k) refl
 
 -- what is told of a refusal of the words fits `clap`'s faults
 pub told_for : (kinds : Kinds) (error : LineError) (s : Status) → IsFaultIn kinds error
-    → (is_request (stop_of_line error) ≡ false → s ≡ status_of (stop_of_line error))
-    → (is_request (stop_of_line error) ≡ true → (s ≡ status.Done) ⊎ (s ≡ status.File)) → IsStatusFor kinds s
+    → (is_request error ≡ false → s ≡ status_of_line error)
+    → (is_request error ≡ true → (s ≡ status.Done) ⊎ (s ≡ status.File)) → IsStatusFor kinds s
 told_for [] error s fits told answered = tt
 told_for (k ∷ ks) (line_error.Usage error) s among told answered = usage_for (kind_of error) (k ∷ ks) s among told answered
 told_for (k ∷ ks) line_error.NoMemory s fits told answered = subst (λ (t : Status). IsRefusal (k ∷ ks) t) (sym (told refl)) tt
+
+-- what a subcommand that the words name does, or a fault of theirs
+pub asked_for : (holds : Files) (words : List Text) (line : Line) (old new : Option (List ℕ)) (s : Status)
+    → IsLineOf words line → Ends (Does holds line old new) s → IsAsAsked holds words old new s
+asked_for holds words line old new s is ends none =
+    ends_more (Does holds line old new) (λ t. (l : Line) × IsLineOf words l × Does holds l old new t) s (λ t it. (line, is, it)) ends
+
+pub asked_nothing : (holds : Files) (words : List Text) (error : LineError) (old new : Option (List ℕ)) (s : Status)
+    → IsFaultOf words error → (is_request error ≡ false → s ≡ status_of_line error) → IsAsAsked holds words old new s
+asked_nothing holds words (line_error.Usage error) old new s fits told none =
+    absurd (subst (λ (kinds : Kinds). IsAmong (kind_of error) kinds) none fits)
+asked_nothing holds words line_error.NoMemory old new s fits told none =
+    subst (λ (t : Status). Ends (λ u. (l : Line) × IsLineOf words l × Does holds l old new u) t) (sym (told refl)) tt

@@ -1,9 +1,11 @@
 -- What comes of an image with a certificate: whether it is accepted, and its run on a job.
-use Rattle.std.specs.Prelude.{◌≡◌, ◌⊎◌, ℕ, List, Option, Some, None, Result, Ok, Err, unwrap_or}
+use Rattle.std.specs.Prelude.{◌≡◌, ◌⊎◌, ◌++◌, codes, ℕ, List, Option, Some, None, Result, Ok, Err, unwrap_or}
 use Rattle.block_checker.specs.Accepted.{AcceptedView}
 use Rattle.block_checker.specs.Bound.{bound_of, scalars_of}
 use Rattle.block_checker.specs.Passes.{Checked, checked}
+use Rattle.std.specs.Fmt.{decimal}
 use Rattle.cert_note.specs.Certificate.{CertificateView}
+use Rattle.cert_note.specs.declared.values.Budget.{Budget}
 use Rattle.cert_note.specs.Reading.{certificate_of}
 use Rattle.rvvbox.specs.Words.{CertError, ImageView, Argument, OpenError, start, vlenb_of, Agnostic}
 use Rattle.job_file.specs.Job.{Text}
@@ -54,6 +56,11 @@ accepted_of vlen image = if_certified vlen image (certificate_in image.certifica
 -- the answer is what is defined, or want of memory
 abbrev pub IsOrWant : {A : Type 0} → Result A Stop → Result A Stop → Type 0
 IsOrWant defined answer = (answer ≡ defined) ⊎ (answer ≡ Err stop.Memory)
+
+-- the line that tells the bound of an accepted image's runs
+abbrev pub bound_line : Budget → List ℕ
+bound_line budget = codes "accepted: bound " ++ (decimal budget.constant ++ (codes " + "
+    ++ (decimal budget.factor ++ (codes " * x" ++ (decimal budget.register ++ codes "\n")))))
 
 -- ---- the run
 

@@ -1,7 +1,9 @@
 -- How the program ends: the reason to stop that each error is, the status of each reason, and each status as a number.
-use Rattle.std.specs.Prelude.{ℕ, List, Bool, true, false, Option, Some, None}
+use Rattle.std.specs.Prelude.{ℕ, List, ◌++◌, codes, Bool, true, false, Option, Some, None}
 use Rattle.block_checker.specs.declared.errors.CheckError.{CheckError}
 use Rattle.block_checker.specs.declared.errors.CheckError.TheVariants as check_error
+use Rattle.block_checker.specs.Refusals.{address_of, name_of}
+use Rattle.rvvbox.specs.Hex.{hex_text}
 use Rattle.rvvbox.specs.Words.{CertError, kind_of, OpenError}
 use Rattle.cert_note.specs.declared.refusals.CertError.TheVariants as certificate_error
 use Rattle.clap.specs.declared.error.kind.ErrorKind.{ErrorKind}
@@ -36,7 +38,6 @@ code_of status.Stopped = 5
 
 -- the status of a reason to stop, where it can be told
 abbrev pub status_of : Stop → Status
-status_of (stop.Usage error) = status.Usage
 status_of (stop.Job error) = status.Usage
 status_of (stop.File path) = status.File
 status_of (stop.Image error) = status.Refused
@@ -48,10 +49,6 @@ status_of stop.Memory = status.Memory
 status_of stop.Output = status.File
 
 -- the reason to stop that an error is: want of memory is always Memory
-
-abbrev pub stop_of_line : LineError → Stop
-stop_of_line (line_error.Usage error) = stop.Usage error
-stop_of_line line_error.NoMemory = stop.Memory
 
 abbrev pub stop_of_job : JobError → Stop
 stop_of_job job_error.NoMemory = stop.Memory
@@ -82,22 +79,13 @@ abbrev pub stop_at_file : StoreError → Bor (List ℕ) → Stop
 stop_at_file store_error.Failed path = stop.File path
 stop_at_file store_error.NoMemory path = stop.Memory
 
--- the address that is told with a refusal of the check
-abbrev pub address_of : CheckError → Option ℕ
-address_of check_error.WrongVlen = None
-address_of check_error.NoEntryBlock = None
-address_of (check_error.NotCode pc) = Some pc
-address_of (check_error.IllegalWord pc) = Some pc
-address_of (check_error.VtypeUnknown pc) = Some pc
-address_of (check_error.AccessNotProved pc) = Some pc
-address_of (check_error.ReadOnly pc) = Some pc
-address_of (check_error.TargetNotABlock pc) = Some pc
-address_of (check_error.IntervalNotProved pc) = Some pc
-address_of (check_error.EqualityNotProved pc) = Some pc
-address_of (check_error.VectorFactNotProved pc) = Some pc
-address_of (check_error.BudgetNotProved pc) = Some pc
-address_of (check_error.BlockTooLong pc) = Some pc
-address_of check_error.NoMemory = None
+-- how a refusal of the check is told: the error's name, and its address where it has one
+abbrev pub with_address : List ℕ → Option ℕ → List ℕ
+with_address name None = name
+with_address name (Some address) = name ++ (codes " at " ++ hex_text address)
+
+abbrev pub reason_text : CheckError → List ℕ
+reason_text error = with_address (name_of error) (address_of error)
 
 -- the status of a run that was printed
 abbrev pub status_of_end : End → Status
@@ -112,6 +100,11 @@ is_help DisplayVersion = true
 is_help other = false
 
 -- a request for help or the version, which is answered on standard output
-abbrev pub is_request : Stop → Bool
-is_request (stop.Usage error) = is_help (kind_of error)
-is_request other = false
+abbrev pub is_request : LineError → Bool
+is_request (line_error.Usage error) = is_help (kind_of error)
+is_request line_error.NoMemory = false
+
+-- the status of a fault of the command line
+abbrev pub status_of_line : LineError → Status
+status_of_line (line_error.Usage error) = status.Usage
+status_of_line line_error.NoMemory = status.Memory

@@ -1,8 +1,15 @@
--- What the words alone say of how the program ends.
-use Rattle.std.specs.Prelude.{◌≡◌, not, true, []}
+-- What the words say of how the program ends, and of what it does.
+use Rattle.std.specs.Prelude.{◌≡◌, ℕ, List, Option, not, true, []}
 use Rattle.std.specs.List.{list_any}
 use Rattle.rvvbox.specs.Words.{Kinds}
+use Rattle.clap.specs.Words.{fault_of}
+use Rattle.job_file.specs.Job.{Text}
+use Rattle.rvvbox.specs.Commands.{Checks, Ends, OfTable, Runs, Tries}
 use Rattle.rvvbox.specs.Ending.{is_help}
+use Rattle.rvvbox.specs.Line.{IsLineOf, app}
+use Rattle.rvvbox.specs.Trial.{Files}
+use Rattle.rvvbox.specs.declared.line.asked.Line.{Line}
+use Rattle.rvvbox.specs.declared.line.asked.Line.TheVariants.{Check, Run, Try}
 use Rattle.rvvbox.specs.declared.stop.Status.{Status}
 use Rattle.rvvbox.specs.declared.stop.Status.TheVariants as status
 
@@ -18,3 +25,14 @@ IsRefusal kinds other = ⊥
 abbrev pub IsStatusFor : Kinds → Status → Type 0
 IsStatusFor [] s = Unit {0}
 IsStatusFor kinds s = IsRefusal kinds s
+
+-- what a command line's subcommand does with its path
+abbrev pub Does : Files → Line → Option (List ℕ) → Option (List ℕ) → Status → Type 0
+Does holds (Check image) old new = Checks holds image.now old new
+Does holds (Run job) old new = OfTable holds job.now (λ table. Runs holds table old new)
+Does holds (Try job) old new = OfTable holds job.now (λ table. Tries holds table old new)
+
+-- words in which `clap` finds no fault end with what the subcommand does that they name, or with a reason to stop
+abbrev pub IsAsAsked : Files → List Text → Option (List ℕ) → Option (List ℕ) → Status → Type 0
+IsAsAsked holds words old new s = fault_of app words ≡ []
+    → Ends (λ does. (line : Line) × IsLineOf words line × Does holds line old new does) s

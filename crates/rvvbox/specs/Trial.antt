@@ -1,5 +1,6 @@
 -- What comes of a job: its run on an image and on arguments, and which files are written after it.
-use Rattle.std.specs.Prelude.{◌≡◌, ◌<◌, ◌-◌, ◌^◌, ℕ, min, List, length, map, get_or, Option, Some, None, Result, Ok, Err, MatchResult}
+use Rattle.std.specs.Prelude.{◌≡◌, ◌<◌, ◌-◌, ◌^◌, ◌++◌, codes, ℕ, min, List, length, map, get_or, Option, Some, None, Result, Ok, Err, MatchResult}
+use Rattle.std.specs.Fmt.{decimal}
 use Rattle.std.specs.List.{zip}
 use Rattle.rvvbox.specs.Words.{ImageView, Argument, start, vlenb_of, Agnostic}
 use Rattle.job_file.specs.Job.{Text}
@@ -11,8 +12,7 @@ use Rattle.job_file.specs.declared.values.TryParam.{TryParam}
 use Rattle.job_file.specs.declared.values.TryParam.TheVariants as taken
 use Rattle.region_mem.specs.Parameter.{argument_error, parameters_of}
 use Rattle.region_mem.specs.declared.arguments.Arg.TheVariants as argument
-use Rattle.region_mem.specs.declared.faults.Fault.{Fault}
-use Rattle.region_mem.specs.declared.faults.Fault.TheVariants.{Illegal, FetchFault, LoadFault, StoreFault, JumpMisaligned}
+use Rattle.region_mem.specs.Faults.{name_of, number_of}
 use Rattle.region_mem.specs.declared.parameter.ArgError.{ArgError}
 use Rattle.region_mem.specs.declared.parameter.Param.{Param}
 use Rattle.region_mem.specs.declared.parameter.Param.TheVariants as parameter
@@ -24,6 +24,8 @@ use Rattle.sandbox_run.specs.declared.outcome.Outcome.{Outcome}
 use Rattle.sandbox_run.specs.declared.outcome.Outcome.TheVariants as stopped
 use Rattle.rvvbox.specs.declared.stop.Stop.{Stop}
 use Rattle.rvvbox.specs.declared.stop.Stop.TheVariants as stop
+use Rattle.rvvbox.specs.Hex.{hex_text}
+use Rattle.rvvbox.specs.declared.trial.End.{End}
 use Rattle.rvvbox.specs.declared.trial.End.TheVariants as end
 use Rattle.rvvbox.specs.declared.trial.Trial.{Trial}
 
@@ -87,16 +89,20 @@ passed_by taken.None = given.None
 passed_by (taken.Scalar value) = given.Scalar value
 passed_by (taken.Buffer mode file out) = given.Buffer file out
 
--- what a job passes at a place: nothing, its scalar, or the bytes of a file
-abbrev pub IsPassed : RunParam Text → Argument → Type 0
-IsPassed given.None arg = arg ≡ argument.None
-IsPassed (given.Scalar value) arg = arg ≡ argument.Scalar value
-IsPassed (given.Buffer file out) arg = (bytes : List ℕ) × (arg ≡ argument.Buffer bytes)
+-- which bytes the file at a path may be read as
+abbrev pub Files : Type 1
+Files = Text → List ℕ → Type 0
+
+-- what a job passes at a place: nothing, its scalar, or bytes that its file may be read as
+abbrev pub IsPassed : Files → RunParam Text → Argument → Type 0
+IsPassed holds given.None arg = arg ≡ argument.None
+IsPassed holds (given.Scalar value) arg = arg ≡ argument.Scalar value
+IsPassed holds (given.Buffer file out) arg = (bytes : List ℕ) × holds file bytes × (arg ≡ argument.Buffer bytes)
 
 -- place by place
-abbrev pub ArePassed : List (RunParam Text) → List Argument → Type 0
-ArePassed params args =
-    (length args ≡ 8) × ((k : ℕ) → k < 8 → IsPassed (get_or params k given.None) (get_or args k argument.None))
+abbrev pub ArePassed : Files → List (RunParam Text) → List Argument → Type 0
+ArePassed holds params args =
+    (length args ≡ 8) × ((k : ℕ) → k < 8 → IsPassed holds (get_or params k given.None) (get_or args k argument.None))
 
 -- the file that a place has after the run, where the job names one: its path, and the buffer's bytes
 abbrev pub out_file : RunParam Text × Argument → Option (Text × List ℕ)
@@ -105,10 +111,12 @@ out_file other = None
 
 -- ---- how it is told
 
--- the word or the address that is told with a fault
-abbrev pub number_of : Fault → ℕ
-number_of (Illegal word) = word
-number_of (FetchFault pc) = pc
-number_of (LoadFault address) = address
-number_of (StoreFault address) = address
-number_of (JumpMisaligned target) = target
+abbrev pub end_line : End → ℕ → List ℕ
+end_line end.Ended steps = codes "ended: " ++ (decimal steps ++ codes " steps\n")
+end_line (end.Trapped fault) steps = codes "trapped: " ++ (name_of fault ++ (codes " "
+    ++ (hex_text (number_of fault) ++ (codes " after " ++ (decimal steps ++ codes " steps\n")))))
+end_line end.OutOfSteps steps = codes "out of steps: " ++ (decimal steps ++ codes "\n")
+
+-- the line that tells how a run ended
+abbrev pub line_of : Trial → List ℕ
+line_of trial = end_line trial.end trial.steps

@@ -1,10 +1,11 @@
 //! What comes of an image with a certificate: whether it is accepted, its bound, and its run on a job.
-ghost use Rattle.std.specs.Prelude.{◌≡◌, IfOk, Some, option_copied, option_map};
+ghost use Rattle.std.specs.Io.KnownBytes.{Appends};
+ghost use Rattle.std.specs.Prelude.{◌≡◌, IfOk, OnOk, Some, option_copied, option_map};
 ghost use Rattle.block_checker.specs.Accepted.{Passes};
 ghost use Rattle.block_checker.specs.Passes.{block_at as block_at_of};
 ghost use Rattle.job_file.specs.Needs.{run_job_lent};
 ghost use Rattle.vreg_groups.specs.VectorLength.{IsVlenb};
-ghost use Rattle.rvvbox.specs.Accepted.{IsOrWant, accepted_of, certificate_in};
+ghost use Rattle.rvvbox.specs.Accepted.{IsOrWant, accepted_of, bound_line, certificate_in};
 ghost use Rattle.rvvbox.specs.Accepted.{run_of_job, session_of};
 ghost use Rattle.rvvbox.specs.Trial.{OrMemory};
 ghost use Rattle.rvvbox.specs.declared.trial.End.TheVariants.{Ended};
@@ -72,7 +73,10 @@ pub fn entry_budget(accepted: &Accepted) -> Budget
 }
 
 /// Prints what an accepted image's runs take at most.
-pub fn print_bound<O: Write>(budget: Budget, output: &mut O) -> io::Result<()> {
+pub fn print_bound<O: Write>(budget: Budget, output: &mut O) -> io::Result<()>
+    ensures { OnOk result
+        (Appends (O.contents output.old) (O.contents output.new) (bound_line budget)) }
+{
     let Budget {
         constant,
         factor,

@@ -1,7 +1,12 @@
 //! The subcommands: what each reads, in order, what it does with it, and what it writes.
-ghost use Rattle.std.specs.Prelude.{◌≡◌, IfOk, map, replicate};
+ghost use Rattle.std.specs.Io.KnownBytes.{Appends};
+ghost use Rattle.std.specs.Prelude.{◌≡◌, IfOk, OnOk, map, replicate};
 ghost use Rattle.job_file.specs.Needs.{run_param_lent};
-ghost use Rattle.rvvbox.specs.Trial.{ArePassed, IsPassed};
+ghost use Rattle.toml.specs.View.{table_view};
+ghost use Rattle.rvvbox.specs.Commands.{Checks, Ends, IsImageAt, IsTableAt, IsTold, OfTable};
+ghost use Rattle.rvvbox.specs.Commands.{Runs, Tries};
+ghost use Rattle.rvvbox.specs.Ending.{status_of_end};
+ghost use Rattle.rvvbox.specs.Trial.{ArePassed, IsPassed, line_of};
 
 use crate::accepted::{accept, entry_budget, print_bound, run_accepted};
 use crate::stop::{Status, Stop};
@@ -25,20 +30,20 @@ pub fn check_image<S: Store, O: Write, E: Write>(
     store: &mut S,
     output: &mut O,
     errors: &mut E,
-) -> Status {
-    let done = check_at(alloc, path, store, output);
-    told(done, output, errors)
+) -> Status
+    ensures { Ends
+        (Checks S.holds path.now (O.contents output.old) (O.contents output.new)) result }
+{
+    told(check_at(alloc, path, store, output), errors)
 }
 
 /// The status of what was done, or of the reason to stop, which is told.
-fn told<O: Write, E: Write>(
-    done: Result<Status, Stop<'_>>,
-    output: &mut O,
-    errors: &mut E,
-) -> Status {
+fn told<E: Write>(done: Result<Status, Stop<'_>>, errors: &mut E) -> Status
+    ensures { IsTold done.entry result }
+{
     match done {
         Ok(status) => status,
-        Err(stop) => stop.tell(output, errors),
+        Err(stop) => stop.tell(errors),
     }
 }
 
@@ -47,7 +52,10 @@ fn check_at<'a, S: Store, O: Write>(
     path: &'a str,
     store: &mut S,
     output: &mut O,
-) -> Result<Status, Stop<'a>> {
+) -> Result<Status, Stop<'a>>
+    ensures { IfOk result
+        (Checks S.holds path.entry.now (O.contents output.old) (O.contents output.new)) }
+{
     let image = read_image(alloc, path, store)?;
     let accepted = accept(alloc, image, None)?;
     match print_bound(entry_budget(&accepted), output) {
@@ -62,19 +70,20 @@ fn check_at<'a, S: Store, O: Write>(
 /// In this order, up to the first that is refused or fails, which is told: the job file, the job, the image file, the
 /// image, the certificate, the check, the parameters' files by place, the start of the run, the run, the out files by
 /// place, the printed line.
+#[tactic(auto, using(crate::proofs::CommandLemmas::told_of_table, crate::proofs::CommandLemmas::status_told))]
 pub fn run_job<S: Store, O: Write, E: Write>(
     alloc: Global,
     path: &str,
     store: &mut S,
     output: &mut O,
     errors: &mut E,
-) -> Status {
+) -> Status
+    ensures { Ends (OfTable S.holds path.now (λ table.
+        Runs S.holds table (O.contents output.old) (O.contents output.new))) result }
+{
     match read_table(alloc, path, store) {
-        Ok(table) => {
-            let done = run_table(alloc, &table, store, output);
-            told(done, output, errors)
-        }
-        Err(stop) => stop.tell(output, errors),
+        Ok(table) => told(run_table(alloc, &table, store, output), errors),
+        Err(stop) => stop.tell(errors),
     }
 }
 
@@ -84,7 +93,10 @@ fn run_table<'a, S: Store, O: Write>(
     table: &'a Table,
     store: &mut S,
     output: &mut O,
-) -> Result<Status, Stop<'a>> {
+) -> Result<Status, Stop<'a>>
+    ensures { IfOk result (Runs S.holds (table_view table.entry.now)
+        (O.contents output.old) (O.contents output.new)) }
+{
     let job = run_job_in(table).ok_or(JobError::BadKey)?;
     let image = read_image(alloc, job.image, store)?;
     let accepted = accept(alloc, image, Some(job.vlen))?;
@@ -98,19 +110,20 @@ fn run_table<'a, S: Store, O: Write>(
 ///
 /// In this order, up to the first that is refused or fails, which is told: the job file, the job, the image file, the
 /// image, the parameters' files by place, the parameters, the run, the out files by place, the printed line.
+#[tactic(auto, using(crate::proofs::CommandLemmas::told_of_table, crate::proofs::CommandLemmas::status_told))]
 pub fn try_job<S: Store, O: Write, E: Write>(
     alloc: Global,
     path: &str,
     store: &mut S,
     output: &mut O,
     errors: &mut E,
-) -> Status {
+) -> Status
+    ensures { Ends (OfTable S.holds path.now (λ table.
+        Tries S.holds table (O.contents output.old) (O.contents output.new))) result }
+{
     match read_table(alloc, path, store) {
-        Ok(table) => {
-            let done = try_table(alloc, &table, store, output);
-            told(done, output, errors)
-        }
-        Err(stop) => stop.tell(output, errors),
+        Ok(table) => told(try_table(alloc, &table, store, output), errors),
+        Err(stop) => stop.tell(errors),
     }
 }
 
@@ -120,7 +133,10 @@ fn try_table<'a, S: Store, O: Write>(
     table: &'a Table,
     store: &mut S,
     output: &mut O,
-) -> Result<Status, Stop<'a>> {
+) -> Result<Status, Stop<'a>>
+    ensures { IfOk result (Tries S.holds (table_view table.entry.now)
+        (O.contents output.old) (O.contents output.new)) }
+{
     let job = try_job_in(table).ok_or(JobError::BadKey)?;
     let image = read_image(alloc, job.image, store)?;
     let passed = passed_params(&job.params);
@@ -135,7 +151,11 @@ fn finish<'a, S: Store, O: Write>(
     trial: &Trial,
     store: &mut S,
     output: &mut O,
-) -> Result<Status, Stop<'a>> {
+) -> Result<Status, Stop<'a>>
+    ensures done { IfOk result (λ status. status ≡ status_of_end trial.now.end) }
+    ensures told { OnOk result
+        (Appends (O.contents output.old) (O.contents output.new) (line_of trial.now)) }
+{
     write_outs(params, &trial.args, store)?;
     match trial.print(output) {
         Ok(()) => Ok(trial.status()),
@@ -144,18 +164,18 @@ fn finish<'a, S: Store, O: Write>(
 }
 
 /// The file at `path`.
-fn read<'a, S: Store>(alloc: Global, path: &'a str, store: &mut S) -> Result<Vec<u8>, Stop<'a>> {
+fn read<'a, S: Store>(alloc: Global, path: &'a str, store: &mut S) -> Result<Vec<u8>, Stop<'a>>
+    ensures { IfOk result (λ bytes. S.holds path.entry.now bytes.items) }
+{
     match store.read(alloc, path) {
         Ok(bytes) => Ok(bytes),
         Err(error) => Err(Stop::at_file(error, path)),
     }
 }
 
-fn read_table<'a, S: Store>(
-    alloc: Global,
-    path: &'a str,
-    store: &mut S,
-) -> Result<Table, Stop<'a>> {
+fn read_table<'a, S: Store>(alloc: Global, path: &'a str, store: &mut S) -> Result<Table, Stop<'a>>
+    ensures { IfOk result (λ table. IsTableAt S.holds path.entry.now (table_view table)) }
+{
     let bytes = read(alloc, path, store)?;
     match std::str::from_utf8(bytes.as_slice()) {
         Ok(text) => Ok(parse(alloc, text)?),
@@ -163,11 +183,9 @@ fn read_table<'a, S: Store>(
     }
 }
 
-fn read_image<'a, S: Store>(
-    alloc: Global,
-    path: &'a str,
-    store: &mut S,
-) -> Result<Image, Stop<'a>> {
+fn read_image<'a, S: Store>(alloc: Global, path: &'a str, store: &mut S) -> Result<Image, Stop<'a>>
+    ensures { IfOk result (IsImageAt S.holds path.entry.now) }
+{
     let bytes = read(alloc, path, store)?;
     Ok(elf_image::read(alloc, bytes.as_slice())?)
 }
@@ -178,7 +196,8 @@ fn read_args<'a, S: Store>(
     params: &[RunParam<&'a str>; 8],
     store: &mut S,
 ) -> Result<Args, Stop<'a>>
-    ensures { IfOk result (λ args. ArePassed (map run_param_lent params.now) args.places) }
+    ensures { IfOk result (λ args.
+        ArePassed S.holds (map run_param_lent params.now) args.places) }
 {
     let mut places = no_args();
     for place in 0..8 {
@@ -207,7 +226,7 @@ fn read_arg<'a, S: Store>(
     param: &RunParam<&'a str>,
     store: &mut S,
 ) -> Result<Arg, Stop<'a>>
-    ensures { IfOk result (λ arg. IsPassed (run_param_lent param.now) arg) }
+    ensures { IfOk result (IsPassed S.holds (run_param_lent param.now)) }
 {
     match param {
         RunParam::None => Ok(Arg::None),

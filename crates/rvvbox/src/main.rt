@@ -5,6 +5,7 @@
 
 mod accepted;
 mod commands;
+mod hex;
 mod line;
 mod program;
 mod stop;
@@ -23,7 +24,7 @@ fn main(rt: HostRuntime) -> ExitCode {
     let status = match answer(&rt) {
         Ok(status) => status,
         Err(error) if error.kind() == ErrorKind::OutOfMemory => {
-            Stop::Memory.tell(&mut rt.stdout(), &mut rt.stderr())
+            Stop::Memory.tell(&mut rt.stderr())
         }
         Err(_) => Status::Usage,
     };

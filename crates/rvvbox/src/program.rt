@@ -2,12 +2,12 @@
 ghost use Rattle.std.specs.Prelude.{map};
 ghost use Rattle.clap.specs.Words.{fault_of};
 ghost use Rattle.rvvbox.specs.Line.{app};
-ghost use Rattle.rvvbox.specs.Program.{IsStatusFor};
+ghost use Rattle.rvvbox.specs.Program.{IsAsAsked, IsStatusFor};
 
 use crate::commands::{check_image, run_job, try_job};
 use crate::line::asked::Line;
 use crate::line::line;
-use crate::stop::{Status, Stop};
+use crate::stop::Status;
 use crate::store::Store;
 use std::alloc::Global;
 use std::io::{Read, Write};
@@ -18,6 +18,7 @@ use std::io::{Read, Write};
 ///
 /// Where `clap` refuses the words, the status is `Usage`, and for help or the version `Done` (or `File`, where standard
 /// output takes no text), unless memory runs out.
+#[tactic(auto, using(crate::proofs::ProgramLemmas::asked_for))]
 pub fn perform<'a, S: Store, I: Read, O: Write, E: Write>(
     alloc: Global,
     words: &'a [&'a str],
@@ -26,13 +27,15 @@ pub fn perform<'a, S: Store, I: Read, O: Write, E: Write>(
     output: &mut O,
     errors: &mut E,
 ) -> Status
-    ensures { IsStatusFor (fault_of app (map (λ w. w.now) words.entry.now)) result }
+    ensures status { IsStatusFor (fault_of app (map (λ w. w.now) words.entry.now)) result }
+    ensures asked { IsAsAsked S.holds (map (λ w. w.now) words.entry.now)
+        (O.contents output.old) (O.contents output.new) result }
 {
     match line(alloc, words) {
         Ok(Line::Check { image }) => check_image(alloc, image, store, output, errors),
         Ok(Line::Run { job }) => run_job(alloc, job, store, output, errors),
         Ok(Line::Try { job }) => try_job(alloc, job, store, output, errors),
-        Err(error) => Stop::from(error).tell(output, errors),
+        Err(error) => error.tell(output, errors),
     }
 }
 

@@ -1,11 +1,11 @@
 //! How the program ends.
-ghost use Rattle.std.specs.Prelude.{◌≡◌, ◌⊎◌, true, false};
-ghost use Rattle.rvvbox.specs.Ending.{address_of, code_of, is_request, status_of, stop_at_file};
+ghost use Rattle.std.specs.Prelude.{◌≡◌};
+ghost use Rattle.rvvbox.specs.Ending.{code_of, status_of, stop_at_file};
 ghost use Rattle.rvvbox.specs.Ending.{stop_of_certificate, stop_of_check, stop_of_image};
-ghost use Rattle.rvvbox.specs.Ending.{stop_of_job, stop_of_line, stop_of_open};
+ghost use Rattle.rvvbox.specs.Ending.{stop_of_job, stop_of_open};
 ghost use Rattle.rvvbox.specs.declared.stop.Stop.TheVariants.{Memory};
 
-use crate::line::asked::LineError;
+use crate::hex::Hex;
 use crate::store::StoreError;
 use block_checker::CheckError;
 use cert_note::CertError;
@@ -50,12 +50,9 @@ impl Status {
     }
 }
 
-/// Why the program ends before all is done. What it shows is told on standard error, but for a
-/// request for help or the version, which is answered on standard output.
+/// Why the program ends before all is done. What it shows is told on standard error.
 #[derive(Debug, Drop, Error)]
 pub enum Stop<'a> {
-    #[error("{0}")]
-    Usage(clap::Error),
     #[error("job: {0}\n")]
     Job(JobError),
     #[error("file: {0}\n")]
@@ -66,7 +63,7 @@ pub enum Stop<'a> {
     NoCertificate,
     #[error("refused: {0:?}\n")]
     Certificate(CertError),
-    #[error("refused: {}\n", check_reason(.0))]
+    #[error("refused: {}\n", reason_of(.0))]
     Check(CheckError),
     #[error("refused: {}\n", open_error_name(.0))]
     Open(OpenError),
@@ -77,39 +74,14 @@ pub enum Stop<'a> {
 }
 
 impl Stop<'_> {
-    /// Tells why, and answers the status. Where standard output takes no text, nothing more is told.
-    pub fn tell<O: Write, E: Write>(&self, output: &mut O, errors: &mut E) -> Status
-        ensures told { is_request self.now ≡ false → result ≡ status_of self.now }
-        ensures answered { is_request self.now ≡ true
-            → (result ≡ Status.Done) ⊎ (result ≡ Status.File) }
-    {
-        match self {
-            Stop::Output => Status::File,
-            Stop::Usage(error) if !error.use_stderr() => match write!(output, "{error}") {
-                Ok(()) => Status::Done,
-                Err(_) => Status::File,
-            },
-            Stop::Usage(_)
-            | Stop::Job(_)
-            | Stop::File(_)
-            | Stop::Image(_)
-            | Stop::NoCertificate
-            | Stop::Certificate(_)
-            | Stop::Check(_)
-            | Stop::Open(_)
-            | Stop::Memory => {
-                // Where standard error takes no text, the status alone tells.
-                let _ = write!(errors, "{self}");
-                self.status()
-            }
-        }
-    }
-
-    fn status(&self) -> Status
+    /// Tells why, and answers the status. Where standard output took no text, nothing more is told.
+    pub fn tell<E: Write>(&self, errors: &mut E) -> Status
         ensures { result ≡ status_of self.now }
     {
+        // Where standard error takes no text, the status alone tells.
+        let _ = write!(errors, "{self}");
         match self {
-            Stop::Usage(_) | Stop::Job(_) => Status::Usage,
+            Stop::Job(_) => Status::Usage,
             Stop::File(_) | Stop::Output => Status::File,
             Stop::Image(_)
             | Stop::NoCertificate
@@ -126,17 +98,6 @@ impl From<AllocError> for Stop<'_> {
 
     fn from(_error: AllocError) -> Self {
         Stop::Memory
-    }
-}
-
-impl From<LineError> for Stop<'_> {
-    ghost from_gives = { λ error stop. stop ≡ stop_of_line error };
-
-    fn from(error: LineError) -> Self {
-        match error {
-            LineError::Usage(error) => Stop::Usage(error),
-            LineError::NoMemory => Stop::Memory,
-        }
     }
 }
 
@@ -205,40 +166,28 @@ impl From<OpenError> for Stop<'_> {
 /// Why a check refused: the error's name, and the address of the word at which it stopped, if there is one.
 #[derive(Drop)]
 struct Reason {
-    name: &'static str,
-    address: Option<u32>,
+    error: CheckError,
 }
 
 impl fmt::Display for Reason {
+    ghost use Rattle.std.specs.Prelude.{Some};
+    ghost use Rattle.rvvbox.specs.Ending.{reason_text};
+
+    ghost output = { λ reason. Some (reason_text reason.error) };
+
     fn fmt<W: fmt::Write>(&self, f: &mut fmt::Formatter<W>) -> fmt::Result {
-        let name = self.name;
-        match self.address {
-            Some(address) => write!(f, "{name} at {address:08x}"),
+        let name = self.error.name();
+        match self.error.address() {
+            Some(address) => write!(f, "{name} at {}", Hex(address)),
             None => write!(f, "{name}"),
         }
     }
 }
 
-fn check_reason(error: &CheckError) -> Reason
-    ensures { result.address ≡ address_of error.now }
+fn reason_of(error: &CheckError) -> Reason
+    ensures { result.error ≡ error.now }
 {
-    let (name, address) = match *error {
-        CheckError::WrongVlen => ("WrongVlen", None),
-        CheckError::NoEntryBlock => ("NoEntryBlock", None),
-        CheckError::NotCode(pc) => ("NotCode", Some(pc)),
-        CheckError::IllegalWord(pc) => ("IllegalWord", Some(pc)),
-        CheckError::VtypeUnknown(pc) => ("VtypeUnknown", Some(pc)),
-        CheckError::AccessNotProved(pc) => ("AccessNotProved", Some(pc)),
-        CheckError::ReadOnly(pc) => ("ReadOnly", Some(pc)),
-        CheckError::TargetNotABlock(pc) => ("TargetNotABlock", Some(pc)),
-        CheckError::IntervalNotProved(pc) => ("IntervalNotProved", Some(pc)),
-        CheckError::EqualityNotProved(pc) => ("EqualityNotProved", Some(pc)),
-        CheckError::VectorFactNotProved(pc) => ("VectorFactNotProved", Some(pc)),
-        CheckError::BudgetNotProved(pc) => ("BudgetNotProved", Some(pc)),
-        CheckError::BlockTooLong(pc) => ("BlockTooLong", Some(pc)),
-        CheckError::NoMemory => ("NoMemory", None),
-    };
-    Reason { name, address }
+    Reason { error: *error }
 }
 
 /// The name of an error, without its place.

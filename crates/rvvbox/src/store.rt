@@ -1,5 +1,5 @@
 //! Where a job's files are read and written.
-ghost use Rattle.std.specs.Prelude.{◌≡◌};
+ghost use Rattle.std.specs.Prelude.{◌≡◌, IfOk};
 ghost use Rattle.std.specs.IoError.{error_kind};
 ghost use Rattle.rvvbox.specs.Ending.{store_error_of};
 ghost use Rattle.rvvbox.specs.declared.store.StoreError.TheVariants as store_error;
@@ -42,8 +42,14 @@ impl From<io::Error> for StoreError {
 
 /// Files by their paths.
 pub trait Store {
+    ghost use Rattle.std.specs.Prelude.{ℕ, List};
+
+    // which bytes a file at a path may be read as
+    ghost holds: { List ℕ → List ℕ → Type 0 } = { λ _ _. Unit {0} };
+
     /// The bytes of the file at `path`.
-    fn read(&mut self, alloc: Global, path: &str) -> Result<Vec<u8>, StoreError>;
+    fn read(&mut self, alloc: Global, path: &str) -> Result<Vec<u8>, StoreError>
+        ensures { IfOk result (λ bytes. holds path.now bytes.items) };
 
     /// Makes a file at `path` that has these bytes, in place of what was there.
     fn write(&mut self, path: &str, bytes: &[u8]) -> Result<(), StoreError>;
@@ -57,7 +63,9 @@ pub struct Disk<'a, R> {
 
 impl<'a, R> Disk<'a, R> {
     /// The files that the handle `rt` opens.
-    pub fn new(rt: &'a R) -> Disk<'a, R> {
+    pub fn new(rt: &'a R) -> Disk<'a, R>
+        ensures { result.rt ≡ rt.entry }
+    {
         Disk { rt }
     }
 }

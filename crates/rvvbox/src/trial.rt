@@ -1,12 +1,14 @@
 //! What comes of a job: its run on an image and on arguments, how that is told, and which files are written after it.
-ghost use Rattle.std.specs.Prelude.{◌≡◌, map, option_map};
+ghost use Rattle.std.specs.Prelude.{◌≡◌, OnOk, map, option_map};
+ghost use Rattle.std.specs.Io.KnownBytes.{Appends};
 ghost use Rattle.job_file.specs.Needs.{run_param_lent, try_job_lent, try_param_lent};
 ghost use Rattle.vreg_groups.specs.VectorLength.{IsVlenb};
 ghost use Rattle.rvvbox.specs.Ending.{status_of_end};
-ghost use Rattle.rvvbox.specs.Trial.{OrMemory, number_of, out_file, param_for};
+ghost use Rattle.rvvbox.specs.Trial.{OrMemory, line_of, out_file, param_for};
 ghost use Rattle.rvvbox.specs.Trial.{params_for, passed_by, passed_size, run_of};
 ghost use Rattle.rvvbox.specs.Trial.{trial_of};
 
+use crate::hex::Hex;
 use crate::stop::{Status, Stop};
 use elf_image::Image;
 use job_file::{JobError, RunParam, TryJob, TryParam};
@@ -172,13 +174,17 @@ impl Trial {
     }
 
     /// Prints how the run ended.
-    pub fn print<O: Write>(&self, output: &mut O) -> io::Result<()> {
+    pub fn print<O: Write>(&self, output: &mut O) -> io::Result<()>
+        ensures { OnOk result
+            (Appends (O.contents output.old) (O.contents output.new) (line_of self.now)) }
+    {
         let steps = self.steps;
         match self.end {
             End::Ended => writeln!(output, "ended: {steps} steps")?,
             End::Trapped(fault) => {
-                let (name, at) = shown(fault);
-                writeln!(output, "trapped: {name} {at:08x} after {steps} steps")?;
+                let name = fault.name();
+                let at = Hex(fault.number());
+                writeln!(output, "trapped: {name} {at} after {steps} steps")?;
             }
             End::OutOfSteps => writeln!(output, "out of steps: {steps}")?,
         }
@@ -193,18 +199,5 @@ impl Trial {
             End::Ended => Status::Done,
             End::Trapped(_) | End::OutOfSteps => Status::Stopped,
         }
-    }
-}
-
-/// A fault's name, with its word or address.
-fn shown(fault: Fault) -> (&'static str, u32)
-    ensures { result.1 ≡ number_of fault }
-{
-    match fault {
-        Fault::Illegal(word) => ("Illegal", word),
-        Fault::FetchFault(pc) => ("FetchFault", pc),
-        Fault::LoadFault(address) => ("LoadFault", address),
-        Fault::StoreFault(address) => ("StoreFault", address),
-        Fault::JumpMisaligned(target) => ("JumpMisaligned", target),
     }
 }

@@ -1,8 +1,11 @@
 //! What a command line asks for.
-ghost use Rattle.std.specs.Prelude.{◌≡◌};
+ghost use Rattle.std.specs.Prelude.{◌≡◌, ◌⊎◌, true, false};
+ghost use Rattle.rvvbox.specs.Ending.{is_request, status_of_line};
 ghost use Rattle.rvvbox.specs.declared.line.asked.LineError.TheVariants.{NoMemory};
 
+use crate::stop::{Status, Stop};
 use std::alloc::AllocError;
+use std::io::Write;
 
 /// What a command line asks for: a subcommand with its paths.
 #[derive(Drop)]
@@ -29,5 +32,27 @@ impl From<AllocError> for LineError {
 
     fn from(_error: AllocError) -> LineError {
         LineError::NoMemory
+    }
+}
+
+impl LineError {
+    /// Answers a request for help or the version on standard output, and else tells on standard error what is wrong.
+    pub fn tell<O: Write, E: Write>(&self, output: &mut O, errors: &mut E) -> Status
+        ensures told { is_request self.now ≡ false → result ≡ status_of_line self.now }
+        ensures answered { is_request self.now ≡ true
+            → (result ≡ Status.Done) ⊎ (result ≡ Status.File) }
+    {
+        match self {
+            LineError::Usage(error) if !error.use_stderr() => match write!(output, "{error}") {
+                Ok(()) => Status::Done,
+                Err(_) => Status::File,
+            },
+            LineError::Usage(error) => {
+                // Where standard error takes no text, the status alone tells.
+                let _ = write!(errors, "{error}");
+                Status::Usage
+            }
+            LineError::NoMemory => Stop::Memory.tell(errors),
+        }
     }
 }

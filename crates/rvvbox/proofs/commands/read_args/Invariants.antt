@@ -9,5 +9,5 @@ use Rattle.rvvbox.proofs.commands.read_args.Given as goal
 abbrev pub invariant-loop-place : goal.invariant-loop-place
 invariant-loop-place g l = record {
   eight : length l.places ≡ 8;
-  passed : (k : ℕ) → k < l.place → IsPassed (run_param_lent (get_or l.params k given.None)) (get_or l.places k argument.None);
+  passed : (k : ℕ) → k < l.place → IsPassed g.S.Store.holds (run_param_lent (get_or l.params k given.None)) (get_or l.places k argument.None);
 }
