@@ -29,6 +29,8 @@ mod memory;
 #[cfg(test)]
 mod refusing;
 #[cfg(test)]
+mod runs;
+#[cfg(test)]
 mod scalar_steps;
 #[cfg(test)]
 mod sessions;

@@ -15,6 +15,3 @@ pub use laws::{accepted_runs, exit_is_no_code};
 pub use outcome::{Final, OpenError, Outcome, Registers};
 pub use run::{outcome_is_first, runs_go_on, try_run, try_run_in};
 pub use session::{Session, open_in};
-
-#[cfg(test)]
-mod tests;

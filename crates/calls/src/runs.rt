@@ -1,11 +1,12 @@
-//! How a run is called, and what it hands back. The words come from the LLVM assembler; what the kernel leaves is
-//! worked out by hand from the instruction manuals.
+//! How a run is called, and what it hands back. The words come from the LLVM assembler; what the kernel leaves is worked out by
+//! hand from the instruction manuals.
 
 ghost use Rattle.vreg_groups.specs.VectorLength.{IsVlenb};
 
-use crate::{Final, OpenError, Outcome, try_run};
-use elf_image::{Image, read};
+use crate::checks::image_of;
+use elf_image::Image;
 use region_mem::{Arg, Args, Bytes, Mode, Param, Parameters};
+use sandbox_run::{Final, OpenError, Outcome, try_run};
 use std::alloc::{AllocError, Global};
 use std::process::Abort;
 use std::test::Fail;
@@ -20,47 +21,6 @@ const ADD_BYTES: [u32; 6] = [
     0x0205_0427,
     0x0000_0073,
 ];
-
-/// The headers of an executable of one segment at 0x10000, which may be read and executed, as words.
-const HEADERS: [u32; 17] = [
-    0x464c_457f,
-    0x0001_0101,
-    0,
-    0,
-    0x00f3_0002,
-    1,
-    0x1_0000,
-    52,
-    0,
-    0,
-    0x0020_0034,
-    1,
-    0,
-    1,
-    84,
-    0x1_0000,
-    0x1_0000,
-];
-
-fn push_word(file: &mut Vec<u8>, word: u32) -> Result<(), AllocError> {
-    file.extend_from_slice(&word.to_le_bytes())
-}
-
-/// An image with these words at 0x10000, which is its entry.
-fn image_of(alloc: Global, words: &[u32]) -> Result<Image, Fail> {
-    let size = words.len().min(1000) as u32 * 4;
-    let mut file = Vec::new(alloc);
-    for word in HEADERS {
-        push_word(&mut file, word)?;
-    }
-    for word in [size, size, 5, 4] {
-        push_word(&mut file, word)?;
-    }
-    for word in words {
-        push_word(&mut file, *word)?;
-    }
-    Ok(read(alloc, &file)?)
-}
 
 fn buffer(alloc: Global, bytes: &[u8]) -> Result<Arg, AllocError> {
     Ok(Arg::Buffer(Bytes::new(Vec::from_slice(alloc, bytes)?)))
@@ -83,44 +43,39 @@ fn args_of(a: Arg, b: Arg, c: Arg) -> Args {
 
 /// Two buffers of three bytes and the number of bytes.
 fn byte_parameters() -> Option<Parameters> {
+    let buffer = |mode| Param::Buffer { mode, size: 3 };
+    let none = Param::None;
     Parameters::new([
-        Param::Buffer {
-            mode: Mode::ReadWrite,
-            size: 3,
-        },
-        Param::Buffer {
-            mode: Mode::Read,
-            size: 3,
-        },
+        buffer(Mode::ReadWrite),
+        buffer(Mode::Read),
         Param::Scalar { lo: 0, hi: 3 },
-        Param::None,
-        Param::None,
-        Param::None,
-        Param::None,
-        Param::None,
+        none,
+        none,
+        none,
+        none,
+        none,
     ])
 }
 
-fn byte_args(alloc: Global) -> Result<Args, AllocError> {
-    let a = buffer(alloc, &[0xff, 1, 2])?;
-    let b = buffer(alloc, &[1, 1, 0xff])?;
-    Ok(args_of(a, b, Arg::Scalar(3)))
-}
-
-fn add_bytes<const VLENB: usize>(alloc: Global, max: u64) -> Result<Outcome<VLENB>, Fail>
+fn add_bytes<const VLENB: usize>(
+    alloc: Global,
+    image: &Image,
+    max: u64,
+) -> Result<Outcome<VLENB>, Fail>
     requires { IsVlenb VLENB }
 {
-    let image = image_of(alloc, &ADD_BYTES)?;
     let parameters = byte_parameters().ok_or("the parameters are in order")?;
-    let args = byte_args(alloc)?;
-    try_run::<VLENB>(alloc, &image, &parameters, args, Agnostic::Keep, max).map_err(|_| Fail::from(
+    let a = buffer(alloc, &[0xff, 1, 2])?;
+    let b = buffer(alloc, &[1, 1, 0xff])?;
+    let args = args_of(a, b, Arg::Scalar(3));
+    try_run::<VLENB>(alloc, image, &parameters, args, Agnostic::Keep, max).map_err(|_| Fail::from(
         "refused",
     ))
 }
 
-fn assert_sum<const VLENB: usize>(rt: &impl Abort, last: &Final<VLENB>, steps: u64, pc: u32) {
-    assert_eq!(rt; last.steps, steps);
-    assert_eq!(rt; last.registers.pc, pc);
+fn assert_sum<const VLENB: usize>(rt: &impl Abort, last: &Final<VLENB>) {
+    assert_eq!(rt; last.steps, 6);
+    assert_eq!(rt; last.registers.pc, 0xffff_fff0);
     assert_eq!(rt; last.registers.vl, 3);
     match &last.args.places[0] {
         Arg::Buffer(bytes) => assert_eq!(rt; bytes.as_slice(), [0, 2, 1].as_slice()),
@@ -130,12 +85,13 @@ fn assert_sum<const VLENB: usize>(rt: &impl Abort, last: &Final<VLENB>, steps: u
 
 #[test]
 fn adds_bytes(rt: HostRuntime) -> Result<(), Fail> {
-    match add_bytes::<16>(rt.alloc(), 6)? {
-        Outcome::Ended(last) => assert_sum(&rt, &last, 6, 0xffff_fff0),
+    let image = image_of(rt.alloc(), &ADD_BYTES)?;
+    match add_bytes::<16>(rt.alloc(), &image, 6)? {
+        Outcome::Ended(last) => assert_sum(&rt, &last),
         _ => assert!(rt; false, "at 16 bytes"),
     }
-    match add_bytes::<32>(rt.alloc(), 1000)? {
-        Outcome::Ended(last) => assert_sum(&rt, &last, 6, 0xffff_fff0),
+    match add_bytes::<32>(rt.alloc(), &image, 1000)? {
+        Outcome::Ended(last) => assert_sum(&rt, &last),
         _ => assert!(rt; false, "at 32 bytes"),
     }
     Ok(())
