@@ -5,6 +5,7 @@ ghost use Rattle.vreg_groups.specs.VectorLength.{IsConfig};
 use crate::fixture::memory;
 use region_mem::{Fault, Regions, Right};
 use rv_decode::{Count, Direction, Insn, Place, Reg, VMem, Width};
+use std::process::Abort;
 use std::test::Fail;
 use vector_mem::{Access, access, load, store};
 use vreg_groups::{Agnostic, Avl, Setup, Vconfig, VregFile, legal_type, vset};
@@ -44,13 +45,15 @@ fn moved(
     Ok(plan.as_slice().first().copied())
 }
 
-#[test]
-fn elements_are_moved(rt: HostRuntime) -> Result<(), Fail> {
-    let mut memory = memory(rt.alloc())?;
-    let mut registers = VregFile::<16>::new();
-    let v8 = Reg::new(8);
-    // three elements of e16, m1, ta, ma
-    let config = vset(16, Vconfig::none(), Avl::Of(3), 0xc8);
+/// Three elements of e16, m1, ta, ma, from an address on downwards.
+fn assert_strided(
+    rt: &impl Abort,
+    config: &Vconfig,
+    registers: &mut VregFile<16>,
+    memory: &mut Regions,
+)
+    requires { IsConfig 16 config.now }
+{
     let strided = Place::Strided {
         width: Width::W16,
         rs2: Reg::new(11),
@@ -60,27 +63,36 @@ fn elements_are_moved(rt: HostRuntime) -> Result<(), Fail> {
     let first = moved(
         Direction::Load,
         strided,
-        &config,
-        &mut registers,
+        config,
+        registers,
         0x2004,
         minus_two,
-        &mut memory,
-    )?;
-    assert_eq!(rt;
-        first,
-        Some(Access {
-            element: 0,
-            address: 0x2004,
-            size: 2,
-            right: Right::Read,
-        })
+        memory,
     );
+    let access = Access {
+        element: 0,
+        address: 0x2004,
+        size: 2,
+        right: Right::Read,
+    };
+    assert_eq!(rt; first, Ok(Some(access)));
     // 0x0605, 0xfffe and 0x0201, and the tail of ones
+    let v8 = Reg::new(8);
     assert_eq!(rt; registers.byte(v8, 0), 0x05);
     assert_eq!(rt; registers.byte(v8, 3), 0xff);
     assert_eq!(rt; registers.byte(v8, 4), 0x01);
     assert_eq!(rt; registers.byte(v8, 6), 0xff);
-    // a whole register, four bytes of which are past the end: the word at 0x2010
+}
+
+/// A whole register, four bytes of which are past the end: the word at 0x2010.
+fn assert_past_the_end(
+    rt: &impl Abort,
+    config: &Vconfig,
+    registers: &mut VregFile<16>,
+    memory: &mut Regions,
+)
+    requires { IsConfig 16 config.now }
+{
     let whole = Place::Whole {
         width: Width::W32,
         count: Count::One,
@@ -88,42 +100,74 @@ fn elements_are_moved(rt: HostRuntime) -> Result<(), Fail> {
     let past = moved(
         Direction::Store,
         whole,
-        &config,
-        &mut registers,
+        config,
+        registers,
         0x2004,
         0,
-        &mut memory,
+        memory,
     );
     assert_eq!(rt; past, Err(Fault::StoreFault(0x2010)));
     assert_eq!(rt; memory.byte(0x2004), Some(0x05));
-    // one byte of a mask, though it has three bits
-    moved(
+}
+
+/// One byte of a mask, though it has three bits.
+fn assert_mask(
+    rt: &impl Abort,
+    config: &Vconfig,
+    registers: &mut VregFile<16>,
+    memory: &mut Regions,
+)
+    requires { IsConfig 16 config.now }
+{
+    let came = moved(
         Direction::Load,
         Place::Mask,
-        &config,
-        &mut registers,
+        config,
+        registers,
         0x2001,
         0,
-        &mut memory,
-    )?;
-    assert_eq!(rt; registers.byte(v8, 0), 0x02);
-    assert_eq!(rt; registers.byte(v8, 1), 0xff);
-    // to 0x2000 plus the bytes 2, 255 and 255 of v8 itself
+        memory,
+    );
+    assert!(rt; came.is_ok());
+    assert_eq!(rt; registers.byte(Reg::new(8), 0), 0x02);
+    assert_eq!(rt; registers.byte(Reg::new(8), 1), 0xff);
+}
+
+/// To 0x2000 plus the bytes 2, 255 and 255 of v8 itself.
+fn assert_indexed(
+    rt: &impl Abort,
+    config: &Vconfig,
+    registers: &mut VregFile<16>,
+    memory: &mut Regions,
+)
+    requires { IsConfig 16 config.now }
+{
     let indexed = Place::Indexed {
         width: Width::W8,
-        vs2: v8,
+        vs2: Reg::new(8),
         ordered: false,
         masked: false,
     };
     let far = moved(
         Direction::Store,
         indexed,
-        &config,
-        &mut registers,
+        config,
+        registers,
         0x2000,
         0,
-        &mut memory,
+        memory,
     );
     assert_eq!(rt; far, Err(Fault::StoreFault(0x20ff)));
+}
+
+#[test]
+fn elements_are_moved(rt: HostRuntime) -> Result<(), Fail> {
+    let mut memory = memory(rt.alloc())?;
+    let mut registers = VregFile::<16>::new();
+    let config = vset(16, Vconfig::none(), Avl::Of(3), 0xc8);
+    assert_strided(&rt, &config, &mut registers, &mut memory);
+    assert_past_the_end(&rt, &config, &mut registers, &mut memory);
+    assert_mask(&rt, &config, &mut registers, &mut memory);
+    assert_indexed(&rt, &config, &mut registers, &mut memory);
     Ok(())
 }

@@ -1,7 +1,7 @@
 //! How certificates are read, written and made.
 use cert_note::{CertError, Certificate, Contents, Vlen, read, write};
 use region_mem::{Param, Parameters};
-use std::alloc::Global;
+use std::alloc::{AllocError, Global};
 use std::test::Fail;
 
 /// The certificate of a loop that raises each word of a buffer by one, as laid out by hand.
@@ -33,32 +33,54 @@ constant: 1073741824, terms: [Term { atom: 11, coefficient: 4294967292 }, \
 Term { atom: 34, coefficient: 4 }] }) }, \
 RegisterFact { number: 11, low: 1, high: 1024, equality: None }], vectors: [] }";
 
+fn example(alloc: Global) -> Result<Certificate, CertError> {
+    read(alloc, &BYTES)
+}
+
+/// Whether these are the example's bytes.
+fn is_example(bytes: &[u8]) -> bool {
+    bytes == BYTES.as_slice()
+}
+
 #[test]
 fn reads_and_writes_the_example(rt: HostRuntime) -> Result<(), Fail> {
     let alloc = rt.alloc();
-    let certificate = read(alloc, &BYTES)?;
+    let certificate = example(alloc)?;
     let contents = certificate.contents();
     assert_eq!(rt; contents.vlen, Vlen::V128);
     assert_eq!(rt; contents.blocks.len(), 3);
     let block = contents.blocks.get(1).expect(&rt, "the loop's block");
     assert_eq!(rt; format!(in alloc; "{block:?}")?.as_str(), LOOP);
-    assert!(rt; write(alloc, &certificate)?.as_slice() == BYTES.as_slice());
+    assert!(rt; is_example(write(alloc, &certificate)?.as_slice()));
     Ok(())
+}
+
+/// What is wrong with the example's bytes, of which one is changed.
+fn fault_at(alloc: Global, place: usize, byte: u8) -> Option<CertError> {
+    let mut bytes = BYTES;
+    if let Some(changed) = bytes.get_mut(place) {
+        *changed = byte;
+    }
+    read(alloc, &bytes).err()
+}
+
+/// What is wrong with the example's bytes, of which the last is missing or stands twice.
+fn faults_of_length(alloc: Global) -> Result<(Option<CertError>, Option<CertError>), AllocError> {
+    let mut bytes = Vec::from_slice(alloc, &BYTES[..260])?;
+    let shorter = read(alloc, bytes.as_slice()).err();
+    bytes.extend_from_slice(&[0xff, 0xff])?;
+    Ok((shorter, read(alloc, bytes.as_slice()).err()))
 }
 
 #[test]
 fn refuses_bytes_that_spell_none(rt: HostRuntime) -> Result<(), Fail> {
     let alloc = rt.alloc();
     assert_eq!(rt; read(alloc, &[]).err(), Some(CertError::Short));
-    assert_eq!(rt; read(alloc, &BYTES[..260]).err(), Some(CertError::Short));
-    let mut without_term = BYTES;
-    without_term[217] = 0;
-    let fault = read(alloc, &without_term).err();
+    let fault = fault_at(alloc, 217, 0);
     assert_eq!(rt; fault, Some(CertError::Equality), "the coefficient 4 of n");
-    let mut longer = Vec::from_slice(alloc, &BYTES)?;
-    longer.push(0)?;
-    let fault = read(alloc, longer.as_slice()).err();
-    assert_eq!(rt; fault, Some(CertError::TrailingBytes));
+    let (shorter, longer) = faults_of_length(alloc)?;
+    assert_eq!(rt; shorter, Some(CertError::Short));
+    assert_eq!(rt; longer, Some(CertError::TrailingBytes));
     let text = format!(in alloc; "{}", CertError::TrailingBytes)?;
     assert_eq!(rt; text.as_str(), "bytes stand behind the certificate");
     Ok(())

@@ -1,5 +1,6 @@
 //! How a file is read.
 use elf_image::*;
+use std::alloc::Global;
 use std::test::Fail;
 
 /// An executable as the standard lays it out: a header, three program headers, code, data, a note.
@@ -31,9 +32,13 @@ const FILE: [u8; 200] = [
     1, 2, 3, 4,
 ];
 
+fn image(alloc: Global) -> Result<Image, ElfError> {
+    read(alloc, &FILE)
+}
+
 #[test]
 fn reads_a_file(rt: HostRuntime) -> Result<(), Fail> {
-    let image = read(rt.alloc(), &FILE)?;
+    let image = image(rt.alloc())?;
     assert_eq!(rt; image.entry(), 0x10000);
     assert_eq!(rt; image.segments().len(), 2);
     let data = &image.segments()[1];
@@ -47,6 +52,12 @@ fn reads_a_file(rt: HostRuntime) -> Result<(), Fail> {
     };
     assert_eq!(rt; data.rights(), rights);
     assert!(rt; data.contains(0x2000f));
+    Ok(())
+}
+
+#[test]
+fn finds_code_and_the_certificate(rt: HostRuntime) -> Result<(), Fail> {
+    let image = image(rt.alloc())?;
     assert_eq!(rt; image.segment_at(0x10017), Some(0));
     assert_eq!(rt; image.segment_at(0x10018), None);
     // vsetvli, ecall, a word that passes the end of the code, and data.

@@ -86,19 +86,17 @@ fn runs_to_the_end(rt: HostRuntime) -> Result<(), Fail> {
     Ok(())
 }
 
-#[test]
-fn shows_each_step(rt: HostRuntime) -> Result<(), Fail> {
-    let alloc = rt.alloc();
-    let accepted = accepted_sum(alloc)?;
-    let opened = Session::<16>::open(alloc, &accepted, args(alloc, 1024, 1)?, Agnostic::Ones, 7);
-    let Ok(mut session) = opened else {
-        return Err(Fail::from("not opened"));
-    };
+/// The first word of the code, the last byte of the buffer, and the last register.
+fn assert_shown(rt: &impl Abort, session: &Session<16>) {
     assert_eq!(rt; session.fetch(0x1_0000), Some(SUM[0]));
     assert_eq!(rt; session.fetch(0x4000_0000), None);
     assert_eq!(rt; session.peek(0x4000_03ff), Some(3));
     assert_eq!(rt; session.peek(0x4000_0400), None);
     assert_eq!(rt; session.vector(Reg::new(31)), [0; 16].as_slice());
+}
+
+/// Each step of a run over one byte.
+fn assert_steps(rt: &impl Abort, session: &mut Session<16>) {
     for (steps, pc) in [
         (1, 0x1_0004),
         (2, 0x1_0008),
@@ -114,7 +112,20 @@ fn shows_each_step(rt: HostRuntime) -> Result<(), Fail> {
     }
     assert_eq!(rt; session.step(), None);
     assert_eq!(rt; session.steps(), 7);
-    let args = session.close();
-    assert!(rt; matches!(&args.places[1], Arg::Scalar(1)));
+}
+
+#[test]
+fn shows_each_step(rt: HostRuntime) -> Result<(), Fail> {
+    let alloc = rt.alloc();
+    let accepted = accepted_sum(alloc)?;
+    let args = args(alloc, 1024, 1)?;
+    match Session::<16>::open(alloc, &accepted, args, Agnostic::Ones, 7) {
+        Ok(mut session) => {
+            assert_shown(&rt, &session);
+            assert_steps(&rt, &mut session);
+            assert!(rt; matches!(&session.close().places[1], Arg::Scalar(1)));
+        }
+        Err(_) => assert!(rt; false, "not opened"),
+    }
     Ok(())
 }

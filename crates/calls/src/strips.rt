@@ -78,16 +78,27 @@ fn assert_raises<const VLENB: usize>(
     Ok(())
 }
 
-/// Nine words are three strips at 128 bits, and two at 256.
+/// Nine words are three strips at 128 bits.
 #[test]
 fn runs_over_strips(rt: HostRuntime) -> Result<(), Fail> {
+    let short = accepted_raise(rt.alloc(), Vlen::V128)?;
+    for (number, steps, first) in [(0, 2, 3), (9, 26, 4), (1024, 2050, 4)] {
+        assert_raises::<16>(&rt, &short, number, steps, first)?;
+    }
+    Ok(())
+}
+
+/// Nine words are two strips at 256 bits.
+#[test]
+fn runs_over_longer_strips(rt: HostRuntime) -> Result<(), Fail> {
+    let long = accepted_raise(rt.alloc(), Vlen::V256)?;
+    assert_raises::<32>(&rt, &long, 9, 18, 4)
+}
+
+#[test]
+fn opens_at_its_length_within_its_bound(rt: HostRuntime) -> Result<(), Fail> {
     let alloc = rt.alloc();
     let short = accepted_raise(alloc, Vlen::V128)?;
-    assert_raises::<16>(&rt, &short, 0, 2, 3)?;
-    assert_raises::<16>(&rt, &short, 9, 26, 4)?;
-    assert_raises::<16>(&rt, &short, 1024, 2050, 4)?;
-    let long = accepted_raise(alloc, Vlen::V256)?;
-    assert_raises::<32>(&rt, &long, 9, 18, 4)?;
     let many = args(alloc, 4096, 1024)?;
     assert_refused::<16>(&rt, &short, many, 8193, OpenError::BoundTooLarge);
     let other = args(alloc, 4096, 1024)?;

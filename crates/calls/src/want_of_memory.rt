@@ -7,8 +7,9 @@ use cert_note::CertError;
 use elf_image::ElfError;
 use hex::decode;
 use region_mem::{Arg, Args, Bytes, Mode, Param, Parameters};
-use sandbox_run::{OpenError, Outcome, open_in, try_run_in};
+use sandbox_run::{OpenError, Outcome, Session, open_in, try_run_in};
 use std::alloc::{AllocError, Global};
+use std::process::Abort;
 use std::test::Fail;
 use vreg_groups::{Agnostic, Vlen};
 
@@ -206,6 +207,12 @@ fn accepted(alloc: Global) -> Result<Accepted, Fail> {
     check(alloc, image, certificate, Vlen::V128).map_err(|_| Fail::from("not accepted"))
 }
 
+/// Runs a session of the accepted image to its end.
+fn expect_end(rt: &impl Abort, mut session: Session<16, Heap<'_>>) {
+    assert_eq!(rt; session.run(), 1);
+    assert!(rt; are_args(&session.close(), &[0xff, 1, 2]));
+}
+
 /// A session takes the memory of its regions alone, as a run does. No step takes any.
 #[test]
 fn opening(rt: HostRuntime) -> Result<(), Fail> {
@@ -216,10 +223,9 @@ fn opening(rt: HostRuntime) -> Result<(), Fail> {
         let heap = Refusing::new(alloc, after);
         let args = args(&ample)?;
         match open_in::<16, Heap<'_>, Global>(&heap, &accepted, args, Agnostic::Keep, 1) {
-            Ok(mut session) => {
+            Ok(session) => {
                 assert!(rt; !heap.has_refused() && after > 0);
-                assert_eq!(rt; session.run(), 1);
-                assert!(rt; are_args(&session.close(), &[0xff, 1, 2]));
+                expect_end(&rt, session);
                 return Ok(());
             }
             Err((error, args)) => {

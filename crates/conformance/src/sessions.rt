@@ -6,8 +6,9 @@ use crate::arguments::Given;
 use crate::checks::accept;
 use crate::fields::{RowError, bytes, hex};
 use crate::runs::{Case, Last, last_state, read_case, start};
-use crate::state::{Difference, Part, differ};
+use crate::state::{Difference, Part, State, differ};
 use crate::table::Table;
+use block_checker::Accepted;
 use rv_decode::Reg;
 use sandbox_run::Session;
 use std::alloc::Global;
@@ -32,24 +33,54 @@ fn run<const VLENB: usize>(alloc: Global, case: &Case<'_>) -> Result<Option<Stri
     requires { IsVlenb VLENB }
 {
     let file = bytes(alloc, case.image)?;
-    let accepted = match accept(alloc, file.as_slice(), None) {
-        Ok(accepted) => accepted,
-        Err(refusal) => return case.other_end(alloc, format!(in alloc; "{refusal}")?.as_str()),
-    };
+    match accept(alloc, file.as_slice(), None) {
+        Ok(accepted) => open::<VLENB>(alloc, &accepted, case),
+        Err(refusal) => case.other_end(alloc, format!(in alloc; "{refusal}")?.as_str()),
+    }
+}
+
+/// Runs an accepted image on the row's arguments.
+fn open<const VLENB: usize>(
+    alloc: Global,
+    accepted: &Accepted,
+    case: &Case<'_>,
+) -> Result<Option<String>, RowError>
+    requires { IsVlenb VLENB }
+{
     let given = case.given(alloc)?;
     let expected = start(accepted.parameters(), &given);
     let Given { params: _, args } = given;
-    match Session::<VLENB>::open(alloc, &accepted, args, case.agnostic, case.max) {
+    match Session::<VLENB>::open(alloc, accepted, args, case.agnostic, case.max) {
+        Ok(session) => finish(alloc, session, expected, case),
         Err((error, _args)) => case.other_end(alloc, format!(in alloc; "{error:?}")?.as_str()),
-        Ok(mut session) => {
-            let end = format!(in alloc; "ended {}", session.run())?;
-            if let Some(difference) = memory_difference(alloc, &session, case)? {
-                return Ok(Some(format!(in alloc; "{difference}")?));
-            }
-            let state = last_state(&session.registers(), vectors_of(&session));
-            let args = session.close();
-            case.difference::<VLENB>(alloc, expected, &Last { end, state, args })
-        }
+    }
+}
+
+/// Runs a session that was opened in the state `expected`.
+fn finish<const VLENB: usize>(
+    alloc: Global,
+    mut session: Session<VLENB>,
+    expected: State,
+    case: &Case<'_>,
+) -> Result<Option<String>, RowError>
+    requires { IsVlenb VLENB }
+{
+    let end = format!(in alloc; "ended {}", session.run())?;
+    match memory_difference(alloc, &session, case)? {
+        Some(difference) => Ok(Some(format!(in alloc; "{difference}")?)),
+        None => case.difference::<VLENB>(alloc, expected, &left_by(session, end)),
+    }
+}
+
+/// What a session leaves.
+fn left_by<const VLENB: usize>(session: Session<VLENB>, end: String) -> Last
+    requires { IsVlenb VLENB }
+{
+    let state = last_state(&session.registers(), vectors_of(&session));
+    Last {
+        end,
+        state,
+        args: session.close(),
     }
 }
 
