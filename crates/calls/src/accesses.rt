@@ -2,6 +2,7 @@
 
 ghost use Rattle.vreg_groups.specs.VectorLength.{IsConfig};
 
+use crate::assertions::assert_same;
 use crate::fixture::memory;
 use region_mem::{Fault, Regions, Right};
 use rv_decode::{Count, Direction, Insn, Place, Reg, VMem, Width};
@@ -75,13 +76,13 @@ fn assert_strided(
         size: 2,
         right: Right::Read,
     };
-    assert_eq!(rt; first, Ok(Some(access)));
+    assert_same!(rt; first, Ok(Some(access)));
     // 0x0605, 0xfffe and 0x0201, and the tail of ones
     let v8 = Reg::new(8);
-    assert_eq!(rt; registers.byte(v8, 0), 0x05);
-    assert_eq!(rt; registers.byte(v8, 3), 0xff);
-    assert_eq!(rt; registers.byte(v8, 4), 0x01);
-    assert_eq!(rt; registers.byte(v8, 6), 0xff);
+    assert_same!(rt; registers.byte(v8, 0), 0x05);
+    assert_same!(rt; registers.byte(v8, 3), 0xff);
+    assert_same!(rt; registers.byte(v8, 4), 0x01);
+    assert_same!(rt; registers.byte(v8, 6), 0xff);
 }
 
 /// A whole register, four bytes of which are past the end: the word at 0x2010.
@@ -106,8 +107,8 @@ fn assert_past_the_end(
         0,
         memory,
     );
-    assert_eq!(rt; past, Err(Fault::StoreFault(0x2010)));
-    assert_eq!(rt; memory.byte(0x2004), Some(0x05));
+    assert_same!(rt; past, Err(Fault::StoreFault(0x2010)));
+    assert_same!(rt; memory.byte(0x2004), Some(0x05));
 }
 
 /// One byte of a mask, though it has three bits.
@@ -128,9 +129,9 @@ fn assert_mask(
         0,
         memory,
     );
-    assert!(rt; came.is_ok());
-    assert_eq!(rt; registers.byte(Reg::new(8), 0), 0x02);
-    assert_eq!(rt; registers.byte(Reg::new(8), 1), 0xff);
+    assert_same!(rt; came.is_ok(), true);
+    assert_same!(rt; registers.byte(Reg::new(8), 0), 0x02);
+    assert_same!(rt; registers.byte(Reg::new(8), 1), 0xff);
 }
 
 /// To 0x2000 plus the bytes 2, 255 and 255 of v8 itself.
@@ -157,7 +158,7 @@ fn assert_indexed(
         0,
         memory,
     );
-    assert_eq!(rt; far, Err(Fault::StoreFault(0x20ff)));
+    assert_same!(rt; far, Err(Fault::StoreFault(0x20ff)));
 }
 
 #[test]

@@ -1,5 +1,6 @@
 //! The chunk calls, on one chunk each. What is expected was computed apart, by numbers.
 
+use crate::assertions::assert_same;
 use lane_fixed::{
     Op as FixedOp, RoundingMode, chunk_u8 as fixed_u8, chunk_u16 as fixed_u16,
     chunk_u32 as fixed_u32,
@@ -23,7 +24,7 @@ fn chunk_of_bytes(rt: HostRuntime) {
     let expected = [
         0xc0, 0x7f, 0xff, 0x0, 0x0, 0x0, 0xff, 0xe0, 0xfd, 0x9, 0xfc, 0x0, 0x0, 0x6, 0xf7, 0x0,
     ];
-    assert_eq!(rt; lanes, expected);
+    assert_same!(rt; lanes, expected);
 }
 
 #[test]
@@ -32,7 +33,7 @@ fn chunk_of_halves(rt: HostRuntime) {
     let b = u16x8::from_array([0x1, 0x8000, 0x1, 0xffff, 0x13, 0x7ffe, 0xf, 0x2]);
     let lanes = chunk_u16(Op::Compare(CompareOp::Less), values, b, b).to_array();
     let expected = [0xffff, 0x0, 0xffff, 0x0, 0xffff, 0xffff, 0xffff, 0xffff];
-    assert_eq!(rt; lanes, expected);
+    assert_same!(rt; lanes, expected);
 }
 
 #[test]
@@ -41,7 +42,7 @@ fn chunk_of_words(rt: HostRuntime) {
     let b = u32x4::from_array([0x3, 0x8000_0000, 0x21, 0xffff_fffe]);
     let old = u32x4::from_array([0x5, 0x2a, 0x4f, 0x74]);
     let lanes = chunk_u32(Op::MultiplyAdd(MultiplyAddOp::Nmsac), values, b, old).to_array();
-    assert_eq!(rt; lanes, [0x8000_0005, 0x8000_002a, 0x70, 0x82]);
+    assert_same!(rt; lanes, [0x8000_0005, 0x8000_002a, 0x70, 0x82]);
 }
 
 #[test]
@@ -56,11 +57,11 @@ fn a_chunk_of_bytes_saturates(rt: HostRuntime) {
     let expected = [
         0, 0, 0x7f, 0x80, 0xfe, 0x7f, 0x80, 0x7f, 0x2c, 0, 7, 0xfd, 4, 0xfe, 0x84, 0x7f,
     ];
-    assert_eq!(rt; sums.to_array(), expected);
+    assert_same!(rt; sums.to_array(), expected);
     let saturated = [
         0, 0, 0xff, 0xff, 0, 0xff, 0xff, 0xff, 0, 0, 0, 0, 0, 0, 0, 0xff,
     ];
-    assert_eq!(rt; flags.to_array(), saturated);
+    assert_same!(rt; flags.to_array(), saturated);
 }
 
 #[test]
@@ -69,8 +70,8 @@ fn a_chunk_of_halves_saturates(rt: HostRuntime) {
     let b = u16x8::from_array([0xffff, 1, 4, 0xffff, 2, 2, 0x10, 0xc000]);
     let (left, flags) = fixed_u16(FixedOp::SatSub, a, b);
     let expected = [0x7fff, 0x8000, 0x1230, 0, 0xffff, 0x8000, 0xef, 0x7fff];
-    assert_eq!(rt; left.to_array(), expected);
-    assert_eq!(rt;
+    assert_same!(rt; left.to_array(), expected);
+    assert_same!(rt;
         flags.to_array(),
         [0xffff, 0xffff, 0, 0, 0, 0xffff, 0, 0xffff]
     );
@@ -81,8 +82,8 @@ fn a_chunk_of_words_saturates(rt: HostRuntime) {
     let a = u32x4::from_array([0x7fff_ffff, 0, 0x1234_5678, 0xffff_ffff]);
     let b = u32x4::from_array([1, 1, 0x1234_5679, 0x8000_0000]);
     let (left, flags) = fixed_u32(FixedOp::SatSubU, a, b);
-    assert_eq!(rt; left.to_array(), [0x7fff_fffe, 0, 0, 0x7fff_ffff]);
-    assert_eq!(rt; flags.to_array(), [0, 0xffff_ffff, 0xffff_ffff, 0]);
+    assert_same!(rt; left.to_array(), [0x7fff_fffe, 0, 0, 0x7fff_ffff]);
+    assert_same!(rt; flags.to_array(), [0, 0xffff_ffff, 0xffff_ffff, 0]);
 }
 
 #[test]
@@ -90,10 +91,10 @@ fn a_chunk_of_words_is_rounded(rt: HostRuntime) {
     let a = u32x4::from_array([0x7, 0x8000_0005, 0xffff_ffff, 0x6]);
     let b = u32x4::from_array([0x4, 0x1, 0x1, 0x3]);
     let (means, flags) = fixed_u32(FixedOp::AverageAddU(RoundingMode::NearestEven), a, b);
-    assert_eq!(rt; means.to_array(), [0x6, 0x4000_0003, 0x8000_0000, 0x4]);
-    assert_eq!(rt; flags.to_array(), [0; 4]);
+    assert_same!(rt; means.to_array(), [0x6, 0x4000_0003, 0x8000_0000, 0x4]);
+    assert_same!(rt; flags.to_array(), [0; 4]);
     let (scaled, _) = fixed_u32(FixedOp::ShiftRightSigned(RoundingMode::NearestUp), a, b);
-    assert_eq!(rt; scaled.to_array(), [0x0, 0xc000_0003, 0x0, 0x1]);
+    assert_same!(rt; scaled.to_array(), [0x0, 0xc000_0003, 0x0, 0x1]);
 }
 
 #[test]
@@ -108,14 +109,14 @@ fn a_chunk_of_mask_bytes(rt: HostRuntime) {
     let expected = [
         0, 0xff, 0xcf, 0xf3, 0xf5, 0xfa, 0xbb, 0xee, 0xff, 0xfe, 0xff, 0xe7, 0x13, 0x37, 0x57, 0x7f,
     ];
-    assert_eq!(rt; or_not, expected);
+    assert_same!(rt; or_not, expected);
 }
 
 #[test]
 fn bytes_are_chosen_lane_by_lane(rt: HostRuntime) {
     let active = u8x16::from_array([1, 0, 0xff, 0, 2, 0, 0, 0, 0, 0, 0, 0, 0, 0, 0, 0x80]);
     let lanes = choose(active, u8x16::splat(5), u8x16::splat(9)).to_array();
-    assert_eq!(rt; lanes, [5, 9, 5, 9, 5, 9, 9, 9, 9, 9, 9, 9, 9, 9, 9, 5]);
+    assert_same!(rt; lanes, [5, 9, 5, 9, 5, 9, 9, 9, 9, 9, 9, 9, 9, 9, 9, 5]);
 }
 
 #[test]
@@ -124,9 +125,9 @@ fn a_group_is_lent_to_be_written(rt: HostRuntime) -> Result<(), Fail> {
     registers
         .group_mut(Reg::new(4), 2)
         .copy_from_slice(&[7; 32]);
-    assert_eq!(rt; registers.group(Reg::new(4), 2), [7; 32].as_slice());
-    assert_eq!(rt; registers.byte(Reg::new(3), 15), 0);
-    assert_eq!(rt; registers.byte(Reg::new(5), 15), 7);
-    assert_eq!(rt; registers.byte(Reg::new(6), 0), 0);
+    assert_same!(rt; registers.group(Reg::new(4), 2), [7; 32].as_slice());
+    assert_same!(rt; registers.byte(Reg::new(3), 15), 0);
+    assert_same!(rt; registers.byte(Reg::new(5), 15), 7);
+    assert_same!(rt; registers.byte(Reg::new(6), 0), 0);
     Ok(())
 }

@@ -1,5 +1,6 @@
 //! How the kernels are called. Expected values are worked out by hand from the standard's rules on rounding.
 
+use crate::assertions::assert_same;
 use lane_fixed::{ClipOp, FixedOp, RoundingMode, clip, compute};
 
 const MODES: [RoundingMode; 4] = [
@@ -21,8 +22,8 @@ fn a_shift_by_two_in_each_mode(rt: HostRuntime) {
             [2u8; 3].as_slice(),
             [true; 3].as_slice(),
         );
-        assert_eq!(rt; values, *expected);
-        assert!(rt; !is_saturated);
+        assert_same!(rt; values, *expected);
+        assert_same!(rt; is_saturated, false);
     }
 }
 
@@ -37,8 +38,8 @@ fn a_product_saturates_only_where_it_is_active(rt: HostRuntime) {
             [0x80u8].as_slice(),
             [is_active].as_slice(),
         );
-        assert_eq!(rt; values, [0x7f]);
-        assert_eq!(rt; is_saturated, is_active);
+        assert_same!(rt; values, [0x7f]);
+        assert_same!(rt; is_saturated, is_active);
     }
 }
 
@@ -53,6 +54,6 @@ fn a_clip_is_judged_after_rounding(rt: HostRuntime) {
         [false, true].as_slice(),
         results.as_mut_slice(),
     );
-    assert_eq!(rt; results, [0xff, 0xff]);
-    assert!(rt; !is_saturated);
+    assert_same!(rt; results, [0xff, 0xff]);
+    assert_same!(rt; is_saturated, false);
 }

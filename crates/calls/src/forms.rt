@@ -1,4 +1,5 @@
 //! How forms are added, replaced and compared, and how their ranges are found.
+use crate::assertions::assert_same;
 use linear_facts::{Atom, Atoms, Change, Form, Multiple, Range, Split, is_at_least};
 use std::process::Abort;
 
@@ -28,13 +29,16 @@ const MINUS_ONE: u32 = 0xffff_ffff;
 fn adds_and_replaces(rt: HostRuntime) {
     let x = form(&rt, 7, 1, 2);
     let none = sum(&rt, &x, &form(&rt, 0, 1, 0xffff_fffe));
-    assert!(rt; none.same(&Form::<8>::number(7)), "equal terms cancel");
+    // Equal terms cancel.
+    assert_same!(rt; none.same(&Form::<8>::number(7)), true);
     let both = sum(&rt, &x, &form(&rt, MINUS_ONE, 2, 1));
-    assert!(rt; both.add::<8, 1>(&none).is_none(), "two terms");
+    // Two terms are one too many.
+    assert_same!(rt; both.add::<8, 1>(&none).is_none(), true);
     // Atoms 1 and 2 change places.
     let forms = [Form::<8>::number(0), Form::<8>::atom(2), Form::<8>::atom(1)];
     let replaced: Form<8> = both.substitute(&forms).expect(&rt, "two terms have room");
-    assert!(rt; replaced.same(&sum(&rt, &form(&rt, 6, 1, 1), &form(&rt, 0, 2, 2))));
+    let expected = sum(&rt, &form(&rt, 6, 1, 1), &form(&rt, 0, 2, 2));
+    assert_same!(rt; replaced.same(&expected), true);
 }
 
 #[test]
@@ -57,10 +61,10 @@ fn finds_ranges(rt: HostRuntime) {
     };
     // [0, 100] - [0, 16] alone may be below 0; it is [0, 90] after the split.
     let rest = sum(&rt, &form(&rt, 0, 1, 1), &form(&rt, 0, 2, MINUS_ONE));
-    assert_eq!(rt; rest.range_of(&atoms), Some(Range { lo: 0, hi: 90 }));
+    assert_same!(rt; rest.range_of(&atoms), Some(Range { lo: 0, hi: 90 }));
     // 8 - [0, 16] holds 0 and numbers below it.
     let around = form(&rt, 8, 2, MINUS_ONE);
-    assert_eq!(rt; around.range_of(&atoms), None);
+    assert_same!(rt; around.range_of(&atoms), None);
     let changed = Atoms {
         atoms: &list,
         first: None,
@@ -69,7 +73,7 @@ fn finds_ranges(rt: HostRuntime) {
             range: Range { lo: 1, hi: 5 },
         }),
     };
-    assert_eq!(rt; around.range_of(&changed), Some(Range { lo: 3, hi: 7 }));
+    assert_same!(rt; around.range_of(&changed), Some(Range { lo: 3, hi: 7 }));
 }
 
 #[test]
@@ -84,6 +88,6 @@ fn compares_by_differences(rt: HostRuntime) {
     let less_one = form(&rt, MINUS_ONE, 1, 1);
     let eight = |form| Multiple { factor: 8, form };
     // 2 + 8 * n is at least 10 + 8 * (n - 1), and not at least 11 + 8 * (n - 1).
-    assert!(rt; is_at_least(2, &[eight(&count)], 10, &[eight(&less_one)], &atoms));
-    assert!(rt; !is_at_least(2, &[eight(&count)], 11, &[eight(&less_one)], &atoms));
+    assert_same!(rt; is_at_least(2, &[eight(&count)], 10, &[eight(&less_one)], &atoms), true);
+    assert_same!(rt; is_at_least(2, &[eight(&count)], 11, &[eight(&less_one)], &atoms), false);
 }

@@ -1,5 +1,6 @@
 //! How a legal instruction's groups are resolved, read and written.
 
+use crate::assertions::assert_same;
 use rv_decode::{Eew, Insn, IntOp, Reg, Source, VArith, Width};
 use std::test::Fail;
 use vreg_groups::{
@@ -19,13 +20,13 @@ fn sum() -> Insn {
 
 #[test]
 fn legality_answers_the_vector_type(rt: HostRuntime) -> Result<(), Fail> {
-    assert_eq!(rt; legal_type(&Vconfig::none(), &sum()), None);
+    assert_same!(rt; legal_type(&Vconfig::none(), &sum()), None);
     // vl is 3 of the 8 that e16, m1 has at VLEN 128, with the tail agnostic
     let config = vset(16, Vconfig::none(), Avl::Of(3), 0x48);
-    assert_eq!(rt; config.vl, 3);
-    assert_eq!(rt; legal_type(&config, &sum()), Vtype::from_bits(0x48));
+    assert_same!(rt; config.vl, 3);
+    assert_same!(rt; legal_type(&config, &sum()), Vtype::from_bits(0x48));
     // a group of two registers begins at an even one
-    assert!(rt; !legal(&vset(16, config, Avl::Greatest, 0x49), &sum()));
+    assert_same!(rt; legal(&vset(16, config, Avl::Greatest, 0x49), &sum()), false);
     Ok(())
 }
 
@@ -49,10 +50,10 @@ fn a_group_is_written_and_read(rt: HostRuntime) -> Result<(), Fail> {
     );
     let mut values = [0u16; 3];
     group.read(&registers, values.as_mut_slice());
-    assert_eq!(rt; values, [1, 0, 0x304]);
-    assert_eq!(rt; registers.byte(Reg::new(4), 5), 3);
-    assert_eq!(rt; registers.byte(Reg::new(4), 6), 0xff);
-    assert_eq!(rt; registers.byte(Reg::new(5), 0), 0);
+    assert_same!(rt; values, [1, 0, 0x304]);
+    assert_same!(rt; registers.byte(Reg::new(4), 5), 3);
+    assert_same!(rt; registers.byte(Reg::new(4), 6), 0xff);
+    assert_same!(rt; registers.byte(Reg::new(5), 0), 0);
     Ok(())
 }
 
@@ -69,15 +70,15 @@ fn a_body_is_written_and_read_by_its_bytes(rt: HostRuntime) -> Result<(), Fail> 
     let mut registers = VregFile::<16>::new();
     let group = Group::<16>::new(&vtype, 3, Reg::new(4), Eew::Same);
     group.write_all(&mut registers, &[1u16, 2, 0x304], policy);
-    assert_eq!(rt; group.body_bytes(&registers), [1, 0, 2, 0, 4, 3].as_slice());
+    assert_same!(rt; group.body_bytes(&registers), [1, 0, 2, 0, 4, 3].as_slice());
     group.write_bytes(&mut registers, &[5, 6, 7, 8, 9, 10], policy);
-    assert_eq!(rt;
+    assert_same!(rt;
         group.body_bytes(&registers),
         [5, 6, 7, 8, 9, 10].as_slice()
     );
-    assert_eq!(rt; registers.byte(Reg::new(4), 6), 0xff);
+    assert_same!(rt; registers.byte(Reg::new(4), 6), 0xff);
     registers.set_register_bytes(Reg::new(4), &[11; 16]);
-    assert_eq!(rt; registers.group(Reg::new(4), 1), [11; 16].as_slice());
-    assert_eq!(rt; registers.byte(Reg::new(5), 0), 0);
+    assert_same!(rt; registers.group(Reg::new(4), 1), [11; 16].as_slice());
+    assert_same!(rt; registers.byte(Reg::new(5), 0), 0);
     Ok(())
 }

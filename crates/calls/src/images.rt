@@ -1,4 +1,5 @@
 //! How a file is read.
+use crate::assertions::assert_same;
 use elf_image::*;
 use std::alloc::Global;
 use std::test::Fail;
@@ -39,34 +40,34 @@ fn image(alloc: Global) -> Result<Image, ElfError> {
 #[test]
 fn reads_a_file(rt: HostRuntime) -> Result<(), Fail> {
     let image = image(rt.alloc())?;
-    assert_eq!(rt; image.entry(), 0x10000);
-    assert_eq!(rt; image.segments().len(), 2);
+    assert_same!(rt; image.entry(), 0x10000);
+    assert_same!(rt; image.segments().len(), 2);
     let data = &image.segments()[1];
-    assert_eq!(rt; data.address(), 0x20000);
-    assert_eq!(rt; data.memory_size(), 16);
-    assert_eq!(rt; data.bytes(), [0xde, 0xad, 0xbe, 0xef].as_slice());
+    assert_same!(rt; data.address(), 0x20000);
+    assert_same!(rt; data.memory_size(), 16);
+    assert_same!(rt; data.bytes(), [0xde, 0xad, 0xbe, 0xef].as_slice());
     let rights = Rights {
         read: true,
         write: true,
         execute: false,
     };
-    assert_eq!(rt; data.rights(), rights);
-    assert!(rt; data.contains(0x2000f));
+    assert_same!(rt; data.rights(), rights);
+    assert_same!(rt; data.contains(0x2000f), true);
     Ok(())
 }
 
 #[test]
 fn finds_code_and_the_certificate(rt: HostRuntime) -> Result<(), Fail> {
     let image = image(rt.alloc())?;
-    assert_eq!(rt; image.segment_at(0x10017), Some(0));
-    assert_eq!(rt; image.segment_at(0x10018), None);
+    assert_same!(rt; image.segment_at(0x10017), Some(0));
+    assert_same!(rt; image.segment_at(0x10018), None);
     // vsetvli, ecall, a word that passes the end of the code, and data.
-    assert_eq!(rt; image.code_at(0x10000), Some(0x0c06_72d7));
-    assert_eq!(rt; image.code_at(0x10014), Some(0x0000_0073));
-    assert_eq!(rt; image.code_at(0x10015), None);
-    assert_eq!(rt; image.code_at(0x20000), None);
+    assert_same!(rt; image.code_at(0x10000), Some(0x0c06_72d7));
+    assert_same!(rt; image.code_at(0x10014), Some(0x0000_0073));
+    assert_same!(rt; image.code_at(0x10015), None);
+    assert_same!(rt; image.code_at(0x20000), None);
     let certificate = image.certificate().ok_or("a certificate")?;
-    assert_eq!(rt; certificate, [1, 2, 3, 4].as_slice());
+    assert_same!(rt; certificate, [1, 2, 3, 4].as_slice());
     Ok(())
 }
 
@@ -77,8 +78,8 @@ fn tells_why_a_file_is_refused(rt: HostRuntime) -> Result<(), Fail> {
     file[18] = 62;
     file[44] = 0;
     let error = read(rt.alloc(), &file).err().ok_or("an error")?;
-    assert_eq!(rt; error, ElfError::BadMachine);
+    assert_same!(rt; error, ElfError::BadMachine);
     let text = format!(in rt.alloc(); "{error}")?;
-    assert_eq!(rt; text.as_str(), "the file is not for RISC-V");
+    assert_same!(rt; text.as_str(), "the file is not for RISC-V");
     Ok(())
 }

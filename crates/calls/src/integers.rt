@@ -1,15 +1,16 @@
 //! How a kernel is called. What each operation gives is tried against QEMU by the crate `conformance`.
 
+use crate::assertions::assert_same;
 use lane_int::{CompareOp, IntOp, compare, compute, cut, extend};
 
 #[test]
 fn bytes_and_their_mask(rt: HostRuntime) {
     let mut values: [u8; 4] = [0x80, 0x7f, 0xff, 0x07];
     compute(IntOp::Add, &mut values, &[0x80, 0x01, 0x01, 0x03]); // vadd.vv at SEW 8
-    assert_eq!(rt; values, [0x00, 0x80, 0x00, 0x0a]);
+    assert_same!(rt; values, [0x00, 0x80, 0x00, 0x0a]);
     let mut bits = [false; 4];
     compare(CompareOp::Less, &values, &[0; 4], &mut bits); // vmslt.vx with x0
-    assert_eq!(rt; bits, [false, true, false, false]);
+    assert_same!(rt; bits, [false, true, false, false]);
 }
 
 #[test]
@@ -17,10 +18,10 @@ fn resizes_elements(rt: HostRuntime) {
     let values = [0x7fu8, 0x80, 0xff];
     let mut wide = [0u16; 3];
     extend(true, values.as_slice(), wide.as_mut_slice());
-    assert_eq!(rt; wide, [0x7f, 0xff80, 0xffff]);
+    assert_same!(rt; wide, [0x7f, 0xff80, 0xffff]);
     extend(false, values.as_slice(), wide.as_mut_slice());
-    assert_eq!(rt; wide, [0x7f, 0x80, 0xff]);
+    assert_same!(rt; wide, [0x7f, 0x80, 0xff]);
     let mut back = [0u8; 3];
     cut([0x1234u16, 0xff, 0x8000].as_slice(), back.as_mut_slice());
-    assert_eq!(rt; back, [0x34, 0xff, 0]);
+    assert_same!(rt; back, [0x34, 0xff, 0]);
 }

@@ -5,9 +5,7 @@
 #[cfg(test)]
 mod accesses;
 #[cfg(test)]
-mod certificates;
-#[cfg(test)]
-mod checks;
+mod assertions;
 #[cfg(test)]
 mod chunks;
 #[cfg(test)]
@@ -27,18 +25,8 @@ mod masks;
 #[cfg(test)]
 mod memory;
 #[cfg(test)]
-mod refusing;
-#[cfg(test)]
-mod runs;
-#[cfg(test)]
 mod scalar_steps;
 #[cfg(test)]
-mod sessions;
-#[cfg(test)]
-mod strips;
-#[cfg(test)]
 mod vector_steps;
-#[cfg(test)]
-mod want_of_memory;
 #[cfg(test)]
 mod words;

@@ -1,4 +1,5 @@
 //! How a run's memory is made, used and given back.
+use crate::assertions::assert_same;
 use elf_image::Image;
 use region_mem::{
     Arg, ArgError, Args, Bytes, Fault, Mode, Param, Parameters, Regions, Right, args_bring_bytes,
@@ -60,8 +61,8 @@ fn expect_args(rt: &impl Abort, args: &Args, third: &[u8]) {
     args_bring_bytes(args);
     match &args.places {
         [Arg::Buffer(first), Arg::Scalar(5), Arg::Buffer(last), ..] => {
-            assert!(rt; first.as_slice() == [0x21, 0x22].as_slice());
-            assert!(rt; last.as_slice() == third);
+            assert_same!(rt; first.as_slice(), [0x21, 0x22].as_slice());
+            assert_same!(rt; last.as_slice(), third);
         }
         _ => panic!(rt; "other kinds"),
     }
@@ -71,7 +72,7 @@ fn expect_args(rt: &impl Abort, args: &Args, third: &[u8]) {
 fn regions(rt: &impl Abort, alloc: Global) -> Result<Regions, Fail> {
     let image: Image = elf_image::read(alloc, &FILE)?;
     let parameters = parameters().ok_or("parameters")?;
-    assert_eq!(rt; parameters.address(2), Some(0x4000_2000));
+    assert_same!(rt; parameters.address(2), Some(0x4000_2000));
     let args = args(alloc, 5)?;
     parameters.matches(&args)?;
     match Regions::new(alloc, &image, &parameters, args) {
@@ -84,15 +85,15 @@ fn regions(rt: &impl Abort, alloc: Global) -> Result<Regions, Fail> {
 }
 
 fn expect_reads(rt: &impl Abort, regions: &Regions) {
-    assert_eq!(rt; regions.fetch(0x1_0004), Some(0x0807_0605));
-    assert_eq!(rt; regions.fetch(0x4000_2000), None);
-    assert_eq!(rt; regions.load(0x4000_2000, 2), Some(0x3231));
-    assert_eq!(rt; regions.load(0x4000_2002, 2), None);
-    assert_eq!(rt; regions.byte(0x2fff_ffff), Some(0));
-    assert!(rt; regions.permits(Right::Write, 0x2fff_0000, 0x1_0000));
-    assert!(rt; regions.window(0x1_0006, 2) == Some([7, 8].as_slice()));
-    assert!(rt; regions.window(0x1_0006, 3).is_none());
-    assert!(rt; !regions.has_window(0x1_0006, 2));
+    assert_same!(rt; regions.fetch(0x1_0004), Some(0x0807_0605));
+    assert_same!(rt; regions.fetch(0x4000_2000), None);
+    assert_same!(rt; regions.load(0x4000_2000, 2), Some(0x3231));
+    assert_same!(rt; regions.load(0x4000_2002, 2), None);
+    assert_same!(rt; regions.byte(0x2fff_ffff), Some(0));
+    assert_same!(rt; regions.permits(Right::Write, 0x2fff_0000, 0x1_0000), true);
+    assert_same!(rt; regions.window(0x1_0006, 2), Some([7, 8].as_slice()));
+    assert_same!(rt; regions.window(0x1_0006, 3), None);
+    assert_same!(rt; regions.has_window(0x1_0006, 2), false);
 }
 
 #[test]
@@ -101,9 +102,9 @@ fn runs_memory(rt: HostRuntime) -> Result<(), Fail> {
     expect_reads(&rt, &regions);
     assert!(rt; regions.has_window(0x4000_2001, 2));
     regions.set_window(0x4000_2001, &[0x41, 0x42]);
-    assert!(rt; regions.store(0x4000_2001, 1, 0xffff_ff77));
-    assert!(rt; !regions.store(0x4000_0000, 1, 0));
-    assert!(rt; !regions.store(0x4000_2002, 2, 0));
+    assert_same!(rt; regions.store(0x4000_2001, 1, 0xffff_ff77), true);
+    assert_same!(rt; regions.store(0x4000_0000, 1, 0), false);
+    assert_same!(rt; regions.store(0x4000_2002, 2, 0), false);
     expect_args(&rt, &regions.into_args(), &[0x31, 0x77, 0x42]);
     Ok(())
 }
@@ -113,7 +114,7 @@ fn tells_what_is_wrong(rt: HostRuntime) -> Result<(), Fail> {
     let alloc = rt.alloc();
     let parameters = parameters().ok_or("parameters")?;
     let error = parameters.matches(&args(alloc, 10)?);
-    assert_eq!(rt; error, Err(ArgError::ScalarOutOfInterval(1)));
+    assert_same!(rt; error, Err(ArgError::ScalarOutOfInterval(1)));
     for (text, expected) in [
         (
             format!(in alloc; "{}", ArgError::WrongSize(7))?,
@@ -124,9 +125,9 @@ fn tells_what_is_wrong(rt: HostRuntime) -> Result<(), Fail> {
             "no instruction may be fetched at 00000020",
         ),
     ] {
-        assert_eq!(rt; text.as_str(), expected);
+        assert_same!(rt; text.as_str(), expected);
     }
-    assert_eq!(rt; Fault::FetchFault(0x20).name(), "FetchFault");
-    assert_eq!(rt; Fault::FetchFault(0x20).number(), 0x20);
+    assert_same!(rt; Fault::FetchFault(0x20).name(), "FetchFault");
+    assert_same!(rt; Fault::FetchFault(0x20).number(), 0x20);
     Ok(())
 }

@@ -1,5 +1,6 @@
 //! How a step is called. What every instruction gives is tried against QEMU by the crate `conformance`.
 
+use crate::assertions::assert_same;
 use crate::fixture::memory;
 use region_mem::Fault::JumpMisaligned;
 use region_mem::{Fault, Regions};
@@ -27,11 +28,11 @@ fn a_jump_that_is_refused_and_a_return(rt: HostRuntime) -> Result<(), Fail> {
     let link = Reg::new(1);
     scalar.set_reg(link, EXIT);
     let refused = step(&rt, &mut scalar, 0x0020_00e7, &mut memory); // jalr x1, 2(x0)
-    assert_eq!(rt; refused, Err(JumpMisaligned(2)));
-    assert_eq!(rt; scalar.reg(link), EXIT);
-    assert_eq!(rt; scalar.pc(), 0x1000);
+    assert_same!(rt; refused, Err(JumpMisaligned(2)));
+    assert_same!(rt; scalar.reg(link), EXIT);
+    assert_same!(rt; scalar.pc(), 0x1000);
     let returned = step(&rt, &mut scalar, 0x0000_8067, &mut memory); // ret
-    assert_eq!(rt; returned, Ok(()));
-    assert!(rt; scalar.has_ended());
+    assert_same!(rt; returned, Ok(()));
+    assert_same!(rt; scalar.has_ended(), true);
     Ok(())
 }

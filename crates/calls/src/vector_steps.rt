@@ -1,6 +1,7 @@
 //! How a step is made: a vset, a load, a sum, a store, and a fault; and instructions of two widths, whose results are worked
 //! out by hand from the standard.
 
+use crate::assertions::assert_same;
 use crate::fixture::memory;
 use region_mem::{Fault, Regions};
 use rv_decode::{
@@ -23,17 +24,17 @@ fn bytes_are_raised_in_memory(rt: HostRuntime) -> Result<(), Fail> {
         let insn = decode(word).ok_or("no instruction")?;
         step_vector(&mut vectors, &mut scalar, word, insn, &mut memory)?;
     }
-    assert_eq!(rt; vectors.config(), Vconfig { vtype: 0xc0, vl: 3 });
-    assert_eq!(rt; memory.load(0x2000, 4), Some(0xff00_0403));
-    assert_eq!(rt; vectors.byte(Reg::new(8), 3), 0xff);
-    assert_eq!(rt; scalar.pc(), 0x1010);
+    assert_same!(rt; vectors.config(), Vconfig { vtype: 0xc0, vl: 3 });
+    assert_same!(rt; memory.load(0x2000, 4), Some(0xff00_0403));
+    assert_same!(rt; vectors.byte(Reg::new(8), 3), 0xff);
+    assert_same!(rt; scalar.pc(), 0x1010);
     // vse8.v v8,(x10), of which two bytes may be written
     scalar.set_reg(Reg::new(10), 0x200e);
     let insn = decode(0x0205_0427).ok_or("no instruction")?;
     let refused = step_vector(&mut vectors, &mut scalar, 0x0205_0427, insn, &mut memory);
-    assert_eq!(rt; refused, Err(Fault::StoreFault(0x2010)));
-    assert_eq!(rt; memory.byte(0x200e), Some(0x0f));
-    assert_eq!(rt; vectors.into_registers().byte(Reg::new(8), 0), 3);
+    assert_same!(rt; refused, Err(Fault::StoreFault(0x2010)));
+    assert_same!(rt; memory.byte(0x200e), Some(0x0f));
+    assert_same!(rt; vectors.into_registers().byte(Reg::new(8), 0), 3);
     Ok(())
 }
 
@@ -81,11 +82,11 @@ fn an_active_element_alone_saturates(rt: HostRuntime) -> Result<(), Fail> {
         masked,
     };
     let masked_off = computed(&mut vectors, &mut scalar, &mut memory, product(true));
-    assert_eq!(rt; masked_off, Ok(0));
-    assert_eq!(rt; scalar.vxsat(), 0);
+    assert_same!(rt; masked_off, Ok(0));
+    assert_same!(rt; scalar.vxsat(), 0);
     let active = computed(&mut vectors, &mut scalar, &mut memory, product(false));
-    assert_eq!(rt; active, Ok(0x7f7f));
-    assert_eq!(rt; scalar.vxsat(), 1);
+    assert_same!(rt; active, Ok(0x7f7f));
+    assert_same!(rt; scalar.vxsat(), 1);
     let sum = VArith::Fixed {
         op: FixedOp::Saddu,
         vd: Reg::new(10),
@@ -93,11 +94,11 @@ fn an_active_element_alone_saturates(rt: HostRuntime) -> Result<(), Fail> {
         b: Source::Immediate(1),
         masked: false,
     };
-    assert_eq!(rt;
+    assert_same!(rt;
         computed(&mut vectors, &mut scalar, &mut memory, sum),
         Ok(0x8181)
     );
-    assert_eq!(rt; scalar.vxsat(), 1);
+    assert_same!(rt; scalar.vxsat(), 1);
     Ok(())
 }
 
@@ -166,7 +167,7 @@ fn elements_of_two_widths(rt: HostRuntime) -> Result<(), Fail> {
     ];
     for (insn, expected) in cases {
         let result = computed(&mut vectors, &mut scalar, &mut memory, insn);
-        assert_eq!(rt; result, Ok(expected));
+        assert_same!(rt; result, Ok(expected));
     }
     Ok(())
 }
@@ -185,7 +186,7 @@ fn a_half_is_extended(rt: HostRuntime) -> Result<(), Fail> {
             masked: false,
         };
         let result = computed(&mut vectors, &mut scalar, &mut memory, insn);
-        assert_eq!(rt; result, Ok(expected));
+        assert_same!(rt; result, Ok(expected));
     }
     Ok(())
 }

@@ -2,6 +2,7 @@
 //! assembler, its certificate is the one that was laid out by hand.
 ghost use Rattle.vreg_groups.specs.VectorLength.{IsVlenb};
 
+use crate::assertions::assert_same;
 use crate::certificates::BYTES;
 use crate::checks::image_of;
 use crate::sessions::{args, assert_refused};
@@ -46,8 +47,8 @@ fn accepts_a_loop_over_strips(rt: HostRuntime) -> Result<(), Fail> {
     let alloc = rt.alloc();
     for vlen in [Vlen::V128, Vlen::V256] {
         let accepted = accepted_raise(alloc, vlen)?;
-        assert_eq!(rt; accepted.bound(&[0, 0, 0, 0, 0, 0, 0, 0]), 2);
-        assert_eq!(rt; accepted.bound(&[7, 1024, 7, 7, 7, 7, 7, 7]), 8194);
+        assert_same!(rt; accepted.bound(&[0, 0, 0, 0, 0, 0, 0, 0]), 2);
+        assert_same!(rt; accepted.bound(&[7, 1024, 7, 7, 7, 7, 7, 7]), 8194);
     }
     Ok(())
 }
@@ -66,12 +67,12 @@ fn assert_raises<const VLENB: usize>(
     let args = args(alloc, 4096, number)?;
     match Session::<VLENB>::open(alloc, accepted, args, Agnostic::Keep, 8194) {
         Ok(mut session) => {
-            assert_eq!(rt; session.run(), steps);
+            assert_same!(rt; session.run(), steps);
             let args = session.close();
             let Arg::Buffer(bytes) = &args.places[0] else {
                 return Err(Fail::from("no buffer"));
             };
-            assert_eq!(rt; bytes.as_slice().first().copied(), Some(first));
+            assert_same!(rt; bytes.as_slice().first().copied(), Some(first));
         }
         Err(_) => assert!(rt; false, "not opened"),
     }

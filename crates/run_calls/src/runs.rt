@@ -3,6 +3,7 @@
 
 ghost use Rattle.vreg_groups.specs.VectorLength.{IsVlenb};
 
+use crate::assertions::assert_same;
 use crate::checks::image_of;
 use elf_image::Image;
 use region_mem::{Arg, Args, Bytes, Mode, Param, Parameters};
@@ -74,11 +75,11 @@ fn add_bytes<const VLENB: usize>(
 }
 
 fn assert_sum<const VLENB: usize>(rt: &impl Abort, last: &Final<VLENB>) {
-    assert_eq!(rt; last.steps, 6);
-    assert_eq!(rt; last.registers.pc, 0xffff_fff0);
-    assert_eq!(rt; last.registers.vl, 3);
+    assert_same!(rt; last.steps, 6);
+    assert_same!(rt; last.registers.pc, 0xffff_fff0);
+    assert_same!(rt; last.registers.vl, 3);
     match &last.args.places[0] {
-        Arg::Buffer(bytes) => assert_eq!(rt; bytes.as_slice(), [0, 2, 1].as_slice()),
+        Arg::Buffer(bytes) => assert_same!(rt; bytes.as_slice(), [0, 2, 1].as_slice()),
         _ => assert!(rt; false, "a0 is no buffer"),
     }
 }
@@ -109,7 +110,7 @@ fn hands_arguments_back(rt: HostRuntime) -> Result<(), Fail> {
     );
     match try_run::<16>(alloc, &image, &parameters, short, Agnostic::Keep, 10) {
         Err((OpenError::ScalarOutOfInterval(2), args)) => match &args.places[0] {
-            Arg::Buffer(bytes) => assert_eq!(rt; bytes.as_slice(), [7, 8].as_slice()),
+            Arg::Buffer(bytes) => assert_same!(rt; bytes.as_slice(), [7, 8].as_slice()),
             _ => assert!(rt; false, "the buffer comes back"),
         },
         _ => assert!(rt; false, "a scalar above its interval"),
@@ -148,7 +149,7 @@ fn prints_reasons(rt: HostRuntime) -> Result<(), Fail> {
         ),
         (OpenError::NoMemory, "out of memory"),
     ] {
-        assert_eq!(rt; format!(in alloc; "{error}")?.as_str(), text);
+        assert_same!(rt; format!(in alloc; "{error}")?.as_str(), text);
     }
     Ok(())
 }

@@ -1,4 +1,5 @@
 //! How certificates are read, written and made.
+use crate::assertions::assert_same;
 use cert_note::{CertError, Certificate, Contents, Vlen, read, write};
 use region_mem::{Param, Parameters};
 use std::alloc::{AllocError, Global};
@@ -47,11 +48,12 @@ fn reads_and_writes_the_example(rt: HostRuntime) -> Result<(), Fail> {
     let alloc = rt.alloc();
     let certificate = example(alloc)?;
     let contents = certificate.contents();
-    assert_eq!(rt; contents.vlen, Vlen::V128);
-    assert_eq!(rt; contents.blocks.len(), 3);
+    assert_same!(rt; contents.vlen, Vlen::V128);
+    assert_same!(rt; contents.blocks.len(), 3);
     let block = contents.blocks.get(1).expect(&rt, "the loop's block");
-    assert_eq!(rt; format!(in alloc; "{block:?}")?.as_str(), LOOP);
-    assert!(rt; is_example(write(alloc, &certificate)?.as_slice()));
+    assert_same!(rt; format!(in alloc; "{block:?}")?.as_str(), LOOP);
+    let written = write(alloc, &certificate)?;
+    assert_same!(rt; is_example(written.as_slice()), true);
     Ok(())
 }
 
@@ -75,14 +77,15 @@ fn faults_of_length(alloc: Global) -> Result<(Option<CertError>, Option<CertErro
 #[test]
 fn refuses_bytes_that_spell_none(rt: HostRuntime) -> Result<(), Fail> {
     let alloc = rt.alloc();
-    assert_eq!(rt; read(alloc, &[]).err(), Some(CertError::Short));
+    assert_same!(rt; read(alloc, &[]).err(), Some(CertError::Short));
     let fault = fault_at(alloc, 217, 0);
-    assert_eq!(rt; fault, Some(CertError::Equality), "the coefficient 4 of n");
+    // The coefficient 4 of n.
+    assert_same!(rt; fault, Some(CertError::Equality));
     let (shorter, longer) = faults_of_length(alloc)?;
-    assert_eq!(rt; shorter, Some(CertError::Short));
-    assert_eq!(rt; longer, Some(CertError::TrailingBytes));
+    assert_same!(rt; shorter, Some(CertError::Short));
+    assert_same!(rt; longer, Some(CertError::TrailingBytes));
     let text = format!(in alloc; "{}", CertError::TrailingBytes)?;
-    assert_eq!(rt; text.as_str(), "bytes stand behind the certificate");
+    assert_same!(rt; text.as_str(), "bytes stand behind the certificate");
     Ok(())
 }
 
@@ -101,7 +104,7 @@ fn writes_what_was_made(rt: HostRuntime) -> Result<(), Fail> {
     let alloc = rt.alloc();
     let certificate = empty(alloc);
     let bytes = write(alloc, &certificate)?;
-    assert_eq!(rt; bytes.len(), 104);
-    assert!(rt; bytes.starts_with(&[1, 0, 2, 0]));
+    assert_same!(rt; bytes.len(), 104);
+    assert_same!(rt; bytes.starts_with(&[1, 0, 2, 0]), true);
     Ok(())
 }

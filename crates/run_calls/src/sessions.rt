@@ -2,6 +2,7 @@
 
 ghost use Rattle.vreg_groups.specs.VectorLength.{IsVlenb};
 
+use crate::assertions::assert_same;
 use crate::checks::{SUM, accepted_sum};
 use block_checker::Accepted;
 use region_mem::{Arg, Args, Bytes};
@@ -45,7 +46,7 @@ pub(crate) fn assert_refused<const VLENB: usize>(
 {
     match Session::<VLENB>::open(rt.alloc(), accepted, args, Agnostic::Keep, max) {
         Ok(_) => assert!(rt; false, "opened"),
-        Err((had, _)) => assert_eq!(rt; had, error),
+        Err((had, _)) => assert_same!(rt; had, error),
     }
 }
 
@@ -76,9 +77,9 @@ fn runs_to_the_end(rt: HostRuntime) -> Result<(), Fail> {
         let args = args(alloc, 1024, number)?;
         match Session::<16>::open(alloc, &accepted, args, Agnostic::Keep, steps) {
             Ok(mut session) => {
-                assert_eq!(rt; session.run(), steps);
-                assert_eq!(rt; session.run(), steps);
-                assert_eq!(rt; session.registers().x[12], 3 * number);
+                assert_same!(rt; session.run(), steps);
+                assert_same!(rt; session.run(), steps);
+                assert_same!(rt; session.registers().x[12], 3 * number);
             }
             Err(_) => assert!(rt; false, "not opened"),
         }
@@ -88,11 +89,11 @@ fn runs_to_the_end(rt: HostRuntime) -> Result<(), Fail> {
 
 /// The first word of the code, the last byte of the buffer, and the last register.
 fn assert_shown(rt: &impl Abort, session: &Session<16>) {
-    assert_eq!(rt; session.fetch(0x1_0000), Some(SUM[0]));
-    assert_eq!(rt; session.fetch(0x4000_0000), None);
-    assert_eq!(rt; session.peek(0x4000_03ff), Some(3));
-    assert_eq!(rt; session.peek(0x4000_0400), None);
-    assert_eq!(rt; session.vector(Reg::new(31)), [0; 16].as_slice());
+    assert_same!(rt; session.fetch(0x1_0000), Some(SUM[0]));
+    assert_same!(rt; session.fetch(0x4000_0000), None);
+    assert_same!(rt; session.peek(0x4000_03ff), Some(3));
+    assert_same!(rt; session.peek(0x4000_0400), None);
+    assert_same!(rt; session.vector(Reg::new(31)), [0; 16].as_slice());
 }
 
 /// Each step of a run over one byte.
@@ -106,12 +107,12 @@ fn assert_steps(rt: &impl Abort, session: &mut Session<16>) {
         (6, 0x1_0018),
         (7, 0xffff_fff0),
     ] {
-        assert_eq!(rt; session.step(), Some(()));
-        assert_eq!(rt; session.steps(), steps);
-        assert_eq!(rt; session.registers().pc, pc);
+        assert_same!(rt; session.step(), Some(()));
+        assert_same!(rt; session.steps(), steps);
+        assert_same!(rt; session.registers().pc, pc);
     }
-    assert_eq!(rt; session.step(), None);
-    assert_eq!(rt; session.steps(), 7);
+    assert_same!(rt; session.step(), None);
+    assert_same!(rt; session.steps(), 7);
 }
 
 #[test]
@@ -123,7 +124,7 @@ fn shows_each_step(rt: HostRuntime) -> Result<(), Fail> {
         Ok(mut session) => {
             assert_shown(&rt, &session);
             assert_steps(&rt, &mut session);
-            assert!(rt; matches!(&session.close().places[1], Arg::Scalar(1)));
+            assert_same!(rt; matches!(&session.close().places[1], Arg::Scalar(1)), true);
         }
         Err(_) => assert!(rt; false, "not opened"),
     }

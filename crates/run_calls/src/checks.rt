@@ -1,5 +1,6 @@
 //! What is accepted and what is refused. The kernel sums n bytes: its words come from the LLVM assembler, and its certificate
 //! was made by hand.
+use crate::assertions::assert_same;
 use block_checker::{Accepted, CheckError, check};
 use cert_note::{CertError, Certificate, Vlen};
 use elf_image::Image;
@@ -75,11 +76,11 @@ pub(crate) fn accepted_sum(alloc: Global) -> Result<Accepted, Fail> {
 fn accepts_the_sum(rt: HostRuntime) -> Result<(), Fail> {
     let alloc = rt.alloc();
     let accepted = accepted_sum(alloc)?;
-    assert_eq!(rt; accepted.bound(&[0, 0, 0, 0, 0, 0, 0, 0]), 2);
-    assert_eq!(rt; accepted.bound(&[7, 1024, 7, 7, 7, 7, 7, 7]), 5122);
-    assert_eq!(rt; accepted.vlen(), Vlen::V128);
-    assert_eq!(rt; accepted.image().entry(), 0x1_0000);
-    assert_eq!(rt; accepted.certificate().contents().blocks.len(), 3);
+    assert_same!(rt; accepted.bound(&[0, 0, 0, 0, 0, 0, 0, 0]), 2);
+    assert_same!(rt; accepted.bound(&[7, 1024, 7, 7, 7, 7, 7, 7]), 5122);
+    assert_same!(rt; accepted.vlen(), Vlen::V128);
+    assert_same!(rt; accepted.image().entry(), 0x1_0000);
+    assert_same!(rt; accepted.certificate().contents().blocks.len(), 3);
     Ok(())
 }
 
@@ -92,7 +93,7 @@ fn refuses_a_store_in_place_of_the_load(rt: HostRuntime) -> Result<(), Fail> {
     let image = image_of(alloc, &words)?;
     match check(alloc, image, certificate(alloc)?, Vlen::V128) {
         Ok(_) => assert!(rt; false, "accepted"),
-        Err((error, _, _)) => assert_eq!(rt; error, CheckError::ReadOnly(0x1_0004)),
+        Err((error, _, _)) => assert_same!(rt; error, CheckError::ReadOnly(0x1_0004)),
     }
     Ok(())
 }
@@ -101,10 +102,10 @@ fn refuses_a_store_in_place_of_the_load(rt: HostRuntime) -> Result<(), Fail> {
 fn tells_an_error(rt: HostRuntime) -> Result<(), Fail> {
     let alloc = rt.alloc();
     let text = format!(in alloc; "{}", CheckError::ReadOnly(0x1_0004))?;
-    assert_eq!(rt; text.as_str(), "a store to read-only memory at 00010004");
-    assert_eq!(rt; CheckError::ReadOnly(0x1_0004).name(), "ReadOnly");
-    assert_eq!(rt; CheckError::ReadOnly(0x1_0004).address(), Some(0x1_0004));
-    assert_eq!(rt; CheckError::WrongVlen.address(), None);
+    assert_same!(rt; text.as_str(), "a store to read-only memory at 00010004");
+    assert_same!(rt; CheckError::ReadOnly(0x1_0004).name(), "ReadOnly");
+    assert_same!(rt; CheckError::ReadOnly(0x1_0004).address(), Some(0x1_0004));
+    assert_same!(rt; CheckError::WrongVlen.address(), None);
     Ok(())
 }
 
@@ -115,7 +116,7 @@ fn refuses_another_vector_length(rt: HostRuntime) -> Result<(), Fail> {
     let Err((error, image, certificate)) = check(alloc, image, certificate, Vlen::V256) else {
         return Err(Fail::from("accepted"));
     };
-    assert_eq!(rt; error, CheckError::WrongVlen);
-    assert!(rt; check(alloc, image, certificate, Vlen::V128).is_ok());
+    assert_same!(rt; error, CheckError::WrongVlen);
+    assert_same!(rt; check(alloc, image, certificate, Vlen::V128).is_ok(), true);
     Ok(())
 }

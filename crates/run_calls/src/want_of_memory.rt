@@ -1,5 +1,6 @@
 //! Calls of the libraries of which each allocation fails in turn: the answer is want of memory, and what was handed in
 //! comes back as it was.
+use crate::assertions::assert_same;
 use crate::checks::sum;
 use crate::refusing::Refusing;
 use block_checker::{Accepted, CheckError, check, check_in};
@@ -55,18 +56,19 @@ fn reading_an_image(rt: HostRuntime) -> Result<(), Fail> {
         let heap = Refusing::new(alloc, after);
         // What is wrong with a file is told before any memory is asked for.
         let refused = elf_image::read(&heap, bad.as_slice()).err();
-        assert_eq!(rt; refused, Some(ElfError::BadFlags));
-        assert!(rt; !heap.has_refused());
+        assert_same!(rt; refused, Some(ElfError::BadFlags));
+        assert_same!(rt; heap.has_refused(), false);
         match elf_image::read(&heap, good.as_slice()) {
             Ok(image) => {
-                assert!(rt; !heap.has_refused() && after > 0);
-                assert_eq!(rt; image.segments().len(), 2);
-                assert!(rt; image.certificate() == Some(decode(alloc, CERTIFICATE)?.as_slice()));
+                assert_same!(rt; (heap.has_refused(), after > 0), (false, true));
+                assert_same!(rt; image.segments().len(), 2);
+                let certificate = decode(alloc, CERTIFICATE)?;
+                assert_same!(rt; image.certificate(), Some(certificate.as_slice()));
                 return Ok(());
             }
             Err(error) => {
-                assert!(rt; heap.has_refused(), "at {after}");
-                assert_eq!(rt; error, ElfError::NoMemory);
+                assert_same!(rt; (heap.has_refused(), after), (true, after));
+                assert_same!(rt; error, ElfError::NoMemory);
             }
         }
     }
@@ -148,16 +150,16 @@ fn running(rt: HostRuntime) -> Result<(), Fail> {
             9,
         ) {
             Ok(Outcome::Ended(end)) => {
-                assert!(rt; !heap.has_refused() && after > 0);
-                assert_eq!(rt; end.steps, 6);
-                assert!(rt; are_args(&end.args, &[0, 2, 1]));
+                assert_same!(rt; (heap.has_refused(), after > 0), (false, true));
+                assert_same!(rt; end.steps, 6);
+                assert_same!(rt; are_args(&end.args, &[0, 2, 1]), true);
                 return Ok(());
             }
             Ok(_) => panic!(rt; "the run ends"),
             Err((error, args)) => {
-                assert!(rt; heap.has_refused(), "at {after}");
-                assert_eq!(rt; error, OpenError::NoMemory);
-                assert!(rt; are_args(&args, &[0xff, 1, 2]));
+                assert_same!(rt; (heap.has_refused(), after), (true, after));
+                assert_same!(rt; error, OpenError::NoMemory);
+                assert_same!(rt; are_args(&args, &[0xff, 1, 2]), true);
             }
         }
     }
@@ -173,13 +175,13 @@ fn checking(rt: HostRuntime) -> Result<(), Fail> {
         let heap = Refusing::new(alloc, after);
         match check_in(&heap, image, certificate, Vlen::V128) {
             Ok(accepted) => {
-                assert!(rt; !heap.has_refused() && after > 0);
-                assert_eq!(rt; accepted.bound(&[0, 1024, 0, 0, 0, 0, 0, 0]), 5122);
+                assert_same!(rt; (heap.has_refused(), after > 0), (false, true));
+                assert_same!(rt; accepted.bound(&[0, 1024, 0, 0, 0, 0, 0, 0]), 5122);
                 return Ok(());
             }
             Err((error, same_image, same_certificate)) => {
-                assert!(rt; heap.has_refused(), "at {after}");
-                assert_eq!(rt; error, CheckError::NoMemory);
+                assert_same!(rt; (heap.has_refused(), after), (true, after));
+                assert_same!(rt; error, CheckError::NoMemory);
                 image = same_image;
                 certificate = same_certificate;
             }
@@ -209,8 +211,8 @@ fn accepted(alloc: Global) -> Result<Accepted, Fail> {
 
 /// Runs a session of the accepted image to its end.
 fn expect_end(rt: &impl Abort, mut session: Session<16, Heap<'_>>) {
-    assert_eq!(rt; session.run(), 1);
-    assert!(rt; are_args(&session.close(), &[0xff, 1, 2]));
+    assert_same!(rt; session.run(), 1);
+    assert_same!(rt; are_args(&session.close(), &[0xff, 1, 2]), true);
 }
 
 /// A session takes the memory of its regions alone, as a run does. No step takes any.
@@ -224,14 +226,14 @@ fn opening(rt: HostRuntime) -> Result<(), Fail> {
         let args = args(&ample)?;
         match open_in::<16, Heap<'_>, Global>(&heap, &accepted, args, Agnostic::Keep, 1) {
             Ok(session) => {
-                assert!(rt; !heap.has_refused() && after > 0);
+                assert_same!(rt; (heap.has_refused(), after > 0), (false, true));
                 expect_end(&rt, session);
                 return Ok(());
             }
             Err((error, args)) => {
-                assert!(rt; heap.has_refused(), "at {after}");
-                assert_eq!(rt; error, OpenError::NoMemory);
-                assert!(rt; are_args(&args, &[0xff, 1, 2]));
+                assert_same!(rt; (heap.has_refused(), after), (true, after));
+                assert_same!(rt; error, OpenError::NoMemory);
+                assert_same!(rt; are_args(&args, &[0xff, 1, 2]), true);
             }
         }
     }
@@ -247,14 +249,14 @@ fn reading_a_certificate(rt: HostRuntime) -> Result<(), Fail> {
         let heap = Refusing::new(alloc, after);
         match cert_note::read(&heap, spelling.as_slice()) {
             Ok(certificate) => {
-                assert!(rt; !heap.has_refused() && after > 0);
+                assert_same!(rt; (heap.has_refused(), after > 0), (false, true));
                 let written = cert_note::write(alloc, &certificate)?;
-                assert!(rt; written.as_slice() == spelling.as_slice());
+                assert_same!(rt; written.as_slice(), spelling.as_slice());
                 return Ok(());
             }
             Err(error) => {
-                assert!(rt; heap.has_refused(), "at {after}");
-                assert_eq!(rt; error, CertError::NoMemory);
+                assert_same!(rt; (heap.has_refused(), after), (true, after));
+                assert_same!(rt; error, CertError::NoMemory);
             }
         }
     }
@@ -271,8 +273,8 @@ fn writing_a_certificate(rt: HostRuntime) -> Result<(), Fail> {
         let heap = Refusing::new(alloc, after);
         match cert_note::write(&heap, &certificate) {
             Ok(written) => {
-                assert!(rt; !heap.has_refused() && after > 0);
-                assert!(rt; written.as_slice() == spelling.as_slice());
+                assert_same!(rt; (heap.has_refused(), after > 0), (false, true));
+                assert_same!(rt; written.as_slice(), spelling.as_slice());
                 return Ok(());
             }
             Err(_) => assert!(rt; heap.has_refused(), "at {after}"),

@@ -1,0 +1,20 @@
+//! How certificates, the check and runs are used: tests of the public calls of `cert_note`, `block_checker` and `sandbox_run`,
+//! and of calls that are refused memory.
+#![tactic(auto)]
+
+#[cfg(test)]
+mod assertions;
+#[cfg(test)]
+mod certificates;
+#[cfg(test)]
+mod checks;
+#[cfg(test)]
+mod refusing;
+#[cfg(test)]
+mod runs;
+#[cfg(test)]
+mod sessions;
+#[cfg(test)]
+mod strips;
+#[cfg(test)]
+mod want_of_memory;
