@@ -3,22 +3,12 @@
 //! without a fault. `rvvbox try JOB` runs any image, with every test at each step. Each prints what came of it.
 #![tactic(auto)]
 
-mod accepted;
-mod commands;
-mod hex;
-mod line;
-mod program;
-mod stop;
-mod store;
-mod trial;
-
-pub use program::perform;
+use command_line::perform;
+use commands::{Disk, Status, Stop};
 use std::alloc::Global;
 use std::io::ErrorKind;
 use std::process::ExitCode;
 use std::{env, io};
-use stop::{Status, Stop};
-use store::Disk;
 
 fn main(rt: HostRuntime) -> ExitCode {
     let status = match answer(&rt) {

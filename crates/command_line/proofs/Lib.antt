@@ -1,0 +1,3 @@
+pub mod FilledRows
+pub mod LineLemmas
+pub mod ProgramLemmas

@@ -1,0 +1,187 @@
+-- What `clap` takes has a subcommand with its paths.
+use Rattle.std.proofs.Common.{◌≡◌, ◌∙◌, refl, ap, sym, Bool, true, false, cond, not, ◌||◌, List, [], ◌∷◌, Option, Some, None, IsSome, ℕ, ◌==◌, is_some, option_map, codes}
+use Rattle.std.specs.Prelude.{find, unwrap_or, slice_get}
+use Rattle.std.specs.Option.{option_map_or}
+use Rattle.std.specs.Str.{bytes_eq}
+use Rattle.std.proofs.lemmas.Slice.Eq.{bytes_eq-Decides}
+use Rattle.clap.specs.Words.{App, Row, Rule, Shape, Text, fault_of, first_of, new_rule, is_simple, is_simple_and_free, subcommand_of, subcommand_rows, subcommand_rows_of, subcommand_name_of, with_subcommand}
+use Rattle.std.specs.Box.{box_value}
+use Rattle.clap.specs.Facts.{explicit_source}
+use Rattle.clap.specs.Kinds.{Kinds, check_kinds, or_else}
+use Rattle.clap.specs.Faults.{check_fault, defaults_fault, entered_fault, level_fault, settle_fault, walk_fault}
+use Rattle.clap.specs.Simple.{argument_words, built, entered, label_of, names_of, rows_at}
+use Rattle.clap.specs.Takes.{is_given}
+use Rattle.clap.specs.Walk.{answers_to, arg_by_id, arg_by_long, arg_by_short, finished, nothing_held, rows_after, settled, stop_after, used_by_id, walk, walk_from, without}
+use Rattle.clap.proofs.OnLiterals.{clap_on_literals}
+use Rattle.clap.specs.declared.parser.matches.ArgMatches.{ArgMatches}
+use Rattle.clap.specs.declared.parser.matches.ArgMatches.TheViews.{out-ArgMatches, out-SubCommand}
+use Rattle.command_line.specs.Line.{IsPathOf, app, bare_app, path_of, path_shape}
+use Rattle.command_line.proofs.FilledRows.{Filled, Filled-with_values, Filled-without, HasText, IsRequest, found_value, rows_filled}
+
+-- the program's command is one whose matches and faults `clap` states
+pub app_is_plain : is_simple_and_free app ≡ true
+unfolding clap_on_literals
+app_is_plain = refl
+
+app_is_simple : is_simple app ≡ true
+app_is_simple = refl
+
+-- ---- a path of the subcommand that was entered
+
+pub name_of_rows : (m : ArgMatches) → subcommand_name_of m ≡ option_map (λ p. p.0) (subcommand_rows_of m)
+name_of_rows m = elim (out-ArgMatches m).subcommand as (λ o. option_map (λ b. (out-SubCommand (box_value b)).name.now) o ≡ option_map (λ p. p.0) (subcommand_rows o)) [ None ↦ refl | Some b ↦ refl ]
+
+pub path_of-entered : (name id : Text) (rows : List Row) (entered : Option (Text × List Row))
+    → option_map (λ p. p.0) entered ≡ Some name → option_map (λ p. p.1) entered ≡ Some rows
+    → path_of name id entered ≡ first_of id rows
+path_of-entered name id rows None named held = cc
+path_of-entered name id rows (Some p) named held =
+    let same : bytes_eq p.0 name ≡ true = (bytes_eq-Decides p.0 name).1 (cc) in
+    let rows_are : p.1 ≡ rows = cc in
+    rw (same, rows_are)
+
+-- ---- the parts of a fault
+
+or_else_parts : (a b : Kinds) → or_else a b ≡ [] → (a ≡ []) × (b ≡ [])
+or_else_parts [] b e = (refl, e)
+or_else_parts (k ∷ ks) b e = cc
+
+-- ---- a subcommand with one path
+
+abbrev program : App
+program = built app
+
+-- a command without a subcommand is refused
+has_entered : (rows : List Row) (b : Bool) → check_fault program.top rows b ≡ [] → b ≡ true
+has_entered rows true none = refl
+has_entered rows false none = cc
+
+row_found : (id : Text) (rows : List Row) → is_given id rows ≡ true → is_some (find (λ r. bytes_eq r.id id) rows) ≡ true
+row_found id rows given = go (find (λ r. bytes_eq r.id id) rows) given
+  where
+    go : (o : Option Row) → option_map_or (λ (r : Row). explicit_source r.source) o false ≡ true → is_some o ≡ true
+    go None e = cc
+    go (Some r) e = refl
+
+-- the path is required
+path_given : (b : Bool) → check_kinds false false ((not b) || false) ≡ [] → b ≡ true
+path_given true none = refl
+path_given false none = cc
+
+module _ (name id : Text) where
+  -- the subcommand as `clap` builds it: the path, then `--help`
+  abbrev built_path : Shape
+  built_path = unwrap_or (slice_get (built (with_subcommand bare_app (path_shape name id))).subs 0) bare_app.top
+
+  abbrev path_built_rule : Rule
+  path_built_rule = unwrap_or (slice_get built_path.rules 0) (new_rule [])
+
+  abbrev help_flag : Rule
+  help_flag = unwrap_or (slice_get built_path.rules 1) (new_rule [])
+
+  rule_fills : (x : Text) (values : List Text) (rows : List Row) → HasText values → Filled rows
+      → Filled (used_by_id (arg_by_id built_path.rules x) values rows)
+  rule_fills x values rows h f = go (bytes_eq id x) (bytes_eq (codes "help") x) values h
+    where
+      go : (a b : Bool) (values : List Text) → HasText values → Filled (used_by_id (cond a (Some path_built_rule) (cond b (Some help_flag) None)) values rows)
+      go true b [] h = absurd h
+      go true b (v ∷ vs) h = Filled-with_values path_built_rule.id _ _ (v ∷ vs) (without path_built_rule.id rows) tt (Filled-without path_built_rule.id rows f)
+      go false true values h = f
+      go false false values h = f
+
+  long_is_request : (x : Text) → IsRequest (arg_by_long built_path.rules x)
+  long_is_request x = go (bytes_eq (codes "help") x)
+    where
+      go : (b : Bool) → IsRequest (cond (b || false) (slice_get built_path.rules 1) None)
+      go true = (refl, λ rows f. f)
+      go false = tt
+
+  short_is_request : (x : ℕ) → IsRequest (arg_by_short built_path.rules x)
+  short_is_request x = go (104 == x)
+    where
+      go : (b : Bool) → IsRequest (cond (b || false) (slice_get built_path.rules 1) None)
+      go true = (refl, λ rows f. f)
+      go false = tt
+
+  path_there : (words : List Text) → level_fault built_path [] nothing_held words false [] ≡ [] → IsSome (first_of id (rows_after built_path.rules [] words))
+  path_there words none =
+      let rows = rows_after built_path.rules [] words in
+      let end = (walk built_path.rules [] nothing_held words).held in
+      let after_walk = (or_else_parts (walk_fault built_path [] (walk_from nothing_held) words) _ none).1 in
+      let after_settle = (or_else_parts (settle_fault built_path.rules built_path.args_override_self end) _ after_walk).1 in
+      let after_defaults = (or_else_parts (defaults_fault (settled built_path.rules end).rows built_path.rules) _ after_settle).1 in
+      let given = path_given (is_given id rows) after_defaults in
+      found_value _ rows (rows_filled built_path.rules rule_fills long_is_request short_is_request [] words) (row_found id rows given)
+
+-- ---- what was entered
+
+-- the subcommand that was entered has its path
+abbrev pub HasPath : Option (Text × List Row) → Type 0
+HasPath entered =
+    path_of (codes "check") (codes "image") entered ≡ None → path_of (codes "run") (codes "job") entered ≡ None
+    → IsSome (path_of (codes "try") (codes "job") entered)
+
+pub no_path : (o : Option Text) → IsSome o → o ≡ None → ⊥
+no_path o some none = cc
+
+abbrev check_built : Shape
+check_built = built_path (codes "check") (codes "image")
+
+abbrev run_built : Shape
+run_built = built_path (codes "run") (codes "job")
+
+abbrev try_built : Shape
+try_built = built_path (codes "try") (codes "job")
+
+-- the subcommand that a word names: it answers to `check`, to `run` or to `try`
+abbrev answering : Bool → Bool → Bool → Option Shape
+answering a b c = cond a (Some check_built) (cond b (Some run_built) (cond c (Some try_built) None))
+
+entered_path : (stop : Option (Text × List Text)) → is_some (entered program stop) ≡ true → entered_fault program stop ≡ []
+    → HasPath (entered program stop)
+entered_path None some none = cc
+entered_path (Some p) some none =
+    go (answers_to p.0 (label_of check_built)) (answers_to p.0 (label_of run_built)) (answers_to p.0 (label_of try_built)) some none
+  where
+    go : (a b c : Bool) → is_some (option_map (λ s. rows_at s p.1) (answering a b c)) ≡ true
+        → option_map_or (λ s. level_fault s [] nothing_held p.1 false []) (answering a b c) [] ≡ []
+        → HasPath (option_map (λ s. rows_at s p.1) (answering a b c))
+    go true b c some none = λ no_image no_job. absurd (no_path _ (path_there (codes "check") (codes "image") p.1 none) no_image)
+    go false true c some none = λ no_image no_job. absurd (no_path _ (path_there (codes "run") (codes "job") p.1 none) no_job)
+    go false false true some none = λ no_image no_job. path_there (codes "try") (codes "job") p.1 none
+    go false false false some none = cc
+
+-- what `clap` takes names a subcommand and its path
+pub path_named : (words : List Text) → fault_of app words ≡ [] → HasPath (subcommand_of app words)
+path_named words none =
+    let top = program.top in
+    let names = names_of program in
+    let rest = argument_words app words in
+    let stop = stop_after top.rules names rest in
+    let end = (walk top.rules names nothing_held rest).held in
+    let after_walk = (or_else_parts (walk_fault top names (walk_from nothing_held) rest) _ none).1 in
+    let (below, after_below) = or_else_parts (entered_fault program stop) _ after_walk in
+    let after_settle = (or_else_parts (settle_fault top.rules top.args_override_self end) _ after_below).1 in
+    let after_defaults = (or_else_parts (defaults_fault (settled top.rules end).rows top.rules) _ after_settle).1 in
+    entered_path stop (has_entered (finished top.rules end) (is_some (entered program stop)) after_defaults) below
+
+-- ---- the program's command, in the words of a parse's clauses
+
+pub no_fault : (a : App) (words : List Text) → a ≡ app → (is_simple_and_free a ≡ true → fault_of a words ≡ []) → fault_of app words ≡ []
+no_fault a words is none = ap (λ x. fault_of x words) (sym is) ∙ none (ap is_simple_and_free is ∙ app_is_plain)
+
+pub same_entered : (a : App) (words : List Text) (X : Type 0) (entered : Option (Text × List Row)) → a ≡ app
+    → (is_simple a ≡ true → X × (entered ≡ subcommand_of a words)) → entered ≡ subcommand_of app words
+same_entered a words X entered is same =
+    let simple : is_simple a ≡ true = ap is_simple is ∙ app_is_simple in
+    (same simple).1 ∙ ap (λ x. subcommand_of x words) is
+
+-- a path of the subcommand that was entered
+pub is_path : (words : List Text) (name id path : Text) (entered : Option (Text × List Row)) → fault_of app words ≡ []
+    → entered ≡ subcommand_of app words → Some path ≡ path_of name id entered → IsPathOf words name id path
+is_path words name id path entered none same at = (none, ap (path_of name id) (sym same) ∙ sym at)
+
+-- a path that was not found
+pub no_path_of : (words : List Text) (name id : Text) (entered : Option (Text × List Row)) → entered ≡ subcommand_of app words
+    → None ≡ path_of name id entered → path_of name id (subcommand_of app words) ≡ None
+no_path_of words name id entered same at = ap (path_of name id) (sym same) ∙ sym at

@@ -1,0 +1,63 @@
+-- What words lead to: the status of a fault, or what their subcommand does.
+use Rattle.std.proofs.Common.{◌≡◌, ◌⊎◌, ℕ, List, Option, Bool, true, false, not, ◌||◌, [], ◌∷◌, refl, sym, subst, inl, inr}
+use Rattle.std.specs.List.{list_any}
+use Rattle.clap.specs.Kinds.{Kinds, IsAmong}
+use Rattle.clap.specs.Words.{kind_of}
+use Rattle.clap.specs.declared.error.kind.ErrorKind.{ErrorKind}
+use Rattle.command_line.specs.Asked.{is_help, is_request, status_of_line}
+use Rattle.commands.specs.Ending.{Ends}
+use Rattle.command_line.specs.Program.{Does, IsAsAsked, IsRefusal, IsStatusFor}
+use Rattle.command_line.specs.Line.{IsFaultIn, IsFaultOf, IsLineOf}
+use Rattle.commands.specs.Files.{Files}
+use Rattle.command_line.specs.declared.line.asked.Line.{Line}
+use Rattle.clap.specs.Words.{Text}
+use Rattle.commands.proofs.CommandLemmas.{ends_more}
+use Rattle.command_line.specs.declared.line.asked.LineError.{LineError}
+use Rattle.command_line.specs.declared.line.asked.LineError.TheVariants as line_error
+use Rattle.commands.specs.declared.stop.Status.{Status}
+use Rattle.commands.specs.declared.stop.Status.TheVariants as status
+
+or_left : (a b : Bool) → a ≡ true → a || b ≡ true
+or_left true b is = refl
+or_left false b is = cc
+
+or_right : (a b : Bool) → b ≡ true → a || b ≡ true
+or_right true b is = refl
+or_right false b is = is
+
+among_any : (test : ErrorKind → Bool) (k : ErrorKind) (kinds : Kinds) → IsAmong k kinds → test k ≡ true → list_any test kinds ≡ true
+among_any test k [] among is = absurd among
+among_any test k (x ∷ xs) (inl same) is = or_left (test x) (list_any test xs) (subst (λ (y : ErrorKind). test y ≡ true) same is)
+among_any test k (x ∷ xs) (inr later) is = or_right (test x) (list_any test xs) (among_any test k xs later is)
+
+usage_for : (k : ErrorKind) (kinds : Kinds) (s : Status) → IsAmong k kinds
+    → (is_help k ≡ false → s ≡ status.Usage) → (is_help k ≡ true → (s ≡ status.Done) ⊎ (s ≡ status.File)) → IsRefusal kinds s
+usage_for k kinds s among told answered = go (is_help k) refl
+  where
+    go : (b : Bool) → is_help k ≡ b → IsRefusal kinds s
+    go true is = elim (answered is) as (λ _. IsRefusal kinds s) [
+      | inl done ↦ subst (λ (t : Status). IsRefusal kinds t) (sym done) (among_any is_help k kinds among is)
+      | inr file ↦ subst (λ (t : Status). IsRefusal kinds t) (sym file) (among_any is_help k kinds among is)
+    ]
+    go false is_not = subst (λ (t : Status). IsRefusal kinds t) (sym (told is_not)) (among_any (λ x. not (is_help x)) k kinds among (rw is_not refl))
+
+-- what is told of a refusal of the words fits `clap`'s faults
+pub told_for : (kinds : Kinds) (error : LineError) (s : Status) → IsFaultIn kinds error
+    → (is_request error ≡ false → s ≡ status_of_line error)
+    → (is_request error ≡ true → (s ≡ status.Done) ⊎ (s ≡ status.File)) → IsStatusFor kinds s
+told_for [] error s fits told answered = tt
+told_for (k ∷ ks) (line_error.Usage error) s among told answered = usage_for (kind_of error) (k ∷ ks) s among told answered
+told_for (k ∷ ks) line_error.NoMemory s fits told answered = subst (λ (t : Status). IsRefusal (k ∷ ks) t) (sym (told refl)) tt
+
+-- what a subcommand that the words name does, or a fault of theirs
+pub asked_for : (holds : Files) (words : List Text) (line : Line) (old new : Option (List ℕ)) (s : Status)
+    → IsLineOf words line → Ends (Does holds line old new) s → IsAsAsked holds words old new s
+asked_for holds words line old new s is ends none =
+    ends_more (Does holds line old new) (λ t. (l : Line) × IsLineOf words l × Does holds l old new t) s (λ t it. (line, is, it)) ends
+
+pub asked_nothing : (holds : Files) (words : List Text) (error : LineError) (old new : Option (List ℕ)) (s : Status)
+    → IsFaultOf words error → (is_request error ≡ false → s ≡ status_of_line error) → IsAsAsked holds words old new s
+asked_nothing holds words (line_error.Usage error) old new s fits told none =
+    absurd (subst (λ (kinds : Kinds). IsAmong (kind_of error) kinds) none fits)
+asked_nothing holds words line_error.NoMemory old new s fits told none =
+    subst (λ (t : Status). Ends (λ u. (l : Line) × IsLineOf words l × Does holds l old new u) t) (sym (told refl)) tt

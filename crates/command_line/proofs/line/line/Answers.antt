@@ -1,0 +1,36 @@
+use Rattle.std.proofs.Common.{rules, ◌≡◌, map, ℕ, List}
+use Rattle.clap.specs.Words.{app_of, subcommand_rows_of}
+use Rattle.command_line.specs.Line.{app}
+use Rattle.command_line.proofs.LineLemmas.{is_path, no_fault, no_path, no_path_of, path_named, same_entered}
+use Rattle.command_line.proofs.line.line.Goals as goal
+
+pub returns-in-Some-clause-line : goal.returns-in-Some-clause-line
+returns-in-Some-clause-line c =
+    let words : List (List ℕ) = map (λ w. w.now) c.args.words.now in
+    let is : app_of c.in_ok-command.command ≡ app = search rules in
+    let same = same_entered _ words _ (subcommand_rows_of c.in-Ok.matches) is c.in-Ok.ensures.matches in
+    is_path words _ _ _ _ (no_fault _ words is c.in-Ok.ensures.kinds) same c.in-Some.ensures
+
+pub returns-in-Some-path-clause-line : goal.returns-in-Some-path-clause-line
+returns-in-Some-path-clause-line c =
+    let words : List (List ℕ) = map (λ w. w.now) c.args.words.now in
+    let is : app_of c.in_ok-command.command ≡ app = search rules in
+    let same = same_entered _ words _ (subcommand_rows_of c.in-Ok.matches) is c.in-Ok.ensures.matches in
+    is_path words _ _ _ _ (no_fault _ words is c.in-Ok.ensures.kinds) same c.in-Some-path.ensures
+
+pub returns-in-Some-path-2-clause-line : goal.returns-in-Some-path-2-clause-line
+returns-in-Some-path-2-clause-line c =
+    let words : List (List ℕ) = map (λ w. w.now) c.args.words.now in
+    let is : app_of c.in_ok-command.command ≡ app = search rules in
+    let same = same_entered _ words _ (subcommand_rows_of c.in-Ok.matches) is c.in-Ok.ensures.matches in
+    is_path words _ _ _ _ (no_fault _ words is c.in-Ok.ensures.kinds) same c.in-Some-path-2.ensures
+
+pub unreachable-requires : goal.unreachable-requires
+unreachable-requires c =
+    let words : List (List ℕ) = map (λ w. w.now) c.args.words.now in
+    let is : app_of c.in_ok-command.command ≡ app = search rules in
+    let same = same_entered _ words _ (subcommand_rows_of c.in-Ok.matches) is c.in-Ok.ensures.matches in
+    let named = path_named words (no_fault _ words is c.in-Ok.ensures.kinds) in
+    let no_image = no_path_of words _ _ _ same (c.in_default.ensures) in
+    let no_job = no_path_of words _ _ _ same (c.in_default-path.ensures) in
+    no_path _ (named no_image no_job) (no_path_of words _ _ _ same (c.in_default-path-2.ensures))

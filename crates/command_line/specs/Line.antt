@@ -1,0 +1,68 @@
+-- The command line: which words name which subcommand and paths, over `clap`'s own account of a command.
+use Rattle.std.specs.Prelude.{◌≡◌, List, [], Option, Some, None, option_and_then, if◌then◌else◌, codes, true}
+use Rattle.std.specs.Str.{bytes_eq}
+use Rattle.command_line.specs.Words.{kind_of, Kinds}
+use Rattle.clap.specs.Words.{App, Row, Rule, Shape, Text, fault_of, first_of, new_app, new_rule, subcommand_of, with_rule, with_subcommand, IsAmong}
+use Rattle.clap.specs.Simple.{new_shape}
+use Rattle.clap.specs.declared.builder.action.ArgAction.TheVariants.{Set}
+use Rattle.command_line.specs.declared.line.asked.Line.{Line}
+use Rattle.command_line.specs.declared.line.asked.Line.TheVariants.{Check, Run, Try}
+use Rattle.command_line.specs.declared.line.asked.LineError.{LineError}
+use Rattle.command_line.specs.declared.line.asked.LineError.TheVariants.{Usage, NoMemory}
+
+-- a path, an argument without a dash that has to be there
+abbrev pub path_rule : Text → Rule
+path_rule id = record (new_rule id) { action = Some Set; required = true; value_names = 1 }
+
+-- a subcommand of this name, with one path
+abbrev pub path_shape : Text → Text → Shape
+path_shape name id = (with_rule (new_app name) (path_rule id)).top
+
+-- `rvvbox` with no subcommand yet
+abbrev pub bare_app : App
+bare_app = record {
+  top = record (new_shape (codes "rvvbox")) {
+    subcommand_required = true;
+    disable_help_subcommand = true;
+    has_version = true;
+  };
+  subs = [];
+}
+
+-- `check IMAGE`, `run JOB` and `try JOB`
+abbrev pub check_shape : Shape
+check_shape = path_shape (codes "check") (codes "image")
+
+abbrev pub run_shape : Shape
+run_shape = path_shape (codes "run") (codes "job")
+
+abbrev pub try_shape : Shape
+try_shape = path_shape (codes "try") (codes "job")
+
+-- `rvvbox` as `clap` sees it
+abbrev pub app : App
+app = with_subcommand (with_subcommand (with_subcommand bare_app check_shape) run_shape) try_shape
+
+-- the path that matches of a subcommand hold under an id, where the subcommand has this name
+abbrev pub path_of : Text → Text → Option (Text × List Row) → Option Text
+path_of name id entered =
+    option_and_then (λ p. if bytes_eq p.0 name then first_of id p.1 else None) entered
+
+-- `clap` takes the words, and its matches give the subcommand of this name this path
+abbrev pub IsPathOf : List Text → Text → Text → Text → Type 0
+IsPathOf words name id path =
+    (fault_of app words ≡ []) × (path_of name id (subcommand_of app words) ≡ Some path)
+
+-- the subcommand and its path
+abbrev pub IsLineOf : List Text → Line → Type 0
+IsLineOf words (Check image) = IsPathOf words (codes "check") (codes "image") image.now
+IsLineOf words (Run job) = IsPathOf words (codes "run") (codes "job") job.now
+IsLineOf words (Try job) = IsPathOf words (codes "try") (codes "job") job.now
+
+-- a fault of usage is one of those that `clap` finds, of the kind that the error shows
+abbrev pub IsFaultIn : Kinds → LineError → Type 0
+IsFaultIn kinds (Usage e) = IsAmong (kind_of e) kinds
+IsFaultIn kinds NoMemory = Unit {0}
+
+abbrev pub IsFaultOf : List Text → LineError → Type 0
+IsFaultOf words e = IsFaultIn (fault_of app words) e

@@ -1,0 +1,7 @@
+//! The command line: which words name which subcommand, and what they lead to.
+#![tactic(auto)]
+
+mod line;
+mod program;
+
+pub use program::perform;

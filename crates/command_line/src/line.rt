@@ -1,0 +1,119 @@
+//! The command line.
+ghost use Rattle.std.specs.Prelude.{◌≡◌, IfErr, IfOk, codes, false, map, option_map};
+ghost use Rattle.clap.specs.Words.{app_of, rule_of, shape_of, subcommand_rows_of};
+ghost use Rattle.clap.specs.Words.{with_subcommand};
+ghost use Rattle.clap.specs.declared.builder.command.Command.TheViews.{out-Command as fields_of};
+ghost use Rattle.command_line.specs.Line.{IsFaultOf, IsLineOf, app, path_of, path_rule};
+ghost use Rattle.command_line.specs.Line.{check_shape, run_shape, try_shape};
+
+pub mod asked;
+
+use asked::{Line, LineError};
+use clap::error::ErrorKind;
+use clap::{Arg, ArgAction, ArgMatches, Command};
+use std::alloc::{AllocError, Global};
+
+/// A path that has to be there, under `id`, shown as `name`.
+fn path_argument<'a>(alloc: Global, id: &'a str, name: &'a str, help: &'a str) -> Arg<'a>
+    ensures rule { rule_of result ≡ path_rule id.entry.now }
+    ensures local { result.global ≡ false }
+{
+    Arg::new(alloc, id)
+        .value_name(name)
+        .help(help)
+        .required(true)
+        .action(ArgAction::Set)
+}
+
+/// `check IMAGE`.
+fn check_command<'a>(alloc: Global) -> Result<Command<'a>, AllocError>
+    ensures shape { IfOk result (λ c. shape_of c ≡ check_shape) }
+    ensures local { IfOk result (λ c. (fields_of c).has_globals ≡ false) }
+{
+    let image = path_argument(alloc, "image", "IMAGE", "The image file");
+    Command::new(alloc, "check")
+        .about("Checks an image against its certificate")
+        .arg(image)
+}
+
+/// `run JOB`.
+fn run_command<'a>(alloc: Global) -> Result<Command<'a>, AllocError>
+    ensures shape { IfOk result (λ c. shape_of c ≡ run_shape) }
+    ensures local { IfOk result (λ c. (fields_of c).has_globals ≡ false) }
+{
+    let job = path_argument(alloc, "job", "JOB", "The job file");
+    Command::new(alloc, "run")
+        .about("Checks a job's image against its certificate, and runs it if it is accepted")
+        .arg(job)
+}
+
+/// `try JOB`.
+fn try_command<'a>(alloc: Global) -> Result<Command<'a>, AllocError>
+    ensures shape { IfOk result (λ c. shape_of c ≡ try_shape) }
+    ensures local { IfOk result (λ c. (fields_of c).has_globals ≡ false) }
+{
+    let job = path_argument(alloc, "job", "JOB", "The job file");
+    Command::new(alloc, "try")
+        .about("Runs a job's image, accepted or not, with every test at each step")
+        .arg(job)
+}
+
+/// `command` with one more subcommand.
+fn with<'a>(command: Command<'a>, sub: Command<'a>) -> Result<Command<'a>, AllocError>
+    requires { (fields_of sub).has_globals ≡ false }
+    ensures { IfOk result
+        (λ c. app_of c ≡ with_subcommand (app_of command.entry) (shape_of sub.entry)) }
+{
+    command.subcommand(sub)
+}
+
+/// The program's command, with all its subcommands.
+fn program<'a>(alloc: Global) -> Result<Command<'a>, AllocError>
+    ensures { IfOk result (λ c. app_of c ≡ app) }
+{
+    let bare = Command::new(alloc, "rvvbox")
+        .about("A sandbox for RISC-V vector kernels")
+        .version("0.1.0")
+        .subcommand_required(true)
+        .disable_help_subcommand(true);
+    let checking = with(bare, check_command(alloc)?)?;
+    let running = with(checking, run_command(alloc)?)?;
+    with(running, try_command(alloc)?)
+}
+
+/// The path under `id` of the subcommand `name`, where that one was used.
+fn path<'a>(matches: &ArgMatches<'a>, name: &str, id: &str) -> Option<&'a str>
+    ensures { option_map (λ s. s.now) result
+        ≡ path_of name.now id.now (subcommand_rows_of matches.now) }
+{
+    matches.subcommand_matches(name)?.get_str(id)
+}
+
+/// What the words ask for, of which the first is the program's name.
+///
+/// A `Line` is what `clap`'s matches give. `LineError::Usage` comes exactly where `clap` refuses the
+/// words, or where they ask for help or the version; its error has `clap`'s text and exit code.
+/// `LineError::NoMemory` comes only where an allocation was refused.
+pub fn line<'a>(alloc: Global, words: &'a [&'a str]) -> Result<Line<'a>, LineError>
+    ensures line { IfOk result (IsLineOf (map (λ w. w.now) words.entry.now)) }
+    ensures refused { IfErr result (IsFaultOf (map (λ w. w.now) words.entry.now)) }
+{
+    let command = program(alloc)?;
+    match command.try_get_matches_from(words) {
+        Ok(matches) => {
+            if let Some(image) = path(&matches, "check", "image") {
+                Ok(Line::Check { image })
+            } else if let Some(job) = path(&matches, "run", "job") {
+                Ok(Line::Run { job })
+            } else if let Some(job) = path(&matches, "try", "job") {
+                Ok(Line::Try { job })
+            } else {
+                unreachable!()
+            }
+        }
+        Err(error) => match error.kind() {
+            ErrorKind::OutOfMemory => Err(LineError::NoMemory),
+            _ => Err(LineError::Usage(error)),
+        },
+    }
+}

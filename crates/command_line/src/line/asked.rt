@@ -1,0 +1,58 @@
+//! What a command line asks for.
+ghost use Rattle.std.specs.Prelude.{◌≡◌, ◌⊎◌, true, false};
+ghost use Rattle.command_line.specs.Asked.{is_request, status_of_line};
+ghost use Rattle.command_line.specs.declared.line.asked.LineError.TheVariants.{NoMemory};
+
+use commands::{Status, Stop};
+use std::alloc::AllocError;
+use std::io::Write;
+
+/// What a command line asks for: a subcommand with its paths.
+#[derive(Drop)]
+pub enum Line<'a> {
+    /// Checks the image at `image` against its certificate.
+    Check { image: &'a str },
+    /// Checks the image of the job at `job`, and runs it if it is accepted.
+    Run { job: &'a str },
+    /// Runs the image of the job at `job`, accepted or not, with every test at each step.
+    Try { job: &'a str },
+}
+
+/// Why a command line asks for nothing that can be done.
+#[derive(Drop)]
+pub enum LineError {
+    /// `clap` refused the words, or they ask for help or the version. The text is `clap`'s.
+    Usage(clap::Error),
+    /// Memory ran out.
+    NoMemory,
+}
+
+impl From<AllocError> for LineError {
+    ghost from_gives = { λ _ e. e ≡ NoMemory };
+
+    fn from(_error: AllocError) -> LineError {
+        LineError::NoMemory
+    }
+}
+
+impl LineError {
+    /// Answers a request for help or the version on standard output, and else tells on standard error what is wrong.
+    pub fn tell<O: Write, E: Write>(&self, output: &mut O, errors: &mut E) -> Status
+        ensures told { is_request self.now ≡ false → result ≡ status_of_line self.now }
+        ensures answered { is_request self.now ≡ true
+            → (result ≡ Status.Done) ⊎ (result ≡ Status.File) }
+    {
+        match self {
+            LineError::Usage(error) if !error.use_stderr() => match write!(output, "{error}") {
+                Ok(()) => Status::Done,
+                Err(_) => Status::File,
+            },
+            LineError::Usage(error) => {
+                // Where standard error takes no text, the status alone tells.
+                let _ = write!(errors, "{error}");
+                Status::Usage
+            }
+            LineError::NoMemory => Stop::Memory.tell(errors),
+        }
+    }
+}

@@ -1,0 +1,54 @@
+-- What comes of an image that passes the check.
+use Rattle.std.proofs.Common.{◌≡◌, ◌==◌, ℕ, Bool, true, false, List, Option, Some, None, IfSome, Ok, Err, ◌-◌, ◌∙◌, arith, ap, subst, if◌then◌else◌}
+use Rattle.block_checker.specs.Accepted.{AcceptedView}
+use Rattle.block_checker.specs.Bound.{bound_of, scalars_of}
+use Rattle.block_checker.specs.Passes.{Checked, block_at, blocks_pass, both, checked, entry_passes, entry_passes_to}
+use Rattle.block_checker.specs.declared.errors.CheckError.TheVariants.{WrongVlen}
+use Rattle.cert_note.specs.Certificate.{CertificateView}
+use Rattle.cert_note.specs.declared.values.Block.{Block}
+use Rattle.elf_image.specs.Image.{ImageView}
+use Rattle.region_mem.specs.Memory.{args_of}
+use Rattle.region_mem.specs.Parameter.{Argument}
+use Rattle.region_mem.specs.declared.arguments.Args.{Args}
+use Rattle.sandbox_run.specs.Session.{SessionView}
+use Rattle.sandbox_run.specs.declared.outcome.OpenError.{OpenError}
+use Rattle.vector_core.specs.Machine.{Machine}
+use Rattle.vector_core.specs.Run.{Ended, outcome, outcome_from}
+use Rattle.vector_core.specs.Start.{start}
+use Rattle.vreg_groups.specs.VectorLength.{vlenb_of}
+use Rattle.vreg_groups.specs.declared.policies.Agnostic.{Agnostic}
+use Rattle.vreg_groups.specs.declared.vector_length.Vlen.{Vlen}
+use Rattle.commands.specs.Runs.{if_opened}
+use Rattle.commands.specs.Trial.{OrMemory}
+use Rattle.commands.specs.declared.trial.End.TheVariants as end
+use Rattle.commands.specs.declared.trial.Trial.{Trial}
+
+-- what passes has a block at its entry
+pub has_entry : (image : ImageView) (certificate : CertificateView) (vlen : Vlen) → checked image certificate vlen ≡ Ok tt
+    → block_at image.entry certificate.blocks ≡ None → ⊥
+unfolding checked entry_passes entry_passes_to
+has_entry image certificate vlen passes none =
+    by (vlenb_of certificate.vlen == vlenb_of vlen) (subst (λ (o : Option Block). asked (vlenb_of certificate.vlen == vlenb_of vlen) o ≡ Ok tt) none passes)
+  where
+    asked : Bool → Option Block → Checked
+    asked b o = if b then both (entry_passes_to image certificate o) (blocks_pass image certificate certificate.blocks) else Err WrongVlen
+
+    by : (b : Bool) → asked b None ≡ Ok tt → ⊥
+    by true e = cc
+    by false e = cc
+
+-- a run that is opened and ended is the one that is defined
+pub opened : (vlenb : ℕ) (agnostic : Agnostic) (a : AcceptedView) (args : List Argument) (fault : Option OpenError)
+    (session : SessionView) (steps : ℕ) (m : Machine) (kept : Args (List ℕ)) (trial : Trial) → IfSome fault (λ told. ⊥)
+    → session.machine ≡ start vlenb agnostic a.image a.certificate.parameters args → session.steps ≡ 0
+    → session.bound ≡ bound_of a (scalars_of args)
+    → outcome_from vlenb (session.bound - session.steps) session.steps session.machine ≡ Ended steps m
+    → kept.places ≡ args_of m.memory → trial ≡ record { end = end.Ended; steps = steps; args = kept }
+    → OrMemory (if_opened vlenb agnostic a args fault) (Ok trial)
+unfolding outcome
+opened vlenb agnostic a args (Some told) session steps m kept trial none first zero bounded ended kept-is is = absurd none
+opened vlenb agnostic a args None session steps m kept trial none first zero bounded ended kept-is is =
+    let all : session.bound - session.steps ≡ bound_of a (scalars_of args) = omega (arith, zero, bounded) in
+    let run : outcome vlenb (bound_of a (scalars_of args)) (start vlenb agnostic a.image a.certificate.parameters args) ≡ Ended steps m =
+    rw (← first, ← all, ← zero) ended in
+    is ∙ rw run (ap (λ (p : List Argument). record { end = end.Ended; steps = steps; args = record { places = p } }) kept-is)

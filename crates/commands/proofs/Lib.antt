@@ -1,0 +1,4 @@
+pub mod AcceptedLemmas
+pub mod CommandLemmas
+pub mod HexLemmas
+pub mod TrialLemmas

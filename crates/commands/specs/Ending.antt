@@ -1,0 +1,103 @@
+-- How the program ends: the reason to stop that each error is, the status of each reason, and each status as a number.
+use Rattle.std.specs.Prelude.{◌≡◌, ℕ, List, ◌++◌, codes, Option, Some, None, Result, Ok, Err}
+use Rattle.block_checker.specs.declared.errors.CheckError.{CheckError}
+use Rattle.block_checker.specs.declared.errors.CheckError.TheVariants as check_error
+use Rattle.block_checker.specs.Refusals.{address_of, name_of}
+use Rattle.commands.specs.Hex.{hex_text}
+use Rattle.commands.specs.Words.{CertError, OpenError}
+use Rattle.cert_note.specs.declared.refusals.CertError.TheVariants as certificate_error
+use Rattle.elf_image.specs.declared.error.ElfError.{ElfError}
+use Rattle.elf_image.specs.declared.error.ElfError.TheVariants as image_error
+use Rattle.sandbox_run.specs.declared.outcome.OpenError.TheVariants as open_error
+use Rattle.std.specs.Borrow.{Bor}
+use Rattle.std.specs.declared.io.ErrorKind.{ErrorKind as IoErrorKind}
+use Rattle.std.specs.declared.io.ErrorKind.TheVariants.{OutOfMemory}
+use Rattle.job_file.specs.declared.values.JobError.{JobError}
+use Rattle.job_file.specs.declared.values.JobError.TheVariants as job_error
+use Rattle.commands.specs.declared.store.StoreError.{StoreError}
+use Rattle.commands.specs.declared.store.StoreError.TheVariants as store_error
+use Rattle.commands.specs.declared.trial.End.{End}
+use Rattle.commands.specs.declared.trial.End.TheVariants as end
+use Rattle.commands.specs.declared.stop.Status.{Status}
+use Rattle.commands.specs.declared.stop.Status.TheVariants as status
+use Rattle.commands.specs.declared.stop.Stop.{Stop}
+use Rattle.commands.specs.declared.stop.Stop.TheVariants as stop
+
+-- the exit status
+abbrev pub code_of : Status → ℕ
+code_of status.Done = 0
+code_of status.Refused = 1
+code_of status.Usage = 2
+code_of status.File = 3
+code_of status.Memory = 4
+code_of status.Stopped = 5
+
+-- the status of a reason to stop, where it can be told
+abbrev pub status_of : Stop → Status
+status_of (stop.Job error) = status.Usage
+status_of (stop.File path) = status.File
+status_of (stop.Image error) = status.Refused
+status_of stop.NoCertificate = status.Refused
+status_of (stop.Certificate error) = status.Refused
+status_of (stop.Check error) = status.Refused
+status_of (stop.Open error) = status.Refused
+status_of stop.Memory = status.Memory
+status_of stop.Output = status.File
+
+-- the reason to stop that an error is: want of memory is always Memory
+
+abbrev pub stop_of_job : JobError → Stop
+stop_of_job job_error.NoMemory = stop.Memory
+stop_of_job error = stop.Job error
+
+abbrev pub stop_of_image : ElfError → Stop
+stop_of_image image_error.NoMemory = stop.Memory
+stop_of_image error = stop.Image error
+
+abbrev pub stop_of_certificate : CertError → Stop
+stop_of_certificate certificate_error.NoMemory = stop.Memory
+stop_of_certificate error = stop.Certificate error
+
+abbrev pub stop_of_check : CheckError → Stop
+stop_of_check check_error.NoMemory = stop.Memory
+stop_of_check error = stop.Check error
+
+abbrev pub stop_of_open : OpenError → Stop
+stop_of_open open_error.NoMemory = stop.Memory
+stop_of_open error = stop.Open error
+
+-- want of memory apart from all else that a file may meet
+abbrev pub store_error_of : IoErrorKind → StoreError
+store_error_of OutOfMemory = store_error.NoMemory
+store_error_of _ = store_error.Failed
+
+abbrev pub stop_at_file : StoreError → Bor (List ℕ) → Stop
+stop_at_file store_error.Failed path = stop.File path
+stop_at_file store_error.NoMemory path = stop.Memory
+
+-- how a refusal of the check is told: the error's name, and its address where it has one
+abbrev pub with_address : List ℕ → Option ℕ → List ℕ
+with_address name None = name
+with_address name (Some address) = name ++ (codes " at " ++ hex_text address)
+
+abbrev pub reason_text : CheckError → List ℕ
+reason_text error = with_address (name_of error) (address_of error)
+
+-- the status of a run that was printed
+abbrev pub status_of_end : End → Status
+status_of_end end.Ended = status.Done
+status_of_end (end.Trapped fault) = status.Stopped
+status_of_end end.OutOfSteps = status.Stopped
+
+-- ---- how a subcommand ends
+
+-- the status of what was done, or of the reason to stop
+abbrev pub IsTold : Result Status Stop → Status → Type 0
+IsTold (Ok s) told = told ≡ s
+IsTold (Err reason) told = told ≡ status_of reason
+
+-- `Done` and `Stopped` come only after what a subcommand does, and the others of a reason to stop
+abbrev pub Ends : (Status → Type 0) → Status → Type 0
+Ends does status.Done = does status.Done
+Ends does status.Stopped = does status.Stopped
+Ends does other = Unit {0}

@@ -1,0 +1,9 @@
+pub mod Accepted
+pub mod Checks
+pub mod Ending
+pub mod Files
+pub mod Hex
+pub mod Runs
+pub mod Trial
+pub mod Tries
+pub mod Words

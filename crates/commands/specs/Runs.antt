@@ -1,0 +1,50 @@
+-- What `run` does.
+use Rattle.std.specs.Prelude.{◌≡◌, ℕ, List, Option, Some, None, Result, Ok, Err}
+use Rattle.std.specs.Io.KnownBytes.{Appends}
+use Rattle.block_checker.specs.Accepted.{AcceptedView}
+use Rattle.block_checker.specs.Bound.{bound_of, scalars_of}
+use Rattle.job_file.specs.Job.{Text}
+use Rattle.job_file.specs.Needs.{run_job_in}
+use Rattle.job_file.specs.declared.values.RunJob.{RunJob}
+use Rattle.sandbox_run.specs.Session.{open_fault}
+use Rattle.toml.specs.Data.{Members}
+use Rattle.commands.specs.Accepted.{accepted_of}
+use Rattle.commands.specs.Ending.{status_of_end, stop_of_open}
+use Rattle.commands.specs.Files.{ArePassed, Files, IsImageAt}
+use Rattle.commands.specs.Trial.{line_of, trial_from}
+use Rattle.commands.specs.Words.{Argument, ImageView, OpenError, start, vlenb_of, Agnostic}
+use Rattle.commands.specs.declared.stop.Status.{Status}
+use Rattle.commands.specs.declared.stop.Stop.{Stop}
+use Rattle.commands.specs.declared.trial.Trial.{Trial}
+
+-- ---- a job's run
+
+-- what comes of a run that is opened, or the reason why it is not: the run for at most its bound's steps
+abbrev pub if_opened : ℕ → Agnostic → AcceptedView → List Argument → Option OpenError → Result Trial Stop
+if_opened vlenb agnostic a args (Some error) = Err (stop_of_open error)
+if_opened vlenb agnostic a args None =
+    Ok (trial_from vlenb (bound_of a (scalars_of args)) (start vlenb agnostic a.image a.certificate.parameters args))
+
+abbrev pub session_of : ℕ → Agnostic → ℕ → AcceptedView → List Argument → Result Trial Stop
+session_of vlenb agnostic max a args = if_opened vlenb agnostic a args (open_fault vlenb a args max)
+
+-- what comes of a job on an accepted image and arguments
+abbrev pub run_of_job : RunJob Text → AcceptedView → List Argument → Result Trial Stop
+run_of_job job a args = session_of (vlenb_of job.vlen) job.agnostic job.max a args
+
+-- ---- what is done: `old` and `new` are what standard output has before and after
+
+-- `run` on a job's table: the job's image is accepted, and what comes of the job on it is printed
+pub record Runs (holds : Files) (table : Members) (old new : Option (List ℕ)) (s : Status) : Type 0 where
+  pub job : RunJob Text
+  pub asked : run_job_in table ≡ Some job
+  pub image : ImageView
+  pub there : IsImageAt holds job.image image
+  pub accepted : AcceptedView
+  pub passes : accepted_of (Some job.vlen) image ≡ Ok accepted
+  pub args : List Argument
+  pub passed : ArePassed holds job.params args
+  pub trial : Trial
+  pub comes : run_of_job job accepted args ≡ Ok trial
+  pub told : Appends old new (line_of trial)
+  pub done : s ≡ status_of_end trial.end

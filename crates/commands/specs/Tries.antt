@@ -1,0 +1,87 @@
+-- What `try` does.
+use Rattle.std.specs.Prelude.{◌≡◌, ◌-◌, ◌^◌, ℕ, min, List, length, map, Option, Some, None, Result, Ok, Err}
+use Rattle.std.specs.Io.KnownBytes.{Appends}
+use Rattle.std.specs.List.{zip}
+use Rattle.job_file.specs.Job.{Text}
+use Rattle.job_file.specs.Needs.{try_job_in}
+use Rattle.job_file.specs.declared.values.JobError.TheVariants.{BadKey}
+use Rattle.job_file.specs.declared.values.RunParam.{RunParam}
+use Rattle.job_file.specs.declared.values.RunParam.TheVariants as given
+use Rattle.job_file.specs.declared.values.TryJob.{TryJob}
+use Rattle.job_file.specs.declared.values.TryParam.{TryParam}
+use Rattle.job_file.specs.declared.values.TryParam.TheVariants as taken
+use Rattle.region_mem.specs.Parameter.{argument_error, parameters_of}
+use Rattle.region_mem.specs.declared.arguments.Arg.TheVariants as argument
+use Rattle.region_mem.specs.declared.parameter.ArgError.{ArgError}
+use Rattle.region_mem.specs.declared.parameter.Param.{Param}
+use Rattle.region_mem.specs.declared.parameter.Param.TheVariants as parameter
+use Rattle.sandbox_run.specs.Errors.{open_error_of}
+use Rattle.toml.specs.Data.{Members}
+use Rattle.commands.specs.Ending.{status_of_end}
+use Rattle.commands.specs.Files.{ArePassed, Files, IsImageAt}
+use Rattle.commands.specs.Trial.{line_of, trial_from}
+use Rattle.commands.specs.Words.{ImageView, Argument, start, vlenb_of, Agnostic}
+use Rattle.commands.specs.declared.stop.Status.{Status}
+use Rattle.commands.specs.declared.stop.Stop.{Stop}
+use Rattle.commands.specs.declared.stop.Stop.TheVariants as stop
+use Rattle.commands.specs.declared.trial.Trial.{Trial}
+
+-- ---- a run
+
+-- arguments that do not match the parameters are refused, and else the run starts
+abbrev pub started : ℕ → Agnostic → ℕ → ImageView → List Argument → List Param → Option ArgError → Result Trial Stop
+started vlenb agnostic max image args params (Some error) = Err (stop.Open (open_error_of error))
+started vlenb agnostic max image args params None = Ok (trial_from vlenb max (start vlenb agnostic image params args))
+
+abbrev pub run_of : ℕ → Agnostic → ℕ → ImageView → List Argument → List Param → Result Trial Stop
+run_of vlenb agnostic max image args params =
+    started vlenb agnostic max image args params (argument_error params args)
+
+-- ---- a job's run
+
+-- how many bytes are passed at a place, where 32 bits hold the number
+abbrev pub passed_size : Argument → ℕ
+passed_size argument.None = 0
+passed_size (argument.Scalar value) = 0
+passed_size (argument.Buffer bytes) = min (length bytes) (2 ^ 32 - 1)
+
+-- the parameter of a place: a scalar may have the job's one value, and a buffer has the size of what is passed
+abbrev pub param_for : TryParam Text × Argument → Param
+param_for (taken.None, arg) = parameter.None
+param_for (taken.Scalar value, arg) = parameter.Scalar value value
+param_for (taken.Buffer mode file out, arg) = parameter.Buffer mode (passed_size arg)
+
+unfoldable pub params_for : List (TryParam Text) → List Argument → List Param
+params_for params args = map param_for (zip params args)
+
+-- the run at the job's VLEN and setting, for at most its number of steps
+abbrev pub with_parameters : TryJob Text → ImageView → List Argument → Option (List Param) → Result Trial Stop
+with_parameters job image args None = Err (stop.Job BadKey)
+with_parameters job image args (Some params) = run_of (vlenb_of job.vlen) job.agnostic job.max image args params
+
+-- what comes of a job on an image and arguments, or the reason to stop
+abbrev pub trial_of : TryJob Text → ImageView → List Argument → Result Trial Stop
+trial_of job image args = with_parameters job image args (parameters_of (params_for job.params args))
+
+-- ---- what is passed
+
+-- what a parameter of `try` passes, as one of `run` does
+abbrev pub passed_by : TryParam Text → RunParam Text
+passed_by taken.None = given.None
+passed_by (taken.Scalar value) = given.Scalar value
+passed_by (taken.Buffer mode file out) = given.Buffer file out
+
+-- ---- what is done: `old` and `new` are what standard output has before and after
+
+-- `try` on a job's table: what comes of the job on its image is printed
+pub record Tries (holds : Files) (table : Members) (old new : Option (List ℕ)) (s : Status) : Type 0 where
+  pub job : TryJob Text
+  pub asked : try_job_in table ≡ Some job
+  pub image : ImageView
+  pub there : IsImageAt holds job.image image
+  pub args : List Argument
+  pub passed : ArePassed holds (map passed_by job.params) args
+  pub trial : Trial
+  pub comes : trial_of job image args ≡ Ok trial
+  pub told : Appends old new (line_of trial)
+  pub done : s ≡ status_of_end trial.end

@@ -1,0 +1,8 @@
+-- What definitions here speak of that other crates define.
+pub use Rattle.elf_image.specs.Image.{ImageView}
+pub use Rattle.vreg_groups.specs.VectorLength.{vlenb_of}
+pub use Rattle.vreg_groups.specs.declared.policies.Agnostic.{Agnostic}
+pub use Rattle.region_mem.specs.Parameter.{Argument}
+pub use Rattle.cert_note.specs.declared.refusals.CertError.{CertError}
+pub use Rattle.vector_core.specs.Start.{start}
+pub use Rattle.sandbox_run.specs.declared.outcome.OpenError.{OpenError}

@@ -1,0 +1,131 @@
+//! The files of a job: what is read before its run, and what is written after it.
+ghost use Rattle.std.specs.Prelude.{◌≡◌, IfOk, map, option_map, replicate};
+ghost use Rattle.job_file.specs.Needs.{run_param_lent};
+ghost use Rattle.toml.specs.View.{table_view};
+ghost use Rattle.commands.specs.Files.{ArePassed, IsImageAt, IsPassed, IsTableAt, out_file};
+
+use crate::stop::Stop;
+use crate::store::Store;
+use elf_image::Image;
+use job_file::{JobError, RunParam, parse};
+use region_mem::{Arg, Args, Bytes};
+use std::alloc::Global;
+use toml::Table;
+
+/// The file at `path`.
+fn read<'a, S: Store>(alloc: Global, path: &'a str, store: &mut S) -> Result<Vec<u8>, Stop<'a>>
+    ensures { IfOk result (λ bytes. S.holds path.entry.now bytes.items) }
+{
+    match store.read(alloc, path) {
+        Ok(bytes) => Ok(bytes),
+        Err(error) => Err(Stop::at_file(error, path)),
+    }
+}
+
+/// The table of the job at `path`.
+pub fn read_table<'a, S: Store>(
+    alloc: Global,
+    path: &'a str,
+    store: &mut S,
+) -> Result<Table, Stop<'a>>
+    ensures { IfOk result (λ table. IsTableAt S.holds path.entry.now (table_view table)) }
+{
+    let bytes = read(alloc, path, store)?;
+    match std::str::from_utf8(bytes.as_slice()) {
+        Ok(text) => Ok(parse(alloc, text)?),
+        Err(_) => Err(Stop::Job(JobError::NotToml)),
+    }
+}
+
+/// The image at `path`.
+pub fn read_image<'a, S: Store>(
+    alloc: Global,
+    path: &'a str,
+    store: &mut S,
+) -> Result<Image, Stop<'a>>
+    ensures { IfOk result (IsImageAt S.holds path.entry.now) }
+{
+    let bytes = read(alloc, path, store)?;
+    Ok(elf_image::read(alloc, bytes.as_slice())?)
+}
+
+/// What a job passes, by place: its scalars, and the bytes of its files.
+pub fn read_args<'a, S: Store>(
+    alloc: Global,
+    params: &[RunParam<&'a str>; 8],
+    store: &mut S,
+) -> Result<Args, Stop<'a>>
+    ensures { IfOk result (λ args.
+        ArePassed S.holds (map run_param_lent params.now) args.places) }
+{
+    let mut places = no_args();
+    for place in 0..8 {
+        places[place] = read_arg(alloc, &params[place], store)?;
+    }
+    Ok(Args { places })
+}
+
+fn no_args() -> [Arg; 8]
+    ensures { result ≡ replicate 8 Arg.None }
+{
+    [
+        Arg::None,
+        Arg::None,
+        Arg::None,
+        Arg::None,
+        Arg::None,
+        Arg::None,
+        Arg::None,
+        Arg::None,
+    ]
+}
+
+fn read_arg<'a, S: Store>(
+    alloc: Global,
+    param: &RunParam<&'a str>,
+    store: &mut S,
+) -> Result<Arg, Stop<'a>>
+    ensures { IfOk result (IsPassed S.holds (run_param_lent param.now)) }
+{
+    match param {
+        RunParam::None => Ok(Arg::None),
+        RunParam::Scalar(value) => Ok(Arg::Scalar(*value)),
+        RunParam::Buffer { file, .. } => {
+            let bytes = read(alloc, *file, store)?;
+            Ok(Arg::Buffer(Bytes::new(bytes)))
+        }
+    }
+}
+
+/// The file that a place has after a run, where it has one: its path, and the buffer's bytes.
+fn out_file<'a, 'b>(param: &RunParam<&'a str>, arg: &'b Arg) -> Option<(&'a str, &'b [u8])>
+    ensures { option_map (λ file. (file.0.now, file.1.now)) result
+        ≡ out_file (run_param_lent param.now, arg.now) }
+{
+    match (param, arg) {
+        (
+            RunParam::Buffer {
+                out: Some(path),
+                ..
+            },
+            Arg::Buffer(bytes),
+        ) => Some((*path, bytes.as_slice())),
+        (RunParam::None | RunParam::Scalar(_) | RunParam::Buffer { .. }, _) => None,
+    }
+}
+
+/// Writes the out files of a job, by place.
+pub fn write_outs<'a, S: Store>(
+    params: &[RunParam<&'a str>; 8],
+    args: &Args,
+    store: &mut S,
+) -> Result<(), Stop<'a>> {
+    for place in 0..8 {
+        if let Some((path, bytes)) = out_file(&params[place], &args.places[place])
+            && let Err(error) = store.write(path, bytes)
+        {
+            return Err(Stop::at_file(error, path));
+        }
+    }
+    Ok(())
+}

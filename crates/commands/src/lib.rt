@@ -1,0 +1,22 @@
+//! The subcommands: what each reads, in order, what it does with it, and what it prints and writes.
+//!
+//! Each has a module: `checks`, `runs` and `tries`. What they share stands in the others: `files` (what is read, and the out
+//! files), `accepted` (an image with its certificate), `trial` (what comes of a run), `stop` (statuses and reasons to stop),
+//! `store` (where files are) and `hex`.
+#![tactic(auto)]
+
+mod accepted;
+mod checks;
+mod files;
+mod hex;
+mod runs;
+mod stop;
+mod store;
+mod trial;
+mod tries;
+
+pub use checks::check_image;
+pub use runs::run_job;
+pub use stop::{Status, Stop};
+pub use store::{Disk, Store, StoreError, read_all};
+pub use tries::try_job;

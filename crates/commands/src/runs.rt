@@ -1,0 +1,105 @@
+//! `run`: a job on an image that is accepted.
+ghost use Rattle.std.specs.Prelude.{◌≡◌, IfOk};
+ghost use Rattle.job_file.specs.Needs.{run_job_lent};
+ghost use Rattle.toml.specs.View.{table_view};
+ghost use Rattle.vreg_groups.specs.VectorLength.{IsVlenb};
+ghost use Rattle.commands.specs.Ending.{Ends};
+ghost use Rattle.commands.specs.Files.{OfTable};
+ghost use Rattle.commands.specs.Runs.{Runs, run_of_job, session_of};
+ghost use Rattle.commands.specs.Trial.{OrMemory};
+ghost use Rattle.commands.specs.declared.trial.End.TheVariants.{Ended};
+
+use crate::accepted::accept;
+use crate::files::{read_args, read_image, read_table};
+use crate::stop::{Status, Stop, told};
+use crate::store::Store;
+use crate::trial::{Trial, finish};
+use block_checker::Accepted;
+use job_file::{JobError, RunJob, run_job_in};
+use region_mem::Args;
+use sandbox_run::Session;
+use std::alloc::Global;
+use std::io::Write;
+use toml::Table;
+use vreg_groups::{Agnostic, Vlen};
+
+/// `run`: checks the image of the job at `path` against its certificate, at the job's length of vector registers, runs it if
+/// it is accepted, writes the job's out files and prints how many steps the run took.
+///
+/// In this order, up to the first that is refused or fails, which is told: the job file, the job, the image file, the
+/// image, the certificate, the check, the parameters' files by place, the start of the run, the run, the out files by
+/// place, the printed line.
+#[tactic(auto, using(crate::proofs::CommandLemmas::told_of_table, crate::proofs::CommandLemmas::status_told))]
+pub fn run_job<S: Store, O: Write, E: Write>(
+    alloc: Global,
+    path: &str,
+    store: &mut S,
+    output: &mut O,
+    errors: &mut E,
+) -> Status
+    ensures { Ends (OfTable S.holds path.now (λ table.
+        Runs S.holds table (O.contents output.old) (O.contents output.new))) result }
+{
+    match read_table(alloc, path, store) {
+        Ok(table) => told(run_table(alloc, &table, store, output), errors),
+        Err(stop) => stop.tell(errors),
+    }
+}
+
+/// `run` on a job's table.
+fn run_table<'a, S: Store, O: Write>(
+    alloc: Global,
+    table: &'a Table,
+    store: &mut S,
+    output: &mut O,
+) -> Result<Status, Stop<'a>>
+    ensures { IfOk result (Runs S.holds (table_view table.entry.now)
+        (O.contents output.old) (O.contents output.new)) }
+{
+    let job = run_job_in(table).ok_or(JobError::BadKey)?;
+    let image = read_image(alloc, job.image, store)?;
+    let accepted = accept(alloc, image, Some(job.vlen))?;
+    let args = read_args(alloc, &job.params, store)?;
+    let trial = run_accepted(alloc, &job, &accepted, args)?;
+    finish(&job.params, &trial, store, output)
+}
+
+/// Runs a job on an accepted image and arguments, at the job's length of vector registers and setting.
+///
+/// Such a run ends. It is refused for the first of: arguments that do not match the certificate's parameters, a bound above
+/// the job's number of steps, and another length than the one that the image was accepted for. Want of memory comes only
+/// where it is not refused.
+fn run_accepted<'a>(
+    alloc: Global,
+    job: &RunJob<&str>,
+    accepted: &Accepted,
+    args: Args,
+) -> Result<Trial, Stop<'a>>
+    ensures answer { OrMemory (run_of_job (run_job_lent job.now) accepted.now args.places) result }
+    ensures ended { IfOk result (λ trial. trial.end ≡ Ended) }
+{
+    match job.vlen {
+        Vlen::V128 => run_session::<16>(alloc, accepted, args, job.agnostic, job.max),
+        Vlen::V256 => run_session::<32>(alloc, accepted, args, job.agnostic, job.max),
+    }
+}
+
+fn run_session<'a, const VLENB: usize>(
+    alloc: Global,
+    accepted: &Accepted,
+    args: Args,
+    agnostic: Agnostic,
+    max: u64,
+) -> Result<Trial, Stop<'a>>
+    requires { IsVlenb VLENB }
+    ensures answer { OrMemory (session_of VLENB agnostic max accepted.now args.places) result }
+    ensures ended { IfOk result (λ trial. trial.end ≡ Ended) }
+{
+    match Session::<VLENB>::open(alloc, accepted, args, agnostic, max) {
+        Ok(mut session) => {
+            let steps = session.run();
+            Ok(Trial::ended(steps, session.close()))
+        }
+        Err((error, _args)) => Err(Stop::from(error)),
+    }
+}

@@ -1,0 +1,104 @@
+//! Where a job's files are read and written.
+ghost use Rattle.std.specs.Io.KnownBytes.{Consumes, IsAtEnd};
+ghost use Rattle.std.specs.Prelude.{◌≡◌, IfOk, OnOk};
+ghost use Rattle.std.specs.IoError.{error_kind};
+ghost use Rattle.commands.specs.Ending.{store_error_of};
+ghost use Rattle.commands.specs.declared.store.StoreError.TheVariants as store_error;
+
+use std::alloc::{AllocError, AllocFailed, Global};
+use std::io::{ErrorKind, Read, Write};
+use std::rt::Files;
+use std::{fs, io};
+
+/// How often a file is read from before it counts as one that never ends.
+const MOST_READS: u64 = 1 << 32;
+
+/// Why a file was not read or written.
+#[derive(Clone, Copy, Debug, PartialEq, Eq)]
+pub enum StoreError {
+    /// The file was not read or written.
+    Failed,
+    /// Memory ran out.
+    NoMemory,
+}
+
+impl From<AllocError> for StoreError {
+    ghost from_gives = { λ _ reason. reason ≡ store_error.NoMemory };
+
+    fn from(_error: AllocError) -> StoreError {
+        StoreError::NoMemory
+    }
+}
+
+impl From<io::Error> for StoreError {
+    ghost from_gives = { λ error reason. reason ≡ store_error_of (error_kind error) };
+
+    fn from(error: io::Error) -> StoreError {
+        match error.kind() {
+            ErrorKind::OutOfMemory => StoreError::NoMemory,
+            _ => StoreError::Failed,
+        }
+    }
+}
+
+/// Files by their paths.
+pub trait Store {
+    ghost use Rattle.std.specs.Prelude.{ℕ, List};
+
+    // which bytes a file at a path may be read as
+    ghost holds: { List ℕ → List ℕ → Type 0 } = { λ _ _. Unit {0} };
+
+    /// The bytes of the file at `path`.
+    fn read(&mut self, alloc: Global, path: &str) -> Result<Vec<u8>, StoreError>
+        ensures { IfOk result (λ bytes. holds path.now bytes.items) };
+
+    /// Makes a file at `path` that has these bytes, in place of what was there.
+    fn write(&mut self, path: &str, bytes: &[u8]) -> Result<(), StoreError>;
+}
+
+/// The files of the system. A path that is not absolute starts at the working directory.
+#[derive(Drop)]
+pub struct Disk<'a, R> {
+    rt: &'a R,
+}
+
+impl<'a, R> Disk<'a, R> {
+    /// The files that the handle `rt` opens.
+    pub fn new(rt: &'a R) -> Disk<'a, R>
+        ensures { result.rt ≡ rt.entry }
+    {
+        Disk { rt }
+    }
+}
+
+impl<'a, R: Files> Store for Disk<'a, R> {
+    fn read(&mut self, alloc: Global, path: &str) -> Result<Vec<u8>, StoreError> {
+        let mut file = fs::open(self.rt, path)?;
+        read_all(alloc, &mut file, MOST_READS)
+    }
+
+    fn write(&mut self, path: &str, bytes: &[u8]) -> Result<(), StoreError> {
+        let mut file = fs::create(self.rt, path)?;
+        file.write_all(bytes)?;
+        Ok(())
+    }
+}
+
+/// All bytes that the reader gives, in at most `reads` reads, of which the last one finds its end.
+pub fn read_all<R: Read>(alloc: Global, reader: &mut R, reads: u64) -> Result<Vec<u8>, StoreError>
+    ensures bytes { IfOk result (λ bytes.
+        Consumes (R.remaining reader.old) (R.remaining reader.new) bytes.items) }
+    ensures end { OnOk result (IsAtEnd (R.remaining reader.new)) }
+{
+    let mut bytes = Vec::new(alloc);
+    let mut chunk = [0u8; 4096];
+    for _ in 0..reads {
+        match reader.read(&mut chunk) {
+            Ok(0) => return Ok(bytes),
+            Ok(n) => bytes.extend_from_slice(&chunk[..n])?,
+            Err(error) if error.kind() == ErrorKind::Interrupted => {}
+            Err(error) => return Err(StoreError::from(error)),
+        }
+    }
+    Err(StoreError::Failed)
+}

@@ -1,0 +1,98 @@
+//! What comes of a run: how it ended, how that is told, and which status the program has then.
+ghost use Rattle.std.specs.Prelude.{◌≡◌, IfOk, OnOk};
+ghost use Rattle.std.specs.Io.KnownBytes.{Appends};
+ghost use Rattle.commands.specs.Ending.{status_of_end};
+ghost use Rattle.commands.specs.Trial.{line_of};
+
+use crate::files::write_outs;
+use crate::hex::Hex;
+use crate::stop::{Status, Stop};
+use crate::store::Store;
+use job_file::RunParam;
+use region_mem::{Args, Fault};
+use sandbox_run::Final;
+use std::io;
+use std::io::Write;
+
+/// How a run ended.
+#[derive(Clone, Copy)]
+pub enum End {
+    Ended,
+    Trapped(Fault),
+    OutOfSteps,
+}
+
+/// What came of a run: how it ended, after how many steps, and the arguments as they then stood.
+#[derive(Drop)]
+pub struct Trial {
+    end: End,
+    steps: u64,
+    pub args: Args,
+}
+
+/// The run that ended so, in its last state.
+pub fn trial_at<const VLENB: usize>(end: End, last: Final<VLENB>) -> Trial
+    ensures { result ≡ record { end = end; steps = last.entry.steps; args = last.entry.args } }
+{
+    let Final { steps, args, .. } = last;
+    Trial { end, steps, args }
+}
+
+impl Trial {
+    /// A run that ended.
+    pub fn ended(steps: u64, args: Args) -> Trial
+        ensures { result ≡ record { end = End.Ended; steps = steps; args = args } }
+    {
+        Trial {
+            end: End::Ended,
+            steps,
+            args,
+        }
+    }
+
+    /// Prints how the run ended.
+    pub fn print<O: Write>(&self, output: &mut O) -> io::Result<()>
+        ensures { OnOk result
+            (Appends (O.contents output.old) (O.contents output.new) (line_of self.now)) }
+    {
+        let steps = self.steps;
+        match self.end {
+            End::Ended => writeln!(output, "ended: {steps} steps")?,
+            End::Trapped(fault) => {
+                let name = fault.name();
+                let at = Hex(fault.number());
+                writeln!(output, "trapped: {name} {at} after {steps} steps")?;
+            }
+            End::OutOfSteps => writeln!(output, "out of steps: {steps}")?,
+        }
+        output.flush()
+    }
+
+    /// The status of a run that was printed.
+    pub fn status(&self) -> Status
+        ensures { result ≡ status_of_end self.now.end }
+    {
+        match self.end {
+            End::Ended => Status::Done,
+            End::Trapped(_) | End::OutOfSteps => Status::Stopped,
+        }
+    }
+}
+
+/// Writes the out files of a run by place, and then prints how it ended.
+pub fn finish<'a, S: Store, O: Write>(
+    params: &[RunParam<&'a str>; 8],
+    trial: &Trial,
+    store: &mut S,
+    output: &mut O,
+) -> Result<Status, Stop<'a>>
+    ensures done { IfOk result (λ status. status ≡ status_of_end trial.now.end) }
+    ensures told { OnOk result
+        (Appends (O.contents output.old) (O.contents output.new) (line_of trial.now)) }
+{
+    write_outs(params, &trial.args, store)?;
+    match trial.print(output) {
+        Ok(()) => Ok(trial.status()),
+        Err(_) => Err(Stop::Output),
+    }
+}

@@ -1,0 +1,165 @@
+//! `try`: a job on any image, with every test at each step.
+ghost use Rattle.std.specs.Prelude.{◌≡◌, IfOk, map};
+ghost use Rattle.job_file.specs.Needs.{run_param_lent, try_job_lent, try_param_lent};
+ghost use Rattle.toml.specs.View.{table_view};
+ghost use Rattle.vreg_groups.specs.VectorLength.{IsVlenb};
+ghost use Rattle.commands.specs.Ending.{Ends};
+ghost use Rattle.commands.specs.Files.{OfTable};
+ghost use Rattle.commands.specs.Trial.{OrMemory};
+ghost use Rattle.commands.specs.Tries.{Tries, param_for, params_for, passed_by};
+ghost use Rattle.commands.specs.Tries.{passed_size, run_of, trial_of};
+
+use crate::files::{read_args, read_image, read_table};
+use crate::stop::{Status, Stop, told};
+use crate::store::Store;
+use crate::trial::{End, Trial, finish, trial_at};
+use elf_image::Image;
+use job_file::{JobError, RunParam, TryJob, TryParam, try_job_in};
+use region_mem::{Arg, Args, Param, Parameters};
+use sandbox_run::{Outcome, try_run};
+use std::alloc::Global;
+use std::io::Write;
+use toml::Table;
+use vreg_groups::{Agnostic, Vlen};
+
+/// `try`: runs the image of the job at `path`, accepted or not, with every test at each step, writes the job's out files
+/// and prints how the run ended.
+///
+/// In this order, up to the first that is refused or fails, which is told: the job file, the job, the image file, the
+/// image, the parameters' files by place, the parameters, the run, the out files by place, the printed line.
+#[tactic(auto, using(crate::proofs::CommandLemmas::told_of_table, crate::proofs::CommandLemmas::status_told))]
+pub fn try_job<S: Store, O: Write, E: Write>(
+    alloc: Global,
+    path: &str,
+    store: &mut S,
+    output: &mut O,
+    errors: &mut E,
+) -> Status
+    ensures { Ends (OfTable S.holds path.now (λ table.
+        Tries S.holds table (O.contents output.old) (O.contents output.new))) result }
+{
+    match read_table(alloc, path, store) {
+        Ok(table) => told(try_table(alloc, &table, store, output), errors),
+        Err(stop) => stop.tell(errors),
+    }
+}
+
+/// `try` on a job's table.
+fn try_table<'a, S: Store, O: Write>(
+    alloc: Global,
+    table: &'a Table,
+    store: &mut S,
+    output: &mut O,
+) -> Result<Status, Stop<'a>>
+    ensures { IfOk result (Tries S.holds (table_view table.entry.now)
+        (O.contents output.old) (O.contents output.new)) }
+{
+    let job = try_job_in(table).ok_or(JobError::BadKey)?;
+    let image = read_image(alloc, job.image, store)?;
+    let passed = passed_params(&job.params);
+    let args = read_args(alloc, &passed, store)?;
+    let trial = run_tried(alloc, &job, &image, args)?;
+    finish(&passed, &trial, store, output)
+}
+
+/// Runs a job on an image and on arguments, at the job's length of vector registers, setting and number of steps.
+///
+/// A scalar may have the one value that the job gives it, and a buffer has the size of what is passed. `BadKey` comes
+/// where there are no such parameters, then the error of arguments that do not match them, and want of memory last.
+fn run_tried<'a>(
+    alloc: Global,
+    job: &TryJob<&str>,
+    image: &Image,
+    args: Args,
+) -> Result<Trial, Stop<'a>>
+    ensures { OrMemory (trial_of (try_job_lent job.now) image.now args.places) result }
+{
+    let Some(parameters) = Parameters::new(params_for(&job.params, &args.places)) else {
+        return Err(Stop::Job(JobError::BadKey));
+    };
+    match job.vlen {
+        Vlen::V128 => run::<16>(alloc, image, &parameters, args, job.agnostic, job.max),
+        Vlen::V256 => run::<32>(alloc, image, &parameters, args, job.agnostic, job.max),
+    }
+}
+
+/// The parameter of a place of a job, for what is passed there.
+fn param_for(param: &TryParam<&str>, arg: &Arg) -> Param
+    ensures { result ≡ param_for (try_param_lent param.now, arg.now) }
+{
+    match param {
+        TryParam::None => Param::None,
+        TryParam::Scalar(value) => Param::Scalar {
+            lo: *value,
+            hi: *value,
+        },
+        TryParam::Buffer { mode, .. } => Param::Buffer {
+            mode: *mode,
+            size: size_of(arg),
+        },
+    }
+}
+
+/// How many bytes are passed, where 32 bits hold the number.
+fn size_of(arg: &Arg) -> u32
+    ensures { result ≡ passed_size arg.now }
+{
+    match arg {
+        Arg::None | Arg::Scalar(_) => 0,
+        Arg::Buffer(bytes) => u32::try_from(bytes.len()).unwrap_or(u32::MAX),
+    }
+}
+
+/// The parameters of a job, by place.
+fn params_for(params: &[TryParam<&str>; 8], args: &[Arg; 8]) -> [Param; 8]
+    ensures { result ≡ params_for (map try_param_lent params.now) args.now }
+{
+    let mut made = [Param::None; 8];
+    for place in 0..8 {
+        made[place] = param_for(&params[place], &args[place]);
+    }
+    made
+}
+
+fn run<'a, const VLENB: usize>(
+    alloc: Global,
+    image: &Image,
+    parameters: &Parameters,
+    args: Args,
+    agnostic: Agnostic,
+    max: u64,
+) -> Result<Trial, Stop<'a>>
+    requires { IsVlenb VLENB }
+    ensures { OrMemory (run_of VLENB agnostic max image.now args.places parameters.now) result }
+{
+    match try_run::<VLENB>(alloc, image, parameters, args, agnostic, max) {
+        Ok(Outcome::Ended(last)) => Ok(trial_at(End::Ended, last)),
+        Ok(Outcome::Trapped(fault, last)) => Ok(trial_at(End::Trapped(fault), last)),
+        Ok(Outcome::OutOfSteps(last)) => Ok(trial_at(End::OutOfSteps, last)),
+        Err((error, _args)) => Err(Stop::from(error)),
+    }
+}
+
+fn passed<'a>(param: &TryParam<&'a str>) -> RunParam<&'a str>
+    ensures { run_param_lent result ≡ passed_by (try_param_lent param.now) }
+{
+    match param {
+        TryParam::None => RunParam::None,
+        TryParam::Scalar(value) => RunParam::Scalar(*value),
+        TryParam::Buffer { file, out, .. } => RunParam::Buffer {
+            file: *file,
+            out: *out,
+        },
+    }
+}
+
+/// What the parameters of `try` pass, by place, as those of `run` do.
+fn passed_params<'a>(params: &[TryParam<&'a str>; 8]) -> [RunParam<&'a str>; 8]
+    ensures { map run_param_lent result ≡ map passed_by (map try_param_lent params.now) }
+{
+    let mut made = [RunParam::None; 8];
+    for place in 0..8 {
+        made[place] = passed(&params[place]);
+    }
+    made
+}

@@ -1,0 +1,11 @@
+//! How the program is called: tests of what it does over files in memory.
+#![tactic(auto)]
+
+#[cfg(test)]
+mod accepted;
+#[cfg(test)]
+mod reading;
+#[cfg(test)]
+mod shelf;
+#[cfg(test)]
+mod trying;

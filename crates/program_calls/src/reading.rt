@@ -1,0 +1,65 @@
+//! How a file is read to its end.
+use commands::{StoreError, read_all};
+use std::io;
+use std::io::Read;
+use std::test::Fail;
+
+/// Gives one byte at each read, `left` times. After that it is at its end.
+#[derive(Drop)]
+struct Drip {
+    left: u64,
+}
+
+impl Read for Drip {
+    fn read(&mut self, buf: &mut [u8]) -> io::Result<usize> {
+        if self.left == 0 || buf.is_empty() {
+            return Ok(0);
+        }
+        self.left -= 1;
+        buf[0] = 7;
+        Ok(1)
+    }
+}
+
+/// Is interrupted once, gives a byte, and then fails.
+#[derive(Drop)]
+struct Broken {
+    reads: u8,
+}
+
+impl Read for Broken {
+    fn read(&mut self, buf: &mut [u8]) -> io::Result<usize> {
+        self.reads = self.reads.saturating_add(1);
+        match self.reads {
+            1 => Err(io::Error::from(io::ErrorKind::Interrupted)),
+            2 if !buf.is_empty() => {
+                buf[0] = 7;
+                Ok(1)
+            }
+            _ => Err(io::Error::from(io::ErrorKind::Other)),
+        }
+    }
+}
+
+#[test]
+fn reads_to_the_end(rt: HostRuntime) -> Result<(), Fail> {
+    let bytes = read_all(rt.alloc(), &mut Drip { left: 7 }, 8)?;
+    assert_eq!(rt; bytes.len(), 7);
+    let empty = read_all(rt.alloc(), &mut Drip { left: 0 }, 8)?;
+    assert!(rt; empty.is_empty());
+    Ok(())
+}
+
+#[test]
+fn gives_up_after_the_last_read(rt: HostRuntime) {
+    let endless = read_all(rt.alloc(), &mut Drip { left: u64::MAX }, 8);
+    assert_eq!(rt; endless.err(), Some(StoreError::Failed));
+    let one_too_many = read_all(rt.alloc(), &mut Drip { left: 8 }, 8);
+    assert_eq!(rt; one_too_many.err(), Some(StoreError::Failed));
+}
+
+#[test]
+fn fails_as_the_reader_does(rt: HostRuntime) {
+    let broken = read_all(rt.alloc(), &mut Broken { reads: 0 }, 8);
+    assert_eq!(rt; broken.err(), Some(StoreError::Failed));
+}

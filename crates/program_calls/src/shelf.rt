@@ -1,0 +1,126 @@
+//! Files in memory, and what a performance of the program over them comes to.
+use command_line::perform;
+use commands::{Status, Store, StoreError};
+use std::alloc::{AllocError, Global};
+use std::io;
+use std::io::{Read, Write};
+use std::process::Abort;
+
+/// Files in memory, of which one may fail to be read or written, and a line for each call.
+#[derive(Drop)]
+pub struct Shelf {
+    alloc: Global,
+    files: Vec<(&'static str, Vec<u8>)>,
+    pub failing: &'static str,
+    calls: String,
+}
+
+impl Shelf {
+    pub(crate) fn new(alloc: Global) -> Shelf {
+        Shelf {
+            alloc,
+            files: Vec::new(alloc),
+            failing: "",
+            calls: String::new(alloc),
+        }
+    }
+
+    pub(crate) fn put(&mut self, path: &'static str, bytes: &[u8]) -> Result<(), AllocError> {
+        let bytes = Vec::from_slice(self.alloc, bytes)?;
+        self.files.push((path, bytes))?;
+        Ok(())
+    }
+
+    /// The newest bytes at a path.
+    fn get(&self, path: &str) -> Result<&[u8], StoreError> {
+        let mut found = Err(StoreError::Failed);
+        for file in &self.files {
+            if file.0 == path && path != self.failing {
+                found = Ok(file.1.as_slice());
+            }
+        }
+        found
+    }
+}
+
+impl Store for Shelf {
+    fn read(&mut self, alloc: Global, path: &str) -> Result<Vec<u8>, StoreError> {
+        self.calls.push_str("read ")?;
+        self.calls.push_str(path)?;
+        self.calls.push('\n')?;
+        Ok(Vec::from_slice(alloc, self.get(path)?)?)
+    }
+
+    fn write(&mut self, path: &str, bytes: &[u8]) -> Result<(), StoreError> {
+        self.calls.push_str("write ")?;
+        self.calls.push_str(path)?;
+        for byte in bytes {
+            let shown = format!(in self.alloc; " {byte:02x}")?;
+            self.calls.push_str(shown.as_str())?;
+        }
+        self.calls.push('\n')?;
+        if path == self.failing {
+            return Err(StoreError::Failed);
+        }
+        Ok(())
+    }
+}
+
+/// Takes or gives no byte.
+#[derive(Drop)]
+struct Broken;
+
+impl Write for Broken {
+    fn write(&mut self, _buf: &[u8]) -> io::Result<usize> {
+        Err(io::Error::from(io::ErrorKind::Other))
+    }
+
+    fn flush(&mut self) -> io::Result<()> {
+        Err(io::Error::from(io::ErrorKind::Other))
+    }
+}
+
+impl Read for Broken {
+    fn read(&mut self, _buf: &mut [u8]) -> io::Result<usize> {
+        Err(io::Error::from(io::ErrorKind::Other))
+    }
+}
+
+/// A static image whose one segment is this code, at 0x10000.
+pub fn image(alloc: Global, code: &[u32]) -> Result<Vec<u8>, AllocError> {
+    let size = u32::try_from(code.len()).unwrap_or(0).wrapping_mul(4);
+    let mut file = Vec::from_slice(alloc, b"\x7fELF\x01\x01\x01\0\0\0\0\0\0\0\0\0".as_slice())?;
+    let header = [0x00f3_0002, 1, 0x1_0000, 52, 0, 0, 0x0020_0034, 1, 0];
+    let segment = [1, 84, 0x1_0000, 0x1_0000, size, size, 5, 4];
+    for word in header.iter().chain(segment.iter()).chain(code.iter()) {
+        file.extend_from_slice(word.to_le_bytes().as_slice())?;
+    }
+    Ok(file)
+}
+
+/// Performs `rvvbox` with these words, and asserts its status, what was printed, and the calls of the store.
+pub fn expect<R: Abort + AllocGlobal>(
+    rt: &R,
+    words: &[&str],
+    shelf: &mut Shelf,
+    (status, output, errors): (Status, &str, &str),
+    calls: &str,
+) {
+    let alloc = rt.alloc();
+    let mut out = Vec::new(alloc);
+    let mut err = Vec::new(alloc);
+    let had = perform(alloc, words, shelf, &mut Broken, &mut out, &mut err);
+    assert_eq!(rt; std::str::from_utf8(err.as_slice()), Ok(errors));
+    assert_eq!(rt; std::str::from_utf8(out.as_slice()), Ok(output));
+    assert_eq!(rt; had, status);
+    assert_eq!(rt; shelf.calls.as_str(), calls);
+}
+
+/// Performs `rvvbox` where standard output takes no text, and asserts that nothing is told.
+pub fn expect_silence<R: Abort + AllocGlobal>(rt: &R, words: &[&str], shelf: &mut Shelf) {
+    let alloc = rt.alloc();
+    let mut errors = Vec::new(alloc);
+    let status = perform(alloc, words, shelf, &mut Broken, &mut Broken, &mut errors);
+    assert_eq!(rt; status, Status::File);
+    assert!(rt; errors.is_empty());
+}

@@ -1,9 +1,0 @@
-use Rattle.sandbox_run.specs.Session.{open_fault}
-use Rattle.rvvbox.proofs.AcceptedLemmas.{opened}
-use Rattle.rvvbox.proofs.accepted.run_session.Goals as goal
-
-pub returns-in-Ok-clause-answer : goal.returns-in-Ok-clause-answer
-returns-in-Ok-clause-answer g c =
-    opened g.row.VLENB c.args.agnostic c.args.accepted.now c.args.args.places (open_fault g.row.VLENB c.args.accepted.now c.args.args.places c.args.max)
-    c.in-Ok.session c.run-steps.result c.run-steps.new.self.machine c.close.result c.ended.result c.in-Ok.ensures.refused c.in-Ok.ensures.machine
-    c.in-Ok.ensures.steps c.in-Ok.ensures.bound c.run-steps.ensures.first c.close.ensures c.ended.ensures
