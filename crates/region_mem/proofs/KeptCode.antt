@@ -7,8 +7,8 @@ use Rattle.std.proofs.lemmas.Bool.Decides.{nat_tests}
 use Rattle.std.proofs.lemmas.List.{get_or-set_other}
 use Rattle.region_mem.specs.Words.{Right, Read, Write, Fetch}
 use Rattle.region_mem.specs.Areas.{Area, holds, has_right, is_open, is_open_from, byte_at, bytes_of, number_of, number_at, with_byte, with_bytes, with_number}
-use Rattle.region_mem.specs.Memory.{Memory, is_permitted, store_of, fetch_of}
-use Rattle.region_mem.specs.Laws.{Extent, extent_of, IsCodeSafe, StoresKeepCode}
+use Rattle.region_mem.specs.Memory.{Memory, byte_of, is_permitted, store_of, fetch_of}
+use Rattle.region_mem.specs.Laws.{Extent, extent_of, IsCodeSafe, StoresKeepCode, StoresKeepUnwritable}
 use Rattle.region_mem.proofs.ExtentLemmas.{stores_keep_extents}
 use Rattle.region_mem.proofs.Parts.{length_bytes}
 use Rattle.region_mem.proofs.Writes.{written}
@@ -109,12 +109,12 @@ bytes_kept x a (byte ∷ bytes) areas (inl lt) =
 bytes_kept x a (byte ∷ bytes) areas (inr le) =
     bytes_kept x (a + 1) bytes (with_byte a byte areas) (inr (omega arith)) ∙ byte_kept x a byte areas (inr (omega arith))
 
-number_kept : (x a n value : ℕ) (areas : List Area) → IsOutside x a n → byte_at x (with_number a n value areas) ≡ byte_at x areas
+pub number_kept : (x a n value : ℕ) (areas : List Area) → IsOutside x a n → byte_at x (with_number a n value areas) ≡ byte_at x areas
 unfolding with_number
 number_kept x a n value areas outside = bytes_kept x a (bytes_of n value) areas (rw (length_bytes n value) outside)
 
 -- Each byte of a store may be written, so none of them may be fetched.
-open_each : (right : Right) (from n k : ℕ) (areas : List Area) → list_all (is_open right areas) (range_with_len from n) ≡ true → k < n → is_open right areas (from + k) ≡ true
+pub open_each : (right : Right) (from n k : ℕ) (areas : List Area) → list_all (is_open right areas) (range_with_len from n) ≡ true → k < n → is_open right areas (from + k) ≡ true
 open_each right from zero k areas all below = absurd (omega arith)
 open_each right from (suc n) zero areas all below =
     let same : from + 0 ≡ from = omega arith in
@@ -123,19 +123,23 @@ open_each right from (suc n) (suc k) areas all below =
     let same : from + suc k ≡ (from + 1) + k = omega arith in
     rw same (open_each right (from + 1) n k areas (and_parts _ _ all).1 (omega arith))
 
-fetch_outside : (x a n : ℕ) (memory : Memory) → IsCodeSafe memory → list_all (is_open Write memory.areas) (range_with_len a n) ≡ true →
-    is_open Fetch memory.areas x ≡ true → IsOutside x a n
-fetch_outside x a n memory safe all fetched =
+write_outside : (x a n : ℕ) (areas : List Area) → list_all (is_open Write areas) (range_with_len a n) ≡ true →
+    is_open Write areas x ≡ false → IsOutside x a n
+write_outside x a n areas all shut =
     elim (cases_lt x a) [
       | inl lt ↦ inl lt
       | inr ge ↦ elim (cases_lt x (a + n)) [
         | inl lt ↦
             let at : a + (x - a) ≡ x = omega arith in
-            let may : is_open Write memory.areas x ≡ true = rw (← at) (open_each Write a n (x - a) memory.areas all (omega arith)) in
-            absurd (cc (may, safe x fetched))
+            let may : is_open Write areas x ≡ true = rw (← at) (open_each Write a n (x - a) areas all (omega arith)) in
+            absurd (cc (may, shut))
         | inr le ↦ inr le
       ]
     ]
+
+fetch_outside : (x a n : ℕ) (memory : Memory) → IsCodeSafe memory → list_all (is_open Write memory.areas) (range_with_len a n) ≡ true →
+    is_open Fetch memory.areas x ≡ true → IsOutside x a n
+fetch_outside x a n memory safe all fetched = write_outside x a n memory.areas all (safe x fetched)
 
 -- So what is fetched is kept.
 fetched_kept : (from k a n value : ℕ) (memory : Memory) → IsCodeSafe memory → list_all (is_open Write memory.areas) (range_with_len a n) ≡ true →
@@ -185,3 +189,9 @@ stores_keep_code address n value memory stored safe e =
       (λ x may. open_kept Write x stored.areas memory.areas extents ∙ safe x (sym (open_kept Fetch x stored.areas memory.areas extents) ∙ may)),
       (λ pc. fetch_kept pc address n value memory stored safe is.0 is.1 extents),
     )
+
+pub stores_keep_unwritable : StoresKeepUnwritable
+unfolding byte_of is_permitted
+stores_keep_unwritable address n value x memory stored e shut =
+    let is = stored_is address n value memory stored e in
+    rw (← is.1) (number_kept x address n value memory.areas (write_outside x address n memory.areas (writes_all address n memory.areas is.0) shut))

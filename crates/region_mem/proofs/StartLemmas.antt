@@ -1,16 +1,16 @@
 -- What the memory that a run starts with gives back.
-use Rattle.std.proofs.Common.{◌≡◌, inl, inr, ℕ, ◌+◌, ◌<◌, ◌≤◌, Bool, true, false, cond, List, [], ◌∷◌, ◌++◌, map, filter, ltb, arith, sym, ap, refl, ◌∙◌, sum_by, append_assoc, append-nil}
-use Rattle.std.specs.List.{AllByRecursion}
+use Rattle.std.proofs.Common.{◌≡◌, inl, inr, ℕ, ◌+◌, ◌<◌, ◌≤◌, Bool, true, false, cond, List, [], ◌∷◌, ◌++◌, length, map, filter, ltb, arith, sym, ap, refl, ◌∙◌, sum_by, append_assoc, append-nil}
+use Rattle.std.specs.List.{AllByRecursion, list_all}
 use Rattle.std.proofs.lemmas.Bool.Decides.{nat_tests}
 use Rattle.region_mem.specs.Words.{Param, Arg, BUFFERS, BUFFERS_END}
 use Rattle.region_mem.proofs.Matching.{nothing_wrong}
 use Rattle.region_mem.proofs.Apart.{IsRising, end_of, all_insert, all_inserts, rising, sum_by_all}
-use Rattle.elf_image.specs.Image.{SegmentView, IsSegment, IsInPlace}
+use Rattle.elf_image.specs.Image.{SegmentView, IsSegment, IsInPlace, ImageView, IsImage}
 use Rattle.region_mem.specs.Areas.{Area}
 use Rattle.region_mem.specs.Memory.{is_buffer_area, arg_with, left_after, args_with, args_of}
 use Rattle.region_mem.specs.Start.{segment_area, stack_area, buffer_area, buffer_areas, insert_area, insert_areas, passed_of, start_areas, start_memory}
 use Rattle.region_mem.specs.Laws.{GivesArgumentsBack}
-use Rattle.region_mem.specs.Parameter.{Argument, room_of}
+use Rattle.region_mem.specs.Parameter.{Argument, AreArguments, is_valid, room_of}
 
 -- Areas by their first addresses.
 abbrev pub AreSorted : List Area → Type 0
@@ -132,9 +132,12 @@ args_back params place (Arg.None ∷ args) = ap (λ xs. Arg.None ∷ xs) (args_b
 args_back params place (Arg.Scalar value ∷ args) = ap (λ xs. Arg.Scalar value ∷ xs) (args_back params (place + 1) args)
 args_back params place (Arg.Buffer bytes ∷ args) = ap (λ xs. Arg.Buffer bytes ∷ xs) (args_back params (place + 1) args)
 
-pub gives_arguments_back : GivesArgumentsBack
-unfolding start_memory start_areas args_of
-gives_arguments_back image params args is valid eight places matching =
+-- The buffers' areas are those that are filtered out of all.
+pub buffers_of_start : (image : ImageView) (params : List Param) (args : List Argument) → IsImage image → list_all is_valid params ≡ true →
+    length params ≡ 8 → length args ≡ 8 → AreArguments params args →
+    filter is_buffer_area (start_memory image params args).areas ≡ buffer_areas params 0 args
+unfolding start_memory start_areas
+buffers_of_start image params args is valid eight places matching =
     let segments = map segment_area image.segments in
     let wrong = nothing_wrong params args matching in
     let high : ℕ = BUFFERS + sum_by room_of params in
@@ -144,4 +147,9 @@ gives_arguments_back image params args is valid eight places matching =
     let none = all_insert IsNone stack_area (insert_areas segments []) none_stack (all_inserts IsNone segments [] (none_segments image.segments is.each) tt) in
     let found = inserts_last BUFFERS high (buffer_areas params 0 args) base (omega arith) bound buffers
     (insert_sorted stack_area (insert_areas segments []) (inserts_sorted segments [] tt)) (none_below BUFFERS base none) in
-    rw (found, none_filtered base none) (args_back params 0 args)
+    rw (found, none_filtered base none) refl
+
+pub gives_arguments_back : GivesArgumentsBack
+unfolding args_of start_memory
+gives_arguments_back image params args is valid eight places matching =
+    rw (buffers_of_start image params args is valid eight places matching) (args_back params 0 args)

@@ -5,7 +5,7 @@ use Rattle.region_mem.specs.Words.{Param, Arg, Read, Write, Fetch, HIGH_SEGMENTS
 use Rattle.elf_image.specs.Image.{ImageView, IsImage, code_at}
 use Rattle.region_mem.specs.Parameter.{Argument, is_valid, AreArguments}
 use Rattle.region_mem.specs.Areas.{Area, AreInOrder, AreInside, is_open, number_at, number_of, bytes_of}
-use Rattle.region_mem.specs.Memory.{Memory, IsAccessSize, args_of, fetch_of, is_permitted, load_of, store_of, window_of, has_window, with_window, overlaid_window}
+use Rattle.region_mem.specs.Memory.{Memory, IsAccessSize, args_of, byte_of, fetch_of, is_permitted, load_of, store_of, window_of, has_window, with_window, overlaid_window}
 use Rattle.region_mem.specs.Start.{start_memory}
 
 -- what is so of each image, each eight valid parameters, and the arguments that match them
@@ -57,6 +57,12 @@ abbrev pub StoresKeepExtents : Type 0
 StoresKeepExtents =
     (address n value : ℕ) (memory stored : Memory) → store_of address n value memory ≡ Some stored →
     HasExtentsOf stored memory
+
+-- It changes no byte that may not be written.
+abbrev pub StoresKeepUnwritable : Type 0
+StoresKeepUnwritable =
+    (address n value x : ℕ) (memory stored : Memory) → store_of address n value memory ≡ Some stored →
+    is_open Write memory.areas x ≡ false → byte_of x stored ≡ byte_of x memory
 
 -- No word is fetched from the end of the segments' places on, at the start or after any stores: EXIT lies there.
 abbrev pub FetchesNothingAbove : Type 0

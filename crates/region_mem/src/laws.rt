@@ -1,6 +1,6 @@
 //! Laws of memory, for those who stand on its definitions: functions that do nothing, with the law as contract.
 ghost use Rattle.std.specs.List.{AllByRecursion};
-ghost use Rattle.region_mem.specs.Laws.{BringsBytes, StartsInOrder, StartsInside, GivesArgumentsBack, StoresKeepExtents, FetchesNothingAbove, StartsWithCode, StartsCodeSafe, StoresKeepCode, StartsWithBytes, StoresKeepBytes, NumbersFit, LoadsFit, WindowsToRead, LoadsInWindows, WindowsToWrite, StoresInWindows, StoresFillWindows, LentWindowsAreWritten};
+ghost use Rattle.region_mem.specs.Laws.{BringsBytes, StartsInOrder, StartsInside, GivesArgumentsBack, StoresKeepExtents, StoresKeepUnwritable, FetchesNothingAbove, StartsWithCode, StartsCodeSafe, StoresKeepCode, StartsWithBytes, StoresKeepBytes, NumbersFit, LoadsFit, WindowsToRead, LoadsInWindows, WindowsToWrite, StoresInWindows, StoresFillWindows, LentWindowsAreWritten};
 
 use crate::arguments::{Arg, Args, Bytes};
 use crate::memory::Regions;
@@ -24,6 +24,11 @@ pub fn gives_arguments_back()
 /// A store moves no region, and changes neither its rights nor what was passed.
 pub fn stores_keep_extents()
     ensures { StoresKeepExtents }
+{}
+
+/// A store changes no byte that may not be written.
+pub fn stores_keep_unwritable()
+    ensures { StoresKeepUnwritable }
 {}
 
 /// No word is fetched from 0xC000_0000 on, at the start of a run or after any stores. So the end of a run, which lies

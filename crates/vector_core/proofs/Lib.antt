@@ -2,8 +2,11 @@ pub mod Destinations
 pub mod Extensions
 pub mod Inside
 pub mod Kept
+pub mod KeptMemory
 pub mod KeptSteps
 pub mod Moved
 pub mod Numbers
 pub mod Permits
 pub mod RunLemmas
+pub mod ReadsInside
+pub mod WritesInside

@@ -5,6 +5,7 @@ pub mod FixedPoint
 pub mod Integer
 pub mod Laws
 pub mod KeepLaws
+pub mod Kept
 pub mod LoadsStores
 pub mod Machine
 pub mod MachineStep
@@ -21,6 +22,7 @@ pub mod Setup
 pub mod Singles
 pub mod Start
 pub mod Step
+pub mod Touches
 pub mod Vectors
 pub mod Widening
 pub mod Words

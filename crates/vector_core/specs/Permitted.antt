@@ -66,6 +66,13 @@ IsPermittedStep vlenb m =
     ((word : ℕ) (insn : Insn) → fetch_of m.hart.pc m.memory ≡ Some word →
     meaning_of word ≡ Some insn → ArePermitted m.memory (accesses_of_insn vlenb insn m))
 
+-- The same by the areas of a memory that need not be the machine's own: those that a run started with.
+abbrev pub IsPermittedIn : Memory → ℕ → Machine → Type 0
+IsPermittedIn memory vlenb m =
+    (is_permitted Fetch m.hart.pc 4 memory ≡ true) ×
+    ((word : ℕ) (insn : Insn) → fetch_of m.hart.pc m.memory ≡ Some word →
+    meaning_of word ≡ Some insn → ArePermitted memory (accesses_of_insn vlenb insn m))
+
 -- A step that is no fault is permitted,
 abbrev pub StepsArePermitted : Type 0
 StepsArePermitted = (vlenb : ℕ) (m t : Machine) → step vlenb m ≡ Ok t → IsPermittedStep vlenb m

@@ -1,8 +1,10 @@
 //! Laws of the definitions, each on a function that does nothing.
 
 ghost use Rattle.vector_core.specs.KeepLaws.{StepsKeepVectors};
+ghost use Rattle.vector_core.specs.Kept.{RunsKeep};
 ghost use Rattle.vector_core.specs.Laws.{ElementsAreRegisterResults};
 ghost use Rattle.vector_core.specs.Permitted.{RunsArePermitted, StepsArePermitted};
+ghost use Rattle.vector_core.specs.Touches.{StepsReadInside, StepsWriteInside};
 
 /// At SEW 32 an operation that the scalar instructions have too, from add to remu, makes of an element what the scalar
 /// instruction makes of its registers: two definitions, written apart, that agree.
@@ -26,4 +28,22 @@ pub fn steps_are_permitted()
 /// So is every step of a run up to a state that it reaches: no byte is fetched, loaded or stored without the right.
 pub fn runs_are_permitted()
     ensures { RunsArePermitted }
+{}
+
+/// A run moves no region of memory, changes neither its rights nor what was passed, and changes no byte that may not be
+/// written: so a buffer to read and the segments without the right to write stay as they were.
+pub fn runs_keep_memory()
+    ensures { RunsKeep }
+{}
+
+/// A step changes no byte of memory outside the accesses of its instruction that write.
+pub fn steps_write_inside()
+    ensures { StepsWriteInside }
+{}
+
+/// What a step makes of the scalar and vector registers, or its fault, depends on no byte of memory but those of its word
+/// and those that its instruction reads: two machines that agree in these, in their registers, and in where the regions
+/// lie and their rights, go the same way.
+pub fn steps_read_inside()
+    ensures { StepsReadInside }
 {}

@@ -1,0 +1,5 @@
+use Rattle.region_mem.proofs.KeptCode.{stores_keep_unwritable}
+use Rattle.region_mem.proofs.laws.stores_keep_unwritable.Goals as goal
+
+pub returns : goal.returns
+returns c = stores_keep_unwritable
