@@ -318,6 +318,108 @@ def small_numbers():
         yield (16, False, 0, 1, 7, word('vsmul.vv', vd=10, vs2=8, vs1=9, vm=vm)), dict(v={0: bytes(16), 8: b'\x80', 9: b'\x80'})
 
 
+# ---- Ties, ends and bits past 127 ------------------------------------------------------------------------------------------------------------------------
+
+def elements(values, w, vlenb):
+    """One register with these elements, over and over, as far as it has room."""
+    return b''.join((v & (1 << w) - 1).to_bytes(w // 8, 'little') for v in itertools.islice(itertools.cycle(values), 8 * vlenb // w))
+
+
+def on_elements(name, sew, a, b, vlenb=32, wide=False, **state):
+    """An instruction on the elements a of vs2 and, in its order, b of vs1, or the number or immediate b; a in two registers where `wide`."""
+    i = ALL[name]
+    f, x, v = dict(vd=8, vs2=4), {}, {}
+    data = elements(a, 2 * sew if wide else sew, 2 * vlenb if wide else vlenb)
+    for k in range(len(data) // vlenb):
+        v[4 + k] = data[k * vlenb:(k + 1) * vlenb]
+    if 'vs1' in i.syntax:
+        f['vs1'], v[2] = 2, elements(b, sew, vlenb)
+    elif 'rs1' in i.syntax:
+        f['rs1'], x[7] = 7, b & M32
+    else:
+        f['imm'] = b
+    vtype = vtype_of(sew, M1, 0)
+    return (vlenb, False, vtype, vlmax_of(vtype, vlenb), 1 + 2 * sew, i.encode(vm=1, **f)), dict(x=x, v=v, **state)
+
+
+def about_ties(d):
+    """Numbers of which the lowest d bits are a half, and more and less than that, behind even and odd ones of either sign."""
+    half = 1 << d - 1
+    return [(k << d) + half + off for k in (0, 1, 2, 5, -1, -2, -3, -6) for off in ((0,) if d == 1 else (0, -1, 1))]
+
+
+def ties():
+    """A half behind an even and an odd number, of either sign, at each width and in each mode."""
+    odd = [1, 3, 5, 11, -1, -3, -5, -11]
+    for sew, vxrm in itertools.product((8, 16, 32), range(4)):
+        at = lambda name, a, b, **more: on_elements(name, sew, a, b, vxrm=vxrm, **more)
+        for name in ('vaadd.vv', 'vaaddu.vv'):
+            yield at(name, [n // 2 for n in odd], [n - n // 2 for n in odd])
+        for name in ('vasub.vv', 'vasubu.vv'):
+            yield at(name, [n // 2 for n in odd], [n // 2 - n for n in odd])
+        # The half of a unit of vsmul is a quarter of the greatest number's successor.
+        yield at('vsmul.vv', [1 << sew - 2] * 8, odd)
+        yield at('vsmul.vx', odd, 1 << sew - 2)
+        for name, d in (('vssrl.vi', 1), ('vssrl.vx', 2), ('vssra.vi', 1), ('vssra.vx', 3), ('vssra.vv', 2)):
+            yield at(name, about_ties(d), [d] if name[-2:] == 'vv' else d)
+        if sew < 32:
+            for name, d in (('vnclip.wi', 1), ('vnclip.wx', 3), ('vnclipu.wi', 1), ('vnclipu.wx', 3)):
+                yield at(name, [n for n in about_ties(d) if name[:7] == 'vnclip.' or n >= 0], d, wide=True)
+
+
+def exact_ends():
+    """Results that are the greatest or the least number and do not saturate, and those next to them that do."""
+    for sew, vxrm in itertools.product((8, 16, 32), (0, 2, 3)):
+        least, most, top = -(1 << sew - 1), (1 << sew - 1) - 1, (1 << sew) - 1
+        at = lambda name, a, b, **more: on_elements(name, sew, a, b, vxrm=vxrm, **more)
+        yield at('vsmul.vv', [least, -most, least, most], [-most, least, most, least])
+        yield at('vsmul.vx', [least, 1, -1], -most)
+        yield at('vsmul.vv', [least], [least])
+        if vxrm == 0:
+            yield at('vsadd.vv', [most - 1, least + 1, most, least], [1, -1, 0, 0])
+            yield at('vssub.vv', [most - 1, least + 1, most, least], [-1, 1, 0, 0])
+            yield at('vsaddu.vv', [top - 1, top], [1, 0])
+            yield at('vssubu.vv', [1, top, 0], [1, top, 0])
+        if sew < 32:
+            yield at('vnclip.wi', [most << 1, least << 1], 1, wide=True)
+            yield at('vnclip.wi', [(most << 1) + 1], 1, wide=True)
+            yield at('vnclip.wi', [(least << 1) - 1], 1, wide=True)
+            yield at('vnclipu.wi', [top << 1], 1, wide=True)
+            yield at('vnclipu.wi', [(top << 1) + 1], 1, wide=True)
+
+
+def least_by_minus_one():
+    """The least number divided by -1."""
+    for sew, name in itertools.product((8, 16, 32), ('vdiv', 'vdivu', 'vrem', 'vremu')):
+        least = 1 << sew - 1
+        yield on_elements(name + '.vv', sew, [least, least, 7, -7, least + 1, 0], [-1, 1, -1, -1, -1, -1])
+        yield on_elements(name + '.vx', sew, [least, least + 1, 5, -5, 0, -1], -1)
+
+
+def past_127():
+    """The first bit of a mask at and past bit 127, and none below vl; masked, the first of which bit the mask lets through."""
+    everything = range(256)
+    for i in [i for i in VECTOR if i.shape == 'first' or i.stem in ('vfirst', 'vcpop')]:
+        vd = dict(rd=5) if 'rd' in i.syntax else dict(vd=4)
+        for bits, vl in (((127, 130), 256), ((128, 129), 256), ((129,), 256), ((199, 201), 200), ((200, 250), 200), ((255,), 256), ((), 256), (range(128, 256), 255)):
+            for ones in (False, True):
+                yield (32, ones, 0xc3, vl, 9, i.encode(vm=1, vs2=3, **vd)), dict(v={3: mask_of(bits, 32)})
+        for through in (range(140, 256), range(128), everything):
+            yield (32, True, 0xc3, 256, 9, i.encode(vm=0, vs2=3, **vd)), dict(v={0: mask_of(through, 32), 3: mask_of((130, 150, 151), 32)})
+
+
+def wide_indices():
+    """vrgatherei16 where its indices would fill 16 registers."""
+    for (vd, vs2, vs1), vm in itertools.product(((8, 0, 16), (16, 24, 0), (8, 16, 24)), (1, 0)):
+        yield (32, True, 0xc3, 256, 11, ALL['vrgatherei16.vv'].encode(vm=vm, vd=vd, vs2=vs2, vs1=vs1)), {}
+
+
+def later_cases():
+    """As `cases`, which draw from one source of random numbers; these draw none."""
+    for some in (ties, exact_ends, least_by_minus_one, past_127, wide_indices):
+        yield from some()
+
+
 def cases():
     """(vlenb, ones, vtype, vl, seed, word), and what else a case may have."""
     for some in (rounding, saturation, distances, masks, no_elements, accesses, whole_moves, small_numbers):

@@ -979,6 +979,117 @@ def budgets():
          '0x10000 4294967295 4294967295*x10\nend 4294967294 4294967295*x10')
 
 
+# ---- What a stricter or a looser rule would tell too -----------------------------------------------------------------------------------------
+
+def then(name, expected, text, passed, stated, vlenb=16):
+    """Words, and a next block that states something; an error is told at the last of these words."""
+    count = text.count(';') + 1
+    known = ''.join('; x%d %d..%d' % (10 + place, p.a, p.b) for place, p in scalars(passed)) + placed(passed)
+    told = 'accepted %d 0 0' % (count + 1) if expected == A else '%s %08x' % (expected, CODE + 4 * count - 4)
+    case('%s: %s; then %s' % (name, text, stated), told, text + '; end: ret', passed,
+         '0x10000 %d; R%s\nend 1; R; %s' % (count + 1, known, stated), vlenb)
+
+
+def known_at_every_width():
+    """What a vector instruction states at e8 it states at e16 and e32 too, of numbers that 8 and 16 bits do not hold."""
+    for sew, lo, hi in ((16, 256, 1000), (32, 70000, 100000)):
+        made = 'vsetivli x0,4,e%d,m1; vmv.v.x v8,a0; ' % sew
+        for text, a, b in (
+                ('vadd.vi v10,v8,5', lo + 5, hi + 5), ('vadd.vx v10,v8,a0', 2 * lo, 2 * hi), ('vsll.vi v10,v8,1', 2 * lo, 2 * hi),
+                ('vsrl.vi v10,v8,1', lo // 2, hi // 2), ('vmv.v.v v10,v8', lo, hi), ('vand.vx v10,v8,a0', 0, hi),
+                ('vminu.vx v10,v8,a0', lo, hi), ('vmaxu.vx v10,v8,a0', lo, hi), ('li t0,300; vremu.vx v10,v8,t0', 0, 299)):
+            vector_probe(made + text, 'v10*1 e%d' % sew, a, b, 's %d %d' % (lo, hi))
+
+
+def states_nothing():
+    """Of what these compute no more is known, though more could be said of it."""
+    near, two = 's 16 255, s 3 7', 'vsetivli x0,4,e8,m1; vmv.v.x v8,a0; vmv.v.x v9,a1; '
+    for text in ('lui t1,0x80000; mulhu t0,a0,t1', 'or t0,a0,x0', 'xor t0,a0,x0', 'mulh t0,a0,a1', 'mulhsu t0,a0,a1', 'li t1,2; sra t0,a0,t1',
+                 'vsetivli x0,5,e16,m1; csrrs t0,vtype,x0', 'vsetivli x0,0,e8,m1; vfirst.m t0,v8', two + 'vmv.x.s t0,v9'):
+        probe(text, near, 0, M32)
+    for text, group in (
+            ('li t0,10; vdivu.vx v10,v8,t0', 'v10*1 e8'), ('li t0,2; vmul.vx v10,v9,t0', 'v10*1 e8'), ('vsub.vv v10,v8,v9', 'v10*1 e8'),
+            ('vmulhu.vv v10,v8,v9', 'v10*1 e8'), ('vwaddu.vv v10,v8,v9', 'v10*2 e16'), ('vwmulu.vv v10,v8,v9', 'v10*2 e16'),
+            ('vslide1down.vx v10,v8,a1', 'v10*1 e8'), ('vslide1up.vx v10,v8,a1', 'v10*1 e8'), ('vmv.v.v v10,v9; vslideup.vi v10,v8,1', 'v10*1 e8'),
+            ('vssubu.vv v10,v8,v9', 'v10*1 e8'), ('vaaddu.vv v10,v8,v9', 'v10*1 e8'), ('vasubu.vv v10,v8,v9', 'v10*1 e8')):
+        vector_probe(two + text, group, None, None, 's 16 200, s 3 7')
+    vector_probe('vsetivli x0,4,e16,m2; vmv.v.x v8,a0; vsetvli x0,x0,e8,m1; vnclipu.wi v10,v8,0', 'v10*1 e8', None, None, 's 16 200')
+    vector_probe('vsetivli x0,4,e8,mf2; vmv.v.i v8,5; vsetvli x0,x0,e16,m1; vsext.vf2 v9,v8', 'v9*1 e16', None, None)
+    for text in ('srli t0,a0,0', 'li t1,1; divu t0,a0,t1', 'andi t0,a0,-1', 'or t0,a0,x0'):
+        then('no copy', 'EqualityNotProved', text, near, 'x5 = x10')
+
+
+def both_known():
+    """Sums, splits and ranges that are kept where a stricter rule would drop them."""
+    then('vl is read', A, 'vsetvli x0,a0,e8,m1; csrrs t0,vl,x0', 's 1 99', 'x5 = vl')
+    for vlenb in (16, 32):
+        then('vlenb is a number', A, 'csrrs t0,vlenb,x0', '', 'x5 is %d' % vlenb, vlenb)
+    probe('mv a2,a1; vsetvli a1,a1,e8,m1; sub t0,a2,a1', '-, s 1 99', 0, 83)
+    then('vl that is 0 is kept as a new number', 'EqualityNotProved', 'vsetivli x0,5,e64,m1; vsetvli x0,x0,e8,m1; nop', '', 'vl is 0')
+    both = (0x80000000, 0x80000009), (0x80000005, 0x80000020)
+    for name in ('blt', 'bge'):
+        for is_taken in (True, False):
+            told_of(name, *both, is_taken, both)
+    for stride, load in ((300, 'li t1,300'), (0x80000, 'lui t1,0x80')):
+        for size, expected in ((stride + 1, 'accepted 4 0 0'), (stride, 'AccessNotProved 00010008')):
+            straight('a stride of %d in %d bytes' % (stride, size), expected, load + '; vsetivli x0,2,e8,m1; vlse8.v v8,(a0),t1; ret', 'r %d' % size)
+    case('a branch on what was passed', 'accepted 3 0 0', 'mv a1,a0; beqz a0,yes; no: ecall; yes: ecall', 's 0 9',
+         '0x10000 3; x10 0..9 = p0\nno 1; x11 1..9\nyes 1; x11 0..0')
+
+
+def orders():
+    """Which of two faults is told."""
+    case('a block before that of the entry', 'IllegalWord 00010000', '.word 0; ret', '', '0x10000 1; R\n0x10004 0; R', entry=CODE + 4)
+    then('sums come before vector facts', 'EqualityNotProved', 'vsetivli t0,4,e8,m1; vmv.v.i v8,9', '', 'x5 4..4 = 4; v8*1 e8 0..1')
+
+
+# ---- Certificates at their limits -----------------------------------------------------------------------------------------------------------
+
+def spelled(name, expected, facts, old='', new='', passed='', ends_behind=False):
+    """A certificate of one block with these facts, of whose bytes some are others, and which may end right behind them."""
+    k = kernel('nop; ret', passed, '0x10000 2; R; ' + facts)
+    data, old, new = c.certificate_bytes(k.certificate), bytes.fromhex(old), bytes.fromhex(new)
+    if old:
+        assert data.count(old) == 1, (name, data.hex())
+        at = data.index(old)
+        data = data[:at] + new + (b'' if ends_behind else data[at + len(old):])
+    row(name, file_of(k, data), 16, expected)
+
+
+def certificates_at_their_limits():
+    two, known = 's 0 9, s 0 8', 'certificate '
+    spelled('atoms that fall', known + 'Equality', 'x5 0..9 = p0 + p1', '2101000000 2201000000', '2201000000 2101000000', two)
+    spelled('an atom twice', known + 'Equality', 'x5 0..9 = p0 + p1', '2101000000 2201000000', '2101000000 2101000000', two)
+    spelled('atom 0', known + 'Equality', 'x5 0..9 = x6', '0601000000', '0001000000')
+    spelled('atom 41', known + 'Equality', 'x5 0..9 = x6', '0601000000', '2901000000')
+    spelled('a sum of nine', known + 'Equality', 'x5 0..9 = ' + ' + '.join('x%d' % n for n in range(10, 19)))
+    spelled('byte 3 of a vector fact', known + 'Fact', 'v8*1 e8 0..5', '08080100', '08080101')
+    for zeros in ('0100', '0001'):
+        spelled('bytes 6 and 7 of a vector fact', known + 'Fact', 'v8*1 e8 #3 0..5', '0300 0000 00000000', '0300 %s 00000000' % zeros)
+    spelled('an atom with a sum of its own, and a vector fact that is none', known + 'Fact', 'x5 0..9 = x6; x6 0..9 = 3; v9*2 e8 0..5')
+    spelled('a vector fact of all numbers of 32 bits', known + 'Fact', 'v8*1 e32 0..0xffffffff')
+    spelled('a group past v31', known + 'Fact', 'v28*8 e8 0..5')
+    spelled('a mode of 0', known + 'Parameter', '', '0203 0000 10000000', '0200 0000 10000000', 'rw 16')
+    spelled('no vtype that is supported', known + 'Fact', '', '02000000 00000000 00 0000 01', '02000000 00000000 00 0118 01')
+    spelled('no vtype that is supported, of LMUL 1/8', known + 'Fact', '', '02000000 00000000 00 0000 01', '02000000 00000000 00 0105 01')
+    spelled('32 register facts', 'IntervalNotProved 00010000', '; '.join('x%d 0..9' % n for n in range(2, 32)) + '; vl 0..9')
+    spelled('32 vector facts', 'VectorFactNotProved 00010000', '; '.join('v%d*1 e8 0..5' % n for n in range(32)))
+    spelled('a buffer of 16 MiB', 'accepted 2 0 0', '', passed='r 0x1000000')
+    spelled('a larger buffer', known + 'Parameter', '', passed='r 0x1000001')
+    # Where the bytes end behind the upper end of an interval, its order is told, and not that more is missing.
+    spelled('lo above hi, and no more bytes', known + 'Fact', 'x5 2..9', '02000000 09000000', '02000000 01000000', ends_behind=True)
+    spelled('lo below hi, and no more bytes', known + 'Short', 'x5 2..9', '02000000 09000000', '02000000 09000000', ends_behind=True)
+    spelled('lo above hi of a group, and no more bytes', known + 'Fact', 'v8*1 e8 2..9', '02000000 09000000', '02000000 01000000', ends_behind=True)
+    spelled('lo above hi of a scalar, and no more bytes', known + 'Parameter', '', '02000000 09000000', '02000000 01000000', 's 2 9', ends_behind=True)
+    block = '%s 2; R'
+    falling = [block % '0x10004', block % '0x10000']
+    case('blocks that fall', known + 'BlockOrder', 'nop; ret', '', '\n'.join(falling))
+    case('a block twice', known + 'BlockOrder', 'nop; ret', '', '\n'.join([block % '0x10000'] * 2))
+    case('no block', 'NoEntryBlock', 'nop; ret', '', '')
+    for count, expected in ((1024, 'BudgetNotProved 00010000'), (1025, known + 'TooMany')):
+        case('%d blocks' % count, expected, 'nop; ret', '', '\n'.join(block % hex(CODE + 4 * n) for n in range(count)))
+
+
 def hand_rows():
     whole_kernels()
     spellings()
@@ -993,4 +1104,9 @@ def hand_rows():
     jumps()
     branches()
     budgets()
+    known_at_every_width()
+    states_nothing()
+    both_known()
+    orders()
+    certificates_at_their_limits()
     return ROWS

@@ -9,7 +9,8 @@ takes part.
 
 A row is `FILE NAME` where the file is refused for that reason, or `FILE read CERTIFICATE` where it is read. FILE is hex,
 and `HEX+N` stands for these bytes and N zero bytes behind them. CERTIFICATE is hex, `-` where the file has none, and
-`empty` where it has no byte. Rows stand in the order in which reasons are told.
+`empty` where it has no byte. Rows stand in the order in which reasons are told; the last ones, each with its name in the
+line before it, are about what no rule names, and about limits.
 """
 import struct
 
@@ -73,7 +74,9 @@ def notes_of(*parts):
 ROWS = []
 
 
-def row(file, name, certificate=None, zeros=0):
+def row(file, name, certificate=None, zeros=0, told=None):
+    if told:
+        ROWS.append(f"# {told}")
     tail = f"+{zeros}" if zeros else ""
     shown = "" if name != "read" else " -" if certificate is None else " " + (certificate.hex() or "empty")
     ROWS.append(f"{file.hex()}{tail} {name}{shown}")
@@ -156,6 +159,45 @@ def order_rows():
         row(whole(patches=[patch for _, patch in faults[place:]]), name)
 
 
+def moved_table(table):
+    """The file of one segment of code whose header table begins at `table`: at 44 it shares e_phnum, 1 as LOAD is, with the ELF header."""
+    head = elf([], b"", [(28, 4, table)], phnum=1)
+    entries = struct.pack("<8I", LOAD, table + 32, 0x10000, 0, 24, 24, R | X, 4)
+    return head[:table] + bytes(max(0, table - len(head))) + entries + CODE
+
+
+def limit_rows():
+    """Files in which what no rule names is not as linkers leave it."""
+    found = bytes([1, 2, 3, 4])
+    row(whole(patches=[(20, 4, 0x10001)]), "BadType", told="e_version 1, and bits above the lowest 16")
+    row(whole(patches=[(7, 1, 3)]), "read", found, told="another OS ABI")
+    row(whole(patches=[(8, 8, 0xFFFFFFFF)]), "read", found, told="bytes 8 to 15 of the header")
+    row(whole(patches=[(32, 4, 0x100000)]), "read", found, told="section headers that lie past the file")
+    row(whole(patches=[(46, 6, 0x123456789ABC)]), "read", found, told="size and number of section headers")
+    row(whole(patches=[(36, 4, 0xFFFFFFF0)]), "read", found, told="high bits of e_flags")
+    row(whole(patches=[(64, 4, 9), (80, 4, 3)]), "read", found, told="a physical address, and an alignment of 3")
+    row(data(filesz=0, offset=0x800000), "read", found, told="an offset past the file, of no bytes")
+    row(whole(notes=changed(NOTES, memsz=0)), "read", found, told="notes with more bytes than memory")
+    row(whole(notes=changed(NOTES, address=0x10000, memsz=1 << 31)), "read", found, told="notes that would lie over code")
+    row(data(flags=0x100000 | R | W), "read", found, told="other bits of p_flags")
+    row(data(kind=5), "read", found, told="a header of type 5")
+    row(whole(data=changed(DATA, kind=0x70000003, offset=0x7FFFFF00)), "read", found, told="a header of a type of its own, past the file")
+    row(elf([changed(TEXT, memsz=32)], CODE, [(24, 4, 0x1001C)]), "read", told="an entry past the bytes of the file")
+    row(elf([changed(TEXT, memsz=32)], CODE, [(24, 4, 0x10020)]), "EntryNotCode", told="an entry past the memory")
+    others = [(6, 0, 0, 0, 0, R)]
+    row(elf([TEXT] + 63 * others, CODE), "read", told="64 headers")
+    row(elf([TEXT] + 64 * others, CODE), "BadHeaderTable", told="65 headers, which the file has")
+    row(moved_table(53), "read", told="a header table at an odd offset")
+    row(moved_table(44), "read", told="a header table that begins inside the ELF header")
+    row(elf([], b"", [(28, 4, 20)], phnum=1), "SegmentOutOfPlace", told="a header table inside the ELF header, of a segment at 20")
+    row(elf([], b"", [(28, 4, 0)], phnum=1), "EntryNotCode", told="a header table at 0, of no segment")
+    turned = elf([], CODE + CERTIFICATE, [(28, 4, 52 + len(CODE + CERTIFICATE))], phnum=2)
+    for kind, offset, size, flags in [(LOAD, 52, 24, R | X), (NOTE, 52 + 24, len(CERTIFICATE), R)]:
+        turned += struct.pack("<8I", kind, offset, 0x10000, 0, size, size, flags, 4)
+    row(turned, "read", found, told="a note before the header table")
+    row(turned[:-1], "BadHeaderTable", told="a note before the header table, of which the last byte is missing")
+
+
 def main():
     for line in __doc__.split("\n")[4:]:
         print(f"# {line}".rstrip())
@@ -164,6 +206,7 @@ def main():
     segment_rows()
     note_rows()
     order_rows()
+    limit_rows()
     print("\n".join(ROWS))
 
 

@@ -3,13 +3,14 @@
 Usage: legality.py > legality.txt. A word is legal where qemu-riscv32 carries it out and raises no illegal instruction, at VLEN 128 and at VLEN 256; model.py
 has to say the same, else the script stops. No row is by hand: qemu's rules are this profile's.
 """
+import itertools
 import random
 import struct
 import subprocess
 
 import model
 from qemu import EBREAK, TRAMPOLINE, Batch
-from table import BUFFER, RW, VECTOR, VTYPES, lmul4_of
+from table import ALL, BUFFER, RW, VECTOR, VTYPES, lmul4_of
 
 PC = 0x10000
 VILL = 0x80000000
@@ -17,6 +18,8 @@ rng = random.Random(1967)
 LOWS = sorted({v & 0x3f for v in VTYPES})
 # At e8, m1: vwadd.vv v8,v9,v10 and v8,v8,v10. At e8, m2: vmseq.vi v8,v8,0 and v9,v8,0; vmv2r.v v9,v8.
 NAMED = ((0x00, 0xc6952457), (0x00, 0xc6852457), (0x01, 0x62803457), (0x01, 0x628034d7), (0x01, 0x9e80b4d7))
+# vrgatherei16.vv, at e8, m8, where its indices would fill 16 registers; at e8, m4, where they fill 8; and at e16, m8. vd, vs2, vs1.
+WIDE_INDICES = ((8, 0, 16), (16, 24, 0), (8, 16, 24), (16, 0, 8), (24, 8, 16))
 
 
 def drawn(names, count):
@@ -54,6 +57,8 @@ def asked():
                     if model.decode(word):
                         yield vtype, word
     yield from NAMED
+    for vtype, (vd, vs2, vs1), vm in itertools.product((0x03, 0xc3, 0x02, 0x0b), WIDE_INDICES, (1, 0)):
+        yield vtype, ALL['vrgatherei16.vv'].encode(vm=vm, vd=vd, vs2=vs2, vs1=vs1)
 
 
 def of_qemu(rows, vlenb):

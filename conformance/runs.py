@@ -14,6 +14,7 @@ import sys
 import tempfile
 
 import model
+from assembly import assembled
 from qemu import EBREAK, Batch, harness
 from table import M32
 
@@ -551,6 +552,48 @@ def everything():
     yield Run('bytes, halves, words', asm('lb t0, 3(a0); lh t1, 3(a0); lhu t2, 5(a0); lbu t3, 4(a0); sb t0, 0(a0); sh t1, 9(a0); sw t1, 13(a0); lw t4, 11(a0); ret'), [w(some(32, 201))])
     yield from vector_kernels()
     yield from small_words()
+    yield from later()
+
+
+def in_segments(text, *more):
+    """An image of these words, assembled here, and of further segments."""
+    code = words(*assembled(text)[0])
+    return put_together([(0x10000, code, len(code), 5), *more], 0x10000)
+
+
+ADJOINING = (0x20000, bytes(range(1, 17)), 16, 6), (0x20010, bytes(range(17, 33)), 16, 6)
+THREE = ADJOINING + ((0x20020, bytes(range(33, 49)), 16, 6),)
+
+
+def later():
+    """Accesses over two segments, rights that stand alone, the stack at its start, masks of 256 bits, and a trap at the last step."""
+    told = 'out of steps comes before a trap (docs/MACHINE.md, Steps and faults)'
+    yield Run('a trap where no step is left', of_words(0), most=0, by_hand=told)
+    yield Run('a trap where no step is left, behind a step', of_words(0x13, 0), most=1, by_hand=told)
+    yield Run('a trap where one step is left', of_words(0x13, 0), most=2)
+    yield Run('a run that ends where no step is left', of_words(0x13, 0x8067), most=2)
+    for vlenb in (16, 32):
+        yield Run('a vector store over two segments', in_segments(
+            'vsetivli x0,8,e8,m1; lui a1,0x20; addi a1,a1,12; vmv.v.i v8,7; vse8.v v8,(a1); vle8.v v9,(a1); ret', *ADJOINING), [], vlenb)
+        yield Run('a vector load with a stride over two segments', in_segments(
+            'vsetivli x0,4,e8,m1; lui a1,0x20; li t0,9; vlse8.v v8,(a1),t0; ret', *THREE), [], vlenb)
+        yield Run('a store by indices over two segments', in_segments(
+            'vsetivli x0,4,e16,m1; lui a1,0x20; vid.v v8; vsll.vi v8,v8,3; vadd.vi v8,v8,5; vsuxei16.v v8,(a1),v8; ret', *ADJOINING), [], vlenb)
+        yield Run('an element over two segments', in_segments('vsetivli x0,1,e32,m1; lui a1,0x20; addi a1,a1,14; vle32.v v8,(a1); ret', *ADJOINING), [], vlenb)
+    yield Run('whole registers over two segments', in_segments('lui a1,0x20; vl2re8.v v8,(a1); ret', *ADJOINING))
+    yield Run('whole registers stored over two segments', in_segments('lui a1,0x20; vl2re8.v v8,(a1); vmv1r.v v10,v8; addi a1,a1,8; vs1r.v v10,(a1); ret', *ADJOINING))
+    one = 'a page of qemu that has a right may be read (docs/MACHINE.md, Memory)'
+    yield Run('a load from what may only be executed', put_together([(0x10000, words(*assembled('auipc a0,0; lw t1,0(a0); ret')[0]), 12, 1)], 0x10000), by_hand=one)
+    yield Run('a load from what may only be written', in_segments('lui a1,0x20; lw a0,0(a1); ret', (0x20000, b'abcd', 4, 2)), by_hand=one)
+    yield Run('a store to what may only be executed', put_together([(0x10000, words(*assembled('auipc a0,0; sw a0,0(a0); ret')[0]), 12, 1)], 0x10000))
+    yield Run('a jump to what may only be read', in_segments('lui a1,0x20; jalr x0,0(a1)', (0x20000, words(0x8067), 4, 4)))
+    yield Run('a load from what has no right', in_segments('lui a1,0x20; lb a0,0(a1)', (0x20000, b'a', 1, 0)))
+    yield Run('the stack is zeros, at its lowest byte too', in_segments('lui a1,0x2fff0; lw a0,0(a1); vsetivli x0,16,e8,m1; vle8.v v8,(a1); ret'))
+    numbers = 'vsetvli t0,x0,e8,m8,ta,ma; vid.v v16; %s; ret'
+    for name, text in (
+            ('vfirst at 200', 'li t1,200; vmseq.vx v8,v16,t1; vfirst.m a0,v8'), ('vcpop of 256', 'vmseq.vv v8,v16,v16; vcpop.m a0,v8'),
+            ('viota up to 255', 'vmseq.vv v8,v16,v16; viota.m v24,v8'), ('vmsbf up to 200', 'li t1,200; vmseq.vx v8,v16,t1; vmsbf.m v9,v8; vmsif.m v10,v8; vmsof.m v11,v8')):
+        yield Run(name, in_segments(numbers % text), [], 32)
 
 
 def main():

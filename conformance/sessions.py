@@ -2,13 +2,14 @@
 
 Usage: sessions.py > sessions.txt. Rows are as in runs.txt: the state after a run, memory included, is that of qemu-riscv32, the number of steps is that of
 qemu's log, and model.py has to say the same. That an image passes, and why a run is refused, is written here by hand, by docs/CHECKER.md and docs/JOBS.md;
-checker.py has to say the same.
+checker.py and opening.py have to say the same.
 """
 import subprocess
 
-from checker import check
+import opening
 from hand_checks import BYTE_ADD, GATHER, GATHER_127, RAISE, RAISE_BLOCKS, SUM, SUM_BLOCKS, placed, scalars
-from kernels import file_of, kernel
+from images import elf
+from kernels import CODE, code_bytes, file_of, kernel
 from runs import Run, r, some, w
 
 UNDER_A_MASK = 'vsetvli t0,a1,e8,m1,ta,ma; vle8.v v8,(a0); vmsgtu.vx v0,v8,a2; vadd.vx v8,v8,a2,v0.t; vse8.v v8,(a0),v0.t; csrrs a3,vl,x0; ret'
@@ -79,17 +80,92 @@ def refused_runs():
     yield Refused('an image that does not pass', short, 'AccessNotProved 00010008', [r(bytes(255)), r(bytes(16)), w(bytes(16))])
 
 
+# A budget of each register that holds a number at the start: name, words, parameters, block, arguments, bound.
+BUDGETS = [
+    ('sp', 'ret', '', '0 1*x2; R; x2 0x30000000..0x30000000', [], 0x30000000),
+    ('ra', 'ret', '', '0 1*x1; R', [], 0xfffffff0),
+    ('a register that holds 0', 'ret', '', '1 7*x5; R', [], 1),
+    ('a0, for which nothing is passed', 'ret', '', '1 7*x10; R', [], 1),
+    ('a0', 'ret', 's 1 9', '0 1*x10; R; x10 1..9', [5], 5),
+    ('a0, of the greatest number', 'ret', 's 1 9', '0 1*x10; R; x10 1..9', [9], 9),
+    ('a7', 'ret', '-, -, -, -, -, -, -, s 1 9', '3 2*x17; R', [None] * 7 + [4], 11),
+    ('a pointer', 'ret', 'r 4', '0 1*x10; R; x10 is 0x40000000', [r(b'abcd')], 0x40000000),
+    ('the second pointer', 'ret', 'rw 4097, r 1', '5 2*x11; R; x11 is 0x40003000', [w(some(4097)), r(b'a')], 5 + 2 * 0x40003000),
+    ('the greatest numbers', 'ret', 's 0 0xffffffff', '4294967295 4294967295*x10; R', [0x7fffffff], 0xffffffff * 0x80000000)]
+MOST = (1 << 63) - 1
+EVERY_WORD = '\n'.join('%#x %d; R' % (CODE + 4 * n, 1024 - n) for n in range(1024))
+FAR_SEGMENTS = 'lui t0,0x21; lui t1,0x2f; lw t2,4(t0); sw t2,8(t1); lb t2,3(t1); sh t2,0(t0); ret'
+INTO_WHAT_MAY_BE_WRITTEN_ALONE = 'lui t0,0x20; li t1,1638; sw t1,2(t0); sb t1,0(t0); ret'
+
+
+def budgeted(name, vlenb=16):
+    _, text, passed, block, arguments, bound = next(b for b in BUDGETS if b[0] == name)
+    return file_of(kernel(text, passed, '0x10000 ' + block, vlenb)), arguments, bound
+
+
+def later_runs(vlenb):
+    """Bounds, and the most blocks and segments that there may be."""
+    for name, *_ in BUDGETS:
+        image, arguments, bound = budgeted(name, vlenb)
+        yield Run('a budget in %s' % name, image, arguments, vlenb, most=bound)
+    yield Run('the most steps that a job may have', raising(vlenb), [w(some(4096)), 9], vlenb, most=MOST)
+    if vlenb == 16:
+        yield Run('1024 blocks', file_of(kernel('; '.join(['nop'] * 1023) + '; ret', '', EVERY_WORD)), [])
+        fifteen = [(0x20000 + 4096 * n, some(16, n), 4096, 6) for n in range(1, 16)]
+        yield Run('16 segments', file_of(kernel(FAR_SEGMENTS, '', '0x10000 7; R', more=fifteen)), [])
+        # What a session shows of memory it shows whatever the rights; qemu reads no page that may be written alone.
+        yield Run('a segment that may be written alone', file_of(kernel(
+            INTO_WHAT_MAY_BE_WRITTEN_ALONE, '', '0x10000 5; R', more=[(0x20000, b'\1\2\3\4', 16, 2)])), [], by_hand='not read by qemu')
+
+
+def later_refusals():
+    three = straight('nop; ret', 's 3 9, r 3, s 3 9, r 3, -', 2, 16)
+    right = [3, r(b'abc'), 9, r(b'def')]
+    for name, answer, changes in (
+            ('a scalar below its interval', 'ScalarOutOfInterval(0)', {0: 2}), ('a scalar above its interval', 'ScalarOutOfInterval(2)', {2: 10}),
+            ('two scalars outside their intervals', 'ScalarOutOfInterval(0)', {0: 10, 2: 2}), ('a longer buffer', 'WrongSize(1)', {1: r(b'abcd')}),
+            ('an empty buffer', 'WrongSize(3)', {3: w(b'')}), ('two buffers of other sizes', 'WrongSize(1)', {1: r(b'ab'), 3: r(b'abcd')}),
+            ('a buffer for a scalar', 'WrongKind(0)', {0: r(b'abc')}), ('a scalar for a buffer', 'WrongKind(3)', {3: 3}),
+            ('a buffer for none', 'WrongKind(4)', {4: r(b'')}), ('none for a scalar', 'WrongKind(2)', {2: None}), ('none for a buffer', 'WrongKind(3)', {3: None}),
+            ('a scalar at the last place', 'WrongKind(7)', {7: 0}), ('two other kinds', 'WrongKind(1)', {1: 3, 2: r(b'')}),
+            ('another kind behind an interval and a size', 'WrongKind(4)', {0: 2, 1: r(b''), 4: 0}),
+            ('an interval behind a size', 'ScalarOutOfInterval(2)', {1: r(b''), 2: 10})):
+        arguments = [changes.get(place, right[place] if place < 4 else None) for place in range(8)]
+        yield Refused(name, three, answer, arguments)
+        yield Refused(name + ', and too few steps and other vector registers', three, answer, arguments, 32, 0)
+    for name, *_ in BUDGETS:
+        image, arguments, bound = budgeted(name)
+        yield Refused('one step fewer than a budget in %s' % name, image, 'BoundTooLarge', arguments, most=bound - 1)
+    image, _, _ = budgeted('the greatest numbers')
+    yield Refused('a bound above the most steps that a job may have', image, 'BoundTooLarge', [0x80000000], most=MOST)
+    yield Refused('an image that does not pass, and no argument', straight(GATHER, 'r 255, r 16, rw 16', 5, 16), 'AccessNotProved 00010008', [], most=0)
+    code = code_bytes([0x8067])
+    yield Refused('no certificate', elf([(1, 0, CODE, 4, 4, 5)], code), 'no certificate', [])
+    yield Refused('a certificate that is none', file_of(kernel('ret', '', '0x10000 1; R'), b'\1\0'), 'certificate Short', [])
+    yield Refused('an image that is none', elf([(1, 0, CODE, 4, 4, 5)], code)[:51], 'image TooShort', [])
+
+
+def accepted_rows():
+    for more in (accepted_runs, later_runs):
+        for vlenb in (16, 32):
+            for run in more(vlenb):
+                mine = run.of_model()
+                theirs = mine if run.by_hand else run.of_qemu()
+                assert mine == theirs and mine[0] == 'ended', '%s\n model %s\n qemu  %s' % (run.name, mine, theirs)
+                refusal = opening.refusal(run.image, run.args, vlenb, run.most)
+                assert refusal is None, '%s: %s' % (run.name, refusal)
+                yield '# %s%s\n%s' % (run.name, ' (by hand)' if run.by_hand else '', run.row(*mine))
+
+
 def main():
-    rows, refused = [], list(refused_runs())
-    for vlenb in (16, 32):
-        for run in accepted_runs(vlenb):
-            mine, theirs = run.of_model(), run.of_qemu()
-            assert mine == theirs and mine[0] == 'ended', '%s\n model %s\n qemu  %s' % (run.name, mine, theirs)
-            assert check(run.image, vlenb).startswith('accepted'), run.name
-            rows.append('# %s\n%s' % (run.name, run.row(*mine)))
+    rows, refused = list(accepted_rows()), list(refused_runs()) + list(later_refusals())
+    for run in refused:
+        mine = opening.refusal(run.image, run.args, run.vlenb, run.most)
+        assert mine == run.answer, '%s\n by hand %s\n model   %s' % (run.name, run.answer, mine)
     version = subprocess.run(['qemu-riscv32', '--version'], capture_output=True, text=True).stdout.split()[2]
     print('# Runs of accepted images. Made by conformance/sessions.py: state and number of steps of qemu-riscv32 %s, which conformance/model.py shares.' % version)
-    print('# %d runs, and %d by hand that are refused.' % (len(rows), len(refused)))
+    by_hand = sum('(by hand)' in row.split('\n')[0] for row in rows)
+    print('# %d runs, %d of them by hand, and %d by hand that are refused.' % (len(rows), by_hand, len(refused)))
     print('\n'.join(rows + ['# %s (by hand)\n%s' % (run.name, run.row(run.answer)) for run in refused]))
 
 

@@ -436,6 +436,8 @@ def main():
     for args, more in chosen.cases():
         add(*args, **more)
     length_cases()
+    for args, more in chosen.later_cases():
+        add(*args, **more)
     groups = {}
     for n, c in enumerate(cases):
         groups.setdefault((c.vlenb, c.ones), []).append(n)
