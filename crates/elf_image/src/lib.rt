@@ -15,7 +15,7 @@ pub use error::ElfError;
 pub use image::Image;
 pub use layout::{
     HIGH_SEGMENTS, HIGH_SEGMENTS_END, LOW_SEGMENTS, LOW_SEGMENTS_END, MAX_FILE_SIZE,
-    MAX_MEMORY_SIZE, MAX_SEGMENTS,
+    MAX_MEMORY_SIZE, MAX_SEGMENTS, limits_in_numbers,
 };
 pub use reading::read;
 pub use segment::{Rights, Segment};

@@ -1,4 +1,6 @@
 //! Where the stack and the buffers lie. Where segments may lie is told by `elf_image`.
+ghost use Rattle.std.specs.Prelude.{◌≡◌};
+ghost use Rattle.region_mem.specs.declared.layout.TheConstants.{BUFFERS, BUFFERS_END, MAX_BUFFER_SIZE, PAGE_SIZE, STACK, STACK_END, STACK_SIZE};
 
 use elf_image::HIGH_SEGMENTS;
 
@@ -22,3 +24,14 @@ pub const MAX_BUFFER_SIZE: u32 = 16 << 20;
 
 /// Buffers begin at multiples of this, and at least so many bytes lie between two of them.
 pub const PAGE_SIZE: u32 = 0x1000;
+
+/// Law: where the stack and the buffers lie, and how large a buffer is at most, in numbers.
+pub fn layout_in_numbers()
+    ensures stack { STACK ≡ 0x2FFF_0000 }
+    ensures stack_size { STACK_SIZE ≡ 0x1_0000 }
+    ensures stack_end { STACK_END ≡ 0x3000_0000 }
+    ensures buffers { BUFFERS ≡ 0x4000_0000 }
+    ensures buffers_end { BUFFERS_END ≡ 0x8000_0000 }
+    ensures buffer_size { MAX_BUFFER_SIZE ≡ 0x100_0000 }
+    ensures page { PAGE_SIZE ≡ 0x1000 }
+{}

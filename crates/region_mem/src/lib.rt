@@ -24,6 +24,9 @@ pub use laws::{
     starts_with_bytes, starts_with_code, stores_in_windows, stores_keep_bytes, stores_keep_code,
     stores_keep_extents, stores_keep_unwritable,
 };
-pub use layout::{BUFFERS, BUFFERS_END, MAX_BUFFER_SIZE, PAGE_SIZE, STACK, STACK_END, STACK_SIZE};
+pub use layout::{
+    BUFFERS, BUFFERS_END, MAX_BUFFER_SIZE, PAGE_SIZE, STACK, STACK_END, STACK_SIZE,
+    layout_in_numbers,
+};
 pub use memory::Regions;
 pub use parameter::{ArgError, Mode, Param, Parameters};

@@ -1,5 +1,7 @@
 //! Laws of the definitions, each on a function that does nothing.
 
+ghost use Rattle.std.specs.Prelude.{◌≡◌};
+ghost use Rattle.scalar_core.specs.declared.hart.TheConstants.{EXIT};
 ghost use Rattle.scalar_core.specs.Laws.{DividesSigned, DividesUnsigned, StepsKeepHarts};
 
 /// A step leads from a hart's state to a hart's state.
@@ -12,4 +14,9 @@ pub fn steps_keep_harts()
 pub fn division_with_remainder()
     ensures signed { DividesSigned }
     ensures unsigned { DividesUnsigned }
+{}
+
+/// The address that ends a run, in numbers.
+pub fn exit_in_numbers()
+    ensures { EXIT ≡ 0xFFFF_FFF0 }
 {}

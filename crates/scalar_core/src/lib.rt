@@ -14,5 +14,5 @@ mod steps;
 mod transfers;
 
 pub use hart::{EXIT, Scalar};
-pub use laws::{division_with_remainder, steps_keep_harts};
+pub use laws::{division_with_remainder, exit_in_numbers, steps_keep_harts};
 pub use steps::step_scalar;
