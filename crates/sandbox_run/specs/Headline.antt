@@ -5,12 +5,16 @@ use Rattle.region_mem.specs.Laws.{BringsBytes}
 use Rattle.sandbox_run.specs.Words.{Argument, vlenb_of, Machine, AcceptedView, bound_of, scalars_of}
 use Rattle.region_mem.specs.Parameter.{AreArguments}
 use Rattle.vreg_groups.specs.declared.policies.Agnostic.{Agnostic}
-use Rattle.vector_core.specs.Permitted.{IsPermittedStep}
+use Rattle.vector_core.specs.Kept.{Keeps}
+use Rattle.vector_core.specs.Permitted.{IsPermittedIn, IsPermittedStep}
 use Rattle.vector_core.specs.Run.{after, has_ended}
 use Rattle.vector_core.specs.Start.{start}
+use Rattle.vector_core.specs.Touches.{ReadsInside, WritesInside}
 
 -- After at most n steps without a fault the run from here has ended, and each byte that one of them fetched, loaded or
--- stored was permitted.
+-- stored was permitted, also by the areas and rights of the start. A step changes no byte but those that its list of accesses
+-- writes, and goes by no byte but those that it fetches and that the list reads. All the way memory keeps where its areas lie,
+-- their rights, what was passed, and each byte that may not be written.
 pub record RunsWell (vlenb n : ℕ) (first : Machine) : Type 0 where
   pub steps : ℕ
   pub last : Machine
@@ -19,6 +23,14 @@ pub record RunsWell (vlenb n : ℕ) (first : Machine) : Type 0 where
   pub ended : has_ended last ≡ true
   pub permitted : (j : ℕ) → j < steps → (m : Machine) → after vlenb first j ≡ Ok m
       → IsPermittedStep vlenb m
+  pub mapped : (j : ℕ) → j < steps → (m : Machine) → after vlenb first j ≡ Ok m
+      → IsPermittedIn first.memory vlenb m
+  pub writes : (j : ℕ) → j < steps → (m : Machine) → after vlenb first j ≡ Ok m
+      → WritesInside vlenb m
+  pub reads : (j : ℕ) → j < steps → (m : Machine) → after vlenb first j ≡ Ok m
+      → ReadsInside vlenb m
+  pub keeps : (j : ℕ) → j ≤ steps → (m : Machine) → after vlenb first j ≡ Ok m
+      → Keeps first.memory m.memory
 
 -- An accepted image, run with any arguments that match its parameters, and any setting for agnostic elements, does so
 -- within the bound of its certificate for the scalars among them.
