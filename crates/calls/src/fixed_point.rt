@@ -3,28 +3,29 @@
 use crate::assertions::assert_same;
 use lane_fixed::{ClipOp, FixedOp, RoundingMode, clip, compute};
 
-const MODES: [RoundingMode; 4] = [
-    RoundingMode::NearestUp,
-    RoundingMode::NearestEven,
-    RoundingMode::Down,
-    RoundingMode::Odd,
-];
+/// 6, 10 and -6 shifted right by two, and whether one of them saturates.
+fn shifted_by_two(mode: RoundingMode) -> ([u8; 3], bool) {
+    let mut values = [6u8, 10, 0xfa];
+    let is_saturated = compute(
+        FixedOp::ShiftRightSigned,
+        mode,
+        values.as_mut_slice(),
+        [2u8; 3].as_slice(),
+        [true; 3].as_slice(),
+    );
+    (values, is_saturated)
+}
 
 #[test]
 fn a_shift_by_two_in_each_mode(rt: HostRuntime) {
-    let expected = [[2u8, 3, 0xff], [2, 2, 0xfe], [1, 2, 0xfe], [1, 3, 0xff]];
-    for (mode, expected) in MODES.iter().zip(expected.iter()) {
-        let mut values = [6u8, 10, 0xfa];
-        let is_saturated = compute(
-            FixedOp::ShiftRightSigned,
-            *mode,
-            values.as_mut_slice(),
-            [2u8; 3].as_slice(),
-            [true; 3].as_slice(),
-        );
-        assert_same!(rt; values, *expected);
-        assert_same!(rt; is_saturated, false);
-    }
+    let up = shifted_by_two(RoundingMode::NearestUp);
+    assert_same!(rt; up, ([2, 3, 0xff], false));
+    let even = shifted_by_two(RoundingMode::NearestEven);
+    assert_same!(rt; even, ([2, 2, 0xfe], false));
+    let down = shifted_by_two(RoundingMode::Down);
+    assert_same!(rt; down, ([1, 2, 0xfe], false));
+    let odd = shifted_by_two(RoundingMode::Odd);
+    assert_same!(rt; odd, ([1, 3, 0xff], false));
 }
 
 #[test]

@@ -77,6 +77,12 @@ fn a_body_is_written_and_read_by_its_bytes(rt: HostRuntime) -> Result<(), Fail> 
         [5, 6, 7, 8, 9, 10].as_slice()
     );
     assert_same!(rt; registers.byte(Reg::new(4), 6), 0xff);
+    Ok(())
+}
+
+#[test]
+fn a_register_is_written_by_its_bytes(rt: HostRuntime) -> Result<(), Fail> {
+    let mut registers = VregFile::<16>::new();
     registers.set_register_bytes(Reg::new(4), &[11; 16]);
     assert_same!(rt; registers.group(Reg::new(4), 1), [11; 16].as_slice());
     assert_same!(rt; registers.byte(Reg::new(5), 0), 0);

@@ -2,6 +2,7 @@
 use crate::assertions::assert_same;
 use elf_image::*;
 use std::alloc::Global;
+use std::process::Abort;
 use std::test::Fail;
 
 /// An executable as the standard lays it out: a header, three program headers, code, data, a note.
@@ -42,7 +43,13 @@ fn reads_a_file(rt: HostRuntime) -> Result<(), Fail> {
     let image = image(rt.alloc())?;
     assert_same!(rt; image.entry(), 0x10000);
     assert_same!(rt; image.segments().len(), 2);
-    let data = &image.segments()[1];
+    let data = image.segments().get(1).ok_or("two segments")?;
+    assert_data(&rt, data);
+    Ok(())
+}
+
+/// The segment of data.
+fn assert_data(rt: &impl Abort, data: &Segment) {
     assert_same!(rt; data.address(), 0x20000);
     assert_same!(rt; data.memory_size(), 16);
     assert_same!(rt; data.bytes(), [0xde, 0xad, 0xbe, 0xef].as_slice());
@@ -53,7 +60,6 @@ fn reads_a_file(rt: HostRuntime) -> Result<(), Fail> {
     };
     assert_same!(rt; data.rights(), rights);
     assert_same!(rt; data.contains(0x2000f), true);
-    Ok(())
 }
 
 #[test]
@@ -61,23 +67,31 @@ fn finds_code_and_the_certificate(rt: HostRuntime) -> Result<(), Fail> {
     let image = image(rt.alloc())?;
     assert_same!(rt; image.segment_at(0x10017), Some(0));
     assert_same!(rt; image.segment_at(0x10018), None);
-    // vsetvli, ecall, a word that passes the end of the code, and data.
-    assert_same!(rt; image.code_at(0x10000), Some(0x0c06_72d7));
-    assert_same!(rt; image.code_at(0x10014), Some(0x0000_0073));
-    assert_same!(rt; image.code_at(0x10015), None);
-    assert_same!(rt; image.code_at(0x20000), None);
+    assert_code(&rt, &image);
     let certificate = image.certificate().ok_or("a certificate")?;
     assert_same!(rt; certificate, [1, 2, 3, 4].as_slice());
     Ok(())
 }
 
-#[test]
-fn tells_why_a_file_is_refused(rt: HostRuntime) -> Result<(), Fail> {
-    // The file of another machine, with a faulty table besides.
+/// vsetvli, ecall, a word that passes the end of the code, and data.
+fn assert_code(rt: &impl Abort, image: &Image) {
+    assert_same!(rt; image.code_at(0x10000), Some(0x0c06_72d7));
+    assert_same!(rt; image.code_at(0x10014), Some(0x0000_0073));
+    assert_same!(rt; image.code_at(0x10015), None);
+    assert_same!(rt; image.code_at(0x20000), None);
+}
+
+/// The file of another machine, with a faulty table besides.
+fn faulty() -> [u8; 200] {
     let mut file = FILE;
     file[18] = 62;
     file[44] = 0;
-    let error = read(rt.alloc(), &file).err().ok_or("an error")?;
+    file
+}
+
+#[test]
+fn tells_why_a_file_is_refused(rt: HostRuntime) -> Result<(), Fail> {
+    let error = read(rt.alloc(), &faulty()).err().ok_or("an error")?;
     assert_same!(rt; error, ElfError::BadMachine);
     let text = format!(in rt.alloc(); "{error}")?;
     assert_same!(rt; text.as_str(), "the file is not for RISC-V");

@@ -28,6 +28,10 @@ fn sets_bits_around_the_first(rt: HostRuntime) {
     let mut mask = MASK;
     set_first(FirstOp::Including, mask.as_mut_slice());
     assert_same!(rt; mask, [true, true, false, false, false, false]);
+}
+
+#[test]
+fn sets_the_first_bit_alone(rt: HostRuntime) {
     let mut mask = MASK;
     set_first(FirstOp::Only, mask.as_mut_slice());
     assert_same!(rt; mask, [false, true, false, false, false, false]);
@@ -64,18 +68,32 @@ fn moves_elements(rt: HostRuntime) {
     assert_same!(rt; values, [9, 1, 2, 3]);
     slide_down(3, source.as_slice(), 0, values.as_mut_slice());
     assert_same!(rt; values, [4, 0, 0, 0]);
+}
+
+#[test]
+fn gathers_elements(rt: HostRuntime) {
+    let mut values = [9u8; 4];
     gather(
-        source.as_slice(),
+        [1u8, 2, 3, 4].as_slice(),
         [3u32, 4, 0xffff_ffff, 0].as_slice(),
         0,
         values.as_mut_slice(),
     );
     assert_same!(rt; values, [4, 0, 0, 1]);
-    let mut values = source;
+}
+
+#[test]
+fn moves_elements_by_one(rt: HostRuntime) {
+    let mut values = [1u8, 2, 3, 4];
     slide_one_up(7, values.as_mut_slice());
     assert_same!(rt; values, [7, 1, 2, 3]);
     slide_one_down(8, values.as_mut_slice());
     assert_same!(rt; values, [1, 2, 3, 8]);
+}
+
+#[test]
+fn packs_elements(rt: HostRuntime) {
+    let mut values = [1u8, 2, 3, 8];
     let packed = compress([false, true, false, true].as_slice(), values.as_mut_slice());
     assert_same!(rt; packed, 2);
     assert_same!(rt; &values[..2], [2u8, 8].as_slice());

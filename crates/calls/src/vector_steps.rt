@@ -9,9 +9,23 @@ use rv_decode::{
     WidenOp, decode,
 };
 use scalar_core::Scalar;
+use std::process::Abort;
 use std::test::Fail;
 use vector_core::{VectorState, step_vector};
 use vreg_groups::{Agnostic, Vconfig};
+
+/// A step by a word.
+fn step(
+    vectors: &mut VectorState<16>,
+    scalar: &mut Scalar,
+    memory: &mut Regions,
+    word: u32,
+) -> Result<(), Fault> {
+    match decode(word) {
+        Some(insn) => step_vector(vectors, scalar, word, insn, memory),
+        None => Err(Fault::Illegal(word)),
+    }
+}
 
 #[test]
 fn bytes_are_raised_in_memory(rt: HostRuntime) -> Result<(), Fail> {
@@ -21,21 +35,28 @@ fn bytes_are_raised_in_memory(rt: HostRuntime) -> Result<(), Fail> {
     scalar.set_reg(Reg::new(10), 0x2000);
     // vsetivli x7,3,e8,m1,ta,ma; vle8.v v8,(x10); vadd.vi v8,v8,2; vse8.v v8,(x10)
     for word in [0xcc01_f3d7, 0x0205_0407, 0x0281_3457, 0x0205_0427] {
-        let insn = decode(word).ok_or("no instruction")?;
-        step_vector(&mut vectors, &mut scalar, word, insn, &mut memory)?;
+        step(&mut vectors, &mut scalar, &mut memory, word)?;
     }
     assert_same!(rt; vectors.config(), Vconfig { vtype: 0xc0, vl: 3 });
     assert_same!(rt; memory.load(0x2000, 4), Some(0xff00_0403));
     assert_same!(rt; vectors.byte(Reg::new(8), 3), 0xff);
     assert_same!(rt; scalar.pc(), 0x1010);
-    // vse8.v v8,(x10), of which two bytes may be written
-    scalar.set_reg(Reg::new(10), 0x200e);
-    let insn = decode(0x0205_0427).ok_or("no instruction")?;
-    let refused = step_vector(&mut vectors, &mut scalar, 0x0205_0427, insn, &mut memory);
-    assert_same!(rt; refused, Err(Fault::StoreFault(0x2010)));
-    assert_same!(rt; memory.byte(0x200e), Some(0x0f));
+    assert_store_refused(&rt, &mut vectors, &mut scalar, &mut memory);
     assert_same!(rt; vectors.into_registers().byte(Reg::new(8), 0), 3);
     Ok(())
+}
+
+/// vse8.v v8,(x10), of which two bytes may be written.
+fn assert_store_refused(
+    rt: &impl Abort,
+    vectors: &mut VectorState<16>,
+    scalar: &mut Scalar,
+    memory: &mut Regions,
+) {
+    scalar.set_reg(Reg::new(10), 0x200e);
+    let refused = step(vectors, scalar, memory, 0x0205_0427);
+    assert_same!(rt; refused, Err(Fault::StoreFault(0x2010)));
+    assert_same!(rt; memory.byte(0x200e), Some(0x0f));
 }
 
 /// A step by an instruction that computes, and the first two bytes of v10 after it.
@@ -59,8 +80,7 @@ fn ready(
     let mut vectors = VectorState::<16>::new(Agnostic::Keep);
     scalar.set_reg(Reg::new(11), 0x8080);
     scalar.set_reg(Reg::new(12), 0xfe);
-    let insn = decode(vsetivli).ok_or("no instruction")?;
-    step_vector(&mut vectors, scalar, vsetivli, insn, memory)?;
+    step(&mut vectors, scalar, memory, vsetivli)?;
     let splat = VArith::Copy {
         vd: Reg::new(8),
         b: Source::Scalar(Reg::new(11)),
