@@ -1,4 +1,7 @@
+pub mod Back
 pub mod OpenFaults
+pub mod HostLemmas
 pub mod Refusals
 pub mod SessionLemmas
 pub mod StartLemmas
+pub mod StopLemmas

@@ -1,9 +1,12 @@
 pub mod Answer
+pub mod Back
 pub mod Errors
 pub mod Headline
+pub mod HostLaws
 pub mod Rooms
 pub mod Session
 pub mod Laws
+pub mod Stops
 pub mod Words
 pub use Rattle.region_mem.specs.Parameter
 pub use Rattle.region_mem.specs.Memory

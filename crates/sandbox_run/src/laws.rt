@@ -1,6 +1,9 @@
 //! Laws of runs: functions that do nothing, with the law as contract.
+ghost use Rattle.sandbox_run.specs.Back.{RunsHandBack};
 ghost use Rattle.sandbox_run.specs.Headline.{AcceptedRuns};
+ghost use Rattle.sandbox_run.specs.HostLaws.{MoreStepsChangeNothing, StartsAreAlike, StepsAreUnique, TriesAreRuns};
 ghost use Rattle.sandbox_run.specs.Laws.{ExitIsNoCode};
+ghost use Rattle.sandbox_run.specs.Stops.{AcceptedStops};
 
 use block_checker::Accepted;
 use region_mem::fetches_nothing_above;
@@ -22,3 +25,42 @@ pub fn exit_is_no_code()
 {
     fetches_nothing_above();
 }
+
+/// What a run of any image hands back, from each state that it leads to: scalars as they were passed, buffers of their sizes,
+/// and those that are only read byte for byte.
+pub fn runs_hand_back()
+    ensures { RunsHandBack }
+{}
+
+/// Wherever a run of an accepted image on matching arguments is stopped, no later than at its end, the steps done are at
+/// most the bound, each of them was permitted by the areas and rights of the start, and memory keeps those, what was passed,
+/// and each byte that may not be written.
+pub fn accepted_stops<A: Allocator>(accepted: &Accepted<A>)
+    ensures { AcceptedStops accepted.now }
+{
+    accepted.runs_end();
+}
+
+/// For an accepted image, arguments that match and at least as many steps as its bound, what [`try_run`](crate::try_run)
+/// answers is `Ended`, with the steps, the registers and the buffers of the run that a session does.
+pub fn tries_are_runs<A: Allocator>(accepted: &Accepted<A>)
+    ensures { TriesAreRuns accepted.now }
+{
+    accepted.runs_end();
+}
+
+/// A run that ends with so many steps allowed ends in the same way with any number above it.
+pub fn more_steps_change_nothing()
+    ensures { MoreStepsChangeNothing }
+{}
+
+/// A run from a state ends after one number of steps, and in one state.
+pub fn steps_are_unique()
+    ensures { StepsAreUnique }
+{}
+
+/// Two images with the same entry and segments start alike on the same parameters and arguments, whatever their
+/// certificates: so their runs are the same, and leave the same buffers.
+pub fn starts_are_alike()
+    ensures { StartsAreAlike }
+{}

@@ -11,7 +11,10 @@ mod run;
 mod session;
 mod start;
 
-pub use laws::{accepted_runs, exit_is_no_code};
+pub use laws::{
+    accepted_runs, accepted_stops, exit_is_no_code, more_steps_change_nothing, runs_hand_back,
+    starts_are_alike, steps_are_unique, tries_are_runs,
+};
 pub use outcome::{Final, OpenError, Outcome, Registers};
 pub use run::{outcome_is_first, runs_go_on, try_run, try_run_in};
 pub use session::{Session, open_in};

@@ -1,0 +1,56 @@
+-- Stops of runs, and what a session keeps of them.
+use Rattle.std.proofs.Common.{◌≡◌, ◌∙◌, ℕ, zero, suc, ◌+◌, ◌-◌, ◌<◌, ◌≤◌, ◌⊎◌, inl, inr, Bool, true, false, List, [], ◌∷◌, length, Result, Ok, Err, refl, ap, sym, arith, add-one, below_more}
+use Rattle.std.specs.List.{AllByRecursion, list_all}
+use Rattle.std.proofs.lemmas.Bool.{cases_lt}
+use Rattle.cert_note.specs.Certificate.{IsParameter}
+use Rattle.elf_image.specs.Image.{ImageView, IsImage}
+use Rattle.region_mem.specs.Memory.{Memory, args_of}
+use Rattle.region_mem.specs.Parameter.{Argument, AreArguments, is_valid}
+use Rattle.region_mem.specs.Start.{start_memory}
+use Rattle.region_mem.specs.declared.parameter.Param.{Param}
+use Rattle.region_mem.proofs.StartLemmas.{gives_arguments_back}
+use Rattle.block_checker.specs.Sound.{IsWellBehaved}
+use Rattle.vreg_groups.specs.declared.policies.Agnostic.{Agnostic}
+use Rattle.vector_core.specs.Kept.{Keeps}
+use Rattle.vector_core.specs.Machine.{Machine}
+use Rattle.vector_core.specs.MachineStep.{step}
+use Rattle.vector_core.specs.Run.{after, has_ended, GoesOnUntil}
+use Rattle.vector_core.specs.Start.{start}
+use Rattle.vector_core.proofs.KeptMemory.{permitted_in, runs_keep}
+use Rattle.vector_core.proofs.Permits.{runs_permitted}
+use Rattle.sandbox_run.specs.Stops.{IsStop, StopsWell}
+
+-- A run does not go on past its end.
+pub within_end : (vlenb : ℕ) (first : Machine) (steps k : ℕ) (last : Machine) → GoesOnUntil vlenb first steps → after vlenb first k ≡ Ok last
+    → has_ended last ≡ true → steps ≤ k
+within_end vlenb first steps k last goes is ended =
+    elim (cases_lt k steps) [
+      | inl below ↦
+          let (t, there, going) = goes k below in
+          let same : last ≡ t = cc (is, there) in
+          absurd (cc (same, ended, going))
+      | inr above ↦ above
+    ]
+
+pub stops_well : (vlenb n : ℕ) (first : Machine) (steps : ℕ) (m : Machine) → IsWellBehaved vlenb n first → IsStop vlenb first steps m
+    → StopsWell vlenb n first steps m
+stops_well vlenb n first steps m (k, last, least, leads, ended) (is, goes) =
+    let before : steps ≤ k = within_end vlenb first steps k last goes leads ended in
+    record {
+      within = omega (arith, before, least);
+      permitted = λ j below u there.
+          permitted_in vlenb first.memory u (runs_keep vlenb first u j there).extents (runs_permitted vlenb first m steps is j below u there);
+      keeps = runs_keep vlenb first m steps is;
+    }
+
+-- A run stops at its start,
+pub stop_at_start : (vlenb : ℕ) (m : Machine) → IsStop vlenb m 0 m
+unfolding after
+stop_at_start vlenb m = (refl, λ j below. absurd (omega (arith, below)))
+
+-- and after a step more.
+pub stop_after_step : (vlenb steps : ℕ) (first m t : Machine) → IsStop vlenb first steps m → has_ended m ≡ false → step vlenb m ≡ Ok t
+    → IsStop vlenb first (steps + 1) t
+unfolding after
+stop_after_step vlenb steps first m t (is, goes) going next =
+    ((rw (add-one, is) next), below_more (λ j. (u : Machine) × (after vlenb first j ≡ Ok u) × (has_ended u ≡ false)) steps goes (m, is, going))
