@@ -1009,11 +1009,12 @@ def states_nothing():
         probe(text, near, 0, M32)
     for text, group in (
             ('li t0,10; vdivu.vx v10,v8,t0', 'v10*1 e8'), ('li t0,2; vmul.vx v10,v9,t0', 'v10*1 e8'), ('vsub.vv v10,v8,v9', 'v10*1 e8'),
-            ('vmulhu.vv v10,v8,v9', 'v10*1 e8'), ('vwaddu.vv v10,v8,v9', 'v10*2 e16'), ('vwmulu.vv v10,v8,v9', 'v10*2 e16'),
+            ('vrsub.vx v10,v9,a0', 'v10*1 e8'), ('vmulhu.vv v10,v8,v9', 'v10*1 e8'), ('vwaddu.vv v10,v8,v9', 'v10*2 e16'), ('vwmulu.vv v10,v8,v9', 'v10*2 e16'),
             ('vslide1down.vx v10,v8,a1', 'v10*1 e8'), ('vslide1up.vx v10,v8,a1', 'v10*1 e8'), ('vmv.v.v v10,v9; vslideup.vi v10,v8,1', 'v10*1 e8'),
             ('vssubu.vv v10,v8,v9', 'v10*1 e8'), ('vaaddu.vv v10,v8,v9', 'v10*1 e8'), ('vasubu.vv v10,v8,v9', 'v10*1 e8')):
         vector_probe(two + text, group, None, None, 's 16 200, s 3 7')
-    vector_probe('vsetivli x0,4,e16,m2; vmv.v.x v8,a0; vsetvli x0,x0,e8,m1; vnclipu.wi v10,v8,0', 'v10*1 e8', None, None, 's 16 200')
+    for name in ('vnclipu', 'vnclip'):
+        vector_probe('vsetivli x0,4,e16,m2; vmv.v.x v8,a0; vsetvli x0,x0,e8,m1; %s.wi v10,v8,0' % name, 'v10*1 e8', None, None, 's 16 100')
     vector_probe('vsetivli x0,4,e8,mf2; vmv.v.i v8,5; vsetvli x0,x0,e16,m1; vsext.vf2 v9,v8', 'v9*1 e16', None, None)
     for text in ('srli t0,a0,0', 'li t1,1; divu t0,a0,t1', 'andi t0,a0,-1', 'or t0,a0,x0'):
         then('no copy', 'EqualityNotProved', text, near, 'x5 = x10')
@@ -1035,6 +1036,14 @@ def both_known():
             straight('a stride of %d in %d bytes' % (stride, size), expected, load + '; vsetivli x0,2,e8,m1; vlse8.v v8,(a0),t1; ret', 'r %d' % size)
     case('a branch on what was passed', 'accepted 3 0 0', 'mv a1,a0; beqz a0,yes; no: ecall; yes: ecall', 's 0 9',
          '0x10000 3; x10 0..9 = p0\nno 1; x11 1..9\nyes 1; x11 0..0')
+    # What the branch tells of a number that is split it tells of no part, so the sum before the split says more than the one behind it.
+    case('a branch on a number that is split', 'accepted 6 0 0', 'addi a2,a1,1; vsetvli t0,a1,e8,m1; li t1,6; bltu a1,t1,yes; no: ecall; yes: ecall',
+         '-, s 1 99', '0x10000 6; x11 1..99\nno 1\nyes 1; x12 2..6')
+    then('a fact of vl elements, and vl kept', A, 'vsetvli x0,a1,e8,m1; vmv.v.i v8,5; vsetvli x0,x0,e16,m2', '-, s 0 9', 'v8*1 e8 5..5')
+    for size, expected in ((16, 'accepted 3 0 0'), (15, 'AccessNotProved 00010004')):
+        straight('whole registers, and vl is 3', expected, 'vsetivli x0,3,e8,m1; vl1re8.v v8,(a0); ret', 'r %d' % size)
+    for size, expected in ((65537, 'accepted 5 0 0'), (65536, 'AccessNotProved 0001000c')):
+        straight('indices of another width than their fact', expected, 'vsetivli x0,4,e8,m1; vmv.v.i v8,9; vsetivli x0,4,e16,m1; vluxei16.v v9,(a0),v8; ret', 'r %d' % size)
 
 
 def orders():
@@ -1081,6 +1090,12 @@ def certificates_at_their_limits():
     spelled('lo below hi, and no more bytes', known + 'Short', 'x5 2..9', '02000000 09000000', '02000000 09000000', ends_behind=True)
     spelled('lo above hi of a group, and no more bytes', known + 'Fact', 'v8*1 e8 2..9', '02000000 09000000', '02000000 01000000', ends_behind=True)
     spelled('lo above hi of a scalar, and no more bytes', known + 'Parameter', '', '02000000 09000000', '02000000 01000000', 's 2 9', ends_behind=True)
+    spelled('a fact of register 33', known + 'Fact', 'vl 0..9', '20 00000000 09000000', '21 00000000 09000000')
+    for width in (0, 4, 12, 24, 64):
+        spelled('a vector fact of width %d' % width, known + 'Fact', 'v8*1 e8 0..5', '08080100', '08%02x0100' % width)
+    spelled('a version of two bytes', known + 'Version', '', '01000100 0000000000000000', '01010100 0000000000000000')
+    spelled('a parameter of kind 3, and no more', known + 'Parameter', '', '01000100 0000000000000000', '01000100 0300000000000000')
+    row('half of a version that is none', file_of(kernel('ret', '', '0x10000 1; R'), b'\2'), 16, known + 'Short')
     block = '%s 2; R'
     falling = [block % '0x10004', block % '0x10000']
     case('blocks that fall', known + 'BlockOrder', 'nop; ret', '', '\n'.join(falling))

@@ -170,6 +170,9 @@ def limit_rows():
     """Files in which what no rule names is not as linkers leave it."""
     found = bytes([1, 2, 3, 4])
     row(whole(patches=[(20, 4, 0x10001)]), "BadType", told="e_version 1, and bits above the lowest 16")
+    for place, name, value in [(16, "BadType", 0x102), (18, "BadMachine", 0x1F3), (40, "BadHeaderTable", 0x134), (42, "BadHeaderTable", 0x120),
+                               (44, "BadHeaderTable", 0x103)]:
+        row(whole(patches=[(place, 2, value)]), name, told=f"a second byte at {place + 1}")
     row(whole(patches=[(7, 1, 3)]), "read", found, told="another OS ABI")
     row(whole(patches=[(8, 8, 0xFFFFFFFF)]), "read", found, told="bytes 8 to 15 of the header")
     row(whole(patches=[(32, 4, 0x100000)]), "read", found, told="section headers that lie past the file")
@@ -191,6 +194,14 @@ def limit_rows():
     row(moved_table(44), "read", told="a header table that begins inside the ELF header")
     row(elf([], b"", [(28, 4, 20)], phnum=1), "SegmentOutOfPlace", told="a header table inside the ELF header, of a segment at 20")
     row(elf([], b"", [(28, 4, 0)], phnum=1), "EntryNotCode", told="a header table at 0, of no segment")
+    row(data(offset=0xFFFFFFFE - 148), "SegmentOutOfFile", told="a segment whose end in the file is past 2^32")
+    row(data(address=0x10008, memsz=4), "SegmentsOverlap", told="a segment inside the one before")
+    row(elf([changed(DATA, offset=0, address=0x10008, memsz=4), TEXT], CODE), "SegmentsOverlap", told="a segment around the one before")
+    row(elf([TEXT] + 2 * [(LOAD, 0, 0, 4, 4, R)], CODE), "SegmentOutOfPlace", told="two segments that are out of place and overlap")
+    row(elf([changed(TEXT, memsz=26)], CODE, [(24, 4, 0x10018)]), "EntryNotCode", told="an entry with two bytes of code")
+    row(whole(data=changed(DATA, flags=R | X), patches=[(24, 4, 0x20000)]), "read", found, told="an entry in the second segment")
+    both = 2 * CERTIFICATE
+    row(elf([TEXT, (NOTE, 24, 0, len(both), len(both), R)], CODE + both, [(24, 4, 2)]), "EntryNotCode", told="two certificates, and no entry")
     turned = elf([], CODE + CERTIFICATE, [(28, 4, 52 + len(CODE + CERTIFICATE))], phnum=2)
     for kind, offset, size, flags in [(LOAD, 52, 24, R | X), (NOTE, 52 + 24, len(CERTIFICATE), R)]:
         turned += struct.pack("<8I", kind, offset, 0x10000, 0, size, size, flags, 4)
