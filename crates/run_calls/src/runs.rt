@@ -126,30 +126,33 @@ fn hands_arguments_back(rt: HostRuntime) -> Result<(), Fail> {
     Ok(())
 }
 
+/// Asserts that this is the text of a reason.
+fn assert_text(
+    rt: &(impl Abort + AllocGlobal),
+    error: OpenError,
+    text: &str,
+) -> Result<(), AllocError> {
+    let told = format!(in rt.alloc(); "{error}")?;
+    assert_same!(rt; told.as_str(), text);
+    Ok(())
+}
+
 #[test]
 fn prints_reasons(rt: HostRuntime) -> Result<(), Fail> {
-    let alloc = rt.alloc();
-    for (error, text) in [
-        (
-            OpenError::WrongKind(0),
-            "the argument at place 0 is of the wrong kind",
-        ),
-        (
-            OpenError::ScalarOutOfInterval(7),
-            "the scalar at place 7 is outside its interval",
-        ),
-        (
-            OpenError::WrongSize(2),
-            "the buffer at place 2 is of the wrong size",
-        ),
-        (OpenError::BoundTooLarge, "the run may take too many steps"),
-        (
-            OpenError::WrongVlen,
-            "the image was accepted for another vector length",
-        ),
-        (OpenError::NoMemory, "out of memory"),
-    ] {
-        assert_same!(rt; format!(in alloc; "{error}")?.as_str(), text);
-    }
+    let kind = OpenError::WrongKind(0);
+    assert_text(&rt, kind, "the argument at place 0 is of the wrong kind")?;
+    let scalar = OpenError::ScalarOutOfInterval(7);
+    assert_text(&rt, scalar, "the scalar at place 7 is outside its interval")?;
+    let size = OpenError::WrongSize(2);
+    assert_text(&rt, size, "the buffer at place 2 is of the wrong size")?;
+    let bound = OpenError::BoundTooLarge;
+    assert_text(&rt, bound, "the run may take too many steps")?;
+    let vlen = OpenError::WrongVlen;
+    assert_text(
+        &rt,
+        vlen,
+        "the image was accepted for another vector length",
+    )?;
+    assert_text(&rt, OpenError::NoMemory, "out of memory")?;
     Ok(())
 }

@@ -68,23 +68,34 @@ fn opens_no_other_run(rt: HostRuntime) -> Result<(), Fail> {
     Ok(())
 }
 
+/// Asserts that a run over so many bytes takes so many steps, also where it is asked for again, and what their sum is.
+fn assert_run(
+    rt: &(impl Abort + AllocGlobal),
+    accepted: &Accepted,
+    number: u32,
+    steps: u64,
+    sum: u32,
+) -> Result<(), Fail> {
+    let alloc = rt.alloc();
+    let args = args(alloc, 1024, number)?;
+    match Session::<16>::open(alloc, accepted, args, Agnostic::Keep, steps) {
+        Ok(mut session) => {
+            assert_same!(rt; session.run(), steps);
+            assert_same!(rt; session.run(), steps);
+            assert_same!(rt; session.registers().x[12], sum);
+        }
+        Err(_) => assert!(rt; false, "not opened"),
+    }
+    Ok(())
+}
+
 /// Each number of bytes takes exactly the bound's steps.
 #[test]
 fn runs_to_the_end(rt: HostRuntime) -> Result<(), Fail> {
-    let alloc = rt.alloc();
-    let accepted = accepted_sum(alloc)?;
-    for (number, steps) in [(0, 2), (1, 7), (1024, 5122)] {
-        let args = args(alloc, 1024, number)?;
-        match Session::<16>::open(alloc, &accepted, args, Agnostic::Keep, steps) {
-            Ok(mut session) => {
-                assert_same!(rt; session.run(), steps);
-                assert_same!(rt; session.run(), steps);
-                assert_same!(rt; session.registers().x[12], 3 * number);
-            }
-            Err(_) => assert!(rt; false, "not opened"),
-        }
-    }
-    Ok(())
+    let accepted = accepted_sum(rt.alloc())?;
+    assert_run(&rt, &accepted, 0, 2, 0)?;
+    assert_run(&rt, &accepted, 1, 7, 3)?;
+    assert_run(&rt, &accepted, 1024, 5122, 3072)
 }
 
 /// The first word of the code, the last byte of the buffer, and the last register.
@@ -96,21 +107,22 @@ fn assert_shown(rt: &impl Abort, session: &Session<16>) {
     assert_same!(rt; session.vector(Reg::new(31)), [0; 16].as_slice());
 }
 
+/// Asserts that there is a next step, and how many have been made and where the run is then.
+fn assert_step(rt: &impl Abort, session: &mut Session<16>, steps: u64, pc: u32) {
+    assert_same!(rt; session.step(), Some(()));
+    assert_same!(rt; session.steps(), steps);
+    assert_same!(rt; session.registers().pc, pc);
+}
+
 /// Each step of a run over one byte.
 fn assert_steps(rt: &impl Abort, session: &mut Session<16>) {
-    for (steps, pc) in [
-        (1, 0x1_0004),
-        (2, 0x1_0008),
-        (3, 0x1_000c),
-        (4, 0x1_0010),
-        (5, 0x1_0014),
-        (6, 0x1_0018),
-        (7, 0xffff_fff0),
-    ] {
-        assert_same!(rt; session.step(), Some(()));
-        assert_same!(rt; session.steps(), steps);
-        assert_same!(rt; session.registers().pc, pc);
-    }
+    assert_step(rt, session, 1, 0x1_0004);
+    assert_step(rt, session, 2, 0x1_0008);
+    assert_step(rt, session, 3, 0x1_000c);
+    assert_step(rt, session, 4, 0x1_0010);
+    assert_step(rt, session, 5, 0x1_0014);
+    assert_step(rt, session, 6, 0x1_0018);
+    assert_step(rt, session, 7, 0xffff_fff0);
     assert_same!(rt; session.step(), None);
     assert_same!(rt; session.steps(), 7);
 }

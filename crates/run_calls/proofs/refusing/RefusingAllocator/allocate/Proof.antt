@@ -39,14 +39,14 @@ use Rattle.std.specs.contracts.cell.Cell as cell
 use Rattle.std.specs.contracts.option.Option as option
 use Rattle.std.proofs.VecSteps.Shapes.{after}
 use Rattle.std.proofs.alloc.Calls.{Al, α, seen, Answer, answer_val, Answer-typed, Answer-Ok, Answer-err, takes_key, Takes, at_takes, Answered, Takes-goes, Takes-gives, answers}
-use Rattle.calls.specs.contracts.refusing.is_refused as count
-use Rattle.calls.proofs.refusing.is_refused.Symbol as count_symbol
-use Rattle.calls.proofs.refusing.is_refused.Met as count_met
-use Rattle.calls.specs.contracts.refusing.Refusing as wrapper
-use Rattle.calls.specs.contracts.refusing.RefusingAllocator.allocate as F
-use Rattle.calls.specs.contracts.refusing.RefusingAllocator.allocate.Key as key
-use Rattle.calls.proofs.refusing.RefusingAllocator.allocate.Statement as stated
-use Rattle.calls.proofs.refusing.RefusingAllocator.allocate.Code as code
+use Rattle.run_calls.specs.contracts.refusing.is_refused as count
+use Rattle.run_calls.proofs.refusing.is_refused.Symbol as count_symbol
+use Rattle.run_calls.proofs.refusing.is_refused.Met as count_met
+use Rattle.run_calls.specs.contracts.refusing.Refusing as wrapper
+use Rattle.run_calls.specs.contracts.refusing.RefusingAllocator.allocate as F
+use Rattle.run_calls.specs.contracts.refusing.RefusingAllocator.allocate.Key as key
+use Rattle.run_calls.proofs.refusing.RefusingAllocator.allocate.Statement as stated
+use Rattle.run_calls.proofs.refusing.RefusingAllocator.allocate.Code as code
 
 -- `is_refused` at a call: what it is handed, and what a caller has of it.
 abbrev Left : RattleType
