@@ -1040,6 +1040,10 @@ def both_known():
     case('a branch on a number that is split', 'accepted 6 0 0', 'addi a2,a1,1; vsetvli t0,a1,e8,m1; li t1,6; bltu a1,t1,yes; no: ecall; yes: ecall',
          '-, s 1 99', '0x10000 6; x11 1..99\nno 1\nyes 1; x12 2..6')
     then('a fact of vl elements, and vl kept', A, 'vsetvli x0,a1,e8,m1; vmv.v.i v8,5; vsetvli x0,x0,e16,m2', '-, s 0 9', 'v8*1 e8 5..5')
+    then('a fact of more elements than are asked for', A, 'vsetivli x0,4,e8,m2; vmv.v.i v8,5; vsetivli x0,9,e8,m1', '', 'v8*2 e8 #3 5..5')
+    case('a budget by the ends alone, past 32 bits', 'accepted 1 0 0', 'ecall; dead: nop; end: ecall', '',
+         '0x10000 1\ndead 0 0xffffffff*x5; x5 3..9 = x6 + x7\nend 0xffffffff')
+    case('a fence counts', 'BudgetNotProved 00010004', 'fence; ret', '', '0x10000 1; R')
     for size, expected in ((16, 'accepted 3 0 0'), (15, 'AccessNotProved 00010004')):
         straight('whole registers, and vl is 3', expected, 'vsetivli x0,3,e8,m1; vl1re8.v v8,(a0); ret', 'r %d' % size)
     for size, expected in ((65537, 'accepted 5 0 0'), (65536, 'AccessNotProved 0001000c')):

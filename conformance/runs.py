@@ -589,6 +589,10 @@ def later():
     yield Run('a jump to what may only be read', in_segments('lui a1,0x20; jalr x0,0(a1)', (0x20000, words(0x8067), 4, 4)))
     yield Run('a load from what has no right', in_segments('lui a1,0x20; lb a0,0(a1)', (0x20000, b'a', 1, 0)))
     yield Run('the stack is zeros, at its lowest byte too', in_segments('lui a1,0x2fff0; lw a0,0(a1); vsetivli x0,16,e8,m1; vle8.v v8,(a1); ret'))
+    zeros = '; '.join('or a0,a0,x%d' % n for n in range(3, 32) if n != 10)
+    yield Run('all other registers at the start', in_segments('addi a0,a0,5; %s; ret' % zeros))
+    yield Run('a word of which two bytes are there', put_together([(0x10000, words(0x13) + bytes(2), 6, 5)], 0x10000),
+              by_hand='a segment ends at its size; the pages of qemu are whole (docs/MACHINE.md, Memory)')
     numbers = 'vsetvli t0,x0,e8,m8,ta,ma; vid.v v16; %s; ret'
     for name, text in (
             ('vfirst at 200', 'li t1,200; vmseq.vx v8,v16,t1; vfirst.m a0,v8'), ('vcpop of 256', 'vmseq.vv v8,v16,v16; vcpop.m a0,v8'),

@@ -138,7 +138,6 @@ VSET = [
     ('nothing is split where rd is rs1', '    if atom is not None:\n        rest', "    if atom is not None and f['rd'] != f.get('rs1'):\n        rest"),
     ('what was passed is not split', '    if atom is not None:\n        rest', '    if atom is not None and atom < PASSED:\n        rest'),
     ('the rest may be all of it', '(max(0, lo - most), max(0, hi - most))', '(0, hi)'),
-    ('the rest may be 0', '(max(0, lo - most), max(0, hi - most))', '(0, max(0, hi - most))'),
     ('an earlier split stays', 's.splits[atom] = length.form.only_atom(), rest.form.only_atom()', 's.splits.setdefault(atom, (length.form.only_atom(), rest.form.only_atom()))'),
     ('a stated count is cut to what vl was', '    if fact.count:\n        return fact', '    if fact.count:\n        return fact._replace(count=min(least, fact.count)) if least else None'),
     ('a fact may count more than its group has', 'min(least, fact.registers * 8 * s.vlenb // fact.width)', 'least'),
@@ -324,7 +323,7 @@ EDGES = [
     ('a budget is larger than what it pays for', 'spare = start.c - s.words - c', 'spare = start.c - s.words - 1 - c'),
     ('budgets by ends are not shown', '    if spare + start.k * start.value.range[0] >= k * value.range[1]:\n        return True\n', ''),
     ('budgets by forms are not shown', 'return interval_of(spare, difference, s.atoms)[0] >= 0', 'return False'),
-    ('budgets of what wraps are shown', '        if wraps is None:\n            return False\n', '        wraps = wraps or 0\n'),
+    ('budgets of what wraps are shown', '        if wraps is None:\n            return False\n', '        wraps = s.sum_interval(form)[1] // SPAN\n'),
     ('budgets wrap', 'if spare + start.k * start.value.range[0] >= k * value.range[1]:', 'if spare + start.k * start.value.range[0] >= k * value.range[1] & M32:'),
     ('budgets are below 2^32', 'if spare + start.k * start.value.range[0] >= k * value.range[1]:', 'if min(M32, start.c + start.k * start.value.range[0]) - s.words - c >= k * value.range[1]:'),
     ('a run ends at any cost', 'c, k, value = (block.c, block.k, s.x[block.r]) if block else (0, 0, s.constant(0))', 'c, k, value = (block.c, block.k, s.x[block.r]) if block else (-s.words, 0, s.constant(0))'),
@@ -395,4 +394,7 @@ ENTRY = [
 ]
 
 # Changes that change no answer, and why.
-SAME = []
+SAME = [
+    ('the rest may be 0', 'where the number is at least VLMAX, vl is VLMAX, and the sum before the split has the same ends'),
+    ('a full range is stated too', 'no block can state one, and an operand of which nothing is known has it'),
+]
