@@ -1,16 +1,15 @@
 -- Laws of runs for those who run kernels.
-use Rattle.std.proofs.Common.{◌≡◌, ◌∙◌, ℕ, zero, suc, ◌+◌, ◌-◌, ◌<◌, ◌≤◌, Bool, true, false, Result, Ok, Err, refl, ap, sym, arith}
+use Rattle.std.proofs.Common.{◌≡◌, ◌∙◌, ℕ, zero, suc, ◌+◌, ◌-◌, ◌≤◌, Bool, true, false, Result, Ok, Err, refl, sym, arith}
 use Rattle.std.specs.Prelude.{if◌then◌else◌}
 use Rattle.region_mem.specs.declared.faults.Fault.{Fault}
 use Rattle.region_mem.specs.Start.{start_areas, start_memory}
 use Rattle.block_checker.specs.Sound.{IsWellBehaved}
 use Rattle.vector_core.specs.Machine.{Machine}
 use Rattle.vector_core.specs.MachineStep.{step}
-use Rattle.vector_core.specs.Run.{Ended, OutOfSteps, Stop, Trapped, GoesOnUntil, IsOutcome, after, has_ended, outcome, outcome_from}
+use Rattle.vector_core.specs.Run.{Ended, OutOfSteps, Stop, Trapped, IsOutcome, after, has_ended, outcome, outcome_from}
 use Rattle.vector_core.specs.Start.{start}
 use Rattle.vector_core.proofs.RunLemmas.{after-plus, outcome-is}
 use Rattle.sandbox_run.specs.HostLaws.{StepsAreUnique, MoreStepsChangeNothing, StartsAreAlike}
-use Rattle.sandbox_run.specs.Stops.{IsStop}
 use Rattle.sandbox_run.proofs.StopLemmas.{within_end}
 use Rattle.sandbox_run.proofs.SessionLemmas.{no_fault}
 

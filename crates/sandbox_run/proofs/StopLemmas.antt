@@ -1,24 +1,26 @@
 -- Stops of runs, and what a session keeps of them.
-use Rattle.std.proofs.Common.{◌≡◌, ◌∙◌, ℕ, zero, suc, ◌+◌, ◌-◌, ◌<◌, ◌≤◌, ◌⊎◌, inl, inr, Bool, true, false, List, [], ◌∷◌, length, Result, Ok, Err, refl, ap, sym, arith, add-one, below_more}
+use Rattle.std.proofs.Common.{◌≡◌, ◌∙◌, ℕ, ◌+◌, ◌≤◌, inl, inr, true, false, List, [], ◌∷◌, length, Ok, refl, ap, arith, add-one, below_more}
 use Rattle.std.specs.List.{AllByRecursion, list_all}
 use Rattle.std.proofs.lemmas.Bool.{cases_lt}
-use Rattle.cert_note.specs.Certificate.{IsParameter}
+use Rattle.cert_note.specs.Certificate.{CertificateView, IsCertificate, IsParameter}
 use Rattle.elf_image.specs.Image.{ImageView, IsImage}
-use Rattle.region_mem.specs.Memory.{Memory, args_of}
+use Rattle.region_mem.specs.Memory.{args_of}
 use Rattle.region_mem.specs.Parameter.{Argument, AreArguments, is_valid}
 use Rattle.region_mem.specs.Start.{start_memory}
 use Rattle.region_mem.specs.declared.parameter.Param.{Param}
 use Rattle.region_mem.proofs.StartLemmas.{gives_arguments_back}
 use Rattle.block_checker.specs.Sound.{IsWellBehaved}
 use Rattle.vreg_groups.specs.declared.policies.Agnostic.{Agnostic}
-use Rattle.vector_core.specs.Kept.{Keeps}
 use Rattle.vector_core.specs.Machine.{Machine}
 use Rattle.vector_core.specs.MachineStep.{step}
 use Rattle.vector_core.specs.Run.{after, has_ended, GoesOnUntil}
 use Rattle.vector_core.specs.Start.{start}
 use Rattle.vector_core.proofs.KeptMemory.{permitted_in, runs_keep}
 use Rattle.vector_core.proofs.Permits.{runs_permitted}
+use Rattle.sandbox_run.specs.Session.{HandsBack, SessionView}
+use Rattle.sandbox_run.specs.Back.{ComesBack}
 use Rattle.sandbox_run.specs.Stops.{IsStop, StopsWell}
+use Rattle.sandbox_run.proofs.Back.{starts_come_back}
 
 -- A run does not go on past its end.
 pub within_end : (vlenb : ℕ) (first : Machine) (steps k : ℕ) (last : Machine) → GoesOnUntil vlenb first steps → after vlenb first k ≡ Ok last
@@ -54,3 +56,38 @@ pub stop_after_step : (vlenb steps : ℕ) (first m t : Machine) → IsStop vlenb
 unfolding after
 stop_after_step vlenb steps first m t (is, goes) going next =
     ((rw (add-one, is) next), below_more (λ j. (u : Machine) × (after vlenb first j ≡ Ok u) × (has_ended u ≡ false)) steps goes (m, is, going))
+
+-- ---- what a session is opened with
+
+all_valid : (params : List Param) → AllByRecursion IsParameter params → list_all is_valid params ≡ true
+all_valid [] each = refl
+all_valid (param ∷ params) each = rw (each.0.0, all_valid params each.1) refl
+
+memory_of_start : (vlenb : ℕ) (agnostic : Agnostic) (image : ImageView) (params : List Param) (args : List Argument)
+    → (start vlenb agnostic image params args).memory ≡ start_memory image params args
+unfolding start
+memory_of_start vlenb agnostic image params args = refl
+
+module _ (vlenb : ℕ) (agnostic : Agnostic) (image : ImageView) (certificate : CertificateView) (args : List Argument) (m : Machine)
+    (is : IsImage image) (stated : IsCertificate certificate) (eight : length args ≡ 8)
+    (matching : AreArguments certificate.parameters args) (starts : m ≡ start vlenb agnostic image certificate.parameters args) where
+  memory_is : m.memory ≡ start_memory image certificate.parameters args
+  memory_is = ap (λ (t : Machine). t.memory) starts ∙ memory_of_start vlenb agnostic image certificate.parameters args
+
+  pub passed_back : args_of m.memory ≡ args
+  passed_back =
+      ap args_of memory_is
+      ∙ gives_arguments_back image certificate.parameters args is (all_valid _ stated.parameters) stated.eight eight matching
+
+  pub hands_back : HandsBack certificate.parameters m.memory
+  hands_back =
+      rw passed_back (
+        matching,
+        λ next keeps. starts_come_back image certificate.parameters args is (all_valid _ stated.parameters) stated.eight eight matching next
+            (rw (← memory_is) keeps),
+      )
+
+-- What a session was passed comes back from where it stands.
+pub comes_back_here : (vlenb : ℕ) (s : SessionView) → IsStop vlenb s.first s.steps s.machine → HandsBack s.parameters s.first.memory
+    → ComesBack s.parameters (args_of s.first.memory) (args_of s.machine.memory)
+comes_back_here vlenb s (is, goes) (matching, back) = back s.machine.memory (runs_keep vlenb s.first s.machine s.steps is)

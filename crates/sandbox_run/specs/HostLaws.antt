@@ -1,12 +1,12 @@
 -- Laws of runs for those who run kernels.
-use Rattle.std.specs.Prelude.{ℕ, ◌≡◌, ◌≤◌, true, List, length, Ok}
+use Rattle.std.specs.Prelude.{ℕ, ◌≡◌, ◌≤◌, true, List, length}
 use Rattle.std.specs.List.{AllByRecursion}
 use Rattle.elf_image.specs.Image.{ImageView}
 use Rattle.region_mem.specs.Laws.{BringsBytes}
 use Rattle.region_mem.specs.Parameter.{AreArguments}
 use Rattle.region_mem.specs.declared.parameter.Param.{Param}
 use Rattle.vreg_groups.specs.declared.policies.Agnostic.{Agnostic}
-use Rattle.vector_core.specs.Run.{Ended, after, has_ended, outcome}
+use Rattle.vector_core.specs.Run.{Ended, has_ended, outcome}
 use Rattle.vector_core.specs.Start.{start}
 use Rattle.sandbox_run.specs.Answer.{answer_of, final_of}
 use Rattle.sandbox_run.specs.declared.outcome.Outcome.TheVariants as answer

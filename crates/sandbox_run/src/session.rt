@@ -3,23 +3,27 @@ ghost use Rattle.std.specs.Prelude.{◌≡◌, ◌≤◌, ◌⊎◌, ◌+◌, �
 ghost use Rattle.std.specs.Prelude.{IfErr, IfOk, IfSome, IsErrAnd, IsNone, IsSome};
 ghost use Rattle.block_checker.specs.Bound.{bound_of, scalar_of, scalars_of};
 ghost use Rattle.region_mem.specs.Memory.{args_of, byte_of, fetch_of};
+ghost use Rattle.region_mem.specs.Parameter.{AreArguments};
 ghost use Rattle.vector_core.specs.MachineStep.{step as step_of};
 ghost use Rattle.vector_core.specs.Run.{Ended, after, has_ended, outcome_from};
 ghost use Rattle.vector_core.specs.Start.{start as start_of};
 ghost use Rattle.vreg_groups.specs.Elements.{bytes_from};
 ghost use Rattle.vreg_groups.specs.VectorLength.{IsVlenb};
 ghost use Rattle.sandbox_run.specs.Answer.{registers_of};
+ghost use Rattle.sandbox_run.specs.Back.{ComesBack};
 ghost use Rattle.sandbox_run.specs.Rooms.{StateFitsInMemory};
 ghost use Rattle.sandbox_run.specs.Session.{open_fault};
+ghost use Rattle.sandbox_run.specs.Stops.{IsStop};
 
 use crate::machine::Machine;
 use crate::outcome::{OpenError, Registers};
 use crate::start::start;
 use block_checker::Accepted;
-use region_mem::{Arg, Args, Bytes, args_bring_bytes};
+use region_mem::{Arg, Args, Bytes, Parameters, args_bring_bytes};
 use rv_decode::Reg;
 use std::alloc::{Allocator, Global};
 use std::marker::Model;
+use std::snapshot::Snapshot;
 use vreg_groups::Agnostic;
 
 /// A run of an accepted image, between two steps. It ends without a fault, within a number of steps that was known when it
@@ -32,19 +36,32 @@ pub struct Session<const VLENB: usize, A: Allocator = Global> {
     machine: Machine<VLENB, A>,
     steps: u64,
     bound: u64,
+    // What the run was opened with. Clauses alone read it, and it takes no room.
+    first: Snapshot<Machine<VLENB, A>>,
+    parameters: Snapshot<Parameters>,
 }
 
 impl<const VLENB: usize, A: Allocator> Model for Session<VLENB, A> {
     ghost use Rattle.std.specs.Prelude.{◌≤◌, ◌-◌};
     ghost use Rattle.block_checker.specs.Sound.{IsWellBehaved};
-    ghost use Rattle.sandbox_run.specs.Session.{SessionView};
+    ghost use Rattle.sandbox_run.specs.Session.{HandsBack, SessionView};
+    ghost use Rattle.sandbox_run.specs.Stops.{IsStop};
 
     ghost Value = { SessionView };
 
-    ghost view = { λ s. record { machine = s.machine; steps = s.steps; bound = s.bound } };
+    ghost view = { λ s. record {
+      machine = s.machine;
+      steps = s.steps;
+      bound = s.bound;
+      first = s.first.value;
+      parameters = s.parameters.value;
+    } };
 
-    // From here the run ends without a fault, in at most the steps that are left of the bound.
-    ghost invariant = { λ s. (s.steps ≤ s.bound) × IsWellBehaved VLENB (s.bound - s.steps) s.machine };
+    // From here the run ends without a fault, in at most the steps that are left of the bound. It came here from its first
+    // state, and had not ended before; and what it was passed comes back.
+    ghost invariant = { λ s. (s.steps ≤ s.bound) × IsWellBehaved VLENB (s.bound - s.steps) s.machine
+        × IsStop VLENB s.first.value s.steps s.machine
+        × HandsBack s.parameters.value s.first.value.memory };
 }
 
 /// What a scalar argument is, and 0 for any other.
@@ -92,6 +109,13 @@ impl<const VLENB: usize> Session<VLENB> {
         ensures steps { IfOk result (λ s. s.steps ≡ 0) }
         ensures bound { IfOk result
             (λ s. s.bound ≡ bound_of accepted.now (scalars_of args.places)) }
+        ensures within { IfOk result (λ s. s.bound ≤ max) }
+        ensures matching { IfOk result
+            (λ s. AreArguments accepted.now.certificate.parameters args.places) }
+        ensures first { IfOk result (λ s. s.first ≡ s.machine) }
+        ensures parameters { IfOk result
+            (λ s. s.parameters ≡ accepted.now.certificate.parameters) }
+        ensures passed { IfOk result (λ s. args_of s.first.memory ≡ args.places) }
         ensures refused { IfSome (open_fault VLENB accepted.now args.places max)
             (λ error. IsErrAnd result (λ e. e.0 ≡ error)) }
         ensures memory { open_fault VLENB accepted.now args.places max ≡ None
@@ -118,6 +142,13 @@ pub fn open_in<const VLENB: usize, A: Allocator + Copy, B: Allocator>(
         accepted.now.certificate.parameters args.places) }
     ensures steps { IfOk result (λ s. s.steps ≡ 0) }
     ensures bound { IfOk result (λ s. s.bound ≡ bound_of accepted.now (scalars_of args.places)) }
+    ensures within { IfOk result (λ s. s.bound ≤ max) }
+    ensures matching { IfOk result
+        (λ s. AreArguments accepted.now.certificate.parameters args.places) }
+    ensures first { IfOk result (λ s. s.first ≡ s.machine) }
+    ensures parameters { IfOk result
+        (λ s. s.parameters ≡ accepted.now.certificate.parameters) }
+    ensures passed { IfOk result (λ s. args_of s.first.memory ≡ args.places) }
     ensures refused { IfSome (open_fault VLENB accepted.now args.places max)
         (λ error. IsErrAnd result (λ e. e.0 ≡ error)) }
     ensures memory { open_fault VLENB accepted.now args.places max ≡ None
@@ -137,8 +168,12 @@ pub fn open_in<const VLENB: usize, A: Allocator + Copy, B: Allocator>(
     }
     accepted.runs_end();
     args_bring_bytes(&args);
+    let _segments = accepted.image().segments();
+    let _contents = accepted.certificate().contents();
     match start::<VLENB, A, B>(alloc, accepted.image(), parameters, args, agnostic) {
         Ok(machine) => Ok(Session {
+            first: Snapshot::of(&machine),
+            parameters: Snapshot::of(parameters),
             machine,
             steps: 0,
             bound: bound as u64,
@@ -156,6 +191,8 @@ impl<const VLENB: usize, A: Allocator> Session<VLENB, A> {
         ensures counts { IsSome result → self.new.steps ≡ self.old.steps + 1 }
         ensures bound { self.new.bound ≡ self.old.bound }
         ensures within { self.new.steps ≤ self.new.bound }
+        ensures first { self.new.first ≡ self.old.first }
+        ensures parameters { self.new.parameters ≡ self.old.parameters }
     {
         if self.machine.has_ended() {
             return None;
@@ -181,6 +218,8 @@ impl<const VLENB: usize, A: Allocator> Session<VLENB, A> {
             self.old.machine ≡ Ended result self.new.machine }
         ensures bound { self.new.bound ≡ self.old.bound }
         ensures within { self.new.steps ≤ self.new.bound }
+        ensures opened { self.new.first ≡ self.old.first }
+        ensures parameters { self.new.parameters ≡ self.old.parameters }
     {
         'stepping: while self.step().is_some() {}
         self.steps
@@ -191,6 +230,29 @@ impl<const VLENB: usize, A: Allocator> Session<VLENB, A> {
         ensures { result ≡ self.now.steps }
     {
         self.steps
+    }
+
+    /// A law, which does nothing when it runs: the steps that have been done, at most the bound, lead here from the state that
+    /// the run was opened in, and in none before had it ended.
+    pub fn stands(&self)
+        ensures stop { IsStop VLENB self.now.first self.now.steps self.now.machine }
+        ensures within { self.now.steps ≤ self.now.bound }
+    {
+        let _steps = &self.steps;
+    }
+
+    /// The program counter.
+    pub fn pc(&self) -> u32
+        ensures { result ≡ self.now.machine.hart.pc }
+    {
+        self.machine.hart.pc()
+    }
+
+    /// Whether the run has ended.
+    pub fn is_ended(&self) -> bool
+        ensures { result ≡ has_ended self.now.machine }
+    {
+        self.machine.hart.has_ended()
     }
 
     /// pc, x0 to x31, vl, vtype, vxrm and vxsat.
@@ -223,9 +285,12 @@ impl<const VLENB: usize, A: Allocator> Session<VLENB, A> {
     }
 
     /// Ends the session, wherever the run stands. The arguments come out: buffers as they stand, scalars as they were
-    /// passed.
+    /// passed. So they match the parameters again; and a buffer that is only read is as it was passed.
     pub fn close(self) -> Args<Bytes<A>>
-        ensures { result.places ≡ args_of self.machine.memory }
+        ensures places { result.places ≡ args_of self.machine.memory }
+        ensures back { ComesBack self.parameters (args_of self.first.memory) result.places }
+        ensures scalars { scalars_of result.places ≡ scalars_of (args_of self.first.memory) }
+        ensures matching { AreArguments self.parameters result.places }
     {
         let Session { machine, .. } = self;
         let Machine { memory, .. } = machine;

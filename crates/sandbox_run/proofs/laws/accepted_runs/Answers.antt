@@ -4,7 +4,6 @@ use Rattle.vector_core.proofs.ReadsInside.{steps_read_inside}
 use Rattle.vector_core.proofs.WritesInside.{steps_write_inside}
 use Rattle.vreg_groups.specs.VectorLength.{vlenb_of}
 use Rattle.vector_core.specs.Start.{start}
-use Rattle.sandbox_run.specs.Headline.{RunsWell}
 use Rattle.sandbox_run.proofs.laws.accepted_runs.Goals as goal
 
 -- the run ends; and so each of its steps is permitted, as are all that stand on it

@@ -3,9 +3,12 @@ use Rattle.region_mem.specs.Parameter.{AreArguments, argument_error}
 use Rattle.block_checker.specs.Bound.{bound_of, scalars_of}
 use Rattle.vector_core.specs.Start.{start}
 use Rattle.vreg_groups.specs.VectorLength.{vlenb_of}
+use Rattle.cert_note.specs.Certificate.{IsCertificate}
+use Rattle.elf_image.specs.Image.{IsImage}
 use Rattle.sandbox_run.proofs.OpenFaults.{arguments_fault, bound_fault, length_fault_told, no_open_fault}
 use Rattle.sandbox_run.proofs.Refusals.{refused_by-err}
 use Rattle.sandbox_run.proofs.SessionLemmas.{opened-well}
+use Rattle.sandbox_run.proofs.StopLemmas.{hands_back, passed_back, stop_at_start}
 use Rattle.sandbox_run.proofs.session.open_in.Goals as goal
 
 pub returns-in-Err-clause-refused : goal.returns-in-Err-clause-refused
@@ -46,8 +49,23 @@ invariant_of-result g c =
     let matching : AreArguments c.args.accepted.now.certificate.parameters c.args.args.places = rw (← c.parameters-parameters.ensures) c.in_default.ensures.matching in
     let bound-is : c.bound-bound.result ≡ bound_of c.args.accepted.now (scalars_of c.args.args.places) = cc (c.bound-bound.ensures, c.scalars.ensures.made) in
     let length-is : vlenb_of c.args.accepted.now.vlen ≡ g.row.VLENB = sym (ap vlenb_of c.vlen.ensures) ∙ (sym c.bytes.ensures.meaning ∙ c.if-bytes.false) in
-    let state-is : c.in-Ok.machine ≡ start g.row.VLENB c.args.agnostic c.args.accepted.now.image c.args.accepted.now.certificate.parameters c.args.args.places = rw (← c.image.ensures, ← c.parameters-parameters.ensures) c.in-Ok.ensures.start in
-    opened-well g.row.VLENB c.bound-bound.result c.args.accepted.now c.args.args.places c.args.agnostic c.in-Ok.machine c.runs_end.ensures c.scalars.ensures.eight matching c.args_bring_bytes.ensures length-is bound-is state-is
+    let state-is : c.in-Ok.machine ≡ start g.row.VLENB c.args.agnostic c.args.accepted.now.image c.args.accepted.now.certificate.parameters c.args.args.places = rw (← c.image-2.ensures, ← c.parameters-parameters.ensures) c.in-Ok.ensures.start in
+    let well = opened-well g.row.VLENB c.bound-bound.result c.args.accepted.now c.args.args.places c.args.agnostic c.in-Ok.machine c.runs_end.ensures c.scalars.ensures.eight matching c.args_bring_bytes.ensures length-is bound-is state-is in
+    let image-is : IsImage c.args.accepted.now.image = rw (← c.image.ensures) c.segments-segments.ensures.image in
+    let stated : IsCertificate c.args.accepted.now.certificate = rw (← c.certificate.ensures) c.contents-contents.ensures.certificate in
+    let back = hands_back g.row.VLENB c.args.agnostic c.args.accepted.now.image c.args.accepted.now.certificate c.args.args.places c.in-Ok.machine image-is stated c.scalars.ensures.eight matching state-is in
+    let first-is : c.of.result.value ≡ c.in-Ok.machine = c.of.ensures in
+    let parameters-are : c.of-in-Ok.result.value ≡ c.args.accepted.now.certificate.parameters = c.of-in-Ok.ensures ∙ c.parameters-parameters.ensures in
+    (well.0, well.1, rw first-is (stop_at_start g.row.VLENB c.in-Ok.machine), rw (parameters-are, first-is) back)
+
+pub returns-in-Ok-clause-passed : goal.returns-in-Ok-clause-passed
+returns-in-Ok-clause-passed g c =
+    let matching : AreArguments c.args.accepted.now.certificate.parameters c.args.args.places = rw (← c.parameters-parameters.ensures) c.in_default.ensures.matching in
+    let state-is : c.in-Ok.machine ≡ start g.row.VLENB c.args.agnostic c.args.accepted.now.image c.args.accepted.now.certificate.parameters c.args.args.places = rw (← c.image-2.ensures, ← c.parameters-parameters.ensures) c.in-Ok.ensures.start in
+    let image-is : IsImage c.args.accepted.now.image = rw (← c.image.ensures) c.segments-segments.ensures.image in
+    let stated : IsCertificate c.args.accepted.now.certificate = rw (← c.certificate.ensures) c.contents-contents.ensures.certificate in
+    let first-is : c.of.result.value ≡ c.in-Ok.machine = c.of.ensures in
+    rw first-is (passed_back g.row.VLENB c.args.agnostic c.args.accepted.now.image c.args.accepted.now.certificate c.args.args.places c.in-Ok.machine image-is stated c.scalars.ensures.eight matching state-is)
 
 pub returns-in-Ok-clause-refused : goal.returns-in-Ok-clause-refused
 returns-in-Ok-clause-refused g c =

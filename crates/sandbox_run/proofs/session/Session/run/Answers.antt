@@ -9,6 +9,8 @@ pub stepping-init : goal.stepping-init
 stepping-init g c = record {
   grows = search rules;
   same = refl;
+  opened = refl;
+  parameters = refl;
   reached = after_none g.row.VLENB c.args.self.now.steps c.args.self.now.machine;
   first = refl;
 }
@@ -22,6 +24,8 @@ stepping-preserved g c =
     record {
       grows = omega (arith, c.stepping.invariant.grows);
       same = c.step.ensures.bound ∙ c.stepping.invariant.same;
+      opened = c.step.ensures.first ∙ c.stepping.invariant.opened;
+      parameters = c.step.ensures.parameters ∙ c.stepping.invariant.parameters;
       reached = rw counts (after_more g.row.VLENB c.args.self.now.steps c.stepping.self.steps c.args.self.now.machine c.stepping.self.machine c.step.new.self.machine c.stepping.invariant.grows c.stepping.invariant.reached (c.step.ensures.moves some));
       first = rw counts (sym (outcome_from-next g.row.VLENB c.args.self.now.bound c.stepping.self.steps c.stepping.self.machine c.step.new.self.machine below going (c.step.ensures.moves some)) ∙ c.stepping.invariant.first);
     }
@@ -35,3 +39,9 @@ returns-clause-first g c =
     let steps : c.self.inside.steps ≡ c.stepping.self.steps = ap (λ (v : SessionView). v.steps) (c.self.view_is ∙ stays) in
     let machine : c.step.new.self.machine ≡ c.stepping.self.machine = ap (λ (v : SessionView). v.machine) stays in
     rw (steps, machine) stopped
+
+pub returns-clause-opened : goal.returns-clause-opened
+returns-clause-opened g c = c.step.ensures.first ∙ c.stepping.invariant.opened
+
+pub returns-clause-parameters : goal.returns-clause-parameters
+returns-clause-parameters g c = c.step.ensures.parameters ∙ c.stepping.invariant.parameters

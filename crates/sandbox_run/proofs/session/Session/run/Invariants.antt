@@ -2,11 +2,13 @@ use Rattle.std.proofs.Common.{◌≡◌, ◌≤◌, ◌-◌, Ok}
 use Rattle.vector_core.specs.Run.{after, outcome_from}
 use Rattle.sandbox_run.proofs.session.Session.run.Given as goal
 
--- the steps so far led here, the bound is as it was, and the outcome from here is that of the run
+-- the steps so far led here, what it was opened with is as it was, and the outcome from here is that of the run
 abbrev pub invariant-stepping : goal.invariant-stepping
 invariant-stepping g l = record {
   grows : l.fn.self.steps ≤ l.self.steps;
   same : l.self.bound ≡ l.fn.self.bound;
+  opened : l.self.first ≡ l.fn.self.first;
+  parameters : l.self.parameters ≡ l.fn.self.parameters;
   reached : after g.row.VLENB l.fn.self.machine (l.self.steps - l.fn.self.steps) ≡ Ok l.self.machine;
   first : outcome_from g.row.VLENB (l.fn.self.bound - l.self.steps) l.self.steps l.self.machine
       ≡ outcome_from g.row.VLENB (l.fn.self.bound - l.fn.self.steps) l.fn.self.steps l.fn.self.machine;

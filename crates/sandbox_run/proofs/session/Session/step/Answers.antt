@@ -1,5 +1,6 @@
 use Rattle.std.proofs.Common.{◌+◌, ◌-◌, ◌≤◌, sym, arith}
 use Rattle.sandbox_run.proofs.SessionLemmas.{no_fault, step-well}
+use Rattle.sandbox_run.proofs.StopLemmas.{stop_after_step}
 use Rattle.sandbox_run.proofs.session.Session.step.Goals as goal
 
 pub overflow_add-self : goal.overflow_add-self
@@ -10,7 +11,10 @@ overflow_add-self g c =
 
 pub invariant_of-self : goal.invariant_of-self
 invariant_of-self g c =
-    step-well g.row.VLENB c.self.inside.steps c.self.inside.bound c.self.inside.machine c.step.new.self c.self.invariant.1 (sym c.if-has_ended.ensures) c.in-Ok.ensures
+    let going = sym c.if-has_ended.ensures in
+    let more = step-well g.row.VLENB c.self.inside.steps c.self.inside.bound c.self.inside.machine c.step.new.self c.self.invariant.1 going c.in-Ok.ensures in
+    let stop = stop_after_step g.row.VLENB c.self.inside.steps c.self.inside.first.value c.self.inside.machine c.step.new.self c.self.invariant.2 going c.in-Ok.ensures in
+    (more.0, more.1, stop, c.self.invariant.3)
 
 pub unreachable-requires : goal.unreachable-requires
 unreachable-requires g c =

@@ -1,0 +1,8 @@
+use Rattle.std.proofs.Common.{subst}
+use Rattle.sandbox_run.specs.Session.{SessionView}
+use Rattle.sandbox_run.specs.Stops.{IsStop}
+use Rattle.sandbox_run.proofs.session.Session.stands.Goals as goal
+
+pub returns-clause-stop : goal.returns-clause-stop
+returns-clause-stop g c =
+    subst (λ (s : SessionView). IsStop g.row.VLENB s.first s.steps s.machine) c.self.view_is c.self.invariant.2
