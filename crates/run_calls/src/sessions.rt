@@ -100,6 +100,7 @@ fn runs_to_the_end(rt: HostRuntime) -> Result<(), Fail> {
 
 /// The first word of the code, the last byte of the buffer, and the last register.
 fn assert_shown(rt: &impl Abort, session: &Session<16>) {
+    assert_same!(rt; session.is_ended(), false);
     assert_same!(rt; session.fetch(0x1_0000), Some(SUM[0]));
     assert_same!(rt; session.fetch(0x4000_0000), None);
     assert_same!(rt; session.peek(0x4000_03ff), Some(3));
@@ -112,6 +113,8 @@ fn assert_step(rt: &impl Abort, session: &mut Session<16>, steps: u64, pc: u32) 
     assert_same!(rt; session.step(), Some(()));
     assert_same!(rt; session.steps(), steps);
     assert_same!(rt; session.registers().pc, pc);
+    assert_same!(rt; session.pc(), pc);
+    session.stands();
 }
 
 /// Each step of a run over one byte.
@@ -123,6 +126,7 @@ fn assert_steps(rt: &impl Abort, session: &mut Session<16>) {
     assert_step(rt, session, 5, 0x1_0014);
     assert_step(rt, session, 6, 0x1_0018);
     assert_step(rt, session, 7, 0xffff_fff0);
+    assert_same!(rt; session.is_ended(), true);
     assert_same!(rt; session.step(), None);
     assert_same!(rt; session.steps(), 7);
 }
