@@ -93,9 +93,11 @@ def certificates_in(part):
 Param = namedtuple('Param', 'kind mode a b', defaults=(0, 0, 0))   # kind: 'none', 'scalar', 'buffer'; mode: READ or READ | WRITE
 RegisterFact = namedtuple('RegisterFact', 'number lo hi equal', defaults=(None,))   # equal: None, or (constant, ((atom, coefficient), ..))
 VectorFact = namedtuple('VectorFact', 'register width registers count lo hi')       # count 0: vl
-Block = namedtuple('Block', 'start c k r vtype facts vectors')                      # vtype: None where it is not known
-Certificate = namedtuple('Certificate', 'vlen params blocks')
+OrderFact = namedtuple('OrderFact', 's r')                                          # r's number is at most s's; 32: vl
+Block = namedtuple('Block', 'start c k r vtype facts vectors k2 r2 orders', defaults=(0, 0, ()))    # vtype: None where it is not known
+Certificate = namedtuple('Certificate', 'vlen params blocks version', defaults=(1,))
 
+VLENS = {1: 128, 2: 256, 3: 512}
 KINDS = ('none', 'scalar', 'buffer')
 MODES = {1: READ, 3: READ | WRITE}
 
@@ -121,17 +123,17 @@ class Fields:
 
 def read_certificate(data):
     f = Fields(data)
-    f.take(2, 'Version', lambda v: v == 1)
-    vlen = {1: 128, 2: 256}[f.take(1, 'Version', lambda v: v in (1, 2))]
+    version = f.take(2, 'Version', lambda v: v in (1, 2))
+    vlen = VLENS[f.take(1, 'Version', lambda v: v in VLENS)]
     f.zero(1, 'Version')
     params = [read_param(f) for _ in range(8)]
     count = f.take(2, 'TooMany', lambda v: v <= 1024)
     f.zero(2, 'TooMany')
     blocks = []
     for _ in range(count):
-        blocks.append(read_block(f, blocks[-1].start if blocks else -1, params, vlen))
+        blocks.append(read_block(f, blocks[-1].start if blocks else -1, params, vlen, version))
     refuse_if(f.at < len(data), 'TrailingBytes')
-    return Certificate(vlen, params, blocks)
+    return Certificate(vlen, params, blocks, version)
 
 
 def read_param(f):
@@ -143,14 +145,17 @@ def read_param(f):
     return Param(kind, MODES.get(mode, 0), a, b)
 
 
-def read_block(f, before, params, vlen):
+def read_block(f, before, params, vlen, version):
     start = f.take(4, 'BlockOrder', lambda v: v > before and v % 4 == 0)
     c, k = f.take(4, 'Budget'), f.take(4, 'Budget')
+    k2 = f.take(4, 'Budget', lambda v: v == 0 or k != 0) if version == 2 else 0
     r = f.take(1, 'Budget', lambda v: 1 <= v <= 31 if k else v == 0)
+    r2 = f.take(1, 'Budget', lambda v: r < v <= 31 if k2 else v == 0) if version == 2 else 0
     is_known = f.take(1, 'Fact', lambda v: v < 2)
     vtype = f.take(1, 'Fact', lambda v: v in VTYPES if is_known else v == 0)
     registers, vectors = f.take(1, 'TooMany', lambda v: v <= 32), f.take(1, 'TooMany', lambda v: v <= 32)
-    for _ in range(3):
+    orders = f.take(1, 'TooMany', lambda v: v <= 32) if version == 2 else 0
+    for _ in range(1 if version == 2 else 3):
         f.zero(1, 'TooMany')
     facts = []
     for _ in range(registers):
@@ -159,8 +164,11 @@ def read_block(f, before, params, vlen):
     for _ in range(vectors):
         groups.append(read_vector_fact(f, groups[-1].register + groups[-1].registers if groups else 0, vlen))
     equal = {fact.number for fact in facts if fact.equal}
+    pairs = []
+    for _ in range(orders):
+        pairs.append(read_order_fact(f, pairs[-1].s if pairs else 0, equal))
     refuse_if(any(atom in equal for fact in facts if fact.equal for atom, _ in fact.equal[1]), 'Equality')
-    return Block(start, c, k, r, vtype if is_known else None, tuple(facts), tuple(groups))
+    return Block(start, c, k, r, vtype if is_known else None, tuple(facts), tuple(groups), k2, r2, tuple(pairs))
 
 
 def read_register_fact(f, before, params):
@@ -191,6 +199,12 @@ def read_vector_fact(f, free, vlen):
     return VectorFact(register, width, registers, count, lo, hi)
 
 
+def read_order_fact(f, before, equal):
+    s = f.take(1, 'Order', lambda v: before < v <= 32 and v not in equal)
+    r = f.take(1, 'Order', lambda v: 1 <= v <= 32 and v != s and v not in equal)
+    return OrderFact(s, r)
+
+
 # ---- Files of given certificates -------------------------------------------------------------------------------------------------
 
 def param_bytes(p):
@@ -209,11 +223,17 @@ def vector_fact_bytes(v):
     return struct.pack('<BBBBHHII', v.register, v.width, v.registers, 0, v.count, 0, v.lo, v.hi)
 
 
-def block_bytes(b):
-    head = struct.pack('<IIIBBBBB3x', b.start, b.c, b.k, b.r, b.vtype is not None, b.vtype or 0, len(b.facts), len(b.vectors))
-    return head + b''.join(map(register_fact_bytes, b.facts)) + b''.join(map(vector_fact_bytes, b.vectors))
+def block_bytes(b, version=1):
+    counts = b.vtype is not None, b.vtype or 0, len(b.facts), len(b.vectors)
+    facts = b''.join(map(register_fact_bytes, b.facts)) + b''.join(map(vector_fact_bytes, b.vectors))
+    if version == 1:
+        assert (b.k2, b.r2, b.orders) == (0, 0, ()), 'version 1 has no second factor and no orders'
+        return struct.pack('<IIIBBBBB3x', b.start, b.c, b.k, b.r, *counts) + facts
+    head = struct.pack('<IIIIBBBBBBBx', b.start, b.c, b.k, b.k2, b.r, b.r2, *counts, len(b.orders))
+    return head + facts + b''.join(struct.pack('<BB', *order) for order in b.orders)
 
 
 def certificate_bytes(certificate):
-    return (struct.pack('<HBB', 1, {128: 1, 256: 2}[certificate.vlen], 0) + b''.join(map(param_bytes, certificate.params))
-            + struct.pack('<HH', len(certificate.blocks), 0) + b''.join(map(block_bytes, certificate.blocks)))
+    vlen = next(code for code, bits in VLENS.items() if bits == certificate.vlen)
+    return (struct.pack('<HBB', certificate.version, vlen, 0) + b''.join(map(param_bytes, certificate.params))
+            + struct.pack('<HH', len(certificate.blocks), 0) + b''.join(block_bytes(b, certificate.version) for b in certificate.blocks))

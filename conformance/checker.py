@@ -8,7 +8,7 @@ import copy
 from collections import namedtuple
 
 import model
-from certificates import FULL, READ, WRITE, RegisterFact, Refused, VectorFact, code_segment, read_certificate, read_image
+from certificates import FULL, READ, WRITE, OrderFact, RegisterFact, Refused, VectorFact, code_segment, read_certificate, read_image
 from table import M32, sew_of, vlmax_of
 
 TERMS, WORDS = 8, 4096
@@ -162,11 +162,24 @@ def at_block(certificate, block, vlenb):
             s.x[number] = Value(Form(0, {number: 1}), interval)
         else:
             equal.append((number, interval, Form(*fact.equal)))
+    ends = lambda number: (stated[number].lo, stated[number].hi) if number in stated else FULL
+    for order in block.orders:
+        split(s, order, ends(order.s), ends(order.r))
+    # The intervals that split are those that are stated; with the splits in place every number of the start has its form's range too.
+    equal += [(number, s.x[number].range, s.x[number].form) for number in s.atoms if number <= VL]
     for number, interval, form in equal:
         of_form = s.range_of(form)
         s.x[number] = Value(form, of_form and meet(interval, of_form) or interval)
     s.vtype, s.facts = block.vtype, list(block.vectors)
     return s
+
+
+def split(s, order, greater, lesser):
+    """The atom of an order's greater number is that of the lesser one and a rest, by the intervals that are stated of both."""
+    if greater[1] < lesser[0]:
+        return
+    rest = s.fresh((max(0, greater[0] - lesser[1]), greater[1] - lesser[0]))
+    s.splits[order.s] = order.r, rest.form.only_atom()
 
 
 def buffers(params):
@@ -488,11 +501,20 @@ def refined(s, i, f, taken):
     return s
 
 
+def told_orders(i, f, taken):
+    """The orders that a branch itself tells on one of its edges."""
+    one, two = f['rs1'], f['rs2']
+    condition = i.name[1:] if taken else OPPOSITE[i.name[1:]]
+    if condition == 'eq':
+        return OrderFact(one, two), OrderFact(two, one)
+    return {'ltu': (OrderFact(two, one),), 'geu': (OrderFact(one, two),)}.get(condition, ())
+
+
 # ---- Edges --------------------------------------------------------------------------------------------------------------------------------
 
-def require_edge(s, target, blocks, budget):
+def require_edge(s, target, blocks, budget, told=()):
     """All that a way to a target asks. s: what is known on it. target: None where it isn't known. budget: None on the way from the entry,
-    else Start."""
+    else Start. told: the orders that the branch tells whose edge this is."""
     if target != model.EXIT and target not in blocks:
         raise Refused('TargetNotABlock')
     block = None if target == model.EXIT else blocks[target]
@@ -506,6 +528,9 @@ def require_edge(s, target, blocks, budget):
         for fact in block.facts:
             if fact.equal and not is_equal(s, fact):
                 raise Refused('EqualityNotProved')
+        for order in block.orders:
+            if order not in told and not is_in_order(s, s.x[order.s], s.x[order.r]):
+                raise Refused('OrderNotProved')
         for fact in block.vectors:
             if not any(implies(s, held, fact) for held in s.facts):
                 raise Refused('VectorFactNotProved')
@@ -533,26 +558,47 @@ def implies(s, held, fact):
     return fact.count <= s.vl[0] if held.count == 0 else held.count >= fact.count
 
 
-Start = namedtuple('Start', 'c k value')    # a block's budget, with its register's value at the block's start
-
-
-def is_paid(s, start, block):
-    """c + k * x[r] at the block's start is at least the words and the target's budget."""
-    c, k, value = (block.c, block.k, s.x[block.r]) if block else (0, 0, s.constant(0))
-    spare = start.c - s.words - c
-    if spare + start.k * start.value.range[0] >= k * value.range[1]:
+def is_in_order(s, greater, lesser):
+    """By the ends of the ranges, or by the forms, whose split atoms are replaced however many terms that gives."""
+    if lesser.range[1] <= greater.range[0]:
         return True
-    difference = {}
-    for factor, form in ((start.k, start.value.form), (-k, value.form)):
+    difference = whole_sum(s, 0, ((1, greater.form), (-1, lesser.form)))
+    if difference is None:
+        return False
+    constant, terms = difference
+    own = interval_of(constant, terms, s.atoms)
+    after = interval_of(constant, split_terms(terms, s.splits), s.atoms)
+    return (meet(own, after) or own)[0] >= 0
+
+
+def whole_sum(s, constant, parts):
+    """A constant and multiples of the numbers of forms, in whole numbers: constant and terms, or None where one of the forms has no range."""
+    sum_of = {}
+    for factor, form in parts:
         if factor == 0:
             continue
         wraps = s.wraps(form)
         if wraps is None:
-            return False
-        spare += factor * (form.constant - wraps * SPAN)
+            return None
+        constant += factor * (form.constant - wraps * SPAN)
         for atom, coefficient in whole_terms(form).items():
-            difference[atom] = difference.get(atom, 0) + factor * coefficient
-    return interval_of(spare, difference, s.atoms)[0] >= 0
+            sum_of[atom] = sum_of.get(atom, 0) + factor * coefficient
+    return constant, sum_of
+
+
+Start = namedtuple('Start', 'c k value k2 value2', defaults=(0, Value(Form(0), (0, 0))))    # a block's budget, with its registers' values at the start
+
+
+def is_paid(s, start, block):
+    """c + k * x[r] + k2 * x[r2] at the block's start is at least the words and the target's budget."""
+    c, k, k2 = (block.c, block.k, block.k2) if block else (0, 0, 0)
+    value, value2 = (s.x[block.r], s.x[block.r2]) if block else (s.constant(0), s.constant(0))
+    spare = start.c - s.words - c
+    if spare + start.k * start.value.range[0] + start.k2 * start.value2.range[0] >= k * value.range[1] + k2 * value2.range[1]:
+        return True
+    parts = (start.k, start.value.form), (start.k2, start.value2.form), (-k, value.form), (-k2, value2.form)
+    difference = whole_sum(s, spare, parts)
+    return difference is not None and interval_of(*difference, s.atoms)[0] >= 0
 
 
 # ---- Blocks -------------------------------------------------------------------------------------------------------------------------------
@@ -581,7 +627,7 @@ class Walk:
 
     def walk(self, block):
         s = at_block(self.certificate, block, self.vlenb)
-        start = Start(block.c, block.k, s.x[block.r])
+        start = Start(block.c, block.k, s.x[block.r], block.k2, s.x[block.r2])
         pc = block.start
         while self.told_at(pc, self.word, s, start, pc):
             pc += 4
@@ -611,12 +657,12 @@ class Walk:
         i, f = self.fetched(s, pc)
         s.words += 1
         after = pc + 4 & M32
-        edge = lambda known, target: require_edge(known, target, self.blocks, start)
+        edge = lambda known, target, told=(): require_edge(known, target, self.blocks, start, told)
         if i.shape == 'branch':
             for taken, target in ((True, pc + f['to'] & M32), (False, after)):
                 way = refined(s, i, f, taken)
                 if way:
-                    edge(way, target)
+                    edge(way, target, told_orders(i, f, taken))
             return False
         if i.shape in ('jal', 'jalr'):
             target = pc + f['to'] & M32 if i.shape == 'jal' else known(offset_sum(s, f['rs1'], f['imm']).range)
@@ -668,4 +714,5 @@ def check(file, vlenb):
     except Refused as e:
         return e.text
     block = next(block for block in certificate.blocks if block.start == image.entry)
-    return 'accepted %d %d %d' % (block.c, block.k, block.r)
+    budget = 'accepted %d %d %d' % (block.c, block.k, block.r)
+    return budget + ' %d %d' % (block.k2, block.r2) if block.k2 else budget

@@ -181,7 +181,7 @@ def spellings():
     at = right.index(bytes.fromhex('2204000000'))       # the coefficient 4 of what was passed
     changes = [('Short', right[:260]), ('TrailingBytes', right + b'\0'), ('Equality', right[:at + 1] + bytes(4) + right[at + 5:]), ('Short', b'')]
     for name, place, value in (
-            ('Version', 0, 2), ('Version', 2, 0), ('Version', 2, 4), ('Version', 3, 1), ('Parameter', 4, 3), ('Parameter', 5, 2),
+            ('Budget', 0, 2), ('Version', 2, 0), ('Version', 2, 4), ('Version', 3, 1), ('Parameter', 4, 3), ('Parameter', 5, 2),
             ('Parameter', 6, 1), ('Parameter', 11, 1), ('Parameter', 12, 1), ('Parameter', 17, 1), ('Parameter', 21, 5),
             ('Parameter', 28, 4), ('Parameter', 29, 1), ('Parameter', 32, 1), ('Parameter', 36, 1), ('TooMany', 101, 5),
             ('TooMany', 102, 1), ('Short', 100, 4), ('TrailingBytes', 100, 2), ('BlockOrder', 104, 1), ('Budget', 116, 0),

@@ -1,12 +1,13 @@
 """Kernels with certificates, written as text, and the ELF files that hold them.
 
-A certificate's blocks are lines `LABEL [C] [K*xR] [vtype=e8,m1,ta,ma]; FACT; ..`. A FACT is one of
+A certificate's blocks are lines `LABEL [C] [K*xR [K*xR]] [vtype=e8,m1,ta,ma]; FACT; ..`. A FACT is one of
 
     R                                       x1 is EXIT
     x10 LO..HI                              an interval
     x10 LO..HI = 0x40000000 - 4 x11 + 4 p1  and an equality; p1 is what was passed for parameter 1, and vl is a register too
     x10 is N                                [N, N] and the equality N
     v8*2 e16 LO..HI                         a vector fact for vl elements of two registers; `v8*2 e16 #4 LO..HI` for the first 4
+    vl <= x11                               an order fact
 
 `..HI` alone is from 0. A label may be an address. Parameters are `s LO HI`, `r SIZE`, `rw SIZE`, `-`, parted by commas.
 """
@@ -57,7 +58,9 @@ def equality(text):
 
 
 def fact(text):
-    """A register fact or a vector fact."""
+    """A register fact, a vector fact or an order fact."""
+    if '<=' in text:
+        return c.OrderFact(*(atom(name.strip()) for name in reversed(text.split('<='))))
     if text == 'R':
         return c.RegisterFact(1, EXIT, EXIT)
     name, *rest = text.split(None, 1)
@@ -78,18 +81,20 @@ def block(line, labels):
     head, *texts = [part.strip() for part in line.split(';')]
     label, *more = head.split()
     start = labels[label] if label in labels else int(label, 0)
-    constant, k, r, vtype = 0, 0, 0, None
+    constant, factors, vtype = 0, [], None
     for part in more:
         if part.startswith('vtype='):
             vtype = vtype_of(part[6:].split(','))
         elif '*' in part:
             k, r = part.split('*')
-            k, r = int(k, 0), atom(r)
+            factors.append((int(k, 0), atom(r)))
         else:
             constant = int(part, 0)
     facts = [fact(text) for text in texts if text]
     registers = tuple(sorted((f for f in facts if isinstance(f, c.RegisterFact)), key=lambda f: f.number))
-    return c.Block(start, constant, k, r, vtype, registers, tuple(f for f in facts if isinstance(f, c.VectorFact)))
+    vectors, orders = (tuple(f for f in facts if isinstance(f, kind)) for kind in (c.VectorFact, c.OrderFact))
+    (k, r), (k2, r2) = (factors + [(0, 0), (0, 0)])[:2]
+    return c.Block(start, constant, k, r, vtype, registers, vectors, k2, r2, tuple(sorted(orders)))
 
 
 def params(text):
@@ -106,12 +111,12 @@ def code_bytes(words):
     return struct.pack('<%dI' % len(words), *words)
 
 
-def kernel(text, passed, blocks, vlenb=16, more=(), at=CODE, entry=None):
+def kernel(text, passed, blocks, vlenb=16, more=(), at=CODE, entry=None, version=1):
     """A kernel of assembly, parameters and blocks; `more`: segments beside that of its code."""
     words, labels = assembled(text, at)
     code = code_bytes(words)
     lines = [line for line in blocks.split('\n') if line.strip()]
-    certificate = c.Certificate(8 * vlenb, params(passed), [block(line, labels) for line in lines])
+    certificate = c.Certificate(8 * vlenb, params(passed), [block(line, labels) for line in lines], version)
     return Kernel([(at, code, len(code), 5)] + list(more), at if entry is None else entry, certificate)
 
 

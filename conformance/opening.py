@@ -51,16 +51,15 @@ def at_start(params, arguments):
 
 def refusal(file, arguments, vlenb, most):
     """Why no run is opened, or None. The image is checked at its certificate's own length of a vector register first."""
-    told = check(file, 16)
-    if told == 'WrongVlen':
-        told = check(file, 32)
+    told = next(answer for answer in (check(file, own) for own in (16, 32, 64)) if answer != 'WrongVlen')
     if not told.startswith('accepted '):
         return told
     certificate = read_certificate(read_image(file).certificate)
     error = arguments_error(certificate.params, arguments)
     if error:
         return error
-    c, k, r = map(int, told.split()[1:])
-    if c + k * at_start(certificate.params, arguments)[r] > most:
+    constant, *products = map(int, told.split()[1:])
+    x = at_start(certificate.params, arguments)
+    if constant + sum(factor * x[register] for factor, register in zip(products[::2], products[1::2])) > most:
         return 'BoundTooLarge'
     return None if certificate.vlen == 8 * vlenb else 'WrongVlen'

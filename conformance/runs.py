@@ -445,7 +445,7 @@ def with_two_segments(second):
 
 def vector_kernels():
     # The setting is keep where vmv.s.x leaves a tail, of which qemu has another view (steps.py).
-    for vlenb in (16, 32):
+    for vlenb in (16, 32, 64):
         yield Run('dot product', DOT, [r(some(75, 3)), r(some(75, 11)), 75], vlenb)
         yield Run('filter', FILTER, [r(some(120, 5)), w(bytes(128)), 120, 99], vlenb, vlenb == 16)
         yield Run('look up', LOOK_UP, [w(some(90, 3)), 90, r(some(256, 77)), w(bytes(256))], vlenb, vlenb == 32)
@@ -479,7 +479,7 @@ def small_words():
 
 def everything():
     page = some(4096)
-    for vlenb in (16, 32):
+    for vlenb in (16, 32, 64):
         for ones in (False, True):
             yield Run('add bytes', ADD_BYTES, [w(some(150, 3)), r(some(150, 11)), 150], vlenb, ones)
             yield Run('tails', TAILS, [6], vlenb, ones)
@@ -572,7 +572,7 @@ def later():
     yield Run('a trap where no step is left, behind a step', of_words(0x13, 0), most=1, by_hand=told)
     yield Run('a trap where one step is left', of_words(0x13, 0), most=2)
     yield Run('a run that ends where no step is left', of_words(0x13, 0x8067), most=2)
-    for vlenb in (16, 32):
+    for vlenb in (16, 32, 64):
         yield Run('a vector store over two segments', in_segments(
             'vsetivli x0,8,e8,m1; lui a1,0x20; addi a1,a1,12; vmv.v.i v8,7; vse8.v v8,(a1); vle8.v v9,(a1); ret', *ADJOINING), [], vlenb)
         yield Run('a vector load with a stride over two segments', in_segments(
@@ -597,7 +597,17 @@ def later():
     for name, text in (
             ('vfirst at 200', 'li t1,200; vmseq.vx v8,v16,t1; vfirst.m a0,v8'), ('vcpop of 256', 'vmseq.vv v8,v16,v16; vcpop.m a0,v8'),
             ('viota up to 255', 'vmseq.vv v8,v16,v16; viota.m v24,v8'), ('vmsbf up to 200', 'li t1,200; vmseq.vx v8,v16,t1; vmsbf.m v9,v8; vmsif.m v10,v8; vmsof.m v11,v8')):
-        yield Run(name, in_segments(numbers % text), [], 32)
+        for vlenb in (32, 64):
+            yield Run(name, in_segments(numbers % text), [], vlenb)
+    # At 512 bits the numbers of 512 elements of 8 bits begin again at 256.
+    for vlenb in (16, 32, 64):
+        yield Run('as many numbers as there are elements', in_segments('vsetvli t0,x0,e8,m8,ta,ma; vid.v v8; vse8.v v8,(a0); ecall'), [w(bytes(512))], vlenb)
+    for n in (511, 512, 513):
+        yield Run('a length of %d' % n, in_segments('vsetvli a2,a1,e8,m8,ta,ma; vmv.v.i v8,7; vse8.v v8,(a0); vsetvli a3,a1,e8,m4,tu,ma; vadd.vi v8,v8,1; vse8.v v8,(a0); ret'),
+                  [w(bytes(513)), n], 64, n == 512)
+    yield Run('a gather by bytes reaches 256 elements, one by a register all', in_segments(
+        'vsetvli t0,x0,e16,m8,ta,ma; vid.v v8; vsrl.vi v8,v8,1; vsetvli t0,x0,e8,m4,ta,ma; vid.v v16; vrgather.vv v20,v8,v16; vse8.v v20,(a0); li t1,300; vsetvli t0,x0,e8,m8,ta,ma; '
+        'vrgather.vx v24,v8,t1; vse8.v v24,(a1); vslideup.vx v24,v8,t1; vslidedown.vx v16,v8,t1; ret'), [w(bytes(512)), w(bytes(512))], 64)
 
 
 def main():

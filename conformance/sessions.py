@@ -147,7 +147,7 @@ def later_refusals():
 
 def accepted_rows():
     for more in (accepted_runs, later_runs):
-        for vlenb in (16, 32):
+        for vlenb in (16, 32, 64):
             for run in more(vlenb):
                 mine = run.of_model()
                 theirs = mine if run.by_hand else run.of_qemu()

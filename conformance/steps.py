@@ -11,6 +11,7 @@ import subprocess
 import sys
 
 import chosen
+import longest
 import model
 from drawn import PLACES, SHAPES_OF_LEGAL, VILL, fields_of, registers, rng, seed, vl_of
 from qemu import EBREAK, TRAMPOLINE, Batch
@@ -436,7 +437,7 @@ def main():
     for args, more in chosen.cases():
         add(*args, **more)
     length_cases()
-    for args, more in chosen.later_cases():
+    for args, more in itertools.chain(chosen.later_cases(), longest.cases()):
         add(*args, **more)
     groups = {}
     for n, c in enumerate(cases):

@@ -174,8 +174,8 @@ def image_holds(w, line):
 
 MACHINE_ROWS = (('words.txt', word_holds), ('legality.txt', legality_holds), ('steps.txt', step_holds), ('runs.txt', run_holds))
 RUN_ROWS = (('runs.txt', run_holds), ('sessions.txt', session_holds))
-CHECK_ROWS = (('checks.txt', check_holds),)
-SPELLED_ROWS = (('checks.txt', spelled_holds),)
+CHECK_ROWS = (('checks.txt', check_holds), ('orders.txt', check_holds))
+SPELLED_ROWS = (('checks.txt', spelled_holds), ('orders.txt', spelled_holds))
 # A name, the module that is changed, the wrong definitions, those that are the right one in other words, and the tables with what a row holds by.
 Class = namedtuple('Class', 'name module wrong same tables')
 CLASSES = [

@@ -5,6 +5,9 @@ Rules that are too strict and rules that are too loose, and rules in another ord
 STATES = "    if i.shape not in ('mv', 'int', 'narrow', 'ext'):\n        return None\n"
 LAST = "    if i.stem == 'vremu' and 'rs1' in f and by:\n"
 BY = "    by = known(b.range)\n    if name == 'mul' and by is None"
+ENDS = 'if spare + start.k * start.value.range[0] + start.k2 * start.value2.range[0] >= k * value.range[1] + k2 * value2.range[1]:'
+FORMS = 'return difference is not None and interval_of(*difference, s.atoms)[0] >= 0'
+WRAPS = '        if wraps is None:\n            return None\n        constant'
 AT_START = "    s.x[1], s.x[2] = s.constant(model.EXIT), s.constant(0x30000000)\n"
 
 
@@ -321,12 +324,92 @@ EDGES = [
     ('words cost nothing', 'spare = start.c - s.words - c', 'spare = start.c - c'),
     ('the last word costs nothing', 'spare = start.c - s.words - c', 'spare = start.c - s.words + 1 - c'),
     ('a budget is larger than what it pays for', 'spare = start.c - s.words - c', 'spare = start.c - s.words - 1 - c'),
-    ('budgets by ends are not shown', '    if spare + start.k * start.value.range[0] >= k * value.range[1]:\n        return True\n', ''),
-    ('budgets by forms are not shown', 'return interval_of(spare, difference, s.atoms)[0] >= 0', 'return False'),
-    ('budgets of what wraps are shown', '        if wraps is None:\n            return False\n', '        wraps = s.sum_interval(form)[1] // SPAN\n'),
-    ('budgets wrap', 'if spare + start.k * start.value.range[0] >= k * value.range[1]:', 'if spare + start.k * start.value.range[0] >= k * value.range[1] & M32:'),
-    ('budgets are below 2^32', 'if spare + start.k * start.value.range[0] >= k * value.range[1]:', 'if min(M32, start.c + start.k * start.value.range[0]) - s.words - c >= k * value.range[1]:'),
-    ('a run ends at any cost', 'c, k, value = (block.c, block.k, s.x[block.r]) if block else (0, 0, s.constant(0))', 'c, k, value = (block.c, block.k, s.x[block.r]) if block else (-s.words, 0, s.constant(0))'),
+    ('budgets by ends are not shown', '    ' + ENDS + '\n        return True\n', ''),
+    ('budgets by forms are not shown', FORMS, 'return False'),
+    ('budgets of what wraps are shown', WRAPS, '        wraps = s.sum_interval(form)[1] // SPAN\n        constant'),
+    ('budgets wrap', ENDS, ENDS.replace('>= k * value.range[1] + k2 * value2.range[1]', '>= (k * value.range[1] + k2 * value2.range[1]) & M32')),
+    ('budgets are below 2^32', ENDS, ENDS.replace('spare + start.k * start.value.range[0] + start.k2 * start.value2.range[0]', 'min(M32, start.c + start.k * start.value.range[0] + start.k2 * start.value2.range[0]) - s.words - c')),
+    ('a run ends at any cost', '(block.c, block.k, block.k2) if block else (0, 0, 0)', '(block.c, block.k, block.k2) if block else (-s.words, 0, 0)'),
+]
+
+SPLIT = '        split(s, order, ends(order.s), ends(order.r))\n'
+ORDERS_ASKED = "        for order in block.orders:\n            if order not in told and not is_in_order(s, s.x[order.s], s.x[order.r]):\n                raise Refused('OrderNotProved')\n"
+TOLD = "{'ltu': (OrderFact(two, one),), 'geu': (OrderFact(one, two),)}.get(condition, ())"
+LOWER = 'return (meet(own, after) or own)[0] >= 0'
+
+ORDERS = [
+    ('orders split nothing', SPLIT, '        pass\n'),
+    ('the lesser number is split', 's.splits[order.s] = order.r, rest', 's.splits[order.r] = order.s, rest'),
+    ('a split has no rest', 's.splits[order.s] = order.r, rest.form.only_atom()', 's.splits[order.s] = (order.r,)'),
+    ('numbers that have to be the same are not split', 'if greater[1] < lesser[0]:\n', 'if greater[1] <= lesser[0]:\n'),
+    ('numbers that cannot be in order are split', '    if greater[1] < lesser[0]:\n        return\n', ''),
+    ('a number is split where all of it is above alone', 'if greater[1] < lesser[0]:\n', 'if greater[0] < lesser[1]:\n'),
+    ('orders are not known where nothing is stated', SPLIT, '        if order.s in stated and order.r in stated:\n    ' + SPLIT),
+    ('one order alone splits', SPLIT, '        if order == block.orders[0]:\n    ' + SPLIT),
+    ('what vl is the greater of is not split', SPLIT, '        if order.s != VL:\n    ' + SPLIT),
+    ('what vl is the lesser of is not split', SPLIT, '        if order.r != VL:\n    ' + SPLIT),
+    ('an order sharpens the greater number', SPLIT, SPLIT + '        s.x[order.s] = Value(s.x[order.s].form, (max(ends(order.s)[0], ends(order.r)[0]), ends(order.s)[1]))\n'),
+    ('an order sharpens the lesser number', SPLIT, SPLIT + '        s.x[order.r] = Value(s.x[order.r].form, (ends(order.r)[0], min(ends(order.s)[1], ends(order.r)[1])))\n'),
+    ('an order sharpens atoms', SPLIT, SPLIT + '        s.atoms[order.r] = ends(order.r)[0], min(ends(order.s)[1], ends(order.r)[1])\n'),
+    ('sums of the start alone are ranged with the splits', '    equal += [(number, s.x[number].range, s.x[number].form) for number in s.atoms if number <= VL]\n', ''),
+    ('sums of the start do not know orders', '    for order in block.orders:\n' + SPLIT, '', '    s.vtype, s.facts = block.vtype', '    for order in block.orders:\n' + SPLIT + '    s.vtype, s.facts = block.vtype'),
+    ('orders are not asked for', 'if order not in told and not is_in_order', 'if False and not is_in_order'),
+    ('one order alone is asked for', '        for order in block.orders:\n            if order not', '        for order in block.orders[:1]:\n            if order not'),
+    ('one order is enough', '        for order in block.orders:\n            if order not in told and not is_in_order(s, s.x[order.s], s.x[order.r]):', '        if block.orders:\n            if all(order not in told and not is_in_order(s, s.x[order.s], s.x[order.r]) for order in block.orders):'),
+    ('orders are asked for the other way round', 'is_in_order(s, s.x[order.s], s.x[order.r])', 'is_in_order(s, s.x[order.r], s.x[order.s])'),
+    ('orders come before vtype', ORDERS_ASKED, '', '        if block.vtype is not None and', ORDERS_ASKED + '        if block.vtype is not None and'),
+    ('orders come before intervals', ORDERS_ASKED, '', '        for fact in block.facts:\n            lo, hi', ORDERS_ASKED + '        for fact in block.facts:\n            lo, hi'),
+    ('orders come before sums', ORDERS_ASKED, '', '        for fact in block.facts:\n            if fact.equal', ORDERS_ASKED + '        for fact in block.facts:\n            if fact.equal'),
+    ('orders come behind vector facts', ORDERS_ASKED, '', "                raise Refused('VectorFactNotProved')\n", "                raise Refused('VectorFactNotProved')\n" + ORDERS_ASKED),
+    ('orders come behind budgets', ORDERS_ASKED, '', "        raise Refused('BudgetNotProved')\n", "        raise Refused('BudgetNotProved')\n    if block:\n" + ORDERS_ASKED),
+    ('orders are not asked for at the entry', 'if order not in told and not is_in_order', 'if budget and order not in told and not is_in_order'),
+    ('orders by ends are not shown', 'if lesser.range[1] <= greater.range[0]:', 'if False:'),
+    ('orders of what may be the same are not shown by ends', 'if lesser.range[1] <= greater.range[0]:', 'if lesser.range[1] < greater.range[0]:'),
+    ('orders by lower ends', 'if lesser.range[1] <= greater.range[0]:', 'if lesser.range[0] <= greater.range[0]:'),
+    ('orders by forms are not shown', LOWER, 'return False'),
+    ('orders of what may be the same are not shown by forms', LOWER, LOWER.replace('>= 0', '> 0')),
+    ('orders by forms know no splits', LOWER, 'return own[0] >= 0'),
+    ('orders by forms know splits alone', LOWER, 'return after[0] >= 0'),
+    ('orders by forms whose sums do not meet are not shown', LOWER, 'return bool(meet(own, after)) and max(own[0], after[0]) >= 0'),
+    ('orders by forms whose sums do not meet are shown', LOWER, 'return max(own[0], after[0]) >= 0'),
+    ('orders by forms are of eight terms', LOWER, 'return (len(split_terms(terms, s.splits)) <= TERMS and meet(own, after) or own)[0] >= 0'),
+    ('orders by forms are of nine terms', LOWER, 'return (len(split_terms(terms, s.splits)) <= TERMS + 1 and meet(own, after) or own)[0] >= 0'),
+    ('orders of sums of eight terms', LOWER, 'return len(terms) <= TERMS and (meet(own, after) or own)[0] >= 0'),
+    ('sums are not less what they wrap', 'constant += factor * (form.constant - wraps * SPAN)', 'constant += factor * form.constant'),
+    ('orders of forms without a range', '    difference = whole_sum(s, 0, ((1, greater.form), (-1, lesser.form)))\n', '    difference = whole_sum(s, 0, ((1, greater.form.plus(lesser.form, -1)),))\n'),
+    ('orders by forms that are the same alone', LOWER, 'return greater.form == lesser.form'),
+    ('a branch tells no order', 'if order not in told and not is_in_order', 'if not is_in_order'),
+    ('a branch of the same numbers tells no order', "    if condition == 'eq':\n        return OrderFact(one, two), OrderFact(two, one)\n", ''),
+    ('a branch of the same numbers tells one order', 'return OrderFact(one, two), OrderFact(two, one)', 'return (OrderFact(one, two),)'),
+    ('a branch of the same numbers tells the other order', 'return OrderFact(one, two), OrderFact(two, one)', 'return (OrderFact(two, one),)'),
+    ('a branch of other numbers tells orders', "    if condition == 'eq':\n        return OrderFact", "    if condition in ('eq', 'ne'):\n        return OrderFact"),
+    ('ltu tells no order', TOLD, TOLD.replace("'ltu': (OrderFact(two, one),), ", '')),
+    ('geu tells no order', TOLD, TOLD.replace(", 'geu': (OrderFact(one, two),)", '')),
+    ('ltu tells the other order', TOLD, TOLD.replace("'ltu': (OrderFact(two, one),)", "'ltu': (OrderFact(one, two),)")),
+    ('geu tells the other order', TOLD, TOLD.replace("'geu': (OrderFact(one, two),)", "'geu': (OrderFact(two, one),)")),
+    ('lt tells an order', TOLD, TOLD.replace("{'ltu'", "{'lt': (OrderFact(two, one),), 'ltu'")),
+    ('ge tells an order', TOLD, TOLD.replace("{'ltu'", "{'ge': (OrderFact(one, two),), 'ltu'")),
+    ('signed branches of small numbers tell orders', 'edge(way, target, told_orders(i, f, taken))', "edge(way, target, told_orders(model.ALL[i.name + 'u'] if i.name in ('blt', 'bge') and max(s.x[f['rs1']].range[1], s.x[f['rs2']].range[1]) < 1 << 31 else i, f, taken))"),
+    ('both sides tell what the one does that is taken', 'edge(way, target, told_orders(i, f, taken))', 'edge(way, target, told_orders(i, f, True))'),
+    ('no side tells an order that is not taken', 'edge(way, target, told_orders(i, f, taken))', 'edge(way, target, told_orders(i, f, True) if taken else ())'),
+    ('sides that lead to one address tell what either does', 'edge(way, target, told_orders(i, f, taken))', "edge(way, target, told_orders(i, f, taken) + (told_orders(i, f, not taken) if after == pc + f['to'] & M32 else ()))"),
+    ('a branch that cuts nothing tells no order', 'edge(way, target, told_orders(i, f, taken))', 'edge(way, target, told_orders(i, f, taken) if any(way.x[n].range != s.x[n].range for n in range(32)) else ())'),
+    ('a branch and an order together tell another', 'if order not in told and not is_in_order', 'if order not in told and not any(t.r == order.r and s.splits.get(order.s, (0,))[0] == t.s for t in told) and not is_in_order'),
+    ('the second product of the start is not counted by ends', ENDS, ENDS.replace(' + start.k2 * start.value2.range[0]', '')),
+    ('the second product of the target is not counted by ends', ENDS, ENDS.replace(' + k2 * value2.range[1]', '')),
+    ('the second product of the start is the greatest', ENDS, ENDS.replace('start.value2.range[0]', 'start.value2.range[1]')),
+    ('the second product of the target is the least', ENDS, ENDS.replace('value2.range[1]', 'value2.range[0]')),
+    ('the second product of the start is not counted by forms', ', (start.k2, start.value2.form), ', ', '),
+    ('the second product of the target is not counted by forms', ', (-k2, value2.form)\n', ', (0, value2.form)\n'),
+    ('the second register of the target is the first', '(s.x[block.r], s.x[block.r2]) if block', '(s.x[block.r], s.x[block.r]) if block'),
+    ('the second register of the start is the first', 'block.k2, s.x[block.r2])', 'block.k2, s.x[block.r])'),
+    ('the factors of the start are the other way round', 's.x[block.r], block.k2, s.x[block.r2])', 's.x[block.r2], block.k2, s.x[block.r])'),
+    ('a sum of two products has one form that wraps', WRAPS, "        if wraps is None and len(parts) == 4:\n            continue\n        if wraps is None:\n            return None\n        constant"),
+    ('budgets know splits', FORMS, 'return difference is not None and max(interval_of(*difference, s.atoms)[0], interval_of(difference[0], split_terms(difference[1], s.splits), s.atoms)[0]) >= 0'),
+    ('the second factor is not told', "return budget + ' %d %d' % (block.k2, block.r2) if block.k2 else budget", 'return budget'),
+    ('the second factor is told where it is 0', "return budget + ' %d %d' % (block.k2, block.r2) if block.k2 else budget", "return budget + ' %d %d' % (block.k2, block.r2)"),
+    ('products are of 32 bits', ENDS, ENDS.replace('start.k2 * start.value2.range[0]', '(start.k2 * start.value2.range[0] & M32)')),
+    ('sums are below 2^64', ENDS, ENDS.replace('k * value.range[1] + k2 * value2.range[1]', '(k * value.range[1] + k2 * value2.range[1]) % (1 << 64)')),
 ]
 
 BLOCKS = [
@@ -369,7 +452,7 @@ BLOCKS = [
     ('no certificate is told after the length', "        return 'no certificate'", "        return 'WrongVlen'"),
 ]
 
-CHECKER = VALUES + BLOCK_STARTS + SCALARS + VSET + ACCESSES + VECTORS + BRANCHES + EDGES + BLOCKS
+CHECKER = VALUES + BLOCK_STARTS + SCALARS + VSET + ACCESSES + VECTORS + BRANCHES + EDGES + BLOCKS + ORDERS
 
 ENTRY = [
     ('x1 is 0', AT_START, '    s.x[2] = s.constant(0x30000000)\n'),

@@ -1,7 +1,7 @@
 #!/usr/bin/env python3
 """Puts a certificate into an image: `examples/certify.py sum_bytes` reads sum_bytes/certificate.toml and writes the note
 into sum_bytes/sum_bytes.elf, which `build.sh` has just built. docs/CERTIFICATES.md has the form of a certificate, docs/IMAGES.md
-that of a note. Where it states a list for vlen, the claims are those for each of these lengths, and each further one gets an image of its own,
+that of a note. A certificate that states an order or a second factor is written in version 2, any other in version 1. Where it states a list for vlen, the claims are those for each of these lengths, and each further one gets an image of its own,
 as raise_words-256.elf. It checks nothing: whether
 the certificate is one, and whether the code keeps to it, `cert_note::read` and `block_checker::check` say."""
 import pathlib
@@ -46,18 +46,30 @@ def vector_fact(fact):
                        fact["lo"], fact["hi"])
 
 
-def block(block):
-    facts, vectors = block.get("fact", []), block.get("vector", [])
+def order(order):
+    """The number of `lesser` is at most that of `greater`; 32 is vl."""
+    return bytes([order["greater"], order["lesser"]])
+
+
+def block(block, version):
+    facts, vectors, orders = block.get("fact", []), block.get("vector", []), block.get("order", [])
     vtype = block.get("vtype")
-    return (struct.pack("<III", block["start"], block["constant"], block.get("factor", 0))
-            + bytes([block.get("register", 0), vtype is not None, vtype or 0, len(facts), len(vectors), 0, 0, 0])
-            + b"".join(map(register_fact, facts)) + b"".join(map(vector_fact, vectors)))
+    budget = struct.pack("<II", block["constant"], block.get("factor", 0))
+    counts = bytes([len(facts), len(vectors), len(orders), 0])
+    if version == 1:
+        budget += bytes([block.get("register", 0)])
+        counts += bytes(1)
+    else:
+        budget += struct.pack("<IBB", block.get("second_factor", 0), block.get("register", 0), block.get("second_register", 0))
+    return (struct.pack("<I", block["start"]) + budget + bytes([vtype is not None, vtype or 0]) + counts
+            + b"".join(map(register_fact, facts)) + b"".join(map(vector_fact, vectors)) + b"".join(map(order, orders)))
 
 
 def certificate(stated, vlen):
     params = stated.get("param", []) + [{"kind": "none"}] * (8 - len(stated.get("param", [])))
-    return (struct.pack("<HBB", 1, {128: 1, 256: 2}[vlen], 0) + b"".join(map(parameter, params))
-            + struct.pack("<HH", len(stated["block"]), 0) + b"".join(map(block, stated["block"])))
+    version = 2 if any("order" in b or "second_factor" in b for b in stated["block"]) else 1
+    return (struct.pack("<HBB", version, {128: 1, 256: 2, 512: 3}[vlen], 0) + b"".join(map(parameter, params))
+            + struct.pack("<HH", len(stated["block"]), 0) + b"".join(block(b, version) for b in stated["block"]))
 
 
 def padded(part):

@@ -1,5 +1,5 @@
 #!/usr/bin/env python3
-"""Writes the inputs of histogram, clamp_add, raise_words and translate, and what they must leave, computed apart from any machine."""
+"""Writes the inputs of histogram, clamp_add, raise_words, translate, raise_if and fill_rows, and what they must leave, computed apart from any machine."""
 import os
 import struct
 
@@ -31,3 +31,10 @@ write("translate/table.bin", table)
 write("translate/a.bin", letters)
 write("translate/zeros.bin", 1024 * [0])
 write("translate/expected.bin", [table[letter % 128] for letter in letters])
+
+numbers = [(53 * i + 200) % 256 for i in range(1024)]
+write("raise_if/a.bin", numbers)
+write("raise_if/expected.bin", [(number + 1) % 256 for number in numbers[:1000]] + numbers[1000:])
+
+write("fill_rows/zeros.bin", 4096 * [0])
+write("fill_rows/expected.bin", 50 * 64 * [5] + 14 * 64 * [0])

@@ -161,7 +161,8 @@ module _ (vlenb : ℕ) (s : NumbersView) (v : ℕ → ℕ) (h : Hart) (config : 
     where
       small : IsVlenb vlenb → 8 * vlenb < 2 ^ 32
       small (inl e) = omega (arith, e)
-      small (inr e) = omega (arith, e)
+      small (inr (inl e)) = omega (arith, e)
+      small (inr (inr e)) = omega (arith, e)
 
   -- a number of 32 bits
   constant : (n : ℕ) → n < 2 ^ 32 → IsNumber (length s.atoms) v record { form = number_form n; range = just n } n

@@ -16,7 +16,14 @@ use Rattle.cert_note.specs.declared.values.Equality.{Equality}
 use Rattle.cert_note.specs.declared.values.RegisterFact.{RegisterFact}
 use Rattle.cert_note.specs.declared.values.VectorFact.{VectorFact}
 use Rattle.cert_note.specs.declared.values.Block.{Block}
-use Rattle.cert_note.specs.Certificate.{AllFrom, after_fact, after_block, is_budget, IsRegisterFact, IsBudgetOf, IsBlock, SaysMore}
+use Rattle.cert_note.specs.declared.values.OrderFact.{OrderFact}
+use Rattle.cert_note.specs.declared.values.Version.{Version}
+use Rattle.rv_decode.specs.declared.instructions.Condition.{Condition}
+use Rattle.rv_decode.specs.declared.instructions.Condition.TheVariants.{Eq, Ne, Lt, Ge, Ltu, Geu}
+use Rattle.linear_facts.specs.Differences.{is_not_less_of}
+use Rattle.linear_facts.proofs.DifferenceLaws.{orders-hold}
+use Rattle.abs_state.specs.declared.branches.Said.{Said}
+use Rattle.cert_note.specs.Certificate.{AllFrom, after_fact, after_order, after_block, IsRegisterFact, IsOrderFact, IsBudgetOf, IsBlock, SaysMore}
 use Rattle.abs_state.specs.declared.why.Why.{Why}
 use Rattle.abs_state.specs.declared.state.Way.{Way}
 use Rattle.abs_state.specs.declared.state.Way.TheVariants.{To, Unknown, Fork}
@@ -26,12 +33,13 @@ use Rattle.abs_state.specs.Holds.{number_of}
 use Rattle.abs_state.specs.State.{AbstractView}
 use Rattle.abs_state.specs.Blocks.{equality_form}
 use Rattle.abs_state.specs.Branches.{EdgeView, plain_edge, edge_by, refined, table_on, value_on}
-use Rattle.abs_state.specs.Edges.{shown_or, and_then, Shown, is_interval_shown, is_equality_shown, is_sum_shown, is_vector_shown, says, leads_to, is_vtype_shown, is_paid, is_paid_for, is_same, pays, implies_block, implies_end, implied_by}
-use Rattle.abs_state.specs.Held.{Setting, Goes, FactHolds, IsKnown, IsPaid, IsAt, IsTrueOf, AreTrueOf, budget_of, group_elements, fact_element, number_at, vlenb_in}
+use Rattle.abs_state.specs.Edges.{shown_or, and_then, Shown, is_interval_shown, is_equality_shown, is_sum_shown, is_vector_shown, are_these, says_order, tells_order, is_order_shown, own_total, next_total, no_budget, says, leads_to, is_vtype_shown, is_paid, is_paid_for, is_same, pays, implies_block, implies_end, implied_by}
+use Rattle.abs_state.specs.Held.{Setting, Goes, FactHolds, IsKnown, IsPaid, IsAt, IsTrueOf, AreTrueOf, OrderHolds, budget_of, group_elements, fact_element, number_at, vlenb_in}
 use Rattle.abs_state.specs.EdgeLaws.{TakesEdge, EdgesAreTaken, ImpliedFits, ImpliedEnds}
 use Rattle.abs_state.proofs.Addresses.{register_number}
 use Rattle.abs_state.proofs.Substitutions.{both_true}
 use Rattle.abs_state.proofs.Payments.{equality_holds, parts_below, counted, covered, SaysMore as MoreSaid, says_more, paid_holds}
+use Rattle.abs_state.proofs.StartForms.{budget_below, second_below, greater_below, lesser_below}
 use Rattle.abs_state.proofs.Ways.{IsEdge, plain_is, branch_is}
 
 -- ---- the edge that is taken
@@ -57,6 +65,7 @@ module _ (e : Setting) (n : ℕ) (a : AbstractView) (m : Machine) (v : ℕ → �
       each = λ i l. subst (λ (s : AbstractView). IsNumber (length s.numbers.atoms) v (value_on there.edge i) (number_of i m.hart m.vectors.config))
           (sym there.state) (there.each i l);
       target = there.target;
+      said = there.said;
     };
   }
 
@@ -124,13 +133,45 @@ sum_shown_in : (edge : EdgeView) (number : ℕ) (equality : Equality) → is_sum
 unfolding is_sum_shown value_on
 sum_shown_in edge number equality e = e
 
-register_below : (factor register : ℕ) → IsTrue (is_budget factor register) → register < 32
-unfolding is_budget
-register_below factor register h = by_test (factor == 0) h
+order_shown_in : (edge : EdgeView) (order : OrderFact) → is_order_shown edge order ≡ true
+    → (nat_le (value_on edge order.lesser).range.hi (value_on edge order.greater).range.lo
+    || is_not_less_of (table_on edge) (value_on edge order.greater).form (value_on edge order.lesser).form
+    || option_map_or (tells_order order) edge.said false) ≡ true
+unfolding is_order_shown
+order_shown_in edge order e = e
+
+-- ---- what a branch says of two numbers
+
+-- the two registers of a branch are those of an order
+these_are : (number : ℕ → ℕ) (rs1 rs2 lesser greater : ℕ) → are_these rs1 rs2 lesser greater ≡ true → number rs1 ≤ number rs2
+    → number lesser ≤ number greater
+these_are number rs1 rs2 lesser greater e le =
+    let both = both_true (rs1 == lesser) (rs2 == greater) e in
+    let l : rs1 ≡ lesser = grind (arith, nat_tests, both.0) in
+    let g : rs2 ≡ greater = grind (arith, nat_tests, both.1) in
+    omega (arith, le, ap number l, ap number g)
+
+either_way : (number : ℕ → ℕ) (rs1 rs2 lesser greater : ℕ) → (are_these rs1 rs2 lesser greater || are_these rs2 rs1 lesser greater) ≡ true
+    → number rs1 ≡ number rs2 → number lesser ≤ number greater
+either_way number rs1 rs2 lesser greater e same = by_test (are_these rs1 rs2 lesser greater) refl e
   where
-    by_test : (t : Bool) → IsTrue (if t then register == 0 else (nat_le 1 register && nat_le register 31)) → register < 32
-    by_test true f = grind (arith, nat_tests)
-    by_test false f = grind (arith, nat_tests)
+    by_test : (t : Bool) → are_these rs1 rs2 lesser greater ≡ t → (t || are_these rs2 rs1 lesser greater) ≡ true → number lesser ≤ number greater
+    by_test true f g = these_are number rs1 rs2 lesser greater f (omega (arith, same))
+    by_test false f g = these_are number rs2 rs1 lesser greater g (omega (arith, same))
+
+said_holds : (number : ℕ → ℕ) (condition : Condition) (taken : Bool) (rs1 rs2 lesser greater : ℕ) → says_order condition taken rs1 rs2 lesser greater ≡ true
+    → is_taken condition (number rs1) (number rs2) ≡ taken → number lesser ≤ number greater
+unfolding says_order is_taken
+said_holds number Eq true rs1 rs2 lesser greater e h = either_way number rs1 rs2 lesser greater e (grind (arith, nat_tests, h))
+said_holds number Eq false rs1 rs2 lesser greater e h = cc
+said_holds number Ne true rs1 rs2 lesser greater e h = cc
+said_holds number Ne false rs1 rs2 lesser greater e h = either_way number rs1 rs2 lesser greater e (grind (arith, nat_tests, h))
+said_holds number Lt taken rs1 rs2 lesser greater e h = cc
+said_holds number Ge taken rs1 rs2 lesser greater e h = cc
+said_holds number Ltu true rs1 rs2 lesser greater e h = these_are number rs1 rs2 lesser greater e (grind (arith, nat_tests, h))
+said_holds number Ltu false rs1 rs2 lesser greater e h = these_are number rs2 rs1 lesser greater e (grind (arith, nat_tests, h))
+said_holds number Geu true rs1 rs2 lesser greater e h = these_are number rs2 rs1 lesser greater e (grind (arith, nat_tests, h))
+said_holds number Geu false rs1 rs2 lesser greater e h = these_are number rs1 rs2 lesser greater e (grind (arith, nat_tests, h))
 
 module _ (e : Setting) (n : ℕ) (edge : EdgeView) (m : Machine) (goes : Goes e n edge m) where
   -- a fact that is shown holds
@@ -211,61 +252,113 @@ module _ (e : Setting) (n : ℕ) (edge : EdgeView) (m : Machine) (goes : Goes e 
       let p = both_true (is_vector_shown edge x) (list_all (is_vector_shown edge) xs) h in
       (vector_holds x edge.state.groups (vector_shown_in edge x p.0) goes.known.groups, vectors_hold xs p.1)
 
-  -- what was the budget pays for the instructions taken and for a register's number
-  own_pays : (own : Budget) (d j i : ℕ) → i < 33 → IsPaid goes.numbers n (Some own) edge.state
-      → is_paid (table_on edge) own.constant own.factor edge.state.paid d j (value_on edge i) ≡ true
-      → d + j * number_of i m.hart m.vectors.config ≤ n
-  own_pays own d j i l paid h =
-      let all = paid_holds (table_on edge) (length edge.state.numbers.atoms) goes.numbers own.constant own.factor d j edge.state.paid (value_on edge i)
-      paid.0 (number_of i m.hart m.vectors.config) goes.atoms paid.2 (goes.each i l) h in
-      omega (arith, all, paid.1)
+  -- an order that is shown holds
+  order_holds : (order : OrderFact) → order.lesser < 33 → order.greater < 33 → is_order_shown edge order ≡ true → OrderHolds m order
+  order_holds order l g h = by_ranges (nat_le (value_on edge order.lesser).range.hi (value_on edge order.greater).range.lo) refl (order_shown_in edge order h)
+    where
+      number : ℕ → ℕ
+      number i = number_of i m.hart m.vectors.config
+
+      lesser : IsNumber (length edge.state.numbers.atoms) goes.numbers (value_on edge order.lesser) (number order.lesser)
+      lesser = goes.each order.lesser l
+
+      greater : IsNumber (length edge.state.numbers.atoms) goes.numbers (value_on edge order.greater) (number order.greater)
+      greater = goes.each order.greater g
+
+      by_branch : (o : Option Said) → IfSome o (λ s. is_taken s.condition (number s.rs1) (number s.rs2) ≡ s.taken)
+          → option_map_or (tells_order order) o false ≡ true → number order.lesser ≤ number order.greater
+      by_branch None said f = cc
+      by_branch (Some s) said f = said_holds number s.condition s.taken s.rs1 s.rs2 order.lesser order.greater f said
+
+      by_forms : (t : Bool) → is_not_less_of (table_on edge) (value_on edge order.greater).form (value_on edge order.lesser).form ≡ t
+          → (t || option_map_or (tells_order order) edge.said false) ≡ true → number order.lesser ≤ number order.greater
+      by_forms true f o =
+          omega (
+            arith,
+            orders-hold (table_on edge) goes.numbers (value_on edge order.greater).form (value_on edge order.lesser).form goes.atoms greater.means.form lesser.means.form f,
+            lesser.means.number,
+            greater.means.number,
+          )
+      by_forms false f o = by_branch edge.said goes.said o
+
+      by_ranges : (t : Bool) → nat_le (value_on edge order.lesser).range.hi (value_on edge order.greater).range.lo ≡ t
+          → (t || is_not_less_of (table_on edge) (value_on edge order.greater).form (value_on edge order.lesser).form
+          || option_map_or (tells_order order) edge.said false) ≡ true → number order.lesser ≤ number order.greater
+      by_ranges true f o =
+          let le : (value_on edge order.lesser).range.hi ≤ (value_on edge order.greater).range.lo = grind (arith, nat_tests, f) in
+          omega (arith, le, lesser.lies.high, greater.lies.low)
+      by_ranges false f o = by_forms (is_not_less_of (table_on edge) (value_on edge order.greater).form (value_on edge order.lesser).form) refl o
+
+  orders_hold : (facts : List RegisterFact) (from : ℕ) (orders : List OrderFact) → AllFrom (IsOrderFact facts) after_order from orders
+      → list_all (is_order_shown edge) orders ≡ true → AllByRecursion (OrderHolds m) orders
+  orders_hold facts from [] is h = tt
+  orders_hold facts from (o ∷ os) is h =
+      let p = both_true (is_order_shown edge o) (list_all (is_order_shown edge) os) h in
+      (order_holds o (lesser_below facts from o is.0) (greater_below facts from o is.0) p.0, orders_hold facts (after_order o) os is.1 p.1)
+
+  -- what was the budget pays for the instructions taken and for another budget
+  own_pays : (own next : Budget) → next.register < 32 → next.second_register < 32 → IsPaid goes.numbers n (Some own) edge.state
+      → is_paid (table_on edge) (own_total edge own) (next_total edge next) ≡ true → budget_of next m.hart + edge.state.words ≤ n
+  own_pays own next k l paid h =
+      let first = number_of next.register m.hart m.vectors.config in
+      let second = number_of next.second_register m.hart m.vectors.config in
+      let all = paid_holds (table_on edge) (length edge.state.numbers.atoms) goes.numbers (own_total edge own) (next_total edge next)
+      paid.0 paid.1 first second goes.atoms paid.3 paid.4 (goes.each next.register (omega (arith, k))) (goes.each next.second_register (omega (arith, l))) h in
+      omega (
+        arith,
+        all,
+        paid.2,
+        ap (λ (x : ℕ). next.factor * x) (register_number next.register m.hart m.vectors.config k),
+        ap (λ (x : ℕ). next.second_factor * x) (register_number next.second_register m.hart m.vectors.config l),
+      )
 
   block_is_paid : (o : Option Budget) (next : Budget) → IsBudgetOf next → IsPaid goes.numbers n o edge.state
       → is_paid_for edge o (Some next) ≡ true → IfSome o (λ own. budget_of next m.hart + edge.state.words ≤ n)
   unfolding is_paid_for pays
   block_is_paid None next is paid h = tt
-  block_is_paid (Some own) next is paid h =
-      let l : next.register < 32 = register_below next.factor next.register is.register in
-      let all = own_pays own (edge.state.words + next.constant) next.factor next.register (omega (arith, l)) paid h in
-      omega (arith, all, ap (λ (x : ℕ). next.factor * x) (register_number next.register m.hart m.vectors.config l))
+  block_is_paid (Some own) next is paid h = own_pays own next (budget_below next is) (second_below next is) paid h
 
   end_is_paid : (o : Option Budget) → IsPaid goes.numbers n o edge.state → is_paid_for edge o None ≡ true
       → IfSome o (λ own. edge.state.words ≤ n)
   unfolding is_paid_for pays
   end_is_paid None paid h = tt
-  end_is_paid (Some own) paid h = (let all = own_pays own edge.state.words 0 0 (omega arith) paid h in omega (arith, all))
+  end_is_paid (Some own) paid h = (let all = own_pays own no_budget (omega arith) (omega arith) paid h in omega (arith, all))
 
 -- ---- blocks
 
-found : (vlen : Vlen) (params : List Param) (p : Block → Bool) (from : ℕ) (blocks : List Block) (block : Block)
-    → AllFrom (IsBlock vlen params) after_block from blocks → find p blocks ≡ Some block → (k : ℕ) × IsBlock vlen params k block
-found vlen params p from [] block is e = cc
-found vlen params p from (b ∷ bs) block is e = by_test (p b) refl (found vlen params p (after_block b) bs block is.1) e
+found : (version : Version) (vlen : Vlen) (params : List Param) (p : Block → Bool) (from : ℕ) (blocks : List Block) (block : Block)
+    → AllFrom (IsBlock version vlen params) after_block from blocks → find p blocks ≡ Some block → (k : ℕ) × IsBlock version vlen params k block
+found version vlen params p from [] block is e = cc
+found version vlen params p from (b ∷ bs) block is e = by_test (p b) refl (found version vlen params p (after_block b) bs block is.1) e
   where
-    by_test : (t : Bool) → p b ≡ t → (find p bs ≡ Some block → (k : ℕ) × IsBlock vlen params k block)
-        → (if t then Some b else find p bs) ≡ Some block → (k : ℕ) × IsBlock vlen params k block
-    by_test true f rest g = (let same : b ≡ block = cc in (from, subst (λ (x : Block). IsBlock vlen params from x) same is.0))
+    by_test : (t : Bool) → p b ≡ t → (find p bs ≡ Some block → (k : ℕ) × IsBlock version vlen params k block)
+        → (if t then Some b else find p bs) ≡ Some block → (k : ℕ) × IsBlock version vlen params k block
+    by_test true f rest g = (let same : b ≡ block = cc in (from, subst (λ (x : Block). IsBlock version vlen params from x) same is.0))
     by_test false f rest g = rest g
 
 pub implied-fits : ImpliedFits
 unfolding implied_by implies_block
 implied-fits e n edge block m goes at certificate h =
-    let is = found e.certificate.vlen e.certificate.parameters _ 0 e.certificate.blocks block certificate.blocks at in
+    let is = found e.certificate.version e.certificate.vlen e.certificate.parameters _ 0 e.certificate.blocks block certificate.blocks at in
     let r1 = rest_shown _ _ h in
     let r2 = rest_shown _ _ r1 in
     let r3 = rest_shown _ _ r2 in
     let r4 = rest_shown _ _ r3 in
-    let r5 = rest_shown _ _ r4 in (
+    let r5 = rest_shown _ _ r4 in
+    let r6 = rest_shown _ _ r5 in (
       record {
         pc = leads edge block.start m.hart.pc (shown_true _ _ (first_shown _ _ h)) goes.target;
         facts =
             facts_hold e n edge m goes e.certificate.parameters 1 block.registers.items is.1.registers
             (shown_true _ _ (first_shown _ _ r2)) (shown_true _ _ (first_shown _ _ r3));
         vtype = vtype_shown edge.state.vtype block.vtype m.vectors.config.vtype (shown_true _ _ (first_shown _ _ r1)) goes.known.vtype;
-        vectors = vectors_hold e n edge m goes block.vectors.items (shown_true _ _ (first_shown _ _ r4));
+        orders =
+            orders_hold e n edge m goes block.registers.items 1 block.orders.items is.1.orders
+            (shown_true _ _ (first_shown _ _ r4));
+        vectors = vectors_hold e n edge m goes block.vectors.items (shown_true _ _ (first_shown _ _ r5));
         proper = goes.known.proper;
       },
-      block_is_paid e n edge m goes edge.state.budget block.budget is.1.budget goes.known.paid (shown_true _ _ r5),
+      block_is_paid e n edge m goes edge.state.budget block.budget is.1.budget goes.known.paid (shown_true _ _ r6),
     )
 
 pub implied-ends : ImpliedEnds

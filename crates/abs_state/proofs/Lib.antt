@@ -10,6 +10,7 @@ pub mod Lengthened
 pub mod Lists
 pub mod Memories
 pub mod Operations
+pub mod OrderStarts
 pub mod Paid
 pub mod Payments
 pub mod ReachLemmas

@@ -21,12 +21,15 @@ number_stays n m v w a x l same h =
       lies = h.lies;
     }
 
-pub paid_stays : (v w : ℕ → ℕ) (n : ℕ) (budget : Option Budget) (a b : AbstractView) → a.paid ≡ b.paid → length a.numbers.atoms ≤ length b.numbers.atoms
+pub paid_stays : (v w : ℕ → ℕ) (n : ℕ) (budget : Option Budget) (a b : AbstractView) → a.paid ≡ b.paid → a.second_paid ≡ b.second_paid → length a.numbers.atoms ≤ length b.numbers.atoms
     → ((k : ℕ) → k < length a.numbers.atoms → w k ≡ v k) → IsPaid v n budget a → IsPaid w n budget b
-paid_stays v w n None a b e l same paid = tt
-paid_stays v w n (Some budget) a b e l same paid = (
+paid_stays v w n None a b e f l same paid = tt
+paid_stays v w n (Some budget) a b e f l same paid = (
   paid.0,
   paid.1,
+  paid.2,
   subst (λ (p : ValueView). IsNumber (length b.numbers.atoms) w p paid.0) e
-      (number_stays (length a.numbers.atoms) (length b.numbers.atoms) v w a.paid paid.0 l same paid.2),
+      (number_stays (length a.numbers.atoms) (length b.numbers.atoms) v w a.paid paid.0 l same paid.3),
+  subst (λ (p : ValueView). IsNumber (length b.numbers.atoms) w p paid.1) f
+      (number_stays (length a.numbers.atoms) (length b.numbers.atoms) v w a.second_paid paid.1 l same paid.4),
 )

@@ -21,7 +21,7 @@ use Rattle.abs_state.specs.Values.{ValueView}
 use Rattle.abs_state.specs.Numbers.{NumbersView, value_at}
 use Rattle.abs_state.specs.Described.{LiesIn, IsNumber}
 use Rattle.abs_state.specs.Blocks.{form_term}
-use Rattle.abs_state.specs.Edges.{is_same, covers, says, product_if, is_paid}
+use Rattle.abs_state.specs.Edges.{is_same, covers, says, Total, least_of, most_of, products_of, is_paid}
 use Rattle.abs_state.proofs.Substitutions.{both_true, same_if, same_forms}
 
 -- ---- equalities
@@ -129,20 +129,6 @@ says_more r wanted known e =
 
 -- ---- budgets
 
-product_forms : (k : ℕ) (f : Linear) → IsForm 8 f → AreForms (product_if k f)
-product_forms k f h = by_test (k == 0)
-  where
-    by_test : (t : Bool) → AreForms (if t then [] else record { factor = k; form = f } ∷ [])
-    by_test true = tt
-    by_test false = (h, tt)
-
-product_total : (v : ℕ → ℕ) (k x : ℕ) (f : Linear) → x ≡ value v f → total_of v (product_if k f) ≡ k * x
-product_total v k x f e = by_test (k == 0) refl
-  where
-    by_test : (t : Bool) → (k == 0) ≡ t → total_of v (if t then [] else record { factor = k; form = f } ∷ []) ≡ k * x
-    by_test true h = (let z : k ≡ 0 = grind (arith, nat_tests) in omega (arith, ap (λ n. n * x) z))
-    by_test false h = omega (arith, ap (λ n. k * n) e)
-
 at_least_holds : (table : AtomTable) (v : ℕ → ℕ) (c d : ℕ) (ms ls : List Product) → AgreesWith table v → AreForms ms → AreForms ls
     → is_at_least_of table c ms d ls ≡ true → d + total_of v ls ≤ c + total_of v ms
 unfolding is_at_least_of
@@ -152,21 +138,31 @@ at_least_holds table v c d ms ls agrees f g e =
     difference-holds table v agrees c d ms ls f g q.0 q.1 p.1
 
 -- what is shown to be paid is paid
-pub paid_holds : (table : AtomTable) (n : ℕ) (v : ℕ → ℕ) (c k d j : ℕ) (a b : ValueView) (x y : ℕ) → AgreesWith table v → IsNumber n v a x
-    → IsNumber n v b y → is_paid table c k a d j b ≡ true → d + j * y ≤ c + k * x
+pub paid_holds : (table : AtomTable) (n : ℕ) (v : ℕ → ℕ) (own next : Total) (x y z w : ℕ) → AgreesWith table v → IsNumber n v own.number x
+    → IsNumber n v own.second_number y → IsNumber n v next.number z → IsNumber n v next.second_number w → is_paid table own next ≡ true
+    → next.constant + next.factor * z + next.second_factor * w ≤ own.constant + own.factor * x + own.second_factor * y
 unfolding is_paid
-paid_holds table n v c k d j a b x y agrees h g e =
-    by_test (nat_le (d + j * b.range.hi) (c + k * a.range.lo)) refl e
+paid_holds table n v own next x y z w agrees p q r s e = by_test (nat_le (most_of next) (least_of own)) refl e
   where
-    by_test : (t : Bool) → nat_le (d + j * b.range.hi) (c + k * a.range.lo) ≡ t
-        → (t || is_at_least_of table c (product_if k a.form) d (product_if j b.form)) ≡ true → d + j * y ≤ c + k * x
+    by_test : (t : Bool) → nat_le (most_of next) (least_of own) ≡ t
+        → (t || is_at_least_of table own.constant (products_of own) next.constant (products_of next)) ≡ true
+        → next.constant + next.factor * z + next.second_factor * w ≤ own.constant + own.factor * x + own.second_factor * y
     by_test true f o =
-        let l = at_most (d + j * b.range.hi) (c + k * a.range.lo) f in
-        let p = mul-le-mul_left k h.lies.low in
-        let q = mul-le-mul_left j g.lies.high in
-        omega (arith, l, p, q)
+        omega (
+          arith,
+          at_most (most_of next) (least_of own) f,
+          mul-le-mul_left own.factor p.lies.low,
+          mul-le-mul_left own.second_factor q.lies.low,
+          mul-le-mul_left next.factor r.lies.high,
+          mul-le-mul_left next.second_factor s.lies.high,
+        )
     by_test false f o =
-        let l = at_least_holds table v c d (product_if k a.form) (product_if j b.form) agrees (product_forms k a.form h.means.form) (product_forms j b.form g.means.form) o in
-        let p = product_total v k x a.form h.means.number in
-        let q = product_total v j y b.form g.means.number in
-        omega (arith, l, p, q)
+        omega (
+          arith,
+          at_least_holds table v own.constant next.constant (products_of own) (products_of next) agrees
+              (p.means.form, (q.means.form, tt)) (r.means.form, (s.means.form, tt)) o,
+          ap (λ i. own.factor * i) p.means.number,
+          ap (λ i. own.second_factor * i) q.means.number,
+          ap (λ i. next.factor * i) r.means.number,
+          ap (λ i. next.second_factor * i) s.means.number,
+        )

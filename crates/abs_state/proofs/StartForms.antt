@@ -17,7 +17,9 @@ use Rattle.cert_note.specs.declared.values.Budget.{Budget}
 use Rattle.cert_note.specs.declared.values.Equality.{Equality}
 use Rattle.cert_note.specs.declared.values.RegisterFact.{RegisterFact}
 use Rattle.cert_note.specs.declared.values.Block.{Block}
-use Rattle.cert_note.specs.Certificate.{CertificateView, IsCertificate, IsBlock, IsRegisterFact, IsEquality, IsTerm, IsBudgetOf, SaysMore, AllFrom, after_term, after_fact, after_block, is_atom, is_budget, is_scalar}
+use Rattle.cert_note.specs.declared.values.OrderFact.{OrderFact}
+use Rattle.cert_note.specs.declared.values.Version.{Version}
+use Rattle.cert_note.specs.Certificate.{CertificateView, IsCertificate, IsBlock, IsRegisterFact, IsEquality, IsTerm, IsBudgetOf, IsOrderFact, SaysMore, AllFrom, after_term, after_fact, after_block, is_atom, is_budget, is_scalar, is_second, is_greater, is_lesser, after_order}
 use Rattle.abs_state.specs.Blocks.{form_term, equality_form, HasForm, IsUsable}
 
 -- ---- lists of the first values of a function
@@ -71,6 +73,31 @@ budget_below budget is = by_factor (budget.factor == 0) is.register
     by_factor : (t : Bool) → IsTrue (if t then budget.register == 0 else (nat_le 1 budget.register && nat_le budget.register 31)) → budget.register < 32
     by_factor true h = grind (arith, nat_tests)
     by_factor false h = grind (arith, nat_tests)
+
+-- so is its second one
+pub second_below : (budget : Budget) → IsBudgetOf budget → budget.second_register < 32
+unfolding is_second
+second_below budget is = by_factor (budget.second_factor == 0) is.second
+  where
+    by_factor : (t : Bool)
+        → IsTrue (if t then budget.second_register == 0 else (nat_lt 0 budget.factor && nat_lt budget.register budget.second_register && nat_le budget.second_register 31))
+        → budget.second_register < 32
+    by_factor true h = grind (arith, nat_tests)
+    by_factor false h = grind (arith, nat_tests)
+
+-- the registers of an order are of the 33
+pub greater_below : (facts : List RegisterFact) (from : ℕ) (order : OrderFact) → IsOrderFact facts from order → order.greater < 33
+unfolding is_greater
+greater_below facts from order is = (let h = is.greater in grind (arith, nat_tests))
+
+pub lesser_below : (facts : List RegisterFact) (from : ℕ) (order : OrderFact) → IsOrderFact facts from order → order.lesser < 33
+unfolding is_lesser
+lesser_below facts from order is = (let h = is.lesser in grind (arith, nat_tests))
+
+greaters_below : (facts : List RegisterFact) (from : ℕ) (orders : List OrderFact) → AllFrom (IsOrderFact facts) after_order from orders
+    → AllByRecursion (λ (order : OrderFact). order.greater < 33) orders
+greaters_below facts from [] is = tt
+greaters_below facts from (o ∷ os) is = (greater_below facts from o is.0, greaters_below facts (after_order o) os is.1)
 
 -- ---- equalities are forms
 
@@ -211,11 +238,14 @@ module _ {X : Type 0} (Valid : ℕ → X → Type 0) (next : X → ℕ) where
       by_test true f more = (from, subst (Valid from) (same y x (rw f at e)) all.0)
       by_test false f more = more (rw f at e)
 
-is_usable : (vlen : Vlen) (params : List Param) (from : ℕ) (block : Block) → IsBlock vlen params from block → IsUsable block
-is_usable vlen params from block is = record {
+is_usable : (version : Version) (vlen : Vlen) (params : List Param) (from : ℕ) (block : Block) → IsBlock version vlen params from block → IsUsable block
+is_usable version vlen params from block is = record {
   forms = facts_have params 1 block.registers.items is.registers;
   register = budget_below block.budget is.budget;
+  second_register = second_below block.budget is.budget;
   few = is.few_vectors;
+  few_orders = is.few_orders;
+  orders = greaters_below block.registers.items 1 block.orders.items is.orders;
 }
 
 -- a block of a certificate, as an index gives it
@@ -223,8 +253,8 @@ pub block_usable : (certificate : CertificateView) (blocks : List Block) (k : �
     → k < length certificate.blocks → block ≡ get_or blocks k block → IsUsable block
 block_usable certificate blocks k block is same l e =
     let at : block ≡ get_or certificate.blocks k block = e ∙ ap (λ (bs : List Block). get_or bs k block) same in
-    let valid = item_is (IsBlock certificate.vlen certificate.parameters) after_block 0 certificate.blocks k block is.blocks l in
-    subst IsUsable (sym at) (is_usable certificate.vlen certificate.parameters valid.0 (get_or certificate.blocks k block) valid.1)
+    let valid = item_is (IsBlock certificate.version certificate.vlen certificate.parameters) after_block 0 certificate.blocks k block is.blocks l in
+    subst IsUsable (sym at) (is_usable certificate.version certificate.vlen certificate.parameters valid.0 (get_or certificate.blocks k block) valid.1)
 
 -- the block that an index gives is the one at the place
 pub block_same : (certificate : CertificateView) (blocks : List Block) (k : ℕ) (block other : Block) → blocks ≡ certificate.blocks

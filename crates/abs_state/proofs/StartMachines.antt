@@ -1,5 +1,5 @@
 -- What is known where a block begins is true of a machine that fits it, and what is known where a run begins of its first one.
-use Rattle.std.proofs.Common.{◌≡◌, ℕ, ◌<◌, ◌≤◌, ◌*◌, ◌^◌, inl, inr, Bool, true, false, arith, refl, sym, ap, ◌∙◌, subst, length, get_or, List, [], ◌∷◌, Option, Some, None, IfSome}
+use Rattle.std.proofs.Common.{◌≡◌, ℕ, ◌<◌, ◌≤◌, ◌+◌, ◌*◌, ◌^◌, inl, inr, Bool, true, false, arith, refl, sym, ap, ◌∙◌, subst, length, get_or, List, [], ◌∷◌, Option, Some, None, IfSome}
 use Rattle.std.specs.Prelude.{nat_le, ◌&&◌, ◌==◌, slice_index_or, IsTrue, MatchOption}
 use Rattle.std.specs.List.{AllByRecursion}
 use Rattle.std.proofs.lemmas.Bool.Decides.{nat_tests}
@@ -16,7 +16,7 @@ use Rattle.region_mem.proofs.StartCode.{starts_code_safe, starts_with_code}
 use Rattle.vreg_groups.specs.declared.policies.Agnostic.{Agnostic}
 use Rattle.vreg_groups.specs.declared.vector_length.Vconfig.{Vconfig}
 use Rattle.vreg_groups.specs.declared.vector_length.Vlen.{Vlen}
-use Rattle.vreg_groups.specs.declared.vector_length.Vlen.TheVariants.{V128, V256}
+use Rattle.vreg_groups.specs.declared.vector_length.Vlen.TheVariants.{V128, V256, V512}
 use Rattle.vreg_groups.specs.declared.vector_type.Vtype.{Vtype}
 use Rattle.vreg_groups.specs.VectorType.{vtype_of, vlmax_of}
 use Rattle.vreg_groups.specs.VectorLength.{IsVlenb, IsConfig, no_config, vlenb_of}
@@ -28,18 +28,20 @@ use Rattle.vector_core.specs.Vectors.{Vectors, new_vectors}
 use Rattle.cert_note.specs.declared.values.Equality.{Equality}
 use Rattle.cert_note.specs.declared.values.RegisterFact.{RegisterFact}
 use Rattle.cert_note.specs.declared.values.Block.{Block}
-use Rattle.cert_note.specs.Certificate.{CertificateView, IsBlock, IsCertificate, IsRegisterFact, AllFrom, after_fact, after_block}
+use Rattle.cert_note.specs.declared.values.OrderFact.{OrderFact}
+use Rattle.cert_note.specs.Certificate.{CertificateView, IsBlock, IsCertificate, IsRegisterFact, IsOrderFact, AllFrom, after_fact, after_order, after_block}
 use Rattle.abs_state.specs.Numbers.{value_at}
 use Rattle.abs_state.specs.Described.{IsNumber}
 use Rattle.abs_state.specs.Holds.{Holds, number_of}
 use Rattle.abs_state.specs.Blocks.{equality_form, entry_numbers, start_numbers, numbers_by, at_block_of, at_entry_of}
-use Rattle.abs_state.specs.BlockLaws.{ArePassed, FactIsTrue}
-use Rattle.abs_state.specs.Held.{Setting, FactHolds, Held, IsProper, number_at, vlenb_in}
+use Rattle.abs_state.specs.BlockLaws.{ArePassed, FactIsTrue, OrderIsTrue, HoldsWith}
+use Rattle.abs_state.specs.Held.{Setting, FactHolds, OrderHolds, Held, IsProper, number_at, vlenb_in}
 use Rattle.abs_state.specs.StartLaws.{ArePassedBy, BlocksAreHeld, EntriesAreHeld}
 use Rattle.abs_state.proofs.Addresses.{register_number}
 use Rattle.abs_state.proofs.EntryHart.{all_valid, are_passed, code_low, numbers_fit, start_is_entry, start_is_hart, start_pc, zeros_count, zeros_small}
-use Rattle.abs_state.proofs.StartForms.{budget_below, found_is}
-use Rattle.abs_state.proofs.StartNumbers.{atoms_many, block_numbers_hold, entry_numbers_hold, number_below, number_past}
+use Rattle.abs_state.proofs.StartForms.{budget_below, second_below, greater_below, lesser_below, found_is}
+use Rattle.abs_state.proofs.OrderStarts.{block_numbers_hold}
+use Rattle.abs_state.proofs.StartNumbers.{atoms_many, entry_numbers_hold, number_below, number_past}
 use Rattle.abs_state.proofs.StartZones.{zones_are_there}
 
 -- ---- numbers of 32 bits
@@ -96,11 +98,15 @@ module _ (e : Setting) (m : Machine) where
   facts_are_true params from (fact ∷ facts) is h =
       (fact_is_true params from fact is.0 h.0, facts_are_true params (after_fact fact) facts is.1 h.1)
 
--- ---- blocks
+  orders_are_true : (facts : List RegisterFact) (from : ℕ) (orders : List OrderFact) → AllFrom (IsOrderFact facts) after_order from orders
+      → AllByRecursion (OrderHolds m) orders → AllByRecursion (OrderIsTrue numbers) orders
+  orders_are_true facts from [] is h = tt
+  orders_are_true facts from (o ∷ os) is h = (
+    omega (arith, h.0, below o.lesser (lesser_below facts from o is.0), below o.greater (greater_below facts from o is.0)),
+    orders_are_true facts (after_order o) os is.1 h.1,
+  )
 
-atoms_at : (params : List Param) (facts : List RegisterFact) → length (start_numbers params facts).atoms ≡ 41
-unfolding start_numbers numbers_by
-atoms_at params facts = atoms_many params facts
+-- ---- blocks
 
 pub blocks-are_held : BlocksAreHeld
 unfolding at_block_of
@@ -108,27 +114,33 @@ blocks-are_held e block m is at fits =
     let config : Vconfig = m.vectors.config in
     let params : List Param = e.certificate.parameters in
     let facts : List RegisterFact = block.registers.items in
-    let block_is = found_is (IsBlock e.certificate.vlen params) after_block (λ (b : Block). b.start == m.hart.pc) 0 e.certificate.blocks block is.certificate.blocks at in
+    let orders : List OrderFact = block.orders.items in
+    let block_is = found_is (IsBlock e.certificate.version e.certificate.vlen params) after_block (λ (b : Block). b.start == m.hart.pc) 0 e.certificate.blocks block is.certificate.blocks at in
     let vl = vl_fits (vlenb_in e) config fits.proper.vectors.vlenb_is fits.proper.vectors.config in
-    let known : Holds (start_numbers params facts) (number_at e m) m.hart config =
+    let with : HoldsWith (start_numbers params facts orders) (number_at e m) m.hart config =
     block_numbers_hold e.certificate block m.hart.pc e.passed m.hart config is.certificate at is.passed fits.proper.hart vl
-    (facts_are_true e m params 1 facts block_is.1.registers fits.facts) in
-    let register : block.budget.register < 32 = budget_below block.budget block_is.1.budget in
+    (facts_are_true e m params 1 facts block_is.1.registers fits.facts) (orders_are_true e m facts 1 orders block_is.1.orders fits.orders) in
+    let known = with.holds in
+    let first : block.budget.register < 32 = budget_below block.budget block_is.1.budget in
+    let second : block.budget.second_register < 32 = second_below block.budget block_is.1.budget in
     record {
-      numbers = number_at e m;
+      numbers = with.numbers;
       known = record {
         vlenb = refl;
-        count = omega (arith, atoms_at params facts);
-        passed = λ place l. number_past e.passed m.hart config place;
+        count = with.grows;
+        passed = λ place l. with.same (33 + place) (omega (arith, l)) ∙ number_past e.passed m.hart config place;
         known = known;
         zones = refl;
         vtype = fits.vtype;
         groups = fits.vectors;
         paid = (
           reg_of block.budget.register m.hart,
+          reg_of block.budget.second_register m.hart,
           refl,
-          subst (λ (x : ℕ). IsNumber (length (start_numbers params facts).atoms) (number_at e m) (value_at (start_numbers params facts) block.budget.register) x)
-              (register_number block.budget.register m.hart config register) (known.each block.budget.register (omega (arith, register))),
+          subst (λ (x : ℕ). IsNumber (length (start_numbers params facts orders).atoms) with.numbers (value_at (start_numbers params facts orders) block.budget.register) x)
+              (register_number block.budget.register m.hart config first) (known.each block.budget.register (omega (arith, first))),
+          subst (λ (x : ℕ). IsNumber (length (start_numbers params facts orders).atoms) with.numbers (value_at (start_numbers params facts orders) block.budget.second_register) x)
+              (register_number block.budget.second_register m.hart config second) (known.each block.budget.second_register (omega (arith, second))),
         );
         proper = fits.proper;
       };
@@ -139,7 +151,8 @@ blocks-are_held e block m is at fits =
 
 vlen_is : (vlen : Vlen) → IsVlenb (vlenb_of vlen)
 vlen_is V128 = inl refl
-vlen_is V256 = inr refl
+vlen_is V256 = inr (inl refl)
+vlen_is V512 = inr (inr refl)
 
 none_config : (vlenb : ℕ) → IsConfig vlenb no_config
 unfolding IsConfig vtype_of

@@ -30,8 +30,8 @@ use Rattle.abs_state.specs.Values.{ValueView, full_range, just, computed_range}
 use Rattle.abs_state.specs.Numbers.{NumbersView, plain, value_at}
 use Rattle.abs_state.specs.Described.{LiesIn, Means, IsNumber}
 use Rattle.abs_state.specs.Holds.{Holds, number_of, table_with, AreSplitsBelow}
-use Rattle.abs_state.specs.Blocks.{fact_for, interval_of, stated_range, equality_form, form_or_atom, stated_form, passed_range, start_atoms, numbers_by, start_numbers, passed_form, entry_form, entry_numbers}
-use Rattle.abs_state.specs.BlockLaws.{IsPassed, ArePassed, number_in, FactIsTrue, BlockNumbersHold, IsEntry, EntryNumbersHold}
+use Rattle.abs_state.specs.Blocks.{fact_for, interval_of, stated_range, equality_form, form_or_atom, stated_form, passed_range, start_atoms, numbers_by, passed_form, entry_form, entry_numbers}
+use Rattle.abs_state.specs.BlockLaws.{IsPassed, ArePassed, number_in, FactIsTrue, IsEntry, EntryNumbersHold}
 use Rattle.abs_state.proofs.States.{computed_lies, form_range_lies}
 use Rattle.abs_state.proofs.StartForms.{found_has, found_passes, equality_is, equality_below, found_is}
 
@@ -97,7 +97,7 @@ module _ (params : List Param) (facts : List RegisterFact) where
   unfolding start_atoms
   atoms_many = omega (arith, length-append registers numbers_passed, registers_many, passed_many)
 
-  atom_of_register : (a : ℕ) → a < 33 → atom_at (table_with (start_atoms params facts)) a ≡ plain (stated_range facts a)
+  pub atom_of_register : (a : ℕ) → a < 33 → atom_at (table_with (start_atoms params facts)) a ≡ plain (stated_range facts a)
   unfolding start_atoms atom_at
   atom_of_register a l =
       get_or-append registers numbers_passed unknown_atom a (omega (arith, registers_many, l))
@@ -208,7 +208,7 @@ module _ (params : List Param) (v : ℕ → ℕ) where
   means_by x low high (Some equality) says is =
       record { form = equality_is params equality says; below = equality_below params equality says; number = is }
 
-  are_stated : (from : ℕ) (facts : List RegisterFact) → AllFrom (IsRegisterFact params) after_fact from facts → AllByRecursion (FactIsTrue v) facts
+  pub are_stated : (from : ℕ) (facts : List RegisterFact) → AllFrom (IsRegisterFact params) after_fact from facts → AllByRecursion (FactIsTrue v) facts
       → AllByRecursion (IsStated v) facts
   are_stated from [] all true_of = tt
   are_stated from (fact ∷ facts) all true_of = (
@@ -268,18 +268,6 @@ module _ (v : ℕ → ℕ) (facts : List RegisterFact) (stated : AllByRecursion 
           subst (λ (x : ℕ). Means 8 41 v (number_form 0) x) (sym is) (zero_means 41 v)
       by_test false e = form_of i l (fact_for facts i) refl
 
-  pub start_holds : (params : List Param) (h : Hart) (config : Vconfig) → ((i : ℕ) → i < 33 → v i ≡ number_of i h config)
-      → ((place : ℕ) → place < 8 → IsIn (passed_range (slice_get params place)) (v (33 + place)))
-      → Holds (start_numbers params facts) v h config
-  unfolding start_numbers
-  start_holds params h config same passed =
-      by_holds (start_atoms params facts) (stated_form facts) (λ i. Some (stated_range facts i)) v h config
-      (starts_agree params facts v small (λ a l. (let lies = stated_lies a in (lies.low, lies.high))) passed)
-      (starts_split params facts)
-      (λ i l. subst (λ (n : ℕ). Means 8 n v (stated_form facts i) (number_of i h config)) (sym (atoms_many params facts))
-      (subst (λ (x : ℕ). Means 8 41 v (stated_form facts i) x) (same i l) (stated_means i l)))
-      (λ i l. subst (λ (x : ℕ). LiesIn (stated_range facts i) x) (same i l) (stated_lies i))
-
 -- ---- the numbers of a hart, and those that were passed
 
 module _ (passed : ℕ → ℕ) (h : Hart) (config : Vconfig) where
@@ -318,7 +306,7 @@ passed_in params place x (Some (parameter.Scalar lo hi)) l is = is
 passed_in params place x (Some (parameter.Buffer mode size)) l is = (omega arith, omega (arith, l))
 
 module _ (params : List Param) (passed : ℕ → ℕ) (h : Hart) (config : Vconfig) (are : ArePassed params passed) where
-  all_passed_in : (place : ℕ) → place < 8 → IsIn (passed_range (slice_get params place)) (number_in passed h config (33 + place))
+  pub all_passed_in : (place : ℕ) → place < 8 → IsIn (passed_range (slice_get params place)) (number_in passed h config (33 + place))
   all_passed_in place l =
       subst (λ (x : ℕ). IsIn (passed_range (slice_get params place)) x) (sym (number_past passed h config place))
       (passed_in params place (passed place) (slice_get params place) (are.fit place) (are.each place l))
@@ -338,14 +326,6 @@ module _ (params : List Param) (passed : ℕ → ℕ) (h : Hart) (config : Vconf
   passed_means place l (Some (parameter.Buffer mode size)) is = constant_is (unwrap_or (address_of place params) 0) (passed place) is (are.fit place)
 
 -- all that is known at a block's start is true where its facts are
-pub block_numbers_hold : BlockNumbersHold
-block_numbers_hold certificate block address passed h config is e are hart vl facts =
-    let v = number_in passed h config in
-    let block_is = found_is (IsBlock certificate.vlen certificate.parameters) after_block (λ (b : Block). b.start == address) 0 certificate.blocks block is.blocks e in
-    let small = number_small passed h config hart vl are.fit in
-    let stated = are_stated certificate.parameters v 1 block.registers.items block_is.1.registers facts in
-    start_holds v block.registers.items stated small hart.x0 certificate.parameters h config (number_below passed h config)
-    (all_passed_in certificate.parameters passed h config are)
 
 -- ---- where a run begins
 

@@ -101,7 +101,8 @@ goes_on pc (VMove insn) a b j e = vector_leads pc (VMove insn) a b e
 
 vlenb_fits : (vlenb : ℕ) → IsVlenb vlenb → vlenb < 2 ^ 32
 vlenb_fits vlenb (inl e) = omega (arith, e)
-vlenb_fits vlenb (inr e) = omega (arith, e)
+vlenb_fits vlenb (inr (inl e)) = omega (arith, e)
+vlenb_fits vlenb (inr (inr e)) = omega (arith, e)
 
 config_fits : (vlenb : ℕ) (config : Vconfig) → IsConfig vlenb config → config.vtype < 2 ^ 32
 unfolding IsConfig
@@ -165,7 +166,7 @@ module _ (e : Setting) (n : ℕ) (a : AbstractView) (s : Machine) (held : Held e
             vtype = known.vtype;
             groups = known.groups;
             paid =
-                paid_stays held.numbers h.follows.numbers n a.budget a (next_state new way) refl h.follows.grows h.follows.same known.paid;
+                paid_stays held.numbers h.follows.numbers n a.budget a (next_state new way) refl refl h.follows.grows h.follows.same known.paid;
             proper = proper_stays e s h.hart h.memory known.proper h.is_hart h.kept;
           };
           way = h.at;

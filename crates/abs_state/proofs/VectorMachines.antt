@@ -145,7 +145,7 @@ module _ (parts : Parts) (e : Setting) (n : ℕ) (a : AbstractView) (s : Machine
             vtype = subst (λ (k : Vconfig). IfSome a.vtype (λ v. k.vtype ≡ v)) (sym kept.config) known.vtype;
             groups = groups_true word insn done.hart done.vectors done.memory f legal l done.is kept;
             paid =
-                paid_stays held.numbers done.follows.numbers n a.budget a (next_state insn) refl done.follows.grows done.follows.same known.paid;
+                paid_stays held.numbers done.follows.numbers n a.budget a (next_state insn) refl refl done.follows.grows done.follows.same known.paid;
             proper = record {
               hart = done.is_hart;
               vectors = record {

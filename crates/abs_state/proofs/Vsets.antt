@@ -195,7 +195,7 @@ module _ (cut : CutAreTrue) (e : Setting) (n : ℕ) (a : AbstractView) (s : Mach
           zones = known.zones;
           vtype = are.vtype;
           groups = groups_held;
-          paid = paid_stays held.numbers follows.numbers n a.budget a (state_after s.hart.pc a w c) refl follows.grows follows.same known.paid;
+          paid = paid_stays held.numbers follows.numbers n a.budget a (state_after s.hart.pc a w c) refl refl follows.grows follows.same known.paid;
           proper = proper;
         };
         way = ap (λ (pc : ℕ). (pc + 4) % 2 ^ 32) (pc_stays rd next.vl s.hart);

@@ -14,6 +14,7 @@ use Rattle.linear_facts.specs.Sums.{range_of_form}
 use Rattle.rv_decode.specs.declared.instructions.Condition.{Condition}
 use Rattle.scalar_core.specs.Arithmetic.{is_taken}
 use Rattle.abs_state.specs.declared.branches.Relation.{Relation}
+use Rattle.abs_state.specs.declared.branches.Said.{Said}
 use Rattle.abs_state.specs.declared.state.Way.{Way}
 use Rattle.abs_state.specs.declared.state.Way.TheVariants.{To, Unknown, Fork}
 use Rattle.abs_state.specs.Values.{just, computed_range}
@@ -21,7 +22,7 @@ use Rattle.abs_state.specs.Numbers.{value_at}
 use Rattle.abs_state.specs.Described.{LiesIn, IsNumber}
 use Rattle.abs_state.specs.Holds.{table_with}
 use Rattle.abs_state.specs.State.{AbstractView}
-use Rattle.abs_state.specs.Branches.{relation_of, related_ranges, EdgeView, plain_edge, atom_of_terms, whole_atom, change_to, one_change, changes_of, edge_with, edge_in, related_edge, branch_edge, edge_by, refined, table_on, value_on}
+use Rattle.abs_state.specs.Branches.{relation_of, related_ranges, EdgeView, plain_edge, atom_of_terms, whole_atom, change_to, one_change, changes_of, edge_with, edge_in, with_said, related_edge, branch_edge, edge_by, refined, table_on, value_on}
 use Rattle.abs_state.specs.EdgeLaws.{EdgesKeep, is_fork, OneEdge, StraightEdges}
 use Rattle.abs_state.proofs.States.{computed_lies, form_range_lies}
 use Rattle.abs_state.proofs.Refinements.{Stands, meet_is, related_is, relation_stands}
@@ -128,6 +129,7 @@ pub record IsEdge (o : Option EdgeView) (a : AbstractView) (v : ℕ → ℕ) (nu
   pub atoms : AgreesWith (table_on edge) v
   pub each : (i : ℕ) → i < 33 → IsNumber (length a.numbers.atoms) v (value_on edge i) (number i)
   pub target : IfSome edge.target (λ address. pc ≡ address)
+  pub said : IfSome edge.said (λ s. is_taken s.condition (number s.rs1) (number s.rs2) ≡ s.taken)
 
 module _ (a : AbstractView) (v : ℕ → ℕ) (number : ℕ → ℕ) (pc : ℕ) (agrees : AgreesWith (table_with a.numbers.atoms) v)
     (ranges : length a.numbers.ranges ≡ 33)
@@ -141,6 +143,21 @@ module _ (a : AbstractView) (v : ℕ → ℕ) (number : ℕ → ℕ) (pc : ℕ) 
     atoms = agrees;
     each = each;
     target = h;
+    said = tt;
+  }
+
+  -- the edge with the branch that it belongs to
+  said_is : (o : Option EdgeView) (s : Said) → is_taken s.condition (number s.rs1) (number s.rs2) ≡ s.taken → IsEdge o a v number pc
+      → IsEdge (option_map (with_said s) o) a v number pc
+  unfolding value_on
+  said_is o s e there = record {
+    edge = with_said s there.edge;
+    is = ap (λ (p : Option EdgeView). option_map (with_said s) p) there.is;
+    state = there.state;
+    atoms = there.atoms;
+    each = there.each;
+    target = there.target;
+    said = e;
   }
 
   -- the ranges where two registers have new ones
@@ -202,6 +219,7 @@ module _ (a : AbstractView) (v : ℕ → ℕ) (number : ℕ → ℕ) (pc : ℕ) 
               (range_lies rs1 rs2 p q k l h g i below);
         };
         target = at;
+        said = tt;
       }
 
   refined_is : (r : Relation) (rs1 rs2 target : ℕ) → rs1 < 33 → rs2 < 33 → pc ≡ target → Stands r (number rs1) (number rs2)
@@ -222,7 +240,8 @@ module _ (a : AbstractView) (v : ℕ → ℕ) (number : ℕ → ℕ) (pc : ℕ) 
   pub branch_is : (condition : Condition) (taken : Bool) (rs1 rs2 target : ℕ) → rs1 < 33 → rs2 < 33 → pc ≡ target
       → is_taken condition (number rs1) (number rs2) ≡ taken → IsEdge (branch_edge taken condition rs1 rs2 target a) a v number pc
   unfolding branch_edge
-  branch_is condition taken rs1 rs2 target k l at e = by_test (rs1 == rs2)
+  branch_is condition taken rs1 rs2 target k l at e =
+      said_is _ record { condition = condition; rs1 = rs1; rs2 = rs2; taken = taken } e (by_test (rs1 == rs2))
     where
       by_test : (t : Bool) → IsEdge (related_edge
           (if t then None else relation_of condition taken (value_at a.numbers rs1).range (value_at a.numbers rs2).range) rs1 rs2 target a) a v number pc
@@ -262,11 +281,17 @@ related_kept (Some r) rs1 rs2 target a edge e =
     by_ranges None f = cc
     by_ranges (Some (p, q)) f = in_kept rs1 rs2 target a p q edge f
 
+said_kept : (o : Option EdgeView) (s : Said) (a : AbstractView) (edge : EdgeView) → ((x : EdgeView) → o ≡ Some x → x.state ≡ a)
+    → option_map (with_said s) o ≡ Some edge → edge.state ≡ a
+said_kept None s a edge keeps e = cc
+said_kept (Some x) s a edge keeps e = kept (with_said s x) edge e ∙ keeps x refl
+
 way_kept : (taken : Bool) (a : AbstractView) (w : Way) (edge : EdgeView) → edge_by taken a w ≡ Some edge → edge.state ≡ a
 unfolding edge_by branch_edge
 way_kept taken a (To target) edge e = kept (plain_edge a (Some target)) edge e
 way_kept taken a Unknown edge e = kept (plain_edge a None) edge e
-way_kept taken a (Fork condition rs1 rs2 there next) edge e = related_kept _ rs1 rs2 (if taken then there else next) a edge e
+way_kept taken a (Fork condition rs1 rs2 there next) edge e =
+    said_kept _ _ a edge (λ x f. related_kept _ rs1 rs2 (if taken then there else next) a x f) e
 
 pub edges-keep : EdgesKeep
 unfolding refined

@@ -1,10 +1,11 @@
 -- That what is known where a block or a run begins is true of the hart there.
-use Rattle.std.specs.Prelude.{ℕ, ◌≡◌, ◌≢◌, ◌<◌, ◌≤◌, ◌+◌, ◌-◌, ◌^◌, ◌==◌, ◌⊎◌, nat_le, if◌then◌else◌, List, Option, Some, None, find, unwrap_or, IfSome}
+use Rattle.std.specs.Prelude.{ℕ, ◌≡◌, ◌≢◌, ◌<◌, ◌≤◌, ◌+◌, ◌-◌, ◌^◌, ◌==◌, ◌⊎◌, nat_le, if◌then◌else◌, List, length, Option, Some, None, find, unwrap_or, IfSome}
 use Rattle.std.specs.List.{AllByRecursion, slice_get}
-use Rattle.abs_state.specs.Words.{value, STACK_END, Vconfig, Hart, IsHart, exit, reg_of, Param, RegisterFact, Block, CertificateView, IsCertificate}
+use Rattle.abs_state.specs.Words.{value, STACK_END, Vconfig, Hart, IsHart, exit, reg_of, Param, RegisterFact, OrderFact, Block, CertificateView, IsCertificate}
 use Rattle.region_mem.specs.declared.parameter.Param.TheVariants as parameter
 use Rattle.region_mem.specs.Parameter.{address_of}
 use Rattle.abs_state.specs.Holds.{Holds, number_of}
+use Rattle.abs_state.specs.Numbers.{NumbersView}
 use Rattle.abs_state.specs.Blocks.{equality_form, start_numbers, entry_numbers}
 
 -- what is passed for a parameter: 0 for none, a number in its interval for a scalar, the buffer's address for a buffer
@@ -30,7 +31,19 @@ pub record FactIsTrue (v : ℕ → ℕ) (fact : RegisterFact) : Type 0 where
   pub high : v fact.number ≤ fact.high
   pub equality : IfSome fact.equality (λ equality. v fact.number ≡ value v (equality_form equality))
 
--- Where all facts of a block are true of a hart and vl, what is known at the block's start is.
+-- The lesser register's number is at most the greater one's.
+abbrev pub OrderIsTrue : (ℕ → ℕ) → OrderFact → Type 0
+OrderIsTrue v order = v order.lesser ≤ v order.greater
+
+-- What is known is true of a hart and of vl, for numbers of the atoms that are those of v for the first 41: the registers,
+-- vl and what was passed.
+pub record HoldsWith (s : NumbersView) (v : ℕ → ℕ) (h : Hart) (config : Vconfig) : Type 0 where
+  pub numbers : ℕ → ℕ
+  pub same : (a : ℕ) → a < 41 → numbers a ≡ v a
+  pub grows : 41 ≤ length s.atoms
+  pub holds : Holds s numbers h config
+
+-- Where all facts and orders of a block are true of a hart and vl, what is known at the block's start is.
 abbrev pub BlockNumbersHold : Type 0
 BlockNumbersHold =
     (certificate : CertificateView) (block : Block) (address : ℕ) (passed : ℕ → ℕ) (h : Hart)
@@ -38,7 +51,8 @@ BlockNumbersHold =
     → find (λ b. b.start == address) certificate.blocks ≡ Some block
     → ArePassed certificate.parameters passed → IsHart h → config.vl < 2 ^ 32
     → AllByRecursion (FactIsTrue (number_in passed h config)) block.registers.items
-    → Holds (start_numbers certificate.parameters block.registers.items)
+    → AllByRecursion (OrderIsTrue (number_in passed h config)) block.orders.items
+    → HoldsWith (start_numbers certificate.parameters block.registers.items block.orders.items)
     (number_in passed h config) h config
 
 -- The registers of a hart at the start of a run: ra is EXIT, sp the stack's end, a0 (x10) to a7 hold what was passed, and

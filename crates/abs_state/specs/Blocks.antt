@@ -3,7 +3,7 @@
 use Rattle.std.specs.Prelude.{ℕ, ◌<◌, ◌≤◌, ◌+◌, ◌-◌, ◌==◌, nat_le, nat_lt, ◌&&◌, if◌then◌else◌, List, [], ◌++◌, length, map, find, unwrap_or, Option, Some, None, IfSome}
 use Rattle.std.specs.List.{slice_get, range_with_len, AllByRecursion}
 use Rattle.std.specs.Option.{option_and_then}
-use Rattle.abs_state.specs.Words.{ImageView, Range, Atom, Linear, IsForm, number_form, atom_form, AtomTable, range_of_form, STACK_END, vlenb_of, exit, Param, Equality, RegisterFact, Block, CertificateView}
+use Rattle.abs_state.specs.Words.{ImageView, Range, Atom, Linear, IsForm, number_form, atom_form, AtomTable, range_of_form, STACK_END, vlenb_of, exit, Param, Equality, RegisterFact, OrderFact, Block, CertificateView}
 use Rattle.linear_facts.specs.declared.forms.Term.{Term as FormTerm}
 use Rattle.region_mem.specs.declared.parameter.Param.TheVariants as parameter
 use Rattle.region_mem.specs.Parameter.{address_of}
@@ -11,6 +11,7 @@ use Rattle.cert_note.specs.declared.values.Term.{Term}
 use Rattle.abs_state.specs.declared.state.Way.TheVariants.{To}
 use Rattle.abs_state.specs.Values.{full_range, just, computed_range}
 use Rattle.abs_state.specs.Numbers.{NumbersView, plain, value_at}
+use Rattle.abs_state.specs.Orders.{with_orders}
 use Rattle.abs_state.specs.Zones.{zones_of}
 use Rattle.abs_state.specs.State.{AbstractView}
 
@@ -43,7 +44,10 @@ HasForm fact = IfSome fact.equality (λ equality. IsForm 8 (equality_form equali
 pub record IsUsable (block : Block) : Type 0 where
   pub forms : AllByRecursion HasForm block.registers.items
   pub register : block.budget.register < 32
+  pub second_register : block.budget.second_register < 32
   pub few : length block.vectors.items ≤ 32
+  pub few_orders : length block.orders.items ≤ 32
+  pub orders : AllByRecursion (λ order. order.greater < 33) block.orders.items
 
 -- the equality, or the atom of this number where there is none
 abbrev pub form_or_atom : ℕ → Option Equality → Linear
@@ -81,15 +85,17 @@ numbers_by atoms form interval = record {
       (range_with_len 0 33);
 }
 
--- the numbers where these facts hold
-unfoldable pub start_numbers : List Param → List RegisterFact → NumbersView
-start_numbers params facts =
-    numbers_by (start_atoms params facts) (stated_form facts) (λ i. Some (stated_range facts i))
+-- the numbers where these facts and orders hold
+unfoldable pub start_numbers : List Param → List RegisterFact → List OrderFact → NumbersView
+start_numbers params facts orders =
+    numbers_by (with_orders (start_atoms params facts) orders) (stated_form facts)
+    (λ i. Some (stated_range facts i))
 
 -- what is known where a block begins
 unfoldable pub at_block_of : ImageView → CertificateView → Block → AbstractView
 at_block_of image certificate block =
-    let numbers = start_numbers certificate.parameters block.registers.items in
+    let numbers =
+    start_numbers certificate.parameters block.registers.items block.orders.items in
     record {
       vlenb = vlenb_of certificate.vlen;
       numbers = numbers;
@@ -98,6 +104,7 @@ at_block_of image certificate block =
       groups = block.vectors.items;
       budget = Some block.budget;
       paid = value_at numbers block.budget.register;
+      second_paid = value_at numbers block.budget.second_register;
       words = 0;
       way = To block.start;
     }
@@ -134,6 +141,7 @@ at_entry_of image certificate =
       groups = [];
       budget = None;
       paid = value_at numbers 0;
+      second_paid = value_at numbers 0;
       words = 0;
       way = To image.entry;
     }

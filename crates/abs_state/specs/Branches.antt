@@ -9,6 +9,7 @@ use Rattle.rv_decode.specs.declared.instructions.Condition.TheVariants.{Eq, Ne, 
 use Rattle.abs_state.specs.declared.state.Way.{Way}
 use Rattle.abs_state.specs.declared.state.Way.TheVariants.{To, Unknown, Fork}
 use Rattle.abs_state.specs.declared.branches.Relation.{Relation}
+use Rattle.abs_state.specs.declared.branches.Said.{Said}
 use Rattle.abs_state.specs.declared.branches.Relation.TheVariants as is
 use Rattle.abs_state.specs.Values.{ValueView, just, computed_range}
 use Rattle.abs_state.specs.Numbers.{value_at}
@@ -67,7 +68,7 @@ related_ranges is.NotBelow a b =
 -- ---- edges
 
 -- What is known on the way from one instruction to another: the state, and in place of two atoms' ranges and of those of
--- registers, which a branch tells more of, their new ones. The target, if it is known.
+-- registers, which a branch tells more of, their new ones. The target, if it is known. The branch, if the edge is one of its two.
 pub record EdgeView : Type 0 where
   pub state : AbstractView
   pub ranges : List Range
@@ -75,6 +76,7 @@ pub record EdgeView : Type 0 where
   pub second : Option Change
   pub refined : Bool
   pub target : Option ℕ
+  pub said : Option Said
 
 -- an edge of which the state says all
 abbrev pub plain_edge : AbstractView → Option ℕ → EdgeView
@@ -85,6 +87,7 @@ plain_edge a target = record {
   second = None;
   refined = false;
   target = target;
+  said = None;
 }
 
 abbrev pub atom_of_term : Term → Option ℕ
@@ -123,6 +126,7 @@ edge_with target a ranges (first, second) = record {
   second = second;
   refined = true;
   target = Some target;
+  said = None;
 }
 
 -- the edge where rs1 and rs2 have these ranges
@@ -138,13 +142,18 @@ related_edge (Some relation) rs1 rs2 target a =
     option_and_then (edge_in rs1 rs2 target a)
     (related_ranges relation (value_at a.numbers rs1).range (value_at a.numbers rs2).range)
 
+-- the edge, with the branch that it belongs to
+abbrev pub with_said : Said → EdgeView → EdgeView
+with_said said e = record e { said = Some said }
+
 -- the edge of a branch, taken or not. A register says nothing of itself.
 unfoldable pub branch_edge : Bool → Condition → ℕ → ℕ → ℕ → AbstractView → Option EdgeView
 branch_edge taken condition rs1 rs2 target a =
-    related_edge
+    option_map (with_said record { condition = condition; rs1 = rs1; rs2 = rs2; taken = taken })
+    (related_edge
     (if rs1 == rs2 then None
     else relation_of condition taken (value_at a.numbers rs1).range (value_at a.numbers rs2).range)
-    rs1 rs2 target a
+    rs1 rs2 target a)
 
 unfoldable pub edge_by : Bool → AbstractView → Way → Option EdgeView
 edge_by taken a (To target) = Some (plain_edge a (Some target))

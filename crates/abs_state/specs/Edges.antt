@@ -1,13 +1,16 @@
 -- What an edge has to show of the block that it leads to, in the order in which it is tested.
-use Rattle.std.specs.Prelude.{ℕ, ◌+◌, ◌*◌, ◌==◌, Bool, true, false, nat_le, ◌&&◌, ◌||◌, if◌then◌else◌, List, [], ◌∷◌, Option, Some, None, Result, Ok, Err}
+use Rattle.std.specs.Prelude.{ℕ, ◌+◌, ◌*◌, ◌==◌, Bool, true, false, nat_le, ◌&&◌, ◌||◌, if◌then◌else◌, List, [], ◌∷◌, unwrap_or, Option, Some, None, Result, Ok, Err}
 use Rattle.std.specs.List.{list_all, list_any}
 use Rattle.std.specs.Option.{option_map_or}
 use Rattle.linear_facts.specs.declared.forms.Term.{Term}
-use Rattle.abs_state.specs.Words.{Range, Linear, AtomTable, exit, Budget, Equality, RegisterFact, VectorFact, Block}
+use Rattle.abs_state.specs.Words.{Range, Linear, AtomTable, exit, Budget, Equality, RegisterFact, VectorFact, OrderFact, Block}
 use Rattle.linear_facts.specs.Forms.{substituted}
-use Rattle.linear_facts.specs.Differences.{Product, is_at_least_of}
+use Rattle.linear_facts.specs.Differences.{Product, is_at_least_of, is_not_less_of}
+use Rattle.rv_decode.specs.declared.instructions.Condition.{Condition}
+use Rattle.rv_decode.specs.declared.instructions.Condition.TheVariants.{Eq, Ne, Lt, Ge, Ltu, Geu}
+use Rattle.abs_state.specs.declared.branches.Said.{Said}
 use Rattle.abs_state.specs.declared.why.Why.{Why}
-use Rattle.abs_state.specs.declared.why.Why.TheVariants.{VtypeUnknown, TargetNotABlock, IntervalNotProved, EqualityNotProved, VectorFactNotProved, BudgetNotProved}
+use Rattle.abs_state.specs.declared.why.Why.TheVariants.{VtypeUnknown, TargetNotABlock, IntervalNotProved, EqualityNotProved, OrderNotProved, VectorFactNotProved, BudgetNotProved}
 use Rattle.abs_state.specs.Values.{ValueView}
 use Rattle.abs_state.specs.Blocks.{equality_form}
 use Rattle.abs_state.specs.Branches.{EdgeView, table_on, value_on}
@@ -39,6 +42,38 @@ is_sum_shown e number equality =
 unfoldable pub is_equality_shown : EdgeView → RegisterFact → Bool
 is_equality_shown e fact = option_map_or (is_sum_shown e fact.number) fact.equality true
 
+-- ---- orders
+
+-- two registers are a lesser and a greater one
+abbrev pub are_these : ℕ → ℕ → ℕ → ℕ → Bool
+are_these rs1 rs2 lesser greater = (rs1 == lesser) && (rs2 == greater)
+
+-- a branch on rs1 and rs2, taken or not, says that the lesser register's number is at most the greater one's
+unfoldable pub says_order : Condition → Bool → ℕ → ℕ → ℕ → ℕ → Bool
+says_order Eq true rs1 rs2 lesser greater =
+    are_these rs1 rs2 lesser greater || are_these rs2 rs1 lesser greater
+says_order Eq false rs1 rs2 lesser greater = false
+says_order Ne true rs1 rs2 lesser greater = false
+says_order Ne false rs1 rs2 lesser greater =
+    are_these rs1 rs2 lesser greater || are_these rs2 rs1 lesser greater
+says_order Lt taken rs1 rs2 lesser greater = false
+says_order Ge taken rs1 rs2 lesser greater = false
+says_order Ltu true rs1 rs2 lesser greater = are_these rs1 rs2 lesser greater
+says_order Ltu false rs1 rs2 lesser greater = are_these rs2 rs1 lesser greater
+says_order Geu true rs1 rs2 lesser greater = are_these rs2 rs1 lesser greater
+says_order Geu false rs1 rs2 lesser greater = are_these rs1 rs2 lesser greater
+
+abbrev pub tells_order : OrderFact → Said → Bool
+tells_order order said =
+    says_order said.condition said.taken said.rs1 said.rs2 order.lesser order.greater
+
+-- an order is shown: by the ranges, by the difference of the forms, or by the branch
+unfoldable pub is_order_shown : EdgeView → OrderFact → Bool
+is_order_shown e order =
+    nat_le (value_on e order.lesser).range.hi (value_on e order.greater).range.lo
+    || is_not_less_of (table_on e) (value_on e order.greater).form (value_on e order.lesser).form
+    || option_map_or (tells_order order) e.said false
+
 -- ---- vector registers
 
 -- a fact speaks of as many elements as another one, where vl lies in this range; a count of 0 stands for vl
@@ -59,22 +94,60 @@ is_vector_shown e wanted = list_any (says (value_on e 32).range wanted) e.state.
 
 -- ---- the budget
 
--- a factor times a number, as products of forms; none where the factor is 0
-abbrev pub product_if : ℕ → Linear → List Product
-product_if k f = if k == 0 then [] else record { factor = k; form = f } ∷ []
+-- a number, and multiples of two others
+pub record Total : Type 0 where
+  pub constant : ℕ
+  pub factor : ℕ
+  pub number : ValueView
+  pub second_factor : ℕ
+  pub second_number : ValueView
 
--- `c + k * x` is at least `d + j * y`, by the ends of their ranges, or by the difference of their forms
-unfoldable pub is_paid : AtomTable → ℕ → ℕ → ValueView → ℕ → ℕ → ValueView → Bool
-is_paid table c k x d j y =
-    nat_le (d + j * y.range.hi) (c + k * x.range.lo)
-    || is_at_least_of table c (product_if k x.form) d (product_if j y.form)
+-- what it comes to where both numbers are at the lower ends of their ranges, and at the upper ones
+abbrev pub least_of : Total → ℕ
+least_of t = t.constant + t.factor * t.number.range.lo + t.second_factor * t.second_number.range.lo
 
--- the budget of the block pays for what was taken and for the next block's
+abbrev pub most_of : Total → ℕ
+most_of t = t.constant + t.factor * t.number.range.hi + t.second_factor * t.second_number.range.hi
+
+abbrev pub products_of : Total → List Product
+products_of t =
+    record { factor = t.factor; form = t.number.form }
+    ∷ record { factor = t.second_factor; form = t.second_number.form } ∷ []
+
+-- one total is at least the next one, by the ends of their ranges, or by the difference of their forms
+unfoldable pub is_paid : AtomTable → Total → Total → Bool
+is_paid table own next =
+    nat_le (most_of next) (least_of own)
+    || is_at_least_of table own.constant (products_of own) next.constant (products_of next)
+
+-- what the block's budget came to at its start
+abbrev pub own_total : EdgeView → Budget → Total
+own_total e own = record {
+  constant = own.constant;
+  factor = own.factor;
+  number = e.state.paid;
+  second_factor = own.second_factor;
+  second_number = e.state.second_paid;
+}
+
+-- what was taken, and what the next budget comes to now
+abbrev pub next_total : EdgeView → Budget → Total
+next_total e next = record {
+  constant = e.state.words + next.constant;
+  factor = next.factor;
+  number = value_on e next.register;
+  second_factor = next.second_factor;
+  second_number = value_on e next.second_register;
+}
+
+abbrev pub no_budget : Budget
+no_budget =
+    record { constant = 0; factor = 0; register = 0; second_factor = 0; second_register = 0 }
+
+-- the budget of the block pays for what was taken and for the next block's, if there is one
 unfoldable pub pays : EdgeView → Budget → Option Budget → Bool
-pays e own None = is_paid (table_on e) own.constant own.factor e.state.paid e.state.words 0 (value_on e 0)
-pays e own (Some next) =
-    is_paid (table_on e) own.constant own.factor e.state.paid (e.state.words + next.constant) next.factor
-    (value_on e next.register)
+pays e own next =
+    is_paid (table_on e) (own_total e own) (next_total e (unwrap_or next no_budget))
 
 -- on the way from the entry nothing has been taken
 unfoldable pub is_paid_for : EdgeView → Option Budget → Option Budget → Bool
@@ -108,8 +181,9 @@ implies_block e block =
     (and_then (shown_or VtypeUnknown (is_vtype_shown e.state.vtype block.vtype))
     (and_then (shown_or IntervalNotProved (list_all (is_interval_shown e) block.registers.items))
     (and_then (shown_or EqualityNotProved (list_all (is_equality_shown e) block.registers.items))
+    (and_then (shown_or OrderNotProved (list_all (is_order_shown e) block.orders.items))
     (and_then (shown_or VectorFactNotProved (list_all (is_vector_shown e) block.vectors.items))
-    (shown_or BudgetNotProved (is_paid_for e e.state.budget (Some block.budget)))))))
+    (shown_or BudgetNotProved (is_paid_for e e.state.budget (Some block.budget))))))))
 
 unfoldable pub implies_end : EdgeView → Shown
 implies_end e =

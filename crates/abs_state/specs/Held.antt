@@ -1,7 +1,7 @@
 -- That what is known is true of a machine, throughout a run.
 use Rattle.std.specs.Prelude.{ℕ, nat_le, ◌≡◌, ◌<◌, ◌≤◌, ◌+◌, ◌*◌, ◌/◌, ◌-◌, ◌==◌, min, if◌then◌else◌, List, length, Option, Some, None, IfSome}
 use Rattle.std.specs.List.{AllByRecursion}
-use Rattle.abs_state.specs.Words.{ImageView, value, AgreesWith, IsCodeSafe, AreBytes, vlenb_of, Hart, IsHart, reg_of, Machine, Vectors, Budget, RegisterFact, VectorFact, Block, CertificateView}
+use Rattle.abs_state.specs.Words.{ImageView, value, AgreesWith, IsCodeSafe, AreBytes, vlenb_of, Hart, IsHart, reg_of, Machine, Vectors, Budget, RegisterFact, VectorFact, OrderFact, Block, CertificateView}
 use Rattle.region_mem.specs.Laws.{HasCode}
 use Rattle.vreg_groups.specs.Elements.{element_at}
 use Rattle.scalar_core.specs.Arithmetic.{is_taken}
@@ -71,6 +71,11 @@ pub record FactHolds (e : Setting) (m : Machine) (fact : RegisterFact) : Type 0 
   pub equality : IfSome fact.equality (λ equality.
       number_of fact.number m.hart m.vectors.config ≡ value (number_at e m) (equality_form equality))
 
+-- The lesser register's number is at most the greater one's.
+abbrev pub OrderHolds : Machine → OrderFact → Type 0
+OrderHolds m order =
+    number_of order.lesser m.hart m.vectors.config ≤ number_of order.greater m.hart m.vectors.config
+
 abbrev pub VtypeHolds : Option ℕ → Machine → Type 0
 VtypeHolds vtype m = IfSome vtype (λ t. m.vectors.config.vtype ≡ t)
 
@@ -78,6 +83,7 @@ VtypeHolds vtype m = IfSome vtype (λ t. m.vectors.config.vtype ≡ t)
 pub record Fits (e : Setting) (block : Block) (m : Machine) : Type 0 where
   pub pc : m.hart.pc ≡ block.start
   pub facts : AllByRecursion (FactHolds e m) block.registers.items
+  pub orders : AllByRecursion (OrderHolds m) block.orders.items
   pub vtype : VtypeHolds block.vtype m
   pub vectors : AreTrueOf (vlenb_in e) m.vectors block.vectors.items
   pub proper : IsProper e m
@@ -86,13 +92,17 @@ pub record Fits (e : Setting) (block : Block) (m : Machine) : Type 0 where
 
 -- what a budget comes to in a state
 abbrev pub budget_of : Budget → Hart → ℕ
-budget_of budget h = budget.constant + budget.factor * reg_of budget.register h
+budget_of budget h =
+    budget.constant + budget.factor * reg_of budget.register h
+    + budget.second_factor * reg_of budget.second_register h
 
--- The budget came to n where the block began: the number of its register then is what is known of it.
+-- The budget came to n where the block began: the numbers of its registers then are what is known of them.
 abbrev pub IsPaid : (ℕ → ℕ) → ℕ → Option Budget → AbstractView → Type 0
 IsPaid v n None a = Unit {0}
 IsPaid v n (Some budget) a =
-    (x : ℕ) × (n ≡ budget.constant + budget.factor * x) × IsNumber (length a.numbers.atoms) v a.paid x
+    (x : ℕ) × (y : ℕ) × (n ≡ budget.constant + budget.factor * x + budget.second_factor * y)
+    × IsNumber (length a.numbers.atoms) v a.paid x
+    × IsNumber (length a.numbers.atoms) v a.second_paid y
 
 -- The numbers of the atoms are those that were passed from atom 33 on, and all that is known holds of the machine.
 pub record IsKnown (e : Setting) (v : ℕ → ℕ) (n : ℕ) (a : AbstractView) (m : Machine) : Type 0 where
@@ -129,3 +139,6 @@ pub record Goes (e : Setting) (n : ℕ) (edge : EdgeView) (m : Machine) : Type 0
       → IsNumber (length edge.state.numbers.atoms) numbers (value_on edge i)
       (number_of i m.hart m.vectors.config)
   pub target : IfSome edge.target (λ pc. m.hart.pc ≡ pc)
+  pub said : IfSome edge.said (λ s. is_taken s.condition
+      (number_of s.rs1 m.hart m.vectors.config) (number_of s.rs2 m.hart m.vectors.config)
+      ≡ s.taken)

@@ -14,6 +14,7 @@ pub mod Legal
 pub mod Lengths
 pub mod Memories
 pub mod Numbers
+pub mod Orders
 pub mod Reaches
 pub mod StartLaws
 pub mod StartZones

@@ -8,7 +8,7 @@ use Rattle.abs_state.specs.Numbers.{NumbersView}
 
 -- The numbers of registers and vl; the zones of memory; vtype, if it is known; facts on vector registers, of groups that share
 -- none. Of the block: its budget (none on the way from the entry), the number that the budget's register had at the block's
--- start, how many instructions have been taken, and where the last of them leads.
+-- start, and that of its second one, how many instructions have been taken, and where the last of them leads.
 pub record AbstractView : Type 0 where
   pub vlenb : ℕ
   pub numbers : NumbersView
@@ -17,5 +17,6 @@ pub record AbstractView : Type 0 where
   pub groups : List VectorFact
   pub budget : Option Budget
   pub paid : ValueView
+  pub second_paid : ValueView
   pub words : ℕ
   pub way : Way

@@ -34,6 +34,7 @@ pub use Rattle.cert_note.specs.Certificate.{CertificateView, IsCertificate}
 pub use Rattle.cert_note.specs.declared.values.Block.{Block}
 pub use Rattle.cert_note.specs.declared.values.Budget.{Budget}
 pub use Rattle.cert_note.specs.declared.values.Equality.{Equality}
+pub use Rattle.cert_note.specs.declared.values.OrderFact.{OrderFact}
 pub use Rattle.cert_note.specs.declared.values.RegisterFact.{RegisterFact}
 pub use Rattle.cert_note.specs.declared.values.VectorFact.{VectorFact}
 pub use Rattle.scalar_core.specs.Arithmetic.{unsigned}

@@ -1,7 +1,7 @@
 //! Laws of what is known where blocks and runs begin, each the contract of a function that does nothing when it runs.
 ghost use Rattle.abs_state.specs.BlockLaws.{BlockNumbersHold, EntryNumbersHold};
 
-/// Where all that a block states of registers and vl is true of a hart, what is known at the block's start is too.
+/// Where all that a block states of registers and vl, orders among it, is true of a hart, what is known at the block's start is too.
 pub fn block_numbers_hold()
     ensures { BlockNumbersHold }
 {}

@@ -11,15 +11,16 @@ ghost use Rattle.abs_state.specs.Blocks.{stated_range as stated_range_of, equali
 ghost use Rattle.abs_state.specs.Blocks.{passed_range as passed_range_of, passed_form as passed_form_of, entry_form as entry_form_of};
 ghost use Rattle.abs_state.specs.Blocks.{HasForm, IsUsable, start_atoms as start_atoms_of, start_numbers as start_numbers_of, entry_numbers as entry_numbers_of};
 ghost use Rattle.abs_state.specs.Blocks.{at_block_of, at_entry_of};
+ghost use Rattle.abs_state.specs.Orders.{with_order, with_orders};
 
 use crate::effects::copy_of;
 use crate::numbers::{MOST_ATOMS, Numbers};
 use crate::state::{Abstract, MOST_WORDS, Way};
 use crate::values::computed_range;
 use crate::zones::memory_zones;
-use cert_note::{Block, Certificate, Equality, RegisterFact, VectorFact};
+use cert_note::{Block, Certificate, Equality, OrderFact, RegisterFact, VectorFact};
 use elf_image::Image;
-use linear_facts::{Atom, Atoms, Form, Range, Term};
+use linear_facts::{Atom, Atoms, Form, Range, Split, Term};
 use region_mem::{Param, Parameters, STACK_END};
 use scalar_core::EXIT;
 use std::alloc::{AllocError, Allocator};
@@ -147,6 +148,54 @@ fn start_atoms<A: Allocator>(
     Ok(atoms)
 }
 
+/// The greater register's atom is split into the lesser one's and a new one, which is what lies between them; not where its
+/// range lies below the lesser one's.
+#[tactic(auto, unfolding(crate::specs::Orders::with_order, crate::specs::Lengths::with_split))]
+fn add_order<A: Allocator>(atoms: &mut Vec<Atom, A>, order: OrderFact)
+    requires greater { order.greater < length atoms.old.items }
+    requires few { length atoms.old.items < MOST_ATOMS }
+    requires room { MOST_ATOMS ≤ vec_capacity atoms.old }
+    ensures atoms { atoms.new.items ≡ with_order atoms.old.items order }
+    ensures count { length atoms.new.items ≤ length atoms.old.items + 1 }
+    ensures grows { length atoms.old.items ≤ length atoms.new.items }
+    ensures room { MOST_ATOMS ≤ vec_capacity atoms.new }
+{
+    let table = Atoms {
+        atoms: atoms.as_slice(),
+        first: None,
+        second: None,
+    };
+    let greater = table.range(u16::from(order.greater));
+    let lesser = table.range(u16::from(order.lesser));
+    if lesser.lo <= greater.hi {
+        let second = atoms.len() as u16;
+        let range = Range {
+            lo: greater.lo.saturating_sub(lesser.hi),
+            hi: greater.hi - lesser.lo,
+        };
+        atoms.push(Atom { range, split: None }).unwrap();
+        atoms[usize::from(order.greater)].split = Some(Split {
+            first: u16::from(order.lesser),
+            second,
+        });
+    }
+}
+
+/// The atoms where all orders hold.
+fn add_orders<A: Allocator>(atoms: &mut Vec<Atom, A>, orders: &[OrderFact])
+    requires greater { AllByRecursion (λ order. order.greater < 33) orders.now }
+    requires many { 33 ≤ length atoms.old.items }
+    requires few { length atoms.old.items + length orders.now ≤ 73 }
+    requires room { MOST_ATOMS ≤ vec_capacity atoms.old }
+    ensures atoms { atoms.new.items ≡ with_orders atoms.old.items orders.now }
+    ensures count { length atoms.new.items ≤ length atoms.old.items + length orders.now }
+    ensures room { MOST_ATOMS ≤ vec_capacity atoms.new }
+{
+    for order in orders {
+        add_order(atoms, *order);
+    }
+}
+
 /// The forms of registers and vl where these facts hold.
 fn start_forms<A: Allocator>(
     alloc: A,
@@ -238,20 +287,25 @@ fn form_ranges(atoms: &Atoms<'_>, forms: &[Form<8>]) -> [Range; 33]
     ranges
 }
 
-/// The numbers of registers and vl where these facts hold.
+/// The numbers of registers and vl where these facts and orders hold.
 #[tactic(auto, unfolding(crate::specs::Blocks::start_numbers, crate::specs::Blocks::numbers_by))]
 fn start_numbers<A: Allocator>(
     alloc: A,
     parameters: &Parameters,
     facts: &[RegisterFact],
+    orders: &[OrderFact],
 ) -> Result<Numbers<A>, AllocError>
 where
     A: Copy,
-    requires { AllByRecursion HasForm facts.now }
-    ensures numbers { IfOk result (λ numbers. numbers ≡ start_numbers_of parameters.now facts.now) }
-    ensures few { IfOk result (λ numbers. length numbers.atoms ≡ 41) }
+    requires forms { AllByRecursion HasForm facts.now }
+    requires greater { AllByRecursion (λ order. order.greater < 33) orders.now }
+    requires few { length orders.now ≤ 32 }
+    ensures numbers { IfOk result (λ numbers.
+        numbers ≡ start_numbers_of parameters.now facts.now orders.now) }
+    ensures few { IfOk result (λ numbers. length numbers.atoms ≤ 73) }
 {
-    let atoms = start_atoms(alloc, parameters, facts)?;
+    let mut atoms = start_atoms(alloc, parameters, facts)?;
+    add_orders(&mut atoms, orders);
     let forms = start_forms(alloc, facts)?;
     let table = Atoms {
         atoms: atoms.as_slice(),
@@ -310,10 +364,18 @@ impl<A: Allocator> Abstract<A> {
         ensures begins { IfOk result (λ a. a.words ≡ 0) }
     {
         let contents = certificate.contents();
-        let numbers = start_numbers(alloc, &contents.parameters, block.registers.as_slice())?;
+        let numbers = start_numbers(
+            alloc,
+            &contents.parameters,
+            block.registers.as_slice(),
+            block.orders.as_slice(),
+        )?;
         let paid = numbers.value(usize::from(block.budget.register));
         let paid_form = copy_of(paid.form);
         let paid_range = paid.range;
+        let second = numbers.value(usize::from(block.budget.second_register));
+        let second_form = copy_of(second.form);
+        let second_range = second.range;
         Ok(Abstract {
             vlenb: contents.vlen.bytes() as u32,
             zones: memory_zones(image, &contents.parameters),
@@ -322,6 +384,8 @@ impl<A: Allocator> Abstract<A> {
             budget: Some(block.budget),
             paid_form,
             paid_range,
+            second_form,
+            second_range,
             words: 0,
             way: Way::To {
                 target: block.start,
@@ -378,6 +442,8 @@ impl<A: Allocator> Abstract<A> {
             budget: None,
             paid_form,
             paid_range,
+            second_form: copy_of(numbers.value(0).form),
+            second_range: paid_range,
             words: 0,
             way: Way::To {
                 target: image.entry(),

@@ -25,6 +25,15 @@ pub enum Relation {
     NotBelow,
 }
 
+/// A branch, and whether it is taken.
+#[derive(Clone, Copy, Debug, PartialEq, Eq)]
+pub struct Said {
+    pub condition: Condition,
+    pub rs1: Reg,
+    pub rs2: Reg,
+    pub taken: bool,
+}
+
 /// A relation of signed numbers, where both are below 2^31: there it is the one without sign.
 fn if_small(a: Range, b: Range, relation: Relation) -> Option<Relation>
     ensures { result ≡ if_small_of a b relation }
@@ -183,6 +192,8 @@ pub struct Edge<'a, A: Allocator = Global> {
     pub(crate) second: Option<Change>,
     pub(crate) refined: bool,
     pub(crate) target: Option<u32>,
+    /// The branch, if the edge is one of its two.
+    pub(crate) said: Option<Said>,
 }
 
 impl<'a, A: Allocator> Model for Edge<'a, A> {
@@ -197,6 +208,7 @@ impl<'a, A: Allocator> Model for Edge<'a, A> {
       second = e.second;
       refined = e.refined;
       target = e.target;
+      said = e.said;
     } };
 }
 
@@ -271,6 +283,7 @@ impl<A: Allocator> Abstract<A> {
             second: None,
             refined: false,
             target,
+            said: None,
         }
     }
 
@@ -298,6 +311,7 @@ impl<A: Allocator> Abstract<A> {
             second,
             refined: true,
             target: Some(target),
+            said: None,
         })
     }
 
@@ -342,7 +356,14 @@ impl<A: Allocator> Abstract<A> {
             let b = self.numbers.range_at(usize::from(rs2.number()));
             relation_when(condition, taken, a, b)
         };
-        self.related_edge(relation, rs1, rs2, target)
+        let mut edge = self.related_edge(relation, rs1, rs2, target)?;
+        edge.said = Some(Said {
+            condition,
+            rs1,
+            rs2,
+            taken,
+        });
+        Some(edge)
     }
 
     /// The edge out of the last instruction that was taken: for a branch where it is taken, or where it isn't. `None` where it

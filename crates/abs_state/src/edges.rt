@@ -1,23 +1,35 @@
 //! What an edge has to show of the block that it leads to.
-ghost use Rattle.std.specs.Prelude.{◌≡◌, ◌+◌, ◌<◌, ◌≤◌, ◌^◌, ◌==◌, if◌then◌else◌, length, map};
+ghost use Rattle.std.specs.Prelude.{◌≡◌, ◌+◌, ◌*◌, ◌<◌, ◌≤◌, ◌^◌, ◌==◌, false, length, map};
 ghost use Rattle.std.specs.List.{list_all, list_any};
-ghost use Rattle.std.specs.Option.{option_map};
+ghost use Rattle.std.specs.Option.{option_map, option_map_or};
+ghost use Rattle.linear_facts.specs.Differences.{is_not_less_of};
 ghost use Rattle.linear_facts.specs.Forms.{form_at, scaled, substituted};
 ghost use Rattle.abs_state.specs.Blocks.{form_term};
 ghost use Rattle.abs_state.specs.Branches.{table_on, value_on};
 ghost use Rattle.abs_state.specs.Edges.{covers as covers_of, implied_by, implies_block as implies_block_of, implies_end as implies_end_of};
-ghost use Rattle.abs_state.specs.Edges.{is_equality_shown as is_equality_shown_of, is_interval_shown as is_interval_shown_of};
-ghost use Rattle.abs_state.specs.Edges.{is_paid as is_paid_of, is_paid_for as is_paid_for_of, is_sum_shown as is_sum_shown_of};
+ghost use Rattle.abs_state.specs.Edges.{is_equality_shown as is_equality_shown_of, is_interval_shown as is_interval_shown_of, is_order_shown as is_order_shown_of, tells_order as tells_order_of};
+ghost use Rattle.abs_state.specs.Edges.{is_paid as is_paid_of, is_paid_for as is_paid_for_of, is_sum_shown as is_sum_shown_of, least_of, most_of, pays as pays_of};
 ghost use Rattle.abs_state.specs.Edges.{is_vector_shown as is_vector_shown_of, is_vtype_shown as is_vtype_shown_of};
-ghost use Rattle.abs_state.specs.Edges.{leads_to as leads_to_of, pays as pays_of, says as says_of, shown_or as shown_or_of};
+ghost use Rattle.abs_state.specs.Edges.{leads_to as leads_to_of, says as says_of, shown_or as shown_or_of};
 
-use crate::branches::Edge;
+use crate::branches::{Edge, Said};
 use crate::values::Value;
 use crate::why::Why;
-use cert_note::{Block, Budget, Equality, RegisterFact, Term, VectorFact};
-use linear_facts::{Atoms, Form, Multiple, Range, is_at_least};
+use cert_note::{Block, Budget, Equality, OrderFact, RegisterFact, Term, VectorFact};
+use linear_facts::{Atoms, Form, Multiple, Range, is_at_least, is_not_less};
+use rv_decode::Condition;
 use scalar_core::EXIT;
 use std::alloc::Allocator;
+use std::marker::Model;
+
+/// What the end of a run asks for.
+const NO_BUDGET: Budget = Budget {
+    constant: 0,
+    factor: 0,
+    register: 0,
+    second_factor: 0,
+    second_register: 0,
+};
 
 /// The multiple of the form of a term's register, or of its atom where it is none of a register's.
 fn replaced(term: Term, forms: &[Form<8>]) -> Form<8>
@@ -100,6 +112,69 @@ fn are_equalities_shown<A: Allocator>(edge: &Edge<'_, A>, facts: &[RegisterFact]
     true
 }
 
+/// Whether a branch says that the lesser register's number is at most the greater one's, both without sign.
+#[tactic(auto, unfolding(crate::specs::Edges::says_order))]
+fn tells_order(order: OrderFact, said: Said) -> bool
+    ensures { result ≡ tells_order_of order said }
+{
+    let left = said.rs1.number();
+    let right = said.rs2.number();
+    let in_order = left == order.lesser && right == order.greater;
+    let turned = right == order.lesser && left == order.greater;
+    match (said.condition, said.taken) {
+        (Condition::Ltu, true) | (Condition::Geu, false) => in_order,
+        (Condition::Ltu, false) | (Condition::Geu, true) => turned,
+        (Condition::Eq, true) | (Condition::Ne, false) => in_order || turned,
+        (Condition::Eq, false) | (Condition::Ne, true) => false,
+        (Condition::Lt, true) | (Condition::Lt, false) => false,
+        (Condition::Ge, true) | (Condition::Ge, false) => false,
+    }
+}
+
+/// Whether the branch that the edge belongs to, if there is one, says an order.
+fn is_told<A: Allocator>(edge: &Edge<'_, A>, order: OrderFact) -> bool
+    ensures { result ≡ option_map_or (tells_order_of order) edge.now.said false }
+{
+    match edge.said {
+        Some(said) => tells_order(order, said),
+        None => false,
+    }
+}
+
+/// Whether the forms show an order: the greater number is not less than the lesser one.
+fn is_order_by_forms<A: Allocator>(edge: &Edge<'_, A>, order: OrderFact) -> bool
+    ensures { result ≡ is_not_less_of (table_on edge.now) (value_on edge.now order.greater).form
+        (value_on edge.now order.lesser).form }
+{
+    is_not_less(
+        &edge.form_on(order.greater),
+        &edge.form_on(order.lesser),
+        &edge.table(),
+    )
+}
+
+/// Whether an order is shown: by the ranges, by the difference of the forms, or by the branch.
+#[tactic(auto, unfolding(crate::specs::Edges::is_order_shown))]
+fn is_order_shown<A: Allocator>(edge: &Edge<'_, A>, order: OrderFact) -> bool
+    ensures { result ≡ is_order_shown_of edge.now order }
+{
+    let lesser = edge.range_on(order.lesser);
+    let greater = edge.range_on(order.greater);
+    lesser.hi <= greater.lo || is_order_by_forms(edge, order) || is_told(edge, order)
+}
+
+/// Whether all orders are shown.
+fn are_orders_shown<A: Allocator>(edge: &Edge<'_, A>, orders: &[OrderFact]) -> bool
+    ensures { result ≡ list_all (is_order_shown_of edge.now) orders.now }
+{
+    for order in orders {
+        if !is_order_shown(edge, *order) {
+            return false;
+        }
+    }
+    true
+}
+
 /// Whether a fact speaks of as many elements as another one, where vl lies in this range. A count of 0 stands for vl.
 #[tactic(auto, unfolding(crate::specs::Edges::covers))]
 fn covers(vl: Range, known: u16, wanted: u16) -> bool
@@ -157,85 +232,137 @@ fn are_vectors_shown<A: Allocator>(edge: &Edge<'_, A>, facts: &[VectorFact]) -> 
     true
 }
 
-/// How many products a factor times a number is: none where the factor is 0.
-fn product_count(factor: u32) -> usize
-    ensures value { result ≡ (if factor == 0 then 0 else 1) }
-    ensures few { result ≤ 1 }
-{
-    usize::from(factor != 0)
+/// A number, and multiples of two others.
+#[derive(Drop)]
+struct Total<'a> {
+    constant: u64,
+    factor: u32,
+    number: Value<'a>,
+    second_factor: u32,
+    second_number: Value<'a>,
 }
 
-/// Whether `c + k * x` is at least `d + j * y`, by the ends of their ranges or by the difference of their forms.
-#[tactic(auto, unfolding(crate::specs::Edges::is_paid))]
-fn is_paid(atoms: &Atoms, c: u32, k: u32, x: &Value, d: u64, j: u32, y: &Value) -> bool
-    requires { d < 2 ^ 33 }
-    ensures { result ≡ is_paid_of atoms.now c k x.now d j y.now }
+impl<'a> Model for Total<'a> {
+    ghost use Rattle.abs_state.specs.Edges.{Total};
+
+    ghost Value = { Total };
+
+    ghost view = { λ t. record {
+      constant = t.constant;
+      factor = t.factor;
+      number = t.number;
+      second_factor = t.second_factor;
+      second_number = t.second_number;
+    } };
+}
+
+/// A factor times a number.
+fn times(factor: u32, number: u32) -> u128
+    ensures value { result ≡ factor * number }
+    ensures small { result < 2 ^ 64 }
 {
-    let most = u128::from(d) + u128::from(j) * u128::from(y.range.hi);
-    let least = u128::from(c) + u128::from(k) * u128::from(x.range.lo);
-    if most <= least {
+    u128::from(factor) * u128::from(number)
+}
+
+impl Total<'_> {
+    /// What it comes to where both numbers are at the lower ends of their ranges.
+    fn least(&self) -> u128
+        ensures { result ≡ least_of self.now }
+    {
+        u128::from(self.constant)
+            + times(self.factor, self.number.range.lo)
+            + times(self.second_factor, self.second_number.range.lo)
+    }
+
+    /// What it comes to where both numbers are at the upper ends of their ranges.
+    fn most(&self) -> u128
+        ensures { result ≡ most_of self.now }
+    {
+        u128::from(self.constant)
+            + times(self.factor, self.number.range.hi)
+            + times(self.second_factor, self.second_number.range.hi)
+    }
+}
+
+/// Whether one total is at least the next one, by the ends of their ranges or by the difference of their forms.
+#[tactic(auto, unfolding(crate::specs::Edges::is_paid))]
+fn is_paid(atoms: &Atoms, own: &Total, next: &Total) -> bool
+    ensures { result ≡ is_paid_of atoms.now own.now next.now }
+{
+    if next.most() <= own.least() {
         return true;
     }
-    let more = [Multiple {
-        factor: k,
-        form: x.form,
-    }];
-    let less = [Multiple {
-        factor: j,
-        form: y.form,
-    }];
-    is_at_least(
-        u64::from(c),
-        &more[..product_count(k)],
-        d,
-        &less[..product_count(j)],
-        atoms,
-    )
+    let more = [
+        Multiple {
+            factor: own.factor,
+            form: own.number.form,
+        },
+        Multiple {
+            factor: own.second_factor,
+            form: own.second_number.form,
+        },
+    ];
+    let less = [
+        Multiple {
+            factor: next.factor,
+            form: next.number.form,
+        },
+        Multiple {
+            factor: next.second_factor,
+            form: next.second_number.form,
+        },
+    ];
+    is_at_least(own.constant, &more, next.constant, &less, atoms)
 }
 
-/// Whether a block's budget pays for what was taken, and for `constant` and `factor` times a register.
+/// Whether a block's budget pays for what was taken and for the next budget, if there is one.
 #[tactic(auto, unfolding(crate::specs::Edges::pays))]
-fn is_enough<A: Allocator>(edge: &Edge<'_, A>, own: Budget, next: Budget) -> bool
-    ensures { result ≡ is_paid_of (table_on edge.now) own.constant own.factor edge.now.state.paid
-        (edge.now.state.words + next.constant) next.factor (value_on edge.now next.register) }
+fn is_enough<A: Allocator>(edge: &Edge<'_, A>, own: Budget, next: Option<Budget>) -> bool
+    ensures { result ≡ pays_of edge.now own next }
 {
     let state = edge.state;
+    let next = next.unwrap_or(NO_BUDGET);
     let form = edge.form_on(next.register);
-    let paid = Value {
-        form: &state.paid_form,
-        range: state.paid_range,
+    let second_form = edge.form_on(next.second_register);
+    let own = Total {
+        constant: u64::from(own.constant),
+        factor: own.factor,
+        number: Value {
+            form: &state.paid_form,
+            range: state.paid_range,
+        },
+        second_factor: own.second_factor,
+        second_number: Value {
+            form: &state.second_form,
+            range: state.second_range,
+        },
     };
-    let value = Value {
-        form: &form,
-        range: edge.range_on(next.register),
+    let next = Total {
+        constant: u64::from(state.words()) + u64::from(next.constant),
+        factor: next.factor,
+        number: Value {
+            form: &form,
+            range: edge.range_on(next.register),
+        },
+        second_factor: next.second_factor,
+        second_number: Value {
+            form: &second_form,
+            range: edge.range_on(next.second_register),
+        },
     };
-    let words = u64::from(state.words()) + u64::from(next.constant);
-    is_paid(
-        &edge.table(),
-        own.constant,
-        own.factor,
-        &paid,
-        words,
-        next.factor,
-        &value,
-    )
+    is_paid(&edge.table(), &own, &next)
 }
 
 /// Whether the budget of the block that the edge leaves pays for what was taken and for the next one, if there is one. On the
 /// way from the entry nothing has been taken.
-#[tactic(auto, unfolding(crate::specs::Edges::is_paid_for, crate::specs::Edges::pays))]
+#[tactic(auto, unfolding(crate::specs::Edges::is_paid_for))]
 fn is_paid_for<A: Allocator>(edge: &Edge<'_, A>, next: Option<Budget>) -> bool
     ensures { result ≡ is_paid_for_of edge.now edge.now.state.budget next }
 {
     let state = edge.state;
-    let none = Budget {
-        constant: 0,
-        factor: 0,
-        register: 0,
-    };
     match state.budget {
         None => true,
-        Some(own) => is_enough(edge, own, next.unwrap_or(none)),
+        Some(own) => is_enough(edge, own, next),
     }
 }
 
@@ -275,6 +402,7 @@ fn implies_block<A: Allocator>(edge: &Edge<'_, A>, block: &Block) -> Result<(), 
 {
     let state = edge.state;
     let registers = block.registers.as_slice();
+    let orders = block.orders.as_slice();
     let vectors = block.vectors.as_slice();
     shown_or(Why::TargetNotABlock, leads_to(edge, block.start))?;
     shown_or(Why::VtypeUnknown, is_vtype_shown(state.vtype, block.vtype))?;
@@ -283,6 +411,7 @@ fn implies_block<A: Allocator>(edge: &Edge<'_, A>, block: &Block) -> Result<(), 
         Why::EqualityNotProved,
         are_equalities_shown(edge, registers),
     )?;
+    shown_or(Why::OrderNotProved, are_orders_shown(edge, orders))?;
     shown_or(Why::VectorFactNotProved, are_vectors_shown(edge, vectors))?;
     shown_or(Why::BudgetNotProved, is_paid_for(edge, Some(block.budget)))
 }

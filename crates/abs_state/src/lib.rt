@@ -28,7 +28,7 @@ mod why;
 mod zones;
 
 pub use block_laws::{block_numbers_hold, entry_numbers_hold};
-pub use branches::{Edge, Relation};
+pub use branches::{Edge, Relation, Said};
 pub use edge_laws::{
     edges_are_taken, edges_keep, implied_ends, implied_fits, one_edge, straight_edges,
 };

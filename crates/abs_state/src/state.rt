@@ -46,6 +46,9 @@ pub struct Abstract<A: Allocator = Global> {
     /// The form and range, where the block begins, of the register that its budget names.
     pub(crate) paid_form: Form<8>,
     pub(crate) paid_range: Range,
+    /// Those of its second register.
+    pub(crate) second_form: Form<8>,
+    pub(crate) second_range: Range,
     pub(crate) words: u32,
     pub(crate) way: Way,
 }
@@ -65,12 +68,13 @@ impl<A: Allocator> Model for Abstract<A> {
       groups = a.groups.items;
       budget = a.budget;
       paid = record { form = a.paid_form; range = a.paid_range };
+      second_paid = record { form = a.second_form; range = a.second_range };
       words = a.words;
       way = a.way;
     } };
 
-    // VLEN is 128 or 256. An instruction makes at most two atoms and one fact on vector registers more.
-    ghost invariant = { λ a. IsVlenb a.vlenb × (a.words ≤ 4096) × (length a.numbers.atoms ≤ 41 + 2 * a.words)
+    // VLEN is 128, 256 or 512. An instruction makes at most two atoms and one fact on vector registers more.
+    ghost invariant = { λ a. IsVlenb a.vlenb × (a.words ≤ 4096) × (length a.numbers.atoms ≤ 73 + 2 * a.words)
         × (length a.groups.items ≤ 32 + a.words) × (32 + 4096 ≤ vec_capacity a.groups) };
 }
 

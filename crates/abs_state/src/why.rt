@@ -17,6 +17,8 @@ pub enum Why {
     IntervalNotProved,
     /// A register's equality of the next block may not hold.
     EqualityNotProved,
+    /// An order of two registers of the next block may not hold.
+    OrderNotProved,
     /// A fact on vector registers of the next block may not hold.
     VectorFactNotProved,
     /// The next block's budget may be larger than what is left of this block's.

@@ -12,6 +12,7 @@ use Rattle.rv_decode.specs.declared.instructions.ScalarInsn.{ScalarInsn}
 use Rattle.rv_decode.specs.declared.instructions.ScalarInsn.TheVariants.{Lui, Auipc, Jal, Jalr, Branch, Load, Store, Immediate, ShiftImmediate, Register, Fence, Ecall}
 use Rattle.region_mem.specs.declared.parameter.Param.{Param}
 use Rattle.vreg_groups.specs.declared.vector_length.Vlen.{Vlen}
+use Rattle.cert_note.specs.declared.values.Version.{Version}
 use Rattle.scalar_core.specs.Hart.{exit}
 use Rattle.vector_core.specs.Machine.{Machine}
 use Rattle.cert_note.specs.declared.values.Budget.{Budget}
@@ -72,11 +73,11 @@ image-low image pc word is e = code-low image.segments pc word is.each e
 start-aligned : (from start : ℕ) → IsTrue (nat_le from start && (start % 4 == 0)) → start % 4 ≡ 0
 start-aligned from start h = grind (arith, nat_tests, h)
 
-found-aligned : (vlen : Vlen) (params : List Param) (from address : ℕ) (blocks : List Block) (b : Block)
-    → AllFrom (IsBlock vlen params) after_block from blocks → find (λ block. block.start == address) blocks ≡ Some b → b.start % 4 ≡ 0
-found-aligned vlen params from address [] b all e = absurd (let bad : ⊥ = cc in bad)
-found-aligned vlen params from address (x ∷ xs) b all e =
-    go (x.start == address) e (found-aligned vlen params (after_block x) address xs b all.1)
+found-aligned : (version : Version) (vlen : Vlen) (params : List Param) (from address : ℕ) (blocks : List Block) (b : Block)
+    → AllFrom (IsBlock version vlen params) after_block from blocks → find (λ block. block.start == address) blocks ≡ Some b → b.start % 4 ≡ 0
+found-aligned version vlen params from address [] b all e = absurd (let bad : ⊥ = cc in bad)
+found-aligned version vlen params from address (x ∷ xs) b all e =
+    go (x.start == address) e (found-aligned version vlen params (after_block x) address xs b all.1)
   where
     go : (t : Bool) → (if t then Some x else find (λ block. block.start == address) xs) ≡ Some b
         → (find (λ block. block.start == address) xs ≡ Some b → b.start % 4 ≡ 0) → b.start % 4 ≡ 0
@@ -90,7 +91,7 @@ block-aligned : (certificate : CertificateView) (address : ℕ) (b : Block) → 
 unfolding block_at
 block-aligned certificate address b is e =
     let start : b.start ≡ address = grind (arith, nat_tests, block-begins address certificate.blocks b e) in
-    let even : b.start % 4 ≡ 0 = found-aligned certificate.vlen certificate.parameters 0 address certificate.blocks b is.blocks e in
+    let even : b.start % 4 ≡ 0 = found-aligned certificate.version certificate.vlen certificate.parameters 0 address certificate.blocks b is.blocks e in
     subst (λ (k : ℕ). k % 4 ≡ 0) start even
 
 -- ---- what an instruction leaves, and where it leads

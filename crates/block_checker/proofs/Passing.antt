@@ -1,5 +1,5 @@
 -- From the induction to runs: what passes the check ends on all arguments that match, if the laws on single steps hold there.
-use Rattle.std.proofs.Common.{◌≡◌, ◌<◌, ◌==◌, ℕ, Bool, true, false, arith, refl, sym, ap, ◌∙◌, subst, List, [], ◌∷◌, length, Option, Some, None, Ok, Err, IsTrue}
+use Rattle.std.proofs.Common.{◌≡◌, ◌<◌, ◌*◌, ◌==◌, ℕ, Bool, true, false, arith, refl, sym, ap, ◌∙◌, subst, List, [], ◌∷◌, length, Option, Some, None, Ok, Err, IsTrue}
 use Rattle.std.specs.Prelude.{find, if◌then◌else◌, ◌&&◌, nat_le}
 use Rattle.std.specs.List.{AllByRecursion}
 use Rattle.std.proofs.lemmas.Bool.Decides.{nat_tests}
@@ -14,16 +14,18 @@ use Rattle.scalar_core.specs.Hart.{reg_of}
 use Rattle.vector_core.specs.Machine.{Machine}
 use Rattle.vector_core.specs.Start.{start, start_hart}
 use Rattle.cert_note.specs.declared.values.Block.{Block}
-use Rattle.cert_note.specs.Certificate.{CertificateView, IsCertificate, IsBlock, AllFrom, after_block, is_budget}
+use Rattle.cert_note.specs.Certificate.{CertificateView, IsCertificate, IsBlock, after_block}
 use Rattle.abs_state.specs.State.{AbstractView}
 use Rattle.abs_state.specs.Branches.{EdgeView}
 use Rattle.block_checker.specs.declared.errors.CheckError.TheVariants.{WrongVlen}
 use Rattle.block_checker.specs.Passes.{both, block_at, entry_passes_to, entry_passes, blocks_pass, checked}
 use Rattle.block_checker.specs.Accepted.{AcceptedView}
-use Rattle.block_checker.specs.Bound.{budget_at, bound_in, bound_of, scalars_of}
+use Rattle.block_checker.specs.Bound.{budget_at, entry_number, bound_in, bound_of, scalars_of}
 use Rattle.block_checker.specs.Sound.{IsWellBehaved, PassingRunsEnd, RunsEnd}
 use Rattle.block_checker.proofs.Finding.{both_first, both_second}
 use Rattle.block_checker.proofs.StepLaws.{Laws, budget_in}
+use Rattle.cert_note.specs.declared.values.Budget.{Budget}
+use Rattle.abs_state.proofs.StartForms.{budget_below, second_below, found_is}
 use Rattle.block_checker.proofs.Runs.{passing-ends}
 use Rattle.block_checker.proofs.Bounds.{start-is, start-pc}
 
@@ -58,32 +60,17 @@ entry-block image certificate (Some b) h = (b, refl)
 
 -- ---- the budget's register
 
-register-below : (factor register : ℕ) → IsTrue (is_budget factor register) → register < 32
-unfolding is_budget
-register-below factor register h = go (factor == 0) h
-  where
-    go : (t : Bool) → IsTrue (if t then register == 0 else (nat_le 1 register && nat_le register 31)) → register < 32
-    go true h = grind (arith, nat_tests, h)
-    go false h = grind (arith, nat_tests, h)
-
-found-below : (vlen : Vlen) (params : List Param) (from address : ℕ) (blocks : List Block) (b : Block)
-    → AllFrom (IsBlock vlen params) after_block from blocks → find (λ block. block.start == address) blocks ≡ Some b
-    → b.budget.register < 32
-found-below vlen params from address [] b all e = absurd (let bad : ⊥ = cc in bad)
-found-below vlen params from address (x ∷ xs) b all e =
-    go (x.start == address) e (found-below vlen params (after_block x) address xs b all.1)
-  where
-    go : (t : Bool) → (if t then Some x else find (λ block. block.start == address) xs) ≡ Some b
-        → (find (λ block. block.start == address) xs ≡ Some b → b.budget.register < 32) → b.budget.register < 32
-    go true e more =
-        let same : x ≡ b = cc in
-        subst (λ (y : Block). y.budget.register < 32) same (register-below x.budget.factor x.budget.register all.0.budget.register)
-    go false e more = more e
-
 block-below : (certificate : CertificateView) (address : ℕ) (b : Block) → IsCertificate certificate
-    → block_at address certificate.blocks ≡ Some b → b.budget.register < 32
+    → block_at address certificate.blocks ≡ Some b → (b.budget.register < 32) × (b.budget.second_register < 32)
 unfolding block_at
-block-below certificate address b is e = found-below certificate.vlen certificate.parameters 0 address certificate.blocks b is.blocks e
+block-below certificate address b is e =
+    let valid = found_is (IsBlock certificate.version certificate.vlen certificate.parameters) after_block (λ (block : Block). block.start == address) 0 certificate.blocks b is.blocks e in
+    (budget_below b.budget valid.1.budget, second_below b.budget valid.1.budget)
+
+-- a budget comes to one number where its registers hold the same
+budget-same : (budget : Budget) (f g : ℕ → ℕ) → f budget.register ≡ g budget.register → f budget.second_register ≡ g budget.second_register
+    → budget_at budget f ≡ budget_at budget g
+budget-same budget f g p q = omega (arith, ap (λ (n : ℕ). budget.factor * n) p, ap (λ (n : ℕ). budget.second_factor * n) q)
 
 -- ---- runs
 
@@ -110,17 +97,18 @@ passing-runs-end laws image certificate vlen args agnostic block is_image is_cer
     let starts : begin.hart.pc ≡ image.entry = start-pc image.entry certificate.parameters args is_certificate.eight eight matching in
     let ends : IsWellBehaved (vlenb_of certificate.vlen) (budget_in block begin) begin =
     passing-ends image certificate (vlenb_of certificate.vlen) begin given.held given.goes given.fits given.laws block starts found passed.entry passed.blocks in
-    subst (λ (vlenb : ℕ). IsWellBehaved vlenb (budget_at block.budget (reg_of block.budget.register (start_hart image.entry certificate.parameters args)))
+    subst (λ (vlenb : ℕ). IsWellBehaved vlenb (budget_at block.budget (λ r. reg_of r (start_hart image.entry certificate.parameters args)))
     (start vlenb agnostic image certificate.parameters args)) passed.same ends
 
 bound-is : (a : AcceptedView) (args : List Argument) (b : Block) → IsCertificate a.certificate → length args ≡ 8
     → AreArguments a.certificate.parameters args → block_at a.image.entry a.certificate.blocks ≡ Some b
-    → bound_of a (scalars_of args) ≡ budget_at b.budget (reg_of b.budget.register (start_hart a.image.entry a.certificate.parameters args))
+    → bound_of a (scalars_of args) ≡ budget_at b.budget (λ r. reg_of r (start_hart a.image.entry a.certificate.parameters args))
 unfolding bound_of bound_in
 bound-is a args b is eight matching found =
     let below = block-below a.certificate a.image.entry b is found in
-    let number = start-is a.image.entry a.certificate.parameters args is.eight eight matching b.budget.register below in
-    ap (bound_in a.certificate.parameters (scalars_of args)) found ∙ ap (λ (n : ℕ). budget_at b.budget n) (sym number)
+    let first = start-is a.image.entry a.certificate.parameters args is.eight eight matching b.budget.register below.0 in
+    let second = start-is a.image.entry a.certificate.parameters args is.eight eight matching b.budget.second_register below.1 in
+    ap (bound_in a.certificate.parameters (scalars_of args)) found ∙ budget-same b.budget (entry_number a.certificate.parameters (scalars_of args)) (λ r. reg_of r (start_hart a.image.entry a.certificate.parameters args)) (sym first) (sym second)
 
 pub runs-end : LawsHold → (a : AcceptedView) → IsImage a.image → IsCertificate a.certificate
     → checked a.image a.certificate a.vlen ≡ Ok tt → RunsEnd a

@@ -12,32 +12,33 @@ use Rattle.region_mem.specs.declared.parameter.Param.{Param}
 use Rattle.cert_note.specs.declared.values.Block.{Block}
 use Rattle.cert_note.specs.Certificate.{AllFrom, CertificateView, IsBlock, IsCertificate, after_block}
 use Rattle.vreg_groups.specs.declared.vector_length.Vlen.{Vlen}
+use Rattle.cert_note.specs.declared.values.Version.{Version}
 use Rattle.block_checker.specs.Passes.{block_at}
 use Rattle.block_checker.specs.Walking.{IsCountBelow}
 
 start_from : (from start : ℕ) (rest : Bool) → IsTrue (nat_le from start && rest) → from ≤ start
 start_from from start rest valid = grind (arith, nat_tests, valid)
 
-starts_from : (vlen : Vlen) (params : List Param) (from : ℕ) (blocks : List Block) (j : ℕ) (d : Block)
-    → AllFrom (IsBlock vlen params) after_block from blocks → j < length blocks → from ≤ (get_or blocks j d).start
-starts_from vlen params from [] j d valid below = absurd (omega arith)
-starts_from vlen params from (b ∷ blocks) zero d valid below = start_from from b.start (b.start % 4 == 0) valid.0.start
-starts_from vlen params from (b ∷ blocks) (suc j) d valid below =
+starts_from : (version : Version) (vlen : Vlen) (params : List Param) (from : ℕ) (blocks : List Block) (j : ℕ) (d : Block)
+    → AllFrom (IsBlock version vlen params) after_block from blocks → j < length blocks → from ≤ (get_or blocks j d).start
+starts_from version vlen params from [] j d valid below = absurd (omega arith)
+starts_from version vlen params from (b ∷ blocks) zero d valid below = start_from from b.start (b.start % 4 == 0) valid.0.start
+starts_from version vlen params from (b ∷ blocks) (suc j) d valid below =
     let first = start_from from b.start (b.start % 4 == 0) valid.0.start in
-    omega (arith, first, starts_from vlen params (after_block b) blocks j d valid.1 (omega arith))
+    omega (arith, first, starts_from version vlen params (after_block b) blocks j d valid.1 (omega arith))
 
-starts_rise : (vlen : Vlen) (params : List Param) (from : ℕ) (blocks : List Block) (i j : ℕ) (d : Block)
-    → AllFrom (IsBlock vlen params) after_block from blocks → i ≤ j → j < length blocks → (get_or blocks i d).start ≤ (get_or blocks j d).start
-starts_rise vlen params from [] i j d valid le below = absurd (omega arith)
-starts_rise vlen params from (b ∷ blocks) zero zero d valid le below = omega arith
-starts_rise vlen params from (b ∷ blocks) zero (suc j) d valid le below =
-    omega (arith, starts_from vlen params (after_block b) blocks j d valid.1 (omega arith))
-starts_rise vlen params from (b ∷ blocks) (suc i) zero d valid le below = absurd (omega arith)
-starts_rise vlen params from (b ∷ blocks) (suc i) (suc j) d valid le below =
-    starts_rise vlen params (after_block b) blocks i j d valid.1 (omega arith) (omega arith)
+starts_rise : (version : Version) (vlen : Vlen) (params : List Param) (from : ℕ) (blocks : List Block) (i j : ℕ) (d : Block)
+    → AllFrom (IsBlock version vlen params) after_block from blocks → i ≤ j → j < length blocks → (get_or blocks i d).start ≤ (get_or blocks j d).start
+starts_rise version vlen params from [] i j d valid le below = absurd (omega arith)
+starts_rise version vlen params from (b ∷ blocks) zero zero d valid le below = omega arith
+starts_rise version vlen params from (b ∷ blocks) zero (suc j) d valid le below =
+    omega (arith, starts_from version vlen params (after_block b) blocks j d valid.1 (omega arith))
+starts_rise version vlen params from (b ∷ blocks) (suc i) zero d valid le below = absurd (omega arith)
+starts_rise version vlen params from (b ∷ blocks) (suc i) (suc j) d valid le below =
+    starts_rise version vlen params (after_block b) blocks i j d valid.1 (omega arith) (omega arith)
 
 pub blocks_rise : (certificate : CertificateView) → IsCertificate certificate → IsNonDecreasingBy (λ block. block.start) certificate.blocks
-blocks_rise certificate is i j d le below = starts_rise certificate.vlen certificate.parameters 0 certificate.blocks i j d is.blocks le below
+blocks_rise certificate is i j d le below = starts_rise certificate.version certificate.vlen certificate.parameters 0 certificate.blocks i j d is.blocks le below
 
 begins_below : (address start : ℕ) → nat_lt start address ≡ true → (start == address) ≡ false
 begins_below address start h = grind (arith, nat_tests)

@@ -22,7 +22,7 @@ use Rattle.block_checker.specs.Bound.{budget_at}
 
 -- what the block's budget comes to in a state
 abbrev pub budget_in : Block → Machine → ℕ
-budget_in block t = budget_at block.budget (reg_of block.budget.register t.hart)
+budget_in block t = budget_at block.budget (λ r. reg_of r t.hart)
 
 pub record Laws (image : ImageView) (certificate : CertificateView) (vlenb : ℕ) (begin : Machine)
     (Held : ℕ → AbstractView → Machine → Type 0) (Goes : ℕ → EdgeView → Machine → Type 0)

@@ -38,14 +38,16 @@ entry_number params scalars r =
     then place_number params (r - 10) (slice_index scalars (r - 10)) (slice_get params (r - 10))
     else 0))
 
--- what a budget comes to where its register holds this number
-abbrev pub budget_at : Budget → ℕ → ℕ
-budget_at budget number = budget.constant + budget.factor * number
+-- what a budget comes to where each register holds its number
+abbrev pub budget_at : Budget → (ℕ → ℕ) → ℕ
+budget_at budget number =
+    budget.constant + budget.factor * number budget.register
+    + budget.second_factor * number budget.second_register
 
 unfoldable pub bound_in : List Param → List ℕ → Option Block → ℕ
 bound_in params scalars None = 0
 bound_in params scalars (Some block) =
-    budget_at block.budget (entry_number params scalars block.budget.register)
+    budget_at block.budget (entry_number params scalars)
 
 -- the budget of the block at the entry, with the registers as they are at the start of a run on these scalars
 unfoldable pub bound_of : AcceptedView → List ℕ → ℕ

@@ -30,7 +30,7 @@ PassingRunsEnd =
     checked image certificate vlen ≡ Ok tt →
     block_at image.entry certificate.blocks ≡ Some block →
     let s = start (vlenb_of vlen) agnostic image certificate.parameters args in
-    IsWellBehaved (vlenb_of vlen) (budget_at block.budget (reg_of block.budget.register s.hart)) s
+    IsWellBehaved (vlenb_of vlen) (budget_at block.budget (λ r. reg_of r s.hart)) s
 
 -- Each run on arguments that match ends within the bound.
 abbrev pub RunsEnd : AcceptedView → Type 0

@@ -1,5 +1,5 @@
 //! An image that passed the check with its certificate.
-ghost use Rattle.std.specs.Prelude.{◌≡◌, ◌<◌, IfOk, IfErr, Ok, Err};
+ghost use Rattle.std.specs.Prelude.{◌≡◌, ◌*◌, ◌^◌, ◌<◌, IfOk, IfErr, Ok, Err};
 ghost use Rattle.std.specs.List.{slice_get};
 ghost use Rattle.block_checker.specs.Passes.{checked as checked_of};
 ghost use Rattle.block_checker.specs.Accepted.{IsAnswer};
@@ -111,6 +111,14 @@ fn entry_number(parameters: &Parameters, scalars: &[u32; 8], register: u8) -> u3
     }
 }
 
+/// A factor times a number.
+fn times(factor: u32, number: u32) -> u128
+    ensures value { result ≡ factor * number }
+    ensures small { result < 2 ^ 64 }
+{
+    u128::from(factor) * u128::from(number)
+}
+
 impl<A: Allocator> Accepted<A> {
     ghost use Rattle.std.specs.Prelude.{◌≡◌};
     ghost use Rattle.block_checker.specs.Bound.{bound_of};
@@ -162,9 +170,11 @@ impl<A: Allocator> Accepted<A> {
         match block_at(&self.certificate, self.image.entry()) {
             None => 0,
             Some(block) => {
-                let number = entry_number(self.parameters(), scalars, block.budget.register);
+                let first = entry_number(self.parameters(), scalars, block.budget.register);
+                let second = entry_number(self.parameters(), scalars, block.budget.second_register);
                 u128::from(block.budget.constant)
-                    + u128::from(block.budget.factor) * u128::from(number)
+                    + times(block.budget.factor, first)
+                    + times(block.budget.second_factor, second)
             }
         }
     }

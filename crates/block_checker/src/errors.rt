@@ -31,6 +31,8 @@ pub enum CheckError {
     IntervalNotProved(u32),
     /// A register, or vl, may differ from the sum that the next block states.
     EqualityNotProved(u32),
+    /// The order of two registers that the next block states may not hold.
+    OrderNotProved(u32),
     /// A fact on vector registers that the next block states may not hold.
     VectorFactNotProved(u32),
     /// The budget of the block may be too small for the instructions taken and for the next block's budget.
@@ -57,6 +59,7 @@ impl CheckError {
             CheckError::TargetNotABlock(_) => "TargetNotABlock",
             CheckError::IntervalNotProved(_) => "IntervalNotProved",
             CheckError::EqualityNotProved(_) => "EqualityNotProved",
+            CheckError::OrderNotProved(_) => "OrderNotProved",
             CheckError::VectorFactNotProved(_) => "VectorFactNotProved",
             CheckError::BudgetNotProved(_) => "BudgetNotProved",
             CheckError::BlockTooLong(_) => "BlockTooLong",
@@ -78,6 +81,7 @@ impl CheckError {
             | CheckError::TargetNotABlock(pc)
             | CheckError::IntervalNotProved(pc)
             | CheckError::EqualityNotProved(pc)
+            | CheckError::OrderNotProved(pc)
             | CheckError::VectorFactNotProved(pc)
             | CheckError::BudgetNotProved(pc)
             | CheckError::BlockTooLong(pc) => Some(pc),
@@ -97,6 +101,7 @@ pub(crate) fn told(why: Why, pc: u32) -> CheckError
         Why::TargetNotABlock => CheckError::TargetNotABlock(pc),
         Why::IntervalNotProved => CheckError::IntervalNotProved(pc),
         Why::EqualityNotProved => CheckError::EqualityNotProved(pc),
+        Why::OrderNotProved => CheckError::OrderNotProved(pc),
         Why::VectorFactNotProved => CheckError::VectorFactNotProved(pc),
         Why::BudgetNotProved => CheckError::BudgetNotProved(pc),
     }
@@ -115,6 +120,7 @@ impl fmt::Display for CheckError {
             CheckError::TargetNotABlock(pc) => write!(f, "a target is no block at {pc:08x}"),
             CheckError::IntervalNotProved(pc) => write!(f, "an interval is not proved at {pc:08x}"),
             CheckError::EqualityNotProved(pc) => write!(f, "an equality is not proved at {pc:08x}"),
+            CheckError::OrderNotProved(pc) => write!(f, "an order is not proved at {pc:08x}"),
             CheckError::VectorFactNotProved(pc) => {
                 write!(f, "a vector fact is not proved at {pc:08x}")
             }

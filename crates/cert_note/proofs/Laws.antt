@@ -1,18 +1,20 @@
 -- The two laws of each part of a certificate: what is read is spelled so and is valid, and what is valid is read from its
 -- spelling, whatever follows.
-use Rattle.std.proofs.Common.{◌≡◌, ℕ, zero, suc, ◌≤◌, ◌⊎◌, Bool, true, false, ◌&&◌, cond, leb, eqb, List, [], ◌∷◌, ◌++◌, length, Option, Some, None, Ok, refl, sym, ap, subst, ◌∙◌, append_assoc, arith, inl, inr}
+use Rattle.std.proofs.Common.{◌≡◌, ℕ, zero, suc, ◌≤◌, ◌⊎◌, ◌<◌, ◌^◌, Bool, true, false, ◌&&◌, ◌||◌, cond, leb, ltb, eqb, List, [], ◌∷◌, ◌++◌, length, Option, Some, None, Ok, refl, sym, ap, subst, ◌∙◌, append_assoc, arith, inl, inr}
 use Rattle.std.specs.List.{flat_map}
 use Rattle.std.proofs.lemmas.Bool.{eqb-true}
 use Rattle.std.proofs.lemmas.Bool.Decides.{nat_tests}
-use Rattle.cert_note.specs.Words.{Param, Vlen, Term, Budget, VectorFact, Group, Equality, RegisterFact, Block}
+use Rattle.cert_note.specs.Words.{Version, Param, Vlen, Term, Budget, VectorFact, OrderFact, Counts, Group, Equality, RegisterFact, Block}
 use Rattle.cert_note.specs.declared.refusals.CertError.TheVariants as error
-use Rattle.cert_note.specs.Certificate.{is_width, is_group, after_term, after_fact, after_vector, IsTerm, IsEquality, SaysMore, IsRegisterFact, IsVectorFact, IsBudgetOf, IsVtype, IsBlock}
+use Rattle.cert_note.specs.declared.values.Version.TheVariants.{V1, V2}
+use Rattle.std.proofs.lemmas.List.{nil_from_length}
+use Rattle.cert_note.specs.Certificate.{is_width, is_group, is_budget, is_second, is_greater, is_lesser, after_term, after_fact, after_vector, after_order, IsTerm, IsEquality, SaysMore, IsRegisterFact, IsVectorFact, IsOrderFact, IsBudgetOf, IsVtype, IsOf, IsBlock}
 use Rattle.vreg_groups.specs.VectorType.{vtype_of}
 use Rattle.std.specs.Prelude.{is_some}
-use Rattle.cert_note.specs.Spelling.{half, word, spelled_term, spelled_equality, spelled_fact, spelled_vector, spelled_budget, spelled_vtype, counts, spelled_block}
-use Rattle.cert_note.specs.Reading.{byte_at, number_at, zero_at, zeros_at, term_at, terms_at, sum_at, none_at, some_at, equality_at, fact_at, facts_at, group_at, vector_at, vectors_at, budget_at, known_vtype, vtype_at, counts_at, block_at}
-use Rattle.cert_note.proofs.Lists.{terms_many, facts_many, vectors_many}
-use Rattle.cert_note.proofs.Numbers.{IsBytes, bind_ok, expected, found, ok_is, Takes, Takes-then, byte_takes, byte_again, half_takes, half_again, word_takes, word_again, zero_takes, zeros_takes, zeros_again, many_takes, many_again}
+use Rattle.cert_note.specs.Spelling.{half, word, spelled_term, spelled_equality, spelled_fact, spelled_vector, spelled_order, spelled_budget, spelled_vtype, counts, spelled_block}
+use Rattle.cert_note.specs.Reading.{byte_at, number_at, zero_at, zeros_at, term_at, terms_at, sum_at, none_at, some_at, equality_at, fact_at, facts_at, group_at, vector_at, vectors_at, single_at, double_at, budget_at, known_vtype, vtype_at, few_at, order_count_at, counts_at, order_at, orders_at, block_at}
+use Rattle.cert_note.proofs.Lists.{terms_many, facts_many, vectors_many, orders_many}
+use Rattle.cert_note.proofs.Numbers.{IsBytes, bind_ok, expected, found, ok_is, Takes, Takes-then, byte_takes, byte_again, half_takes, half_again, word_takes, word_again, zero_takes, zero_again, zeros_takes, zeros_again, many_takes, many_again}
 
 pub chosen : {A : Type 0} (b : Bool) (x y z : A) → cond b x y ≡ z → ((b ≡ true) × (x ≡ z)) ⊎ ((b ≡ false) × (y ≡ z))
 chosen true x y z e = inl (refl, e)
@@ -97,8 +99,8 @@ regroup3 a b c rest = simp append_assoc
 regroup4 : (a b c d rest : List ℕ) → (((a ++ b) ++ c) ++ d) ++ rest ≡ a ++ (b ++ (c ++ (d ++ rest)))
 regroup4 a b c d rest = simp append_assoc
 
-regroup6 : (a b c d e f rest : List ℕ) → (((((a ++ b) ++ c) ++ d) ++ e) ++ f) ++ rest ≡ a ++ (b ++ (c ++ (d ++ (e ++ (f ++ rest)))))
-regroup6 a b c d e f rest = simp append_assoc
+regroup7 : (a b c d e f g rest : List ℕ) → ((((((a ++ b) ++ c) ++ d) ++ e) ++ f) ++ g) ++ rest ≡ a ++ (b ++ (c ++ (d ++ (e ++ (f ++ (g ++ rest))))))
+regroup7 a b c d e f g rest = simp append_assoc
 
 pub fact_takes : (params : List Param) (from : ℕ) (bytes : List ℕ) (x : RegisterFact) (rest : List ℕ) → IsBytes bytes → fact_at params from bytes ≡ Ok (x, rest) → Takes bytes (spelled_fact x) rest × IsRegisterFact params from x
 unfolding fact_at spelled_fact
@@ -193,9 +195,32 @@ vector_again vlen from x rest is =
 
 -- ---- budgets, vector types, counts
 
-pub budget_takes : (bytes : List ℕ) (x : Budget) (rest : List ℕ) → IsBytes bytes → budget_at bytes ≡ Ok (x, rest) → Takes bytes (spelled_budget x) rest × IsBudgetOf x
-unfolding budget_at spelled_budget
-budget_takes bytes x rest fits e =
+-- Only version 2 has a second register.
+abbrev IsSingle : Version → Budget → Type 0
+IsSingle V1 x = x.second_factor ≡ 0
+IsSingle V2 x = Unit {0}
+
+no_second : (k r : ℕ) → is_second k r 0 0 ≡ true
+unfolding is_second
+no_second k r = refl
+
+none_second : (k r n m : ℕ) → is_second k r n m ≡ true → n ≡ 0 → m ≡ 0
+unfolding is_second
+none_second k r n m e zeros =
+    let f : is_second k r 0 m ≡ true = subst (λ (i : ℕ). is_second k r i m ≡ true) zeros e in
+    eqb-true m 0 f
+
+-- a second factor stands beside a first one
+beside : (k r n m : ℕ) → is_second k r n m ≡ true → (eqb n 0 || ltb 0 k) ≡ true
+unfolding is_second
+beside k r zero m e = refl
+beside k r (suc n) m e =
+    let lt : 0 < k = grind (arith, nat_tests, e) in
+    grind (arith, nat_tests, lt)
+
+single_takes : (bytes : List ℕ) (x : Budget) (rest : List ℕ) → IsBytes bytes → single_at bytes ≡ Ok (x, rest) → Takes bytes (spelled_budget V1 x) rest × IsBudgetOf x × (x.second_factor ≡ 0)
+unfolding single_at spelled_budget
+single_takes bytes x rest fits e =
     let a = bind_ok (number_at _ bytes) _ (x, rest) e in
     let b = bind_ok (number_at _ a.0.1) _ (x, rest) a.2 in
     let c = bind_ok (byte_at b.0.1) _ (x, rest) b.2 in
@@ -205,15 +230,70 @@ budget_takes bytes x rest fits e =
     let t2 = byte_takes b.0.1 c.0.0 c.0.1 t1.0.rest_fits c.1 in
     let e1 = Takes-then bytes (word a.0.0) a.0.1 (word b.0.0) b.0.1 t0.0 t1.0 in
     let e2 = Takes-then bytes (word a.0.0 ++ word b.0.0) b.0.1 (c.0.0 ∷ []) c.0.1 e1 t2.0 in
-    let made : Budget × List ℕ = (record { constant = a.0.0; factor = b.0.0; register = c.0.0 }, c.0.1) in
-    subst (λ (y : Budget × List ℕ). Takes bytes (spelled_budget y.0) y.1 × IsBudgetOf y.0) (ok_is made (x, rest) p.1)
-    (e2, record { constant = t0.1; factor = t1.1; register = p.0 })
+    let made : Budget × List ℕ = (record { constant = a.0.0; factor = b.0.0; register = c.0.0; second_factor = 0; second_register = 0 }, c.0.1) in
+    subst (λ (y : Budget × List ℕ). Takes bytes (spelled_budget V1 y.0) y.1 × IsBudgetOf y.0 × (y.0.second_factor ≡ 0)) (ok_is made (x, rest) p.1)
+    (e2, record { constant = t0.1; factor = t1.1; register = p.0; second_factor = omega arith; second = no_second b.0.0 c.0.0 }, refl)
 
-pub budget_again : (x : Budget) (rest : List ℕ) → IsBudgetOf x → budget_at (spelled_budget x ++ rest) ≡ Ok (x, rest)
+double_takes : (bytes : List ℕ) (x : Budget) (rest : List ℕ) → IsBytes bytes → double_at bytes ≡ Ok (x, rest) → Takes bytes (spelled_budget V2 x) rest × IsBudgetOf x
+unfolding double_at spelled_budget
+double_takes bytes x rest fits e =
+    let a = bind_ok (number_at _ bytes) _ (x, rest) e in
+    let b = bind_ok (number_at _ a.0.1) _ (x, rest) a.2 in
+    let c = bind_ok (number_at _ b.0.1) _ (x, rest) b.2 in
+    let p = expected (eqb c.0.0 0 || ltb 0 b.0.0) _ _ (x, rest) c.2 in
+    let d = bind_ok (byte_at c.0.1) _ (x, rest) p.1 in
+    let q = expected (is_budget b.0.0 d.0.0) _ _ (x, rest) d.2 in
+    let f = bind_ok (byte_at d.0.1) _ (x, rest) q.1 in
+    let s = expected (is_second b.0.0 d.0.0 c.0.0 f.0.0) _ _ (x, rest) f.2 in
+    let t0 = word_takes bytes a.0.0 a.0.1 fits a.1 in
+    let t1 = word_takes a.0.1 b.0.0 b.0.1 t0.0.rest_fits b.1 in
+    let t2 = word_takes b.0.1 c.0.0 c.0.1 t1.0.rest_fits c.1 in
+    let t3 = byte_takes c.0.1 d.0.0 d.0.1 t2.0.rest_fits d.1 in
+    let t4 = byte_takes d.0.1 f.0.0 f.0.1 t3.0.rest_fits f.1 in
+    let last = Takes-then c.0.1 (d.0.0 ∷ []) d.0.1 (f.0.0 ∷ []) f.0.1 t3.0 t4.0 in
+    let e1 = Takes-then bytes (word a.0.0) a.0.1 (word b.0.0) b.0.1 t0.0 t1.0 in
+    let e2 = Takes-then bytes (word a.0.0 ++ word b.0.0) b.0.1 (word c.0.0) c.0.1 e1 t2.0 in
+    let e3 = Takes-then bytes ((word a.0.0 ++ word b.0.0) ++ word c.0.0) c.0.1 (d.0.0 ∷ f.0.0 ∷ []) f.0.1 e2 last in
+    let made : Budget × List ℕ = (record { constant = a.0.0; factor = b.0.0; register = d.0.0; second_factor = c.0.0; second_register = f.0.0 }, f.0.1) in
+    subst (λ (y : Budget × List ℕ). Takes bytes (spelled_budget V2 y.0) y.1 × IsBudgetOf y.0) (ok_is made (x, rest) s.1)
+    (e3, record { constant = t0.1; factor = t1.1; register = q.0; second_factor = t2.1; second = s.0 })
+
+pub budget_takes : (version : Version) (bytes : List ℕ) (x : Budget) (rest : List ℕ) → IsBytes bytes → budget_at version bytes ≡ Ok (x, rest) →
+    Takes bytes (spelled_budget version x) rest × IsBudgetOf x × IsSingle version x
+unfolding budget_at
+budget_takes V1 bytes x rest fits e = single_takes bytes x rest fits e
+budget_takes V2 bytes x rest fits e = let t = double_takes bytes x rest fits e in (t.0, t.1, tt)
+
+single_again : (c k r : ℕ) (rest : List ℕ) → c < 2 ^ 32 → k < 2 ^ 32 → is_budget k r ≡ true →
+    single_at ((word c ++ word k ++ (r ∷ [])) ++ rest) ≡ Ok (record { constant = c; factor = k; register = r; second_factor = 0; second_register = 0 }, rest)
+unfolding single_at
+single_again c k r rest small less is =
+    ap single_at (regroup3 (word c) (word k) (r ∷ []) rest)
+    ∙ rw (word_again c (word k ++ ((r ∷ []) ++ rest)) small, word_again k ((r ∷ []) ++ rest) less, byte_again r rest, is) refl
+
+double_again : (x : Budget) (rest : List ℕ) → IsBudgetOf x → double_at (spelled_budget V2 x ++ rest) ≡ Ok (x, rest)
+unfolding double_at spelled_budget byte_at
+double_again x rest is =
+    let last = (x.register ∷ x.second_register ∷ []) ++ rest in
+    ap double_at (regroup4 (word x.constant) (word x.factor) (word x.second_factor) (x.register ∷ x.second_register ∷ []) rest)
+    ∙ rw (
+      word_again x.constant (word x.factor ++ (word x.second_factor ++ last)) is.constant,
+      word_again x.factor (word x.second_factor ++ last) is.factor,
+      word_again x.second_factor last is.second_factor,
+      beside x.factor x.register x.second_factor x.second_register is.second,
+      is.register,
+      is.second,
+    ) refl
+
+pub budget_again : (version : Version) (x : Budget) (rest : List ℕ) → IsBudgetOf x → IsSingle version x → budget_at version (spelled_budget version x ++ rest) ≡ Ok (x, rest)
 unfolding budget_at spelled_budget
-budget_again x rest is =
-    ap budget_at (regroup3 (word x.constant) (word x.factor) (x.register ∷ []) rest)
-    ∙ rw (word_again x.constant (word x.factor ++ ((x.register ∷ []) ++ rest)) is.constant, word_again x.factor ((x.register ∷ []) ++ rest) is.factor, byte_again x.register rest, is.register) refl
+budget_again V1 x rest is single =
+    let none = none_second x.factor x.register x.second_factor x.second_register is.second single in
+    let spelled = (word x.constant ++ word x.factor ++ (x.register ∷ [])) ++ rest in
+    subst (λ (n : ℕ). single_at spelled ≡ Ok (record { constant = x.constant; factor = x.factor; register = x.register; second_factor = n; second_register = x.second_register }, rest)) (sym single)
+    (subst (λ (n : ℕ). single_at spelled ≡ Ok (record { constant = x.constant; factor = x.factor; register = x.register; second_factor = 0; second_register = n }, rest)) (sym none)
+    (single_again x.constant x.factor x.register rest is.constant is.factor is.register))
+budget_again V2 x rest is single = double_again x rest is
 
 abbrev pub there : {A : Type 0} → A → Option A
 there x = Some x
@@ -254,86 +334,179 @@ unfolding vtype_at spelled_vtype byte_at known_vtype
 vtype_again None rest is = refl
 vtype_again (Some vtype) rest is = rw is refl
 
-pub counts_takes : (bytes : List ℕ) (registers vectors : ℕ) (rest : List ℕ) → IsBytes bytes → counts_at bytes ≡ Ok ((registers, vectors), rest) →
-    Takes bytes (counts registers vectors) rest × (registers ≤ 32) × (vectors ≤ 32)
-unfolding counts_at counts
-counts_takes bytes registers vectors rest fits e =
-    let a = bind_ok (byte_at bytes) _ ((registers, vectors), rest) e in
-    let p = expected (leb a.0.0 32) _ _ ((registers, vectors), rest) a.2 in
-    let b = bind_ok (byte_at a.0.1) _ ((registers, vectors), rest) p.1 in
-    let q = expected (leb b.0.0 32) _ _ ((registers, vectors), rest) b.2 in
-    let c = bind_ok (zero_at error.TooMany b.0.1) _ ((registers, vectors), rest) q.1 in
-    let d = bind_ok (zero_at error.TooMany c.0) _ ((registers, vectors), rest) c.2 in
-    let f = bind_ok (zero_at error.TooMany d.0) _ ((registers, vectors), rest) d.2 in
+few_takes : (bytes : List ℕ) (x : ℕ) (rest : List ℕ) → IsBytes bytes → few_at bytes ≡ Ok (x, rest) → Takes bytes (x ∷ []) rest × (x ≤ 32)
+unfolding few_at
+few_takes bytes x rest fits e =
+    let a = bind_ok (byte_at bytes) _ (x, rest) e in
+    let p = expected (leb a.0.0 32) _ _ (x, rest) a.2 in
+    let t0 = byte_takes bytes a.0.0 a.0.1 fits a.1 in
+    let few : a.0.0 ≤ 32 = grind (arith, nat_tests, p.0) in
+    subst (λ (y : ℕ × List ℕ). Takes bytes (y.0 ∷ []) y.1 × (y.0 ≤ 32)) (ok_is (a.0.0, a.0.1) (x, rest) p.1) (t0.0, few)
+
+few_again : (x : ℕ) (rest : List ℕ) → x ≤ 32 → few_at (x ∷ rest) ≡ Ok (x, rest)
+unfolding few_at byte_at
+few_again x rest few =
+    let le : leb x 32 ≡ true = grind (arith, nat_tests, few) in
+    rw le refl
+
+-- Only version 2 has orders.
+abbrev HasNone : Version → ℕ → Type 0
+HasNone V1 n = n ≡ 0
+HasNone V2 n = Unit {0}
+
+abbrev order_count : Version → ℕ → List ℕ
+order_count V1 n = 0 ∷ 0 ∷ []
+order_count V2 n = n ∷ []
+
+order_count_takes : (version : Version) (bytes : List ℕ) (x : ℕ) (rest : List ℕ) → IsBytes bytes → order_count_at version bytes ≡ Ok (x, rest) →
+    Takes bytes (order_count version x) rest × (x ≤ 32) × HasNone version x
+unfolding order_count_at
+order_count_takes V1 bytes x rest fits e =
+    let a = bind_ok (zero_at error.TooMany bytes) _ (x, rest) e in
+    let b = bind_ok (zero_at error.TooMany a.0) _ (x, rest) a.2 in
+    let t0 = zero_takes error.TooMany bytes a.0 fits a.1 in
+    let t1 = zero_takes error.TooMany a.0 b.0 t0.rest_fits b.1 in
+    subst (λ (y : ℕ × List ℕ). Takes bytes (0 ∷ 0 ∷ []) y.1 × (y.0 ≤ 32) × (y.0 ≡ 0)) (ok_is (0, b.0) (x, rest) b.2)
+    (Takes-then bytes (0 ∷ []) a.0 (0 ∷ []) b.0 t0 t1, omega arith, refl)
+order_count_takes V2 bytes x rest fits e = let t = few_takes bytes x rest fits e in (t.0, t.1, tt)
+
+record HasCounts (version : Version) (registers vectors orders : ℕ) : Type 0 where
+  registers_few : registers ≤ 32
+  vectors_few : vectors ≤ 32
+  orders_few : orders ≤ 32
+  none : HasNone version orders
+
+spelled_counts : (version : Version) (registers vectors orders : ℕ) →
+    ((registers ∷ vectors ∷ []) ++ order_count version orders) ++ (0 ∷ []) ≡ counts version registers vectors orders
+unfolding counts
+spelled_counts V1 registers vectors orders = refl
+spelled_counts V2 registers vectors orders = refl
+
+counts_takes : (version : Version) (bytes : List ℕ) (x : Counts) (rest : List ℕ) → IsBytes bytes → counts_at version bytes ≡ Ok (x, rest) →
+    Takes bytes (counts version x.registers x.vectors x.orders) rest × HasCounts version x.registers x.vectors x.orders
+unfolding counts_at
+counts_takes version bytes x rest fits e =
+    let a = bind_ok (few_at bytes) _ (x, rest) e in
+    let b = bind_ok (few_at a.0.1) _ (x, rest) a.2 in
+    let c = bind_ok (order_count_at version b.0.1) _ (x, rest) b.2 in
+    let d = bind_ok (zero_at error.TooMany c.0.1) _ (x, rest) c.2 in
+    let t0 = few_takes bytes a.0.0 a.0.1 fits a.1 in
+    let t1 = few_takes a.0.1 b.0.0 b.0.1 t0.0.rest_fits b.1 in
+    let t2 = order_count_takes version b.0.1 c.0.0 c.0.1 t1.0.rest_fits c.1 in
+    let t3 = zero_takes error.TooMany c.0.1 d.0 t2.0.rest_fits d.1 in
+    let e1 = Takes-then bytes (a.0.0 ∷ []) a.0.1 (b.0.0 ∷ []) b.0.1 t0.0 t1.0 in
+    let e2 = Takes-then bytes (a.0.0 ∷ b.0.0 ∷ []) b.0.1 (order_count version c.0.0) c.0.1 e1 t2.0 in
+    let e3 = Takes-then bytes ((a.0.0 ∷ b.0.0 ∷ []) ++ order_count version c.0.0) c.0.1 (0 ∷ []) d.0 e2 t3 in
+    let made : Counts × List ℕ = (record { registers = a.0.0; vectors = b.0.0; orders = c.0.0 }, d.0) in
+    subst (λ (y : Counts × List ℕ). Takes bytes (counts version y.0.registers y.0.vectors y.0.orders) y.1 × HasCounts version y.0.registers y.0.vectors y.0.orders) (ok_is made (x, rest) d.2)
+    (subst (λ (t : List ℕ). Takes bytes t d.0) (spelled_counts version a.0.0 b.0.0 c.0.0) e3, record { registers_few = t0.1; vectors_few = t1.1; orders_few = t2.1; none = t2.2 })
+
+counts_again : (version : Version) (registers vectors orders : ℕ) (rest : List ℕ) → HasCounts version registers vectors orders →
+    counts_at version (counts version registers vectors orders ++ rest) ≡ Ok (record { registers = registers; vectors = vectors; orders = orders }, rest)
+unfolding counts_at counts order_count_at zero_at byte_at
+counts_again V1 registers vectors orders rest has =
+    subst (λ (n : ℕ). counts_at V1 ((registers ∷ vectors ∷ 0 ∷ 0 ∷ 0 ∷ []) ++ rest) ≡ Ok (record { registers = registers; vectors = vectors; orders = n }, rest)) (sym has.none)
+    (rw (few_again registers (vectors ∷ 0 ∷ 0 ∷ 0 ∷ rest) has.registers_few, few_again vectors (0 ∷ 0 ∷ 0 ∷ rest) has.vectors_few) refl)
+counts_again V2 registers vectors orders rest has =
+    rw (few_again registers (vectors ∷ orders ∷ 0 ∷ rest) has.registers_few, few_again vectors (orders ∷ 0 ∷ rest) has.vectors_few, few_again orders (0 ∷ rest) has.orders_few) refl
+
+-- ---- orders
+
+order_takes : (facts : List RegisterFact) (from : ℕ) (bytes : List ℕ) (x : OrderFact) (rest : List ℕ) → IsBytes bytes → order_at facts from bytes ≡ Ok (x, rest) → Takes bytes (spelled_order x) rest × IsOrderFact facts from x
+unfolding order_at spelled_order
+order_takes facts from bytes x rest fits e =
+    let a = bind_ok (byte_at bytes) _ (x, rest) e in
+    let p = expected (is_greater facts from a.0.0) _ _ (x, rest) a.2 in
+    let b = bind_ok (byte_at a.0.1) _ (x, rest) p.1 in
+    let q = expected (is_lesser facts a.0.0 b.0.0) _ _ (x, rest) b.2 in
     let t0 = byte_takes bytes a.0.0 a.0.1 fits a.1 in
     let t1 = byte_takes a.0.1 b.0.0 b.0.1 t0.0.rest_fits b.1 in
-    let t2 = zero_takes error.TooMany b.0.1 c.0 t1.0.rest_fits c.1 in
-    let t3 = zero_takes error.TooMany c.0 d.0 t2.rest_fits d.1 in
-    let t4 = zero_takes error.TooMany d.0 f.0 t3.rest_fits f.1 in
-    let e1 = Takes-then bytes (a.0.0 ∷ []) a.0.1 (b.0.0 ∷ []) b.0.1 t0.0 t1.0 in
-    let e2 = Takes-then bytes (a.0.0 ∷ b.0.0 ∷ []) b.0.1 (0 ∷ []) c.0 e1 t2 in
-    let e3 = Takes-then bytes (a.0.0 ∷ b.0.0 ∷ 0 ∷ []) c.0 (0 ∷ []) d.0 e2 t3 in
-    let e4 = Takes-then bytes (a.0.0 ∷ b.0.0 ∷ 0 ∷ 0 ∷ []) d.0 (0 ∷ []) f.0 e3 t4 in
-    let first : a.0.0 ≤ 32 = grind (arith, nat_tests, p.0) in
-    let second : b.0.0 ≤ 32 = grind (arith, nat_tests, q.0) in
-    let made : (ℕ × ℕ) × List ℕ = ((a.0.0, b.0.0), f.0) in
-    subst (λ (y : (ℕ × ℕ) × List ℕ). Takes bytes (y.0.0 ∷ y.0.1 ∷ 0 ∷ 0 ∷ 0 ∷ []) y.1 × (y.0.0 ≤ 32) × (y.0.1 ≤ 32)) (ok_is made ((registers, vectors), rest) f.2) (e4, first, second)
+    let made : OrderFact × List ℕ = (record { greater = a.0.0; lesser = b.0.0 }, b.0.1) in
+    subst (λ (y : OrderFact × List ℕ). Takes bytes (y.0.greater ∷ y.0.lesser ∷ []) y.1 × IsOrderFact facts from y.0) (ok_is made (x, rest) q.1)
+    (Takes-then bytes (a.0.0 ∷ []) a.0.1 (b.0.0 ∷ []) b.0.1 t0.0 t1.0, record { greater = p.0; lesser = q.0 })
 
-pub counts_again : (registers vectors : ℕ) (rest : List ℕ) → registers ≤ 32 → vectors ≤ 32 → counts_at (counts registers vectors ++ rest) ≡ Ok ((registers, vectors), rest)
-unfolding counts_at counts byte_at zero_at
-counts_again registers vectors rest r v =
-    let a : leb registers 32 ≡ true = grind (arith, nat_tests, r) in
-    let b : leb vectors 32 ≡ true = grind (arith, nat_tests, v) in
-    rw (a, b) refl
+order_again : (facts : List RegisterFact) (from : ℕ) (x : OrderFact) (rest : List ℕ) → IsOrderFact facts from x → order_at facts from (spelled_order x ++ rest) ≡ Ok (x, rest)
+unfolding order_at spelled_order byte_at
+order_again facts from x rest is = rw (is.greater, is.lesser) refl
 
 -- ---- blocks
 
 few_along : (n m : ℕ) → n ≡ m → m ≤ 32 → n ≤ 32
 few_along n m e h = omega arith
 
-pub block_takes : (vlen : Vlen) (params : List Param) (from : ℕ) (bytes : List ℕ) (x : Block) (rest : List ℕ) → IsBytes bytes → block_at vlen params from bytes ≡ Ok (x, rest) → Takes bytes (spelled_block x) rest × IsBlock vlen params from x
+same_counts : (version : Version) (a b c x y z : ℕ) → x ≡ a → y ≡ b → z ≡ c → counts version a b c ≡ counts version x y z
+same_counts version a b c x y z p q r = rw (p, q, r) refl
+
+of_version : (version : Version) (block : Block) (n : ℕ) → IsSingle version block.budget → HasNone version n → length block.orders.items ≡ n → IsOf version block
+of_version V1 block n single none e = (single, nil_from_length block.orders.items (e ∙ none))
+of_version V2 block n single none e = tt
+
+single_of : (version : Version) (block : Block) → IsOf version block → IsSingle version block.budget
+single_of V1 block of = of.0
+single_of V2 block of = tt
+
+none_of : (version : Version) (block : Block) → IsOf version block → HasNone version (length block.orders.items)
+none_of V1 block of = ap length of.1
+none_of V2 block of = tt
+
+pub block_takes : (version : Version) (vlen : Vlen) (params : List Param) (from : ℕ) (bytes : List ℕ) (x : Block) (rest : List ℕ) → IsBytes bytes → block_at version vlen params from bytes ≡ Ok (x, rest) →
+    Takes bytes (spelled_block version x) rest × IsBlock version vlen params from x
 unfolding block_at spelled_block
-block_takes vlen params from bytes x rest fits e =
+block_takes version vlen params from bytes x rest fits e =
     let a = bind_ok (number_at _ bytes) _ (x, rest) e in
     let p = expected _ _ _ (x, rest) a.2 in
-    let b = bind_ok (budget_at a.0.1) _ (x, rest) p.1 in
+    let b = bind_ok (budget_at version a.0.1) _ (x, rest) p.1 in
     let c = bind_ok (vtype_at b.0.1) _ (x, rest) b.2 in
-    let d = bind_ok (counts_at c.0.1) _ (x, rest) c.2 in
-    let f = bind_ok (facts_at params d.0.0.0 1 d.0.1) _ (x, rest) d.2 in
-    let g = bind_ok (vectors_at vlen d.0.0.1 0 f.0.1) _ (x, rest) f.2 in
-    let q = expected _ _ _ (x, rest) g.2 in
+    let d = bind_ok (counts_at version c.0.1) _ (x, rest) c.2 in
+    let f = bind_ok (facts_at params d.0.0.registers 1 d.0.1) _ (x, rest) d.2 in
+    let g = bind_ok (vectors_at vlen d.0.0.vectors 0 f.0.1) _ (x, rest) f.2 in
+    let h = bind_ok (orders_at f.0.0 d.0.0.orders 1 g.0.1) _ (x, rest) g.2 in
+    let q = expected _ _ _ (x, rest) h.2 in
     let t0 = word_takes bytes a.0.0 a.0.1 fits a.1 in
-    let t1 = budget_takes a.0.1 b.0.0 b.0.1 t0.0.rest_fits b.1 in
+    let t1 = budget_takes version a.0.1 b.0.0 b.0.1 t0.0.rest_fits b.1 in
     let t2 = vtype_takes b.0.1 c.0.0 c.0.1 t1.0.rest_fits c.1 in
-    let t3 = counts_takes c.0.1 d.0.0.0 d.0.0.1 d.0.1 t2.0.rest_fits d.1 in
-    let t4 = many_takes (facts_at params) (fact_at params) after_fact spelled_fact (IsRegisterFact params) (facts_many params) (fact_takes params) d.0.0.0 1 d.0.1 f.0.0 f.0.1 t3.0.rest_fits f.1 in
-    let t5 = many_takes (vectors_at vlen) (vector_at vlen) after_vector spelled_vector (IsVectorFact vlen) (vectors_many vlen) (vector_takes vlen) d.0.0.1 0 f.0.1 g.0.0 g.0.1 t4.0.rest_fits g.1 in
-    let counted : Takes c.0.1 (counts (length f.0.0) (length g.0.0)) d.0.1 = rw (t4.1, t5.1) t3.0 in
+    let t3 = counts_takes version c.0.1 d.0.0 d.0.1 t2.0.rest_fits d.1 in
+    let t4 = many_takes (facts_at params) (fact_at params) after_fact spelled_fact (IsRegisterFact params) (facts_many params) (fact_takes params) d.0.0.registers 1 d.0.1 f.0.0 f.0.1 t3.0.rest_fits f.1 in
+    let t5 = many_takes (vectors_at vlen) (vector_at vlen) after_vector spelled_vector (IsVectorFact vlen) (vectors_many vlen) (vector_takes vlen) d.0.0.vectors 0 f.0.1 g.0.0 g.0.1 t4.0.rest_fits g.1 in
+    let t6 = many_takes (orders_at f.0.0) (order_at f.0.0) after_order spelled_order (IsOrderFact f.0.0) (orders_many f.0.0) (order_takes f.0.0) d.0.0.orders 1 g.0.1 h.0.0 h.0.1 t5.0.rest_fits h.1 in
+    let number = counts version (length f.0.0) (length g.0.0) (length h.0.0) in
+    let counted : Takes c.0.1 number d.0.1 = subst (λ (t : List ℕ). Takes c.0.1 t d.0.1) (same_counts version d.0.0.registers d.0.0.vectors d.0.0.orders (length f.0.0) (length g.0.0) (length h.0.0) t4.1 t5.1 t6.1) t3.0 in
     let w = word a.0.0 in
-    let e1 = Takes-then bytes w a.0.1 (spelled_budget b.0.0) b.0.1 t0.0 t1.0 in
-    let e2 = Takes-then bytes (w ++ spelled_budget b.0.0) b.0.1 (spelled_vtype c.0.0) c.0.1 e1 t2.0 in
-    let e3 = Takes-then bytes ((w ++ spelled_budget b.0.0) ++ spelled_vtype c.0.0) c.0.1 (counts (length f.0.0) (length g.0.0)) d.0.1 e2 counted in
-    let e4 = Takes-then bytes (((w ++ spelled_budget b.0.0) ++ spelled_vtype c.0.0) ++ counts (length f.0.0) (length g.0.0)) d.0.1 (flat_map spelled_fact f.0.0) f.0.1 e3 t4.0 in
-    let e5 = Takes-then bytes ((((w ++ spelled_budget b.0.0) ++ spelled_vtype c.0.0) ++ counts (length f.0.0) (length g.0.0)) ++ flat_map spelled_fact f.0.0) f.0.1 (flat_map spelled_vector g.0.0) g.0.1 e4 t5.0 in
-    let made : Block × List ℕ = (record { start = a.0.0; budget = b.0.0; vtype = c.0.0; registers = record { items = f.0.0 }; vectors = record { items = g.0.0 } }, g.0.1) in
-    subst (λ (y : Block × List ℕ). Takes bytes (spelled_block y.0) y.1 × IsBlock vlen params from y.0) (ok_is made (x, rest) q.1)
-    (e5, record { start = p.0; start_fits = t0.1; budget = t1.1; vtype = t2.1; few_registers = few_along (length f.0.0) d.0.0.0 t4.1 t3.1; few_vectors = few_along (length g.0.0) d.0.0.1 t5.1 t3.2; registers = t4.2; vectors = t5.2; free = q.0 })
+    let w1 = w ++ spelled_budget version b.0.0 in
+    let w2 = w1 ++ spelled_vtype c.0.0 in
+    let w3 = w2 ++ number in
+    let w4 = w3 ++ flat_map spelled_fact f.0.0 in
+    let e1 = Takes-then bytes w a.0.1 (spelled_budget version b.0.0) b.0.1 t0.0 t1.0 in
+    let e2 = Takes-then bytes w1 b.0.1 (spelled_vtype c.0.0) c.0.1 e1 t2.0 in
+    let e3 = Takes-then bytes w2 c.0.1 number d.0.1 e2 counted in
+    let e4 = Takes-then bytes w3 d.0.1 (flat_map spelled_fact f.0.0) f.0.1 e3 t4.0 in
+    let e5 = Takes-then bytes w4 f.0.1 (flat_map spelled_vector g.0.0) g.0.1 e4 t5.0 in
+    let e6 = Takes-then bytes (w4 ++ flat_map spelled_vector g.0.0) g.0.1 (flat_map spelled_order h.0.0) h.0.1 e5 t6.0 in
+    let made : Block × List ℕ = (record { start = a.0.0; budget = b.0.0; vtype = c.0.0; registers = record { items = f.0.0 }; vectors = record { items = g.0.0 }; orders = record { items = h.0.0 } }, h.0.1) in
+    let of = of_version version made.0 d.0.0.orders t1.2 t3.1.none t6.1 in
+    subst (λ (y : Block × List ℕ). Takes bytes (spelled_block version y.0) y.1 × IsBlock version vlen params from y.0) (ok_is made (x, rest) q.1)
+    (e6, record { start = p.0; start_fits = t0.1; budget = t1.1; vtype = t2.1; few_registers = few_along (length f.0.0) d.0.0.registers t4.1 t3.1.registers_few; few_vectors = few_along (length g.0.0) d.0.0.vectors t5.1 t3.1.vectors_few; few_orders = few_along (length h.0.0) d.0.0.orders t6.1 t3.1.orders_few; registers = t4.2; vectors = t5.2; orders = t6.2; free = q.0; of = of })
 
-pub block_again : (vlen : Vlen) (params : List Param) (from : ℕ) (x : Block) (rest : List ℕ) → IsBlock vlen params from x → block_at vlen params from (spelled_block x ++ rest) ≡ Ok (x, rest)
+pub block_again : (version : Version) (vlen : Vlen) (params : List Param) (from : ℕ) (x : Block) (rest : List ℕ) → IsBlock version vlen params from x → block_at version vlen params from (spelled_block version x ++ rest) ≡ Ok (x, rest)
 unfolding block_at spelled_block
-block_again vlen params from x rest is =
-    let vectors = flat_map spelled_vector x.vectors.items ++ rest in
+block_again version vlen params from x rest is =
+    let number = counts version (length x.registers.items) (length x.vectors.items) (length x.orders.items) in
+    let orders = flat_map spelled_order x.orders.items ++ rest in
+    let vectors = flat_map spelled_vector x.vectors.items ++ orders in
     let facts = flat_map spelled_fact x.registers.items ++ vectors in
-    let counted = counts (length x.registers.items) (length x.vectors.items) ++ facts in
+    let counted = number ++ facts in
     let typed = spelled_vtype x.vtype ++ counted in
-    ap (block_at vlen params from) (regroup6 (word x.start) (spelled_budget x.budget) (spelled_vtype x.vtype) (counts (length x.registers.items) (length x.vectors.items)) (flat_map spelled_fact x.registers.items) (flat_map spelled_vector x.vectors.items) rest)
+    let has : HasCounts version (length x.registers.items) (length x.vectors.items) (length x.orders.items) =
+    record { registers_few = is.few_registers; vectors_few = is.few_vectors; orders_few = is.few_orders; none = none_of version x is.of } in
+    ap (block_at version vlen params from) (regroup7 (word x.start) (spelled_budget version x.budget) (spelled_vtype x.vtype) number (flat_map spelled_fact x.registers.items) (flat_map spelled_vector x.vectors.items) (flat_map spelled_order x.orders.items) rest)
     ∙ rw (
-      word_again x.start (spelled_budget x.budget ++ typed) is.start_fits,
+      word_again x.start (spelled_budget version x.budget ++ typed) is.start_fits,
       is.start,
-      budget_again x.budget typed is.budget,
+      budget_again version x.budget typed is.budget (single_of version x is.of),
       vtype_again x.vtype counted is.vtype,
-      counts_again (length x.registers.items) (length x.vectors.items) facts is.few_registers is.few_vectors,
+      counts_again version (length x.registers.items) (length x.vectors.items) (length x.orders.items) facts has,
       many_again (facts_at params) (fact_at params) after_fact spelled_fact (IsRegisterFact params) (facts_many params) (fact_again params) 1 x.registers.items vectors is.registers,
-      many_again (vectors_at vlen) (vector_at vlen) after_vector spelled_vector (IsVectorFact vlen) (vectors_many vlen) (vector_again vlen) 0 x.vectors.items rest is.vectors,
+      many_again (vectors_at vlen) (vector_at vlen) after_vector spelled_vector (IsVectorFact vlen) (vectors_many vlen) (vector_again vlen) 0 x.vectors.items orders is.vectors,
+      many_again (orders_at x.registers.items) (order_at x.registers.items) after_order spelled_order (IsOrderFact x.registers.items) (orders_many x.registers.items) (order_again x.registers.items) 1 x.orders.items rest is.orders,
       is.free,
     ) refl

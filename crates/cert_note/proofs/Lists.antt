@@ -1,8 +1,8 @@
 -- The lists of a certificate, read item by item.
 use Rattle.std.proofs.Common.{ℕ, List, Result, refl}
-use Rattle.cert_note.specs.Words.{Param, Vlen}
-use Rattle.cert_note.specs.Certificate.{after_term, after_fact, after_vector, after_block}
-use Rattle.cert_note.specs.Reading.{parameter_at, parameters_at, term_at, terms_at, fact_at, facts_at, vector_at, vectors_at, block_at, blocks_at}
+use Rattle.cert_note.specs.Words.{Version, Param, Vlen, RegisterFact}
+use Rattle.cert_note.specs.Certificate.{after_term, after_fact, after_vector, after_order, after_block}
+use Rattle.cert_note.specs.Reading.{parameter_at, parameters_at, term_at, terms_at, fact_at, facts_at, vector_at, vectors_at, order_at, orders_at, block_at, blocks_at}
 use Rattle.cert_note.specs.declared.refusals.CertError.{CertError}
 use Rattle.cert_note.proofs.Loop.{Many, IsManyOf}
 
@@ -18,9 +18,13 @@ pub vectors_many : (vlen : Vlen) → IsManyOf (vectors_at vlen) (vector_at vlen)
 unfolding vectors_at
 vectors_many vlen = record { none = λ from bytes. refl; more = λ n from bytes. refl }
 
-pub blocks_many : (vlen : Vlen) (params : List Param) → IsManyOf (blocks_at vlen params) (block_at vlen params) after_block
+pub orders_many : (facts : List RegisterFact) → IsManyOf (orders_at facts) (order_at facts) after_order
+unfolding orders_at
+orders_many facts = record { none = λ from bytes. refl; more = λ n from bytes. refl }
+
+pub blocks_many : (version : Version) (vlen : Vlen) (params : List Param) → IsManyOf (blocks_at version vlen params) (block_at version vlen params) after_block
 unfolding blocks_at
-blocks_many vlen params = record { none = λ from bytes. refl; more = λ n from bytes. refl }
+blocks_many version vlen params = record { none = λ from bytes. refl; more = λ n from bytes. refl }
 
 -- Parameters are read one after another, from wherever the one before it ends.
 abbrev pub after_parameter : Param → ℕ

@@ -5,14 +5,15 @@ use Rattle.std.proofs.lemmas.Bool.{eqb-true}
 use Rattle.std.proofs.lemmas.Bool.Decides.{nat_tests}
 use Rattle.std.proofs.lemmas.List.{append-nil, nil_from_length}
 use Rattle.region_mem.specs.Parameter.{is_valid, parameters_of}
-use Rattle.cert_note.specs.Words.{Mode, Param, Vlen}
+use Rattle.cert_note.specs.Words.{Version, Mode, Param, Vlen}
+use Rattle.cert_note.specs.declared.values.Version.TheVariants.{V1, V2}
 use Rattle.region_mem.specs.declared.parameter.Mode.TheVariants.{Read, ReadWrite}
 use Rattle.region_mem.specs.declared.parameter.Param.TheVariants as parameter
 use Rattle.cert_note.specs.declared.refusals.CertError.TheVariants as error
-use Rattle.vreg_groups.specs.declared.vector_length.Vlen.TheVariants.{V128, V256}
+use Rattle.vreg_groups.specs.declared.vector_length.Vlen.TheVariants.{V128, V256, V512}
 use Rattle.cert_note.specs.Certificate.{CertificateView, AllFrom, after_block, IsBlock, IsParameter, IsCertificate}
-use Rattle.cert_note.specs.Spelling.{half, word, vlen_code, header, parameter_of, spelled_parameter, spelled_block, spelling}
-use Rattle.cert_note.specs.Reading.{byte_at, number_at, zero_at, zeros_at, vlen_of, header_at, mode_of, is_first_number, is_second_number, param_of, parameter_at, parameters_at, block_at, blocks_at, count_at, certificate_of}
+use Rattle.cert_note.specs.Spelling.{half, word, version_code, vlen_code, header, parameter_of, spelled_parameter, spelled_block, spelling}
+use Rattle.cert_note.specs.Reading.{byte_at, number_at, zero_at, zeros_at, version_of, vlen_of, header_at, mode_of, is_first_number, is_second_number, param_of, parameter_at, parameters_at, block_at, blocks_at, count_at, certificate_of}
 use Rattle.cert_note.proofs.Lists.{blocks_many, parameters_many, parameters_from, parameter_from, after_parameter}
 use Rattle.cert_note.proofs.Numbers.{IsBytes, bind_ok, expected, found, ok_is, Takes, Takes-then, byte_takes, byte_again, half_takes, half_again, word_takes, word_again, zero_takes, zero_again, zeros_takes, zeros_again, many_takes, many_again}
 use Rattle.cert_note.proofs.Laws.{chosen, some_is, block_takes, block_again}
@@ -22,12 +23,16 @@ use Rattle.cert_note.proofs.Laws.{chosen, some_is, block_takes, block_again}
 vlen_is : (code : ℕ) (vlen : Vlen) → vlen_of code ≡ Some vlen → code ≡ vlen_code vlen
 unfolding vlen_of
 vlen_is code vlen e =
-    elim (chosen (eqb code 1) (Some V128) (cond (eqb code 2) (Some V256) None) (Some vlen) e) [
+    elim (chosen (eqb code 1) (Some V128) (cond (eqb code 2) (Some V256) (cond (eqb code 3) (Some V512) None)) (Some vlen) e) [
       | inl h ↦ subst (λ (v : Vlen). code ≡ vlen_code v) (some_is V128 vlen h.1) (eqb-true code 1 h.0)
       | inr h ↦
-          elim (chosen (eqb code 2) (Some V256) None (Some vlen) h.1) [
+          elim (chosen (eqb code 2) (Some V256) (cond (eqb code 3) (Some V512) None) (Some vlen) h.1) [
             | inl k ↦ subst (λ (v : Vlen). code ≡ vlen_code v) (some_is V256 vlen k.1) (eqb-true code 2 k.0)
-            | inr k ↦ absurd (let f = k.1 in cc)
+            | inr k ↦
+                elim (chosen (eqb code 3) (Some V512) None (Some vlen) k.1) [
+                  | inl j ↦ subst (λ (v : Vlen). code ≡ vlen_code v) (some_is V512 vlen j.1) (eqb-true code 3 j.0)
+                  | inr j ↦ absurd (let f = j.1 in cc)
+                ]
           ]
     ]
 
@@ -35,13 +40,35 @@ vlen_back : (vlen : Vlen) → vlen_of (vlen_code vlen) ≡ Some vlen
 unfolding vlen_of
 vlen_back V128 = refl
 vlen_back V256 = refl
+vlen_back V512 = refl
 
-header_takes : (bytes : List ℕ) (x : Vlen) (rest : List ℕ) → IsBytes bytes → header_at bytes ≡ Ok (x, rest) → Takes bytes (header x) rest
+version_is : (code : ℕ) (version : Version) → version_of code ≡ Some version → code ≡ version_code version
+unfolding version_of
+version_is code version e =
+    elim (chosen (eqb code 1) (Some V1) (cond (eqb code 2) (Some V2) None) (Some version) e) [
+      | inl h ↦ subst (λ (v : Version). code ≡ version_code v) (some_is V1 version h.1) (eqb-true code 1 h.0)
+      | inr h ↦
+          elim (chosen (eqb code 2) (Some V2) None (Some version) h.1) [
+            | inl k ↦ subst (λ (v : Version). code ≡ version_code v) (some_is V2 version k.1) (eqb-true code 2 k.0)
+            | inr k ↦ absurd (let f = k.1 in cc)
+          ]
+    ]
+
+version_back : (version : Version) → version_of (version_code version) ≡ Some version
+unfolding version_of
+version_back V1 = refl
+version_back V2 = refl
+
+version_small : (version : Version) → version_code version < 2 ^ 16
+version_small V1 = omega arith
+version_small V2 = omega arith
+
+header_takes : (bytes : List ℕ) (x : Version × Vlen) (rest : List ℕ) → IsBytes bytes → header_at bytes ≡ Ok (x, rest) → Takes bytes (header x.0 x.1) rest
 unfolding header_at header
 header_takes bytes x rest fits e =
     let a = bind_ok (number_at _ bytes) _ (x, rest) e in
-    let p = expected (eqb a.0.0 1) _ _ (x, rest) a.2 in
-    let b = bind_ok (byte_at a.0.1) _ (x, rest) p.1 in
+    let p = found (version_of a.0.0) _ _ (x, rest) a.2 in
+    let b = bind_ok (byte_at a.0.1) _ (x, rest) p.2 in
     let c = found (vlen_of b.0.0) _ _ (x, rest) b.2 in
     let d = bind_ok (zero_at error.Version b.0.1) _ (x, rest) c.2 in
     let t0 = half_takes bytes a.0.0 a.0.1 fits a.1 in
@@ -49,15 +76,15 @@ header_takes bytes x rest fits e =
     let t2 = zero_takes error.Version b.0.1 d.0 t1.0.rest_fits d.1 in
     let e1 = Takes-then a.0.1 (b.0.0 ∷ []) b.0.1 (0 ∷ []) d.0 t1.0 t2 in
     let e2 = Takes-then bytes (half a.0.0) a.0.1 (b.0.0 ∷ 0 ∷ []) d.0 t0.0 e1 in
-    let whole : Takes bytes (half 1 ++ (vlen_code c.0 ∷ 0 ∷ [])) d.0 =
-    subst (λ (n : ℕ). Takes bytes (half 1 ++ (n ∷ 0 ∷ [])) d.0) (vlen_is b.0.0 c.0 c.1) (subst (λ (n : ℕ). Takes bytes (half n ++ (b.0.0 ∷ 0 ∷ [])) d.0) (eqb-true a.0.0 1 p.0) e2) in
-    subst (λ (y : Vlen × List ℕ). Takes bytes (half 1 ++ (vlen_code y.0 ∷ 0 ∷ [])) y.1) (ok_is (c.0, d.0) (x, rest) d.2) whole
+    let whole : Takes bytes (half (version_code p.0) ++ (vlen_code c.0 ∷ 0 ∷ [])) d.0 =
+    subst (λ (n : ℕ). Takes bytes (half (version_code p.0) ++ (n ∷ 0 ∷ [])) d.0) (vlen_is b.0.0 c.0 c.1) (subst (λ (n : ℕ). Takes bytes (half n ++ (b.0.0 ∷ 0 ∷ [])) d.0) (version_is a.0.0 p.0 p.1) e2) in
+    subst (λ (y : (Version × Vlen) × List ℕ). Takes bytes (half (version_code y.0.0) ++ (vlen_code y.0.1 ∷ 0 ∷ [])) y.1) (ok_is ((p.0, c.0), d.0) (x, rest) d.2) whole
 
-header_again : (x : Vlen) (rest : List ℕ) → header_at (header x ++ rest) ≡ Ok (x, rest)
+header_again : (version : Version) (vlen : Vlen) (rest : List ℕ) → header_at (header version vlen ++ rest) ≡ Ok ((version, vlen), rest)
 unfolding header_at header
-header_again x rest =
-    ap header_at (append_assoc (half 1) (vlen_code x ∷ 0 ∷ []) rest)
-    ∙ rw (half_again 1 ((vlen_code x ∷ 0 ∷ []) ++ rest) (omega arith), byte_again (vlen_code x) ((0 ∷ []) ++ rest), vlen_back x, zero_again error.Version rest) refl
+header_again version vlen rest =
+    ap header_at (append_assoc (half (version_code version)) (vlen_code vlen ∷ 0 ∷ []) rest)
+    ∙ rw (half_again (version_code version) ((vlen_code vlen ∷ 0 ∷ []) ++ rest) (version_small version), version_back version, byte_again (vlen_code vlen) ((0 ∷ []) ++ rest), vlen_back vlen, zero_again error.Version rest) refl
 
 -- ---- parameters
 
@@ -194,23 +221,23 @@ certificate_takes bytes x fits e =
     let b = bind_ok (parameters_at 8 a.0.1) _ x a.2 in
     let c = found (parameters_of b.0.0) _ _ x b.2 in
     let d = bind_ok (count_at b.0.1) _ x c.2 in
-    let f = bind_ok (blocks_at a.0.0 c.0 d.0.0 0 d.0.1) _ x d.2 in
+    let f = bind_ok (blocks_at a.0.0.0 a.0.0.1 c.0 d.0.0 0 d.0.1) _ x d.2 in
     let p = expected (eqb (length f.0.1) 0) _ _ x f.2 in
     let same = same_params b.0.0 c.0 c.1 in
     let t0 = header_takes bytes a.0.0 a.0.1 fits a.1 in
     let t1 = many_takes parameters_from parameter_from after_parameter spelled_parameter (λ from q. IsParameter q) parameters_many (λ from bs q r h k. parameter_takes bs q r h k) 8 0 a.0.1 b.0.0 b.0.1 t0.rest_fits b.1 in
     let t2 = count_takes b.0.1 d.0.0 d.0.1 t1.0.rest_fits d.1 in
-    let t3 = many_takes (blocks_at a.0.0 c.0) (block_at a.0.0 c.0) after_block spelled_block (IsBlock a.0.0 c.0) (blocks_many a.0.0 c.0) (block_takes a.0.0 c.0) d.0.0 0 d.0.1 f.0.0 f.0.1 t2.0.rest_fits f.1 in
+    let t3 = many_takes (blocks_at a.0.0.0 a.0.0.1 c.0) (block_at a.0.0.0 a.0.0.1 c.0) after_block (spelled_block a.0.0.0) (IsBlock a.0.0.0 a.0.0.1 c.0) (blocks_many a.0.0.0 a.0.0.1 c.0) (block_takes a.0.0.0 a.0.0.1 c.0) d.0.0 0 d.0.1 f.0.0 f.0.1 t2.0.rest_fits f.1 in
     let nothing : f.0.1 ≡ [] = nil_from_length f.0.1 (eqb-true (length f.0.1) 0 p.0) in
     let named : Takes a.0.1 (flat_map spelled_parameter c.0) b.0.1 = subst (λ (ps : List Param). Takes a.0.1 (flat_map spelled_parameter ps) b.0.1) same t1.0 in
     let counted : Takes b.0.1 (half (length f.0.0) ++ half 0) d.0.1 = subst (λ (n : ℕ). Takes b.0.1 (half n ++ half 0) d.0.1) (sym t3.1) t2.0 in
-    let e1 = Takes-then bytes (header a.0.0) a.0.1 (flat_map spelled_parameter c.0) b.0.1 t0 named in
-    let e2 = Takes-then bytes (header a.0.0 ++ flat_map spelled_parameter c.0) b.0.1 (half (length f.0.0) ++ half 0) d.0.1 e1 counted in
-    let e3 = Takes-then bytes ((header a.0.0 ++ flat_map spelled_parameter c.0) ++ (half (length f.0.0) ++ half 0)) d.0.1 (flat_map spelled_block f.0.0) f.0.1 e2 t3.0 in
-    let front = (header a.0.0 ++ flat_map spelled_parameter c.0) ++ (half (length f.0.0) ++ half 0) in
-    let ended : bytes ≡ front ++ flat_map spelled_block f.0.0 = e3.parts ∙ ap (λ (r : List ℕ). (front ++ flat_map spelled_block f.0.0) ++ r) nothing ∙ append-nil (front ++ flat_map spelled_block f.0.0) in
-    let whole = ended ∙ ap (λ (t : List ℕ). t ++ flat_map spelled_block f.0.0) (sym (append_assoc (header a.0.0 ++ flat_map spelled_parameter c.0) (half (length f.0.0)) (half 0))) in
-    let made : CertificateView = record { vlen = a.0.0; parameters = c.0; blocks = f.0.0 } in
+    let e1 = Takes-then bytes (header a.0.0.0 a.0.0.1) a.0.1 (flat_map spelled_parameter c.0) b.0.1 t0 named in
+    let e2 = Takes-then bytes (header a.0.0.0 a.0.0.1 ++ flat_map spelled_parameter c.0) b.0.1 (half (length f.0.0) ++ half 0) d.0.1 e1 counted in
+    let e3 = Takes-then bytes ((header a.0.0.0 a.0.0.1 ++ flat_map spelled_parameter c.0) ++ (half (length f.0.0) ++ half 0)) d.0.1 (flat_map (spelled_block a.0.0.0) f.0.0) f.0.1 e2 t3.0 in
+    let front = (header a.0.0.0 a.0.0.1 ++ flat_map spelled_parameter c.0) ++ (half (length f.0.0) ++ half 0) in
+    let ended : bytes ≡ front ++ flat_map (spelled_block a.0.0.0) f.0.0 = e3.parts ∙ ap (λ (r : List ℕ). (front ++ flat_map (spelled_block a.0.0.0) f.0.0) ++ r) nothing ∙ append-nil (front ++ flat_map (spelled_block a.0.0.0) f.0.0) in
+    let whole = ended ∙ ap (λ (t : List ℕ). t ++ flat_map (spelled_block a.0.0.0) f.0.0) (sym (append_assoc (header a.0.0.0 a.0.0.1 ++ flat_map spelled_parameter c.0) (half (length f.0.0)) (half 0))) in
+    let made : CertificateView = record { version = a.0.0.0; vlen = a.0.0.1; parameters = c.0; blocks = f.0.0 } in
     subst (λ (y : CertificateView). IsCertificate y × (bytes ≡ spelling y)) (ok_is made x p.1)
     (record { eight = subst (λ (ps : List Param). length ps ≡ 8) same t1.1; parameters = subst (λ (ps : List Param). AllByRecursion IsParameter ps) same (all_from b.0.0 t1.2); few = few_blocks (length f.0.0) d.0.0 t3.1 t2.1; blocks = t3.2 }, whole)
 
@@ -220,15 +247,15 @@ regroup5 a b c d e = simp append_assoc
 pub certificate_again : (x : CertificateView) → IsCertificate x → certificate_of (spelling x) ≡ Ok x
 unfolding certificate_of spelling parameters_of
 certificate_again x is =
-    let blocks = flat_map spelled_block x.blocks in
+    let blocks = flat_map (spelled_block x.version) x.blocks in
     let counted = half (length x.blocks) ++ (half 0 ++ blocks) in
     let read : parameters_at 8 (flat_map spelled_parameter x.parameters ++ counted) ≡ Ok (x.parameters, counted) =
     subst (λ (n : ℕ). parameters_at n (flat_map spelled_parameter x.parameters ++ counted) ≡ Ok (x.parameters, counted)) is.eight
     (many_again parameters_from parameter_from after_parameter spelled_parameter (λ from q. IsParameter q) parameters_many (λ from q r h. parameter_again q r h) 0 x.parameters counted (from_all x.parameters is.parameters)) in
-    let last : blocks_at x.vlen x.parameters (length x.blocks) 0 blocks ≡ Ok (x.blocks, []) =
-    ap (blocks_at x.vlen x.parameters (length x.blocks) 0) (sym (append-nil blocks)) ∙ many_again (blocks_at x.vlen x.parameters) (block_at x.vlen x.parameters) after_block spelled_block (IsBlock x.vlen x.parameters) (blocks_many x.vlen x.parameters) (block_again x.vlen x.parameters) 0 x.blocks [] is.blocks in
-    ap certificate_of (regroup5 (header x.vlen) (flat_map spelled_parameter x.parameters) (half (length x.blocks)) (half 0) blocks)
-    ∙ rw (header_again x.vlen (flat_map spelled_parameter x.parameters ++ counted), read, valid_all x.parameters is.parameters, count_again (length x.blocks) blocks is.few, last) refl
+    let last : blocks_at x.version x.vlen x.parameters (length x.blocks) 0 blocks ≡ Ok (x.blocks, []) =
+    ap (blocks_at x.version x.vlen x.parameters (length x.blocks) 0) (sym (append-nil blocks)) ∙ many_again (blocks_at x.version x.vlen x.parameters) (block_at x.version x.vlen x.parameters) after_block (spelled_block x.version) (IsBlock x.version x.vlen x.parameters) (blocks_many x.version x.vlen x.parameters) (block_again x.version x.vlen x.parameters) 0 x.blocks [] is.blocks in
+    ap certificate_of (regroup5 (header x.version x.vlen) (flat_map spelled_parameter x.parameters) (half (length x.blocks)) (half 0) blocks)
+    ∙ rw (header_again x.version x.vlen (flat_map spelled_parameter x.parameters ++ counted), read, valid_all x.parameters is.parameters, count_again (length x.blocks) blocks is.few, last) refl
 
 -- Two certificates of one spelling are one.
 pub one_certificate : (c d : CertificateView) → IsCertificate c → IsCertificate d → spelling c ≡ spelling d → c ≡ d

@@ -1,21 +1,28 @@
 -- What a certificate states, without where it lies in memory, and what makes it one.
 use Rattle.std.specs.Prelude.{ℕ, ◌+◌, ◌*◌, ◌-◌, ◌%◌, ◌^◌, ◌==◌, Bool, true, false, ◌&&◌, ◌||◌, not, nat_le, nat_lt, is_some, List, [], ◌∷◌, length, Option, Some, None, if◌then◌else◌}
 use Rattle.std.specs.Prelude.{◌≡◌, ◌<◌, ◌≤◌, IsTrue}
+use Rattle.cert_note.specs.declared.values.Version.TheVariants.{V1, V2}
 use Rattle.std.specs.List.{list_all, list_any, slice_get, AllByRecursion}
 use Rattle.std.specs.Option.{option_map_or}
-use Rattle.cert_note.specs.Words.{Param, Vlen, Term, Budget, VectorFact, Equality, RegisterFact, Block, Contents}
+use Rattle.cert_note.specs.Words.{Version, Param, Vlen, Term, Budget, VectorFact, OrderFact, Equality, RegisterFact, Block, Contents}
 use Rattle.region_mem.specs.Parameter.{is_valid}
 use Rattle.region_mem.specs.declared.parameter.Param.TheVariants as parameter
 use Rattle.vreg_groups.specs.VectorLength.{vlenb_of}
 use Rattle.vreg_groups.specs.VectorType.{vtype_of}
 
 pub record CertificateView : Type 0 where
+  pub version : Version
   pub vlen : Vlen
   pub parameters : List Param
   pub blocks : List Block
 
 abbrev pub view : {A : Type 0} → Contents A → CertificateView
-view c = record { vlen = c.vlen; parameters = c.parameters; blocks = c.blocks.items }
+view c = record {
+  version = c.version;
+  vlen = c.vlen;
+  parameters = c.parameters;
+  blocks = c.blocks.items;
+}
 
 -- The place has a scalar.
 unfoldable pub is_scalar : Param → Bool
@@ -37,6 +44,12 @@ is_full bits low high = (low == 0) && (high == 2 ^ bits - 1)
 unfoldable pub is_budget : ℕ → ℕ → Bool
 is_budget factor register =
     if factor == 0 then register == 0 else (nat_le 1 register && nat_le register 31)
+
+-- There is a second factor only beside a first one; it has a register above the first, and else none is named.
+unfoldable pub is_second : ℕ → ℕ → ℕ → ℕ → Bool
+is_second factor register second second_register =
+    if second == 0 then second_register == 0
+    else (nat_lt 0 factor && nat_lt register second_register && nat_le second_register 31)
 
 -- 8, 16 or 32 bits
 unfoldable pub is_width : ℕ → Bool
@@ -70,12 +83,23 @@ is_free facts (Some equality) =
 unfoldable pub are_free : List RegisterFact → Bool
 are_free facts = list_all (λ fact. is_free facts fact.equality) facts
 
+-- A register from a number on, or vl, that has no equality.
+unfoldable pub is_greater : List RegisterFact → ℕ → ℕ → Bool
+is_greater facts from greater =
+    nat_le from greater && nat_le greater 32 && not (is_equated facts greater)
+
+-- Another register, or vl, that has no equality.
+unfoldable pub is_lesser : List RegisterFact → ℕ → ℕ → Bool
+is_lesser facts greater lesser =
+    nat_le 1 lesser && nat_le lesser 32 && not (lesser == greater) && not (is_equated facts lesser)
+
 -- Each item is valid from the number that the one before it leaves.
 abbrev pub AllFrom : {A : Type 0} → (ℕ → A → Type 0) → (A → ℕ) → ℕ → List A → Type 0
 AllFrom Valid next from [] = Unit {0}
 AllFrom Valid next from (x ∷ xs) = Valid from x × AllFrom Valid next (next x) xs
 
--- Terms rise by their atoms, facts on registers by their numbers, facts on groups by their registers, blocks by their starts.
+-- Terms rise by their atoms, facts on registers by their numbers, facts on groups by their registers, orders by their
+-- greater registers, blocks by their starts.
 abbrev pub after_term : Term → ℕ
 after_term term = term.atom + 1
 
@@ -84,6 +108,9 @@ after_fact fact = fact.number + 1
 
 abbrev pub after_vector : VectorFact → ℕ
 after_vector fact = fact.register + fact.registers
+
+abbrev pub after_order : OrderFact → ℕ
+after_order order = order.greater + 1
 
 abbrev pub after_block : Block → ℕ
 after_block block = block.start + 1
@@ -124,21 +151,35 @@ pub record IsBudgetOf (budget : Budget) : Type 0 where
   pub constant : budget.constant < 2 ^ 32
   pub factor : budget.factor < 2 ^ 32
   pub register : IsTrue (is_budget budget.factor budget.register)
+  pub second_factor : budget.second_factor < 2 ^ 32
+  pub second : IsTrue (is_second budget.factor budget.register budget.second_factor budget.second_register)
+
+pub record IsOrderFact (facts : List RegisterFact) (from : ℕ) (order : OrderFact) : Type 0 where
+  pub greater : IsTrue (is_greater facts from order.greater)
+  pub lesser : IsTrue (is_lesser facts order.greater order.lesser)
 
 abbrev pub IsVtype : Option ℕ → Type 0
 IsVtype None = Unit {0}
 IsVtype (Some vtype) = IsTrue (is_some (vtype_of vtype))
 
-pub record IsBlock (vlen : Vlen) (params : List Param) (from : ℕ) (block : Block) : Type 0 where
+-- Only version 2 can say these.
+abbrev pub IsOf : Version → Block → Type 0
+IsOf V1 block = (block.budget.second_factor ≡ 0) × (block.orders.items ≡ [])
+IsOf V2 block = Unit {0}
+
+pub record IsBlock (version : Version) (vlen : Vlen) (params : List Param) (from : ℕ) (block : Block) : Type 0 where
   pub start : IsTrue (nat_le from block.start && (block.start % 4 == 0))
   pub start_fits : block.start < 2 ^ 32
   pub budget : IsBudgetOf block.budget
   pub vtype : IsVtype block.vtype
   pub few_registers : length block.registers.items ≤ 32
   pub few_vectors : length block.vectors.items ≤ 32
+  pub few_orders : length block.orders.items ≤ 32
   pub registers : AllFrom (IsRegisterFact params) after_fact 1 block.registers.items
   pub vectors : AllFrom (IsVectorFact vlen) after_vector 0 block.vectors.items
+  pub orders : AllFrom (IsOrderFact block.registers.items) after_order 1 block.orders.items
   pub free : IsTrue (are_free block.registers.items)
+  pub of : IsOf version block
 
 -- A scalar's numbers fit 32 bits; the size of a buffer that is valid does.
 abbrev pub FitsWords : Param → Type 0
@@ -156,4 +197,4 @@ pub record IsCertificate (certificate : CertificateView) : Type 0 where
   pub parameters : AllByRecursion IsParameter certificate.parameters
   pub few : length certificate.blocks ≤ 1024
   pub blocks :
-      AllFrom (IsBlock certificate.vlen certificate.parameters) after_block 0 certificate.blocks
+      AllFrom (IsBlock certificate.version certificate.vlen certificate.parameters) after_block 0 certificate.blocks

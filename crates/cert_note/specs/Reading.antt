@@ -1,16 +1,17 @@
 -- Reading from the first byte to the last, with the first fault that is met.
-use Rattle.std.specs.Prelude.{◌≡◌, ◌⊎◌, ℕ, zero, suc, ◌+◌, ◌%◌, ◌==◌, Bool, true, false, ◌&&◌, not, nat_le, nat_lt, List, [], ◌∷◌, length, take, drop, Option, Some, None, is_some, Result, Ok, Err, if◌then◌else◌, ok_or}
+use Rattle.std.specs.Prelude.{◌≡◌, ◌⊎◌, ℕ, zero, suc, ◌+◌, ◌%◌, ◌==◌, Bool, true, false, ◌&&◌, ◌||◌, not, nat_le, nat_lt, List, [], ◌∷◌, length, take, drop, Option, Some, None, is_some, Result, Ok, Err, if◌then◌else◌, ok_or}
 use Rattle.std.specs.Int.{Width, w16, w32, byte_len, from_le_bytes}
 use Rattle.region_mem.specs.Parameter.{parameters_of}
 use Rattle.region_mem.specs.declared.layout.TheConstants.{MAX_BUFFER_SIZE}
-use Rattle.cert_note.specs.Words.{Mode, Param, Vlen, Term, Budget, VectorFact, Group, Equality, RegisterFact, Block}
+use Rattle.cert_note.specs.Words.{Version, Mode, Param, Vlen, Term, Budget, VectorFact, OrderFact, Counts, Group, Equality, RegisterFact, Block}
 use Rattle.region_mem.specs.declared.parameter.Mode.TheVariants.{Read, ReadWrite}
 use Rattle.region_mem.specs.declared.parameter.Param.TheVariants as parameter
 use Rattle.cert_note.specs.declared.refusals.CertError.{CertError}
 use Rattle.cert_note.specs.declared.refusals.CertError.TheVariants as error
-use Rattle.vreg_groups.specs.declared.vector_length.Vlen.TheVariants.{V128, V256}
+use Rattle.cert_note.specs.declared.values.Version.TheVariants.{V1, V2}
+use Rattle.vreg_groups.specs.declared.vector_length.Vlen.TheVariants.{V128, V256, V512}
 use Rattle.vreg_groups.specs.VectorType.{vtype_of}
-use Rattle.cert_note.specs.Certificate.{CertificateView, is_atom, is_full, is_budget, is_width, is_group, is_count, is_interval, are_free}
+use Rattle.cert_note.specs.Certificate.{CertificateView, is_atom, is_full, is_budget, is_second, is_width, is_group, is_count, is_interval, is_greater, is_lesser, are_free}
 
 infixl 10 ◌>>=◌
 abbrev pub ◌>>=◌ :
@@ -58,17 +59,22 @@ zeros_at fault bytes = do
   _ ← expect (number.0 == 0) fault
   Ok number.1
 
-unfoldable pub vlen_of : ℕ → Option Vlen
-vlen_of code = if code == 1 then Some V128 else (if code == 2 then Some V256 else None)
+unfoldable pub version_of : ℕ → Option Version
+version_of number = if number == 1 then Some V1 else (if number == 2 then Some V2 else None)
 
-unfoldable pub header_at : List ℕ → Result (Vlen × List ℕ) CertError
+unfoldable pub vlen_of : ℕ → Option Vlen
+vlen_of code =
+    if code == 1 then Some V128
+    else (if code == 2 then Some V256 else (if code == 3 then Some V512 else None))
+
+unfoldable pub header_at : List ℕ → Result ((Version × Vlen) × List ℕ) CertError
 header_at bytes = do
-  version ← number_at w16 bytes
-  _ ← expect (version.0 == 1) error.Version
-  code ← byte_at version.1
+  number ← number_at w16 bytes
+  version ← ok_or (version_of number.0) error.Version
+  code ← byte_at number.1
   vlen ← ok_or (vlen_of code.0) error.Version
   rest ← zero_at error.Version code.1
-  Ok (vlen, rest)
+  Ok ((version, vlen), rest)
 
 -- the parameter of a kind, a mode and two numbers, where they are one
 unfoldable pub mode_of : ℕ → ℕ → Option (Option Mode)
@@ -212,13 +218,49 @@ vectors_at vlen (suc n) from bytes = do
   others ← vectors_at vlen n (first.0.register + first.0.registers) first.1
   Ok (first.0 ∷ others.0, others.1)
 
-unfoldable pub budget_at : List ℕ → Result (Budget × List ℕ) CertError
-budget_at bytes = do
+-- a budget of one register
+unfoldable pub single_at : List ℕ → Result (Budget × List ℕ) CertError
+single_at bytes = do
   constant ← number_at w32 bytes
   factor ← number_at w32 constant.1
   register ← byte_at factor.1
   _ ← expect (is_budget factor.0 register.0) error.Budget
-  Ok (record { constant = constant.0; factor = factor.0; register = register.0 }, register.1)
+  Ok (
+    record {
+      constant = constant.0;
+      factor = factor.0;
+      register = register.0;
+      second_factor = 0;
+      second_register = 0;
+    },
+    register.1,
+  )
+
+-- a budget that may have a second register
+unfoldable pub double_at : List ℕ → Result (Budget × List ℕ) CertError
+double_at bytes = do
+  constant ← number_at w32 bytes
+  factor ← number_at w32 constant.1
+  second ← number_at w32 factor.1
+  _ ← expect ((second.0 == 0) || nat_lt 0 factor.0) error.Budget
+  register ← byte_at second.1
+  _ ← expect (is_budget factor.0 register.0) error.Budget
+  other ← byte_at register.1
+  _ ← expect (is_second factor.0 register.0 second.0 other.0) error.Budget
+  Ok (
+    record {
+      constant = constant.0;
+      factor = factor.0;
+      register = register.0;
+      second_factor = second.0;
+      second_register = other.0;
+    },
+    other.1,
+  )
+
+unfoldable pub budget_at : Version → List ℕ → Result (Budget × List ℕ) CertError
+budget_at V1 bytes = single_at bytes
+budget_at V2 bytes = double_at bytes
 
 unfoldable pub known_vtype : ℕ → ℕ → Option (Option ℕ)
 known_vtype known vtype =
@@ -233,28 +275,60 @@ vtype_at bytes = do
   vtype ← ok_or (known_vtype known.0 bits.0) error.Fact
   Ok (vtype, bits.1)
 
--- how many facts there are on registers, and on groups
-unfoldable pub counts_at : List ℕ → Result ((ℕ × ℕ) × List ℕ) CertError
-counts_at bytes = do
-  registers ← byte_at bytes
-  _ ← expect (nat_le registers.0 32) error.TooMany
-  vectors ← byte_at registers.1
-  _ ← expect (nat_le vectors.0 32) error.TooMany
-  one ← zero_at error.TooMany vectors.1
+-- how many facts there are: at most 32
+unfoldable pub few_at : List ℕ → Result (ℕ × List ℕ) CertError
+few_at bytes = do
+  count ← byte_at bytes
+  _ ← expect (nat_le count.0 32) error.TooMany
+  Ok (count.0, count.1)
+
+-- how many orders there are: version 1 has zeros in their place
+unfoldable pub order_count_at : Version → List ℕ → Result (ℕ × List ℕ) CertError
+order_count_at V1 bytes = do
+  one ← zero_at error.TooMany bytes
   two ← zero_at error.TooMany one
-  rest ← zero_at error.TooMany two
-  Ok ((registers.0, vectors.0), rest)
+  Ok (0, two)
+order_count_at V2 bytes = few_at bytes
+
+-- how many facts there are on registers, on groups, and of orders
+unfoldable pub counts_at : Version → List ℕ → Result (Counts × List ℕ) CertError
+counts_at version bytes = do
+  registers ← few_at bytes
+  vectors ← few_at registers.1
+  orders ← order_count_at version vectors.1
+  rest ← zero_at error.TooMany orders.1
+  Ok (record { registers = registers.0; vectors = vectors.0; orders = orders.0 }, rest)
+
+-- an order whose greater register is not below a number
+unfoldable pub order_at : List RegisterFact → ℕ → List ℕ → Result (OrderFact × List ℕ) CertError
+order_at facts from bytes = do
+  greater ← byte_at bytes
+  _ ← expect (is_greater facts from greater.0) error.Order
+  lesser ← byte_at greater.1
+  _ ← expect (is_lesser facts greater.0 lesser.0) error.Order
+  Ok (record { greater = greater.0; lesser = lesser.0 }, lesser.1)
+
+-- orders by rising greater register
+unfoldable pub orders_at :
+    List RegisterFact → ℕ → ℕ → List ℕ → Result (List OrderFact × List ℕ) CertError
+orders_at facts zero from bytes = Ok ([], bytes)
+orders_at facts (suc n) from bytes = do
+  first ← order_at facts from bytes
+  others ← orders_at facts n (first.0.greater + 1) first.1
+  Ok (first.0 ∷ others.0, others.1)
 
 -- a block whose start is not below an address
-unfoldable pub block_at : Vlen → List Param → ℕ → List ℕ → Result (Block × List ℕ) CertError
-block_at vlen params from bytes = do
+unfoldable pub block_at :
+    Version → Vlen → List Param → ℕ → List ℕ → Result (Block × List ℕ) CertError
+block_at version vlen params from bytes = do
   start ← number_at w32 bytes
   _ ← expect (nat_le from start.0 && (start.0 % 4 == 0)) error.BlockOrder
-  budget ← budget_at start.1
+  budget ← budget_at version start.1
   vtype ← vtype_at budget.1
-  counts ← counts_at vtype.1
-  registers ← facts_at params counts.0.0 1 counts.1
-  vectors ← vectors_at vlen counts.0.1 0 registers.1
+  counts ← counts_at version vtype.1
+  registers ← facts_at params counts.0.registers 1 counts.1
+  vectors ← vectors_at vlen counts.0.vectors 0 registers.1
+  orders ← orders_at registers.0 counts.0.orders 1 vectors.1
   _ ← expect (are_free registers.0) error.Equality
   Ok (
     record {
@@ -263,17 +337,18 @@ block_at vlen params from bytes = do
       vtype = vtype.0;
       registers = record { items = registers.0 };
       vectors = record { items = vectors.0 };
+      orders = record { items = orders.0 };
     },
-    vectors.1,
+    orders.1,
   )
 
 -- blocks by rising start
 unfoldable pub blocks_at :
-    Vlen → List Param → ℕ → ℕ → List ℕ → Result (List Block × List ℕ) CertError
-blocks_at vlen params zero from bytes = Ok ([], bytes)
-blocks_at vlen params (suc n) from bytes = do
-  first ← block_at vlen params from bytes
-  others ← blocks_at vlen params n (first.0.start + 1) first.1
+    Version → Vlen → List Param → ℕ → ℕ → List ℕ → Result (List Block × List ℕ) CertError
+blocks_at version vlen params zero from bytes = Ok ([], bytes)
+blocks_at version vlen params (suc n) from bytes = do
+  first ← block_at version vlen params from bytes
+  others ← blocks_at version vlen params n (first.0.start + 1) first.1
   Ok (first.0 ∷ others.0, others.1)
 
 unfoldable pub count_at : List ℕ → Result (ℕ × List ℕ) CertError
@@ -286,13 +361,18 @@ count_at bytes = do
 -- the certificate that is spelled by all of the bytes
 unfoldable pub certificate_of : List ℕ → Result CertificateView CertError
 certificate_of bytes = do
-  vlen ← header_at bytes
-  params ← parameters_at 8 vlen.1
+  header ← header_at bytes
+  params ← parameters_at 8 header.1
   parameters ← ok_or (parameters_of params.0) error.Parameter
   count ← count_at params.1
-  blocks ← blocks_at vlen.0 parameters count.0 0 count.1
+  blocks ← blocks_at header.0.0 header.0.1 parameters count.0 0 count.1
   _ ← expect (length blocks.1 == 0) error.TrailingBytes
-  Ok (record { vlen = vlen.0; parameters = parameters; blocks = blocks.0 })
+  Ok (record {
+    version = header.0.0;
+    vlen = header.0.1;
+    parameters = parameters;
+    blocks = blocks.0;
+  })
 
 -- the bytes behind what was read
 abbrev pub rest_of : {A : Type 0} → Result (A × List ℕ) CertError → Result (List ℕ) CertError

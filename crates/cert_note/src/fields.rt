@@ -3,11 +3,11 @@ ghost use Rattle.std.specs.Prelude.{◌≡◌, ◌==◌, ◌&&◌, ◌≤◌, �
 ghost use Rattle.region_mem.specs.Parameter.{parameters_of};
 ghost use Rattle.cert_note.specs.declared.refusals.CertError.TheVariants.{Parameter};
 ghost use Rattle.std.specs.Int.{w16, w32};
-ghost use Rattle.cert_note.specs.Certificate.{is_width, is_group, is_count, is_interval, is_full, is_budget, is_atom, is_scalar};
-ghost use Rattle.cert_note.specs.Reading.{Gives, expect, byte_at, number_at, zero_at, zeros_at, vlen_of, header_at, mode_of, is_first_number, is_second_number, param_of, parameter_at, parameters_at, term_at, group_at, vector_at, budget_at, known_vtype, vtype_at, counts_at, count_at};
+ghost use Rattle.cert_note.specs.Certificate.{is_width, is_group, is_count, is_interval, is_full, is_budget, is_second, is_atom, is_scalar};
+ghost use Rattle.cert_note.specs.Reading.{Gives, expect, byte_at, number_at, zero_at, zeros_at, version_of, vlen_of, header_at, mode_of, is_first_number, is_second_number, param_of, parameter_at, parameters_at, term_at, group_at, vector_at, single_at, double_at, budget_at, known_vtype, vtype_at, few_at, order_count_at, counts_at, count_at};
 
 use crate::refusals::CertError;
-use crate::values::{Budget, Group, Term, VectorFact};
+use crate::values::{Budget, Counts, Group, Term, VectorFact, Version};
 use region_mem::{MAX_BUFFER_SIZE, Mode, Param, Parameters};
 use vreg_groups::{Vlen, Vtype};
 
@@ -69,6 +69,19 @@ fn zeros_at(fault: CertError, bytes: &[u8]) -> Result<&[u8], CertError>
     Ok(rest)
 }
 
+#[tactic(auto, unfolding(crate::specs::Reading::version_of))]
+fn version_of(number: u16) -> Option<Version>
+    ensures { result ≡ version_of number }
+{
+    if number == 1 {
+        Some(Version::V1)
+    } else if number == 2 {
+        Some(Version::V2)
+    } else {
+        None
+    }
+}
+
 #[tactic(auto, unfolding(crate::specs::Reading::vlen_of))]
 fn vlen_of(code: u8) -> Option<Vlen>
     ensures { result ≡ vlen_of code }
@@ -77,21 +90,23 @@ fn vlen_of(code: u8) -> Option<Vlen>
         Some(Vlen::V128)
     } else if code == 2 {
         Some(Vlen::V256)
+    } else if code == 3 {
+        Some(Vlen::V512)
     } else {
         None
     }
 }
 
 #[tactic(auto, unfolding(crate::specs::Reading::header_at))]
-pub(crate) fn header_at(bytes: &[u8]) -> Result<(Vlen, &[u8]), CertError>
+pub(crate) fn header_at(bytes: &[u8]) -> Result<((Version, Vlen), &[u8]), CertError>
     ensures { Gives (λ x. (x.0, x.1.now)) result (header_at bytes.now) }
 {
-    let (version, rest) = half_at(bytes)?;
-    expect(version == 1, CertError::Version)?;
+    let (number, rest) = half_at(bytes)?;
+    let version = version_of(number).ok_or(CertError::Version)?;
     let (code, rest) = byte_at(rest)?;
     let vlen = vlen_of(code).ok_or(CertError::Version)?;
     let rest = zero_at(CertError::Version, rest)?;
-    Ok((vlen, rest))
+    Ok(((version, vlen), rest))
 }
 
 #[tactic(auto, unfolding(crate::specs::Reading::mode_of))]
@@ -352,22 +367,68 @@ fn is_budget(factor: u32, register: u8) -> bool
     }
 }
 
-#[tactic(auto, unfolding(crate::specs::Reading::budget_at))]
-pub(crate) fn budget_at(bytes: &[u8]) -> Result<(Budget, &[u8]), CertError>
-    ensures { Gives (λ x. (x.0, x.1.now)) result (budget_at bytes.now) }
+#[tactic(auto, unfolding(crate::specs::Certificate::is_second))]
+fn is_second(factor: u32, register: u8, second: u32, second_register: u8) -> bool
+    ensures { result ≡ is_second factor register second second_register }
+{
+    if second == 0 {
+        second_register == 0
+    } else {
+        0 < factor && register < second_register && second_register <= 31
+    }
+}
+
+#[tactic(auto, unfolding(crate::specs::Reading::single_at))]
+fn single_at(bytes: &[u8]) -> Result<(Budget, &[u8]), CertError>
+    ensures { Gives (λ x. (x.0, x.1.now)) result (single_at bytes.now) }
 {
     let (constant, rest) = word_at(bytes)?;
     let (factor, rest) = word_at(rest)?;
     let (register, rest) = byte_at(rest)?;
     expect(is_budget(factor, register), CertError::Budget)?;
-    Ok((
-        Budget {
-            constant,
-            factor,
-            register,
-        },
-        rest,
-    ))
+    let budget = Budget {
+        constant,
+        factor,
+        register,
+        second_factor: 0,
+        second_register: 0,
+    };
+    Ok((budget, rest))
+}
+
+#[tactic(auto, unfolding(crate::specs::Reading::double_at))]
+fn double_at(bytes: &[u8]) -> Result<(Budget, &[u8]), CertError>
+    ensures { Gives (λ x. (x.0, x.1.now)) result (double_at bytes.now) }
+{
+    let (constant, rest) = word_at(bytes)?;
+    let (factor, rest) = word_at(rest)?;
+    let (second_factor, rest) = word_at(rest)?;
+    expect(second_factor == 0 || 0 < factor, CertError::Budget)?;
+    let (register, rest) = byte_at(rest)?;
+    expect(is_budget(factor, register), CertError::Budget)?;
+    let (second_register, rest) = byte_at(rest)?;
+    expect(
+        is_second(factor, register, second_factor, second_register),
+        CertError::Budget,
+    )?;
+    let budget = Budget {
+        constant,
+        factor,
+        register,
+        second_factor,
+        second_register,
+    };
+    Ok((budget, rest))
+}
+
+#[tactic(auto, unfolding(crate::specs::Reading::budget_at))]
+pub(crate) fn budget_at(version: Version, bytes: &[u8]) -> Result<(Budget, &[u8]), CertError>
+    ensures { Gives (λ x. (x.0, x.1.now)) result (budget_at version bytes.now) }
+{
+    match version {
+        Version::V1 => single_at(bytes),
+        Version::V2 => double_at(bytes),
+    }
 }
 
 #[tactic(auto, unfolding(crate::specs::Reading::known_vtype))]
@@ -398,19 +459,47 @@ pub(crate) fn vtype_at(bytes: &[u8]) -> Result<(Option<u8>, &[u8]), CertError>
     Ok((vtype, rest))
 }
 
-#[tactic(auto, unfolding(crate::specs::Reading::counts_at))]
-pub(crate) fn counts_at(bytes: &[u8]) -> Result<((u8, u8), &[u8]), CertError>
-    ensures counts { Gives (λ x. (x.0, x.1.now)) result (counts_at bytes.now) }
-    ensures few { IfOk result (λ x. (x.0.0 ≤ 32) × (x.0.1 ≤ 32)) }
+#[tactic(auto, unfolding(crate::specs::Reading::few_at))]
+fn few_at(bytes: &[u8]) -> Result<(u8, &[u8]), CertError>
+    ensures count { Gives (λ x. (x.0, x.1.now)) result (few_at bytes.now) }
+    ensures few { IfOk result (λ x. x.0 ≤ 32) }
 {
-    let (registers, rest) = byte_at(bytes)?;
-    expect(registers <= 32, CertError::TooMany)?;
-    let (vectors, rest) = byte_at(rest)?;
-    expect(vectors <= 32, CertError::TooMany)?;
+    let (count, rest) = byte_at(bytes)?;
+    expect(count <= 32, CertError::TooMany)?;
+    Ok((count, rest))
+}
+
+/// How many orders there are: in version 1 none, and zeros stand there.
+#[tactic(auto, unfolding(crate::specs::Reading::order_count_at))]
+fn order_count_at(version: Version, bytes: &[u8]) -> Result<(u8, &[u8]), CertError>
+    ensures count { Gives (λ x. (x.0, x.1.now)) result (order_count_at version bytes.now) }
+    ensures few { IfOk result (λ x. x.0 ≤ 32) }
+{
+    match version {
+        Version::V1 => {
+            let rest = zero_at(CertError::TooMany, bytes)?;
+            let rest = zero_at(CertError::TooMany, rest)?;
+            Ok((0, rest))
+        }
+        Version::V2 => few_at(bytes),
+    }
+}
+
+#[tactic(auto, unfolding(crate::specs::Reading::counts_at))]
+pub(crate) fn counts_at(version: Version, bytes: &[u8]) -> Result<(Counts, &[u8]), CertError>
+    ensures counts { Gives (λ x. (x.0, x.1.now)) result (counts_at version bytes.now) }
+    ensures few { IfOk result (λ x. (x.0.registers ≤ 32) × (x.0.vectors ≤ 32) × (x.0.orders ≤ 32)) }
+{
+    let (registers, rest) = few_at(bytes)?;
+    let (vectors, rest) = few_at(rest)?;
+    let (orders, rest) = order_count_at(version, rest)?;
     let rest = zero_at(CertError::TooMany, rest)?;
-    let rest = zero_at(CertError::TooMany, rest)?;
-    let rest = zero_at(CertError::TooMany, rest)?;
-    Ok(((registers, vectors), rest))
+    let counts = Counts {
+        registers,
+        vectors,
+        orders,
+    };
+    Ok((counts, rest))
 }
 
 #[tactic(auto, unfolding(crate::specs::Reading::count_at))]

@@ -11,6 +11,9 @@ mod writing;
 
 pub use reading::{one_spelling, read};
 pub use refusals::CertError;
-pub use values::{Block, Budget, Certificate, Contents, Equality, RegisterFact, Term, VectorFact};
+pub use values::{
+    Block, Budget, Certificate, Contents, Equality, OrderFact, RegisterFact, Term, VectorFact,
+    Version,
+};
 pub use vreg_groups::Vlen;
 pub use writing::write;

@@ -2,13 +2,15 @@
 ghost use Rattle.std.specs.Prelude.{◌≡◌, ◌≤◌, ◌==◌, ◌&&◌, not, is_some, IfOk, IfErr, IsOk, MatchResult, Err};
 ghost use Rattle.cert_note.specs.Spelling.{spelling};
 ghost use Rattle.std.specs.List.{list_all, list_any};
-ghost use Rattle.cert_note.specs.Certificate.{view, CertificateView, IsCertificate, is_equated, is_free, are_free};
-ghost use Rattle.cert_note.specs.Reading.{Gives, GivesOrNoMemory, rest_of, terms_at, sum_at, none_at, some_at, equality_at, fact_at, facts_at, vectors_at, block_at, blocks_at, certificate_of};
+ghost use Rattle.cert_note.specs.Certificate.{view, CertificateView, IsCertificate, is_equated, is_free, is_greater, is_lesser, are_free};
+ghost use Rattle.cert_note.specs.Reading.{Gives, GivesOrNoMemory, rest_of, terms_at, sum_at, none_at, some_at, equality_at, fact_at, facts_at, vectors_at, order_at, orders_at, block_at, blocks_at, certificate_of};
 
 use crate::fields;
 use crate::fields::{byte_at, expect, word_at};
 use crate::refusals::CertError;
-use crate::values::{Block, Certificate, Contents, Equality, RegisterFact, Term, VectorFact};
+use crate::values::{
+    Block, Certificate, Contents, Equality, OrderFact, RegisterFact, Term, VectorFact, Version,
+};
 use arrayvec::ArrayVec;
 use region_mem::Parameters;
 use std::alloc::Allocator;
@@ -181,22 +183,74 @@ fn are_free(facts: &[RegisterFact]) -> bool
     facts.iter().all(|fact| is_free(facts, &fact.equality))
 }
 
+#[tactic(auto, unfolding(crate::specs::Certificate::is_greater))]
+fn is_greater(facts: &[RegisterFact], from: u16, greater: u8) -> bool
+    ensures { result ≡ is_greater facts.now from greater }
+{
+    from <= u16::from(greater) && greater <= 32 && !is_equated(facts, greater)
+}
+
+#[tactic(auto, unfolding(crate::specs::Certificate::is_lesser))]
+fn is_lesser(facts: &[RegisterFact], greater: u8, lesser: u8) -> bool
+    ensures { result ≡ is_lesser facts.now greater lesser }
+{
+    1 <= lesser && lesser <= 32 && lesser != greater && !is_equated(facts, lesser)
+}
+
+#[tactic(auto, unfolding(crate::specs::Reading::order_at))]
+fn order_at<'a>(
+    facts: &[RegisterFact],
+    from: u16,
+    bytes: &'a [u8],
+) -> Result<(OrderFact, &'a [u8]), CertError>
+    ensures { Gives (λ x. (x.0, x.1.now)) result (order_at facts.now from bytes.now) }
+{
+    let (greater, rest) = byte_at(bytes)?;
+    expect(is_greater(facts, from, greater), CertError::Order)?;
+    let (lesser, rest) = byte_at(rest)?;
+    expect(is_lesser(facts, greater, lesser), CertError::Order)?;
+    Ok((OrderFact { greater, lesser }, rest))
+}
+
+fn orders_at<'a>(
+    facts: &[RegisterFact],
+    count: u8,
+    bytes: &'a [u8],
+) -> Result<(ArrayVec<OrderFact, 32>, &'a [u8]), CertError>
+    requires { count ≤ 32 }
+    ensures { Gives (λ x. (x.0.items, x.1.now)) result (orders_at facts.now count 1 bytes.now) }
+{
+    let mut orders = ArrayVec::new();
+    let mut from = 1;
+    let mut rest = bytes;
+    for _ in 0..count {
+        let (order, after) = order_at(facts, from, rest)?;
+        from = order.greater as u16 + 1;
+        orders.push(order);
+        rest = after;
+    }
+    Ok((orders, rest))
+}
+
 #[tactic(auto, unfolding(crate::specs::Reading::block_at))]
 fn block_at<'a>(
+    version: Version,
     vlen: Vlen,
     parameters: &Parameters,
     from: u64,
     bytes: &'a [u8],
 ) -> Result<(Block, &'a [u8]), CertError>
-    ensures { Gives (λ x. (x.0, x.1.now)) result (block_at vlen parameters.now from bytes.now) }
+    ensures { Gives (λ x. (x.0, x.1.now)) result
+        (block_at version vlen parameters.now from bytes.now) }
 {
     let (start, rest) = word_at(bytes)?;
     expect(fields::is_start(from, start), CertError::BlockOrder)?;
-    let (budget, rest) = fields::budget_at(rest)?;
+    let (budget, rest) = fields::budget_at(version, rest)?;
     let (vtype, rest) = fields::vtype_at(rest)?;
-    let (counts, rest) = fields::counts_at(rest)?;
-    let (registers, rest) = facts_at(parameters, counts.0, rest)?;
-    let (vectors, rest) = vectors_at(vlen, counts.1, rest)?;
+    let (counts, rest) = fields::counts_at(version, rest)?;
+    let (registers, rest) = facts_at(parameters, counts.registers, rest)?;
+    let (vectors, rest) = vectors_at(vlen, counts.vectors, rest)?;
+    let (orders, rest) = orders_at(registers.as_slice(), counts.orders, rest)?;
     expect(are_free(registers.as_slice()), CertError::Equality)?;
     let block = Block {
         start,
@@ -204,24 +258,26 @@ fn block_at<'a>(
         vtype,
         registers,
         vectors,
+        orders,
     };
     Ok((block, rest))
 }
 
 /// The bytes behind the blocks, or the first fault in them. It takes no memory: of a block only its start is kept.
 fn behind_blocks<'a>(
+    version: Version,
     vlen: Vlen,
     parameters: &Parameters,
     count: u16,
     bytes: &'a [u8],
 ) -> Result<&'a [u8], CertError>
     ensures { Gives (λ x. x.now) result
-        (rest_of (blocks_at vlen parameters.now count 0 bytes.now)) }
+        (rest_of (blocks_at version vlen parameters.now count 0 bytes.now)) }
 {
     let mut from = 0;
     let mut rest = bytes;
     for _ in 0..count {
-        let (block, after) = block_at(vlen, parameters, from, rest)?;
+        let (block, after) = block_at(version, vlen, parameters, from, rest)?;
         from = block.start as u64 + 1;
         rest = after;
     }
@@ -230,19 +286,20 @@ fn behind_blocks<'a>(
 
 fn blocks_at<'a, A: Allocator>(
     alloc: A,
+    version: Version,
     vlen: Vlen,
     parameters: &Parameters,
     count: u16,
     bytes: &'a [u8],
 ) -> Result<(Vec<Block, A>, &'a [u8]), CertError>
     ensures { GivesOrNoMemory (λ x. (x.0.items, x.1.now)) result
-        (blocks_at vlen parameters.now count 0 bytes.now) }
+        (blocks_at version vlen parameters.now count 0 bytes.now) }
 {
     let mut blocks = Vec::new(alloc);
     let mut from = 0;
     let mut rest = bytes;
     for _ in 0..count {
-        let (block, after) = block_at(vlen, parameters, from, rest)?;
+        let (block, after) = block_at(version, vlen, parameters, from, rest)?;
         from = block.start as u64 + 1;
         blocks.push(block)?;
         rest = after;
@@ -256,11 +313,11 @@ fn check(bytes: &[u8]) -> Result<(), CertError>
     ensures { MatchResult result (λ _. IsOk (certificate_of bytes.now))
         (λ e. certificate_of bytes.now ≡ Err e) }
 {
-    let (vlen, rest) = fields::header_at(bytes)?;
+    let ((version, vlen), rest) = fields::header_at(bytes)?;
     let (params, rest) = fields::parameters_at(rest)?;
     let parameters = fields::parameters(params)?;
     let (count, rest) = fields::count_at(rest)?;
-    let rest = behind_blocks(vlen, &parameters, count, rest)?;
+    let rest = behind_blocks(version, vlen, &parameters, count, rest)?;
     expect(rest.is_empty(), CertError::TrailingBytes)
 }
 
@@ -268,13 +325,14 @@ fn check(bytes: &[u8]) -> Result<(), CertError>
 fn contents_of<A: Allocator>(alloc: A, bytes: &[u8]) -> Result<Contents<A>, CertError>
     ensures { GivesOrNoMemory view result (certificate_of bytes.now) }
 {
-    let (vlen, rest) = fields::header_at(bytes)?;
+    let ((version, vlen), rest) = fields::header_at(bytes)?;
     let (params, rest) = fields::parameters_at(rest)?;
     let parameters = fields::parameters(params)?;
     let (count, rest) = fields::count_at(rest)?;
-    let (blocks, rest) = blocks_at(alloc, vlen, &parameters, count, rest)?;
+    let (blocks, rest) = blocks_at(alloc, version, vlen, &parameters, count, rest)?;
     expect(rest.is_empty(), CertError::TrailingBytes)?;
     Ok(Contents {
+        version,
         vlen,
         parameters,
         blocks,
@@ -294,12 +352,15 @@ fn contents_of<A: Allocator>(alloc: A, bytes: &[u8]) -> Result<Contents<A>, Cert
 /// 3. The count of blocks and two bytes of zero: `TooMany`.
 /// 4. Block by block:
 ///    - the start: `BlockOrder`;
-///    - the budget: `Budget`, at its register;
+///    - the budget: `Budget`, at its register; in version 2 also at its second factor, which stands before the registers,
+///      and at its second register;
 ///    - whether the vector type is known, and the vector type: `Fact`;
-///    - the counts of facts on registers and on vector registers, and three bytes of zero: `TooMany`;
+///    - the counts of facts on registers and on vector registers, and three bytes of zero, of which the first two are one
+///      count of orders in version 2: `TooMany`;
 ///    - each fact on a register: `Fact` at its number, at its high, or at the 255 that stands for no equality;
 ///      `Equality` at the count of its equality's terms, and at each atom and each coefficient;
 ///    - each fact on vector registers: `Fact`, its interval at its high;
+///    - each order: `Order`, at the greater register and at the lesser one;
 ///    - and once the block's last byte is read, `Equality` where an atom is a register, or vl, that has an equality
 ///      itself in this block.
 /// 5. Bytes behind the last block: `TrailingBytes`.

@@ -12,8 +12,8 @@ use std::fmt;
 pub enum CertError {
     /// The bytes end before or within a field.
     Short,
-    /// The version is not 1, the vector length is neither 1 (128 bits) nor 2 (256 bits), or the byte behind it is not
-    /// 0.
+    /// The version is neither 1 nor 2, the vector length is not 1 (128 bits), 2 (256 bits) or 3 (512 bits), or the byte
+    /// behind it is not 0.
     Version,
     /// A parameter's kind is above 2; its mode is not 1 or 3 for a buffer, or not 0 for anything else; the two bytes
     /// behind them are not 0; a buffer's size is above 16 MiB; a scalar's low is above its high; or a number that the
@@ -37,12 +37,18 @@ pub enum CertError {
     /// equality itself in the same block.
     Equality,
     /// A budget's register is not 0 though its factor is 0, or is not 1 to 31 though its factor is not 0.
+    ///
+    /// Or in version 2: the second factor is not 0 though the factor is 0; the second register is not 0 though the
+    /// second factor is 0; or it is not above the first register, or above 31, though the second factor is not 0.
     Budget,
     /// Bytes stand behind the last block.
     TrailingBytes,
     /// There are more than 1,024 blocks, or more than 32 facts of one kind in a block, or a byte behind these counts is
     /// not 0.
     TooMany,
+    /// In an order: a register is not 1 to 32, or has an equality in the same block; the greater one is not above that of
+    /// the order before it; or both are one.
+    Order,
     /// An allocation was refused.
     NoMemory,
 }
@@ -59,6 +65,7 @@ impl fmt::Display for CertError {
             CertError::Budget => "a budget is wrong",
             CertError::TrailingBytes => "bytes stand behind the certificate",
             CertError::TooMany => "there are too many blocks or facts",
+            CertError::Order => "an order is wrong",
             CertError::NoMemory => "out of memory",
         };
         write!(f, "{text}")

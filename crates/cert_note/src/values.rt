@@ -57,9 +57,19 @@ pub struct VectorFact {
     pub high: u32,
 }
 
-/// How long a run may still be: where a block begins, at most `constant + factor * x[register]` instructions are
-/// executed from there to the end of the run. These are whole numbers: the sum does not wrap, and the register is
-/// unsigned.
+/// The form of a certificate's bytes, and what it can say. Version 2 says all that version 1 does, and also budgets of
+/// two registers and orders.
+#[derive(Clone, Copy, Debug, PartialEq, Eq)]
+pub enum Version {
+    /// Version 1: a budget has one register, and no order is stated.
+    V1,
+    /// Version 2: a budget may have a second register, and a block may state orders.
+    V2,
+}
+
+/// How long a run may still be: where a block begins, at most `constant + factor * x[register] + second_factor *
+/// x[second_register]` instructions are executed from there to the end of the run. These are whole numbers: the sum does
+/// not wrap, and the registers are unsigned.
 #[derive(Clone, Copy, Debug, PartialEq, Eq)]
 pub struct Budget {
     /// The number of instructions that does not depend on a register.
@@ -69,6 +79,23 @@ pub struct Budget {
     /// The register, as its value is where the block begins. In a certificate it is 0 where `factor` is 0, and else 1
     /// to 31 (x1 to x31).
     pub register: u8,
+    /// How many instructions there are for each one in the second register's value. In a certificate it is 0 where
+    /// `factor` is 0, and in all of version 1.
+    pub second_factor: u32,
+    /// The second register, as its value is where the block begins. In a certificate it is 0 where `second_factor` is
+    /// 0, and else above `register` and at most 31.
+    pub second_register: u8,
+}
+
+/// The value of one register, or of vl, is at most that of another where a block begins, both unsigned.
+#[derive(Clone, Copy, Debug, Default, PartialEq, Eq)]
+pub struct OrderFact {
+    /// The register (1 to 31: x1 to x31), or vl (32), whose value is not the lesser one. In a certificate it has no
+    /// equality in the same block.
+    pub greater: u8,
+    /// The register, or vl, whose value is at most that of `greater`. In a certificate it is another one, and has no
+    /// equality in the same block.
+    pub lesser: u8,
 }
 
 /// What holds wherever a block of the code begins: how long a run may still be, the vector type where that is known,
@@ -87,18 +114,30 @@ pub struct Block {
     pub registers: ArrayVec<RegisterFact, 32>,
     /// Facts on vector registers, in a certificate by rising register, of groups that share none.
     pub vectors: ArrayVec<VectorFact, 32>,
+    /// Orders of two registers, in a certificate by rising `greater`. Version 1 has none.
+    pub orders: ArrayVec<OrderFact, 32>,
 }
 
 /// What a certificate states of an image, whether it meets the conditions on certificates or not. `A` is the allocator
 /// of its blocks.
 #[derive(Debug, Drop)]
 pub struct Contents<A: Allocator = Global> {
+    /// The form of its bytes.
+    pub version: Version,
     /// The length of a vector register.
     pub vlen: Vlen,
     /// What the image's code takes, by place.
     pub parameters: Parameters,
     /// What holds where each block begins. In a certificate they are at most 1,024, by rising start.
     pub blocks: Vec<Block, A>,
+}
+
+/// How many facts a block has: on registers, on vector registers, and of orders.
+#[derive(Clone, Copy)]
+pub struct Counts {
+    pub registers: u8,
+    pub vectors: u8,
+    pub orders: u8,
 }
 
 /// A group of vector registers, and the width of its elements in bits.

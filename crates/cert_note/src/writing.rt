@@ -2,10 +2,11 @@
 ghost use Rattle.std.specs.Prelude.{◌≡◌, ◌<◌, ◌≤◌, ◌^◌, ◌++◌, length, OnOk, IfOk};
 ghost use Rattle.std.specs.List.{flat_map};
 ghost use Rattle.cert_note.specs.Certificate.{view};
-ghost use Rattle.cert_note.specs.Spelling.{half, word, counts, header, parameter_of, mode_code, spelled_parameter, spelled_term, spelled_equality, spelled_fact, spelled_vector, spelled_budget, spelled_vtype, spelled_block, spelling};
+ghost use Rattle.cert_note.specs.Spelling.{half, word, counts, version_code, header, parameter_of, mode_code, spelled_parameter, spelled_term, spelled_equality, spelled_fact, spelled_vector, spelled_order, spelled_budget, spelled_vtype, spelled_block, spelling};
 
 use crate::values::{
-    Block, Budget, Certificate, Contents, Equality, RegisterFact, Term, VectorFact,
+    Block, Budget, Certificate, Contents, Counts, Equality, OrderFact, RegisterFact, Term,
+    VectorFact, Version,
 };
 use region_mem::{Mode, Param};
 use std::alloc::{AllocError, Allocator};
@@ -27,14 +28,28 @@ fn put_word<A: Allocator>(out: &mut Vec<u8, A>, number: u32) -> Result<(), Alloc
     Ok(())
 }
 
-#[tactic(auto, unfolding(crate::specs::Spelling::header))]
-fn put_header<A: Allocator>(out: &mut Vec<u8, A>, vlen: Vlen) -> Result<(), AllocError>
-    ensures { OnOk result (out.new.items ≡ out.old.items ++ header vlen) }
+fn version_code(version: Version) -> u16
+    ensures { result ≡ version_code version }
 {
-    put_half(out, 1)?;
+    match version {
+        Version::V1 => 1,
+        Version::V2 => 2,
+    }
+}
+
+#[tactic(auto, unfolding(crate::specs::Spelling::header))]
+fn put_header<A: Allocator>(
+    out: &mut Vec<u8, A>,
+    version: Version,
+    vlen: Vlen,
+) -> Result<(), AllocError>
+    ensures { OnOk result (out.new.items ≡ out.old.items ++ header version vlen) }
+{
+    put_half(out, version_code(version))?;
     match vlen {
         Vlen::V128 => out.extend_from_slice(&[1, 0])?,
         Vlen::V256 => out.extend_from_slice(&[2, 0])?,
+        Vlen::V512 => out.extend_from_slice(&[3, 0])?,
     }
     Ok(())
 }
@@ -49,12 +64,22 @@ fn put_term<A: Allocator>(out: &mut Vec<u8, A>, term: Term) -> Result<(), AllocE
 }
 
 #[tactic(auto, unfolding(crate::specs::Spelling::spelled_budget))]
-fn put_budget<A: Allocator>(out: &mut Vec<u8, A>, budget: Budget) -> Result<(), AllocError>
-    ensures { OnOk result (out.new.items ≡ out.old.items ++ spelled_budget budget) }
+fn put_budget<A: Allocator>(
+    out: &mut Vec<u8, A>,
+    version: Version,
+    budget: Budget,
+) -> Result<(), AllocError>
+    ensures { OnOk result (out.new.items ≡ out.old.items ++ spelled_budget version budget) }
 {
     put_word(out, budget.constant)?;
     put_word(out, budget.factor)?;
-    out.push(budget.register)?;
+    match version {
+        Version::V1 => out.push(budget.register)?,
+        Version::V2 => {
+            put_word(out, budget.second_factor)?;
+            out.extend_from_slice(&[budget.register, budget.second_register])?;
+        }
+    }
     Ok(())
 }
 
@@ -162,6 +187,23 @@ fn put_vectors<A: Allocator>(out: &mut Vec<u8, A>, facts: &[VectorFact]) -> Resu
     Ok(())
 }
 
+#[tactic(auto, unfolding(crate::specs::Spelling::spelled_order))]
+fn put_order<A: Allocator>(out: &mut Vec<u8, A>, order: OrderFact) -> Result<(), AllocError>
+    ensures { OnOk result (out.new.items ≡ out.old.items ++ spelled_order order) }
+{
+    out.extend_from_slice(&[order.greater, order.lesser])?;
+    Ok(())
+}
+
+fn put_orders<A: Allocator>(out: &mut Vec<u8, A>, orders: &[OrderFact]) -> Result<(), AllocError>
+    ensures { OnOk result (out.new.items ≡ out.old.items ++ flat_map spelled_order orders.now) }
+{
+    for order in orders {
+        put_order(out, *order)?;
+    }
+    Ok(())
+}
+
 #[tactic(auto, unfolding(crate::specs::Spelling::spelled_vtype))]
 fn put_vtype<A: Allocator>(out: &mut Vec<u8, A>, vtype: Option<u8>) -> Result<(), AllocError>
     ensures { OnOk result (out.new.items ≡ out.old.items ++ spelled_vtype vtype) }
@@ -176,32 +218,53 @@ fn put_vtype<A: Allocator>(out: &mut Vec<u8, A>, vtype: Option<u8>) -> Result<()
 #[tactic(auto, unfolding(crate::specs::Spelling::counts))]
 fn put_counts<A: Allocator>(
     out: &mut Vec<u8, A>,
-    registers: u8,
-    vectors: u8,
+    version: Version,
+    number: Counts,
 ) -> Result<(), AllocError>
-    ensures { OnOk result (out.new.items ≡ out.old.items ++ counts registers vectors) }
+    ensures { OnOk result (out.new.items ≡ out.old.items
+        ++ counts version number.registers number.vectors number.orders) }
 {
-    out.extend_from_slice(&[registers, vectors, 0, 0, 0])?;
+    match version {
+        Version::V1 => out.extend_from_slice(&[number.registers, number.vectors, 0, 0, 0])?,
+        Version::V2 => {
+            out.extend_from_slice(&[number.registers, number.vectors, number.orders, 0])?
+        }
+    }
     Ok(())
 }
 
 #[tactic(auto, unfolding(crate::specs::Spelling::spelled_block))]
-fn put_block<A: Allocator>(out: &mut Vec<u8, A>, block: &Block) -> Result<(), AllocError>
-    ensures { OnOk result (out.new.items ≡ out.old.items ++ spelled_block block.now) }
+fn put_block<A: Allocator>(
+    out: &mut Vec<u8, A>,
+    version: Version,
+    block: &Block,
+) -> Result<(), AllocError>
+    ensures { OnOk result (out.new.items ≡ out.old.items ++ spelled_block version block.now) }
 {
     put_word(out, block.start)?;
-    put_budget(out, block.budget)?;
+    put_budget(out, version, block.budget)?;
     put_vtype(out, block.vtype)?;
-    put_counts(out, block.registers.len() as u8, block.vectors.len() as u8)?;
+    let number = Counts {
+        registers: block.registers.len() as u8,
+        vectors: block.vectors.len() as u8,
+        orders: block.orders.len() as u8,
+    };
+    put_counts(out, version, number)?;
     put_facts(out, block.registers.as_slice())?;
-    put_vectors(out, block.vectors.as_slice())
+    put_vectors(out, block.vectors.as_slice())?;
+    put_orders(out, block.orders.as_slice())
 }
 
-fn put_blocks<A: Allocator>(out: &mut Vec<u8, A>, blocks: &[Block]) -> Result<(), AllocError>
-    ensures { OnOk result (out.new.items ≡ out.old.items ++ flat_map spelled_block blocks.now) }
+fn put_blocks<A: Allocator>(
+    out: &mut Vec<u8, A>,
+    version: Version,
+    blocks: &[Block],
+) -> Result<(), AllocError>
+    ensures { OnOk result (out.new.items ≡ out.old.items
+        ++ flat_map (spelled_block version) blocks.now) }
 {
     for block in blocks {
-        put_block(out, block)?;
+        put_block(out, version, block)?;
     }
     Ok(())
 }
@@ -224,11 +287,11 @@ fn spelled<A: Allocator, B: Allocator>(
     ensures { IfOk result (λ v. v.items ≡ spelling (view certificate.now)) }
 {
     let mut out = Vec::new(alloc);
-    put_header(&mut out, certificate.vlen)?;
+    put_header(&mut out, certificate.version, certificate.vlen)?;
     put_parameters(&mut out, &certificate.parameters.to_array())?;
     put_half(&mut out, certificate.blocks.len() as u16)?;
     put_half(&mut out, 0)?;
-    put_blocks(&mut out, certificate.blocks.as_slice())?;
+    put_blocks(&mut out, certificate.version, certificate.blocks.as_slice())?;
     Ok(out)
 }
 

@@ -1,5 +1,5 @@
 -- What `check` does.
-use Rattle.std.specs.Prelude.{◌≡◌, ◌++◌, codes, ℕ, List, Option, Some, None, Ok, option_map}
+use Rattle.std.specs.Prelude.{◌≡◌, ◌++◌, codes, ℕ, List, Option, Some, None, Ok, option_map, ◌==◌, if◌then◌else◌}
 use Rattle.std.specs.Fmt.{decimal}
 use Rattle.std.specs.Io.KnownBytes.{Appends}
 use Rattle.block_checker.specs.Accepted.{AcceptedView}
@@ -13,9 +13,20 @@ use Rattle.commands.specs.declared.stop.Status.{Status}
 use Rattle.commands.specs.declared.stop.Status.TheVariants as status
 
 -- the line that tells the bound of an accepted image's runs
-abbrev pub bound_line : Budget → List ℕ
-bound_line budget = codes "accepted: bound " ++ (decimal budget.constant ++ (codes " + "
+abbrev pub single_line : Budget → List ℕ
+single_line budget = codes "accepted: bound " ++ (decimal budget.constant ++ (codes " + "
     ++ (decimal budget.factor ++ (codes " * x" ++ (decimal budget.register ++ codes "\n")))))
+
+abbrev pub double_line : Budget → List ℕ
+double_line budget = codes "accepted: bound " ++ (decimal budget.constant ++ (codes " + "
+    ++ (decimal budget.factor ++ (codes " * x" ++ (decimal budget.register ++ (codes " + "
+    ++ (decimal budget.second_factor ++ (codes " * x"
+    ++ (decimal budget.second_register ++ codes "\n")))))))))
+
+-- the second register is told where there is one
+abbrev pub bound_line : Budget → List ℕ
+bound_line budget =
+    if budget.second_factor == 0 then single_line budget else double_line budget
 
 -- `old` and `new` are what standard output has before and after
 

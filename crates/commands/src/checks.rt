@@ -83,10 +83,19 @@ fn print_bound<O: Write>(budget: Budget, output: &mut O) -> io::Result<()>
         constant,
         factor,
         register,
+        second_factor,
+        second_register,
     } = budget;
-    writeln!(
-        output,
-        "accepted: bound {constant} + {factor} * x{register}"
-    )?;
+    if second_factor == 0 {
+        writeln!(
+            output,
+            "accepted: bound {constant} + {factor} * x{register}"
+        )?;
+    } else {
+        writeln!(
+            output,
+            "accepted: bound {constant} + {factor} * x{register} + {second_factor} * x{second_register}"
+        )?;
+    }
     output.flush()
 }

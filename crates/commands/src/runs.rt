@@ -81,6 +81,7 @@ fn run_accepted<'a>(
     match job.vlen {
         Vlen::V128 => run_session::<16>(alloc, accepted, args, job.agnostic, job.max),
         Vlen::V256 => run_session::<32>(alloc, accepted, args, job.agnostic, job.max),
+        Vlen::V512 => run_session::<64>(alloc, accepted, args, job.agnostic, job.max),
     }
 }
 

@@ -80,6 +80,7 @@ fn run_tried<'a>(
     match job.vlen {
         Vlen::V128 => run::<16>(alloc, image, &parameters, args, job.agnostic, job.max),
         Vlen::V256 => run::<32>(alloc, image, &parameters, args, job.agnostic, job.max),
+        Vlen::V512 => run::<64>(alloc, image, &parameters, args, job.agnostic, job.max),
     }
 }
 

@@ -67,7 +67,8 @@ pub(crate) fn accept(alloc: Global, file: &[u8], vlen: Option<Vlen>) -> Result<A
     }
 }
 
-/// The name of the refusal, or `accepted` and the budget of the block at the entry.
+/// The name of the refusal, or `accepted` and the budget of the block at the entry: its second factor and register too, where
+/// it has these.
 fn text_of(alloc: Global, checked: Result<Accepted, Refusal>) -> Result<String, RowError> {
     let accepted = match checked {
         Ok(accepted) => accepted,
@@ -77,9 +78,18 @@ fn text_of(alloc: Global, checked: Result<Accepted, Refusal>) -> Result<String, 
     for block in &accepted.certificate().contents().blocks {
         if block.start == entry {
             let budget = block.budget;
-            return Ok(format!(in alloc;
+            let first = format!(in alloc;
                 "accepted {} {} {}",
                 budget.constant, budget.factor, budget.register
+            )?;
+            if budget.second_factor == 0 {
+                return Ok(first);
+            }
+            return Ok(format!(in alloc;
+                "{} {} {}",
+                first.as_str(),
+                budget.second_factor,
+                budget.second_register
             )?);
         }
     }

@@ -80,6 +80,7 @@ pub(crate) fn vlen(text: &str) -> Result<Vlen, RowError> {
     match text {
         "16" => Ok(Vlen::V128),
         "32" => Ok(Vlen::V256),
+        "64" => Ok(Vlen::V512),
         _ => Err(RowError::NoRow),
     }
 }

@@ -35,6 +35,7 @@ fn main(rt: HostRuntime) -> Result<()> {
     run_table(&rt, "images", "images.txt", &mut Images)?;
     run_table(&rt, "runs", "runs.txt", &mut Runs)?;
     run_table(&rt, "checks", "checks.txt", &mut Checks)?;
+    run_table(&rt, "orders", "orders.txt", &mut Checks)?;
     run_table(&rt, "sessions", "sessions.txt", &mut Sessions)?;
     Ok(())
 }

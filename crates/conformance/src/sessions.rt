@@ -24,6 +24,7 @@ impl Table for Sessions {
         match case.vlen {
             Vlen::V128 => run::<16>(alloc, &case),
             Vlen::V256 => run::<32>(alloc, &case),
+            Vlen::V512 => run::<64>(alloc, &case),
         }
     }
 }

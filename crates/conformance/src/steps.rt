@@ -48,6 +48,7 @@ impl Table for Steps {
         match case.vlen {
             Vlen::V128 => self.difference_at::<16>(alloc, &case),
             Vlen::V256 => self.difference_at::<32>(alloc, &case),
+            Vlen::V512 => self.difference_at::<64>(alloc, &case),
         }
     }
 }

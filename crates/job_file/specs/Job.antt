@@ -16,7 +16,7 @@ use Rattle.region_mem.specs.declared.parameter.Mode.TheVariants.{Read, ReadWrite
 use Rattle.job_file.specs.declared.values.Param.{Param}
 use Rattle.job_file.specs.declared.values.Param.TheVariants as param
 use Rattle.vreg_groups.specs.declared.vector_length.Vlen.{Vlen}
-use Rattle.vreg_groups.specs.declared.vector_length.Vlen.TheVariants.{V128, V256}
+use Rattle.vreg_groups.specs.declared.vector_length.Vlen.TheVariants.{V128, V256, V512}
 
 abbrev pub Text : Type 0
 Text = List ℕ
@@ -37,9 +37,9 @@ unfoldable pub max_of : Data → Option ℕ
 max_of d = option_and_then (number_below (2 ^ 63)) (as_integer d)
 
 abbrev pub vlen_of_bits : ℕ → Option Vlen
-vlen_of_bits n = if n == 128 then Some V128 else (if n == 256 then Some V256 else None)
+vlen_of_bits n = if n == 128 then Some V128 else (if n == 256 then Some V256 else (if n == 512 then Some V512 else None))
 
--- `vlen`: 128 or 256
+-- `vlen`: 128, 256 or 512
 unfoldable pub vlen_of : Data → Option Vlen
 vlen_of d = option_and_then vlen_of_bits (word_of d)
 

@@ -35,6 +35,7 @@ fn vlen_of_bits(bits: u32) -> Option<Vlen>
     match bits {
         128 => Some(Vlen::V128),
         256 => Some(Vlen::V256),
+        512 => Some(Vlen::V512),
         _ => None,
     }
 }

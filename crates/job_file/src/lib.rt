@@ -55,7 +55,7 @@ fn fields_of<'a>(table: &'a Table) -> Option<Job<&'a str>>
 /// The values of a job's table, or `None` where it has another key, or a value of a wrong type or
 /// range.
 ///
-/// A job may have `image` (a path), `vlen` (128 or 256), `agnostic` ("keep" or "ones"), `max` (0 to
+/// A job may have `image` (a path), `vlen` (128, 256 or 512), `agnostic` ("keep" or "ones"), `max` (0 to
 /// 2^63 - 1) and at most eight `[[param]]` tables, each with a `kind`: "none"; "scalar", with `lo`,
 /// `hi` and `value` (0 to 2^32 - 1 each); or "buffer", with `mode` ("r" or "rw"), `size` (0 to
 /// 2^32 - 1), `file` and `out`. A place without a table is not used.

@@ -3,13 +3,14 @@ use Rattle.std.proofs.Common.{◌≡◌, ℕ, ◌+◌, ◌-◌, ◌*◌, ◌/◌
 use Rattle.std.proofs.lemmas.Bool.{cases_eq, leb-true}
 use Rattle.std.proofs.lemmas.List.{drop_more, drop_all, length-map, take_all}
 use Rattle.std.proofs.lemmas.Grind.{common_steps, take_at_read}
+use Rattle.std.specs.Prelude.{nat_le}
 use Rattle.linear_facts.specs.Words.{Term, WholeTerm, Interval, Side, Lo, Hi, Added, Taken}
 use Rattle.linear_facts.specs.Forms.{Linear, IsForm, value}
 use Rattle.linear_facts.specs.Ranges.{AtomTable, AgreesWith}
-use Rattle.linear_facts.specs.Sums.{with_term, signed_term, joined, ends, form_interval, range_within, range_of_form}
-use Rattle.linear_facts.specs.Differences.{Product, WholeSum, multiple_term, with_number, with_multiples, base_of, with_product, with_products, AreForms, have_ranges, total_of, is_positive, difference_of}
+use Rattle.linear_facts.specs.Sums.{with_term, signed_term, joined, ends, gains, losses, interval_of, with_split, form_interval, range_within, range_of_form}
+use Rattle.linear_facts.specs.Differences.{Product, WholeSum, multiple_term, with_number, with_multiples, base_of, with_product, with_products, AreForms, have_ranges, total_of, is_positive, difference_of, sum_interval, once, is_not_less_of, OrdersHold}
 use Rattle.linear_facts.proofs.SumLaws.{signed_at_most}
-use Rattle.linear_facts.proofs.RangeLaws.{sum_at, sum_over, sum_over-nil, sum_over-with_term, gain_part, loss_part, gain_joins, loss_joins, net-sums, gains-le, losses-le, losses-bound, at_least, at_most, form-encloses, sum_at-value, within-none}
+use Rattle.linear_facts.proofs.RangeLaws.{sum_at, sum_over, sum_over-nil, sum_over-with_term, gain_part, loss_part, gain_joins, loss_joins, net-sums, gains-le, losses-le, losses-bound, at_least, at_most, form-encloses, sum_at-value, within-none, Encloses, gain-with_split, loss-with_split, met-encloses}
 
 pub multiples-more : (side : Side) (k : ℕ) (so_far ts : List WholeTerm) (i : ℕ) (d : WholeTerm) → i < length ts
     → with_multiples side k so_far (drop i ts)
@@ -215,3 +216,51 @@ module _ (table : AtomTable) (v : ℕ → ℕ) (agrees : AgreesWith table v) whe
         sum_over-nil (gain_part v),
         sum_over-nil (loss_part v),
       )
+
+  -- ---- order
+
+  -- what a sum comes to, with 2^112 added
+  whole_at : ℕ → ℕ → List WholeTerm → ℕ
+  whole_at p m ts = (2 ^ 112 + p + gains v ts) - (m + losses v ts)
+
+  ends-enclose : (p m : ℕ) (ts : List WholeTerm) → Encloses (interval_of table p m ts) (whole_at p m ts)
+  unfolding interval_of whole_at
+  ends-enclose p m ts = (
+    omega (arith, gains-le (ends table Lo) v (at_least table v agrees) ts, losses-le v (ends table Hi) (at_most table v agrees) ts),
+    omega (arith, gains-le v (ends table Hi) (at_most table v agrees) ts, losses-le (ends table Lo) v (at_least table v agrees) ts),
+  )
+
+  same_whole : (p m : ℕ) (ts : List WholeTerm) → whole_at p m (with_split table [] ts) ≡ whole_at p m ts
+  unfolding whole_at
+  same_whole p m ts =
+      omega (arith, net-sums v ts, net-sums v (with_split table [] ts), gain-with_split table v agrees ts, loss-with_split table v agrees ts)
+
+  sum-encloses : (sum : WholeSum) → Encloses (sum_interval table sum) (whole_at sum.plus sum.minus sum.terms)
+  unfolding sum_interval
+  sum-encloses sum =
+      let ts = with_split table [] sum.terms in
+      met-encloses table v agrees (interval_of table sum.plus sum.minus sum.terms) (interval_of table sum.plus sum.minus ts) (whole_at sum.plus sum.minus sum.terms)
+      (ends-enclose sum.plus sum.minus sum.terms)
+      (subst (λ (n : ℕ). Encloses (interval_of table sum.plus sum.minus ts) n) (same_whole sum.plus sum.minus sum.terms) (ends-enclose sum.plus sum.minus ts))
+
+  not_negative : (sum : WholeSum) → nat_le (2 ^ 112) (sum_interval table sum).lo ≡ true → down v sum ≤ up v sum
+  unfolding whole_at
+  not_negative sum e = omega (arith, leb-true _ _ e, (sum-encloses sum).0, net-sums v sum.terms)
+
+  order-holds : (f g : Linear) → IsForm 8 f → IsForm 8 g → is_not_less_of table f g ≡ true → value v g ≤ value v f
+  unfolding is_not_less_of difference_of
+  order-holds f g is_f is_g e =
+      let start : WholeSum = record { plus = 0; minus = 0; terms = [] } in
+      let test = nat_le (2 ^ 112) (sum_interval table (with_products table Taken (with_products table Added start (once f)) (once g))).lo in
+      let forms = and_first (have_ranges table (once f) && have_ranges table (once g)) test e in
+      omega (
+        arith,
+        not_negative _ (and_rest (have_ranges table (once f) && have_ranges table (once g)) test e),
+        added-products start (once f) (is_f, tt) (and_first _ _ forms),
+        taken-products (with_products table Added start (once f)) (once g) (is_g, tt) (and_rest _ _ forms),
+        sum_over-nil (gain_part v),
+        sum_over-nil (loss_part v),
+      )
+
+pub orders-hold : OrdersHold
+orders-hold table v f g agrees is_f is_g e = order-holds table v agrees f g is_f is_g e

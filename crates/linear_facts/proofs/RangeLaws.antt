@@ -129,10 +129,10 @@ module _ (table : AtomTable) (v : ℕ → ℕ) (agrees : AgreesWith table v) whe
       → loss_part v record { atom = s.first; plus = t.plus; minus = t.minus } + loss_part v record { atom = s.second; plus = t.plus; minus = t.minus } ≡ loss_part v t
   loss_splits t s e = omega (arith, ap (λ n. t.minus * n) (agrees.is_sum t.atom s e))
 
-  gain-with_split : (ts : List WholeTerm) → sum_over (gain_part v) (with_split table [] ts) ≡ sum_over (gain_part v) ts
+  pub gain-with_split : (ts : List WholeTerm) → sum_over (gain_part v) (with_split table [] ts) ≡ sum_over (gain_part v) ts
   gain-with_split ts = omega (arith, sum_over-with_split (gain_part v) (gain_joins v) table gain_splits [] ts, sum_over-nil (gain_part v))
 
-  loss-with_split : (ts : List WholeTerm) → sum_over (loss_part v) (with_split table [] ts) ≡ sum_over (loss_part v) ts
+  pub loss-with_split : (ts : List WholeTerm) → sum_over (loss_part v) (with_split table [] ts) ≡ sum_over (loss_part v) ts
   loss-with_split ts = omega (arith, sum_over-with_split (loss_part v) (loss_joins v) table loss_splits [] ts, sum_over-nil (loss_part v))
 
 -- the whole coefficient times a number, from its two parts
@@ -199,7 +199,7 @@ module _ (table : AtomTable) (v : ℕ → ℕ) (agrees : AgreesWith table v) whe
   same_sum c ts =
       omega (arith, net-sums v ts, net-sums v (with_split table [] ts), gain-with_split table v agrees ts, loss-with_split table v agrees ts)
 
-  met-encloses : (own other : Interval) (n : ℕ) → Encloses own n → Encloses other n → Encloses (met_or_own own other) n
+  pub met-encloses : (own other : Interval) (n : ℕ) → Encloses own n → Encloses other n → Encloses (met_or_own own other) n
   met-encloses own other n h k =
       subst (λ (i : Interval). Encloses i n) (sym (met-there own other (omega arith))) (omega arith, omega arith)
 

@@ -1,11 +1,11 @@
 -- Differences of multiples of forms in whole numbers. Each form stands for its sum less the one multiple
 -- of 2^32 by which its range was found.
-use Rattle.std.specs.Prelude.{ℕ, ◌+◌, ◌-◌, ◌*◌, ◌/◌, ◌^◌, nat_le, ◌&&◌, Bool, List, [], ◌∷◌, map, is_some}
+use Rattle.std.specs.Prelude.{ℕ, ◌≡◌, ◌≤◌, true, ◌+◌, ◌-◌, ◌*◌, ◌/◌, ◌^◌, nat_le, ◌&&◌, Bool, List, [], ◌∷◌, map, is_some}
 use Rattle.std.specs.List.{list_all}
-use Rattle.linear_facts.specs.Words.{WholeTerm, Side, Lo, Hi, Added, Taken}
+use Rattle.linear_facts.specs.Words.{WholeTerm, Interval, Side, Lo, Hi, Added, Taken}
 use Rattle.linear_facts.specs.Forms.{Linear, value, IsForm}
-use Rattle.linear_facts.specs.Ranges.{AtomTable}
-use Rattle.linear_facts.specs.Sums.{signed_term, with_term, gains, losses, ends, form_interval, range_of_form}
+use Rattle.linear_facts.specs.Ranges.{AtomTable, AgreesWith}
+use Rattle.linear_facts.specs.Sums.{signed_term, with_term, with_split, gains, losses, ends, interval_of, met_or_own, form_interval, range_of_form}
 
 -- a number of times what a form stands for
 pub record Product : Type 0 where
@@ -83,3 +83,24 @@ unfoldable pub is_at_least_of : AtomTable → ℕ → List Product → ℕ → L
 is_at_least_of table more more_of less less_of =
     have_ranges table more_of && have_ranges table less_of
     && is_positive table (difference_of table more more_of less less_of)
+
+-- the interval of a sum, met with the one after each split atom is replaced by the sum of its two parts, all at once
+unfoldable pub sum_interval : AtomTable → WholeSum → Interval
+sum_interval table sum =
+    met_or_own (interval_of table sum.plus sum.minus sum.terms)
+    (interval_of table sum.plus sum.minus (with_split table [] sum.terms))
+
+abbrev pub once : Linear → List Product
+once f = record { factor = 1; form = f } ∷ []
+
+-- one form is at least another one, by the lower bound of their difference
+unfoldable pub is_not_less_of : AtomTable → Linear → Linear → Bool
+is_not_less_of table f g =
+    have_ranges table (once f) && have_ranges table (once g)
+    && nat_le (2 ^ 112) (sum_interval table (difference_of table 0 (once f) 0 (once g))).lo
+
+-- What is shown to be not less is so, wherever the atoms are as the table says.
+abbrev pub OrdersHold : Type 0
+OrdersHold =
+    (table : AtomTable) (v : ℕ → ℕ) (f g : Linear) → AgreesWith table v → IsForm 8 f → IsForm 8 g
+    → is_not_less_of table f g ≡ true → value v g ≤ value v f

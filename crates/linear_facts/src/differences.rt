@@ -1,14 +1,15 @@
 //! Differences of multiples of forms in whole numbers, and their lower bounds.
 ghost use Rattle.std.specs.Prelude.{◌≡◌, ℕ, ◌+◌, ◌-◌, ◌*◌, ◌^◌, ◌<◌, ◌≤◌, List, [], ◌∷◌, length, IsTrue, map, is_some};
-ghost use Rattle.linear_facts.specs.Forms.{IsForm};
+ghost use Rattle.linear_facts.specs.Forms.{IsForm, value};
 ghost use Rattle.linear_facts.specs.Ranges.{AtomTable, AgreesWith};
 ghost use Rattle.linear_facts.specs.Sums.{AllAtMost, signed_term, range_of_form};
-ghost use Rattle.linear_facts.specs.Differences.{total_of, multiple_term, with_number, with_multiples, base_of, with_product, with_products, have_ranges, AreForms, difference_of, is_positive, is_at_least_of};
+ghost use Rattle.linear_facts.specs.Differences.{total_of, multiple_term, with_number, with_multiples, base_of, with_product, with_products, have_ranges, AreForms, difference_of, is_positive, is_at_least_of, once, sum_interval as sum_interval_of, is_not_less_of};
 
 use crate::forms::Form;
 use crate::ranges::{Atoms, End};
 use crate::sums::{
-    OFFSET, WholeTerm, add_term, interval_of_terms, signed_terms, sum_of_gains, sum_of_losses,
+    Interval, OFFSET, WholeTerm, add_term, interval_by_ends, interval_of_terms, met, signed_terms,
+    split_terms, sum_of_gains, sum_of_losses,
 };
 use arrayvec::ArrayVec;
 use std::marker::Model;
@@ -109,6 +110,8 @@ fn add_number(sum: &mut Sum, side: Side, k: u32, plus: u128, minus: u128)
     ensures sum { sum.new ≡ with_number side k plus minus sum.old }
     ensures plus { sum.new.plus ≤ sum.old.plus + 2 ^ 114 }
     ensures minus { sum.new.minus ≤ sum.old.minus + 2 ^ 114 }
+    ensures plus_by { sum.new.plus ≤ sum.old.plus + k * 2 ^ 82 }
+    ensures minus_by { sum.new.minus ≤ sum.old.minus + k * 2 ^ 82 }
 {
     let plus = u128::from(k) * plus;
     let minus = u128::from(k) * minus;
@@ -135,6 +138,8 @@ fn add_product(sum: &mut Sum, side: Side, product: &Multiple, atoms: &Atoms)
     ensures bound { (n : ℕ) → AllAtMost n sum.old.terms → AllAtMost (n + 2 ^ 67) sum.new.terms }
     ensures plus { sum.new.plus ≤ sum.old.plus + 2 ^ 114 }
     ensures minus { sum.new.minus ≤ sum.old.minus + 2 ^ 114 }
+    ensures plus_by { sum.new.plus ≤ sum.old.plus + product.now.factor * 2 ^ 82 }
+    ensures minus_by { sum.new.minus ≤ sum.old.minus + product.now.factor * 2 ^ 82 }
     ensures form { IsForm 8 product.now.form }
 {
     let form = product.form;
@@ -183,7 +188,7 @@ fn have_ranges(products: &[Multiple], atoms: &Atoms) -> bool
 #[tactic(auto, unfolding(crate::specs::Differences::is_positive))]
 fn is_positive(sum: &Sum, atoms: &Atoms) -> bool
     requires few { length sum.now.terms ≤ 32 }
-    requires small { AllAtMost (2 ^ 72) sum.now.terms }
+    requires small { AllAtMost (2 ^ 73) sum.now.terms }
     requires plus { sum.now.plus ≤ 2 ^ 120 }
     requires minus { sum.now.minus ≤ 2 ^ 120 }
     ensures { result ≡ is_positive atoms.now sum.now }
@@ -205,7 +210,7 @@ fn difference(
     requires { length more_of.now + length less_of.now ≤ 4 }
     ensures sum { result ≡ difference_of atoms.now more more_of.now less less_of.now }
     ensures few { length result.terms ≤ 32 }
-    ensures small { AllAtMost (2 ^ 72) result.terms }
+    ensures small { AllAtMost (2 ^ 73) result.terms }
     ensures plus { result.plus ≤ 2 ^ 120 }
     ensures minus { result.minus ≤ 2 ^ 120 }
     ensures more_forms { AreForms more_of.now }
@@ -246,4 +251,75 @@ pub fn is_at_least(
         return false;
     }
     is_positive(&difference(more, more_of, less, less_of, atoms), atoms)
+}
+
+/// The difference of two forms, each taken once.
+#[tactic(auto, unfolding(crate::specs::Differences::difference_of))]
+fn difference_of_two(form: &Form<8>, other: &Form<8>, atoms: &Atoms) -> Sum
+    ensures sum { result ≡ difference_of atoms.now 0 (once form.now) 0 (once other.now) }
+    ensures few { length result.terms ≤ 16 }
+    ensures small { AllAtMost (2 ^ 68) result.terms }
+    ensures plus { result.plus ≤ 2 ^ 110 }
+    ensures minus { result.minus ≤ 2 ^ 110 }
+    ensures form { IsForm 8 form.now }
+    ensures other { IsForm 8 other.now }
+{
+    let mut sum = Sum {
+        plus: 0,
+        minus: 0,
+        terms: ArrayVec::new(),
+    };
+    add_product(&mut sum, Side::Added, &Multiple { factor: 1, form }, atoms);
+    add_product(
+        &mut sum,
+        Side::Taken,
+        &Multiple {
+            factor: 1,
+            form: other,
+        },
+        atoms,
+    );
+    sum
+}
+
+/// The interval of a sum, met with the one after each split atom is replaced by its two parts.
+#[tactic(auto, unfolding(crate::specs::Differences::sum_interval))]
+fn sum_interval(sum: &Sum, atoms: &Atoms) -> Interval
+    requires few { length sum.now.terms ≤ 16 }
+    requires small { AllAtMost (2 ^ 68) sum.now.terms }
+    requires plus { sum.now.plus ≤ 2 ^ 110 }
+    requires minus { sum.now.minus ≤ 2 ^ 110 }
+    ensures { result ≡ sum_interval_of atoms.now sum.now }
+{
+    let split = split_terms(sum.terms.as_slice(), atoms);
+    let own = interval_by_ends(sum.plus, sum.minus, sum.terms.as_slice(), atoms);
+    let other = interval_by_ends(sum.plus, sum.minus, split.as_slice(), atoms);
+    met(own, other)
+}
+
+/// Whether a form is at least another one wherever the atoms lie in their ranges, by the lower bound of their
+/// difference in whole numbers: the interval of that is met with the one after each split atom is replaced by its two
+/// parts.
+///
+/// Each form stands for its sum less the one multiple of 2^32 by which its range was found. Where one of them has no
+/// range, the answer is no.
+#[tactic(auto, unfolding(crate::specs::Differences::is_not_less_of))]
+pub fn is_not_less(form: &Form<8>, other: &Form<8>, atoms: &Atoms) -> bool
+    ensures rule { result ≡ is_not_less_of atoms.now form.now other.now }
+    ensures holds { (v : ℕ → ℕ) → AgreesWith atoms.now v → IsTrue result
+        → value v other.now ≤ value v form.now }
+{
+    if !have_ranges(&[Multiple { factor: 1, form }], atoms) {
+        return false;
+    }
+    if !have_ranges(
+        &[Multiple {
+            factor: 1,
+            form: other,
+        }],
+        atoms,
+    ) {
+        return false;
+    }
+    OFFSET <= sum_interval(&difference_of_two(form, other, atoms), atoms).lo
 }

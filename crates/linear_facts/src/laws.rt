@@ -1,5 +1,6 @@
 //! Laws of forms and ranges, each the contract of a function that does nothing when it runs.
 ghost use Rattle.linear_facts.specs.Laws.{FormsStayBelow, SumsStayBelow, MultiplesStayBelow, SubstitutionsStayBelow, AgreeBelow, RangesFit};
+ghost use Rattle.linear_facts.specs.Differences.{OrdersHold};
 
 /// A form that speaks of the first atoms alone speaks of no others once there are more.
 pub fn forms_stay_below()
@@ -29,4 +30,9 @@ pub fn agree_below()
 /// A form's range holds numbers of 32 bits alone.
 pub fn ranges_fit()
     ensures { RangesFit }
+{}
+
+/// What is shown to be not less is so.
+pub fn orders_hold()
+    ensures { OrdersHold }
 {}

@@ -10,10 +10,10 @@ mod laws;
 mod ranges;
 mod sums;
 
-pub use differences::{Multiple, is_at_least};
+pub use differences::{Multiple, is_at_least, is_not_less};
 pub use forms::{Form, Term};
 pub use laws::{
-    agree_below, forms_stay_below, multiples_stay_below, ranges_fit, substitutions_stay_below,
-    sums_stay_below,
+    agree_below, forms_stay_below, multiples_stay_below, orders_hold, ranges_fit,
+    substitutions_stay_below, sums_stay_below,
 };
 pub use ranges::{Atom, Atoms, Change, End, Range, Split};

@@ -110,8 +110,8 @@ fn end_of_range(atoms: &Atoms, atom: u16, end: End) -> u128
 
 /// What the terms with positive coefficients come to where each atom is at this end of its range.
 pub(crate) fn sum_of_gains(terms: &[WholeTerm], atoms: &Atoms, end: End) -> u128
-    requires few { length terms.now ≤ 64 }
-    requires small { AllAtMost (2 ^ 72) terms.now }
+    requires few { length terms.now ≤ 32 }
+    requires small { AllAtMost (2 ^ 73) terms.now }
     ensures sum { result ≡ gains (ends atoms.now end) terms.now }
     ensures bound { result ≤ 2 ^ 110 }
     ensures close { AllAtMost (2 ^ 40) terms.now → result ≤ 2 ^ 78 }
@@ -126,8 +126,8 @@ pub(crate) fn sum_of_gains(terms: &[WholeTerm], atoms: &Atoms, end: End) -> u128
 
 /// What the terms with negative coefficients take away where each atom is at this end of its range.
 pub(crate) fn sum_of_losses(terms: &[WholeTerm], atoms: &Atoms, end: End) -> u128
-    requires few { length terms.now ≤ 64 }
-    requires small { AllAtMost (2 ^ 72) terms.now }
+    requires few { length terms.now ≤ 32 }
+    requires small { AllAtMost (2 ^ 73) terms.now }
     ensures sum { result ≡ losses (ends atoms.now end) terms.now }
     ensures bound { result ≤ 2 ^ 110 }
     ensures close { AllAtMost (2 ^ 40) terms.now → result ≤ 2 ^ 78 }
@@ -142,9 +142,14 @@ pub(crate) fn sum_of_losses(terms: &[WholeTerm], atoms: &Atoms, end: End) -> u12
 
 /// The interval of `plus - minus` and the terms, by interval arithmetic.
 #[tactic(auto, unfolding(crate::specs::Sums::interval_of))]
-fn interval_by_ends(plus: u128, minus: u128, terms: &[WholeTerm], atoms: &Atoms) -> Interval
-    requires few { length terms.now ≤ 64 }
-    requires small { AllAtMost (2 ^ 72) terms.now }
+pub(crate) fn interval_by_ends(
+    plus: u128,
+    minus: u128,
+    terms: &[WholeTerm],
+    atoms: &Atoms,
+) -> Interval
+    requires few { length terms.now ≤ 32 }
+    requires small { AllAtMost (2 ^ 73) terms.now }
     requires plus { plus ≤ 2 ^ 110 }
     requires minus { minus ≤ 2 ^ 110 }
     ensures interval { result ≡ interval_of atoms.now plus minus terms.now }
@@ -162,7 +167,7 @@ fn interval_by_ends(plus: u128, minus: u128, terms: &[WholeTerm], atoms: &Atoms)
 
 /// What lies in both intervals, or the first where they don't meet.
 #[tactic(auto, unfolding(crate::specs::Sums::met_or_own))]
-fn met(own: Interval, other: Interval) -> Interval
+pub(crate) fn met(own: Interval, other: Interval) -> Interval
     ensures met { result ≡ met_or_own own other }
     ensures close { IsClose own → IsClose other → IsClose result }
 {
@@ -190,9 +195,9 @@ fn range_in(interval: Interval) -> Option<Range>
 /// Adds the two parts of a term whose atom is split, else the term.
 fn add_parts(terms: &mut ArrayVec<WholeTerm, 32>, term: WholeTerm, atoms: &Atoms)
     requires room { length terms.old.items ≤ 30 }
-    requires small { AllAtMost (2 ^ 63) terms.old.items }
-    requires plus { term.plus ≤ 2 ^ 63 }
-    requires minus { term.minus ≤ 2 ^ 63 }
+    requires small { AllAtMost (2 ^ 80) terms.old.items }
+    requires plus { term.plus ≤ 2 ^ 80 }
+    requires minus { term.minus ≤ 2 ^ 80 }
     ensures { terms.new.items ≡ with_parts (split_at atoms.now term.atom) terms.old.items term }
 {
     match atoms.split(term.atom) {
@@ -215,11 +220,12 @@ fn add_parts(terms: &mut ArrayVec<WholeTerm, 32>, term: WholeTerm, atoms: &Atoms
 }
 
 /// The terms with each split atom replaced by the sum of its two parts, all at once.
-fn split_terms(terms: &[WholeTerm], atoms: &Atoms) -> ArrayVec<WholeTerm, 32>
-    requires few { length terms.now ≤ 8 }
-    requires small { AllAtMost (2 ^ 32) terms.now }
+pub(crate) fn split_terms(terms: &[WholeTerm], atoms: &Atoms) -> ArrayVec<WholeTerm, 32>
+    requires few { length terms.now ≤ 16 }
+    requires small { AllAtMost (2 ^ 68) terms.now }
     ensures terms { result.items ≡ with_split atoms.now [] terms.now }
-    ensures small { AllAtMost (2 ^ 40) result.items }
+    ensures small { AllAtMost (2 ^ 73) result.items }
+    ensures close { AllAtMost (2 ^ 32) terms.now → AllAtMost (2 ^ 40) result.items }
     ensures few { length result.items ≤ 32 }
 {
     let mut replaced = ArrayVec::new();

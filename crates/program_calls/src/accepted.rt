@@ -37,6 +37,9 @@ const MORE: Claims = Claims {
     register: 11,
 };
 
+/// At 512 bits, as at 128.
+const LONGEST: Claims = Claims { vlen: 3, ..FOUR };
+
 fn push_words(bytes: &mut Vec<u8>, words: &[u32]) -> Result<(), AllocError> {
     for word in words {
         bytes.extend_from_slice(word.to_le_bytes().as_slice())?;
@@ -55,6 +58,21 @@ fn certificate(alloc: Global, claims: Claims) -> Result<Vec<u8>, AllocError> {
         [1, claims.start, claims.constant, claims.factor].as_slice(),
     )?;
     bytes.extend_from_slice([claims.register, 0, 0, 2, 0, 0, 0, 0, 1].as_slice())?;
+    push_words(&mut bytes, [0xffff_fff0; 2].as_slice())?;
+    bytes.extend_from_slice([255, 10].as_slice())?;
+    push_words(&mut bytes, [0x4000_0000; 2].as_slice())?;
+    bytes.push(255)?;
+    Ok(bytes)
+}
+
+/// The same in version 2, with a budget of two registers: four instructions, two for each that a1 counts, and three for
+/// each in a2, which is 0.
+fn certificate_of_two(alloc: Global) -> Result<Vec<u8>, AllocError> {
+    let mut bytes = Vec::from_slice(alloc, [2, 0, 1, 0].as_slice())?;
+    push_words(&mut bytes, [0x0302, 8, 0, 0x0001, 0, 9].as_slice())?;
+    push_words(&mut bytes, [0; 18].as_slice())?;
+    push_words(&mut bytes, [1, 0x1_0000, 4, 2, 3].as_slice())?;
+    bytes.extend_from_slice([11, 12, 0, 0, 2, 0, 0, 0, 1].as_slice())?;
     push_words(&mut bytes, [0xffff_fff0; 2].as_slice())?;
     bytes.extend_from_slice([255, 10].as_slice())?;
     push_words(&mut bytes, [0x4000_0000; 2].as_slice())?;
@@ -129,6 +147,17 @@ fn tells_the_bound_of_an_image(rt: HostRuntime) -> Result<(), Fail> {
     Ok(())
 }
 
+#[test]
+fn tells_a_bound_of_two_registers(rt: HostRuntime) -> Result<(), Fail> {
+    let alloc = rt.alloc();
+    let mut shelf = files(alloc, FOUR, HEAD, 4, PARAMS)?;
+    let certificate = certificate_of_two(alloc)?;
+    shelf.put("kernel.elf", image_with(alloc, &certificate)?.as_slice())?;
+    let told = (Status::Done, "accepted: bound 4 + 2 * x11 + 3 * x12\n", "");
+    expect(&rt, CHECK.as_slice(), &mut shelf, told, "read kernel.elf\n");
+    Ok(())
+}
+
 /// Asserts that `check` and `run` refuse this image alike, before any file of the job's parameters is read.
 fn expect_refused<R: Abort + AllocGlobal>(rt: &R, image: &[u8], told: &str) -> Result<(), Fail> {
     let alloc = rt.alloc();
@@ -189,6 +218,12 @@ fn runs_what_is_accepted(rt: HostRuntime) -> Result<(), Fail> {
             "image = \"kernel.elf\"\nvlen = 256\nagnostic = \"ones\"\n",
             14,
             "write told 20 00 00 00 05 00 00 00\n",
+        ),
+        (
+            LONGEST,
+            "image = \"kernel.elf\"\nvlen = 512\nagnostic = \"keep\"\n",
+            4,
+            "write told 40 00 00 00 05 00 00 00\n",
         ),
     ] {
         let mut shelf = files(alloc, claims, head, max, PARAMS)?;

@@ -1,6 +1,6 @@
 //! How certificates are read, written and made.
 use crate::assertions::assert_same;
-use cert_note::{CertError, Certificate, Contents, Vlen, read, write};
+use cert_note::{CertError, Certificate, Contents, Version, Vlen, read, write};
 use region_mem::{Param, Parameters};
 use std::alloc::{AllocError, Global};
 use std::test::Fail;
@@ -27,12 +27,13 @@ pub const BYTES: [u8; 261] = [
 ];
 
 /// The block of the loop: x10 is 0x40000000 - 4 * x11 + 4 * n, where n is parameter 1.
-const LOOP: &str = "Block { start: 65540, budget: Budget { constant: 1, factor: 8, register: 11 }, \
+const LOOP: &str = "Block { start: 65540, budget: Budget { constant: 1, factor: 8, register: 11, \
+second_factor: 0, second_register: 0 }, \
 vtype: None, registers: [RegisterFact { number: 1, low: 4294967280, high: 4294967280, equality: None }, \
 RegisterFact { number: 10, low: 1073741824, high: 1073745920, equality: Some(Equality { \
 constant: 1073741824, terms: [Term { atom: 11, coefficient: 4294967292 }, \
 Term { atom: 34, coefficient: 4 }] }) }, \
-RegisterFact { number: 11, low: 1, high: 1024, equality: None }], vectors: [] }";
+RegisterFact { number: 11, low: 1, high: 1024, equality: None }], vectors: [], orders: [] }";
 
 fn example(alloc: Global) -> Result<Certificate, CertError> {
     read(alloc, &BYTES)
@@ -93,6 +94,7 @@ fn refuses_bytes_that_spell_none(rt: HostRuntime) -> Result<(), Fail> {
 #[tactic(auto, unfolding(region_mem::specs::Parameter::parameters_of, region_mem::specs::Parameter::is_valid))]
 fn empty(alloc: Global) -> Certificate {
     Certificate::new(Contents {
+        version: Version::V1,
         vlen: Vlen::V256,
         parameters: Parameters::new([Param::None; 8]).unwrap(),
         blocks: Vec::new(alloc),

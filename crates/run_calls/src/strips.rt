@@ -36,6 +36,7 @@ fn accepted_raise(alloc: Global, vlen: Vlen) -> Result<Accepted, Fail> {
     bytes[2] = match vlen {
         Vlen::V128 => 1,
         Vlen::V256 => 2,
+        Vlen::V512 => 3,
     };
     let certificate = cert_note::read(alloc, &bytes)?;
     let image = image_of(alloc, &RAISE)?;
@@ -48,6 +49,8 @@ fn accepts_a_loop_over_strips(rt: HostRuntime) -> Result<(), Fail> {
     assert_bounds(&rt, &short);
     let long = accepted_raise(rt.alloc(), Vlen::V256)?;
     assert_bounds(&rt, &long);
+    let longest = accepted_raise(rt.alloc(), Vlen::V512)?;
+    assert_bounds(&rt, &longest);
     Ok(())
 }
 
@@ -96,7 +99,18 @@ fn runs_over_strips(rt: HostRuntime) -> Result<(), Fail> {
 #[test]
 fn runs_over_longer_strips(rt: HostRuntime) -> Result<(), Fail> {
     let long = accepted_raise(rt.alloc(), Vlen::V256)?;
-    assert_raises::<32>(&rt, &long, 9, 18, 4)
+    assert_raises::<32>(&rt, &long, 9, 18, 4)?;
+    assert_raises::<32>(&rt, &long, 1024, 1026, 4)
+}
+
+/// Seventeen words are two strips at 512 bits.
+#[test]
+fn runs_over_the_longest_strips(rt: HostRuntime) -> Result<(), Fail> {
+    let longest = accepted_raise(rt.alloc(), Vlen::V512)?;
+    assert_raises::<64>(&rt, &longest, 16, 10, 4)?;
+    assert_raises::<64>(&rt, &longest, 17, 18, 4)?;
+    assert_raises::<64>(&rt, &longest, 1023, 514, 4)?;
+    assert_raises::<64>(&rt, &longest, 1024, 514, 4)
 }
 
 #[test]

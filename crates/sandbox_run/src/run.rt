@@ -23,7 +23,7 @@ use vreg_groups::Agnostic;
 /// this order at one state, with the registers, the vector registers and the arguments of the state in which it stops. A
 /// fault changes nothing and is not counted as a step.
 ///
-/// VLENB, the length of a vector register in bytes, is 16 or 32. Memory for the run is taken at its start alone.
+/// VLENB, the length of a vector register in bytes, is 16, 32 or 64. Memory for the run is taken at its start alone.
 ///
 /// # Errors
 /// Arguments that do not match the parameters, in the order of [`Parameters::matches`]; `NoMemory` where memory for the
@@ -36,7 +36,7 @@ pub fn try_run<const VLENB: usize>(
     agnostic: Agnostic,
     max: u64,
 ) -> Result<Outcome<VLENB>, (OpenError, Args)>
-    requires { (VLENB ≡ 16) ⊎ (VLENB ≡ 32) }
+    requires { IsVlenb VLENB }
     ensures outcome { IfOk result (λ answer. answer ≡ answer_of VLENB (outcome VLENB max (start_of VLENB agnostic image.now parameters.now args.places))) }
     ensures refused { IfSome (argument_error parameters.now args.places) (λ error. IsErrAnd result (λ e. e.0 ≡ open_error_of error)) }
     ensures memory { AreArguments parameters.now args.places → IfErr result (λ e. e.0 ≡ OpenError.NoMemory) }

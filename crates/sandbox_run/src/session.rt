@@ -29,7 +29,7 @@ use vreg_groups::Agnostic;
 /// A run of an accepted image, between two steps. It ends without a fault, within a number of steps that was known when it
 /// was opened.
 ///
-/// `VLENB` is the length of a vector register in bytes, 16 or 32. `A` is the allocator of the run's memory. Only
+/// `VLENB` is the length of a vector register in bytes, 16, 32 or 64. `A` is the allocator of the run's memory. Only
 /// [`Session::open`] takes memory.
 #[derive(Drop)]
 pub struct Session<const VLENB: usize, A: Allocator = Global> {
@@ -103,7 +103,7 @@ impl<const VLENB: usize> Session<VLENB> {
         agnostic: Agnostic,
         max: u64,
     ) -> Result<Session<VLENB>, (OpenError, Args)>
-        requires { (VLENB ≡ 16) ⊎ (VLENB ≡ 32) }
+        requires { IsVlenb VLENB }
         ensures machine { IfOk result (λ s. s.machine ≡ start_of VLENB agnostic accepted.now.image
             accepted.now.certificate.parameters args.places) }
         ensures steps { IfOk result (λ s. s.steps ≡ 0) }

@@ -28,7 +28,7 @@ in_registers registers hart v memory = Ok (advanced hart, with_registers registe
 abbrev pub in_scalar : ℕ → ℕ → Hart → Vectors → Memory → Stepped
 in_scalar rd value hart v memory = Ok (advanced (with_reg rd value hart), v, memory)
 
--- what holds of every state: VLEN is 128 or 256, and vl is at most VLMAX, or 0 where vill is set
+-- what holds of every state: VLEN is 128, 256 or 512, and vl is at most VLMAX, or 0 where vill is set
 pub record IsVectors (vlenb : ℕ) (v : Vectors) : Type 0 where
   pub vlenb_is : IsVlenb vlenb
   pub config : IsConfig vlenb v.config

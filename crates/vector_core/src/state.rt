@@ -10,7 +10,7 @@ use rv_decode::Reg;
 use std::marker::Model;
 use vreg_groups::{Agnostic, Vconfig, VregFile, Vtype};
 
-/// The vector registers, of `VLENB` bytes each (16 or 32), vtype and vl, and what becomes of agnostic elements throughout
+/// The vector registers, of `VLENB` bytes each (16, 32 or 64), vtype and vl, and what becomes of agnostic elements throughout
 /// the run.
 #[derive(Drop)]
 pub struct VectorState<const VLENB: usize> {
@@ -43,7 +43,7 @@ impl<const VLENB: usize> VectorState<VLENB> {
         }
     }
 
-    /// A law of every state: VLEN is 128 or 256, and vl at most VLMAX.
+    /// A law of every state: VLEN is 128, 256 or 512, and vl at most VLMAX.
     pub fn state_law(&self)
         ensures { IsVectors VLENB self.now }
     {

@@ -6,12 +6,12 @@ use Rattle.vreg_groups.specs.Elements.{elements_of}
 use Rattle.vreg_groups.specs.Group.{Span, body_of}
 use Rattle.vreg_groups.specs.VectorLength.{IsVlenb}
 
--- a mask register has at most 256 bits
-pub few : (vlenb vl : ℕ) → IsVlenb vlenb → vl ≤ 8 * vlenb → vl ≤ 256
-few vlenb vl is h = elim is [ inl short ↦ omega (arith, short, h) | inr long ↦ omega (arith, long, h) ]
+-- a mask register has at most 512 bits
+pub few : (vlenb vl : ℕ) → IsVlenb vlenb → vl ≤ 8 * vlenb → vl ≤ 512
+few vlenb vl is h = omega (arith, is, h)
 
--- n elements are enough for 256 bytes
-pub enough : (size n vl : ℕ) → (size ≡ 1) ⊎ (size ≡ 2) ⊎ (size ≡ 4) → 256 ≤ size * n → size * vl ≤ 256 → vl ≤ n
+-- n elements are enough for 512 bytes
+pub enough : (size n vl : ℕ) → (size ≡ 1) ⊎ (size ≡ 2) ⊎ (size ≡ 4) → 512 ≤ size * n → size * vl ≤ 512 → vl ≤ n
 enough size n vl sizes room h =
     le_of_mul-le-mul_left {m = vl} {n = n} {k = size} (omega (arith, room, h))
     (elim sizes [ inl one ↦ omega (arith, one) | inr more ↦ elim more [ inl two ↦ omega (arith, two) | inr four ↦ omega (arith, four) ] ])

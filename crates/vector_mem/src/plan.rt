@@ -16,7 +16,7 @@ pub struct Access {
     pub right: Right,
 }
 
-/// The accesses of an instruction, the lowest-numbered element's first: at most 256 of them.
+/// The accesses of an instruction, the lowest-numbered element's first: at most `MOST_ELEMENTS` of them.
 #[derive(Drop)]
 pub struct AccessPlan {
     accesses: [Access; MOST_ELEMENTS],

@@ -43,9 +43,12 @@ per_register : (vlenb size : ℕ) → IsVlenb vlenb → (size ≡ 1) ⊎ (size �
 per_register vlenb size (inl v) (inl s) = (16, omega arith)
 per_register vlenb size (inl v) (inr (inl s)) = (8, omega arith)
 per_register vlenb size (inl v) (inr (inr s)) = (4, omega arith)
-per_register vlenb size (inr v) (inl s) = (32, omega arith)
-per_register vlenb size (inr v) (inr (inl s)) = (16, omega arith)
-per_register vlenb size (inr v) (inr (inr s)) = (8, omega arith)
+per_register vlenb size (inr (inl v)) (inl s) = (32, omega arith)
+per_register vlenb size (inr (inl v)) (inr (inl s)) = (16, omega arith)
+per_register vlenb size (inr (inl v)) (inr (inr s)) = (8, omega arith)
+per_register vlenb size (inr (inr v)) (inl s) = (64, omega arith)
+per_register vlenb size (inr (inr v)) (inr (inl s)) = (32, omega arith)
+per_register vlenb size (inr (inr v)) (inr (inr s)) = (16, omega arith)
 
 pub whole_elements : (vlenb size count : ℕ) → IsVlenb vlenb → (size ≡ 1) ⊎ (size ≡ 2) ⊎ (size ≡ 4) →
     size * (count * vlenb / size) ≡ count * vlenb

@@ -168,7 +168,7 @@ vlmax_small t vlenb vl h =
     omega (arith, body, x, y)
 
 -- a body's elements take no more than eight registers
-pub body_small : (t : Vtype) (vlenb vl : ℕ) → IsVlenb vlenb → vl ≤ vlmax_of vlenb t → bytes_of_width t.sew * vl ≤ 256
+pub body_small : (t : Vtype) (vlenb vl : ℕ) → IsVlenb vlenb → vl ≤ vlmax_of vlenb t → bytes_of_width t.sew * vl ≤ 512
 body_small t vlenb vl v h =
     let x : vlenb * eighths_of t.lmul ≤ vlenb * 64 = mul-le-mul_left vlenb (eighths_small t.lmul) in
-    bytes_fit (bits_of_width t.sew) vl 256 (omega (arith, body_fits t vlenb vl h, x))
+    bytes_fit (bits_of_width t.sew) vl 512 (omega (arith, body_fits t vlenb vl h, x))

@@ -9,7 +9,7 @@ use Rattle.vreg_groups.specs.VectorLength.{IsLength, IsVlenb}
 abbrev pub group_at : Setup → ℕ → Eew → Span
 group_at s first eew = group_of s.vtype s.vl first eew
 
--- VLEN is 128 or 256, and vl fits the type
+-- VLEN is 128, 256 or 512, and vl fits the type
 pub record IsSetup (vlenb : ℕ) (s : Setup) : Type 0 where
   pub vlenb_is : IsVlenb vlenb
   pub length : IsLength vlenb s.vtype s.vl

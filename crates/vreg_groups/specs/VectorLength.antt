@@ -6,15 +6,16 @@ use Rattle.vreg_groups.specs.declared.vector_type.TheConstants.{MOST_ELEMENTS}
 use Rattle.vreg_groups.specs.declared.vector_length.Avl.{Avl}
 use Rattle.vreg_groups.specs.declared.vector_length.Avl.TheVariants.{Keep, Greatest, Of}
 use Rattle.vreg_groups.specs.declared.vector_length.Vlen.{Vlen}
-use Rattle.vreg_groups.specs.declared.vector_length.Vlen.TheVariants.{V128, V256}
+use Rattle.vreg_groups.specs.declared.vector_length.Vlen.TheVariants.{V128, V256, V512}
 
--- the number of bytes of a vector register, VLEN / 8: VLEN is 128 or 256
+-- the number of bytes of a vector register, VLEN / 8: VLEN is 128, 256 or 512
 abbrev pub IsVlenb : ℕ → Type 0
-IsVlenb vlenb = (vlenb ≡ 16) ⊎ (vlenb ≡ 32)
+IsVlenb vlenb = (vlenb ≡ 16) ⊎ (vlenb ≡ 32) ⊎ (vlenb ≡ 64)
 
 abbrev pub vlenb_of : Vlen → ℕ
 vlenb_of V128 = 16
 vlenb_of V256 = 32
+vlenb_of V512 = 64
 
 -- vtype and vl where the request is not supported
 abbrev pub no_config : Vconfig

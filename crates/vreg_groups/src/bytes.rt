@@ -229,7 +229,7 @@ pub(crate) fn write_bits(
     policy: Policy,
 )
     requires room { at + count ≤ length bytes.old }
-    requires few { count ≤ 32 }
+    requires few { count ≤ 64 }
     ensures { bytes.new ≡ replaced 1 at count
         (new_mask_bytes at policy values.now active.now bytes.old) bytes.old }
 {
@@ -240,7 +240,7 @@ pub(crate) fn write_bits(
 
 #[tactic(auto, unfolding(crate::specs::NewElements::new_mask_byte, crate::specs::Elements::number_of_bits))]
 fn new_mask_byte(policy: Policy, values: &[bool], active: &[bool], j: usize, old: u8) -> u8
-    requires { j < 32 }
+    requires { j < 64 }
     ensures { result ≡ new_mask_byte policy values.now active.now j old }
 {
     if 8 * j + 8 <= values.len() && 8 * j + 8 <= active.len() {
@@ -258,7 +258,7 @@ fn new_mask_byte(policy: Policy, values: &[bool], active: &[bool], j: usize, old
 /// The same where all eight bits are of the body.
 #[tactic(auto, unfolding(crate::specs::NewElements::new_mask_byte, crate::specs::Elements::number_of_bits))]
 fn body_mask_byte(policy: Policy, values: &[bool], active: &[bool], j: usize, old: u8) -> u8
-    requires few { j < 32 }
+    requires few { j < 64 }
     requires results { 8 * j + 8 ≤ length values.now }
     requires told { 8 * j + 8 ≤ length active.now }
     ensures { result ≡ new_mask_byte policy values.now active.now j old }

@@ -17,10 +17,10 @@ use crate::policies::{Agnostic, Policy};
 use rv_decode::Reg;
 use std::marker::Model;
 
-/// The 32 vector registers, of `VLENB` bytes each: 16 or 32. Register n begins at byte n * VLENB.
+/// The 32 vector registers, of `VLENB` bytes each: 16, 32 or 64. Register n begins at byte n * VLENB.
 #[derive(Drop)]
 pub struct VregFile<const VLENB: usize> {
-    bytes: Block<u8, 1024>,
+    bytes: Block<u8, 2048>,
 }
 
 impl<const VLENB: usize> Model for VregFile<VLENB> {
@@ -43,7 +43,7 @@ impl<const VLENB: usize> VregFile<VLENB> {
         ensures { result ≡ replicate (32 * VLENB) 0 }
     {
         VregFile {
-            bytes: Block { items: [0; 1024] },
+            bytes: Block { items: [0; 2048] },
         }
     }
 
@@ -251,7 +251,7 @@ impl<const VLENB: usize> VregFile<VLENB> {
 
 // Where a register begins.
 fn place_of(register: Reg, vlenb: usize) -> usize
-    requires { vlenb ≤ 32 }
+    requires { vlenb ≤ 64 }
     ensures meaning { result ≡ register * vlenb }
     ensures within { result + vlenb ≤ 32 * vlenb }
 {

@@ -13,6 +13,8 @@ pub enum Vlen {
     V128,
     /// 256 bits.
     V256,
+    /// 512 bits.
+    V512,
 }
 
 impl Vlen {
@@ -24,6 +26,7 @@ impl Vlen {
         match self {
             Vlen::V128 => 16,
             Vlen::V256 => 32,
+            Vlen::V512 => 64,
         }
     }
 }

@@ -9,8 +9,8 @@ ghost use Rattle.vreg_groups.specs.declared.vector_type.TheConstants.{MOST_ELEME
 
 use rv_decode::{Eew, Width};
 
-/// The most elements that a body can have: the greatest VLMAX, of bytes at LMUL 8 and VLEN 256.
-pub const MOST_ELEMENTS: usize = 256;
+/// The most elements that a body can have: the greatest VLMAX, of bytes at LMUL 8 and VLEN 512.
+pub const MOST_ELEMENTS: usize = 512;
 
 /// How many vector registers a group has, or which part of one: LMUL.
 #[derive(Clone, Copy, PartialEq, Eq, Debug)]

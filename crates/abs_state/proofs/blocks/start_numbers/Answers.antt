@@ -1,7 +1,21 @@
-use Rattle.std.proofs.Common.{length, ap, ◌∙◌}
+use Rattle.std.proofs.Common.{arith, length, ap}
 use Rattle.abs_state.specs.Numbers.{NumbersView}
 use Rattle.abs_state.proofs.StartNumbers.{atoms_many}
 use Rattle.abs_state.proofs.blocks.start_numbers.Goals as goal
 
+pub add_orders-requires-clause-many : goal.add_orders-requires-clause-many
+add_orders-requires-clause-many g c = omega (arith, ap length c.in_ok-atoms.ensures.items, atoms_many c.args.parameters.now c.args.facts.now)
+
+pub add_orders-requires-clause-few : goal.add_orders-requires-clause-few
+add_orders-requires-clause-few g c = omega (arith, ap length c.in_ok-atoms.ensures.items, atoms_many c.args.parameters.now c.args.facts.now, c.requires.few)
+
 pub returns-clause-few : goal.returns-clause-few
-returns-clause-few g c = ap (λ (n : NumbersView). length n.atoms) c.by.ensures ∙ (ap length c.in_ok-atoms.ensures.items ∙ atoms_many _ _)
+returns-clause-few g c =
+    omega (
+      arith,
+      ap (λ (n : NumbersView). length n.atoms) c.by.ensures,
+      c.add_orders.ensures.count,
+      ap length c.in_ok-atoms.ensures.items,
+      atoms_many c.args.parameters.now c.args.facts.now,
+      c.requires.few,
+    )

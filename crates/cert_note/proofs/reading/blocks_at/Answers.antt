@@ -10,14 +10,14 @@ pub returns-in_err-block : goal.returns-in_err-block
 returns-in_err-block g c =
     let p = err_from_is_err_and c.from_residual.result c.from_residual.ensures.1 in
     rw (p.1, p.2)
-    (inr (ends (blocks_at c.args.vlen c.args.parameters.now) (block_at c.args.vlen c.args.parameters.now) after_block (blocks_many c.args.vlen c.args.parameters.now) c.in_err-block.field-0.0 c.loop.blocks.items c.args.count c.loop.counter c.loop.from c.loop.rest.now (blocks_at c.args.vlen c.args.parameters.now c.args.count 0 c.args.bytes.now) c.loop-test.true c.in_err-block.ensures c.loop.invariant))
+    (inr (ends (blocks_at c.args.version c.args.vlen c.args.parameters.now) (block_at c.args.version c.args.vlen c.args.parameters.now) after_block (blocks_many c.args.version c.args.vlen c.args.parameters.now) c.in_err-block.field-0.0 c.loop.blocks.items c.args.count c.loop.counter c.loop.from c.loop.rest.now (blocks_at c.args.version c.args.vlen c.args.parameters.now c.args.count 0 c.args.bytes.now) c.loop-test.true c.in_err-block.ensures c.loop.invariant))
 
 pub loop-preserved : goal.loop-preserved
 loop-preserved g c =
     let n = c.in_ok-block.block in
     rw c.in_ok-push.ensures.items
-    (goes_on (blocks_at c.args.vlen c.args.parameters.now) (block_at c.args.vlen c.args.parameters.now) after_block (blocks_many c.args.vlen c.args.parameters.now) c.loop.blocks.items c.args.count c.loop.counter c.loop.from c.loop.rest.now n c.in_ok-block.after.now (blocks_at c.args.vlen c.args.parameters.now c.args.count 0 c.args.bytes.now) c.loop-test.true c.in_ok-block.ensures c.loop.invariant)
+    (goes_on (blocks_at c.args.version c.args.vlen c.args.parameters.now) (block_at c.args.version c.args.vlen c.args.parameters.now) after_block (blocks_many c.args.version c.args.vlen c.args.parameters.now) c.loop.blocks.items c.args.count c.loop.counter c.loop.from c.loop.rest.now n c.in_ok-block.after.now (blocks_at c.args.version c.args.vlen c.args.parameters.now c.args.count 0 c.args.bytes.now) c.loop-test.true c.in_ok-block.ensures c.loop.invariant)
 
 pub returns : goal.returns
 returns g c =
-    is_done (blocks_at c.args.vlen c.args.parameters.now) (block_at c.args.vlen c.args.parameters.now) after_block (blocks_many c.args.vlen c.args.parameters.now) c.loop.blocks.items c.args.count c.loop.counter c.loop.from c.loop.rest.now (blocks_at c.args.vlen c.args.parameters.now c.args.count 0 c.args.bytes.now) c.loop-test.false c.loop.invariant
+    is_done (blocks_at c.args.version c.args.vlen c.args.parameters.now) (block_at c.args.version c.args.vlen c.args.parameters.now) after_block (blocks_many c.args.version c.args.vlen c.args.parameters.now) c.loop.blocks.items c.args.count c.loop.counter c.loop.from c.loop.rest.now (blocks_at c.args.version c.args.vlen c.args.parameters.now c.args.count 0 c.args.bytes.now) c.loop-test.false c.loop.invariant

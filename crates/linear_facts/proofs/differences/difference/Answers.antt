@@ -15,5 +15,5 @@ add_products-requires-2-clause-small c =
 
 pub returns-clause-small : goal.returns-clause-small
 returns-clause-small c =
-    at_most_more (0 + 2 ^ 69 + 2 ^ 69) (2 ^ 72) _ (omega arith)
+    at_most_more (0 + 2 ^ 69 + 2 ^ 69) (2 ^ 73) _ (omega arith)
     (c.add_products-2.ensures.bound (0 + 2 ^ 69) (c.add_products.ensures.bound 0 (none_small _ c.new.ensures)))

@@ -6,7 +6,7 @@ use Rattle.linear_facts.proofs.SumLaws.{at_most_more, at_most-with_term, length-
 use Rattle.linear_facts.proofs.sums.add_parts.Goals as goal
 
 pub add_term-requires-clause-small : goal.add_term-requires-clause-small
-add_term-requires-clause-small c = at_most_more (2 ^ 63) (2 ^ 100) _ (omega arith) c.requires.small
+add_term-requires-clause-small c = at_most_more (2 ^ 80) (2 ^ 100) _ (omega arith) c.requires.small
 
 pub add_term-requires-in-Some-clause-room : goal.add_term-requires-in-Some-clause-room
 add_term-requires-in-Some-clause-room c =
@@ -20,8 +20,8 @@ add_term-requires-in-Some-clause-room c =
 pub add_term-requires-in-Some-clause-small : goal.add_term-requires-in-Some-clause-small
 add_term-requires-in-Some-clause-small c =
     subst (λ (l : List WholeTerm). AllAtMost (2 ^ 100) l) (sym c.add_term.ensures)
-    (at_most_more (2 ^ 63 + 2 ^ 63) (2 ^ 100) _ (omega arith)
-    (at_most-with_term (2 ^ 63) (2 ^ 63) _ _ c.requires.small c.requires.plus c.requires.minus))
+    (at_most_more (2 ^ 80 + 2 ^ 80) (2 ^ 100) _ (omega arith)
+    (at_most-with_term (2 ^ 80) (2 ^ 80) _ _ c.requires.small c.requires.plus c.requires.minus))
 
 pub add_term-requires-in-None-clause-small : goal.add_term-requires-in-None-clause-small
-add_term-requires-in-None-clause-small c = at_most_more (2 ^ 63) (2 ^ 100) _ (omega arith) c.requires.small
+add_term-requires-in-None-clause-small c = at_most_more (2 ^ 80) (2 ^ 100) _ (omega arith) c.requires.small

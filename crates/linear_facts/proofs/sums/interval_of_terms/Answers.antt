@@ -7,14 +7,18 @@ use Rattle.linear_facts.proofs.SumLaws.{at_most_more}
 use Rattle.linear_facts.proofs.RangeLaws.{form_interval-few, form_interval-many}
 use Rattle.linear_facts.proofs.sums.interval_of_terms.Goals as goal
 
+pub split_terms-split-requires-clause-small : goal.split_terms-split-requires-clause-small
+split_terms-split-requires-clause-small c =
+    subst (λ (l : List WholeTerm). AllAtMost (2 ^ 68) l) (sym c.as_slice.ensures.value) (at_most_more (2 ^ 32) (2 ^ 68) _ (omega arith) c.signed_terms-signed.ensures.small)
+
 pub interval_by_ends-own-requires-clause-small : goal.interval_by_ends-own-requires-clause-small
 interval_by_ends-own-requires-clause-small c =
-    subst (λ (l : List WholeTerm). AllAtMost (2 ^ 72) l) (sym c.as_slice-2.ensures.value) (at_most_more (2 ^ 32) (2 ^ 72) _ (omega arith) c.signed_terms-signed.ensures.small)
+    subst (λ (l : List WholeTerm). AllAtMost (2 ^ 73) l) (sym c.as_slice-2.ensures.value) (at_most_more (2 ^ 32) (2 ^ 73) _ (omega arith) c.signed_terms-signed.ensures.small)
 
 pub interval_by_ends-requires-clause-small : goal.interval_by_ends-requires-clause-small
 interval_by_ends-requires-clause-small c =
-    subst (λ (l : List WholeTerm). AllAtMost (2 ^ 72) l) (sym c.as_slice-then-nonzero_terms-le8.ensures.value)
-    (at_most_more (2 ^ 40) (2 ^ 72) _ (omega arith) c.split_terms-split.ensures.small)
+    subst (λ (l : List WholeTerm). AllAtMost (2 ^ 73) l) (sym c.as_slice-then-nonzero_terms-le8.ensures.value)
+    (at_most_more (2 ^ 40) (2 ^ 73) _ (omega arith) (c.split_terms-split.ensures.close (subst (λ (l : List WholeTerm). AllAtMost (2 ^ 32) l) (sym c.as_slice.ensures.value) c.signed_terms-signed.ensures.small)))
 
 -- the terms that are split
 split_now : (table : AtomTable) (now own own' items : List WholeTerm) → now ≡ items → items ≡ with_split table [] own → own ≡ own'
@@ -61,5 +65,5 @@ returns-then-nonzero_terms-le8-clause-close c =
     (at_most_more (2 ^ 32) (2 ^ 40) _ (omega arith) c.signed_terms-signed.ensures.small))
     (omega (arith, c.from-constant.ensures, c.ranges.constant)) refl)
     (c.interval_by_ends.ensures.close
-    (subst (λ (l : List WholeTerm). AllAtMost (2 ^ 40) l) (sym c.as_slice-then-nonzero_terms-le8.ensures.value) c.split_terms-split.ensures.small)
+    (subst (λ (l : List WholeTerm). AllAtMost (2 ^ 40) l) (sym c.as_slice-then-nonzero_terms-le8.ensures.value) (c.split_terms-split.ensures.close (subst (λ (l : List WholeTerm). AllAtMost (2 ^ 32) l) (sym c.as_slice.ensures.value) c.signed_terms-signed.ensures.small)))
     (omega (arith, c.from-constant.ensures, c.ranges.constant)) refl)

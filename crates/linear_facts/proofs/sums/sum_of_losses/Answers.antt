@@ -7,7 +7,7 @@ use Rattle.linear_facts.proofs.sums.sum_of_losses.Goals as goal
 pub overflow_mul-sum : goal.overflow_mul-sum
 overflow_mul-sum c = omega (
   arith,
-  share_bound (2 ^ 72) _ _ _ _ (at_most_at _ _ _ _ c.requires.small c.loop-term-test.true).1 c.saturating_sub-coefficient.ensures c.end_of_range.ensures.fits,
+  share_bound (2 ^ 73) _ _ _ _ (at_most_at _ _ _ _ c.requires.small c.loop-term-test.true).1 c.saturating_sub-coefficient.ensures c.end_of_range.ensures.fits,
 )
 
 pub overflow_add-sum : goal.overflow_add-sum
@@ -16,7 +16,7 @@ overflow_add-sum c = omega (
   c.loop-term.invariant.bound,
   c.requires.few,
   c.loop-term-test.true,
-  share_bound (2 ^ 72) _ _ _ _ (at_most_at _ _ _ _ c.requires.small c.loop-term-test.true).1 c.saturating_sub-coefficient.ensures c.end_of_range.ensures.fits,
+  share_bound (2 ^ 73) _ _ _ _ (at_most_at _ _ _ _ c.requires.small c.loop-term-test.true).1 c.saturating_sub-coefficient.ensures c.end_of_range.ensures.fits,
 )
 
 pub loop-term-preserved : goal.loop-term-preserved
@@ -26,7 +26,7 @@ loop-term-preserved c = record {
   bound = omega (
     arith,
     c.loop-term.invariant.bound,
-    share_bound (2 ^ 72) _ _ _ _ (at_most_at _ _ _ _ c.requires.small c.loop-term-test.true).1 c.saturating_sub-coefficient.ensures c.end_of_range.ensures.fits,
+    share_bound (2 ^ 73) _ _ _ _ (at_most_at _ _ _ _ c.requires.small c.loop-term-test.true).1 c.saturating_sub-coefficient.ensures c.end_of_range.ensures.fits,
   );
   close = λ small. omega (
     arith,

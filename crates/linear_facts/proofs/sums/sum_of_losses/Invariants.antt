@@ -6,6 +6,6 @@ use Rattle.linear_facts.proofs.sums.sum_of_losses.Given as goal
 abbrev pub invariant-loop-term : goal.invariant-loop-term
 invariant-loop-term l = record {
   rest : l.sum + losses (ends l.atoms l.end) (drop l.term-index l.terms) ≡ losses (ends l.atoms l.end) l.terms;
-  bound : l.sum ≤ l.term-index * 2 ^ 104;
+  bound : l.sum ≤ l.term-index * 2 ^ 105;
   close : AllAtMost (2 ^ 40) l.terms → l.sum ≤ l.term-index * 2 ^ 72;
 }

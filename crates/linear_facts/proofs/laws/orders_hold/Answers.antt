@@ -1,0 +1,5 @@
+use Rattle.linear_facts.proofs.DifferenceLaws.{orders-hold}
+use Rattle.linear_facts.proofs.laws.orders_hold.Goals as goal
+
+pub returns : goal.returns
+returns c = orders-hold
