@@ -4,7 +4,7 @@ ghost use Rattle.vreg_groups.specs.VectorLength.{IsVlenb};
 
 use crate::arguments::Given;
 use crate::fields::{RowError, bytes, hex, next, setting, vlen};
-use crate::state::{Difference, Part, State, differ, vector_bytes};
+use crate::state::{Difference, Part, State, VECTOR_BYTES, differ, vector_bytes};
 use crate::step::Named;
 use crate::table::Table;
 use region_mem::{Arg, Args, Mode, Parameters};
@@ -116,7 +116,7 @@ fn run<const VLENB: usize>(alloc: Global, case: &Case<'_>) -> Result<Option<Stri
 }
 
 /// The registers in the end.
-pub(crate) fn last_state(registers: &Registers, v: [u8; 1024]) -> State {
+pub(crate) fn last_state(registers: &Registers, v: [u8; VECTOR_BYTES]) -> State {
     State {
         pc: registers.pc,
         x: registers.x,

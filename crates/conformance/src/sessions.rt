@@ -6,7 +6,7 @@ use crate::arguments::Given;
 use crate::checks::accept;
 use crate::fields::{RowError, bytes, hex};
 use crate::runs::{Case, Last, last_state, read_case, start};
-use crate::state::{Difference, Part, State, differ};
+use crate::state::{Difference, Part, State, VECTOR_BYTES, differ};
 use crate::table::Table;
 use block_checker::Accepted;
 use rv_decode::Reg;
@@ -86,10 +86,10 @@ fn left_by<const VLENB: usize>(session: Session<VLENB>, end: String) -> Last
 }
 
 /// The bytes of all vector registers, and zeros behind them.
-fn vectors_of<const VLENB: usize>(session: &Session<VLENB>) -> [u8; 1024]
+fn vectors_of<const VLENB: usize>(session: &Session<VLENB>) -> [u8; VECTOR_BYTES]
     requires { IsVlenb VLENB }
 {
-    let mut bytes = [0; 1024];
+    let mut bytes = [0; VECTOR_BYTES];
     for number in 0..32u8 {
         let to = &mut bytes[usize::from(number) * VLENB..];
         for (to, from) in to.iter_mut().zip(session.vector(Reg::new(number))) {

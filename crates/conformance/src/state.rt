@@ -11,6 +11,9 @@ use std::alloc::Global;
 use std::fmt;
 use vreg_groups::{Vconfig, VregFile};
 
+/// How many bytes the vector registers have at the greatest length.
+pub const VECTOR_BYTES: usize = 2048;
+
 /// pc, all registers, and the CSRs. Vector register n begins at byte n * VLENB of `v`.
 #[derive(Clone, Copy)]
 pub struct State {
@@ -19,7 +22,7 @@ pub struct State {
     pub config: Vconfig,
     pub vxrm: u32,
     pub vxsat: u32,
-    pub v: [u8; 1024],
+    pub v: [u8; VECTOR_BYTES],
 }
 
 impl State {
@@ -31,13 +34,13 @@ impl State {
             config: Vconfig::none(),
             vxrm: 0,
             vxsat: 0,
-            v: [0; 1024],
+            v: [0; VECTOR_BYTES],
         }
     }
 
     /// Fills the registers but x0 with draws.
     pub(crate) fn fill(&mut self, mut draws: Draws, vlenb: usize)
-        requires { vlenb < 33 }
+        requires { vlenb < 65 }
     {
         for number in 1..32 {
             self.x[number] = draws.draw();
@@ -84,7 +87,7 @@ impl State {
         name: &str,
         value: &str,
     ) -> Result<bool, RowError>
-        requires { vlenb < 33 }
+        requires { vlenb < 65 }
     {
         match name {
             "pc" => self.pc = hex(value)?,
@@ -104,7 +107,7 @@ impl State {
         name: &str,
         value: &str,
     ) -> Result<bool, RowError>
-        requires { vlenb < 33 }
+        requires { vlenb < 65 }
     {
         if let Some(number) = name.strip_prefix("x") {
             self.x[usize::from(register(number)?.number())] = hex(value)?;
@@ -117,7 +120,7 @@ impl State {
     }
 
     fn set_vector(&mut self, register: Reg, vlenb: usize, bytes: &[u8]) -> Result<(), RowError>
-        requires { vlenb < 33 }
+        requires { vlenb < 65 }
     {
         if bytes.len() > vlenb {
             return Err(RowError::NoRow);
@@ -180,10 +183,10 @@ fn register(text: &str) -> Result<Reg, RowError> {
 }
 
 /// The bytes of all vector registers, and zeros behind them.
-pub(crate) fn vector_bytes<const VLENB: usize>(registers: &VregFile<VLENB>) -> [u8; 1024]
+pub(crate) fn vector_bytes<const VLENB: usize>(registers: &VregFile<VLENB>) -> [u8; VECTOR_BYTES]
     requires { IsVlenb VLENB }
 {
-    let mut bytes = [0; 1024];
+    let mut bytes = [0; VECTOR_BYTES];
     for number in 0..32u8 {
         for i in 0..VLENB {
             bytes[usize::from(number) * VLENB + i] = registers.byte(Reg::new(number), i);
