@@ -93,12 +93,13 @@ def decode(word):
     return i, f
 
 
-def text_of(word):
+def text_of(word, at=0x10000):
+    """What a word means at an address."""
     d = decode(word)
     if d is None:
         return 'illegal'
     i, f = d
-    show = {'csr': lambda v: '%03x' % v, 'to': lambda v: '%08x' % (0x10000 + v & M32)}
+    show = {'csr': lambda v: '%03x' % v, 'to': lambda v: '%08x' % (at + v & M32)}
     out = i.name
     for n in ORDER:
         if n in f:

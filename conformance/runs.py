@@ -572,6 +572,8 @@ def later():
     yield Run('a trap where no step is left, behind a step', of_words(0x13, 0), most=1, by_hand=told)
     yield Run('a trap where one step is left', of_words(0x13, 0), most=2)
     yield Run('a run that ends where no step is left', of_words(0x13, 0x8067), most=2)
+    for most in ((1 << 63) - 1, 1 << 63, (1 << 64) - 1):
+        yield Run('at most %d steps' % most, of_words(0x13, 0x8067), most=most)
     for vlenb in (16, 32, 64):
         yield Run('a vector store over two segments', in_segments(
             'vsetivli x0,8,e8,m1; lui a1,0x20; addi a1,a1,12; vmv.v.i v8,7; vse8.v v8,(a1); vle8.v v9,(a1); ret', *ADJOINING), [], vlenb)

@@ -93,6 +93,8 @@ BUDGETS = [
     ('the second pointer', 'ret', 'rw 4097, r 1', '5 2*x11; R; x11 is 0x40003000', [w(some(4097)), r(b'a')], 5 + 2 * 0x40003000),
     ('the greatest numbers', 'ret', 's 0 0xffffffff', '4294967295 4294967295*x10; R', [0x7fffffff], 0xffffffff * 0x80000000)]
 MOST = (1 << 63) - 1
+# What is passed for the greatest numbers, and most steps that are enough: the bound itself, and the greatest number of 64 bits.
+BEYOND = [(0x80000000, 0xffffffff * 0x80000001), (0xffffffff, 0xffffffff << 32), (0xffffffff, (1 << 64) - 1)]
 EVERY_WORD = '\n'.join('%#x %d; R' % (CODE + 4 * n, 1024 - n) for n in range(1024))
 FAR_SEGMENTS = 'lui t0,0x21; lui t1,0x2f; lw t2,4(t0); sw t2,8(t1); lb t2,3(t1); sh t2,0(t0); ret'
 INTO_WHAT_MAY_BE_WRITTEN_ALONE = 'lui t0,0x20; li t1,1638; sw t1,2(t0); sb t1,0(t0); ret'
@@ -109,8 +111,14 @@ def later_runs(vlenb):
         image, arguments, bound = budgeted(name, vlenb)
         yield Run('a budget in %s' % name, image, arguments, vlenb, most=bound)
     yield Run('the most steps that a job may have', raising(vlenb), [w(some(4096)), 9], vlenb, most=MOST)
+    greatest, _, _ = budgeted('the greatest numbers', vlenb)
+    for number, most in BEYOND:
+        yield Run('a bound above 2^63 - 1', greatest, [number], vlenb, most=most)
     if vlenb == 16:
         yield Run('1024 blocks', file_of(kernel('; '.join(['nop'] * 1023) + '; ret', '', EVERY_WORD)), [])
+        yield Run('500 blocks', file_of(kernel('; '.join(['nop'] * 499) + '; ret', '', '\n'.join(EVERY_WORD.split('\n')[:500]))), [])
+        three = [(0x20000 + 4096 * n, some(16, n), 4096, 6) for n in (1, 7, 15)]
+        yield Run('four segments', file_of(kernel(FAR_SEGMENTS, '', '0x10000 7; R', more=three)), [])
         fifteen = [(0x20000 + 4096 * n, some(16, n), 4096, 6) for n in range(1, 16)]
         yield Run('16 segments', file_of(kernel(FAR_SEGMENTS, '', '0x10000 7; R', more=fifteen)), [])
         # What a session shows of memory it shows whatever the rights; qemu reads no page that may be written alone.
@@ -137,6 +145,8 @@ def later_refusals():
         image, arguments, bound = budgeted(name)
         yield Refused('one step fewer than a budget in %s' % name, image, 'BoundTooLarge', arguments, most=bound - 1)
     image, _, _ = budgeted('the greatest numbers')
+    for number, most in BEYOND[:2]:
+        yield Refused('one step fewer than a bound above 2^63 - 1', image, 'BoundTooLarge', [number], most=most - 1)
     yield Refused('a bound above the most steps that a job may have', image, 'BoundTooLarge', [0x80000000], most=MOST)
     yield Refused('an image that does not pass, and no argument', straight(GATHER, 'r 255, r 16, rw 16', 5, 16), 'AccessNotProved 00010008', [], most=0)
     code = code_bytes([0x8067])
