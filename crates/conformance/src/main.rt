@@ -7,6 +7,7 @@ mod checks;
 mod draws;
 mod fields;
 mod images;
+mod jobs;
 mod legality;
 mod listing;
 mod memory;
@@ -21,6 +22,7 @@ mod words;
 use anyhow::Result;
 use checks::Checks;
 use images::Images;
+use jobs::Jobs;
 use legality::Legality;
 use runs::Runs;
 use sessions::Sessions;
@@ -37,5 +39,6 @@ fn main(rt: HostRuntime) -> Result<()> {
     run_table(&rt, "checks", "checks.txt", &mut Checks)?;
     run_table(&rt, "orders", "orders.txt", &mut Checks)?;
     run_table(&rt, "sessions", "sessions.txt", &mut Sessions)?;
+    run_table(&rt, "jobs", "jobs.txt", &mut Jobs)?;
     Ok(())
 }
