@@ -11,6 +11,16 @@ from outside import certificates, checker, model
 EVERYWHERE = [checker.Zone(-1 << 60, 1 << 60, certificates.READ | certificates.WRITE)]
 VL = checker.VL
 
+
+def copied(known, _):
+    """What is known, so that a change of the copy leaves the other as it is: numbers and forms are never changed in place."""
+    other = object.__new__(checker.Known)
+    other.__dict__ = {name: value.copy() if isinstance(value, (list, dict)) else value for name, value in known.__dict__.items()}
+    return other
+
+
+checker.Known.__deepcopy__ = copied     # the checker copies at each branch, and a search walks many
+
 # known: what is known on the way. start: the values where the source begins. told: the orders that the branch tells.
 Edge = namedtuple('Edge', 'source target known start told words pc')
 
@@ -65,6 +75,12 @@ def words_of(image, start, starts):
         if leads_to(*decoded, pc - 4)[1] or pc in starts:
             return out
     return out
+
+
+def branches_of(image, starts):
+    """Where the branches stand that end these blocks."""
+    last = (words[-1] for words in (words_of(image, start, starts) for start in starts) if words)
+    return {pc for pc, i, _ in last if i.shape == 'branch'}
 
 
 class Explorer(checker.Walk):

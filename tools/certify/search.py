@@ -14,11 +14,12 @@ from outside import certificates, checker, model
 FULL, VL, PASSED = certificates.FULL, checker.VL, checker.PASSED
 BEFORE_WIDENING, ROUNDS_BACK, MOST_ROUNDS = 4, 4, 400
 
-# One way to search: which registers are to stay free in sums, whether registers that are not read any more count, which orders.
-Plan = namedtuple('Plan', 'free dead orders')
-PLANS = [Plan('lengths', False, 'none'), Plan('lengths', False, 'lengths'), Plan('counters', False, 'none'),
-         Plan('lengths', True, 'none'), Plan('pointers', False, 'branches'), Plan('counters', True, 'branches'),
-         Plan('lengths', False, 'all'), Plan('lengths', True, 'all')]
+# One way to search: which registers are to stay free in sums, whether registers that are not read any more count, which orders,
+# and whether a block begins at each branch as well, where what is compared is a number of its own.
+Plan = namedtuple('Plan', 'free dead orders cuts')
+PLANS = [Plan('lengths', False, 'none', False), Plan('lengths', False, 'lengths', False), Plan('lengths', False, 'none', True),
+         Plan('counters', False, 'branches', True), Plan('lengths', True, 'none', False), Plan('pointers', False, 'branches', False),
+         Plan('lengths', False, 'all', True), Plan('lengths', True, 'all', True)]
 
 # What came out. certificate: the best that was found. answer: what the second checker says of it. trouble: why there is no budget.
 Found = namedtuple('Found', 'certificate answer trouble plan finder')
@@ -45,6 +46,8 @@ class Finder:
         params = list(params) + [certificates.Param('none')] * (8 - len(params))
         self.frame = certificates.Certificate(vlen, params, [], 1)
         self.starts = flow.starts_of(image, [image.entry])
+        if plan.cuts:
+            self.starts |= flow.branches_of(image, self.starts)
         self.guesses, self.sums, self.orders = {}, {}, {}
         self.marks = marks_of(image, params)
 
@@ -147,7 +150,7 @@ class Finder:
             for pc, i, f in self.words[start]:
                 affine.step(space, i, f, pc, self.vlenb)
             for target in self.targets[start] & self.words.keys():
-                new = spaces[target].joined(space) if target in spaces else Space_reduced(space)
+                new = spaces[target].joined(space) if target in spaces else affine.Space(space.point, affine.reduced(space.directions, range(1, affine.PLACES))[0])
                 if target not in spaces or len(new.directions) > len(spaces[target].directions):
                     spaces[target] = new
                     todo.append(target)
@@ -207,7 +210,6 @@ class Finder:
     # ---- The whole ---------------------------------------------------------------------------------------------------------
 
     def find(self):
-        self.live = {start: set(range(1, 33)) for start in range(0)}
         self.live = EveryRegister()
         self.settle_flow()
         for _ in range(2):
@@ -243,10 +245,6 @@ class EveryRegister(dict):
 
     def __missing__(self, start):
         return set(range(1, 33))
-
-
-def Space_reduced(space):
-    return affine.Space(space.point, affine.reduced(space.directions, range(1, affine.PLACES))[0])
 
 
 def met_fact(s, fact, is_wide):
