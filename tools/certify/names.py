@@ -29,10 +29,10 @@ VTYPE_BITS = {vtype(bits): bits for bits in table.VTYPES}
 def total(constant, terms):
     """A sum as `0x40000000 - 4 * a1 + 4 * passed 1`."""
     parts = []
-    for number, factor in terms:
+    for place, factor in terms:
         factor = model.signed(factor, 32)
         times = '' if abs(factor) == 1 else f'{abs(factor)} * '
-        parts.append(('- ' if factor < 0 else '+ ') + times + atom(number))
+        parts.append(('- ' if factor < 0 else '+ ') + times + atom(place))
     parts = ([number(constant)] if constant or not parts else []) + parts
     return ' '.join(parts).removeprefix('+ ')
 

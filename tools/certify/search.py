@@ -6,6 +6,7 @@ budgets come from `budgets`. Nothing here is trusted: what comes out is judged b
 """
 from collections import namedtuple
 
+import advice
 import affine
 import budgets
 import flow
@@ -289,15 +290,12 @@ def judged(image, certificate):
 
 def find(image, params, vlen):
     """The first certificate that the second checker accepts, else the one with which the search came furthest."""
-    best = None
+    best, least = None, None
     for plan in PLANS:
         found = Finder(image, params, vlen, plan).find()
         if found.answer == 'accepted':
             return found
-        if best is None or depth(found) > depth(best):
-            best = found
+        wrong = len(list(advice.misfits(image, found.certificate))), found.trouble is not None
+        if best is None or wrong < least:
+            best, least = found, wrong
     return best
-
-
-def depth(found):
-    return 0 if found.answer.startswith('BudgetNotProved') else -1
