@@ -7,7 +7,8 @@ HELP = {
     'NotCode': 'the kernel leads to where no code is',
     'IllegalWord': 'the word means no instruction of RV32IM and Zve32x, or is not legal with this vector type: compile with '
                    '-march=rv32im_zve32x',
-    'VtypeUnknown': 'the vector type is not the same on each way here: set it (vsetvli) in the loop itself',
+    'VtypeUnknown': 'the vector type is not the same on each way here: set it (vsetvli) in the loop itself, or '
+                    'compile with -Os -fno-vectorize where the compiler made the vector instructions',
     'ReadOnly': 'the buffer may only be read: state mode = "rw" in the job',
     'TargetNotABlock': 'where the jump leads is not known: no function pointers, and no return address in memory; make the functions '
                        'inline',

@@ -139,9 +139,9 @@ class Finder:
             pass
         self.words = {start: flow.words_of(self.image, start, self.starts) for start in self.guesses}
         self.targets = {start: {e.target for e in self.edges(start)} for start in self.guesses}
-        self.live = flow.live_at(self.words, self.targets)
+        self.live = EveryRegister(flow.live_at(self.words, self.targets))
         if self.plan.dead:
-            self.live = {start: set(range(1, 33)) for start in self.live}
+            self.live = EveryRegister((start, set(range(1, 33))) for start in self.live)
 
     def find_sums(self):
         spaces, todo = {self.image.entry: affine.at_entry(self.frame)}, [self.image.entry]
@@ -150,12 +150,13 @@ class Finder:
             space = spaces[start].copy()
             for pc, i, f in self.words[start]:
                 affine.step(space, i, f, pc, self.vlenb)
-            for target in self.targets[start] & self.words.keys():
+            for target in self.targets.get(start, set()) & self.words.keys():
                 new = spaces[target].joined(space) if target in spaces else affine.Space(space.point, affine.reduced(space.directions, range(1, affine.PLACES))[0])
                 if target not in spaces or len(new.directions) > len(spaces[target].directions):
                     spaces[target] = new
                     todo.append(target)
-        self.sums = {start: self.sums_at(start, space.copy()) for start, space in spaces.items()}
+        self.sums = {start: {} for start in self.words}
+        self.sums.update((start, self.sums_at(start, space.copy())) for start, space in spaces.items())
 
     def sums_at(self, start, space):
         live = self.live[start]
@@ -185,8 +186,8 @@ class Finder:
         if self.plan.orders in ('branches', 'all'):
             both = [(f['rs1'], f['rs2']) for i, f in words if i.shape == 'branch' and f['rs1'] and f['rs2']]
             pairs += both + [(two, one) for one, two in both]
-        for start, live in self.live.items():
-            sums, orders = self.sums[start], {}
+        for start in self.words:
+            live, sums, orders = self.live[start], self.sums[start], {}
             for greater, lesser in pairs:
                 if {greater, lesser} <= live - sums.keys() and greater not in orders and greater != lesser:
                     orders[greater] = certificates.OrderFact(greater, lesser)
@@ -198,11 +199,11 @@ class Finder:
         ways = [(checker.at_entry(self.frame, self.vlenb), self.image.entry, ())]
         ways += [(e.known, e.target, e.told) for e in self.all_edges() if e.target in self.guesses]
         for known, target, told in ways:
-            for number, equal in list(self.sums[target].items()):
+            for number, equal in list(self.sums.setdefault(target, {}).items()):
                 if not checker.is_equal(known, certificates.RegisterFact(number, *FULL, equal)):
                     del self.sums[target][number]
                     is_all = False
-            for order in self.orders[target]:
+            for order in self.orders.get(target, ()):
                 if order not in told and not checker.is_in_order(known, known.x[order.s], known.x[order.r]):
                     self.orders[target] = tuple(o for o in self.orders[target] if o != order)
                     is_all = False
@@ -233,6 +234,7 @@ class Finder:
             while not self.intervals():
                 pass
             is_settled = self.drop_what_fails()
+        self.words = {start: flow.words_of(self.image, start, self.starts) for start in self.guesses}
         self.targets = {start: {e.target for e in self.edges(start)} for start in self.guesses}
 
     def certificate(self):
