@@ -70,6 +70,10 @@ def differences(words):
 
 def help_with_loop(found):
     words = [word for start in found.trouble.loop for word in found.finder.words[start]]
+    every = [i for block in found.finder.words.values() for _, i, _ in block]
+    if any(i.shape in ('vload_whole', 'vstore_whole') for i in every):
+        return ('the count is stepped by a whole strip: compile with -Os -fno-vectorize, or write the loop with intrinsics and '
+                '`n -= vl`')
     compared = {f[name] for _, i, f in words if i.shape == 'branch' for name in ('rs1', 'rs2')}
     steps = {f['rd']: f['imm'] for _, i, f in words if i.name == 'addi' and f['rd'] == f['rs1']}
     for register, step in steps.items():
