@@ -4,6 +4,7 @@
 # static, without compressed instructions and without floating point: RV32IM, with Zve32x in assembly and in C that
 # stands beside a native.c. That program is built and run too: it writes the inputs and the
 # expected bytes. An image beside whose source a certificate.toml stands gets that certificate as a note.
+# For C with vector intrinsics a certificate is searched, at each length of a vector register.
 set -e
 cd "$(dirname "$0")"
 kernel=$1
@@ -18,6 +19,9 @@ if [ -e "$kernel/native.c" ]; then
     clang-16 -O1 -fno-vectorize "$kernel/native.c" -o "$kernel/native"
     (cd "$kernel" && ./native && rm native)
 fi
+if grep -q riscv_vector.h "$source"; then
+    options="-march=rv32im_zve32x -Os -ffreestanding -fno-builtin"
+fi
 clang-16 --target=riscv32 $options -mabi=ilp32 -mno-relax -c "$source" -o "$kernel/$kernel.o"
 ld.lld-16 -static -no-pie -z max-page-size=4 -z noexecstack --strip-all -T kernel.ld \
     "$kernel/$kernel.o" -o "$kernel/$kernel.elf"
@@ -25,4 +29,7 @@ chmod -x "$kernel/$kernel.elf"
 rm "$kernel/$kernel.o"
 if [ -e "$kernel/certificate.toml" ]; then
     ./certify.py "$kernel"
+fi
+if grep -q riscv_vector.h "$source"; then
+    ../tools/certify/certify find "$kernel/$kernel.elf" "$kernel/job.toml" --vlen 128,256,512 -o "$kernel/$kernel.elf"
 fi

@@ -1,5 +1,5 @@
 #!/usr/bin/env python3
-"""Writes the inputs of histogram, clamp_add, raise_words, translate, raise_if and fill_rows, and what they must leave, computed apart from any machine."""
+"""Writes the inputs of histogram, clamp_add, raise_words, translate, raise_if, fill_rows and grey, and what they must leave, computed apart from any machine."""
 import os
 import struct
 
@@ -38,3 +38,9 @@ write("raise_if/expected.bin", [(number + 1) % 256 for number in numbers[:1000]]
 
 write("fill_rows/zeros.bin", 4096 * [0])
 write("fill_rows/expected.bin", 50 * 64 * [5] + 14 * 64 * [0])
+
+colours = [(29 * i + i // 7) % 256 for i in range(3072)]
+pixels = zip(*[iter(colours[:3000])] * 3)
+write("grey/rgb.bin", colours)
+write("grey/zeros.bin", 1024 * [0])
+write("grey/expected.bin", [(77 * r + 150 * g + 29 * b) // 256 for r, g, b in pixels] + 24 * [0])

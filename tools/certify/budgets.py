@@ -1,0 +1,159 @@
+"""Budgets: how many instructions a run may still take, for each block, by longest paths.
+
+In a loop a register is looked for that falls on some of the ways round and rises on none. Without those ways what is left is
+walked again, with another register where a loop is left; so a budget names as many registers as loops stand within one another.
+"""
+from collections import namedtuple
+
+import flow
+from outside import checker, model
+
+ROOM = 2
+
+
+class NoBudget(Exception):
+    """Why there is none: a loop's blocks, and what is wrong with it."""
+
+    def __init__(self, loop, why):
+        super().__init__(why)
+        self.loop, self.why = loop, why
+
+
+class Budget(namedtuple('Budget', 'constant factors')):
+    """A constant and multiples of registers."""
+
+    def more(self, constant=0, register=None, factor=0):
+        factors = dict(self.factors)
+        if register:
+            factors[register] = factors.get(register, 0) + factor
+        return Budget(self.constant + constant, {r: k for r, k in factors.items() if k})
+
+    def most(self, other):
+        both = self.factors.keys() | other.factors.keys()
+        return Budget(max(self.constant, other.constant),
+                      {r: max(self.factors.get(r, 0), other.factors.get(r, 0)) for r in both})
+
+
+NOTHING = Budget(0, {})
+
+
+def at_least(edge, constant, parts):
+    """The least that a sum of forms is on a way, in whole numbers; None where the forms do not say it."""
+    total = checker.whole_sum(edge.known, constant, parts)
+    return None if total is None else checker.interval_of(*total, edge.known.atoms)[0]
+
+
+def fall(edge, register):
+    """By how much a register falls at least from the block's start to the end of this way; below 0 where it may rise."""
+    before, after = edge.start[register], edge.known.x[register]
+    by_ends = before.range[0] - after.range[1]
+    by_forms = at_least(edge, 0, ((1, before.form), (-1, after.form)))
+    return by_ends if by_forms is None else max(by_ends, by_forms)
+
+
+def spare(edge, have, need):
+    """What is left of a budget behind the words of a way and the budget of its end."""
+    ends = have.constant - edge.words - need.constant
+    by_ends = (ends + sum(k * edge.start[r].range[0] for r, k in have.factors.items())
+               - sum(k * edge.known.x[r].range[1] for r, k in need.factors.items()))
+    parts = [(k, edge.start[r].form) for r, k in have.factors.items()] + [(-k, edge.known.x[r].form) for r, k in need.factors.items()]
+    by_forms = at_least(edge, ends, parts)
+    return by_ends if by_forms is None else max(by_ends, by_forms)
+
+
+def over(edge, need, room):
+    """A budget at the start of a way that pays for its words and what is needed at its end."""
+    state = edge.known
+    by_ends = edge.words + need.constant + sum(k * state.x[r].range[1] for r, k in need.factors.items())
+    total = checker.whole_sum(state, edge.words + need.constant, [(k, state.x[r].form) for r, k in need.factors.items()])
+    if total is None:
+        return Budget(by_ends, {})
+    budget = Budget(total[0], {})
+    for atom, k in total[1].items():
+        register = next((r for r in range(1, 32) if edge.start[r].form.only_atom() == atom), None)
+        if register and k > 0:
+            budget = budget.more(0, register, k)
+        else:
+            budget = budget.more(max(k * end for end in state.atoms[atom]))
+    return narrowed(edge, budget, room) if budget.factors else Budget(min(by_ends, budget.constant), {})
+
+
+def narrowed(edge, budget, room):
+    """At most so many registers: those that weigh least become what they are at most."""
+    if len(budget.factors) <= room:
+        return budget
+    register = min(budget.factors, key=lambda r: budget.factors[r] * edge.start[r].range[1])
+    return narrowed(edge, budget.more(budget.factors[register] * edge.start[register].range[1], register,
+                                      -budget.factors[register]), room)
+
+
+class Budgets:
+    """edges: all ways; of: block -> its budget, which `solve` fills."""
+
+    def __init__(self, edges):
+        self.edges, self.of = edges, {}
+
+    def need(self, edge):
+        return NOTHING if edge.target == model.EXIT else self.of[edge.target]
+
+    def solve(self, blocks, edges, room=ROOM):
+        """Budgets for these blocks, of which these ways count; all others to where they lead are known."""
+        leads = {}
+        for edge in edges:
+            if edge.target in blocks:
+                leads.setdefault(edge.source, set()).add(edge.target)
+        for part in flow.components(blocks, leads):
+            inner = [e for e in edges if e.source in part and e.target in part]
+            if inner:
+                self.loop(part, [e for e in edges if e.source in part], inner, room)
+                continue
+            block, = part
+            out = NOTHING
+            for edge in edges:
+                if edge.source == block:
+                    out = out.most(over(edge, self.need(edge), room))
+            self.of[block] = out
+
+    def loop(self, part, edges, inner, room):
+        counters = self.counters(part, inner)
+        if not counters:
+            raise NoBudget(part, 'no register falls on any way round this loop and rises on none')
+        if not room:
+            raise NoBudget(part, 'more than two loops stand within one another')
+        trouble = None
+        for register in counters:
+            falling = [e for e in inner if fall(e, register) > 0]
+            try:
+                self.solve(part, [e for e in edges if e not in falling], room - 1)
+                return self.raised(part, edges, falling, register)
+            except NoBudget as e:
+                trouble = trouble or e
+        raise trouble
+
+    def counters(self, part, inner):
+        """The registers that fall somewhere in a loop and never rise, those first that leave no loop behind."""
+        def loops_left(register):
+            leads = {}
+            for e in inner:
+                if fall(e, register) <= 0:
+                    leads.setdefault(e.source, set()).add(e.target)
+            return any(len(p) > 1 or set(p) & leads.get(next(iter(p)), set()) for p in flow.components(part, leads))
+        falls = {r: [fall(e, r) for e in inner] for r in range(1, 32)}
+        good = [r for r in falls if min(falls[r]) >= 0 and max(falls[r]) > 0]
+        width = lambda r: max(e.start[r].range[1] for e in inner)
+        return sorted(good, key=lambda r: (loops_left(r), width(r), r))
+
+    def raised(self, part, edges, falling, register):
+        """Adds the multiple of the register that pays for the ways on which it falls, and takes away what is too much."""
+        factor = 1
+        for edge in falling:
+            short = -spare(edge, self.of[edge.source], self.of[edge.target])
+            factor = max(factor, -(-short // fall(edge, register)))
+        for block in part:
+            self.of[block] = self.of[block].more(0, register, factor)
+        less = min(self.of[block].constant for block in part)
+        for edge in edges:
+            if edge.target not in part:
+                less = min(less, spare(edge, self.of[edge.source], self.need(edge)))
+        for block in part:
+            self.of[block] = self.of[block].more(-max(less, 0))

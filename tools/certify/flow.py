@@ -1,0 +1,178 @@
+"""The kernel's blocks, and the ways between them by the checker's own steps.
+
+A block begins at the entry, where a jump or branch leads, and behind each branch. Which registers matter where (liveness) is
+known from the words alone.
+"""
+import struct
+from collections import namedtuple
+
+from outside import certificates, checker, model
+
+EVERYWHERE = [checker.Zone(-1 << 60, 1 << 60, certificates.READ | certificates.WRITE)]
+VL = checker.VL
+
+
+def copied(known, _):
+    """What is known, so that a change of the copy leaves the other as it is: numbers and forms are never changed in place."""
+    other = object.__new__(checker.Known)
+    other.__dict__ = {name: value.copy() if isinstance(value, (list, dict)) else value for name, value in known.__dict__.items()}
+    return other
+
+
+checker.Known.__deepcopy__ = copied     # the checker copies at each branch, and a search walks many
+
+# known: what is known on the way. start: the values where the source begins. told: the orders that the branch tells.
+Edge = namedtuple('Edge', 'source target known start told words pc')
+
+
+def decoded_at(image, pc):
+    """What the word at pc means, or None."""
+    segment = certificates.code_segment(image.segments, pc)
+    if segment is None:
+        return None
+    return model.decode(struct.unpack_from('<I', segment.data, pc - segment.first)[0])
+
+
+def leads_to(i, f, pc):
+    """The addresses to which a word leads, as far as it says so, and whether a block ends behind it."""
+    if i.shape == 'branch':
+        return [pc + f['to'], pc + 4], True
+    if i.shape == 'jal':
+        return [pc + f['to']] + ([pc + 4] if f['rd'] else []), True
+    if i.shape == 'jalr':
+        return ([pc + 4] if f['rd'] else []), True
+    return [], i.shape == 'ecall'
+
+
+def starts_of(image, first):
+    """Where blocks begin that can be reached from these addresses."""
+    starts, seen, todo = set(first), set(), list(first)
+    while todo:
+        pc = todo.pop()
+        while pc not in seen:
+            seen.add(pc)
+            decoded = decoded_at(image, pc)
+            if decoded is None:
+                break
+            targets, is_end = leads_to(*decoded, pc)
+            todo += [target for target in targets if target not in starts]
+            starts.update(targets)
+            if is_end:
+                break
+            pc += 4
+    return {pc for pc in starts if decoded_at(image, pc) is not None}
+
+
+def words_of(image, start, starts):
+    """The instructions of a block: (pc, instruction, fields), up to the first one that is none."""
+    out, pc = [], start
+    while len(out) < checker.WORDS:
+        decoded = decoded_at(image, pc)
+        if decoded is None:
+            return out
+        out.append((pc, *decoded))
+        pc += 4
+        if leads_to(*decoded, pc - 4)[1] or pc in starts:
+            return out
+    return out
+
+
+def branches_of(image, starts):
+    """Where the branches stand that end these blocks."""
+    last = (words[-1] for words in (words_of(image, start, starts) for start in starts) if words)
+    return {pc for pc, i, _ in last if i.shape == 'branch'}
+
+
+class Explorer(checker.Walk):
+    """The checker's walk without its refusals: the ways out of a block, whatever is accessed on them."""
+
+    def __init__(self, image, certificate):
+        super().__init__(image, certificate)
+        self.zones = EVERYWHERE
+
+    def edges(self, block):
+        """The ways out of a block as far as it can be followed."""
+        s = checker.at_block(self.certificate, block, self.vlenb)
+        start, pc = list(s.x), block.start
+        try:
+            while True:
+                i, f = self.fetched(s, pc)
+                s.words += 1
+                ways = self.ways(s, i, f, pc)
+                if ways is not None or s.words == checker.WORDS:
+                    return [Edge(block.start, target, known, start, told, s.words, pc) for known, target, told in ways or ()]
+                pc += 4
+        except certificates.Refused:
+            return []
+
+    def ways(self, s, i, f, pc):
+        """(known, target, orders told) of each way where a block ends behind this word, else None."""
+        after = pc + 4
+        if i.shape == 'branch':
+            both = ((taken, pc + f['to'] if taken else after) for taken in (True, False))
+            known = ((checker.refined(s, i, f, taken), target, checker.told_orders(i, f, taken)) for taken, target in both)
+            return [way for way in known if way[0]]
+        if i.shape in ('jal', 'jalr'):
+            to = pc + f['to'] if i.shape == 'jal' else checker.known(checker.offset_sum(s, f['rs1'], f['imm']).range)
+            s.set_x(f['rd'], s.constant(after))
+            return [(s, None if to is None else to & ~1 & checker.M32, ())]
+        if i.shape == 'ecall':
+            return [(s, model.EXIT, ())]
+        self.act(s, i, f, pc)
+        return [(s, after, ())] if after in self.blocks else None
+
+
+def used_and_set(i, f):
+    """The registers that an instruction reads and writes, vl as 32."""
+    used = {f[name] for name in ('rs1', 'rs2') if name in f and name in i.syntax}
+    wrote = {f['rd']} if 'rd' in f else set()
+    if i.shape == 'vset':
+        wrote.add(VL)
+        if f.get('rs1') == 0 and f.get('rd') == 0:
+            used.add(VL)
+    if i.is_vector or f.get('csr') == 0xc20:
+        used.add(VL)
+    return used - {0}, wrote
+
+
+def live_at(blocks, targets):
+    """block -> the registers whose numbers may still be read. blocks: start -> instructions; targets: start -> where it leads."""
+    live = {start: set() for start in blocks}
+    is_changed = True
+    while is_changed:
+        is_changed = False
+        for start, words in blocks.items():
+            now = set().union(*(live.get(target, set()) for target in targets.get(start, ())), set())
+            for _, i, f in reversed(words):
+                used, wrote = used_and_set(i, f)
+                now = now - wrote | used
+            if now != live[start]:
+                live[start], is_changed = now, True
+    return live
+
+
+def components(nodes, leads):
+    """The strongly connected parts, those that are led to first. leads: node -> nodes."""
+    order, low, on, stack, out = {}, {}, set(), [], []
+
+    def visit(node):
+        order[node] = low[node] = len(order)
+        stack.append(node)
+        on.add(node)
+        for to in leads.get(node, ()):
+            if to not in order:
+                visit(to)
+                low[node] = min(low[node], low[to])
+            elif to in on:
+                low[node] = min(low[node], order[to])
+        if low[node] == order[node]:
+            part = set()
+            while node not in part:
+                part.add(stack.pop())
+            on.difference_update(part)
+            out.append(part)
+
+    for node in sorted(nodes):
+        if node not in order:
+            visit(node)
+    return out
