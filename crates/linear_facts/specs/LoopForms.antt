@@ -19,8 +19,11 @@ pointer_form base w n e = record { constant = base; terms = term n (2 ^ 32 - w) 
 
 -- base - w * n + w * e + w * v
 abbrev pub moved_form : ℕ → ℕ → ℕ → ℕ → ℕ → Linear
-moved_form base w n e v = record { constant = base; terms
-    = term n (2 ^ 32 - w) ∷ term e w ∷ term v w ∷ [] }
+moved_form base w n e v = record {
+  constant = base;
+  terms
+      = term n (2 ^ 32 - w) ∷ term e w ∷ term v w ∷ [];
+}
 
 -- n - v
 abbrev pub left_form : ℕ → ℕ → Linear
