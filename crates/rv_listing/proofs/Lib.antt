@@ -1,0 +1,3 @@
+pub mod SinkLemmas
+pub mod PieceLemmas
+pub mod FieldLemmas

@@ -1,0 +1,9 @@
+pub mod Sinks
+pub mod Pieces
+pub mod Names
+pub mod Fields
+pub mod Scalar
+pub mod Arithmetic
+pub mod Vector
+pub mod Accesses
+pub mod Listing
