@@ -9,7 +9,6 @@ mod fields;
 mod images;
 mod jobs;
 mod legality;
-mod listing;
 mod memory;
 mod runs;
 mod sessions;

@@ -1,10 +1,9 @@
 //! Rows `WORD TEXT`: what a word means.
 
 use crate::fields::{RowError, hex};
-use crate::listing::Listing;
 use crate::table::Table;
-use rv_decode::decode;
-use std::alloc::{AllocError, Global};
+use rv_listing::{Over, put_listing};
+use std::alloc::Global;
 
 /// Where the words of the table lie.
 const ADDRESS: u32 = 0x1_0000;
@@ -17,24 +16,13 @@ impl Table for Words {
     fn difference(&mut self, alloc: Global, row: &str) -> Result<Option<String>, RowError> {
         let (word, expected) = row.split_once(' ').ok_or(RowError::NoRow)?;
         let word = hex(word)?;
-        let came = text_of(alloc, word)?;
-        if came.as_str() == expected {
+        let mut out = Over::new(Vec::new(alloc));
+        put_listing(&mut out, word, ADDRESS).map_err(|_| RowError::NoMemory)?;
+        let bytes = out.into_inner();
+        let came = std::str::from_utf8(bytes.as_slice()).map_err(|_| RowError::NoRow)?;
+        if came == expected {
             return Ok(None);
         }
         Ok(Some(format!(in alloc; "{word:08x} should be {expected}, came {came}")?))
-    }
-}
-
-/// The word's instruction as text, or `illegal`.
-fn text_of(alloc: Global, word: u32) -> Result<String, AllocError> {
-    match decode(word) {
-        Some(insn) => {
-            let listing = Listing {
-                insn,
-                address: ADDRESS,
-            };
-            format!(in alloc; "{listing}")
-        }
-        None => String::from_str(alloc, "illegal"),
     }
 }
