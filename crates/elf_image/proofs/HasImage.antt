@@ -9,7 +9,7 @@ use Rattle.elf_image.specs.declared.header.ProgramHeader.{ProgramHeader}
 use Rattle.elf_image.specs.declared.layout.TheConstants.{LOW_SEGMENTS, LOW_SEGMENTS_END, HIGH_SEGMENTS, HIGH_SEGMENTS_END, MAX_FILE_SIZE, MAX_SEGMENTS, MAX_MEMORY_SIZE}
 use Rattle.elf_image.specs.Image.{SegmentView, IsSegment, IsInPlace, IsApart, AreApart, IsImage, holds_code}
 use Rattle.elf_image.specs.File.{e_entry, is_load, is_note, is_segment, is_writable, is_executable, program_headers, segment_headers, segment_of, image_of, IsInside, IsLoadable, HasImage}
-use Rattle.elf_image.specs.Faults.{is_out_of_file, has_out_of_file, is_between, is_out_of_place, has_out_of_place, overlap, has_overlap, is_write_and_execute, has_write_and_execute, is_too_large, has_word, is_not_code, first_of, segment_faults}
+use Rattle.elf_image.specs.Faults.{is_out_of_file, has_out_of_file, is_between, is_out_of_place, has_out_of_place, overlap, has_overlap, is_write_and_execute, has_write_and_execute, is_too_large, has_word, is_not_code, first_of, place_faults, segment_faults}
 
 neither : (x y : Bool) → (x || y) ≡ false → (x ≡ false) × (y ≡ false)
 neither true y e = absurd cc
@@ -146,6 +146,14 @@ is_image file each apart large code =
 goes_on : {X : Type 0} (b : Bool) (x : X) (rest : Option X) → None ≡ cond b (Some x) rest → (b ≡ false) × (None ≡ rest)
 goes_on true x rest e = absurd cc
 goes_on false x rest e = (refl, e)
+
+-- the bytes of each note segment of a file of which no fault of the headers by themselves holds lie in it
+pub notes_in_place : (file : List ℕ) → None ≡ first_of place_faults file → All (λ h. is_note h ≡ true → IsInside file h) (program_headers file)
+unfolding has_out_of_file
+notes_in_place file e =
+    let a = goes_on _ _ _ e in
+    let b = goes_on _ _ _ a.1 in
+    All-from_recursion _ _ (notes_inside file (program_headers file) b.0)
 
 -- A file of which no fault of the segments holds has an image.
 pub has_image : (file : List ℕ) → AreBytes file → None ≡ first_of segment_faults file → HasImage file

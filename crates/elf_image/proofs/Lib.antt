@@ -1,2 +1,3 @@
 pub mod HasImage
 pub mod Certificates
+pub mod AttachedSize

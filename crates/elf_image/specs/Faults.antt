@@ -2,7 +2,7 @@
 use Rattle.std.specs.Prelude.{ℕ, ◌+◌, ◌*◌, ◌%◌, ◌==◌, ◌&&◌, ◌||◌, not, nat_lt, nat_le, nat_eq, Bool, false, List, [], ◌∷◌, ◌++◌, length, bit_and, Option, find}
 use Rattle.std.specs.List.{list_any, sum_by, starts_with, slice_index}
 use Rattle.elf_image.specs.declared.error.ElfError.{ElfError}
-use Rattle.elf_image.specs.declared.error.ElfError.TheVariants.{TooShort, BadMagic, BadClass, BadType, BadMachine, BadFlags, BadHeaderTable, NotStatic, SegmentOutOfFile, SegmentOutOfPlace, SegmentsOverlap, WriteAndExecute, TooLarge, EntryNotCode, TwoCertificates, NoMemory}
+use Rattle.elf_image.specs.declared.error.ElfError.TheVariants.{TooShort, BadMagic, BadClass, BadType, BadMachine, BadFlags, BadHeaderTable, NotStatic, SegmentOutOfFile, SegmentOutOfPlace, SegmentsOverlap, WriteAndExecute, TooLarge, EntryNotCode, TwoCertificates, CertificateThere, NoMemory}
 use Rattle.elf_image.specs.declared.header.ProgramHeader.{ProgramHeader}
 use Rattle.elf_image.specs.declared.faults.TheConstants.{ELF_HEADER_SIZE, MAGIC, EI_CLASS, EI_DATA, EI_VERSION, ELFCLASS32, ELFDATA2LSB, EV_CURRENT, ET_EXEC, EM_RISCV, EXTENSION_FLAGS}
 use Rattle.elf_image.specs.declared.header.TheConstants.{PROGRAM_HEADER_SIZE, MAX_PROGRAM_HEADERS, PT_DYNAMIC, PT_INTERP, PT_TLS}
@@ -108,6 +108,10 @@ is_not_code entry segments = not (entry % 4 == 0) || not (list_any (has_word ent
 unfoldable pub has_two_certificates : List ℕ → Bool
 has_two_certificates file = nat_lt 1 (length (certificates_of file))
 
+-- they have one, so that no other can be attached
+unfoldable pub has_certificate : List ℕ → Bool
+has_certificate file = nat_lt 0 (length (certificates_of file))
+
 -- whether this is wrong with the file
 abbrev pub holds : ElfError → List ℕ → Bool
 holds TooShort file = is_too_short file
@@ -125,6 +129,7 @@ holds WriteAndExecute file = has_write_and_execute (segment_headers file)
 holds TooLarge file = is_too_large (length file) (segment_headers file)
 holds EntryNotCode file = is_not_code (e_entry file) (segment_headers file)
 holds TwoCertificates file = has_two_certificates file
+holds CertificateThere file = has_certificate file
 holds NoMemory file = false
 
 -- the order in which they are told: those of the header, of the segments, of the notes
@@ -132,10 +137,12 @@ abbrev pub header_faults : List ElfError
 header_faults =
     TooShort ∷ BadMagic ∷ BadClass ∷ BadType ∷ BadMachine ∷ BadFlags ∷ BadHeaderTable ∷ []
 
+abbrev pub place_faults : List ElfError
+place_faults =
+    NotStatic ∷ SegmentOutOfFile ∷ SegmentOutOfPlace ∷ SegmentsOverlap ∷ WriteAndExecute ∷ []
+
 abbrev pub segment_faults : List ElfError
-segment_faults =
-    NotStatic ∷ SegmentOutOfFile ∷ SegmentOutOfPlace ∷ SegmentsOverlap ∷ WriteAndExecute ∷ TooLarge
-    ∷ EntryNotCode ∷ []
+segment_faults = place_faults ++ TooLarge ∷ EntryNotCode ∷ []
 
 abbrev pub note_faults : List ElfError
 note_faults = TwoCertificates ∷ []

@@ -3,4 +3,5 @@ pub mod Notes
 pub mod Image
 pub mod File
 pub mod Faults
+pub mod Attached
 pub use Rattle.byteorder.specs.Endian

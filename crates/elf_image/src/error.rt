@@ -44,7 +44,9 @@ pub enum ElfError {
     EntryNotCode,
     /// The file has more than one certificate.
     TwoCertificates,
-    /// There is too little memory to read the file.
+    /// The file has a certificate, so that no other can be attached. `attach` alone tells it.
+    CertificateThere,
+    /// There is too little memory to read the file, or to write the one with a certificate.
     NoMemory,
 }
 
@@ -66,6 +68,7 @@ impl fmt::Display for ElfError {
             ElfError::TooLarge => "the file or its memory is too large",
             ElfError::EntryNotCode => "the entry is not in code",
             ElfError::TwoCertificates => "the file has two certificates",
+            ElfError::CertificateThere => "the file has a certificate already",
             ElfError::NoMemory => "out of memory",
         };
         f.write_str(text)

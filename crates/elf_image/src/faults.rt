@@ -2,8 +2,8 @@
 
 ghost use Rattle.std.specs.Prelude.{◌≡◌, ◌≤◌, false, IfNone, length};
 ghost use Rattle.std.specs.List.{list_any};
-ghost use Rattle.elf_image.specs.File.{HasTable, program_headers, segment_headers};
-ghost use Rattle.elf_image.specs.Faults.{has_bad_class, has_bad_flags, has_bad_header_table, has_bad_machine, has_bad_magic, has_bad_type, has_out_of_file, has_out_of_place, has_overlap, has_write_and_execute, is_not_code, is_not_static, is_out_of_file, is_out_of_place, is_too_large, is_too_short, overlap, is_between, is_dynamic, is_write_and_execute, has_word, first_of, header_faults, segment_faults};
+ghost use Rattle.elf_image.specs.File.{HasTable, e_entry, program_headers, segment_headers};
+ghost use Rattle.elf_image.specs.Faults.{has_bad_class, has_bad_flags, has_bad_header_table, has_bad_machine, has_bad_magic, has_bad_type, has_out_of_file, has_out_of_place, has_overlap, has_write_and_execute, is_not_code, is_not_static, is_out_of_file, is_out_of_place, is_too_large, is_too_short, overlap, is_between, is_dynamic, is_write_and_execute, has_word, first_of, header_faults, place_faults, segment_faults};
 
 use crate::error::ElfError;
 use crate::header;
@@ -245,18 +245,16 @@ fn is_not_code(entry: u32, segments: &[ProgramHeader]) -> bool
     entry % 4 != 0 || !has_code_at(entry, segments)
 }
 
-/// The first fault of the program headers.
-pub fn segment_fault(file: &[u8], headers: &HeaderTable, segments: &HeaderTable) -> Option<ElfError>
-    requires header { HasTable file.now }
+/// The first fault of the program headers by themselves.
+pub fn place_fault(file: &[u8], headers: &HeaderTable, segments: &HeaderTable) -> Option<ElfError>
     requires headers { headers.now ≡ program_headers file.now }
     requires segments { segments.now ≡ segment_headers file.now }
-    ensures { result ≡ first_of segment_faults file.now }
+    ensures { result ≡ first_of place_faults file.now }
 {
-    let size = file.len();
     if is_not_static(headers.as_slice()) {
         return Some(ElfError::NotStatic);
     }
-    if has_out_of_file(size as u64, headers.as_slice()) {
+    if has_out_of_file(file.len() as u64, headers.as_slice()) {
         return Some(ElfError::SegmentOutOfFile);
     }
     let segments = segments.as_slice();
@@ -269,10 +267,40 @@ pub fn segment_fault(file: &[u8], headers: &HeaderTable, segments: &HeaderTable)
     if has_write_and_execute(segments) {
         return Some(ElfError::WriteAndExecute);
     }
-    if is_too_large(size, segments) {
+    None
+}
+
+/// Whether the file or its image is too large.
+pub fn is_too_large_file(file: &[u8], segments: &HeaderTable) -> bool
+    requires { segments.now ≡ segment_headers file.now }
+    ensures { result ≡ is_too_large (length file.now) (segment_headers file.now) }
+{
+    is_too_large(file.len(), segments.as_slice())
+}
+
+/// Whether the entry isn't code.
+pub fn is_entry_no_code(file: &[u8], segments: &HeaderTable) -> bool
+    requires header { HasTable file.now }
+    requires segments { segments.now ≡ segment_headers file.now }
+    ensures { result ≡ is_not_code (e_entry file.now) (segment_headers file.now) }
+{
+    is_not_code(word_at(header::E_ENTRY, file), segments.as_slice())
+}
+
+/// The first fault of the program headers.
+pub fn segment_fault(file: &[u8], headers: &HeaderTable, segments: &HeaderTable) -> Option<ElfError>
+    requires header { HasTable file.now }
+    requires headers { headers.now ≡ program_headers file.now }
+    requires segments { segments.now ≡ segment_headers file.now }
+    ensures { result ≡ first_of segment_faults file.now }
+{
+    if let Some(fault) = place_fault(file, headers, segments) {
+        return Some(fault);
+    }
+    if is_too_large_file(file, segments) {
         return Some(ElfError::TooLarge);
     }
-    if is_not_code(word_at(header::E_ENTRY, file), segments) {
+    if is_entry_no_code(file, segments) {
         return Some(ElfError::EntryNotCode);
     }
     None

@@ -2,6 +2,7 @@
 //! memory, and why a file is refused.
 #![tactic(auto)]
 
+mod attached;
 mod error;
 mod faults;
 mod header;
@@ -11,6 +12,7 @@ mod note;
 mod reading;
 mod segment;
 
+pub use attached::attach;
 pub use error::ElfError;
 pub use image::Image;
 pub use layout::{

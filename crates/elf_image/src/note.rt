@@ -11,11 +11,11 @@ use crate::header::{ProgramHeader, part_of, word_at};
 use std::marker::Model;
 
 /// The name of a certificate's note, with its zero byte.
-const NAME: [u8; 7] = *b"RVVBOX\0";
+pub const NAME: [u8; 7] = *b"RVVBOX\0";
 /// The type of a certificate's note.
-const CERTIFICATE: u32 = 1;
+pub const CERTIFICATE: u32 = 1;
 /// The size of a note's header: `namesz`, `descsz` and `type`.
-const NOTE_HEADER_SIZE: usize = 12;
+pub const NOTE_HEADER_SIZE: usize = 12;
 /// Where its fields lie.
 const N_NAMESZ: usize = 0;
 
@@ -54,7 +54,7 @@ impl<'a> Note<'a> {
 }
 
 /// So many bytes and the padding that brings them to a multiple of 4.
-fn padded(n: usize) -> usize
+pub fn padded(n: usize) -> usize
     requires { n < 2 ^ 32 }
     ensures { result ≡ padded n }
 {
