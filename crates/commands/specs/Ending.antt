@@ -1,9 +1,7 @@
 -- How the program ends: the reason to stop that each error is, the status of each reason, and each status as a number.
-use Rattle.std.specs.Prelude.{◌≡◌, ℕ, List, ◌++◌, codes, Option, Some, None, Result, Ok, Err}
+use Rattle.std.specs.Prelude.{◌≡◌, ℕ, List, Result, Ok, Err}
 use Rattle.block_checker.specs.declared.errors.CheckError.{CheckError}
 use Rattle.block_checker.specs.declared.errors.CheckError.TheVariants as check_error
-use Rattle.block_checker.specs.Refusals.{address_of, name_of}
-use Rattle.commands.specs.Hex.{hex_text}
 use Rattle.commands.specs.Words.{CertError, OpenError}
 use Rattle.cert_note.specs.declared.refusals.CertError.TheVariants as certificate_error
 use Rattle.elf_image.specs.declared.error.ElfError.{ElfError}
@@ -74,14 +72,6 @@ store_error_of _ = store_error.Failed
 abbrev pub stop_at_file : StoreError → Bor (List ℕ) → Stop
 stop_at_file store_error.Failed path = stop.File path
 stop_at_file store_error.NoMemory path = stop.Memory
-
--- how a refusal of the check is told: the error's name, and its address where it has one
-abbrev pub with_address : List ℕ → Option ℕ → List ℕ
-with_address name None = name
-with_address name (Some address) = name ++ (codes " at " ++ hex_text address)
-
-abbrev pub reason_text : CheckError → List ℕ
-reason_text error = with_address (name_of error) (address_of error)
 
 -- the status of a run that was printed
 abbrev pub status_of_end : End → Status

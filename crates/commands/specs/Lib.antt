@@ -4,6 +4,7 @@ pub mod Ending
 pub mod Files
 pub mod Hex
 pub mod Runs
+pub mod Texts
 pub mod Trial
 pub mod Tries
 pub mod Words

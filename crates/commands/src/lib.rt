@@ -2,7 +2,7 @@
 //!
 //! Each has a module: `checks`, `runs` and `tries`. What they share stands in the others: `files` (what is read, and the out
 //! files), `accepted` (an image with its certificate), `trial` (what comes of a run), `stop` (statuses and reasons to stop),
-//! `store` (where files are) and `hex`.
+//! `texts` (how those are told), `store` (where files are) and `hex`.
 #![tactic(auto)]
 
 mod accepted;
@@ -12,6 +12,7 @@ mod hex;
 mod runs;
 mod stop;
 mod store;
+mod texts;
 mod trial;
 mod tries;
 

@@ -1,11 +1,12 @@
 //! How the program ends.
-ghost use Rattle.std.specs.Prelude.{◌≡◌};
+ghost use Rattle.std.specs.Io.KnownBytes.{Appends};
+ghost use Rattle.std.specs.Prelude.{◌≡◌, OnOk};
 ghost use Rattle.commands.specs.Ending.{IsTold, code_of, status_of, stop_at_file};
 ghost use Rattle.commands.specs.Ending.{stop_of_certificate, stop_of_check, stop_of_image};
 ghost use Rattle.commands.specs.Ending.{stop_of_job, stop_of_open};
+ghost use Rattle.commands.specs.Texts.{stop_text};
 ghost use Rattle.commands.specs.declared.stop.Stop.TheVariants.{Memory};
 
-use crate::hex::Hex;
 use crate::store::StoreError;
 use block_checker::CheckError;
 use cert_note::CertError;
@@ -13,9 +14,8 @@ use elf_image::ElfError;
 use job_file::JobError;
 use sandbox_run::OpenError;
 use std::alloc::AllocError;
-use std::fmt;
+use std::io;
 use std::io::Write;
-use thiserror::Error;
 
 /// What the program's exit status says.
 #[derive(Clone, Copy, Debug, PartialEq, Eq)]
@@ -51,35 +51,43 @@ impl Status {
 }
 
 /// Why the program ends before all is done. What it shows is told on standard error.
-#[derive(Debug, Drop, Error)]
+#[derive(Debug, Drop)]
 pub enum Stop<'a> {
-    #[error("job: {0}\n")]
+    /// The job file spells no job.
     Job(JobError),
-    #[error("file: {0}\n")]
+    /// The file at the path was not read or not written.
     File(&'a str),
-    #[error("refused: {0:?}\n")]
+    /// The image file spells no image.
     Image(ElfError),
-    #[error("refused: NoCertificate\n")]
+    /// The image has no certificate.
     NoCertificate,
-    #[error("refused: {0:?}\n")]
+    /// The certificate can't be read.
     Certificate(CertError),
-    #[error("refused: {}\n", reason_of(.0))]
+    /// The check refuses the image with its certificate.
     Check(CheckError),
-    #[error("refused: {}\n", open_error_name(.0))]
+    /// The arguments of a run are refused, or its most steps.
     Open(OpenError),
-    #[error("out of memory\n")]
+    /// Memory ran out.
     Memory,
-    #[error("")]
+    /// Standard output took no text. Nothing more is told.
     Output,
 }
 
 impl Stop<'_> {
+    /// Prints the line that tells why.
+    fn print<E: Write>(&self, errors: &mut E) -> io::Result<()>
+        ensures { OnOk result
+            (Appends (E.contents errors.old) (E.contents errors.new) (stop_text self.now)) }
+    {
+        write!(errors, "{self}")
+    }
+
     /// Tells why, and answers the status. Where standard output took no text, nothing more is told.
     pub fn tell<E: Write>(&self, errors: &mut E) -> Status
         ensures { result ≡ status_of self.now }
     {
         // Where standard error takes no text, the status alone tells.
-        let _ = write!(errors, "{self}");
+        let _ = self.print(errors);
         match self {
             Stop::Job(_) => Status::Usage,
             Stop::File(_) | Stop::Output => Status::File,
@@ -160,45 +168,6 @@ impl From<OpenError> for Stop<'_> {
             | OpenError::BoundTooLarge
             | OpenError::WrongVlen => Stop::Open(error),
         }
-    }
-}
-
-/// Why a check refused: the error's name, and the address of the word at which it stopped, if there is one.
-#[derive(Drop)]
-struct Reason {
-    error: CheckError,
-}
-
-impl fmt::Display for Reason {
-    ghost use Rattle.std.specs.Prelude.{Some};
-    ghost use Rattle.commands.specs.Ending.{reason_text};
-
-    ghost output = { λ reason. Some (reason_text reason.error) };
-
-    fn fmt<W: fmt::Write>(&self, f: &mut fmt::Formatter<W>) -> fmt::Result {
-        let name = self.error.name();
-        match self.error.address() {
-            Some(address) => write!(f, "{name} at {}", Hex(address)),
-            None => write!(f, "{name}"),
-        }
-    }
-}
-
-fn reason_of(error: &CheckError) -> Reason
-    ensures { result.error ≡ error.now }
-{
-    Reason { error: *error }
-}
-
-/// The name of an error, without its place.
-fn open_error_name(error: &OpenError) -> &'static str {
-    match error {
-        OpenError::WrongKind(_) => "WrongKind",
-        OpenError::ScalarOutOfInterval(_) => "ScalarOutOfInterval",
-        OpenError::WrongSize(_) => "WrongSize",
-        OpenError::BoundTooLarge => "BoundTooLarge",
-        OpenError::WrongVlen => "WrongVlen",
-        OpenError::NoMemory => "NoMemory",
     }
 }
 

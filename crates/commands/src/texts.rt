@@ -1,0 +1,120 @@
+//! How a reason to stop is told.
+ghost use Rattle.std.specs.Prelude.{◌≡◌};
+ghost use Rattle.commands.specs.Texts.{certificate_error_name, image_error_name};
+ghost use Rattle.commands.specs.Texts.{job_error_name, open_error_name};
+
+use crate::hex::Hex;
+use crate::stop::Stop;
+use block_checker::CheckError;
+use cert_note::CertError;
+use elf_image::ElfError;
+use job_file::JobError;
+use sandbox_run::OpenError;
+use std::fmt;
+
+fn job_error_name(error: JobError) -> &'static str
+    ensures { result.now ≡ job_error_name error }
+{
+    match error {
+        JobError::NotToml => "NotToml",
+        JobError::BadKey => "BadKey",
+        JobError::NoMemory => "NoMemory",
+    }
+}
+
+fn image_error_name(error: ElfError) -> &'static str
+    ensures { result.now ≡ image_error_name error }
+{
+    match error {
+        ElfError::TooShort => "TooShort",
+        ElfError::BadMagic => "BadMagic",
+        ElfError::BadClass => "BadClass",
+        ElfError::BadType => "BadType",
+        ElfError::BadMachine => "BadMachine",
+        ElfError::BadFlags => "BadFlags",
+        ElfError::BadHeaderTable => "BadHeaderTable",
+        ElfError::NotStatic => "NotStatic",
+        ElfError::SegmentOutOfFile => "SegmentOutOfFile",
+        ElfError::SegmentOutOfPlace => "SegmentOutOfPlace",
+        ElfError::SegmentsOverlap => "SegmentsOverlap",
+        ElfError::WriteAndExecute => "WriteAndExecute",
+        ElfError::TooLarge => "TooLarge",
+        ElfError::EntryNotCode => "EntryNotCode",
+        ElfError::TwoCertificates => "TwoCertificates",
+        ElfError::NoMemory => "NoMemory",
+    }
+}
+
+fn certificate_error_name(error: CertError) -> &'static str
+    ensures { result.now ≡ certificate_error_name error }
+{
+    match error {
+        CertError::Short => "Short",
+        CertError::Version => "Version",
+        CertError::Parameter => "Parameter",
+        CertError::BlockOrder => "BlockOrder",
+        CertError::Fact => "Fact",
+        CertError::Equality => "Equality",
+        CertError::Budget => "Budget",
+        CertError::TrailingBytes => "TrailingBytes",
+        CertError::TooMany => "TooMany",
+        CertError::Order => "Order",
+        CertError::NoMemory => "NoMemory",
+    }
+}
+
+/// The name of an error, without its place.
+fn open_error_name(error: OpenError) -> &'static str
+    ensures { result.now ≡ open_error_name error }
+{
+    match error {
+        OpenError::WrongKind(_) => "WrongKind",
+        OpenError::ScalarOutOfInterval(_) => "ScalarOutOfInterval",
+        OpenError::WrongSize(_) => "WrongSize",
+        OpenError::BoundTooLarge => "BoundTooLarge",
+        OpenError::WrongVlen => "WrongVlen",
+        OpenError::NoMemory => "NoMemory",
+    }
+}
+
+/// Why a check refused: the error's name, and the address of the word at which it stopped, if there is one.
+#[derive(Drop)]
+struct Reason {
+    error: CheckError,
+}
+
+impl fmt::Display for Reason {
+    ghost use Rattle.std.specs.Prelude.{Some};
+    ghost use Rattle.commands.specs.Texts.{reason_text};
+
+    ghost output = { λ reason. Some (reason_text reason.error) };
+
+    fn fmt<W: fmt::Write>(&self, f: &mut fmt::Formatter<W>) -> fmt::Result {
+        let name = self.error.name();
+        match self.error.address() {
+            Some(address) => write!(f, "{name} at {}", Hex(address)),
+            None => write!(f, "{name}"),
+        }
+    }
+}
+
+impl fmt::Display for Stop<'_> {
+    ghost use Rattle.std.specs.Prelude.{Some};
+    ghost use Rattle.commands.specs.Texts.{stop_text};
+
+    ghost output = { λ stop. Some (stop_text stop) };
+
+    fn fmt<W: fmt::Write>(&self, f: &mut fmt::Formatter<W>) -> fmt::Result {
+        match self {
+            Stop::Job(error) => writeln!(f, "job: {}", job_error_name(*error)),
+            Stop::File(path) => writeln!(f, "file: {path}"),
+            Stop::Image(error) => writeln!(f, "refused: {}", image_error_name(*error)),
+            Stop::NoCertificate => writeln!(f, "refused: NoCertificate"),
+            Stop::Certificate(error) => writeln!(f, "refused: {}", certificate_error_name(*error)),
+            Stop::Check(error) => writeln!(f, "refused: {}", Reason { error: *error }),
+            Stop::Open(error) => writeln!(f, "refused: {}", open_error_name(*error)),
+            Stop::Memory => writeln!(f, "out of memory"),
+            Stop::Output => Ok(()),
+        }
+    }
+}
