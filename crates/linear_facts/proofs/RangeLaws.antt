@@ -13,7 +13,7 @@ use Rattle.linear_facts.specs.Sums.{AllAtMost, signed_term, joined, with_term, w
 use Rattle.linear_facts.proofs.Congruent.{Congruent, mod-Congruent, congruent_equal, congruent_trans, congruent_add}
 use Rattle.linear_facts.proofs.SumLaws.{signed-low, signed-high, signed_at_most}
 
-by_both-few : (table : AtomTable) (c : ℕ) (own split : List WholeTerm) → nonzero_count split ≤ 8
+pub by_both-few : (table : AtomTable) (c : ℕ) (own split : List WholeTerm) → nonzero_count split ≤ 8
     → interval_by_both table c own split ≡ met_or_own (interval_of table c 0 own) (interval_of table c 0 split)
 unfolding interval_by_both
 by_both-few table c own split few = grind (arith, common_steps)
@@ -174,7 +174,7 @@ sum_at v c ts = (2 ^ 112 + c + gains v ts) - (0 + losses v ts)
 abbrev pub Encloses : Interval → ℕ → Type 0
 Encloses i n = (i.lo ≤ n) × (n ≤ i.hi)
 
-met-there : (own other : Interval) → max own.lo other.lo ≤ min own.hi other.hi
+pub met-there : (own other : Interval) → max own.lo other.lo ≤ min own.hi other.hi
     → met_or_own own other ≡ record { lo = max own.lo other.lo; hi = min own.hi other.hi }
 unfolding met_or_own
 met-there own other le = grind (arith, common_steps)
@@ -216,7 +216,7 @@ module _ (table : AtomTable) (v : ℕ → ℕ) (agrees : AgreesWith table v) whe
   unfolding form_interval
   form-encloses f = by_both-encloses f.constant (map signed_term f.terms)
 
-within-one : (i : Interval) → i.lo / 2 ^ 32 ≡ i.hi / 2 ^ 32
+pub within-one : (i : Interval) → i.lo / 2 ^ 32 ≡ i.hi / 2 ^ 32
     → range_within i ≡ Some record { lo = i.lo % 2 ^ 32; hi = i.hi % 2 ^ 32 }
 unfolding range_within
 within-one i e = grind (arith, common_steps)

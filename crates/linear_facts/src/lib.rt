@@ -7,6 +7,7 @@
 mod differences;
 mod forms;
 mod laws;
+mod loops;
 mod ranges;
 mod sums;
 
@@ -15,5 +16,8 @@ pub use forms::{Form, Term};
 pub use laws::{
     agree_below, forms_stay_below, multiples_stay_below, orders_hold, ranges_fit,
     substitutions_stay_below, sums_stay_below,
+};
+pub use loops::{
+    atom_range, left_range, moved_range, number_range, pointer_range, round_paid, same_paid,
 };
 pub use ranges::{Atom, Atoms, Change, End, Range, Split};

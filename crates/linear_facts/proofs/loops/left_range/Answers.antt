@@ -1,0 +1,5 @@
+use Rattle.linear_facts.proofs.LoopRanges.{left-range}
+use Rattle.linear_facts.proofs.loops.left_range.Goals as goal
+
+pub returns : goal.returns
+returns c = left-range

@@ -1,0 +1,5 @@
+use Rattle.linear_facts.proofs.LoopRanges.{moved-range}
+use Rattle.linear_facts.proofs.loops.moved_range.Goals as goal
+
+pub returns : goal.returns
+returns c = moved-range

@@ -1,0 +1,5 @@
+use Rattle.linear_facts.proofs.LoopRanges.{number-range}
+use Rattle.linear_facts.proofs.loops.number_range.Goals as goal
+
+pub returns : goal.returns
+returns c = number-range

@@ -1,0 +1,5 @@
+use Rattle.linear_facts.proofs.LoopRanges.{pointer-range}
+use Rattle.linear_facts.proofs.loops.pointer_range.Goals as goal
+
+pub returns : goal.returns
+returns c = pointer-range

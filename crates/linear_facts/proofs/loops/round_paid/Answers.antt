@@ -1,0 +1,5 @@
+use Rattle.linear_facts.proofs.LoopRanges.{round-paid}
+use Rattle.linear_facts.proofs.loops.round_paid.Goals as goal
+
+pub returns : goal.returns
+returns c = round-paid

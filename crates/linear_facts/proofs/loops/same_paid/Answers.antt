@@ -1,0 +1,5 @@
+use Rattle.linear_facts.proofs.LoopRanges.{same-paid}
+use Rattle.linear_facts.proofs.loops.same_paid.Goals as goal
+
+pub returns : goal.returns
+returns c = same-paid
