@@ -1,0 +1,4 @@
+//! Certificates for plain strip-mined loops: which loops they are, and the certificate of one.
+#![tactic(auto)]
+
+mod loops;
