@@ -78,7 +78,7 @@ same_length s v h config next holds e =
 -- ---- a split
 
 module _ (atoms : List Atom) (a : ℕ) (p : Split) where
-  atom_other : (b : ℕ) → b ≢ a → atom_at (table_with (with_split a p atoms)) b ≡ atom_at (table_with atoms) b
+  pub atom_other : (b : ℕ) → b ≢ a → atom_at (table_with (with_split a p atoms)) b ≡ atom_at (table_with atoms) b
   unfolding atom_at with_split
   atom_other b ne = get_or-set_other atoms a b _ _ ne
 
@@ -86,7 +86,7 @@ module _ (atoms : List Atom) (a : ℕ) (p : Split) where
   unfolding split_at
   split_other b ne = ap (λ (k : Atom). k.split) (atom_other b ne)
 
-  atom_here : a < length atoms
+  pub atom_here : a < length atoms
       → atom_at (table_with (with_split a p atoms)) a ≡ record { range = (atom_at (table_with atoms) a).range; split = Some p }
   unfolding atom_at with_split
   atom_here l = get_or-set_same atoms a _ _ l

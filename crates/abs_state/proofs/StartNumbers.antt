@@ -42,11 +42,11 @@ unfolding value
 value_small v f x e = omega arith
 
 module _ (atoms : List Atom) (form : ℕ → Linear) (interval : ℕ → Option Range) where
-  form_by : (i : ℕ) → i < 33 → (value_at (numbers_by atoms form interval) i).form ≡ form i
+  pub form_by : (i : ℕ) → i < 33 → (value_at (numbers_by atoms form interval) i).form ≡ form i
   unfolding value_at numbers_by
   form_by i l = get_or-map-range_with_len form 0 33 i i (number_form 0) l (omega arith)
 
-  range_by : (i : ℕ) → i < 33
+  pub range_by : (i : ℕ) → i < 33
       → (value_at (numbers_by atoms form interval) i).range ≡ computed_range (interval i) (range_of_form (table_with atoms) (form i))
   unfolding value_at numbers_by
   range_by i l =
@@ -87,7 +87,7 @@ module _ (params : List Param) (facts : List RegisterFact) where
   abbrev numbers_passed : List Atom
   numbers_passed = map (λ place. plain (passed_range (slice_get params place))) (range_with_len 0 8)
 
-  registers_many : length registers ≡ 33
+  pub registers_many : length registers ≡ 33
   registers_many = length-map-range_with_len (λ i. plain (stated_range facts i)) 0 33
 
   passed_many : length numbers_passed ≡ 8
@@ -103,7 +103,7 @@ module _ (params : List Param) (facts : List RegisterFact) where
       get_or-append registers numbers_passed unknown_atom a (omega (arith, registers_many, l))
       ∙ get_or-map-range_with_len (λ i. plain (stated_range facts i)) 0 33 a a unknown_atom l (omega arith)
 
-  atom_of_passed : (a : ℕ) → 33 ≤ a → a < 41 → atom_at (table_with (start_atoms params facts)) a ≡ plain (passed_range (slice_get params (a - 33)))
+  pub atom_of_passed : (a : ℕ) → 33 ≤ a → a < 41 → atom_at (table_with (start_atoms params facts)) a ≡ plain (passed_range (slice_get params (a - 33)))
   unfolding start_atoms atom_at
   atom_of_passed a l g =
       get_or-append_right registers numbers_passed a unknown_atom (omega (arith, registers_many, l))
@@ -136,7 +136,7 @@ module _ (params : List Param) (facts : List RegisterFact) where
           let k : a < 33 = grind (arith, nat_tests) in
           subst P (sym (atom_of_register a k)) (of_register k)
 
-  no_atom_split : (a : ℕ) → split_at (table_with (start_atoms params facts)) a ≡ None
+  pub no_atom_split : (a : ℕ) → split_at (table_with (start_atoms params facts)) a ≡ None
   unfolding split_at
   no_atom_split a = by_atom (λ (k : Atom). k.split ≡ None) a (λ l. refl) (λ l g. refl) refl
 

@@ -89,7 +89,7 @@ unfoldable pub count_by : List Param → ℕ → Insn → Option Head
 count_by params pc (class.Scalar (Branch Eq rs1 rs2 offset)) =
     if rs2 == 0
     then option_map (λ most. record { count = rs1; most = most; end = offset_by pc offset })
-        (option_and_then most_of (parameter_in params rs1))
+    (option_and_then most_of (parameter_in params rs1))
     else None
 count_by params pc other = None
 

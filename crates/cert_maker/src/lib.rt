@@ -1,4 +1,10 @@
 //! Certificates for plain strip-mined loops: which loops they are, and the certificate of one.
 #![tactic(auto)]
 
+mod laws;
 mod loops;
+
+pub use laws::{
+    body_keeps, facts_are, lengths_are_set, loops_end, pointers_move, pointers_return, reaches_end,
+    splits_are,
+};

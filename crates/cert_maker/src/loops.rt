@@ -11,14 +11,14 @@ ghost use Rattle.cert_maker.specs.Loops.{loop_from as loop_from_of};
 ghost use Rattle.cert_maker.specs.declared.loops.Reading.TheVariants.{Works};
 ghost use Rattle.rv_decode.specs.declared.instructions.Insn.{Insn};
 
-use region_mem::{Param, Parameters};
 use elf_image::Image;
-use region_mem::Mode;
+use region_mem::{Mode, Param, Parameters};
+use rv_decode::{
+    Condition, Direction, Eew, Extent, Insn, Operand, Place, Reg, RegisterOp, ScalarInsn, ShiftOp,
+    VMem, VSet, Width, decode, needs,
+};
 use std::alloc::Allocator;
-use vreg_groups::{Vconfig, legal};
-use rv_decode::{Condition, Direction, Eew, Extent, Insn, Operand, Place, Reg, RegisterOp, ScalarInsn, ShiftOp, VMem, VSet, Width, decode, needs};
-
-use vreg_groups::Vtype;
+use vreg_groups::{Vconfig, Vtype, legal};
 
 /// What the first branch says: the register of the count, the most that it may be, and where the loop ends.
 #[derive(Clone, Copy, Debug, PartialEq, Eq)]
@@ -44,7 +44,11 @@ pub struct Loop {
 #[derive(Clone, Copy, Debug, PartialEq, Eq)]
 pub enum Reading {
     Works(Loop),
-    Moves { of: Loop, step: Reg, left: [bool; 8] },
+    Moves {
+        of: Loop,
+        step: Reg,
+        left: [bool; 8],
+    },
     Back(Loop),
     Through(Loop),
 }
@@ -92,12 +96,14 @@ fn count_by(parameters: &Parameters, pc: u32, insn: &Insn) -> Option<Head>
     ensures { result ≡ count_by_of parameters.now pc insn.now }
 {
     match insn {
-        Insn::Scalar(ScalarInsn::Branch {
-            condition: Condition::Eq,
-            rs1,
-            rs2,
-            offset,
-        }) => {
+        Insn::Scalar(
+            ScalarInsn::Branch {
+                condition: Condition::Eq,
+                rs1,
+                rs2,
+                offset,
+            },
+        ) => {
             if rs2.number() == 0 {
                 let param = parameter_in(parameters, *rs1)?;
                 let most = most_of(param)?;
@@ -145,7 +151,6 @@ fn length_by(head: &Head, insn: &Insn) -> Option<Loop>
     }
 }
 
-
 /// The flags without that of an argument register.
 fn without(flags: &[bool; 8], register: Reg) -> [bool; 8]
     requires above { 10 ≤ register }
@@ -170,13 +175,17 @@ fn moved_by(of: &Loop, step: Reg, left: &[bool; 8], insn: &Insn) -> Option<Readi
     ensures { result ≡ moved_by_of of.now step left.now insn.now }
 {
     match insn {
-        Insn::Scalar(ScalarInsn::Register {
-            op: RegisterOp::Add,
-            rd,
-            rs1,
-            rs2,
-        }) => {
-            if is_flagged(*rd, left) && rs1.number() == rd.number() && rs2.number() == step.number()
+        Insn::Scalar(
+            ScalarInsn::Register {
+                op: RegisterOp::Add,
+                rd,
+                rs1,
+                rs2,
+            },
+        ) => {
+            if is_flagged(*rd, left)
+                && rs1.number() == rd.number()
+                && rs2.number() == step.number()
             {
                 Some(Reading::Moves {
                     of: *of,
@@ -187,12 +196,14 @@ fn moved_by(of: &Loop, step: Reg, left: &[bool; 8], insn: &Insn) -> Option<Readi
                 None
             }
         }
-        Insn::Scalar(ScalarInsn::Register {
-            op: RegisterOp::Sub,
-            rd,
-            rs1,
-            rs2,
-        }) => {
+        Insn::Scalar(
+            ScalarInsn::Register {
+                op: RegisterOp::Sub,
+                rd,
+                rs1,
+                rs2,
+            },
+        ) => {
             if !any(left)
                 && rd.number() == of.count.number()
                 && rs1.number() == of.count.number()
@@ -238,12 +249,14 @@ fn step_by(of: &Loop, shift: Option<u32>, insn: &Insn) -> Option<Reading>
         return moved_by(of, of.length, &of.pointers, insn);
     };
     match insn {
-        Insn::Scalar(ScalarInsn::ShiftImmediate {
-            op: ShiftOp::Slli,
-            rd,
-            rs1,
-            amount,
-        }) => {
+        Insn::Scalar(
+            ScalarInsn::ShiftImmediate {
+                op: ShiftOp::Slli,
+                rd,
+                rs1,
+                amount,
+            },
+        ) => {
             if rs1.number() == of.length.number()
                 && *amount == wanted
                 && is_free(*rd, of)
@@ -269,12 +282,14 @@ fn back_by(of: &Loop, start: u32, pc: u32, insn: &Insn) -> Option<Reading>
     ensures { result ≡ back_by_of of.now start pc insn.now }
 {
     match insn {
-        Insn::Scalar(ScalarInsn::Branch {
-            condition: Condition::Ne,
-            rs1,
-            rs2,
-            offset,
-        }) => {
+        Insn::Scalar(
+            ScalarInsn::Branch {
+                condition: Condition::Ne,
+                rs1,
+                rs2,
+                offset,
+            },
+        ) => {
             if rs1.number() == of.count.number()
                 && rs2.number() == 0
                 && pc.wrapping_add(offset.cast_unsigned()) == start
@@ -329,7 +344,8 @@ fn is_vector_class(insn: &Insn) -> bool
 {
     match insn {
         Insn::Scalar(_) | Insn::Csr(_) | Insn::VSet(_) | Insn::VMem(_) => false,
-        Insn::VArith(_) | Insn::VMask(_) | Insn::VPerm(_) | Insn::VReduce(_) | Insn::VMove(_) => true,
+        Insn::VArith(_) | Insn::VMask(_) | Insn::VPerm(_) | Insn::VReduce(_) | Insn::VMove(_) =>
+            true,
     }
 }
 
@@ -424,7 +440,15 @@ fn works_access(parameters: &Parameters, of: &Loop, access: &VMem) -> Option<Rea
     ensures { result ≡ works_on_of parameters.now of.now (Insn.VMem access.now) }
 {
     let insn = Insn::VMem(*access);
-    if is_access(parameters, of, access) && legal(&Vconfig { vtype: of.vtype, vl: 0 }, &insn) {
+    if is_access(parameters, of, access)
+        && legal(
+            &Vconfig {
+                vtype: of.vtype,
+                vl: 0,
+            },
+            &insn,
+        )
+    {
         Some(Reading::Works(with_pointer(access.rs1, of)))
     } else {
         None
@@ -440,7 +464,13 @@ fn works_on(parameters: &Parameters, of: &Loop, insn: &Insn) -> Option<Reading>
         return works_access(parameters, of, access);
     }
     if is_arithmetic(insn) {
-        if legal(&Vconfig { vtype: of.vtype, vl: 0 }, insn) {
+        if legal(
+            &Vconfig {
+                vtype: of.vtype,
+                vl: 0,
+            },
+            insn,
+        ) {
             Some(Reading::Works(*of))
         } else {
             None
@@ -452,7 +482,13 @@ fn works_on(parameters: &Parameters, of: &Loop, insn: &Insn) -> Option<Reading>
 
 /// What a word is read as.
 #[tactic(auto, unfolding(crate::specs::Loops::next_of))]
-fn next_of(parameters: &Parameters, start: u32, pc: u32, reading: &Reading, insn: &Insn) -> Option<Reading>
+fn next_of(
+    parameters: &Parameters,
+    start: u32,
+    pc: u32,
+    reading: &Reading,
+    insn: &Insn,
+) -> Option<Reading>
     requires { pc + 4 ≤ 0xC000_0000 }
     ensures { result ≡ next_of_of parameters.now start pc reading.now insn.now }
 {
@@ -476,7 +512,13 @@ fn insn_at<A: Allocator>(image: &Image<A>, pc: u32) -> Option<Insn>
 
 /// A word of the loop.
 #[tactic(auto, unfolding(crate::specs::Loops::next_of))]
-fn read_word<A: Allocator>(image: &Image<A>, parameters: &Parameters, start: u32, pc: u32, reading: &Reading) -> Option<Reading>
+fn read_word<A: Allocator>(
+    image: &Image<A>,
+    parameters: &Parameters,
+    start: u32,
+    pc: u32,
+    reading: &Reading,
+) -> Option<Reading>
     ensures value { result ≡ option_and_then (next_of_of parameters.now start pc reading.now) (insn_at_of pc image.now) }
     ensures low { IsSome result → pc + 4 ≤ 0xC000_0000 }
 {
