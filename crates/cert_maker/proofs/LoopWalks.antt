@@ -20,7 +20,7 @@ use Rattle.cert_maker.specs.Laws.{WordsGoOn, WordsEnd}
 
 -- ---- a word
 
-code_of : (pc : ℕ) (insn : Insn) (image : ImageView) → insn_at pc image ≡ Some insn
+pub code_of : (pc : ℕ) (insn : Insn) (image : ImageView) → insn_at pc image ≡ Some insn
     → (word : ℕ) × (code_at pc image ≡ Some word) × (meaning_of word ≡ Some insn)
 unfolding insn_at
 code_of pc insn image e = by_code (code_at pc image) refl e
@@ -30,19 +30,19 @@ code_of pc insn image e = by_code (code_at pc image) refl e
     by_code None f g = cc
     by_code (Some word) f g = (word, f, g)
 
-word_is : (image : ImageView) (certificate : CertificateView) (pc : ℕ) (insn : Insn) (a b : AbstractView) → insn_at pc image ≡ Some insn
+pub word_is : (image : ImageView) (certificate : CertificateView) (pc : ℕ) (insn : Insn) (a b : AbstractView) → insn_at pc image ≡ Some insn
     → after_of pc insn a ≡ Ok b → word_passes image certificate pc a ≡ followed certificate pc insn (Ok b)
 unfolding word_passes fetched decoded
 word_is image certificate pc insn a b e after =
     let is = code_of pc insn image e in
     rw (is.1, is.2, after) refl
 
-goes_on : (certificate : CertificateView) (pc : ℕ) (insn : Insn) (b : AbstractView) → jumps insn ≡ false → block_at (pc + 4) certificate.blocks ≡ None
+pub goes_on : (certificate : CertificateView) (pc : ℕ) (insn : Insn) (b : AbstractView) → jumps insn ≡ false → block_at (pc + 4) certificate.blocks ≡ None
     → followed certificate pc insn (Ok b) ≡ Ok (On b)
 unfolding followed
 goes_on certificate pc insn b j none = rw (j, none) refl
 
-stops : (certificate : CertificateView) (pc : ℕ) (insn : Insn) (b : AbstractView) → jumps insn ≡ true → edges_pass certificate pc insn b ≡ Ok tt
+pub stops : (certificate : CertificateView) (pc : ℕ) (insn : Insn) (b : AbstractView) → jumps insn ≡ true → edges_pass certificate pc insn b ≡ Ok tt
     → followed certificate pc insn (Ok b) ≡ Ok Ended
 unfolding followed
 stops certificate pc insn b j e = rw (j, e) refl

@@ -4,7 +4,7 @@ use Rattle.std.specs.List.{slice_get, list_all}
 use Rattle.scalar_core.specs.Hart.{exit}
 use Rattle.cert_note.specs.declared.values.RegisterFact.{RegisterFact}
 use Rattle.abs_state.specs.Blocks.{fact_for}
-use Rattle.cert_maker.specs.Certificates.{fact, facts_by}
+use Rattle.cert_maker.specs.Certificates.{fact, facts_by, block, budget}
 use Rattle.region_mem.specs.declared.faults.Right.{Right}
 use Rattle.region_mem.specs.declared.parameter.Mode.{Mode}
 use Rattle.region_mem.specs.declared.parameter.Param.{Param}
@@ -35,9 +35,9 @@ use Rattle.linear_facts.specs.LoopForms.{term, IsSize, pointer_form, moved_form,
 use Rattle.cert_maker.specs.Certificates.{sum, term as cert_term}
 use Rattle.cert_maker.specs.Words.{Insn}
 use Rattle.abs_state.specs.StepLaws.{jumps}
-use Rattle.block_checker.specs.Passes.{block_at, edges_pass, walk}
+use Rattle.block_checker.specs.Passes.{block_at, edges_pass, block_passes}
 use Rattle.cert_note.specs.Certificate.{CertificateView}
-use Rattle.cert_maker.specs.Loops.{is_arithmetic, is_through, next_of, loop_from}
+use Rattle.cert_maker.specs.Loops.{is_arithmetic, is_through, is_return, insn_at, next_of, loop_from}
 use Rattle.cert_maker.specs.declared.loops.Loop.{Loop}
 use Rattle.cert_maker.specs.declared.loops.Reading.{Reading}
 use Rattle.cert_maker.specs.declared.loops.Reading.TheVariants.{Through}
@@ -196,3 +196,10 @@ abbrev pub BackEquality : Type 0
 BackEquality = (forms : List Linear) (base w n e v : ℕ) → IsSize w → base < 2 ^ 32 → n < e → e < v
     → form_at forms n ≡ left_form n v → form_at forms e ≡ atom_form e
     → substituted forms (pointer_form base w n e) ≡ moved_form base w n e v
+
+-- ---- the return
+
+-- The block of a return passes, whatever the others are: ra is EXIT there.
+abbrev pub ReturnsPass : Type 0
+ReturnsPass = (image : ImageView) (certificate : CertificateView) (start : ℕ) (insn : Insn) → insn_at start image ≡ Some insn
+    → is_return insn ≡ true → block_passes image certificate (block start (budget 1 0 0) (facts_by (λ place. None))) ≡ Ok tt

@@ -1,7 +1,7 @@
 //! Laws of the loops for which certificates are made, each the contract of a function that does nothing when it runs.
 //!
 //! Together they say why what is made passes a check: each is one step of that.
-ghost use Rattle.cert_maker.specs.Laws.{BodyKeeps, ReachesEnd, FactsAre, SplitsAre, LoopsEnd, PointersMove, PointersReturn, LengthsAreSet};
+ghost use Rattle.cert_maker.specs.Laws.{BodyKeeps, ReachesEnd, FactsAre, SplitsAre, LoopsEnd, PointersMove, PointersReturn, LengthsAreSet, ReturnsPass};
 
 /// Vector arithmetic that is legal at the vtype that is known leaves all that is known of numbers as it was.
 pub fn body_keeps()
@@ -41,4 +41,9 @@ pub fn pointers_return()
 /// Behind vsetvli vl and its register are a new atom, of which the count is made, and all else is as it was.
 pub fn lengths_are_set()
     ensures { LengthsAreSet }
+{}
+
+/// The block of the return passes, whatever the other blocks are, since ra is EXIT there.
+pub fn returns_pass()
+    ensures { ReturnsPass }
 {}

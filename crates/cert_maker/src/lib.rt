@@ -6,5 +6,5 @@ mod loops;
 
 pub use laws::{
     body_keeps, facts_are, lengths_are_set, loops_end, pointers_move, pointers_return, reaches_end,
-    splits_are,
+    returns_pass, splits_are,
 };
