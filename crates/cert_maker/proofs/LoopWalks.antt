@@ -85,7 +85,7 @@ inside image params start (suc more) pc r through l e =
 
 -- ---- the readings on the way to a loop
 
-part_same : (loop : Loop) → IsPartOf loop loop
+pub part_same : (loop : Loop) → IsPartOf loop loop
 part_same loop = record {
   count = refl;
   most = refl;
@@ -132,11 +132,11 @@ module _ (image : ImageView) (params : List Param) (start : ℕ) where
       by_insn (Some insn) at f rest = by_reading insn at (next_of params start pc r insn) refl f rest
 
   -- a reading leads where the next one does
-  pub Leads : Type 0
+  abbrev pub Leads : Type 0
   Leads = (pc : ℕ) (r next : Reading) (insn : Insn) (loop : Loop) → next_of params start pc r insn ≡ Some next → LeadsTo next loop → LeadsTo r loop
 
   pub leads : Leads → (fuel pc : ℕ) (r : Reading) (through : Loop × ℕ) → loop_from image params start fuel pc r ≡ Ok through → LeadsTo r through.0
-  unfolding loop_from Leads
+  unfolding loop_from
   leads back zero pc r through e = cc
   leads back (suc fuel) pc r through e =
       by_insn (insn_at pc image) refl e (λ next f. leads back fuel (pc + 4) next through f)

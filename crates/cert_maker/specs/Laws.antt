@@ -121,6 +121,11 @@ abbrev pub LoopsEnd : Type 0
 LoopsEnd = (image : ImageView) (params : List Param) (start more pc : ℕ) (r : Reading) (through : Loop × ℕ) → start ≤ pc
     → loop_from image params start more pc r ≡ Ok through → pc < start + 4 * through.1
 
+-- Each reading on the way to a loop is of that loop, but for pointers that are still to come.
+abbrev pub LoopsLead : Type 0
+LoopsLead = (image : ImageView) (params : List Param) (start more pc : ℕ) (r : Reading) (through : Loop × ℕ)
+    → loop_from image params start more pc r ≡ Ok through → LeadsTo r through.0
+
 -- ---- a pointer
 
 -- What is known of a pointer and of the atoms before it is moved: `q` is the least that the moved form may be.

@@ -1,7 +1,7 @@
 //! Laws of the loops for which certificates are made, each the contract of a function that does nothing when it runs.
 //!
 //! Together they say why what is made passes a check: each is one step of that.
-ghost use Rattle.cert_maker.specs.Laws.{BodyKeeps, ReachesEnd, FactsAre, SplitsAre, LoopsEnd, PointersMove, PointersReturn, LengthsAreSet, ReturnsPass};
+ghost use Rattle.cert_maker.specs.Laws.{BodyKeeps, ReachesEnd, FactsAre, SplitsAre, LoopsEnd, LoopsLead, PointersMove, PointersReturn, LengthsAreSet, ReturnsPass};
 
 /// Vector arithmetic that is legal at the vtype that is known leaves all that is known of numbers as it was.
 pub fn body_keeps()
@@ -46,4 +46,9 @@ pub fn lengths_are_set()
 /// The block of the return passes, whatever the other blocks are, since ra is EXIT there.
 pub fn returns_pass()
     ensures { ReturnsPass }
+{}
+
+/// Each reading on the way to a loop is of that loop, but for pointers that are still to come.
+pub fn loops_lead()
+    ensures { LoopsLead }
 {}

@@ -5,6 +5,6 @@ mod laws;
 mod loops;
 
 pub use laws::{
-    body_keeps, facts_are, lengths_are_set, loops_end, pointers_move, pointers_return, reaches_end,
-    returns_pass, splits_are,
+    body_keeps, facts_are, lengths_are_set, loops_end, loops_lead, pointers_move, pointers_return,
+    reaches_end, returns_pass, splits_are,
 };
