@@ -1,0 +1,173 @@
+-- What is known behind the word that sets vl from the count.
+use Rattle.std.proofs.Common.{◌≡◌, ◌≢◌, ℕ, ◌+◌, ◌-◌, ◌<◌, ◌≤◌, Bool, true, false, refl, sym, ap, ◌∙◌, subst, arith, Option, Some, None, List, [], ◌∷◌, length, min}
+use Rattle.std.proofs.Common.{inl, inr, ◌*◌, ◌/◌}
+use Rattle.std.specs.Prelude.{if◌then◌else◌, ◌==◌}
+use Rattle.rv_decode.specs.declared.instructions.Width.{Width}
+use Rattle.rv_decode.specs.declared.instructions.Width.TheVariants.{W8, W16, W32}
+use Rattle.vreg_groups.specs.declared.vector_type.Lmul.{Lmul}
+use Rattle.vreg_groups.specs.declared.vector_type.Lmul.TheVariants.{Quarter, Half, One, Two, Four, Eight}
+use Rattle.vreg_groups.specs.declared.vector_type.Vtype.{Vtype}
+use Rattle.vreg_groups.specs.VectorType.{bits_of_width, eighths_of, vlmax_of}
+use Rattle.vreg_groups.specs.VectorLength.{IsVlenb}
+use Rattle.std.proofs.lemmas.Bool.Decides.{nat_tests}
+use Rattle.std.proofs.Math.ListN.{length-set}
+use Rattle.linear_facts.specs.declared.ranges.Range.{Range}
+use Rattle.linear_facts.specs.Forms.{Linear, atom_form}
+use Rattle.linear_facts.specs.Ranges.{range_at, split_at}
+use Rattle.abs_state.specs.declared.values.Effect.TheVariants.{Copied}
+use Rattle.abs_state.specs.Values.{ValueView}
+use Rattle.abs_state.specs.Numbers.{NumbersView, table_of, value_at, with_value, with_effect, with_result}
+use Rattle.abs_state.specs.Branches.{whole_atom}
+use Rattle.abs_state.specs.Lengths.{limited, limited_by, lesser_range, excess_range, split_into, with_length_in}
+use Rattle.abs_state.proofs.States.{this_value, other_value}
+use Rattle.linear_facts.specs.LoopForms.{IsLoop}
+use Rattle.cert_maker.specs.Laws.{AreSplit, IsCount, IsSet, LengthsAreSet}
+use Rattle.cert_maker.proofs.Lengths.{are_split}
+
+not_zero : (p : ℕ) → 0 < p → (p == 0) ≡ false
+not_zero p l = grind (arith, nat_tests)
+
+module _ (s : NumbersView) (n t e L N M : ℕ) (is : IsCount s n t e L N M) where
+  abbrev k : ℕ
+  k = length s.atoms
+
+  abbrev v_range : Range
+  v_range = record { lo = min 1 M; hi = min N M }
+
+  abbrev w_range : Range
+  w_range = record { lo = 1 - M; hi = N - M }
+
+  vl : ValueView
+  vl = record { form = atom_form k; range = v_range }
+
+  abbrev split : NumbersView
+  split = record s { atoms = split_into n v_range w_range s.atoms }
+
+  set : NumbersView
+  set = with_value 32 vl split
+
+  limited_is : limited M (value_at s n) s ≡ set
+  unfolding limited limited_by whole_atom set vl
+  limited_is = rw is.count refl
+
+  here : value_at set 32 ≡ vl
+  unfolding set
+  here = this_value split 32 vl (omega (arith, is.forms)) (omega (arith, is.ranges))
+
+  lengths : (length set.forms ≡ 33) × (length set.ranges ≡ 33)
+  unfolding set with_value vl
+  lengths = (length-set s.forms 32 (atom_form k) ∙ is.forms, length-set s.ranges 32 v_range ∙ is.ranges)
+
+  result_is : with_length_in t (limited M (value_at s n) s) ≡ with_value t vl set
+  unfolding with_length_in with_result with_effect vl
+  result_is = rw (limited_is, here, not_zero t is.positive) refl
+
+  loop_is : (a : AreSplit s.atoms n v_range w_range) → IsLoop (table_of split) n e k (k + 1) L N M
+  loop_is a = record {
+    first = is.first;
+    second = is.second;
+    third = omega arith;
+    n_range = a.n_range ∙ is.n_range;
+    e_range = a.other_range e (omega (arith, is.first)) is.second ∙ is.e_range;
+    v_range = a.first_range;
+    u_range = a.second_range;
+    n_split = a.n_split;
+    e_split = a.other_split e (omega (arith, is.first)) is.second ∙ is.e_split;
+    v_split = a.first_split;
+    some = is.some;
+    least = is.least;
+    progress = is.progress;
+  }
+
+  stays : (i : ℕ) → i ≢ 32 → i ≢ t → value_at (with_value t vl set) i ≡ value_at s i
+  unfolding set value_at
+  stays i ne nt = other_value (with_value 32 vl split) t i vl nt ∙ (other_value split 32 i vl ne ∙ same i)
+    where
+      same : (i : ℕ) → value_at split i ≡ value_at s i
+      same i = refl
+
+  pub is_set : IsSet s (with_length_in t (limited M (value_at s n) s)) n t e L N M
+  unfolding vl set with_value value_at
+  is_set =
+      subst (λ (q : NumbersView). IsSet s q n t e L N M) (sym result_is)
+      record {
+        loop = loop_is (are_split s.atoms n v_range w_range (omega (arith, is.first, is.second)));
+        vl = other_value set t 32 vl (omega (arith, is.below)) ∙ here;
+        length = this_value set t vl (omega (arith, lengths.0, is.below)) (omega (arith, lengths.1, is.below));
+        others = stays;
+      }
+
+pub lengths-are_set : LengthsAreSet
+lengths-are_set s n t e L N M is = is_set s n t e L N M is
+
+-- ---- VLMAX
+
+vlmax_is : (vlenb : ℕ) (sew : Width) (lmul : Lmul) → IsVlenb vlenb → 1 ≤ eighths_of lmul * vlenb / bits_of_width sew
+vlmax_is vlenb sew lmul (inl e) = rw e (sixteen sew lmul)
+  where
+    sixteen : (sew : Width) (lmul : Lmul) → 1 ≤ eighths_of lmul * 16 / bits_of_width sew
+    sixteen W8 Quarter = omega arith
+    sixteen W8 Half = omega arith
+    sixteen W8 One = omega arith
+    sixteen W8 Two = omega arith
+    sixteen W8 Four = omega arith
+    sixteen W8 Eight = omega arith
+    sixteen W16 Quarter = omega arith
+    sixteen W16 Half = omega arith
+    sixteen W16 One = omega arith
+    sixteen W16 Two = omega arith
+    sixteen W16 Four = omega arith
+    sixteen W16 Eight = omega arith
+    sixteen W32 Quarter = omega arith
+    sixteen W32 Half = omega arith
+    sixteen W32 One = omega arith
+    sixteen W32 Two = omega arith
+    sixteen W32 Four = omega arith
+    sixteen W32 Eight = omega arith
+vlmax_is vlenb sew lmul (inr (inl e)) = rw e (double sew lmul)
+  where
+    double : (sew : Width) (lmul : Lmul) → 1 ≤ eighths_of lmul * 32 / bits_of_width sew
+    double W8 Quarter = omega arith
+    double W8 Half = omega arith
+    double W8 One = omega arith
+    double W8 Two = omega arith
+    double W8 Four = omega arith
+    double W8 Eight = omega arith
+    double W16 Quarter = omega arith
+    double W16 Half = omega arith
+    double W16 One = omega arith
+    double W16 Two = omega arith
+    double W16 Four = omega arith
+    double W16 Eight = omega arith
+    double W32 Quarter = omega arith
+    double W32 Half = omega arith
+    double W32 One = omega arith
+    double W32 Two = omega arith
+    double W32 Four = omega arith
+    double W32 Eight = omega arith
+vlmax_is vlenb sew lmul (inr (inr e)) = rw e (quadruple sew lmul)
+  where
+    quadruple : (sew : Width) (lmul : Lmul) → 1 ≤ eighths_of lmul * 64 / bits_of_width sew
+    quadruple W8 Quarter = omega arith
+    quadruple W8 Half = omega arith
+    quadruple W8 One = omega arith
+    quadruple W8 Two = omega arith
+    quadruple W8 Four = omega arith
+    quadruple W8 Eight = omega arith
+    quadruple W16 Quarter = omega arith
+    quadruple W16 Half = omega arith
+    quadruple W16 One = omega arith
+    quadruple W16 Two = omega arith
+    quadruple W16 Four = omega arith
+    quadruple W16 Eight = omega arith
+    quadruple W32 Quarter = omega arith
+    quadruple W32 Half = omega arith
+    quadruple W32 One = omega arith
+    quadruple W32 Two = omega arith
+    quadruple W32 Four = omega arith
+    quadruple W32 Eight = omega arith
+
+-- vl is never limited to 0
+pub vlmax_positive : (vlenb : ℕ) (t : Vtype) → IsVlenb vlenb → 1 ≤ vlmax_of vlenb t
+unfolding vlmax_of
+vlmax_positive vlenb t is = vlmax_is vlenb t.sew t.lmul is

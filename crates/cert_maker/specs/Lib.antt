@@ -1,0 +1,5 @@
+pub mod Words
+pub mod Loops
+pub mod Certificates
+pub mod Known
+pub mod Laws
