@@ -1,4 +1,7 @@
-//! Certificates for plain strip-mined loops: which loops they are, and the certificate of one.
+//! Plain strip-mined loops: which loops they are, and the reading of one.
 #![tactic(auto)]
 
+mod instructions;
 mod loops;
+
+pub use loops::{Head, Loop, Reading, loop_of};
