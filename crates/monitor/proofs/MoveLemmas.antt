@@ -23,11 +23,11 @@ does_more vlenb j s m t so going is counts bound opened parameters =
       opened = opened ∙ so.opened;
       parameters = parameters ∙ so.parameters;
       going = λ i below.
-        let within : i ≤ j = omega (arith, below) in
-        elim (eq-or-lt_of_le {n = i} {m = j} within) as (λ _. (u : Machine) × (after vlenb s.machine i ≡ Ok u) × (has_ended u ≡ false)) [
-          | inl equal ↦ (m.machine, rw equal so.leads, going)
-          | inr less ↦ so.going i less
-        ];
+          let within : i ≤ j = omega (arith, below) in
+          elim (eq-or-lt_of_le {n = i} {m = j} within) as (λ _. (u : Machine) × (after vlenb s.machine i ≡ Ok u) × (has_ended u ≡ false)) [
+            | inl equal ↦ (m.machine, rw equal so.leads, going)
+            | inr less ↦ so.going i less
+          ];
     }
 
 -- a run that has ended stays
@@ -61,9 +61,9 @@ no_stop_more vlenb bs s m j before so going i some below x is =
     let within : i ≤ j = omega (arith, below) in
     elim (eq-or-lt_of_le {n = i} {m = j} within) as (λ _. stops bs x ≡ false) [
       | inl equal ↦
-        let here : after vlenb s.machine j ≡ Ok x = rw (← equal) is in
-        let same : m.machine ≡ x = cc (so.leads, here) in
-        rw (← same) going
+          let here : after vlenb s.machine j ≡ Ok x = rw (← equal) is in
+          let same : m.machine ≡ x = cc (so.leads, here) in
+          rw (← same) going
       | inr less ↦ before i some less x is
     ]
 

@@ -43,7 +43,7 @@ record Spells (radix most : ℕ) (word : List ℕ) : Type 0 where
 says : (radix most : ℕ) (word : List ℕ) → is_spelled radix most word ≡ true → Spells radix most word
 says radix most word is =
     let all = both (nat_lt 0 (length word) && nat_le (length word) most && list_all (λ byte. nat_lt (digit_value byte) radix) word)
-        (nat_lt (digits_value radix word) (2 ^ 32)) is in
+    (nat_lt (digits_value radix word) (2 ^ 32)) is in
     let sizes = both (nat_lt 0 (length word) && nat_le (length word) most) (list_all (λ byte. nat_lt (digit_value byte) radix) word) all.0 in
     let size = both (nat_lt 0 (length word)) (nat_le (length word) most) sizes.0 in
     record {

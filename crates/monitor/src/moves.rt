@@ -6,10 +6,7 @@ use sandbox_run::Session;
 use std::alloc::Allocator;
 
 /// Does one step, and then goes on to a breakpoint or the end. A run that has ended stays as it is.
-pub fn go_on<const VLENB: usize, A: Allocator>(
-    session: &mut Session<VLENB, A>,
-    breakpoints: &[u32],
-)
+pub fn go_on<const VLENB: usize, A: Allocator>(session: &mut Session<VLENB, A>, breakpoints: &[u32])
     ensures { GoesOn VLENB breakpoints.now session.old session.new }
 {
     if session.step().is_none() {

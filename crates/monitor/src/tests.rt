@@ -15,8 +15,20 @@ fn reads_each_command(rt: HostRuntime) {
     assert_eq!(rt; parse("x"), Ok(Command::Registers));
     assert_eq!(rt; parse("v 31"), Ok(Command::Vector(Reg::new(31))));
     assert_eq!(rt; parse("csr"), Ok(Command::Csrs));
-    assert_eq!(rt; parse("m fFfFfFfF 1"), Ok(Command::Memory { address: 0xffff_ffff, count: 1 }));
-    assert_eq!(rt; parse("l 0 256"), Ok(Command::List { address: 0, count: 256 }));
+    assert_eq!(rt;
+        parse("m fFfFfFfF 1"),
+        Ok(Command::Memory {
+            address: 0xffff_ffff,
+            count: 1
+        })
+    );
+    assert_eq!(rt;
+        parse("l 0 256"),
+        Ok(Command::List {
+            address: 0,
+            count: 256
+        })
+    );
     assert_eq!(rt; parse("q"), Ok(Command::Quit));
 }
 

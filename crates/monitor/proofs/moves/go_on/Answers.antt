@@ -25,7 +25,7 @@ stepping-preserved g c =
     let going : has_ended c.stepping.session.machine ≡ false = not_ended c.stepping.session.machine c.step-in-stepping.result some c.step-in-stepping.ensures.end.1 in
     let past = goes_past c.args.breakpoints.now c.stepping.session.machine c.pc.result c.contains.result going c.pc.ensures c.contains.ensures.value c.stepping-test.true in
     let more : c.step-in-stepping.new.self.steps - c.args.session.now.steps ≡ suc (c.stepping.session.steps - c.args.session.now.steps)
-        = omega (arith, counts, c.stepping.invariant.some) in
+    = omega (arith, counts, c.stepping.invariant.some) in
     record {
       some = omega (arith, counts, c.stepping.invariant.some);
       does = rw more (does_more g.row.VLENB _ c.args.session.now c.stepping.session c.step-in-stepping.new.self c.stepping.invariant.does going

@@ -9,8 +9,8 @@ returns-then-word-most c =
     elim c.then-word-most.branch as (λ _. None ≡ spelled c.args.radix c.args.most c.args.word.now) [
       | then-word-most-via-then-word-most w ↦ sym (too_long c.args.radix c.args.most c.args.word.now (omega (arith, w.if-word-most.true)))
       | then-word-most-via-else-word-most+then-starts_with w ↦
-        let tests = w.starts_with.ensures.byte (omega arith) (omega arith) (λ w o found. found) in
-        sym (with_plus c.args.radix c.args.most c.args.word.now (omega arith) (sym tests ∙ w.if-starts_with.true))
+          let tests = w.starts_with.ensures.byte (omega arith) (omega arith) (λ w o found. found) in
+          sym (with_plus c.args.radix c.args.most c.args.word.now (omega arith) (sym tests ∙ w.if-starts_with.true))
     ]
 
 pub returns : goal.returns
