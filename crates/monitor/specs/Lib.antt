@@ -1,0 +1,4 @@
+pub mod Lines
+pub mod Moves
+pub mod Numbers
+pub mod Parse
