@@ -12,8 +12,10 @@ ghost use Rattle.cert_maker.specs.Loops.{works_on as works_on_of, writes_element
 
 use crate::loops::{Head, Loop, Reading};
 use region_mem::{Mode, Param, Parameters};
-use rv_decode::{Condition, Direction, Eew, Extent, Insn, Operand, Place, Reg, RegisterOp, ScalarInsn, ShiftOp};
-use rv_decode::{VMem, VSet, Width, needs};
+use rv_decode::{
+    Condition, Direction, Eew, Extent, Insn, Operand, Place, Reg, RegisterOp, ScalarInsn, ShiftOp,
+    VMem, VSet, Width, needs,
+};
 use vreg_groups::{Vconfig, Vtype, legal};
 
 /// The parameter that an argument register holds.
@@ -58,12 +60,14 @@ pub(crate) fn is_flagged(register: Reg, flags: &[bool; 8]) -> bool
 pub(crate) fn count_by(parameters: &Parameters, pc: u32, insn: &Insn) -> Option<Head>
     ensures { result ≡ count_by_of parameters.now pc insn.now }
 {
-    let Insn::Scalar(ScalarInsn::Branch {
-        condition: Condition::Eq,
-        rs1,
-        rs2,
-        offset,
-    }) = insn
+    let Insn::Scalar(
+        ScalarInsn::Branch {
+            condition: Condition::Eq,
+            rs1,
+            rs2,
+            offset,
+        },
+    ) = insn
     else {
         return None;
     };
@@ -130,13 +134,17 @@ fn moved_by(of: &Loop, step: Reg, left: &[bool; 8], insn: &Insn) -> Option<Readi
     ensures { result ≡ moved_by_of of.now step left.now insn.now }
 {
     match insn {
-        Insn::Scalar(ScalarInsn::Register {
-            op: RegisterOp::Add,
-            rd,
-            rs1,
-            rs2,
-        }) => {
-            if is_flagged(*rd, left) && rs1.number() == rd.number() && rs2.number() == step.number()
+        Insn::Scalar(
+            ScalarInsn::Register {
+                op: RegisterOp::Add,
+                rd,
+                rs1,
+                rs2,
+            },
+        ) => {
+            if is_flagged(*rd, left)
+                && rs1.number() == rd.number()
+                && rs2.number() == step.number()
             {
                 Some(Reading::Moves {
                     of: *of,
@@ -147,12 +155,14 @@ fn moved_by(of: &Loop, step: Reg, left: &[bool; 8], insn: &Insn) -> Option<Readi
                 None
             }
         }
-        Insn::Scalar(ScalarInsn::Register {
-            op: RegisterOp::Sub,
-            rd,
-            rs1,
-            rs2,
-        }) => {
+        Insn::Scalar(
+            ScalarInsn::Register {
+                op: RegisterOp::Sub,
+                rd,
+                rs1,
+                rs2,
+            },
+        ) => {
             if !any(left)
                 && rd.number() == of.count.number()
                 && rs1.number() == of.count.number()
@@ -197,12 +207,14 @@ fn step_by(of: &Loop, shift: Option<u32>, insn: &Insn) -> Option<Reading>
     let Some(wanted) = shift else {
         return moved_by(of, of.length, &of.pointers, insn);
     };
-    let Insn::Scalar(ScalarInsn::ShiftImmediate {
-        op: ShiftOp::Slli,
-        rd,
-        rs1,
-        amount,
-    }) = insn
+    let Insn::Scalar(
+        ScalarInsn::ShiftImmediate {
+            op: ShiftOp::Slli,
+            rd,
+            rs1,
+            amount,
+        },
+    ) = insn
     else {
         return None;
     };
@@ -227,12 +239,14 @@ fn back_by(of: &Loop, start: u32, pc: u32, insn: &Insn) -> Option<Reading>
     requires { pc + 4 ≤ 0xC000_0000 }
     ensures { result ≡ back_by_of of.now start pc insn.now }
 {
-    let Insn::Scalar(ScalarInsn::Branch {
-        condition: Condition::Ne,
-        rs1,
-        rs2,
-        offset,
-    }) = insn
+    let Insn::Scalar(
+        ScalarInsn::Branch {
+            condition: Condition::Ne,
+            rs1,
+            rs2,
+            offset,
+        },
+    ) = insn
     else {
         return None;
     };
@@ -287,7 +301,8 @@ fn is_vector_class(insn: &Insn) -> bool
 {
     match insn {
         Insn::Scalar(_) | Insn::Csr(_) | Insn::VSet(_) | Insn::VMem(_) => false,
-        Insn::VArith(_) | Insn::VMask(_) | Insn::VPerm(_) | Insn::VReduce(_) | Insn::VMove(_) => true,
+        Insn::VArith(_) | Insn::VMask(_) | Insn::VPerm(_) | Insn::VReduce(_) | Insn::VMove(_) =>
+            true,
     }
 }
 
@@ -384,7 +399,15 @@ fn works_access(parameters: &Parameters, of: &Loop, access: &VMem) -> Option<Rea
     ensures { result ≡ works_on_of parameters.now of.now (Insn.VMem access.now) }
 {
     let insn = Insn::VMem(*access);
-    if is_access(parameters, of, access) && legal(&Vconfig { vtype: of.vtype, vl: 0 }, &insn) {
+    if is_access(parameters, of, access)
+        && legal(
+            &Vconfig {
+                vtype: of.vtype,
+                vl: 0,
+            },
+            &insn,
+        )
+    {
         Some(Reading::Works(with_pointer(access.rs1, of)))
     } else {
         None
@@ -400,7 +423,13 @@ fn works_on(parameters: &Parameters, of: &Loop, insn: &Insn) -> Option<Reading>
         return works_access(parameters, of, access);
     }
     if is_arithmetic(insn) {
-        if legal(&Vconfig { vtype: of.vtype, vl: 0 }, insn) {
+        if legal(
+            &Vconfig {
+                vtype: of.vtype,
+                vl: 0,
+            },
+            insn,
+        ) {
             Some(Reading::Works(*of))
         } else {
             None
@@ -412,7 +441,13 @@ fn works_on(parameters: &Parameters, of: &Loop, insn: &Insn) -> Option<Reading>
 
 /// What a word is read as.
 #[tactic(auto, unfolding(crate::specs::Loops::next_of))]
-pub(crate) fn next_of(parameters: &Parameters, start: u32, pc: u32, reading: &Reading, insn: &Insn) -> Option<Reading>
+pub(crate) fn next_of(
+    parameters: &Parameters,
+    start: u32,
+    pc: u32,
+    reading: &Reading,
+    insn: &Insn,
+) -> Option<Reading>
     requires { pc + 4 ≤ 0xC000_0000 }
     ensures { result ≡ next_of_of parameters.now start pc reading.now insn.now }
 {
@@ -423,4 +458,3 @@ pub(crate) fn next_of(parameters: &Parameters, start: u32, pc: u32, reading: &Re
         Reading::Through(_) => None,
     }
 }
-

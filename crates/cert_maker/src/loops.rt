@@ -71,7 +71,13 @@ fn insn_at<A: Allocator>(image: &Image<A>, pc: u32) -> Option<Insn>
 
 /// A word of the loop.
 #[tactic(auto, unfolding(crate::specs::Loops::next_of))]
-fn read_word<A: Allocator>(image: &Image<A>, parameters: &Parameters, start: u32, pc: u32, reading: &Reading) -> Option<Reading>
+fn read_word<A: Allocator>(
+    image: &Image<A>,
+    parameters: &Parameters,
+    start: u32,
+    pc: u32,
+    reading: &Reading,
+) -> Option<Reading>
     ensures value { result ≡ option_and_then (next_of_of parameters.now start pc reading.now) (insn_at_of pc image.now) }
     ensures low { IsSome result → pc + 4 ≤ 0xC000_0000 }
 {

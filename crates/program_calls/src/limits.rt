@@ -3,10 +3,9 @@ use crate::shelf::{Shelf, expect, image};
 use command_line::perform;
 use commands::{Disk, Status, Store};
 use std::alloc::{AllocError, Global};
-use std::fs;
-use std::io;
 use std::io::Write;
 use std::test::Fail;
+use std::{fs, io};
 
 /// Takes every byte, and fails to pass them on.
 #[derive(Drop)]
@@ -35,7 +34,9 @@ fn job_files(alloc: Global, max: u64, letters: usize) -> Result<Shelf, AllocErro
     for _ in 0..letters {
         job.push(b'a')?;
     }
-    let rest = format!(in alloc; "\nimage = \"kernel.elf\"\nvlen = 128\nagnostic = \"keep\"\nmax = {max}\n")?;
+    let rest = format!(in alloc;
+        "\nimage = \"kernel.elf\"\nvlen = 128\nagnostic = \"keep\"\nmax = {max}\n"
+    )?;
     job.extend_from_slice(rest.as_bytes())?;
     shelf.put("job.toml", job.as_slice())?;
     shelf.put("kernel.elf", image(alloc, RET.as_slice())?.as_slice())?;
