@@ -7,6 +7,8 @@ mod accesses;
 #[cfg(test)]
 mod assertions;
 #[cfg(test)]
+mod attached;
+#[cfg(test)]
 mod chunks;
 #[cfg(test)]
 mod fixed_point;
@@ -16,7 +18,6 @@ mod fixture;
 mod forms;
 #[cfg(test)]
 mod groups;
-#[cfg(test)]
 mod images;
 #[cfg(test)]
 mod integers;
