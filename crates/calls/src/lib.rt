@@ -18,6 +18,7 @@ mod fixture;
 mod forms;
 #[cfg(test)]
 mod groups;
+#[cfg(test)]
 mod images;
 #[cfg(test)]
 mod integers;
