@@ -31,12 +31,13 @@ const BEHIND: [u8; 92] = [
 #[test]
 fn a_certificate_is_attached_and_read_back(rt: HostRuntime) -> Result<(), Fail> {
     let bytes = attach(rt.alloc(), &FILE, &[1, 2, 3, 4, 5])?;
-    let mut expected = FILE;
-    expected[28] = 88;
-    expected[44] = 2;
-    assert_same!(rt; bytes.len(), 180);
-    assert_same!(rt; &bytes.as_slice()[..88], expected.as_slice());
-    assert_same!(rt; &bytes.as_slice()[88..], BEHIND.as_slice());
+    let mut head = FILE;
+    head[28] = 88;
+    head[44] = 2;
+    let mut expected = Vec::new(rt.alloc());
+    expected.extend_from_slice(&head)?;
+    expected.extend_from_slice(&BEHIND)?;
+    assert_same!(rt; bytes.as_slice(), expected.as_slice());
     let image = read(rt.alloc(), bytes.as_slice())?;
     assert_same!(rt; image.entry(), 0x10000);
     let certificate = image.certificate().ok_or("a certificate")?;

@@ -36,6 +36,7 @@ image_error_name image_error.WriteAndExecute = codes "WriteAndExecute"
 image_error_name image_error.TooLarge = codes "TooLarge"
 image_error_name image_error.EntryNotCode = codes "EntryNotCode"
 image_error_name image_error.TwoCertificates = codes "TwoCertificates"
+image_error_name image_error.CertificateThere = codes "CertificateThere"
 image_error_name image_error.NoMemory = codes "NoMemory"
 
 abbrev pub certificate_error_name : CertError → List ℕ

@@ -41,6 +41,7 @@ fn image_error_name(error: ElfError) -> &'static str
         ElfError::TooLarge => "TooLarge",
         ElfError::EntryNotCode => "EntryNotCode",
         ElfError::TwoCertificates => "TwoCertificates",
+        ElfError::CertificateThere => "CertificateThere",
         ElfError::NoMemory => "NoMemory",
     }
 }
