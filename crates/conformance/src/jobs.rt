@@ -13,12 +13,15 @@ use vreg_groups::{Agnostic, Vlen};
 pub struct Jobs;
 
 /// A number that may be missing.
+#[derive(Drop)]
 struct Number<T>(Option<T>);
 
 /// A text that may be missing: `t` and its bytes in hexadecimal.
+#[derive(Drop)]
 struct Text<'a>(Option<&'a str>);
 
 /// A parameter as a row has it.
+#[derive(Drop)]
 struct Place<'a>(Param<&'a str>);
 
 impl<T: fmt::Display> fmt::Display for Number<T> {
@@ -105,6 +108,7 @@ impl fmt::Display for Shown<'_> {
 }
 
 /// A job as a row has it, without what the subcommands find.
+#[derive(Drop)]
 struct Shown<'a>(Job<&'a str>);
 
 /// The row's answer for a text.
