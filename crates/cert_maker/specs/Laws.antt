@@ -41,7 +41,8 @@ use Rattle.cert_maker.specs.Loops.{is_arithmetic, is_through, is_return, insn_at
 use Rattle.cert_maker.specs.declared.loops.Loop.{Loop}
 use Rattle.cert_maker.specs.declared.loops.Reading.{Reading}
 use Rattle.cert_maker.specs.declared.loops.Reading.TheVariants.{Through}
-use Rattle.cert_maker.specs.Known.{LeadsTo}
+use Rattle.cert_maker.specs.Known.{LeadsTo, Round, IsRound, Known}
+use Rattle.rv_decode.specs.Encodings.{FieldsFit}
 
 -- What is known after a word that says nothing of registers: but for facts on elements it is what was known.
 pub record Keeps (pc : ℕ) (a b : AbstractView) : Type 0 where
@@ -105,16 +106,21 @@ SplitsAre = (atoms : List Atom) (n : ℕ) (r t : Range) → n < length atoms →
 -- no jump.
 abbrev pub WordsGoOn : List Param → ℕ → Loop → (Reading → ℕ → AbstractView → Type 0) → Type 0
 WordsGoOn params start loop Known =
-    (pc : ℕ) (r next : Reading) (insn : Insn) (a : AbstractView) → next_of params start pc r insn ≡ Some next → is_through next ≡ false
-    → LeadsTo r loop → LeadsTo next loop → Known r pc a
+    (pc : ℕ) (r next : Reading) (insn : Insn) (a : AbstractView) → FieldsFit insn
+    → next_of params start pc r insn ≡ Some next → is_through next ≡ false → LeadsTo r loop → LeadsTo next loop
+    → Known r pc a
     → (b : AbstractView) × (after_of pc insn a ≡ Ok b) × (jumps insn ≡ false) × Known next (pc + 4) b
 
 -- Where the loop is read through, its edges pass.
 abbrev pub WordsEnd : CertificateView → List Param → ℕ → Loop → ℕ → (Reading → ℕ → AbstractView → Type 0) → Type 0
 WordsEnd certificate params start loop words Known =
-    (pc : ℕ) (r : Reading) (insn : Insn) (a : AbstractView) → next_of params start pc r insn ≡ Some (Through loop)
-    → words ≡ (pc - start) / 4 + 1 → LeadsTo r loop → Known r pc a
+    (pc : ℕ) (r : Reading) (insn : Insn) (a : AbstractView) → FieldsFit insn
+    → next_of params start pc r insn ≡ Some (Through loop) → words ≡ (pc - start) / 4 + 1 → LeadsTo r loop → Known r pc a
     → (b : AbstractView) × (after_of pc insn a ≡ Ok b) × (jumps insn ≡ true) × (edges_pass certificate pc insn b ≡ Ok tt)
+
+-- In a round of a loop that was read through what is known goes on.
+abbrev pub LoopsGoOn : Type 0
+LoopsGoOn = (k : Round) → IsRound k → WordsGoOn k.params k.start k.loop (Known k)
 
 -- A loop that is read through ends behind each of its words.
 abbrev pub LoopsEnd : Type 0
