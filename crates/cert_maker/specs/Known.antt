@@ -55,7 +55,8 @@ is_pointer loop place = is_flagged (place + 10) loop.pointers
 pub record IsRound (k : Round) : Type 0 where
   pub count_low : 10 ≤ k.loop.count
   pub count_high : k.loop.count < 18
-  pub count_is : slice_get k.params (k.loop.count - 10) ≡ Some (parameter.Scalar k.least k.loop.most)
+  pub count_is : slice_get k.params (k.loop.count - 10)
+      ≡ Some (parameter.Scalar k.least k.loop.most)
   pub length_low : 2 ≤ k.loop.length
   pub length_high : k.loop.length < 32
   pub length_other : k.loop.length ≢ k.loop.count
@@ -67,7 +68,8 @@ pub record IsRound (k : Round) : Type 0 where
   pub short : k.limit < 2 ^ 30
   pub flags : length k.loop.pointers ≡ 8
   pub end : k.loop.end < 2 ^ 32
-  pub room : (place : ℕ) → place < 8 → is_pointer k.loop place ≡ true → HasRoom k.params k.loop place
+  pub room : (place : ℕ) → place < 8 → is_pointer k.loop place ≡ true
+      → HasRoom k.params k.loop place
   pub apart : (place : ℕ) → place < 8 → is_pointer k.loop place ≡ true → place + 10 ≢ k.loop.length
 
 -- In the certificate are the blocks of its loop and of its return, and none of them begins where a run ends.
@@ -155,7 +157,8 @@ pub record InMoves (k : Round) (step : ℕ) (left : List Bool) (s : NumbersView)
   pub apart : (place : ℕ) → place < 8 → is_pointer k.loop place ≡ true → place + 10 ≢ step
   pub unmoved : (place : ℕ) → place < 8 → is_flagged (place + 10) left ≡ true
       → (is_pointer k.loop place ≡ true) × IsThere k s place
-  pub moved : (place : ℕ) → place < 8 → is_pointer k.loop place ≡ true → is_flagged (place + 10) left ≡ false
+  pub moved : (place : ℕ) → place < 8 → is_pointer k.loop place ≡ true
+      → is_flagged (place + 10) left ≡ false
       → IsMoved k s place
 
 -- All is done, and the count is what is left.
