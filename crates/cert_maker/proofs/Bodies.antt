@@ -20,14 +20,14 @@ use Rattle.abs_state.specs.After.{after_of, vector_after, passed, next_word, mas
 use Rattle.cert_maker.specs.Loops.{is_arithmetic, is_vector_class}
 use Rattle.cert_maker.specs.Laws.{Keeps, Goes, BodyKeeps}
 
-both_true : (a b : Bool) → (a && b) ≡ true → (a ≡ true) × (b ≡ true)
+pub both_true : (a b : Bool) → (a && b) ≡ true → (a ≡ true) × (b ≡ true)
 both_true true true e = (refl, refl)
 both_true true false e = cc
 both_true false b e = cc
 
 -- ---- legality
 
-legal_there : (bits : ℕ) (insn : Insn) (vtype : Option ℕ) → vtype ≡ Some bits → is_legal record { vtype = bits; vl = 0 } insn ≡ true
+pub legal_there : (bits : ℕ) (insn : Insn) (vtype : Option ℕ) → vtype ≡ Some bits → is_legal record { vtype = bits; vl = 0 } insn ≡ true
     → legal_check vtype insn ≡ Ok tt
 unfolding legal_check
 legal_there bits insn vtype e legal = rw e (rw legal refl)
@@ -82,7 +82,7 @@ move_stays (ToScalar rd vs2) s e = cc
 move_stays (FromScalar vd rs1) s e = refl
 move_stays (Whole count vd vs2) s e = refl
 
-not_arithmetic : {A : Type 0} (insn : Insn) → is_vector_class insn ≡ false → is_arithmetic insn ≡ true → A
+pub not_arithmetic : {A : Type 0} (insn : Insn) → is_vector_class insn ≡ false → is_arithmetic insn ≡ true → A
 unfolding is_arithmetic
 not_arithmetic insn e f = absurd (clash (sym e ∙ (both_true _ _ (both_true _ _ (both_true _ _ f).0).0).0))
   where

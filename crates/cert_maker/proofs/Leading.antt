@@ -1,5 +1,6 @@
 -- Each reading on the way to a loop is of that loop.
 use Rattle.std.proofs.Common.{◌≡◌, ℕ, ◌+◌, ◌-◌, ◌<◌, ◌≤◌, zero, suc, Bool, true, false, refl, sym, ap, ◌∙◌, subst, arith, Option, Some, None, List, [], ◌∷◌, get_or}
+use Rattle.std.proofs.Math.ListN.{length-set}
 use Rattle.std.specs.Prelude.{Result, Ok, Err, if◌then◌else◌, ◌==◌, ◌&&◌, nat_le, nat_lt, slice_set}
 use Rattle.rv_decode.specs.declared.instructions.Condition.TheVariants.{Ne}
 use Rattle.rv_decode.specs.declared.instructions.Insn.{Insn}
@@ -35,7 +36,7 @@ moved_leads of step left (Scalar (Register Add rd rs1 rs2)) next loop e l =
 moved_leads of step left (Scalar (Register Sub rd rs1 rs2)) next loop e l = came _ (Back of) next loop e l
 moved_leads of step left other next loop e l = cc
 
-step_leads : (of : Loop) (wanted : Option ℕ) (insn : Insn) (next : Reading) (loop : Loop) → step_by of wanted insn ≡ Some next
+pub step_leads : (of : Loop) (wanted : Option ℕ) (insn : Insn) (next : Reading) (loop : Loop) → step_by of wanted insn ≡ Some next
     → LeadsTo next loop → of ≡ loop
 unfolding step_by
 step_leads of None insn next loop e l = moved_leads of of.length of.pointers insn next loop e l
@@ -68,6 +69,7 @@ flag_stays flags register i e = by_test (nat_le 10 register && nat_lt register 1
 part_without : (of loop : Loop) (pointer : ℕ) → IsPartOf (with_pointer pointer of) loop → IsPartOf of loop
 unfolding with_pointer
 part_without of loop pointer is = record {
+  flags = sym (length-set of.pointers (pointer - 10) true) ∙ is.flags;
   count = is.count;
   most = is.most;
   length = is.length;

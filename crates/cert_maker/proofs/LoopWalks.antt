@@ -4,6 +4,8 @@ use Rattle.std.specs.Prelude.{Result, Ok, Err, if◌then◌else◌, ◌==◌, �
 use Rattle.std.specs.Option.{option_and_then}
 use Rattle.elf_image.specs.Image.{ImageView, code_at}
 use Rattle.rv_decode.specs.Decode.{meaning_of}
+use Rattle.rv_decode.specs.Encodings.{FieldsFit}
+use Rattle.rv_decode.proofs.Meant.{meant}
 use Rattle.rv_decode.specs.declared.instructions.Insn.{Insn}
 use Rattle.region_mem.specs.declared.parameter.Param.{Param}
 use Rattle.cert_note.specs.Certificate.{CertificateView}
@@ -29,6 +31,12 @@ code_of pc insn image e = by_code (code_at pc image) refl e
         → (word : ℕ) × (code_at pc image ≡ Some word) × (meaning_of word ≡ Some insn)
     by_code None f g = cc
     by_code (Some word) f g = (word, f, g)
+
+-- the fields of an instruction of code fit
+pub fits_at : (pc : ℕ) (insn : Insn) (image : ImageView) → insn_at pc image ≡ Some insn → FieldsFit insn
+fits_at pc insn image e =
+    let is = code_of pc insn image e in
+    meant is.0 is.2
 
 pub word_is : (image : ImageView) (certificate : CertificateView) (pc : ℕ) (insn : Insn) (a b : AbstractView) → insn_at pc image ≡ Some insn
     → after_of pc insn a ≡ Ok b → word_passes image certificate pc a ≡ followed certificate pc insn (Ok b)
@@ -87,6 +95,7 @@ inside image params start (suc more) pc r through l e =
 
 pub part_same : (loop : Loop) → IsPartOf loop loop
 part_same loop = record {
+  flags = refl;
   count = refl;
   most = refl;
   length = refl;
@@ -189,7 +198,7 @@ module _ (image : ImageView) (certificate : CertificateView) (params : List Para
       goes : (next : Reading) (insn : Insn) → insn_at pc image ≡ Some insn → next_of params start pc r insn ≡ Some next → Rest → is_through next ≡ false
           → loop_from image params start fuel (pc + 4) next ≡ Ok through → Goal
       goes next insn at is rest going g =
-          let step = on pc r next insn a is going (leads image params start back (suc fuel) pc r through e) (leads image params start back fuel (pc + 4) next through g) known in
+          let step = on pc r next insn a (fits_at pc insn image at) is going (leads image params start back (suc fuel) pc r through e) (leads image params start back fuel (pc + 4) next through g) known in
           let far = inside image params start fuel (pc + 4) next through (omega (arith, l)) g in
           ap (λ x. then_on x (λ b. walk image certificate more (pc + 4) b))
           (word_is image certificate pc insn a step.0 at step.1 ∙ goes_on certificate pc insn step.0 step.2 (none (pc + 4) (omega arith) far))
@@ -205,7 +214,7 @@ module _ (image : ImageView) (certificate : CertificateView) (params : List Para
           → (loop, (pc - start) / 4 + 1) ≡ through → Goal
       ended loop insn at is same_loop =
           let loop_is : loop ≡ through.0 = ap (λ (x : Loop × ℕ). x.0) same_loop in
-          let step = end pc r insn a (subst (λ (l : Loop). next_of params start pc r insn ≡ Some (Through l)) loop_is is)
+          let step = end pc r insn a (fits_at pc insn image at) (subst (λ (l : Loop). next_of params start pc r insn ≡ Some (Through l)) loop_is is)
           (sym (ap (λ (x : Loop × ℕ). x.1) same_loop)) (leads image params start back (suc fuel) pc r through e) known in
           ap (λ x. then_on x (λ b. walk image certificate more (pc + 4) b))
           (word_is image certificate pc insn a step.0 at step.1 ∙ stops certificate pc insn step.0 step.2 step.3)

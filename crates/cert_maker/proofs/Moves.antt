@@ -95,7 +95,7 @@ computed_within own (Some r) low high l h = by_test (nat_le (max own.lo r.lo) (m
     by_test true = (omega (arith, l), omega (arith, h))
     by_test false = (l, h)
 
-edge_within : (edge : EdgeView) (i low high : ℕ) → low ≤ (slice_index_or edge.ranges i (just 0)).lo → (slice_index_or edge.ranges i (just 0)).hi ≤ high
+pub edge_within : (edge : EdgeView) (i low high : ℕ) → low ≤ (slice_index_or edge.ranges i (just 0)).lo → (slice_index_or edge.ranges i (just 0)).hi ≤ high
     → (low ≤ (value_on edge i).range.lo) × ((value_on edge i).range.hi ≤ high)
 unfolding value_on
 edge_within edge i low high l h = by_refined edge.refined

@@ -1,5 +1,5 @@
 -- What is known of the numbers of a loop, word by word, while it is read.
-use Rattle.std.specs.Prelude.{ℕ, ◌≡◌, ◌≢◌, ◌<◌, ◌≤◌, ◌+◌, ◌-◌, ◌*◌, ◌^◌, Bool, true, false, min, List, [], ◌∷◌, length, Option, Some}
+use Rattle.std.specs.Prelude.{ℕ, ◌≡◌, ◌≢◌, ◌<◌, ◌≤◌, ◌+◌, ◌-◌, ◌*◌, ◌^◌, Bool, true, false, min, List, [], ◌∷◌, length, Option, Some, None}
 use Rattle.std.specs.List.{slice_get}
 use Rattle.linear_facts.specs.declared.ranges.Range.{Range}
 use Rattle.linear_facts.specs.Forms.{Linear, number_form, atom_form}
@@ -15,9 +15,10 @@ use Rattle.abs_state.specs.State.{AbstractView}
 use Rattle.cert_maker.specs.declared.loops.Loop.{Loop}
 use Rattle.cert_maker.specs.declared.loops.Reading.{Reading}
 use Rattle.cert_maker.specs.declared.loops.Reading.TheVariants.{Works, Moves, Back, Through}
-use Rattle.cert_maker.specs.Words.{ImageView, Param}
+use Rattle.block_checker.specs.Passes.{block_at}
+use Rattle.cert_maker.specs.Words.{ImageView, Param, CertificateView}
 use Rattle.cert_maker.specs.Loops.{size_of, is_flagged}
-use Rattle.cert_maker.specs.Certificates.{base_of, budget}
+use Rattle.cert_maker.specs.Certificates.{base_of, budget, block, facts_by, loop_facts}
 
 -- A loop that was read through, with what its image and its parameters are; `least` of the count's declared interval,
 -- and `limit`, which is VLMAX.
@@ -54,7 +55,8 @@ is_pointer loop place = is_flagged (place + 10) loop.pointers
 pub record IsRound (k : Round) : Type 0 where
   pub count_low : 10 ≤ k.loop.count
   pub count_high : k.loop.count < 18
-  pub count_is : slice_get k.params (k.loop.count - 10) ≡ Some (parameter.Scalar k.least k.loop.most)
+  pub count_is : slice_get k.params (k.loop.count - 10)
+      ≡ Some (parameter.Scalar k.least k.loop.most)
   pub length_low : 2 ≤ k.loop.length
   pub length_high : k.loop.length < 32
   pub length_other : k.loop.length ≢ k.loop.count
@@ -63,14 +65,27 @@ pub record IsRound (k : Round) : Type 0 where
   pub least : k.least ≤ k.loop.most
   pub fits : k.loop.most < 2 ^ 32
   pub progress : 1 ≤ k.limit
+  pub short : k.limit < 2 ^ 30
+  pub flags : length k.loop.pointers ≡ 8
   pub end : k.loop.end < 2 ^ 32
-  pub room : (place : ℕ) → place < 8 → is_pointer k.loop place ≡ true → HasRoom k.params k.loop place
+  pub room : (place : ℕ) → place < 8 → is_pointer k.loop place ≡ true
+      → HasRoom k.params k.loop place
   pub apart : (place : ℕ) → place < 8 → is_pointer k.loop place ≡ true → place + 10 ≢ k.loop.length
+
+-- In the certificate are the blocks of its loop and of its return, and none of them begins where a run ends.
+pub record IsCertified (certificate : CertificateView) (k : Round) : Type 0 where
+  pub loop_at : block_at k.start certificate.blocks
+      ≡ Some (block k.start (budget 1 k.words k.loop.count) (loop_facts k.params k.loop))
+  pub end_at : block_at (k.start + 4 * k.words) certificate.blocks
+      ≡ Some (block (k.start + 4 * k.words) (budget 1 0 0) (facts_by (λ place. None)))
+  pub start_other : k.start ≢ exit
+  pub end_other : k.start + 4 * k.words ≢ exit
 
 -- ---- numbers
 
 -- The loop so far is the whole one, but for pointers that are still to come.
 pub record IsPartOf (of loop : Loop) : Type 0 where
+  pub flags : length of.pointers ≡ length loop.pointers
   pub count : of.count ≡ loop.count
   pub most : of.most ≡ loop.most
   pub length : of.length ≡ loop.length
@@ -127,16 +142,23 @@ pub record InWorks (k : Round) (s : NumbersView) : Type 0 where
   pub vl : value_at s 32 ≡ known (atom_form 41) 1 (done_of k)
   pub pointers : (place : ℕ) → place < 8 → is_pointer k.loop place ≡ true → IsThere k s place
 
+-- The step by which pointers are moved is the bytes of what is done.
+pub record IsStepOf (k : Round) (step : ℕ) (s : NumbersView) : Type 0 where
+  pub form : (value_at s step).form ≡ record { constant = 0; terms = term 41 (size_of k.loop) ∷ [] }
+  pub least : size_of k.loop ≤ (value_at s step).range.lo
+  pub filled : (value_at s step).range.lo ≤ (value_at s step).range.hi
+  pub most : (value_at s step).range.hi ≤ size_of k.loop * done_of k
+
 -- Pointers are moved by a step: those that are left have not been.
 pub record InMoves (k : Round) (step : ℕ) (left : List Bool) (s : NumbersView) : Type 0 where
   pub atoms : HasAtoms k s
   pub whole : IsWhole k s
-  pub step_is : value_at s step
-      ≡ known (record { constant = 0; terms = term 41 (size_of k.loop) ∷ [] }) (size_of k.loop) (size_of k.loop * done_of k)
+  pub step_is : IsStepOf k step s
   pub apart : (place : ℕ) → place < 8 → is_pointer k.loop place ≡ true → place + 10 ≢ step
   pub unmoved : (place : ℕ) → place < 8 → is_flagged (place + 10) left ≡ true
       → (is_pointer k.loop place ≡ true) × IsThere k s place
-  pub moved : (place : ℕ) → place < 8 → is_pointer k.loop place ≡ true → is_flagged (place + 10) left ≡ false
+  pub moved : (place : ℕ) → place < 8 → is_pointer k.loop place ≡ true
+      → is_flagged (place + 10) left ≡ false
       → IsMoved k s place
 
 -- All is done, and the count is what is left.

@@ -41,7 +41,8 @@ use Rattle.cert_maker.specs.Loops.{is_arithmetic, is_through, is_return, insn_at
 use Rattle.cert_maker.specs.declared.loops.Loop.{Loop}
 use Rattle.cert_maker.specs.declared.loops.Reading.{Reading}
 use Rattle.cert_maker.specs.declared.loops.Reading.TheVariants.{Through}
-use Rattle.cert_maker.specs.Known.{LeadsTo}
+use Rattle.cert_maker.specs.Known.{LeadsTo, Round, IsRound, IsCertified, Known}
+use Rattle.rv_decode.specs.Encodings.{FieldsFit}
 
 -- What is known after a word that says nothing of registers: but for facts on elements it is what was known.
 pub record Keeps (pc : ℕ) (a b : AbstractView) : Type 0 where
@@ -60,13 +61,15 @@ Goes pc insn a = (b : AbstractView) × (after_of pc insn a ≡ Ok b) × Keeps pc
 
 -- Arithmetic that is legal at the vtype that is known.
 abbrev pub BodyKeeps : Type 0
-BodyKeeps = (pc bits : ℕ) (insn : Insn) (a : AbstractView) → is_arithmetic insn ≡ true → a.vtype ≡ Some bits
+BodyKeeps = (pc bits : ℕ) (insn : Insn) (a : AbstractView) → is_arithmetic insn ≡ true
+    → a.vtype ≡ Some bits
     → is_legal record { vtype = bits; vl = 0 } insn ≡ true → Goes pc insn a
 
 -- A buffer's bytes lie in its zone.
 abbrev pub ReachesEnd : Type 0
 ReachesEnd = (image : ImageView) (params : List Param) (right : Right) (place base end size : ℕ) (access : Mode)
-    → slice_get params place ≡ Some (parameter.Buffer access size) → address_of place params ≡ Some base → end ≤ base + size
+    → slice_get params place ≡ Some (parameter.Buffer access size)
+    → address_of place params ≡ Some base → end ≤ base + size
     → zone_right right record { first = base; end = base + size; read = true; write = may_write access } ≡ true
     → is_inside right base end (zones_of image params) ≡ true
 
@@ -78,7 +81,8 @@ FactsByPlace stated = (place : ℕ) → IfSome (stated place) (λ f. f.number �
 pub record AreFacts (stated : ℕ → Option RegisterFact) : Type 0 where
   pub ra : fact_for (facts_by stated) 1 ≡ Some (fact 1 exit exit None)
   pub place : (place : ℕ) → place < 8 → fact_for (facts_by stated) (place + 10) ≡ stated place
-  pub all : (p : RegisterFact → Bool) → p (fact 1 exit exit None) ≡ true → ((place : ℕ) → place < 8 → IfSome (stated place) (λ f. p f ≡ true))
+  pub all : (p : RegisterFact → Bool) → p (fact 1 exit exit None) ≡ true
+      → ((place : ℕ) → place < 8 → IfSome (stated place) (λ f. p f ≡ true))
       → list_all p (facts_by stated) ≡ true
 
 abbrev pub FactsAre : Type 0
@@ -87,7 +91,8 @@ FactsAre = (stated : ℕ → Option RegisterFact) → FactsByPlace stated → Ar
 -- the atoms where atom n was split into two new ones
 pub record AreSplit (atoms : List Atom) (n : ℕ) (r t : Range) : Type 0 where
   pub n_range : range_at (table_with (split_into n r t atoms)) n ≡ range_at (table_with atoms) n
-  pub n_split : split_at (table_with (split_into n r t atoms)) n ≡ Some record { first = length atoms; second = length atoms + 1 }
+  pub n_split : split_at (table_with (split_into n r t atoms)) n
+      ≡ Some record { first = length atoms; second = length atoms + 1 }
   pub first_range : range_at (table_with (split_into n r t atoms)) (length atoms) ≡ r
   pub first_split : split_at (table_with (split_into n r t atoms)) (length atoms) ≡ None
   pub second_range : range_at (table_with (split_into n r t atoms)) (length atoms + 1) ≡ t
@@ -105,16 +110,29 @@ SplitsAre = (atoms : List Atom) (n : ℕ) (r t : Range) → n < length atoms →
 -- no jump.
 abbrev pub WordsGoOn : List Param → ℕ → Loop → (Reading → ℕ → AbstractView → Type 0) → Type 0
 WordsGoOn params start loop Known =
-    (pc : ℕ) (r next : Reading) (insn : Insn) (a : AbstractView) → next_of params start pc r insn ≡ Some next → is_through next ≡ false
-    → LeadsTo r loop → LeadsTo next loop → Known r pc a
+    (pc : ℕ) (r next : Reading) (insn : Insn) (a : AbstractView) → FieldsFit insn
+    → next_of params start pc r insn ≡ Some next → is_through next ≡ false → LeadsTo r loop
+    → LeadsTo next loop
+    → Known r pc a
     → (b : AbstractView) × (after_of pc insn a ≡ Ok b) × (jumps insn ≡ false) × Known next (pc + 4) b
 
 -- Where the loop is read through, its edges pass.
-abbrev pub WordsEnd : CertificateView → List Param → ℕ → Loop → ℕ → (Reading → ℕ → AbstractView → Type 0) → Type 0
+abbrev pub WordsEnd : CertificateView → List Param → ℕ → Loop → ℕ
+    → (Reading → ℕ → AbstractView → Type 0) → Type 0
 WordsEnd certificate params start loop words Known =
-    (pc : ℕ) (r : Reading) (insn : Insn) (a : AbstractView) → next_of params start pc r insn ≡ Some (Through loop)
-    → words ≡ (pc - start) / 4 + 1 → LeadsTo r loop → Known r pc a
+    (pc : ℕ) (r : Reading) (insn : Insn) (a : AbstractView) → FieldsFit insn
+    → next_of params start pc r insn ≡ Some (Through loop) → words ≡ (pc - start) / 4 + 1
+    → LeadsTo r loop → Known r pc a
     → (b : AbstractView) × (after_of pc insn a ≡ Ok b) × (jumps insn ≡ true) × (edges_pass certificate pc insn b ≡ Ok tt)
+
+-- In a round of a loop that was read through what is known goes on.
+abbrev pub LoopsGoOn : Type 0
+LoopsGoOn = (k : Round) → IsRound k → WordsGoOn k.params k.start k.loop (Known k)
+
+-- Where a certificate has the loop's block and that of its return, the edges at the round's end pass.
+abbrev pub RoundsEnd : Type 0
+RoundsEnd = (certificate : CertificateView) (k : Round) → IsRound k → IsCertified certificate k
+    → WordsEnd certificate k.params k.start k.loop k.words (Known k)
 
 -- A loop that is read through ends behind each of its words.
 abbrev pub LoopsEnd : Type 0
@@ -135,7 +153,8 @@ pub record IsPointer (s : NumbersView) (base w n e v N m q p : ℕ) : Type 0 whe
   pub second : e < v
   pub form : (value_at s p).form ≡ pointer_form base w n e
   pub range : (value_at s p).range ≡ record { lo = base; hi = base + w * N - w }
-  pub moved : range_of_form (table_of s) (moved_form base w n e v) ≡ Some record { lo = q; hi = base + w * N }
+  pub moved : range_of_form (table_of s) (moved_form base w n e v)
+      ≡ Some record { lo = q; hi = base + w * N }
   pub low : q ≤ base + w * N
   pub some : w ≤ w * N
   pub most : w * m ≤ w * N
@@ -151,20 +170,24 @@ pub record IsStep (s : NumbersView) (w v m step lo hi : ℕ) : Type 0 where
 
 pub record Moved (s : NumbersView) (base w n e v N p step : ℕ) : Type 0 where
   pub range : Range
-  pub is : with_result p (register_effect Add (value_at s p) (value_at s step)) s ≡ with_value p record { form = moved_form base w n e v; range = range } s
+  pub is : with_result p (register_effect Add (value_at s p) (value_at s step)) s
+      ≡ with_value p record { form = moved_form base w n e v; range = range } s
   pub low : base ≤ range.lo
   pub high : range.hi ≤ base + w * N
 
 abbrev pub PointersMove : Type 0
-PointersMove = (s : NumbersView) (base w n e v N m q p step lo hi : ℕ) → IsPointer s base w n e v N m q p → IsStep s w v m step lo hi
+PointersMove = (s : NumbersView) (base w n e v N m q p step lo hi : ℕ)
+    → IsPointer s base w n e v N m q p → IsStep s w v m step lo hi
     → Moved s base w n e v N p step
 
 -- On an edge where a pointer has its moved form and the count is what is left, the loop's fact on the pointer is shown.
 abbrev pub PointersReturn : Type 0
 PointersReturn = (edge : EdgeView) (base w n e v N p : ℕ) → IsSize w → base < 2 ^ 32 → n < e → e < v
     → (value_at edge.state.numbers p).form ≡ moved_form base w n e v
-    → form_at edge.state.numbers.forms n ≡ left_form n v → form_at edge.state.numbers.forms e ≡ atom_form e
-    → base ≤ (slice_index_or edge.ranges p (just 0)).lo → (slice_index_or edge.ranges p (just 0)).hi ≤ base + w * N
+    → form_at edge.state.numbers.forms n ≡ left_form n v
+    → form_at edge.state.numbers.forms e ≡ atom_form e
+    → base ≤ (slice_index_or edge.ranges p (just 0)).lo
+    → (slice_index_or edge.ranges p (just 0)).hi ≤ base + w * N
     → let f = fact p base (base + w * N) (sum base (cert_term n (2 ^ 32 - w) ∷ cert_term e w ∷ [])) in
     (is_interval_shown edge f ≡ true) × (is_equality_shown edge f ≡ true)
 
@@ -194,7 +217,8 @@ pub record IsSet (s new : NumbersView) (n t e L N M : ℕ) : Type 0 where
   pub others : (i : ℕ) → i ≢ 32 → i ≢ t → value_at new i ≡ value_at s i
 
 abbrev pub LengthsAreSet : Type 0
-LengthsAreSet = (s : NumbersView) (n t e L N M : ℕ) → IsCount s n t e L N M → IsSet s (with_length_in t (limited M (value_at s n) s)) n t e L N M
+LengthsAreSet = (s : NumbersView) (n t e L N M : ℕ) → IsCount s n t e L N M
+    → IsSet s (with_length_in t (limited M (value_at s n) s)) n t e L N M
 
 -- Where a round ends the loop's equality on a pointer is its moved form.
 abbrev pub BackEquality : Type 0
@@ -206,5 +230,6 @@ BackEquality = (forms : List Linear) (base w n e v : ℕ) → IsSize w → base 
 
 -- The block of a return passes, whatever the others are: ra is EXIT there.
 abbrev pub ReturnsPass : Type 0
-ReturnsPass = (image : ImageView) (certificate : CertificateView) (start : ℕ) (insn : Insn) → insn_at start image ≡ Some insn
+ReturnsPass = (image : ImageView) (certificate : CertificateView) (start : ℕ) (insn : Insn)
+    → insn_at start image ≡ Some insn
     → is_return insn ≡ true → block_passes image certificate (block start (budget 1 0 0) (facts_by (λ place. None))) ≡ Ok tt

@@ -1,7 +1,7 @@
 //! Laws of the loops for which certificates are made, each the contract of a function that does nothing when it runs.
 //!
 //! Together they say why what is made passes a check: each is one step of that.
-ghost use Rattle.cert_maker.specs.Laws.{BodyKeeps, ReachesEnd, FactsAre, SplitsAre, LoopsEnd, LoopsLead, PointersMove, PointersReturn, LengthsAreSet, ReturnsPass};
+ghost use Rattle.cert_maker.specs.Laws.{BodyKeeps, ReachesEnd, FactsAre, SplitsAre, LoopsEnd, LoopsLead, PointersMove, PointersReturn, LengthsAreSet, ReturnsPass, LoopsGoOn, RoundsEnd};
 
 /// Vector arithmetic that is legal at the vtype that is known leaves all that is known of numbers as it was.
 pub fn body_keeps()
@@ -51,4 +51,14 @@ pub fn returns_pass()
 /// Each reading on the way to a loop is of that loop, but for pointers that are still to come.
 pub fn loops_lead()
     ensures { LoopsLead }
+{}
+
+/// In a round of a loop what is known before a word is, with what that word makes of it, known before the next one.
+pub fn loops_go_on()
+    ensures { LoopsGoOn }
+{}
+
+/// Where a certificate has the loop's block and that of its return, both edges of the branch at a round's end pass.
+pub fn rounds_end()
+    ensures { RoundsEnd }
 {}
