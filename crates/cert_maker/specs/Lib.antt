@@ -3,3 +3,4 @@ pub mod Loops
 pub mod Certificates
 pub mod Known
 pub mod Laws
+pub mod Make

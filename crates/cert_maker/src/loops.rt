@@ -158,7 +158,8 @@ fn return_at<A: Allocator>(image: &Image<A>, pc: u32) -> Result<Insn, u32>
 /// The loop at an image's entry, and how many instructions it has, or the address of the first word that does not fit.
 #[tactic(auto, unfolding(crate::specs::Loops::loop_of))]
 pub fn loop_of<A: Allocator>(image: &Image<A>, parameters: &Parameters) -> Result<(Loop, u32), u32>
-    ensures { result ≡ loop_of_of image.now parameters.now }
+    ensures value { result ≡ loop_of_of image.now parameters.now }
+    ensures low { IfOk result (λ x. image.now.entry + 4 + 4 * x.1 ≤ 0xC000_0000) }
 {
     let entry = image.entry();
     let head = head_at(image, parameters, entry)?;
