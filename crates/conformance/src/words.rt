@@ -3,7 +3,7 @@
 use crate::fields::{RowError, hex};
 use crate::table::Table;
 use rv_listing::{Over, put_listing};
-use std::alloc::Global;
+use std::alloc::{AllocError, Global};
 
 /// Where the words of the table lie.
 const ADDRESS: u32 = 0x1_0000;
@@ -23,6 +23,11 @@ impl Table for Words {
         if came == expected {
             return Ok(None);
         }
-        Ok(Some(format!(in alloc; "{word:08x} should be {expected}, came {came}")?))
+        Ok(Some(unlike(alloc, word, expected, came)?))
     }
+}
+
+/// What is told of a word whose listing is not the expected one.
+fn unlike(alloc: Global, word: u32, expected: &str, came: &str) -> Result<String, AllocError> {
+    format!(in alloc; "{word:08x} should be {expected}, came {came}")
 }
