@@ -18,6 +18,7 @@ import advice
 import notes
 import search
 import toml_form
+import trial
 from outside import ROOT, certificates
 
 
@@ -71,6 +72,10 @@ def find(args):
     except (KeyError, TypeError) as e:
         raise notes.Trouble(f'{args.job}: a parameter needs {e}') from None
     for vlen in lengths:
+        refuted = trial.refuted(image, params, vlen)
+        if refuted:
+            print(f'there is no certificate at VLEN {vlen}', *advice.told_of_run(refuted, image), sep='\n')
+            return 1
         found = search.find(image, params, vlen)
         if found.answer != 'accepted':
             print(f'nothing found at VLEN {vlen}', *advice.told(found, image), sep='\n')
