@@ -107,10 +107,10 @@ def help_with_loop(blocks, loop):
     if 'sub' in computed_lengths({start: blocks[start] for start in loop}):
         return DIFFERENCE
     compared = {f[name] for _, i, f in words if i.shape == 'branch' for name in ('rs1', 'rs2')}
-    made = {f['rd']: i for _, i, f in words if f.get('rd') in compared and i.name in ('and', 'srli', 'srl', 'divu')}
-    if any(i.name == 'and' for i in made.values()) and any(i.name.startswith('slt') for _, i, _ in words):
-        return ('two conditions are joined to one number, which tells nothing of either: leave the loop for each of them by itself, as by '
-                '`if (!room) return;` within')
+    made = {f['rd']: i for _, i, f in words if f.get('rd') in compared and i.name in ('and', 'or', 'srli', 'srl', 'divu')}
+    if any(i.name in ('and', 'or') for i in made.values()) and any(i.name.startswith('slt') for _, i, _ in words):
+        return ('two conditions are joined to one number, which tells nothing of either: test one of them within the loop, as by `if (!room) '
+                'return;`, with asm volatile("") before it')
     steps = {f['rd']: f['imm'] for _, i, f in words if i.name == 'addi' and f['rd'] == f['rs1']}
     falls = [r for r in steps if steps[r] < 0] + [f['rd'] for _, i, f in words if i.name == 'sub' and f['rd'] == f['rs1']]
     for register in falls:
@@ -123,7 +123,7 @@ def help_with_loop(blocks, loop):
                     'or write the loop with intrinsics and `n -= vl`')
     for register in made:
         return (f'nothing tells that {names.ABI[register]} falls where it is shifted or cut by `&`: let a count fall beside it, as '
-                '`for (k = 32; k; k--)`, and leave the loop early')
+                '`for (k = 32; k; k--)`, and test the other within the loop')
     for register, step in steps.items():
         if register in compared and step > 0:
             return (f'{names.ABI[register]} rises to its end, and a budget needs a number that falls: count down '
