@@ -75,7 +75,7 @@ def over(edge, need, room):
             budget = budget.more(0, register, k)
         else:
             budget = budget.more(max(k * end for end in state.atoms[atom]))
-    return narrowed(edge, budget, room) if budget.factors else Budget(min(by_ends, budget.constant), {})
+    return lowered(edge, narrowed(edge, budget, room) if budget.factors else Budget(min(by_ends, budget.constant), {}), room)
 
 
 def narrowed(edge, budget, room):
@@ -85,6 +85,18 @@ def narrowed(edge, budget, room):
     register = min(budget.factors, key=lambda r: budget.factors[r] * edge.start[r].range[1])
     return narrowed(edge, budget.more(budget.factors[register] * edge.start[register].range[1], register,
                                       -budget.factors[register]), room)
+
+
+def lowered(edge, budget, room):
+    """Pays what is above 32 bits of the constant by a register that holds one great number, as the address of a buffer."""
+    numbers = {r: edge.start[r].range[0] for r in range(1, 32) if 0 < edge.start[r].range[0] == edge.start[r].range[1]}
+    if budget.constant <= checker.M32 or not room or not numbers:
+        return budget
+    register = max(numbers, key=lambda r: (r in budget.factors, 10 <= r < 18, numbers[r]))
+    if register not in budget.factors:
+        budget = narrowed(edge, budget, room - 1)
+    factor = -(-(budget.constant - checker.M32) // numbers[register])
+    return budget.more(-factor * numbers[register], register, factor)
 
 
 class Budgets:
@@ -112,6 +124,8 @@ class Budgets:
             for edge in edges:
                 if edge.source == block:
                     out = out.most(over(edge, self.need(edge), room))
+            if out.constant > checker.M32:
+                raise NoBudget(part, 'the budget is above 2^32')
             self.of[block] = out
 
     def loop(self, part, edges, inner, room):
