@@ -200,6 +200,16 @@ class Put(Case):
         self.put(block + orders)
         self.assertEqual([tuple(o) for o in self.certificate('put.elf').blocks[0].orders], [(10, 11), (11, 32)])
 
+    def test_the_example_of_the_documents(self):
+        text = (ROOT / 'docs/CERTIFICATES.md').read_text()
+        example = re.search(r'^```toml\n(.*?)^```', text, re.S | re.M)[1]
+        made = certificates.certificate_bytes(toml_form.Form(example).certificate(128))
+        self.assertIn(f'It has {len(made)} bytes', text)
+        for part in re.findall(r'`((?:[0-9a-f]{2}\s)+[0-9a-f]{2})`', text):
+            self.assertIn(bytes.fromhex(part), made)
+        image = certificates.read_image((EXAMPLES / 'raise_words/raise_words.elf').read_bytes())
+        self.assertEqual(made, image.certificate)
+
     def test_each_vector_type_has_its_text(self):
         for text, bits in names.VTYPE_BITS.items():
             form = toml_form.Form(f'vlen = 128\n[[block]]\nstart = 0x10000\nconstant = 1\nvtype = "{text}"\n')
