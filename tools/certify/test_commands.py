@@ -140,12 +140,20 @@ class Find(Case):
         self.assertIn('a run with a1 = 1025 meets LoadFault 0x40000400 at 0x1', out)
         self.assertFalse((self.folder / 'one.elf').exists())
 
+    def test_a_buffer_that_may_only_be_read(self):
+        job = self.file('job.toml', pathlib.Path(self.job()).read_text().replace('"rw"', '"r"'))
+        status, out, _ = self.said('find', example('sum_bytes'), job, '-o', self.folder / 'one.elf')
+        self.assertEqual(status, 1)
+        self.assertRegex(out, 'meets StoreFault 0x4000[0-9a-f]{4} at .*\n.* is what is written to of mode "rw"')
+
     def test_faults_of_usage(self):
         sum_bytes, out = example('sum_bytes'), self.folder / 'one.elf'
         no_mode = self.file('no_mode.toml', 'param = [{ kind = "buffer", size = 4 }]')
         no_file = self.file('no_file.toml', 'param = [{ kind = "buffer", mode = "r", file = "none.bin" }]')
         no_toml = self.file('no_toml.toml', 'param = [')
+        no_value = self.file('no_value.toml', 'param = [{ kind = "scalar", lo = 4 }]')
         for said, *words in (("a parameter needs 'mode'", sum_bytes, no_mode), ('none.bin', sum_bytes, no_file),
+                             ("a parameter needs 'value'", sum_bytes, no_value),
                              ('no_toml.toml: not TOML', sum_bytes, no_toml), ('is no image: TooShort', no_toml, self.job()),
                              ('none.elf', self.folder / 'none.elf', self.job()),
                              ('a length is 128, 256 or 512', sum_bytes, self.job(), '--vlen', '64'),
