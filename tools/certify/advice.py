@@ -1,19 +1,25 @@
 """In words: which block and rule resisted a search, and what would help."""
+import budgets
 import flow
 import names
 from outside import certificates, checker
 
+ILLEGAL = ('the word means no instruction of RV32IM and Zve32x, or is not legal with this vector type: compile with '
+           '-march=rv32im_zve32x')
 HELP = {
     'NotCode': 'the kernel leads to where no code is',
-    'IllegalWord': 'the word means no instruction of RV32IM and Zve32x, or is not legal with this vector type: compile with '
-                   '-march=rv32im_zve32x',
+    'IllegalWord': ILLEGAL,
+    'Illegal': ILLEGAL,
     'VtypeUnknown': 'the vector type is not the same on each way here: set it (vsetvli) in the loop itself, or '
                     'compile with -Os -fno-vectorize where the compiler made the vector instructions',
     'ReadOnly': 'the buffer may only be read: state mode = "rw" in the job',
     'TargetNotABlock': 'where the jump leads is not known: no function pointers, and no return address in memory; make the functions '
                        'inline',
     'BlockTooLong': 'a block of more than 4,096 words: unroll less',
+    budgets.TOO_DEEP: 'a budget names two registers: unroll the innermost loop, or make one loop of two',
+    budgets.TOO_GREAT: 'state smaller intervals in the job',
 }
+OUTSIDE = 'does the interval in the job fit the buffer, has each buffer its size, and is what is written to of mode "rw"?'
 DIFFERENCE = 'the length of a strip is a difference: let the count itself fall, with `n -= vl`'
 SHIFTED = ('a count is shifted in its own register, and nothing tells any more what it was: pass the count itself, go on while `n >= 4` '
            'with `n -= 4`, or keep the shifted one, or the end that it gives, in a register of its own')
@@ -40,7 +46,7 @@ def told(found, image):
         yield from (f'  {line}' for line in help_with(found.finder.words, start, rule, flow.decoded_at(image, pc), s))
     if found.trouble is not None and hasattr(found.trouble, 'loop'):
         yield f'loop {min(found.trouble.loop):#x}: BudgetNotProved: {found.trouble.why}'
-        yield '  ' + help_with_loop(found.finder.words, found.trouble.loop)
+        yield '  ' + (HELP.get(found.trouble.why) or help_with_loop(found.finder.words, found.trouble.loop))
     elif not resisting:
         yield found.answer
 
@@ -52,7 +58,7 @@ def told_of_run(refuted, image):
     if refuted.fault:
         name, number = refuted.fault
         yield f'{run} meets {name} {number:#x} at {at(image, refuted.pc)}'
-        yield '  ' + (HELP['IllegalWord'] if name == 'Illegal' else 'does the interval in the job fit the buffer, and does each buffer have its size?')
+        yield '  ' + HELP.get(name, OUTSIDE)
         return
     yield f'{run} comes back to {refuted.pc:#x} with no register, and no sum of two, that falls each time: a budget has to'
     blocks, targets = flow.blocks_of(image)

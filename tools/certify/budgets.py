@@ -9,6 +9,9 @@ import flow
 from outside import checker, model
 
 ROOM = 2
+NOTHING_FALLS = 'no register falls on any way round this loop and rises on none'
+TOO_DEEP = 'more than two loops stand within one another'
+TOO_GREAT = 'its numbers are above 2^32'
 
 
 class NoBudget(Exception):
@@ -27,6 +30,10 @@ class Budget(namedtuple('Budget', 'constant factors')):
         if register:
             factors[register] = factors.get(register, 0) + factor
         return Budget(self.constant + constant, {r: k for r, k in factors.items() if k})
+
+    def is_written(self):
+        """Whether its numbers have 32 bits each."""
+        return max(self.constant, *self.factors.values(), 0) <= checker.M32
 
     def most(self, other):
         both = self.factors.keys() | other.factors.keys()
@@ -124,16 +131,16 @@ class Budgets:
             for edge in edges:
                 if edge.source == block:
                     out = out.most(over(edge, self.need(edge), room))
-            if out.constant > checker.M32:
-                raise NoBudget(part, 'the budget is above 2^32')
+            if not out.is_written():
+                raise NoBudget(part, TOO_GREAT)
             self.of[block] = out
 
     def loop(self, part, edges, inner, room):
         counters = self.counters(part, inner)
         if not counters:
-            raise NoBudget(part, 'no register falls on any way round this loop and rises on none')
+            raise NoBudget(part, NOTHING_FALLS)
         if not room:
-            raise NoBudget(part, 'more than two loops stand within one another')
+            raise NoBudget(part, TOO_DEEP)
         trouble = None
         for register in counters:
             falling = [e for e in inner if fall(e, register) > 0]

@@ -51,7 +51,8 @@ def params_of(job, folder):
             size = table['size'] if 'size' in table else (folder / table['file']).stat().st_size
             yield certificates.Param('buffer', toml_form.MODES[table['mode']], size, 0)
         elif table.get('kind') == 'scalar':
-            yield certificates.Param('scalar', 0, table.get('lo', table.get('value')), table.get('hi', table.get('value')))
+            lo, hi = (table[key] if key in table else table['value'] for key in ('lo', 'hi'))
+            yield certificates.Param('scalar', 0, lo, hi)
         else:
             yield certificates.Param('none')
 

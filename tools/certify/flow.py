@@ -123,10 +123,10 @@ class Explorer(checker.Walk):
     def edges(self, block):
         """The ways out of a block as far as it can be followed."""
         if block not in self.walked:
-            self.walked[block] = self.walk(block)
+            self.walked[block] = self.ways_out(block)
         return self.walked[block]
 
-    def walk(self, block):
+    def ways_out(self, block):
         s = checker.at_block(self.certificate, block, self.vlenb)
         start, pc = list(s.x), block.start
         try:

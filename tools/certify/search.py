@@ -155,7 +155,8 @@ class Finder:
             for pc, i, f in self.words[start]:
                 affine.step(space, i, f, pc, self.vlenb)
             for target in self.targets.get(start, set()) & self.words.keys():
-                new = spaces[target].joined(space) if target in spaces else affine.Space(space.point, affine.reduced(space.directions, range(1, affine.PLACES))[0])
+                own = affine.Space(space.point, affine.reduced(space.directions, range(1, affine.PLACES))[0])
+                new = spaces[target].joined(space) if target in spaces else own
                 if target not in spaces or len(new.directions) > len(spaces[target].directions):
                     spaces[target] = new
                     todo.append(target)
@@ -230,7 +231,8 @@ class Finder:
         self.targets = {start: {e.target for e in self.edges(start)} for start in self.guesses}
 
     def certificate(self):
-        blocks = [self.block(start, self.budgets.of.get(start, budgets.NOTHING)) for start in sorted(self.guesses)]
+        budget_of = {start: budget for start, budget in self.budgets.of.items() if budget.is_written()}
+        blocks = [self.block(start, budget_of.get(start, budgets.NOTHING)) for start in sorted(self.guesses)]
         version = 2 if any(b.orders or b.k2 for b in blocks) else 1
         return self.frame._replace(blocks=blocks, version=version)
 

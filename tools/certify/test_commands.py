@@ -127,7 +127,8 @@ class Find(Case):
         self.assertEqual((found.vlen, [p.a for p in found.params if p.kind == 'buffer']), (256, [1024, 4]))
 
     def test_each_length_has_its_image_and_its_text(self):
-        self.done('find', example('sum_bytes'), self.job(), '--vlen', '512,128,256', '-o', self.folder / 'sum.elf', '--toml', self.folder / 'sum.toml')
+        self.done('find', example('sum_bytes'), self.job(), '--vlen', '512,128,256', '-o', self.folder / 'sum.elf',
+                  '--toml', self.folder / 'sum.toml')
         for name, vlen in (('sum', 512), ('sum-128', 128), ('sum-256', 256)):
             self.assertEqual(self.certificate(name + '.elf').vlen, vlen)
             self.done('put', example('sum_bytes'), self.folder / (name + '.toml'), '-o', self.folder / 'again.elf')
@@ -139,13 +140,22 @@ class Find(Case):
         self.assertIn('a run with a1 = 1025 meets LoadFault 0x40000400 at 0x1', out)
         self.assertFalse((self.folder / 'one.elf').exists())
 
+    def test_a_buffer_that_may_only_be_read(self):
+        job = self.file('job.toml', pathlib.Path(self.job()).read_text().replace('"rw"', '"r"'))
+        status, out, _ = self.said('find', example('sum_bytes'), job, '-o', self.folder / 'one.elf')
+        self.assertEqual(status, 1)
+        self.assertRegex(out, 'meets StoreFault 0x4000[0-9a-f]{4} at .*\n.* is what is written to of mode "rw"')
+
     def test_faults_of_usage(self):
         sum_bytes, out = example('sum_bytes'), self.folder / 'one.elf'
         no_mode = self.file('no_mode.toml', 'param = [{ kind = "buffer", size = 4 }]')
         no_file = self.file('no_file.toml', 'param = [{ kind = "buffer", mode = "r", file = "none.bin" }]')
         no_toml = self.file('no_toml.toml', 'param = [')
-        for said, *words in (("a parameter needs 'mode'", sum_bytes, no_mode), ('none.bin', sum_bytes, no_file), ('no_toml.toml: not TOML', sum_bytes, no_toml),
-                             ('is no image: TooShort', no_toml, self.job()), ('none.elf', self.folder / 'none.elf', self.job()),
+        no_value = self.file('no_value.toml', 'param = [{ kind = "scalar", lo = 4 }]')
+        for said, *words in (("a parameter needs 'mode'", sum_bytes, no_mode), ('none.bin', sum_bytes, no_file),
+                             ("a parameter needs 'value'", sum_bytes, no_value),
+                             ('no_toml.toml: not TOML', sum_bytes, no_toml), ('is no image: TooShort', no_toml, self.job()),
+                             ('none.elf', self.folder / 'none.elf', self.job()),
                              ('a length is 128, 256 or 512', sum_bytes, self.job(), '--vlen', '64'),
                              ('a length is 128, 256 or 512', sum_bytes, self.job(), '--vlen', 'wide')):
             with self.subTest(said=said):
@@ -198,6 +208,16 @@ class Put(Case):
         self.put(block + orders)
         self.assertEqual([tuple(o) for o in self.certificate('put.elf').blocks[0].orders], [(10, 11), (11, 32)])
 
+    def test_the_example_of_the_documents(self):
+        text = (ROOT / 'docs/CERTIFICATES.md').read_text()
+        example = re.search(r'^```toml\n(.*?)^```', text, re.S | re.M)[1]
+        made = certificates.certificate_bytes(toml_form.Form(example).certificate(128))
+        self.assertIn(f'It has {len(made)} bytes', text)
+        for part in re.findall(r'`((?:[0-9a-f]{2}\s)+[0-9a-f]{2})`', text):
+            self.assertIn(bytes.fromhex(part), made)
+        image = certificates.read_image((EXAMPLES / 'raise_words/raise_words.elf').read_bytes())
+        self.assertEqual(made, image.certificate)
+
     def test_each_vector_type_has_its_text(self):
         for text, bits in names.VTYPE_BITS.items():
             form = toml_form.Form(f'vlen = 128\n[[block]]\nstart = 0x10000\nconstant = 1\nvtype = "{text}"\n')
@@ -212,14 +232,20 @@ class Put(Case):
         line = {text: number for number, text in reversed(list(enumerate(LOOP.splitlines(), 1)))}
         mapped = MAP.replace('loop', 'lop')
         for old, new, said in (
-                ('size = 4096', 'sise = 4096', 'line {}: unknown key sise in param'), ('factor = 8', 'factors = 8', 'line {}: unknown key factors in block'),
-                ('number = "x10"', 'register = "x10"', 'line {}: unknown key register in fact'), ('mode = "rw"', 'mode = "w"', 'line {}: mode has to be'),
-                ('equal = { terms = [{ passed = 1 }] }', 'equal = { terms = [{ passed = 8 }] }', 'passed has to be a number from 0 to 0x7'),
+                ('size = 4096', 'sise = 4096', 'line {}: unknown key sise in param'),
+                ('factor = 8', 'factors = 8', 'line {}: unknown key factors in block'),
+                ('number = "x10"', 'register = "x10"', 'line {}: unknown key register in fact'),
                 ('equal = { constant = 0x4000_0000 }', 'equal = { sum = 0 }', 'line {}: unknown key sum in equal'),
-                ('number = "x10"', 'number = "x33"', 'line {}: number has to be a register'), ('kind = "scalar"', 'kind = "number"', 'line {}: kind has to be'),
-                ('vlen = [128, 256, 512]', 'vlen = [128, 1024]', 'line {}: vlen has to be'), ('start = "loop"', 'start = "lost"', 'line {}: no label lost in the image'),
-                ('size = 4096', 'size = 0x200_0000', 'line {}: size has to be a number'), ('constant = 2', 'constant = 2\nvtype = "e8,m16,ta,ma"', 'vtype e8,m16,ta,ma is none'),
-                ('constant = 2', '', 'block 2 needs constant'), ('register = 11', 'register = [', 'c.toml: not TOML')):
+                ('mode = "rw"', 'mode = "w"', 'line {}: mode has to be "r" or "rw"'),
+                ('equal = { terms = [{ passed = 1 }] }', 'equal = { terms = [{ passed = 8 }] }', 'passed has to be a number from 0 to 0x7'),
+                ('number = "x10"', 'number = "x33"', 'line {}: number has to be a register'),
+                ('kind = "scalar"', 'kind = "number"', 'line {}: kind has to be'),
+                ('vlen = [128, 256, 512]', 'vlen = [128, 1024]', 'line {}: vlen has to be'),
+                ('start = "loop"', 'start = "lost"', 'line {}: no label lost in the image'),
+                ('size = 4096', 'size = 0x200_0000', 'line {}: size has to be a number'),
+                ('constant = 2', 'constant = 2\nvtype = "e8,m16,ta,ma"', 'vtype e8,m16,ta,ma is none'),
+                ('constant = 2', '', 'block 2 needs constant'),
+                ('register = 11', 'register = [', 'c.toml: not TOML')):
             with self.subTest(said=said):
                 self.assertIn(old, LOOP)
                 text = LOOP.replace(old, new, 1)
@@ -235,8 +261,9 @@ class Put(Case):
 class Show(Case):
     def test_names_and_code(self):
         out = self.done('show', example('raise_if'))
-        for line in ('version 2, VLEN 128', 'a0: a buffer of 1024 bytes to read and write', 'a2: a number, 0 to 1', '0x10014: at most 8 * a1 instructions',
-                     '  vl is at most a1', '  vtype is e8,m1,ta,ma', '    0x10014  vse8.v v8, (a0)', '  t0 is 1 to 64, equal to vl'):
+        for line in ('version 2, VLEN 128', 'a0: a buffer of 1024 bytes to read and write', 'a2: a number, 0 to 1',
+                     '0x10014: at most 8 * a1 instructions', '  vl is at most a1', '  vtype is e8,m1,ta,ma', '  t0 is 1 to 64, equal to vl',
+                     '    0x10014  vse8.v v8, (a0)'):
             self.assertIn(line, out)
 
     def test_its_text_is_put_again(self):
