@@ -75,6 +75,8 @@ def refused_runs():
     yield Refused('one step fewer than the bound', own, 'BoundTooLarge', [words, 1024], most=8193)
     yield Refused('other vector registers', own, 'WrongVlen', [words, 1], 32)
     yield Refused('other vector registers', raising(32), 'WrongVlen', [words, 1], 16)
+    for checked, ran in ((16, 64), (32, 64), (64, 16), (64, 32)):
+        yield Refused('vector registers of %d bytes for %d' % (ran, checked), raising(checked), 'WrongVlen', [words, 1], ran)
     yield Refused('too many steps, and other vector registers', own, 'BoundTooLarge', [words, 1], 32, most=9)
     short = straight(GATHER, 'r 255, r 16, rw 16', 5, 16)
     yield Refused('an image that does not pass', short, 'AccessNotProved 00010008', [r(bytes(255)), r(bytes(16)), w(bytes(16))])
