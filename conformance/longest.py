@@ -1,4 +1,4 @@
-"""Single steps at 512 bits: each operation at lengths about 256 and at the greatest, and what vset gives about VLMAX. steps.py takes them last."""
+"""Single steps at 512 bits: each operation at lengths about 256, at the greatest and one below, and what vset gives about VLMAX. steps.py takes them last."""
 import itertools
 
 from drawn import fields_of, rng, seed
@@ -7,15 +7,20 @@ from table import ALL, VECTOR, VTYPES, vlmax_of
 VLENB = 64
 # Bits of SEW in vtype, and a length: of 512 elements of 8 bits there is one group, and of 16 and 32 bits one of half and of a quarter as many.
 LENGTHS = (0, 257), (0, 512), (1, 256), (2, 128)
+BELOW = 0, 1, 2
 
 
-def operations():
-    """Each operation at each of these lengths, its forms in turn; of 4 registers where it widens."""
+def forms_by_operation():
     stems = {}
     for i in VECTOR:
         if i.base & 0x7f == 0x57:
             stems.setdefault(i.stem, []).extend((i, vm) for vm in i.vms)
-    for forms in stems.values():
+    return stems.values()
+
+
+def operations():
+    """Each operation at each of these lengths, its forms in turn; of 4 registers where it widens."""
+    for forms in forms_by_operation():
         turn = itertools.cycle(forms)
         for sew_bits, length in LENGTHS:
             i, vm = next(turn)
@@ -26,6 +31,22 @@ def operations():
                 if f is not None:
                     vxrm = rng.randrange(4) if i.shape in ('fixed', 'narrow') else 0
                     yield (VLENB, length % 2 == 0, vtype, most, seed(), i.encode(vm=vm, **f)), {'vxrm': vxrm}
+                    break
+
+
+def below_the_greatest():
+    """Each operation with one element behind vl, of 511 of 8 bits, its forms in turn behind those above."""
+    for forms in forms_by_operation():
+        turn = itertools.islice(itertools.cycle(forms), len(LENGTHS), None)
+        for sew_bits in BELOW:
+            i, vm = next(turn)
+            for low in (sew_bits << 3 | 3, sew_bits << 3 | 2):
+                vtype = low | rng.randrange(4) << 6
+                f = fields_of(i, vtype, vm, 'apart')
+                if f is not None:
+                    vxrm = rng.randrange(4) if i.shape in ('fixed', 'narrow') else 0
+                    ones = rng.random() < 0.5
+                    yield (VLENB, ones, vtype, vlmax_of(vtype, VLENB) - 1, seed(), i.encode(vm=vm, **f)), {'vxrm': vxrm}
                     break
 
 
@@ -42,3 +63,4 @@ def requests():
 def cases():
     yield from operations()
     yield from requests()
+    yield from below_the_greatest()

@@ -7,6 +7,7 @@ checker.py and opening.py have to say the same.
 import subprocess
 
 import opening
+import orders
 from hand_checks import BYTE_ADD, GATHER, GATHER_127, RAISE, RAISE_BLOCKS, SUM, SUM_BLOCKS, placed, scalars
 from images import elf
 from kernels import CODE, code_bytes, file_of, kernel
@@ -75,6 +76,8 @@ def refused_runs():
     yield Refused('one step fewer than the bound', own, 'BoundTooLarge', [words, 1024], most=8193)
     yield Refused('other vector registers', own, 'WrongVlen', [words, 1], 32)
     yield Refused('other vector registers', raising(32), 'WrongVlen', [words, 1], 16)
+    for checked, ran in ((16, 64), (32, 64), (64, 16), (64, 32)):
+        yield Refused('vector registers of %d bytes for %d' % (ran, checked), raising(checked), 'WrongVlen', [words, 1], ran)
     yield Refused('too many steps, and other vector registers', own, 'BoundTooLarge', [words, 1], 32, most=9)
     short = straight(GATHER, 'r 255, r 16, rw 16', 5, 16)
     yield Refused('an image that does not pass', short, 'AccessNotProved 00010008', [r(bytes(255)), r(bytes(16)), w(bytes(16))])
@@ -92,6 +95,11 @@ BUDGETS = [
     ('a pointer', 'ret', 'r 4', '0 1*x10; R; x10 is 0x40000000', [r(b'abcd')], 0x40000000),
     ('the second pointer', 'ret', 'rw 4097, r 1', '5 2*x11; R; x11 is 0x40003000', [w(some(4097)), r(b'a')], 5 + 2 * 0x40003000),
     ('the greatest numbers', 'ret', 's 0 0xffffffff', '4294967295 4294967295*x10; R', [0x7fffffff], 0xffffffff * 0x80000000)]
+# The same of two registers, in certificates of version 2.
+BUDGETS_OF_TWO = [
+    ('two scalars', 'ret', 's 1 9, s 0 7', '2 3*x10 5*x11; R; x10 1..9; x11 0..7', [4, 6], 44),
+    ('a scalar and a pointer', 'ret', 's 1 9, r 4', '0 2*x10 1*x11; R; x10 1..9; x11 is 0x40000000', [9, r(b'abcd')], 18 + 0x40000000),
+    ('two scalars, of the greatest numbers', 'ret', 's 0 0xffffffff, s 0 0xffffffff', '4294967295 4294967295*x10 4294967295*x11; R', [0xffffffff, 1], (1 << 64) - 1)]
 MOST = (1 << 63) - 1
 # What is passed for the greatest numbers, and most steps that are enough: the bound itself, and the greatest number of 64 bits.
 BEYOND = [(0x80000000, 0xffffffff * 0x80000001), (0xffffffff, 0xffffffff << 32), (0xffffffff, (1 << 64) - 1)]
@@ -101,8 +109,9 @@ INTO_WHAT_MAY_BE_WRITTEN_ALONE = 'lui t0,0x20; li t1,1638; sw t1,2(t0); sb t1,0(
 
 
 def budgeted(name, vlenb=16):
-    _, text, passed, block, arguments, bound = next(b for b in BUDGETS if b[0] == name)
-    return file_of(kernel(text, passed, '0x10000 ' + block, vlenb)), arguments, bound
+    budget = next(b for b in BUDGETS + BUDGETS_OF_TWO if b[0] == name)
+    _, text, passed, block, arguments, bound = budget
+    return file_of(kernel(text, passed, '0x10000 ' + block, vlenb, version=2 if budget in BUDGETS_OF_TWO else 1)), arguments, bound
 
 
 def later_runs(vlenb):
@@ -155,8 +164,30 @@ def later_refusals():
     yield Refused('an image that is none', elf([(1, 0, CODE, 4, 4, 5)], code)[:51], 'image TooShort', [])
 
 
+def runs_of_version_2(vlenb):
+    """A loop in which a branch leads round an instruction, a loop in a loop, and budgets of two registers."""
+    choosing = file_of(kernel(orders.RAISE, orders.RAISE_PASSED, orders.of_length(orders.RAISE_BLOCKS, vlenb), vlenb, version=2))
+    for n, is_raised in ((0, 1), (100, 1), (100, 0), (1024, 1)):
+        yield Run('raise %d bytes by %d' % (n, is_raised), choosing, [w(some(1024, n)), n, is_raised], vlenb, n == 100)
+    filling = file_of(kernel(orders.FILL, orders.FILL_PASSED, orders.FILL_BLOCKS, vlenb, version=2))
+    for n in (0, 3, 64):
+        yield Run('fill %d rows' % n, filling, [w(some(4096, n)), n], vlenb, most=387 + 389 * n)
+    for name, *_ in BUDGETS_OF_TWO:
+        image, arguments, bound = budgeted(name, vlenb)
+        yield Run('a budget of %s' % name, image, arguments, vlenb, most=bound)
+
+
+def refusals_of_version_2():
+    for name, *_ in BUDGETS_OF_TWO:
+        image, arguments, bound = budgeted(name)
+        yield Refused('one step fewer than a budget of %s' % name, image, 'BoundTooLarge', arguments, most=bound - 1)
+    image, _, _ = budgeted('two scalars, of the greatest numbers')
+    for arguments in [0xffffffff, 2], [0xffffffff, 0xffffffff]:
+        yield Refused('a bound above 2^64 - 1', image, 'BoundTooLarge', arguments, most=(1 << 64) - 1)
+
+
 def accepted_rows():
-    for more in (accepted_runs, later_runs):
+    for more in (accepted_runs, later_runs, runs_of_version_2):
         for vlenb in (16, 32, 64):
             for run in more(vlenb):
                 mine = run.of_model()
@@ -168,7 +199,7 @@ def accepted_rows():
 
 
 def main():
-    rows, refused = list(accepted_rows()), list(refused_runs()) + list(later_refusals())
+    rows, refused = list(accepted_rows()), list(refused_runs()) + list(later_refusals()) + list(refusals_of_version_2())
     for run in refused:
         mine = opening.refusal(run.image, run.args, run.vlenb, run.most)
         assert mine == run.answer, '%s\n by hand %s\n model   %s' % (run.name, run.answer, mine)

@@ -1,5 +1,7 @@
 """Wrong definitions of how a run starts and ends, of runs.py, and of why none is opened, of opening.py: a name, a text and what stands in its place, perhaps
 several times. For wrong.py."""
+import itertools
+
 REGISTERS = '        x[1], x[2] = EXIT, SP\n'
 NEXT = 'at += (len(a[1]) + 4095) // 4096 * 4096 + 4096'
 MACHINE = 'bytes(32 * self.vlenb), 0x80000000, 0, 0, 0, memory)'
@@ -60,10 +62,11 @@ SIZES = "('WrongSize', is_wrong_size)"
 ORDER = 'ERRORS = (%s, %s, %s)' % (KINDS, INTERVALS, SIZES)
 INSIDE = 'not p.a <= argument <= p.b'
 ARGUMENTS = '    if error:\n        return error\n'
-BOUND = "    if c + k * at_start(certificate.params, arguments)[r] > most:\n        return 'BoundTooLarge'\n"
+SUM = 'constant + sum(factor * x[register] for factor, register in zip(products[::2], products[1::2]))'
+BOUND = "    if %s > most:\n        return 'BoundTooLarge'\n" % SUM
 LENGTH = "    return None if certificate.vlen == 8 * vlenb else 'WrongVlen'\n"
 MATCHED = '    error = arguments_error(certificate.params, arguments)\n' + ARGUMENTS
-NUMBERS = "    c, k, r = map(int, told.split()[1:])\n"
+NUMBERS = "    constant, *products = map(int, told.split()[1:])\n"
 WALK = '''    for name, is_wrong in ERRORS:
         for place in range(8):
 '''
@@ -98,10 +101,13 @@ OPENING = [
     ('the bound is not tested', BOUND, ''),
     ('the bound is below the most steps', BOUND, BOUND.replace('> most', '>= most')),
     ('one step more than the bound', BOUND, BOUND.replace('> most', '> most + 1')),
-    ('the bound has 32 bits', BOUND, BOUND.replace('c + k * at_start(certificate.params, arguments)[r] > most', '(c + k * at_start(certificate.params, arguments)[r]) % (1 << 32) > most')),
-    ('the bound has 63 bits', BOUND, BOUND.replace('c + k * at_start(certificate.params, arguments)[r] > most', '(c + k * at_start(certificate.params, arguments)[r]) % (1 << 63) > most')),
-    ('the bound is c', BOUND, BOUND.replace(' + k * at_start(certificate.params, arguments)[r]', '')),
-    ('the bound has no c', BOUND, BOUND.replace('c + k', 'k')),
+    ('the bound has 32 bits', BOUND, BOUND.replace(SUM, '(%s) %% (1 << 32)' % SUM)),
+    ('the bound has 63 bits', BOUND, BOUND.replace(SUM, '(%s) %% (1 << 63)' % SUM)),
+    ('the bound has 64 bits', BOUND, BOUND.replace(SUM, '(%s) %% (1 << 64)' % SUM)),
+    ('the bound has no second product', BOUND, BOUND.replace('products[::2]', 'products[:1]')),
+    ('both products are of the first register', BOUND, BOUND.replace('x[register]', 'x[products[1]]')),
+    ('the bound is c', BOUND, BOUND.replace(SUM, 'constant')),
+    ('the bound has no c', BOUND, BOUND.replace('constant + ', '')),
     ('the bound is by the greatest of the interval', NUMBERS, NUMBERS + "    arguments = [p.b if p.kind == 'scalar' else a for p, a in zip(certificate.params, arguments)]\n"),
     ('ra is 0 for the bound', '    x[1], x[2] = EXIT, 0x30000000\n', '    x[2] = 0x30000000\n'),
     ('sp is 0 for the bound', '    x[1], x[2] = EXIT, 0x30000000\n', '    x[1] = EXIT\n'),
@@ -110,12 +116,15 @@ OPENING = [
     ('a pointer is that of the first buffer for the bound', '        x[10 + place] = address\n', '        x[10 + place] = 0x40000000\n'),
     ('a scalar is 0 for the bound', '            x[10 + place] = argument & M32\n', '            pass\n'),
     ('arguments begin at a1 for the bound', '            x[10 + place] = argument & M32\n', '            x[11 + place] = argument & M32\n'),
-    ('a bound of a scalar alone', BOUND, BOUND.replace('arguments)[r]', 'arguments)[r] * (10 <= r < 18)')),
+    ('a bound of a scalar alone', BOUND, BOUND.replace('x[register]', 'x[register] * (10 <= register < 18)')),
     ('images are not checked', "    if not told.startswith('accepted '):\n        return told\n", "    if not told.startswith('accepted '):\n        return None if told.split()[0][-9:] == 'NotProved' else told\n"),
     ('arguments come before the check', "    if not told.startswith('accepted '):\n        return told\n", "    if told[:2] in ('Ac', 'In', 'Bu') and arguments_error(read_certificate(read_image(file).certificate).params, arguments):\n        return arguments_error(read_certificate(read_image(file).certificate).params, arguments)\n    if not told.startswith('accepted '):\n        return told\n"),
     ('an image without a certificate is run', "    if not told.startswith('accepted '):", "    if told == 'no certificate':\n        return None\n    if not told.startswith('accepted '):"),
-    ('the check is at the length of the run', "    told = check(file, 16)\n    if told == 'WrongVlen':\n        told = check(file, 32)\n", '    told = check(file, vlenb)\n'),
+    ('the check is at the length of the run', "    told = next(answer for answer in (check(file, own) for own in (16, 32, 64)) if answer != 'WrongVlen')\n", '    told = check(file, vlenb)\n'),
 ]
+OPENING += [('a certificate for %d bits is run at %d' % (own, bits), LENGTH,
+             LENGTH.replace('== 8 * vlenb', '== 8 * vlenb or (certificate.vlen, 8 * vlenb) == (%d, %d)' % (own, bits)))
+            for own, bits in itertools.permutations((128, 256, 512), 2)]
 
 # Changes that change no answer, and why.
 SAME = []

@@ -64,14 +64,15 @@ class Space:
 
 def reduced(rows, order):
     """The rows in reduced echelon form with the columns taken in this order, and the pivots' columns."""
-    rows, done, pivots = [list(map(Fraction, row)) for row in rows if any(row)], [], []
+    rows, done, pivots = [[number and Fraction(number) for number in row] for row in rows if any(row)], [], []
     for column in order:
         row = next((row for row in rows if row[column]), None)
         if row is None:
             continue
         rows.remove(row)
-        row = [number / row[column] for number in row]
-        clear = lambda other: [a - other[column] * b for a, b in zip(other, row)] if other[column] else other
+        if row[column] != 1:
+            row = [number and number / row[column] for number in row]
+        clear = lambda other: [a - other[column] * b if b else a for a, b in zip(other, row)] if other[column] else other
         rows = [other for other in map(clear, rows) if any(other)]
         done = [clear(other) for other in done] + [row]
         pivots.append(column)

@@ -9,6 +9,9 @@ import flow
 from outside import checker, model
 
 ROOM = 2
+NOTHING_FALLS = 'no register falls on any way round this loop and rises on none'
+TOO_DEEP = 'more than two loops stand within one another'
+TOO_GREAT = 'its numbers are above 2^32'
 
 
 class NoBudget(Exception):
@@ -27,6 +30,10 @@ class Budget(namedtuple('Budget', 'constant factors')):
         if register:
             factors[register] = factors.get(register, 0) + factor
         return Budget(self.constant + constant, {r: k for r, k in factors.items() if k})
+
+    def is_written(self):
+        """Whether its numbers have 32 bits each."""
+        return max(self.constant, *self.factors.values(), 0) <= checker.M32
 
     def most(self, other):
         both = self.factors.keys() | other.factors.keys()
@@ -75,7 +82,7 @@ def over(edge, need, room):
             budget = budget.more(0, register, k)
         else:
             budget = budget.more(max(k * end for end in state.atoms[atom]))
-    return narrowed(edge, budget, room) if budget.factors else Budget(min(by_ends, budget.constant), {})
+    return lowered(edge, narrowed(edge, budget, room) if budget.factors else Budget(min(by_ends, budget.constant), {}), room)
 
 
 def narrowed(edge, budget, room):
@@ -85,6 +92,18 @@ def narrowed(edge, budget, room):
     register = min(budget.factors, key=lambda r: budget.factors[r] * edge.start[r].range[1])
     return narrowed(edge, budget.more(budget.factors[register] * edge.start[register].range[1], register,
                                       -budget.factors[register]), room)
+
+
+def lowered(edge, budget, room):
+    """Pays what is above 32 bits of the constant by a register that holds one great number, as the address of a buffer."""
+    numbers = {r: edge.start[r].range[0] for r in range(1, 32) if 0 < edge.start[r].range[0] == edge.start[r].range[1]}
+    if budget.constant <= checker.M32 or not room or not numbers:
+        return budget
+    register = max(numbers, key=lambda r: (r in budget.factors, 10 <= r < 18, numbers[r]))
+    if register not in budget.factors:
+        budget = narrowed(edge, budget, room - 1)
+    factor = -(-(budget.constant - checker.M32) // numbers[register])
+    return budget.more(-factor * numbers[register], register, factor)
 
 
 class Budgets:
@@ -112,14 +131,16 @@ class Budgets:
             for edge in edges:
                 if edge.source == block:
                     out = out.most(over(edge, self.need(edge), room))
+            if not out.is_written():
+                raise NoBudget(part, TOO_GREAT)
             self.of[block] = out
 
     def loop(self, part, edges, inner, room):
         counters = self.counters(part, inner)
         if not counters:
-            raise NoBudget(part, 'no register falls on any way round this loop and rises on none')
+            raise NoBudget(part, NOTHING_FALLS)
         if not room:
-            raise NoBudget(part, 'more than two loops stand within one another')
+            raise NoBudget(part, TOO_DEEP)
         trouble = None
         for register in counters:
             falling = [e for e in inner if fall(e, register) > 0]

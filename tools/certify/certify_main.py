@@ -18,6 +18,7 @@ import advice
 import notes
 import search
 import toml_form
+import trial
 from outside import ROOT, certificates
 
 
@@ -50,7 +51,8 @@ def params_of(job, folder):
             size = table['size'] if 'size' in table else (folder / table['file']).stat().st_size
             yield certificates.Param('buffer', toml_form.MODES[table['mode']], size, 0)
         elif table.get('kind') == 'scalar':
-            yield certificates.Param('scalar', 0, table.get('lo', table.get('value')), table.get('hi', table.get('value')))
+            lo, hi = (table[key] if key in table else table['value'] for key in ('lo', 'hi'))
+            yield certificates.Param('scalar', 0, lo, hi)
         else:
             yield certificates.Param('none')
 
@@ -64,13 +66,23 @@ def place_of(out, vlen, lengths):
 def find(args):
     data, image = read_image(args.image)
     job_path = pathlib.Path(args.job)
-    job = tomllib.loads(job_path.read_text())
-    lengths = [int(vlen) for vlen in args.vlen.split(',')] if args.vlen else [job.get('vlen', 128)]
+    try:
+        job = tomllib.loads(job_path.read_text())
+    except tomllib.TOMLDecodeError as e:
+        raise notes.Trouble(f'{args.job}: not TOML: {e}') from None
+    lengths = args.vlen.split(',') if args.vlen else [str(job.get('vlen', 128))]
+    if not set(lengths) <= set(map(str, toml_form.LENGTHS)):
+        raise notes.Trouble('a length is 128, 256 or 512')
+    lengths = [int(vlen) for vlen in lengths]
     try:
         params = list(params_of(job, job_path.parent))
     except (KeyError, TypeError) as e:
         raise notes.Trouble(f'{args.job}: a parameter needs {e}') from None
     for vlen in lengths:
+        refuted = trial.refuted(image, params, vlen)
+        if refuted:
+            print(f'there is no certificate at VLEN {vlen}', *advice.told_of_run(refuted, image), sep='\n')
+            return 1
         found = search.find(image, params, vlen)
         if found.answer != 'accepted':
             print(f'nothing found at VLEN {vlen}', *advice.told(found, image), sep='\n')
@@ -91,9 +103,13 @@ def put(args):
     labels = notes.labels(data)
     if args.map:
         labels.update(notes.mapped(pathlib.Path(args.map).read_text()))
-    form = toml_form.Form(pathlib.Path(args.certificate).read_text(), labels)
-    for vlen in form.lengths:
-        descriptor = certificates.certificate_bytes(form.certificate(vlen))
+    try:
+        form = toml_form.Form(pathlib.Path(args.certificate).read_text(), labels)
+        made = [form.certificate(vlen) for vlen in form.lengths]
+    except notes.Trouble as e:
+        raise notes.Trouble(f'{args.certificate}: {e}') from None
+    for vlen, certificate in zip(form.lengths, made):
+        descriptor = certificates.certificate_bytes(certificate)
         try:
             certificates.read_certificate(descriptor)
         except certificates.Refused as e:
@@ -133,7 +149,7 @@ def main(words=None):
     args = parser.parse_args(words)
     try:
         return args.act(args)
-    except (notes.Trouble, OSError, tomllib.TOMLDecodeError) as e:
+    except (notes.Trouble, OSError) as e:
         print(f'certify: {e}', file=sys.stderr)
         return 2
     except certificates.Refused as e:

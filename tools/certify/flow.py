@@ -19,7 +19,18 @@ def copied(known, _):
     return other
 
 
+def interval_of_sum(known, form, slow=checker.Known.sum_interval):
+    """The interval of a form's sum, at once where the form is a number, or one atom that is not split and a number."""
+    if len(form.terms) < 2:
+        (atom, factor), = form.terms.items() or ((None, 1),)
+        if factor == 1 and atom not in known.splits:
+            lo, hi = known.atoms.get(atom, (0, 0))
+            return form.constant + lo, form.constant + hi
+    return slow(known, form)
+
+
 checker.Known.__deepcopy__ = copied     # the checker copies at each branch, and a search walks many
+checker.Known.sum_interval = interval_of_sum
 
 # known: what is known on the way. start: the values where the source begins. told: the orders that the branch tells.
 Edge = namedtuple('Edge', 'source target known start told words pc')
@@ -77,10 +88,29 @@ def words_of(image, start, starts):
     return out
 
 
-def branches_of(image, starts):
-    """Where the branches stand that end these blocks."""
-    last = (words[-1] for words in (words_of(image, start, starts) for start in starts) if words)
-    return {pc for pc, i, _ in last if i.shape == 'branch'}
+def cuts_of(image, starts):
+    """Where a block may begin as well: at a branch, where what is compared is then a number of its own, and at a vset whose length
+    the block computes, which can then be split."""
+    out = set()
+    for start in starts:
+        wrote = set()
+        for pc, i, f in words_of(image, start, starts):
+            if i.shape == 'branch' or i.shape == 'vset' and f.get('rs1') in wrote:
+                out.add(pc)
+            wrote.add(f.get('rd'))
+    return out
+
+
+def blocks_of(image):
+    """start -> the words of each block, and start -> where it leads, as far as the words alone say."""
+    starts = starts_of(image, [image.entry])
+    blocks = {start: words_of(image, start, starts) for start in starts}
+    targets = {}
+    for start, words in blocks.items():
+        pc, i, f = words[-1]
+        ways, is_end = leads_to(i, f, pc)
+        targets[start] = {*ways} & starts if is_end else {pc + 4} & starts
+    return blocks, targets
 
 
 class Explorer(checker.Walk):
@@ -88,10 +118,15 @@ class Explorer(checker.Walk):
 
     def __init__(self, image, certificate):
         super().__init__(image, certificate)
-        self.zones = EVERYWHERE
+        self.zones, self.walked = EVERYWHERE, {}
 
     def edges(self, block):
         """The ways out of a block as far as it can be followed."""
+        if block not in self.walked:
+            self.walked[block] = self.ways_out(block)
+        return self.walked[block]
+
+    def ways_out(self, block):
         s = checker.at_block(self.certificate, block, self.vlenb)
         start, pc = list(s.x), block.start
         try:
@@ -176,3 +211,12 @@ def components(nodes, leads):
         if node not in order:
             visit(node)
     return out
+
+
+def loops(blocks, leads):
+    """The loops, each as its blocks: what is strongly connected, and what still is when no way leads to its first block."""
+    for part in components(blocks, leads):
+        inner = {node: set(leads.get(node, ())) & part for node in part}
+        if any(node in inner[node] for node in part) or len(part) > 1:
+            yield part
+            yield from loops(part, {node: to - {min(part)} for node, to in inner.items()})

@@ -47,7 +47,8 @@ def interval(lo, hi):
 
 def budget(constant, factors):
     """`2 + 8 * a1`. factors: pairs of register and factor."""
-    return ' + '.join([str(constant)] + [f'{k} * {ABI[r]}' for r, k in factors if k])
+    parts = [f'{k} * {ABI[r]}' for r, k in factors if k]
+    return ' + '.join(([str(constant)] if constant or not parts else []) + parts)
 
 
 def instruction(i, f, pc):

@@ -16,7 +16,7 @@ FULL, VL, PASSED = certificates.FULL, checker.VL, checker.PASSED
 BEFORE_WIDENING, ROUNDS_BACK, MOST_ROUNDS = 4, 4, 400
 
 # One way to search: which registers are to stay free in sums, whether registers that are not read any more count, which orders,
-# and whether a block begins at each branch as well, where what is compared is a number of its own.
+# and whether blocks begin at branches and computed lengths as well.
 Plan = namedtuple('Plan', 'free dead orders cuts')
 PLANS = [Plan('lengths', False, 'none', False), Plan('lengths', False, 'lengths', False), Plan('lengths', False, 'none', True),
          Plan('counters', False, 'branches', True), Plan('lengths', True, 'none', False), Plan('pointers', False, 'branches', False),
@@ -48,9 +48,9 @@ class Finder:
         self.frame = certificates.Certificate(vlen, params, [], 1)
         self.starts = flow.starts_of(image, [image.entry])
         if plan.cuts:
-            self.starts |= flow.branches_of(image, self.starts)
+            self.starts |= flow.cuts_of(image, self.starts)
         self.guesses, self.sums, self.orders = {}, {}, {}
-        self.marks = marks_of(image, params)
+        self.marks, self.explorer = marks_of(image, params), flow.Explorer(image, self.frame)
 
     # ---- Intervals, vector types and facts ------------------------------------------------------------------------------
 
@@ -69,9 +69,10 @@ class Finder:
 
     def intervals(self):
         """The fixpoint, from the entry on. Whether all targets are blocks; where one is not, it is added."""
-        explorer = flow.Explorer(self.image, self.frame)
-        explorer.blocks = dict.fromkeys(self.starts)
-        self.explorer, self.guesses = explorer, {}
+        if self.explorer.blocks.keys() != self.starts:
+            self.explorer = flow.Explorer(self.image, self.frame)
+            self.explorer.blocks = dict.fromkeys(self.starts)
+        self.guesses = {}
         self.enter(checker.at_entry(self.frame, self.vlenb), self.image.entry)
         todo, rounds = [self.image.entry], 0
         while todo and rounds < MOST_ROUNDS * len(self.starts):
@@ -139,6 +140,9 @@ class Finder:
             pass
         self.words = {start: flow.words_of(self.image, start, self.starts) for start in self.guesses}
         self.targets = {start: {e.target for e in self.edges(start)} for start in self.guesses}
+        self.uses, self.loops = Uses(self.words), []
+        for loop in flow.loops(self.words, {start: to & self.words.keys() for start, to in self.targets.items()}):
+            self.loops.append((loop, set().union(*(flow.used_and_set(i, f)[1] for b in loop for _, i, f in self.words[b]))))
         self.live = EveryRegister(flow.live_at(self.words, self.targets))
         if self.plan.dead:
             self.live = EveryRegister((start, set(range(1, 33))) for start in self.live)
@@ -151,7 +155,8 @@ class Finder:
             for pc, i, f in self.words[start]:
                 affine.step(space, i, f, pc, self.vlenb)
             for target in self.targets.get(start, set()) & self.words.keys():
-                new = spaces[target].joined(space) if target in spaces else affine.Space(space.point, affine.reduced(space.directions, range(1, affine.PLACES))[0])
+                own = affine.Space(space.point, affine.reduced(space.directions, range(1, affine.PLACES))[0])
+                new = spaces[target].joined(space) if target in spaces else own
                 if target not in spaces or len(new.directions) > len(spaces[target].directions):
                     spaces[target] = new
                     todo.append(target)
@@ -162,29 +167,17 @@ class Finder:
         live = self.live[start]
         for number in set(range(1, 33)) - live:
             space.free(number)
-        return space.sums(list(range(PASSED, PASSED + 8)) + sorted(range(1, 33), key=lambda n: (n not in live, self.rank(n))))
-
-    def rank(self, n):
-        """How soon a register is to stay free in sums: by what the kernel does with it."""
-        words = [(i, f) for block in self.words.values() for _, i, f in block]
-        lengths = {f['rs1'] for i, f in words if i.shape == 'vset' and 'rs1' in i.syntax}
-        counters = {f[name] for i, f in words if i.shape == 'branch' for name in ('rs1', 'rs2')}
-        pointers = {f['rs1'] for i, f in words if i.shape.lstrip('v').startswith(('load', 'store'))}
-        falls = {f['rd'] for i, f in words if i.name == 'sub' or i.name == 'addi' and f['imm'] < 0}
-        if self.plan.free == 'counters':
-            return n not in counters, n not in lengths, n == VL, n in pointers, n
-        if self.plan.free == 'pointers':
-            return n not in pointers, n == VL, n
-        return n != VL, n not in lengths, n not in falls, n in pointers, n not in counters, n
+        moved = [n for loop, wrote in self.loops if start in loop for n in wrote]
+        rank = lambda n: (n not in live, *self.uses.rank(self.plan, n, moved.count(n)))
+        return space.sums(list(range(PASSED, PASSED + 8)) + sorted(range(1, 33), key=rank))
 
     def guess_orders(self):
         """For each block the orders that may hold: of a register at most one in which it is the greater."""
-        words = [(i, f) for block in self.words.values() for _, i, f in block]
         pairs = []
         if self.plan.orders in ('lengths', 'all'):
-            pairs += [(f['rs1'], VL) for i, f in words if i.shape == 'vset' and f.get('rs1')]
+            pairs += [(f['rs1'], VL) for i, f in self.uses.words if i.shape == 'vset' and f.get('rs1')]
         if self.plan.orders in ('branches', 'all'):
-            both = [(f['rs1'], f['rs2']) for i, f in words if i.shape == 'branch' and f['rs1'] and f['rs2']]
+            both = [(f['rs1'], f['rs2']) for i, f in self.uses.words if i.shape == 'branch' and f['rs1'] and f['rs2']]
             pairs += both + [(two, one) for one, two in both]
         for start in self.words:
             live, sums, orders = self.live[start], self.sums[start], {}
@@ -238,9 +231,29 @@ class Finder:
         self.targets = {start: {e.target for e in self.edges(start)} for start in self.guesses}
 
     def certificate(self):
-        blocks = [self.block(start, self.budgets.of.get(start, budgets.NOTHING)) for start in sorted(self.guesses)]
+        budget_of = {start: budget for start, budget in self.budgets.of.items() if budget.is_written()}
+        blocks = [self.block(start, budget_of.get(start, budgets.NOTHING)) for start in sorted(self.guesses)]
         version = 2 if any(b.orders or b.k2 for b in blocks) else 1
         return self.frame._replace(blocks=blocks, version=version)
+
+
+class Uses:
+    """What a kernel does with its registers."""
+
+    def __init__(self, words):
+        self.words = [(i, f) for block in words.values() for _, i, f in block]
+        self.lengths = {f['rs1'] for i, f in self.words if i.shape == 'vset' and 'rs1' in i.syntax}
+        self.counters = {f[name] for i, f in self.words if i.shape == 'branch' for name in ('rs1', 'rs2')}
+        self.pointers = {f['rs1'] for i, f in self.words if i.shape.lstrip('v').startswith(('load', 'store'))}
+        self.falls = {f['rd'] for i, f in self.words if i.name == 'sub' or i.name == 'addi' and f['imm'] < 0}
+
+    def rank(self, plan, n, moves):
+        """How soon a register is to stay free in sums, which is moved in so many of the loops around."""
+        if plan.free == 'counters':
+            return n not in self.counters, n not in self.lengths, n == VL, moves, n in self.pointers, n
+        if plan.free == 'pointers':
+            return n not in self.pointers, n == VL, moves, n
+        return n != VL, n not in self.lengths, n not in self.falls, moves, n in self.pointers, n not in self.counters, n
 
 
 class EveryRegister(dict):

@@ -1,41 +1,27 @@
 -- The accesses of a loop lie in their buffers.
-use Rattle.std.proofs.Common.{◌≡◌, ℕ, ◌+◌, ◌-◌, ◌*◌, ◌%◌, ◌^◌, ◌<◌, ◌≤◌, zero, suc, Bool, true, false, refl, sym, ap, ◌∙◌, subst, arith, Option, Some, None, List, [], ◌∷◌, ◌++◌, map, min, max}
-use Rattle.std.specs.Prelude.{Result, Ok, Err, if◌then◌else◌, ◌&&◌, ◌||◌, not, nat_le, nat_lt, unwrap_or, ◌==◌}
+use Rattle.std.proofs.Common.{◌≡◌, ℕ, ◌+◌, ◌-◌, ◌*◌, ◌^◌, ◌<◌, ◌≤◌, zero, suc, Bool, true, false, refl, ap, ◌∙◌, subst, arith, Some, List, [], ◌∷◌, ◌++◌, map, min, max}
+use Rattle.std.specs.Prelude.{◌&&◌, ◌||◌, nat_le, nat_lt, unwrap_or}
 use Rattle.std.specs.List.{list_any, slice_get}
 use Rattle.std.specs.Option.{option_to_list}
 use Rattle.std.proofs.lemmas.Bool.Decides.{nat_tests}
 use Rattle.std.proofs.lemmas.List.Folds.{list_any-append}
 use Rattle.linear_facts.specs.declared.ranges.Range.{Range}
 use Rattle.linear_facts.specs.declared.forms.Term.{Term}
-use Rattle.linear_facts.specs.Forms.{Linear, merged, scaled, scaled_terms, sum_of, number_form, atom_form, within}
-use Rattle.linear_facts.specs.Ranges.{meet_of}
+use Rattle.linear_facts.specs.Forms.{Linear, merged, scaled, sum_of, number_form, atom_form, within}
 use Rattle.linear_facts.specs.Sums.{range_of_form}
 use Rattle.linear_facts.proofs.Merging.{merged-nil, merged-less}
-use Rattle.rv_decode.specs.declared.instructions.Direction.{Direction}
-use Rattle.rv_decode.specs.declared.instructions.Direction.TheVariants.{Load, Store}
-use Rattle.rv_decode.specs.declared.instructions.Insn.{Insn}
-use Rattle.rv_decode.specs.declared.instructions.Insn.TheVariants.{VMem as Access}
-use Rattle.rv_decode.specs.declared.instructions.Place.{Place}
-use Rattle.rv_decode.specs.declared.instructions.Place.TheVariants as place
-use Rattle.rv_decode.specs.declared.instructions.VMem.{VMem}
-use Rattle.rv_decode.specs.declared.instructions.Width.{Width}
-use Rattle.vreg_groups.specs.VectorType.{bytes_of_width, type_in}
-use Rattle.vreg_groups.specs.declared.vector_type.Vtype.{Vtype}
 use Rattle.region_mem.specs.declared.faults.Right.{Right}
-use Rattle.region_mem.specs.declared.faults.Right.TheVariants.{Read, Write}
 use Rattle.region_mem.specs.declared.parameter.Param.{Param}
 use Rattle.region_mem.specs.declared.parameter.Param.TheVariants as parameter
 use Rattle.region_mem.specs.declared.parameter.Mode.{Mode}
 use Rattle.region_mem.specs.Parameter.{address_of}
-use Rattle.cert_note.specs.declared.values.VectorFact.{VectorFact}
-use Rattle.abs_state.specs.declared.reaches.Reach.{Reach}
 use Rattle.abs_state.specs.declared.zones.Zone.{Zone}
-use Rattle.abs_state.specs.Values.{ValueView, computed_range, or_own}
+use Rattle.abs_state.specs.Values.{ValueView, computed_range}
 use Rattle.abs_state.specs.Effects.{fitting}
-use Rattle.abs_state.specs.Numbers.{NumbersView, table_of, value_at}
-use Rattle.abs_state.specs.Zones.{zones_of, is_inside, spans, zone_right, load_allowed, store_allowed, buffer_zone, buffer_zones, segment_zone, stack_zone, may_write}
+use Rattle.abs_state.specs.Numbers.{NumbersView, table_of}
+use Rattle.abs_state.specs.Zones.{zones_of, is_inside, spans, zone_right, buffer_zone, buffer_zones, segment_zone, stack_zone, may_write}
 use Rattle.elf_image.specs.Image.{ImageView}
-use Rattle.abs_state.specs.Reaches.{unit_reach, sum_form, sharpened_high, met_with_form, reach_at, reach_allowed, is_whole, transfer_check}
+use Rattle.abs_state.specs.Reaches.{unit_reach, sum_form, sharpened_high, met_with_form}
 use Rattle.linear_facts.specs.LoopForms.{term, IsSize, pointer_form, moved_form}
 use Rattle.cert_maker.specs.Laws.{ReachesEnd}
 use Rattle.cert_maker.proofs.Equalities.{sum_parts, scaled_atom, merged_empty}

@@ -1,7 +1,6 @@
 -- Through the vector instructions of a loop what is known of numbers stays.
-use Rattle.std.proofs.Common.{◌≡◌, ℕ, ◌+◌, Bool, true, false, refl, sym, ap, ◌∙◌, subst, arith, Option, Some, None, List}
-use Rattle.std.specs.Prelude.{Result, Ok, Err, if◌then◌else◌, ◌&&◌, not}
-use Rattle.std.proofs.lemmas.Grind.{common_steps}
+use Rattle.std.proofs.Common.{◌≡◌, ℕ, ◌+◌, Bool, true, false, refl, sym, ◌∙◌, Option, Some}
+use Rattle.std.specs.Prelude.{Ok, ◌&&◌}
 use Rattle.rv_decode.specs.Needs.{needs_of, needs_of_mask, needs_of_move}
 use Rattle.rv_decode.specs.declared.instructions.Insn.{Insn}
 use Rattle.rv_decode.specs.declared.instructions.Insn.TheVariants.{Scalar, Csr, VSet, VArith, VMask, VPerm, VReduce, VMem, VMove}
@@ -10,7 +9,6 @@ use Rattle.rv_decode.specs.declared.instructions.VMask.TheVariants.{Logic, Count
 use Rattle.rv_decode.specs.declared.instructions.VMove as move
 use Rattle.rv_decode.specs.declared.instructions.VMove.TheVariants.{ToScalar, FromScalar, Whole}
 use Rattle.vreg_groups.specs.Legality.{is_legal}
-use Rattle.abs_state.specs.declared.why.Why.{Why}
 use Rattle.abs_state.specs.declared.state.Way.TheVariants.{To}
 use Rattle.abs_state.specs.Numbers.{NumbersView}
 use Rattle.abs_state.specs.Legal.{legal_check}
@@ -18,7 +16,7 @@ use Rattle.abs_state.specs.State.{AbstractView}
 use Rattle.abs_state.specs.Groups.{groups_after}
 use Rattle.abs_state.specs.After.{after_of, vector_after, passed, next_word, mask_numbers, move_numbers, vector_numbers, access_check}
 use Rattle.cert_maker.specs.Loops.{is_arithmetic, is_vector_class}
-use Rattle.cert_maker.specs.Laws.{Keeps, Goes, BodyKeeps}
+use Rattle.cert_maker.specs.Laws.{Goes, BodyKeeps}
 
 pub both_true : (a b : Bool) → (a && b) ≡ true → (a ≡ true) × (b ≡ true)
 both_true true true e = (refl, refl)

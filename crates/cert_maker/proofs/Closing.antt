@@ -1,7 +1,6 @@
 -- Only the branch back ends the reading of a loop, and its edges pass.
-use Rattle.std.proofs.Common.{◌≡◌, ◌≢◌, ℕ, ◌+◌, ◌-◌, ◌*◌, ◌/◌, ◌%◌, ◌^◌, ◌<◌, ◌≤◌, Bool, true, false, refl, sym, ap, ◌∙◌, subst, arith, Option, Some, None, List, [], ◌∷◌}
-use Rattle.std.specs.Prelude.{ℤ, Result, Ok, Err, if◌then◌else◌, ◌==◌, ◌&&◌, slice_set}
-use Rattle.rv_decode.specs.Encodings.{FieldsFit}
+use Rattle.std.proofs.Common.{◌≡◌, ℕ, ◌+◌, ◌-◌, ◌*◌, ◌/◌, ◌%◌, ◌^◌, ◌<◌, Bool, true, false, refl, sym, subst, arith, Option, Some, None, List}
+use Rattle.std.specs.Prelude.{ℤ, Ok, if◌then◌else◌, slice_set}
 use Rattle.rv_decode.specs.declared.instructions.Condition.TheVariants.{Ne}
 use Rattle.rv_decode.specs.declared.instructions.Insn.{Insn}
 use Rattle.rv_decode.specs.declared.instructions.Insn.TheVariants.{Scalar, VMem}
@@ -22,7 +21,7 @@ use Rattle.cert_maker.specs.declared.loops.Loop.{Loop}
 use Rattle.cert_maker.specs.declared.loops.Reading.{Reading}
 use Rattle.cert_maker.specs.declared.loops.Reading.TheVariants.{Works, Moves, Back, Through}
 use Rattle.cert_maker.specs.Loops.{is_arithmetic, with_pointer, moved_by, shift_of, step_by, works_on, back_by, next_of}
-use Rattle.cert_maker.specs.Known.{Round, IsRound, IsCertified, InBack, IsWithin, Known}
+use Rattle.cert_maker.specs.Known.{Round, IsRound, IsCertified, InBack, IsWithin}
 use Rattle.cert_maker.specs.Laws.{RoundsEnd}
 use Rattle.cert_maker.proofs.Bodies.{both_true}
 use Rattle.cert_maker.proofs.Going.{test_of, same_number}
@@ -30,7 +29,7 @@ use Rattle.cert_maker.proofs.Ending.{edges_ok}
 
 -- ---- no other word ends it
 
-moved_through : {A : Type 0} (of : Loop) (step : ℕ) (left : List Bool) (insn : Insn) (loop : Loop) → moved_by of step left insn ≡ Some (Through loop) → A
+pub moved_through : {A : Type 0} (of : Loop) (step : ℕ) (left : List Bool) (insn : Insn) (loop : Loop) → moved_by of step left insn ≡ Some (Through loop) → A
 unfolding moved_by
 moved_through of step left (Scalar (Register Add rd rs1 rs2)) loop e =
     no_moves of step _ loop (test_of _ (Moves of step (slice_set left (rd - 10) false)) (Through loop) e).1
@@ -61,7 +60,7 @@ worked_through : {A : Type 0} (t u : Bool) (of : Loop) (o : Option Reading) (loo
 worked_through true u of o loop more e = no_works of loop (test_of u (Works of) (Through loop) e).1
 worked_through false u of o loop more e = more e
 
-works_through : {A : Type 0} (params : List Param) (of : Loop) (insn : Insn) (loop : Loop) → works_on params of insn ≡ Some (Through loop) → A
+pub works_through : {A : Type 0} (params : List Param) (of : Loop) (insn : Insn) (loop : Loop) → works_on params of insn ≡ Some (Through loop) → A
 unfolding works_on
 works_through params of (VMem insn) loop e = no_works (with_pointer insn.rs1 of) loop (test_of _ (Works (with_pointer insn.rs1 of)) (Through loop) e).1
 works_through params of other loop e =

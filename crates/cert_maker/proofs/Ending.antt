@@ -1,45 +1,35 @@
 -- Where a round ends, the edges of its branch pass.
-use Rattle.std.proofs.Common.{◌≡◌, ◌≢◌, ℕ, ◌+◌, ◌-◌, ◌*◌, ◌/◌, ◌%◌, ◌^◌, ◌<◌, ◌≤◌, ◌⊎◌, inl, inr, zero, suc, Bool, true, false, refl, sym, ap, ◌∙◌, subst, arith, Option, Some, None, IfSome, List, [], ◌∷◌, length, min, max, get_or}
+use Rattle.std.proofs.Common.{◌≡◌, ◌≢◌, ℕ, ◌+◌, ◌-◌, ◌*◌, ◌/◌, ◌^◌, ◌<◌, ◌≤◌, ◌⊎◌, inl, inr, Bool, true, false, refl, sym, ap, ◌∙◌, subst, arith, Option, Some, None, IfSome, List, length, min}
 use Rattle.std.proofs.Common.{get_or-set_same, get_or-set_other}
 use Rattle.std.proofs.Math.ListN.{get_or-eq_default}
 use Rattle.std.proofs.lemmas.List.{get_or_default}
-use Rattle.std.specs.Prelude.{ℤ, Result, Ok, Err, if◌then◌else◌, ◌==◌, ◌&&◌, ◌||◌, nat_le, slice_set, slice_index_or}
+use Rattle.std.specs.Prelude.{ℤ, Ok, ◌==◌, ◌||◌, slice_set, slice_index_or}
 use Rattle.std.proofs.lemmas.Bool.{cases_eq}
 use Rattle.std.proofs.lemmas.Bool.Decides.{nat_tests}
 use Rattle.linear_facts.specs.declared.ranges.Range.{Range}
 use Rattle.linear_facts.specs.Forms.{atom_form, number_form, form_at}
-use Rattle.linear_facts.specs.Differences.{is_at_least_of}
-use Rattle.linear_facts.specs.LoopForms.{left_form, times}
+use Rattle.linear_facts.specs.LoopForms.{left_form}
 use Rattle.linear_facts.proofs.LoopRanges.{round-paid}
-use Rattle.rv_decode.specs.Encodings.{FieldsFit}
 use Rattle.rv_decode.specs.declared.instructions.Condition.TheVariants.{Ne}
-use Rattle.rv_decode.specs.declared.instructions.Insn.{Insn}
 use Rattle.rv_decode.specs.declared.instructions.Insn.TheVariants.{Scalar}
 use Rattle.rv_decode.specs.declared.instructions.ScalarInsn.TheVariants.{Branch}
 use Rattle.region_mem.specs.declared.parameter.Param.{Param}
 use Rattle.scalar_core.specs.Hart.{exit}
-use Rattle.scalar_core.specs.Step.{offset_by}
 use Rattle.cert_note.specs.Certificate.{CertificateView}
 use Rattle.cert_note.specs.declared.values.Budget.{Budget}
-use Rattle.cert_note.specs.declared.values.RegisterFact.{RegisterFact}
 use Rattle.abs_state.specs.declared.state.Way.TheVariants.{Fork}
 use Rattle.abs_state.specs.Values.{ValueView, just}
 use Rattle.abs_state.specs.Numbers.{NumbersView, table_of, value_at}
 use Rattle.abs_state.specs.State.{AbstractView}
-use Rattle.abs_state.specs.Steps.{scalar_after}
-use Rattle.abs_state.specs.StepLaws.{jumps}
-use Rattle.abs_state.specs.After.{after_of, taken, way_of, next_word}
-use Rattle.abs_state.specs.Branches.{EdgeView, refined, edge_by, branch_edge, related_edge, relation_of, related_ranges, apart_from, without_end, edge_in, changes_of, whole_atom, table_on, value_on}
-use Rattle.abs_state.specs.Edges.{is_interval_shown, is_equality_shown, is_paid_for, pays, is_paid, least_of, most_of, own_total, next_total, products_of, leads_to}
-use Rattle.block_checker.specs.Passes.{Checked, both, block_at, edges_pass, possible_passes, edge_passes, is_branch, is_branch_insn}
+use Rattle.abs_state.specs.After.{taken, next_word}
+use Rattle.abs_state.specs.Branches.{EdgeView, refined, edge_by, branch_edge, related_edge, relation_of, related_ranges, apart_from, without_end, edge_in, changes_of, whole_atom, value_on}
+use Rattle.abs_state.specs.Edges.{is_interval_shown, is_equality_shown, is_paid_for, pays, is_paid, least_of, most_of, own_total, next_total}
+use Rattle.block_checker.specs.Passes.{Checked, both, edges_pass, possible_passes, edge_passes, is_branch, is_branch_insn}
 use Rattle.cert_maker.specs.declared.loops.Loop.{Loop}
-use Rattle.cert_maker.specs.declared.loops.Reading.{Reading}
-use Rattle.cert_maker.specs.declared.loops.Reading.TheVariants.{Works, Moves, Back, Through}
-use Rattle.cert_maker.specs.Loops.{size_of, back_by}
-use Rattle.cert_maker.specs.Certificates.{fact, facts_by, budget, block, base_of, stated_by, loop_count, loop_pointer, loop_facts}
-use Rattle.cert_maker.specs.Known.{Round, IsRound, IsCertified, HasRoom, InBack, IsMoved, IsWithin, known, atom_of, is_pointer}
+use Rattle.cert_maker.specs.Loops.{size_of}
+use Rattle.cert_maker.specs.Certificates.{fact, budget, base_of, stated_by, loop_count, loop_pointer}
+use Rattle.cert_maker.specs.Known.{Round, IsRound, IsCertified, InBack, IsWithin, known, atom_of, is_pointer}
 use Rattle.cert_maker.proofs.Accesses.{le_true}
-use Rattle.cert_maker.proofs.Bodies.{both_true}
 use Rattle.cert_maker.proofs.Going.{count_other}
 use Rattle.cert_maker.proofs.Moves.{pointers-return}
 use Rattle.cert_maker.proofs.Shown.{Shows, block_shown, interval_shown, if_stated, edge_ok}
@@ -47,19 +37,19 @@ use Rattle.cert_maker.proofs.Shown.{Shows, block_shown, interval_shown, if_state
 abbrev span : ℕ → ℕ → Range
 span lo hi = record { lo = lo; hi = hi }
 
-not_same : (a b : ℕ) → a ≢ b → (a == b) ≡ false
+pub not_same : (a b : ℕ) → a ≢ b → (a == b) ≡ false
 not_same a b ne = grind (arith, nat_tests)
 
-is_same : (a b : ℕ) → a ≡ b → (a == b) ≡ true
+pub is_same : (a b : ℕ) → a ≡ b → (a == b) ≡ true
 is_same a b e = grind (arith, nat_tests)
 
-le_self : (a : ℕ) → a ≤ a
+pub le_self : (a : ℕ) → a ≤ a
 le_self a = omega arith
 
-least_zero : (r : ℕ) → min r 0 ≡ 0
+pub least_zero : (r : ℕ) → min r 0 ≡ 0
 least_zero r = omega arith
 
-paid_by : (e : EdgeView) (o : Option Budget) (own next : Budget) → o ≡ Some own → pays e own (Some next) ≡ true → is_paid_for e o (Some next) ≡ true
+pub paid_by : (e : EdgeView) (o : Option Budget) (own next : Budget) → o ≡ Some own → pays e own (Some next) ≡ true → is_paid_for e o (Some next) ≡ true
 unfolding is_paid_for
 paid_by e o own next is ok = rw is ok
 
@@ -109,28 +99,28 @@ module _ (b : AbstractView) (n there next : ℕ) (nonzero : n ≢ 0) (way : b.wa
   other_edge r count = rw (way, not_same n 0 nonzero, count, zero_is, least_zero r, count, zero_is) refl
 
 -- what registers' ranges are on an edge
-range_there : (s : NumbersView) (n i : ℕ) (p q : Range) → i ≢ 0 → i ≢ n
+pub range_there : (s : NumbersView) (n i : ℕ) (p q : Range) → i ≢ 0 → i ≢ n
     → slice_index_or (slice_set (slice_set s.ranges n p) 0 q) i (just 0) ≡ (value_at s i).range
 unfolding value_at
 range_there s n i p q nz ne = get_or-set_other (slice_set s.ranges n p) 0 i q (just 0) nz ∙ get_or-set_other s.ranges n i p (just 0) ne
 
-range_here : (s : NumbersView) (n : ℕ) (p q : Range) → n ≢ 0 → n < length s.ranges
+pub range_here : (s : NumbersView) (n : ℕ) (p q : Range) → n ≢ 0 → n < length s.ranges
     → slice_index_or (slice_set (slice_set s.ranges n p) 0 q) n (just 0) ≡ p
 range_here s n p q nz l = get_or-set_other (slice_set s.ranges n p) 0 n q (just 0) nz ∙ get_or-set_same s.ranges n p (just 0) l
 
-form_here : (s : NumbersView) (n : ℕ) → n < length s.forms → form_at s.forms n ≡ (value_at s n).form
+pub form_here : (s : NumbersView) (n : ℕ) → n < length s.forms → form_at s.forms n ≡ (value_at s n).form
 unfolding form_at value_at
 form_here s n l = get_or_default s.forms n (atom_form n) (number_form 0) l
 
-form_past : (s : NumbersView) (n : ℕ) → length s.forms ≤ n → form_at s.forms n ≡ atom_form n
+pub form_past : (s : NumbersView) (n : ℕ) → length s.forms ≤ n → form_at s.forms n ≡ atom_form n
 unfolding form_at
 form_past s n l = get_or-eq_default s.forms (atom_form n) l
 
-or_right : (a b : Bool) → b ≡ true → (a || b) ≡ true
+pub or_right : (a b : Bool) → b ≡ true → (a || b) ≡ true
 or_right true b e = refl
 or_right false b e = e
 
-or_left : (a b : Bool) → a ≡ true → (a || b) ≡ true
+pub or_left : (a b : Bool) → a ≡ true → (a || b) ≡ true
 or_left true b e = refl
 or_left false b e = cc
 
@@ -148,6 +138,20 @@ pub loop_places : (params : List Param) (loop : Loop) (place : ℕ)
     → IfSome (stated_by loop (loop_count loop) (λ q. loop_pointer params loop q) place) (λ f. f.number ≡ place + 10)
 loop_places params loop place =
     if_stated (λ f. f.number ≡ place + 10) loop (loop_count loop) (λ q. loop_pointer params loop q) place (λ e. sym e) (λ e. refl)
+
+-- ---- edges that pass
+
+pub passes_both : (x y : Checked) → x ≡ Ok tt → y ≡ Ok tt → both x y ≡ Ok tt
+passes_both x y e f = rw (e, f) refl
+
+pub possible : (certificate : CertificateView) (pc : ℕ) (x : Option EdgeView) (e : EdgeView) → x ≡ Some e → edge_passes certificate pc e ≡ Ok tt
+    → possible_passes certificate pc x ≡ Ok tt
+unfolding possible_passes
+possible certificate pc x e is_edge passes = rw is_edge passes
+
+pub impossible : (certificate : CertificateView) (pc : ℕ) (x : Option EdgeView) → x ≡ None → possible_passes certificate pc x ≡ Ok tt
+unfolding possible_passes
+impossible certificate pc x none = rw none refl
 
 module _ (k : Round) (is : IsRound k) (pc : ℕ) (a : AbstractView) (inside : IsWithin k pc a) (h : InBack k a.numbers)
     (words : k.words ≡ (pc - k.start) / 4 + 1) (there : ℕ) where
@@ -259,24 +263,12 @@ module _ (k : Round) (is : IsRound k) (pc : ℕ) (a : AbstractView) (inside : Is
 
   -- ---- both
 
-  passes_both : (x y : Checked) → x ≡ Ok tt → y ≡ Ok tt → both x y ≡ Ok tt
-  passes_both x y e f = rw (e, f) refl
-
-  possible : (certificate : CertificateView) (x : Option EdgeView) (e : EdgeView) → x ≡ Some e → edge_passes certificate pc e ≡ Ok tt
-      → possible_passes certificate pc x ≡ Ok tt
-  unfolding possible_passes
-  possible certificate x e is_edge passes = rw is_edge passes
-
-  impossible : (certificate : CertificateView) (x : Option EdgeView) → x ≡ None → possible_passes certificate pc x ≡ Ok tt
-  unfolding possible_passes
-  impossible certificate x none = rw none refl
-
   back_passes : (certificate : CertificateView) → IsCertified certificate k → there ≡ k.start → possible_passes certificate pc (refined true b) ≡ Ok tt
   back_passes certificate c target_is =
       elim (taken_edge b n there (next_word pc) nonzero refl h.atoms.zero (k.loop.most - k.limit) h.count) [
-        | inl none ↦ impossible certificate (refined true b) none
+        | inl none ↦ impossible certificate pc (refined true b) none
         | inr some ↦
-            possible certificate (refined true b) (edge true there (span 1 (k.loop.most - k.limit))) some.1
+            possible certificate pc (refined true b) (edge true there (span 1 (k.loop.most - k.limit))) some.1
             (edge_ok certificate pc k.start _ _ (ap (λ (x : ℕ). Some x) target_is) c.start_other c.loop_at
             (block_shown _ k.start (budget 1 k.words n) _ (loop_places k.params k.loop) (back_shows some.0 target_is)))
       ]
@@ -284,7 +276,7 @@ module _ (k : Round) (is : IsRound k) (pc : ℕ) (a : AbstractView) (inside : Is
   on_passes : (certificate : CertificateView) → IsCertified certificate k → next_word pc ≡ k.start + 4 * k.words
       → possible_passes certificate pc (refined false b) ≡ Ok tt
   on_passes certificate c target_is =
-      possible certificate (refined false b) (edge false (next_word pc) (span 0 0))
+      possible certificate pc (refined false b) (edge false (next_word pc) (span 0 0))
       (other_edge b n there (next_word pc) nonzero refl h.atoms.zero (k.loop.most - k.limit) h.count)
       (edge_ok certificate pc (k.start + 4 * k.words) _ _ (ap (λ (x : ℕ). Some x) target_is) c.end_other c.end_at
       (block_shown _ (k.start + 4 * k.words) (budget 1 0 0) (λ place. None) (λ place. tt) (on_shows (k.start + 4 * k.words) target_is)))

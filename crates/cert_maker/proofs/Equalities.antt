@@ -1,10 +1,9 @@
 -- The forms of a strip-mined loop.
-use Rattle.std.proofs.Common.{◌≡◌, ℕ, ◌+◌, ◌-◌, ◌*◌, ◌%◌, ◌^◌, ◌<◌, ◌≤◌, ◌⊎◌, inl, inr, List, [], ◌∷◌, ◌++◌, refl, sym, ap, ◌∙◌, subst, arith}
-use Rattle.std.proofs.lemmas.Grind.{common_steps}
+use Rattle.std.proofs.Common.{◌≡◌, ℕ, ◌+◌, ◌-◌, ◌%◌, ◌^◌, ◌<◌, inl, inr, List, [], ◌∷◌, ◌++◌, refl, sym, ap, ◌∙◌, subst, arith}
 use Rattle.linear_facts.specs.declared.forms.Term.{Term}
 use Rattle.linear_facts.specs.Forms.{Linear, merged, term_or_none, scaled_terms, sum_of, scaled, number_form, atom_form, form_at, with_replaced, substituted}
 use Rattle.linear_facts.proofs.Merging.{merged-nil, merged-less, merged-greater, merged-same}
-use Rattle.linear_facts.specs.LoopForms.{term, IsSize, pointer_form, moved_form, left_form}
+use Rattle.linear_facts.specs.LoopForms.{term, IsSize, pointer_form, left_form}
 use Rattle.cert_maker.specs.Laws.{BackEquality}
 
 pub by_size : (P : ℕ → Type 0) (w : ℕ) → IsSize w → P 1 → P 2 → P 4 → P w

@@ -1,17 +1,16 @@
 -- Where pointers are moved and the count is taken on, what is known goes on.
-use Rattle.std.proofs.Common.{◌≡◌, ◌≢◌, ℕ, ◌+◌, ◌-◌, ◌*◌, ◌%◌, ◌^◌, ◌<◌, ◌≤◌, ◌⊎◌, inl, inr, Bool, true, false, refl, sym, ap, ◌∙◌, subst, arith, Option, Some, None, List, [], ◌∷◌, length, min, max, get_or}
+use Rattle.std.proofs.Common.{◌≡◌, ◌≢◌, ℕ, ◌+◌, ◌-◌, ◌*◌, ◌^◌, ◌<◌, ◌≤◌, ◌⊎◌, inl, inr, Bool, true, false, refl, sym, ap, ◌∙◌, subst, arith, Some, None, List, [], ◌∷◌, length, min}
 use Rattle.std.proofs.Common.{get_or-set_other}
 use Rattle.std.proofs.Math.ListN.{length-set}
-use Rattle.std.specs.Prelude.{Result, Ok, Err, if◌then◌else◌, ◌==◌, ◌&&◌, not, nat_le, nat_lt, slice_set}
+use Rattle.std.specs.Prelude.{Ok, if◌then◌else◌, ◌==◌, not, nat_le, slice_set}
 use Rattle.std.specs.List.{list_any, slice_get}
 use Rattle.std.proofs.lemmas.Bool.{cases_eq}
 use Rattle.std.proofs.lemmas.Bool.Decides.{nat_tests}
 use Rattle.linear_facts.specs.declared.ranges.Range.{Range}
 use Rattle.linear_facts.specs.declared.forms.Term.{Term}
-use Rattle.linear_facts.specs.Forms.{Linear, merged, scaled, scaled_terms, sum_of, within, atom_form}
-use Rattle.linear_facts.specs.Ranges.{meet_of}
+use Rattle.linear_facts.specs.Forms.{scaled, scaled_terms, sum_of, within, atom_form}
 use Rattle.linear_facts.specs.Sums.{range_of_form}
-use Rattle.linear_facts.specs.LoopForms.{term, IsSize, IsLoop, pointer_form, moved_form, left_form}
+use Rattle.linear_facts.specs.LoopForms.{term, IsLoop, moved_form, left_form}
 use Rattle.linear_facts.proofs.Merging.{merged-less}
 use Rattle.linear_facts.proofs.LoopRanges.{moved-range, left-range}
 use Rattle.rv_decode.specs.declared.instructions.Insn.{Insn}
@@ -23,7 +22,7 @@ use Rattle.region_mem.specs.declared.parameter.Mode.{Mode}
 use Rattle.region_mem.specs.declared.parameter.Param.TheVariants as parameter
 use Rattle.abs_state.specs.declared.state.Way.{Way}
 use Rattle.abs_state.specs.declared.state.Way.TheVariants.{To}
-use Rattle.abs_state.specs.Values.{ValueView, computed_range, or_full, or_own}
+use Rattle.abs_state.specs.Values.{ValueView, computed_range}
 use Rattle.abs_state.specs.Effects.{register_effect, difference_effect, difference_range}
 use Rattle.abs_state.specs.Numbers.{NumbersView, table_of, value_at, with_value, with_short, with_computed, with_effect, with_result}
 use Rattle.abs_state.specs.State.{AbstractView}
@@ -32,11 +31,11 @@ use Rattle.abs_state.specs.StepLaws.{jumps}
 use Rattle.abs_state.specs.After.{after_of, taken, way_of, next_word}
 use Rattle.abs_state.proofs.States.{this_value, other_value}
 use Rattle.cert_maker.specs.declared.loops.Reading.{Reading}
-use Rattle.cert_maker.specs.declared.loops.Reading.TheVariants.{Works, Moves, Back, Through}
+use Rattle.cert_maker.specs.declared.loops.Reading.TheVariants.{Moves, Back}
 use Rattle.cert_maker.specs.Loops.{size_of, is_flagged, moved_by}
 use Rattle.cert_maker.specs.Certificates.{base_of}
-use Rattle.cert_maker.specs.Known.{Round, IsRound, HasRoom, HasAtoms, IsThere, IsMoved, IsWhole, IsStepOf, InMoves, InBack, IsWithin, NumbersAre, Known, known, bytes_of, done_of, atom_of, is_pointer}
-use Rattle.cert_maker.specs.Laws.{IsPointer, IsStep, Moved}
+use Rattle.cert_maker.specs.Known.{Round, IsRound, HasRoom, HasAtoms, IsThere, IsMoved, InMoves, InBack, IsWithin, NumbersAre, Known, known, bytes_of, done_of, atom_of, is_pointer}
+use Rattle.cert_maker.specs.Laws.{IsPointer, IsStep}
 use Rattle.cert_maker.proofs.Accesses.{met_high}
 use Rattle.cert_maker.proofs.Bodies.{both_true}
 use Rattle.cert_maker.proofs.Equalities.{by_size, merged_empty}

@@ -1,30 +1,24 @@
 -- What is made of a loop is a certificate.
-use Rattle.std.proofs.Common.{◌≡◌, ℕ, ◌+◌, ◌-◌, ◌*◌, ◌/◌, ◌%◌, ◌^◌, ◌<◌, ◌≤◌, zero, suc, inl, inr, Bool, true, false, ◌&&◌, ◌||◌, not, refl, sym, ap, ◌∙◌, subst, arith, Option, Some, None, IfSome, List, [], ◌∷◌, ◌++◌, length}
-use Rattle.std.specs.Prelude.{if◌then◌else◌, ◌==◌, nat_le, nat_lt, is_some, IsTrue}
-use Rattle.std.specs.List.{list_all, list_any, slice_get, AllByRecursion}
-use Rattle.std.specs.Option.{option_map_or}
+use Rattle.std.proofs.Common.{◌≡◌, ℕ, ◌+◌, ◌-◌, ◌*◌, ◌%◌, ◌^◌, ◌<◌, ◌≤◌, Bool, true, false, ◌&&◌, refl, sym, ap, ◌∙◌, subst, arith, Option, Some, None, IfSome, List, [], ◌∷◌, ◌++◌, length}
+use Rattle.std.specs.Prelude.{if◌then◌else◌, ◌==◌, nat_le, nat_lt, is_some}
 use Rattle.std.proofs.lemmas.Bool.Decides.{nat_tests}
 use Rattle.elf_image.specs.Image.{ImageView, IsImage}
 use Rattle.rv_decode.specs.declared.instructions.Width.{Width}
 use Rattle.rv_decode.specs.declared.instructions.Width.TheVariants.{W8, W16, W32}
 use Rattle.region_mem.specs.declared.parameter.Param.{Param}
-use Rattle.region_mem.specs.Parameter.{is_valid}
-use Rattle.region_mem.proofs.Rooms.{and_first, and_second}
 use Rattle.scalar_core.specs.Hart.{exit}
 use Rattle.vreg_groups.specs.VectorType.{bytes_of_width}
 use Rattle.vreg_groups.specs.declared.vector_length.Vlen.{Vlen}
-use Rattle.cert_note.specs.Certificate.{AllFrom, after_block, after_fact, is_atom, is_scalar, is_budget, is_full, is_second, is_equated, is_free, are_free, CertificateView, IsBlock, IsBudgetOf, IsCertificate, IsEquality, IsParameter, IsRegisterFact, IsTerm}
+use Rattle.cert_note.specs.Certificate.{AllFrom, after_block, is_atom, is_budget, is_full, is_second, is_equated, is_free, are_free, CertificateView, IsBlock, IsCertificate, IsRegisterFact}
 use Rattle.cert_note.specs.declared.values.Block.{Block}
-use Rattle.cert_note.specs.declared.values.Equality.{Equality}
 use Rattle.cert_note.specs.declared.values.RegisterFact.{RegisterFact}
 use Rattle.cert_note.specs.declared.values.Version.TheVariants.{V1}
 use Rattle.cert_maker.specs.declared.loops.Loop.{Loop}
-use Rattle.cert_maker.specs.declared.building.Spot.{Spot}
-use Rattle.cert_maker.specs.declared.building.Spot.TheVariants.{Entry, Body, Return}
+use Rattle.cert_maker.specs.declared.building.Spot.TheVariants.{Entry, Body}
 use Rattle.cert_maker.specs.Loops.{size_of, is_flagged}
-use Rattle.cert_maker.specs.Certificates.{base_of, block, budget, certificate_of, entry_count, entry_pointer, entry_facts, fact, facts_by, loop_blocks, loop_count, loop_facts, loop_pointer, stated_by}
+use Rattle.cert_maker.specs.Certificates.{base_of, block, budget, certificate_of, entry_count, entry_pointer, entry_facts, fact, facts_by, loop_count, loop_facts, loop_pointer, stated_by}
 use Rattle.cert_maker.specs.Make.{AreParameters, IsFor, blocks_of, stated_at}
-use Rattle.cert_maker.proofs.FactLists.{AreStated, all_facts, facts_from, facts_rise, few_facts, is_same, no_fact, not_same}
+use Rattle.cert_maker.proofs.FactLists.{AreStated, all_facts, facts_rise, few_facts, no_fact, not_same}
 use Rattle.cert_maker.proofs.FitsLemmas.{each_is}
 use Rattle.cert_maker.proofs.IsForLemmas.{room_fits}
 

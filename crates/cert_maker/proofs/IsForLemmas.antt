@@ -1,6 +1,6 @@
 -- What a loop that was read has: its count is a scalar that is passed, and its pointers are buffers with room.
-use Rattle.std.proofs.Common.{◌≡◌, ℕ, zero, suc, ◌+◌, ◌-◌, ◌*◌, ◌/◌, ◌^◌, ◌<◌, ◌≤◌, Bool, true, false, ◌&&◌, not, refl, sym, ap, ◌∙◌, subst, arith, inl, inr, Option, Some, None, List, [], ◌∷◌, length, take, replicate, sum_by}
-use Rattle.std.proofs.Common.{get_or-set_same, get_or-set_other}
+use Rattle.std.proofs.Common.{◌≡◌, ℕ, zero, suc, ◌+◌, ◌-◌, ◌*◌, ◌/◌, ◌^◌, ◌<◌, ◌≤◌, Bool, true, false, ◌&&◌, not, refl, sym, ap, ◌∙◌, subst, arith, inl, inr, Option, Some, None, List, [], ◌∷◌, take, replicate, sum_by}
+use Rattle.std.proofs.Common.{get_or-set_other}
 use Rattle.std.specs.Prelude.{Result, Ok, Err, IfOk, if◌then◌else◌, ◌==◌, nat_le, nat_lt, slice_set, slice_index_or, unwrap_or, ok_or}
 use Rattle.std.specs.List.{list_all, list_any, slice_get}
 use Rattle.std.specs.Option.{option_map, option_and_then, option_map_or}
@@ -11,7 +11,7 @@ use Rattle.std.proofs.Math.ListN.{length-set}
 use Rattle.elf_image.specs.Image.{ImageView}
 use Rattle.rv_decode.specs.declared.instructions.Condition.TheVariants.{Eq, Ne}
 use Rattle.rv_decode.specs.declared.instructions.Direction.{Direction}
-use Rattle.rv_decode.specs.declared.instructions.Direction.TheVariants.{Load, Store}
+use Rattle.rv_decode.specs.declared.instructions.Direction.TheVariants.{Load}
 use Rattle.rv_decode.specs.declared.instructions.Insn.{Insn}
 use Rattle.rv_decode.specs.declared.instructions.Insn.TheVariants as class
 use Rattle.rv_decode.specs.declared.instructions.RegisterOp.TheVariants.{Add, Sub}
@@ -33,11 +33,11 @@ use Rattle.cert_maker.specs.declared.loops.Head.{Head}
 use Rattle.cert_maker.specs.declared.loops.Loop.{Loop}
 use Rattle.cert_maker.specs.declared.loops.Reading.{Reading}
 use Rattle.cert_maker.specs.declared.loops.Reading.TheVariants.{Works, Moves, Back, Through}
-use Rattle.cert_maker.specs.Loops.{◌>>=◌, size_of, parameter_in, most_of, is_buffer_for, may_be, is_flagged, is_free, count_by, length_by, is_arithmetic, is_plain, is_access, with_pointer, moved_by, shift_of, step_by, works_on, back_by, next_of, insn_at, read_at, is_through, then_read, loop_from, return_by, loop_of}
+use Rattle.cert_maker.specs.Loops.{◌>>=◌, size_of, parameter_in, most_of, is_buffer_for, may_be, is_flagged, is_free, count_by, length_by, is_arithmetic, is_access, with_pointer, moved_by, shift_of, step_by, works_on, back_by, next_of, insn_at, read_at, then_read, loop_from, return_by, loop_of}
 use Rattle.cert_maker.specs.Certificates.{base_of}
 use Rattle.cert_maker.specs.Make.{AreParameters, IsFor, has_room}
 
-some_is : {A : Type 0} (x y : A) → Some x ≡ Some y → x ≡ y
+pub some_is : {A : Type 0} (x y : A) → Some x ≡ Some y → x ≡ y
 some_is {A} x y e = ap (λ (o : Option A). unwrap_or o x) e
 
 -- ---- argument registers
@@ -57,7 +57,7 @@ is_in_place place l =
     let second : nat_lt (place + 10) 18 ≡ true = grind (arith, nat_tests) in
     rw (first, second) refl
 
-parameter_there : (params : List Param) (r : ℕ) (p : Param) → parameter_in params r ≡ Some p
+pub parameter_there : (params : List Param) (r : ℕ) (p : Param) → parameter_in params r ≡ Some p
     → (10 ≤ r) × (r < 18) × (slice_get params (r - 10) ≡ Some p)
 unfolding parameter_in
 parameter_there params r p e = by_test (nat_le 10 r && nat_lt r 18) refl e
@@ -74,7 +74,7 @@ flag_at flags place l =
     let same : place + 10 - 10 ≡ place = omega arith in
     rw (is_in_place place l, same) refl
 
-none_flagged : (place : ℕ) → place < 8 → is_flagged (place + 10) (replicate 8 false) ≡ true → ⊥
+pub none_flagged : (place : ℕ) → place < 8 → is_flagged (place + 10) (replicate 8 false) ≡ true → ⊥
 none_flagged place l e =
     let none : false ≡ true = sym (get_or-replicate 8 place false false l) ∙ sym (flag_at (replicate 8 false) place l) ∙ e in
     cc
@@ -255,7 +255,7 @@ next_is params start pc (Through loop) insn next is e = absurd (cc)
 abbrev answered : Loop × ℕ → Result (Loop × ℕ) ℕ
 answered x = Ok x
 
-through_is : (x y : Loop × ℕ) → answered x ≡ answered y → x ≡ y
+pub through_is : (x y : Loop × ℕ) → answered x ≡ answered y → x ≡ y
 through_is x y e = cc
 
 -- a loop that is read through, of at least one word
@@ -292,7 +292,7 @@ from_is image params start (suc more) pc r through is e =
     by_insn (Some insn) f rest = by_reading insn (next_of params start pc r insn) refl f rest
 
 -- what an answer followed
-followed : {X Y : Type 0} (x : Result X ℕ) (f : X → Result Y ℕ) (y : Y) → (x >>= f) ≡ Ok y → (z : X) × (x ≡ Ok z) × (f z ≡ Ok y)
+pub followed : {X Y : Type 0} (x : Result X ℕ) (f : X → Result Y ℕ) (y : Y) → (x >>= f) ≡ Ok y → (z : X) × (x ≡ Ok z) × (f z ≡ Ok y)
 followed (Ok z) f y e = (z, refl, e)
 followed (Err address) f y e = absurd (cc)
 
@@ -303,7 +303,7 @@ read_same : {X : Type 0} (y z : X) → given y ≡ given z → y ≡ z
 read_same y z f = cc
 
 -- what was read at an address
-read_is : {X : Type 0} (pc : ℕ) (wanted : Insn → Option X) (image : ImageView) (x : X) → read_at pc wanted image ≡ Ok x
+pub read_is : {X : Type 0} (pc : ℕ) (wanted : Insn → Option X) (image : ImageView) (x : X) → read_at pc wanted image ≡ Ok x
     → (insn : Insn) × (insn_at pc image ≡ Some insn) × (wanted insn ≡ Some x)
 read_is {X} pc wanted image x e = by_insn (insn_at pc image) refl e
   where

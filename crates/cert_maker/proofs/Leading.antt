@@ -1,7 +1,7 @@
 -- Each reading on the way to a loop is of that loop.
-use Rattle.std.proofs.Common.{◌≡◌, ℕ, ◌+◌, ◌-◌, ◌<◌, ◌≤◌, zero, suc, Bool, true, false, refl, sym, ap, ◌∙◌, subst, arith, Option, Some, None, List, [], ◌∷◌, get_or}
+use Rattle.std.proofs.Common.{◌≡◌, ℕ, ◌+◌, ◌-◌, zero, suc, Bool, true, false, refl, sym, ◌∙◌, subst, Option, Some, None, List, [], ◌∷◌, get_or}
 use Rattle.std.proofs.Math.ListN.{length-set}
-use Rattle.std.specs.Prelude.{Result, Ok, Err, if◌then◌else◌, ◌==◌, ◌&&◌, nat_le, nat_lt, slice_set}
+use Rattle.std.specs.Prelude.{if◌then◌else◌, ◌&&◌, nat_le, nat_lt, slice_set}
 use Rattle.rv_decode.specs.declared.instructions.Condition.TheVariants.{Ne}
 use Rattle.rv_decode.specs.declared.instructions.Insn.{Insn}
 use Rattle.rv_decode.specs.declared.instructions.Insn.TheVariants.{Scalar, VMem}
@@ -14,7 +14,7 @@ use Rattle.cert_maker.specs.declared.loops.Loop.{Loop}
 use Rattle.cert_maker.specs.declared.loops.Reading.{Reading}
 use Rattle.cert_maker.specs.declared.loops.Reading.TheVariants.{Works, Moves, Back, Through}
 use Rattle.cert_maker.specs.Loops.{is_flagged, is_arithmetic, with_pointer, moved_by, shift_of, step_by, works_on, back_by, next_of}
-use Rattle.cert_maker.specs.Known.{IsPartOf, LeadsTo, is_pointer}
+use Rattle.cert_maker.specs.Known.{IsPartOf, LeadsTo}
 use Rattle.cert_maker.specs.Laws.{LoopsLead}
 use Rattle.cert_maker.proofs.LoopWalks.{part_same, leads}
 
@@ -95,7 +95,7 @@ works_leads params of other next loop e l =
     worked (is_arithmetic other) (is_legal record { vtype = of.vtype; vl = 0 } other) of loop (step_by of (shift_of of.sew) other) next
     (λ f g. step_leads of (shift_of of.sew) other next loop f g) e l
 
-next_leads : (params : List Param) (start pc : ℕ) (r next : Reading) (insn : Insn) (loop : Loop) → next_of params start pc r insn ≡ Some next
+pub next_leads : (params : List Param) (start pc : ℕ) (r next : Reading) (insn : Insn) (loop : Loop) → next_of params start pc r insn ≡ Some next
     → LeadsTo next loop → LeadsTo r loop
 unfolding next_of
 next_leads params start pc (Works of) next insn loop e l = works_leads params of insn next loop e l

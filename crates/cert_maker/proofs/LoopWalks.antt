@@ -1,6 +1,6 @@
 -- The walk of a checker through a loop goes with the reading of it.
-use Rattle.std.proofs.Common.{◌≡◌, ℕ, ◌+◌, ◌-◌, ◌*◌, ◌/◌, ◌%◌, ◌<◌, ◌≤◌, zero, suc, Bool, true, false, refl, sym, ap, ◌∙◌, subst, arith, Option, Some, None, List}
-use Rattle.std.specs.Prelude.{Result, Ok, Err, if◌then◌else◌, ◌==◌, ◌&&◌, ◌||◌, is_some, ok_or}
+use Rattle.std.proofs.Common.{◌≡◌, ℕ, ◌+◌, ◌-◌, ◌*◌, ◌/◌, ◌<◌, ◌≤◌, zero, suc, true, false, refl, sym, ap, ◌∙◌, subst, arith, Option, Some, None, List}
+use Rattle.std.specs.Prelude.{Result, Ok}
 use Rattle.std.specs.Option.{option_and_then}
 use Rattle.elf_image.specs.Image.{ImageView, code_at}
 use Rattle.rv_decode.specs.Decode.{meaning_of}
@@ -12,7 +12,7 @@ use Rattle.cert_note.specs.Certificate.{CertificateView}
 use Rattle.abs_state.specs.State.{AbstractView}
 use Rattle.abs_state.specs.StepLaws.{jumps}
 use Rattle.abs_state.specs.After.{after_of}
-use Rattle.block_checker.specs.Passes.{Checked, Progress, Ended, On, block_at, edges_pass, followed, decoded, fetched, then_on, word_passes, walk}
+use Rattle.block_checker.specs.Passes.{Ended, On, block_at, edges_pass, followed, decoded, fetched, then_on, word_passes, walk}
 use Rattle.cert_maker.specs.Loops.{insn_at, is_through, next_of, then_read, loop_from}
 use Rattle.cert_maker.specs.declared.loops.Loop.{Loop}
 use Rattle.cert_maker.specs.declared.loops.Reading.{Reading}

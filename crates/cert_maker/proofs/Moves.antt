@@ -1,23 +1,17 @@
 -- A pointer that is moved on by what was done.
-use Rattle.std.proofs.Common.{◌≡◌, ℕ, ◌+◌, ◌-◌, ◌*◌, ◌%◌, ◌^◌, ◌<◌, ◌≤◌, Bool, true, false, refl, sym, ap, ◌∙◌, subst, arith, Option, Some, None, List, [], ◌∷◌, length, min, max}
-use Rattle.std.specs.Prelude.{slice_index_or, if◌then◌else◌, ◌&&◌, nat_le, nat_lt, ◌==◌}
-use Rattle.std.specs.Option.{option_map_or}
+use Rattle.std.proofs.Common.{◌≡◌, ℕ, ◌+◌, ◌-◌, ◌*◌, ◌^◌, ◌<◌, ◌≤◌, Bool, true, false, refl, ap, ◌∙◌, arith, Option, Some, None, List, [], ◌∷◌, min, max}
+use Rattle.std.specs.Prelude.{slice_index_or, if◌then◌else◌, nat_le, ◌==◌}
 use Rattle.std.proofs.lemmas.Bool.Decides.{nat_tests}
 use Rattle.linear_facts.specs.declared.ranges.Range.{Range}
 use Rattle.linear_facts.specs.declared.forms.Term.{Term}
-use Rattle.linear_facts.specs.Forms.{Linear, sum_of, within, substituted, atom_form, form_at}
-use Rattle.linear_facts.specs.Ranges.{AtomTable, meet_of}
+use Rattle.linear_facts.specs.Forms.{Linear, sum_of, within, substituted}
 use Rattle.linear_facts.specs.Sums.{range_of_form}
-use Rattle.rv_decode.specs.declared.instructions.RegisterOp.TheVariants.{Add}
-use Rattle.abs_state.specs.Values.{ValueView, just, computed_range, or_own}
+use Rattle.abs_state.specs.Values.{just, computed_range, or_own}
 use Rattle.abs_state.specs.Effects.{register_effect, sum_effect, sum_range}
-use Rattle.abs_state.specs.Numbers.{NumbersView, table_of, value_at, with_value, with_short, with_computed, with_effect, with_result}
+use Rattle.abs_state.specs.Numbers.{NumbersView, value_at, with_short, with_computed, with_effect, with_result}
 use Rattle.abs_state.specs.Branches.{EdgeView, value_on, table_on}
 use Rattle.abs_state.specs.Edges.{is_same, are_same_terms, is_interval_shown, is_equality_shown, is_sum_shown}
-use Rattle.cert_note.specs.declared.values.RegisterFact.{RegisterFact}
-use Rattle.abs_state.specs.Blocks.{equality_form}
-use Rattle.linear_facts.specs.LoopForms.{term, IsSize, pointer_form, moved_form, left_form}
-use Rattle.cert_maker.specs.Certificates.{fact, sum, term as cert_term}
+use Rattle.linear_facts.specs.LoopForms.{term, pointer_form, moved_form}
 use Rattle.cert_maker.specs.Laws.{IsPointer, IsStep, Moved, PointersMove, PointersReturn}
 use Rattle.cert_maker.proofs.Equalities.{sum_parts, back-equality}
 use Rattle.cert_maker.proofs.Accesses.{behind, met_high, lt_true, le_true}

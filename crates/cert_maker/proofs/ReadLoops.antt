@@ -1,5 +1,5 @@
 -- The reading of a loop, one word at a time.
-use Rattle.std.proofs.Common.{◌≡◌, ◌<◌, ◌≤◌, ◌+◌, ◌-◌, ◌/◌, ℕ, zero, suc, arith, refl, sym, ap, ◌∙◌, false, true, List, Option, Some, None, Ok, Err}
+use Rattle.std.proofs.Common.{◌≡◌, ◌<◌, ◌≤◌, ◌+◌, ◌-◌, ◌/◌, ℕ, zero, suc, arith, refl, false, List, Some, None, Ok, Err}
 use Rattle.std.specs.Option.{option_and_then}
 use Rattle.elf_image.specs.Image.{ImageView}
 use Rattle.region_mem.specs.declared.parameter.Param.{Param}

@@ -1,10 +1,8 @@
 -- The block of the return passes.
-use Rattle.std.proofs.Common.{◌≡◌, ℕ, ◌+◌, ◌-◌, ◌*◌, ◌%◌, ◌^◌, ◌<◌, ◌≤◌, Bool, true, false, refl, sym, ap, ◌∙◌, subst, arith, Option, Some, None, List, [], ◌∷◌, max, min}
-use Rattle.std.specs.Prelude.{ℤ, Result, Ok, Err, if◌then◌else◌, ◌==◌, ◌&&◌, ◌||◌, nat_le, nat_lt, unwrap_or}
-use Rattle.std.specs.Option.{option_map_or}
+use Rattle.std.proofs.Common.{◌≡◌, ℕ, ◌+◌, ◌≤◌, Bool, true, false, refl, ap, ◌∙◌, subst, arith, Option, Some, None, List, [], max, min}
+use Rattle.std.specs.Prelude.{ℤ, Ok, if◌then◌else◌, ◌==◌, ◌&&◌, nat_le}
 use Rattle.std.proofs.lemmas.Bool.Decides.{nat_tests}
 use Rattle.linear_facts.specs.declared.ranges.Range.{Range}
-use Rattle.linear_facts.specs.Sums.{range_of_form}
 use Rattle.elf_image.specs.Image.{ImageView}
 use Rattle.rv_decode.specs.declared.instructions.Insn.{Insn}
 use Rattle.rv_decode.specs.declared.instructions.Insn.TheVariants.{Scalar}
@@ -14,23 +12,22 @@ use Rattle.cert_note.specs.declared.values.RegisterFact.{RegisterFact}
 use Rattle.cert_note.specs.Certificate.{CertificateView}
 use Rattle.scalar_core.specs.Arithmetic.{unsigned}
 use Rattle.scalar_core.specs.Hart.{exit}
-use Rattle.scalar_core.specs.Step.{without_bit_0}
 use Rattle.abs_state.specs.declared.state.Way.TheVariants.{To}
-use Rattle.abs_state.specs.Values.{just, computed_range, or_own, known_of}
-use Rattle.abs_state.specs.Effects.{offset_form, offset_range, constant_effect}
-use Rattle.abs_state.specs.Numbers.{NumbersView, table_of, value_at, with_result}
+use Rattle.abs_state.specs.Values.{just, computed_range, or_own}
+use Rattle.abs_state.specs.Effects.{offset_range}
+use Rattle.abs_state.specs.Numbers.{NumbersView, value_at, with_result}
 use Rattle.abs_state.specs.Orders.{with_orders}
 use Rattle.abs_state.specs.Blocks.{stated_range, stated_form, start_atoms, start_numbers, at_block_of}
 use Rattle.abs_state.specs.State.{AbstractView}
 use Rattle.abs_state.specs.Steps.{address_range, scalar_after}
 use Rattle.abs_state.specs.After.{after_of, taken, way_of, jump_way}
-use Rattle.abs_state.specs.Branches.{EdgeView, refined, edge_by, plain_edge, table_on, value_on}
-use Rattle.abs_state.specs.Edges.{implied_by, implies_end, is_paid_for, pays, is_paid, leads_to, own_total, next_total, least_of, most_of, no_budget}
+use Rattle.abs_state.specs.Branches.{EdgeView, refined, edge_by, plain_edge, value_on}
+use Rattle.abs_state.specs.Edges.{implied_by, implies_end, is_paid_for, pays, is_paid, own_total, next_total, least_of, most_of, no_budget}
 use Rattle.abs_state.specs.StepLaws.{jumps}
 use Rattle.abs_state.proofs.StartNumbers.{range_by}
-use Rattle.block_checker.specs.Passes.{Checked, edges_pass, possible_passes, edge_passes, block_for, is_branch, is_branch_insn, followed, then_on, word_passes, walk, block_passes}
+use Rattle.block_checker.specs.Passes.{edges_pass, possible_passes, edge_passes, block_for, is_branch, is_branch_insn, then_on, walk, block_passes}
 use Rattle.cert_maker.specs.Loops.{insn_at, is_return}
-use Rattle.cert_maker.specs.Certificates.{fact, facts_by, budget, block}
+use Rattle.cert_maker.specs.Certificates.{facts_by, budget, block}
 use Rattle.cert_maker.specs.Laws.{ReturnsPass}
 use Rattle.cert_maker.proofs.Accesses.{le_true}
 use Rattle.cert_maker.proofs.LoopWalks.{word_is, stops}

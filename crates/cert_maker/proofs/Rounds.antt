@@ -1,15 +1,13 @@
 -- A loop that is read through is a round of which all is true that the check needs.
-use Rattle.std.proofs.Common.{◌≡◌, ◌≢◌, ℕ, ◌+◌, ◌-◌, ◌*◌, ◌/◌, ◌%◌, ◌^◌, ◌<◌, ◌≤◌, ◌⊎◌, inl, inr, zero, suc, Bool, true, false, refl, sym, ap, ◌∙◌, subst, arith, Option, Some, None, List, [], ◌∷◌, length, get_or}
+use Rattle.std.proofs.Common.{◌≡◌, ◌≢◌, ℕ, ◌+◌, ◌-◌, ◌*◌, ◌^◌, ◌<◌, ◌≤◌, ◌⊎◌, inl, inr, zero, suc, Bool, true, false, refl, sym, ap, ◌∙◌, subst, arith, Option, Some, None, List, [], ◌∷◌, length}
 use Rattle.std.proofs.Common.{get_or-set_other}
 use Rattle.std.proofs.Math.ListN.{length-set}
-use Rattle.std.proofs.Math.Nat.{mul_comm}
-use Rattle.std.specs.Prelude.{Result, Ok, Err, if◌then◌else◌, ◌==◌, ◌&&◌, not, nat_le, nat_lt, slice_set, take, sum_by, unwrap_or}
+use Rattle.std.specs.Prelude.{Ok, if◌then◌else◌, nat_le, slice_set, take, sum_by, unwrap_or}
 use Rattle.std.specs.List.{list_all, slice_get}
-use Rattle.std.specs.Option.{option_and_then, option_map_or}
+use Rattle.std.specs.Option.{option_map_or}
 use Rattle.std.proofs.lemmas.Bool.{cases_eq}
 use Rattle.std.proofs.lemmas.Bool.Decides.{nat_tests}
 use Rattle.elf_image.specs.Image.{ImageView}
-use Rattle.linear_facts.specs.LoopForms.{IsSize}
 use Rattle.rv_decode.specs.declared.instructions.Condition.TheVariants.{Ne}
 use Rattle.rv_decode.specs.declared.instructions.Direction.{Direction}
 use Rattle.rv_decode.specs.declared.instructions.Insn.{Insn}
@@ -19,7 +17,6 @@ use Rattle.rv_decode.specs.declared.instructions.ScalarInsn.TheVariants.{Branch,
 use Rattle.rv_decode.specs.declared.instructions.ShiftOp.TheVariants.{Slli}
 use Rattle.rv_decode.specs.declared.instructions.VMem as mem
 use Rattle.rv_decode.specs.declared.instructions.Width.{Width}
-use Rattle.rv_decode.specs.declared.instructions.Width.TheVariants.{W8, W16, W32}
 use Rattle.region_mem.proofs.Rooms.{sum_by_room}
 use Rattle.region_mem.specs.Parameter.{address_of, is_buffer, is_valid, room_of}
 use Rattle.region_mem.specs.declared.parameter.Mode.{Mode}

@@ -1,8 +1,6 @@
 -- What an edge shows of a block whose facts are stated by place.
-use Rattle.std.proofs.Common.{◌≡◌, ◌≢◌, ℕ, ◌+◌, ◌<◌, ◌≤◌, Bool, true, false, refl, sym, ap, ◌∙◌, subst, arith, Option, Some, None, IfSome, List, [], ◌∷◌}
-use Rattle.std.specs.Prelude.{Result, Ok, Err, if◌then◌else◌, ◌==◌, ◌&&◌, nat_le, slice_index_or}
-use Rattle.std.specs.List.{list_all}
-use Rattle.std.specs.Option.{option_map_or}
+use Rattle.std.proofs.Common.{◌≡◌, ◌≢◌, ℕ, ◌+◌, ◌<◌, ◌≤◌, Bool, true, false, refl, ap, arith, Option, Some, None, IfSome, List}
+use Rattle.std.specs.Prelude.{Ok, if◌then◌else◌, ◌==◌, slice_index_or}
 use Rattle.std.proofs.lemmas.Bool.Decides.{nat_tests}
 use Rattle.scalar_core.specs.Hart.{exit}
 use Rattle.cert_note.specs.Certificate.{CertificateView}
@@ -11,8 +9,8 @@ use Rattle.cert_note.specs.declared.values.Budget.{Budget}
 use Rattle.cert_note.specs.declared.values.RegisterFact.{RegisterFact}
 use Rattle.abs_state.specs.declared.why.Why.TheVariants.{VtypeUnknown, TargetNotABlock, IntervalNotProved, EqualityNotProved, OrderNotProved, VectorFactNotProved, BudgetNotProved}
 use Rattle.abs_state.specs.Values.{just}
-use Rattle.abs_state.specs.Branches.{EdgeView, value_on}
-use Rattle.abs_state.specs.Edges.{Shown, shown_or, and_then, is_vtype_shown, is_interval_shown, is_equality_shown, is_paid_for, leads_to, implies_block, implied_by}
+use Rattle.abs_state.specs.Branches.{EdgeView}
+use Rattle.abs_state.specs.Edges.{shown_or, and_then, is_vtype_shown, is_interval_shown, is_equality_shown, is_paid_for, leads_to, implies_block, implied_by}
 use Rattle.block_checker.specs.Passes.{block_at, block_for, edge_passes, told_at}
 use Rattle.cert_maker.specs.declared.loops.Loop.{Loop}
 use Rattle.cert_maker.specs.Loops.{is_flagged}

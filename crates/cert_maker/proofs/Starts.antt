@@ -1,7 +1,7 @@
 -- What is known behind the word that sets vl from the count.
-use Rattle.std.proofs.Common.{◌≡◌, ◌≢◌, ℕ, ◌+◌, ◌-◌, ◌<◌, ◌≤◌, Bool, true, false, refl, sym, ap, ◌∙◌, subst, arith, Option, Some, None, List, [], ◌∷◌, length, min}
+use Rattle.std.proofs.Common.{◌≡◌, ◌≢◌, ℕ, ◌+◌, ◌-◌, ◌<◌, ◌≤◌, false, refl, sym, ◌∙◌, subst, arith, length, min}
 use Rattle.std.proofs.Common.{inl, inr, ◌*◌, ◌/◌}
-use Rattle.std.specs.Prelude.{if◌then◌else◌, ◌==◌}
+use Rattle.std.specs.Prelude.{◌==◌}
 use Rattle.rv_decode.specs.declared.instructions.Width.{Width}
 use Rattle.rv_decode.specs.declared.instructions.Width.TheVariants.{W8, W16, W32}
 use Rattle.vreg_groups.specs.declared.vector_type.Lmul.{Lmul}
@@ -12,13 +12,11 @@ use Rattle.vreg_groups.specs.VectorLength.{IsVlenb}
 use Rattle.std.proofs.lemmas.Bool.Decides.{nat_tests}
 use Rattle.std.proofs.Math.ListN.{length-set}
 use Rattle.linear_facts.specs.declared.ranges.Range.{Range}
-use Rattle.linear_facts.specs.Forms.{Linear, atom_form}
-use Rattle.linear_facts.specs.Ranges.{range_at, split_at}
-use Rattle.abs_state.specs.declared.values.Effect.TheVariants.{Copied}
+use Rattle.linear_facts.specs.Forms.{atom_form}
 use Rattle.abs_state.specs.Values.{ValueView}
 use Rattle.abs_state.specs.Numbers.{NumbersView, table_of, value_at, with_value, with_effect, with_result}
 use Rattle.abs_state.specs.Branches.{whole_atom}
-use Rattle.abs_state.specs.Lengths.{limited, limited_by, lesser_range, excess_range, split_into, with_length_in}
+use Rattle.abs_state.specs.Lengths.{limited, limited_by, split_into, with_length_in}
 use Rattle.abs_state.proofs.States.{this_value, other_value}
 use Rattle.linear_facts.specs.LoopForms.{IsLoop}
 use Rattle.cert_maker.specs.Laws.{AreSplit, IsCount, IsSet, LengthsAreSet}
@@ -95,6 +93,8 @@ module _ (s : NumbersView) (n t e L N M : ℕ) (is : IsCount s n t e L N M) wher
         vl = other_value set t 32 vl (omega (arith, is.below)) ∙ here;
         length = this_value set t vl (omega (arith, lengths.0, is.below)) (omega (arith, lengths.1, is.below));
         others = stays;
+        forms = length-set set.forms t vl.form ∙ lengths.0;
+        ranges = length-set set.ranges t vl.range ∙ lengths.1;
       }
 
 pub lengths-are_set : LengthsAreSet

@@ -1,13 +1,12 @@
 -- Where elements are worked on, and where the step is made, what is known goes on.
-use Rattle.std.proofs.Common.{◌≡◌, ◌≢◌, ℕ, ◌+◌, ◌-◌, ◌*◌, ◌/◌, ◌%◌, ◌^◌, ◌<◌, ◌≤◌, Bool, true, false, refl, sym, ap, ◌∙◌, subst, arith, Option, Some, None, List, [], ◌∷◌, length, min, max, get_or}
+use Rattle.std.proofs.Common.{◌≡◌, ◌≢◌, ℕ, ◌+◌, ◌-◌, ◌*◌, ◌%◌, ◌^◌, ◌<◌, ◌≤◌, Bool, true, false, refl, sym, ap, ◌∙◌, subst, arith, Option, Some, None, List, [], ◌∷◌, length, min, max}
 use Rattle.std.proofs.Common.{get_or-set_same}
-use Rattle.std.specs.Prelude.{Result, Ok, Err, if◌then◌else◌, ◌==◌, ◌&&◌, not, nat_le, nat_lt, slice_set}
+use Rattle.std.specs.Prelude.{Ok, if◌then◌else◌, ◌==◌, ◌&&◌, not, nat_le, nat_lt, slice_set}
 use Rattle.std.specs.List.{slice_get}
 use Rattle.std.specs.Option.{option_map_or}
 use Rattle.std.proofs.lemmas.Bool.Decides.{nat_tests}
 use Rattle.linear_facts.specs.declared.ranges.Range.{Range}
-use Rattle.linear_facts.specs.Forms.{Linear, within, scaled, atom_form}
-use Rattle.linear_facts.specs.Ranges.{meet_of}
+use Rattle.linear_facts.specs.Forms.{within, atom_form}
 use Rattle.linear_facts.specs.Sums.{range_of_form}
 use Rattle.linear_facts.specs.LoopForms.{term, IsSize}
 use Rattle.rv_decode.specs.Encodings.{FieldsFit}
@@ -34,31 +33,30 @@ use Rattle.vreg_groups.specs.VectorType.{bytes_of_width, type_in}
 use Rattle.abs_state.specs.declared.state.Way.TheVariants.{To}
 use Rattle.abs_state.specs.declared.values.Effect.{Effect}
 use Rattle.abs_state.specs.Values.{ValueView, computed_range, or_own}
-use Rattle.abs_state.specs.Effects.{shift_effect, left_shift_by, product_effect, multiple_range}
+use Rattle.abs_state.specs.Effects.{shift_effect, left_shift_by, product_effect}
 use Rattle.abs_state.specs.Groups.{known_type}
 use Rattle.abs_state.specs.Numbers.{NumbersView, table_of, value_at, with_value, with_short, with_computed, with_effect, with_result}
 use Rattle.abs_state.specs.State.{AbstractView}
 use Rattle.abs_state.specs.Steps.{scalar_after}
 use Rattle.abs_state.specs.StepLaws.{jumps}
 use Rattle.abs_state.specs.After.{after_of, taken, way_of, next_word, access_check, vector_numbers}
-use Rattle.abs_state.specs.Zones.{zones_of, may_write, zone_right, is_inside, load_allowed, store_allowed}
+use Rattle.abs_state.specs.Zones.{may_write, zone_right, load_allowed, store_allowed}
 use Rattle.abs_state.specs.Reaches.{unit_reach, reach_at, reach_allowed, is_whole, transfer_check}
-use Rattle.abs_state.specs.declared.reaches.Reach.{Reach}
 use Rattle.abs_state.proofs.States.{this_value, other_value}
 use Rattle.cert_maker.specs.declared.loops.Loop.{Loop}
 use Rattle.cert_maker.specs.declared.loops.Reading.{Reading}
 use Rattle.cert_maker.specs.declared.loops.Reading.TheVariants.{Works, Moves, Back, Through}
-use Rattle.cert_maker.specs.Loops.{size_of, is_flagged, is_free, is_arithmetic, is_vector_class, is_plain, is_buffer_for, may_be, parameter_in, is_access, with_pointer, moved_by, shift_of, step_by, works_on, back_by, next_of, is_through}
+use Rattle.cert_maker.specs.Loops.{size_of, is_flagged, is_arithmetic, is_vector_class, is_plain, is_buffer_for, may_be, parameter_in, is_access, with_pointer, moved_by, shift_of, step_by, works_on, back_by, next_of, is_through}
 use Rattle.cert_maker.specs.Certificates.{base_of}
-use Rattle.cert_maker.specs.Known.{Round, IsRound, HasRoom, HasAtoms, IsThere, IsMoved, IsWhole, IsStepOf, IsPartOf, LeadsTo, InWorks, InMoves, InBack, IsWithin, NumbersAre, Known, known, bytes_of, done_of, atom_of, is_pointer}
+use Rattle.cert_maker.specs.Known.{Round, IsRound, HasRoom, IsThere, IsStepOf, IsPartOf, LeadsTo, InWorks, InMoves, IsWithin, NumbersAre, known, bytes_of, done_of, atom_of, is_pointer}
 use Rattle.cert_maker.specs.Laws.{Keeps, LoopsGoOn}
 use Rattle.cert_maker.proofs.Accesses.{IsThere as Reached, reach_is, reaches-end, lt_true}
 use Rattle.cert_maker.proofs.Bodies.{both_true, legal_there, not_arithmetic, goes_on, body-keeps}
 use Rattle.cert_maker.proofs.Equalities.{by_size, scaled_atom}
-use Rattle.cert_maker.proofs.Flags.{flag_at, flag_low}
+use Rattle.cert_maker.proofs.Flags.{flag_at}
 use Rattle.cert_maker.proofs.Leading.{step_leads}
 use Rattle.cert_maker.proofs.Moves.{computed_within}
-use Rattle.cert_maker.proofs.Going.{GoesOn, test_of, same_number, within_on, atoms_stay, not_zero, count_other, done_some, one_fits, done_fits, one_done, moved_at, moved_low, moved_on}
+use Rattle.cert_maker.proofs.Going.{GoesOn, test_of, same_number, within_on, atoms_stay, not_zero, done_some, done_fits, one_done, moved_at, moved_low, moved_on}
 
 least_end : (a base b size : ℕ) → b ≤ size → min a (base + b) ≤ base + size
 least_end a base b size l = omega (arith, l)

@@ -1,7 +1,6 @@
 -- What is known of the numbers of a loop, word by word, while it is read.
-use Rattle.std.specs.Prelude.{ℕ, ◌≡◌, ◌≢◌, ◌<◌, ◌≤◌, ◌+◌, ◌-◌, ◌*◌, ◌^◌, Bool, true, false, min, List, [], ◌∷◌, length, Option, Some, None}
+use Rattle.std.specs.Prelude.{ℕ, ◌≡◌, ◌≢◌, ◌<◌, ◌≤◌, ◌+◌, ◌-◌, ◌*◌, ◌^◌, Bool, true, false, min, List, [], ◌∷◌, length, Some, None}
 use Rattle.std.specs.List.{slice_get}
-use Rattle.linear_facts.specs.declared.ranges.Range.{Range}
 use Rattle.linear_facts.specs.Forms.{Linear, number_form, atom_form}
 use Rattle.linear_facts.specs.LoopForms.{term, IsSize, IsLoop, pointer_form, moved_form, left_form}
 use Rattle.region_mem.specs.declared.parameter.Mode.{Mode}

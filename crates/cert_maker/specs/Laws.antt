@@ -4,13 +4,13 @@ use Rattle.std.specs.List.{slice_get, list_all}
 use Rattle.scalar_core.specs.Hart.{exit}
 use Rattle.cert_note.specs.declared.values.RegisterFact.{RegisterFact}
 use Rattle.abs_state.specs.Blocks.{fact_for}
-use Rattle.cert_maker.specs.Certificates.{fact, facts_by, block, budget}
+use Rattle.cert_maker.specs.Certificates.{fact, facts_by, block, budget, certificate_of}
 use Rattle.region_mem.specs.declared.faults.Right.{Right}
 use Rattle.region_mem.specs.declared.parameter.Mode.{Mode}
 use Rattle.region_mem.specs.declared.parameter.Param.{Param}
 use Rattle.region_mem.specs.declared.parameter.Param.TheVariants as parameter
 use Rattle.region_mem.specs.Parameter.{address_of}
-use Rattle.elf_image.specs.Image.{ImageView}
+use Rattle.elf_image.specs.Image.{ImageView, IsImage}
 use Rattle.abs_state.specs.Zones.{zones_of, is_inside, zone_right, may_write}
 use Rattle.abs_state.specs.State.{AbstractView}
 use Rattle.abs_state.specs.After.{after_of, next_word}
@@ -33,14 +33,15 @@ use Rattle.abs_state.specs.Branches.{EdgeView}
 use Rattle.abs_state.specs.Edges.{is_interval_shown, is_equality_shown}
 use Rattle.linear_facts.specs.LoopForms.{term, IsSize, pointer_form, moved_form, left_form, IsLoop}
 use Rattle.cert_maker.specs.Certificates.{sum, term as cert_term}
-use Rattle.cert_maker.specs.Words.{Insn}
+use Rattle.cert_maker.specs.Words.{Insn, Vlen}
 use Rattle.abs_state.specs.StepLaws.{jumps}
-use Rattle.block_checker.specs.Passes.{block_at, edges_pass, block_passes}
+use Rattle.block_checker.specs.Passes.{edges_pass, block_passes, checked}
 use Rattle.cert_note.specs.Certificate.{CertificateView}
-use Rattle.cert_maker.specs.Loops.{is_arithmetic, is_through, is_return, insn_at, next_of, loop_from}
+use Rattle.cert_maker.specs.Loops.{is_arithmetic, is_through, is_return, insn_at, next_of, loop_from, loop_of}
 use Rattle.cert_maker.specs.declared.loops.Loop.{Loop}
 use Rattle.cert_maker.specs.declared.loops.Reading.{Reading}
 use Rattle.cert_maker.specs.declared.loops.Reading.TheVariants.{Through}
+use Rattle.cert_maker.specs.Make.{AreParameters}
 use Rattle.cert_maker.specs.Known.{LeadsTo, Round, IsRound, IsCertified, Known}
 use Rattle.rv_decode.specs.Encodings.{FieldsFit}
 
@@ -211,6 +212,8 @@ pub record IsCount (s : NumbersView) (n t e L N M : ℕ) : Type 0 where
 
 -- Behind the word that sets vl: vl and its register are a new atom, of which the count is made; all else stays.
 pub record IsSet (s new : NumbersView) (n t e L N M : ℕ) : Type 0 where
+  pub forms : length new.forms ≡ 33
+  pub ranges : length new.ranges ≡ 33
   pub loop : IsLoop (table_of new) n e (length s.atoms) (length s.atoms + 1) L N M
   pub vl : value_at new 32 ≡ record { form = atom_form (length s.atoms); range = record { lo = min 1 M; hi = min N M } }
   pub length : value_at new t ≡ record { form = atom_form (length s.atoms); range = record { lo = min 1 M; hi = min N M } }
@@ -233,3 +236,11 @@ abbrev pub ReturnsPass : Type 0
 ReturnsPass = (image : ImageView) (certificate : CertificateView) (start : ℕ) (insn : Insn)
     → insn_at start image ≡ Some insn
     → is_return insn ≡ true → block_passes image certificate (block start (budget 1 0 0) (facts_by (λ place. None))) ≡ Ok tt
+
+-- ---- all of it
+
+-- What is made of a loop passes the check, at the length of vector registers that it is made for.
+abbrev pub CertificatesPass : Type 0
+CertificatesPass = (image : ImageView) (params : List Param) (vlen : Vlen) (through : Loop × ℕ)
+    → IsImage image → AreParameters params → loop_of image params ≡ Ok through
+    → checked image (certificate_of image params vlen through.0 through.1) vlen ≡ Ok tt

@@ -1,7 +1,7 @@
 -- The loops for which a certificate is made: the count `n` of elements that are left is an argument, and each round sets vl
 -- from it, works on that many elements of the buffers, moves the pointers on and takes vl from the count. Words are read
 -- from the entry on, and the first that breaks a condition together with those before it does not fit.
-use Rattle.std.specs.Prelude.{ℕ, zero, suc, ◌+◌, ◌*◌, ◌/◌, ◌%◌, ◌^◌, ◌-◌, ◌==◌, ◌&&◌, ◌||◌, not, nat_le, nat_lt, Bool, true, false, if◌then◌else◌, List, [], ◌∷◌, ◌++◌, replicate, slice_set, slice_index_or, Option, Some, None, Result, Ok, Err, ok_or}
+use Rattle.std.specs.Prelude.{ℕ, zero, suc, ◌+◌, ◌*◌, ◌/◌, ◌-◌, ◌==◌, ◌&&◌, not, nat_le, nat_lt, Bool, true, false, if◌then◌else◌, List, replicate, slice_set, slice_index_or, Option, Some, None, Result, Ok, Err, ok_or}
 use Rattle.std.specs.List.{list_any, slice_get}
 use Rattle.std.specs.Option.{option_map, option_and_then, option_map_or}
 use Rattle.elf_image.specs.Image.{code_at}
@@ -9,7 +9,6 @@ use Rattle.rv_decode.specs.Decode.{meaning_of}
 use Rattle.rv_decode.specs.Needs.{needs_of}
 use Rattle.rv_decode.specs.declared.extents.Extent.{Extent}
 use Rattle.rv_decode.specs.declared.extents.Extent.TheVariants as extent
-use Rattle.rv_decode.specs.declared.extents.Eew.{Eew}
 use Rattle.rv_decode.specs.declared.extents.Eew.TheVariants as eew
 use Rattle.rv_decode.specs.declared.extents.Operand.{Operand}
 use Rattle.rv_decode.specs.declared.instructions.Condition.TheVariants.{Eq, Ne}
@@ -28,14 +27,14 @@ use Rattle.region_mem.specs.declared.parameter.Mode.{Mode}
 use Rattle.region_mem.specs.declared.parameter.Mode.TheVariants as mode
 use Rattle.region_mem.specs.declared.parameter.Param.TheVariants as parameter
 use Rattle.vreg_groups.specs.Legality.{is_legal}
-use Rattle.vreg_groups.specs.VectorType.{bits_of_width, bytes_of_width, vtype_of}
+use Rattle.vreg_groups.specs.VectorType.{bytes_of_width, vtype_of}
 use Rattle.scalar_core.specs.Arithmetic.{unsigned}
 use Rattle.scalar_core.specs.Step.{offset_by}
 use Rattle.cert_maker.specs.declared.loops.Head.{Head}
 use Rattle.cert_maker.specs.declared.loops.Loop.{Loop}
 use Rattle.cert_maker.specs.declared.loops.Reading.{Reading}
 use Rattle.cert_maker.specs.declared.loops.Reading.TheVariants.{Works, Moves, Back, Through}
-use Rattle.cert_maker.specs.Words.{ImageView, Param, Insn, Width, Vtype}
+use Rattle.cert_maker.specs.Words.{ImageView, Param, Insn, Width}
 
 -- what follows an answer, or its error
 infixl 10 ◌>>=◌

@@ -1,7 +1,7 @@
 //! Laws of the loops for which certificates are made, each the contract of a function that does nothing when it runs.
 //!
 //! Together they say why what is made passes a check: each is one step of that.
-ghost use Rattle.cert_maker.specs.Laws.{BodyKeeps, ReachesEnd, FactsAre, SplitsAre, LoopsEnd, LoopsLead, PointersMove, PointersReturn, LengthsAreSet, ReturnsPass, LoopsGoOn, RoundsEnd};
+ghost use Rattle.cert_maker.specs.Laws.{BodyKeeps, ReachesEnd, FactsAre, SplitsAre, LoopsEnd, LoopsLead, PointersMove, PointersReturn, LengthsAreSet, ReturnsPass, LoopsGoOn, RoundsEnd, CertificatesPass};
 
 /// Vector arithmetic that is legal at the vtype that is known leaves all that is known of numbers as it was.
 pub fn body_keeps()
@@ -61,4 +61,9 @@ pub fn loops_go_on()
 /// Where a certificate has the loop's block and that of its return, both edges of the branch at a round's end pass.
 pub fn rounds_end()
     ensures { RoundsEnd }
+{}
+
+/// What is made of a loop that was read passes the check, at the length of vector registers that it is made for.
+pub fn certificates_pass()
+    ensures { CertificatesPass }
 {}

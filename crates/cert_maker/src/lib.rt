@@ -10,8 +10,8 @@ mod making;
 
 pub use errors::MakeError;
 pub use laws::{
-    body_keeps, facts_are, lengths_are_set, loops_end, loops_go_on, loops_lead, pointers_move,
-    pointers_return, reaches_end, returns_pass, rounds_end, splits_are,
+    body_keeps, certificates_pass, facts_are, lengths_are_set, loops_end, loops_go_on, loops_lead,
+    pointers_move, pointers_return, reaches_end, returns_pass, rounds_end, splits_are,
 };
 pub use loops::{Head, Loop, Reading, loop_of};
 pub use making::{make, make_in};

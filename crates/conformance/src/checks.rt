@@ -69,7 +69,10 @@ pub(crate) fn accept(alloc: Global, file: &[u8], vlen: Option<Vlen>) -> Result<A
 
 /// The name of the refusal, or `accepted` and the budget of the block at the entry: its second factor and register too, where
 /// it has these.
-fn text_of(alloc: Global, checked: Result<Accepted, Refusal>) -> Result<String, RowError> {
+pub(crate) fn text_of(
+    alloc: Global,
+    checked: Result<Accepted, Refusal>,
+) -> Result<String, RowError> {
     let accepted = match checked {
         Ok(accepted) => accepted,
         Err(refusal) => return Ok(format!(in alloc; "{refusal}")?),

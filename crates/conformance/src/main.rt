@@ -9,6 +9,7 @@ mod fields;
 mod images;
 mod jobs;
 mod legality;
+mod makes;
 mod memory;
 mod runs;
 mod sessions;
@@ -23,6 +24,7 @@ use checks::Checks;
 use images::Images;
 use jobs::Jobs;
 use legality::Legality;
+use makes::Makes;
 use runs::Runs;
 use sessions::Sessions;
 use steps::Steps;
@@ -38,6 +40,7 @@ fn main(rt: HostRuntime) -> Result<()> {
     run_table(&rt, "checks", "checks.txt", &mut Checks)?;
     run_table(&rt, "orders", "orders.txt", &mut Checks)?;
     run_table(&rt, "sessions", "sessions.txt", &mut Sessions)?;
+    run_table(&rt, "makes", "makes.txt", &mut Makes)?;
     run_table(&rt, "jobs", "jobs.txt", &mut Jobs)?;
     Ok(())
 }

@@ -65,7 +65,7 @@ pub(crate) fn read_case(row: &str) -> Result<Case<'_>, RowError> {
 }
 
 /// The text of a buffer's bytes, with its mode, where the argument is a buffer.
-fn buffer_text(argument: &str) -> Option<(Mode, &str)> {
+pub(crate) fn buffer_text(argument: &str) -> Option<(Mode, &str)> {
     if let Some(text) = argument.strip_prefix("r") {
         return Some((Mode::Read, text));
     }

@@ -1,10 +1,9 @@
 -- How many bytes a file with a certificate has.
-use Rattle.std.proofs.Common.{◌≡◌, ℕ, zero, suc, Option, Some, None, ◌+◌, ◌-◌, ◌*◌, ◌<◌, ◌≤◌, Bool, true, false, ◌||◌, ltb, leb, refl, sym, ap, ◌∙◌, arith, List, [], ◌∷◌, ◌++◌, length, length-append, take, drop, replicate}
+use Rattle.std.proofs.Common.{◌≡◌, ℕ, suc, Option, Some, None, ◌+◌, ◌-◌, ◌*◌, ◌<◌, ◌≤◌, Bool, true, false, ◌||◌, ltb, leb, refl, sym, ◌∙◌, arith, List, [], ◌∷◌, ◌++◌, length, length-append, take, drop}
 use denote.Ref.{Bor}
 use Rattle.std.specs.Prelude.{slice_get, option_copied, is_some}
 use Rattle.elf_image.specs.declared.attached.TheConstants.{ZEROS}
 use Rattle.std.proofs.lemmas.Bool.{le-leb, lt-ltb, ltb-false, lt-leb}
-use Rattle.std.proofs.lemmas.Bool.Decides.{nat_tests}
 use Rattle.std.proofs.lemmas.List.{length-take, length-drop}
 use Rattle.elf_image.specs.declared.note.TheConstants.{NAME}
 use Rattle.elf_image.specs.declared.layout.TheConstants.{MAX_FILE_SIZE}

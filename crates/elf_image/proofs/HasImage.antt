@@ -11,7 +11,7 @@ use Rattle.elf_image.specs.Image.{SegmentView, IsSegment, IsInPlace, IsApart, Ar
 use Rattle.elf_image.specs.File.{e_entry, is_load, is_note, is_segment, is_writable, is_executable, program_headers, segment_headers, segment_of, image_of, IsInside, IsLoadable, HasImage}
 use Rattle.elf_image.specs.Faults.{is_out_of_file, has_out_of_file, is_between, is_out_of_place, has_out_of_place, overlap, has_overlap, is_write_and_execute, has_write_and_execute, is_too_large, has_word, is_not_code, first_of, place_faults, segment_faults}
 
-neither : (x y : Bool) → (x || y) ≡ false → (x ≡ false) × (y ≡ false)
+pub neither : (x y : Bool) → (x || y) ≡ false → (x ≡ false) × (y ≡ false)
 neither true y e = absurd cc
 neither false y e = (refl, e)
 
@@ -23,18 +23,18 @@ abbrev AreBytes : List ℕ → Type 0
 AreBytes bytes = All (λ byte. byte < 256) bytes
 
 -- what "outside the file" says where it is not so
-inside_file : (file : List ℕ) (h : ProgramHeader) → is_out_of_file (length file) h ≡ false → (is_load h || is_note h) ≡ true → IsInside file h
+pub inside_file : (file : List ℕ) (h : ProgramHeader) → is_out_of_file (length file) h ≡ false → (is_load h || is_note h) ≡ true → IsInside file h
 inside_file file h e kind some =
     let past = ltb (length file) (h.p_offset + h.p_filesz) in
     let out = neither ((is_load h || is_note h) && ltb 0 h.p_filesz && past) (is_load h && ltb h.p_memsz h.p_filesz) e in
     let both : ((is_load h || is_note h) && ltb 0 h.p_filesz) ≡ true = and_from (is_load h || is_note h) (ltb 0 h.p_filesz) kind (lt-ltb _ _ some) in
     ltb-false _ _ (not_both ((is_load h || is_note h) && ltb 0 h.p_filesz) past out.0 both)
 
-either_left : (x y : Bool) → x ≡ true → (x || y) ≡ true
+pub either_left : (x y : Bool) → x ≡ true → (x || y) ≡ true
 either_left true y e = refl
 either_left false y e = absurd cc
 
-either_right : (x y : Bool) → y ≡ true → (x || y) ≡ true
+pub either_right : (x y : Bool) → y ≡ true → (x || y) ≡ true
 either_right true y e = refl
 either_right false y e = e
 
@@ -143,7 +143,7 @@ is_image file each apart large code =
     }
 
 -- a search that found nothing did not pass at its first place
-goes_on : {X : Type 0} (b : Bool) (x : X) (rest : Option X) → None ≡ cond b (Some x) rest → (b ≡ false) × (None ≡ rest)
+pub goes_on : {X : Type 0} (b : Bool) (x : X) (rest : Option X) → None ≡ cond b (Some x) rest → (b ≡ false) × (None ≡ rest)
 goes_on true x rest e = absurd cc
 goes_on false x rest e = (refl, e)
 

@@ -1,3 +1,9 @@
 pub mod HasImage
 pub mod Certificates
 pub mod AttachedSize
+pub mod PartLemmas
+pub mod NoteLemmas
+pub mod PatchedLemmas
+pub mod SoundLemmas
+pub mod AttachedLemmas
+pub mod ReadBackLemmas

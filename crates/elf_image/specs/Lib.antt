@@ -4,4 +4,5 @@ pub mod Image
 pub mod File
 pub mod Faults
 pub mod Attached
+pub mod ReadBack
 pub use Rattle.byteorder.specs.Endian

@@ -99,14 +99,14 @@ fn put_note_header<A: Allocator>(
 ) -> Result<(), AllocError>
     ensures { OnOk result (out.new.items ≡ out.old.items ++ note_header offset size) }
 {
-    put_word(out, PT_NOTE)?;
-    put_word(out, offset)?;
-    put_word(out, 0)?;
-    put_word(out, 0)?;
-    put_word(out, size)?;
-    put_word(out, size)?;
-    put_word(out, PF_R)?;
-    put_word(out, 4)
+    put_word(out, PT_NOTE)?; // p_type
+    put_word(out, offset)?; // p_offset
+    put_word(out, 0)?; // p_vaddr
+    put_word(out, 0)?; // p_paddr
+    put_word(out, size)?; // p_filesz
+    put_word(out, size)?; // p_memsz
+    put_word(out, PF_R)?; // p_flags
+    put_word(out, 4) // p_align
 }
 
 /// The note of a certificate.

@@ -7,6 +7,7 @@ mod error;
 mod faults;
 mod header;
 mod image;
+mod laws;
 mod layout;
 mod note;
 mod reading;
@@ -15,6 +16,7 @@ mod segment;
 pub use attached::attach;
 pub use error::ElfError;
 pub use image::Image;
+pub use laws::{attached_is_read, segments_are_kept};
 pub use layout::{
     HIGH_SEGMENTS, HIGH_SEGMENTS_END, LOW_SEGMENTS, LOW_SEGMENTS_END, MAX_FILE_SIZE,
     MAX_MEMORY_SIZE, MAX_SEGMENTS, limits_in_numbers,

@@ -1,0 +1,271 @@
+-- A loop that is read through is a round of which all is true that the check needs.
+use Rattle.std.proofs.Common.{◌≡◌, ◌≢◌, ℕ, ◌+◌, ◌-◌, ◌*◌, ◌/◌, ◌^◌, ◌<◌, ◌≤◌, inl, inr, zero, suc, Bool, true, false, refl, sym, ap, ◌∙◌, subst, arith, Some, None, List, [], ◌∷◌, length}
+use Rattle.std.proofs.Math.Nat.{mul_comm}
+use Rattle.std.specs.Prelude.{Result, Ok, if◌then◌else◌, nat_le}
+use Rattle.std.specs.List.{slice_get, AllByRecursion}
+use Rattle.std.proofs.lemmas.Bool.Decides.{nat_tests}
+use Rattle.elf_image.specs.Image.{ImageView, IsImage}
+use Rattle.linear_facts.specs.LoopForms.{IsSize}
+use Rattle.rv_decode.specs.Encodings.{FieldsFit}
+use Rattle.rv_decode.specs.declared.instructions.Insn.{Insn}
+use Rattle.rv_decode.specs.declared.instructions.Width.{Width}
+use Rattle.rv_decode.specs.declared.instructions.Width.TheVariants.{W8, W16, W32}
+use Rattle.region_mem.specs.Parameter.{is_valid}
+use Rattle.region_mem.specs.declared.parameter.Param.{Param}
+use Rattle.region_mem.specs.declared.parameter.Param.TheVariants as parameter
+use Rattle.scalar_core.specs.Step.{offset_by}
+use Rattle.vreg_groups.specs.VectorLength.{IsVlenb, vlenb_of}
+use Rattle.vreg_groups.specs.VectorType.{bits_of_width, bytes_of_width, eighths_of, vlmax_of}
+use Rattle.vreg_groups.specs.declared.vector_length.Vlen.{Vlen}
+use Rattle.vreg_groups.specs.declared.vector_length.Vlen.TheVariants.{V128, V256, V512}
+use Rattle.vreg_groups.specs.declared.vector_type.Lmul.{Lmul}
+use Rattle.vreg_groups.specs.declared.vector_type.Lmul.TheVariants.{Quarter, Half, One, Two, Four, Eight}
+use Rattle.vreg_groups.specs.declared.vector_type.Vtype.{Vtype}
+use Rattle.cert_note.specs.Certificate.{FitsWords}
+use Rattle.cert_maker.specs.declared.loops.Head.{Head}
+use Rattle.cert_maker.specs.declared.loops.Loop.{Loop}
+use Rattle.cert_maker.specs.declared.loops.Reading.TheVariants.{Works}
+use Rattle.cert_maker.specs.Loops.{◌>>=◌, size_of, count_by, is_flagged, length_by, insn_at, is_return, read_at, return_by, loop_from, loop_of}
+use Rattle.cert_maker.specs.Known.{Round, IsRound, HasRoom, bytes_of, is_pointer}
+use Rattle.cert_maker.specs.Make.{AreParameters}
+use Rattle.cert_maker.proofs.Heads.{IsBranch, IsLength, branch_is, length_is}
+use Rattle.cert_maker.proofs.IsForLemmas.{followed, none_flagged, read_is, through_is}
+use Rattle.cert_maker.proofs.LoopWalks.{fits_at}
+use Rattle.cert_maker.proofs.Rounds.{HasBuffer, Keeps, room_there, through_keeps, valid_at}
+use Rattle.cert_maker.proofs.Starts.{vlmax_positive}
+use Rattle.cert_maker.proofs.Throughs.{IsWhole, whole_is}
+
+-- ---- what was read
+
+pub record IsRead (image : ImageView) (params : List Param) (through : Loop × ℕ) : Type 0 where
+  pub head : Head
+  pub of : Loop
+  pub first : Insn
+  pub second : Insn
+  pub last : Insn
+  pub fuel : ℕ
+  pub first_at : insn_at image.entry image ≡ Some first
+  pub first_is : IsBranch params image.entry first head
+  pub second_at : insn_at (image.entry + 4) image ≡ Some second
+  pub second_is : IsLength head second of
+  pub rest : loop_from image params (image.entry + 4) fuel (image.entry + 4 + 4) (Works of) ≡ Ok through
+  pub last_at : insn_at (image.entry + 4 + 4 * through.1) image ≡ Some last
+  pub last_is : is_return last ≡ true
+
+return_is : (insn last : Insn) → return_by insn ≡ Some last → is_return insn ≡ true
+return_is insn last e = by_test (is_return insn) refl e
+  where
+    by_test : (t : Bool) → is_return insn ≡ t → (if t then Some insn else None) ≡ Some last → is_return insn ≡ true
+    by_test true t f = t
+    by_test false t f = absurd (cc)
+
+pub read_all : (image : ImageView) (params : List Param) (through : Loop × ℕ) → loop_of image params ≡ Ok through → IsRead image params through
+unfolding loop_of
+read_all image params through e =
+    let head = followed (read_at image.entry (count_by params image.entry) image) rest_of_head through e in
+    let length = followed (read_at (image.entry + 4) (length_by head.0) image) rest_of_length through head.2 in
+    let body = followed (loop_from image params (image.entry + 4) 0x3000_0000 (image.entry + 8) (Works length.0)) rest_of_body through length.2 in
+    let last = followed (read_at (image.entry + 4 + 4 * body.0.1) return_by image) (λ _. Ok body.0) through body.2 in
+    let first = read_is image.entry (count_by params image.entry) image head.0 head.1 in
+    let second = read_is (image.entry + 4) (length_by head.0) image length.0 length.1 in
+    let third = read_is (image.entry + 4 + 4 * body.0.1) return_by image last.0 last.1 in
+    subst (λ (t : Loop × ℕ). IsRead image params t) (through_is body.0 through last.2)
+    record {
+      head = head.0;
+      of = length.0;
+      first = first.0;
+      second = second.0;
+      last = third.0;
+      fuel = 0x3000_0000;
+      first_at = first.1;
+      first_is = branch_is params image.entry first.0 head.0 first.2;
+      second_at = second.1;
+      second_is = length_is head.0 second.0 length.0 second.2;
+      rest = at_second 0x3000_0000 length.0 body.0 body.1;
+      last_at = third.1;
+      last_is = return_is third.0 last.0 third.2;
+    }
+  where
+    at_second : (fuel : ℕ) (of : Loop) (t : Loop × ℕ) → loop_from image params (image.entry + 4) fuel (image.entry + 8) (Works of) ≡ Ok t
+        → loop_from image params (image.entry + 4) fuel (image.entry + 4 + 4) (Works of) ≡ Ok t
+    at_second fuel of t f =
+        let same : image.entry + 8 ≡ image.entry + 4 + 4 = omega arith in
+        subst (λ (pc : ℕ). loop_from image params (image.entry + 4) fuel pc (Works of) ≡ Ok t) same f
+
+    rest_of_body : Loop × ℕ → Result (Loop × ℕ) ℕ
+    rest_of_body t = read_at (image.entry + 4 + 4 * t.1) return_by image >>= λ _. Ok t
+
+    rest_of_length : Loop → Result (Loop × ℕ) ℕ
+    rest_of_length loop = loop_from image params (image.entry + 4) 0x3000_0000 (image.entry + 8) (Works loop) >>= rest_of_body
+
+    rest_of_head : Head → Result (Loop × ℕ) ℕ
+    rest_of_head head = read_at (image.entry + 4) (length_by head) image >>= rest_of_length
+
+-- ---- numbers
+
+size_is : (w : Width) → IsSize (bytes_of_width w)
+size_is W8 = inl refl
+size_is W16 = inr (inl refl)
+size_is W32 = inr (inr refl)
+
+pub is_vlenb : (vlen : Vlen) → IsVlenb (vlenb_of vlen)
+is_vlenb V128 = inl refl
+is_vlenb V256 = inr (inl refl)
+is_vlenb V512 = inr (inr refl)
+
+eighths_few : (lmul : Lmul) → eighths_of lmul ≤ 64
+eighths_few Quarter = omega arith
+eighths_few Half = omega arith
+eighths_few One = omega arith
+eighths_few Two = omega arith
+eighths_few Four = omega arith
+eighths_few Eight = omega arith
+
+few_by : (eighths : ℕ) (vlen : Vlen) (w : Width) → eighths ≤ 64 → eighths * vlenb_of vlen / bits_of_width w < 2 ^ 30
+few_by eighths V128 W8 l = omega (arith, l)
+few_by eighths V128 W16 l = omega (arith, l)
+few_by eighths V128 W32 l = omega (arith, l)
+few_by eighths V256 W8 l = omega (arith, l)
+few_by eighths V256 W16 l = omega (arith, l)
+few_by eighths V256 W32 l = omega (arith, l)
+few_by eighths V512 W8 l = omega (arith, l)
+few_by eighths V512 W16 l = omega (arith, l)
+few_by eighths V512 W32 l = omega (arith, l)
+
+vlmax_few : (vlen : Vlen) (t : Vtype) → vlmax_of (vlenb_of vlen) t < 2 ^ 30
+unfolding vlmax_of
+vlmax_few vlen t = few_by (eighths_of t.lmul) vlen t.sew (eighths_few t.lmul)
+
+-- what a parameter says fits its words
+fits_there : (params : List Param) (place : ℕ) (p : Param) → AllByRecursion FitsWords params → slice_get params place ≡ Some p → FitsWords p
+fits_there [] place p fit e = absurd (cc)
+fits_there (q ∷ qs) zero p fit e = subst (λ (x : Param). FitsWords x) (same q p e) fit.0
+  where
+    same : (a b : Param) → Some a ≡ Some b → a ≡ b
+    same a b f = cc
+fits_there (q ∷ qs) (suc place) p fit e = fits_there qs place p fit.1 e
+
+least_below : (least most : ℕ) → is_valid (parameter.Scalar least most) ≡ true → least ≤ most
+unfolding is_valid
+least_below least most e = at_most least most e
+  where
+    at_most : (a b : ℕ) → nat_le a b ≡ true → a ≤ b
+    at_most a b f = grind (arith, nat_tests)
+
+-- ---- the round
+
+-- what the branch before the loop needs of it, whether it is ever entered or not
+pub record IsEntered (k : Round) : Type 0 where
+  pub count_low : 10 ≤ k.loop.count
+  pub count_high : k.loop.count < 18
+  pub count_is : slice_get k.params (k.loop.count - 10) ≡ Some (parameter.Scalar k.least k.loop.most)
+  pub size : IsSize (size_of k.loop)
+  pub least : k.least ≤ k.loop.most
+  pub fits : k.loop.most < 2 ^ 32
+  pub room : (place : ℕ) → place < 8 → is_pointer k.loop place ≡ true → HasRoom k.params k.loop place
+
+module _ (image : ImageView) (params : List Param) (through : Loop × ℕ) (read : IsRead image params through) where
+  none_yet : (place : ℕ) → place < 8 → is_pointer read.of place ≡ true → HasBuffer params read.of place
+  none_yet place l e =
+      absurd (none_flagged place l (subst (λ (flags : List Bool). is_flagged (place + 10) flags ≡ true) read.second_is.pointers e))
+
+  first_keeps : Keeps params read.of read.of
+  first_keeps = record {
+    flags = ap (λ (flags : List Bool). length flags) read.second_is.pointers;
+    count = refl;
+    most = refl;
+    long = refl;
+    vtype = refl;
+    sew = refl;
+    end = refl;
+    buffers = none_yet;
+  }
+
+  pub keeps : Keeps params read.of through.0
+  keeps = through_keeps params read.of image (image.entry + 4) read.fuel (image.entry + 4 + 4) read.of through first_keeps read.rest
+
+  abbrev pub round_at : ℕ → Round
+  round_at limit = record {
+    image = image;
+    params = params;
+    start = image.entry + 4;
+    words = through.1;
+    least = read.first_is.least;
+    limit = limit;
+    loop = through.0;
+  }
+
+  pub count_same : through.0.count ≡ read.head.count
+  count_same = keeps.count ∙ read.second_is.count
+
+  most_same : through.0.most ≡ read.head.most
+  most_same = keeps.most ∙ read.second_is.most
+
+  pub end_is : through.0.end ≡ offset_by image.entry read.first_is.offset
+  end_is = keeps.end ∙ (read.second_is.end ∙ read.first_is.end)
+
+  module _ (are : AreParameters params) where
+    scalar_there : slice_get params (through.0.count - 10) ≡ Some (parameter.Scalar read.first_is.least through.0.most)
+    scalar_there =
+        subst (λ (m : ℕ). slice_get params (through.0.count - 10) ≡ Some (parameter.Scalar read.first_is.least m)) (sym most_same)
+        (subst (λ (c : ℕ). slice_get params (c - 10) ≡ Some (parameter.Scalar read.first_is.least read.head.most)) (sym count_same) read.first_is.count)
+
+    room_for : (place : ℕ) (b : HasBuffer params read.of place) → bytes_of through.0 ≤ b.size
+    room_for place b =
+        subst (λ (x : ℕ). x ≤ b.size) (mul_comm through.0.most (size_of through.0))
+        (subst (λ (m : ℕ). m * size_of through.0 ≤ b.size) (sym keeps.most)
+        (subst (λ (w : Width). read.of.most * bytes_of_width w ≤ b.size) (sym keeps.sew) b.room))
+
+    has_room : (place : ℕ) → place < 8 → is_pointer through.0 place ≡ true → HasRoom params through.0 place
+    has_room place l e =
+        let buffer = keeps.buffers place l e in
+        room_there params through.0 place buffer.size buffer.access are.valid are.eight l buffer.is (room_for place buffer)
+
+    pub entered : (limit : ℕ) → IsEntered (round_at limit)
+    entered limit = record {
+      count_low = subst (λ (c : ℕ). 10 ≤ c) (sym count_same) read.first_is.from;
+      count_high = subst (λ (c : ℕ). c < 18) (sym count_same) read.first_is.to;
+      count_is = scalar_there;
+      size = size_is through.0.sew;
+      least = least_below _ _ (valid_at params (through.0.count - 10) (parameter.Scalar read.first_is.least through.0.most) are.valid scalar_there);
+      fits = fits_there params (through.0.count - 10) (parameter.Scalar read.first_is.least through.0.most) are.fit scalar_there;
+      room = has_room;
+    }
+
+    length_below : read.of.length < 32
+    length_below =
+        (subst (λ (i : Insn). FieldsFit i) read.second_is.is (fits_at (image.entry + 4) read.second image read.second_at)).0
+
+    apart_from : (place : ℕ) → place < 8 → is_pointer through.0 place ≡ true → place + 10 ≢ through.0.length
+    apart_from place l e = λ f. (keeps.buffers place l e).apart (f ∙ keeps.long)
+
+    abbrev pub limit_of : Vlen → ℕ
+    limit_of vlen = vlmax_of (vlenb_of vlen) read.second_is.vector_type
+
+    pub is_round : (vlen : Vlen) → 1 ≤ through.0.most → IsRound (round_at (limit_of vlen))
+    is_round vlen some =
+        let first = entered (limit_of vlen) in
+        record {
+          count_low = first.count_low;
+          count_high = first.count_high;
+          count_is = first.count_is;
+          length_low = subst (λ (r : ℕ). 2 ≤ r) (sym keeps.long) (two_at read.of.length read.second_is.not_zero read.second_is.not_ra);
+          length_high = subst (λ (r : ℕ). r < 32) (sym keeps.long) length_below;
+          length_other = λ e. read.second_is.other (sym keeps.long ∙ (e ∙ keeps.count));
+          size = first.size;
+          some = some;
+          least = first.least;
+          fits = first.fits;
+          progress = vlmax_positive (vlenb_of vlen) read.second_is.vector_type (is_vlenb vlen);
+          short = vlmax_few vlen read.second_is.vector_type;
+          flags = keeps.flags;
+          end = subst (λ (x : ℕ). x < 2 ^ 32) (sym end_is) (omega arith);
+          room = first.room;
+          apart = apart_from;
+        }
+      where
+        two_at : (r : ℕ) → r ≢ 0 → r ≢ 1 → 2 ≤ r
+        two_at r x y = omega (arith, x, y)
+
+    pub whole : IsImage image → IsWhole (image.entry + 4) through.0 through.1
+    whole is = whole_is image params (image.entry + 4) read.fuel read.of through is read.rest
