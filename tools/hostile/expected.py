@@ -1,0 +1,183 @@
+"""What the program has to answer, as the programs of `conformance/` say it: nothing here calls the program or reads `crates/`.
+
+The words and statuses are those of docs/JOBS.md; checker.py judges images, opening.py arguments, runs.py carries runs out.
+"""
+import tomllib
+
+from outside import certificates, checker, jobs, opening, runs
+from program import Answer
+
+MOST_BUFFER = 16 << 20
+AREA = {'r': 'r', 'rw': 'w'}            # how runs.py calls the modes of a buffer
+VLENBS = (16, 32, 64)
+
+judged, ran = {}, {}
+
+
+def refused(name):
+    return Answer(1, '', 'refused: %s\n' % name)
+
+
+def key_of(image):
+    """What all answers on an image hang on, but for its certificate."""
+    return image.entry, tuple(image.segments)
+
+
+def check(file, vlenb):
+    """checker.py's answer. What no answer hangs on is not judged twice."""
+    try:
+        image = certificates.read_image(file)
+    except certificates.Refused as e:
+        return 'image ' + e.text
+    key = *key_of(image), image.certificate, vlenb
+    if key not in judged:
+        judged[key] = checker.check(file, vlenb)
+    return judged[key]
+
+
+def of_check(file):
+    """`check`, at the certificate's own length of vector registers."""
+    said = next(said for said in (check(file, vlenb) for vlenb in VLENBS) if said != 'WrongVlen')
+    word, *rest = said.split()
+    if word == 'accepted':
+        bound = 'accepted: bound %s + %s * x%s' % tuple(rest[:3])
+        return Answer(0, bound + ''.join(' + %s * x%s' % tuple(rest[3:]) if rest[3:] else '') + '\n')
+    return not_accepted(said)
+
+
+def not_accepted(said):
+    """The answer of `check` and `run` where the checker says something else than `accepted`."""
+    if said == 'no certificate':
+        return refused('NoCertificate')
+    word, *rest = said.split()
+    if word in ('image', 'certificate'):
+        return refused(rest[0])
+    return refused(' at '.join([word] + rest))
+
+
+class Job:
+    """A job on one image: a length of vector registers in bytes, whether agnostic elements become ones, the most steps, and up to eight
+    arguments, each None, a number, or ('r' or 'w', bytes)."""
+
+    def __init__(self, vlenb, ones, most, args):
+        self.vlenb, self.ones, self.most = vlenb, ones, most
+        self.args = list(args) + [None] * (8 - len(args))
+
+    def key(self):
+        return self.vlenb, self.ones, self.most, tuple(self.args)
+
+    def text(self, image):
+        """The job file. The buffer at place k is read from `inK` and written to `outK`."""
+        lines = ['image = "%s"' % image, 'vlen = %d' % (8 * self.vlenb), 'agnostic = "%s"' % ('ones' if self.ones else 'keep'), 'max = %d' % self.most]
+        for place, arg in enumerate(self.args):
+            lines += ['[[param]]']
+            if arg is None:
+                lines += ['kind = "none"']
+            elif isinstance(arg, int):
+                lines += ['kind = "scalar"', 'value = %d' % arg]
+            else:
+                mode = {'r': 'r', 'w': 'rw'}[arg[0]]
+                lines += ['kind = "buffer"', 'mode = "%s"' % mode, 'file = "in%d"' % place, 'out = "out%d"' % place]
+        return '\n'.join(lines) + '\n'
+
+    def buffers(self):
+        return [(place, arg[1]) for place, arg in enumerate(self.args) if isinstance(arg, tuple)]
+
+    def put(self, folder, image='image.elf', name='job.toml'):
+        folder.put(name, self.text(image))
+        for place, data in self.buffers():
+            folder.put('in%d' % place, data)
+
+
+def bound(said, params, args):
+    """The bound of an accepted image's run, by what the checker says."""
+    constant, *products = map(int, said.split()[1:])
+    x = opening.at_start(params, args)
+    return constant + sum(factor * x[register] for factor, register in zip(products[::2], products[1::2]))
+
+
+def session(file, job):
+    """Why `run` does not start, as an Answer, or None; and the run's bound."""
+    said = check(file, job.vlenb)
+    if not said.startswith('accepted '):
+        return not_accepted(said), None
+    params = certificates.read_certificate(certificates.read_image(file).certificate).params
+    error = opening.arguments_error(params, job.args)
+    if error:
+        return refused(error.split('(')[0]), None
+    most = bound(said, params, job.args)
+    return (refused('BoundTooLarge') if most > job.most else None), most
+
+
+def trial(file, job):
+    """How the run of an image ends, of which `try` can tell every way: the answer, and the buffers by place."""
+    try:
+        image = certificates.read_image(file)
+    except certificates.Refused as e:
+        return refused(e.text), {}
+    key = *key_of(image), job.key()
+    if key not in ran:
+        ran[key] = carried_out(file, job)
+    return ran[key]
+
+
+def carried_out(file, job):
+    end, steps, changes = runs.Run('', file, job.args, job.vlenb, job.ones, job.most).of_model()
+    left = dict(job.buffers())
+    for change in changes.split():
+        name, _, value = change.partition('=')
+        if name[0] == 'a':
+            left[int(name[1:])] = bytes.fromhex(value)
+    if end == 'ended':
+        return Answer(0, 'ended: %d steps\n' % steps), left
+    if end == 'steps':
+        return Answer(5, 'out of steps: %d\n' % steps), left
+    return Answer(5, '%s after %d steps\n' % (end.replace('trapped', 'trapped:'), steps)), left
+
+
+# ---- Texts of jobs ------------------------------------------------------------------------------------------------------------------
+
+def of_text(data, word, files):
+    """What `run` or `try` answers to a job file of these bytes, where `files` has the bytes of each file that there is; and the out files."""
+    try:
+        said = jobs.answer_of(data.decode())
+    except UnicodeDecodeError:
+        said = 'NotToml'
+    if said in ('NotToml', 'BadKey'):
+        return Answer(2, '', 'job: %s\n' % said), {}
+    if said.split()[-2 if word == 'try' else -1] == '0':
+        return Answer(2, '', 'job: BadKey\n'), {}
+    table = tomllib.loads(data.decode().removeprefix('\ufeff'))
+    params = table.get('param', [])
+    image = files.get(table['image'])
+    if image is None:
+        return lacking(table['image']), {}
+    job = Job(table['vlen'] // 8, table['agnostic'] == 'ones', table['max'], [])
+    said = check(image, job.vlenb)
+    if said.startswith('image ') or word == 'run' and not said.startswith('accepted '):
+        return not_accepted(said), {}
+    for place, param in enumerate(params):
+        if param['kind'] == 'scalar':
+            job.args[place] = param['value']
+        elif param['kind'] == 'buffer':
+            if param['file'] not in files:
+                return lacking(param['file']), {}
+            job.args[place] = AREA[param.get('mode', 'rw')], files[param['file']]
+    answer, left = of_job(image, job, word)
+    return answer, {param['out']: left[place] for place, param in enumerate(params) if left and 'out' in param}
+
+
+def lacking(path):
+    return Answer(3, '', 'file: %s\n' % path)
+
+
+def of_job(image, job, word):
+    """What `run` or `try` answers to a job, and the buffers as it leaves them, by place; none where nothing is run."""
+    if word == 'try':
+        return trial(image, job)
+    refusal, _ = session(image, job)
+    if refusal:
+        return refusal, {}
+    params = certificates.read_certificate(certificates.read_image(image).certificate).params
+    args = [(('w' if p.mode & certificates.WRITE else 'r'), arg[1]) if isinstance(arg, tuple) else arg for p, arg in zip(params, job.args)]
+    return trial(image, Job(job.vlenb, job.ones, job.most, args))

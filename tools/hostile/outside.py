@@ -1,0 +1,15 @@
+"""What these runs take from `conformance/`: the second checker in Python, the machine in Python, and what job files say."""
+import pathlib
+import sys
+
+ROOT = pathlib.Path(__file__).resolve().parent.parent.parent
+sys.path.insert(0, str(ROOT / 'conformance'))
+
+import certificates  # noqa: E402
+import checker  # noqa: E402
+import drawn_checks  # noqa: E402
+import jobs  # noqa: E402
+import opening  # noqa: E402
+import runs  # noqa: E402
+
+__all__ = ['ROOT', 'certificates', 'checker', 'drawn_checks', 'jobs', 'opening', 'runs']

@@ -1,0 +1,62 @@
+"""Tests: `python3 -m unittest discover -s tools/hostile`. They try the built program as `run.py --quick` does, in under a minute."""
+import os
+import unittest
+
+import damage
+import expected
+from faults import COMPILER
+from outside import ROOT, certificates
+from program import Answer, Tally, program, total
+from run import KINDS
+
+
+class Expected(unittest.TestCase):
+    """What is expected, on the examples, whose answers stand in examples/README.md."""
+
+    def test_check(self):
+        for name, bound in (('raise_words', '2 + 8 * x11'), ('sum_bytes', '3 + 5 * x11'), ('raise_if', '5 + 8 * x11')):
+            for vlenb in damage.LENGTHS:
+                self.assertEqual(expected.of_check(damage.example(name, vlenb)), Answer(0, 'accepted: bound %s\n' % bound))
+
+    def test_run_and_try(self):
+        folder = ROOT / 'examples/raise_if'
+        files = {path.name: path.read_bytes() for path in folder.iterdir()}
+        for word in ('run', 'try'):
+            answer, left = expected.of_text(files['job.toml'], word, files)
+            self.assertEqual(answer, Answer(0, 'ended: 506 steps\n'))
+            self.assertEqual(left, {'raised.bin': files['expected.bin']})
+
+    def test_each_byte_of_the_note_is_changed(self):
+        file = damage.example('sum_bytes', 16)
+        note = certificates.read_image(file).certificate
+        self.assertLessEqual(set(range(file.index(note), file.index(note) + len(note))), set(damage.places(file)))
+
+
+class Differences(unittest.TestCase):
+    def test_a_program_that_says_nothing_differs(self):
+        tally = damage.part('/bin/true', 'sum_bytes', 16, 997)
+        self.assertGreater(len(tally.differed), tally.tried)
+
+    def test_a_line_of_a_tally(self):
+        one, other = Tally('some', 'files'), Tally('some', 'files')
+        one.expect('first', 1, 1)
+        other.expect('second', 1, 2)
+        other.count('seen')
+        both = total([one, other])
+        self.assertEqual(both.differed, ['second: 1, and not 2'])
+        self.assertEqual(both.line(), 'some: 0 files, 1 seen, 2 answers compared, 1 differed')
+
+
+@unittest.skipUnless(program(), 'rvvbox is not built')
+class Hostile(unittest.TestCase):
+    def test_the_program_answers_as_expected(self):
+        for name in ('images', 'fuzzer') if COMPILER is None else KINDS:
+            with self.subTest(name):
+                tally = KINDS[name](program(), True, os.cpu_count())
+                print(tally.line())
+                self.assertEqual(tally.differed, [])
+                self.assertTrue(tally.tried and all(tally.counts.values()))
+
+
+if __name__ == '__main__':
+    unittest.main()
