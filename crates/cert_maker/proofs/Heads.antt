@@ -18,7 +18,7 @@ use Rattle.cert_maker.specs.declared.loops.Loop.{Loop}
 use Rattle.cert_maker.specs.Loops.{parameter_in, most_of, count_by, length_by}
 use Rattle.cert_maker.proofs.Bodies.{both_true}
 use Rattle.cert_maker.proofs.Going.{same_number}
-use Rattle.cert_maker.proofs.IsForLemmas.{some_is, parameter_there}
+use Rattle.cert_maker.proofs.Readings.{some_is, parameter_there}
 use Rattle.cert_maker.proofs.Working.{differ}
 
 -- a branch where a scalar that is passed is 0

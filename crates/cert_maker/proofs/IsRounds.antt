@@ -26,10 +26,10 @@ use Rattle.cert_maker.specs.declared.loops.Head.{Head}
 use Rattle.cert_maker.specs.declared.loops.Loop.{Loop}
 use Rattle.cert_maker.specs.declared.loops.Reading.TheVariants.{Works}
 use Rattle.cert_maker.specs.Loops.{◌>>=◌, size_of, count_by, is_flagged, length_by, insn_at, is_return, read_at, return_by, loop_from, loop_of}
-use Rattle.cert_maker.specs.Known.{Round, IsRound, HasRoom, bytes_of, is_pointer}
+use Rattle.cert_maker.specs.Known.{Round, IsRound, HasRoom, is_pointer}
 use Rattle.cert_maker.specs.Make.{AreParameters}
 use Rattle.cert_maker.proofs.Heads.{IsBranch, IsLength, branch_is, length_is}
-use Rattle.cert_maker.proofs.IsForLemmas.{followed, none_flagged, read_is, through_is}
+use Rattle.cert_maker.proofs.Readings.{followed, none_flagged, read_is, through_is}
 use Rattle.cert_maker.proofs.LoopWalks.{fits_at}
 use Rattle.cert_maker.proofs.Rounds.{HasBuffer, Keeps, room_there, through_keeps, valid_at}
 use Rattle.cert_maker.proofs.Starts.{vlmax_positive}
@@ -204,22 +204,22 @@ module _ (image : ImageView) (params : List Param) (through : Loop × ℕ) (read
   pub end_is : through.0.end ≡ offset_by image.entry read.first_is.offset
   end_is = keeps.end ∙ (read.second_is.end ∙ read.first_is.end)
 
+  pub scalar_there : slice_get params (through.0.count - 10) ≡ Some (parameter.Scalar read.first_is.least through.0.most)
+  scalar_there =
+      subst (λ (m : ℕ). slice_get params (through.0.count - 10) ≡ Some (parameter.Scalar read.first_is.least m)) (sym most_same)
+      (subst (λ (c : ℕ). slice_get params (c - 10) ≡ Some (parameter.Scalar read.first_is.least read.head.most)) (sym count_same) read.first_is.count)
+
+  pub room_in : (place : ℕ) (b : HasBuffer params read.of place) → through.0.most * size_of through.0 ≤ b.size
+  room_in place b =
+      subst (λ (m : ℕ). m * size_of through.0 ≤ b.size) (sym keeps.most)
+      (subst (λ (w : Width). read.of.most * bytes_of_width w ≤ b.size) (sym keeps.sew) b.room)
+
   module _ (are : AreParameters params) where
-    scalar_there : slice_get params (through.0.count - 10) ≡ Some (parameter.Scalar read.first_is.least through.0.most)
-    scalar_there =
-        subst (λ (m : ℕ). slice_get params (through.0.count - 10) ≡ Some (parameter.Scalar read.first_is.least m)) (sym most_same)
-        (subst (λ (c : ℕ). slice_get params (c - 10) ≡ Some (parameter.Scalar read.first_is.least read.head.most)) (sym count_same) read.first_is.count)
-
-    room_for : (place : ℕ) (b : HasBuffer params read.of place) → bytes_of through.0 ≤ b.size
-    room_for place b =
-        subst (λ (x : ℕ). x ≤ b.size) (mul_comm through.0.most (size_of through.0))
-        (subst (λ (m : ℕ). m * size_of through.0 ≤ b.size) (sym keeps.most)
-        (subst (λ (w : Width). read.of.most * bytes_of_width w ≤ b.size) (sym keeps.sew) b.room))
-
     has_room : (place : ℕ) → place < 8 → is_pointer through.0 place ≡ true → HasRoom params through.0 place
     has_room place l e =
         let buffer = keeps.buffers place l e in
-        room_there params through.0 place buffer.size buffer.access are.valid are.eight l buffer.is (room_for place buffer)
+        room_there params through.0 place buffer.size buffer.access are.valid are.eight l buffer.is
+        (subst (λ (x : ℕ). x ≤ buffer.size) (mul_comm through.0.most (size_of through.0)) (room_in place buffer))
 
     pub entered : (limit : ℕ) → IsEntered (round_at limit)
     entered limit = record {

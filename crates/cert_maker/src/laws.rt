@@ -1,6 +1,6 @@
 //! Laws of the loops for which certificates are made, each the contract of a function that does nothing when it runs.
 //!
-//! Together they say why what is made passes a check: each is one step of that.
+//! The last says that what is made passes the check; the others are the steps of that.
 ghost use Rattle.cert_maker.specs.Laws.{BodyKeeps, ReachesEnd, FactsAre, SplitsAre, LoopsEnd, LoopsLead, PointersMove, PointersReturn, LengthsAreSet, ReturnsPass, LoopsGoOn, RoundsEnd, CertificatesPass};
 
 /// Vector arithmetic that is legal at the vtype that is known leaves all that is known of numbers as it was.
