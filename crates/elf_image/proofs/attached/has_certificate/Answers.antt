@@ -1,4 +1,4 @@
-use Rattle.std.proofs.Common.{◌≡◌, ◌∙◌}
+use Rattle.std.proofs.Common.{◌∙◌}
 use Rattle.elf_image.specs.File.{certificates_of}
 use Rattle.elf_image.specs.Faults.{has_certificate}
 use Rattle.elf_image.proofs.AttachedSize.{is_there}
