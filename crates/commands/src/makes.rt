@@ -51,7 +51,8 @@ pub fn make_image<'a, S: Store, O: Write, E: Write>(
     errors: &mut E,
 ) -> Status
     ensures { Ends (OfTable S.holds paths.entry.job.now (λ table.
-        Makes S.holds paths.entry.image.now table (O.contents output.old) (O.contents output.new))) result }
+        Makes S.holds paths.entry.image.now table
+        (O.contents output.old) (O.contents output.new))) result }
 {
     match read_table(alloc, paths.job, store) {
         Ok(table) => told(make_table(alloc, &table, paths, store, output), errors),
