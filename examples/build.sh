@@ -4,6 +4,7 @@
 # static, without compressed instructions and without floating point: RV32IM, with Zve32x in assembly and in C that
 # stands beside a native.c. That program is built and run too: it writes the inputs and the
 # expected bytes. An image beside whose source a certificate.toml stands gets that certificate as a note.
+# Where there is a bare.elf, the image without the note is kept there.
 # For C with vector intrinsics a certificate is searched, at each length of a vector register.
 set -e
 cd "$(dirname "$0")"
@@ -27,6 +28,7 @@ ld.lld-16 -static -no-pie -z max-page-size=4 -z noexecstack --strip-all -T kerne
     "$kernel/$kernel.o" -o "$kernel/$kernel.elf"
 chmod -x "$kernel/$kernel.elf"
 rm "$kernel/$kernel.o"
+[ ! -e "$kernel/bare.elf" ] || cp "$kernel/$kernel.elf" "$kernel/bare.elf"
 if [ -e "$kernel/certificate.toml" ]; then
     ./certify.py "$kernel"
 fi

@@ -1,5 +1,5 @@
 -- What `clap` takes has a subcommand with its paths.
-use Rattle.std.proofs.Common.{◌≡◌, ◌∙◌, refl, ap, sym, Bool, true, false, cond, not, ◌||◌, List, [], ◌∷◌, Option, Some, None, IsSome, ℕ, ◌==◌, is_some, option_map, codes}
+use Rattle.std.proofs.Common.{◌≡◌, ◌∙◌, refl, ap, sym, Bool, true, false, cond, not, ◌||◌, List, [], ◌∷◌, Option, Some, None, IsSome, ℕ, ◌==◌, is_some, option_and_then, option_map, codes}
 use Rattle.std.specs.Prelude.{find, unwrap_or, slice_get}
 use Rattle.std.specs.Option.{option_map_or}
 use Rattle.std.specs.Str.{bytes_eq}
@@ -15,7 +15,8 @@ use Rattle.clap.specs.Walk.{answers_to, arg_by_id, arg_by_long, arg_by_short, fi
 use Rattle.clap.proofs.OnLiterals.{clap_on_literals}
 use Rattle.clap.specs.declared.parser.matches.ArgMatches.{ArgMatches}
 use Rattle.clap.specs.declared.parser.matches.ArgMatches.TheViews.{out-ArgMatches, out-SubCommand}
-use Rattle.command_line.specs.Line.{IsPathOf, app, bare_app, path_of, path_shape}
+use Rattle.command_line.specs.Line.{AreMakePathsOf, IsPathOf, app, bare_app, make_paths_of, make_shape, path_of, path_shape, texts_of}
+use Rattle.commands.specs.declared.makes.MakePaths.{MakePaths}
 use Rattle.command_line.proofs.FilledRows.{Filled, Filled-with_values, Filled-without, HasText, IsRequest, found_value, rows_filled}
 
 -- the program's command is one whose matches and faults `clap` states
@@ -113,15 +114,81 @@ module _ (name id : Text) where
       let given = path_given (is_given id rows) after_defaults in
       found_value _ rows (rows_filled built_path.rules rule_fills long_is_request short_is_request [] words) (row_found id rows given)
 
+-- ---- the subcommand with three paths
+
+-- `make` as `clap` builds it: the paths, then `--help`
+abbrev make_built : Shape
+make_built = unwrap_or (slice_get (built (with_subcommand bare_app make_shape)).subs 0) bare_app.top
+
+abbrev make_rule : ℕ → Rule
+make_rule place = unwrap_or (slice_get make_built.rules place) (new_rule [])
+
+make_fills : (x : Text) (values : List Text) (rows : List Row) → HasText values → Filled rows
+    → Filled (used_by_id (arg_by_id make_built.rules x) values rows)
+make_fills x values rows h f =
+    go (bytes_eq (codes "image") x) (bytes_eq (codes "job") x) (bytes_eq (codes "out") x) (bytes_eq (codes "help") x) values h
+  where
+    go : (a b c d : Bool) (values : List Text) → HasText values
+        → Filled (used_by_id (cond a (Some (make_rule 0)) (cond b (Some (make_rule 1)) (cond c (Some (make_rule 2)) (cond d (Some (make_rule 3)) None)))) values rows)
+    go a b c d [] h = absurd h
+    go true b c d (v ∷ vs) h = Filled-with_values (make_rule 0).id _ _ (v ∷ vs) (without (make_rule 0).id rows) tt (Filled-without (make_rule 0).id rows f)
+    go false true c d (v ∷ vs) h = Filled-with_values (make_rule 1).id _ _ (v ∷ vs) (without (make_rule 1).id rows) tt (Filled-without (make_rule 1).id rows f)
+    go false false true d (v ∷ vs) h = Filled-with_values (make_rule 2).id _ _ (v ∷ vs) (without (make_rule 2).id rows) tt (Filled-without (make_rule 2).id rows f)
+    go false false false true (v ∷ vs) h = f
+    go false false false false (v ∷ vs) h = f
+
+make_long_is_request : (x : Text) → IsRequest (arg_by_long make_built.rules x)
+make_long_is_request x = go (bytes_eq (codes "help") x)
+  where
+    go : (b : Bool) → IsRequest (cond (b || false) (slice_get make_built.rules 3) None)
+    go true = (refl, λ rows f. f)
+    go false = tt
+
+make_short_is_request : (x : ℕ) → IsRequest (arg_by_short make_built.rules x)
+make_short_is_request x = go (104 == x)
+  where
+    go : (b : Bool) → IsRequest (cond (b || false) (slice_get make_built.rules 3) None)
+    go true = (refl, λ rows f. f)
+    go false = tt
+
+-- each path is required
+paths_given : (a b c : Bool) → check_kinds false false ((not a) || ((not b) || ((not c) || false))) ≡ []
+    → (a ≡ true) × (b ≡ true) × (c ≡ true)
+paths_given true true true none = (refl, refl, refl)
+paths_given false b c none = cc
+paths_given true false c none = cc
+paths_given true true false none = cc
+
+three_there : (a b c : Option Text) → IsSome a → IsSome b → IsSome c
+    → IsSome {T = Text × Text × Text} (option_and_then (λ x. option_and_then (λ y. option_map (λ z. (x, y, z)) c) b) a)
+three_there None b c one two three = cc
+three_there (Some x) None c one two three = cc
+three_there (Some x) (Some y) None one two three = cc
+three_there (Some x) (Some y) (Some z) one two three = refl
+
+paths_there : (words : List Text) → level_fault make_built [] nothing_held words false [] ≡ []
+    → IsSome (make_paths_of (Some (codes "make", rows_after make_built.rules [] words)))
+paths_there words none =
+    let rows = rows_after make_built.rules [] words in
+    let end = (walk make_built.rules [] nothing_held words).held in
+    let after_walk = (or_else_parts (walk_fault make_built [] (walk_from nothing_held) words) _ none).1 in
+    let after_settle = (or_else_parts (settle_fault make_built.rules make_built.args_override_self end) _ after_walk).1 in
+    let after_defaults = (or_else_parts (defaults_fault (settled make_built.rules end).rows make_built.rules) _ after_settle).1 in
+    let (image, job, out) = paths_given (is_given (codes "image") rows) (is_given (codes "job") rows) (is_given (codes "out") rows) after_defaults in
+    let filled = rows_filled make_built.rules make_fills make_long_is_request make_short_is_request [] words in
+    three_there (first_of (codes "image") rows) (first_of (codes "job") rows) (first_of (codes "out") rows)
+    (found_value _ rows filled (row_found (codes "image") rows image)) (found_value _ rows filled (row_found (codes "job") rows job))
+    (found_value _ rows filled (row_found (codes "out") rows out))
+
 -- ---- what was entered
 
--- the subcommand that was entered has its path
+-- the subcommand that was entered has its paths
 abbrev pub HasPath : Option (Text × List Row) → Type 0
 HasPath entered =
     path_of (codes "check") (codes "image") entered ≡ None → path_of (codes "run") (codes "job") entered ≡ None
-    → IsSome (path_of (codes "try") (codes "job") entered)
+    → path_of (codes "try") (codes "job") entered ≡ None → IsSome (make_paths_of entered)
 
-pub no_path : (o : Option Text) → IsSome o → o ≡ None → ⊥
+pub no_path : {A : Type 0} (o : Option A) → IsSome o → o ≡ None → ⊥
 no_path o some none = cc
 
 abbrev check_built : Shape
@@ -133,25 +200,27 @@ run_built = built_path (codes "run") (codes "job")
 abbrev try_built : Shape
 try_built = built_path (codes "try") (codes "job")
 
--- the subcommand that a word names: it answers to `check`, to `run` or to `try`
-abbrev answering : Bool → Bool → Bool → Option Shape
-answering a b c = cond a (Some check_built) (cond b (Some run_built) (cond c (Some try_built) None))
+-- the subcommand that a word names: it answers to `check`, to `run`, to `try` or to `make`
+abbrev answering : Bool → Bool → Bool → Bool → Option Shape
+answering a b c d = cond a (Some check_built) (cond b (Some run_built) (cond c (Some try_built) (cond d (Some make_built) None)))
 
 entered_path : (stop : Option (Text × List Text)) → is_some (entered program stop) ≡ true → entered_fault program stop ≡ []
     → HasPath (entered program stop)
 entered_path None some none = cc
 entered_path (Some p) some none =
-    go (answers_to p.0 (label_of check_built)) (answers_to p.0 (label_of run_built)) (answers_to p.0 (label_of try_built)) some none
+    go (answers_to p.0 (label_of check_built)) (answers_to p.0 (label_of run_built)) (answers_to p.0 (label_of try_built))
+    (answers_to p.0 (label_of make_built)) some none
   where
-    go : (a b c : Bool) → is_some (option_map (λ s. rows_at s p.1) (answering a b c)) ≡ true
-        → option_map_or (λ s. level_fault s [] nothing_held p.1 false []) (answering a b c) [] ≡ []
-        → HasPath (option_map (λ s. rows_at s p.1) (answering a b c))
-    go true b c some none = λ no_image no_job. absurd (no_path _ (path_there (codes "check") (codes "image") p.1 none) no_image)
-    go false true c some none = λ no_image no_job. absurd (no_path _ (path_there (codes "run") (codes "job") p.1 none) no_job)
-    go false false true some none = λ no_image no_job. path_there (codes "try") (codes "job") p.1 none
-    go false false false some none = cc
+    go : (a b c d : Bool) → is_some (option_map (λ s. rows_at s p.1) (answering a b c d)) ≡ true
+        → option_map_or (λ s. level_fault s [] nothing_held p.1 false []) (answering a b c d) [] ≡ []
+        → HasPath (option_map (λ s. rows_at s p.1) (answering a b c d))
+    go true b c d some none = λ no_image no_job no_try. absurd (no_path _ (path_there (codes "check") (codes "image") p.1 none) no_image)
+    go false true c d some none = λ no_image no_job no_try. absurd (no_path _ (path_there (codes "run") (codes "job") p.1 none) no_job)
+    go false false true d some none = λ no_image no_job no_try. absurd (no_path _ (path_there (codes "try") (codes "job") p.1 none) no_try)
+    go false false false true some none = λ no_image no_job no_try. paths_there p.1 none
+    go false false false false some none = cc
 
--- what `clap` takes names a subcommand and its path
+-- what `clap` takes names a subcommand and its paths
 pub path_named : (words : List Text) → fault_of app words ≡ [] → HasPath (subcommand_of app words)
 path_named words none =
     let top = program.top in
@@ -185,3 +254,13 @@ is_path words name id path entered none same at = (none, ap (path_of name id) (s
 pub no_path_of : (words : List Text) (name id : Text) (entered : Option (Text × List Row)) → entered ≡ subcommand_of app words
     → None ≡ path_of name id entered → path_of name id (subcommand_of app words) ≡ None
 no_path_of words name id entered same at = ap (path_of name id) (sym same) ∙ sym at
+
+-- the paths of `make`
+pub are_make_paths : (words : List Text) (paths : MakePaths) (entered : Option (Text × List Row)) → fault_of app words ≡ []
+    → entered ≡ subcommand_of app words → Some (texts_of paths) ≡ make_paths_of entered → AreMakePathsOf words paths
+are_make_paths words paths entered none same at = (none, ap make_paths_of (sym same) ∙ sym at)
+
+-- paths of `make` that were not found
+pub no_make_paths : (words : List Text) (entered : Option (Text × List Row)) → entered ≡ subcommand_of app words
+    → None ≡ make_paths_of entered → make_paths_of (subcommand_of app words) ≡ None
+no_make_paths words entered same at = ap make_paths_of (sym same) ∙ sym at

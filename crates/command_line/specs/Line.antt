@@ -1,12 +1,13 @@
 -- The command line: which words name which subcommand and paths, over `clap`'s own account of a command.
-use Rattle.std.specs.Prelude.{◌≡◌, List, [], Option, Some, None, option_and_then, if◌then◌else◌, codes, true}
+use Rattle.std.specs.Prelude.{◌≡◌, List, [], Option, Some, None, option_and_then, option_map, if◌then◌else◌, codes, true}
 use Rattle.std.specs.Str.{bytes_eq}
 use Rattle.command_line.specs.Words.{kind_of, Kinds}
 use Rattle.clap.specs.Words.{App, Row, Rule, Shape, Text, fault_of, first_of, new_app, new_rule, subcommand_of, with_rule, with_subcommand, IsAmong}
 use Rattle.clap.specs.Simple.{new_shape}
 use Rattle.clap.specs.declared.builder.action.ArgAction.TheVariants.{Set}
+use Rattle.commands.specs.declared.makes.MakePaths.{MakePaths}
 use Rattle.command_line.specs.declared.line.asked.Line.{Line}
-use Rattle.command_line.specs.declared.line.asked.Line.TheVariants.{Check, Run, Try}
+use Rattle.command_line.specs.declared.line.asked.Line.TheVariants.{Check, Make, Run, Try}
 use Rattle.command_line.specs.declared.line.asked.LineError.{LineError}
 use Rattle.command_line.specs.declared.line.asked.LineError.TheVariants.{Usage, NoMemory}
 
@@ -29,7 +30,7 @@ bare_app = record {
   subs = [];
 }
 
--- `check IMAGE`, `run JOB` and `try JOB`
+-- `check IMAGE`, `run JOB`, `try JOB` and `make IMAGE JOB OUT`
 abbrev pub check_shape : Shape
 check_shape = path_shape (codes "check") (codes "image")
 
@@ -39,25 +40,47 @@ run_shape = path_shape (codes "run") (codes "job")
 abbrev pub try_shape : Shape
 try_shape = path_shape (codes "try") (codes "job")
 
+abbrev pub make_shape : Shape
+make_shape = (with_rule (with_rule (with_rule (new_app (codes "make"))
+    (path_rule (codes "image"))) (path_rule (codes "job"))) (path_rule (codes "out"))).top
+
 -- `rvvbox` as `clap` sees it
 abbrev pub app : App
-app = with_subcommand (with_subcommand (with_subcommand bare_app check_shape) run_shape) try_shape
+app = with_subcommand (with_subcommand (with_subcommand (with_subcommand bare_app
+    check_shape) run_shape) try_shape) make_shape
 
 -- the path that matches of a subcommand hold under an id, where the subcommand has this name
 abbrev pub path_of : Text → Text → Option (Text × List Row) → Option Text
 path_of name id entered =
     option_and_then (λ p. if bytes_eq p.0 name then first_of id p.1 else None) entered
 
+-- the paths that matches hold, where the subcommand is `make`: of the image, of the job, and of
+-- the file that is written
+abbrev pub make_paths_of : Option (Text × List Row) → Option (Text × Text × Text)
+make_paths_of entered =
+    option_and_then (λ image. option_and_then (λ job. option_map (λ out. (image, job, out))
+    (path_of (codes "make") (codes "out") entered)) (path_of (codes "make") (codes "job") entered))
+    (path_of (codes "make") (codes "image") entered)
+
+abbrev pub texts_of : MakePaths → Text × Text × Text
+texts_of paths = (paths.image.now, paths.job.now, paths.out.now)
+
 -- `clap` takes the words, and its matches give the subcommand of this name this path
 abbrev pub IsPathOf : List Text → Text → Text → Text → Type 0
 IsPathOf words name id path =
     (fault_of app words ≡ []) × (path_of name id (subcommand_of app words) ≡ Some path)
 
--- the subcommand and its path
+-- the same of the paths of `make`
+abbrev pub AreMakePathsOf : List Text → MakePaths → Type 0
+AreMakePathsOf words paths =
+    (fault_of app words ≡ []) × (make_paths_of (subcommand_of app words) ≡ Some (texts_of paths))
+
+-- the subcommand and its paths
 abbrev pub IsLineOf : List Text → Line → Type 0
 IsLineOf words (Check image) = IsPathOf words (codes "check") (codes "image") image.now
 IsLineOf words (Run job) = IsPathOf words (codes "run") (codes "job") job.now
 IsLineOf words (Try job) = IsPathOf words (codes "try") (codes "job") job.now
+IsLineOf words (Make paths) = AreMakePathsOf words paths
 
 -- a fault of usage is one of those that `clap` finds, of the kind that the error shows
 abbrev pub IsFaultIn : Kinds → LineError → Type 0

@@ -7,13 +7,14 @@ use Rattle.clap.specs.Words.{Text}
 use Rattle.commands.specs.Checks.{Checks}
 use Rattle.commands.specs.Ending.{Ends}
 use Rattle.commands.specs.Files.{OfTable}
+use Rattle.commands.specs.Makes.{Makes}
 use Rattle.commands.specs.Runs.{Runs}
 use Rattle.commands.specs.Tries.{Tries}
 use Rattle.command_line.specs.Asked.{is_help}
 use Rattle.command_line.specs.Line.{IsLineOf, app}
 use Rattle.commands.specs.Files.{Files}
 use Rattle.command_line.specs.declared.line.asked.Line.{Line}
-use Rattle.command_line.specs.declared.line.asked.Line.TheVariants.{Check, Run, Try}
+use Rattle.command_line.specs.declared.line.asked.Line.TheVariants.{Check, Make, Run, Try}
 use Rattle.commands.specs.declared.stop.Status.{Status}
 use Rattle.commands.specs.declared.stop.Status.TheVariants as status
 
@@ -30,11 +31,13 @@ abbrev pub IsStatusFor : Kinds → Status → Type 0
 IsStatusFor [] s = Unit {0}
 IsStatusFor kinds s = IsRefusal kinds s
 
--- what a command line's subcommand does with its path
+-- what a command line's subcommand does with its paths
 abbrev pub Does : Files → Line → Option (List ℕ) → Option (List ℕ) → Status → Type 0
 Does holds (Check image) old new = Checks holds image.now old new
 Does holds (Run job) old new = OfTable holds job.now (λ table. Runs holds table old new)
 Does holds (Try job) old new = OfTable holds job.now (λ table. Tries holds table old new)
+Does holds (Make paths) old new =
+    OfTable holds paths.job.now (λ table. Makes holds paths.image.now table old new)
 
 -- words in which `clap` finds no fault end with what the subcommand does that they name, or with a reason to stop
 abbrev pub IsAsAsked : Files → List Text → Option (List ℕ) → Option (List ℕ) → Status → Type 0

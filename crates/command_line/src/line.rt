@@ -1,16 +1,17 @@
 //! The command line.
 ghost use Rattle.std.specs.Prelude.{◌≡◌, IfErr, IfOk, codes, false, map, option_map};
 ghost use Rattle.clap.specs.Words.{app_of, rule_of, shape_of, subcommand_rows_of};
-ghost use Rattle.clap.specs.Words.{with_subcommand};
+ghost use Rattle.clap.specs.Words.{with_rule, with_subcommand};
 ghost use Rattle.clap.specs.declared.builder.command.Command.TheViews.{out-Command as fields_of};
-ghost use Rattle.command_line.specs.Line.{IsFaultOf, IsLineOf, app, path_of, path_rule};
-ghost use Rattle.command_line.specs.Line.{check_shape, run_shape, try_shape};
+ghost use Rattle.command_line.specs.Line.{IsFaultOf, IsLineOf, app, make_paths_of, path_of, path_rule};
+ghost use Rattle.command_line.specs.Line.{check_shape, make_shape, run_shape, texts_of, try_shape};
 
 pub mod asked;
 
 use asked::{Line, LineError};
 use clap::error::ErrorKind;
 use clap::{Arg, ArgAction, ArgMatches, Command};
+use commands::MakePaths;
 use std::alloc::{AllocError, Global};
 
 /// A path that has to be there, under `id`, shown as `name`.
@@ -58,6 +59,36 @@ fn try_command<'a>(alloc: Global) -> Result<Command<'a>, AllocError>
         .arg(job)
 }
 
+/// `command` with one more path, under `id`, shown as `name`.
+fn with_path<'a>(
+    alloc: Global,
+    command: Command<'a>,
+    id: &'a str,
+    name: &'a str,
+    help: &'a str,
+) -> Result<Command<'a>, AllocError>
+    requires { (fields_of command).has_globals ≡ false }
+    ensures app { IfOk result
+        (λ c. app_of c ≡ with_rule (app_of command.entry) (path_rule id.entry.now)) }
+    ensures local { IfOk result (λ c. (fields_of c).has_globals ≡ false) }
+{
+    let path = path_argument(alloc, id, name, help);
+    command.arg(path)
+}
+
+/// `make IMAGE JOB OUT`.
+fn make_command<'a>(alloc: Global) -> Result<Command<'a>, AllocError>
+    ensures shape { IfOk result (λ c. shape_of c ≡ make_shape) }
+    ensures local { IfOk result (λ c. (fields_of c).has_globals ≡ false) }
+{
+    let bare = Command::new(alloc, "make").about(
+        "Makes a certificate of an image for a job's parameters, and writes the image with it",
+    );
+    let image = with_path(alloc, bare, "image", "IMAGE", "The image file")?;
+    let job = with_path(alloc, image, "job", "JOB", "The job file")?;
+    with_path(alloc, job, "out", "OUT", "The image file that is written")
+}
+
 /// `command` with one more subcommand.
 fn with<'a>(command: Command<'a>, sub: Command<'a>) -> Result<Command<'a>, AllocError>
     requires { (fields_of sub).has_globals ≡ false }
@@ -78,7 +109,9 @@ fn program<'a>(alloc: Global) -> Result<Command<'a>, AllocError>
         .disable_help_subcommand(true);
     let checking = with(bare, check_command(alloc)?)?;
     let running = with(checking, run_command(alloc)?)?;
-    with(running, try_command(alloc)?)
+    let trying = with(running, try_command(alloc)?)?;
+    let making = make_command(alloc)?;
+    with(trying, making)
 }
 
 /// The path under `id` of the subcommand `name`, where that one was used.
@@ -87,6 +120,16 @@ fn path<'a>(matches: &ArgMatches<'a>, name: &str, id: &str) -> Option<&'a str>
         ≡ path_of name.now id.now (subcommand_rows_of matches.now) }
 {
     matches.subcommand_matches(name)?.get_str(id)
+}
+
+/// The paths of `make`, where that one was used.
+fn make_paths<'a>(matches: &ArgMatches<'a>) -> Option<MakePaths<'a>>
+    ensures { option_map texts_of result ≡ make_paths_of (subcommand_rows_of matches.now) }
+{
+    let image = path(matches, "make", "image")?;
+    let job = path(matches, "make", "job")?;
+    let out = path(matches, "make", "out")?;
+    Some(MakePaths { image, job, out })
 }
 
 /// What the words ask for, of which the first is the program's name.
@@ -107,6 +150,8 @@ pub fn line<'a>(alloc: Global, words: &'a [&'a str]) -> Result<Line<'a>, LineErr
                 Ok(Line::Run { job })
             } else if let Some(job) = path(&matches, "try", "job") {
                 Ok(Line::Try { job })
+            } else if let Some(paths) = make_paths(&matches) {
+                Ok(Line::Make(paths))
             } else {
                 unreachable!()
             }

@@ -6,7 +6,7 @@ ghost use Rattle.command_line.specs.Program.{IsAsAsked, IsStatusFor};
 
 use crate::line::asked::Line;
 use crate::line::line;
-use commands::{Status, Store, check_image, run_job, try_job};
+use commands::{Status, Store, check_image, make_image, run_job, try_job};
 use std::alloc::Global;
 use std::io::{Read, Write};
 
@@ -33,6 +33,7 @@ pub fn perform<'a, S: Store, I: Read, O: Write, E: Write>(
         Ok(Line::Check { image }) => check_image(alloc, image, store, output, errors),
         Ok(Line::Run { job }) => run_job(alloc, job, store, output, errors),
         Ok(Line::Try { job }) => try_job(alloc, job, store, output, errors),
+        Ok(Line::Make(paths)) => make_image(alloc, paths, store, output, errors),
         Err(error) => error.tell(output, errors),
     }
 }

@@ -39,6 +39,7 @@ ends_before does (stop.Image error) = tt
 ends_before does stop.NoCertificate = tt
 ends_before does (stop.Certificate error) = tt
 ends_before does (stop.Check error) = tt
+ends_before does (stop.Make error) = tt
 ends_before does (stop.Open error) = tt
 ends_before does stop.Memory = tt
 ends_before does stop.Output = tt

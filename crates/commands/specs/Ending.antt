@@ -2,6 +2,8 @@
 use Rattle.std.specs.Prelude.{◌≡◌, ℕ, List, Result, Ok, Err}
 use Rattle.block_checker.specs.declared.errors.CheckError.{CheckError}
 use Rattle.block_checker.specs.declared.errors.CheckError.TheVariants as check_error
+use Rattle.cert_maker.specs.declared.errors.MakeError.{MakeError}
+use Rattle.cert_maker.specs.declared.errors.MakeError.TheVariants as make_error
 use Rattle.commands.specs.Words.{CertError, OpenError}
 use Rattle.cert_note.specs.declared.refusals.CertError.TheVariants as certificate_error
 use Rattle.elf_image.specs.declared.error.ElfError.{ElfError}
@@ -38,6 +40,7 @@ status_of (stop.Image error) = status.Refused
 status_of stop.NoCertificate = status.Refused
 status_of (stop.Certificate error) = status.Refused
 status_of (stop.Check error) = status.Refused
+status_of (stop.Make error) = status.Refused
 status_of (stop.Open error) = status.Refused
 status_of stop.Memory = status.Memory
 status_of stop.Output = status.File
@@ -59,6 +62,10 @@ stop_of_certificate error = stop.Certificate error
 abbrev pub stop_of_check : CheckError → Stop
 stop_of_check check_error.NoMemory = stop.Memory
 stop_of_check error = stop.Check error
+
+abbrev pub stop_of_make : MakeError → Stop
+stop_of_make make_error.NoMemory = stop.Memory
+stop_of_make error = stop.Make error
 
 abbrev pub stop_of_open : OpenError → Stop
 stop_of_open open_error.NoMemory = stop.Memory

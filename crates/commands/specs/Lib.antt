@@ -3,6 +3,7 @@ pub mod Checks
 pub mod Ending
 pub mod Files
 pub mod Hex
+pub mod Makes
 pub mod Runs
 pub mod Texts
 pub mod Trial

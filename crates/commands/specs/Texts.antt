@@ -2,6 +2,8 @@
 use Rattle.std.specs.Prelude.{ℕ, List, [], ◌++◌, codes, Option, Some, None}
 use Rattle.block_checker.specs.declared.errors.CheckError.{CheckError}
 use Rattle.block_checker.specs.Refusals.{address_of, name_of}
+use Rattle.cert_maker.specs.Make as maker
+use Rattle.cert_maker.specs.declared.errors.MakeError.{MakeError}
 use Rattle.cert_note.specs.declared.refusals.CertError.TheVariants as certificate_error
 use Rattle.elf_image.specs.declared.error.ElfError.{ElfError}
 use Rattle.elf_image.specs.declared.error.ElfError.TheVariants as image_error
@@ -63,13 +65,16 @@ open_error_name open_error.NoMemory = codes "NoMemory"
 
 -- ---- the lines
 
--- how a refusal of the check is told: the error's name, and its address where it has one
+-- how a refusal of the check or of the maker is told: the error's name, and its address where it has one
 abbrev pub with_address : List ℕ → Option ℕ → List ℕ
 with_address name None = name
 with_address name (Some address) = name ++ (codes " at " ++ hex_text address)
 
 abbrev pub reason_text : CheckError → List ℕ
 reason_text error = with_address (name_of error) (address_of error)
+
+abbrev pub misfit_text : MakeError → List ℕ
+misfit_text error = with_address (maker.name_of error) (maker.address_of error)
 
 abbrev pub refused_line : List ℕ → List ℕ
 refused_line name = codes "refused: " ++ (name ++ codes "\n")
@@ -82,6 +87,7 @@ stop_text (stop.Image error) = refused_line (image_error_name error)
 stop_text stop.NoCertificate = codes "refused: NoCertificate\n"
 stop_text (stop.Certificate error) = refused_line (certificate_error_name error)
 stop_text (stop.Check error) = refused_line (reason_text error)
+stop_text (stop.Make error) = refused_line (misfit_text error)
 stop_text (stop.Open error) = refused_line (open_error_name error)
 stop_text stop.Memory = codes "out of memory\n"
 stop_text stop.Output = []

@@ -60,7 +60,7 @@ fn block_at(blocks: &[Block], address: u32) -> Option<&Block>
 }
 
 /// The budget of the block at an accepted image's entry.
-fn entry_budget(accepted: &Accepted) -> Budget
+pub fn entry_budget(accepted: &Accepted) -> Budget
     requires { Passes accepted.now }
     ensures { option_map (λ block. block.budget)
         (block_at_of accepted.now.image.entry accepted.now.certificate.blocks) ≡ Some result }
@@ -75,7 +75,7 @@ fn entry_budget(accepted: &Accepted) -> Budget
 }
 
 /// Prints what an accepted image's runs take at most.
-fn print_bound<O: Write>(budget: Budget, output: &mut O) -> io::Result<()>
+pub fn print_bound<O: Write>(budget: Budget, output: &mut O) -> io::Result<()>
     ensures { OnOk result
         (Appends (O.contents output.old) (O.contents output.new) (bound_line budget)) }
 {

@@ -13,7 +13,7 @@ use std::alloc::Global;
 use toml::Table;
 
 /// The file at `path`.
-fn read<'a, S: Store>(alloc: Global, path: &'a str, store: &mut S) -> Result<Vec<u8>, Stop<'a>>
+pub fn read<'a, S: Store>(alloc: Global, path: &'a str, store: &mut S) -> Result<Vec<u8>, Stop<'a>>
     ensures { IfOk result (λ bytes. S.holds path.entry.now bytes.items) }
 {
     match store.read(alloc, path) {

@@ -1,6 +1,6 @@
 //! The subcommands: what each reads, in order, what it does with it, and what it prints and writes.
 //!
-//! Each has a module: `checks`, `runs` and `tries`. What they share stands in the others: `files` (what is read, and the out
+//! Each has a module: `checks`, `makes`, `runs` and `tries`. What they share stands in the others: `files` (what is read, and the out
 //! files), `accepted` (an image with its certificate), `trial` (what comes of a run), `stop` (statuses and reasons to stop),
 //! `texts` (how those are told), `store` (where files are) and `hex`.
 #![tactic(auto)]
@@ -9,6 +9,7 @@ mod accepted;
 mod checks;
 mod files;
 mod hex;
+mod makes;
 mod runs;
 mod stop;
 mod store;
@@ -17,6 +18,7 @@ mod trial;
 mod tries;
 
 pub use checks::check_image;
+pub use makes::{MakePaths, make_image};
 pub use runs::run_job;
 pub use stop::{Status, Stop};
 pub use store::{Disk, Store, StoreError, read_all};

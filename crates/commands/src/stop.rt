@@ -3,12 +3,13 @@ ghost use Rattle.std.specs.Io.KnownBytes.{Appends};
 ghost use Rattle.std.specs.Prelude.{◌≡◌, OnOk};
 ghost use Rattle.commands.specs.Ending.{IsTold, code_of, status_of, stop_at_file};
 ghost use Rattle.commands.specs.Ending.{stop_of_certificate, stop_of_check, stop_of_image};
-ghost use Rattle.commands.specs.Ending.{stop_of_job, stop_of_open};
+ghost use Rattle.commands.specs.Ending.{stop_of_job, stop_of_make, stop_of_open};
 ghost use Rattle.commands.specs.Texts.{stop_text};
 ghost use Rattle.commands.specs.declared.stop.Stop.TheVariants.{Memory};
 
 use crate::store::StoreError;
 use block_checker::CheckError;
+use cert_maker::MakeError;
 use cert_note::CertError;
 use elf_image::ElfError;
 use job_file::JobError;
@@ -65,6 +66,8 @@ pub enum Stop<'a> {
     Certificate(CertError),
     /// The check refuses the image with its certificate.
     Check(CheckError),
+    /// No certificate is made of the image.
+    Make(MakeError),
     /// The arguments of a run are refused, or its most steps.
     Open(OpenError),
     /// Memory ran out.
@@ -95,6 +98,7 @@ impl Stop<'_> {
             | Stop::NoCertificate
             | Stop::Certificate(_)
             | Stop::Check(_)
+            | Stop::Make(_)
             | Stop::Open(_) => Status::Refused,
             Stop::Memory => Status::Memory,
         }
@@ -152,6 +156,17 @@ impl From<CheckError> for Stop<'_> {
             Stop::Memory
         } else {
             Stop::Check(error)
+        }
+    }
+}
+
+impl From<MakeError> for Stop<'_> {
+    ghost from_gives = { λ error stop. stop ≡ stop_of_make error };
+
+    fn from(error: MakeError) -> Self {
+        match error {
+            MakeError::NoMemory => Stop::Memory,
+            MakeError::NotALoopOfTheClass(_) => Stop::Make(error),
         }
     }
 }

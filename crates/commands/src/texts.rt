@@ -5,7 +5,6 @@ ghost use Rattle.commands.specs.Texts.{job_error_name, open_error_name};
 
 use crate::hex::Hex;
 use crate::stop::Stop;
-use block_checker::CheckError;
 use cert_note::CertError;
 use elf_image::ElfError;
 use job_file::JobError;
@@ -78,21 +77,22 @@ fn open_error_name(error: OpenError) -> &'static str
     }
 }
 
-/// Why a check refused: the error's name, and the address of the word at which it stopped, if there is one.
+/// Why a check or a maker refused: the error's name, and the address of the word at which it stopped, if there is one.
 #[derive(Drop)]
 struct Reason {
-    error: CheckError,
+    name: &'static str,
+    address: Option<u32>,
 }
 
 impl fmt::Display for Reason {
     ghost use Rattle.std.specs.Prelude.{Some};
-    ghost use Rattle.commands.specs.Texts.{reason_text};
+    ghost use Rattle.commands.specs.Texts.{with_address};
 
-    ghost output = { λ reason. Some (reason_text reason.error) };
+    ghost output = { λ reason. Some (with_address reason.name.now reason.address) };
 
     fn fmt<W: fmt::Write>(&self, f: &mut fmt::Formatter<W>) -> fmt::Result {
-        let name = self.error.name();
-        match self.error.address() {
+        let name = self.name;
+        match self.address {
             Some(address) => write!(f, "{name} at {}", Hex(address)),
             None => write!(f, "{name}"),
         }
@@ -112,7 +112,20 @@ impl fmt::Display for Stop<'_> {
             Stop::Image(error) => writeln!(f, "refused: {}", image_error_name(*error)),
             Stop::NoCertificate => writeln!(f, "refused: NoCertificate"),
             Stop::Certificate(error) => writeln!(f, "refused: {}", certificate_error_name(*error)),
-            Stop::Check(error) => writeln!(f, "refused: {}", Reason { error: *error }),
+            Stop::Check(error) => {
+                let reason = Reason {
+                    name: error.name(),
+                    address: error.address(),
+                };
+                writeln!(f, "refused: {reason}")
+            }
+            Stop::Make(error) => {
+                let reason = Reason {
+                    name: error.name(),
+                    address: error.address(),
+                };
+                writeln!(f, "refused: {reason}")
+            }
             Stop::Open(error) => writeln!(f, "refused: {}", open_error_name(*error)),
             Stop::Memory => writeln!(f, "out of memory"),
             Stop::Output => Ok(()),

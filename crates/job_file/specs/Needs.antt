@@ -4,6 +4,7 @@ use Rattle.std.specs.Borrow.{Bor}
 use Rattle.toml.specs.Data.{Members}
 use Rattle.job_file.specs.Job.{Text, all_there, job_of}
 use Rattle.job_file.specs.declared.values.Job.{Job}
+use Rattle.job_file.specs.declared.values.MakeJob.{MakeJob}
 use Rattle.job_file.specs.declared.values.Param.{Param}
 use Rattle.job_file.specs.declared.values.Param.TheVariants as param
 use Rattle.job_file.specs.declared.values.RunJob.{RunJob}
@@ -12,6 +13,8 @@ use Rattle.job_file.specs.declared.values.RunParam.TheVariants as given
 use Rattle.job_file.specs.declared.values.TryJob.{TryJob}
 use Rattle.job_file.specs.declared.values.TryParam.{TryParam}
 use Rattle.job_file.specs.declared.values.TryParam.TheVariants as taken
+use Rattle.region_mem.specs.declared.parameter.Param.{Param as Declared}
+use Rattle.region_mem.specs.declared.parameter.Param.TheVariants as declared
 
 -- ---- `try`: it needs `image`, `vlen`, `agnostic`, `max`, each scalar's `value` and each buffer's `mode` and `file`
 
@@ -61,6 +64,28 @@ run_job_of j = option_and_then (λ image. option_and_then (λ vlen. option_and_t
 -- what `run` takes of a job's table
 abbrev pub run_job_in : Members → Option (RunJob Text)
 run_job_in ms = option_and_then run_job_of (job_of ms)
+
+-- ---- `make`: it needs `vlen`, each scalar's `lo` and `hi` and each buffer's `mode` and `size`
+
+abbrev pub make_param_of : Param Text → Option Declared
+make_param_of param.None = Some declared.None
+make_param_of (param.Scalar lo hi value) =
+    option_and_then (λ lo. option_map (λ hi. declared.Scalar lo hi) hi) lo
+make_param_of (param.Buffer mode size file out) =
+    option_and_then (λ mode. option_map (λ size. declared.Buffer mode size) size) mode
+
+unfoldable pub make_params_of : List (Param Text) → Option (List Declared)
+make_params_of params = all_there (map make_param_of params)
+
+abbrev pub make_job_of : Job Text → Option MakeJob
+make_job_of j = option_and_then (λ vlen. option_map (λ params. record {
+  vlen = vlen;
+  params = params;
+}) (make_params_of j.params)) j.vlen
+
+-- what `make` takes of a job's table
+abbrev pub make_job_in : Members → Option MakeJob
+make_job_in ms = option_and_then make_job_of (job_of ms)
 
 -- ---- the same with texts that are lent
 

@@ -1,14 +1,14 @@
 //! Job files: the values of a TOML table, and what a subcommand takes of them.
 //!
 //! A text is parsed to a table (`parse`). The table's values are those of its keys, each of which may be missing (`job_in`).
-//! A subcommand has a struct of what it needs, in which nothing is missing (`try_job_in`, `run_job_in`).
+//! A subcommand has a struct of what it needs, in which nothing is missing (`try_job_in`, `run_job_in`, `make_job_in`).
 #![tactic(auto)]
 
 ghost use Rattle.std.specs.Prelude.{◌≡◌, IfErr, IfOk, Some, option_map};
 ghost use Rattle.toml.specs.Parse.{parse_document};
 ghost use Rattle.toml.specs.View.{table_view};
 ghost use Rattle.job_file.specs.Job.{IsTableFault, job_fields, job_lent, job_of};
-ghost use Rattle.job_file.specs.Needs.{run_job_in, run_job_lent, try_job_in, try_job_lent};
+ghost use Rattle.job_file.specs.Needs.{make_job_in, run_job_in, run_job_lent, try_job_in, try_job_lent};
 
 mod fields;
 mod needs;
@@ -17,7 +17,7 @@ mod values;
 
 use std::alloc::Global;
 use toml::Table;
-pub use values::{Job, JobError, Param, RunJob, RunParam, TryJob, TryParam};
+pub use values::{Job, JobError, MakeJob, Param, RunJob, RunParam, TryJob, TryParam};
 
 /// The table of a job file.
 ///
@@ -88,4 +88,12 @@ pub fn run_job_in<'a>(table: &'a Table) -> Option<RunJob<&'a str>>
     ensures { option_map run_job_lent result ≡ run_job_in (table_view table.now) }
 {
     needs::run_job(job_in(table)?)
+}
+
+/// What `make` takes of a job's table, or `None` where the table breaks a rule of job files or lacks
+/// a key that `make` needs: `vlen`, each scalar's `lo` and `hi`, and each buffer's `mode` and `size`.
+pub fn make_job_in(table: &Table) -> Option<MakeJob>
+    ensures { result ≡ make_job_in (table_view table.now) }
+{
+    needs::make_job(job_in(table)?)
 }

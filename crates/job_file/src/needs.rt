@@ -1,11 +1,12 @@
 //! What a subcommand takes of a job: each value that it needs.
 ghost use Rattle.std.specs.Prelude.{◌≡◌, map, option_map};
 ghost use Rattle.job_file.specs.Job.{job_lent, param_lent};
+ghost use Rattle.job_file.specs.Needs.{make_job_of, make_param_of, make_params_of};
 ghost use Rattle.job_file.specs.Needs.{run_job_lent, run_job_of, run_param_lent, run_param_of};
 ghost use Rattle.job_file.specs.Needs.{run_params_of, try_params_of};
 ghost use Rattle.job_file.specs.Needs.{try_job_lent, try_job_of, try_param_lent, try_param_of};
 
-use crate::values::{Job, Param, Places, RunJob, RunParam, TryJob, TryParam};
+use crate::values::{Job, MakeJob, Param, Places, RunJob, RunParam, TryJob, TryParam};
 
 /// What `try` takes of a parameter: a scalar's `value`, a buffer's `mode` and `file`.
 fn try_param<'a>(param: Param<&'a str>) -> Option<TryParam<&'a str>>
@@ -85,5 +86,41 @@ pub fn run_job<'a>(job: Job<&'a str>) -> Option<RunJob<&'a str>>
         agnostic: job.agnostic?,
         max: job.max?,
         params: run_params(job.params)?.at,
+    })
+}
+
+/// What `make` takes of a parameter: a scalar's `lo` and `hi`, a buffer's `mode` and `size`.
+fn make_param(param: Param<&str>) -> Option<region_mem::Param>
+    ensures { result ≡ make_param_of (param_lent param.entry) }
+{
+    match param {
+        Param::None => Some(region_mem::Param::None),
+        Param::Scalar { lo, hi, .. } => Some(region_mem::Param::Scalar { lo: lo?, hi: hi? }),
+        Param::Buffer { mode, size, .. } => Some(region_mem::Param::Buffer {
+            mode: mode?,
+            size: size?,
+        }),
+    }
+}
+
+/// What `make` takes of the parameters, by place.
+fn make_params(params: [Param<&str>; 8]) -> Option<Places<region_mem::Param>>
+    ensures { option_map (λ made. made.at) result
+        ≡ make_params_of (map param_lent params.entry) }
+{
+    let mut made = [region_mem::Param::None; 8];
+    for place in 0..8 {
+        made[place] = make_param(params[place])?;
+    }
+    Some(Places { at: made })
+}
+
+/// What `make` takes of a job: `vlen` and the parameters.
+pub fn make_job(job: Job<&str>) -> Option<MakeJob>
+    ensures { result ≡ make_job_of (job_lent job.entry) }
+{
+    Some(MakeJob {
+        vlen: job.vlen?,
+        params: make_params(job.params)?.at,
     })
 }

@@ -81,6 +81,13 @@ pub struct RunJob<T> {
     pub params: [RunParam<T>; 8],
 }
 
+/// What `make` takes of a job, with a parameter for each place.
+#[derive(Clone, Copy, Debug, PartialEq, Eq)]
+pub struct MakeJob {
+    pub vlen: Vlen,
+    pub params: [region_mem::Param; 8],
+}
+
 /// Why a text is no job.
 #[derive(Clone, Copy, Debug, PartialEq, Eq, Error)]
 pub enum JobError {

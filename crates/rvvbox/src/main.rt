@@ -1,6 +1,7 @@
 //! `rvvbox` runs RISC-V vector kernels in a sandbox. `rvvbox check IMAGE` checks an image against its certificate. `rvvbox
 //! run JOB` runs the image that a job file names on the job's buffers, if it is accepted: such a run ends within its bound,
-//! without a fault. `rvvbox try JOB` runs any image, with every test at each step. Each prints what came of it.
+//! without a fault. `rvvbox try JOB` runs any image, with every test at each step. `rvvbox make IMAGE JOB OUT` makes the
+//! certificate of a plain loop, and writes the image with it. Each prints what came of it.
 #![tactic(auto)]
 
 use command_line::perform;

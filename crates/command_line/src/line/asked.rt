@@ -3,7 +3,7 @@ ghost use Rattle.std.specs.Prelude.{◌≡◌, ◌⊎◌, true, false};
 ghost use Rattle.command_line.specs.Asked.{is_request, status_of_line};
 ghost use Rattle.command_line.specs.declared.line.asked.LineError.TheVariants.{NoMemory};
 
-use commands::{Status, Stop};
+use commands::{MakePaths, Status, Stop};
 use std::alloc::AllocError;
 use std::io::Write;
 
@@ -16,6 +16,8 @@ pub enum Line<'a> {
     Run { job: &'a str },
     /// Runs the image of the job at `job`, accepted or not, with every test at each step.
     Try { job: &'a str },
+    /// Makes the certificate of an image for a job, and writes the image with it.
+    Make(MakePaths<'a>),
 }
 
 /// Why a command line asks for nothing that can be done.

@@ -1,7 +1,7 @@
 use Rattle.std.proofs.Common.{rules, ◌≡◌, map, ℕ, List}
 use Rattle.clap.specs.Words.{app_of, subcommand_rows_of}
 use Rattle.command_line.specs.Line.{app}
-use Rattle.command_line.proofs.LineLemmas.{is_path, no_fault, no_path, no_path_of, path_named, same_entered}
+use Rattle.command_line.proofs.LineLemmas.{are_make_paths, is_path, no_fault, no_make_paths, no_path, no_path_of, path_named, same_entered}
 use Rattle.command_line.proofs.line.line.Goals as goal
 
 pub returns-in-Some-clause-line : goal.returns-in-Some-clause-line
@@ -25,6 +25,13 @@ returns-in-Some-path-2-clause-line c =
     let same = same_entered _ words _ (subcommand_rows_of c.in-Ok.matches) is c.in-Ok.ensures.matches in
     is_path words _ _ _ _ (no_fault _ words is c.in-Ok.ensures.kinds) same c.in-Some-path-2.ensures
 
+pub returns-in-Some-make_paths-clause-line : goal.returns-in-Some-make_paths-clause-line
+returns-in-Some-make_paths-clause-line c =
+    let words : List (List ℕ) = map (λ w. w.now) c.args.words.now in
+    let is : app_of c.in_ok-command.command ≡ app = search rules in
+    let same = same_entered _ words _ (subcommand_rows_of c.in-Ok.matches) is c.in-Ok.ensures.matches in
+    are_make_paths words c.in-Some-make_paths.paths _ (no_fault _ words is c.in-Ok.ensures.kinds) same c.in-Some-make_paths.ensures
+
 pub unreachable-requires : goal.unreachable-requires
 unreachable-requires c =
     let words : List (List ℕ) = map (λ w. w.now) c.args.words.now in
@@ -33,4 +40,5 @@ unreachable-requires c =
     let named = path_named words (no_fault _ words is c.in-Ok.ensures.kinds) in
     let no_image = no_path_of words _ _ _ same (c.in_default.ensures) in
     let no_job = no_path_of words _ _ _ same (c.in_default-path.ensures) in
-    no_path _ (named no_image no_job) (no_path_of words _ _ _ same (c.in_default-path-2.ensures))
+    let no_try = no_path_of words _ _ _ same (c.in_default-path-2.ensures) in
+    no_path _ (named no_image no_job no_try) (no_make_paths words _ same (c.in_default-make_paths.ensures))

@@ -1,0 +1,110 @@
+-- What `make` does.
+use Rattle.std.specs.Prelude.{◌≡◌, ℕ, List, Option, Some, None, Result, Ok, Err, option_map}
+use Rattle.std.specs.Global.{Vec}
+use Rattle.std.specs.Io.KnownBytes.{Appends}
+use Rattle.std.specs.Result.{result_map_both}
+use Rattle.block_checker.specs.Accepted.{AcceptedView}
+use Rattle.block_checker.specs.Passes.{block_at}
+use Rattle.cert_maker.specs.Certificates as maker
+use Rattle.cert_maker.specs.Loops.{loop_of}
+use Rattle.cert_maker.specs.declared.errors.MakeError.TheVariants.{NotALoopOfTheClass}
+use Rattle.cert_maker.specs.declared.loops.Loop.{Loop}
+use Rattle.cert_note.specs.Certificate.{CertificateView}
+use Rattle.cert_note.specs.Spelling.{spelling}
+use Rattle.cert_note.specs.declared.values.Budget.{Budget}
+use Rattle.elf_image.specs.Attached.{attach_fault, attached_of}
+use Rattle.elf_image.specs.Faults.{fault_of}
+use Rattle.elf_image.specs.File.{image_of}
+use Rattle.elf_image.specs.declared.error.ElfError.{ElfError}
+use Rattle.job_file.specs.Job.{Text}
+use Rattle.job_file.specs.Needs.{make_job_in}
+use Rattle.job_file.specs.declared.values.JobError.TheVariants.{BadKey}
+use Rattle.job_file.specs.declared.values.MakeJob.{MakeJob}
+use Rattle.region_mem.specs.Parameter.{parameters_of}
+use Rattle.region_mem.specs.declared.parameter.Param.{Param}
+use Rattle.toml.specs.Data.{Members}
+use Rattle.commands.specs.Accepted.{IsOrWant, accepted_of}
+use Rattle.commands.specs.Checks.{bound_line}
+use Rattle.commands.specs.Ending.{stop_of_image}
+use Rattle.commands.specs.Files.{Files}
+use Rattle.commands.specs.Words.{ImageView}
+use Rattle.commands.specs.declared.stop.Status.{Status}
+use Rattle.commands.specs.declared.stop.Status.TheVariants as status
+use Rattle.commands.specs.declared.stop.Stop.{Stop}
+use Rattle.commands.specs.declared.stop.Stop.TheVariants as stop
+
+-- what follows a value, or the reason to stop
+infixl 10 ◌>>=◌
+abbrev pub ◌>>=◌ : {A B : Type 0} → Result A Stop → (A → Result B Stop) → Result B Stop
+(Ok a) >>= next = next a
+(Err reason) >>= next = Err reason
+
+-- ---- the file with a certificate
+
+-- what there is where no fault is found, or the reason to stop
+abbrev pub unless_fault : {A : Type 0} → Option ElfError → A → Result A Stop
+unless_fault None a = Ok a
+unless_fault (Some fault) a = Err (stop_of_image fault)
+
+-- the image that a file spells
+abbrev pub image_in : List ℕ → Result ImageView Stop
+image_in file = unless_fault (fault_of file) (image_of file)
+
+-- the certificate of the loop that was read in an image, or the reason why there is none
+abbrev pub if_read : MakeJob → ImageView → List Param → Result (Loop × ℕ) ℕ
+    → Result CertificateView Stop
+if_read job image params (Err address) = Err (stop.Make (NotALoopOfTheClass address))
+if_read job image params (Ok through) =
+    Ok (maker.certificate_of image params job.vlen through.0 through.1)
+
+abbrev pub if_valid : MakeJob → ImageView → Option (List Param) → Result CertificateView Stop
+if_valid job image None = Err (stop.Job BadKey)
+if_valid job image (Some params) = if_read job image params (loop_of image params)
+
+-- the certificate that is made for a job of the loop at an image's entry
+abbrev pub certificate_for : MakeJob → ImageView → Result CertificateView Stop
+certificate_for job image = if_valid job image (parameters_of job.params)
+
+-- the file with a certificate in a note
+abbrev pub with_certificate : List ℕ → CertificateView → Result (List ℕ) Stop
+with_certificate file certificate =
+    let note = spelling certificate in
+    unless_fault (attach_fault file note) (attached_of file note)
+
+-- the file with the certificate that is made of it for a job, or the reason to stop
+abbrev pub made_of : MakeJob → List ℕ → Result (List ℕ) Stop
+made_of job file = do
+  image ← image_in file
+  certificate ← certificate_for job image
+  with_certificate file certificate
+
+-- what is accepted where a file that was made is read back
+abbrev pub accepted_in : MakeJob → List ℕ → Result AcceptedView Stop
+accepted_in job bytes = do
+  image ← image_in bytes
+  accepted_of (Some job.vlen) image
+
+-- the bytes of an answer, or its reason to stop, are what is defined, or it is want of memory
+abbrev pub AnswersBytes : Result (List ℕ) Stop → Result (Vec ℕ) Stop → Type 0
+AnswersBytes defined answer =
+    IsOrWant defined (result_map_both (λ bytes. bytes.items) (λ reason. reason) answer)
+
+-- ---- what is done: `old` and `new` are what standard output has before and after
+
+-- `make` on a job's table and an image's path: the image's file with the certificate that is made
+-- is accepted when it is read back, and its bound is printed
+pub record Makes (holds : Files) (path : Text) (table : Members) (old new : Option (List ℕ))
+    (s : Status) : Type 0 where
+  pub job : MakeJob
+  pub asked : make_job_in table ≡ Some job
+  pub file : List ℕ
+  pub there : holds path file
+  pub bytes : List ℕ
+  pub made : made_of job file ≡ Ok bytes
+  pub accepted : AcceptedView
+  pub passes : accepted_in job bytes ≡ Ok accepted
+  pub budget : Budget
+  pub entry : option_map (λ block. block.budget)
+      (block_at accepted.image.entry accepted.certificate.blocks) ≡ Some budget
+  pub told : Appends old new (bound_line budget)
+  pub done : s ≡ status.Done

@@ -1,0 +1,130 @@
+//! `make`: an image with the certificate that is made of its loop.
+ghost use Rattle.std.specs.Prelude.{IfOk};
+ghost use Rattle.block_checker.specs.Accepted.{Passes};
+ghost use Rattle.commands.specs.Accepted.{IsOrWant};
+ghost use Rattle.commands.specs.Ending.{Ends};
+ghost use Rattle.commands.specs.Files.{OfTable};
+ghost use Rattle.commands.specs.Makes.{AnswersBytes, Makes, accepted_in, certificate_for};
+ghost use Rattle.commands.specs.Makes.{image_in, made_of, with_certificate};
+ghost use Rattle.commands.specs.Trial.{OrMemory};
+ghost use Rattle.toml.specs.View.{table_view};
+
+use crate::accepted::accept;
+use crate::checks::{entry_budget, print_bound};
+use crate::files::{read, read_table};
+use crate::stop::{Status, Stop, told};
+use crate::store::Store;
+use block_checker::Accepted;
+use cert_maker::make;
+use cert_note::Certificate;
+use elf_image::{Image, attach};
+use job_file::{JobError, MakeJob, make_job_in};
+use region_mem::Parameters;
+use std::alloc::Global;
+use std::io::Write;
+use toml::Table;
+
+/// The paths that `make` is given.
+#[derive(Clone, Copy, Debug)]
+pub struct MakePaths<'a> {
+    /// The image file that is read.
+    pub image: &'a str,
+    /// The job file.
+    pub job: &'a str,
+    /// The image file that is written.
+    pub out: &'a str,
+}
+
+/// `make`: makes the certificate of the loop in an image, for the parameters and the length of
+/// vector registers of a job, writes the image with it, and prints the bound that it states. An
+/// image that the job names is not read.
+///
+/// In this order, up to the first that is refused or fails, which is told: the job file, the job,
+/// the image file, the image, the parameters, the certificate, the file with it, that file read
+/// back, its certificate, the check, the file that is written, the printed line.
+#[tactic(auto, using(crate::proofs::CommandLemmas::told_of_table, crate::proofs::CommandLemmas::status_told))]
+pub fn make_image<'a, S: Store, O: Write, E: Write>(
+    alloc: Global,
+    paths: MakePaths<'a>,
+    store: &mut S,
+    output: &mut O,
+    errors: &mut E,
+) -> Status
+    ensures { Ends (OfTable S.holds paths.entry.job.now (λ table.
+        Makes S.holds paths.entry.image.now table
+        (O.contents output.old) (O.contents output.new))) result }
+{
+    match read_table(alloc, paths.job, store) {
+        Ok(table) => told(make_table(alloc, &table, paths, store, output), errors),
+        Err(stop) => stop.tell(errors),
+    }
+}
+
+/// `make` on a job's table.
+fn make_table<'a, S: Store, O: Write>(
+    alloc: Global,
+    table: &Table,
+    paths: MakePaths<'a>,
+    store: &mut S,
+    output: &mut O,
+) -> Result<Status, Stop<'a>>
+    ensures { IfOk result (Makes S.holds paths.entry.image.now (table_view table.now)
+        (O.contents output.old) (O.contents output.new)) }
+{
+    let job = make_job_in(table).ok_or(JobError::BadKey)?;
+    let file = read(alloc, paths.image, store)?;
+    let bytes = made(alloc, &job, file.as_slice())?;
+    let accepted = read_back(alloc, &job, bytes.as_slice())?;
+    if let Err(error) = store.write(paths.out, bytes.as_slice()) {
+        return Err(Stop::at_file(error, paths.out));
+    }
+    match print_bound(entry_budget(&accepted), output) {
+        Ok(()) => Ok(Status::Done),
+        Err(_) => Err(Stop::Output),
+    }
+}
+
+/// The image that a file spells.
+fn image_in<'a>(alloc: Global, file: &[u8]) -> Result<Image, Stop<'a>>
+    ensures { IsOrWant (image_in file.now) result }
+{
+    Ok(elf_image::read(alloc, file)?)
+}
+
+/// The certificate that is made for a job of the loop at an image's entry.
+fn certificate_for<'a>(alloc: Global, job: &MakeJob, image: &Image) -> Result<Certificate, Stop<'a>>
+    ensures { OrMemory (certificate_for job.now image.now) result }
+{
+    let parameters = Parameters::new(job.params).ok_or(JobError::BadKey)?;
+    Ok(make(alloc, image, &parameters, job.vlen)?)
+}
+
+/// A file with a certificate in a note.
+fn with_certificate<'a>(
+    alloc: Global,
+    file: &[u8],
+    certificate: &Certificate,
+) -> Result<Vec<u8>, Stop<'a>>
+    ensures { AnswersBytes (with_certificate file.now certificate.now) result }
+{
+    let note = cert_note::write(alloc, certificate)?;
+    Ok(attach(alloc, file, note.as_slice())?)
+}
+
+/// A file with the certificate that is made of it for a job.
+fn made<'a>(alloc: Global, job: &MakeJob, file: &[u8]) -> Result<Vec<u8>, Stop<'a>>
+    ensures { AnswersBytes (made_of job.now file.now) result }
+{
+    let image = image_in(alloc, file)?;
+    let certificate = certificate_for(alloc, job, &image)?;
+    with_certificate(alloc, file, &certificate)
+}
+
+/// What is accepted where a file that was made is read back.
+fn read_back<'a>(alloc: Global, job: &MakeJob, bytes: &[u8]) -> Result<Accepted, Stop<'a>>
+    ensures answer { IsOrWant (accepted_in job.now bytes.now) result }
+    ensures passes { IfOk result Passes }
+{
+    let image = image_in(alloc, bytes)?;
+    accept(alloc, image, Some(job.vlen))
+}
