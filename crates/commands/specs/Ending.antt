@@ -80,6 +80,12 @@ abbrev pub stop_at_file : StoreError → Bor (List ℕ) → Stop
 stop_at_file store_error.Failed path = stop.File path
 stop_at_file store_error.NoMemory path = stop.Memory
 
+-- a reason to stop that a file at this path gives
+abbrev pub IsOfFile : List ℕ → Stop → Type 0
+IsOfFile path (stop.File at) = at.now ≡ path
+IsOfFile path stop.Memory = Unit {0}
+IsOfFile path other = ⊥
+
 -- the status of a run that was printed
 abbrev pub status_of_end : End → Status
 status_of_end end.Ended = status.Done

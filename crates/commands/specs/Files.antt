@@ -1,5 +1,6 @@
 -- The files of a job: what is read before its run, and what is written after it.
-use Rattle.std.specs.Prelude.{◌≡◌, ◌<◌, ℕ, List, length, get_or, Option, Some, None}
+use Rattle.std.specs.Prelude.{◌≡◌, ◌<◌, ℕ, List, [], ◌∷◌, length, get_or, take, Option, Some, None, Result, Ok, Err}
+use Rattle.std.specs.List.{filter_map, zip}
 use Rattle.elf_image.specs.Faults.{fault_of}
 use Rattle.elf_image.specs.File.{image_of}
 use Rattle.job_file.specs.Job.{Text}
@@ -8,8 +9,11 @@ use Rattle.job_file.specs.declared.values.RunParam.TheVariants as given
 use Rattle.region_mem.specs.declared.arguments.Arg.TheVariants as argument
 use Rattle.toml.specs.Data.{Members}
 use Rattle.toml.specs.Parse.{parse_document}
+use Rattle.commands.specs.Ending.{IsOfFile}
 use Rattle.commands.specs.Words.{Argument, ImageView}
+use Rattle.commands.specs.Written.{Gains, Written}
 use Rattle.commands.specs.declared.stop.Status.{Status}
+use Rattle.commands.specs.declared.stop.Stop.{Stop}
 
 -- ---- what is read: `holds path bytes` says that the file at a path may be read as these bytes
 
@@ -47,3 +51,32 @@ OfTable holds path does s = (table : Members) × IsTableAt holds path table × d
 abbrev pub out_file : RunParam Text × Argument → Option (Text × List ℕ)
 out_file (given.Buffer file (Some path), argument.Buffer bytes) = Some (path, bytes)
 out_file other = None
+
+-- the out files of places, in their order
+abbrev pub outs_of : List (RunParam Text) → List Argument → Written
+outs_of params args = filter_map out_file (zip params args)
+
+-- the file was written, or the reason to stop is of its path
+abbrev pub IsWritten : Option Written → Option Written → Text × List ℕ → Result (Unit {0}) Stop → Type 0
+IsWritten old new file (Ok done) = Gains old new (file ∷ [])
+IsWritten old new file (Err reason) = Gains old new [] × IsOfFile file.0 reason
+
+-- the same of the out file of a place, where it has one
+abbrev pub IsOutWritten : Option Written → Option Written → Option (Text × List ℕ) → Result (Unit {0}) Stop → Type 0
+IsOutWritten old new (Some file) result = IsWritten old new file result
+IsOutWritten old new None (Ok done) = Gains old new []
+IsOutWritten old new None (Err reason) = ⊥
+
+-- the out files of the places before one were written, and its own was not
+pub record IsUnwritten (old new : Option Written) (params : List (RunParam Text)) (args : List Argument) (reason : Stop) : Type 0 where
+  pub place : ℕ
+  pub path : Text
+  pub bytes : List ℕ
+  pub out : out_file (get_or params place given.None, get_or args place argument.None) ≡ Some (path, bytes)
+  pub before : Gains old new (outs_of (take place params) (take place args))
+  pub why : IsOfFile path reason
+
+-- all out files were written, by place, or those before the first that was not
+abbrev pub AreWritten : Option Written → Option Written → List (RunParam Text) → List Argument → Result (Unit {0}) Stop → Type 0
+AreWritten old new params args (Ok done) = Gains old new (outs_of params args)
+AreWritten old new params args (Err reason) = IsUnwritten old new params args reason

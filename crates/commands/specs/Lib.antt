@@ -9,3 +9,4 @@ pub mod Texts
 pub mod Trial
 pub mod Tries
 pub mod Words
+pub mod Written

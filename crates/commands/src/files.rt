@@ -2,7 +2,8 @@
 ghost use Rattle.std.specs.Prelude.{◌≡◌, IfOk, map, option_map, replicate};
 ghost use Rattle.job_file.specs.Needs.{run_param_lent};
 ghost use Rattle.toml.specs.View.{table_view};
-ghost use Rattle.commands.specs.Files.{ArePassed, IsImageAt, IsPassed, IsTableAt, out_file};
+ghost use Rattle.commands.specs.Files.{ArePassed, AreWritten, IsImageAt, IsOutWritten, IsPassed};
+ghost use Rattle.commands.specs.Files.{IsTableAt, IsWritten, out_file};
 
 use crate::stop::Stop;
 use crate::store::Store;
@@ -114,18 +115,43 @@ fn out_file<'a, 'b>(param: &RunParam<&'a str>, arg: &'b Arg) -> Option<(&'a str,
     }
 }
 
-/// Writes the out files of a job, by place.
+/// Writes the file at `path`.
+fn write<'a, S: Store>(path: &'a str, bytes: &[u8], store: &mut S) -> Result<(), Stop<'a>>
+    ensures { IsWritten (S.written store.old) (S.written store.new)
+        (path.entry.now, bytes.now) result }
+{
+    match store.write(path, bytes) {
+        Ok(()) => Ok(()),
+        Err(error) => Err(Stop::at_file(error, path)),
+    }
+}
+
+/// Writes the out file of a place, where it has one.
+fn write_out<'a, S: Store>(
+    param: &RunParam<&'a str>,
+    arg: &Arg,
+    store: &mut S,
+) -> Result<(), Stop<'a>>
+    ensures { IsOutWritten (S.written store.old) (S.written store.new)
+        (out_file (run_param_lent param.now, arg.now)) result }
+{
+    match out_file(param, arg) {
+        Some((path, bytes)) => write(path, bytes, store),
+        None => Ok(()),
+    }
+}
+
+/// Writes the out files of a job, by place, up to the first that can't be written.
 pub fn write_outs<'a, S: Store>(
     params: &[RunParam<&'a str>; 8],
-    args: &Args,
+    args: &[Arg; 8],
     store: &mut S,
-) -> Result<(), Stop<'a>> {
+) -> Result<(), Stop<'a>>
+    ensures { AreWritten (S.written store.old) (S.written store.new)
+        (map run_param_lent params.now) args.now result }
+{
     for place in 0..8 {
-        if let Some((path, bytes)) = out_file(&params[place], &args.places[place])
-            && let Err(error) = store.write(path, bytes)
-        {
-            return Err(Stop::at_file(error, path));
-        }
+        write_out(&params[place], &args[place], store)?;
     }
     Ok(())
 }

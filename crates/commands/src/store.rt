@@ -43,17 +43,23 @@ impl From<io::Error> for StoreError {
 
 /// Files by their paths.
 pub trait Store {
-    ghost use Rattle.std.specs.Prelude.{ℕ, List};
+    ghost use Rattle.std.specs.Prelude.{ℕ, List, [], Option, None};
+    ghost use Rattle.commands.specs.Written.{Gains, GainsOnOk, Written};
 
     // which bytes a file at a path may be read as
     ghost holds: { List ℕ → List ℕ → Type 0 } = { λ _ _. Unit {0} };
 
+    // the files that were written whole, in their order, where they are known
+    ghost written: { Self → Option Written } = { λ _. None };
+
     /// The bytes of the file at `path`.
     fn read(&mut self, alloc: Global, path: &str) -> Result<Vec<u8>, StoreError>
-        ensures { IfOk result (λ bytes. holds path.now bytes.items) };
+        ensures bytes { IfOk result (λ bytes. holds path.now bytes.items) }
+        ensures files { Gains (written self.old) (written self.new) [] };
 
     /// Makes a file at `path` that has these bytes, in place of what was there.
-    fn write(&mut self, path: &str, bytes: &[u8]) -> Result<(), StoreError>;
+    fn write(&mut self, path: &str, bytes: &[u8]) -> Result<(), StoreError>
+        ensures { GainsOnOk (written self.old) (written self.new) (path.now, bytes.now) result };
 }
 
 /// The files of the system. A path that is not absolute starts at the working directory.

@@ -1,8 +1,11 @@
 //! What comes of a run: how it ended, how that is told, and which status the program has then.
-ghost use Rattle.std.specs.Prelude.{◌≡◌, IfOk, OnOk};
+ghost use Rattle.std.specs.Prelude.{◌≡◌, IfOk, OnOk, map};
 ghost use Rattle.std.specs.Io.KnownBytes.{Appends};
+ghost use Rattle.job_file.specs.Needs.{run_param_lent};
 ghost use Rattle.commands.specs.Ending.{status_of_end};
+ghost use Rattle.commands.specs.Files.{outs_of};
 ghost use Rattle.commands.specs.Trial.{line_of};
+ghost use Rattle.commands.specs.Written.{Gains};
 
 use crate::files::write_outs;
 use crate::hex::Hex;
@@ -89,8 +92,10 @@ pub fn finish<'a, S: Store, O: Write>(
     ensures done { IfOk result (λ status. status ≡ status_of_end trial.now.end) }
     ensures told { OnOk result
         (Appends (O.contents output.old) (O.contents output.new) (line_of trial.now)) }
+    ensures wrote { OnOk result (Gains (S.written store.old) (S.written store.new)
+        (outs_of (map run_param_lent params.now) trial.now.args.places)) }
 {
-    write_outs(params, &trial.args, store)?;
+    write_outs(params, &trial.args.places, store)?;
     match trial.print(output) {
         Ok(()) => Ok(trial.status()),
         Err(_) => Err(Stop::Output),

@@ -1,0 +1,95 @@
+-- Files that are written one after another.
+use Rattle.std.proofs.Common.{◌≡◌, ◌∙◌, ◌<◌, ◌≤◌, ℕ, zero, suc, List, [], ◌∷◌, ◌++◌, length, map, take, get_or, Option, Some, None, Ok, Err, refl, sym, ap, subst, append_assoc, arith}
+use Rattle.std.proofs.lemmas.List.{append-nil, length-map, take_all}
+use Rattle.std.specs.Borrow.{Bor}
+use Rattle.std.specs.List.{cons_option}
+use Rattle.job_file.specs.Job.{Text}
+use Rattle.job_file.specs.Needs.{run_param_lent}
+use Rattle.commands.specs.Files.{IsOutWritten, IsUnwritten, out_file, outs_of}
+use Rattle.commands.specs.Words.{Argument}
+use Rattle.commands.specs.Written.{Gains, Written}
+use Rattle.job_file.specs.declared.values.RunParam.{RunParam}
+use Rattle.job_file.specs.declared.values.RunParam.TheVariants as given
+use Rattle.region_mem.specs.declared.arguments.Arg.TheVariants as argument
+use Rattle.commands.specs.declared.stop.Stop.{Stop}
+
+-- ---- what a store has
+
+pub gains_none : (o : Option Written) → Gains o o []
+gains_none None = tt
+gains_none (Some had) = sym (append-nil had)
+
+pub gains_more : (a b c : Option Written) (xs ys : Written) → Gains a b xs → Gains b c ys → Gains a c (xs ++ ys)
+gains_more None b c xs ys first second = tt
+gains_more (Some had) None c xs ys first second = absurd first
+gains_more (Some had) (Some more) None xs ys first second = absurd second
+gains_more (Some had) (Some more) (Some has) xs ys first second = second ∙ ap (λ (zs : Written). zs ++ ys) first ∙ append_assoc had xs ys
+
+-- ---- one more place
+
+cons-append : (o : Option (Text × List ℕ)) (xs ys : Written) → cons_option o (xs ++ ys) ≡ cons_option o xs ++ ys
+cons-append None xs ys = refl
+cons-append (Some x) xs ys = refl
+
+outs-step : (params : List (RunParam (Bor Text))) (args : List Argument) (k : ℕ) → k < length params → k < length args
+    → outs_of (take (suc k) (map run_param_lent params)) (take (suc k) args)
+    ≡ outs_of (take k (map run_param_lent params)) (take k args)
+    ++ cons_option (out_file (run_param_lent (get_or params k given.None), get_or args k argument.None)) []
+outs-step [] args k some same = absurd (omega (arith, some))
+outs-step (p ∷ ps) [] k some same = absurd (omega (arith, same))
+outs-step (p ∷ ps) (a ∷ rest) zero some same = refl
+outs-step (p ∷ ps) (a ∷ rest) (suc k) some same =
+    let o = out_file (run_param_lent p, a) in
+    let later = outs-step ps rest k (omega (arith, some)) (omega (arith, same)) in
+    ap (cons_option o) later ∙ cons-append o (outs_of (take k (map run_param_lent ps)) (take k rest)) _
+
+of_one : (mid new : Option Written) (o : Option (Text × List ℕ)) → IsOutWritten mid new o (Ok tt) → Gains mid new (cons_option o [])
+of_one mid new None is = is
+of_one mid new (Some file) is = is
+
+-- an element that is there, whatever stands for one that is not
+at_default : (args : List Argument) (k : ℕ) (one other : Argument) → k < length args → get_or args k one ≡ get_or args k other
+at_default [] k one other some = absurd (omega (arith, some))
+at_default (a ∷ rest) zero one other some = refl
+at_default (a ∷ rest) (suc k) one other some = at_default rest k one other (omega (arith, some))
+
+-- the out file of a place is written after those of the places before
+pub outs_more : (old mid new : Option Written) (params : List (RunParam (Bor Text))) (args : List Argument) (k : ℕ) → k < length params → k < length args
+    → Gains old mid (outs_of (take k (map run_param_lent params)) (take k args))
+    → (arg : Argument) → IsOutWritten mid new (out_file (run_param_lent (get_or params k given.None), get_or args k arg)) (Ok tt)
+    → Gains old new (outs_of (take (suc k) (map run_param_lent params)) (take (suc k) args))
+outs_more old mid new params args k some same before arg is =
+    rw (outs-step params args k some same, at_default args k argument.None arg same) (gains_more old mid new _ _ before (of_one mid new _ is))
+
+get_or-lent : (params : List (RunParam (Bor Text))) (k : ℕ) → get_or (map run_param_lent params) k given.None ≡ run_param_lent (get_or params k given.None)
+get_or-lent [] k = refl
+get_or-lent (p ∷ ps) zero = refl
+get_or-lent (p ∷ ps) (suc k) = get_or-lent ps k
+
+-- the out file of a place that is not written
+pub outs_fail : (old mid new : Option Written) (params : List (RunParam (Bor Text))) (args : List Argument) (k : ℕ) (reason : Stop) → k < length args
+    → Gains old mid (outs_of (take k (map run_param_lent params)) (take k args))
+    → (arg : Argument) → IsOutWritten mid new (out_file (run_param_lent (get_or params k given.None), get_or args k arg)) (Err reason)
+    → IsUnwritten old new (map run_param_lent params) args reason
+outs_fail old mid new params args k reason same before arg is =
+    go (out_file (run_param_lent (get_or params k given.None), get_or args k arg)) refl is
+  where
+    go : (o : Option (Text × List ℕ)) → out_file (run_param_lent (get_or params k given.None), get_or args k arg) ≡ o
+        → IsOutWritten mid new o (Err reason) → IsUnwritten old new (map run_param_lent params) args reason
+    go None at is = absurd is
+    go (Some file) at is = record {
+      place = k;
+      path = file.0;
+      bytes = file.1;
+      out = rw (get_or-lent, at_default args k argument.None arg same) at;
+      before = subst (Gains old new) (append-nil _) (gains_more old mid new _ [] before is.0);
+      why = is.1;
+    }
+
+-- the out files of all places
+pub outs_all : (old new : Option Written) (params : List (RunParam (Bor Text))) (args : List Argument) (k : ℕ) → length params ≤ k → length args ≤ k
+    → Gains old new (outs_of (take k (map run_param_lent params)) (take k args)) → Gains old new (outs_of (map run_param_lent params) args)
+outs_all old new params args k few fewer is =
+    let lent : length (map run_param_lent params) ≤ k = simp length-map few in
+    subst (λ (ps : List (RunParam Text)). Gains old new (outs_of ps args)) (take_all k (map run_param_lent params) lent)
+    (subst (λ (bs : List Argument). Gains old new (outs_of (take k (map run_param_lent params)) bs)) (take_all k args fewer) is)
