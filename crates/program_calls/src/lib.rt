@@ -6,6 +6,8 @@ mod accepted;
 #[cfg(test)]
 mod limits;
 #[cfg(test)]
+mod making;
+#[cfg(test)]
 mod reading;
 #[cfg(test)]
 mod shelf;

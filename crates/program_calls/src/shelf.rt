@@ -6,11 +6,11 @@ use std::io;
 use std::io::{Read, Write};
 use std::process::Abort;
 
-/// Files in memory, of which one may fail to be read or written, and a line for each call.
+/// Files in memory, of which one may fail to be read or written, and a line for each call. What is written can be read.
 #[derive(Drop)]
 pub struct Shelf {
     alloc: Global,
-    files: Vec<(&'static str, Vec<u8>)>,
+    files: Vec<(String, Vec<u8>)>,
     pub failing: &'static str,
     calls: String,
 }
@@ -25,7 +25,8 @@ impl Shelf {
         }
     }
 
-    pub(crate) fn put(&mut self, path: &'static str, bytes: &[u8]) -> Result<(), AllocError> {
+    pub(crate) fn put(&mut self, path: &str, bytes: &[u8]) -> Result<(), AllocError> {
+        let path = String::from_str(self.alloc, path)?;
         let bytes = Vec::from_slice(self.alloc, bytes)?;
         self.files.push((path, bytes))?;
         Ok(())
@@ -35,7 +36,7 @@ impl Shelf {
     fn get(&self, path: &str) -> Result<&[u8], StoreError> {
         let mut found = Err(StoreError::Failed);
         for file in &self.files {
-            if file.0 == path && path != self.failing {
+            if file.0.as_str() == path && path != self.failing {
                 found = Ok(file.1.as_slice());
             }
         }
@@ -62,7 +63,7 @@ impl Store for Shelf {
         if path == self.failing {
             return Err(StoreError::Failed);
         }
-        Ok(())
+        Ok(self.put(path, bytes)?)
     }
 }
 
