@@ -60,6 +60,10 @@ Moves vlenb (asked.Memory a n) bs old new = new ≡ old
 Moves vlenb (asked.List a n) bs old new = new ≡ old
 Moves vlenb asked.Quit bs old new = new ≡ old
 
+-- the breakpoints and the run after a command
+abbrev pub Carries : ℕ → Command → List ℕ → List ℕ → SessionView → SessionView → Type 0
+Carries vlenb command bs after old new = Moves vlenb command bs old new × (after ≡ set_after command bs)
+
 -- what a command tells of the run as it then stands
 abbrev pub text_of : ℕ → Command → SessionView → List ℕ
 text_of vlenb (asked.Break a) s = break_text a

@@ -17,4 +17,6 @@ pub use rv_listing::{Failed, Over, Sink};
 pub use words::parse;
 
 #[cfg(test)]
+mod scripts;
+#[cfg(test)]
 mod tests;

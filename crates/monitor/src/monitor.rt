@@ -1,6 +1,6 @@
 //! Commands on a run, carried out and told.
 ghost use Rattle.std.specs.Prelude.{◌≡◌, [], None, Some, Err, IfErr, IfOk, IfSome, OnOk};
-ghost use Rattle.monitor.specs.Commands.{Answers, Moves, fault_in, order_of, set_after, text_of};
+ghost use Rattle.monitor.specs.Commands.{Answers, Carries, fault_in, order_of, text_of};
 ghost use Rattle.rv_listing.specs.Sinks.{Told};
 ghost use Rattle.sandbox_run.specs.Stops.{IsStop};
 
@@ -43,9 +43,8 @@ impl<'a, const VLENB: usize> Monitor<'a, VLENB> {
             × (self.new.breakpoints.items ≡ self.old.breakpoints.items)) }
         ensures done { OnOk result
             ((fault_in command.now self.old.breakpoints.items self.old.session.now ≡ None)
-            × Moves VLENB command.now self.old.breakpoints.items self.old.session.now
-            self.new.session.now
-            × (self.new.breakpoints.items ≡ set_after command.now self.old.breakpoints.items)) }
+            × Carries VLENB command.now self.old.breakpoints.items self.new.breakpoints.items
+            self.old.session.now self.new.session.now) }
     {
         match command {
             Command::Break(address) => set(&mut self.breakpoints, *address),
@@ -111,68 +110,60 @@ impl<'a, const VLENB: usize> Monitor<'a, VLENB> {
             × (self.new.breakpoints.items ≡ self.old.breakpoints.items)
             × (out.new ≡ out.old)) }
         ensures carried { fault_in command.now self.old.breakpoints.items self.old.session.now ≡ None
-            → (Moves VLENB command.now self.old.breakpoints.items self.old.session.now
-            self.new.session.now
-            × (self.new.breakpoints.items ≡ set_after command.now self.old.breakpoints.items)) }
+            → Carries VLENB command.now self.old.breakpoints.items self.new.breakpoints.items
+            self.old.session.now self.new.session.now }
         ensures told { fault_in command.now self.old.breakpoints.items self.old.session.now ≡ None
             → Answers VLENB result command.now self.new.session.now
             (W.contents out.old) (W.contents out.new) (W.failures out.old) (W.failures out.new) }
+        ensures stop { IsStop VLENB self.new.session.now.first self.new.session.now.steps
+            self.new.session.now.machine }
     {
         match self.carry(command) {
-            Ok(()) => match self.tell(command, out) {
-                Ok(()) => Ok(command.flow()),
-                Err(_) => Err(MonError::Write),
-            },
-            Err(error) => Err(error),
-        }
-    }
-
-    /// Does what a line asks for, and tells what came of it.
-    fn answer<W: Sink>(&mut self, line: &str, out: &mut W) -> Result<Flow, MonError>
-        ensures same_reference { self.new.session.ghost_name ≡ self.old.session.ghost_name }
-        ensures refused { IfErr (order_of line.now self.old.breakpoints.items self.old.session.now)
-            (λ e. (result ≡ Err e)
-            × (self.new.session.now ≡ self.old.session.now)
-            × (self.new.breakpoints.items ≡ self.old.breakpoints.items)
-            × (out.new ≡ out.old)) }
-        ensures carried { IfOk (order_of line.now self.old.breakpoints.items self.old.session.now)
-            (λ command. Moves VLENB command self.old.breakpoints.items self.old.session.now
-            self.new.session.now
-            × (self.new.breakpoints.items ≡ set_after command self.old.breakpoints.items)) }
-        ensures told { IfOk (order_of line.now self.old.breakpoints.items self.old.session.now)
-            (λ command. Answers VLENB result command self.new.session.now
-            (W.contents out.old) (W.contents out.new) (W.failures out.old) (W.failures out.new)) }
-    {
-        match parse(line) {
-            Ok(command) => self.obey(&command, out),
-            Err(error) => Err(error),
+            Ok(()) => {
+                self.session.stands();
+                match self.tell(command, out) {
+                    Ok(()) => Ok(command.flow()),
+                    Err(_) => Err(MonError::Write),
+                }
+            }
+            Err(error) => {
+                self.session.stands();
+                Err(error)
+            }
         }
     }
 
     /// Does what a line asks for, and writes what is told of it.
     ///
     /// # Errors
-    /// The first of: `Unknown`, `BadNumber`, `TooManyBreakpoints`, `NotThere`, `NoBytes`; then nothing was done, and nothing
-    /// written. `Write` where the sink failed: the command is carried out all the same, and its text may be cut.
+    /// The first of: `Unknown`, `BadNumber`, `TooManyBreakpoints`, `NotThere`, `NoBytes`; then nothing
+    /// was done, and nothing written. `Write` where the sink failed: the command is carried out all the
+    /// same, and its text may be cut.
     pub fn command<W: Sink>(&mut self, line: &str, out: &mut W) -> Result<Flow, MonError>
         ensures same_reference { self.new.session.ghost_name ≡ self.old.session.ghost_name }
-        ensures refused { IfErr (order_of line.now self.old.breakpoints.items self.old.session.now)
+        ensures refused { IfErr
+            (order_of line.now self.old.breakpoints.items self.old.session.now)
             (λ e. (result ≡ Err e)
             × (self.new.session.now ≡ self.old.session.now)
             × (self.new.breakpoints.items ≡ self.old.breakpoints.items)
             × (out.new ≡ out.old)) }
-        ensures carried { IfOk (order_of line.now self.old.breakpoints.items self.old.session.now)
-            (λ command. Moves VLENB command self.old.breakpoints.items self.old.session.now
-            self.new.session.now
-            × (self.new.breakpoints.items ≡ set_after command self.old.breakpoints.items)) }
-        ensures told { IfOk (order_of line.now self.old.breakpoints.items self.old.session.now)
+        ensures carried { IfOk
+            (order_of line.now self.old.breakpoints.items self.old.session.now)
+            (λ command. Carries VLENB command self.old.breakpoints.items self.new.breakpoints.items
+            self.old.session.now self.new.session.now) }
+        ensures told { IfOk
+            (order_of line.now self.old.breakpoints.items self.old.session.now)
             (λ command. Answers VLENB result command self.new.session.now
             (W.contents out.old) (W.contents out.new) (W.failures out.old) (W.failures out.new)) }
         ensures stop { IsStop VLENB self.new.session.now.first self.new.session.now.steps
             self.new.session.now.machine }
     {
-        let result = self.answer(line, out);
-        self.session.stands();
-        result
+        match parse(line) {
+            Ok(command) => self.obey(&command, out),
+            Err(error) => {
+                self.session.stands();
+                Err(error)
+            }
+        }
     }
 }

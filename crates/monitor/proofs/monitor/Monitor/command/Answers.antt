@@ -1,6 +1,6 @@
 use Rattle.std.proofs.Common.{refl, sym}
 use Rattle.monitor.proofs.CommandLemmas.{carried_line, none_done, none_line, refused_line}
-use Rattle.monitor.proofs.monitor.Monitor.answer.Goals as goal
+use Rattle.monitor.proofs.monitor.Monitor.command.Goals as goal
 
 pub returns-in-Ok-clause-refused : goal.returns-in-Ok-clause-refused
 returns-in-Ok-clause-refused g c =
