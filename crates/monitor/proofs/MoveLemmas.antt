@@ -1,11 +1,11 @@
 -- Steps of a run, one at a time.
-use Rattle.std.proofs.Common.{◌≡◌, ◌+◌, ◌<◌, ◌≤◌, ◌-◌, ◌==◌, ◌⊎◌, inl, inr, ◌∙◌, ℕ, zero, suc, Bool, true, false, ◌||◌, List, Result, Ok, Err, Option, IsNone, IsSome, refl, sym, ap, arith}
+use Rattle.std.proofs.Common.{◌≡◌, ◌+◌, ◌<◌, ◌≤◌, ◌-◌, ◌==◌, inl, inr, ◌∙◌, ℕ, suc, Bool, true, false, List, Ok, refl, arith}
 use Rattle.std.specs.List.{list_any}
 use Rattle.std.proofs.Math.Nat.{eq-or-lt_of_le}
 use Rattle.sandbox_run.specs.Session.{SessionView}
 use Rattle.vector_core.specs.Machine.{Machine}
 use Rattle.vector_core.specs.MachineStep.{step}
-use Rattle.vector_core.specs.Run.{after, then_step, has_ended, GoesOnUntil}
+use Rattle.vector_core.specs.Run.{after, has_ended}
 use Rattle.monitor.specs.Moves.{Does, GoesOn, stops}
 
 pub does_none : (vlenb : ℕ) (s : SessionView) → Does vlenb 0 s s

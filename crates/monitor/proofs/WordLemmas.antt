@@ -1,6 +1,6 @@
 -- Where a line is cut into words.
-use Rattle.std.proofs.Common.{◌≡◌, ◌+◌, ◌<◌, ◌==◌, ◌∙◌, ℕ, zero, suc, Bool, true, false, List, [], ◌∷◌, ◌++◌, length, get_or, refl, ap, arith}
-use Rattle.monitor.specs.Lines.{before_words, words}
+use Rattle.std.proofs.Common.{◌≡◌, ◌<◌, ◌==◌, ℕ, suc, false, List, [], ◌∷◌, ◌++◌, length, get_or, refl, arith}
+use Rattle.monitor.specs.Lines.{words}
 
 -- no space in a text
 abbrev pub NoSpace : List ℕ → Type 0

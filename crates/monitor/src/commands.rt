@@ -1,6 +1,7 @@
 //! Commands, and what comes of one.
 
 ghost use Rattle.std.specs.Prelude.{◌≡◌};
+ghost use Rattle.monitor.specs.Commands.{flow_of};
 
 use rv_decode::Reg;
 use std::error::Error;
@@ -65,6 +66,26 @@ pub enum MonError {
     NoBytes,
     /// The sink failed. The command was carried out, and its text may be cut.
     Write,
+}
+
+impl Command {
+    /// Whether commands go on after this one.
+    pub(crate) fn flow(&self) -> Flow
+        ensures { result ≡ flow_of self.now }
+    {
+        match self {
+            Command::Break(_)
+            | Command::Delete(_)
+            | Command::Step(_)
+            | Command::Continue
+            | Command::Registers
+            | Command::Vector(_)
+            | Command::Csrs
+            | Command::Memory { .. }
+            | Command::List { .. } => Flow::Go,
+            Command::Quit => Flow::Quit,
+        }
+    }
 }
 
 impl fmt::Display for MonError {

@@ -1,4 +1,4 @@
-use Rattle.std.proofs.Common.{rules, ◌≡◌, ◌<◌, ◌+◌, ◌-◌, suc, false, IsNone, IsSome, ap, sym, ◌∙◌, arith}
+use Rattle.std.proofs.Common.{rules, ◌≡◌, ◌-◌, suc, false, IsNone, IsSome, arith}
 use Rattle.sandbox_run.proofs.SessionLemmas.{not_ended}
 use Rattle.vector_core.specs.Run.{has_ended}
 use Rattle.monitor.proofs.MoveLemmas.{goes_nowhere, goes_past, does_one, does_more, no_stop_more}

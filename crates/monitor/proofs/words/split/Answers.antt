@@ -1,4 +1,4 @@
-use Rattle.std.proofs.Common.{◌≡◌, ◌<◌, arith, Some, None}
+use Rattle.std.proofs.Common.{arith}
 use Rattle.std.proofs.lemmas.Str.Pattern.{split_parts}
 use Rattle.monitor.proofs.WordLemmas.{words-one, words-cut}
 use Rattle.monitor.proofs.words.split.Goals as goal

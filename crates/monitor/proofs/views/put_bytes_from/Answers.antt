@@ -1,0 +1,26 @@
+use Rattle.std.proofs.Common.{◌+◌, ◌∙◌, ℕ, List, refl, arith}
+use Rattle.monitor.specs.Texts.{byte_text}
+use Rattle.monitor.specs.Views.{byte_at}
+use Rattle.monitor.proofs.TextLemmas.{texts_all, texts_more, texts_none, texts_stop}
+use Rattle.monitor.proofs.views.put_bytes_from.Goals as goal
+
+pub loop-offset-init : goal.loop-offset-init
+loop-offset-init g c = record { told = texts_none _ _; same = refl }
+
+pub loop-offset-preserved : goal.loop-offset-preserved
+loop-offset-preserved g c =
+    let text : ℕ → List ℕ = λ i. byte_text (byte_at c.args.session.now.machine.memory (c.args.address + i)) in
+    record {
+      told = texts_more text c.loop-offset.offset _ _ _ c.loop-offset.invariant.told c.in-Ok.ensures.0;
+      same = c.in-Ok.ensures.1 ∙ c.loop-offset.invariant.same;
+    }
+
+pub returns-in-Err : goal.returns-in-Err
+returns-in-Err g c =
+    let text : ℕ → List ℕ = λ i. byte_text (byte_at c.args.session.now.machine.memory (c.args.address + i)) in
+    texts_stop c.in-Err.error text c.loop-offset.offset c.args.count _ _ _ _ _ _ c.loop-offset-test.true (c.loop-offset.invariant.told, c.loop-offset.invariant.same) c.in-Err.ensures
+
+pub returns : goal.returns
+returns g c =
+    let text : ℕ → List ℕ = λ i. byte_text (byte_at c.args.session.now.machine.memory (c.args.address + i)) in
+    (texts_all text c.loop-offset.offset c.args.count _ _ (omega arith) c.loop-offset.invariant.told, c.loop-offset.invariant.same)
