@@ -11,6 +11,7 @@ mod jobs;
 mod legality;
 mod makes;
 mod memory;
+mod monitors;
 mod runs;
 mod sessions;
 mod state;
@@ -25,6 +26,7 @@ use images::Images;
 use jobs::Jobs;
 use legality::Legality;
 use makes::Makes;
+use monitors::Monitors;
 use runs::Runs;
 use sessions::Sessions;
 use steps::Steps;
@@ -41,6 +43,7 @@ fn main(rt: HostRuntime) -> Result<()> {
     run_table(&rt, "orders", "orders.txt", &mut Checks)?;
     run_table(&rt, "sessions", "sessions.txt", &mut Sessions)?;
     run_table(&rt, "makes", "makes.txt", &mut Makes)?;
+    run_table(&rt, "monitors", "monitors.txt", &mut Monitors)?;
     run_table(&rt, "jobs", "jobs.txt", &mut Jobs)?;
     Ok(())
 }

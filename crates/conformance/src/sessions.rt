@@ -8,7 +8,6 @@ use crate::fields::{RowError, bytes, hex};
 use crate::runs::{Case, Last, last_state, read_case, start};
 use crate::state::{Difference, Part, State, VECTOR_BYTES, differ};
 use crate::table::Table;
-use block_checker::Accepted;
 use rv_decode::Reg;
 use sandbox_run::Session;
 use std::alloc::Global;
@@ -29,31 +28,42 @@ impl Table for Sessions {
     }
 }
 
-/// Checks the image at its certificate's own length of vector registers, and runs it at the row's.
+/// What comes of opening the run of a row.
+#[derive(Drop)]
+pub enum Opening<const VLENB: usize> {
+    /// The run, and the state in which it starts.
+    Run(Session<VLENB>, State),
+    /// The refusal, as the row says it.
+    Refusal(String),
+}
+
 fn run<const VLENB: usize>(alloc: Global, case: &Case<'_>) -> Result<Option<String>, RowError>
     requires { IsVlenb VLENB }
 {
-    let file = bytes(alloc, case.image)?;
-    match accept(alloc, file.as_slice(), None) {
-        Ok(accepted) => open::<VLENB>(alloc, &accepted, case),
-        Err(refusal) => case.other_end(alloc, format!(in alloc; "{refusal}")?.as_str()),
+    match open::<VLENB>(alloc, case)? {
+        Opening::Run(session, expected) => finish(alloc, session, expected, case),
+        Opening::Refusal(refusal) => case.other_end(alloc, refusal.as_str()),
     }
 }
 
-/// Runs an accepted image on the row's arguments.
-fn open<const VLENB: usize>(
+/// Checks the image at its certificate's own length of vector registers, and opens its run at the row's.
+pub(crate) fn open<const VLENB: usize>(
     alloc: Global,
-    accepted: &Accepted,
     case: &Case<'_>,
-) -> Result<Option<String>, RowError>
+) -> Result<Opening<VLENB>, RowError>
     requires { IsVlenb VLENB }
 {
+    let file = bytes(alloc, case.image)?;
+    let accepted = match accept(alloc, file.as_slice(), None) {
+        Ok(accepted) => accepted,
+        Err(refusal) => return Ok(Opening::Refusal(format!(in alloc; "{refusal}")?)),
+    };
     let given = case.given(alloc)?;
     let expected = start(accepted.parameters(), &given);
     let Given { params: _, args } = given;
-    match Session::<VLENB>::open(alloc, accepted, args, case.agnostic, case.max) {
-        Ok(session) => finish(alloc, session, expected, case),
-        Err((error, _args)) => case.other_end(alloc, format!(in alloc; "{error:?}")?.as_str()),
+    match Session::<VLENB>::open(alloc, &accepted, args, case.agnostic, case.max) {
+        Ok(session) => Ok(Opening::Run(session, expected)),
+        Err((error, _args)) => Ok(Opening::Refusal(format!(in alloc; "{error:?}")?)),
     }
 }
 
