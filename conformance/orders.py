@@ -5,7 +5,7 @@
 The answers of the rows before the drawn ones were written by hand, and checker.py has to say the same. Those of the drawn rows are checker.py's: the
 kernels of the rows by hand with a place or two changed, in the certificate, its bytes or the code, and small kernels with orders drawn at random.
 
-A row is `VLENB FILE = ANSWER`, as in checks.txt. Where the budget of the block at the entry has a second register, the answer is `accepted C K R K2 R2`.
+A row is `VLENB FILE = ANSWER`, as in checks.txt. Where the budget of the block at the entry has a second register, the answer is `accepted C K R L S`.
 """
 import argparse
 
