@@ -55,7 +55,9 @@ class Hostile(unittest.TestCase):
                 tally = KINDS[name](program(), True, os.cpu_count())
                 print(tally.line())
                 self.assertEqual(tally.differed, [])
-                self.assertTrue(tally.tried and all(tally.counts.values()))
+                self.assertTrue(tally.tried)
+                if name != 'fuzzer':        # its time is fixed, so a slow machine may come to no image that is accepted
+                    self.assertTrue(all(tally.counts.values()))
 
 
 if __name__ == '__main__':
