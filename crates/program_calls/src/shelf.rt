@@ -88,7 +88,7 @@ impl Read for Broken {
 }
 
 /// A static image whose one segment is this code, at 0x10000.
-pub fn image(alloc: Global, code: &[u32]) -> Result<Vec<u8>, AllocError> {
+pub(crate) fn image(alloc: Global, code: &[u32]) -> Result<Vec<u8>, AllocError> {
     let size = u32::try_from(code.len()).unwrap_or(0).wrapping_mul(4);
     let mut file = Vec::from_slice(alloc, b"\x7fELF\x01\x01\x01\0\0\0\0\0\0\0\0\0".as_slice())?;
     let header = [0x00f3_0002, 1, 0x1_0000, 52, 0, 0, 0x0020_0034, 1, 0];
@@ -100,7 +100,7 @@ pub fn image(alloc: Global, code: &[u32]) -> Result<Vec<u8>, AllocError> {
 }
 
 /// Performs `rvvbox` with these words, and asserts its status, what was printed, and the calls of the store.
-pub fn expect<R: Abort + AllocGlobal>(
+pub(crate) fn expect<R: Abort + AllocGlobal>(
     rt: &R,
     words: &[&str],
     shelf: &mut Shelf,
@@ -118,7 +118,7 @@ pub fn expect<R: Abort + AllocGlobal>(
 }
 
 /// Performs `rvvbox` where standard output takes no text, and asserts that nothing is told.
-pub fn expect_silence<R: Abort + AllocGlobal>(rt: &R, words: &[&str], shelf: &mut Shelf) {
+pub(crate) fn expect_silence<R: Abort + AllocGlobal>(rt: &R, words: &[&str], shelf: &mut Shelf) {
     let alloc = rt.alloc();
     let mut errors = Vec::new(alloc);
     let status = perform(alloc, words, shelf, &mut Broken, &mut Broken, &mut errors);
