@@ -15,8 +15,3 @@ pub use monitor::Monitor;
 pub use moves::{go_on, step_at_most};
 pub use rv_listing::{Failed, Over, Sink};
 pub use words::parse;
-
-#[cfg(test)]
-mod scripts;
-#[cfg(test)]
-mod tests;

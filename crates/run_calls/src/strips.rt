@@ -31,7 +31,7 @@ const RAISE: [u32; 10] = [
 ];
 
 /// The kernel, accepted with its certificate for a length of vector registers.
-fn accepted_raise(alloc: Global, vlen: Vlen) -> Result<Accepted, Fail> {
+pub(crate) fn accepted_raise(alloc: Global, vlen: Vlen) -> Result<Accepted, Fail> {
     let mut bytes = Vec::from_slice(alloc, &BYTES)?;
     bytes[2] = match vlen {
         Vlen::V128 => 1,

@@ -17,6 +17,3 @@ mod sink;
 pub use listing::put_listing;
 pub use pieces::{Piece, put_all};
 pub use sink::{Failed, Over, Sink, put};
-
-#[cfg(test)]
-mod tests;
