@@ -278,6 +278,14 @@ class Show(Case):
         self.assertEqual(self.said('show', self.folder / 'bad.elf')[::2], (1, 'certify: refused: Version\n'))
 
 
+class NewHost(unittest.TestCase):
+    """README.md's call of the library."""
+
+    def test_it_is_a_test_word_for_word(self):
+        block = re.search(r'^## As a library\n```rust\n(.*?)^```', (ROOT / 'README.md').read_text(), re.S | re.M)[1]
+        self.assertIn(block, (ROOT / 'crates/run_calls/src/readme.rt').read_text())
+
+
 @unittest.skipUnless(IS_THERE, 'clang-16 or ld.lld-16 is not installed')
 class NewUser(Case):
     """README.md's own kernel, from C to `run`, by its own words."""

@@ -1,4 +1,5 @@
 pub mod Bounds
+pub mod EntryLemmas
 pub mod Finding
 pub mod Instance
 pub mod Passing

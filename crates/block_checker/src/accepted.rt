@@ -1,13 +1,13 @@
 //! An image that passed the check with its certificate.
-ghost use Rattle.std.specs.Prelude.{◌≡◌, ◌*◌, ◌^◌, ◌<◌, IfOk, IfErr, Ok, Err};
+ghost use Rattle.std.specs.Prelude.{◌≡◌, ◌*◌, ◌^◌, ◌<◌, IfOk, IfErr, Ok, Err, Some, option_map};
 ghost use Rattle.std.specs.List.{slice_get};
-ghost use Rattle.block_checker.specs.Passes.{checked as checked_of};
+ghost use Rattle.block_checker.specs.Passes.{block_at as block_at_of, checked as checked_of};
 ghost use Rattle.block_checker.specs.Accepted.{IsAnswer};
 ghost use Rattle.block_checker.specs.Bound.{place_number as place_number_of, entry_number as entry_number_of};
 
 use crate::checks::{block_at, checked};
 use crate::errors::CheckError;
-use cert_note::Certificate;
+use cert_note::{Budget, Certificate};
 use elf_image::Image;
 use region_mem::{Param, Parameters, STACK_END};
 use scalar_core::EXIT;
@@ -119,6 +119,18 @@ fn times(factor: u32, number: u32) -> u128
     u128::from(factor) * u128::from(number)
 }
 
+/// The budget of the block at the entry of an image that passed the check.
+fn entry_budget<A: Allocator>(image: &Image<A>, certificate: &Certificate<A>, vlen: Vlen) -> Budget
+    requires { checked_of image.now certificate.now vlen ≡ Ok tt }
+    ensures { option_map (λ block. block.budget)
+        (block_at_of image.now.entry certificate.now.blocks) ≡ Some result }
+{
+    match block_at(certificate, image.entry()) {
+        Some(block) => block.budget,
+        None => unreachable!(),
+    }
+}
+
 impl<A: Allocator> Accepted<A> {
     ghost use Rattle.std.specs.Prelude.{◌≡◌};
     ghost use Rattle.block_checker.specs.Bound.{bound_of};
@@ -159,6 +171,14 @@ impl<A: Allocator> Accepted<A> {
     {
         let _segments = self.image.segments();
         let _contents = self.certificate.contents();
+    }
+
+    /// The budget that the certificate states for the block at the image's entry.
+    pub fn budget(&self) -> Budget
+        ensures { option_map (λ block. block.budget)
+            (block_at_of self.now.image.entry self.now.certificate.blocks) ≡ Some result }
+    {
+        entry_budget(&self.image, &self.certificate, self.vlen)
     }
 
     /// How many instructions a run on these arguments takes at most: the number of a scalar argument stands at its place, and

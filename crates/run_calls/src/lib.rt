@@ -13,6 +13,8 @@ mod monitoring;
 #[cfg(test)]
 mod orders;
 #[cfg(test)]
+mod readme;
+#[cfg(test)]
 mod refusing;
 #[cfg(test)]
 mod runs;

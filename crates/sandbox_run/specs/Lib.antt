@@ -1,4 +1,5 @@
 pub mod Answer
+pub mod AnySession
 pub mod Back
 pub mod Errors
 pub mod Headline

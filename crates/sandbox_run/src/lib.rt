@@ -4,6 +4,7 @@
 //! crates below; here a step is put together from fetch, decode and the two halves of the machine.
 #![tactic(auto)]
 
+mod any_session;
 mod laws;
 mod machine;
 mod outcome;
@@ -11,6 +12,7 @@ mod run;
 mod session;
 mod start;
 
+pub use any_session::AnySession;
 pub use laws::{
     accepted_runs, accepted_stops, exit_is_no_code, more_steps_change_nothing, runs_hand_back,
     starts_are_alike, steps_are_unique, tries_are_runs,

@@ -1,0 +1,6 @@
+use Rattle.std.proofs.Common.{rules}
+use Rattle.block_checker.proofs.EntryLemmas.{has_entry}
+use Rattle.block_checker.proofs.accepted.entry_budget.Goals as goal
+
+pub unreachable-requires : goal.unreachable-requires
+unreachable-requires g c = has_entry _ _ _ c.requires (search rules)
