@@ -6,7 +6,7 @@ import damage
 import expected
 from faults import COMPILER
 from outside import ROOT, certificates
-from program import Answer, Tally, program, total
+from program import Answer, Folder, Tally, program, total
 from run import KINDS
 
 
@@ -45,6 +45,21 @@ class Differences(unittest.TestCase):
         both = total([one, other])
         self.assertEqual(both.differed, ['second: 1, and not 2'])
         self.assertEqual(both.line(), 'some: 0 files, 1 seen, 2 answers compared, 1 differed')
+
+
+@unittest.skipUnless(program(), 'rvvbox is not built')
+class Words(unittest.TestCase):
+    """Words that are not UTF-8: status 2 and no text (docs/JOBS.md)."""
+
+    def test_words_that_are_not_utf8(self):
+        with Folder(program()) as calls:
+            for words in ([b'check', b'\xff.elf'], [b'\xc0\x80', b'job.toml'], [b'--help', b'\xed\xa0\x80'], [b'\xff', b'--version']):
+                with self.subTest(words=words):
+                    self.assertEqual(calls.call(*words), Answer(2))
+
+    def test_a_name_that_is_not_utf8(self):
+        with Folder(b'rvvbox\xff') as calls:
+            self.assertEqual(calls.call('--version', executable=program()), Answer(2))
 
 
 @unittest.skipUnless(program(), 'rvvbox is not built')

@@ -1,12 +1,13 @@
 -- What words lead to: the status of a fault, or what their subcommand does.
-use Rattle.std.proofs.Common.{◌≡◌, ◌⊎◌, ℕ, List, Option, Bool, true, false, not, ◌||◌, [], ◌∷◌, refl, sym, subst, inl, inr}
+use Rattle.std.proofs.Common.{◌≡◌, ◌⊎◌, ℕ, List, Option, Err, OnOk, Bool, true, false, not, ◌||◌, [], ◌∷◌, refl, sym, subst, inl, inr}
+use Rattle.std.specs.Io.KnownBytes.{Appends}
 use Rattle.std.specs.List.{list_any}
 use Rattle.clap.specs.Kinds.{Kinds, IsAmong}
 use Rattle.clap.specs.Words.{kind_of}
 use Rattle.clap.specs.declared.error.kind.ErrorKind.{ErrorKind}
 use Rattle.command_line.specs.Asked.{is_help, is_request, status_of_line}
 use Rattle.commands.specs.Ending.{Ends}
-use Rattle.command_line.specs.Program.{Does, IsAsAsked, IsRefusal, IsStatusFor}
+use Rattle.command_line.specs.Program.{Does, IsAsAsked, IsRefusal, IsStatusFor, Stops}
 use Rattle.command_line.specs.Line.{IsFaultIn, IsFaultOf, IsLineOf}
 use Rattle.commands.specs.Files.{Files}
 use Rattle.command_line.specs.declared.line.asked.Line.{Line}
@@ -14,6 +15,10 @@ use Rattle.clap.specs.Words.{Text}
 use Rattle.commands.proofs.CommandLemmas.{ends_more}
 use Rattle.command_line.specs.declared.line.asked.LineError.{LineError}
 use Rattle.command_line.specs.declared.line.asked.LineError.TheVariants as line_error
+use Rattle.commands.specs.Texts.{stop_text}
+use Rattle.commands.specs.Written.{Written}
+use Rattle.commands.specs.declared.stop.Ending.{Ending}
+use Rattle.commands.specs.declared.stop.Stop.TheVariants as stop
 use Rattle.commands.specs.declared.stop.Status.{Status}
 use Rattle.commands.specs.declared.stop.Status.TheVariants as status
 
@@ -50,14 +55,21 @@ told_for (k ∷ ks) (line_error.Usage error) s among told answered = usage_for (
 told_for (k ∷ ks) line_error.NoMemory s fits told answered = subst (λ (t : Status). IsRefusal (k ∷ ks) t) (sym (told refl)) tt
 
 -- what a subcommand that the words name does, or a fault of theirs
-pub asked_for : (holds : Files) (words : List Text) (line : Line) (old new : Option (List ℕ)) (s : Status)
-    → IsLineOf words line → Ends (Does holds line old new) s → IsAsAsked holds words old new s
-asked_for holds words line old new s is ends none =
-    ends_more (Does holds line old new) (λ t. (l : Line) × IsLineOf words l × Does holds l old new t) s (λ t it. (line, is, it)) ends
+pub asked_for : (holds : Files) (words : List Text) (line : Line) (old new : Option (List ℕ)) (was has : Option Written)
+    (told tells : Option (List ℕ)) (ending : Ending)
+    → IsLineOf words line → Ends (Does holds line old new was has) (Stops holds line) told tells ending
+    → IsAsAsked holds words old new was has told tells ending
+asked_for holds words line old new was has told tells ending is ends none =
+    ends_more (Does holds line old new was has) (λ t. (l : Line) × IsLineOf words l × Does holds l old new was has t)
+    (Stops holds line) (λ reason. (reason ≡ stop.Memory) ⊎ ((l : Line) × IsLineOf words l × Stops holds l reason))
+    told tells ending (λ t it. (line, is, it)) (λ reason it. inr (line, is, it)) ends
 
-pub asked_nothing : (holds : Files) (words : List Text) (error : LineError) (old new : Option (List ℕ)) (s : Status)
-    → IsFaultOf words error → (is_request error ≡ false → s ≡ status_of_line error) → IsAsAsked holds words old new s
-asked_nothing holds words (line_error.Usage error) old new s fits told none =
+pub asked_nothing : (holds : Files) (words : List Text) (error : LineError) (old new : Option (List ℕ)) (was has : Option Written)
+    (told tells : Option (List ℕ)) (ending : Ending)
+    → IsFaultOf words error → (is_request error ≡ false → ending.status ≡ status_of_line error)
+    → (error ≡ line_error.NoMemory → OnOk ending.told (Appends told tells (stop_text stop.Memory)))
+    → IsAsAsked holds words old new was has told tells ending
+asked_nothing holds words (line_error.Usage error) old new was has told tells ending fits status memory none =
     absurd (subst (λ (kinds : Kinds). IsAmong (kind_of error) kinds) none fits)
-asked_nothing holds words line_error.NoMemory old new s fits told none =
-    subst (λ (t : Status). Ends (λ u. (l : Line) × IsLineOf words l × Does holds l old new u) t) (sym (told refl)) tt
+asked_nothing holds words line_error.NoMemory old new was has told tells ending fits status memory none =
+    record { done = Err stop.Memory; comes = inl refl; status = status refl; told = memory refl }

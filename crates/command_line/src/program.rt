@@ -1,14 +1,16 @@
 //! The program, over any files, reader and writers.
-ghost use Rattle.std.specs.Prelude.{map};
+ghost use Rattle.std.specs.IoError.{error_kind};
+ghost use Rattle.std.specs.Prelude.{◌≡◌, map};
 ghost use Rattle.clap.specs.Words.{fault_of};
 ghost use Rattle.command_line.specs.Line.{app};
-ghost use Rattle.command_line.specs.Program.{IsAsAsked, IsStatusFor};
+ghost use Rattle.command_line.specs.Program.{IsAsAsked, IsStatusFor, status_without_words};
 
 use crate::line::asked::Line;
 use crate::line::line;
-use commands::{Status, Store, check_image, make_image, run_job, try_job};
+use commands::{Ending, Status, Stop, Store, check_image, make_image, run_job, try_job};
 use std::alloc::Global;
-use std::io::{Read, Write};
+use std::io;
+use std::io::{ErrorKind, Read, Write};
 
 /// Does what the words ask for, of which the first is the program's name: reads and writes the files
 /// in `store`, prints what came of it to `output`, and why it was refused or failed to `errors`.
@@ -16,7 +18,6 @@ use std::io::{Read, Write};
 ///
 /// Where `clap` refuses the words, the status is `Usage`, and for help or the version `Done` (or `File`, where standard
 /// output takes no text), unless memory runs out.
-#[tactic(auto, using(crate::proofs::ProgramLemmas::asked_for))]
 pub fn perform<'a, S: Store, I: Read, O: Write, E: Write>(
     alloc: Global,
     words: &'a [&'a str],
@@ -24,10 +25,12 @@ pub fn perform<'a, S: Store, I: Read, O: Write, E: Write>(
     _input: &mut I,
     output: &mut O,
     errors: &mut E,
-) -> Status
-    ensures status { IsStatusFor (fault_of app (map (λ w. w.now) words.entry.now)) result }
+) -> Ending
+    ensures status { IsStatusFor (fault_of app (map (λ w. w.now) words.entry.now)) result.status }
     ensures asked { IsAsAsked S.holds (map (λ w. w.now) words.entry.now)
-        (O.contents output.old) (O.contents output.new) result }
+        (O.contents output.old) (O.contents output.new)
+        (S.written store.old) (S.written store.new)
+        (E.contents errors.old) (E.contents errors.new) result }
 {
     match line(alloc, words) {
         Ok(Line::Check { image }) => check_image(alloc, image, store, output, errors),
@@ -35,5 +38,18 @@ pub fn perform<'a, S: Store, I: Read, O: Write, E: Write>(
         Ok(Line::Try { job }) => try_job(alloc, job, store, output, errors),
         Ok(Line::Make(paths)) => make_image(alloc, paths, store, output, errors),
         Err(error) => error.tell(output, errors),
+    }
+}
+
+/// Ends the program where the system's words were not taken: memory ran out, which is told, or they are not UTF-8.
+pub fn end_without_words<E: Write>(error: io::Error, errors: &mut E) -> Ending
+    ensures { result.status ≡ status_without_words (error_kind error) }
+{
+    match error.kind() {
+        ErrorKind::OutOfMemory => Stop::Memory.tell(errors),
+        _ => Ending {
+            status: Status::Usage,
+            told: Ok(()),
+        },
     }
 }

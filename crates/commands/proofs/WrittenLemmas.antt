@@ -5,7 +5,7 @@ use Rattle.std.specs.Borrow.{Bor}
 use Rattle.std.specs.List.{cons_option}
 use Rattle.job_file.specs.Job.{Text}
 use Rattle.job_file.specs.Needs.{run_param_lent}
-use Rattle.commands.specs.Files.{IsOutWritten, IsUnwritten, out_file, outs_of}
+use Rattle.commands.specs.Files.{IsOfParam, IsOutWritten, IsUnpassed, IsUnwritten, out_file, outs_of}
 use Rattle.commands.specs.Words.{Argument}
 use Rattle.commands.specs.Written.{Gains, Written}
 use Rattle.job_file.specs.declared.values.RunParam.{RunParam}
@@ -61,7 +61,7 @@ pub outs_more : (old mid new : Option Written) (params : List (RunParam (Bor Tex
 outs_more old mid new params args k some same before arg is =
     rw (outs-step params args k some same, at_default args k argument.None arg same) (gains_more old mid new _ _ before (of_one mid new _ is))
 
-get_or-lent : (params : List (RunParam (Bor Text))) (k : ℕ) → get_or (map run_param_lent params) k given.None ≡ run_param_lent (get_or params k given.None)
+pub get_or-lent : (params : List (RunParam (Bor Text))) (k : ℕ) → get_or (map run_param_lent params) k given.None ≡ run_param_lent (get_or params k given.None)
 get_or-lent [] k = refl
 get_or-lent (p ∷ ps) zero = refl
 get_or-lent (p ∷ ps) (suc k) = get_or-lent ps k
@@ -93,3 +93,8 @@ outs_all old new params args k few fewer is =
     let lent : length (map run_param_lent params) ≤ k = simp length-map few in
     subst (λ (ps : List (RunParam Text)). Gains old new (outs_of ps args)) (take_all k (map run_param_lent params) lent)
     (subst (λ (bs : List Argument). Gains old new (outs_of (take k (map run_param_lent params)) bs)) (take_all k args fewer) is)
+
+-- what a place passes is not read
+pub unpassed : (params : List (RunParam (Bor Text))) (k : ℕ) (reason : Stop) → IsOfParam (run_param_lent (get_or params k given.None)) reason
+    → IsUnpassed (map run_param_lent params) reason
+unpassed params k reason is = (k, rw (get_or-lent params k) is)

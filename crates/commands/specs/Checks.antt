@@ -1,16 +1,19 @@
 -- What `check` does.
-use Rattle.std.specs.Prelude.{◌≡◌, ◌++◌, codes, ℕ, List, Option, Some, None, Ok, option_map, ◌==◌, if◌then◌else◌}
+use Rattle.std.specs.Prelude.{◌≡◌, ◌⊎◌, ◌++◌, codes, ℕ, List, [], Option, Some, None, Ok, Err, option_map, ◌==◌, if◌then◌else◌}
 use Rattle.std.specs.Fmt.{decimal}
 use Rattle.std.specs.Io.KnownBytes.{Appends}
 use Rattle.block_checker.specs.Accepted.{AcceptedView}
 use Rattle.block_checker.specs.Passes.{block_at}
 use Rattle.cert_note.specs.declared.values.Budget.{Budget}
 use Rattle.job_file.specs.Job.{Text}
-use Rattle.commands.specs.Accepted.{accepted_of}
-use Rattle.commands.specs.Files.{Files, IsImageAt}
+use Rattle.commands.specs.Accepted.{IsOrWant, accepted_of}
+use Rattle.commands.specs.Files.{Files, IsImageAt, IsNoImageAt}
 use Rattle.commands.specs.Words.{ImageView}
+use Rattle.commands.specs.Written.{Gains, Written}
 use Rattle.commands.specs.declared.stop.Status.{Status}
 use Rattle.commands.specs.declared.stop.Status.TheVariants as status
+use Rattle.commands.specs.declared.stop.Stop.{Stop}
+use Rattle.commands.specs.declared.stop.Stop.TheVariants as stop
 
 -- the line that tells the bound of an accepted image's runs
 abbrev pub single_line : Budget → List ℕ
@@ -28,15 +31,30 @@ abbrev pub bound_line : Budget → List ℕ
 bound_line budget =
     if budget.second_factor == 0 then single_line budget else double_line budget
 
--- `old` and `new` are what standard output has before and after
+-- ---- what is done: `old` and `new` are what standard output has before and after, and `was` and `has` the
+-- files that were written
 
--- `check`: the image at a path is accepted, and its bound is printed
-pub record Checks (holds : Files) (path : Text) (old new : Option (List ℕ)) (s : Status) : Type 0 where
+-- `check`: the image at a path is accepted, and its bound is printed; no file is written
+pub record Checks (holds : Files) (path : Text) (old new : Option (List ℕ)) (was has : Option Written)
+    (s : Status) : Type 0 where
   pub image : ImageView
   pub there : IsImageAt holds path image
   pub accepted : AcceptedView
   pub passes : accepted_of None image ≡ Ok accepted
   pub budget : Budget
   pub entry : option_map (λ block. block.budget) (block_at accepted.image.entry accepted.certificate.blocks) ≡ Some budget
+  pub wrote : Gains was has []
   pub told : Appends old new (bound_line budget)
   pub done : s ≡ status.Done
+
+-- ---- why it stops
+
+-- after the image was read: it is not accepted, or standard output takes no text
+abbrev pub StopsChecked : ImageView → Stop → Type 0
+StopsChecked image reason = IsOrWant (accepted_of None image) (Err reason)
+    ⊎ ((accepted : AcceptedView) × (accepted_of None image ≡ Ok accepted) × (reason ≡ stop.Output))
+
+-- `check`: no image is read at the path, or afterwards
+abbrev pub StopsCheck : Files → Text → Stop → Type 0
+StopsCheck holds path reason = IsNoImageAt holds path reason
+    ⊎ ((image : ImageView) × IsImageAt holds path image × StopsChecked image reason)

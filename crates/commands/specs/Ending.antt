@@ -1,5 +1,6 @@
 -- How the program ends: the reason to stop that each error is, the status of each reason, and each status as a number.
-use Rattle.std.specs.Prelude.{◌≡◌, ℕ, List, Result, Ok, Err}
+use Rattle.std.specs.Prelude.{◌≡◌, ℕ, List, [], Option, Result, Ok, Err, MatchResult, OnOk}
+use Rattle.std.specs.Io.KnownBytes.{Appends}
 use Rattle.block_checker.specs.declared.errors.CheckError.{CheckError}
 use Rattle.block_checker.specs.declared.errors.CheckError.TheVariants as check_error
 use Rattle.cert_maker.specs.declared.errors.MakeError.{MakeError}
@@ -18,6 +19,8 @@ use Rattle.commands.specs.declared.store.StoreError.{StoreError}
 use Rattle.commands.specs.declared.store.StoreError.TheVariants as store_error
 use Rattle.commands.specs.declared.trial.End.{End}
 use Rattle.commands.specs.declared.trial.End.TheVariants as end
+use Rattle.commands.specs.Texts.{stop_text}
+use Rattle.commands.specs.declared.stop.Ending.{Ending}
 use Rattle.commands.specs.declared.stop.Status.{Status}
 use Rattle.commands.specs.declared.stop.Status.TheVariants as status
 use Rattle.commands.specs.declared.stop.Stop.{Stop}
@@ -95,12 +98,19 @@ status_of_end end.OutOfSteps = status.Stopped
 -- ---- how a subcommand ends
 
 -- the status of what was done, or of the reason to stop
-abbrev pub IsTold : Result Status Stop → Status → Type 0
-IsTold (Ok s) told = told ≡ s
-IsTold (Err reason) told = told ≡ status_of reason
+abbrev pub status_after : Result Status Stop → Status
+status_after (Ok s) = s
+status_after (Err reason) = status_of reason
 
--- `Done` and `Stopped` come only after what a subcommand does, and the others of a reason to stop
-abbrev pub Ends : (Status → Type 0) → Status → Type 0
-Ends does status.Done = does status.Done
-Ends does status.Stopped = does status.Stopped
-Ends does other = Unit {0}
+-- what is told of it on standard error
+abbrev pub text_after : Result Status Stop → List ℕ
+text_after (Ok s) = []
+text_after (Err reason) = stop_text reason
+
+-- a subcommand does what it does, or stops for one of its reasons: the status says which, and standard
+-- error has grown by the reason's line, where it took that. `old` and `new` are what it has before and after
+pub record Ends (does : Status → Type 0) (stops : Stop → Type 0) (old new : Option (List ℕ)) (ending : Ending) : Type 0 where
+  pub done : Result Status Stop
+  pub comes : MatchResult done does stops
+  pub status : ending.status ≡ status_after done
+  pub told : OnOk ending.told (Appends old new (text_after done))

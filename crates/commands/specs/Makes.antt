@@ -1,5 +1,5 @@
 -- What `make` does.
-use Rattle.std.specs.Prelude.{◌≡◌, ℕ, List, Option, Some, None, Result, Ok, Err, option_map}
+use Rattle.std.specs.Prelude.{◌≡◌, ◌⊎◌, ◌∷◌, [], ℕ, List, Option, Some, None, Result, Ok, Err, option_map}
 use Rattle.std.specs.Global.{Vec}
 use Rattle.std.specs.Io.KnownBytes.{Appends}
 use Rattle.std.specs.Result.{result_map_both}
@@ -13,9 +13,6 @@ use Rattle.cert_note.specs.Certificate.{CertificateView}
 use Rattle.cert_note.specs.Spelling.{spelling}
 use Rattle.cert_note.specs.declared.values.Budget.{Budget}
 use Rattle.elf_image.specs.Attached.{attach_fault, attached_of}
-use Rattle.elf_image.specs.Faults.{fault_of}
-use Rattle.elf_image.specs.File.{image_of}
-use Rattle.elf_image.specs.declared.error.ElfError.{ElfError}
 use Rattle.job_file.specs.Job.{Text}
 use Rattle.job_file.specs.Needs.{make_job_in}
 use Rattle.job_file.specs.declared.values.JobError.TheVariants.{BadKey}
@@ -25,9 +22,10 @@ use Rattle.region_mem.specs.declared.parameter.Param.{Param}
 use Rattle.toml.specs.Data.{Members}
 use Rattle.commands.specs.Accepted.{IsOrWant, accepted_of}
 use Rattle.commands.specs.Checks.{bound_line}
-use Rattle.commands.specs.Ending.{stop_of_image}
-use Rattle.commands.specs.Files.{Files}
+use Rattle.commands.specs.Ending.{IsOfFile}
+use Rattle.commands.specs.Files.{Files, IsUnasked, image_in, unless_fault}
 use Rattle.commands.specs.Words.{ImageView}
+use Rattle.commands.specs.Written.{Gains, Written}
 use Rattle.commands.specs.declared.stop.Status.{Status}
 use Rattle.commands.specs.declared.stop.Status.TheVariants as status
 use Rattle.commands.specs.declared.stop.Stop.{Stop}
@@ -40,15 +38,6 @@ abbrev pub ◌>>=◌ : {A B : Type 0} → Result A Stop → (A → Result B Stop
 (Err reason) >>= next = Err reason
 
 -- ---- the file with a certificate
-
--- what there is where no fault is found, or the reason to stop
-abbrev pub unless_fault : {A : Type 0} → Option ElfError → A → Result A Stop
-unless_fault None a = Ok a
-unless_fault (Some fault) a = Err (stop_of_image fault)
-
--- the image that a file spells
-abbrev pub image_in : List ℕ → Result ImageView Stop
-image_in file = unless_fault (fault_of file) (image_of file)
 
 -- the certificate of the loop that was read in an image, or the reason why there is none
 abbrev pub if_read : MakeJob → ImageView → List Param → Result (Loop × ℕ) ℕ
@@ -89,12 +78,13 @@ abbrev pub AnswersBytes : Result (List ℕ) Stop → Result (Vec ℕ) Stop → T
 AnswersBytes defined answer =
     IsOrWant defined (result_map_both (λ bytes. bytes.items) (λ reason. reason) answer)
 
--- ---- what is done: `old` and `new` are what standard output has before and after
+-- ---- what is done: `old` and `new` are what standard output has before and after, and `was` and `has` the
+-- files that were written
 
--- `make` on a job's table and an image's path: the image's file with the certificate that is made
--- is accepted when it is read back, and its bound is printed
-pub record Makes (holds : Files) (path : Text) (table : Members) (old new : Option (List ℕ))
-    (s : Status) : Type 0 where
+-- `make` on a job's table, an image's path and the path of the file to write: the image's file with the
+-- certificate that is made is accepted when it is read back, and written, and its bound is printed
+pub record Makes (holds : Files) (path out : Text) (table : Members) (old new : Option (List ℕ))
+    (was has : Option Written) (s : Status) : Type 0 where
   pub job : MakeJob
   pub asked : make_job_in table ≡ Some job
   pub file : List ℕ
@@ -103,8 +93,33 @@ pub record Makes (holds : Files) (path : Text) (table : Members) (old new : Opti
   pub made : made_of job file ≡ Ok bytes
   pub accepted : AcceptedView
   pub passes : accepted_in job bytes ≡ Ok accepted
+  pub wrote : Gains was has ((out, bytes) ∷ [])
   pub budget : Budget
   pub entry : option_map (λ block. block.budget)
       (block_at accepted.image.entry accepted.certificate.blocks) ≡ Some budget
   pub told : Appends old new (bound_line budget)
   pub done : s ≡ status.Done
+
+-- ---- why it stops
+
+-- after the file was made: it is not accepted when it is read back, or not written, or standard output
+-- takes no text
+abbrev pub StopsMade : Text → MakeJob → List ℕ → Stop → Type 0
+StopsMade out job bytes reason = IsOrWant (accepted_in job bytes) (Err reason)
+    ⊎ ((accepted : AcceptedView) × (accepted_in job bytes ≡ Ok accepted)
+    × (IsOfFile out reason ⊎ (reason ≡ stop.Output)))
+
+-- after the image's file was read: none is made of it, or afterwards
+abbrev pub StopsRead : Text → MakeJob → List ℕ → Stop → Type 0
+StopsRead out job file reason = IsOrWant (made_of job file) (Err reason)
+    ⊎ ((bytes : List ℕ) × (made_of job file ≡ Ok bytes) × StopsMade out job bytes reason)
+
+-- for a job: the image's file is not read, or afterwards
+abbrev pub StopsMakeJob : Files → Text → Text → MakeJob → Stop → Type 0
+StopsMakeJob holds path out job reason = IsOfFile path reason
+    ⊎ ((file : List ℕ) × holds path file × StopsRead out job file reason)
+
+-- `make` on a job's table: it asks for no job, or afterwards
+abbrev pub StopsMake : Files → Text → Text → Members → Stop → Type 0
+StopsMake holds path out table reason = IsUnasked (make_job_in table) reason
+    ⊎ ((job : MakeJob) × (make_job_in table ≡ Some job) × StopsMakeJob holds path out job reason)

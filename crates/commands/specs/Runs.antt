@@ -1,5 +1,5 @@
 -- What `run` does.
-use Rattle.std.specs.Prelude.{◌≡◌, ℕ, List, Option, Some, None, Result, Ok, Err}
+use Rattle.std.specs.Prelude.{◌≡◌, ◌⊎◌, ℕ, List, Option, Some, None, Result, Ok, Err}
 use Rattle.std.specs.Io.KnownBytes.{Appends}
 use Rattle.block_checker.specs.Accepted.{AcceptedView}
 use Rattle.block_checker.specs.Bound.{bound_of, scalars_of}
@@ -8,11 +8,12 @@ use Rattle.job_file.specs.Needs.{run_job_in}
 use Rattle.job_file.specs.declared.values.RunJob.{RunJob}
 use Rattle.sandbox_run.specs.Session.{open_fault}
 use Rattle.toml.specs.Data.{Members}
-use Rattle.commands.specs.Accepted.{accepted_of}
+use Rattle.commands.specs.Accepted.{IsOrWant, accepted_of}
 use Rattle.commands.specs.Ending.{status_of_end, stop_of_open}
-use Rattle.commands.specs.Files.{ArePassed, Files, IsImageAt}
-use Rattle.commands.specs.Trial.{line_of, trial_from}
+use Rattle.commands.specs.Files.{ArePassed, Files, IsImageAt, IsNoImageAt, IsUnasked, IsUnfinished, IsUnpassed, outs_of}
+use Rattle.commands.specs.Trial.{OrMemory, line_of, trial_from}
 use Rattle.commands.specs.Words.{Argument, ImageView, OpenError, start, vlenb_of, Agnostic}
+use Rattle.commands.specs.Written.{Gains, Written}
 use Rattle.commands.specs.declared.stop.Status.{Status}
 use Rattle.commands.specs.declared.stop.Stop.{Stop}
 use Rattle.commands.specs.declared.trial.Trial.{Trial}
@@ -32,10 +33,13 @@ session_of vlenb agnostic max a args = if_opened vlenb agnostic a args (open_fau
 abbrev pub run_of_job : RunJob Text → AcceptedView → List Argument → Result Trial Stop
 run_of_job job a args = session_of (vlenb_of job.vlen) job.agnostic job.max a args
 
--- ---- what is done: `old` and `new` are what standard output has before and after
+-- ---- what is done: `old` and `new` are what standard output has before and after, and `was` and `has` the
+-- files that were written
 
--- `run` on a job's table: the job's image is accepted, and what comes of the job on it is printed
-pub record Runs (holds : Files) (table : Members) (old new : Option (List ℕ)) (s : Status) : Type 0 where
+-- `run` on a job's table: the job's image is accepted, what comes of the job on it is printed, and the out
+-- files of all places were written with the buffers as the run left them
+pub record Runs (holds : Files) (table : Members) (old new : Option (List ℕ)) (was has : Option Written)
+    (s : Status) : Type 0 where
   pub job : RunJob Text
   pub asked : run_job_in table ≡ Some job
   pub image : ImageView
@@ -46,5 +50,33 @@ pub record Runs (holds : Files) (table : Members) (old new : Option (List ℕ)) 
   pub passed : ArePassed holds job.params args
   pub trial : Trial
   pub comes : run_of_job job accepted args ≡ Ok trial
+  pub wrote : Gains was has (outs_of job.params trial.args.places)
   pub told : Appends old new (line_of trial)
   pub done : s ≡ status_of_end trial.end
+
+-- ---- why it stops
+
+-- after what is passed was read: no run starts, or its outcome is not written or told
+abbrev pub StopsRan : RunJob Text → AcceptedView → List Argument → Stop → Type 0
+StopsRan job accepted args reason = OrMemory (run_of_job job accepted args) (Err reason)
+    ⊎ ((trial : Trial) × (run_of_job job accepted args ≡ Ok trial) × IsUnfinished job.params trial.args.places reason)
+
+-- after the image was accepted: what is passed is not read, or afterwards
+abbrev pub StopsRunning : Files → RunJob Text → AcceptedView → Stop → Type 0
+StopsRunning holds job accepted reason = IsUnpassed job.params reason
+    ⊎ ((args : List Argument) × ArePassed holds job.params args × StopsRan job accepted args reason)
+
+-- after the image was read: it is not accepted, or afterwards
+abbrev pub StopsAccepting : Files → RunJob Text → ImageView → Stop → Type 0
+StopsAccepting holds job image reason = IsOrWant (accepted_of (Some job.vlen) image) (Err reason)
+    ⊎ ((accepted : AcceptedView) × (accepted_of (Some job.vlen) image ≡ Ok accepted) × StopsRunning holds job accepted reason)
+
+-- for a job: the image is not read, or afterwards
+abbrev pub StopsRunJob : Files → RunJob Text → Stop → Type 0
+StopsRunJob holds job reason = IsNoImageAt holds job.image reason
+    ⊎ ((image : ImageView) × IsImageAt holds job.image image × StopsAccepting holds job image reason)
+
+-- `run` on a job's table: it asks for no job, or afterwards
+abbrev pub StopsRun : Files → Members → Stop → Type 0
+StopsRun holds table reason = IsUnasked (run_job_in table) reason
+    ⊎ ((job : RunJob Text) × (run_job_in table ≡ Some job) × StopsRunJob holds job reason)

@@ -1,5 +1,5 @@
 -- What `try` does.
-use Rattle.std.specs.Prelude.{◌≡◌, ◌-◌, ◌^◌, ℕ, min, List, length, map, Option, Some, None, Result, Ok, Err}
+use Rattle.std.specs.Prelude.{◌≡◌, ◌⊎◌, ◌-◌, ◌^◌, ℕ, min, List, length, map, Option, Some, None, Result, Ok, Err}
 use Rattle.std.specs.Io.KnownBytes.{Appends}
 use Rattle.std.specs.List.{zip}
 use Rattle.job_file.specs.Job.{Text}
@@ -18,9 +18,10 @@ use Rattle.region_mem.specs.declared.parameter.Param.TheVariants as parameter
 use Rattle.sandbox_run.specs.Errors.{open_error_of}
 use Rattle.toml.specs.Data.{Members}
 use Rattle.commands.specs.Ending.{status_of_end}
-use Rattle.commands.specs.Files.{ArePassed, Files, IsImageAt}
-use Rattle.commands.specs.Trial.{line_of, trial_from}
+use Rattle.commands.specs.Files.{ArePassed, Files, IsImageAt, IsNoImageAt, IsUnasked, IsUnfinished, IsUnpassed, outs_of}
+use Rattle.commands.specs.Trial.{OrMemory, line_of, trial_from}
 use Rattle.commands.specs.Words.{ImageView, Argument, start, vlenb_of, Agnostic}
+use Rattle.commands.specs.Written.{Gains, Written}
 use Rattle.commands.specs.declared.stop.Status.{Status}
 use Rattle.commands.specs.declared.stop.Stop.{Stop}
 use Rattle.commands.specs.declared.stop.Stop.TheVariants as stop
@@ -71,10 +72,13 @@ passed_by taken.None = given.None
 passed_by (taken.Scalar value) = given.Scalar value
 passed_by (taken.Buffer mode file out) = given.Buffer file out
 
--- ---- what is done: `old` and `new` are what standard output has before and after
+-- ---- what is done: `old` and `new` are what standard output has before and after, and `was` and `has` the
+-- files that were written
 
--- `try` on a job's table: what comes of the job on its image is printed
-pub record Tries (holds : Files) (table : Members) (old new : Option (List ℕ)) (s : Status) : Type 0 where
+-- `try` on a job's table: what comes of the job on its image is printed, and the out files of all places
+-- were written with the buffers as the run left them
+pub record Tries (holds : Files) (table : Members) (old new : Option (List ℕ)) (was has : Option Written)
+    (s : Status) : Type 0 where
   pub job : TryJob Text
   pub asked : try_job_in table ≡ Some job
   pub image : ImageView
@@ -83,5 +87,29 @@ pub record Tries (holds : Files) (table : Members) (old new : Option (List ℕ))
   pub passed : ArePassed holds (map passed_by job.params) args
   pub trial : Trial
   pub comes : trial_of job image args ≡ Ok trial
+  pub wrote : Gains was has (outs_of (map passed_by job.params) trial.args.places)
   pub told : Appends old new (line_of trial)
   pub done : s ≡ status_of_end trial.end
+
+-- ---- why it stops
+
+-- after what is passed was read: no run starts, or its outcome is not written or told
+abbrev pub StopsTried : TryJob Text → ImageView → List Argument → Stop → Type 0
+StopsTried job image args reason = OrMemory (trial_of job image args) (Err reason)
+    ⊎ ((trial : Trial) × (trial_of job image args ≡ Ok trial)
+    × IsUnfinished (map passed_by job.params) trial.args.places reason)
+
+-- after the image was read: what is passed is not, or afterwards
+abbrev pub StopsTrying : Files → TryJob Text → ImageView → Stop → Type 0
+StopsTrying holds job image reason = IsUnpassed (map passed_by job.params) reason
+    ⊎ ((args : List Argument) × ArePassed holds (map passed_by job.params) args × StopsTried job image args reason)
+
+-- for a job: the image is not read, or afterwards
+abbrev pub StopsTryJob : Files → TryJob Text → Stop → Type 0
+StopsTryJob holds job reason = IsNoImageAt holds job.image reason
+    ⊎ ((image : ImageView) × IsImageAt holds job.image image × StopsTrying holds job image reason)
+
+-- `try` on a job's table: it asks for no job, or afterwards
+abbrev pub StopsTry : Files → Members → Stop → Type 0
+StopsTry holds table reason = IsUnasked (try_job_in table) reason
+    ⊎ ((job : TryJob Text) × (try_job_in table ≡ Some job) × StopsTryJob holds job reason)

@@ -1,14 +1,14 @@
 //! `check`: an image against its certificate, and the bound of its runs.
 ghost use Rattle.std.specs.Io.KnownBytes.{Appends};
-ghost use Rattle.std.specs.Prelude.{◌≡◌, IfOk, OnOk, Some, option_copied, option_map};
+ghost use Rattle.std.specs.Prelude.{◌≡◌, MatchResult, OnOk, Some, option_copied, option_map};
 ghost use Rattle.block_checker.specs.Accepted.{Passes};
 ghost use Rattle.block_checker.specs.Passes.{block_at as block_at_of};
-ghost use Rattle.commands.specs.Checks.{Checks, bound_line};
+ghost use Rattle.commands.specs.Checks.{Checks, StopsCheck, bound_line};
 ghost use Rattle.commands.specs.Ending.{Ends};
 
 use crate::accepted::accept;
 use crate::files::read_image;
-use crate::stop::{Status, Stop, told};
+use crate::stop::{Ending, Status, Stop, told};
 use crate::store::Store;
 use block_checker::Accepted;
 use cert_note::{Block, Budget};
@@ -27,9 +27,12 @@ pub fn check_image<S: Store, O: Write, E: Write>(
     store: &mut S,
     output: &mut O,
     errors: &mut E,
-) -> Status
+) -> Ending
     ensures { Ends
-        (Checks S.holds path.now (O.contents output.old) (O.contents output.new)) result }
+        (Checks S.holds path.now (O.contents output.old) (O.contents output.new)
+        (S.written store.old) (S.written store.new))
+        (StopsCheck S.holds path.now)
+        (E.contents errors.old) (E.contents errors.new) result }
 {
     told(check_at(alloc, path, store, output), errors)
 }
@@ -40,8 +43,10 @@ fn check_at<'a, S: Store, O: Write>(
     store: &mut S,
     output: &mut O,
 ) -> Result<Status, Stop<'a>>
-    ensures { IfOk result
-        (Checks S.holds path.entry.now (O.contents output.old) (O.contents output.new)) }
+    ensures { MatchResult result
+        (Checks S.holds path.entry.now (O.contents output.old) (O.contents output.new)
+        (S.written store.old) (S.written store.new))
+        (StopsCheck S.holds path.entry.now) }
 {
     let image = read_image(alloc, path, store)?;
     let accepted = accept(alloc, image, None)?;

@@ -1,9 +1,14 @@
 //! The files of a job: what is read before its run, and what is written after it.
-ghost use Rattle.std.specs.Prelude.{◌≡◌, IfOk, map, option_map, replicate};
+ghost use Rattle.std.specs.Prelude.{◌≡◌, [], MatchResult, Some, map, option_map, replicate};
 ghost use Rattle.job_file.specs.Needs.{run_param_lent};
+ghost use Rattle.toml.specs.Parse.{parse_document};
 ghost use Rattle.toml.specs.View.{table_view};
-ghost use Rattle.commands.specs.Files.{ArePassed, AreWritten, IsImageAt, IsOutWritten, IsPassed};
-ghost use Rattle.commands.specs.Files.{IsTableAt, IsWritten, out_file};
+ghost use Rattle.commands.specs.Accepted.{IsOrWant};
+ghost use Rattle.commands.specs.Ending.{IsOfFile};
+ghost use Rattle.commands.specs.Files.{ArePassed, AreWritten, IsImageAt, IsNoImageAt, IsNoTable};
+ghost use Rattle.commands.specs.Files.{IsNoTableAt, IsOfParam, IsOutWritten, IsPassed, IsTableAt};
+ghost use Rattle.commands.specs.Files.{IsUnpassed, IsWritten, image_in, out_file};
+ghost use Rattle.commands.specs.Written.{Gains};
 
 use crate::stop::Stop;
 use crate::store::Store;
@@ -15,7 +20,9 @@ use toml::Table;
 
 /// The file at `path`.
 pub fn read<'a, S: Store>(alloc: Global, path: &'a str, store: &mut S) -> Result<Vec<u8>, Stop<'a>>
-    ensures { IfOk result (λ bytes. S.holds path.entry.now bytes.items) }
+    ensures bytes { MatchResult result
+        (λ bytes. S.holds path.entry.now bytes.items) (IsOfFile path.entry.now) }
+    ensures files { Gains (S.written store.old) (S.written store.new) [] }
 {
     match store.read(alloc, path) {
         Ok(bytes) => Ok(bytes),
@@ -29,10 +36,21 @@ pub fn read_table<'a, S: Store>(
     path: &'a str,
     store: &mut S,
 ) -> Result<Table, Stop<'a>>
-    ensures { IfOk result (λ table. IsTableAt S.holds path.entry.now (table_view table)) }
+    ensures table { MatchResult result
+        (λ table. IsTableAt S.holds path.entry.now (table_view table))
+        (IsNoTableAt S.holds path.entry.now) }
+    ensures files { Gains (S.written store.old) (S.written store.new) [] }
 {
     let bytes = read(alloc, path, store)?;
-    match std::str::from_utf8(bytes.as_slice()) {
+    table_in(alloc, bytes.as_slice())
+}
+
+/// The table that a text spells.
+fn table_in<'a>(alloc: Global, bytes: &[u8]) -> Result<Table, Stop<'a>>
+    ensures { MatchResult result
+        (λ table. parse_document bytes.now ≡ Some (table_view table)) (IsNoTable bytes.now) }
+{
+    match std::str::from_utf8(bytes) {
         Ok(text) => Ok(parse(alloc, text)?),
         Err(_) => Err(Stop::Job(JobError::NotToml)),
     }
@@ -44,10 +62,19 @@ pub fn read_image<'a, S: Store>(
     path: &'a str,
     store: &mut S,
 ) -> Result<Image, Stop<'a>>
-    ensures { IfOk result (IsImageAt S.holds path.entry.now) }
+    ensures image { MatchResult result
+        (IsImageAt S.holds path.entry.now) (IsNoImageAt S.holds path.entry.now) }
+    ensures files { Gains (S.written store.old) (S.written store.new) [] }
 {
     let bytes = read(alloc, path, store)?;
-    Ok(elf_image::read(alloc, bytes.as_slice())?)
+    image_in(alloc, bytes.as_slice())
+}
+
+/// The image that a file spells.
+pub fn image_in<'a>(alloc: Global, file: &[u8]) -> Result<Image, Stop<'a>>
+    ensures { IsOrWant (image_in file.now) result }
+{
+    Ok(elf_image::read(alloc, file)?)
 }
 
 /// What a job passes, by place: its scalars, and the bytes of its files.
@@ -56,8 +83,10 @@ pub fn read_args<'a, S: Store>(
     params: &[RunParam<&'a str>; 8],
     store: &mut S,
 ) -> Result<Args, Stop<'a>>
-    ensures { IfOk result (λ args.
-        ArePassed S.holds (map run_param_lent params.now) args.places) }
+    ensures passed { MatchResult result
+        (λ args. ArePassed S.holds (map run_param_lent params.now) args.places)
+        (IsUnpassed (map run_param_lent params.now)) }
+    ensures files { Gains (S.written store.old) (S.written store.new) [] }
 {
     let mut places = no_args();
     for place in 0..8 {
@@ -86,7 +115,9 @@ fn read_arg<'a, S: Store>(
     param: &RunParam<&'a str>,
     store: &mut S,
 ) -> Result<Arg, Stop<'a>>
-    ensures { IfOk result (IsPassed S.holds (run_param_lent param.now)) }
+    ensures passed { MatchResult result (IsPassed S.holds (run_param_lent param.now))
+        (IsOfParam (run_param_lent param.now)) }
+    ensures files { Gains (S.written store.old) (S.written store.new) [] }
 {
     match param {
         RunParam::None => Ok(Arg::None),
@@ -116,7 +147,7 @@ fn out_file<'a, 'b>(param: &RunParam<&'a str>, arg: &'b Arg) -> Option<(&'a str,
 }
 
 /// Writes the file at `path`.
-fn write<'a, S: Store>(path: &'a str, bytes: &[u8], store: &mut S) -> Result<(), Stop<'a>>
+pub fn write<'a, S: Store>(path: &'a str, bytes: &[u8], store: &mut S) -> Result<(), Stop<'a>>
     ensures { IsWritten (S.written store.old) (S.written store.new)
         (path.entry.now, bytes.now) result }
 {

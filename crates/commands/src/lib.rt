@@ -20,6 +20,6 @@ mod tries;
 pub use checks::check_image;
 pub use makes::{MakePaths, make_image};
 pub use runs::run_job;
-pub use stop::{Status, Stop};
+pub use stop::{Ending, Status, Stop};
 pub use store::{Disk, Store, StoreError, read_all};
 pub use tries::try_job;

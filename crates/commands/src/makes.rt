@@ -1,18 +1,18 @@
 //! `make`: an image with the certificate that is made of its loop.
-ghost use Rattle.std.specs.Prelude.{IfOk};
+ghost use Rattle.std.specs.Prelude.{IfOk, MatchResult};
 ghost use Rattle.block_checker.specs.Accepted.{Passes};
 ghost use Rattle.commands.specs.Accepted.{IsOrWant};
 ghost use Rattle.commands.specs.Ending.{Ends};
-ghost use Rattle.commands.specs.Files.{OfTable};
-ghost use Rattle.commands.specs.Makes.{AnswersBytes, Makes, accepted_in, certificate_for};
-ghost use Rattle.commands.specs.Makes.{image_in, made_of, with_certificate};
+ghost use Rattle.commands.specs.Files.{OfTable, StopsOfTable};
+ghost use Rattle.commands.specs.Makes.{AnswersBytes, Makes, StopsMake, accepted_in};
+ghost use Rattle.commands.specs.Makes.{certificate_for, made_of, with_certificate};
 ghost use Rattle.commands.specs.Trial.{OrMemory};
 ghost use Rattle.toml.specs.View.{table_view};
 
 use crate::accepted::accept;
 use crate::checks::{entry_budget, print_bound};
-use crate::files::{read, read_table};
-use crate::stop::{Status, Stop, told};
+use crate::files::{image_in, read, read_table, write};
+use crate::stop::{Ending, Status, Stop, told};
 use crate::store::Store;
 use block_checker::Accepted;
 use cert_maker::make;
@@ -42,17 +42,21 @@ pub struct MakePaths<'a> {
 /// In this order, up to the first that is refused or fails, which is told: the job file, the job,
 /// the image file, the image, the parameters, the certificate, the file with it, that file read
 /// back, its certificate, the check, the file that is written, the printed line.
-#[tactic(auto, using(crate::proofs::CommandLemmas::told_of_table, crate::proofs::CommandLemmas::status_told))]
 pub fn make_image<'a, S: Store, O: Write, E: Write>(
     alloc: Global,
     paths: MakePaths<'a>,
     store: &mut S,
     output: &mut O,
     errors: &mut E,
-) -> Status
-    ensures { Ends (OfTable S.holds paths.entry.job.now (λ table.
-        Makes S.holds paths.entry.image.now table
-        (O.contents output.old) (O.contents output.new))) result }
+) -> Ending
+    ensures { Ends
+        (OfTable S.holds paths.entry.job.now (λ table.
+        Makes S.holds paths.entry.image.now paths.entry.out.now table
+        (O.contents output.old) (O.contents output.new)
+        (S.written store.old) (S.written store.new)))
+        (StopsOfTable S.holds paths.entry.job.now
+        (StopsMake S.holds paths.entry.image.now paths.entry.out.now))
+        (E.contents errors.old) (E.contents errors.new) result }
 {
     match read_table(alloc, paths.job, store) {
         Ok(table) => told(make_table(alloc, &table, paths, store, output), errors),
@@ -68,27 +72,21 @@ fn make_table<'a, S: Store, O: Write>(
     store: &mut S,
     output: &mut O,
 ) -> Result<Status, Stop<'a>>
-    ensures { IfOk result (Makes S.holds paths.entry.image.now (table_view table.now)
-        (O.contents output.old) (O.contents output.new)) }
+    ensures { MatchResult result
+        (Makes S.holds paths.entry.image.now paths.entry.out.now (table_view table.now)
+        (O.contents output.old) (O.contents output.new)
+        (S.written store.old) (S.written store.new))
+        (StopsMake S.holds paths.entry.image.now paths.entry.out.now (table_view table.now)) }
 {
     let job = make_job_in(table).ok_or(JobError::BadKey)?;
     let file = read(alloc, paths.image, store)?;
     let bytes = made(alloc, &job, file.as_slice())?;
     let accepted = read_back(alloc, &job, bytes.as_slice())?;
-    if let Err(error) = store.write(paths.out, bytes.as_slice()) {
-        return Err(Stop::at_file(error, paths.out));
-    }
+    write(paths.out, bytes.as_slice(), store)?;
     match print_bound(entry_budget(&accepted), output) {
         Ok(()) => Ok(Status::Done),
         Err(_) => Err(Stop::Output),
     }
-}
-
-/// The image that a file spells.
-fn image_in<'a>(alloc: Global, file: &[u8]) -> Result<Image, Stop<'a>>
-    ensures { IsOrWant (image_in file.now) result }
-{
-    Ok(elf_image::read(alloc, file)?)
 }
 
 /// The certificate that is made for a job of the loop at an image's entry.

@@ -1,17 +1,17 @@
 //! `run`: a job on an image that is accepted.
-ghost use Rattle.std.specs.Prelude.{◌≡◌, IfOk};
+ghost use Rattle.std.specs.Prelude.{◌≡◌, IfOk, MatchResult};
 ghost use Rattle.job_file.specs.Needs.{run_job_lent};
 ghost use Rattle.toml.specs.View.{table_view};
 ghost use Rattle.vreg_groups.specs.VectorLength.{IsVlenb};
 ghost use Rattle.commands.specs.Ending.{Ends};
-ghost use Rattle.commands.specs.Files.{OfTable};
-ghost use Rattle.commands.specs.Runs.{Runs, run_of_job, session_of};
+ghost use Rattle.commands.specs.Files.{OfTable, StopsOfTable};
+ghost use Rattle.commands.specs.Runs.{Runs, StopsRun, run_of_job, session_of};
 ghost use Rattle.commands.specs.Trial.{OrMemory};
 ghost use Rattle.commands.specs.declared.trial.End.TheVariants.{Ended};
 
 use crate::accepted::accept;
 use crate::files::{read_args, read_image, read_table};
-use crate::stop::{Status, Stop, told};
+use crate::stop::{Ending, Status, Stop, told};
 use crate::store::Store;
 use crate::trial::{Trial, finish};
 use block_checker::Accepted;
@@ -29,16 +29,19 @@ use vreg_groups::{Agnostic, Vlen};
 /// In this order, up to the first that is refused or fails, which is told: the job file, the job, the image file, the
 /// image, the certificate, the check, the parameters' files by place, the start of the run, the run, the out files by
 /// place, the printed line.
-#[tactic(auto, using(crate::proofs::CommandLemmas::told_of_table, crate::proofs::CommandLemmas::status_told))]
 pub fn run_job<S: Store, O: Write, E: Write>(
     alloc: Global,
     path: &str,
     store: &mut S,
     output: &mut O,
     errors: &mut E,
-) -> Status
-    ensures { Ends (OfTable S.holds path.now (λ table.
-        Runs S.holds table (O.contents output.old) (O.contents output.new))) result }
+) -> Ending
+    ensures { Ends
+        (OfTable S.holds path.now (λ table.
+        Runs S.holds table (O.contents output.old) (O.contents output.new)
+        (S.written store.old) (S.written store.new)))
+        (StopsOfTable S.holds path.now (StopsRun S.holds))
+        (E.contents errors.old) (E.contents errors.new) result }
 {
     match read_table(alloc, path, store) {
         Ok(table) => told(run_table(alloc, &table, store, output), errors),
@@ -53,8 +56,11 @@ fn run_table<'a, S: Store, O: Write>(
     store: &mut S,
     output: &mut O,
 ) -> Result<Status, Stop<'a>>
-    ensures { IfOk result (Runs S.holds (table_view table.entry.now)
-        (O.contents output.old) (O.contents output.new)) }
+    ensures { MatchResult result
+        (Runs S.holds (table_view table.entry.now)
+        (O.contents output.old) (O.contents output.new)
+        (S.written store.old) (S.written store.new))
+        (StopsRun S.holds (table_view table.entry.now)) }
 {
     let job = run_job_in(table).ok_or(JobError::BadKey)?;
     let image = read_image(alloc, job.image, store)?;

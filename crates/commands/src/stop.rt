@@ -1,9 +1,10 @@
 //! How the program ends.
 ghost use Rattle.std.specs.Io.KnownBytes.{Appends};
 ghost use Rattle.std.specs.Prelude.{◌≡◌, OnOk};
-ghost use Rattle.commands.specs.Ending.{IsTold, code_of, status_of, stop_at_file};
+ghost use Rattle.commands.specs.Ending.{code_of, status_after, status_of, stop_at_file};
 ghost use Rattle.commands.specs.Ending.{stop_of_certificate, stop_of_check, stop_of_image};
 ghost use Rattle.commands.specs.Ending.{stop_of_job, stop_of_make, stop_of_open};
+ghost use Rattle.commands.specs.Ending.{text_after};
 ghost use Rattle.commands.specs.Texts.{stop_text};
 ghost use Rattle.commands.specs.declared.stop.Stop.TheVariants.{Memory};
 
@@ -51,6 +52,15 @@ impl Status {
     }
 }
 
+/// How the program ended.
+#[derive(Clone, Copy, Debug)]
+pub struct Ending {
+    /// What its exit status says.
+    pub status: Status,
+    /// Whether standard error took the line that tells why, where there is one.
+    pub told: io::Result<()>,
+}
+
 /// Why the program ends before all is done. What it shows is told on standard error.
 #[derive(Debug, Drop)]
 pub enum Stop<'a> {
@@ -85,12 +95,10 @@ impl Stop<'_> {
         write!(errors, "{self}")
     }
 
-    /// Tells why, and answers the status. Where standard output took no text, nothing more is told.
-    pub fn tell<E: Write>(&self, errors: &mut E) -> Status
+    /// The status of the reason.
+    fn status(&self) -> Status
         ensures { result ≡ status_of self.now }
     {
-        // Where standard error takes no text, the status alone tells.
-        let _ = self.print(errors);
         match self {
             Stop::Job(_) => Status::Usage,
             Stop::File(_) | Stop::Output => Status::File,
@@ -101,6 +109,19 @@ impl Stop<'_> {
             | Stop::Make(_)
             | Stop::Open(_) => Status::Refused,
             Stop::Memory => Status::Memory,
+        }
+    }
+
+    /// Tells why. Where standard error takes no text, the status alone tells.
+    pub fn tell<E: Write>(&self, errors: &mut E) -> Ending
+        ensures status { result.status ≡ status_of self.now }
+        ensures told { OnOk result.told
+            (Appends (E.contents errors.old) (E.contents errors.new) (stop_text self.now)) }
+    {
+        let told = self.print(errors);
+        Ending {
+            status: self.status(),
+            told,
         }
     }
 }
@@ -198,12 +219,17 @@ impl<'a> Stop<'a> {
     }
 }
 
-/// The status of what was done, or of the reason to stop, which is told.
-pub fn told<E: Write>(done: Result<Status, Stop<'_>>, errors: &mut E) -> Status
-    ensures { IsTold done.entry result }
+/// How the program ends after what was done, or after the reason to stop, which is told.
+pub fn told<E: Write>(done: Result<Status, Stop<'_>>, errors: &mut E) -> Ending
+    ensures status { result.status ≡ status_after done.entry }
+    ensures told { OnOk result.told
+        (Appends (E.contents errors.old) (E.contents errors.new) (text_after done.entry)) }
 {
     match done {
-        Ok(status) => status,
+        Ok(status) => Ending {
+            status,
+            told: Ok(()),
+        },
         Err(stop) => stop.tell(errors),
     }
 }

@@ -1,9 +1,9 @@
 //! What comes of a run: how it ended, how that is told, and which status the program has then.
-ghost use Rattle.std.specs.Prelude.{◌≡◌, IfOk, OnOk, map};
+ghost use Rattle.std.specs.Prelude.{◌≡◌, IfErr, IfOk, OnOk, map};
 ghost use Rattle.std.specs.Io.KnownBytes.{Appends};
 ghost use Rattle.job_file.specs.Needs.{run_param_lent};
 ghost use Rattle.commands.specs.Ending.{status_of_end};
-ghost use Rattle.commands.specs.Files.{outs_of};
+ghost use Rattle.commands.specs.Files.{IsUnfinished, outs_of};
 ghost use Rattle.commands.specs.Trial.{line_of};
 ghost use Rattle.commands.specs.Written.{Gains};
 
@@ -94,6 +94,8 @@ pub fn finish<'a, S: Store, O: Write>(
         (Appends (O.contents output.old) (O.contents output.new) (line_of trial.now)) }
     ensures wrote { OnOk result (Gains (S.written store.old) (S.written store.new)
         (outs_of (map run_param_lent params.now) trial.now.args.places)) }
+    ensures unfinished { IfErr result
+        (IsUnfinished (map run_param_lent params.now) trial.now.args.places) }
 {
     write_outs(params, &trial.args.places, store)?;
     match trial.print(output) {

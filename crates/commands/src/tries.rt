@@ -1,16 +1,16 @@
 //! `try`: a job on any image, with every test at each step.
-ghost use Rattle.std.specs.Prelude.{◌≡◌, IfOk, map};
+ghost use Rattle.std.specs.Prelude.{◌≡◌, MatchResult, map};
 ghost use Rattle.job_file.specs.Needs.{run_param_lent, try_job_lent, try_param_lent};
 ghost use Rattle.toml.specs.View.{table_view};
 ghost use Rattle.vreg_groups.specs.VectorLength.{IsVlenb};
 ghost use Rattle.commands.specs.Ending.{Ends};
-ghost use Rattle.commands.specs.Files.{OfTable};
+ghost use Rattle.commands.specs.Files.{OfTable, StopsOfTable};
 ghost use Rattle.commands.specs.Trial.{OrMemory};
-ghost use Rattle.commands.specs.Tries.{Tries, param_for, params_for, passed_by};
+ghost use Rattle.commands.specs.Tries.{StopsTry, Tries, param_for, params_for, passed_by};
 ghost use Rattle.commands.specs.Tries.{passed_size, run_of, trial_of};
 
 use crate::files::{read_args, read_image, read_table};
-use crate::stop::{Status, Stop, told};
+use crate::stop::{Ending, Status, Stop, told};
 use crate::store::Store;
 use crate::trial::{End, Trial, finish, trial_at};
 use elf_image::Image;
@@ -27,16 +27,19 @@ use vreg_groups::{Agnostic, Vlen};
 ///
 /// In this order, up to the first that is refused or fails, which is told: the job file, the job, the image file, the
 /// image, the parameters' files by place, the parameters, the run, the out files by place, the printed line.
-#[tactic(auto, using(crate::proofs::CommandLemmas::told_of_table, crate::proofs::CommandLemmas::status_told))]
 pub fn try_job<S: Store, O: Write, E: Write>(
     alloc: Global,
     path: &str,
     store: &mut S,
     output: &mut O,
     errors: &mut E,
-) -> Status
-    ensures { Ends (OfTable S.holds path.now (λ table.
-        Tries S.holds table (O.contents output.old) (O.contents output.new))) result }
+) -> Ending
+    ensures { Ends
+        (OfTable S.holds path.now (λ table.
+        Tries S.holds table (O.contents output.old) (O.contents output.new)
+        (S.written store.old) (S.written store.new)))
+        (StopsOfTable S.holds path.now (StopsTry S.holds))
+        (E.contents errors.old) (E.contents errors.new) result }
 {
     match read_table(alloc, path, store) {
         Ok(table) => told(try_table(alloc, &table, store, output), errors),
@@ -51,8 +54,11 @@ fn try_table<'a, S: Store, O: Write>(
     store: &mut S,
     output: &mut O,
 ) -> Result<Status, Stop<'a>>
-    ensures { IfOk result (Tries S.holds (table_view table.entry.now)
-        (O.contents output.old) (O.contents output.new)) }
+    ensures { MatchResult result
+        (Tries S.holds (table_view table.entry.now)
+        (O.contents output.old) (O.contents output.new)
+        (S.written store.old) (S.written store.new))
+        (StopsTry S.holds (table_view table.entry.now)) }
 {
     let job = try_job_in(table).ok_or(JobError::BadKey)?;
     let image = read_image(alloc, job.image, store)?;

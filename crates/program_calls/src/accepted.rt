@@ -82,18 +82,39 @@ fn certificate_of_two(alloc: Global) -> Result<Vec<u8>, AllocError> {
 
 /// A static image whose one segment is `TELL`, at 0x10000, and whose note has this certificate.
 fn image_with(alloc: Global, certificate: &[u8]) -> Result<Vec<u8>, AllocError> {
+    image_of(alloc, [].as_slice(), certificate)
+}
+
+/// The same with more segments, of which the file has the headers alone.
+fn image_of(alloc: Global, others: &[[u32; 8]], certificate: &[u8]) -> Result<Vec<u8>, AllocError> {
     let length = u32::try_from(certificate.len()).unwrap_or(0).min(1000);
+    let count = u32::try_from(others.len()).unwrap_or(0).min(8);
     let note = length + 20;
+    let code = 116 + 32 * count;
     let mut file = Vec::from_slice(alloc, b"\x7fELF\x01\x01\x01\0\0\0\0\0\0\0\0\0".as_slice())?;
     push_words(
         &mut file,
-        [0x00f3_0002, 1, 0x1_0000, 52, 0, 0, 0x0020_0034, 2, 0].as_slice(),
+        [
+            0x00f3_0002,
+            1,
+            0x1_0000,
+            52,
+            0,
+            0,
+            0x0020_0034,
+            2 + count,
+            0,
+        ]
+        .as_slice(),
     )?;
     push_words(
         &mut file,
-        [1, 116, 0x1_0000, 0x1_0000, 16, 16, 5, 4].as_slice(),
+        [1, code, 0x1_0000, 0x1_0000, 16, 16, 5, 4].as_slice(),
     )?;
-    push_words(&mut file, [4, 132, 0, 0, note, note, 4, 4].as_slice())?;
+    for segment in others {
+        push_words(&mut file, segment.as_slice())?;
+    }
+    push_words(&mut file, [4, code + 16, 0, 0, note, note, 4, 4].as_slice())?;
     push_words(&mut file, TELL.as_slice())?;
     push_words(&mut file, [7, length, 1].as_slice())?;
     file.extend_from_slice(b"RVVBOX\0\0".as_slice())?;
@@ -154,6 +175,22 @@ fn tells_a_bound_of_two_registers(rt: HostRuntime) -> Result<(), Fail> {
     let certificate = certificate_of_two(alloc)?;
     shelf.put("kernel.elf", image_with(alloc, &certificate)?.as_slice())?;
     let told = (Status::Done, "accepted: bound 4 + 2 * x11 + 3 * x12\n", "");
+    expect(&rt, CHECK.as_slice(), &mut shelf, told, "read kernel.elf\n");
+    Ok(())
+}
+
+#[test]
+fn tells_the_bound_of_an_image_of_three_segments(rt: HostRuntime) -> Result<(), Fail> {
+    let alloc = rt.alloc();
+    let mut shelf = files(alloc, FOUR, HEAD, 4, PARAMS)?;
+    let others = [
+        [1, 0, 0x2_0000, 0x2_0000, 0, 8, 4, 4],
+        [1, 0, 0x3_0000, 0x3_0000, 0, 16, 6, 4],
+    ];
+    let certificate = certificate(alloc, FOUR)?;
+    let image = image_of(alloc, others.as_slice(), &certificate)?;
+    shelf.put("kernel.elf", image.as_slice())?;
+    let told = (Status::Done, "accepted: bound 4 + 0 * x0\n", "");
     expect(&rt, CHECK.as_slice(), &mut shelf, told, "read kernel.elf\n");
     Ok(())
 }

@@ -1,6 +1,6 @@
 //! Calls at the limits: streams that fail late, large files, long jobs, many segments, the most steps.
 use crate::shelf::{Shelf, expect, image};
-use command_line::perform;
+use command_line::{end_without_words, perform};
 use commands::{Disk, Status, Store};
 use std::alloc::{AllocError, Global};
 use std::io::Write;
@@ -49,7 +49,7 @@ fn ends_where_the_flush_alone_fails(rt: HostRuntime) -> Result<(), Fail> {
     let mut files = job_files(alloc, 1, 0)?;
     let mut errors = Vec::new(alloc);
     let mut input = b"".as_slice();
-    let status = perform(
+    let ending = perform(
         alloc,
         TRY.as_slice(),
         &mut files,
@@ -57,8 +57,27 @@ fn ends_where_the_flush_alone_fails(rt: HostRuntime) -> Result<(), Fail> {
         &mut Stuck,
         &mut errors,
     );
-    assert_eq!(rt; status, Status::File);
+    assert_eq!(rt; ending.status, Status::File);
     assert!(rt; errors.is_empty());
+    Ok(())
+}
+
+#[test]
+fn ends_without_words_of_the_system(rt: HostRuntime) -> Result<(), Fail> {
+    let alloc = rt.alloc();
+    for (kind, status, text) in [
+        (io::ErrorKind::InvalidData, Status::Usage, ""),
+        (
+            io::ErrorKind::OutOfMemory,
+            Status::Memory,
+            "out of memory\n",
+        ),
+    ] {
+        let mut errors = Vec::new(alloc);
+        let ending = end_without_words(io::Error::from(kind), &mut errors);
+        assert_eq!(rt; ending.status, status);
+        assert_eq!(rt; std::str::from_utf8(errors.as_slice()), Ok(text));
+    }
     Ok(())
 }
 

@@ -113,7 +113,7 @@ pub(crate) fn expect<R: Abort + AllocGlobal>(
     let had = perform(alloc, words, shelf, &mut Broken, &mut out, &mut err);
     assert_eq!(rt; std::str::from_utf8(err.as_slice()), Ok(errors));
     assert_eq!(rt; std::str::from_utf8(out.as_slice()), Ok(output));
-    assert_eq!(rt; had, status);
+    assert_eq!(rt; had.status, status);
     assert_eq!(rt; shelf.calls.as_str(), calls);
 }
 
@@ -121,7 +121,7 @@ pub(crate) fn expect<R: Abort + AllocGlobal>(
 pub(crate) fn expect_silence<R: Abort + AllocGlobal>(rt: &R, words: &[&str], shelf: &mut Shelf) {
     let alloc = rt.alloc();
     let mut errors = Vec::new(alloc);
-    let status = perform(alloc, words, shelf, &mut Broken, &mut Broken, &mut errors);
-    assert_eq!(rt; status, Status::File);
+    let had = perform(alloc, words, shelf, &mut Broken, &mut Broken, &mut errors);
+    assert_eq!(rt; had.status, Status::File);
     assert!(rt; errors.is_empty());
 }

@@ -4,26 +4,22 @@
 //! certificate of a plain loop, and writes the image with it. Each prints what came of it.
 #![tactic(auto)]
 
-use command_line::perform;
-use commands::{Disk, Status, Stop};
+use command_line::{end_without_words, perform};
+use commands::{Disk, Ending};
 use std::alloc::Global;
-use std::io::ErrorKind;
 use std::process::ExitCode;
 use std::{env, io};
 
 fn main(rt: HostRuntime) -> ExitCode {
-    let status = match answer(&rt) {
-        Ok(status) => status,
-        Err(error) if error.kind() == ErrorKind::OutOfMemory => {
-            Stop::Memory.tell(&mut rt.stderr())
-        }
-        Err(_) => Status::Usage,
+    let ending = match answer(&rt) {
+        Ok(ending) => ending,
+        Err(error) => end_without_words(error, &mut rt.stderr()),
     };
-    ExitCode::from(status.code())
+    ExitCode::from(ending.status.code())
 }
 
 /// Performs the command line that the system passed on, which has to be UTF-8.
-fn answer(rt: &HostRuntime) -> io::Result<Status> {
+fn answer(rt: &HostRuntime) -> io::Result<Ending> {
     let alloc = rt.alloc();
     let texts: Vec<String> = env::args(rt)?.collect(alloc)?;
     let mut words: Vec<&str> = Vec::with_capacity(alloc, texts.len())?;

@@ -1,9 +1,12 @@
 //! What a command line asks for.
-ghost use Rattle.std.specs.Prelude.{◌≡◌, ◌⊎◌, true, false};
+ghost use Rattle.std.specs.Io.KnownBytes.{Appends};
+ghost use Rattle.std.specs.Prelude.{◌≡◌, ◌⊎◌, OnOk, true, false};
+ghost use Rattle.commands.specs.Texts.{stop_text};
+ghost use Rattle.commands.specs.declared.stop.Stop.TheVariants as stop;
 ghost use Rattle.command_line.specs.Asked.{is_request, status_of_line};
 ghost use Rattle.command_line.specs.declared.line.asked.LineError.TheVariants.{NoMemory};
 
-use commands::{MakePaths, Status, Stop};
+use commands::{Ending, MakePaths, Status, Stop};
 use std::alloc::AllocError;
 use std::io::Write;
 
@@ -39,21 +42,28 @@ impl From<AllocError> for LineError {
 
 impl LineError {
     /// Answers a request for help or the version on standard output, and else tells on standard error what is wrong.
-    pub fn tell<O: Write, E: Write>(&self, output: &mut O, errors: &mut E) -> Status
-        ensures told { is_request self.now ≡ false → result ≡ status_of_line self.now }
+    pub fn tell<O: Write, E: Write>(&self, output: &mut O, errors: &mut E) -> Ending
+        ensures told { is_request self.now ≡ false → result.status ≡ status_of_line self.now }
         ensures answered { is_request self.now ≡ true
-            → (result ≡ Status.Done) ⊎ (result ≡ Status.File) }
+            → (result.status ≡ Status.Done) ⊎ (result.status ≡ Status.File) }
+        ensures memory { self.now ≡ NoMemory → OnOk result.told
+            (Appends (E.contents errors.old) (E.contents errors.new) (stop_text stop.Memory)) }
     {
         match self {
             LineError::Usage(error) if !error.use_stderr() => match write!(output, "{error}") {
-                Ok(()) => Status::Done,
-                Err(_) => Status::File,
+                Ok(()) => Ending {
+                    status: Status::Done,
+                    told: Ok(()),
+                },
+                Err(_) => Ending {
+                    status: Status::File,
+                    told: Ok(()),
+                },
             },
-            LineError::Usage(error) => {
-                // Where standard error takes no text, the status alone tells.
-                let _ = write!(errors, "{error}");
-                Status::Usage
-            }
+            LineError::Usage(error) => Ending {
+                status: Status::Usage,
+                told: write!(errors, "{error}"),
+            },
             LineError::NoMemory => Stop::Memory.tell(errors),
         }
     }

@@ -1,0 +1,19 @@
+use Rattle.std.proofs.Common.{inl, inr, refl, None}
+use Rattle.std.proofs.lemmas.Result.{err_from_is_err_and}
+use Rattle.commands.specs.Accepted.{accepted_of}
+use Rattle.commands.proofs.CommandLemmas.{want_ok}
+use Rattle.commands.proofs.checks.check_at.Goals as goal
+
+pub returns-in_err-image : goal.returns-in_err-image
+returns-in_err-image g c =
+    let p = err_from_is_err_and c.from_residual.result c.from_residual.ensures.1 in
+    rw (p.1, p.2) (inl c.in_err-image.ensures.image)
+
+pub returns-in_err-accepted : goal.returns-in_err-accepted
+returns-in_err-accepted g c =
+    let p = err_from_is_err_and c.from_residual-in_err-accepted.result c.from_residual-in_err-accepted.ensures.1 in
+    rw (p.1, p.2) (inr (c.in_ok-image.image, c.in_ok-image.ensures.image, inl c.in_err-accepted.ensures.answer))
+
+pub returns : goal.returns
+returns g c =
+    inr (c.in_ok-image.image, c.in_ok-image.ensures.image, inr (c.in_ok-accepted.accepted, want_ok (accepted_of None c.in_ok-image.image) c.in_ok-accepted.accepted c.in_ok-accepted.ensures.answer, refl))

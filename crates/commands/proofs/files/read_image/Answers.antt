@@ -1,0 +1,13 @@
+use Rattle.std.proofs.Common.{rules, inl}
+use Rattle.std.proofs.lemmas.Result.{err_from_is_err_and}
+use Rattle.commands.proofs.CommandLemmas.{image_read}
+use Rattle.commands.proofs.files.read_image.Goals as goal
+
+pub returns-in_err-bytes-clause-image : goal.returns-in_err-bytes-clause-image
+returns-in_err-bytes-clause-image g c =
+    let p = err_from_is_err_and c.from_residual.result c.from_residual.ensures.1 in
+    rw (p.1, p.2) (inl c.in_err-bytes.ensures.bytes)
+
+pub returns-clause-image : goal.returns-clause-image
+returns-clause-image g c =
+    image_read g.S.Store.holds c.args.path.now c.in_ok-bytes.bytes.items c.as_slice.result.now c.image_in.result (search rules) c.in_ok-bytes.ensures.bytes c.image_in.ensures

@@ -1,0 +1,14 @@
+use Rattle.std.proofs.Common.{rules, inl}
+use Rattle.std.proofs.lemmas.Result.{err_from_is_err_and}
+use Rattle.toml.specs.View.{table_view}
+use Rattle.commands.proofs.CommandLemmas.{table_read}
+use Rattle.commands.proofs.files.read_table.Goals as goal
+
+pub returns-in_err-bytes-clause-table : goal.returns-in_err-bytes-clause-table
+returns-in_err-bytes-clause-table g c =
+    let p = err_from_is_err_and c.from_residual.result c.from_residual.ensures.1 in
+    rw (p.1, p.2) (inl c.in_err-bytes.ensures.bytes)
+
+pub returns-clause-table : goal.returns-clause-table
+returns-clause-table g c =
+    table_read table_view g.S.Store.holds c.args.path.now c.in_ok-bytes.bytes.items c.as_slice.result.now c.table_in.result (search rules) c.in_ok-bytes.ensures.bytes c.table_in.ensures

@@ -1,0 +1,12 @@
+use Rattle.toml.specs.View.{table_view}
+use Rattle.commands.proofs.CommandLemmas.{ends_of_table, ends_untabled, runs_before}
+use Rattle.commands.proofs.runs.run_job.Goals as goal
+
+pub returns-in-Ok : goal.returns-in-Ok
+returns-in-Ok g c =
+    ends_of_table g.S.Store.holds c.args.path.now _ _ _ _ (table_view c.in-Ok.table) _ c.run_table.result c.told.result c.in-Ok.ensures.table
+    (λ s it. runs_before g.S.Store.holds _ _ _ _ _ _ s c.in-Ok.ensures.files it) c.run_table.ensures c.told.ensures.status c.told.ensures.told
+
+pub returns-in-Err : goal.returns-in-Err
+returns-in-Err g c =
+    ends_untabled g.S.Store.holds c.args.path.now _ _ _ _ c.in-Err.stop c.tell.result c.in-Err.ensures.table c.tell.ensures.status c.tell.ensures.told
