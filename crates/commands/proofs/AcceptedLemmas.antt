@@ -1,12 +1,7 @@
 -- What comes of an image that passes the check.
-use Rattle.std.proofs.Common.{◌≡◌, ◌==◌, ℕ, Bool, true, false, List, Option, Some, None, IfSome, Ok, Err, ◌-◌, ◌∙◌, arith, ap, subst, if◌then◌else◌}
+use Rattle.std.proofs.Common.{◌≡◌, ℕ, List, Option, Some, None, IfSome, Ok, ◌-◌, ◌∙◌, arith, ap}
 use Rattle.block_checker.specs.Accepted.{AcceptedView}
 use Rattle.block_checker.specs.Bound.{bound_of, scalars_of}
-use Rattle.block_checker.specs.Passes.{Checked, block_at, blocks_pass, both, checked, entry_passes, entry_passes_to}
-use Rattle.block_checker.specs.declared.errors.CheckError.TheVariants.{WrongVlen}
-use Rattle.cert_note.specs.Certificate.{CertificateView}
-use Rattle.cert_note.specs.declared.values.Block.{Block}
-use Rattle.elf_image.specs.Image.{ImageView}
 use Rattle.region_mem.specs.Memory.{args_of}
 use Rattle.region_mem.specs.Parameter.{Argument}
 use Rattle.region_mem.specs.declared.arguments.Args.{Args}
@@ -15,27 +10,11 @@ use Rattle.sandbox_run.specs.declared.outcome.OpenError.{OpenError}
 use Rattle.vector_core.specs.Machine.{Machine}
 use Rattle.vector_core.specs.Run.{Ended, outcome, outcome_from}
 use Rattle.vector_core.specs.Start.{start}
-use Rattle.vreg_groups.specs.VectorLength.{vlenb_of}
 use Rattle.vreg_groups.specs.declared.policies.Agnostic.{Agnostic}
-use Rattle.vreg_groups.specs.declared.vector_length.Vlen.{Vlen}
 use Rattle.commands.specs.Runs.{if_opened}
 use Rattle.commands.specs.Trial.{OrMemory}
 use Rattle.commands.specs.declared.trial.End.TheVariants as end
 use Rattle.commands.specs.declared.trial.Trial.{Trial}
-
--- what passes has a block at its entry
-pub has_entry : (image : ImageView) (certificate : CertificateView) (vlen : Vlen) → checked image certificate vlen ≡ Ok tt
-    → block_at image.entry certificate.blocks ≡ None → ⊥
-unfolding checked entry_passes entry_passes_to
-has_entry image certificate vlen passes none =
-    by (vlenb_of certificate.vlen == vlenb_of vlen) (subst (λ (o : Option Block). asked (vlenb_of certificate.vlen == vlenb_of vlen) o ≡ Ok tt) none passes)
-  where
-    asked : Bool → Option Block → Checked
-    asked b o = if b then both (entry_passes_to image certificate o) (blocks_pass image certificate certificate.blocks) else Err WrongVlen
-
-    by : (b : Bool) → asked b None ≡ Ok tt → ⊥
-    by true e = cc
-    by false e = cc
 
 -- a run that is opened and ended is the one that is defined
 pub opened : (vlenb : ℕ) (agnostic : Agnostic) (a : AcceptedView) (args : List Argument) (fault : Option OpenError)

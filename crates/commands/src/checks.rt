@@ -1,8 +1,6 @@
 //! `check`: an image against its certificate, and the bound of its runs.
 ghost use Rattle.std.specs.Io.KnownBytes.{Appends};
-ghost use Rattle.std.specs.Prelude.{◌≡◌, MatchResult, OnOk, Some, option_copied, option_map};
-ghost use Rattle.block_checker.specs.Accepted.{Passes};
-ghost use Rattle.block_checker.specs.Passes.{block_at as block_at_of};
+ghost use Rattle.std.specs.Prelude.{◌≡◌, MatchResult, OnOk};
 ghost use Rattle.commands.specs.Checks.{Checks, StopsCheck, bound_line};
 ghost use Rattle.commands.specs.Ending.{Ends};
 
@@ -10,8 +8,7 @@ use crate::accepted::accept;
 use crate::files::read_image;
 use crate::stop::{Ending, Status, Stop, told};
 use crate::store::Store;
-use block_checker::Accepted;
-use cert_note::{Block, Budget};
+use cert_note::Budget;
 use std::alloc::Global;
 use std::io;
 use std::io::Write;
@@ -50,32 +47,9 @@ fn check_at<'a, S: Store, O: Write>(
 {
     let image = read_image(alloc, path, store)?;
     let accepted = accept(alloc, image, None)?;
-    match print_bound(entry_budget(&accepted), output) {
+    match print_bound(accepted.budget(), output) {
         Ok(()) => Ok(Status::Done),
         Err(_) => Err(Stop::Output),
-    }
-}
-
-/// The block that begins at an address.
-#[tactic(auto, unfolding(block_checker::specs::Passes::block_at))]
-fn block_at(blocks: &[Block], address: u32) -> Option<&Block>
-    ensures { option_copied result ≡ block_at_of address blocks.now }
-{
-    blocks.iter().find(|block| block.start == address)
-}
-
-/// The budget of the block at an accepted image's entry.
-pub fn entry_budget(accepted: &Accepted) -> Budget
-    requires { Passes accepted.now }
-    ensures { option_map (λ block. block.budget)
-        (block_at_of accepted.now.image.entry accepted.now.certificate.blocks) ≡ Some result }
-{
-    match block_at(
-        &accepted.certificate().contents().blocks,
-        accepted.image().entry(),
-    ) {
-        Some(block) => block.budget,
-        None => unreachable!(),
     }
 }
 

@@ -10,7 +10,7 @@ ghost use Rattle.commands.specs.Trial.{OrMemory};
 ghost use Rattle.toml.specs.View.{table_view};
 
 use crate::accepted::accept;
-use crate::checks::{entry_budget, print_bound};
+use crate::checks::print_bound;
 use crate::files::{image_in, read, read_table, write};
 use crate::stop::{Ending, Status, Stop, told};
 use crate::store::Store;
@@ -83,7 +83,7 @@ fn make_table<'a, S: Store, O: Write>(
     let bytes = made(alloc, &job, file.as_slice())?;
     let accepted = read_back(alloc, &job, bytes.as_slice())?;
     write(paths.out, bytes.as_slice(), store)?;
-    match print_bound(entry_budget(&accepted), output) {
+    match print_bound(accepted.budget(), output) {
         Ok(()) => Ok(Status::Done),
         Err(_) => Err(Stop::Output),
     }
