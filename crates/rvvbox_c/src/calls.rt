@@ -1,0 +1,299 @@
+//! The calls themselves. None has a `requires`: what a host passes is tested.
+ghost use Rattle.std.specs.Prelude.{◌≡◌, ◌≤◌, ◌+◌, ◌*◌, ◌^◌, IfErr, IfOk, length};
+ghost use Rattle.block_checker.specs.Bound.{bound_of as bound_for};
+ghost use Rattle.vreg_groups.specs.VectorLength.{IsVlenb};
+ghost use Rattle.rvvbox_c.specs.Scalars.{by_place};
+
+use crate::accept::{accept, agnostic_of, vlen_of};
+use crate::places::{Place, arguments, put_all_back};
+use crate::status::{Refusal, Status};
+use block_checker::Accepted;
+use region_mem::{Mode, Param};
+use sandbox_run::Session;
+use std::alloc::Global;
+use vreg_groups::{Agnostic, Vlen};
+
+/// How runs are done.
+#[repr(C)]
+#[derive(Clone, Copy)]
+pub struct Setting {
+    /// The length of a vector register in bits: 128, 256 or 512.
+    pub vlen: u32,
+    /// What is done with agnostic elements: 0 keeps them, 1 fills them with ones.
+    pub agnostic: u32,
+    /// The most steps that a run may take.
+    pub max: u64,
+}
+
+/// What came of one run.
+#[repr(C)]
+#[derive(Clone, Copy)]
+pub struct Ran {
+    pub status: u32,
+    pub steps: u64,
+}
+
+/// The numbers at the eight places.
+#[repr(C)]
+#[derive(Clone, Copy)]
+pub struct Scalars {
+    pub a0: u32,
+    pub a1: u32,
+    pub a2: u32,
+    pub a3: u32,
+    pub a4: u32,
+    pub a5: u32,
+    pub a6: u32,
+    pub a7: u32,
+}
+
+/// The most steps that a run takes, `high * 2^64 + low`.
+#[repr(C)]
+#[derive(Clone, Copy)]
+pub struct Bound {
+    pub low: u64,
+    pub high: u64,
+}
+
+/// What a kernel takes at one place, of the kinds of a place: a number from `lo` to `hi`, or a buffer of `size` bytes.
+#[repr(C)]
+#[derive(Clone, Copy)]
+pub struct Parameter {
+    pub kind: u32,
+    pub lo: u32,
+    pub hi: u32,
+    pub size: u32,
+}
+
+/// The version of these calls. It changes where one of them does.
+#[unsafe(no_mangle)]
+pub extern "C" fn rvvbox_version() -> u32
+    ensures { result ≡ 1 }
+{
+    1
+}
+
+/// Checks the image that `file` spells, for vector registers of `vlen` bits, and answers the status. Where it is refused,
+/// `refusal` tells why.
+#[unsafe(no_mangle)]
+pub extern "C" fn rvvbox_check(alloc: Global, file: &[u8], vlen: u32, refusal: &mut Refusal) -> u32
+    ensures { result ≡ refusal.new.status }
+{
+    *refusal = match vlen_of(vlen) {
+        None => Refusal::of(Status::BadVlen),
+        Some(vlen) => match accept(alloc, file, vlen) {
+            Ok(_) => Refusal::of(Status::Done),
+            Err(refusal) => refusal,
+        },
+    };
+    refusal.status
+}
+
+/// Checks as [`rvvbox_check`] does, and tells the most steps that a run takes with these numbers at the places of scalars.
+/// What stands at any other place says nothing.
+#[unsafe(no_mangle)]
+pub extern "C" fn rvvbox_bound(
+    alloc: Global,
+    file: &[u8],
+    vlen: u32,
+    scalars: &Scalars,
+    bound: &mut Bound,
+) -> u32 {
+    let Some(vlen) = vlen_of(vlen) else {
+        return Status::BadVlen.code();
+    };
+    match accept(alloc, file, vlen) {
+        Err(refusal) => refusal.status,
+        Ok(accepted) => {
+            *bound = bound_of(&accepted, scalars);
+            Status::Done.code()
+        }
+    }
+}
+
+fn told(param: Param) -> Parameter {
+    let nothing = Parameter {
+        kind: 0,
+        lo: 0,
+        hi: 0,
+        size: 0,
+    };
+    match param {
+        Param::None => nothing,
+        Param::Scalar { lo, hi } => Parameter {
+            kind: 1,
+            lo,
+            hi,
+            ..nothing
+        },
+        Param::Buffer { mode, size } => Parameter {
+            kind: match mode {
+                Mode::ReadWrite => 2,
+                Mode::Read => 3,
+            },
+            size,
+            ..nothing
+        },
+    }
+}
+
+/// Checks as [`rvvbox_check`] does, and tells what the kernel takes, by place: into eight of `parameters`.
+#[unsafe(no_mangle)]
+pub extern "C" fn rvvbox_parameters(
+    alloc: Global,
+    file: &[u8],
+    vlen: u32,
+    parameters: &mut [Parameter],
+) -> u32
+    ensures { length parameters.new ≡ length parameters.old }
+{
+    let Some(vlen) = vlen_of(vlen) else {
+        return Status::BadVlen.code();
+    };
+    if parameters.len() != 8 {
+        return Status::BadCount.code();
+    }
+    match accept(alloc, file, vlen) {
+        Err(refusal) => refusal.status,
+        Ok(accepted) => {
+            for (parameter, param) in parameters.iter_mut().zip(accepted.parameters().to_array()) {
+                *parameter = told(param);
+            }
+            Status::Done.code()
+        }
+    }
+}
+
+fn bound_of(accepted: &Accepted, scalars: &Scalars) -> Bound
+    ensures { result.high * 2 ^ 64 + result.low ≡ bound_for accepted.now (by_place scalars.now) }
+{
+    let steps = accepted.bound(&[
+        scalars.a0, scalars.a1, scalars.a2, scalars.a3, scalars.a4, scalars.a5, scalars.a6,
+        scalars.a7,
+    ]);
+    Bound {
+        low: (steps % (1 << 64)) as u64,
+        high: (steps / (1 << 64)) as u64,
+    }
+}
+
+/// Runs an accepted image at its length of vector registers, and puts the buffers back where it has ended.
+fn run_session<const VLENB: usize>(
+    alloc: Global,
+    accepted: &Accepted,
+    memory: &mut [u8],
+    places: &[Place; 8],
+    agnostic: Agnostic,
+    max: u64,
+) -> Result<u64, Status>
+    requires { IsVlenb VLENB }
+    ensures length { length memory.new ≡ length memory.old }
+    ensures refused { IfErr result (λ _. memory.new ≡ memory.old) }
+    ensures within { IfOk result (λ steps. steps ≤ max) }
+{
+    let args = arguments(alloc, memory, places)?;
+    match Session::<VLENB>::open(alloc, accepted, args, agnostic, max) {
+        Ok(mut session) => {
+            let steps = session.run();
+            put_all_back(&session.close(), memory, places);
+            Ok(steps)
+        }
+        Err((error, _args)) => Err(Status::from(error)),
+    }
+}
+
+/// One run of an accepted image.
+fn run_one(
+    alloc: Global,
+    accepted: &Accepted,
+    memory: &mut [u8],
+    places: &[Place; 8],
+    agnostic: Agnostic,
+    max: u64,
+) -> Ran
+    ensures length { length memory.new ≡ length memory.old }
+    ensures within { result.steps ≤ max }
+{
+    let steps = match accepted.vlen() {
+        Vlen::V128 => run_session::<16>(alloc, accepted, memory, places, agnostic, max),
+        Vlen::V256 => run_session::<32>(alloc, accepted, memory, places, agnostic, max),
+        Vlen::V512 => run_session::<64>(alloc, accepted, memory, places, agnostic, max),
+    };
+    match steps {
+        Ok(steps) => Ran {
+            status: Status::Done.code(),
+            steps,
+        },
+        Err(status) => Ran {
+            status: status.code(),
+            steps: 0,
+        },
+    }
+}
+
+/// Checks the image once and runs it once for each of `runs`, one run after another, each on the next eight of `places`. What came of
+/// each stands in `runs`. A run that is refused leaves memory as it is.
+#[unsafe(no_mangle)]
+pub extern "C" fn rvvbox_run_many(
+    alloc: Global,
+    file: &[u8],
+    setting: &Setting,
+    memory: &mut [u8],
+    places: &[Place],
+    runs: &mut [Ran],
+) -> u32
+    ensures memory { length memory.new ≡ length memory.old }
+    ensures runs { length runs.new ≡ length runs.old }
+{
+    let Some(vlen) = vlen_of(setting.vlen) else {
+        return Status::BadVlen.code();
+    };
+    let Some(agnostic) = agnostic_of(setting.agnostic) else {
+        return Status::BadAgnostic.code();
+    };
+    let (sets, rest) = places.as_chunks::<8>();
+    if sets.len() != runs.len() || !rest.is_empty() {
+        return Status::BadCount.code();
+    }
+    match accept(alloc, file, vlen) {
+        Err(refusal) => refusal.status,
+        Ok(accepted) => {
+            for (ran, set) in runs.iter_mut().zip(sets) {
+                *ran = run_one(alloc, &accepted, memory, set, agnostic, setting.max);
+            }
+            Status::Done.code()
+        }
+    }
+}
+
+/// As [`rvvbox_run_many`], of one run. Its status is the answer.
+#[unsafe(no_mangle)]
+pub extern "C" fn rvvbox_run(
+    alloc: Global,
+    file: &[u8],
+    setting: &Setting,
+    memory: &mut [u8],
+    places: &[Place],
+    steps: &mut u64,
+) -> u32
+    ensures { length memory.new ≡ length memory.old }
+{
+    let Some(vlen) = vlen_of(setting.vlen) else {
+        return Status::BadVlen.code();
+    };
+    let Some(agnostic) = agnostic_of(setting.agnostic) else {
+        return Status::BadAgnostic.code();
+    };
+    let (sets, rest) = places.as_chunks::<8>();
+    if sets.len() != 1 || !rest.is_empty() {
+        return Status::BadCount.code();
+    }
+    match accept(alloc, file, vlen) {
+        Err(refusal) => refusal.status,
+        Ok(accepted) => {
+            let ran = run_one(alloc, &accepted, memory, &sets[0], agnostic, setting.max);
+            *steps = ran.steps;
+            ran.status
+        }
+    }
+}

@@ -1,0 +1,16 @@
+//! What a host in C calls: to check an image, to run it on the host's memory, and to try any image.
+#![tactic(auto)]
+
+mod accept;
+mod calls;
+mod places;
+mod status;
+mod tries;
+
+pub use calls::{
+    Bound, Ran, Scalars, Setting, rvvbox_bound, rvvbox_check, rvvbox_run, rvvbox_run_many,
+    rvvbox_version,
+};
+pub use places::Place;
+pub use status::Refusal;
+pub use tries::{Stopped, rvvbox_try};

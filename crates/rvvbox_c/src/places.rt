@@ -1,0 +1,118 @@
+//! The eight places of a run, in the host's memory.
+ghost use Rattle.std.specs.Prelude.{◌≡◌, ◌+◌, drop, length, take};
+
+use crate::status::Status;
+use region_mem::{Arg, Args, Bytes, Mode, Param, Parameters};
+use std::alloc::Global;
+
+/// What stands at one of the eight places: nothing (kind 0), the number `value` (kind 1), or the `size` bytes from `from` on
+/// of the host's memory, which are put back after the run (kind 2) or only read (kind 3).
+#[repr(C)]
+#[derive(Clone, Copy)]
+pub struct Place {
+    pub kind: u32,
+    pub value: u32,
+    pub from: usize,
+    pub size: usize,
+}
+
+/// The bytes that a place names, where the memory has them.
+fn named(memory: &[u8], place: Place) -> Option<&[u8]> {
+    let to = place.from.checked_add(place.size)?;
+    memory.get(place.from..to)
+}
+
+fn argument(alloc: Global, memory: &[u8], place: Place) -> Result<Arg, Status> {
+    match place.kind {
+        0 => Ok(Arg::None),
+        1 => Ok(Arg::Scalar(place.value)),
+        2 | 3 => {
+            let bytes = named(memory, place).ok_or(Status::BadRange)?;
+            Ok(Arg::Buffer(Bytes::new(Vec::from_slice(alloc, bytes)?)))
+        }
+        _ => Err(Status::BadKind),
+    }
+}
+
+/// The arguments that eight places name, with copies of their bytes.
+pub fn arguments(alloc: Global, memory: &[u8], places: &[Place; 8]) -> Result<Args, Status> {
+    let [a, b, c, d, e, f, g, h] = *places;
+    Ok(Args {
+        places: [
+            argument(alloc, memory, a)?,
+            argument(alloc, memory, b)?,
+            argument(alloc, memory, c)?,
+            argument(alloc, memory, d)?,
+            argument(alloc, memory, e)?,
+            argument(alloc, memory, f)?,
+            argument(alloc, memory, g)?,
+            argument(alloc, memory, h)?,
+        ],
+    })
+}
+
+/// Puts a buffer back where it came from.
+fn put_back(arg: &Arg, memory: &mut [u8], place: Place)
+    ensures length { length memory.new ≡ length memory.old }
+    ensures before { take place.from memory.new ≡ take place.from memory.old }
+    ensures read { place.kind ≡ 3 → memory.new ≡ memory.old }
+    ensures behind { drop (place.from + place.size) memory.new
+        ≡ drop (place.from + place.size) memory.old }
+{
+    let Arg::Buffer(bytes) = arg else {
+        return;
+    };
+    if place.kind == 3 {
+        return;
+    }
+    let Some(to) = place.from.checked_add(place.size) else {
+        return;
+    };
+    if to <= memory.len() && bytes.len() == place.size {
+        memory[place.from..to].copy_from_slice(bytes.as_slice());
+    }
+}
+
+/// Puts all buffers back where they came from.
+pub fn put_all_back(args: &Args, memory: &mut [u8], places: &[Place; 8])
+    ensures { length memory.new ≡ length memory.old }
+{
+    for (arg, place) in args.places.iter().zip(places) {
+        put_back(arg, memory, *place);
+    }
+}
+
+/// What an image that is tried may do with a place: what stands there, and no more.
+fn parameter(place: Place) -> Option<Param> {
+    match place.kind {
+        0 => Some(Param::None),
+        1 => Some(Param::Scalar {
+            lo: place.value,
+            hi: place.value,
+        }),
+        2 | 3 => {
+            let mode = match place.kind {
+                3 => Mode::Read,
+                _ => Mode::ReadWrite,
+            };
+            let size = u32::try_from(place.size).ok()?;
+            Some(Param::Buffer { mode, size })
+        }
+        _ => None,
+    }
+}
+
+/// The parameters that eight places are arguments for, where buffers are within the limits.
+pub fn parameters(places: &[Place; 8]) -> Option<Parameters> {
+    let [a, b, c, d, e, f, g, h] = *places;
+    Parameters::new([
+        parameter(a)?,
+        parameter(b)?,
+        parameter(c)?,
+        parameter(d)?,
+        parameter(e)?,
+        parameter(f)?,
+        parameter(g)?,
+        parameter(h)?,
+    ])
+}

@@ -1,0 +1,224 @@
+//! What a call answers, as `include/rvvbox.h` numbers it.
+ghost use Rattle.std.specs.Prelude.{◌≡◌};
+ghost use Rattle.rvvbox_c.specs.declared.status.Status.TheVariants.{NoMemory};
+
+use block_checker::CheckError;
+use cert_note::CertError;
+use elf_image::ElfError;
+use sandbox_run::OpenError;
+use std::alloc::AllocError;
+
+/// What came of a call.
+#[derive(Clone, Copy, Debug, PartialEq, Eq)]
+pub enum Status {
+    /// All was done: the image is accepted, or the run has ended.
+    Done,
+    /// Memory was refused.
+    NoMemory,
+    /// A length of vector registers is not 128, 256 or 512.
+    BadVlen,
+    /// A setting for agnostic elements is not 0 or 1.
+    BadAgnostic,
+    /// There are not eight places for each run.
+    BadCount,
+    /// A place is of no kind.
+    BadKind,
+    /// A place names bytes that the memory does not have.
+    BadRange,
+    /// Buffers are larger than an image that is tried may be given.
+    TooLarge,
+    /// The bytes spell no image.
+    Image,
+    /// The image has no certificate.
+    NoCertificate,
+    /// The certificate can't be read.
+    Certificate,
+    /// The check refuses the image with its certificate.
+    Check,
+    /// An argument is of another kind than the parameter.
+    WrongKind,
+    /// A scalar is outside its parameter's interval.
+    ScalarOutOfInterval,
+    /// A buffer has another size than the parameter says.
+    WrongSize,
+    /// The run may take more steps than are allowed.
+    BoundTooLarge,
+    /// The image was accepted for another length of vector registers.
+    WrongVlen,
+    /// A tried run met a fault.
+    Trapped,
+    /// A tried run did all the steps that it was allowed, and has not ended.
+    OutOfSteps,
+}
+
+impl Status {
+    /// The number in `include/rvvbox.h`.
+    pub fn code(self) -> u32 {
+        match self {
+            Status::Done => 0,
+            Status::NoMemory => 1,
+            Status::BadVlen => 2,
+            Status::BadAgnostic => 3,
+            Status::BadCount => 4,
+            Status::BadKind => 5,
+            Status::BadRange => 6,
+            Status::TooLarge => 7,
+            Status::Image => 8,
+            Status::NoCertificate => 9,
+            Status::Certificate => 10,
+            Status::Check => 11,
+            Status::WrongKind => 12,
+            Status::ScalarOutOfInterval => 13,
+            Status::WrongSize => 14,
+            Status::BoundTooLarge => 15,
+            Status::WrongVlen => 16,
+            Status::Trapped => 17,
+            Status::OutOfSteps => 18,
+        }
+    }
+}
+
+impl From<AllocError> for Status {
+    ghost from_gives = { λ _ status. status ≡ NoMemory };
+
+    fn from(_error: AllocError) -> Status {
+        Status::NoMemory
+    }
+}
+
+impl From<ElfError> for Status {
+    fn from(error: ElfError) -> Status {
+        match error {
+            ElfError::NoMemory => Status::NoMemory,
+            ElfError::TooShort
+            | ElfError::BadMagic
+            | ElfError::BadClass
+            | ElfError::BadType
+            | ElfError::BadMachine
+            | ElfError::BadFlags
+            | ElfError::BadHeaderTable
+            | ElfError::NotStatic
+            | ElfError::SegmentOutOfFile
+            | ElfError::SegmentOutOfPlace
+            | ElfError::SegmentsOverlap
+            | ElfError::WriteAndExecute
+            | ElfError::TooLarge
+            | ElfError::EntryNotCode
+            | ElfError::TwoCertificates
+            | ElfError::CertificateThere => Status::Image,
+        }
+    }
+}
+
+impl From<OpenError> for Status {
+    fn from(error: OpenError) -> Status {
+        match error {
+            OpenError::WrongKind(_) => Status::WrongKind,
+            OpenError::ScalarOutOfInterval(_) => Status::ScalarOutOfInterval,
+            OpenError::WrongSize(_) => Status::WrongSize,
+            OpenError::BoundTooLarge => Status::BoundTooLarge,
+            OpenError::WrongVlen => Status::WrongVlen,
+            OpenError::NoMemory => Status::NoMemory,
+        }
+    }
+}
+
+/// Why an image is refused: the status, the number of the rule in its order in `include/rvvbox.h`, from 1 on, and the address
+/// of the word at which a check stopped. What there is not is 0.
+#[repr(C)]
+#[derive(Clone, Copy, Debug, PartialEq, Eq)]
+pub struct Refusal {
+    pub status: u32,
+    pub rule: u32,
+    pub address: u32,
+}
+
+impl Refusal {
+    /// A refusal that names no rule.
+    pub fn of(status: Status) -> Refusal {
+        Refusal {
+            status: status.code(),
+            rule: 0,
+            address: 0,
+        }
+    }
+}
+
+impl From<ElfError> for Refusal {
+    fn from(error: ElfError) -> Refusal {
+        let rule = match error {
+            ElfError::NoMemory => return Refusal::of(Status::NoMemory),
+            ElfError::TooShort => 1,
+            ElfError::BadMagic => 2,
+            ElfError::BadClass => 3,
+            ElfError::BadType => 4,
+            ElfError::BadMachine => 5,
+            ElfError::BadFlags => 6,
+            ElfError::BadHeaderTable => 7,
+            ElfError::NotStatic => 8,
+            ElfError::SegmentOutOfFile => 9,
+            ElfError::SegmentOutOfPlace => 10,
+            ElfError::SegmentsOverlap => 11,
+            ElfError::WriteAndExecute => 12,
+            ElfError::TooLarge => 13,
+            ElfError::EntryNotCode => 14,
+            ElfError::TwoCertificates => 15,
+            ElfError::CertificateThere => 16,
+        };
+        Refusal {
+            status: Status::Image.code(),
+            rule,
+            address: 0,
+        }
+    }
+}
+
+impl From<CertError> for Refusal {
+    fn from(error: CertError) -> Refusal {
+        let rule = match error {
+            CertError::NoMemory => return Refusal::of(Status::NoMemory),
+            CertError::Short => 1,
+            CertError::Version => 2,
+            CertError::Parameter => 3,
+            CertError::BlockOrder => 4,
+            CertError::Fact => 5,
+            CertError::Equality => 6,
+            CertError::Budget => 7,
+            CertError::TrailingBytes => 8,
+            CertError::TooMany => 9,
+            CertError::Order => 10,
+        };
+        Refusal {
+            status: Status::Certificate.code(),
+            rule,
+            address: 0,
+        }
+    }
+}
+
+impl From<CheckError> for Refusal {
+    fn from(error: CheckError) -> Refusal {
+        let rule = match error {
+            CheckError::NoMemory => return Refusal::of(Status::NoMemory),
+            CheckError::WrongVlen => 1,
+            CheckError::NoEntryBlock => 2,
+            CheckError::NotCode(_) => 3,
+            CheckError::IllegalWord(_) => 4,
+            CheckError::VtypeUnknown(_) => 5,
+            CheckError::AccessNotProved(_) => 6,
+            CheckError::ReadOnly(_) => 7,
+            CheckError::TargetNotABlock(_) => 8,
+            CheckError::IntervalNotProved(_) => 9,
+            CheckError::EqualityNotProved(_) => 10,
+            CheckError::OrderNotProved(_) => 11,
+            CheckError::VectorFactNotProved(_) => 12,
+            CheckError::BudgetNotProved(_) => 13,
+            CheckError::BlockTooLong(_) => 14,
+        };
+        Refusal {
+            status: Status::Check.code(),
+            rule,
+            address: error.address().unwrap_or(0),
+        }
+    }
+}

@@ -1,0 +1,155 @@
+//! Runs of any image, accepted or not.
+ghost use Rattle.std.specs.Prelude.{◌≡◌, length};
+ghost use Rattle.vreg_groups.specs.VectorLength.{IsVlenb};
+
+use crate::accept::{agnostic_of, vlen_of};
+use crate::calls::Setting;
+use crate::places::{Place, arguments, parameters, put_all_back};
+use crate::status::Status;
+use elf_image::Image;
+use region_mem::{Args, Fault, Parameters};
+use sandbox_run::{Final, Outcome, try_run};
+use std::alloc::Global;
+use vreg_groups::{Agnostic, Vlen};
+
+/// Where a tried run stopped. `fault` is 0, or that of the next step: 1 an illegal word, 2 a fetch, 3 a load, 4 a store, 5 a jump to no
+/// multiple of 4; `number` is then the word or the address.
+#[repr(C)]
+#[derive(Clone, Copy)]
+pub struct Stopped {
+    pub fault: u32,
+    pub number: u32,
+    pub pc: u32,
+    pub steps: u64,
+}
+
+/// How a tried run stopped, with the arguments as they then stood.
+#[derive(Drop)]
+struct Tried {
+    status: Status,
+    stopped: Stopped,
+    args: Args,
+}
+
+fn fault_number(fault: Fault) -> u32 {
+    match fault {
+        Fault::Illegal(_) => 1,
+        Fault::FetchFault(_) => 2,
+        Fault::LoadFault(_) => 3,
+        Fault::StoreFault(_) => 4,
+        Fault::JumpMisaligned(_) => 5,
+    }
+}
+
+fn stop<const VLENB: usize>(status: Status, fault: u32, number: u32, last: Final<VLENB>) -> Tried {
+    let Final {
+        steps,
+        registers,
+        args,
+        ..
+    } = last;
+    Tried {
+        status,
+        stopped: Stopped {
+            fault,
+            number,
+            pc: registers.pc,
+            steps,
+        },
+        args,
+    }
+}
+
+fn told<const VLENB: usize>(outcome: Outcome<VLENB>) -> Tried {
+    match outcome {
+        Outcome::Ended(last) => stop(Status::Done, 0, 0, last),
+        Outcome::Trapped(fault, last) => {
+            stop(Status::Trapped, fault_number(fault), fault.number(), last)
+        }
+        Outcome::OutOfSteps(last) => stop(Status::OutOfSteps, 0, 0, last),
+    }
+}
+
+fn try_at<const VLENB: usize>(
+    alloc: Global,
+    image: &Image,
+    parameters: &Parameters,
+    args: Args,
+    agnostic: Agnostic,
+    max: u64,
+) -> Result<Tried, Status>
+    requires { IsVlenb VLENB }
+{
+    match try_run::<VLENB>(alloc, image, parameters, args, agnostic, max) {
+        Ok(outcome) => Ok(told(outcome)),
+        Err((error, _args)) => Err(Status::from(error)),
+    }
+}
+
+/// Runs an image on the places, with every test at each step.
+fn try_image(
+    alloc: Global,
+    image: &Image,
+    vlen: Vlen,
+    args: Args,
+    parameters: &Parameters,
+    agnostic: Agnostic,
+    max: u64,
+) -> Result<Tried, Status> {
+    match vlen {
+        Vlen::V128 => try_at::<16>(alloc, image, parameters, args, agnostic, max),
+        Vlen::V256 => try_at::<32>(alloc, image, parameters, args, agnostic, max),
+        Vlen::V512 => try_at::<64>(alloc, image, parameters, args, agnostic, max),
+    }
+}
+
+/// What comes of a try, or the status that says why there is none.
+fn performed(
+    alloc: Global,
+    file: &[u8],
+    setting: &Setting,
+    memory: &[u8],
+    places: &[Place; 8],
+) -> Result<Tried, Status> {
+    let vlen = vlen_of(setting.vlen).ok_or(Status::BadVlen)?;
+    let agnostic = agnostic_of(setting.agnostic).ok_or(Status::BadAgnostic)?;
+    let image = elf_image::read(alloc, file)?;
+    let args = arguments(alloc, memory, places)?;
+    let parameters = parameters(places).ok_or(Status::TooLarge)?;
+    try_image(
+        alloc,
+        &image,
+        vlen,
+        args,
+        &parameters,
+        agnostic,
+        setting.max,
+    )
+}
+
+/// Runs any image once, accepted or not, with every test at each step, on eight places, and puts the buffers back as they stand where
+/// it stopped. `stopped` is set where the answer is `Done`, `Trapped` or `OutOfSteps`.
+#[unsafe(no_mangle)]
+pub extern "C" fn rvvbox_try(
+    alloc: Global,
+    file: &[u8],
+    setting: &Setting,
+    memory: &mut [u8],
+    places: &[Place],
+    stopped: &mut Stopped,
+) -> u32
+    ensures { length memory.new ≡ length memory.old }
+{
+    let (sets, rest) = places.as_chunks::<8>();
+    if sets.len() != 1 || !rest.is_empty() {
+        return Status::BadCount.code();
+    }
+    match performed(alloc, file, setting, memory, &sets[0]) {
+        Ok(tried) => {
+            *stopped = tried.stopped;
+            put_all_back(&tried.args, memory, &sets[0]);
+            tried.status.code()
+        }
+        Err(status) => status.code(),
+    }
+}

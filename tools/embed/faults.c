@@ -1,0 +1,137 @@
+/* Calls with wrong arguments, and calls whose allocations are refused, one after another. Linked with --wrap for malloc and realloc.
+ * Prints nothing and ends with 0 where each answer is the header's; else names the line. */
+#include "rvvbox.h"
+#include <stdio.h>
+#include <stdlib.h>
+#include <string.h>
+
+#define EXPECT(holds) do { if (!(holds)) { fprintf(stderr, "line %d: %s\n", __LINE__, #holds); exit(1); } } while (0)
+
+void *__real_malloc(size_t size);
+void *__real_realloc(void *block, size_t size);
+static long refused = -1;                       /* how many allocations are given before one is refused, or -1 */
+
+static int refuses(void) { return refused >= 0 && refused-- == 0; }
+void *__wrap_malloc(size_t size) { return refuses() ? NULL : __real_malloc(size); }
+void *__wrap_realloc(void *block, size_t size) { return refuses() ? NULL : __real_realloc(block, size); }
+
+static uint8_t image[4096], words[4096], before[4096], expected[4096];
+static size_t size;
+static struct rvvbox_setting setting = {.vlen = 128, .agnostic = 0, .max = 10000};
+static struct rvvbox_place places[16];
+static uint64_t steps;
+
+static size_t read_file(const char *name, uint8_t *bytes) {
+    FILE *file = fopen(name, "rb");
+    EXPECT(file);
+    size_t count = fread(bytes, 1, 4096, file);
+    fclose(file);
+    return count;
+}
+
+static void put(struct rvvbox_place *eight) {
+    memset(eight, 0, 8 * sizeof *eight);
+    eight[0] = (struct rvvbox_place){.kind = RVVBOX_BUFFER, .size = sizeof words};
+    eight[1] = (struct rvvbox_place){.kind = RVVBOX_SCALAR, .value = 1000};
+}
+
+static uint32_t run(size_t count) { return rvvbox_run(image, size, &setting, words, sizeof words, places, count, &steps); }
+
+/* What a call of the place answers, with words as they were, and then as the place was */
+static void refuses_place(struct rvvbox_place place, int at, uint32_t status) {
+    struct rvvbox_place kept = places[at];
+    places[at] = place;
+    EXPECT(run(8) == status);
+    EXPECT(!memcmp(words, before, sizeof words));
+    places[at] = kept;
+}
+
+static void wrong_arguments(void) {
+    struct rvvbox_refusal refusal;
+    struct rvvbox_scalars scalars = {.a1 = 1000};
+    struct rvvbox_bound bound;
+    EXPECT(rvvbox_version() == RVVBOX_VERSION);
+    EXPECT(rvvbox_check(image, size, 128, &refusal) == RVVBOX_DONE && refusal.status == RVVBOX_DONE);
+    EXPECT(rvvbox_check(image, size, 127, &refusal) == RVVBOX_BAD_VLEN);
+    EXPECT(rvvbox_check(image, size, 256, &refusal) == RVVBOX_CHECK && refusal.rule == 1);
+    EXPECT(rvvbox_check(image, 51, 128, &refusal) == RVVBOX_IMAGE && refusal.rule == 1);
+    EXPECT(rvvbox_bound(image, size, 128, &scalars, &bound) == RVVBOX_DONE && bound.low == 8002 && bound.high == 0);
+    refuses_place((struct rvvbox_place){.kind = 4}, 7, RVVBOX_BAD_KIND);
+    refuses_place((struct rvvbox_place){.kind = RVVBOX_SCALAR}, 0, RVVBOX_WRONG_KIND);
+    refuses_place((struct rvvbox_place){.kind = RVVBOX_SCALAR, .value = 1025}, 1, RVVBOX_SCALAR_OUT_OF_INTERVAL);
+    refuses_place((struct rvvbox_place){.kind = RVVBOX_BUFFER, .size = 4095}, 0, RVVBOX_WRONG_SIZE);
+    refuses_place((struct rvvbox_place){.kind = RVVBOX_BUFFER, .from = 1, .size = 4096}, 0, RVVBOX_BAD_RANGE);
+    refuses_place((struct rvvbox_place){.kind = RVVBOX_BUFFER, .from = SIZE_MAX, .size = 4096}, 0, RVVBOX_BAD_RANGE);
+    EXPECT(run(7) == RVVBOX_BAD_COUNT && run(0) == RVVBOX_BAD_COUNT && run(16) == RVVBOX_BAD_COUNT);
+    setting.agnostic = 2;
+    EXPECT(run(8) == RVVBOX_BAD_AGNOSTIC);
+    setting.agnostic = 0;
+    setting.max = 8001;
+    EXPECT(run(8) == RVVBOX_BOUND_TOO_LARGE);
+    setting.max = 10000;
+    EXPECT(!memcmp(words, before, sizeof words));
+}
+
+/* The same kernel is told and tried; a place that is only read stays as it is, and what is stored there is a fault */
+static void told_and_tried(void) {
+    struct rvvbox_parameter parameters[8];
+    struct rvvbox_stopped stopped;
+    EXPECT(rvvbox_parameters(image, size, 128, parameters, 7) == RVVBOX_BAD_COUNT);
+    EXPECT(rvvbox_parameters(image, size, 128, parameters, 8) == RVVBOX_DONE);
+    EXPECT(parameters[0].kind == RVVBOX_BUFFER && parameters[0].size == 4096);
+    EXPECT(parameters[1].kind == RVVBOX_SCALAR && parameters[1].lo == 0 && parameters[1].hi == 1024 && parameters[2].kind == RVVBOX_NONE);
+    places[0].kind = RVVBOX_READ;
+    EXPECT(rvvbox_try(image, size, &setting, words, sizeof words, places, 8, &stopped) == RVVBOX_TRAPPED);
+    EXPECT(stopped.fault == 4 && stopped.number == 0x40000000 && !memcmp(words, before, sizeof words));
+    put(places);
+    setting.max = 2001;
+    EXPECT(rvvbox_try(image, size, &setting, words, sizeof words, places, 8, &stopped) == RVVBOX_OUT_OF_STEPS && stopped.steps == 2001);
+    memcpy(words, before, sizeof words);
+    setting.max = 2002;
+    EXPECT(rvvbox_try(image, size, &setting, words, sizeof words, places, 8, &stopped) == RVVBOX_DONE && stopped.steps == 2002);
+    EXPECT(!memcmp(words, expected, sizeof words));
+    memcpy(words, before, sizeof words);
+    setting.max = 10000;
+}
+
+/* Two runs, of which the first is refused and the second is not */
+static void two_runs(void) {
+    struct rvvbox_ran runs[2];
+    put(places + 8);
+    places[1].value = 1025;
+    EXPECT(rvvbox_run_many(image, size, &setting, words, sizeof words, places, 16, runs, 1) == RVVBOX_BAD_COUNT);
+    EXPECT(rvvbox_run_many(image, size, &setting, words, sizeof words, places, 16, runs, 2) == RVVBOX_DONE);
+    EXPECT(runs[0].status == RVVBOX_SCALAR_OUT_OF_INTERVAL && runs[1].status == RVVBOX_DONE && runs[1].steps == 2002);
+    EXPECT(!memcmp(words, expected, sizeof words));
+    memcpy(words, before, sizeof words);
+    put(places);
+}
+
+/* Each allocation of a run is refused once: want of memory, and nothing changed. Then none is refused, and the run is done */
+static void want_of_memory(void) {
+    long given = 0;
+    for (;; given++) {
+        refused = given;
+        uint32_t status = run(8);
+        int was_refused = refused < 0;
+        refused = -1;
+        if (!was_refused) break;
+        EXPECT(status == RVVBOX_NO_MEMORY);
+        EXPECT(!memcmp(words, before, sizeof words));
+    }
+    EXPECT(given > 5);
+    EXPECT(steps == 2002 && !memcmp(words, expected, sizeof words));
+}
+
+int main(void) {
+    size = read_file("raise_words.elf", image);
+    read_file("a.bin", before);
+    read_file("expected.bin", expected);
+    memcpy(words, before, sizeof words);
+    put(places);
+    wrong_arguments();
+    told_and_tried();
+    two_runs();
+    want_of_memory();
+    return 0;
+}

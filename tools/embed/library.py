@@ -1,0 +1,57 @@
+"""The static library and the header, and how C is compiled and linked against them."""
+import os
+import re
+import shutil
+import subprocess
+import unittest
+from functools import lru_cache
+from pathlib import Path
+
+ROOT = Path(__file__).resolve().parents[2]
+CRATE = ROOT / 'crates' / 'rvvbox_c'
+HEADER = ROOT / 'include' / 'rvvbox.h'
+FLAGS = ['-std=c11', '-O1', '-g', '-Wall', '-Wextra', '-Werror', '-I', str(HEADER.parent)]
+
+
+def sources():
+    """The text of the crate's sources."""
+    return '\n'.join(path.read_text() for path in sorted((CRATE / 'src').glob('*.rt')))
+
+
+@lru_cache(maxsize=None)
+def archives():
+    """The library, made by `rt lib` where it is not there yet, and the kit's C. A machine without the kit tells so."""
+    rt = shutil.which('rt')
+    if rt is None:
+        raise unittest.SkipTest('rt, the command of the Rattle kit, is not on the PATH: no library to link')
+    made = subprocess.run([rt, 'lib'], cwd=CRATE, capture_output=True, text=True)
+    library = CRATE / 'out' / 'librvvbox_c.a'
+    assert made.returncode == 0 and library.exists(), made.stdout[-500:] + made.stderr[-500:]
+    return [str(library), str(Path(rt).resolve().parents[1] / 'c' / 'liblibc_c.a')]
+
+
+def compiled(source, program, *more):
+    """Compiles and links C to a program."""
+    subprocess.run(['gcc', *FLAGS, '-o', program, source, *archives(), *more], check=True)
+
+
+def ran(words, **how):
+    """What a program answers: its status and what it prints. A program under valgrind fails where memory is misused or leaked."""
+    return subprocess.run(words, capture_output=True, timeout=60, **how)
+
+
+def under_valgrind(program):
+    """The words that run a program, under valgrind where it is installed."""
+    found = shutil.which('valgrind')
+    words = ['--quiet', '--error-exitcode=99', '--leak-check=full', '--show-leak-kinds=all', '--errors-for-leak-kinds=all']
+    return [found, *words, program] if found else [program]
+
+
+def c_name(name):
+    """`BadVlen` as `BAD_VLEN`."""
+    return re.sub(r'(?<=[a-z])(?=[A-Z])', '_', name).upper()
+
+
+def without_target(environment=os.environ):
+    """An environment in which cargo writes to its own folder."""
+    return {name: value for name, value in environment.items() if name != 'CARGO_TARGET_DIR'}
