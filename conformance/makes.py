@@ -12,6 +12,7 @@ say the same. That a certificate passes, checker.py has to say, of the drawn one
 """
 import argparse
 import random
+from collections import namedtuple
 
 import certificates as c
 import checker
@@ -21,7 +22,9 @@ from images import elf
 from kernels import CODE, Kernel, code_bytes, file_of, params
 from table import ALL, VECTOR, VTYPES, sew_of
 
-ROWS = []       # (name or None, row)
+ROWS = []
+# name: None of a drawn row. passed: the parameters. segments: (address, bytes, flags).
+Row = namedtuple('Row', 'name vlenb passed segments entry answer')
 LENGTHS = (16, 32, 64)
 SHIFT = {8: 0, 16: 1, 32: 2}
 RIGHTS = {c.READ: 'r', c.READ | c.WRITE: 'w'}
@@ -63,7 +66,11 @@ def put(name, vlenb, passed, segments, entry, expected=None):
     if expected is not None:
         by_hand = 'made' if expected == 'made' else 'NotALoopOfTheClass %08x' % (entry + 4 * expected)
         assert answer.split(' ')[0] == 'made' == by_hand if is_made else answer == by_hand, '%s\n by hand %s\n model   %s' % (name, by_hand, answer)
-    ROWS.append((name, '%d %s %s = %s' % (vlenb, ' '.join(map(param_text, passed)), plain_file(segments, entry).hex(), answer)))
+    ROWS.append(Row(name, vlenb, passed, segments, entry, answer))
+
+
+def row_text(row):
+    return '%d %s %s = %s' % (row.vlenb, ' '.join(map(param_text, row.passed)), plain_file(row.segments, row.entry).hex(), row.answer)
 
 
 def code(text, at=CODE):
@@ -424,6 +431,14 @@ def tried(count, seed):
     print('%d drawn: %d made, and each of them passes; %d are no loops of the class' % (count, made, count - made))
 
 
+def fill(count, seed):
+    """All rows, with so many that are drawn."""
+    for rows in (made_by_hand, every_type, pointers_and_bounds, registers, places_of_code, long_loops, wrong_words, wrong_of_other_widths, wrong_parameters, every_operation, legality):
+        rows()
+    for vlenb, passed, segments, is_plain in drawn(count, seed):
+        put(None, vlenb, passed, segments, CODE, 'made' if is_plain else None)
+
+
 def main():
     parser = argparse.ArgumentParser()
     parser.add_argument('--drawn', nargs=2, type=int, metavar=('N', 'SEED'), default=(0, 0))
@@ -431,17 +446,13 @@ def main():
     options = parser.parse_args()
     if options.tried:
         return tried(*options.tried)
-    for rows in (made_by_hand, every_type, pointers_and_bounds, registers, places_of_code, long_loops, wrong_words, wrong_of_other_widths, wrong_parameters, every_operation, legality):
-        rows()
-    by_hand = len(ROWS)
-    for vlenb, passed, segments, is_plain in drawn(*options.drawn):
-        put(None, vlenb, passed, segments, CODE, 'made' if is_plain else None)
+    fill(*options.drawn)
     for line in __doc__.split('\n')[:-1]:
         print(('# ' + line).rstrip())
-    made = sum(' = made ' in row for _, row in ROWS)
+    by_hand, made = sum(row.name is not None for row in ROWS), sum(row.answer.startswith('made ') for row in ROWS)
     print('# %d rows: %d by hand, each with its name in the line before it, and %d drawn. %d are made.' % (len(ROWS), by_hand, len(ROWS) - by_hand, made))
-    for name, row in ROWS:
-        print('# %s\n%s' % (name, row) if name else row)
+    for row in ROWS:
+        print('# %s\n%s' % (row.name, row_text(row)) if row.name else row_text(row))
 
 
 if __name__ == '__main__':

@@ -94,7 +94,14 @@ pub(crate) fn setting(text: &str) -> Result<Agnostic, RowError> {
     }
 }
 
-/// Bytes of two hex digits each, the first one first.
+/// Bytes of two hex digits each, the first one first, or `HEX+N` with N zeros behind them.
 pub(crate) fn bytes(alloc: Global, text: &str) -> Result<Vec<u8>, RowError> {
-    Ok(decode(alloc, text)?)
+    let Some((text, zeros)) = text.split_once('+') else {
+        return Ok(decode(alloc, text)?);
+    };
+    let mut bytes = decode(alloc, text)?;
+    for _ in 0..decimal(zeros)? {
+        bytes.push(0)?;
+    }
+    Ok(bytes)
 }

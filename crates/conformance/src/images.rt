@@ -1,6 +1,6 @@
 //! Rows `FILE NAME` and `FILE read CERTIFICATE`: what an executable file is refused for, or its certificate.
 
-use crate::fields::{RowError, bytes, decimal};
+use crate::fields::{RowError, bytes};
 use crate::table::Table;
 use elf_image::{ElfError, Image};
 use std::alloc::{AllocError, Global};
@@ -12,25 +12,13 @@ pub struct Images;
 impl Table for Images {
     fn difference(&mut self, alloc: Global, row: &str) -> Result<Option<String>, RowError> {
         let (file, expected) = row.split_once(' ').ok_or(RowError::NoRow)?;
-        let file = read_file(alloc, file)?;
+        let file = bytes(alloc, file)?;
         let came = text_of(alloc, elf_image::read(alloc, file.as_slice()))?;
         if came.as_str() == expected {
             return Ok(None);
         }
         Ok(Some(format!(in alloc; "should be {expected}, came {came}")?))
     }
-}
-
-/// The bytes of `HEX`, or of `HEX+N` with N zeros behind them.
-fn read_file(alloc: Global, text: &str) -> Result<Vec<u8>, RowError> {
-    let Some((text, zeros)) = text.split_once('+') else {
-        return bytes(alloc, text);
-    };
-    let mut file = bytes(alloc, text)?;
-    for _ in 0..decimal(zeros)? {
-        file.push(0)?;
-    }
-    Ok(file)
 }
 
 /// The reason's name, or `read` and the certificate.

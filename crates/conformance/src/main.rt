@@ -43,6 +43,7 @@ fn main(rt: HostRuntime) -> Result<()> {
     run_table(&rt, "orders", "orders.txt", &mut Checks)?;
     run_table(&rt, "sessions", "sessions.txt", &mut Sessions)?;
     run_table(&rt, "makes", "makes.txt", &mut Makes)?;
+    run_table(&rt, "loops", "loops.txt", &mut Sessions)?;
     run_table(&rt, "monitors", "monitors.txt", &mut Monitors)?;
     run_table(&rt, "jobs", "jobs.txt", &mut Jobs)?;
     Ok(())
