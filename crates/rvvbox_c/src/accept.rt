@@ -9,7 +9,7 @@ use std::alloc::Global;
 use vreg_groups::{Agnostic, Vlen};
 
 /// The length of vector registers of so many bits.
-pub fn vlen_of(bits: u32) -> Option<Vlen> {
+pub(crate) fn vlen_of(bits: u32) -> Option<Vlen> {
     match bits {
         128 => Some(Vlen::V128),
         256 => Some(Vlen::V256),
@@ -19,7 +19,7 @@ pub fn vlen_of(bits: u32) -> Option<Vlen> {
 }
 
 /// What is done with agnostic elements: 0 keeps them, 1 fills them with ones.
-pub fn agnostic_of(number: u32) -> Option<Agnostic> {
+pub(crate) fn agnostic_of(number: u32) -> Option<Agnostic> {
     match number {
         0 => Some(Agnostic::Keep),
         1 => Some(Agnostic::Ones),

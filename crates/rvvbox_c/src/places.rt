@@ -35,7 +35,7 @@ fn argument(alloc: Global, memory: &[u8], place: Place) -> Result<Arg, Status> {
 }
 
 /// The arguments that eight places name, with copies of their bytes.
-pub fn arguments(alloc: Global, memory: &[u8], places: &[Place; 8]) -> Result<Args, Status> {
+pub(crate) fn arguments(alloc: Global, memory: &[u8], places: &[Place; 8]) -> Result<Args, Status> {
     let [a, b, c, d, e, f, g, h] = *places;
     Ok(Args {
         places: [
@@ -103,7 +103,7 @@ fn parameter(place: Place) -> Option<Param> {
 }
 
 /// The parameters that eight places are arguments for, where buffers are within the limits.
-pub fn parameters(places: &[Place; 8]) -> Option<Parameters> {
+pub(crate) fn parameters(places: &[Place; 8]) -> Option<Parameters> {
     let [a, b, c, d, e, f, g, h] = *places;
     Parameters::new([
         parameter(a)?,

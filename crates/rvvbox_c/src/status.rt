@@ -53,7 +53,7 @@ pub enum Status {
 
 impl Status {
     /// The number in `include/rvvbox.h`.
-    pub fn code(self) -> u32 {
+    pub(crate) fn code(self) -> u32 {
         match self {
             Status::Done => 0,
             Status::NoMemory => 1,
@@ -135,7 +135,7 @@ pub struct Refusal {
 
 impl Refusal {
     /// A refusal that names no rule.
-    pub fn of(status: Status) -> Refusal {
+    pub(crate) fn of(status: Status) -> Refusal {
         Refusal {
             status: status.code(),
             rule: 0,
