@@ -2,7 +2,7 @@
 
 Usage: loops.py > loops.txt. Rows are as in sessions.txt. MAX is the bound itself, C + K * n. n is its lower end, its upper end and numbers between, as
 far as a run of MOST_STEPS steps goes and, but for one strip, changes no more than SPELLED bytes; of a loop with more than LARGE bytes of buffers one n. Where not even
-the lower end does, the row is the refusal for one step fewer than the bound. Loops with more than MOST_BYTES of buffers have no row.
+the lower end does, the row is the refusal for one step fewer than the bound.
 
 The certificate is maker.py's; that it opens the run, or does not, checker.py and opening.py say. State, memory and steps are qemu-riscv32's where buffers have
 up to ASKED bytes, and model.py's in each row.
@@ -22,7 +22,7 @@ from runs import Run
 from table import vlmax_of
 
 MOST_STEPS, SPELLED, DRAWN_BYTES = 2000, 1024, 64
-ASKED, LARGE, MOST_BYTES = 1 << 14, 1 << 20, 1 << 25
+ASKED, LARGE = 1 << 14, 1 << 20
 opening.check = functools.lru_cache(None)(checker.check)
 
 
@@ -110,15 +110,14 @@ def after(run, bound, is_opened):
 def main():
     rng = random.Random(1)
     makes.fill(150, 1)
-    all_made = [made for made in makes.ROWS if made.answer.startswith('made ')]
-    loops = [made for made in all_made if buffer_bytes(made.passed) <= MOST_BYTES]
+    loops = [made for made in makes.ROWS if made.answer.startswith('made ')]
     runs = [run for made in loops for run in runs_of(rng, made)]
     refused, asked = sum(not is_opened for _, _, is_opened in runs), sum(run.by_hand is None for run, _, _ in runs)
     version = subprocess.run(['qemu-riscv32', '--version'], capture_output=True, text=True).stdout.split()[2]
     for line in __doc__.split('\n')[:-1]:
         print(('# ' + line).rstrip())
-    print('# %d rows of %d of the %d loops: %d runs by qemu-riscv32 %s and model.py, %d by model.py alone, and %d that are refused.' % (
-        len(runs), len(loops), len(all_made), asked, version, len(runs) - asked - refused, refused))
+    print('# %d rows of %d loops: %d runs by qemu-riscv32 %s and model.py, %d by model.py alone, and %d that are refused.' % (
+        len(runs), len(loops), asked, version, len(runs) - asked - refused, refused))
     before = None
     for run, bound, is_opened in runs:
         row = run.row(*after(run, bound, is_opened))
