@@ -1,5 +1,5 @@
 -- The area that has a window is the one that a search finds.
-use Rattle.std.proofs.Common.{◌≡◌, inl, inr, ℕ, ◌<◌, ◌≤◌, Bool, true, false, cond, List, length, find, Some, None, get_or, arith, sym, ap, refl, ◌∙◌}
+use Rattle.std.proofs.Common.{◌≡◌, inl, inr, ℕ, ◌<◌, ◌≤◌, Bool, true, false, cond, List, length, find, Some, None, is_some, get_or, arith, sym, ap, refl, ◌∙◌}
 use Rattle.std.specs.List.{position_or_len, slice_get}
 use Rattle.std.specs.Option.{option_map}
 use Rattle.std.proofs.lemmas.List.Folds.{find_at}
@@ -80,3 +80,13 @@ unfolding window_in
 window_nowhere right address n areas some none =
     ap (λ o. option_map (part_of address n) o)
     (none_found (admits right address n) areas nothing (λ k lt. none_admits right address n (get_or areas k nothing) some (all_fail (holds address) areas nothing none k lt)))
+
+told : (b : Bool) (l : List ℕ) → b ≡ is_some (cond b (Some l) None)
+told true l = refl
+told false l = refl
+
+-- One area has a window where the area that holds its first byte admits it.
+pub window_told : (right : Right) (address n : ℕ) (areas : List Area) (area : Area) → 0 < n → AreInOrder 0 areas →
+    find (holds address) areas ≡ Some area → admits right address n area ≡ is_some (window_in right address n areas)
+window_told right address n areas area some order found =
+    told (admits right address n area) (part_of address n area) ∙ sym (ap is_some (window_at right address n areas area some order found))

@@ -74,11 +74,12 @@ pub(crate) fn byte<A: Allocator>(regions: &[Region<A>], address: u64) -> Option<
 }
 
 /// Whether one region holds all of an access, with the right.
-#[tactic(auto, using(crate::proofs::AccessLemmas::open_in_one))]
+#[tactic(auto, using(crate::proofs::AccessLemmas::open_in_one, crate::proofs::WindowLemmas::window_told, crate::proofs::WindowLemmas::window_nowhere))]
 fn one_permits<A: Allocator>(regions: &[Region<A>], right: Right, address: u64, size: u64) -> bool
     requires order { AreInOrder 0 regions.now }
     requires fits { address + size < 2 ^ 64 }
-    ensures { result ≡ true → is_open_from right address size regions.now ≡ true }
+    ensures open { result ≡ true → is_open_from right address size regions.now ≡ true }
+    ensures found { 0 < size → result ≡ is_some (window_in right address size regions.now) }
 {
     match region_of(regions, address) {
         Some(region) => region.admits(right, address, size),

@@ -1,6 +1,7 @@
 //! A body that lies from an address on in one region: its bytes are moved at once between memory and the registers.
 
-ghost use Rattle.std.specs.Prelude.{◌≡◌, ◌<◌, All, None, false, replicate, true};
+ghost use Rattle.std.specs.Prelude.{◌≡◌, ◌<◌, ◌*◌, All, None, false, is_some, replicate, true};
+ghost use Rattle.region_mem.specs.Memory.{has_window, window_of};
 ghost use Rattle.region_mem.specs.declared.faults.Right.TheVariants.{Read, Write};
 ghost use Rattle.vreg_groups.specs.Group.{IsSize, body_of, written};
 ghost use Rattle.vector_mem.specs.Accesses.{first_refused, in_a_row, loaded, stored};
@@ -26,6 +27,8 @@ pub fn load_window<const VLENB: usize, A: Allocator>(
 ) -> bool
     requires { IsSize group.now.bytes }
     ensures some { result ≡ true → 0 < group.now.vl }
+    ensures found { 0 < group.now.vl → result
+        ≡ is_some (window_of base (group.now.bytes * group.now.vl) memory.now) }
     ensures permitted { result ≡ true → first_refused (in_a_row Read group.now.bytes base
         group.now.vl) memory.now ≡ None }
     ensures loaded { result ≡ true → registers.new ≡ written VLENB group.now policy
@@ -55,6 +58,8 @@ pub fn store_window<const VLENB: usize, A: Allocator>(
     memory: &mut Regions<A>,
 ) -> bool
     requires { IsSize group.now.bytes }
+    ensures found { 0 < group.now.vl → result
+        ≡ has_window base (group.now.bytes * group.now.vl) memory.old }
     ensures permitted { result ≡ true → first_refused (in_a_row Write group.now.bytes base
         group.now.vl) memory.old ≡ None }
     ensures stored { result ≡ true → memory.new ≡ stored (in_a_row Write group.now.bytes base

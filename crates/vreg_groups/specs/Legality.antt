@@ -6,6 +6,10 @@ use Rattle.vreg_groups.specs.Words.{ByWidth, Count, Eew, Extent, Group, Insn, Ma
 use Rattle.vreg_groups.specs.Words.{Sharing, Single, Vconfig, Vtype, Whole, Width}
 use Rattle.rv_decode.specs.Needs.{needs_of}
 use Rattle.rv_decode.specs.declared.instructions.Count.TheVariants as count
+use Rattle.rv_decode.specs.declared.instructions.Insn.TheVariants.{VArith, VMem, VSet}
+use Rattle.rv_decode.specs.declared.instructions.VArith.TheVariants.{Int}
+use Rattle.rv_decode.specs.declared.instructions.Place.{Place}
+use Rattle.rv_decode.specs.declared.instructions.Place.TheVariants.{Unit}
 use Rattle.rv_decode.specs.declared.extents.Eew.TheVariants.{Quarter, Half, Same, Double, Fixed}
 use Rattle.vreg_groups.specs.VectorType.{bits_of_width, eighths_of, vtype_of}
 
@@ -139,6 +143,18 @@ are_operands_legal vtype operands =
     && is_present_legal vtype operands.vs2
     && is_present_legal vtype operands.vs1
     && is_destination_legal vtype operands operands.destination
+
+-- the elements of an access lie one after another ("Vector Unit-Stride Instructions")
+unfoldable pub is_in_a_row : Place → Bool
+is_in_a_row (Unit width masked) = true
+is_in_a_row place = false
+
+-- The instruction is one of the most common: legal where each operand is, whatever they share.
+unfoldable pub is_common : Insn → Bool
+is_common (VArith (Int op vd vs2 b masked)) = true
+is_common (VMem access) = is_in_a_row access.place
+is_common (VSet insn) = true
+is_common insn = false
 
 -- an instruction is legal under vtype
 unfoldable pub is_legal : Vconfig → Insn → Bool

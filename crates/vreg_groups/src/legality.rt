@@ -1,17 +1,18 @@
 //! Which vector instructions are legal under a vector type.
 
-ghost use Rattle.std.specs.Prelude.{◌≡◌, ◌==◌, ◌+◌, ◌%◌, ◌^◌, ◌≤◌, ◌<◌, ◌⊎◌, Option, Some, None, true, IfSome, if◌then◌else◌, ℕ};
+ghost use Rattle.std.specs.Prelude.{◌≡◌, ◌==◌, ◌+◌, ◌%◌, ◌^◌, ◌≤◌, ◌<◌, ◌⊎◌, ◌&&◌, Option, Some, None, is_some, true, IfSome, if◌then◌else◌, ℕ};
 ghost use Rattle.std.specs.List.{range_with_len};
 ghost use Rattle.rv_decode.specs.Needs.{needs_of, needs_of_access, group, operands, second};
 ghost use Rattle.rv_decode.specs.declared.extents.Eew.TheVariants.{Same};
 ghost use Rattle.vreg_groups.specs.VectorLength.{IsConfig, IsLength, IsVlenb};
 ghost use Rattle.vreg_groups.specs.VectorType.{type_in, vlmax_of, vtype_of};
-ghost use Rattle.vreg_groups.specs.Legality.{eew_bits, emul_eighths, group_count, whole_count, count_of, registers_of, is_among, are_apart, is_width, is_group_legal, is_operand_legal, element_bits, is_emul_whole, may_overlap, is_overlap_legal, is_grouped, is_pair_legal, keeps_mask, is_mask_legal, is_present_legal, is_source_legal, is_destination_legal, are_operands_legal, is_legal, AreAllInside, IsInside};
+ghost use Rattle.vreg_groups.specs.Legality.{eew_bits, is_common, is_in_a_row, emul_eighths, group_count, whole_count, count_of, registers_of, is_among, are_apart, is_width, is_group_legal, is_operand_legal, element_bits, is_emul_whole, may_overlap, is_overlap_legal, is_grouped, is_pair_legal, keeps_mask, is_mask_legal, is_present_legal, is_source_legal, is_destination_legal, are_operands_legal, is_legal, AreAllInside, IsInside};
 
 use crate::vector_length::Vconfig;
 use crate::vector_type::{Vtype, eew_bits, emul_eighths, type_in};
 use rv_decode::{
-    Count, Eew, Extent, Insn, Operand, Operands, Place, Reg, Sharing, Source, VArith, VMem, needs,
+    Count, Direction, Eew, Extent, Insn, Operand, Operands, Place, Reg, Sharing, Source, VArith,
+    VMem, needs,
 };
 
 /// Tells whether an instruction is legal under `config`.
@@ -63,9 +64,10 @@ pub fn legal_access_type(config: &Vconfig, access: &VMem) -> Option<Vtype>
 // Whether an instruction is one of the most common, and legal. Its operands, if it has any, have elements of one width, so
 // how they overlap does not matter, and this is told without a look at each pair.
 #[inline(always)]
-#[tactic(auto, unfolding(rv_decode::specs::Needs::needs_of, rv_decode::specs::Needs::needs_of_arith, crate::specs::Legality::are_operands_legal, crate::specs::Legality::is_destination_legal))]
+#[tactic(auto, unfolding(rv_decode::specs::Needs::needs_of, rv_decode::specs::Needs::needs_of_arith, crate::specs::Legality::are_operands_legal, crate::specs::Legality::is_destination_legal, crate::specs::Legality::is_common, crate::specs::Legality::is_in_a_row))]
 fn is_plain(vtype: Option<Vtype>, insn: &Insn) -> bool
-    ensures meaning { result ≡ true → are_operands_legal vtype (needs_of insn.now) ≡ true }
+    ensures meaning { result ≡ (is_some vtype && is_common insn.now
+        && are_operands_legal vtype (needs_of insn.now)) }
     ensures inside { result ≡ true → AreAllInside (type_in vtype) (needs_of insn.now) }
 {
     let Some(vtype) = vtype else {
@@ -97,8 +99,8 @@ fn is_plain(vtype: Option<Vtype>, insn: &Insn) -> bool
 #[inline(always)]
 #[tactic(auto, using(crate::proofs::Plain::same_width), unfolding(crate::specs::Legality::are_operands_legal, crate::specs::Legality::is_destination_legal, crate::specs::Legality::is_source_legal))]
 fn is_plain_operation(vtype: &Vtype, vd: Reg, vs2: Reg, b: &Source, masked: bool) -> bool
-    ensures meaning { result ≡ true → are_operands_legal (Some vtype.now) (operands (group Same vd)
-        (group Same vs2) (second b.now) masked Sharing.ByWidth) ≡ true }
+    ensures meaning { result ≡ are_operands_legal (Some vtype.now) (operands (group Same vd)
+        (group Same vs2) (second b.now) masked Sharing.ByWidth) }
     ensures inside { result ≡ true → AreAllInside vtype.now (operands (group Same vd)
         (group Same vs2) (second b.now) masked Sharing.ByWidth) }
 {
@@ -134,10 +136,10 @@ fn is_second_legal(vtype: &Vtype, b: &Source) -> bool
 
 // Whether a load or store is one of elements that lie one after another, and legal.
 #[inline(always)]
-#[tactic(auto, unfolding(rv_decode::specs::Needs::needs_of_access, rv_decode::specs::Needs::needs_of_place, rv_decode::specs::Needs::access_operands, crate::specs::Legality::are_operands_legal, crate::specs::Legality::is_destination_legal, crate::specs::Legality::is_source_legal))]
+#[tactic(auto, unfolding(rv_decode::specs::Needs::needs_of_access, rv_decode::specs::Needs::needs_of_place, rv_decode::specs::Needs::access_operands, crate::specs::Legality::is_in_a_row, crate::specs::Legality::are_operands_legal, crate::specs::Legality::is_destination_legal, crate::specs::Legality::is_source_legal))]
 fn is_plain_access(vtype: &Vtype, access: &VMem) -> bool
-    ensures meaning { result ≡ true → are_operands_legal (Some vtype.now)
-        (needs_of_access access.now) ≡ true }
+    ensures meaning { result ≡ (is_in_a_row access.now.place && are_operands_legal (Some vtype.now)
+        (needs_of_access access.now)) }
     ensures inside { result ≡ true → AreAllInside vtype.now (needs_of_access access.now) }
 {
     let place = access.place;
@@ -148,7 +150,10 @@ fn is_plain_access(vtype: &Vtype, access: &VMem) -> bool
                 extent: Extent::Group(Eew::Fixed(width)),
             };
             is_operand_legal(Some(*vtype), &values)
-                && is_mask_legal(masked, Sharing::ByWidth, &values)
+                && match access.direction {
+                    Direction::Load => is_mask_legal(masked, Sharing::ByWidth, &values),
+                    Direction::Store => true,
+                }
         }
         Place::Strided { .. } | Place::Indexed { .. } | Place::Mask | Place::Whole { .. } => false,
     }
