@@ -63,3 +63,16 @@ fn fails_as_the_reader_does(rt: HostRuntime) {
     let broken = read_all(rt.alloc(), &mut Broken { reads: 0 }, 8);
     assert_eq!(rt; broken.err(), Some(StoreError::Failed));
 }
+
+#[test]
+fn tells_why_a_file_was_not_read(rt: HostRuntime) -> Result<(), Fail> {
+    let alloc = rt.alloc();
+    for (error, text) in [
+        (StoreError::Failed, "the file was not read or written"),
+        (StoreError::NoMemory, "out of memory"),
+    ] {
+        let told = format!(in alloc; "{error}")?;
+        assert_eq!(rt; told.as_str(), text);
+    }
+    Ok(())
+}

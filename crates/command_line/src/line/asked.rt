@@ -19,6 +19,8 @@ pub enum Line<'a> {
     Run { job: &'a str },
     /// Runs the image of the job at `job`, accepted or not, with every test at each step.
     Try { job: &'a str },
+    /// Checks the image of the job at `job`, and answers commands on its run if it is accepted.
+    Mon { job: &'a str },
     /// Makes the certificate of an image for a job, and writes the image with it.
     Make(MakePaths<'a>),
 }
