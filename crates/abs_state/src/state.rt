@@ -79,6 +79,13 @@ impl<A: Allocator> Model for Abstract<A> {
 }
 
 impl<A: Allocator> Abstract<A> {
+    /// What is known of the registers and of vl.
+    pub fn numbers(&self) -> &Numbers<A>
+        ensures { result.now ≡ self.now.numbers }
+    {
+        &self.numbers
+    }
+
     /// How many instructions have been taken since the block began.
     pub fn words(&self) -> u32
         ensures { result ≡ self.now.words }
