@@ -186,7 +186,7 @@ paths_there words none =
 abbrev pub HasPath : Option (Text × List Row) → Type 0
 HasPath entered =
     path_of (codes "check") (codes "image") entered ≡ None → path_of (codes "run") (codes "job") entered ≡ None
-    → path_of (codes "try") (codes "job") entered ≡ None → IsSome (make_paths_of entered)
+    → path_of (codes "try") (codes "job") entered ≡ None → path_of (codes "mon") (codes "job") entered ≡ None → IsSome (make_paths_of entered)
 
 pub no_path : {A : Type 0} (o : Option A) → IsSome o → o ≡ None → ⊥
 no_path o some none = cc
@@ -200,25 +200,30 @@ run_built = built_path (codes "run") (codes "job")
 abbrev try_built : Shape
 try_built = built_path (codes "try") (codes "job")
 
--- the subcommand that a word names: it answers to `check`, to `run`, to `try` or to `make`
-abbrev answering : Bool → Bool → Bool → Bool → Option Shape
-answering a b c d = cond a (Some check_built) (cond b (Some run_built) (cond c (Some try_built) (cond d (Some make_built) None)))
+abbrev mon_built : Shape
+mon_built = built_path (codes "mon") (codes "job")
+
+-- the subcommand that a word names: it answers to `check`, to `run`, to `try`, to `mon` or to `make`
+abbrev answering : Bool → Bool → Bool → Bool → Bool → Option Shape
+answering a b c d e =
+    cond a (Some check_built) (cond b (Some run_built) (cond c (Some try_built) (cond d (Some mon_built) (cond e (Some make_built) None))))
 
 entered_path : (stop : Option (Text × List Text)) → is_some (entered program stop) ≡ true → entered_fault program stop ≡ []
     → HasPath (entered program stop)
 entered_path None some none = cc
 entered_path (Some p) some none =
     go (answers_to p.0 (label_of check_built)) (answers_to p.0 (label_of run_built)) (answers_to p.0 (label_of try_built))
-    (answers_to p.0 (label_of make_built)) some none
+    (answers_to p.0 (label_of mon_built)) (answers_to p.0 (label_of make_built)) some none
   where
-    go : (a b c d : Bool) → is_some (option_map (λ s. rows_at s p.1) (answering a b c d)) ≡ true
-        → option_map_or (λ s. level_fault s [] nothing_held p.1 false []) (answering a b c d) [] ≡ []
-        → HasPath (option_map (λ s. rows_at s p.1) (answering a b c d))
-    go true b c d some none = λ no_image no_job no_try. absurd (no_path _ (path_there (codes "check") (codes "image") p.1 none) no_image)
-    go false true c d some none = λ no_image no_job no_try. absurd (no_path _ (path_there (codes "run") (codes "job") p.1 none) no_job)
-    go false false true d some none = λ no_image no_job no_try. absurd (no_path _ (path_there (codes "try") (codes "job") p.1 none) no_try)
-    go false false false true some none = λ no_image no_job no_try. paths_there p.1 none
-    go false false false false some none = cc
+    go : (a b c d e : Bool) → is_some (option_map (λ s. rows_at s p.1) (answering a b c d e)) ≡ true
+        → option_map_or (λ s. level_fault s [] nothing_held p.1 false []) (answering a b c d e) [] ≡ []
+        → HasPath (option_map (λ s. rows_at s p.1) (answering a b c d e))
+    go true b c d e some none = λ no_image no_job no_try no_mon. absurd (no_path _ (path_there (codes "check") (codes "image") p.1 none) no_image)
+    go false true c d e some none = λ no_image no_job no_try no_mon. absurd (no_path _ (path_there (codes "run") (codes "job") p.1 none) no_job)
+    go false false true d e some none = λ no_image no_job no_try no_mon. absurd (no_path _ (path_there (codes "try") (codes "job") p.1 none) no_try)
+    go false false false true e some none = λ no_image no_job no_try no_mon. absurd (no_path _ (path_there (codes "mon") (codes "job") p.1 none) no_mon)
+    go false false false false true some none = λ no_image no_job no_try no_mon. paths_there p.1 none
+    go false false false false false some none = cc
 
 -- what `clap` takes names a subcommand and its paths
 pub path_named : (words : List Text) → fault_of app words ≡ [] → HasPath (subcommand_of app words)

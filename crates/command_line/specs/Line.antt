@@ -7,7 +7,7 @@ use Rattle.clap.specs.Simple.{new_shape}
 use Rattle.clap.specs.declared.builder.action.ArgAction.TheVariants.{Set}
 use Rattle.commands.specs.declared.makes.MakePaths.{MakePaths}
 use Rattle.command_line.specs.declared.line.asked.Line.{Line}
-use Rattle.command_line.specs.declared.line.asked.Line.TheVariants.{Check, Make, Run, Try}
+use Rattle.command_line.specs.declared.line.asked.Line.TheVariants.{Check, Make, Mon, Run, Try}
 use Rattle.command_line.specs.declared.line.asked.LineError.{LineError}
 use Rattle.command_line.specs.declared.line.asked.LineError.TheVariants.{Usage, NoMemory}
 
@@ -30,7 +30,7 @@ bare_app = record {
   subs = [];
 }
 
--- `check IMAGE`, `run JOB`, `try JOB` and `make IMAGE JOB OUT`
+-- `check IMAGE`, `run JOB`, `try JOB`, `mon JOB` and `make IMAGE JOB OUT`
 abbrev pub check_shape : Shape
 check_shape = path_shape (codes "check") (codes "image")
 
@@ -40,14 +40,17 @@ run_shape = path_shape (codes "run") (codes "job")
 abbrev pub try_shape : Shape
 try_shape = path_shape (codes "try") (codes "job")
 
+abbrev pub mon_shape : Shape
+mon_shape = path_shape (codes "mon") (codes "job")
+
 abbrev pub make_shape : Shape
 make_shape = (with_rule (with_rule (with_rule (new_app (codes "make"))
     (path_rule (codes "image"))) (path_rule (codes "job"))) (path_rule (codes "out"))).top
 
 -- `rvvbox` as `clap` sees it
 abbrev pub app : App
-app = with_subcommand (with_subcommand (with_subcommand (with_subcommand bare_app
-    check_shape) run_shape) try_shape) make_shape
+app = with_subcommand (with_subcommand (with_subcommand (with_subcommand (with_subcommand bare_app
+    check_shape) run_shape) try_shape) mon_shape) make_shape
 
 -- the path that matches of a subcommand hold under an id, where the subcommand has this name
 abbrev pub path_of : Text → Text → Option (Text × List Row) → Option Text
@@ -80,6 +83,7 @@ abbrev pub IsLineOf : List Text → Line → Type 0
 IsLineOf words (Check image) = IsPathOf words (codes "check") (codes "image") image.now
 IsLineOf words (Run job) = IsPathOf words (codes "run") (codes "job") job.now
 IsLineOf words (Try job) = IsPathOf words (codes "try") (codes "job") job.now
+IsLineOf words (Mon job) = IsPathOf words (codes "mon") (codes "job") job.now
 IsLineOf words (Make paths) = AreMakePathsOf words paths
 
 -- a fault of usage is one of those that `clap` finds, of the kind that the error shows

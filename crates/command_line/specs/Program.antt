@@ -10,6 +10,7 @@ use Rattle.commands.specs.Checks.{Checks, StopsCheck}
 use Rattle.commands.specs.Ending.{Ends}
 use Rattle.commands.specs.Files.{Files, OfTable, StopsOfTable}
 use Rattle.commands.specs.Makes.{Makes, StopsMake}
+use Rattle.commands.specs.Mons.{Mons, StopsMon}
 use Rattle.commands.specs.Runs.{Runs, StopsRun}
 use Rattle.commands.specs.Tries.{StopsTry, Tries}
 use Rattle.commands.specs.Written.{Written}
@@ -19,7 +20,7 @@ use Rattle.commands.specs.declared.stop.Stop.TheVariants as stop
 use Rattle.command_line.specs.Asked.{is_help}
 use Rattle.command_line.specs.Line.{IsLineOf, app}
 use Rattle.command_line.specs.declared.line.asked.Line.{Line}
-use Rattle.command_line.specs.declared.line.asked.Line.TheVariants.{Check, Make, Run, Try}
+use Rattle.command_line.specs.declared.line.asked.Line.TheVariants.{Check, Make, Mon, Run, Try}
 use Rattle.commands.specs.declared.stop.Status.{Status}
 use Rattle.commands.specs.declared.stop.Status.TheVariants as status
 
@@ -44,6 +45,7 @@ Does holds (Run job) old new was has =
     OfTable holds job.now (λ table. Runs holds table old new was has)
 Does holds (Try job) old new was has =
     OfTable holds job.now (λ table. Tries holds table old new was has)
+Does holds (Mon job) old new was has = OfTable holds job.now (λ table. Mons holds table was has)
 Does holds (Make paths) old new was has = OfTable holds paths.job.now
     (λ table. Makes holds paths.image.now paths.out.now table old new was has)
 
@@ -52,6 +54,7 @@ abbrev pub Stops : Files → Line → Stop → Type 0
 Stops holds (Check image) = StopsCheck holds image.now
 Stops holds (Run job) = StopsOfTable holds job.now (StopsRun holds)
 Stops holds (Try job) = StopsOfTable holds job.now (StopsTry holds)
+Stops holds (Mon job) = StopsOfTable holds job.now (StopsMon holds)
 Stops holds (Make paths) =
     StopsOfTable holds paths.job.now (StopsMake holds paths.image.now paths.out.now)
 

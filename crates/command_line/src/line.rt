@@ -4,7 +4,8 @@ ghost use Rattle.clap.specs.Words.{app_of, rule_of, shape_of, subcommand_rows_of
 ghost use Rattle.clap.specs.Words.{with_rule, with_subcommand};
 ghost use Rattle.clap.specs.declared.builder.command.Command.TheViews.{out-Command as fields_of};
 ghost use Rattle.command_line.specs.Line.{IsFaultOf, IsLineOf, app, make_paths_of, path_of, path_rule};
-ghost use Rattle.command_line.specs.Line.{check_shape, make_shape, run_shape, texts_of, try_shape};
+ghost use Rattle.command_line.specs.Line.{check_shape, make_shape, mon_shape, run_shape};
+ghost use Rattle.command_line.specs.Line.{texts_of, try_shape};
 
 pub mod asked;
 
@@ -13,6 +14,19 @@ use clap::error::ErrorKind;
 use clap::{Arg, ArgAction, ArgMatches, Command};
 use commands::MakePaths;
 use std::alloc::{AllocError, Global};
+
+/// What `mon --help` says of the lines of its input.
+const MON_COMMANDS: &str = "Commands, one a line; A is a hexadecimal number, N a decimal one:
+  b A    sets a breakpoint at A, a multiple of 4
+  d A    deletes it
+  s N    does at most N steps
+  c      goes on to a breakpoint or the end
+  x      shows the integer registers
+  v N    shows vector register N
+  csr    shows pc, vl, vtype, vxrm, vxsat and vlenb
+  m A N  shows N bytes from A on, 1 to 256
+  l A N  lists N words from A on, 1 to 256
+  q      writes the out files and ends, as the end of the input does";
 
 /// A path that has to be there, under `id`, shown as `name`.
 fn path_argument<'a>(alloc: Global, id: &'a str, name: &'a str, help: &'a str) -> Arg<'a>
@@ -56,6 +70,18 @@ fn try_command<'a>(alloc: Global) -> Result<Command<'a>, AllocError>
     let job = path_argument(alloc, "job", "JOB", "The job file");
     Command::new(alloc, "try")
         .about("Runs a job's image, accepted or not, with every test at each step")
+        .arg(job)
+}
+
+/// `mon JOB`.
+fn mon_command<'a>(alloc: Global) -> Result<Command<'a>, AllocError>
+    ensures shape { IfOk result (λ c. shape_of c ≡ mon_shape) }
+    ensures local { IfOk result (λ c. (fields_of c).has_globals ≡ false) }
+{
+    let job = path_argument(alloc, "job", "JOB", "The job file");
+    Command::new(alloc, "mon")
+        .about("Checks a job's image, and answers commands on its run from standard input")
+        .after_help(MON_COMMANDS)
         .arg(job)
 }
 
@@ -110,8 +136,9 @@ fn program<'a>(alloc: Global) -> Result<Command<'a>, AllocError>
     let checking = with(bare, check_command(alloc)?)?;
     let running = with(checking, run_command(alloc)?)?;
     let trying = with(running, try_command(alloc)?)?;
+    let watching = with(trying, mon_command(alloc)?)?;
     let making = make_command(alloc)?;
-    with(trying, making)
+    with(watching, making)
 }
 
 /// The path under `id` of the subcommand `name`, where that one was used.
@@ -150,6 +177,8 @@ pub fn line<'a>(alloc: Global, words: &'a [&'a str]) -> Result<Line<'a>, LineErr
                 Ok(Line::Run { job })
             } else if let Some(job) = path(&matches, "try", "job") {
                 Ok(Line::Try { job })
+            } else if let Some(job) = path(&matches, "mon", "job") {
+                Ok(Line::Mon { job })
             } else if let Some(paths) = make_paths(&matches) {
                 Ok(Line::Make(paths))
             } else {

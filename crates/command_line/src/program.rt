@@ -7,14 +7,14 @@ ghost use Rattle.command_line.specs.Program.{IsAsAsked, IsStatusFor, status_with
 
 use crate::line::asked::Line;
 use crate::line::line;
-use commands::{Ending, Status, Stop, Store, check_image, make_image, run_job, try_job};
+use commands::{Ending, Status, Stop, Store, check_image, make_image, mon_job, run_job, try_job};
 use std::alloc::Global;
 use std::io;
 use std::io::{ErrorKind, Read, Write};
 
 /// Does what the words ask for, of which the first is the program's name: reads and writes the files
 /// in `store`, prints what came of it to `output`, and why it was refused or failed to `errors`.
-/// Nothing is read from the input yet.
+/// `mon` alone reads from the input.
 ///
 /// Where `clap` refuses the words, the status is `Usage`, and for help or the version `Done` (or `File`, where standard
 /// output takes no text), unless memory runs out.
@@ -22,7 +22,7 @@ pub fn perform<'a, S: Store, I: Read, O: Write, E: Write>(
     alloc: Global,
     words: &'a [&'a str],
     store: &mut S,
-    _input: &mut I,
+    input: &mut I,
     output: &mut O,
     errors: &mut E,
 ) -> Ending
@@ -36,6 +36,7 @@ pub fn perform<'a, S: Store, I: Read, O: Write, E: Write>(
         Ok(Line::Check { image }) => check_image(alloc, image, store, output, errors),
         Ok(Line::Run { job }) => run_job(alloc, job, store, output, errors),
         Ok(Line::Try { job }) => try_job(alloc, job, store, output, errors),
+        Ok(Line::Mon { job }) => mon_job(alloc, job, store, input, output, errors),
         Ok(Line::Make(paths)) => make_image(alloc, paths, store, output, errors),
         Err(error) => error.tell(output, errors),
     }

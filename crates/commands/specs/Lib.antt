@@ -4,6 +4,7 @@ pub mod Ending
 pub mod Files
 pub mod Hex
 pub mod Makes
+pub mod Mons
 pub mod Runs
 pub mod Texts
 pub mod Trial

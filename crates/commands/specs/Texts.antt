@@ -9,6 +9,8 @@ use Rattle.elf_image.specs.declared.error.ElfError.{ElfError}
 use Rattle.elf_image.specs.declared.error.ElfError.TheVariants as image_error
 use Rattle.job_file.specs.declared.values.JobError.{JobError}
 use Rattle.job_file.specs.declared.values.JobError.TheVariants as job_error
+use Rattle.monitor.specs.declared.commands.MonError.{MonError}
+use Rattle.monitor.specs.declared.commands.MonError.TheVariants as monitor_error
 use Rattle.sandbox_run.specs.declared.outcome.OpenError.TheVariants as open_error
 use Rattle.commands.specs.Hex.{hex_text}
 use Rattle.commands.specs.Words.{CertError, OpenError}
@@ -21,6 +23,14 @@ abbrev pub job_error_name : JobError → List ℕ
 job_error_name job_error.NotToml = codes "NotToml"
 job_error_name job_error.BadKey = codes "BadKey"
 job_error_name job_error.NoMemory = codes "NoMemory"
+
+abbrev pub monitor_error_name : MonError → List ℕ
+monitor_error_name monitor_error.Unknown = codes "Unknown"
+monitor_error_name monitor_error.BadNumber = codes "BadNumber"
+monitor_error_name monitor_error.TooManyBreakpoints = codes "TooManyBreakpoints"
+monitor_error_name monitor_error.NotThere = codes "NotThere"
+monitor_error_name monitor_error.NoBytes = codes "NoBytes"
+monitor_error_name monitor_error.Write = codes "Write"
 
 abbrev pub image_error_name : ElfError → List ℕ
 image_error_name image_error.TooShort = codes "TooShort"

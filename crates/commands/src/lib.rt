@@ -1,15 +1,17 @@
 //! The subcommands: what each reads, in order, what it does with it, and what it prints and writes.
 //!
-//! Each has a module: `checks`, `makes`, `runs` and `tries`. What they share stands in the others: `files` (what is read, and the out
-//! files), `accepted` (an image with its certificate), `trial` (what comes of a run), `stop` (statuses and reasons to stop),
-//! `texts` (how those are told), `store` (where files are) and `hex`.
+//! Each has a module: `checks`, `makes`, `mons`, `runs` and `tries`. What they share stands in the others: `files` (what is read, and
+//! the out files), `accepted` (an image with its certificate), `lines` (the input of `mon`), `trial` (what comes of a run), `stop`
+//! (statuses and reasons to stop), `texts` (how those are told), `store` (where files are) and `hex`.
 #![tactic(auto)]
 
 mod accepted;
 mod checks;
 mod files;
 mod hex;
+mod lines;
 mod makes;
+mod mons;
 mod runs;
 mod stop;
 mod store;
@@ -19,6 +21,7 @@ mod tries;
 
 pub use checks::check_image;
 pub use makes::{MakePaths, make_image};
+pub use mons::{mon_job, mon_job_within};
 pub use runs::run_job;
 pub use stop::{Ending, Status, Stop};
 pub use store::{Disk, Store, StoreError, read_all};

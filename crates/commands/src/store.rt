@@ -6,12 +6,13 @@ ghost use Rattle.commands.specs.Ending.{store_error_of};
 ghost use Rattle.commands.specs.declared.store.StoreError.TheVariants as store_error;
 
 use std::alloc::{AllocError, AllocFailed, Global};
+use std::error::Error;
 use std::io::{ErrorKind, Read, Write};
 use std::rt::Files;
-use std::{fs, io};
+use std::{fmt, fs, io};
 
 /// How often a file is read from before it counts as one that never ends.
-const MOST_READS: u64 = 1 << 32;
+pub(crate) const MOST_READS: u64 = 1 << 32;
 
 /// Why a file was not read or written.
 #[derive(Clone, Copy, Debug, PartialEq, Eq)]
@@ -21,6 +22,17 @@ pub enum StoreError {
     /// Memory ran out.
     NoMemory,
 }
+
+impl fmt::Display for StoreError {
+    fn fmt<W: fmt::Write>(&self, f: &mut fmt::Formatter<W>) -> fmt::Result {
+        match self {
+            StoreError::Failed => write!(f, "the file was not read or written"),
+            StoreError::NoMemory => write!(f, "out of memory"),
+        }
+    }
+}
+
+impl Error for StoreError {}
 
 impl From<AllocError> for StoreError {
     ghost from_gives = { λ _ reason. reason ≡ store_error.NoMemory };

@@ -1,13 +1,14 @@
 //! How a reason to stop is told.
 ghost use Rattle.std.specs.Prelude.{◌≡◌};
 ghost use Rattle.commands.specs.Texts.{certificate_error_name, image_error_name};
-ghost use Rattle.commands.specs.Texts.{job_error_name, open_error_name};
+ghost use Rattle.commands.specs.Texts.{job_error_name, monitor_error_name, open_error_name};
 
 use crate::hex::Hex;
 use crate::stop::Stop;
 use cert_note::CertError;
 use elf_image::ElfError;
 use job_file::JobError;
+use monitor::MonError;
 use sandbox_run::OpenError;
 use std::fmt;
 
@@ -74,6 +75,20 @@ fn open_error_name(error: OpenError) -> &'static str
         OpenError::BoundTooLarge => "BoundTooLarge",
         OpenError::WrongVlen => "WrongVlen",
         OpenError::NoMemory => "NoMemory",
+    }
+}
+
+/// The name of an error of a command.
+pub fn monitor_error_name(error: MonError) -> &'static str
+    ensures { result.now ≡ monitor_error_name error }
+{
+    match error {
+        MonError::Unknown => "Unknown",
+        MonError::BadNumber => "BadNumber",
+        MonError::TooManyBreakpoints => "TooManyBreakpoints",
+        MonError::NotThere => "NotThere",
+        MonError::NoBytes => "NoBytes",
+        MonError::Write => "Write",
     }
 }
 

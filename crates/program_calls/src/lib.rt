@@ -8,6 +8,8 @@ mod limits;
 #[cfg(test)]
 mod making;
 #[cfg(test)]
+mod monitoring;
+#[cfg(test)]
 mod reading;
 #[cfg(test)]
 mod shelf;

@@ -7,7 +7,7 @@ use std::test::Fail;
 
 /// beqz a1,36; vsetvli t0,a1,e32,m1,ta,ma; vle32.v v8,(a0); vadd.vi v8,v8,1; vse32.v v8,(a0); slli t1,t0,2;
 /// add a0,a0,t1; sub a1,a1,t0; bnez a1,-28; ret.
-const RAISE_WORDS: [u32; 10] = [
+pub(crate) const RAISE_WORDS: [u32; 10] = [
     0x0205_8263,
     0x0d05_f2d7,
     0x0205_6407,
@@ -45,7 +45,12 @@ const MAKE: [&str; 5] = ["rvvbox", "make", "kernel.elf", "job.toml", "made.elf"]
 const READS: &str = "read job.toml\nread kernel.elf\n";
 
 /// The files of a job at a length of vector registers.
-fn files(alloc: Global, vlen: u32, params: &str, code: &[u32]) -> Result<Shelf, AllocError> {
+pub(crate) fn files(
+    alloc: Global,
+    vlen: u32,
+    params: &str,
+    code: &[u32],
+) -> Result<Shelf, AllocError> {
     let mut shelf = Shelf::new(alloc);
     let head = "image = \"made.elf\"\nagnostic = \"keep\"\nmax = 8194\n";
     let job = format!(in alloc; "{head}vlen = {vlen}\n{params}")?;
@@ -64,7 +69,7 @@ fn push_words(bytes: &mut Vec<u8>, words: &[u32]) -> Result<(), AllocError> {
 
 /// The file that is to be made at a length of vector registers, as the certificate has it: the one of `image` with a table
 /// of two program headers behind the code, and the note behind that.
-fn made(alloc: Global, vlen: u8) -> Result<Vec<u8>, AllocError> {
+pub(crate) fn made(alloc: Global, vlen: u8) -> Result<Vec<u8>, AllocError> {
     let segment = [1, 84, 0x1_0000, 0x1_0000, 40, 40, 5, 4];
     let mut file = Vec::from_slice(alloc, b"\x7fELF\x01\x01\x01\0\0\0\0\0\0\0\0\0".as_slice())?;
     push_words(

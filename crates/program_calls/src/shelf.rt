@@ -12,7 +12,7 @@ pub struct Shelf {
     alloc: Global,
     files: Vec<(String, Vec<u8>)>,
     pub failing: &'static str,
-    calls: String,
+    pub calls: String,
 }
 
 impl Shelf {
@@ -69,7 +69,7 @@ impl Store for Shelf {
 
 /// Takes or gives no byte.
 #[derive(Drop)]
-struct Broken;
+pub(crate) struct Broken;
 
 impl Write for Broken {
     fn write(&mut self, _buf: &[u8]) -> io::Result<usize> {
@@ -99,18 +99,31 @@ pub(crate) fn image(alloc: Global, code: &[u32]) -> Result<Vec<u8>, AllocError> 
     Ok(file)
 }
 
-/// Performs `rvvbox` with these words, and asserts its status, what was printed, and the calls of the store.
+/// Performs `rvvbox` with these words, where nothing can be read from the input, and asserts its status, what was printed, and
+/// the calls of the store.
 pub(crate) fn expect<R: Abort + AllocGlobal>(
     rt: &R,
     words: &[&str],
     shelf: &mut Shelf,
+    told: (Status, &str, &str),
+    calls: &str,
+) {
+    expect_on(rt, words, shelf, &mut Broken, told, calls);
+}
+
+/// The same with an input.
+pub(crate) fn expect_on<R: Abort + AllocGlobal, I: Read>(
+    rt: &R,
+    words: &[&str],
+    shelf: &mut Shelf,
+    input: &mut I,
     (status, output, errors): (Status, &str, &str),
     calls: &str,
 ) {
     let alloc = rt.alloc();
     let mut out = Vec::new(alloc);
     let mut err = Vec::new(alloc);
-    let had = perform(alloc, words, shelf, &mut Broken, &mut out, &mut err);
+    let had = perform(alloc, words, shelf, input, &mut out, &mut err);
     assert_eq!(rt; std::str::from_utf8(err.as_slice()), Ok(errors));
     assert_eq!(rt; std::str::from_utf8(out.as_slice()), Ok(output));
     assert_eq!(rt; had.status, status);
@@ -119,9 +132,19 @@ pub(crate) fn expect<R: Abort + AllocGlobal>(
 
 /// Performs `rvvbox` where standard output takes no text, and asserts that nothing is told.
 pub(crate) fn expect_silence<R: Abort + AllocGlobal>(rt: &R, words: &[&str], shelf: &mut Shelf) {
+    expect_silence_on(rt, words, shelf, &mut Broken);
+}
+
+/// The same with an input.
+pub(crate) fn expect_silence_on<R: Abort + AllocGlobal, I: Read>(
+    rt: &R,
+    words: &[&str],
+    shelf: &mut Shelf,
+    input: &mut I,
+) {
     let alloc = rt.alloc();
     let mut errors = Vec::new(alloc);
-    let had = perform(alloc, words, shelf, &mut Broken, &mut Broken, &mut errors);
+    let had = perform(alloc, words, shelf, input, &mut Broken, &mut errors);
     assert_eq!(rt; had.status, Status::File);
     assert!(rt; errors.is_empty());
 }

@@ -1,14 +1,43 @@
 //! `rvvbox` runs RISC-V vector kernels in a sandbox. `rvvbox check IMAGE` checks an image against its certificate. `rvvbox
 //! run JOB` runs the image that a job file names on the job's buffers, if it is accepted: such a run ends within its bound,
 //! without a fault. `rvvbox try JOB` runs any image, with every test at each step. `rvvbox make IMAGE JOB OUT` makes the
-//! certificate of a plain loop, and writes the image with it. Each prints what came of it.
+//! certificate of a plain loop, and writes the image with it. `rvvbox mon JOB` answers commands on the run of such an image as
+//! `run` takes. Each prints what came of it.
 #![tactic(auto)]
 
 use command_line::{end_without_words, perform};
 use commands::{Disk, Ending};
 use std::alloc::Global;
+use std::io::{IsTerminal, Read, Write};
 use std::process::ExitCode;
 use std::{env, io};
+
+/// The commands of `mon`, in short.
+const COMMANDS: &str = "b A  d A  s N  c  x  v N  csr  m A N  l A N  q\n";
+
+/// Standard input. Where it is a terminal, and standard error too, a prompt asks for each line, and the commands stand before
+/// the first.
+#[derive(Drop)]
+struct Prompting<R, E> {
+    reader: R,
+    errors: E,
+    asks: bool,
+    begun: bool,
+}
+
+impl<R: Read, E: Write> Read for Prompting<R, E> {
+    fn read(&mut self, buf: &mut [u8]) -> io::Result<usize> {
+        if self.asks {
+            if !self.begun {
+                self.begun = true;
+                self.errors.write_all(COMMANDS.as_bytes())?;
+            }
+            self.errors.write_all(b"> ".as_slice())?;
+            self.errors.flush()?;
+        }
+        self.reader.read(buf)
+    }
+}
 
 fn main(rt: HostRuntime) -> ExitCode {
     let ending = match answer(&rt) {
@@ -26,11 +55,17 @@ fn answer(rt: &HostRuntime) -> io::Result<Ending> {
     for text in &texts {
         words.push(text.as_str())?;
     }
+    let mut input = Prompting {
+        reader: rt.reader(),
+        errors: rt.stderr(),
+        asks: rt.stdin().is_terminal() && rt.stderr().is_terminal(),
+        begun: false,
+    };
     Ok(perform(
         alloc,
         words.as_slice(),
         &mut Disk::new(rt),
-        &mut rt.reader(),
+        &mut input,
         &mut rt.stdout(),
         &mut rt.stderr(),
     ))

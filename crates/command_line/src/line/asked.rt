@@ -8,6 +8,8 @@ ghost use Rattle.command_line.specs.declared.line.asked.LineError.TheVariants.{N
 
 use commands::{Ending, MakePaths, Status, Stop};
 use std::alloc::AllocError;
+use std::error::Error;
+use std::fmt;
 use std::io::Write;
 
 /// What a command line asks for: a subcommand with its paths.
@@ -19,18 +21,31 @@ pub enum Line<'a> {
     Run { job: &'a str },
     /// Runs the image of the job at `job`, accepted or not, with every test at each step.
     Try { job: &'a str },
+    /// Checks the image of the job at `job`, and answers commands on its run if it is accepted.
+    Mon { job: &'a str },
     /// Makes the certificate of an image for a job, and writes the image with it.
     Make(MakePaths<'a>),
 }
 
 /// Why a command line asks for nothing that can be done.
-#[derive(Drop)]
+#[derive(Debug, Drop)]
 pub enum LineError {
     /// `clap` refused the words, or they ask for help or the version. The text is `clap`'s.
     Usage(clap::Error),
     /// Memory ran out.
     NoMemory,
 }
+
+impl fmt::Display for LineError {
+    fn fmt<W: fmt::Write>(&self, f: &mut fmt::Formatter<W>) -> fmt::Result {
+        match self {
+            LineError::Usage(error) => write!(f, "{error}"),
+            LineError::NoMemory => write!(f, "out of memory"),
+        }
+    }
+}
+
+impl Error for LineError {}
 
 impl From<AllocError> for LineError {
     ghost from_gives = { λ _ e. e ≡ NoMemory };

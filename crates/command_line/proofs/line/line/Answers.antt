@@ -25,6 +25,13 @@ returns-in-Some-path-2-clause-line c =
     let same = same_entered _ words _ (subcommand_rows_of c.in-Ok.matches) is c.in-Ok.ensures.matches in
     is_path words _ _ _ _ (no_fault _ words is c.in-Ok.ensures.kinds) same c.in-Some-path-2.ensures
 
+pub returns-in-Some-path-3-clause-line : goal.returns-in-Some-path-3-clause-line
+returns-in-Some-path-3-clause-line c =
+    let words : List (List ℕ) = map (λ w. w.now) c.args.words.now in
+    let is : app_of c.in_ok-command.command ≡ app = search rules in
+    let same = same_entered _ words _ (subcommand_rows_of c.in-Ok.matches) is c.in-Ok.ensures.matches in
+    is_path words _ _ _ _ (no_fault _ words is c.in-Ok.ensures.kinds) same c.in-Some-path-3.ensures
+
 pub returns-in-Some-make_paths-clause-line : goal.returns-in-Some-make_paths-clause-line
 returns-in-Some-make_paths-clause-line c =
     let words : List (List ℕ) = map (λ w. w.now) c.args.words.now in
@@ -41,4 +48,5 @@ unreachable-requires c =
     let no_image = no_path_of words _ _ _ same (c.in_default.ensures) in
     let no_job = no_path_of words _ _ _ same (c.in_default-path.ensures) in
     let no_try = no_path_of words _ _ _ same (c.in_default-path-2.ensures) in
-    no_path _ (named no_image no_job no_try) (no_make_paths words _ same (c.in_default-make_paths.ensures))
+    let no_mon = no_path_of words _ _ _ same (c.in_default-path-3.ensures) in
+    no_path _ (named no_image no_job no_try no_mon) (no_make_paths words _ same (c.in_default-make_paths.ensures))

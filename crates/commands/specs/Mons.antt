@@ -1,0 +1,113 @@
+-- What `mon` does.
+use Rattle.std.specs.Prelude.{◌≡◌, ◌⊎◌, ◌++◌, codes, ℕ, List, Option, Some, None, Result, Ok, Err}
+use Rattle.block_checker.specs.Accepted.{AcceptedView}
+use Rattle.job_file.specs.Job.{Text}
+use Rattle.job_file.specs.Needs.{run_job_in}
+use Rattle.job_file.specs.declared.values.RunJob.{RunJob}
+use Rattle.monitor.specs.Commands.{flow_of, text_of}
+use Rattle.monitor.specs.declared.commands.Command.{Command}
+use Rattle.monitor.specs.declared.commands.Flow.{Flow}
+use Rattle.monitor.specs.declared.commands.Flow.TheVariants as flow
+use Rattle.monitor.specs.declared.commands.MonError.{MonError}
+use Rattle.region_mem.specs.Memory.{args_of}
+use Rattle.sandbox_run.specs.Session.{SessionView, open_fault}
+use Rattle.sandbox_run.specs.Stops.{IsStop}
+use Rattle.toml.specs.Data.{Members}
+use Rattle.vector_core.specs.Machine.{Machine}
+use Rattle.commands.specs.Accepted.{IsOrWant, accepted_of}
+use Rattle.commands.specs.Ending.{stop_of_open}
+use Rattle.commands.specs.Files.{ArePassed, Files, IsImageAt, IsNoImageAt, IsUnasked, IsUnfinished, IsUnpassed, outs_of}
+use Rattle.commands.specs.Texts.{monitor_error_name}
+use Rattle.commands.specs.Words.{Argument, ImageView, OpenError, start, vlenb_of, Agnostic}
+use Rattle.commands.specs.Written.{Gains, Written}
+use Rattle.commands.specs.declared.stop.Status.{Status}
+use Rattle.commands.specs.declared.stop.Status.TheVariants as status
+use Rattle.commands.specs.declared.stop.Stop.{Stop}
+use Rattle.commands.specs.declared.stop.Stop.TheVariants as stop
+
+-- ---- a line and its answer
+
+abbrev pub error_line : MonError → List ℕ
+error_line error = codes "error: " ++ (monitor_error_name error ++ codes "\n")
+
+-- what is printed of a line: what its command tells of the run as it then stands, or its error
+abbrev pub answer_of : ℕ → Result Command MonError → SessionView → List ℕ
+answer_of vlenb (Ok command) new = text_of vlenb command new
+answer_of vlenb (Err error) new = error_line error
+
+-- whether lines go on after it
+abbrev pub flow_after : Result Command MonError → Flow
+flow_after (Ok command) = flow_of command
+flow_after (Err error) = flow.Go
+
+-- ---- a job's run, stopped
+
+-- a run of an accepted image is opened, and these are the arguments as they stand at a stop of it
+pub record IsStopped (vlenb : ℕ) (agnostic : Agnostic) (max : ℕ) (a : AcceptedView)
+    (args kept : List Argument) : Type 0 where
+  pub opens : open_fault vlenb a args max ≡ None
+  pub steps : ℕ
+  pub last : Machine
+  pub stop : IsStop vlenb (start vlenb agnostic a.image a.certificate.parameters args) steps last
+  pub comes : kept ≡ args_of last.memory
+
+-- ---- what is done: `was` and `has` are the files that were written before and after
+
+-- `mon` on a job's table: the job's image is accepted, its run is left at a stop, and the out files of all
+-- places were written with the buffers as they stand there
+pub record Mons (holds : Files) (table : Members) (was has : Option Written) (s : Status) : Type 0 where
+  pub job : RunJob Text
+  pub asked : run_job_in table ≡ Some job
+  pub image : ImageView
+  pub there : IsImageAt holds job.image image
+  pub accepted : AcceptedView
+  pub passes : accepted_of (Some job.vlen) image ≡ Ok accepted
+  pub args : List Argument
+  pub passed : ArePassed holds job.params args
+  pub kept : List Argument
+  pub stopped : IsStopped (vlenb_of job.vlen) job.agnostic job.max accepted args kept
+  pub wrote : Gains was has (outs_of job.params kept)
+  pub done : s ≡ status.Done
+
+-- ---- why it stops
+
+-- why a line is not answered: memory ran out, standard output takes no text, or the input has no end
+abbrev pub IsUnanswered : Stop → Type 0
+IsUnanswered stop.Memory = Unit {0}
+IsUnanswered stop.Output = Unit {0}
+IsUnanswered (stop.File at) = at.now ≡ codes "-"
+IsUnanswered other = ⊥
+
+-- why no run is opened: its fault, or else want of memory
+abbrev pub IsUnopened : Option OpenError → Stop → Type 0
+IsUnopened (Some error) reason = reason ≡ stop_of_open error
+IsUnopened None reason = reason ≡ stop.Memory
+
+abbrev pub StopsWatching : ℕ → ℕ → AcceptedView → List Argument → Stop → Type 0
+StopsWatching vlenb max a args reason = IsUnopened (open_fault vlenb a args max) reason ⊎ IsUnanswered reason
+
+-- after what is passed was read: no run is opened, a line is not answered, or an out file is not written
+abbrev pub StopsWatched : RunJob Text → AcceptedView → List Argument → Stop → Type 0
+StopsWatched job accepted args reason = StopsWatching (vlenb_of job.vlen) job.max accepted args reason
+    ⊎ ((kept : List Argument) × IsStopped (vlenb_of job.vlen) job.agnostic job.max accepted args kept
+    × IsUnfinished job.params kept reason)
+
+-- after the image was accepted: what is passed is not read, or afterwards
+abbrev pub StopsPassing : Files → RunJob Text → AcceptedView → Stop → Type 0
+StopsPassing holds job accepted reason = IsUnpassed job.params reason
+    ⊎ ((args : List Argument) × ArePassed holds job.params args × StopsWatched job accepted args reason)
+
+-- after the image was read: it is not accepted, or afterwards
+abbrev pub StopsChecking : Files → RunJob Text → ImageView → Stop → Type 0
+StopsChecking holds job image reason = IsOrWant (accepted_of (Some job.vlen) image) (Err reason)
+    ⊎ ((accepted : AcceptedView) × (accepted_of (Some job.vlen) image ≡ Ok accepted) × StopsPassing holds job accepted reason)
+
+-- for a job: the image is not read, or afterwards
+abbrev pub StopsMonJob : Files → RunJob Text → Stop → Type 0
+StopsMonJob holds job reason = IsNoImageAt holds job.image reason
+    ⊎ ((image : ImageView) × IsImageAt holds job.image image × StopsChecking holds job image reason)
+
+-- `mon` on a job's table: it asks for no job, or afterwards
+abbrev pub StopsMon : Files → Members → Stop → Type 0
+StopsMon holds table reason = IsUnasked (run_job_in table) reason
+    ⊎ ((job : RunJob Text) × (run_job_in table ≡ Some job) × StopsMonJob holds job reason)

@@ -1,0 +1,138 @@
+//! Lines of the input, each answered before the next.
+ghost use Rattle.std.specs.Prelude.{◌≡◌, IfErr, IfOk, OnOk};
+ghost use Rattle.std.specs.Io.KnownBytes.{Appends};
+ghost use Rattle.monitor.specs.Commands.{order_of};
+ghost use Rattle.commands.specs.Mons.{IsUnanswered, answer_of, error_line, flow_after};
+ghost use Rattle.commands.specs.declared.stop.Stop.TheVariants.{Memory};
+
+use crate::stop::Stop;
+use crate::store::StoreError;
+use crate::texts::monitor_error_name;
+use monitor::{Flow, MonError, Monitor, Over};
+use rv_listing::{Piece, put_all};
+use std::alloc::Global;
+use std::io;
+use std::io::{ErrorKind, Read, Write};
+
+/// The line that tells the error of a command.
+fn error_line<'a>(alloc: Global, error: MonError) -> Result<Vec<u8>, Stop<'a>>
+    ensures text { IfOk result (λ text. text.items ≡ error_line error) }
+    ensures memory { IfErr result (λ reason. reason ≡ Memory) }
+{
+    let mut text = Over::new(Vec::new(alloc));
+    let name = Piece::Text(monitor_error_name(error));
+    match put_all(
+        &mut text,
+        &[Piece::Text("error: "), name, Piece::Text("\n")],
+    ) {
+        Ok(()) => Ok(text.into_inner()),
+        Err(_) => Err(Stop::Memory),
+    }
+}
+
+/// Does what a line asks for: whether lines go on, and what is told of it.
+fn carried<'a, const VLENB: usize>(
+    alloc: Global,
+    monitor: &mut Monitor<'_, VLENB>,
+    line: &str,
+) -> Result<(Flow, Vec<u8>), Stop<'a>>
+    ensures same_reference { monitor.new.session.ghost_name ≡ monitor.old.session.ghost_name }
+    ensures first { monitor.new.session.now.first ≡ monitor.old.session.now.first }
+    ensures told { IfOk result (λ r.
+        let order = order_of line.now monitor.old.breakpoints.items monitor.old.session.now in
+        (r.0 ≡ flow_after order) × (r.1.items ≡ answer_of VLENB order monitor.new.session.now)) }
+    ensures memory { IfErr result (λ reason. reason ≡ Memory) }
+{
+    let mut text = Over::new(Vec::new(alloc));
+    match monitor.command(line, &mut text) {
+        Ok(flow) => Ok((flow, text.into_inner())),
+        Err(MonError::Write) => Err(Stop::Memory),
+        Err(error) => Ok((Flow::Go, error_line(alloc, error)?)),
+    }
+}
+
+/// Prints a text, and passes it on.
+fn print<O: Write>(output: &mut O, text: &[u8]) -> io::Result<()>
+    ensures { OnOk result (Appends (O.contents output.old) (O.contents output.new) text.now) }
+{
+    output.write_all(text)?;
+    output.flush()
+}
+
+/// Answers a line, which is no command where it is not UTF-8, and tells whether lines go on.
+fn answer<'a, const VLENB: usize, O: Write>(
+    alloc: Global,
+    monitor: &mut Monitor<'_, VLENB>,
+    line: &[u8],
+    output: &mut O,
+) -> Result<Flow, Stop<'a>>
+    ensures same_reference { monitor.new.session.ghost_name ≡ monitor.old.session.ghost_name }
+    ensures first { monitor.new.session.now.first ≡ monitor.old.session.now.first }
+    ensures unanswered { IfErr result IsUnanswered }
+{
+    let (flow, text) = match std::str::from_utf8(line) {
+        Ok(line) => carried(alloc, monitor, line)?,
+        Err(_) => (Flow::Go, error_line(alloc, MonError::Unknown)?),
+    };
+    match print(output, text.as_slice()) {
+        Ok(()) => Ok(flow),
+        Err(_) => Err(Stop::Output),
+    }
+}
+
+/// Answers each line that ends in these bytes, of which `line` holds the beginning of the first, and then that of the next.
+fn answer_bytes<'a, const VLENB: usize, O: Write>(
+    alloc: Global,
+    monitor: &mut Monitor<'_, VLENB>,
+    line: &mut Vec<u8>,
+    bytes: &[u8],
+    output: &mut O,
+) -> Result<Flow, Stop<'a>>
+    ensures same_reference { monitor.new.session.ghost_name ≡ monitor.old.session.ghost_name }
+    ensures first { monitor.new.session.now.first ≡ monitor.old.session.now.first }
+    ensures unanswered { IfErr result IsUnanswered }
+{
+    for byte in bytes {
+        if *byte == b'\n' {
+            match answer(alloc, monitor, line.as_slice(), output)? {
+                Flow::Go => line.clear(),
+                Flow::Quit => return Ok(Flow::Quit),
+            }
+        } else if line.push(*byte).is_err() {
+            return Err(Stop::Memory);
+        }
+    }
+    Ok(Flow::Go)
+}
+
+/// Answers the lines of the input, up to the command `q` or the end, in at most `reads` reads. The last line needs no end.
+pub fn answer_lines<'a, const VLENB: usize, I: Read, O: Write>(
+    alloc: Global,
+    monitor: &mut Monitor<'_, VLENB>,
+    input: &mut I,
+    output: &mut O,
+    reads: u64,
+) -> Result<(), Stop<'a>>
+    ensures same_reference { monitor.new.session.ghost_name ≡ monitor.old.session.ghost_name }
+    ensures first { monitor.new.session.now.first ≡ monitor.old.session.now.first }
+    ensures unanswered { IfErr result IsUnanswered }
+{
+    let mut line = Vec::new(alloc);
+    let mut chunk = [0u8; 4096];
+    for _ in 0..reads {
+        match input.read(&mut chunk) {
+            Ok(0) if line.is_empty() => return Ok(()),
+            Ok(0) => {
+                answer(alloc, monitor, line.as_slice(), output)?;
+                return Ok(());
+            }
+            Ok(n) => match answer_bytes(alloc, monitor, &mut line, &chunk[..n], output)? {
+                Flow::Go => {}
+                Flow::Quit => return Ok(()),
+            },
+            Err(error) if error.kind() == ErrorKind::Interrupted => {}
+            Err(error) => return Err(Stop::at_file(StoreError::from(error), "-")),
+        }
+    }
+    Err(Stop::File("-"))
+}

@@ -1,0 +1,164 @@
+//! `mon`: commands on the run of an image that is accepted.
+ghost use Rattle.std.specs.Prelude.{◌≡◌, IfErr, IfOk, MatchResult};
+ghost use Rattle.toml.specs.View.{table_view};
+ghost use Rattle.vreg_groups.specs.VectorLength.{IsVlenb, vlenb_of};
+ghost use Rattle.commands.specs.Ending.{Ends};
+ghost use Rattle.commands.specs.Files.{OfTable, StopsOfTable};
+ghost use Rattle.commands.specs.Mons.{IsStopped, IsUnanswered, Mons, StopsMon, StopsWatching};
+
+use crate::accepted::accept;
+use crate::files::{read_args, read_image, read_table, write_outs};
+use crate::lines::answer_lines;
+use crate::stop::{Ending, Status, Stop, told};
+use crate::store::{MOST_READS, Store};
+use block_checker::Accepted;
+use job_file::{JobError, RunJob, run_job_in};
+use monitor::Monitor;
+use region_mem::Args;
+use sandbox_run::Session;
+use std::alloc::Global;
+use std::io::{Read, Write};
+use toml::Table;
+use vreg_groups::{Agnostic, Vlen};
+
+/// `mon`: checks the image of the job at `path` against its certificate, at the job's length of vector registers, opens its
+/// run if it is accepted, answers each line of the input on standard output, up to the command `q` or the end of the input,
+/// and writes the job's out files.
+///
+/// In this order, up to the first that is refused or fails, which is told: the job file, the job, the image file, the
+/// image, the certificate, the check, the parameters' files by place, the start of the run, the lines and their answers,
+/// the out files by place.
+pub fn mon_job<S: Store, I: Read, O: Write, E: Write>(
+    alloc: Global,
+    path: &str,
+    store: &mut S,
+    input: &mut I,
+    output: &mut O,
+    errors: &mut E,
+) -> Ending
+    ensures { Ends
+        (OfTable S.holds path.now (λ table.
+        Mons S.holds table (S.written store.old) (S.written store.new)))
+        (StopsOfTable S.holds path.now (StopsMon S.holds))
+        (E.contents errors.old) (E.contents errors.new) result }
+{
+    mon_job_within(alloc, path, store, input, output, errors, MOST_READS)
+}
+
+/// As `mon_job`, with at most `reads` reads of the input. If none of them finds its end or the command `q`, it counts as one that
+/// failed.
+pub fn mon_job_within<S: Store, I: Read, O: Write, E: Write>(
+    alloc: Global,
+    path: &str,
+    store: &mut S,
+    input: &mut I,
+    output: &mut O,
+    errors: &mut E,
+    reads: u64,
+) -> Ending
+    ensures { Ends
+        (OfTable S.holds path.now (λ table.
+        Mons S.holds table (S.written store.old) (S.written store.new)))
+        (StopsOfTable S.holds path.now (StopsMon S.holds))
+        (E.contents errors.old) (E.contents errors.new) result }
+{
+    match read_table(alloc, path, store) {
+        Ok(table) => told(
+            mon_table(alloc, &table, store, input, output, reads),
+            errors,
+        ),
+        Err(stop) => stop.tell(errors),
+    }
+}
+
+/// `mon` on a job's table.
+fn mon_table<'a, S: Store, I: Read, O: Write>(
+    alloc: Global,
+    table: &'a Table,
+    store: &mut S,
+    input: &mut I,
+    output: &mut O,
+    reads: u64,
+) -> Result<Status, Stop<'a>>
+    ensures { MatchResult result
+        (Mons S.holds (table_view table.entry.now) (S.written store.old) (S.written store.new))
+        (StopsMon S.holds (table_view table.entry.now)) }
+{
+    let job = run_job_in(table).ok_or(JobError::BadKey)?;
+    let image = read_image(alloc, job.image, store)?;
+    let accepted = accept(alloc, image, Some(job.vlen))?;
+    let args = read_args(alloc, &job.params, store)?;
+    let kept = mon_accepted(alloc, &job, &accepted, args, input, output, reads)?;
+    write_outs(&job.params, &kept.places, store)?;
+    Ok(Status::Done)
+}
+
+/// Answers lines on the run of a job, at its length of vector registers and setting. The arguments come out as they stand
+/// where the lines end.
+fn mon_accepted<'a, I: Read, O: Write>(
+    alloc: Global,
+    job: &RunJob<&str>,
+    accepted: &Accepted,
+    args: Args,
+    input: &mut I,
+    output: &mut O,
+    reads: u64,
+) -> Result<Args, Stop<'a>>
+    ensures { MatchResult result
+        (λ kept. IsStopped (vlenb_of job.now.vlen) job.now.agnostic job.now.max accepted.now
+        args.places kept.places)
+        (StopsWatching (vlenb_of job.now.vlen) job.now.max accepted.now args.places) }
+{
+    let (agnostic, max) = (job.agnostic, job.max);
+    match job.vlen {
+        Vlen::V128 => {
+            mon_session::<16, I, O>(alloc, accepted, args, agnostic, max, input, output, reads)
+        }
+        Vlen::V256 => {
+            mon_session::<32, I, O>(alloc, accepted, args, agnostic, max, input, output, reads)
+        }
+        Vlen::V512 => {
+            mon_session::<64, I, O>(alloc, accepted, args, agnostic, max, input, output, reads)
+        }
+    }
+}
+
+/// Answers lines on a run.
+fn watch<'a, const VLENB: usize, I: Read, O: Write>(
+    alloc: Global,
+    session: &mut Session<VLENB>,
+    input: &mut I,
+    output: &mut O,
+    reads: u64,
+) -> Result<(), Stop<'a>>
+    ensures first { session.new.first ≡ session.old.first }
+    ensures unanswered { IfErr result IsUnanswered }
+{
+    let mut monitor = Monitor::new(session);
+    answer_lines(alloc, &mut monitor, input, output, reads)
+}
+
+fn mon_session<'a, const VLENB: usize, I: Read, O: Write>(
+    alloc: Global,
+    accepted: &Accepted,
+    args: Args,
+    agnostic: Agnostic,
+    max: u64,
+    input: &mut I,
+    output: &mut O,
+    reads: u64,
+) -> Result<Args, Stop<'a>>
+    requires { IsVlenb VLENB }
+    ensures { MatchResult result
+        (λ kept. IsStopped VLENB agnostic max accepted.now args.places kept.places)
+        (StopsWatching VLENB max accepted.now args.places) }
+{
+    match Session::<VLENB>::open(alloc, accepted, args, agnostic, max) {
+        Ok(mut session) => {
+            watch(alloc, &mut session, input, output, reads)?;
+            session.stands();
+            Ok(session.close())
+        }
+        Err((error, _args)) => Err(Stop::from(error)),
+    }
+}
