@@ -19,7 +19,10 @@ pub const SUM: [u32; 7] = [
     0x0000_8067,
 ];
 
-/// Its certificate: a0 is a buffer of 1024 bytes to read, a1 a number n up to 1024. From the blocks at 0x10000, 0x10004 and
+/// sb t0,0(a0)
+pub(crate) const STORE: u32 = 0x0055_0023;
+
+/// The certificate of the sum: a0 is a buffer of 1024 bytes to read, a1 a number n up to 1024. From the blocks at 0x10000, 0x10004 and
 /// 0x10018 on there are at most 2 + 5 * x11, 1 + 5 * x11 and 1 instructions. ra is EXIT at each of them; x10 is 0x40000000
 /// at the first, and 0x40000000 - x11 + n at the second, where x11 is not 0.
 const CERTIFICATE: [u8; 261] = [
@@ -47,17 +50,22 @@ const HEADERS: &str = "\
 7f454c460101010000000000000000000200f30001000000000001003400000000000000000000003400200001000000\
 0000000001000000540000000000010000000100";
 
-/// An image with these words at 0x10000, which is its entry.
-pub(crate) fn image_of(alloc: Global, words: &[u32]) -> Result<Image, Fail> {
+/// A file with these words at 0x10000, which is its entry.
+pub(crate) fn file_of(alloc: Global, words: &[u32]) -> Result<Vec<u8>, Fail> {
     let size = words.len().min(8000) as u32 * 4;
     let mut file = decode(alloc, HEADERS)?;
     for word in [size, size, 5, 4].iter().chain(words) {
         file.extend_from_slice(&word.to_le_bytes())?;
     }
-    Ok(elf_image::read(alloc, &file)?)
+    Ok(file)
 }
 
-fn certificate(alloc: Global) -> Result<Certificate, CertError> {
+/// The image of that file.
+pub(crate) fn image_of(alloc: Global, words: &[u32]) -> Result<Image, Fail> {
+    Ok(elf_image::read(alloc, &file_of(alloc, words)?)?)
+}
+
+pub(crate) fn certificate(alloc: Global) -> Result<Certificate, CertError> {
     cert_note::read(alloc, &CERTIFICATE)
 }
 
@@ -88,8 +96,7 @@ fn accepts_the_sum(rt: HostRuntime) -> Result<(), Fail> {
 fn refuses_a_store_in_place_of_the_load(rt: HostRuntime) -> Result<(), Fail> {
     let alloc = rt.alloc();
     let mut words = SUM;
-    // sb t0,0(a0)
-    words[1] = 0x0055_0023;
+    words[1] = STORE;
     let image = image_of(alloc, &words)?;
     match check(alloc, image, certificate(alloc)?, Vlen::V128) {
         Ok(_) => assert!(rt; false, "accepted"),

@@ -24,3 +24,7 @@ mod sessions;
 mod strips;
 #[cfg(test)]
 mod want_of_memory;
+#[cfg(test)]
+mod want_of_memory_in_checks;
+#[cfg(test)]
+mod want_of_memory_in_runs;

@@ -1,23 +1,23 @@
-//! Calls of the libraries of which each allocation fails in turn: the answer is want of memory, and what was handed in
-//! comes back as it was.
+//! Calls on files and certificates of which each allocation fails in turn: the answer is want of memory there, and what is
+//! wrong with the bytes is told all the same.
 use crate::assertions::assert_same;
-use crate::checks::sum;
+use crate::checks::{SUM, file_of};
+use crate::readme::RAISE;
 use crate::refusing::Refusing;
-use block_checker::{Accepted, CheckError, check, check_in};
-use cert_note::CertError;
-use elf_image::ElfError;
+use cert_maker::{MakeError, make_in};
+use cert_note::{CertError, Vlen};
+use elf_image::{ElfError, attach};
 use hex::decode;
-use region_mem::{Arg, Args, Bytes, Mode, Param, Parameters};
-use sandbox_run::{OpenError, Outcome, Session, open_in, try_run_in};
-use std::alloc::{AllocError, Global};
+use region_mem::{Mode, Param, Parameters};
+use std::alloc::Global;
 use std::process::Abort;
 use std::test::Fail;
-use vreg_groups::{Agnostic, Vlen};
 
-type Heap<'a> = &'a Refusing<Global>;
+/// An allocator that refuses one allocation.
+pub(crate) type Heap<'a> = &'a Refusing<Global>;
 
 /// More allocations than any of these calls asks for.
-const MANY: u64 = 40;
+pub(crate) const MANY: u64 = 40;
 
 /// An executable file of three program headers. Code at 0x10000: vsetvli t0,a2,e8,m1,ta,ma; vle8.v v8,(a0); vle8.v
 /// v16,(a1); vadd.vv v8,v8,v16; vse8.v v8,(a0); ecall. Four bytes of data and twelve of zeros at 0x20000. A note with
@@ -37,7 +37,8 @@ const CERTIFICATE: &str = "\
 0000000001000000000001000600000000000000000000020100000001f0fffffff0ffffffff0c030000000300000001\
 00000000230100000008080100000000000000000009000000";
 
-fn file(alloc: Global) -> Result<Vec<u8>, Fail> {
+/// That file, with the certificate.
+pub(crate) fn file(alloc: Global) -> Result<Vec<u8>, Fail> {
     let mut file = decode(alloc, FILE)?;
     file.extend_from_slice(decode(alloc, CERTIFICATE)?.as_slice())?;
     Ok(file)
@@ -75,165 +76,40 @@ fn reading_an_image(rt: HostRuntime) -> Result<(), Fail> {
     panic!(rt; "memory is never enough")
 }
 
-/// Three bytes that are written, three that are read, and their number.
-fn parameters() -> Option<Parameters> {
-    let buffer = |mode| Param::Buffer { mode, size: 3 };
-    let none = Param::None;
-    let number = Param::Scalar { lo: 3, hi: 3 };
-    Parameters::new([
-        buffer(Mode::ReadWrite),
-        buffer(Mode::Read),
-        number,
-        none,
-        none,
-        none,
-        none,
-        none,
-    ])
+/// Asserts that a file is given no certificate, for a reason that is told before any memory is asked for.
+fn expect_unattached(rt: &impl Abort, heap: Heap<'_>, file: &[u8], fault: ElfError) {
+    let refused = attach(heap, file, b"any").err();
+    assert_same!(rt; refused, Some(fault));
+    assert_same!(rt; heap.has_refused(), false);
 }
 
-fn buffer<'a>(heap: Heap<'a>, bytes: &[u8]) -> Result<Arg<Bytes<Heap<'a>>>, AllocError> {
-    Ok(Arg::Buffer(Bytes::new(Vec::from_slice(heap, bytes)?)))
-}
-
-fn args(heap: Heap<'_>) -> Result<Args<Bytes<Heap<'_>>>, AllocError> {
-    Ok(Args {
-        places: [
-            buffer(heap, &[0xff, 1, 2])?,
-            buffer(heap, &[1, 1, 0xff])?,
-            Arg::Scalar(3),
-            Arg::None,
-            Arg::None,
-            Arg::None,
-            Arg::None,
-            Arg::None,
-        ],
-    })
-}
-
-fn is_buffer(arg: &Arg<Bytes<Heap<'_>>>, bytes: &[u8]) -> bool {
-    match arg {
-        Arg::Buffer(buffer) => buffer.as_slice() == bytes,
-        Arg::None | Arg::Scalar(_) => false,
-    }
-}
-
-/// Whether these are the arguments of `args`, but for the bytes that are written.
-fn are_args(args: &Args<Bytes<Heap<'_>>>, written: &[u8]) -> bool {
-    is_buffer(&args.places[0], written)
-        && is_buffer(&args.places[1], &[1, 1, 0xff])
-        && matches!(&args.places[2], Arg::Scalar(3))
-        && args
-            .places
-            .iter()
-            .skip(3)
-            .all(|arg| matches!(arg, Arg::None))
-}
-
-/// A run takes the memory of its regions alone, a list of them, the bytes of two segments and those of the stack. No
-/// step takes any.
+/// The bytes of the file that is written. The one that is read stays as it is.
 #[test]
-fn running(rt: HostRuntime) -> Result<(), Fail> {
+fn attaching(rt: HostRuntime) -> Result<(), Fail> {
     let alloc = rt.alloc();
-    let image = elf_image::read(alloc, file(alloc)?.as_slice())?;
-    let parameters = parameters().ok_or("the parameters are valid")?;
-    let ample = Refusing::new(alloc, MANY);
+    let bare = file_of(alloc, &SUM)?;
+    let certified = file(alloc)?;
+    let short = &bare.as_slice()[..51];
+    let mut large = file_of(alloc, &SUM)?;
+    large.resize(4 << 20, 0)?;
+    let certificate = decode(alloc, CERTIFICATE)?;
     for after in 0..MANY {
         let heap = Refusing::new(alloc, after);
-        let args = args(&ample)?;
-        match try_run_in::<16, Heap<'_>, Global>(
-            &heap,
-            &image,
-            &parameters,
-            args,
-            Agnostic::Keep,
-            9,
-        ) {
-            Ok(Outcome::Ended(end)) => {
+        expect_unattached(&rt, &heap, short, ElfError::TooShort);
+        expect_unattached(&rt, &heap, large.as_slice(), ElfError::TooLarge);
+        expect_unattached(&rt, &heap, certified.as_slice(), ElfError::CertificateThere);
+        match attach(&heap, bare.as_slice(), certificate.as_slice()) {
+            Ok(attached) => {
                 assert_same!(rt; (heap.has_refused(), after > 0), (false, true));
-                assert_same!(rt; end.steps, 6);
-                assert_same!(rt; are_args(&end.args, &[0, 2, 1]), true);
+                let image = elf_image::read(alloc, attached.as_slice())?;
+                assert_same!(rt; image.segments().len(), 1);
+                assert_same!(rt; image.certificate(), Some(certificate.as_slice()));
                 return Ok(());
             }
-            Ok(_) => panic!(rt; "the run ends"),
-            Err((error, args)) => {
+            Err(error) => {
                 assert_same!(rt; (heap.has_refused(), after), (true, after));
-                assert_same!(rt; error, OpenError::NoMemory);
-                assert_same!(rt; are_args(&args, &[0xff, 1, 2]), true);
-            }
-        }
-    }
-    panic!(rt; "memory is never enough")
-}
-
-/// What is known at a block, one block after the other.
-#[test]
-fn checking(rt: HostRuntime) -> Result<(), Fail> {
-    let alloc = rt.alloc();
-    let (mut image, mut certificate) = sum(alloc)?;
-    for after in 0..MANY {
-        let heap = Refusing::new(alloc, after);
-        match check_in(&heap, image, certificate, Vlen::V128) {
-            Ok(accepted) => {
-                assert_same!(rt; (heap.has_refused(), after > 0), (false, true));
-                assert_same!(rt; accepted.bound(&[0, 1024, 0, 0, 0, 0, 0, 0]), 5122);
-                return Ok(());
-            }
-            Err((error, same_image, same_certificate)) => {
-                assert_same!(rt; (heap.has_refused(), after), (true, after));
-                assert_same!(rt; error, CheckError::NoMemory);
-                image = same_image;
-                certificate = same_certificate;
-            }
-        }
-    }
-    panic!(rt; "memory is never enough")
-}
-
-/// As `CERTIFICATE`, but its block has no fact and takes one step.
-const ONE_STEP: &str = "\
-010001000203000003000000000000000201000003000000000000000100000003000000030000000000000000000000\
-000000000000000000000000000000000000000000000000000000000000000000000000000000000000000000000000\
-00000000010000000000010001000000000000000000000000000000";
-
-/// The image of `FILE` with ecall as its first word, and a certificate for that.
-fn accepted(alloc: Global) -> Result<Accepted, Fail> {
-    let mut file = file(alloc)?;
-    for (place, byte) in [(0x94, 0x73), (0x95, 0), (0x96, 0), (0x97, 0)] {
-        if let Some(code) = file.get_mut(place) {
-            *code = byte;
-        }
-    }
-    let image = elf_image::read(alloc, file.as_slice())?;
-    let certificate = cert_note::read(alloc, decode(alloc, ONE_STEP)?.as_slice())?;
-    check(alloc, image, certificate, Vlen::V128).map_err(|_| Fail::from("not accepted"))
-}
-
-/// Runs a session of the accepted image to its end.
-fn expect_end(rt: &impl Abort, mut session: Session<16, Heap<'_>>) {
-    assert_same!(rt; session.run(), 1);
-    assert_same!(rt; are_args(&session.close(), &[0xff, 1, 2]), true);
-}
-
-/// A session takes the memory of its regions alone, as a run does. No step takes any.
-#[test]
-fn opening(rt: HostRuntime) -> Result<(), Fail> {
-    let alloc = rt.alloc();
-    let accepted = accepted(alloc)?;
-    let ample = Refusing::new(alloc, MANY);
-    for after in 0..MANY {
-        let heap = Refusing::new(alloc, after);
-        let args = args(&ample)?;
-        match open_in::<16, Heap<'_>, Global>(&heap, &accepted, args, Agnostic::Keep, 1) {
-            Ok(session) => {
-                assert_same!(rt; (heap.has_refused(), after > 0), (false, true));
-                expect_end(&rt, session);
-                return Ok(());
-            }
-            Err((error, args)) => {
-                assert_same!(rt; (heap.has_refused(), after), (true, after));
-                assert_same!(rt; error, OpenError::NoMemory);
-                assert_same!(rt; are_args(&args, &[0xff, 1, 2]), true);
+                assert_same!(rt; error, ElfError::NoMemory);
+                assert_same!(rt; bare.as_slice(), file_of(alloc, &SUM)?.as_slice());
             }
         }
     }
@@ -278,6 +154,46 @@ fn writing_a_certificate(rt: HostRuntime) -> Result<(), Fail> {
                 return Ok(());
             }
             Err(_) => assert!(rt; heap.has_refused(), "at {after}"),
+        }
+    }
+    panic!(rt; "memory is never enough")
+}
+
+/// These parameters, of which the first is a buffer of one byte less than the loop of `RAISE` needs.
+fn too_short(parameters: &Parameters) -> Option<Parameters> {
+    let mut params = parameters.to_array();
+    params[0] = Param::Buffer {
+        mode: Mode::ReadWrite,
+        size: 63,
+    };
+    Parameters::new(params)
+}
+
+/// The list of blocks. What is no loop of the class is told before any memory is asked for.
+#[test]
+fn making_a_certificate(rt: HostRuntime) -> Result<(), Fail> {
+    let alloc = rt.alloc();
+    let image = elf_image::read(alloc, decode(alloc, RAISE)?.as_slice())?;
+    let by_hand = image.certificate().ok_or("no certificate")?;
+    let parameters = cert_note::read(alloc, by_hand)?.contents().parameters;
+    let short = too_short(&parameters).ok_or("the parameters are valid")?;
+    for after in 0..MANY {
+        let heap = Refusing::new(alloc, after);
+        let refused = make_in(&heap, &image, &short, Vlen::V128).err();
+        // The load's.
+        assert_same!(rt; refused, Some(MakeError::NotALoopOfTheClass(0x1_0008)));
+        assert_same!(rt; heap.has_refused(), false);
+        match make_in(&heap, &image, &parameters, Vlen::V128) {
+            Ok(certificate) => {
+                assert_same!(rt; (heap.has_refused(), after > 0), (false, true));
+                let written = cert_note::write(alloc, &certificate)?;
+                assert_same!(rt; written.as_slice(), by_hand);
+                return Ok(());
+            }
+            Err(error) => {
+                assert_same!(rt; (heap.has_refused(), after), (true, after));
+                assert_same!(rt; error, MakeError::NoMemory);
+            }
         }
     }
     panic!(rt; "memory is never enough")

@@ -1,0 +1,181 @@
+//! Runs and sessions of which each allocation fails in turn: the answer is want of memory there, and the arguments come back as
+//! they were.
+use crate::assertions::assert_same;
+use crate::refusing::Refusing;
+use crate::want_of_memory::{Heap, MANY, file};
+use block_checker::{Accepted, check};
+use hex::decode;
+use region_mem::{Arg, Args, Bytes, Mode, Param, Parameters, Regions};
+use sandbox_run::{OpenError, Outcome, Session, open_in, try_run_in};
+use std::alloc::{AllocError, Global};
+use std::process::Abort;
+use std::test::Fail;
+use vreg_groups::{Agnostic, Vlen};
+
+/// Three bytes that are written, three that are read, and their number.
+fn parameters() -> Option<Parameters> {
+    let buffer = |mode| Param::Buffer { mode, size: 3 };
+    let none = Param::None;
+    let number = Param::Scalar { lo: 3, hi: 3 };
+    Parameters::new([
+        buffer(Mode::ReadWrite),
+        buffer(Mode::Read),
+        number,
+        none,
+        none,
+        none,
+        none,
+        none,
+    ])
+}
+
+fn buffer<'a>(heap: Heap<'a>, bytes: &[u8]) -> Result<Arg<Bytes<Heap<'a>>>, AllocError> {
+    Ok(Arg::Buffer(Bytes::new(Vec::from_slice(heap, bytes)?)))
+}
+
+fn args(heap: Heap<'_>) -> Result<Args<Bytes<Heap<'_>>>, AllocError> {
+    Ok(Args {
+        places: [
+            buffer(heap, &[0xff, 1, 2])?,
+            buffer(heap, &[1, 1, 0xff])?,
+            Arg::Scalar(3),
+            Arg::None,
+            Arg::None,
+            Arg::None,
+            Arg::None,
+            Arg::None,
+        ],
+    })
+}
+
+fn is_buffer(arg: &Arg<Bytes<Heap<'_>>>, bytes: &[u8]) -> bool {
+    match arg {
+        Arg::Buffer(buffer) => buffer.as_slice() == bytes,
+        Arg::None | Arg::Scalar(_) => false,
+    }
+}
+
+/// Whether these are the arguments of `args`, but for the bytes that are written.
+fn are_args(args: &Args<Bytes<Heap<'_>>>, written: &[u8]) -> bool {
+    is_buffer(&args.places[0], written)
+        && is_buffer(&args.places[1], &[1, 1, 0xff])
+        && matches!(&args.places[2], Arg::Scalar(3))
+        && args
+            .places
+            .iter()
+            .skip(3)
+            .all(|arg| matches!(arg, Arg::None))
+}
+
+/// The list of regions, the bytes of two segments and those of the stack.
+#[test]
+fn starting_a_memory(rt: HostRuntime) -> Result<(), Fail> {
+    let alloc = rt.alloc();
+    let image = elf_image::read(alloc, file(alloc)?.as_slice())?;
+    let parameters = parameters().ok_or("the parameters are valid")?;
+    let ample = Refusing::new(alloc, MANY);
+    for after in 0..MANY {
+        let heap = Refusing::new(alloc, after);
+        let args = args(&ample)?;
+        parameters.matches(&args)?;
+        match Regions::new(&heap, &image, &parameters, args) {
+            Ok(regions) => {
+                assert_same!(rt; (heap.has_refused(), after > 0), (false, true));
+                assert_same!(rt; regions.byte(0x2_0000), Some(0xde));
+                assert_same!(rt; are_args(&regions.into_args(), &[0xff, 1, 2]), true);
+                return Ok(());
+            }
+            Err((_, args)) => {
+                assert_same!(rt; (heap.has_refused(), after), (true, after));
+                assert_same!(rt; are_args(&args, &[0xff, 1, 2]), true);
+            }
+        }
+    }
+    panic!(rt; "memory is never enough")
+}
+
+/// A run takes the memory of its regions alone, a list of them, the bytes of two segments and those of the stack. No
+/// step takes any.
+#[test]
+fn running(rt: HostRuntime) -> Result<(), Fail> {
+    let alloc = rt.alloc();
+    let image = elf_image::read(alloc, file(alloc)?.as_slice())?;
+    let parameters = parameters().ok_or("the parameters are valid")?;
+    let ample = Refusing::new(alloc, MANY);
+    for after in 0..MANY {
+        let heap = Refusing::new(alloc, after);
+        let args = args(&ample)?;
+        match try_run_in::<16, Heap<'_>, Global>(
+            &heap,
+            &image,
+            &parameters,
+            args,
+            Agnostic::Keep,
+            9,
+        ) {
+            Ok(Outcome::Ended(end)) => {
+                assert_same!(rt; (heap.has_refused(), after > 0), (false, true));
+                assert_same!(rt; end.steps, 6);
+                assert_same!(rt; are_args(&end.args, &[0, 2, 1]), true);
+                return Ok(());
+            }
+            Ok(_) => panic!(rt; "the run ends"),
+            Err((error, args)) => {
+                assert_same!(rt; (heap.has_refused(), after), (true, after));
+                assert_same!(rt; error, OpenError::NoMemory);
+                assert_same!(rt; are_args(&args, &[0xff, 1, 2]), true);
+            }
+        }
+    }
+    panic!(rt; "memory is never enough")
+}
+
+/// As the certificate of `file`, but its block has no fact and takes one step.
+const ONE_STEP: &str = "\
+010001000203000003000000000000000201000003000000000000000100000003000000030000000000000000000000\
+000000000000000000000000000000000000000000000000000000000000000000000000000000000000000000000000\
+00000000010000000000010001000000000000000000000000000000";
+
+/// The image of `file` with ecall as its first word, and a certificate for that.
+fn accepted(alloc: Global) -> Result<Accepted, Fail> {
+    let mut file = file(alloc)?;
+    for (place, byte) in [(0x94, 0x73), (0x95, 0), (0x96, 0), (0x97, 0)] {
+        if let Some(code) = file.get_mut(place) {
+            *code = byte;
+        }
+    }
+    let image = elf_image::read(alloc, file.as_slice())?;
+    let certificate = cert_note::read(alloc, decode(alloc, ONE_STEP)?.as_slice())?;
+    check(alloc, image, certificate, Vlen::V128).map_err(|_| Fail::from("not accepted"))
+}
+
+/// Runs a session of the accepted image to its end.
+fn expect_end(rt: &impl Abort, mut session: Session<16, Heap<'_>>) {
+    assert_same!(rt; session.run(), 1);
+    assert_same!(rt; are_args(&session.close(), &[0xff, 1, 2]), true);
+}
+
+/// A session takes the memory of its regions alone, as a run does. No step takes any.
+#[test]
+fn opening(rt: HostRuntime) -> Result<(), Fail> {
+    let alloc = rt.alloc();
+    let accepted = accepted(alloc)?;
+    let ample = Refusing::new(alloc, MANY);
+    for after in 0..MANY {
+        let heap = Refusing::new(alloc, after);
+        let args = args(&ample)?;
+        match open_in::<16, Heap<'_>, Global>(&heap, &accepted, args, Agnostic::Keep, 1) {
+            Ok(session) => {
+                assert_same!(rt; (heap.has_refused(), after > 0), (false, true));
+                expect_end(&rt, session);
+                return Ok(());
+            }
+            Err((error, args)) => {
+                assert_same!(rt; (heap.has_refused(), after), (true, after));
+                assert_same!(rt; error, OpenError::NoMemory);
+                assert_same!(rt; are_args(&args, &[0xff, 1, 2]), true);
+            }
+        }
+    }
+    panic!(rt; "memory is never enough")
+}
