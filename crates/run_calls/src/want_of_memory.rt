@@ -89,13 +89,12 @@ fn attaching(rt: HostRuntime) -> Result<(), Fail> {
     let alloc = rt.alloc();
     let bare = file_of(alloc, &SUM)?;
     let certified = file(alloc)?;
-    let short = &bare.as_slice()[..51];
     let mut large = file_of(alloc, &SUM)?;
     large.resize(4 << 20, 0)?;
     let certificate = decode(alloc, CERTIFICATE)?;
     for after in 0..MANY {
         let heap = Refusing::new(alloc, after);
-        expect_unattached(&rt, &heap, short, ElfError::TooShort);
+        expect_unattached(&rt, &heap, b"\x7fELF", ElfError::TooShort);
         expect_unattached(&rt, &heap, large.as_slice(), ElfError::TooLarge);
         expect_unattached(&rt, &heap, certified.as_slice(), ElfError::CertificateThere);
         match attach(&heap, bare.as_slice(), certificate.as_slice()) {
