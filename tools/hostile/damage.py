@@ -1,7 +1,9 @@
-"""Damaged images: every prefix of certified images, and each byte of their headers, code and note changed.
+"""Damaged images: every prefix of certified images, and each byte of their headers, code and note changed; and the same of an image
+without a certificate.
 
-Each is given to `check`, to `try` and to `run`. Every answer has to be the one that expected.py tells; and what is accepted has to run
-within its bound on arguments that are drawn, and to end as `try` ends.
+Each with a certificate is given to `check`, to `try`, to `run`, and with a few commands to `mon`. Every answer has to be the one that
+expected.py tells; and what is accepted has to run within its bound on arguments that are drawn, and to end as `try` and `mon` end. Those
+without are given to `make`, whose answers and files have to be those of made.py; and `check` has to accept what is made.
 """
 import itertools
 import random
@@ -9,9 +11,10 @@ import struct
 from concurrent.futures import ProcessPoolExecutor
 
 import expected
+import made
 from expected import Job
 from outside import ROOT, certificates
-from program import Folder, Tally, total
+from program import Answer, Folder, Tally, total
 
 NAMES = ('raise_words', 'sum_bytes', 'raise_if')        # two of version 1, one without vectors, and one of version 2
 LENGTHS = {16: 1, 32: 2, 64: 3}                         # bytes of a vector register, and how a certificate spells it
@@ -20,6 +23,9 @@ FEW = 40                                                # the most steps of a `t
 MODELLED = 400                                          # the most steps of a run that the machine in Python carries out too
 MOST = (1 << 63) - 1                                    # the most steps that a job may have
 DRAWS = 2
+BEGUN = b's 3\nx\n'                                     # commands on a run that is accepted, and others up to its end
+WATCHED = BEGUN + b'c\nq\n'
+PARAMS = [certificates.Param('buffer', 6, 4096), certificates.Param('scalar', 0, 0, 1024)] + 6 * [made.NONE]     # of raise_words
 
 
 def example(name, vlenb):
@@ -81,22 +87,23 @@ class Trials:
         self.tally.expect(what + ', check', self.folder.call('check', 'image.elf'), wanted)
         return wanted.status == 0
 
-    def compared(self, what, file, word, job):
-        wanted, left = expected.of_job(file, job, word)
-        got, got_left = self.called(word, job)
-        self.tally.expect('%s, %s' % (what, word), got, wanted)
-        self.tally.expect('%s, out files of %s' % (what, word), got_left, left)
+    def compared(self, what, file, word, job, script=WATCHED):
+        script = script if word == 'mon' else b''
+        wanted, left = expected.of_job(file, job, word, script)
+        got, got_left = self.called(word, job, script)
+        self.tally.expect('%s, %s %s' % (what, word, script), got, wanted)
+        self.tally.expect('%s, out files of %s %s' % (what, word, script), got_left, left)
 
-    def called(self, word, job):
+    def called(self, word, job, script=b''):
         """The answer, and the out files by place, of which there are none where nothing was run."""
         outs = {place: 'out%d' % place for place, _ in job.buffers()}
         self.folder.remove(*outs.values())
-        answer = self.folder.call(word, 'job.toml')
+        answer = self.folder.call(word, 'job.toml', script=script)
         left = {place: self.folder.get(name) for place, name in outs.items()}
         return answer, {place: data for place, data in left.items() if data is not None}
 
     def runs(self, what, file):
-        """An accepted image on arguments that are drawn: its bound is enough, one step less is not, and `run` is `try`."""
+        """An accepted image on arguments that are drawn: its bound is enough, one step less is not, and `run` is `try` and `mon`."""
         self.accepted += 1
         certificate = certificates.read_certificate(certificates.read_image(file).certificate)
         for k in range(DRAWS):
@@ -120,6 +127,20 @@ class Trials:
         self.tally.expect(what + ', within its bound of %d' % bound, within or run[0], True)
         if within and int(words[1]) <= MODELLED:
             self.tally.expect(what + ', as the machine in Python', run, expected.carried_out(file, job))
+        if within:
+            begun = expected.of_job(file, job, 'mon', BEGUN)[0].output
+            wanted = Answer(0, '%sended step %s\n' % (begun, words[1])), run[1]
+            self.tally.expect(what + ', mon is run', self.called('mon', job, WATCHED), wanted)
+
+    def makes(self, what, file, params, vlenb):
+        """`make` of one image, of which what is made is accepted."""
+        wanted, certified = made.of_file(file, params, vlenb)
+        self.folder.hold({'image.elf': file, 'kinds.toml': made.job_text(params, vlenb).encode()})
+        self.tally.expect(what + ', make', self.folder.call('make', 'image.elf', 'kinds.toml', 'made.elf'), wanted)
+        self.tally.expect(what + ', what is made', self.folder.get('made.elf'), certified)
+        if certified is not None:
+            self.tally.count('certificates made')
+            self.tally.expect(what + ', check of what is made', self.folder.call('check', 'made.elf'), wanted)
 
 
 def part(program, name, vlenb, share):
@@ -141,14 +162,27 @@ def one(trials, what, file, job):
     trials.tally.tried += 1
     is_accepted = trials.check(what, file)
     job.put(trials.folder)
-    for word in ('try', 'run'):
+    for word in ('try', 'run', 'mon'):
         trials.compared(what, file, word, job)
     if is_accepted:
         trials.runs(what, file)
 
 
+def bare_part(program, vlenb, share):
+    """The image without a certificate at one length: as it is, and one in `share` of its damaged files."""
+    tally = Tally('damaged images', 'images')
+    with Folder(program) as folder:
+        trials = Trials(folder, tally)
+        file = (ROOT / 'examples/raise_words/bare.elf').read_bytes()
+        for what, changed in itertools.chain([('as it is', file)], itertools.islice(damaged(file), None, None, share)):
+            tally.tried += 1
+            trials.makes('bare at %d bits, %s' % (8 * vlenb, what), changed, PARAMS, vlenb)
+    return tally
+
+
 def tried(program, share=1, at_once=1):
     """All examples at all lengths, so many at once."""
-    parts = [(program, name, vlenb, share) for name in NAMES for vlenb in LENGTHS]
     with ProcessPoolExecutor(at_once) as pool:
-        return total(pool.map(part, *zip(*parts)))
+        parts = [pool.submit(part, program, name, vlenb, share) for name in NAMES for vlenb in LENGTHS]
+        parts += [pool.submit(bare_part, program, vlenb, share) for vlenb in LENGTHS]
+        return total(part.result() for part in parts)

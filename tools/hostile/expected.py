@@ -1,10 +1,11 @@
 """What the program has to answer, as the programs of `conformance/` say it: nothing here calls the program or reads `crates/`.
 
-The words and statuses are those of docs/JOBS.md; checker.py judges images, opening.py arguments, runs.py carries runs out.
+The words and statuses are those of docs/JOBS.md; checker.py judges images, opening.py arguments, runs.py carries runs out, monitor.py answers
+commands on them. What `make` has to answer is in made.py.
 """
 import tomllib
 
-from outside import certificates, checker, jobs, opening, runs
+from outside import certificates, checker, jobs, monitor, opening, runs
 from program import Answer
 
 MOST_BUFFER = 16 << 20
@@ -38,15 +39,18 @@ def check(file, vlenb):
 def of_check(file):
     """`check`, at the certificate's own length of vector registers."""
     said = next(said for said in (check(file, vlenb) for vlenb in VLENBS) if said != 'WrongVlen')
-    word, *rest = said.split()
-    if word == 'accepted':
-        bound = 'accepted: bound %s + %s * x%s' % tuple(rest[:3])
-        return Answer(0, bound + ''.join(' + %s * x%s' % tuple(rest[3:]) if rest[3:] else '') + '\n')
-    return not_accepted(said)
+    return accepted(said) if said.startswith('accepted ') else not_accepted(said)
+
+
+def accepted(said):
+    """The answer of `check` and `make` where the checker says `accepted`."""
+    _, *rest = said.split()
+    bound = 'accepted: bound %s + %s * x%s' % tuple(rest[:3])
+    return Answer(0, bound + ''.join(' + %s * x%s' % tuple(rest[3:]) if rest[3:] else '') + '\n')
 
 
 def not_accepted(said):
-    """The answer of `check` and `run` where the checker says something else than `accepted`."""
+    """The answer of `check`, `run` and `mon` where the checker says something else than `accepted`."""
     if said == 'no certificate':
         return refused('NoCertificate')
     word, *rest = said.split()
@@ -97,7 +101,7 @@ def bound(said, params, args):
 
 
 def session(file, job):
-    """Why `run` does not start, as an Answer, or None; and the run's bound."""
+    """Why `run` and `mon` do not start, as an Answer, or None; and the run's bound."""
     said = check(file, job.vlenb)
     if not said.startswith('accepted '):
         return not_accepted(said), None
@@ -135,26 +139,84 @@ def carried_out(file, job):
     return Answer(5, '%s after %d steps\n' % (end.replace('trapped', 'trapped:'), steps)), left
 
 
+# ---- Commands on a run --------------------------------------------------------------------------------------------------------------
+
+def lines_of(script):
+    """The lines of standard input's bytes, without their ends. The last one need not have one."""
+    *lines, rest = script.split(b'\n')
+    return lines + [rest] if rest else lines
+
+
+def told(watch, line):
+    """What a line is answered, None for `q`."""
+    try:
+        return watch.command(line.decode())
+    except UnicodeDecodeError:
+        return 'error: Unknown\n'
+    except monitor.MonError as e:
+        return 'error: %s\n' % e.args[0]
+
+
+def answers(watch, script):
+    """What each line of a script is answered, up to `q` or the end."""
+    for line in lines_of(script):
+        answer = told(watch, line)
+        if answer is None:
+            return
+        yield answer
+
+
+def watched(file, job):
+    """The monitor of an accepted image's run, and its buffers by place, as they stand."""
+    run = runs.Run('', file, passed(file, job), job.vlenb, job.ones, job.most)
+    watch = monitor.Monitor(run)
+    areas = {first: data for first, data, _ in watch.memory.areas}
+    return watch, {place: areas[at] for place, at, _ in run.buffers}
+
+
 # ---- Texts of jobs ------------------------------------------------------------------------------------------------------------------
 
-def of_text(data, word, files):
-    """What `run` or `try` answers to a job file of these bytes, where `files` has the bytes of each file that there is; and the out files."""
+def job_refusal(data, word):
+    """Why a job file of these bytes is refused, as an Answer, or None where it has all that the subcommand needs."""
     try:
         said = jobs.answer_of(data.decode())
     except UnicodeDecodeError:
         said = 'NotToml'
-    if said in ('NotToml', 'BadKey'):
-        return Answer(2, '', 'job: %s\n' % said), {}
-    if said.split()[-2 if word == 'try' else -1] == '0':
-        return Answer(2, '', 'job: BadKey\n'), {}
-    table = tomllib.loads(data.decode().removeprefix('\ufeff'))
+    if said in ('NotToml', 'BadKey') or not has_all(said, word):
+        return bad_job(said if said == 'NotToml' else 'BadKey')
+    return None
+
+
+def bad_job(name):
+    return Answer(2, '', 'job: %s\n' % name)
+
+
+def has_all(said, word):
+    """Whether a job has all that a subcommand needs, by what jobs.py says of it."""
+    _, _, vlen, _, _, *params, for_try, for_run = said.split()
+    if word == 'make':          # of a scalar lo and hi, and of a buffer mode and size
+        return '-' not in [vlen] + [value for param in params for value in param.split(',')[1:3]]
+    return (for_try if word == 'try' else for_run) == '1'
+
+
+def table_of(data):
+    return tomllib.loads(data.decode().removeprefix('\ufeff'))
+
+
+def of_text(data, word, files, script=b''):
+    """What `run`, `try` or `mon` answers to a job file of these bytes, where `files` has the bytes of each file that there is, and `script`
+    is on standard input; and the out files."""
+    refusal = job_refusal(data, word)
+    if refusal:
+        return refusal, {}
+    table = table_of(data)
     params = table.get('param', [])
     image = files.get(table['image'])
     if image is None:
         return lacking(table['image']), {}
     job = Job(table['vlen'] // 8, table['agnostic'] == 'ones', table['max'], [])
     said = check(image, job.vlenb)
-    if said.startswith('image ') or word == 'run' and not said.startswith('accepted '):
+    if said.startswith('image ') or word != 'try' and not said.startswith('accepted '):
         return not_accepted(said), {}
     for place, param in enumerate(params):
         if param['kind'] == 'scalar':
@@ -163,7 +225,7 @@ def of_text(data, word, files):
             if param['file'] not in files:
                 return lacking(param['file']), {}
             job.args[place] = AREA[param.get('mode', 'rw')], files[param['file']]
-    answer, left = of_job(image, job, word)
+    answer, left = of_job(image, job, word, script)
     return answer, {param['out']: left[place] for place, param in enumerate(params) if left and 'out' in param}
 
 
@@ -171,13 +233,20 @@ def lacking(path):
     return Answer(3, '', 'file: %s\n' % path)
 
 
-def of_job(image, job, word):
-    """What `run` or `try` answers to a job, and the buffers as it leaves them, by place; none where nothing is run."""
+def of_job(image, job, word, script=b''):
+    """What `run`, `try` or `mon` answers to a job, and the buffers as it leaves them, by place; none where nothing is run."""
     if word == 'try':
         return trial(image, job)
     refusal, _ = session(image, job)
     if refusal:
         return refusal, {}
+    if word == 'run':
+        return trial(image, Job(job.vlenb, job.ones, job.most, passed(image, job)))
+    watch, buffers = watched(image, job)
+    return Answer(0, ''.join(answers(watch, script))), {place: bytes(data) for place, data in buffers.items()}
+
+
+def passed(image, job):
+    """The arguments of a job on an accepted image, their modes those of the certificate."""
     params = certificates.read_certificate(certificates.read_image(image).certificate).params
-    args = [(('w' if p.mode & certificates.WRITE else 'r'), arg[1]) if isinstance(arg, tuple) else arg for p, arg in zip(params, job.args)]
-    return trial(image, Job(job.vlenb, job.ones, job.most, args))
+    return [(('w' if p.mode & certificates.WRITE else 'r'), arg[1]) if isinstance(arg, tuple) else arg for p, arg in zip(params, job.args)]

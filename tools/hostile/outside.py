@@ -1,4 +1,4 @@
-"""What these runs take from `conformance/`: the second checker in Python, the machine in Python, and what job files say."""
+"""What these runs take from `conformance/`: the second checker, maker and monitor in Python, the machine in Python, and what job files say."""
 import pathlib
 import sys
 
@@ -8,8 +8,12 @@ sys.path.insert(0, str(ROOT / 'conformance'))
 import certificates  # noqa: E402
 import checker  # noqa: E402
 import drawn_checks  # noqa: E402
+import images  # noqa: E402
 import jobs  # noqa: E402
+import maker  # noqa: E402
+import monitor  # noqa: E402
+import monitors  # noqa: E402
 import opening  # noqa: E402
 import runs  # noqa: E402
 
-__all__ = ['ROOT', 'certificates', 'checker', 'drawn_checks', 'jobs', 'opening', 'runs']
+__all__ = ['ROOT', 'certificates', 'checker', 'drawn_checks', 'images', 'jobs', 'maker', 'monitor', 'monitors', 'opening', 'runs']

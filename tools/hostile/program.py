@@ -63,9 +63,10 @@ class Folder:
         for name in names:
             (self.path / name).unlink(missing_ok=True)
 
-    def call(self, *words, **how):
-        """What the program answers. A status below 0 is the signal that ended it."""
-        how = {'stdin': subprocess.DEVNULL, 'stdout': subprocess.PIPE, 'stderr': subprocess.PIPE} | how
+    def call(self, *words, script=None, **how):
+        """What the program answers, with the bytes of `script` on standard input. A status below 0 is the signal that ended it."""
+        given = {'stdin': subprocess.DEVNULL} if script is None else {'input': script}
+        how = given | {'stdout': subprocess.PIPE, 'stderr': subprocess.PIPE} | how
         try:
             done = subprocess.run([self.called, *words], cwd=self.path, timeout=SECONDS, **how)
         except subprocess.TimeoutExpired:
