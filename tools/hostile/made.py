@@ -73,3 +73,18 @@ def of_text(data, files, image):
     table = expected.table_of(data)
     params = [KINDS[param['kind']](param) for param in table.get('param', [])]
     return of_file(files[image], params + [NONE] * (8 - len(params)), table['vlen'] // 8)
+
+
+def in_header(file):
+    """The loop of an image of one segment, whose last word, `ret`, is that of the ELF header that tells where the table of program headers
+    lies. In a copy with a certificate the table lies elsewhere, so that word is another, and `make` refuses what it made."""
+    image = certificates.read_image(file)
+    first, code = image.segments[0].first, image.segments[0].data
+    table, = struct.unpack_from('<I', code, len(code) - 4)
+    out = bytearray(file[:52])
+    struct.pack_into('<I', out, 28, table)
+    struct.pack_into('<H', out, 44, 2)
+    out += code + bytes(table - len(out) - len(code))
+    for offset, address, size in ((52, first, len(code) - 4), (28, first + len(code) - 4, 4)):
+        out += struct.pack('<8I', certificates.LOAD, offset, address, 0, size, size, certificates.READ | certificates.EXECUTE, 4)
+    return bytes(out)

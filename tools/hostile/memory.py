@@ -1,7 +1,8 @@
 """Refused memory: each allocation of a call of the program fails in turn, by itself, and with all that come after it.
 
 The answer has to be status 4 and `out of memory`, with no out file; or, of what is refused anyway, that refusal. Where one allocation
-alone fails, the call may ask again, and then has to answer as if none had failed.
+alone fails, the call may ask again, and then has to answer as if none had failed. Of `mon` the answers of the lines before may stand on
+standard output, each whole, and the more of them the later the allocation is.
 """
 import functools
 import random
@@ -9,7 +10,8 @@ from collections import namedtuple
 from concurrent.futures import ProcessPoolExecutor
 
 import expected
-from damage import MOST, drawn_args, example
+import made
+from damage import MOST, PARAMS, drawn_args, example
 from expected import Job
 from faults import built
 from outside import ROOT, certificates
@@ -18,8 +20,11 @@ from program import Answer, Folder, Tally, total
 OUT_OF_MEMORY = Answer(4, '', 'out of memory\n')
 FINE = (0, 5)                           # the statuses of what is not refused
 
-# A command line with its files, its answer where memory is there, and the files that it writes.
-Line = namedtuple('Line', 'name words files answer outs')
+# Each command, a line that is none, one that is not UTF-8, and a last one without its end.
+SCRIPT = b'b 10008\ns 3\nx\nv 8\ncsr\nm 40000000 64\nl 10000 9\nnone\n\xff\nd 0\nd 10008\ns 1\nc\ncsr'
+
+# A command line with its files, its answer where memory is there, the files that it writes, and what is on standard input.
+Line = namedtuple('Line', 'name words files answer outs script', defaults=(b'',))
 
 
 def put_at(file, at, data):
@@ -75,10 +80,36 @@ def lines(share):
         files = {'image.elf': file, 'job.toml': (text or job.text('image.elf')).encode()} | {'in%d' % place: data for place, data in job.buffers()}
         if text is None:
             yield Line(name, ['check', 'image.elf'], files, expected.of_check(file), ())
-        for word in ('try', 'run'):
-            yield Line(name, [word, 'job.toml'], files, expected.of_text(files['job.toml'], word, files)[0], ('out0', 'out3'))
-    for words in (['--help'], ['--version'], ['check', '-h'], [], ['check'], ['check', 'a', 'b'], ['none']):
+        for word, script in (('try', b''), ('run', b''), ('mon', SCRIPT)):
+            yield Line(name, [word, 'job.toml'], files, expected.of_text(files['job.toml'], word, files, script)[0], ('out0', 'out3'), script)
+    yield from makes(share)
+    for words in (['--help'], ['--version'], ['check', '-h'], ['mon', '-h'], [], ['check'], ['check', 'a', 'b'], ['make', 'a', 'b'], ['none']):
         yield Line('usage', words, {}, None, ())
+
+
+def makes(share):
+    """One in `share` command lines of `make`: images that are refused, one of no such loop, one whose code lies in its ELF header, job
+    files that are refused, and the loop."""
+    bare = (ROOT / 'examples/raise_words/bare.elf').read_bytes()
+    kinds = made.job_text(PARAMS, 16)
+    code = bare.index(certificates.read_image(bare).segments[0].data)
+    every = [('the loop', bare, kinds), ('the first bytes of a file', bare[:60], kinds), ('another word', put_at(bare, code + 8, bytes(4)), kinds),
+             ('a certificate that is there', example('raise_words', 16), kinds), ('no loop', (ROOT / 'examples/add_bytes/add_bytes.elf').read_bytes(), kinds),
+             ('a job without hi', bare, kinds.replace('hi', 'value')), ('no interval', bare, kinds.replace('lo = 0', 'lo = 1025')),
+             ('a buffer that is too large', bare, kinds.replace('4096', '16777217')), ('a buffer that is too short', bare, kinds.replace('4096', '4095')),
+             ('other vector registers', bare, kinds.replace('128', '512')), ('no TOML', bare, kinds + '['), ('code in the ELF header', made.in_header(bare), kinds)]
+    for name, file, text in every[::share]:
+        files = {'image.elf': file, 'kinds.toml': text.encode()}
+        words = ['make', 'image.elf', 'kinds.toml', 'made.elf']
+        yield Line(name, words, files, made.of_text(files['kinds.toml'], files, 'image.elf')[0], ('made.elf',))
+
+
+def begun(line):
+    """What may stand on standard output where memory runs out, in turn: of `mon` the answers of the first lines, and of others nothing."""
+    if line.words[:1] != ['mon'] or line.answer is None or line.answer.status not in FINE:
+        return ['']
+    job, files = line.files['job.toml'], line.files
+    return [expected.of_text(job, 'mon', files, b''.join(line.script.splitlines(True)[:k]))[0].output for k in range(len(line.script.splitlines()) + 1)]
 
 
 def swept(folder, faults, tally, line):
@@ -86,16 +117,20 @@ def swept(folder, faults, tally, line):
     tally.tried += 1
     what = '%s, %s' % (line.name, ' '.join(line.words))
     folder.hold(line.files)
-    undisturbed = folder.call(*line.words), outs(folder, line)
+    undisturbed = folder.call(*line.words, script=line.script), outs(folder, line)
     if line.answer and not tally.expect(what, undisturbed[0], line.answer):
         return
     none = [None] * len(line.outs)
     for how in ('fail', 'all'):
-        for at, answer, _ in faults.swept(folder, line.words, 'alloc', how, line.outs):
+        before = begun(line)
+        for at, answer, _ in faults.swept(folder, line.words, 'alloc', how, line.outs, script=line.script):
             tally.count('allocations refused')
             got = answer, outs(folder, line)
             is_same = got == undisturbed and (how == 'fail' or answer.status not in FINE)
-            tally.expect('%s, allocation %d, %s' % (what, at, how), undisturbed if is_same else got, undisturbed if is_same else (OUT_OF_MEMORY, none))
+            if not is_same and answer.output in before:
+                before = before[before.index(answer.output):]
+            wanted = undisturbed if is_same else (OUT_OF_MEMORY._replace(output=before[0]), none)
+            tally.expect('%s, allocation %d, %s' % (what, at, how), got, wanted)
             if is_same and answer.status in FINE:
                 tally.count('of them without effect')
 
