@@ -23,9 +23,10 @@ FEW = 40                                                # the most steps of a `t
 MODELLED = 400                                          # the most steps of a run that the machine in Python carries out too
 MOST = (1 << 63) - 1                                    # the most steps that a job may have
 DRAWS = 2
-BEGUN = b's 3\nx\n'                                     # commands on a run that is accepted, and others up to its end
-WATCHED = BEGUN + b'c\nq\n'
-PARAMS = [certificates.Param('buffer', 6, 4096), certificates.Param('scalar', 0, 0, 1024)] + 6 * [made.NONE]     # of raise_words
+BEGUN = b's 3\nx\n'                                     # commands of `mon`
+WATCHED = BEGUN + b'c\nq\n'                             # and up to the end of the run
+# What raise_words takes.
+PARAMS = [certificates.Param('buffer', certificates.READ | certificates.WRITE, 4096), certificates.Param('scalar', 0, 0, 1024)] + 6 * [made.NONE]
 
 
 def example(name, vlenb):
@@ -135,7 +136,9 @@ class Trials:
     def makes(self, what, file, params, vlenb):
         """`make` of one image, of which what is made is accepted."""
         wanted, certified = made.of_file(file, params, vlenb)
-        self.folder.hold({'image.elf': file, 'kinds.toml': made.job_text(params, vlenb).encode()})
+        self.folder.put('image.elf', file)
+        self.folder.put('kinds.toml', made.job_text(params, vlenb))
+        self.folder.remove('made.elf')
         self.tally.expect(what + ', make', self.folder.call('make', 'image.elf', 'kinds.toml', 'made.elf'), wanted)
         self.tally.expect(what + ', what is made', self.folder.get('made.elf'), certified)
         if certified is not None:

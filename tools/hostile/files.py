@@ -2,22 +2,30 @@
 call in turn; and readers and writers that move few bytes at a time.
 
 A failed read ends the program with status 3 and `file: PATH`, and nothing is run; a failed out file leaves those of lower places written
-and those of higher ones not; where standard output fails, the status is 3 and nothing more is told (docs/JOBS.md).
+and those of higher ones not; where standard output fails, the status is 3 and nothing more is told (docs/JOBS.md). Of `mon`, the path of
+standard input is `-`, answers stand on standard output before out files are written, and none is written where either stream fails.
 """
 import contextlib
+import itertools
 import os
 import resource
+import select
 import signal
+import subprocess
 import threading
+import tty
 
 import expected
-from damage import example
+import made
+from damage import PARAMS, example
 from expected import Job
-from faults import OUTPUT, built
-from outside import runs
-from program import Answer, Folder, Tally
+from faults import INPUT, OUTPUT, built
+from outside import ROOT, runs
+from program import Answer, Folder, Tally, text
 
 NOBODY = 65534
+SIZES = (1, 7, 4095, 4096, 4097)
+SCRIPT = b'b 10004\nc\nx\nnone\n\xff\nm 40000000 256\nl 10000 9\ns 9\ncsr\nq\n'
 MEMORY = 1 << 28            # the most memory of a call that reads a file without an end
 SILENT = Answer(3)
 OUT_OF_MEMORY = Answer(4, '', 'out of memory\n')
@@ -31,19 +39,32 @@ def file(path):
 
 
 class Line:
-    """A command line that succeeds: its words, the paths that it reads in order, those that it writes, its answer, and what it writes."""
+    """A command line that succeeds: its words, the paths that it reads in order, those that it writes, its answer, what it writes, and for
+    `mon` what is on standard input."""
 
-    def __init__(self, folder, words, reads, outs, answer, left):
-        self.folder, self.words, self.reads, self.outs, self.answer, self.left = folder, words, reads, outs, answer, left
+    def __init__(self, folder, words, reads, outs, answer, left, script=None):
+        self.folder, self.words, self.reads, self.outs, self.answer, self.left, self.script = folder, words, reads, outs, answer, left, script
+
+    @property
+    def is_watched(self):
+        return self.script is not None
+
+    def unwritten(self, path):
+        """The answer where an out file is not written."""
+        return file(path)._replace(output=self.answer.output if self.is_watched else '')
+
+    def left_unprinted(self):
+        """What stands in the out files where standard output fails."""
+        return self.none() if self.is_watched else self.left
 
     def with_path(self, old, new):
         """The words of the line with another path in the place of one, which stands in them or in their job."""
         if old in self.words:
             return [new if word == old else word for word in self.words]
         job = next(word for word in self.words if word.endswith('.toml'))
-        text = self.folder.get(job).decode()
-        assert '"%s"' % old in text, (job, old)
-        self.folder.put('changed.toml', text.replace('"%s"' % old, '"%s"' % new))
+        told = self.folder.get(job).decode()
+        assert '"%s"' % old in told, (job, old)
+        self.folder.put('changed.toml', told.replace('"%s"' % old, '"%s"' % new))
         return ['changed.toml' if word == job else word for word in self.words]
 
     def none(self):
@@ -67,6 +88,18 @@ def lines(folder):
     answer, left = expected.of_job(example('raise_words', 16), raises, 'run')
     yield Line(folder, ['run', 'raise.toml'], ['raise.toml', 'raise.elf', 'words'], ['raised'], answer, [left[0]])
     yield Line(folder, ['check', 'raise.elf'], ['raise.elf'], [], expected.of_check(example('raise_words', 16)), [])
+    bare = (ROOT / 'examples/raise_words/bare.elf').read_bytes()
+    folder.put('bare.elf', bare)
+    folder.put('kinds.toml', made.job_text(PARAMS, 16))
+    answer, certified = made.of_file(bare, PARAMS, 16)
+    yield Line(folder, ['make', 'bare.elf', 'kinds.toml', 'made.elf'], ['kinds.toml', 'bare.elf'], ['made.elf'], answer, [certified])
+    yield Line(folder, ['mon', 'raise.toml'], ['raise.toml', 'raise.elf', 'words'], ['raised'], *watched(SCRIPT), SCRIPT)
+
+
+def watched(script):
+    """What `mon raise.toml` answers to these bytes of standard input, and what it writes."""
+    answer, left = expected.of_job(example('raise_words', 16), example_jobs()[1], 'mon', script)
+    return answer, [left[0]]
 
 
 def example_jobs():
@@ -79,12 +112,14 @@ class Calls:
     def __init__(self, folder, tally):
         self.folder, self.tally = folder, tally
         self.lines = list(lines(folder))
+        self.watched = next(line for line in self.lines if line.is_watched)
 
     def expect(self, what, line, wanted, left, words=None, **how):
         """One call of a line, by default in its own words: its answer, and the bytes of its out files, None for one that is not there."""
         self.tally.tried += 1
         self.folder.remove(*line.outs)
-        got = self.folder.call(*(words or line.words), **how)
+        given = {} if 'stdin' in how else {'script': line.script}
+        got = self.folder.call(*(words or line.words), **given | how)
         self.tally.expect('%s, %s' % (line, what), (got, [self.folder.get(out) for out in line.outs]), (wanted, left))
 
     def refused(self, what, words, wanted, **how):
@@ -115,12 +150,17 @@ def bad_writes(calls):
         for place, name in enumerate(line.outs):
             left = [data if k < place else None for k, data in enumerate(line.left)]
             for bad in ('missing/out', 'folder', '/dev/full', 'words/out', ''):
-                calls.expect('%s is "%s"' % (name, bad), line, file(bad), left, line.with_path(name, bad))
+                calls.expect('%s is "%s"' % (name, bad), line, line.unwritten(bad), left, line.with_path(name, bad))
     line = calls.lines[0]
     calls.expect('two out files of one path', line, line.answer, [line.left[0], line.left[2], None], line.with_path('out2', 'out1'))
     calls.expect('an out file that is read too', line, line.answer, [line.left[0], None, line.left[2]], line.with_path('out1', 'in1'))
     calls.tally.expect('an out file that is read too, its bytes', calls.folder.get('in1'), line.left[1])
     calls.folder.put('in1', b'XY')
+    line = calls.lines[3]
+    bare = calls.folder.get('bare.elf')
+    calls.expect('the image is the file that is made', line, line.answer, [None], line.with_path('made.elf', 'bare.elf'))
+    calls.tally.expect('the image is the file that is made, its bytes', calls.folder.get('bare.elf'), line.left[0])
+    calls.folder.put('bare.elf', bare)
 
 
 def full_disk(calls, share):
@@ -133,7 +173,7 @@ def full_disk(calls, share):
                 resource.setrlimit(resource.RLIMIT_FSIZE, (size, size))
             failing = next(k for k, data in enumerate(line.left) if len(data) > size)
             left = [data if k < failing else data[:size] if k == failing else None for k, data in enumerate(line.left)]
-            calls.expect('room for %d bytes' % size, line, file(line.outs[failing]), left, preexec_fn=limit)
+            calls.expect('room for %d bytes' % size, line, line.unwritten(line.outs[failing]), left, preexec_fn=limit)
 
 
 # ---- Streams -----------------------------------------------------------------------------------------------------------------------------
@@ -153,11 +193,12 @@ STREAMS = {
 
 def bad_streams(calls):
     """Standard output or error is full, open for reads alone, or a pipe that nobody reads; or any of the three is closed."""
-    refused = [(words, calls.folder.call(*words)) for words in (['check', 'copy.elf'], ['check', 'missing'], ['try', 'words'], ['check'], [])]
+    refused = [(words, calls.folder.call(*words)) for words in (['check', 'copy.elf'], ['check', 'missing'], ['try', 'words'], ['mon', 'copy.toml'],
+                                                               ['make', 'raise.elf', 'kinds.toml', 'made.elf'], ['check'], [])]
     for name, opened in STREAMS.items():
         for line in calls.lines:
             with os.fdopen(opened()) as stream:
-                calls.expect('standard output is %s' % name, line, SILENT, line.left, stdout=stream)
+                calls.expect('standard output is %s' % name, line, SILENT, line.left_unprinted(), stdout=stream)
         for words in (['--help'], ['--version'], ['check', '-h']):
             with os.fdopen(opened()) as stream:
                 calls.refused('standard output is %s' % name, words, SILENT, stdout=stream)
@@ -169,9 +210,112 @@ def bad_streams(calls):
             for number in closed:
                 os.close(number)
         for line in calls.lines:
-            calls.expect('streams %s are closed' % (closed,), line, SILENT if 1 in closed else line.answer, line.left, preexec_fn=close)
+            wanted = (SILENT, line.left_unprinted()) if 1 in closed else (line.answer, line.left)
+            if 0 in closed and line.is_watched:
+                wanted = SILENT if 2 in closed else file('-'), line.none()
+            calls.expect('streams %s are closed' % (closed,), line, *wanted, preexec_fn=close)
         for words, told in refused:
             calls.refused('streams %s are closed' % (closed,), words, Answer(told.status) if 2 in closed else told, preexec_fn=close)
+
+
+# ---- Standard input ----------------------------------------------------------------------------------------------------------------------
+
+@contextlib.contextmanager
+def fed(parts):
+    """The end of a pipe that gives these parts, as long as anybody reads."""
+    reading, writing = os.pipe()
+
+    def feed():
+        with contextlib.suppress(BrokenPipeError), os.fdopen(writing, 'wb', 0) as pipe:
+            for part in parts:
+                pipe.write(part)
+
+    thread = threading.Thread(target=feed, daemon=True)
+    thread.start()
+    yield reading
+    os.close(reading)
+    thread.join(10)
+
+
+@contextlib.contextmanager
+def waiting(data):
+    """The end of a pipe that gives these bytes, and whose next read fails, since it would wait."""
+    reading, writing = os.pipe()
+    os.set_blocking(reading, False)
+    os.write(writing, data)
+    yield reading
+    os.close(reading)
+    os.close(writing)
+
+
+@contextlib.contextmanager
+def held(path, flags):
+    stream = os.open(path, flags)
+    yield stream
+    os.close(stream)
+
+
+def bad_inputs(calls):
+    """Standard input of `mon` can't be read, at once or behind some lines, or has a line without an end."""
+    line, begun = calls.watched, SCRIPT[:SCRIPT.index(b's 9')]
+    answers = watched(begun)[0].output
+    streams = (('a folder', held(calls.folder.path, os.O_RDONLY)), ('open for writes alone', held('/dev/null', os.O_WRONLY)), ('not there yet', waiting(b'')))
+    for name, stream in streams:
+        with stream as stdin:
+            calls.expect('standard input is %s' % name, line, file('-'), line.none(), stdin=stdin)
+    for more in (b'', b's 9'):
+        with waiting(begun + more) as stdin:
+            calls.expect('standard input fails behind %s' % (begun + more), line, file('-')._replace(output=answers), line.none(), stdin=stdin)
+    for output, parts in (('', ()), (answers, (begun,))):
+        with fed(itertools.chain(parts, itertools.repeat(bytes(1 << 16)))) as stdin:
+            wanted = OUT_OF_MEMORY._replace(output=output)
+            calls.expect('a line without an end behind %s' % (parts,), line, wanted, line.none(), stdin=stdin, preexec_fn=little_memory)
+
+
+def inputs(calls):
+    """Standard input of `mon` is empty, ends without `q` or without the end of its last line, or has more behind `q`, without an end too."""
+    line = calls.watched
+    for script in (b'', b'\n', b'\0', b'q', b'c', b's 9\n', SCRIPT[:-1], SCRIPT[:-2], SCRIPT + b'c\n', SCRIPT + b'c', 3000 * b's 1\n', b's ' + 5000 * b'0' + b'1\n' + SCRIPT):
+        calls.expect('standard input is %.40s, %d bytes' % (script, len(script)), line, *watched(script), script=script)
+    for more in (b'c\n', b'c'):
+        with fed(itertools.chain([SCRIPT], itertools.repeat(1000 * more))) as stdin:
+            calls.expect('standard input goes on with %s' % more, line, line.answer, line.left, stdin=stdin)
+    for size in SIZES:
+        with fed(SCRIPT[at:at + size] for at in range(0, len(SCRIPT), size)) as stdin:
+            calls.expect('standard input by %d bytes' % size, line, line.answer, line.left, stdin=stdin)
+
+
+def in_turn(calls):
+    """Each line of standard input is answered before the next one is given."""
+    line, told = calls.watched, b''
+    calls.tally.tried += 1
+    calls.folder.remove(*line.outs)
+    with subprocess.Popen([calls.folder.called, *line.words], cwd=calls.folder.path, stdin=subprocess.PIPE, stdout=subprocess.PIPE, bufsize=0) as called:
+        for command in SCRIPT.splitlines(True):
+            called.stdin.write(command)
+            wanted = watched(SCRIPT[:SCRIPT.index(command) + len(command)])[0].output.encode()
+            while len(told) < len(wanted) and select.select([called.stdout], [], [], 10)[0]:
+                part = called.stdout.read(4096)
+                told += part
+                if not part:
+                    break
+            calls.tally.expect('%s, %s in turn' % (line, command), text(told), text(wanted))
+        status = called.wait(10)
+    calls.tally.expect('%s, in turn' % line, (status, [calls.folder.get(out) for out in line.outs]), (0, line.left))
+
+
+def terminals(calls):
+    """Standard input is a terminal: standard error shows the commands once where it is one too, and nothing where it is none."""
+    line = calls.watched
+    for how in ({}, {'stderr': True}):
+        master, slave = os.openpty()
+        tty.setraw(slave)
+        os.write(master, SCRIPT)
+        calls.expect('standard input is a terminal%s' % ', and standard error' * bool(how), line, line.answer, line.left, stdin=slave, **dict.fromkeys(how, slave))
+        if how:
+            calls.tally.expect('%s, how often a terminal shows the commands' % line, os.read(master, 4096).count(b'csr'), 1)
+        os.close(slave)
+        os.close(master)
 
 
 # ---- Few bytes at a time -------------------------------------------------------------------------------------------------------------
@@ -205,7 +349,7 @@ class Pipe:
 
 def slow_pipes(calls):
     """Each file that is read is a pipe that gives few bytes at a time, and each out file one that takes few."""
-    for size in (1, 7, 4095, 4096, 4097):
+    for size in SIZES:
         for line in calls.lines:
             for name in line.reads:
                 with Pipe(calls.folder, size, calls.folder.get(name)):
@@ -222,13 +366,15 @@ def slow_pipes(calls):
             calls.refused('which ends after %d bytes' % size, ['check', 'pipe'], expected.of_check(part))
 
 
+def little_memory():
+    resource.setrlimit(resource.RLIMIT_AS, (MEMORY, MEMORY))
+
+
 def endless(calls):
     """A file without an end runs out of memory, which is limited here."""
-    def limit():
-        resource.setrlimit(resource.RLIMIT_AS, (MEMORY, MEMORY))
     for line in calls.lines:
         for name in line.reads:
-            calls.expect('%s has no end' % name, line, OUT_OF_MEMORY, line.none(), line.with_path(name, '/dev/zero'), preexec_fn=limit)
+            calls.expect('%s has no end' % name, line, OUT_OF_MEMORY, line.none(), line.with_path(name, '/dev/zero'), preexec_fn=little_memory)
 
 
 # ---- Each call of the C library in turn ---------------------------------------------------------------------------------------------------
@@ -240,10 +386,12 @@ def after_fault(line, told, output):
     kind, path = told.split(' ', 1)
     if path in line.outs:
         failed = line.outs.index(path)
-        made = None if kind == 'open' else b''
-        return file(path), [data if k < failed else made if k == failed else None for k, data in enumerate(line.left)]
+        begun_file = None if kind == 'open' else b''
+        return line.unwritten(path), [data if k < failed else begun_file if k == failed else None for k, data in enumerate(line.left)]
     if path == OUTPUT:
-        return Answer(3, begun), line.left
+        return Answer(3, begun), line.left_unprinted()
+    if path == INPUT:
+        return file('-')._replace(output=begun), line.none()
     return file(path), line.none()
 
 
@@ -257,7 +405,7 @@ def each_call(calls, share):
         for line in calls.lines:
             for kind, how in TOUCHED:
                 step = share if how in ('some', 'every') else 1
-                for at, answer, told in faults.swept(calls.folder, line.words, kind, how, line.outs, step):
+                for at, answer, told in faults.swept(calls.folder, line.words, kind, how, line.outs, step, line.script or b''):
                     calls.tally.count('opens, reads and writes touched')
                     wanted = after_fault(line, told, answer.output) if how == 'fail' else (line.answer, line.left)
                     got = answer, [calls.folder.get(out) for out in line.outs]
@@ -273,6 +421,10 @@ def tried(program, share=1):
         bad_writes(calls)
         full_disk(calls, share)
         bad_streams(calls)
+        bad_inputs(calls)
+        inputs(calls)
+        in_turn(calls)
+        terminals(calls)
         slow_pipes(calls)
         endless(calls)
         each_call(calls, share)

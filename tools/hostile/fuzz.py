@@ -1,10 +1,12 @@
 #!/usr/bin/env python3
-"""A fuzzer: `fuzz.py SECONDS [SEED]` draws images and jobs, and compares what the built program answers with expected.py.
+"""A fuzzer: `fuzz.py SECONDS [SEED]` draws images, jobs and scripts, and compares what the built program answers with expected.py and
+made.py.
 
 An image is one of the examples or of the tables of conformance with some of its bytes, words, pieces or fields changed, or a kernel that
-is drawn with a certificate, of which up to two places are changed. It goes to `check`, to `try`, and to `run`; where it is accepted, its
-run on drawn arguments has to be within its bound, and the same as its `try`. A job is a text with some keys, values or bytes changed.
-Whatever differs is kept in the folder hostile-found, with its job, and told.
+is drawn with a certificate, of which up to two places are changed. It goes to `check`, to `try`, to `run`, with a script of commands that
+are drawn, some of them damaged, to `mon`, and to `make`; where it is accepted, its run on drawn arguments has to be within its bound, and
+the same as its `try` and `mon`. A loop is an image of makes.txt with its parameters, some of them changed, and goes to `make`. A job is a
+text with some keys, values or bytes changed. Whatever differs is kept in the folder hostile-found, with its job, and told.
 """
 import pathlib
 import random
@@ -13,21 +15,37 @@ import sys
 import time
 
 import expected
+import made
 from damage import FEW, Trials, drawn_args
 from expected import Job
-from outside import ROOT, certificates, drawn_checks
+from outside import ROOT, certificates, drawn_checks, monitors, runs
 from program import Folder, Tally, program
 
-WORDS = ('try', 'run')        # the subcommands that read a job
+WORDS = ('try', 'run', 'mon')        # the subcommands that read a job's image
 MOST_KEPT = 100
 NUMBERS = (0, 1, 2, 3, 4, 7, 8, 16, 32, 127, 128, 255, 256, 4095, 4096, 65535, 0x7fffffff, 0x80000000, 0xfffffff0, 0xffffffff)
 VALUES = ('0', '1', '-1', '128', '256', '512', '127', '4294967295', '4294967296', '9223372036854775807', '0x80', '1_0', '1.0', 'true',
           '""', '"r"', '"rw"', '"keep"', '"ones"', '"none"', '"scalar"', '"buffer"', '"in0"', '"image.elf"', '"missing"', '[]', '{}', "'keep'", '1979-05-27', 'inf')
 KEYS = ('image', 'vlen', 'agnostic', 'max', 'kind', 'mode', 'size', 'file', 'out', 'lo', 'hi', 'value', 'param', 'x')
+CODE = 84                   # where code begins behind one program header
 LARGE = 5000                # larger images are passed over
 SMALL = 300                 # the most bytes of a buffer
 LONG = 1 << 22              # an image with a larger bound is not run
 ANY = [certificates.Param('buffer', 6, 64), certificates.Param('scalar', 0, 0, 40)]      # for an image without a certificate
+
+
+def rows_of(table):
+    """The fields of each row of a table of conformance."""
+    return [row.split() for row in (ROOT / 'crates/conformance/data' / table).read_text().splitlines() if row[0] != '#']
+
+
+def param_of(field):
+    """A parameter as makes.txt spells it."""
+    if field == '-':
+        return made.NONE
+    if field[0] == 's':
+        return certificates.Param('scalar', 0, *(int(end, 16) for end in field[1:].split(':')))
+    return certificates.Param('buffer', made.MODES[{'r': 'r', 'w': 'rw'}[field[0]]], int(field[1:]))
 
 
 class Images:
@@ -38,9 +56,9 @@ class Images:
         self.examples = [path.read_bytes() for path in sorted((ROOT / 'examples').glob('[!s]*/*.elf'))]
         self.seeds = list(self.examples)
         for table, share in (('checks.txt', 7), ('orders.txt', 7), ('images.txt', 1)):
-            rows = [row.split() for row in (ROOT / 'crates/conformance/data' / table).read_text().splitlines() if row[0] != '#']
-            files = [row[table != 'images.txt'] for row in rows[::share]]
+            files = [row[table != 'images.txt'] for row in rows_of(table)[::share]]
             self.seeds += [bytes.fromhex(file) for file in files if '+' not in file and len(file) < 2 * LARGE]
+        self.loops = [(int(row[0]), [param_of(field) for field in row[1:9]], bytes.fromhex(row[9])) for row in rows_of('makes.txt') if len(row[9]) < 2 * LARGE]
         self.kernels = drawn_checks.Draw(r.random())
 
     def one(self):
@@ -51,10 +69,29 @@ class Images:
             self.change(file)
         return bytes(file)
 
-    def change(self, file):
+    def loop(self):
+        """A length of vector registers, parameters and an image, of which some are changed."""
+        vlenb, params, file = self.r.choice(self.loops)
+        params, file = list(params), bytearray(file)
+        for _ in range(self.r.choice((0, 0, 1, 1, 2))):
+            self.change(file, self.r.choice((0, CODE, CODE, CODE)))
+        if self.r.random() < 0.3:
+            place = self.r.randrange(8)
+            params[place] = self.changed_param(params[place])
+        return self.r.choice((vlenb, vlenb, vlenb, 16, 32, 64)), params, bytes(file)
+
+    def changed_param(self, p):
+        """Another parameter, or the same with an end or a size moved."""
         r = self.r
-        at = r.randrange(len(file) + 1)
-        if r.random() < 0.3 and len(file) > 110:
+        near = p._replace(a=max(0, p.a + r.choice((-1, 0, 1))), b=p.b and min(p.b + r.choice((-1, 0, 1)), 0xffffffff))
+        return r.choice((near, near, made.NONE, certificates.Param('scalar', 0, r.choice(NUMBERS), r.choice(NUMBERS)),
+                         certificates.Param('buffer', r.choice((4, 6)), r.choice(NUMBERS)))) if p.kind != 'none' else p
+
+    def change(self, file, first=0):
+        """Changes bytes from this one on."""
+        r = self.r
+        at = r.randrange(min(first, len(file)), len(file) + 1)
+        if r.random() < 0.3 and first == 0 and len(file) > 110:
             at = r.randrange(110)
         kind = r.randrange(9)
         if kind == 0:
@@ -95,10 +132,24 @@ def job_for(r, file):
     return Job(vlenb, r.random() < 0.5, r.choice((0, 1, FEW, 200, 200)), args)
 
 
-def job_text(r, job):
+def script_for(r, file, job):
+    """Commands for the monitor of an image's run, some of which are damaged."""
+    try:
+        certificates.read_image(file)
+    except certificates.Refused:
+        return b'x\nc\n'
+    run = runs.Run('', file, job.args, job.vlenb)
+    script = '\n'.join(monitors.command(r, run) for _ in range(r.randrange(16))).encode() + r.choice((b'', b'\n', b'\nc\nx\n', b'\nq', b'\nq\n', b'\r\n'))
+    if r.random() < 0.2:
+        at = r.randrange(len(script) + 1)
+        script = script[:at] + r.choice((b'', b'\0', b'\n', b'\r', b' ', b'\xc3', r.randbytes(3), 5000 * b'0')) + script[at + r.randrange(3):]
+    return script
+
+
+def job_text(r, whole):
     """A job's text, changed, that names no file outside its folder."""
     while True:
-        lines = job.text('image.elf').splitlines()
+        lines = whole.splitlines()
         for _ in range(r.choice((0, 1, 1, 1, 2, 4))):
             at = r.randrange(len(lines))
             key, _, value = lines[at].partition(' = ')
@@ -131,6 +182,12 @@ def is_judged(text):
     return not re.search(rb'\{[^}]*(\n|,\s*\})|\d{19}|\d[eE]|\d:', text)
 
 
+def kinds_of(job):
+    """Parameters that the arguments of a job match: each number up to itself, and each buffer's size."""
+    return [made.NONE if arg is None else certificates.Param('scalar', 0, 0, arg) if isinstance(arg, int) else
+            certificates.Param('buffer', made.MODES[{'r': 'r', 'w': 'rw'}[arg[0]]], len(arg[1])) for arg in job.args]
+
+
 class Fuzzer:
     def __init__(self, folder, tally, seed):
         self.r = random.Random(seed)
@@ -147,23 +204,43 @@ class Fuzzer:
         job = job_for(r, file)
         job.put(self.folder)
         for word in WORDS:
-            self.trials.compared('image', file, word, job)
+            self.trials.compared('image', file, word, job, script_for(r, file, job))
         if is_accepted:
             self.trials.runs('image', file)
+        self.trials.makes('image', file, kinds_of(job), job.vlenb)
+
+    def loop(self):
+        vlenb, params, file = self.images.loop()
+        self.tally.tried += 1
+        self.tally.count('of them loops')
+        self.trials.makes('loop', file, params, vlenb)
 
     def job(self):
         """A changed job on an example: its answer, and every file behind it."""
         file = self.r.choice(self.images.examples)
         job = job_for(self.r, file)
-        text = job_text(self.r, job)
+        text = job_text(self.r, job.text('image.elf'))
         self.tally.tried += 1
         self.tally.count('of them jobs')
         files = {'image.elf': file, 'job.toml': text} | {'in%d' % place: data for place, data in job.buffers()}
         for word in WORDS:
             self.folder.hold(files)
-            wanted, left = expected.of_text(text, word, files)
-            self.tally.expect('job, ' + word, self.folder.call(word, 'job.toml'), wanted)
-            self.tally.expect('job, files behind ' + word, self.folder.files(), files | left)
+            script = script_for(self.r, file, job) if word == 'mon' else b''
+            wanted, left = expected.of_text(text, word, files, script)
+            self.tally.expect('job, %s %s' % (word, script), self.folder.call(word, 'job.toml', script=script), wanted)
+            self.tally.expect('job, files behind %s %s' % (word, script), self.folder.files(), files | left)
+
+    def make_job(self):
+        """A changed job of `make` on a loop: its answer, and every file behind it."""
+        vlenb, params, file = self.images.loop()
+        text = job_text(self.r, made.job_text(params, vlenb))
+        self.tally.tried += 1
+        self.tally.count('of them jobs')
+        files = {'image.elf': file, 'job.toml': text}
+        self.folder.hold(files)
+        wanted, certified = made.of_text(text, files, 'image.elf')
+        self.tally.expect('job, make', self.folder.call('make', 'image.elf', 'job.toml', 'made.elf'), wanted)
+        self.tally.expect('job, files behind make', self.folder.files(), files | ({} if certified is None else {'made.elf': certified}))
 
     def keep(self, found):
         """Keeps what the last calls were about, of the first things found."""
@@ -182,7 +259,7 @@ def tried(called, seconds, seed=1):
         fuzzer = Fuzzer(folder, tally, seed)
         while time.monotonic() < end:
             found = len(tally.differed)
-            draw = fuzzer.image if fuzzer.r.random() < 0.8 else fuzzer.job
+            draw, = fuzzer.r.choices((fuzzer.image, fuzzer.loop, fuzzer.job, fuzzer.make_job), (12, 4, 3, 1))
             draw()
             if len(tally.differed) > found:
                 fuzzer.keep(found)

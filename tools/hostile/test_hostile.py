@@ -4,6 +4,7 @@ import unittest
 
 import damage
 import expected
+import made
 from faults import COMPILER
 from outside import ROOT, certificates
 from program import Answer, Folder, Tally, program, total
@@ -25,6 +26,25 @@ class Expected(unittest.TestCase):
             answer, left = expected.of_text(files['job.toml'], word, files)
             self.assertEqual(answer, Answer(0, 'ended: 506 steps\n'))
             self.assertEqual(left, {'raised.bin': files['expected.bin']})
+
+    def test_mon(self):
+        folder = ROOT / 'examples/raise_if'
+        files = {path.name: path.read_bytes() for path in folder.iterdir()}
+        answer, left = expected.of_text(files['job.toml'], 'mon', files, b's 505\ns 9\r\n\xff\n\ns 9\nq\nx\n')
+        told = 'at 00010024 step 505\nerror: BadNumber\nerror: Unknown\nerror: Unknown\nended step 506\n'
+        self.assertEqual(answer, Answer(0, told))
+        self.assertEqual(left, {'raised.bin': files['expected.bin']})
+
+    def test_make(self):
+        files = {path.name: path.read_bytes() for path in (ROOT / 'examples/raise_words').iterdir()}
+        for job, wanted in (('job.toml', 'raise_words.elf'), ('job-256.toml', 'raise_words-256.elf')):
+            self.assertEqual(made.of_text(files[job], files, 'bare.elf'), (Answer(0, 'accepted: bound 2 + 8 * x11\n'), files[wanted]))
+        self.assertEqual(made.of_text(files['job.toml'], files, 'raise_words.elf'), (expected.refused('CertificateThere'), None))
+
+    def test_make_where_the_header_is_code(self):
+        files = {'image.elf': made.in_header((ROOT / 'examples/raise_words/bare.elf').read_bytes())}
+        job = made.job_text(damage.PARAMS, 16).encode()
+        self.assertEqual(made.of_text(job, files, 'image.elf'), (expected.refused('IllegalWord at 00010024'), None))
 
     def test_each_byte_of_the_note_is_changed(self):
         file = damage.example('sum_bytes', 16)
