@@ -23,8 +23,8 @@ FEW = 40                                                # the most steps of a `t
 MODELLED = 400                                          # the most steps of a run that the machine in Python carries out too
 MOST = (1 << 63) - 1                                    # the most steps that a job may have
 DRAWS = 2
-BEGUN = b's 3\nx\n'                                     # commands of `mon`
-WATCHED = BEGUN + b'c\nq\n'                             # and up to the end of the run
+BEGUN = b's 3\nx\ncsr\nl 10000 8\nm 40000000 16\n'    # commands of `mon`
+WATCHED = BEGUN + b'c\nq\n'                            # and up to the end of the run
 # What raise_words takes.
 PARAMS = [certificates.Param('buffer', certificates.READ | certificates.WRITE, 4096), certificates.Param('scalar', 0, 0, 1024)] + 6 * [made.NONE]
 
@@ -106,7 +106,7 @@ class Trials:
     def runs(self, what, file):
         """An accepted image on arguments that are drawn: its bound is enough, one step less is not, and `run` is `try` and `mon`."""
         self.accepted += 1
-        certificate = certificates.read_certificate(certificates.read_image(file).certificate)
+        certificate = certificates.read_certificate(expected.read_image(file).certificate)
         for k in range(DRAWS):
             args = drawn_args(self.draw, certificate.params, None if k else 12)
             job = Job(certificate.vlen // 8, self.draw.random() < 0.5, MOST, args)

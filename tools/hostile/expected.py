@@ -3,6 +3,7 @@
 The words and statuses are those of docs/JOBS.md; checker.py judges images, opening.py arguments, runs.py carries runs out, monitor.py answers
 commands on them. What `make` has to answer is in made.py.
 """
+import functools
 import tomllib
 
 from outside import certificates, checker, jobs, monitor, opening, runs
@@ -24,10 +25,26 @@ def key_of(image):
     return image.entry, tuple(image.segments)
 
 
+@functools.lru_cache(8)
+def reading(file):
+    """The image of a file, or the error that is told of it; the other one is None."""
+    try:
+        return certificates.read_image(file), None
+    except certificates.Refused as e:
+        return None, e.text
+
+
+def read_image(file):
+    """The image of a file, or Refused. A file is not read again for each answer: some claim gigabytes of memory."""
+    image, error = reading(bytes(file))
+    certificates.refuse_if(error, error)
+    return image
+
+
 def check(file, vlenb):
     """checker.py's answer. What no answer hangs on is not judged twice."""
     try:
-        image = certificates.read_image(file)
+        image = read_image(file)
     except certificates.Refused as e:
         return 'image ' + e.text
     key = *key_of(image), image.certificate, vlenb
@@ -105,7 +122,7 @@ def session(file, job):
     said = check(file, job.vlenb)
     if not said.startswith('accepted '):
         return not_accepted(said), None
-    params = certificates.read_certificate(certificates.read_image(file).certificate).params
+    params = certificates.read_certificate(read_image(file).certificate).params
     error = opening.arguments_error(params, job.args)
     if error:
         return refused(error.split('(')[0]), None
@@ -116,7 +133,7 @@ def session(file, job):
 def trial(file, job):
     """How the run of an image ends, of which `try` can tell every way: the answer, and the buffers by place."""
     try:
-        image = certificates.read_image(file)
+        image = read_image(file)
     except certificates.Refused as e:
         return refused(e.text), {}
     key = *key_of(image), job.key()
@@ -248,5 +265,5 @@ def of_job(image, job, word, script=b''):
 
 def passed(image, job):
     """The arguments of a job on an accepted image, their modes those of the certificate."""
-    params = certificates.read_certificate(certificates.read_image(image).certificate).params
+    params = certificates.read_certificate(read_image(image).certificate).params
     return [(('w' if p.mode & certificates.WRITE else 'r'), arg[1]) if isinstance(arg, tuple) else arg for p, arg in zip(params, job.args)]

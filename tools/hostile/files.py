@@ -275,7 +275,8 @@ def bad_inputs(calls):
 def inputs(calls):
     """Standard input of `mon` is empty, ends without `q` or without the end of its last line, or has more behind `q`, without an end too."""
     line = calls.watched
-    for script in (b'', b'\n', b'\0', b'q', b'c', b's 9\n', SCRIPT[:-1], SCRIPT[:-2], SCRIPT + b'c\n', SCRIPT + b'c', 3000 * b's 1\n', b's ' + 5000 * b'0' + b'1\n' + SCRIPT):
+    long = b's ' + 5000 * b'0' + b'1\n' + SCRIPT
+    for script in (b'', b'\n', b'\0', b'q', b'c', b's 9\n', SCRIPT[:-1], SCRIPT[:-2], SCRIPT + b'c\n', SCRIPT + b'c', 3000 * b's 1\n', long):
         calls.expect('standard input is %.40s, %d bytes' % (script, len(script)), line, *watched(script), script=script)
     for more in (b'c\n', b'c'):
         with fed(itertools.chain([SCRIPT], itertools.repeat(1000 * more))) as stdin:

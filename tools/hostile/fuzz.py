@@ -135,7 +135,7 @@ def job_for(r, file):
 def script_for(r, file, job):
     """Commands for the monitor of an image's run, some of which are damaged."""
     try:
-        certificates.read_image(file)
+        expected.read_image(file)
     except certificates.Refused:
         return b'x\nc\n'
     run = runs.Run('', file, job.args, job.vlenb)

@@ -49,7 +49,7 @@ def are_parameters(params):
 def of_file(file, params, vlenb):
     """What `make` answers for an image file, parameters and a length of vector registers, and what it writes, None where nothing."""
     try:
-        image = certificates.read_image(file)
+        image = expected.read_image(file)
         if not are_parameters(params):
             return expected.bad_job('BadKey'), None
         certificate = maker.make(image, params, vlenb)
