@@ -1,7 +1,8 @@
 /* rvvbox: certified RISC-V vector kernels on a host's memory.
  *
  * Link librvvbox_c.a and the kit's liblibc_c.a, which calls the program's malloc, realloc and free. docs/EMBEDDING.md tells what a
- * caller owes. No call keeps a pointer, and calls from several threads share nothing, if their memory does not overlap. */
+ * caller owes. No call keeps a pointer to the caller's memory, and calls from several threads share nothing, if their memory and their
+ * handles are not the same. */
 #ifndef RVVBOX_H
 #define RVVBOX_H
 
@@ -34,7 +35,8 @@ enum rvvbox_status {
     RVVBOX_BOUND_TOO_LARGE = 15,       /* the run may take more than `max` steps */
     RVVBOX_WRONG_VLEN = 16,            /* accepted for another length of registers */
     RVVBOX_TRAPPED = 17,               /* a tried run met a fault */
-    RVVBOX_OUT_OF_STEPS = 18           /* a tried run did `max` steps and has not ended */
+    RVVBOX_OUT_OF_STEPS = 18,          /* a tried run did `max` steps and has not ended */
+    RVVBOX_NOTHING_KEPT = 19           /* the handle keeps nothing */
 };
 
 /* Why an image is refused: the status, the rule's number, and the address of the word at which the check stopped. What there is not
@@ -109,6 +111,28 @@ uint32_t rvvbox_run(const uint8_t *image, size_t image_size, const struct rvvbox
 uint32_t rvvbox_run_many(const uint8_t *image, size_t image_size, const struct rvvbox_setting *setting, uint8_t *memory,
                          size_t memory_size, const struct rvvbox_place *places, size_t places_count,
                          struct rvvbox_ran *runs, size_t runs_count);
+
+/* An accepted image, kept for many runs, or none: begin with {0}. Only the calls below read or write it. It is not copied, stays on the
+ * thread that made it, and is let go by rvvbox_free. */
+struct rvvbox_handle {
+    uint8_t *at;
+};
+
+/* Checks the image, and keeps it in `handle`, in place of what that kept, where the answer is RVVBOX_DONE. Else the handle is as it was.
+ * The answer stands in `refusal` too. */
+uint32_t rvvbox_accept(const uint8_t *image, size_t image_size, uint32_t vlen, struct rvvbox_handle *handle,
+                       struct rvvbox_refusal *refusal);
+
+/* Tells the most steps of a run of what is kept with these scalars. `bound` is set where the answer is RVVBOX_DONE. */
+uint32_t rvvbox_bound_of(struct rvvbox_handle *handle, const struct rvvbox_scalars *scalars, struct rvvbox_bound *bound);
+
+/* As rvvbox_run, of what is kept. `vlen` of the setting is the one that it was accepted for. */
+uint32_t rvvbox_run_accepted(struct rvvbox_handle *handle, const struct rvvbox_setting *setting, uint8_t *memory,
+                             size_t memory_size, const struct rvvbox_place *places, size_t places_count,
+                             uint64_t *steps);
+
+/* Lets go what is kept. The handle then keeps nothing, and may be used again. */
+void rvvbox_free(struct rvvbox_handle *handle);
 
 /* What a kernel takes at one place, of the kinds above: a number from lo to hi, or a buffer of `size` bytes. */
 struct rvvbox_parameter {

@@ -107,6 +107,52 @@ static void two_runs(void) {
     put(places);
 }
 
+static uint32_t run_kept(struct rvvbox_handle *handle, size_t count) {
+    return rvvbox_run_accepted(handle, &setting, words, sizeof words, places, count, &steps);
+}
+
+/* An image is kept, told and run twice; what is refused leaves the handle as it is, and one that keeps nothing says so */
+static void kept(void) {
+    struct rvvbox_handle handle = {0};
+    struct rvvbox_refusal refusal;
+    struct rvvbox_scalars scalars = {.a1 = 1000};
+    struct rvvbox_bound bound;
+    EXPECT(run_kept(&handle, 8) == RVVBOX_NOTHING_KEPT && rvvbox_bound_of(&handle, &scalars, &bound) == RVVBOX_NOTHING_KEPT);
+    EXPECT(rvvbox_accept(image, 51, 128, &handle, &refusal) == RVVBOX_IMAGE && refusal.rule == 1 && !handle.at);
+    EXPECT(rvvbox_accept(image, size, 128, &handle, &refusal) == RVVBOX_DONE && refusal.status == RVVBOX_DONE && handle.at);
+    EXPECT(rvvbox_accept(image, size, 256, &handle, &refusal) == RVVBOX_CHECK && handle.at);
+    EXPECT(rvvbox_bound_of(&handle, &scalars, &bound) == RVVBOX_DONE && bound.low == 8002 && bound.high == 0);
+    EXPECT(run_kept(&handle, 7) == RVVBOX_BAD_COUNT);
+    setting.vlen = 256;
+    EXPECT(run_kept(&handle, 8) == RVVBOX_WRONG_VLEN && !memcmp(words, before, sizeof words));
+    setting.vlen = 128;
+    for (int times = 0; times < 2; times++) {
+        EXPECT(run_kept(&handle, 8) == RVVBOX_DONE && steps == 2002 && !memcmp(words, expected, sizeof words));
+        memcpy(words, before, sizeof words);
+    }
+    EXPECT(rvvbox_accept(image, size, 128, &handle, &refusal) == RVVBOX_DONE);
+    rvvbox_free(&handle);
+    EXPECT(!handle.at && run_kept(&handle, 8) == RVVBOX_NOTHING_KEPT);
+    rvvbox_free(&handle);
+}
+
+/* Each allocation of an acceptance is refused once: want of memory, and nothing kept. Then none is refused */
+static void want_of_memory_for_a_handle(void) {
+    struct rvvbox_handle handle = {0};
+    struct rvvbox_refusal refusal;
+    long given = 0;
+    for (;; given++) {
+        refused = given;
+        uint32_t status = rvvbox_accept(image, size, 128, &handle, &refusal);
+        int was_refused = refused < 0;
+        refused = -1;
+        if (!was_refused) break;
+        EXPECT(status == RVVBOX_NO_MEMORY && !handle.at);
+    }
+    EXPECT(given > 5 && handle.at);
+    rvvbox_free(&handle);
+}
+
 /* Each allocation of a run is refused once: want of memory, and nothing changed. Then none is refused, and the run is done */
 static void want_of_memory(void) {
     long given = 0;
@@ -132,6 +178,8 @@ int main(void) {
     wrong_arguments();
     told_and_tried();
     two_runs();
+    kept();
     want_of_memory();
+    want_of_memory_for_a_handle();
     return 0;
 }

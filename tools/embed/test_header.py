@@ -8,7 +8,7 @@ from pathlib import Path
 from library import FLAGS, HEADER, c_name, sources
 
 NUMBERS = {'u8': 'uint8_t', 'u32': 'uint32_t', 'u64': 'uint64_t', 'usize': 'size_t'}
-SIZES = {'u32': 4, 'u64': 8, 'usize': 8}
+SIZES = {'u32': 4, 'u64': 8, 'usize': 8, '*mut u8': 8}
 EXPORT = re.compile(r'#\[unsafe\(no_mangle\)\]\s*pub extern "C" fn (\w+)\((.*?)\)\s*(?:->\s*(\w+))?', re.S)
 STRUCT = re.compile(r'#\[repr\(C\)\](?:\s*#\[[^\n]*\])*\s*pub struct (\w+) \{(.*?)\n\}', re.S)
 
@@ -41,7 +41,7 @@ def layouts(text):
     """Each struct's size and where its fields lie, as `repr(C)` lays them out."""
     for name, body in STRUCT.findall(text):
         at, widest = 0, 1
-        for field, kind in re.findall(r'pub (\w+): (\w+),', body):
+        for field, kind in re.findall(r'^ +(?:pub )?(\w+): ([*\w ]+),', body, re.M):
             size = SIZES[kind]
             at += -at % size
             widest = max(widest, size)
@@ -60,7 +60,7 @@ class Header(unittest.TestCase):
     def test_types(self):
         text = sources()
         declared = dict(prototypes(text))
-        self.assertEqual(set(declared), set(re.findall(r'^uint32_t (rvvbox_\w+)\(', HEADER.read_text(), re.M)))
+        self.assertEqual(set(declared), set(re.findall(r'^(?:uint32_t|void) (rvvbox_\w+)\(', HEADER.read_text(), re.M)))
         lines = ['#include "rvvbox.h"', *declared.values(), *layouts(text)]
         with tempfile.TemporaryDirectory() as folder:
             source = Path(folder) / 'compared.c'

@@ -1,7 +1,9 @@
 //! An image with its certificate, out of a file's bytes.
-ghost use Rattle.std.specs.Prelude.{◌≡◌, IfOk};
+ghost use Rattle.std.specs.Prelude.{◌≡◌, ◌*◌, IfErr, IfOk, IfSome};
 ghost use Rattle.block_checker.specs.Accepted.{Passes};
 ghost use Rattle.elf_image.specs.File.{image_of};
+ghost use Rattle.vreg_groups.specs.VectorLength.{vlenb_of};
+ghost use Rattle.rvvbox_c.specs.Holds.{IsFailure};
 
 use crate::status::{Refusal, Status};
 use block_checker::{Accepted, check};
@@ -9,7 +11,9 @@ use std::alloc::Global;
 use vreg_groups::{Agnostic, Vlen};
 
 /// The length of vector registers of so many bits.
-pub(crate) fn vlen_of(bits: u32) -> Option<Vlen> {
+pub(crate) fn vlen_of(bits: u32) -> Option<Vlen>
+    ensures { IfSome result (λ vlen. vlenb_of vlen * 8 ≡ bits) }
+{
     match bits {
         128 => Some(Vlen::V128),
         256 => Some(Vlen::V256),
@@ -32,6 +36,7 @@ pub fn accept(alloc: Global, file: &[u8], vlen: Vlen) -> Result<Accepted, Refusa
     ensures image { IfOk result (λ a. a.image ≡ image_of file.now) }
     ensures vlen { IfOk result (λ a. a.vlen ≡ vlen) }
     ensures passes { IfOk result Passes }
+    ensures failed { IfErr result (λ refusal. IsFailure refusal.status) }
 {
     let image = elf_image::read(alloc, file)?;
     let note = image

@@ -1,8 +1,10 @@
 //! The calls themselves. None has a `requires`: what a host passes is tested.
-ghost use Rattle.std.specs.Prelude.{◌≡◌, ◌≤◌, ◌+◌, ◌*◌, ◌^◌, IfErr, IfOk, length};
+ghost use Rattle.std.specs.Prelude.{◌≡◌, ◌≢◌, ◌≤◌, ◌+◌, ◌*◌, ◌^◌, IfErr, IfOk, length};
 ghost use Rattle.block_checker.specs.Bound.{bound_of as bound_for};
 ghost use Rattle.vreg_groups.specs.VectorLength.{IsVlenb};
+ghost use Rattle.rvvbox_c.specs.Holds.{IsFailure};
 ghost use Rattle.rvvbox_c.specs.Scalars.{by_place};
+ghost use Rattle.rvvbox_c.specs.declared.status.Status.TheVariants.{Done};
 
 use crate::accept::{accept, agnostic_of, vlen_of};
 use crate::places::{Place, arguments, put_all_back};
@@ -31,6 +33,19 @@ pub struct Setting {
 pub struct Ran {
     pub status: u32,
     pub steps: u64,
+}
+
+impl Ran {
+    /// No run, for this reason.
+    pub(crate) fn refused(status: Status) -> Ran
+        ensures steps { result.steps ≡ 0 }
+        ensures failed { status ≢ Done → IsFailure result.status }
+    {
+        Ran {
+            status: status.code(),
+            steps: 0,
+        }
+    }
 }
 
 /// The numbers at the eight places.
@@ -164,7 +179,8 @@ pub extern "C" fn rvvbox_parameters(
     }
 }
 
-fn bound_of(accepted: &Accepted, scalars: &Scalars) -> Bound
+/// The most steps that a run takes with these numbers at the places of scalars.
+pub(crate) fn bound_of(accepted: &Accepted, scalars: &Scalars) -> Bound
     ensures { result.high * 2 ^ 64 + result.low ≡ bound_for accepted.now (by_place scalars.now) }
 {
     let steps = accepted.bound(&[
@@ -203,7 +219,7 @@ fn run_session<const VLENB: usize>(
 }
 
 /// One run of an accepted image.
-fn run_one(
+pub(crate) fn run_one(
     alloc: Global,
     accepted: &Accepted,
     memory: &mut [u8],
@@ -224,10 +240,7 @@ fn run_one(
             status: Status::Done.code(),
             steps,
         },
-        Err(status) => Ran {
-            status: status.code(),
-            steps: 0,
-        },
+        Err(status) => Ran::refused(status),
     }
 }
 

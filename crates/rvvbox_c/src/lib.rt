@@ -1,8 +1,11 @@
-//! What a host in C calls: to check an image, to run it on the host's memory, and to try any image.
+//! What a host in C calls: to check an image, to run it on the host's memory, once or many times, and to try any image.
 #![tactic(auto)]
 
 mod accept;
 mod calls;
+mod handles;
+mod kept;
+mod loose;
 mod places;
 mod status;
 mod tries;
@@ -11,6 +14,8 @@ pub use calls::{
     Bound, Ran, Scalars, Setting, rvvbox_bound, rvvbox_check, rvvbox_run, rvvbox_run_many,
     rvvbox_version,
 };
+pub use handles::{rvvbox_accept, rvvbox_bound_of, rvvbox_free, rvvbox_run_accepted};
+pub use kept::Handle;
 pub use places::Place;
 pub use status::Refusal;
 pub use tries::{Stopped, rvvbox_try};

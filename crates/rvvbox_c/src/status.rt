@@ -1,6 +1,7 @@
 //! What a call answers, as `include/rvvbox.h` numbers it.
-ghost use Rattle.std.specs.Prelude.{◌≡◌};
-ghost use Rattle.rvvbox_c.specs.declared.status.Status.TheVariants.{NoMemory};
+ghost use Rattle.std.specs.Prelude.{◌≡◌, ◌≢◌};
+ghost use Rattle.rvvbox_c.specs.Holds.{IsFailure};
+ghost use Rattle.rvvbox_c.specs.declared.status.Status.TheVariants.{Done, NoMemory};
 
 use block_checker::CheckError;
 use cert_note::CertError;
@@ -49,11 +50,16 @@ pub enum Status {
     Trapped,
     /// A tried run did all the steps that it was allowed, and has not ended.
     OutOfSteps,
+    /// The handle keeps nothing.
+    NothingKept,
 }
 
 impl Status {
     /// The number in `include/rvvbox.h`.
-    pub(crate) fn code(self) -> u32 {
+    pub(crate) fn code(self) -> u32
+        ensures done { self ≡ Done → result ≡ 0 }
+        ensures failed { self ≢ Done → IsFailure result }
+    {
         match self {
             Status::Done => 0,
             Status::NoMemory => 1,
@@ -74,6 +80,7 @@ impl Status {
             Status::WrongVlen => 16,
             Status::Trapped => 17,
             Status::OutOfSteps => 18,
+            Status::NothingKept => 19,
         }
     }
 }
@@ -135,7 +142,10 @@ pub struct Refusal {
 
 impl Refusal {
     /// A refusal that names no rule.
-    pub(crate) fn of(status: Status) -> Refusal {
+    pub(crate) fn of(status: Status) -> Refusal
+        ensures done { status ≡ Done → result.status ≡ 0 }
+        ensures failed { status ≢ Done → IsFailure result.status }
+    {
         Refusal {
             status: status.code(),
             rule: 0,
@@ -145,6 +155,8 @@ impl Refusal {
 }
 
 impl From<ElfError> for Refusal {
+    ghost from_gives = { λ _ refusal. IsFailure refusal.status };
+
     fn from(error: ElfError) -> Refusal {
         let rule = match error {
             ElfError::NoMemory => return Refusal::of(Status::NoMemory),
@@ -174,6 +186,8 @@ impl From<ElfError> for Refusal {
 }
 
 impl From<CertError> for Refusal {
+    ghost from_gives = { λ _ refusal. IsFailure refusal.status };
+
     fn from(error: CertError) -> Refusal {
         let rule = match error {
             CertError::NoMemory => return Refusal::of(Status::NoMemory),
@@ -197,6 +211,8 @@ impl From<CertError> for Refusal {
 }
 
 impl From<CheckError> for Refusal {
+    ghost from_gives = { λ _ refusal. IsFailure refusal.status };
+
     fn from(error: CheckError) -> Refusal {
         let rule = match error {
             CheckError::NoMemory => return Refusal::of(Status::NoMemory),

@@ -1,0 +1,35 @@
+-- What a handle owns, and what it keeps.
+use Rattle.std.specs.Prelude.{ℕ, ◌≡◌, ◌*◌, List, Option, None, Some}
+use base.Fml.{Fml, feq}
+use denote.RattleType.{RattleType}
+use Rattle.std.specs.Box.Ownership.{box_owns}
+use Rattle.std.specs.Ptr.{Ptr, null_ptr}
+use Rattle.std.specs.contracts.alloc.Global as heap
+use Rattle.std.specs.contracts.impls.GlobalAllocator.TheImpl.{ghosts}
+use Rattle.std.specs.declared.alloc.Global.{Global}
+use Rattle.block_checker.specs.Accepted.{AcceptedView, Passes}
+use Rattle.block_checker.specs.contracts.accepted.Accepted as accepted
+use Rattle.elf_image.specs.File.{image_of}
+use Rattle.vreg_groups.specs.VectorLength.{vlenb_of}
+
+-- an accepted image, as a type
+abbrev pub accepted_row : RattleType
+accepted_row = accepted.the_row heap.the_row ghosts
+
+abbrev pub global : Global
+global = record { memory = record { seal = tt } }
+
+-- nothing at null, and a box of what is kept
+abbrev pub handle_owns : Ptr → Option AcceptedView → Fml
+handle_owns p None = feq Ptr p null_ptr
+handle_owns p (Some a) = box_owns (ghosts.dealloc_token global) accepted_row p a
+
+-- The image that the file spells, which passed the check for vector registers of so many bits.
+abbrev pub IsKeptOf : List ℕ → ℕ → Option AcceptedView → Type 0
+IsKeptOf file bits None = ⊥
+IsKeptOf file bits (Some a) =
+    (a.image ≡ image_of file) × (vlenb_of a.vlen * 8 ≡ bits) × Passes a
+
+-- A status other than that all was done.
+abbrev pub IsFailure : ℕ → Type 0
+IsFailure status = status ≡ 0 → ⊥
