@@ -8,6 +8,8 @@ int main(void) {
     FILE *elf = fopen("../raise_words/raise_words.elf", "rb"), *in = fopen("../raise_words/a.bin", "rb");
     size_t size = elf ? fread(image, 1, sizeof image, elf) : 0;
     if (!in || fread(words, 1, sizeof words, in) != sizeof words) return 1;
+    fclose(in);
+    if (elf) fclose(elf);
     struct rvvbox_setting setting = {.vlen = 128, .agnostic = 0, .max = 10000};
     struct rvvbox_place places[8] = {{.kind = RVVBOX_BUFFER, .size = sizeof words}, {.kind = RVVBOX_SCALAR, .value = 1000}};
     uint64_t steps = 0;
