@@ -1,5 +1,6 @@
 pub mod Bounds
 pub mod EntryLemmas
+pub mod Explaining
 pub mod Finding
 pub mod Instance
 pub mod Passing

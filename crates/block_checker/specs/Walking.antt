@@ -1,13 +1,19 @@
 -- How the check of a word is told by code: whether the block goes on, and apart from that what is known at the next word;
--- and which blocks a search passes over.
-use Rattle.std.specs.Prelude.{ℕ, ◌≡◌, nat_lt, true, false, List, Result, Ok, Err}
+-- which blocks a search passes over; and where a walk stops.
+use Rattle.std.specs.Prelude.{ℕ, ◌≡◌, ◌-◌, ◌/◌, nat_lt, true, false, List, Some, Result, Ok, Err}
+use Rattle.std.specs.Option.{option_map}
 use Rattle.std.specs.List.Sorted.{IsPartitionPoint}
 use Rattle.cert_note.specs.declared.values.Block.{Block}
-use Rattle.block_checker.specs.Words.{AbstractView}
+use Rattle.elf_image.specs.Image.{code_at}
+use Rattle.block_checker.specs.Words.{ImageView, CertificateView, AbstractView}
 use Rattle.block_checker.specs.declared.errors.CheckError.{CheckError}
 use Rattle.block_checker.specs.declared.checks.Told.{Told}
 use Rattle.block_checker.specs.declared.checks.Told.TheVariants as told
-use Rattle.block_checker.specs.Passes.{Progress, Ended, On}
+use Rattle.block_checker.specs.declared.explanation.Part.TheVariants as part
+use Rattle.block_checker.specs.declared.explanation.Stop.{Stop}
+use Rattle.block_checker.specs.Refusals.{address_of}
+use Rattle.block_checker.specs.Passes.{Checked, Progress, Ended, On}
+use Rattle.block_checker.specs.Explained.{known_before, intervals_of}
 
 abbrev pub progress_of : Result Told CheckError → AbstractView → Result Progress CheckError
 progress_of (Ok told.Ended) a = Ok Ended
@@ -19,3 +25,16 @@ abbrev pub IsCountBelow : ℕ → List Block → ℕ → Type 0
 IsCountBelow address blocks count =
     IsPartitionPoint (λ block. nat_lt block.start address ≡ true)
     (λ block. nat_lt block.start address ≡ false) blocks count
+
+-- what a walk answers, apart from where it stops
+abbrev pub walk_answer : Result (Unit {0}) (CheckError × Stop) → Checked
+walk_answer (Ok done) = Ok tt
+walk_answer (Err e) = Err e.0
+
+-- The walk of a block, with this state at its start, stops there with this error.
+pub record StopsWalk (image : ImageView) (certificate : CertificateView) (start : ℕ) (a : AbstractView) (error : CheckError) (stop : Stop) : Type 0 where
+  pub part : stop.part ≡ part.Block start
+  pub address : address_of error ≡ Some stop.pc
+  pub word : stop.word ≡ code_at stop.pc image
+  pub known :
+      option_map intervals_of (known_before image certificate start a ((stop.pc - start) / 4)) ≡ Some stop.known

@@ -152,7 +152,7 @@ fn edge_passes<A: Allocator, C: Allocator>(
 /// As [`edge_passes`], of the edge out of the last word, for a branch the one where it is taken or where it isn't. An edge
 /// that can't be taken passes.
 #[tactic(auto, unfolding(crate::specs::Passes::possible_passes))]
-fn possible_passes<A: Allocator, C: Allocator>(
+pub(crate) fn possible_passes<A: Allocator, C: Allocator>(
     certificate: &Certificate<C>,
     pc: u32,
     state: &Abstract<A>,
@@ -213,7 +213,7 @@ fn followed<A: Allocator, C: Allocator>(
 
 /// The word at pc.
 #[tactic(auto, unfolding(crate::specs::Passes::word_passes, crate::specs::Passes::fetched, crate::specs::Passes::decoded, crate::specs::Passes::followed))]
-fn word_passes<A: Allocator, B: Allocator, C: Allocator>(
+pub(crate) fn word_passes<A: Allocator, B: Allocator, C: Allocator>(
     image: &Image<B>,
     certificate: &Certificate<C>,
     pc: u32,

@@ -4,8 +4,10 @@
 mod accepted;
 mod checks;
 mod errors;
+mod explanation;
 mod laws;
 
 pub use accepted::{Accepted, check, check_in};
 pub use errors::CheckError;
+pub use explanation::{Explanation, Part, Stop, explain};
 pub use laws::passing_runs_end;

@@ -9,6 +9,8 @@ mod certificates;
 #[cfg(test)]
 mod checks;
 #[cfg(test)]
+mod explanations;
+#[cfg(test)]
 mod monitoring;
 #[cfg(test)]
 mod orders;
