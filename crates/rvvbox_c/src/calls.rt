@@ -1,13 +1,15 @@
 //! The calls themselves. None has a `requires`: what a host passes is tested.
-ghost use Rattle.std.specs.Prelude.{◌≡◌, ◌≢◌, ◌≤◌, ◌+◌, ◌*◌, ◌^◌, IfErr, IfOk, length};
+ghost use Rattle.std.specs.Prelude.{◌≡◌, ◌≢◌, ◌≤◌, ◌+◌, ◌*◌, ◌^◌, IfErr, IfOk, Some, length};
 ghost use Rattle.block_checker.specs.Bound.{bound_of as bound_for};
 ghost use Rattle.vreg_groups.specs.VectorLength.{IsVlenb};
-ghost use Rattle.rvvbox_c.specs.Holds.{IsFailure};
+ghost use Rattle.block_checker.specs.Accepted.{AcceptedView};
+ghost use Rattle.rvvbox_c.specs.Holds.{IsFailure, IsKeptOf};
+ghost use Rattle.rvvbox_c.specs.Places.{KeepsOutside};
 ghost use Rattle.rvvbox_c.specs.Scalars.{by_place};
 ghost use Rattle.rvvbox_c.specs.declared.status.Status.TheVariants.{Done};
 
 use crate::accept::{accept, agnostic_of, vlen_of};
-use crate::places::{Place, arguments, put_all_back};
+use crate::places::{Place, arguments, eight, put_all_back};
 use crate::status::{Refusal, Status};
 use block_checker::Accepted;
 use region_mem::{Mode, Param};
@@ -92,7 +94,8 @@ pub extern "C" fn rvvbox_version() -> u32
 /// `refusal` tells why.
 #[unsafe(no_mangle)]
 pub extern "C" fn rvvbox_check(alloc: Global, file: &[u8], vlen: u32, refusal: &mut Refusal) -> u32
-    ensures { result ≡ refusal.new.status }
+    ensures status { result ≡ refusal.new.status }
+    ensures accepted { result ≡ 0 → (a : AcceptedView) × IsKeptOf file.now vlen (Some a) }
 {
     *refusal = match vlen_of(vlen) {
         None => Refusal::of(Status::BadVlen),
@@ -113,7 +116,10 @@ pub extern "C" fn rvvbox_bound(
     vlen: u32,
     scalars: &Scalars,
     bound: &mut Bound,
-) -> u32 {
+) -> u32
+    ensures { result ≡ 0 → (a : AcceptedView) × IsKeptOf file.now vlen (Some a)
+        × (bound.new.high * 2 ^ 64 + bound.new.low ≡ bound_for a (by_place scalars.now)) }
+{
     let Some(vlen) = vlen_of(vlen) else {
         return Status::BadVlen.code();
     };
@@ -160,7 +166,8 @@ pub extern "C" fn rvvbox_parameters(
     vlen: u32,
     parameters: &mut [Parameter],
 ) -> u32
-    ensures { length parameters.new ≡ length parameters.old }
+    ensures length { length parameters.new ≡ length parameters.old }
+    ensures accepted { result ≡ 0 → (a : AcceptedView) × IsKeptOf file.now vlen (Some a) }
 {
     let Some(vlen) = vlen_of(vlen) else {
         return Status::BadVlen.code();
@@ -204,6 +211,7 @@ fn run_session<const VLENB: usize>(
 ) -> Result<u64, Status>
     requires { IsVlenb VLENB }
     ensures length { length memory.new ≡ length memory.old }
+    ensures outside { KeepsOutside places.now memory.old memory.new }
     ensures refused { IfErr result (λ _. memory.new ≡ memory.old) }
     ensures within { IfOk result (λ steps. steps ≤ max) }
 {
@@ -228,6 +236,7 @@ pub(crate) fn run_one(
     max: u64,
 ) -> Ran
     ensures length { length memory.new ≡ length memory.old }
+    ensures outside { KeepsOutside places.now memory.old memory.new }
     ensures within { result.steps ≤ max }
 {
     let steps = match accepted.vlen() {
@@ -255,6 +264,8 @@ pub extern "C" fn rvvbox_run_many(
     places: &[Place],
     runs: &mut [Ran],
 ) -> u32
+    ensures accepted { result ≡ 0 → (a : AcceptedView)
+        × IsKeptOf file.now setting.now.vlen (Some a) }
     ensures memory { length memory.new ≡ length memory.old }
     ensures runs { length runs.new ≡ length runs.old }
 {
@@ -289,7 +300,11 @@ pub extern "C" fn rvvbox_run(
     places: &[Place],
     steps: &mut u64,
 ) -> u32
-    ensures { length memory.new ≡ length memory.old }
+    ensures accepted { result ≡ 0 → (a : AcceptedView)
+        × IsKeptOf file.now setting.now.vlen (Some a) }
+    ensures length { length memory.new ≡ length memory.old }
+    ensures outside { KeepsOutside places.now memory.old memory.new }
+    ensures within { result ≡ 0 → steps.new ≤ setting.now.max }
 {
     let Some(vlen) = vlen_of(setting.vlen) else {
         return Status::BadVlen.code();
@@ -297,14 +312,13 @@ pub extern "C" fn rvvbox_run(
     let Some(agnostic) = agnostic_of(setting.agnostic) else {
         return Status::BadAgnostic.code();
     };
-    let (sets, rest) = places.as_chunks::<8>();
-    if sets.len() != 1 || !rest.is_empty() {
+    let Some(places) = eight(places) else {
         return Status::BadCount.code();
-    }
+    };
     match accept(alloc, file, vlen) {
         Err(refusal) => refusal.status,
         Ok(accepted) => {
-            let ran = run_one(alloc, &accepted, memory, &sets[0], agnostic, setting.max);
+            let ran = run_one(alloc, &accepted, memory, places, agnostic, setting.max);
             *steps = ran.steps;
             ran.status
         }

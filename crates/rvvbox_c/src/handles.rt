@@ -2,12 +2,13 @@
 ghost use Rattle.std.specs.Prelude.{◌≡◌, ◌≤◌, ◌+◌, ◌*◌, ◌^◌, IfErr, IfOk, IfSome, None, length};
 ghost use Rattle.block_checker.specs.Bound.{bound_of as bound_for};
 ghost use Rattle.rvvbox_c.specs.Holds.{IsFailure, IsKeptOf};
+ghost use Rattle.rvvbox_c.specs.Places.{KeepsOutside};
 ghost use Rattle.rvvbox_c.specs.Scalars.{by_place};
 
 use crate::accept::{accept, agnostic_of, vlen_of};
 use crate::calls::{Bound, Ran, Scalars, Setting, bound_of, run_one};
 use crate::kept::Handle;
-use crate::places::Place;
+use crate::places::{Place, eight};
 use crate::status::{Refusal, Status};
 use block_checker::Accepted;
 use std::alloc::Global;
@@ -83,6 +84,7 @@ fn run_set(
     places: &[Place; 8],
 ) -> Ran
     ensures length { length memory.new ≡ length memory.old }
+    ensures outside { KeepsOutside places.now memory.old memory.new }
     ensures within { result.steps ≤ setting.now.max }
 {
     if vlen_of(setting.vlen) != Some(accepted.vlen()) {
@@ -106,17 +108,17 @@ pub extern "C" fn rvvbox_run_accepted(
 ) -> u32
     ensures kept { handle.new.kept ≡ handle.old.kept }
     ensures length { length memory.new ≡ length memory.old }
+    ensures outside { KeepsOutside places.now memory.old memory.new }
     ensures nothing { handle.old.kept ≡ None → IsFailure result }
     ensures within { result ≡ 0 → steps.new ≤ setting.now.max }
 {
-    let (sets, rest) = places.as_chunks::<8>();
-    if sets.len() != 1 || !rest.is_empty() {
+    let Some(places) = eight(places) else {
         return Status::BadCount.code();
-    }
+    };
     match handle.take(alloc) {
         None => Status::NothingKept.code(),
         Some(accepted) => {
-            let ran = run_set(alloc, &accepted, setting, memory, &sets[0]);
+            let ran = run_set(alloc, &accepted, setting, memory, places);
             handle.keep(alloc, accepted);
             *steps = ran.steps;
             ran.status

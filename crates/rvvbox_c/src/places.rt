@@ -1,5 +1,6 @@
 //! The eight places of a run, in the host's memory.
-ghost use Rattle.std.specs.Prelude.{◌≡◌, ◌+◌, drop, length, take};
+ghost use Rattle.std.specs.Prelude.{◌≡◌, ◌≢◌, ◌+◌, ℕ, IfSome, drop, length, slice_index_or, take};
+ghost use Rattle.rvvbox_c.specs.Places.{IsApart, KeepsOutside};
 
 use crate::status::Status;
 use region_mem::{Arg, Args, Bytes, Mode, Param, Parameters};
@@ -55,14 +56,16 @@ pub(crate) fn arguments(alloc: Global, memory: &[u8], places: &[Place; 8]) -> Re
 fn put_back(arg: &Arg, memory: &mut [u8], place: Place)
     ensures length { length memory.new ≡ length memory.old }
     ensures before { take place.from memory.new ≡ take place.from memory.old }
-    ensures read { place.kind ≡ 3 → memory.new ≡ memory.old }
+    ensures read { place.kind ≢ 2 → memory.new ≡ memory.old }
     ensures behind { drop (place.from + place.size) memory.new
         ≡ drop (place.from + place.size) memory.old }
+    ensures apart { (i : ℕ) → IsApart place i
+        → slice_index_or memory.new i 0 ≡ slice_index_or memory.old i 0 }
 {
     let Arg::Buffer(bytes) = arg else {
         return;
     };
-    if place.kind == 3 {
+    if place.kind != 2 {
         return;
     }
     let Some(to) = place.from.checked_add(place.size) else {
@@ -75,11 +78,19 @@ fn put_back(arg: &Arg, memory: &mut [u8], place: Place)
 
 /// Puts all buffers back where they came from.
 pub fn put_all_back(args: &Args, memory: &mut [u8], places: &[Place; 8])
-    ensures { length memory.new ≡ length memory.old }
+    ensures length { length memory.new ≡ length memory.old }
+    ensures outside { KeepsOutside places.now memory.old memory.new }
 {
-    for (arg, place) in args.places.iter().zip(places) {
-        put_back(arg, memory, *place);
+    for place in 0..8 {
+        put_back(&args.places[place], memory, places[place]);
     }
+}
+
+/// Places that are eight.
+pub(crate) fn eight(places: &[Place]) -> Option<&[Place; 8]>
+    ensures { IfSome result (λ eight. eight.now ≡ places.now) }
+{
+    <&[Place; 8]>::try_from(places).ok()
 }
 
 /// What an image that is tried may do with a place: what stands there, and no more.

@@ -1,10 +1,11 @@
 //! Runs of any image, accepted or not.
 ghost use Rattle.std.specs.Prelude.{◌≡◌, length};
 ghost use Rattle.vreg_groups.specs.VectorLength.{IsVlenb};
+ghost use Rattle.rvvbox_c.specs.Places.{KeepsOutside};
 
 use crate::accept::{agnostic_of, vlen_of};
 use crate::calls::Setting;
-use crate::places::{Place, arguments, parameters, put_all_back};
+use crate::places::{Place, arguments, eight, parameters, put_all_back};
 use crate::status::Status;
 use elf_image::Image;
 use region_mem::{Args, Fault, Parameters};
@@ -138,16 +139,16 @@ pub extern "C" fn rvvbox_try(
     places: &[Place],
     stopped: &mut Stopped,
 ) -> u32
-    ensures { length memory.new ≡ length memory.old }
+    ensures length { length memory.new ≡ length memory.old }
+    ensures outside { KeepsOutside places.now memory.old memory.new }
 {
-    let (sets, rest) = places.as_chunks::<8>();
-    if sets.len() != 1 || !rest.is_empty() {
+    let Some(places) = eight(places) else {
         return Status::BadCount.code();
-    }
-    match performed(alloc, file, setting, memory, &sets[0]) {
+    };
+    match performed(alloc, file, setting, memory, places) {
         Ok(tried) => {
             *stopped = tried.stopped;
-            put_all_back(&tried.args, memory, &sets[0]);
+            put_all_back(&tried.args, memory, places);
             tried.status.code()
         }
         Err(status) => status.code(),
