@@ -1,3 +1,4 @@
 pub mod Holds
 pub mod Places
+pub mod Runs
 pub mod Scalars

@@ -4,6 +4,7 @@ ghost use Rattle.block_checker.specs.Accepted.{Passes};
 ghost use Rattle.elf_image.specs.File.{image_of};
 ghost use Rattle.vreg_groups.specs.VectorLength.{vlenb_of};
 ghost use Rattle.rvvbox_c.specs.Holds.{IsFailure};
+ghost use Rattle.rvvbox_c.specs.Runs.{number_of};
 
 use crate::status::{Refusal, Status};
 use block_checker::{Accepted, check};
@@ -23,7 +24,9 @@ pub(crate) fn vlen_of(bits: u32) -> Option<Vlen>
 }
 
 /// What is done with agnostic elements: 0 keeps them, 1 fills them with ones.
-pub(crate) fn agnostic_of(number: u32) -> Option<Agnostic> {
+pub(crate) fn agnostic_of(number: u32) -> Option<Agnostic>
+    ensures { IfSome result (λ agnostic. number ≡ number_of agnostic) }
+{
     match number {
         0 => Some(Agnostic::Keep),
         1 => Some(Agnostic::Ones),

@@ -1,10 +1,11 @@
 //! The calls themselves. None has a `requires`: what a host passes is tested.
 ghost use Rattle.std.specs.Prelude.{◌≡◌, ◌≢◌, ◌≤◌, ◌+◌, ◌*◌, ◌^◌, IfErr, IfOk, Some, length};
 ghost use Rattle.block_checker.specs.Bound.{bound_of as bound_for};
-ghost use Rattle.vreg_groups.specs.VectorLength.{IsVlenb};
+ghost use Rattle.vreg_groups.specs.VectorLength.{IsVlenb, vlenb_of};
 ghost use Rattle.block_checker.specs.Accepted.{AcceptedView};
 ghost use Rattle.rvvbox_c.specs.Holds.{IsFailure, IsKeptOf};
 ghost use Rattle.rvvbox_c.specs.Places.{KeepsOutside};
+ghost use Rattle.rvvbox_c.specs.Runs.{HasRun, HasRunFile};
 ghost use Rattle.rvvbox_c.specs.Scalars.{by_place};
 ghost use Rattle.rvvbox_c.specs.declared.status.Status.TheVariants.{Done};
 
@@ -213,13 +214,16 @@ fn run_session<const VLENB: usize>(
     ensures length { length memory.new ≡ length memory.old }
     ensures outside { KeepsOutside places.now memory.old memory.new }
     ensures refused { IfErr result (λ _. memory.new ≡ memory.old) }
+    ensures failed { IfErr result (λ status. status ≢ Done) }
+    ensures ran { IfOk result (λ steps.
+        HasRun VLENB agnostic accepted.now places.now memory.old memory.new steps) }
     ensures within { IfOk result (λ steps. steps ≤ max) }
 {
     let args = arguments(alloc, memory, places)?;
     match Session::<VLENB>::open(alloc, accepted, args, agnostic, max) {
         Ok(mut session) => {
             let steps = session.run();
-            put_all_back(&session.close(), memory, places);
+            put_all_back(&session.close().places, memory, places);
             Ok(steps)
         }
         Err((error, _args)) => Err(Status::from(error)),
@@ -237,6 +241,8 @@ pub(crate) fn run_one(
 ) -> Ran
     ensures length { length memory.new ≡ length memory.old }
     ensures outside { KeepsOutside places.now memory.old memory.new }
+    ensures ran { result.status ≡ 0 → HasRun (vlenb_of accepted.now.vlen) agnostic accepted.now
+        places.now memory.old memory.new result.steps }
     ensures within { result.steps ≤ max }
 {
     let steps = match accepted.vlen() {
@@ -300,8 +306,8 @@ pub extern "C" fn rvvbox_run(
     places: &[Place],
     steps: &mut u64,
 ) -> u32
-    ensures accepted { result ≡ 0 → (a : AcceptedView)
-        × IsKeptOf file.now setting.now.vlen (Some a) }
+    ensures ran { result ≡ 0 → HasRunFile file.now setting.now.vlen setting.now.agnostic
+        places.now memory.old memory.new steps.new }
     ensures length { length memory.new ≡ length memory.old }
     ensures outside { KeepsOutside places.now memory.old memory.new }
     ensures within { result ≡ 0 → steps.new ≤ setting.now.max }

@@ -3,6 +3,7 @@ ghost use Rattle.std.specs.Prelude.{◌≡◌, ◌≤◌, ◌+◌, ◌*◌, ◌^
 ghost use Rattle.block_checker.specs.Bound.{bound_of as bound_for};
 ghost use Rattle.rvvbox_c.specs.Holds.{IsFailure, IsKeptOf};
 ghost use Rattle.rvvbox_c.specs.Places.{KeepsOutside};
+ghost use Rattle.rvvbox_c.specs.Runs.{HasRunSet};
 ghost use Rattle.rvvbox_c.specs.Scalars.{by_place};
 
 use crate::accept::{accept, agnostic_of, vlen_of};
@@ -85,6 +86,8 @@ fn run_set(
 ) -> Ran
     ensures length { length memory.new ≡ length memory.old }
     ensures outside { KeepsOutside places.now memory.old memory.new }
+    ensures ran { result.status ≡ 0 → HasRunSet setting.now.agnostic accepted.now
+        places.now memory.old memory.new result.steps }
     ensures within { result.steps ≤ setting.now.max }
 {
     if vlen_of(setting.vlen) != Some(accepted.vlen()) {
@@ -110,6 +113,8 @@ pub extern "C" fn rvvbox_run_accepted(
     ensures length { length memory.new ≡ length memory.old }
     ensures outside { KeepsOutside places.now memory.old memory.new }
     ensures nothing { handle.old.kept ≡ None → IsFailure result }
+    ensures ran { result ≡ 0 → IfSome handle.old.kept (λ a. HasRunSet setting.now.agnostic a
+        places.now memory.old memory.new steps.new) }
     ensures within { result ≡ 0 → steps.new ≤ setting.now.max }
 {
     let Some(places) = eight(places) else {

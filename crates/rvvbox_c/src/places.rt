@@ -1,6 +1,8 @@
 //! The eight places of a run, in the host's memory.
-ghost use Rattle.std.specs.Prelude.{◌≡◌, ◌≢◌, ◌+◌, ℕ, IfSome, drop, length, slice_index_or, take};
+ghost use Rattle.std.specs.Prelude.{◌≡◌, ◌≢◌, ◌+◌, ℕ, IfErr, IfOk, IfSome, drop, length, slice_index_or, take};
 ghost use Rattle.rvvbox_c.specs.Places.{IsApart, KeepsOutside};
+ghost use Rattle.rvvbox_c.specs.declared.status.Status.TheVariants.{Done};
+ghost use Rattle.rvvbox_c.specs.Runs.{all_put, argument_of, arguments_of, put_at};
 
 use crate::status::Status;
 use region_mem::{Arg, Args, Bytes, Mode, Param, Parameters};
@@ -18,12 +20,19 @@ pub struct Place {
 }
 
 /// The bytes that a place names, where the memory has them.
-fn named(memory: &[u8], place: Place) -> Option<&[u8]> {
+fn named(memory: &[u8], place: Place) -> Option<&[u8]>
+    ensures { IfSome result
+        (λ bytes. bytes.now ≡ take place.size (drop place.from memory.now)) }
+{
     let to = place.from.checked_add(place.size)?;
     memory.get(place.from..to)
 }
 
-fn argument(alloc: Global, memory: &[u8], place: Place) -> Result<Arg, Status> {
+/// What a place names, with a copy of its bytes.
+fn argument(alloc: Global, memory: &[u8], place: Place) -> Result<Arg, Status>
+    ensures named { IfOk result (λ arg. arg ≡ argument_of memory.now place) }
+    ensures failed { IfErr result (λ status. status ≢ Done) }
+{
     match place.kind {
         0 => Ok(Arg::None),
         1 => Ok(Arg::Scalar(place.value)),
@@ -36,7 +45,10 @@ fn argument(alloc: Global, memory: &[u8], place: Place) -> Result<Arg, Status> {
 }
 
 /// The arguments that eight places name, with copies of their bytes.
-pub(crate) fn arguments(alloc: Global, memory: &[u8], places: &[Place; 8]) -> Result<Args, Status> {
+pub(crate) fn arguments(alloc: Global, memory: &[u8], places: &[Place; 8]) -> Result<Args, Status>
+    ensures named { IfOk result (λ args. args.places ≡ arguments_of places.now memory.now) }
+    ensures failed { IfErr result (λ status. status ≢ Done) }
+{
     let [a, b, c, d, e, f, g, h] = *places;
     Ok(Args {
         places: [
@@ -59,6 +71,7 @@ fn put_back(arg: &Arg, memory: &mut [u8], place: Place)
     ensures read { place.kind ≢ 2 → memory.new ≡ memory.old }
     ensures behind { drop (place.from + place.size) memory.new
         ≡ drop (place.from + place.size) memory.old }
+    ensures value { memory.new ≡ put_at arg.now place memory.old }
     ensures apart { (i : ℕ) → IsApart place i
         → slice_index_or memory.new i 0 ≡ slice_index_or memory.old i 0 }
 {
@@ -77,12 +90,14 @@ fn put_back(arg: &Arg, memory: &mut [u8], place: Place)
 }
 
 /// Puts all buffers back where they came from.
-pub fn put_all_back(args: &Args, memory: &mut [u8], places: &[Place; 8])
+#[tactic(auto, using(crate::proofs::PlaceLemmas::all_put_next, crate::proofs::PlaceLemmas::all_put_done))]
+pub fn put_all_back(args: &[Arg; 8], memory: &mut [u8], places: &[Place; 8])
     ensures length { length memory.new ≡ length memory.old }
+    ensures value { memory.new ≡ all_put args.now places.now memory.old }
     ensures outside { KeepsOutside places.now memory.old memory.new }
 {
     for place in 0..8 {
-        put_back(&args.places[place], memory, places[place]);
+        put_back(&args[place], memory, places[place]);
     }
 }
 

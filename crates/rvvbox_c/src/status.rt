@@ -118,6 +118,8 @@ impl From<ElfError> for Status {
 }
 
 impl From<OpenError> for Status {
+    ghost from_gives = { λ _ status. status ≢ Done };
+
     fn from(error: OpenError) -> Status {
         match error {
             OpenError::WrongKind(_) => Status::WrongKind,

@@ -148,7 +148,7 @@ pub extern "C" fn rvvbox_try(
     match performed(alloc, file, setting, memory, places) {
         Ok(tried) => {
             *stopped = tried.stopped;
-            put_all_back(&tried.args, memory, places);
+            put_all_back(&tried.args.places, memory, places);
             tried.status.code()
         }
         Err(status) => status.code(),
