@@ -1,5 +1,5 @@
 -- A session's run is that of what it was opened with.
-use Rattle.std.proofs.Common.{◌≡◌, ◌∙◌, ◌≤◌, ◌-◌, ℕ, List, ap, sym, subst, arith}
+use Rattle.std.proofs.Common.{◌≡◌, ◌≤◌, ◌-◌, ℕ, List, subst, arith}
 use Rattle.region_mem.specs.Parameter.{Argument, AreArguments}
 use Rattle.vreg_groups.specs.declared.policies.Agnostic.{Agnostic}
 use Rattle.vector_core.specs.Machine.{Machine}

@@ -1,4 +1,4 @@
-use Rattle.std.proofs.Common.{◌≡◌, ◌∙◌, ◌≤◌, ap, sym, subst, ℕ, List}
+use Rattle.std.proofs.Common.{◌∙◌, ◌≤◌, ap, sym, subst, ℕ, List}
 use Rattle.region_mem.specs.Parameter.{Argument}
 use Rattle.rvvbox_c.specs.Runs.{all_put, arguments_of}
 use Rattle.rvvbox_c.proofs.RunLemmas.{is_run}
