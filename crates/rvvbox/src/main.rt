@@ -25,15 +25,22 @@ struct Prompting<R, E> {
     begun: bool,
 }
 
+impl<R, E: Write> Prompting<R, E> {
+    /// Asks for a line, after the commands where it is the first. What standard error does not take changes nothing.
+    fn ask(&mut self) {
+        if !self.begun {
+            self.begun = true;
+            let _told = self.errors.write_all(COMMANDS.as_bytes());
+        }
+        let _asked = self.errors.write_all(b"> ".as_slice());
+        let _shown = self.errors.flush();
+    }
+}
+
 impl<R: Read, E: Write> Read for Prompting<R, E> {
     fn read(&mut self, buf: &mut [u8]) -> io::Result<usize> {
         if self.asks {
-            if !self.begun {
-                self.begun = true;
-                self.errors.write_all(COMMANDS.as_bytes())?;
-            }
-            self.errors.write_all(b"> ".as_slice())?;
-            self.errors.flush()?;
+            self.ask();
         }
         self.reader.read(buf)
     }
