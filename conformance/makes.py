@@ -231,7 +231,7 @@ WRONG = {
     7: ['add a0,t1,a0', 'add a0,a0,t0', 'add a0,a0,a0', 'add a0,a2,t1', 'add a2,a0,t1', 'add a1,a1,t1', 'add a3,a3,t1', 'add t1,t1,t1', 'addi a0,a0,4', 'sub a0,a0,t1',
         'add a0,a0,x0', 'sub a1,a1,t0', 'vle32.v v8,(a0)', 'vadd.vi v8,v8,1', ('add a2,a2,t1', 8)],
     8: ['add a2,t1,a2', 'add a2,a2,t0', 'add a0,a0,t1', 'add a4,a4,t1', 'sub a1,a1,t0', 'add a2,a2,a1', 'slli t1,t0,2'],
-    9: ['sub a1,t0,a1', 'sub a1,a1,t1', 'sub a1,a2,t0', 'sub a2,a1,t0', 'sub t0,a1,t0', 'sub a1,a1,x0', 'sub a1,a1,a1', 'addi a1,a1,-1', 'add a1,a1,t0', 'bnez a1,loop',
+    9: ['sub a1,t0,a1', 'sub a1,a1,t1', 'sub a1,a2,t0', 'sub a2,a1,t0', 'sub t0,a1,t0', 'sub a3,a3,t0', 'sub t0,t0,t0', 'sub a1,a1,x0', 'sub a1,a1,a1', 'addi a1,a1,-1', 'add a1,a1,t0', 'bnez a1,loop',
         'add a0,a0,t1', 'add a3,a3,t1'],
     10: ['bne x0,a1,loop', 'beqz a1,loop', 'bnez t0,loop', 'bnez a0,loop', 'bnez x0,loop', 'bne a1,a1,loop', 'bne a1,a2,loop', 'bnez a1,end', 'bnez a1,0x10000', 'bnez a1,0x10008',
          'bnez a1,0x10006', 'bnez a1,0x10002', 'blt x0,a1,loop', 'bltu x0,a1,loop', 'bgeu a1,t2,loop', 'j loop', 'ret', 'sub a1,a1,t0'],

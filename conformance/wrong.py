@@ -1,7 +1,7 @@
 """Which row notices a wrong definition: changes a second program in one place at a time, and looks for the first row of each table that no longer holds.
 
-Usage: wrong.py [CLASS or NAME..]. The lists are in wrong_machine.py, wrong_checker.py, wrong_files.py and wrong_runs.py. A definition that is one in other
-words, so that no row can notice it, has its reason in SAME of that file.
+Usage: wrong.py [CLASS or NAME..]. The lists are in wrong_machine.py, wrong_checker.py, wrong_files.py, wrong_runs.py and wrong_maker.py. A definition that
+is one in other words, so that no row can notice it, has its reason in SAME of that file.
 """
 import os
 import struct
@@ -14,12 +14,13 @@ import table
 import wrong_checker
 import wrong_files
 import wrong_machine
+import wrong_maker
 import wrong_runs
 
 HERE = os.path.dirname(os.path.abspath(__file__))
 DATA = os.path.join(HERE, '../crates/conformance/data/')
 # In an order in which each stands behind those that it imports.
-MODULES = ('table', 'model', 'certificates', 'checker', 'opening', 'runs')
+MODULES = ('table', 'model', 'certificates', 'checker', 'opening', 'runs', 'maker')
 
 
 def source(name):
@@ -170,6 +171,25 @@ def image_holds(w, line):
     return right == 'read ' + ('-' if certificate is None else certificate.hex() or 'empty')
 
 
+def param_of(c, text):
+    if text == '-':
+        return c.Param('none')
+    if text[0] == 's':
+        return c.Param('scalar', 0, *(int(end, 16) for end in text[1:].split(':')))
+    return c.Param('buffer', {'r': c.READ, 'w': c.READ | c.WRITE}[text[0]], int(text[1:]))
+
+
+def make_holds(w, line):
+    left, right = line.split(' = ')
+    vlenb, *passed, file = left.split()
+    c = w.certificates
+    try:
+        made = w.maker.make(c.read_image(bytes.fromhex(file)), [param_of(c, text) for text in passed], int(vlenb))
+    except w.maker.NotALoop as e:
+        return e.text == right
+    return right.split()[:2] == ['made', c.certificate_bytes(made).hex()]
+
+
 # ---- Classes -------------------------------------------------------------------------------------------------------------------------------
 
 MACHINE_ROWS = (('words.txt', word_holds), ('legality.txt', legality_holds), ('steps.txt', step_holds), ('runs.txt', run_holds))
@@ -185,7 +205,8 @@ CLASSES = [
     Class('notes', 'certificates', wrong_files.NOTES, wrong_files.SAME_NOTES, SPELLED_ROWS),
     Class('images', 'certificates', wrong_files.IMAGES, wrong_files.SAME_IMAGES, (('images.txt', image_holds),) + SPELLED_ROWS),
     Class('start', 'runs', wrong_runs.START, [], RUN_ROWS),
-    Class('opening', 'opening', wrong_runs.OPENING, wrong_runs.SAME, (('sessions.txt', opening_holds),))]
+    Class('opening', 'opening', wrong_runs.OPENING, wrong_runs.SAME, (('sessions.txt', opening_holds),)),
+    Class('maker', 'maker', wrong_maker.MAKER, wrong_maker.SAME, (('makes.txt', make_holds),))]
 
 
 def does_hold(holds, w, line):
