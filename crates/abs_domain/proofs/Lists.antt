@@ -3,8 +3,8 @@ use Rattle.std.proofs.Common.{◌≡◌, ℕ, ◌+◌, ◌<◌, ◌≤◌, Optio
 use Rattle.std.specs.Option.{option_to_list}
 use Rattle.std.proofs.lemmas.List.{drop_more, drop_all}
 use Rattle.region_mem.specs.declared.parameter.Param.{Param}
-use Rattle.abs_state.specs.declared.zones.Zone.{Zone}
-use Rattle.abs_state.specs.Zones.{buffer_zone, buffer_zones}
+use Rattle.abs_domain.specs.declared.zones.Zone.{Zone}
+use Rattle.abs_domain.specs.Zones.{buffer_zone, buffer_zones}
 
 buffer_zones_more : (params : List Param) (i : ℕ) (d : Param) → i < length params
     → buffer_zones params i (drop i params)

@@ -8,16 +8,16 @@ use Rattle.region_mem.specs.declared.faults.Right.{Right}
 use Rattle.region_mem.specs.declared.faults.Right.TheVariants.{Read, Write, Fetch}
 use Rattle.region_mem.specs.Areas.{Area, AreInside, holds, has_right, is_open, is_open_from}
 use Rattle.region_mem.specs.Memory.{Memory, is_permitted, store_of}
-use Rattle.abs_state.specs.Zones.{zone_of, spans, zone_right, is_inside, load_allowed, store_allowed}
+use Rattle.abs_domain.specs.Zones.{zone_of, spans, zone_right, is_inside, load_allowed, store_allowed}
 use Rattle.region_mem.specs.Laws.{Extent, extent_of}
 use Rattle.region_mem.proofs.ByteLemmas.{stores_keep_bytes}
 use Rattle.region_mem.proofs.ExtentLemmas.{stores_keep_extents}
 use Rattle.region_mem.proofs.KeptCode.{stores_keep_code}
-use Rattle.abs_state.specs.declared.why.Why.{Why}
-use Rattle.abs_state.specs.declared.why.Why.TheVariants.{AccessNotProved, ReadOnly}
-use Rattle.abs_state.specs.declared.zones.Zone.{Zone}
-use Rattle.abs_state.specs.StepLaws.{KeepsMemory}
-use Rattle.abs_state.specs.Memories.{HasZones, StoresKeepZones, ZonesArePermitted}
+use Rattle.abs_domain.specs.declared.why.Why.{Why}
+use Rattle.abs_domain.specs.declared.why.Why.TheVariants.{AccessNotProved, ReadOnly}
+use Rattle.abs_domain.specs.declared.zones.Zone.{Zone}
+use Rattle.abs_domain.specs.Memories.{KeepsMemory}
+use Rattle.abs_domain.specs.Memories.{HasZones, StoresKeepZones, ZonesArePermitted}
 
 -- each address from first on and below end is open, and none is past the last one
 record IsOpen (right : Right) (first end : ℕ) (areas : List Area) : Type 0 where

@@ -19,11 +19,11 @@ use Rattle.scalar_core.specs.Csr.{csr_value}
 use Rattle.scalar_core.specs.Arithmetic.{register_result, immediate_result, shift_result, signed, unsigned, unsigned_quotient, unsigned_remainder}
 use Rattle.scalar_core.specs.Step.{loaded, size_of_load}
 use Rattle.scalar_core.proofs.States.{register_result-fits, immediate_result-fits, shift_result-fits, immediate_fits, loaded-fits}
-use Rattle.abs_state.specs.declared.values.Effect.{Effect}
-use Rattle.abs_state.specs.declared.values.Effect.TheVariants.{Fresh}
-use Rattle.abs_state.specs.Values.{ValueView, full_range, just, known_of, up_to}
-use Rattle.abs_state.specs.Effects.{csr_effect, fitting, difference_range, offset_range, constant_effect, sum_effect, difference_effect, offset_form, offset_effect, product_effect, product_by, left_shift_by, right_shift_range, quotient_range, remainder_range, register_effect, immediate_effect, shift_effect, load_effect}
-use Rattle.abs_state.specs.Described.{LiesIn, Means, IsNumber, Describes, CsrEffects, RegisterEffects, ImmediateEffects, ShiftEffects, LoadEffects, ConstantEffects}
+use Rattle.abs_domain.specs.declared.values.Effect.{Effect}
+use Rattle.abs_domain.specs.declared.values.Effect.TheVariants.{Fresh}
+use Rattle.abs_domain.specs.Values.{ValueView, full_range, just, known_of, up_to}
+use Rattle.abs_domain.specs.Effects.{csr_effect, fitting, difference_range, offset_range, constant_effect, sum_effect, difference_effect, offset_form, offset_effect, product_effect, product_by, left_shift_by, right_shift_range, quotient_range, remainder_range, register_effect, immediate_effect, shift_effect, load_effect}
+use Rattle.abs_domain.specs.Described.{LiesIn, Means, IsNumber, Describes, CsrEffects, RegisterEffects, ImmediateEffects, ShiftEffects, LoadEffects, ConstantEffects}
 
 -- ---- ranges
 

@@ -1,35 +1,33 @@
 -- What is known where a block begins is true of the hart there, where its orders split atoms.
-use Rattle.std.proofs.Common.{◌≡◌, ◌≢◌, ◌<◌, ◌≤◌, ◌+◌, ◌-◌, ◌*◌, ◌%◌, ◌^◌, ℕ, zero, suc, Bool, true, false, arith, refl, sym, ap, ◌∙◌, subst, inl, inr, length, length-append, List, [], ◌∷◌, ◌++◌, get_or, get_or-set_same, get_or-set_other, drop, Option, Some, None, IfSome}
-use Rattle.std.specs.Prelude.{if◌then◌else◌, ◌==◌, ◌&&◌, not, nat_le, min, max, find, IsTrue}
+use Rattle.std.proofs.Common.{◌≡◌, ◌≢◌, ◌<◌, ◌≤◌, ◌+◌, ◌-◌, ◌*◌, ◌%◌, ◌^◌, ℕ, zero, suc, Bool, true, false, arith, refl, sym, ap, ◌∙◌, subst, inl, inr, length, List, [], ◌∷◌, ◌++◌, get_or, get_or-set_same, get_or-set_other, drop, Some, None}
+use Rattle.std.specs.Prelude.{if◌then◌else◌, ◌==◌, ◌&&◌, nat_le}
 use Rattle.std.specs.List.{AllByRecursion, slice_get}
 use Rattle.std.proofs.lemmas.Bool.{cases_eq}
-use Rattle.std.proofs.lemmas.Bool.Decides.{nat_tests}
 use Rattle.std.proofs.Math.ListN.{length-set}
 use Rattle.std.proofs.lemmas.List.{drop_more, drop_all}
 use Rattle.linear_facts.specs.declared.ranges.Range.{Range}
 use Rattle.linear_facts.specs.declared.ranges.Atom.{Atom}
 use Rattle.linear_facts.specs.declared.ranges.Split.{Split}
-use Rattle.linear_facts.specs.Forms.{Linear, value, IsForm}
-use Rattle.linear_facts.specs.Laws.{AreBelow}
+use Rattle.linear_facts.specs.Forms.{Linear}
 use Rattle.linear_facts.specs.Ranges.{AgreesWith, IsIn, atom_at, range_at, split_at}
 use Rattle.linear_facts.proofs.LocalityLemmas.{forms-stay, agree-below}
 use Rattle.region_mem.specs.declared.parameter.Param.{Param}
 use Rattle.vreg_groups.specs.declared.vector_length.Vconfig.{Vconfig}
-use Rattle.scalar_core.specs.Hart.{Hart, IsHart}
+use Rattle.scalar_core.specs.Hart.{Hart}
 use Rattle.cert_note.specs.declared.values.RegisterFact.{RegisterFact}
 use Rattle.cert_note.specs.declared.values.Block.{Block}
 use Rattle.cert_note.specs.declared.values.OrderFact.{OrderFact}
-use Rattle.cert_note.specs.Certificate.{CertificateView, IsCertificate, IsBlock, IsOrderFact, AllFrom, after_order, after_block}
-use Rattle.abs_state.specs.Numbers.{plain}
-use Rattle.abs_state.specs.Described.{LiesIn, Means}
-use Rattle.abs_state.specs.Holds.{number_of, table_with, AreSplitsBelow}
-use Rattle.abs_state.specs.Lengths.{with_split}
-use Rattle.abs_state.specs.Blocks.{stated_range, stated_form, passed_range, start_atoms, numbers_by, start_numbers}
-use Rattle.abs_state.specs.BlockLaws.{number_in, OrderIsTrue, HoldsWith, BlockNumbersHold}
-use Rattle.abs_state.specs.Orders.{with_order, with_orders}
-use Rattle.abs_state.proofs.States.{with_number, number_here, number_there, length_push}
-use Rattle.abs_state.proofs.StartForms.{found_is, greater_below, lesser_below}
-use Rattle.abs_state.proofs.StartNumbers.{by_holds, atoms_many, starts_agree, starts_split, stated_means, stated_lies, number_below, number_small, are_stated, all_passed_in, IsStated, atom_of_register}
+use Rattle.cert_note.specs.Certificate.{IsBlock, IsOrderFact, AllFrom, after_order, after_block}
+use Rattle.abs_domain.specs.Numbers.{plain}
+use Rattle.abs_domain.specs.Described.{LiesIn, Means}
+use Rattle.abs_domain.specs.Holds.{number_of, table_with, AreSplitsBelow}
+use Rattle.abs_domain.specs.Numbers.{with_split}
+use Rattle.abs_domain.specs.Starts.{stated_range, stated_form, passed_range, start_atoms, numbers_by, start_numbers}
+use Rattle.abs_domain.specs.BlockLaws.{number_in, OrderIsTrue, HoldsWith, BlockNumbersHold}
+use Rattle.abs_domain.specs.Orders.{with_order, with_orders}
+use Rattle.abs_domain.proofs.States.{with_number, number_here, number_there, length_push}
+use Rattle.abs_domain.proofs.StartForms.{found_is, greater_below, lesser_below}
+use Rattle.abs_domain.proofs.StartNumbers.{by_holds, atoms_many, starts_agree, starts_split, stated_means, stated_lies, number_below, number_small, are_stated, all_passed_in, IsStated, atom_of_register}
 
 -- ---- a new atom, and a split (as in States and Splits)
 

@@ -1,10 +1,9 @@
 -- The sums that a certificate states are forms, and over the atoms of a block's start.
-use Rattle.std.proofs.Common.{◌≡◌, ℕ, ◌<◌, ◌≤◌, ◌+◌, ◌^◌, Bool, true, false, ◌&&◌, ◌||◌, arith, refl, sym, ap, ◌∙◌, subst, inl, inr, length, map, take, get_or, append_assoc, zero, suc, List, [], ◌∷◌, ◌++◌, Option, Some, None, IfSome}
+use Rattle.std.proofs.Common.{◌≡◌, ℕ, ◌<◌, ◌≤◌, ◌+◌, ◌^◌, Bool, true, false, ◌&&◌, ◌||◌, arith, refl, sym, ap, ◌∙◌, subst, length, map, take, get_or, append_assoc, zero, suc, List, [], ◌∷◌, ◌++◌, Option, Some, None, IfSome}
 use Rattle.std.specs.Prelude.{nat_le, nat_lt, ◌-◌, ◌==◌, if◌then◌else◌, find, slice_set, IsTrue}
 use Rattle.std.specs.List.{AllByRecursion, slice_get, range_with_len}
 use Rattle.std.proofs.lemmas.Option.{get_or_from_slice_get}
 use Rattle.std.proofs.lemmas.List.FromFn.{map-range_with_len_more}
-use Rattle.std.specs.Option.{option_map_or}
 use Rattle.std.proofs.lemmas.Bool.Decides.{nat_tests}
 use Rattle.std.proofs.lemmas.List.{map-append, length-map, get_or-map, take-map, take_more, take_more_set, length-take-le}
 use Rattle.linear_facts.specs.declared.forms.Term.{Term as FormTerm}
@@ -19,8 +18,8 @@ use Rattle.cert_note.specs.declared.values.RegisterFact.{RegisterFact}
 use Rattle.cert_note.specs.declared.values.Block.{Block}
 use Rattle.cert_note.specs.declared.values.OrderFact.{OrderFact}
 use Rattle.cert_note.specs.declared.values.Version.{Version}
-use Rattle.cert_note.specs.Certificate.{CertificateView, IsCertificate, IsBlock, IsRegisterFact, IsEquality, IsTerm, IsBudgetOf, IsOrderFact, SaysMore, AllFrom, after_term, after_fact, after_block, is_atom, is_budget, is_scalar, is_second, is_greater, is_lesser, after_order}
-use Rattle.abs_state.specs.Blocks.{form_term, equality_form, HasForm, IsUsable}
+use Rattle.cert_note.specs.Certificate.{CertificateView, IsCertificate, IsBlock, IsRegisterFact, IsEquality, IsTerm, IsBudgetOf, IsOrderFact, SaysMore, AllFrom, after_term, after_fact, after_block, is_atom, is_budget, is_second, is_greater, is_lesser, after_order}
+use Rattle.abs_domain.specs.Starts.{form_term, equality_form, HasForm, IsUsable}
 
 -- ---- lists of the first values of a function
 

@@ -1,9 +1,8 @@
 -- What is known where a block or a run begins is true of the hart there.
-use Rattle.std.proofs.Common.{◌≡◌, ℕ, ◌<◌, ◌≤◌, ◌+◌, ◌%◌, ◌^◌, ◌⊎◌, ◌≢◌, ◌++◌, Bool, true, false, arith, refl, sym, ap, ◌∙◌, subst, inl, inr, length, length-append, map, get_or, zero, suc, List, [], ◌∷◌, Option, Some, None, IfSome}
-use Rattle.std.specs.Prelude.{nat_le, nat_lt, ◌&&◌, ◌-◌, ◌==◌, if◌then◌else◌, find, unwrap_or}
+use Rattle.std.proofs.Common.{◌≡◌, ℕ, ◌<◌, ◌≤◌, ◌+◌, ◌%◌, ◌^◌, ◌⊎◌, ◌≢◌, ◌++◌, Bool, true, false, arith, refl, sym, ap, ◌∙◌, subst, inl, inr, length, length-append, map, List, [], ◌∷◌, Option, Some, None, IfSome}
+use Rattle.std.specs.Prelude.{nat_le, nat_lt, ◌&&◌, ◌-◌, ◌==◌, if◌then◌else◌, unwrap_or}
 use Rattle.std.specs.List.{AllByRecursion, slice_get, range_with_len}
 use Rattle.std.specs.Option.{option_and_then}
-use Rattle.std.proofs.lemmas.Bool.{cases_eq}
 use Rattle.std.proofs.lemmas.Bool.Decides.{nat_tests}
 use Rattle.std.proofs.Math.ListN.{get_or-append, get_or-eq_default}
 use Rattle.std.proofs.Math.Seq.{get_or-append_right}
@@ -11,9 +10,8 @@ use Rattle.std.proofs.lemmas.List.FromFn.{get_or-map-range_with_len, length-map-
 use Rattle.linear_facts.specs.declared.ranges.Range.{Range}
 use Rattle.linear_facts.specs.declared.ranges.Atom.{Atom}
 use Rattle.linear_facts.specs.declared.ranges.Split.{Split}
-use Rattle.linear_facts.specs.Forms.{Linear, value, IsForm, atom_form, number_form}
-use Rattle.linear_facts.specs.Laws.{AreBelow}
-use Rattle.linear_facts.specs.Ranges.{AtomTable, AgreesWith, IsIn, atom_at, range_at, split_at, unknown_atom}
+use Rattle.linear_facts.specs.Forms.{Linear, value, atom_form, number_form}
+use Rattle.linear_facts.specs.Ranges.{AgreesWith, IsIn, atom_at, range_at, split_at, unknown_atom}
 use Rattle.linear_facts.specs.Sums.{range_of_form}
 use Rattle.linear_facts.proofs.FormLaws.{value-atom_form, atom-IsForm}
 use Rattle.region_mem.specs.declared.layout.TheConstants.{STACK_END}
@@ -24,16 +22,15 @@ use Rattle.scalar_core.specs.Hart.{Hart, IsHart, exit, reg_of}
 use Rattle.region_mem.specs.declared.parameter.Param.{Param}
 use Rattle.cert_note.specs.declared.values.Equality.{Equality}
 use Rattle.cert_note.specs.declared.values.RegisterFact.{RegisterFact}
-use Rattle.cert_note.specs.declared.values.Block.{Block}
-use Rattle.cert_note.specs.Certificate.{CertificateView, IsCertificate, IsBlock, IsRegisterFact, IsEquality, SaysMore, AllFrom, after_fact, after_block}
-use Rattle.abs_state.specs.Values.{ValueView, full_range, just, computed_range}
-use Rattle.abs_state.specs.Numbers.{NumbersView, plain, value_at}
-use Rattle.abs_state.specs.Described.{LiesIn, Means, IsNumber}
-use Rattle.abs_state.specs.Holds.{Holds, number_of, table_with, AreSplitsBelow}
-use Rattle.abs_state.specs.Blocks.{fact_for, interval_of, stated_range, equality_form, form_or_atom, stated_form, passed_range, start_atoms, numbers_by, passed_form, entry_form, entry_numbers}
-use Rattle.abs_state.specs.BlockLaws.{IsPassed, ArePassed, number_in, FactIsTrue, IsEntry, EntryNumbersHold}
-use Rattle.abs_state.proofs.States.{computed_lies, form_range_lies}
-use Rattle.abs_state.proofs.StartForms.{found_has, found_passes, equality_is, equality_below, found_is}
+use Rattle.cert_note.specs.Certificate.{IsRegisterFact, SaysMore, AllFrom, after_fact}
+use Rattle.abs_domain.specs.Values.{full_range, just, computed_range}
+use Rattle.abs_domain.specs.Numbers.{plain, value_at}
+use Rattle.abs_domain.specs.Described.{LiesIn, Means, IsNumber}
+use Rattle.abs_domain.specs.Holds.{Holds, number_of, table_with, AreSplitsBelow}
+use Rattle.abs_domain.specs.Starts.{fact_for, interval_of, stated_range, equality_form, form_or_atom, stated_form, passed_range, start_atoms, numbers_by, passed_form, entry_form, entry_numbers}
+use Rattle.abs_domain.specs.BlockLaws.{IsPassed, ArePassed, number_in, FactIsTrue, IsEntry, EntryNumbersHold}
+use Rattle.abs_domain.proofs.States.{computed_lies, form_range_lies}
+use Rattle.abs_domain.proofs.StartForms.{found_has, found_passes, equality_is, equality_below}
 
 -- ---- numbers by their forms and intervals
 

@@ -7,8 +7,8 @@ use Rattle.linear_facts.specs.Forms.{Linear}
 use Rattle.linear_facts.specs.Ranges.{AtomTable}
 use Rattle.linear_facts.specs.Sums.{range_of_form}
 use Rattle.cert_note.specs.declared.values.RegisterFact.{RegisterFact}
-use Rattle.abs_state.specs.Values.{computed_range}
-use Rattle.abs_state.specs.Blocks.{stated_range, stated_form}
+use Rattle.abs_domain.specs.Values.{computed_range}
+use Rattle.abs_domain.specs.Starts.{stated_range, stated_form}
 
 pub form_there : (facts : List RegisterFact) (forms : List Linear) (n : ℕ) (f : Linear) → forms ≡ map (stated_form facts) (range_with_len 0 33)
     → n < 33 → f ≡ get_or forms n f → f ≡ stated_form facts n

@@ -18,9 +18,9 @@ use Rattle.region_mem.specs.Start.{segment_area, stack_area, is_writable, buffer
 use Rattle.region_mem.proofs.Apart.{length_segment, length_zeros}
 use Rattle.region_mem.proofs.Matching.{NonePasses, nothing_wrong}
 use Rattle.region_mem.proofs.StartCode.{starts_inside}
-use Rattle.abs_state.specs.declared.zones.Zone.{Zone}
-use Rattle.abs_state.specs.Zones.{zone_of, segment_zone, stack_zone, may_write, buffer_zone, buffer_zones, zones_of}
-use Rattle.abs_state.specs.StartZones.{ZonesAreThere}
+use Rattle.abs_domain.specs.declared.zones.Zone.{Zone}
+use Rattle.abs_domain.specs.Zones.{zone_of, segment_zone, stack_zone, may_write, buffer_zone, buffer_zones, zones_of}
+use Rattle.abs_domain.specs.StartZones.{ZonesAreThere}
 
 -- What a test finds among the zones of areas does not hang on their order.
 abbrev any : (Zone → Bool) → List Area → Bool

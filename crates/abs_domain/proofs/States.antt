@@ -1,9 +1,10 @@
 -- A described number may be put into its register.
-use Rattle.std.proofs.Common.{◌≡◌, ◌≢◌, ◌<◌, ◌≤◌, ◌+◌, ◌%◌, ◌^◌, ℕ, zero, suc, Bool, true, false, arith, refl, sym, ap, ◌∙◌, subst, inl, inr, length, length-append, List, [], ◌∷◌, ◌++◌, get_or, get_or-set_same, get_or-set_other, Option, Some, None, IfSome}
+use Rattle.std.proofs.Common.{◌≡◌, ◌≢◌, ◌<◌, ◌≤◌, ◌+◌, ◌*◌, ◌%◌, ◌^◌, ℕ, zero, suc, Bool, true, false, arith, refl, sym, ap, ◌∙◌, subst, inl, inr, length, length-append, List, [], ◌∷◌, ◌++◌, get_or, get_or-set_same, get_or-set_other, Option, Some, None, IfSome}
 use Rattle.std.specs.Prelude.{if◌then◌else◌, ◌==◌, nat_le, min, max, slice_set}
 use Rattle.std.proofs.lemmas.Bool.{cases_eq}
 use Rattle.std.proofs.lemmas.Bool.Decides.{nat_tests}
 use Rattle.std.proofs.Math.ListN.{length-set}
+use Rattle.linear_facts.specs.declared.forms.Term.{Term}
 use Rattle.linear_facts.specs.declared.ranges.Range.{Range}
 use Rattle.linear_facts.specs.declared.ranges.Atom.{Atom}
 use Rattle.linear_facts.specs.declared.ranges.Split.{Split}
@@ -15,13 +16,13 @@ use Rattle.linear_facts.proofs.RangeLaws.{range_of_form-holds}
 use Rattle.linear_facts.proofs.LocalityLemmas.{forms-stay, agree-below, ranges-fit}
 use Rattle.vreg_groups.specs.declared.vector_length.Vconfig.{Vconfig}
 use Rattle.scalar_core.specs.Hart.{Hart, IsHart, reg_of, with_reg}
-use Rattle.abs_state.specs.declared.values.Effect.{Effect}
-use Rattle.abs_state.specs.declared.values.Effect.TheVariants.{Computed, Fresh, Copied}
-use Rattle.abs_state.specs.Values.{ValueView, just, or_full, or_own, computed_range}
-use Rattle.abs_state.specs.Numbers.{NumbersView, plain, table_of, value_at, with_atom, with_value, with_fresh, with_short, with_computed, with_effect, with_result}
-use Rattle.abs_state.specs.Described.{LiesIn, Means, IsNumber, Describes}
-use Rattle.abs_state.specs.Holds.{number_of, table_with, AreSplitsBelow, Holds, Follows, ResultsHold}
-use Rattle.abs_state.proofs.Operations.{full_lies}
+use Rattle.abs_domain.specs.declared.values.Effect.{Effect}
+use Rattle.abs_domain.specs.declared.values.Effect.TheVariants.{Computed, Fresh, Copied}
+use Rattle.abs_domain.specs.Values.{ValueView, just, or_full, or_own, computed_range}
+use Rattle.abs_domain.specs.Numbers.{NumbersView, atom_of_terms, plain, table_of, value_at, with_atom, with_value, with_fresh, with_short, with_computed, with_effect, with_result}
+use Rattle.abs_domain.specs.Described.{LiesIn, Means, IsNumber, Describes}
+use Rattle.abs_domain.specs.Holds.{number_of, table_with, AreSplitsBelow, Holds, Follows, ResultsHold}
+use Rattle.abs_domain.proofs.Operations.{full_lies}
 
 -- ---- a new atom
 
@@ -348,3 +349,29 @@ result_holds s v h config rd x e is l holds d = by_test (rd == 0) refl
     by_test false k =
         let some : 0 < rd = grind (arith, nat_tests) in
         effect_holds s v h config rd x e is some l holds d
+
+-- a form that is one whole atom is that atom's number
+pub whole_is : (v : ℕ → ℕ) (c : ℕ) (ts : List Term) (a : ℕ) → ((b : ℕ) → v b < 2 ^ 32)
+    → (if c == 0 then atom_of_terms ts else None) ≡ Some a → value v record { constant = c; terms = ts } ≡ v a
+unfolding value
+whole_is v c [] a fits e = by_test (c == 0) e
+  where
+    by_test : {P : Type 0} (t : Bool) → (if t then None else None) ≡ Some a → P
+    by_test true f = cc
+    by_test false f = cc
+whole_is v c (t ∷ []) a fits e = by_test (c == 0) refl (t.coefficient == 1) refl e
+  where
+    by_test : (p : Bool) → (c == 0) ≡ p → (q : Bool) → (t.coefficient == 1) ≡ q
+        → (if p then (if q then Some t.atom else None) else None) ≡ Some a → (c + (t.coefficient * v t.atom + 0)) % 2 ^ 32 ≡ v a
+    by_test true g true h f =
+        let none : c ≡ 0 = grind (arith, nat_tests) in
+        let one : t.coefficient ≡ 1 = grind (arith, nat_tests) in
+        let is : t.atom ≡ a = cc in
+        omega (arith, none, ap (λ (k : ℕ). k * v t.atom) one, fits t.atom, ap v is)
+    by_test true g false h f = cc
+    by_test false g q h f = cc
+whole_is v c (t ∷ u ∷ ts) a fits e = by_test (c == 0) e
+  where
+    by_test : {P : Type 0} (t : Bool) → (if t then None else None) ≡ Some a → P
+    by_test true f = cc
+    by_test false f = cc

@@ -1,12 +1,12 @@
 -- That what is known where a block or a run begins is true of the hart there.
 use Rattle.std.specs.Prelude.{ℕ, ◌≡◌, ◌≢◌, ◌<◌, ◌≤◌, ◌+◌, ◌-◌, ◌^◌, ◌==◌, ◌⊎◌, nat_le, if◌then◌else◌, List, length, Option, Some, None, find, unwrap_or, IfSome}
 use Rattle.std.specs.List.{AllByRecursion, slice_get}
-use Rattle.abs_state.specs.Words.{value, STACK_END, Vconfig, Hart, IsHart, exit, reg_of, Param, RegisterFact, OrderFact, Block, CertificateView, IsCertificate}
+use Rattle.abs_domain.specs.Words.{value, STACK_END, Vconfig, Hart, IsHart, exit, reg_of, Param, RegisterFact, OrderFact, Block, CertificateView, IsCertificate}
 use Rattle.region_mem.specs.declared.parameter.Param.TheVariants as parameter
 use Rattle.region_mem.specs.Parameter.{address_of}
-use Rattle.abs_state.specs.Holds.{Holds, number_of}
-use Rattle.abs_state.specs.Numbers.{NumbersView}
-use Rattle.abs_state.specs.Blocks.{equality_form, start_numbers, entry_numbers}
+use Rattle.abs_domain.specs.Holds.{Holds, number_of}
+use Rattle.abs_domain.specs.Numbers.{NumbersView}
+use Rattle.abs_domain.specs.Starts.{equality_form, start_numbers, entry_numbers}
 
 -- what is passed for a parameter: 0 for none, a number in its interval for a scalar, the buffer's address for a buffer
 abbrev pub IsPassed : List Param → ℕ → Option Param → ℕ → Type 0

@@ -2,15 +2,15 @@
 use Rattle.std.specs.Prelude.{ℕ, ◌≡◌, ◌<◌, ◌≤◌, ◌^◌, ℤ, IfSome}
 use Rattle.std.specs.Int.{w32}
 use Rattle.std.specs.Int.RustNames.{FitsSigned}
-use Rattle.abs_state.specs.Words.{Range, Linear, value, IsForm, RegisterOp, ImmediateOp, ShiftOp, LoadKind, CsrName, Vconfig, Hart, IsHart, unsigned, size_of_load}
+use Rattle.abs_domain.specs.Words.{Range, Linear, value, IsForm, RegisterOp, ImmediateOp, ShiftOp, LoadKind, CsrName, Vconfig, Hart, IsHart, unsigned, size_of_load}
 use Rattle.linear_facts.specs.Laws.{AreBelow}
 use Rattle.scalar_core.specs.Csr.{csr_value}
 use Rattle.scalar_core.specs.Arithmetic.{register_result, immediate_result, shift_result}
 use Rattle.scalar_core.specs.Step.{loaded}
-use Rattle.abs_state.specs.declared.values.Effect.{Effect}
-use Rattle.abs_state.specs.declared.values.Effect.TheVariants.{Computed, Fresh, Copied}
-use Rattle.abs_state.specs.Values.{ValueView}
-use Rattle.abs_state.specs.Effects.{constant_effect, csr_effect, register_effect, immediate_effect, shift_effect, load_effect}
+use Rattle.abs_domain.specs.declared.values.Effect.{Effect}
+use Rattle.abs_domain.specs.declared.values.Effect.TheVariants.{Computed, Fresh, Copied}
+use Rattle.abs_domain.specs.Values.{ValueView}
+use Rattle.abs_domain.specs.Effects.{constant_effect, csr_effect, register_effect, immediate_effect, shift_effect, load_effect}
 
 -- x lies in a range of numbers of 32 bits.
 pub record LiesIn (r : Range) (x : ℕ) : Type 0 where

@@ -1,15 +1,15 @@
 -- What the instructions of RV32I and M make of the numbers of their operands, as far as these are known. An effect holds a
 -- form or a range, and its rule says what is known of the result.
 use Rattle.std.specs.Prelude.{ℕ, ◌+◌, ◌-◌, ◌*◌, ◌/◌, ◌%◌, ◌^◌, ◌==◌, nat_lt, nat_le, ◌&&◌, min, if◌then◌else◌, Option, Some, None}
-use Rattle.abs_state.specs.Words.{Range, Linear, number_form, scaled, sum_of, RegisterOp, ImmediateOp, ShiftOp, LoadKind, CsrName}
+use Rattle.abs_domain.specs.Words.{Range, Linear, number_form, scaled, sum_of, RegisterOp, ImmediateOp, ShiftOp, LoadKind, CsrName}
 use Rattle.rv_decode.specs.declared.instructions.RegisterOp.TheVariants.{Add, Sub, Sll, Slt, Sltu, Xor, Srl, Sra, Or, And, Mul, Mulh, Mulhsu, Mulhu, Div, Divu, Rem, Remu}
 use Rattle.rv_decode.specs.declared.instructions.ImmediateOp.TheVariants.{Addi, Slti, Sltiu, Xori, Ori, Andi}
 use Rattle.rv_decode.specs.declared.instructions.ShiftOp.TheVariants.{Slli, Srli, Srai}
 use Rattle.rv_decode.specs.declared.instructions.LoadKind.TheVariants as load
 use Rattle.rv_decode.specs.declared.instructions.CsrName.TheVariants as csr
-use Rattle.abs_state.specs.declared.values.Effect.{Effect}
-use Rattle.abs_state.specs.declared.values.Effect.TheVariants.{Computed, Fresh, Copied}
-use Rattle.abs_state.specs.Values.{ValueView, full_range, just, known_of, up_to}
+use Rattle.abs_domain.specs.declared.values.Effect.{Effect}
+use Rattle.abs_domain.specs.declared.values.Effect.TheVariants.{Computed, Fresh, Copied}
+use Rattle.abs_domain.specs.Values.{ValueView, full_range, just, known_of, up_to}
 
 -- ---- interval arithmetic, where it stays within 32 bits
 

@@ -1,11 +1,11 @@
 -- That what is known of the registers and of vl is true of a hart.
 use Rattle.std.specs.Prelude.{ℕ, ◌≡◌, ◌<◌, ◌≤◌, ◌==◌, if◌then◌else◌, List, length, Some, None}
-use Rattle.abs_state.specs.Words.{Atom, Split, AtomTable, AgreesWith, Vconfig, Hart, IsHart, reg_of}
+use Rattle.abs_domain.specs.Words.{Atom, Split, AtomTable, AgreesWith, Vconfig, Hart, IsHart, reg_of}
 use Rattle.linear_facts.specs.Ranges.{split_at}
 use Rattle.scalar_core.specs.Hart.{with_reg}
-use Rattle.abs_state.specs.declared.values.Effect.{Effect}
-use Rattle.abs_state.specs.Numbers.{NumbersView, value_at, with_result}
-use Rattle.abs_state.specs.Described.{IsNumber, Describes}
+use Rattle.abs_domain.specs.declared.values.Effect.{Effect}
+use Rattle.abs_domain.specs.Numbers.{NumbersView, value_at, with_result}
+use Rattle.abs_domain.specs.Described.{IsNumber, Describes}
 
 -- the number of register i, or of vl for 32
 abbrev pub number_of : ℕ → Hart → Vconfig → ℕ

@@ -1,11 +1,11 @@
--- Zones of a memory, and what is permitted there.
+-- Zones of a memory, what is permitted there, and what a step keeps of a memory.
 use Rattle.std.specs.Prelude.{ℕ, ◌≡◌, ◌≤◌, ◌+◌, Bool, true, List, map, Some}
 use Rattle.std.specs.List.{list_any}
-use Rattle.abs_state.specs.Words.{Right, Memory}
+use Rattle.abs_domain.specs.Words.{Right, IsCodeSafe, AreBytes, Memory}
 use Rattle.region_mem.specs.Areas.{AreInside}
-use Rattle.region_mem.specs.Memory.{is_permitted, store_of}
-use Rattle.abs_state.specs.declared.zones.Zone.{Zone}
-use Rattle.abs_state.specs.Zones.{zone_of, is_inside}
+use Rattle.region_mem.specs.Memory.{is_permitted, store_of, fetch_of}
+use Rattle.abs_domain.specs.declared.zones.Zone.{Zone}
+use Rattle.abs_domain.specs.Zones.{zone_of, is_inside}
 
 -- The memory has these zones: whatever a test finds among them it finds among the zones of the memory's areas, of which none
 -- passes the last address.
@@ -25,3 +25,10 @@ abbrev pub StoresKeepZones : Type 0
 StoresKeepZones =
     (address n value : ℕ) (zones : List Zone) (m stored : Memory) → HasZones zones m
     → store_of address n value m ≡ Some stored → HasZones zones stored
+
+-- What a step keeps of memory: its zones; where no byte that may be fetched may be written, that and all that is fetched; that
+-- it holds bytes.
+pub record KeepsMemory (m next : Memory) : Type 0 where
+  pub zones : (zones : List Zone) → HasZones zones m → HasZones zones next
+  pub code : IsCodeSafe m → IsCodeSafe next × ((pc : ℕ) → fetch_of pc next ≡ fetch_of pc m)
+  pub bytes : AreBytes m → AreBytes next

@@ -1,9 +1,11 @@
 -- The numbers of the registers and of vl, as far as they are known, over atoms.
 use Rattle.std.specs.Prelude.{ℕ, ◌==◌, if◌then◌else◌, List, [], ◌∷◌, ◌++◌, length, replicate, slice_set, slice_index_or, Option, Some, None}
-use Rattle.abs_state.specs.Words.{Range, Atom, Linear, number_form, atom_form, within, AtomTable, range_of_form}
-use Rattle.abs_state.specs.declared.values.Effect.{Effect}
-use Rattle.abs_state.specs.declared.values.Effect.TheVariants.{Computed, Fresh, Copied}
-use Rattle.abs_state.specs.Values.{ValueView, just, or_full, computed_range}
+use Rattle.linear_facts.specs.declared.forms.Term.{Term}
+use Rattle.linear_facts.specs.Ranges.{unknown_atom}
+use Rattle.abs_domain.specs.Words.{Range, Atom, Split, Linear, number_form, atom_form, within, AtomTable, range_of_form}
+use Rattle.abs_domain.specs.declared.values.Effect.{Effect}
+use Rattle.abs_domain.specs.declared.values.Effect.TheVariants.{Computed, Fresh, Copied}
+use Rattle.abs_domain.specs.Values.{ValueView, just, or_full, computed_range}
 
 -- The atoms; the forms and ranges of x0 to x31 and, as number 32, of vl.
 pub record NumbersView : Type 0 where
@@ -23,6 +25,18 @@ zero_numbers = record {
 abbrev pub table_of : NumbersView → AtomTable
 table_of s = record { atoms = s.atoms; first = None; second = None }
 
+abbrev pub atom_of_term : Term → Option ℕ
+atom_of_term t = if t.coefficient == 1 then Some t.atom else None
+
+abbrev pub atom_of_terms : List Term → Option ℕ
+atom_of_terms [] = None
+atom_of_terms (t ∷ []) = atom_of_term t
+atom_of_terms (t ∷ u ∷ ts) = None
+
+-- the atom that a form is
+unfoldable pub whole_atom : Linear → Option ℕ
+whole_atom f = if f.constant == 0 then atom_of_terms f.terms else None
+
 -- what is known of the number of register i, or of vl
 unfoldable pub value_at : NumbersView → ℕ → ValueView
 value_at s i = record {
@@ -37,6 +51,11 @@ plain r = record { range = r; split = None }
 -- one atom more
 abbrev pub with_atom : Range → NumbersView → NumbersView
 with_atom r s = record s { atoms = s.atoms ++ plain r ∷ [] }
+
+-- an atom is the sum of two others, whatever it was before
+unfoldable pub with_split : ℕ → Split → List Atom → List Atom
+with_split a s atoms =
+    slice_set atoms a record { range = (slice_index_or atoms a unknown_atom).range; split = Some s }
 
 -- number i becomes one that is known
 unfoldable pub with_value : ℕ → ValueView → NumbersView → NumbersView

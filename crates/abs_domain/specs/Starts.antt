@@ -3,17 +3,14 @@
 use Rattle.std.specs.Prelude.{ℕ, ◌<◌, ◌≤◌, ◌+◌, ◌-◌, ◌==◌, nat_le, nat_lt, ◌&&◌, if◌then◌else◌, List, [], ◌++◌, length, map, find, unwrap_or, Option, Some, None, IfSome}
 use Rattle.std.specs.List.{slice_get, range_with_len, AllByRecursion}
 use Rattle.std.specs.Option.{option_and_then}
-use Rattle.abs_state.specs.Words.{ImageView, Range, Atom, Linear, IsForm, number_form, atom_form, AtomTable, range_of_form, STACK_END, vlenb_of, exit, Param, Equality, RegisterFact, OrderFact, Block, CertificateView}
+use Rattle.abs_domain.specs.Words.{Range, Atom, Linear, IsForm, number_form, atom_form, AtomTable, range_of_form, STACK_END, exit, Param, Equality, RegisterFact, OrderFact, Block}
 use Rattle.linear_facts.specs.declared.forms.Term.{Term as FormTerm}
 use Rattle.region_mem.specs.declared.parameter.Param.TheVariants as parameter
 use Rattle.region_mem.specs.Parameter.{address_of}
 use Rattle.cert_note.specs.declared.values.Term.{Term}
-use Rattle.abs_state.specs.declared.state.Way.TheVariants.{To}
-use Rattle.abs_state.specs.Values.{full_range, just, computed_range}
-use Rattle.abs_state.specs.Numbers.{NumbersView, plain, value_at}
-use Rattle.abs_state.specs.Orders.{with_orders}
-use Rattle.abs_state.specs.Zones.{zones_of}
-use Rattle.abs_state.specs.State.{AbstractView}
+use Rattle.abs_domain.specs.Values.{full_range, just, computed_range}
+use Rattle.abs_domain.specs.Numbers.{NumbersView, plain}
+use Rattle.abs_domain.specs.Orders.{with_orders}
 
 -- the fact on a register, or on vl (32), if there is one
 abbrev pub fact_for : List RegisterFact → ℕ → Option RegisterFact
@@ -91,24 +88,6 @@ start_numbers params facts orders =
     numbers_by (with_orders (start_atoms params facts) orders) (stated_form facts)
     (λ i. Some (stated_range facts i))
 
--- what is known where a block begins
-unfoldable pub at_block_of : ImageView → CertificateView → Block → AbstractView
-at_block_of image certificate block =
-    let numbers =
-    start_numbers certificate.parameters block.registers.items block.orders.items in
-    record {
-      vlenb = vlenb_of certificate.vlen;
-      numbers = numbers;
-      zones = zones_of image certificate.parameters;
-      vtype = block.vtype;
-      groups = block.vectors.items;
-      budget = Some block.budget;
-      paid = value_at numbers block.budget.register;
-      second_paid = value_at numbers block.budget.second_register;
-      words = 0;
-      way = To block.start;
-    }
-
 -- what an argument register holds at the start of a run
 unfoldable pub passed_form : List Param → ℕ → Option Param → Linear
 passed_form params place None = number_form 0
@@ -128,20 +107,3 @@ entry_form params i =
 
 unfoldable pub entry_numbers : List Param → NumbersView
 entry_numbers params = numbers_by (start_atoms params []) (entry_form params) (λ i. None)
-
--- what is known where a run begins
-unfoldable pub at_entry_of : ImageView → CertificateView → AbstractView
-at_entry_of image certificate =
-    let numbers = entry_numbers certificate.parameters in
-    record {
-      vlenb = vlenb_of certificate.vlen;
-      numbers = numbers;
-      zones = zones_of image certificate.parameters;
-      vtype = None;
-      groups = [];
-      budget = None;
-      paid = value_at numbers 0;
-      second_paid = value_at numbers 0;
-      words = 0;
-      way = To image.entry;
-    }

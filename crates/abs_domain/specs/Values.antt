@@ -1,6 +1,6 @@
 -- What is known of a number, and what an instruction makes of the numbers that it reads.
 use Rattle.std.specs.Prelude.{ℕ, ◌==◌, if◌then◌else◌, Option, Some, None}
-use Rattle.abs_state.specs.Words.{Range, Linear, meet_of}
+use Rattle.abs_domain.specs.Words.{Range, Linear, meet_of}
 
 -- a number as far as it is known: it is the form's value, and lies in the range
 pub record ValueView : Type 0 where

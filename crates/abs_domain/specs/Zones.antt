@@ -2,7 +2,7 @@
 use Rattle.std.specs.Prelude.{ℕ, ◌+◌, Bool, true, false, ◌&&◌, nat_le, List, [], ◌∷◌, ◌++◌, length, map, unwrap_or, if◌then◌else◌, Option, Some, None, Result, Ok, Err}
 use Rattle.std.specs.Option.{option_to_list}
 use Rattle.std.specs.List.{list_any}
-use Rattle.abs_state.specs.Words.{ImageView, Right, Param}
+use Rattle.abs_domain.specs.Words.{ImageView, Right, Param}
 use Rattle.elf_image.specs.Image.{SegmentView}
 use Rattle.region_mem.specs.declared.layout.TheConstants.{STACK, STACK_SIZE}
 use Rattle.region_mem.specs.declared.faults.Right.TheVariants.{Read, Write, Fetch}
@@ -11,9 +11,9 @@ use Rattle.region_mem.specs.declared.parameter.Mode.TheVariants as mode
 use Rattle.region_mem.specs.declared.parameter.Param.TheVariants as parameter
 use Rattle.region_mem.specs.Areas.{Area}
 use Rattle.region_mem.specs.Parameter.{address_of}
-use Rattle.abs_state.specs.declared.why.Why.{Why}
-use Rattle.abs_state.specs.declared.why.Why.TheVariants.{AccessNotProved, ReadOnly}
-use Rattle.abs_state.specs.declared.zones.Zone.{Zone}
+use Rattle.abs_domain.specs.declared.why.Why.{Why}
+use Rattle.abs_domain.specs.declared.why.Why.TheVariants.{AccessNotProved, ReadOnly}
+use Rattle.abs_domain.specs.declared.zones.Zone.{Zone}
 
 -- the zone of an area of memory: its bytes may change, its addresses and rights do not
 abbrev pub zone_of : Area → Zone

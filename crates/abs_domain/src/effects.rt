@@ -1,18 +1,18 @@
 //! What the instructions of RV32I and M, and reads of CSRs, make of the numbers of their operands, as far as these are known.
 ghost use Rattle.std.specs.Prelude.{◌≡◌};
 ghost use Rattle.linear_facts.specs.Forms.{scaled};
-ghost use Rattle.abs_state.specs.Effects.{fitting as fitting_of, sum_range as sum_range_of};
-ghost use Rattle.abs_state.specs.Effects.{difference_range as difference_range_of, multiple_range as multiple_range_of};
-ghost use Rattle.abs_state.specs.Effects.{offset_range as offset_range_of, offset_form as offset_form_of};
-ghost use Rattle.abs_state.specs.Effects.{constant_effect as constant_effect_of, sum_effect as sum_effect_of};
-ghost use Rattle.abs_state.specs.Effects.{difference_effect as difference_effect_of, offset_effect as offset_effect_of};
-ghost use Rattle.abs_state.specs.Effects.{product_effect as product_effect_of, product_by as product_by_of};
-ghost use Rattle.abs_state.specs.Effects.{left_shift_by as left_shift_by_of, right_shift_range as right_shift_range_of};
-ghost use Rattle.abs_state.specs.Effects.{quotient_range as quotient_range_of, remainder_range as remainder_range_of};
-ghost use Rattle.abs_state.specs.Effects.{register_effect as register_effect_of, immediate_effect as immediate_effect_of};
-ghost use Rattle.abs_state.specs.Effects.{shift_effect as shift_effect_of, load_effect as load_effect_of};
-ghost use Rattle.abs_state.specs.Effects.{csr_effect as csr_effect_of, bit_effect, unknown_effect};
-ghost use Rattle.abs_state.specs.Values.{up_to as up_to_of};
+ghost use Rattle.abs_domain.specs.Effects.{fitting as fitting_of, sum_range as sum_range_of};
+ghost use Rattle.abs_domain.specs.Effects.{difference_range as difference_range_of, multiple_range as multiple_range_of};
+ghost use Rattle.abs_domain.specs.Effects.{offset_range as offset_range_of, offset_form as offset_form_of};
+ghost use Rattle.abs_domain.specs.Effects.{constant_effect as constant_effect_of, sum_effect as sum_effect_of};
+ghost use Rattle.abs_domain.specs.Effects.{difference_effect as difference_effect_of, offset_effect as offset_effect_of};
+ghost use Rattle.abs_domain.specs.Effects.{product_effect as product_effect_of, product_by as product_by_of};
+ghost use Rattle.abs_domain.specs.Effects.{left_shift_by as left_shift_by_of, right_shift_range as right_shift_range_of};
+ghost use Rattle.abs_domain.specs.Effects.{quotient_range as quotient_range_of, remainder_range as remainder_range_of};
+ghost use Rattle.abs_domain.specs.Effects.{register_effect as register_effect_of, immediate_effect as immediate_effect_of};
+ghost use Rattle.abs_domain.specs.Effects.{shift_effect as shift_effect_of, load_effect as load_effect_of};
+ghost use Rattle.abs_domain.specs.Effects.{csr_effect as csr_effect_of, bit_effect, unknown_effect};
+ghost use Rattle.abs_domain.specs.Values.{up_to as up_to_of};
 ghost use Rattle.scalar_core.specs.Arithmetic.{unsigned};
 
 use crate::values::{Effect, Value, known};
@@ -20,14 +20,14 @@ use linear_facts::{Form, Range};
 use rv_decode::{CsrName, ImmediateOp, LoadKind, RegisterOp, ShiftOp};
 
 /// The numbers from 0 to one.
-pub(crate) fn up_to(hi: u32) -> Range
+pub fn up_to(hi: u32) -> Range
     ensures { result ≡ up_to_of hi }
 {
     Range { lo: 0, hi }
 }
 
 /// The range between two ends, where both fit 32 bits.
-pub(crate) fn fitting(lo: u64, hi: u64) -> Option<Range>
+pub fn fitting(lo: u64, hi: u64) -> Option<Range>
     ensures { result ≡ fitting_of lo hi }
 {
     if lo < 1 << 32 && hi < 1 << 32 {
@@ -329,7 +329,7 @@ pub fn load_effect(kind: LoadKind) -> Effect
 }
 
 /// The same form once more.
-pub(crate) fn copy_of(form: &Form<8>) -> Form<8>
+pub fn copy_of(form: &Form<8>) -> Form<8>
     ensures { result ≡ form.now }
 {
     let _terms = form.terms();

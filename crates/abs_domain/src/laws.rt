@@ -1,8 +1,10 @@
-//! Laws of what instructions make of numbers, each the contract of a function that does nothing when it runs.
-ghost use Rattle.abs_state.specs.Addresses.{AddressesLie};
-ghost use Rattle.abs_state.specs.Holds.{ResultsHold};
-ghost use Rattle.abs_state.specs.Memories.{StoresKeepZones, ZonesArePermitted};
-ghost use Rattle.abs_state.specs.Described.{ConstantEffects, CsrEffects, ImmediateEffects, LoadEffects, RegisterEffects, ShiftEffects};
+//! Laws of numbers, of zones, and of what is known where blocks and runs begin, each the contract of a function that does
+//! nothing when it runs.
+ghost use Rattle.abs_domain.specs.BlockLaws.{BlockNumbersHold, EntryNumbersHold};
+ghost use Rattle.abs_domain.specs.Holds.{ResultsHold};
+ghost use Rattle.abs_domain.specs.Memories.{StoresKeepZones, ZonesArePermitted};
+ghost use Rattle.abs_domain.specs.Described.{ConstantEffects, CsrEffects, ImmediateEffects, LoadEffects, RegisterEffects, ShiftEffects};
+ghost use Rattle.abs_domain.specs.StartZones.{ZonesAreThere};
 
 /// What an instruction on two registers makes of their numbers holds of the number that it computes.
 pub fn register_effects()
@@ -39,11 +41,6 @@ pub fn zones_are_permitted()
     ensures { ZonesArePermitted }
 {}
 
-/// Where all that is known is true of a hart, the address of a load or store lies in its range.
-pub fn addresses_lie()
-    ensures { AddressesLie }
-{}
-
 /// A store keeps a memory's zones.
 pub fn stores_keep_zones()
     ensures { StoresKeepZones }
@@ -52,4 +49,20 @@ pub fn stores_keep_zones()
 /// What is said of a read of a CSR holds of what the CSR reads as.
 pub fn csr_effects()
     ensures { CsrEffects }
+{}
+
+/// Where all that a block states of registers and vl, orders among it, is true of a hart, what is known at the block's start is too.
+pub fn block_numbers_hold()
+    ensures { BlockNumbersHold }
+{}
+
+/// What is known where a run begins is true of a hart whose registers are those of a run's start, where vl is 0.
+pub fn entry_numbers_hold()
+    ensures { EntryNumbersHold }
+{}
+
+/// The memory that a run starts with has the zones of its image and parameters, and none of its areas passes the last
+/// address.
+pub fn zones_are_there()
+    ensures { ZonesAreThere }
 {}

@@ -1,9 +1,9 @@
 //! The numbers of the registers and of vl, as far as they are known.
 ghost use Rattle.std.specs.Prelude.{◌≡◌, ◌<◌, ◌≤◌, length, replicate, vec_capacity, IfOk};
 ghost use Rattle.linear_facts.specs.Forms.{number_form};
-ghost use Rattle.abs_state.specs.Numbers.{zero_numbers, table_of, value_at};
-ghost use Rattle.abs_state.specs.Numbers.{with_atom, with_value, with_fresh, with_computed, with_effect, with_result};
-ghost use Rattle.abs_state.specs.Lengths.{with_split};
+ghost use Rattle.abs_domain.specs.Numbers.{zero_numbers, table_of, value_at, whole_atom as whole_atom_of};
+ghost use Rattle.abs_domain.specs.Numbers.{with_atom, with_value, with_fresh, with_computed, with_effect, with_result};
+ghost use Rattle.abs_domain.specs.Numbers.{with_split};
 
 use crate::values::{Effect, Value, computed_range, or_full};
 use linear_facts::{Atom, Atoms, Form, Range, Split};
@@ -28,7 +28,7 @@ pub struct Numbers<A: Allocator = Global> {
 
 impl<A: Allocator> Model for Numbers<A> {
     ghost use Rattle.std.specs.Prelude.{◌≡◌, ◌≤◌, length, vec_capacity};
-    ghost use Rattle.abs_state.specs.Numbers.{NumbersView};
+    ghost use Rattle.abs_domain.specs.Numbers.{NumbersView};
 
     ghost Value = { NumbersView };
 
@@ -49,6 +49,21 @@ fn zeros<A: Allocator>(alloc: A) -> Result<Vec<Form<8>, A>, AllocError>
     Ok(forms)
 }
 
+/// The atom that a form is, if it is one.
+#[tactic(auto, unfolding(crate::specs::Numbers::whole_atom))]
+pub fn whole_atom(form: &Form<8>) -> Option<u16>
+    ensures { result ≡ whole_atom_of form.now }
+{
+    match form.terms() {
+        [term] => if form.constant == 0 && term.coefficient == 1 {
+            Some(term.atom)
+        } else {
+            None
+        },
+        _ => None,
+    }
+}
+
 impl<A: Allocator> Numbers<A> {
     /// No atoms, and every number is 0. The memory that later calls need is taken here.
     #[tactic(auto, unfolding(crate::specs::Numbers::zero_numbers))]
@@ -65,7 +80,7 @@ impl<A: Allocator> Numbers<A> {
     }
 
     /// The numbers with these atoms, forms and ranges.
-    pub(crate) fn by(atoms: Vec<Atom, A>, forms: Vec<Form<8>, A>, ranges: [Range; 33]) -> Numbers<A>
+    pub fn by(atoms: Vec<Atom, A>, forms: Vec<Form<8>, A>, ranges: [Range; 33]) -> Numbers<A>
         requires room { MOST_ATOMS ≤ vec_capacity atoms }
         requires count { length forms.items ≡ 33 }
         ensures { result ≡ record { atoms = atoms.items; forms = forms.items; ranges = ranges } }
@@ -110,21 +125,21 @@ impl<A: Allocator> Numbers<A> {
     }
 
     /// The forms of x0 to x31 and, as number 32, of vl.
-    pub(crate) fn forms(&self) -> &[Form<8>]
+    pub fn forms(&self) -> &[Form<8>]
         ensures { result.now ≡ self.now.forms }
     {
         self.forms.as_slice()
     }
 
     /// The ranges of x0 to x31 and, as number 32, of vl.
-    pub(crate) fn ranges(&self) -> [Range; 33]
+    pub fn ranges(&self) -> [Range; 33]
         ensures { result ≡ self.now.ranges }
     {
         self.ranges
     }
 
     /// A new atom in this range. The answer is its number.
-    pub(crate) fn push_atom(&mut self, range: Range) -> u16
+    pub fn push_atom(&mut self, range: Range) -> u16
         requires { length self.old.atoms < MOST_ATOMS }
         ensures atoms { self.new ≡ with_atom range self.old }
         ensures number { result ≡ length self.old.atoms }
@@ -135,8 +150,8 @@ impl<A: Allocator> Numbers<A> {
     }
 
     /// An atom, if there is one of this number, is the sum of two others, whatever it was before.
-    #[tactic(auto, unfolding(crate::specs::Lengths::with_split))]
-    pub(crate) fn split_atom(&mut self, atom: u16, split: Split)
+    #[tactic(auto, unfolding(crate::specs::Numbers::with_split))]
+    pub fn split_atom(&mut self, atom: u16, split: Split)
         ensures { self.new ≡ record self.old { atoms = with_split atom split self.old.atoms } }
     {
         let atom = usize::from(atom);
@@ -147,7 +162,7 @@ impl<A: Allocator> Numbers<A> {
 
     /// The number is one that is known.
     #[tactic(auto, unfolding(crate::specs::Numbers::with_value))]
-    pub(crate) fn set_value(&mut self, number: usize, form: Form<8>, range: Range)
+    pub fn set_value(&mut self, number: usize, form: Form<8>, range: Range)
         requires { number < 33 }
         ensures { self.new ≡ with_value number record { form = form; range = range } self.old }
     {

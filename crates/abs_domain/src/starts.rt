@@ -1,32 +1,23 @@
-//! What is known where a block begins, and where a run does.
+//! The numbers of registers and vl where a block of a certificate begins, and where a run does.
 ghost use Rattle.std.specs.Prelude.{◌≡◌, ◌<◌, ◌≤◌, ◌+◌, length, map, vec_capacity, IfOk, Some, None};
 ghost use Rattle.std.specs.List.{range_with_len, slice_get, AllByRecursion};
 ghost use Rattle.linear_facts.specs.Forms.{IsForm};
-ghost use Rattle.linear_facts.specs.Ranges.{AtomTable};
 ghost use Rattle.linear_facts.specs.Sums.{range_of_form};
-ghost use Rattle.abs_state.specs.Values.{computed_range as computed_range_of};
+ghost use Rattle.abs_domain.specs.Values.{computed_range as computed_range_of};
 ghost use Rattle.std.specs.Option.{option_and_then, option_map};
-ghost use Rattle.abs_state.specs.Blocks.{fact_for, interval_of, form_or_atom};
-ghost use Rattle.abs_state.specs.Blocks.{stated_range as stated_range_of, equality_form as equality_form_of, stated_form as stated_form_of};
-ghost use Rattle.abs_state.specs.Blocks.{passed_range as passed_range_of, passed_form as passed_form_of, entry_form as entry_form_of};
-ghost use Rattle.abs_state.specs.Blocks.{HasForm, IsUsable, start_atoms as start_atoms_of, start_numbers as start_numbers_of, entry_numbers as entry_numbers_of};
-ghost use Rattle.abs_state.specs.Blocks.{at_block_of, at_entry_of};
-ghost use Rattle.abs_state.specs.Orders.{with_order, with_orders};
+ghost use Rattle.abs_domain.specs.Starts.{fact_for, interval_of, form_or_atom};
+ghost use Rattle.abs_domain.specs.Starts.{stated_range as stated_range_of, equality_form as equality_form_of, stated_form as stated_form_of};
+ghost use Rattle.abs_domain.specs.Starts.{passed_range as passed_range_of, passed_form as passed_form_of, entry_form as entry_form_of};
+ghost use Rattle.abs_domain.specs.Starts.{HasForm, start_atoms as start_atoms_of, start_numbers as start_numbers_of, entry_numbers as entry_numbers_of};
+ghost use Rattle.abs_domain.specs.Orders.{with_order, with_orders};
 
-use crate::effects::copy_of;
 use crate::numbers::{MOST_ATOMS, Numbers};
-use crate::state::{Abstract, MOST_WORDS, Way};
 use crate::values::computed_range;
-use crate::zones::memory_zones;
-use cert_note::{Block, Certificate, Equality, OrderFact, RegisterFact, VectorFact};
-use elf_image::Image;
+use cert_note::{Equality, OrderFact, RegisterFact};
 use linear_facts::{Atom, Atoms, Form, Range, Split, Term};
 use region_mem::{Param, Parameters, STACK_END};
 use scalar_core::EXIT;
 use std::alloc::{AllocError, Allocator};
-
-/// How many facts on vector registers there may be: those of a block, and one for each instruction.
-const MOST_FACTS: usize = 32 + MOST_WORDS as usize;
 
 /// The fact on a register or on vl (32), if there is one.
 fn fact_on(facts: &[RegisterFact], number: u8) -> Option<&RegisterFact>
@@ -49,7 +40,7 @@ fn fact_range(facts: &[RegisterFact], number: u8) -> Range
 }
 
 /// The interval that is stated of a register (0 to 31) or of vl (32).
-#[tactic(auto, unfolding(crate::specs::Blocks::stated_range))]
+#[tactic(auto, unfolding(crate::specs::Starts::stated_range))]
 fn stated_range(facts: &[RegisterFact], number: u8) -> Range
     ensures { result ≡ stated_range_of facts.now number }
 {
@@ -99,7 +90,7 @@ fn fact_form(facts: &[RegisterFact], number: u8) -> Form<8>
 }
 
 /// The form that is stated of a register (0 to 31) or of vl (32).
-#[tactic(auto, unfolding(crate::specs::Blocks::stated_form))]
+#[tactic(auto, unfolding(crate::specs::Starts::stated_form))]
 fn stated_form(facts: &[RegisterFact], number: u8) -> Form<8>
     requires { AllByRecursion HasForm facts.now }
     ensures { result ≡ stated_form_of facts.now number }
@@ -112,7 +103,7 @@ fn stated_form(facts: &[RegisterFact], number: u8) -> Form<8>
 }
 
 /// What is known of the number that is passed for a parameter.
-#[tactic(auto, unfolding(crate::specs::Blocks::passed_range))]
+#[tactic(auto, unfolding(crate::specs::Starts::passed_range))]
 fn passed_range(param: Param) -> Range
     ensures { result ≡ passed_range_of (Some param) }
 {
@@ -123,7 +114,7 @@ fn passed_range(param: Param) -> Range
 }
 
 /// The atoms of registers and vl, and those of the numbers passed.
-#[tactic(auto, unfolding(crate::specs::Blocks::start_atoms))]
+#[tactic(auto, unfolding(crate::specs::Starts::start_atoms))]
 fn start_atoms<A: Allocator>(
     alloc: A,
     parameters: &Parameters,
@@ -150,7 +141,7 @@ fn start_atoms<A: Allocator>(
 
 /// The greater register's atom is split into the lesser one's and a new one, which is what lies between them; not where its
 /// range lies below the lesser one's.
-#[tactic(auto, unfolding(crate::specs::Orders::with_order, crate::specs::Lengths::with_split))]
+#[tactic(auto, unfolding(crate::specs::Orders::with_order, crate::specs::Numbers::with_split))]
 fn add_order<A: Allocator>(atoms: &mut Vec<Atom, A>, order: OrderFact)
     requires greater { order.greater < length atoms.old.items }
     requires few { length atoms.old.items < MOST_ATOMS }
@@ -231,7 +222,7 @@ fn start_ranges(atoms: &Atoms<'_>, forms: &[Form<8>], facts: &[RegisterFact]) ->
 }
 
 /// What an argument register holds at the start of a run.
-#[tactic(auto, unfolding(crate::specs::Blocks::passed_form))]
+#[tactic(auto, unfolding(crate::specs::Starts::passed_form))]
 fn passed_form(parameters: &Parameters, place: usize) -> Form<8>
     requires { place < 8 }
     ensures { result ≡ passed_form_of parameters.now place (slice_get parameters.now place) }
@@ -244,7 +235,7 @@ fn passed_form(parameters: &Parameters, place: usize) -> Form<8>
 }
 
 /// What a register (0 to 31) or vl (32) holds at the start of a run.
-#[tactic(auto, unfolding(crate::specs::Blocks::entry_form))]
+#[tactic(auto, unfolding(crate::specs::Starts::entry_form))]
 fn entry_form(parameters: &Parameters, number: usize) -> Form<8>
     ensures { result ≡ entry_form_of parameters.now number }
 {
@@ -288,8 +279,8 @@ fn form_ranges(atoms: &Atoms<'_>, forms: &[Form<8>]) -> [Range; 33]
 }
 
 /// The numbers of registers and vl where these facts and orders hold.
-#[tactic(auto, unfolding(crate::specs::Blocks::start_numbers, crate::specs::Blocks::numbers_by))]
-fn start_numbers<A: Allocator>(
+#[tactic(auto, unfolding(crate::specs::Starts::start_numbers, crate::specs::Starts::numbers_by))]
+pub fn start_numbers<A: Allocator>(
     alloc: A,
     parameters: &Parameters,
     facts: &[RegisterFact],
@@ -317,8 +308,11 @@ where
 }
 
 /// The numbers of registers and vl at the start of a run.
-#[tactic(auto, unfolding(crate::specs::Blocks::entry_numbers, crate::specs::Blocks::numbers_by))]
-fn entry_numbers<A: Allocator>(alloc: A, parameters: &Parameters) -> Result<Numbers<A>, AllocError>
+#[tactic(auto, unfolding(crate::specs::Starts::entry_numbers, crate::specs::Starts::numbers_by))]
+pub fn entry_numbers<A: Allocator>(
+    alloc: A,
+    parameters: &Parameters,
+) -> Result<Numbers<A>, AllocError>
 where
     A: Copy,
     ensures numbers { IfOk result (λ numbers. numbers ≡ entry_numbers_of parameters.now) }
@@ -333,122 +327,4 @@ where
     };
     let ranges = form_ranges(&table, forms.as_slice());
     Ok(Numbers::by(atoms, forms, ranges))
-}
-
-/// A list of these facts on vector registers, with room for those that instructions add.
-fn with_room<A: Allocator>(alloc: A, facts: &[VectorFact]) -> Result<Vec<VectorFact, A>, AllocError>
-    requires { length facts.now ≤ 32 }
-    ensures items { IfOk result (λ groups. groups.items ≡ facts.now) }
-    ensures room { IfOk result (λ groups. 32 + 4096 ≤ vec_capacity groups) }
-{
-    let mut groups = Vec::with_capacity(alloc, MOST_FACTS)?;
-    for fact in facts {
-        groups.push(*fact)?;
-    }
-    Ok(groups)
-}
-
-impl<A: Allocator> Abstract<A> {
-    /// What is known where this block begins.
-    #[tactic(auto, unfolding(crate::specs::Blocks::at_block_of))]
-    fn at<B: Allocator, C: Allocator>(
-        alloc: A,
-        certificate: &Certificate<C>,
-        image: &Image<B>,
-        block: &Block,
-    ) -> Result<Abstract<A>, AllocError>
-    where
-        A: Copy,
-        requires { IsUsable block.now }
-        ensures state { IfOk result (λ a. a ≡ at_block_of image.now certificate.now block.now) }
-        ensures begins { IfOk result (λ a. a.words ≡ 0) }
-    {
-        let contents = certificate.contents();
-        let numbers = start_numbers(
-            alloc,
-            &contents.parameters,
-            block.registers.as_slice(),
-            block.orders.as_slice(),
-        )?;
-        let paid = numbers.value(usize::from(block.budget.register));
-        let paid_form = copy_of(paid.form);
-        let paid_range = paid.range;
-        let second = numbers.value(usize::from(block.budget.second_register));
-        let second_form = copy_of(second.form);
-        let second_range = second.range;
-        Ok(Abstract {
-            vlenb: contents.vlen.bytes() as u32,
-            zones: memory_zones(image, &contents.parameters),
-            vtype: block.vtype,
-            groups: with_room(alloc, block.vectors.as_slice())?,
-            budget: Some(block.budget),
-            paid_form,
-            paid_range,
-            second_form,
-            second_range,
-            words: 0,
-            way: Way::To {
-                target: block.start,
-            },
-            numbers,
-        })
-    }
-
-    /// What is known where a block of the certificate begins: what it states of registers, vl, vtype and the vector
-    /// registers, with an atom for the number of each register and of vl there, and for each number that was passed.
-    /// All memory that later calls need is taken here. An error is want of memory.
-    pub fn at_block<B: Allocator, C: Allocator>(
-        alloc: A,
-        certificate: &Certificate<C>,
-        image: &Image<B>,
-        index: usize,
-    ) -> Result<Abstract<A>, AllocError>
-    where
-        A: Copy,
-        requires { index < length certificate.now.blocks }
-        ensures state { IfOk result (λ a. (block : Block)
-            → slice_get certificate.now.blocks index ≡ Some block
-            → a ≡ at_block_of image.now certificate.now block) }
-        ensures begins { IfOk result (λ a. a.words ≡ 0) }
-    {
-        let block = &certificate.contents().blocks[index];
-        let state = Abstract::at(alloc, certificate, image, block)?;
-        Ok(state)
-    }
-
-    /// What is known where a run of the image begins, with arguments that match the certificate's parameters: ra is
-    /// EXIT, sp the stack's end, a0 to a7 hold the arguments, and every other register and vl are 0. All memory that
-    /// later calls need is taken here. An error is want of memory.
-    #[tactic(auto, unfolding(crate::specs::Blocks::at_entry_of))]
-    pub fn at_entry<B: Allocator, C: Allocator>(
-        alloc: A,
-        certificate: &Certificate<C>,
-        image: &Image<B>,
-    ) -> Result<Abstract<A>, AllocError>
-    where
-        A: Copy,
-        ensures { IfOk result (λ a. a ≡ at_entry_of image.now certificate.now) }
-    {
-        let contents = certificate.contents();
-        let numbers = entry_numbers(alloc, &contents.parameters)?;
-        let paid = numbers.value(0);
-        let paid_form = copy_of(paid.form);
-        let paid_range = paid.range;
-        Ok(Abstract {
-            vlenb: contents.vlen.bytes() as u32,
-            zones: memory_zones(image, &contents.parameters),
-            vtype: None,
-            groups: with_room(alloc, &[])?,
-            budget: None,
-            paid_form,
-            paid_range,
-            second_form: copy_of(numbers.value(0).form),
-            second_range: paid_range,
-            words: 0,
-            way: Way::To {
-                target: image.entry(),
-            },
-            numbers,
-        })
-    }
 }

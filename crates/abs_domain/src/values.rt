@@ -1,6 +1,6 @@
 //! What is known of a number, and what an instruction makes of the numbers that it reads.
 ghost use Rattle.std.specs.Prelude.{◌≡◌};
-ghost use Rattle.abs_state.specs.Values.{computed_range as computed_range_of, known_of, or_full as or_full_of};
+ghost use Rattle.abs_domain.specs.Values.{computed_range as computed_range_of, known_of, or_full as or_full_of};
 
 use linear_facts::{Form, Range};
 use std::marker::Model;
@@ -13,7 +13,7 @@ pub struct Value<'a> {
 }
 
 impl<'a> Model for Value<'a> {
-    ghost use Rattle.abs_state.specs.Values.{ValueView};
+    ghost use Rattle.abs_domain.specs.Values.{ValueView};
 
     ghost Value = { ValueView };
 
@@ -40,7 +40,7 @@ pub enum Effect {
 }
 
 /// The one number of a range, if it has just one.
-pub(crate) fn known(range: Range) -> Option<u32>
+pub fn known(range: Range) -> Option<u32>
     ensures { result ≡ known_of range }
 {
     if range.lo == range.hi {
@@ -51,7 +51,7 @@ pub(crate) fn known(range: Range) -> Option<u32>
 }
 
 /// The range, or all numbers of 32 bits where there is none.
-pub(crate) fn or_full(range: Option<Range>) -> Range
+pub fn or_full(range: Option<Range>) -> Range
     ensures { result ≡ or_full_of range }
 {
     match range {

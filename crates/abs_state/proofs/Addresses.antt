@@ -8,14 +8,14 @@ use Rattle.vreg_groups.specs.declared.vector_length.Vconfig.{Vconfig}
 use Rattle.scalar_core.specs.Hart.{Hart, reg_of}
 use Rattle.scalar_core.specs.Arithmetic.{unsigned}
 use Rattle.scalar_core.proofs.States.{immediate_fits}
-use Rattle.abs_state.specs.Numbers.{table_of, value_at}
-use Rattle.abs_state.specs.Effects.{offset_form, offset_range}
-use Rattle.abs_state.specs.Described.{IsNumber}
-use Rattle.abs_state.specs.Holds.{number_of}
+use Rattle.abs_domain.specs.Numbers.{table_of, value_at}
+use Rattle.abs_domain.specs.Effects.{offset_form, offset_range}
+use Rattle.abs_domain.specs.Described.{IsNumber}
+use Rattle.abs_domain.specs.Holds.{number_of}
 use Rattle.abs_state.specs.Steps.{address_range}
 use Rattle.abs_state.specs.Addresses.{AddressesLie}
-use Rattle.abs_state.proofs.Operations.{offset_lies, value_number}
-use Rattle.abs_state.proofs.States.{computed_lies, form_range_lies}
+use Rattle.abs_domain.proofs.Operations.{offset_lies, value_number}
+use Rattle.abs_domain.proofs.States.{computed_lies, form_range_lies}
 
 offset_form-IsForm : (f : Linear) (m : ℕ) → IsForm 8 f → m < 2 ^ 32 → IsForm 8 (offset_form f m)
 unfolding offset_form

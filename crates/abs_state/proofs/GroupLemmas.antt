@@ -12,7 +12,7 @@ use Rattle.cert_note.specs.declared.values.VectorFact.{VectorFact}
 use Rattle.abs_state.specs.Groups.{counted, cut_groups, elements_in, is_apart, is_lasting, untouched}
 use Rattle.abs_state.specs.Held.{IsTrueOf, fact_element}
 use Rattle.abs_state.specs.VectorLaws.{CutAreTrue, UntouchedAreTrue}
-use Rattle.abs_state.proofs.StartForms.{mapped_more}
+use Rattle.abs_domain.proofs.StartForms.{mapped_more}
 
 -- ---- where vl changes
 

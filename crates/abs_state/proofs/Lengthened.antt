@@ -9,11 +9,12 @@ use Rattle.vreg_groups.specs.declared.vector_type.Vtype.{Vtype}
 use Rattle.vreg_groups.specs.VectorType.{vtype_of, vlmax_of}
 use Rattle.abs_state.specs.declared.lengths.Asked.{Asked}
 use Rattle.abs_state.specs.declared.lengths.Asked.TheVariants.{Keep, Greatest, Register, Number}
-use Rattle.abs_state.specs.declared.values.Effect.TheVariants.{Copied}
-use Rattle.abs_state.specs.Values.{ValueView}
-use Rattle.abs_state.specs.Numbers.{NumbersView, plain, value_at, with_effect, with_fresh, with_result, with_value}
-use Rattle.abs_state.specs.Branches.{whole_atom}
-use Rattle.abs_state.specs.Lengths.{Configured, configured, has_vlmax, known_request, kept_or_zero, limited, limited_by, split_into, supported_request, unknown_request, with_length_in, with_split}
+use Rattle.abs_domain.specs.declared.values.Effect.TheVariants.{Copied}
+use Rattle.abs_domain.specs.Values.{ValueView}
+use Rattle.abs_domain.specs.Numbers.{NumbersView, plain, value_at, with_effect, with_fresh, with_result, with_value}
+use Rattle.abs_domain.specs.Numbers.{whole_atom}
+use Rattle.abs_state.specs.Lengths.{Configured, configured, has_vlmax, known_request, kept_or_zero, limited, limited_by, split_into, supported_request, unknown_request, with_length_in}
+use Rattle.abs_domain.specs.Numbers.{with_split}
 
 -- at most two atoms more
 abbrev Grows : NumbersView → NumbersView → Type 0

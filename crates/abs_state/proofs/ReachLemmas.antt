@@ -1,5 +1,5 @@
 -- Where the bytes of vector loads and stores lie, as numbers: each element lies in the reach.
-use Rattle.std.proofs.Common.{◌≡◌, ◌<◌, ◌≤◌, ◌+◌, ◌-◌, ◌*◌, ◌/◌, ◌%◌, ◌^◌, ℕ, zero, suc, Bool, true, false, arith, refl, sym, ap, ◌∙◌, subst, lit<, length, Option, Some, None, IfSome}
+use Rattle.std.proofs.Common.{◌≡◌, ◌<◌, ◌≤◌, ◌+◌, ◌-◌, ◌*◌, ◌/◌, ◌%◌, ◌^◌, ℕ, Bool, true, false, arith, refl, sym, ap, ◌∙◌, subst, lit<, length, Option, Some, None, IfSome}
 use Rattle.std.specs.Prelude.{if◌then◌else◌, ◌&&◌, nat_lt, nat_le}
 use Rattle.std.proofs.lemmas.Bool.Decides.{nat_tests}
 use Rattle.std.proofs.Math.Nat.{add-mul, mul-add, mul-le-mul_left}
@@ -9,13 +9,13 @@ use Rattle.linear_facts.specs.Ranges.{AgreesWith}
 use Rattle.linear_facts.specs.Sums.{range_of_form}
 use Rattle.linear_facts.proofs.FormLaws.{value-sum_of, value-scaled, length-sum_of, length-scaled_terms, number-IsForm, sum_of-IsForm, scaled-IsForm, within-is, within-room}
 use Rattle.abs_state.specs.declared.reaches.Reach.{Reach}
-use Rattle.abs_state.specs.Values.{ValueView, computed_range}
-use Rattle.abs_state.specs.Numbers.{NumbersView, table_of}
-use Rattle.abs_state.specs.Effects.{fitting}
-use Rattle.abs_state.specs.Described.{LiesIn, IsNumber}
+use Rattle.abs_domain.specs.Values.{ValueView}
+use Rattle.abs_domain.specs.Numbers.{NumbersView, table_of}
+use Rattle.abs_domain.specs.Effects.{fitting}
+use Rattle.abs_domain.specs.Described.{LiesIn, IsNumber}
 use Rattle.abs_state.specs.Reaches.{met_with_form, sharpened_high, sharpened_low, sum_form, fitting_less, unit_reach, rising_reach, falling_reach}
-use Rattle.abs_state.proofs.Operations.{value_number}
-use Rattle.abs_state.proofs.States.{computed_lies, form_range_lies}
+use Rattle.abs_domain.proofs.Operations.{value_number}
+use Rattle.abs_domain.proofs.States.{computed_lies, form_range_lies}
 
 -- ---- places
 

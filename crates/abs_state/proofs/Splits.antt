@@ -13,14 +13,15 @@ use Rattle.linear_facts.specs.Laws.{AreBelow}
 use Rattle.linear_facts.specs.Ranges.{AgreesWith, atom_at, range_at, split_at}
 use Rattle.vreg_groups.specs.declared.vector_length.Vconfig.{Vconfig}
 use Rattle.scalar_core.specs.Hart.{Hart}
-use Rattle.abs_state.specs.Values.{ValueView}
-use Rattle.abs_state.specs.Numbers.{NumbersView, plain, value_at, with_atom, with_fresh, with_value}
-use Rattle.abs_state.specs.Described.{LiesIn, IsNumber}
-use Rattle.abs_state.specs.Holds.{number_of, table_with, AreSplitsBelow, Holds, Follows}
-use Rattle.abs_state.specs.Branches.{atom_of_terms, whole_atom}
-use Rattle.abs_state.specs.Lengths.{with_split, split_into, limited_by, limited, lesser_range, excess_range}
-use Rattle.abs_state.proofs.States.{atom_holds, atom_number, length_push, number_here, number_there, other_value, this_value, with_number}
-use Rattle.abs_state.proofs.Ways.{whole_is}
+use Rattle.abs_domain.specs.Values.{ValueView}
+use Rattle.abs_domain.specs.Numbers.{NumbersView, plain, value_at, with_atom, with_fresh, with_value}
+use Rattle.abs_domain.specs.Described.{LiesIn, IsNumber}
+use Rattle.abs_domain.specs.Holds.{number_of, table_with, AreSplitsBelow, Holds, Follows}
+use Rattle.abs_domain.specs.Numbers.{atom_of_terms, whole_atom}
+use Rattle.abs_domain.specs.Numbers.{with_split}
+use Rattle.abs_state.specs.Lengths.{split_into, limited_by, limited, lesser_range, excess_range}
+use Rattle.abs_domain.proofs.States.{atom_holds, atom_number, length_push, number_here, number_there, other_value, this_value, with_number}
+use Rattle.abs_domain.proofs.States.{whole_is}
 
 -- ---- vl
 

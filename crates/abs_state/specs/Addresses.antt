@@ -4,9 +4,9 @@ use Rattle.std.specs.Int.{w32}
 use Rattle.std.specs.Int.RustNames.{FitsSigned}
 use Rattle.abs_state.specs.Words.{Vconfig, Hart, unsigned}
 use Rattle.scalar_core.specs.Step.{address_of}
-use Rattle.abs_state.specs.Numbers.{NumbersView}
-use Rattle.abs_state.specs.Described.{LiesIn}
-use Rattle.abs_state.specs.Holds.{Holds}
+use Rattle.abs_domain.specs.Numbers.{NumbersView}
+use Rattle.abs_domain.specs.Described.{LiesIn}
+use Rattle.abs_domain.specs.Holds.{Holds}
 use Rattle.abs_state.specs.Steps.{address_range}
 
 -- Where all that is known is true of a hart, the address of a load or store lies in its range.

@@ -1,6 +1,6 @@
 -- What is known of the elements of groups of vector registers: what an instruction reads, what it states of its
 -- destination, and which facts stay true where registers are written or vl changes.
-use Rattle.std.specs.Prelude.{ℕ, ◌+◌, ◌-◌, ◌*◌, ◌/◌, ◌%◌, ◌^◌, ◌==◌, nat_lt, nat_le, ◌&&◌, ◌||◌, not, min, max, Bool, true, false, if◌then◌else◌, List, [], ◌∷◌, ◌++◌, map, filter, find, Option, Some, None}
+use Rattle.std.specs.Prelude.{ℕ, ◌+◌, ◌-◌, ◌*◌, ◌/◌, ◌%◌, ◌^◌, ◌==◌, nat_lt, nat_le, ◌&&◌, ◌||◌, not, min, max, Bool, true, if◌then◌else◌, List, [], ◌∷◌, ◌++◌, map, filter, find, Option, Some, None}
 use Rattle.std.specs.Option.{option_and_then, option_map_or}
 use Rattle.abs_state.specs.Words.{Range, Operand, Insn, Logic, Count, First, SetFirst, Iota, Index, needs_of, unsigned, Vtype, vlmax_of, vtype_of, VectorFact}
 use Rattle.rv_decode.specs.declared.extents.Eew.{Eew}
@@ -18,8 +18,8 @@ use Rattle.rv_decode.specs.declared.instructions.VMask.{VMask}
 use Rattle.rv_decode.specs.Needs.{eew_of}
 use Rattle.vreg_groups.specs.VectorType.{bits_of_width}
 use Rattle.vreg_groups.specs.Legality.{count_of, eew_bits, group_count}
-use Rattle.abs_state.specs.Values.{just, known_of, up_to}
-use Rattle.abs_state.specs.Numbers.{NumbersView, value_at}
+use Rattle.abs_domain.specs.Values.{just, known_of, up_to}
+use Rattle.abs_domain.specs.Numbers.{NumbersView, value_at}
 
 -- the vector type, where vtype is known
 abbrev pub known_type : Option ℕ → Option Vtype

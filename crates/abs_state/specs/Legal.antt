@@ -4,8 +4,8 @@ use Rattle.rv_decode.specs.declared.extents.Extent.{Extent}
 use Rattle.rv_decode.specs.declared.extents.Extent.TheVariants.{Group, Single, Mask, Whole}
 use Rattle.abs_state.specs.Words.{Operand, Insn, needs_of, is_legal}
 use Rattle.vreg_groups.specs.VectorLength.{no_config}
-use Rattle.abs_state.specs.declared.why.Why.{Why}
-use Rattle.abs_state.specs.declared.why.Why.TheVariants.{IllegalWord, VtypeUnknown}
+use Rattle.abs_domain.specs.declared.why.Why.{Why}
+use Rattle.abs_domain.specs.declared.why.Why.TheVariants.{IllegalWord, VtypeUnknown}
 
 -- how far an operand reaches depends on vtype, unless it is of whole registers
 abbrev pub extent_needs_vtype : Extent → Bool

@@ -1,17 +1,15 @@
 -- What an instruction that sets vtype and vl makes of what is known ("Vector Configuration-Setting Instructions").
-use Rattle.std.specs.Prelude.{ℕ, ◌+◌, ◌-◌, ◌*◌, ◌==◌, min, Bool, true, false, if◌then◌else◌, List, [], ◌∷◌, ◌++◌, length, slice_index_or, slice_set, Option, Some, None}
+use Rattle.std.specs.Prelude.{ℕ, ◌+◌, ◌-◌, ◌*◌, ◌==◌, min, Bool, true, false, if◌then◌else◌, List, [], ◌∷◌, ◌++◌, length, Option, Some, None}
 use Rattle.std.specs.Option.{option_and_then, option_map_or}
-use Rattle.abs_state.specs.Words.{Range, Atom, Split, number_form, atom_form, Vtype, vtype_of, vlmax_of}
-use Rattle.linear_facts.specs.Ranges.{unknown_atom}
+use Rattle.abs_state.specs.Words.{Range, Atom, number_form, atom_form, Vtype, vtype_of, vlmax_of}
 use Rattle.rv_decode.specs.declared.instructions.VSet.{VSet}
 use Rattle.rv_decode.specs.declared.instructions.VSet.TheVariants.{Vsetvli, Vsetivli, Vsetvl}
 use Rattle.abs_state.specs.declared.lengths.Asked.{Asked}
 use Rattle.abs_state.specs.declared.lengths.Asked.TheVariants.{Keep, Greatest, Register, Number}
 use Rattle.abs_state.specs.declared.lengths.Wanted.{Wanted}
-use Rattle.abs_state.specs.declared.values.Effect.TheVariants.{Copied}
-use Rattle.abs_state.specs.Values.{ValueView, just, known_of, up_to}
-use Rattle.abs_state.specs.Numbers.{NumbersView, plain, value_at, with_fresh, with_result, with_value}
-use Rattle.abs_state.specs.Branches.{whole_atom}
+use Rattle.abs_domain.specs.declared.values.Effect.TheVariants.{Copied}
+use Rattle.abs_domain.specs.Values.{ValueView, just, known_of, up_to}
+use Rattle.abs_domain.specs.Numbers.{NumbersView, plain, value_at, whole_atom, with_fresh, with_result, with_split, with_value}
 
 -- ---- what is asked for
 
@@ -27,11 +25,6 @@ wanted_of (Vsetvl rd rs1 rs2) s =
     record { rd = rd; length = asked_of rd rs1; vtype = known_of (value_at s rs2).range }
 
 -- ---- the lesser of a number and VLMAX
-
--- an atom is the sum of two others, whatever it was before
-unfoldable pub with_split : ℕ → Split → List Atom → List Atom
-with_split a s atoms =
-    slice_set atoms a record { range = (slice_index_or atoms a unknown_atom).range; split = Some s }
 
 -- an atom is the sum of two new ones
 unfoldable pub split_into : ℕ → Range → Range → List Atom → List Atom

@@ -10,13 +10,13 @@ use Rattle.rv_decode.specs.declared.instructions.VMem.{VMem}
 use Rattle.vreg_groups.specs.VectorType.{bytes_of_width}
 use Rattle.vreg_groups.specs.Legality.{whole_count}
 use Rattle.abs_state.specs.declared.reaches.Reach.{Reach}
-use Rattle.abs_state.specs.declared.why.Why.{Why}
-use Rattle.abs_state.specs.declared.why.Why.TheVariants.{AccessNotProved}
-use Rattle.abs_state.specs.declared.zones.Zone.{Zone}
-use Rattle.abs_state.specs.Values.{ValueView, computed_range, known_of}
-use Rattle.abs_state.specs.Effects.{fitting}
-use Rattle.abs_state.specs.Zones.{load_allowed, store_allowed}
-use Rattle.abs_state.specs.Numbers.{NumbersView, table_of, value_at}
+use Rattle.abs_domain.specs.declared.why.Why.{Why}
+use Rattle.abs_domain.specs.declared.why.Why.TheVariants.{AccessNotProved}
+use Rattle.abs_domain.specs.declared.zones.Zone.{Zone}
+use Rattle.abs_domain.specs.Values.{ValueView, computed_range, known_of}
+use Rattle.abs_domain.specs.Effects.{fitting}
+use Rattle.abs_domain.specs.Zones.{load_allowed, store_allowed}
+use Rattle.abs_domain.specs.Numbers.{NumbersView, table_of, value_at}
 use Rattle.abs_state.specs.Groups.{source_range}
 
 -- ---- sums in whole numbers

@@ -4,12 +4,12 @@ use Rattle.std.specs.Prelude.{ℕ, ◌+◌, ◌%◌, ◌^◌, ℤ, List, Result,
 use Rattle.abs_state.specs.Words.{Range, range_of_form, ScalarInsn, Lui, Auipc, Jal, Jalr, Branch, ShiftImmediate, Register, Fence, Ecall, CsrInsn, unsigned, size_of_load}
 use Rattle.rv_decode.specs.declared.instructions.ScalarInsn.TheVariants.{Load, Store, Immediate}
 use Rattle.scalar_core.specs.Step.{size_of_store}
-use Rattle.abs_state.specs.declared.why.Why.{Why}
-use Rattle.abs_state.specs.declared.zones.Zone.{Zone}
-use Rattle.abs_state.specs.Values.{computed_range}
-use Rattle.abs_state.specs.Zones.{load_allowed, store_allowed}
-use Rattle.abs_state.specs.Numbers.{NumbersView, table_of, value_at, with_result}
-use Rattle.abs_state.specs.Effects.{constant_effect, csr_effect, immediate_effect, load_effect, offset_form, offset_range, register_effect, shift_effect}
+use Rattle.abs_domain.specs.declared.why.Why.{Why}
+use Rattle.abs_domain.specs.declared.zones.Zone.{Zone}
+use Rattle.abs_domain.specs.Values.{computed_range}
+use Rattle.abs_domain.specs.Zones.{load_allowed, store_allowed}
+use Rattle.abs_domain.specs.Numbers.{NumbersView, table_of, value_at, with_result}
+use Rattle.abs_domain.specs.Effects.{constant_effect, csr_effect, immediate_effect, load_effect, offset_form, offset_range, register_effect, shift_effect}
 
 -- the range of an address: the number of rs1 and a signed offset, which is given by its bits
 unfoldable pub address_range : ℕ → ℕ → NumbersView → Range

@@ -3,11 +3,8 @@ ghost use Rattle.std.specs.Prelude.{◌≡◌, ◌<◌, ◌+◌, length, IfErr, 
 ghost use Rattle.abs_state.specs.Steps.{scalar_after};
 ghost use Rattle.abs_state.specs.After.{after_of, jump_way as jump_way_of, way_of};
 
-use crate::numbers::{MOST_ATOMS, Numbers};
 use crate::state::{Abstract, Way};
-use crate::values::known;
-use crate::why::Why;
-use crate::zones::Zone;
+use abs_domain::{MOST_ATOMS, Numbers, Why, Zone, known};
 use arrayvec::ArrayVec;
 use rv_decode::{CsrInsn, Insn, ScalarInsn};
 use scalar_core::EXIT;

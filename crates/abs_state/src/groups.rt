@@ -16,12 +16,10 @@ ghost use Rattle.abs_state.specs.Groups.{stated_range as stated_range_of, fact_i
 ghost use Rattle.abs_state.specs.Groups.{is_apart as is_apart_of, untouched as untouched_of};
 ghost use Rattle.abs_state.specs.Groups.{elements_in as elements_in_of, counted as counted_of, is_lasting as is_lasting_of};
 ghost use Rattle.abs_state.specs.Groups.{cut_groups as cut_groups_of};
-ghost use Rattle.abs_state.specs.Numbers.{value_at};
-ghost use Rattle.abs_state.specs.Values.{just as just_of};
+ghost use Rattle.abs_domain.specs.Numbers.{value_at};
+ghost use Rattle.abs_domain.specs.Values.{just as just_of};
 
-use crate::effects::up_to;
-use crate::numbers::{Numbers, VL};
-use crate::values::known;
+use abs_domain::{VL, Numbers, known, up_to};
 use cert_note::VectorFact;
 use linear_facts::Range;
 use rv_decode::{

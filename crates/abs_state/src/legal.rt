@@ -3,7 +3,7 @@ ghost use Rattle.std.specs.Prelude.{◌≡◌};
 ghost use Rattle.abs_state.specs.Legal.{legal_check as legal_check_of, needs_vtype as needs_vtype_of};
 ghost use Rattle.abs_state.specs.Legal.{operand_needs_vtype as operand_needs_vtype_of};
 
-use crate::why::Why;
+use abs_domain::Why;
 use rv_decode::{Extent, Insn, Operand, needs};
 use vreg_groups::{Vconfig, legal};
 

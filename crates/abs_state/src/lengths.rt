@@ -6,10 +6,7 @@ ghost use Rattle.abs_state.specs.Lengths.{asked_of, configured, excess_range, ha
 ghost use Rattle.abs_state.specs.Lengths.{kept_or_zero, known_request, lesser_range, limited_by, supported_request};
 ghost use Rattle.abs_state.specs.Lengths.{unknown_length, unknown_request, wanted_of, with_length_in};
 
-use crate::branches::whole_atom;
-use crate::effects::copy_of;
-use crate::numbers::{MOST_ATOMS, Numbers, VL};
-use crate::values::known;
+use abs_domain::{MOST_ATOMS, VL, Numbers, copy_of, known, whole_atom};
 use linear_facts::{Form, Range, Split};
 use rv_decode::{Reg, VSet};
 use std::alloc::Allocator;
@@ -261,7 +258,7 @@ impl<A: Allocator> Numbers<A> {
     }
 
     /// A register gets vl's number. x0 stays 0.
-    #[tactic(auto, unfolding(crate::specs::Lengths::with_length_in, crate::specs::Numbers::with_result, crate::specs::Numbers::with_effect))]
+    #[tactic(auto, unfolding(crate::specs::Lengths::with_length_in, abs_domain::specs::Numbers::with_result, abs_domain::specs::Numbers::with_effect))]
     fn set_length_in(&mut self, rd: Reg)
         ensures { self.new ≡ with_length_in rd self.old }
     {

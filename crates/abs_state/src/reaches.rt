@@ -2,7 +2,6 @@
 ghost use Rattle.std.specs.Prelude.{◌≡◌, ◌<◌, ◌≤◌, ◌+◌, ◌-◌, ◌*◌, ◌^◌};
 ghost use Rattle.linear_facts.specs.Forms.{within};
 ghost use Rattle.vreg_groups.specs.VectorType.{bytes_of_width};
-ghost use Rattle.abs_state.specs.Numbers.{value_at};
 ghost use Rattle.abs_state.specs.Reaches.{fitting_less as fitting_less_of, met_with_form as met_with_form_of, sum_form as sum_form_of};
 ghost use Rattle.abs_state.specs.Reaches.{sharpened_high as sharpened_high_of, sharpened_low as sharpened_low_of};
 ghost use Rattle.abs_state.specs.Reaches.{unit_reach as unit_reach_of, rising_reach as rising_reach_of};
@@ -10,12 +9,8 @@ ghost use Rattle.abs_state.specs.Reaches.{falling_reach as falling_reach_of, str
 ghost use Rattle.abs_state.specs.Reaches.{indexed_reach as indexed_reach_of, reach_at as reach_at_of, is_whole as is_whole_of};
 ghost use Rattle.abs_state.specs.Reaches.{reach_allowed as reach_allowed_of, transfer_check as transfer_check_of};
 
-use crate::effects::fitting;
 use crate::groups::source_range;
-use crate::numbers::{Numbers, VL};
-use crate::values::{Value, computed_range, known};
-use crate::why::Why;
-use crate::zones::{Zone, load_allowed, store_allowed};
+use abs_domain::{VL, Numbers, Value, Why, Zone, computed_range, fitting, known, load_allowed, store_allowed};
 use cert_note::VectorFact;
 use linear_facts::{Form, Range};
 use rv_decode::{Direction, Eew, Place, VMem, Width};

@@ -2,21 +2,14 @@
 ghost use Rattle.std.specs.Prelude.{◌≡◌, ◌<◌, ◌≤◌, length, IfErr, OnErr, OnOk, Ok, Err};
 ghost use Rattle.scalar_core.specs.Arithmetic.{unsigned};
 ghost use Rattle.scalar_core.specs.Step.{size_of_load as size_of_load_of, size_of_store as size_of_store_of};
-ghost use Rattle.abs_state.specs.Numbers.{value_at, with_result};
-ghost use Rattle.abs_state.specs.Effects.{immediate_effect as immediate_effect_of, register_effect as register_effect_of};
-ghost use Rattle.abs_state.specs.Effects.{load_effect as load_effect_of, shift_effect as shift_effect_of, constant_effect as constant_effect_of};
+ghost use Rattle.abs_domain.specs.Numbers.{value_at, with_result};
+ghost use Rattle.abs_domain.specs.Effects.{immediate_effect as immediate_effect_of, register_effect as register_effect_of};
+ghost use Rattle.abs_domain.specs.Effects.{load_effect as load_effect_of, shift_effect as shift_effect_of, constant_effect as constant_effect_of};
 ghost use Rattle.abs_state.specs.Steps.{address_range as address_range_of, csr_after as csr_after_of};
 ghost use Rattle.abs_state.specs.Steps.{if_allowed, scalar_after as scalar_after_of};
 ghost use Rattle.abs_state.specs.Steps.{load_check as load_check_of, store_check as store_check_of};
 
-use crate::effects::{
-    constant_effect, csr_effect, immediate_effect, load_effect, offset_form, offset_range,
-    register_effect, shift_effect,
-};
-use crate::numbers::{MOST_ATOMS, Numbers, VL};
-use crate::values::{Value, computed_range};
-use crate::why::Why;
-use crate::zones::{Zone, load_allowed, store_allowed};
+use abs_domain::{MOST_ATOMS, VL, Numbers, Value, Why, Zone, computed_range, constant_effect, csr_effect, immediate_effect, load_allowed, load_effect, offset_form, offset_range, register_effect, shift_effect, store_allowed};
 use linear_facts::Range;
 use rv_decode::{CsrInsn, ImmediateOp, LoadKind, Reg, RegisterOp, ScalarInsn, ShiftOp, Width};
 use std::alloc::Allocator;

@@ -2,16 +2,14 @@
 ghost use Rattle.std.specs.Prelude.{◌≡◌, ◌<◌, ◌≤◌, ◌+◌, length, IfErr, OnErr, OnOk, Ok, Err};
 ghost use Rattle.vreg_groups.specs.VectorType.{type_in as type_in_of};
 ghost use Rattle.abs_state.specs.Groups.{known_type as known_type_of};
-ghost use Rattle.abs_state.specs.Numbers.{with_result};
+ghost use Rattle.abs_domain.specs.Numbers.{with_result};
 ghost use Rattle.abs_state.specs.After.{access_check as access_check_of, mask_numbers, move_numbers};
 ghost use Rattle.abs_state.specs.After.{vector_after, vector_numbers, vset_after};
 
 use crate::groups::{after_groups, cut_groups};
 use crate::legal::legal_check;
-use crate::numbers::{MOST_ATOMS, Numbers, VL};
 use crate::state::{Abstract, Way};
-use crate::values::Effect;
-use crate::why::Why;
+use abs_domain::{MOST_ATOMS, VL, Effect, Numbers, Why};
 use linear_facts::Range;
 use rv_decode::{Insn, Reg, VMask, VMove, VSet, Width};
 use std::alloc::Allocator;

@@ -2,8 +2,8 @@
 use Rattle.std.proofs.Common.{ap, sym, ◌∙◌}
 use Rattle.linear_facts.specs.Forms.{sum_of}
 use Rattle.linear_facts.proofs.FormLaws.{within-is}
-use Rattle.abs_state.specs.Effects.{offset_form}
-use Rattle.abs_state.proofs.effects.offset_form.Goals as goal
+use Rattle.abs_domain.specs.Effects.{offset_form}
+use Rattle.abs_domain.proofs.effects.offset_form.Goals as goal
 
 pub returns : goal.returns
 unfolding offset_form

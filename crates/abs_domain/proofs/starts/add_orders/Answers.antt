@@ -1,8 +1,8 @@
 -- Each order makes one atom more at most.
 use Rattle.std.proofs.Common.{arith, ◌∙◌, ◌+◌, sym, ap, drop}
-use Rattle.abs_state.specs.Orders.{with_orders}
-use Rattle.abs_state.proofs.OrderStarts.{order_at_place, orders_more, orders_done}
-use Rattle.abs_state.proofs.blocks.add_orders.Goals as goal
+use Rattle.abs_domain.specs.Orders.{with_orders}
+use Rattle.abs_domain.proofs.OrderStarts.{order_at_place, orders_more, orders_done}
+use Rattle.abs_domain.proofs.starts.add_orders.Goals as goal
 
 pub add_order-requires-clause-greater : goal.add_order-requires-clause-greater
 add_order-requires-clause-greater g c =

@@ -1,7 +1,7 @@
 -- Adding those that are left gives the whole.
 use Rattle.std.proofs.Common.{◌≡◌, ◌≤◌, ◌+◌, length, drop, vec_capacity}
-use Rattle.abs_state.specs.Orders.{with_orders}
-use Rattle.abs_state.proofs.blocks.add_orders.Given as goal
+use Rattle.abs_domain.specs.Orders.{with_orders}
+use Rattle.abs_domain.proofs.starts.add_orders.Given as goal
 
 abbrev pub invariant-loop-order : goal.invariant-loop-order
 invariant-loop-order g l = record {

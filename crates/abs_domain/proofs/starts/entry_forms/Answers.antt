@@ -1,6 +1,6 @@
-use Rattle.abs_state.specs.Blocks.{entry_form}
-use Rattle.abs_state.proofs.StartForms.{pushed_more}
-use Rattle.abs_state.proofs.blocks.entry_forms.Goals as goal
+use Rattle.abs_domain.specs.Starts.{entry_form}
+use Rattle.abs_domain.proofs.StartForms.{pushed_more}
+use Rattle.abs_domain.proofs.starts.entry_forms.Goals as goal
 
 pub loop-number-preserved : goal.loop-number-preserved
 loop-number-preserved g c =

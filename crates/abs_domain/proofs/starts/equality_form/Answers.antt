@@ -2,9 +2,9 @@ use Rattle.std.proofs.Common.{ℕ, ◌<◌, List, length, map, take, arith, sym,
 use Rattle.linear_facts.specs.Forms.{Linear, IsForm}
 use Rattle.linear_facts.specs.Laws.{AreBelow}
 use Rattle.cert_note.specs.declared.values.Term.{Term}
-use Rattle.abs_state.specs.Blocks.{form_term}
-use Rattle.abs_state.proofs.StartForms.{terms_room, term_past, term_some}
-use Rattle.abs_state.proofs.blocks.equality_form.Goals as goal
+use Rattle.abs_domain.specs.Starts.{form_term}
+use Rattle.abs_domain.proofs.StartForms.{terms_room, term_past, term_some}
+use Rattle.abs_domain.proofs.starts.equality_form.Goals as goal
 
 pub with_term-form-requires : goal.with_term-form-requires
 with_term-form-requires c =

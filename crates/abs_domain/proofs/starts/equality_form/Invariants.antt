@@ -1,7 +1,7 @@
 -- The form of the terms so far.
 use Rattle.std.proofs.Common.{◌≡◌, map, take}
-use Rattle.abs_state.specs.Blocks.{form_term}
-use Rattle.abs_state.proofs.blocks.equality_form.Given as goal
+use Rattle.abs_domain.specs.Starts.{form_term}
+use Rattle.abs_domain.proofs.starts.equality_form.Given as goal
 
 abbrev pub invariant-loop-term : goal.invariant-loop-term
 invariant-loop-term l =

@@ -1,8 +1,8 @@
 use Rattle.std.proofs.Common.{sym, ◌==◌}
 use Rattle.cert_note.specs.declared.values.RegisterFact.{RegisterFact}
-use Rattle.abs_state.specs.Blocks.{HasForm}
-use Rattle.abs_state.proofs.StartForms.{found_has}
-use Rattle.abs_state.proofs.blocks.fact_form.Goals as goal
+use Rattle.abs_domain.specs.Starts.{HasForm}
+use Rattle.abs_domain.proofs.StartForms.{found_has}
+use Rattle.abs_domain.proofs.starts.fact_form.Goals as goal
 
 pub form_of_fact-requires : goal.form_of_fact-requires
 form_of_fact-requires c =

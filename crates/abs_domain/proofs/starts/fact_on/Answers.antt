@@ -2,7 +2,7 @@ use Rattle.std.proofs.Common.{rules, tests, ◌==◌}
 use Rattle.std.proofs.lemmas.Iterator.{YieldsList-from_slice}
 use Rattle.std.proofs.lemmas.Iterator.Search.{find_from_yields_List}
 use Rattle.cert_note.specs.declared.values.RegisterFact.{RegisterFact}
-use Rattle.abs_state.proofs.blocks.fact_on.Goals as goal
+use Rattle.abs_domain.proofs.starts.fact_on.Goals as goal
 
 pub returns : goal.returns
 returns c =

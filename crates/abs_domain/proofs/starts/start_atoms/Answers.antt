@@ -1,9 +1,9 @@
-use Rattle.std.proofs.Common.{arith, ap, sym, ◌∙◌, map, Some}
+use Rattle.std.proofs.Common.{arith, ap, sym, ◌∙◌, map}
 use Rattle.std.specs.List.{range_with_len, slice_get}
-use Rattle.abs_state.specs.Numbers.{plain}
-use Rattle.abs_state.specs.Blocks.{stated_range, passed_range}
-use Rattle.abs_state.proofs.StartForms.{pushed_more, pushed_behind}
-use Rattle.abs_state.proofs.blocks.start_atoms.Goals as goal
+use Rattle.abs_domain.specs.Numbers.{plain}
+use Rattle.abs_domain.specs.Starts.{stated_range, passed_range}
+use Rattle.abs_domain.proofs.StartForms.{pushed_more, pushed_behind}
+use Rattle.abs_domain.proofs.starts.start_atoms.Goals as goal
 
 pub loop-number-preserved : goal.loop-number-preserved
 loop-number-preserved g c = record {

@@ -1,9 +1,9 @@
 -- The atoms so far.
 use Rattle.std.proofs.Common.{◌≡◌, ◌≤◌, ◌++◌, map, vec_capacity}
 use Rattle.std.specs.List.{range_with_len, slice_get}
-use Rattle.abs_state.specs.Numbers.{plain}
-use Rattle.abs_state.specs.Blocks.{stated_range, passed_range}
-use Rattle.abs_state.proofs.blocks.start_atoms.Given as goal
+use Rattle.abs_domain.specs.Numbers.{plain}
+use Rattle.abs_domain.specs.Starts.{stated_range, passed_range}
+use Rattle.abs_domain.proofs.starts.start_atoms.Given as goal
 
 abbrev pub invariant-loop-number : goal.invariant-loop-number
 invariant-loop-number g l = record {

@@ -1,6 +1,6 @@
-use Rattle.abs_state.specs.Blocks.{stated_form}
-use Rattle.abs_state.proofs.StartForms.{pushed_more}
-use Rattle.abs_state.proofs.blocks.start_forms.Goals as goal
+use Rattle.abs_domain.specs.Starts.{stated_form}
+use Rattle.abs_domain.proofs.StartForms.{pushed_more}
+use Rattle.abs_domain.proofs.starts.start_forms.Goals as goal
 
 pub loop-number-preserved : goal.loop-number-preserved
 loop-number-preserved g c =

@@ -1,7 +1,7 @@
 use Rattle.std.proofs.Common.{arith, length, ap}
-use Rattle.abs_state.specs.Numbers.{NumbersView}
-use Rattle.abs_state.proofs.StartNumbers.{atoms_many}
-use Rattle.abs_state.proofs.blocks.start_numbers.Goals as goal
+use Rattle.abs_domain.specs.Numbers.{NumbersView}
+use Rattle.abs_domain.proofs.StartNumbers.{atoms_many}
+use Rattle.abs_domain.proofs.starts.start_numbers.Goals as goal
 
 pub add_orders-requires-clause-many : goal.add_orders-requires-clause-many
 add_orders-requires-clause-many g c = omega (arith, ap length c.in_ok-atoms.ensures.items, atoms_many c.args.parameters.now c.args.facts.now)

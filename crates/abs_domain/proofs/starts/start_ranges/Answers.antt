@@ -1,11 +1,11 @@
-use Rattle.std.proofs.Common.{ℕ, Option, Some, ap, sym, ◌∙◌, arith}
+use Rattle.std.proofs.Common.{ℕ, Some, ◌∙◌, arith}
 use Rattle.std.proofs.Math.ListN.{length-set}
 use Rattle.linear_facts.specs.Sums.{range_of_form}
-use Rattle.abs_state.specs.Values.{computed_range}
-use Rattle.abs_state.specs.Blocks.{stated_range, stated_form}
-use Rattle.abs_state.proofs.StartForms.{written_more}
-use Rattle.abs_state.proofs.StartRanges.{form_there, range_there}
-use Rattle.abs_state.proofs.blocks.start_ranges.Goals as goal
+use Rattle.abs_domain.specs.Values.{computed_range}
+use Rattle.abs_domain.specs.Starts.{stated_range, stated_form}
+use Rattle.abs_domain.proofs.StartForms.{written_more}
+use Rattle.abs_domain.proofs.StartRanges.{form_there, range_there}
+use Rattle.abs_domain.proofs.starts.start_ranges.Goals as goal
 
 pub loop-number-preserved : goal.loop-number-preserved
 loop-number-preserved c =

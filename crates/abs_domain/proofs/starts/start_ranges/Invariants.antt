@@ -2,9 +2,9 @@
 use Rattle.std.proofs.Common.{◌≡◌, ℕ, map, take, length, Some}
 use Rattle.std.specs.List.{range_with_len}
 use Rattle.linear_facts.specs.Sums.{range_of_form}
-use Rattle.abs_state.specs.Values.{computed_range}
-use Rattle.abs_state.specs.Blocks.{stated_range, stated_form}
-use Rattle.abs_state.proofs.blocks.start_ranges.Given as goal
+use Rattle.abs_domain.specs.Values.{computed_range}
+use Rattle.abs_domain.specs.Starts.{stated_range, stated_form}
+use Rattle.abs_domain.proofs.starts.start_ranges.Given as goal
 
 abbrev pub invariant-loop-number : goal.invariant-loop-number
 invariant-loop-number l = record {

@@ -2,9 +2,9 @@
 use Rattle.std.proofs.Common.{◌<◌, ◌≤◌, ◌++◌, List, length, arith, ap, ◌∙◌}
 use Rattle.std.specs.Option.{option_to_list}
 use Rattle.region_mem.specs.declared.parameter.Param.{Param}
-use Rattle.abs_state.specs.Zones.{buffer_zones}
-use Rattle.abs_state.proofs.Lists.{zone_is, zones_more, zones_done}
-use Rattle.abs_state.proofs.zones.add_buffers.Goals as goal
+use Rattle.abs_domain.specs.Zones.{buffer_zones}
+use Rattle.abs_domain.proofs.Lists.{zone_is, zones_more, zones_done}
+use Rattle.abs_domain.proofs.zones.add_buffers.Goals as goal
 
 pub loop-place-preserved : goal.loop-place-preserved
 loop-place-preserved c =

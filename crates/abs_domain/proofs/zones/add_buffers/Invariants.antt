@@ -1,8 +1,8 @@
 -- What the places so far asked for has been appended.
 use Rattle.std.proofs.Common.{◌≡◌, ◌≤◌, ◌+◌, ◌++◌, drop}
 use Rattle.arrayvec.specs.ArrayVec.{array_vec_len}
-use Rattle.abs_state.specs.Zones.{buffer_zones}
-use Rattle.abs_state.proofs.zones.add_buffers.Given as goal
+use Rattle.abs_domain.specs.Zones.{buffer_zones}
+use Rattle.abs_domain.proofs.zones.add_buffers.Given as goal
 
 abbrev pub invariant-loop-place : goal.invariant-loop-place
 invariant-loop-place l =

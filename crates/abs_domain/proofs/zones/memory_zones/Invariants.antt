@@ -1,7 +1,7 @@
 -- The zones of the segments so far.
 use Rattle.std.proofs.Common.{◌≡◌, ◌≤◌, length, map, take}
-use Rattle.abs_state.specs.Zones.{segment_zone}
-use Rattle.abs_state.proofs.zones.memory_zones.Given as goal
+use Rattle.abs_domain.specs.Zones.{segment_zone}
+use Rattle.abs_domain.proofs.zones.memory_zones.Given as goal
 
 abbrev pub invariant-loop-segment : goal.invariant-loop-segment
 invariant-loop-segment g l =
