@@ -36,7 +36,7 @@ use Rattle.abs_state.specs.Branches.{EdgeView, plain_edge, edge_by, refined, tab
 use Rattle.abs_state.specs.Edges.{shown_or, and_then, Shown, is_interval_shown, is_equality_shown, is_sum_shown, is_vector_shown, are_these, says_order, tells_order, is_order_shown, own_total, next_total, no_budget, says, leads_to, is_vtype_shown, is_paid, is_paid_for, is_same, pays, implies_block, implies_end, implied_by}
 use Rattle.abs_state.specs.Held.{Setting, Goes, FactHolds, IsKnown, IsPaid, IsAt, IsTrueOf, AreTrueOf, OrderHolds, budget_of, group_elements, fact_element, number_at, vlenb_in}
 use Rattle.abs_state.specs.EdgeLaws.{TakesEdge, EdgesAreTaken, ImpliedFits, ImpliedEnds}
-use Rattle.abs_state.proofs.Addresses.{register_number}
+use Rattle.abs_transfer.proofs.Addresses.{register_number}
 use Rattle.abs_state.proofs.Substitutions.{both_true}
 use Rattle.abs_state.proofs.Payments.{equality_holds, parts_below, counted, covered, SaysMore as MoreSaid, says_more, paid_holds}
 use Rattle.abs_domain.proofs.StartForms.{budget_below, second_below, greater_below, lesser_below}

@@ -14,8 +14,8 @@ use Rattle.vreg_groups.specs.VectorType.{vtype_of}
 use Rattle.vreg_groups.specs.Legality.{are_operands_legal, count_of, is_destination_legal, is_legal, is_mask_legal, is_operand_legal, is_pair_legal, is_present_legal, is_source_legal, registers_of}
 use Rattle.abs_domain.specs.declared.why.Why.{Why}
 use Rattle.abs_domain.specs.declared.why.Why.TheVariants.{IllegalWord, VtypeUnknown}
-use Rattle.abs_state.specs.Groups.{known_type}
-use Rattle.abs_state.specs.Legal.{legal_check, needs_vtype}
+use Rattle.abs_transfer.specs.Facts.{known_type}
+use Rattle.abs_transfer.specs.Legal.{legal_check, needs_vtype}
 use Rattle.abs_state.specs.VectorLaws.{ChecksAreLegal}
 use Rattle.abs_state.proofs.Substitutions.{both_true}
 

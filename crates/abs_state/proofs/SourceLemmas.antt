@@ -18,7 +18,7 @@ use Rattle.vreg_groups.specs.VectorType.{bits_of_width, bytes_of_width, vlmax_of
 use Rattle.vreg_groups.proofs.Sizes.{bytes_fit, group_room}
 use Rattle.vreg_groups.proofs.Writes.{number_at-lt}
 use Rattle.cert_note.specs.declared.values.VectorFact.{VectorFact}
-use Rattle.abs_state.specs.Groups.{all_of_bits, fact_range, is_source, source_range}
+use Rattle.abs_transfer.specs.Facts.{all_of_bits, fact_range, is_source, source_range}
 use Rattle.abs_state.specs.Held.{IsTrueOf, count_of, fact_element, group_elements}
 use Rattle.abs_domain.proofs.StartForms.{found_has, found_passes}
 

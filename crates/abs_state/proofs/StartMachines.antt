@@ -38,7 +38,7 @@ use Rattle.abs_state.specs.Blocks.{at_block_of, at_entry_of}
 use Rattle.abs_domain.specs.BlockLaws.{ArePassed, FactIsTrue, OrderIsTrue, HoldsWith}
 use Rattle.abs_state.specs.Held.{Setting, FactHolds, OrderHolds, Held, IsProper, number_at, vlenb_in}
 use Rattle.abs_state.specs.StartLaws.{ArePassedBy, BlocksAreHeld, EntriesAreHeld}
-use Rattle.abs_state.proofs.Addresses.{register_number}
+use Rattle.abs_transfer.proofs.Addresses.{register_number}
 use Rattle.abs_state.proofs.EntryHart.{all_valid, are_passed, code_low, numbers_fit, start_is_entry, start_is_hart, start_pc, zeros_count, zeros_small}
 use Rattle.abs_domain.proofs.StartForms.{budget_below, second_below, greater_below, lesser_below, found_is}
 use Rattle.abs_domain.proofs.OrderStarts.{block_numbers_hold}

@@ -28,14 +28,14 @@ use Rattle.abs_state.specs.declared.state.Way.TheVariants.{To}
 use Rattle.abs_domain.specs.Zones.{zones_of}
 use Rattle.abs_domain.specs.Numbers.{NumbersView}
 use Rattle.abs_domain.specs.Memories.{HasZones}
-use Rattle.abs_state.specs.Steps.{csr_after}
+use Rattle.abs_transfer.specs.Csr.{csr_after}
 use Rattle.abs_state.specs.State.{AbstractView}
-use Rattle.abs_state.specs.Legal.{legal_check}
+use Rattle.abs_transfer.specs.Legal.{legal_check}
 use Rattle.abs_state.specs.After.{access_check, after_of, next_word, passed, taken, vector_after, vset_after, way_of}
 use Rattle.abs_state.specs.Held.{Setting, IsProper, Held, vlenb_in}
 use Rattle.abs_state.specs.StepLaws.{or_misaligned, StepIsHeld, MachineIsHeld, StepsGoOn, jumps}
 use Rattle.abs_domain.specs.Memories.{KeepsMemory}
-use Rattle.abs_state.proofs.Configurations.{type_fits}
+use Rattle.abs_transfer.proofs.Configurations.{type_fits}
 use Rattle.abs_state.proofs.Paid.{paid_stays}
 use Rattle.abs_state.proofs.StepScalars.{scalars_hold, csrs_hold}
 

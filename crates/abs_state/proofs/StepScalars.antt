@@ -40,7 +40,8 @@ use Rattle.abs_domain.specs.Effects.{constant_effect, csr_effect, load_effect}
 use Rattle.abs_domain.specs.Described.{LiesIn, IsNumber, Describes}
 use Rattle.abs_domain.specs.Holds.{Holds, Follows}
 use Rattle.abs_domain.specs.Memories.{HasZones}
-use Rattle.abs_state.specs.Steps.{address_range, if_allowed, load_check, store_check, scalar_after, csr_after}
+use Rattle.abs_transfer.specs.Scalar.{address_range, if_allowed, load_check, store_check, scalar_after}
+use Rattle.abs_transfer.specs.Csr.{csr_after}
 use Rattle.abs_state.specs.After.{next_word, jump_way, way_of}
 use Rattle.abs_state.specs.Held.{IsAt}
 use Rattle.abs_state.specs.StepLaws.{or_misaligned, StepIsHeld, ScalarStepsHold, CsrStepsHold}
@@ -48,7 +49,7 @@ use Rattle.abs_domain.specs.Memories.{KeepsMemory}
 use Rattle.abs_domain.proofs.Operations.{constant_describes, csr_describes, immediate_describes, load_describes, register_describes, shift_describes}
 use Rattle.abs_domain.proofs.States.{result_holds, value_fits}
 use Rattle.abs_state.proofs.Growth.{ok_numbers, same_ok}
-use Rattle.abs_state.proofs.Addresses.{address_lies, register_number}
+use Rattle.abs_transfer.proofs.Addresses.{address_lies, register_number}
 use Rattle.abs_domain.proofs.Memories.{inside_permitted, load_inside, nothing_changes, store_inside, store_keeps}
 
 -- ---- harts

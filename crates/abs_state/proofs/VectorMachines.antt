@@ -23,8 +23,8 @@ use Rattle.vector_core.specs.Vectors.{Stepped, Vectors}
 use Rattle.abs_domain.specs.declared.why.Why.{Why}
 use Rattle.abs_state.specs.declared.state.Way.TheVariants.{To}
 use Rattle.abs_domain.specs.Holds.{Holds}
-use Rattle.abs_state.specs.Groups.{groups_after, known_type, stated_by, untouched}
-use Rattle.abs_state.specs.Legal.{legal_check}
+use Rattle.abs_transfer.specs.Facts.{groups_after, known_type, stated_by, untouched}
+use Rattle.abs_transfer.specs.Legal.{legal_check}
 use Rattle.abs_state.specs.State.{AbstractView}
 use Rattle.abs_state.specs.After.{access_check, next_word, passed, vector_after, vector_numbers}
 use Rattle.abs_state.specs.Held.{Setting, AreTrueOf, Held, vlenb_in}

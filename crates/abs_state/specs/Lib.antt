@@ -1,17 +1,11 @@
-pub mod Addresses
 pub mod After
 pub mod Blocks
 pub mod Branches
 pub mod EdgeLaws
 pub mod Edges
-pub mod Groups
 pub mod Held
-pub mod Legal
-pub mod Lengths
-pub mod Reaches
 pub mod StartLaws
 pub mod State
 pub mod StepLaws
-pub mod Steps
 pub mod VectorLaws
 pub mod Words

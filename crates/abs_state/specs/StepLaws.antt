@@ -13,7 +13,8 @@ use Rattle.abs_state.specs.declared.state.Way.{Way}
 use Rattle.abs_state.specs.declared.state.Way.TheVariants.{To}
 use Rattle.abs_domain.specs.declared.zones.Zone.{Zone}
 use Rattle.abs_domain.specs.Numbers.{NumbersView}
-use Rattle.abs_state.specs.Steps.{scalar_after, csr_after}
+use Rattle.abs_transfer.specs.Scalar.{scalar_after}
+use Rattle.abs_transfer.specs.Csr.{csr_after}
 use Rattle.abs_domain.specs.Holds.{Holds, Follows}
 use Rattle.abs_domain.specs.Memories.{HasZones, KeepsMemory}
 use Rattle.abs_state.specs.State.{AbstractView}

@@ -13,9 +13,9 @@ use Rattle.vector_core.specs.Setup.{setup_of}
 use Rattle.vector_core.specs.Step.{vector_step}
 use Rattle.std.specs.Prelude.{get_or}
 use Rattle.abs_state.specs.State.{AbstractView}
-use Rattle.abs_state.specs.Legal.{legal_check}
-use Rattle.abs_state.specs.Reaches.{transfer_check}
-use Rattle.abs_state.specs.Groups.{cut_groups, known_type, stated_by, untouched}
+use Rattle.abs_transfer.specs.Legal.{legal_check}
+use Rattle.abs_transfer.specs.Accesses.{transfer_check}
+use Rattle.abs_transfer.specs.Facts.{cut_groups, known_type, stated_by, untouched}
 use Rattle.abs_state.specs.After.{vset_after}
 use Rattle.abs_state.specs.Held.{Setting, Held, AreTrueOf, vlenb_in}
 use Rattle.abs_domain.specs.Memories.{KeepsMemory}

@@ -9,15 +9,9 @@ mod blocks;
 mod branches;
 mod edge_laws;
 mod edges;
-mod groups;
-mod laws;
-mod legal;
-mod lengths;
-mod reaches;
 mod start_laws;
 mod state;
 mod step_laws;
-mod steps;
 mod vector_laws;
 mod vectors;
 
@@ -28,12 +22,12 @@ pub use abs_domain::{
     offset_form, offset_range, register_effect, register_effects, results_hold, shift_effect,
     shift_effects, store_allowed, stores_keep_zones, zones_are_permitted, zones_are_there,
 };
+pub use abs_transfer::{address_range, addresses_lie, after_csr, after_scalar};
 pub use branches::{Edge, Relation, Said};
 pub use edge_laws::{
     edges_are_taken, edges_keep, implied_ends, implied_fits, one_edge, straight_edges,
 };
 pub use edges::implies;
-pub use laws::addresses_lie;
 pub use start_laws::{blocks_are_held, entries_are_held};
 pub use state::{Abstract, MOST_WORDS, Way};
 pub use step_laws::{csr_steps_hold, scalar_steps_hold, steps_are_held, steps_count, steps_go_on};

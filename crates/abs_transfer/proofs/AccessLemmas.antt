@@ -8,12 +8,12 @@ use Rattle.linear_facts.specs.Forms.{Linear, value, IsForm, number_form, scaled,
 use Rattle.linear_facts.specs.Ranges.{AgreesWith}
 use Rattle.linear_facts.specs.Sums.{range_of_form}
 use Rattle.linear_facts.proofs.FormLaws.{value-sum_of, value-scaled, length-sum_of, length-scaled_terms, number-IsForm, sum_of-IsForm, scaled-IsForm, within-is, within-room}
-use Rattle.abs_state.specs.declared.reaches.Reach.{Reach}
+use Rattle.abs_transfer.specs.declared.accesses.Reach.{Reach}
 use Rattle.abs_domain.specs.Values.{ValueView}
 use Rattle.abs_domain.specs.Numbers.{NumbersView, table_of}
 use Rattle.abs_domain.specs.Effects.{fitting}
 use Rattle.abs_domain.specs.Described.{LiesIn, IsNumber}
-use Rattle.abs_state.specs.Reaches.{met_with_form, sharpened_high, sharpened_low, sum_form, fitting_less, unit_reach, rising_reach, falling_reach}
+use Rattle.abs_transfer.specs.Accesses.{met_with_form, sharpened_high, sharpened_low, sum_form, fitting_less, unit_reach, rising_reach, falling_reach}
 use Rattle.abs_domain.proofs.Operations.{value_number}
 use Rattle.abs_domain.proofs.States.{computed_lies, form_range_lies}
 

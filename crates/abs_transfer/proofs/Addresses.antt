@@ -12,8 +12,8 @@ use Rattle.abs_domain.specs.Numbers.{table_of, value_at}
 use Rattle.abs_domain.specs.Effects.{offset_form, offset_range}
 use Rattle.abs_domain.specs.Described.{IsNumber}
 use Rattle.abs_domain.specs.Holds.{number_of}
-use Rattle.abs_state.specs.Steps.{address_range}
-use Rattle.abs_state.specs.Addresses.{AddressesLie}
+use Rattle.abs_transfer.specs.Scalar.{address_range}
+use Rattle.abs_transfer.specs.Addresses.{AddressesLie}
 use Rattle.abs_domain.proofs.Operations.{offset_lies, value_number}
 use Rattle.abs_domain.proofs.States.{computed_lies, form_range_lies}
 

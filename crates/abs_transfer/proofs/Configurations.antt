@@ -12,16 +12,16 @@ use Rattle.vreg_groups.specs.VectorType.{vtype_of, vlmax_of}
 use Rattle.vreg_groups.specs.VectorLength.{IsVlenb, IsConfig, no_config, supported_vset, requested_vset, vset_of}
 use Rattle.vreg_groups.proofs.Sizes.{vlmax_small}
 use Rattle.scalar_core.specs.Hart.{Hart, reg_of}
-use Rattle.abs_state.specs.declared.lengths.Asked.{Asked}
-use Rattle.abs_state.specs.declared.lengths.Asked.TheVariants.{Keep, Greatest, Register, Number}
+use Rattle.abs_transfer.specs.declared.vset.Asked.{Asked}
+use Rattle.abs_transfer.specs.declared.vset.Asked.TheVariants.{Keep, Greatest, Register, Number}
 use Rattle.abs_domain.specs.Values.{ValueView, just, up_to}
 use Rattle.abs_domain.specs.Numbers.{NumbersView, value_at, with_value}
 use Rattle.abs_domain.specs.Described.{LiesIn, IsNumber}
 use Rattle.abs_domain.specs.Holds.{Holds, Follows}
-use Rattle.abs_state.specs.Lengths.{Configured, configured, has_vlmax, kept_or_zero, known_request, limited, supported_request, unknown_length, unknown_request}
-use Rattle.abs_state.proofs.Addresses.{register_number}
+use Rattle.abs_transfer.specs.Vset.{Configured, configured, has_vlmax, kept_or_zero, known_request, limited, supported_request, unknown_length, unknown_request}
+use Rattle.abs_transfer.proofs.Addresses.{register_number}
 use Rattle.abs_domain.proofs.Operations.{value_number}
-use Rattle.abs_state.proofs.Splits.{fresh_length, length_holds, limited_holds, same_length}
+use Rattle.abs_transfer.proofs.Splits.{fresh_length, length_holds, limited_holds, same_length}
 
 -- ---- vtype and vl
 

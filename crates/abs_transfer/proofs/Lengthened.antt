@@ -7,13 +7,13 @@ use Rattle.linear_facts.specs.declared.ranges.Atom.{Atom}
 use Rattle.linear_facts.specs.declared.ranges.Split.{Split}
 use Rattle.vreg_groups.specs.declared.vector_type.Vtype.{Vtype}
 use Rattle.vreg_groups.specs.VectorType.{vtype_of, vlmax_of}
-use Rattle.abs_state.specs.declared.lengths.Asked.{Asked}
-use Rattle.abs_state.specs.declared.lengths.Asked.TheVariants.{Keep, Greatest, Register, Number}
+use Rattle.abs_transfer.specs.declared.vset.Asked.{Asked}
+use Rattle.abs_transfer.specs.declared.vset.Asked.TheVariants.{Keep, Greatest, Register, Number}
 use Rattle.abs_domain.specs.declared.values.Effect.TheVariants.{Copied}
 use Rattle.abs_domain.specs.Values.{ValueView}
 use Rattle.abs_domain.specs.Numbers.{NumbersView, plain, value_at, with_effect, with_fresh, with_result, with_value}
 use Rattle.abs_domain.specs.Numbers.{whole_atom}
-use Rattle.abs_state.specs.Lengths.{Configured, configured, has_vlmax, known_request, kept_or_zero, limited, limited_by, split_into, supported_request, unknown_request, with_length_in}
+use Rattle.abs_transfer.specs.Vset.{Configured, configured, has_vlmax, known_request, kept_or_zero, limited, limited_by, split_into, supported_request, unknown_request, with_length_in}
 use Rattle.abs_domain.specs.Numbers.{with_split}
 
 -- at most two atoms more

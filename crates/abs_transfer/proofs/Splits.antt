@@ -19,7 +19,7 @@ use Rattle.abs_domain.specs.Described.{LiesIn, IsNumber}
 use Rattle.abs_domain.specs.Holds.{number_of, table_with, AreSplitsBelow, Holds, Follows}
 use Rattle.abs_domain.specs.Numbers.{atom_of_terms, whole_atom}
 use Rattle.abs_domain.specs.Numbers.{with_split}
-use Rattle.abs_state.specs.Lengths.{split_into, limited_by, limited, lesser_range, excess_range}
+use Rattle.abs_transfer.specs.Vset.{split_into, limited_by, limited, lesser_range, excess_range}
 use Rattle.abs_domain.proofs.States.{atom_holds, atom_number, length_push, number_here, number_there, other_value, this_value, with_number}
 use Rattle.abs_domain.proofs.States.{whole_is}
 

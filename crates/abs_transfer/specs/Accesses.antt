@@ -1,6 +1,6 @@
 -- Where the bytes of a vector load or store may lie, and its test: they have to lie in one zone. Masks are ignored.
 use Rattle.std.specs.Prelude.{ℕ, ◌+◌, ◌-◌, ◌*◌, ◌/◌, ◌^◌, ◌==◌, ◌%◌, nat_lt, nat_le, ◌&&◌, not, Bool, true, false, if◌then◌else◌, List, Option, Some, None, Result, Ok, Err}
-use Rattle.abs_state.specs.Words.{Range, Linear, number_form, scaled, sum_of, within, range_of_form, Vtype, VectorFact}
+use Rattle.abs_transfer.specs.Words.{Range, Linear, number_form, scaled, sum_of, within, range_of_form, Vtype, VectorFact}
 use Rattle.rv_decode.specs.declared.extents.Eew.TheVariants.{Fixed}
 use Rattle.rv_decode.specs.declared.instructions.Direction.{Direction}
 use Rattle.rv_decode.specs.declared.instructions.Direction.TheVariants.{Load, Store}
@@ -9,7 +9,7 @@ use Rattle.rv_decode.specs.declared.instructions.Place.TheVariants as place
 use Rattle.rv_decode.specs.declared.instructions.VMem.{VMem}
 use Rattle.vreg_groups.specs.VectorType.{bytes_of_width}
 use Rattle.vreg_groups.specs.Legality.{whole_count}
-use Rattle.abs_state.specs.declared.reaches.Reach.{Reach}
+use Rattle.abs_transfer.specs.declared.accesses.Reach.{Reach}
 use Rattle.abs_domain.specs.declared.why.Why.{Why}
 use Rattle.abs_domain.specs.declared.why.Why.TheVariants.{AccessNotProved}
 use Rattle.abs_domain.specs.declared.zones.Zone.{Zone}
@@ -17,7 +17,7 @@ use Rattle.abs_domain.specs.Values.{ValueView, computed_range, known_of}
 use Rattle.abs_domain.specs.Effects.{fitting}
 use Rattle.abs_domain.specs.Zones.{load_allowed, store_allowed}
 use Rattle.abs_domain.specs.Numbers.{NumbersView, table_of, value_at}
-use Rattle.abs_state.specs.Groups.{source_range}
+use Rattle.abs_transfer.specs.Facts.{source_range}
 
 -- ---- sums in whole numbers
 

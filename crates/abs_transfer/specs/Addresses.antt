@@ -2,12 +2,12 @@
 use Rattle.std.specs.Prelude.{ℕ, ◌<◌, ℤ}
 use Rattle.std.specs.Int.{w32}
 use Rattle.std.specs.Int.RustNames.{FitsSigned}
-use Rattle.abs_state.specs.Words.{Vconfig, Hart, unsigned}
+use Rattle.abs_transfer.specs.Words.{Vconfig, Hart, unsigned}
 use Rattle.scalar_core.specs.Step.{address_of}
 use Rattle.abs_domain.specs.Numbers.{NumbersView}
 use Rattle.abs_domain.specs.Described.{LiesIn}
 use Rattle.abs_domain.specs.Holds.{Holds}
-use Rattle.abs_state.specs.Steps.{address_range}
+use Rattle.abs_transfer.specs.Scalar.{address_range}
 
 -- Where all that is known is true of a hart, the address of a load or store lies in its range.
 abbrev pub AddressesLie : Type 0

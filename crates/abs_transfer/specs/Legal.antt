@@ -2,7 +2,7 @@
 use Rattle.std.specs.Prelude.{ℕ, ◌||◌, Bool, true, false, if◌then◌else◌, Option, Some, None, Result, Ok, Err}
 use Rattle.rv_decode.specs.declared.extents.Extent.{Extent}
 use Rattle.rv_decode.specs.declared.extents.Extent.TheVariants.{Group, Single, Mask, Whole}
-use Rattle.abs_state.specs.Words.{Operand, Insn, needs_of, is_legal}
+use Rattle.abs_transfer.specs.Words.{Operand, Insn, needs_of, is_legal}
 use Rattle.vreg_groups.specs.VectorLength.{no_config}
 use Rattle.abs_domain.specs.declared.why.Why.{Why}
 use Rattle.abs_domain.specs.declared.why.Why.TheVariants.{IllegalWord, VtypeUnknown}

@@ -1,7 +1,7 @@
 -- What a scalar instruction makes of what is known, or why it is refused. An access has to lie in one zone, whatever its
 -- address may be.
 use Rattle.std.specs.Prelude.{ℕ, ◌+◌, ◌%◌, ◌^◌, ℤ, List, Result, Ok, Err}
-use Rattle.abs_state.specs.Words.{Range, range_of_form, ScalarInsn, Lui, Auipc, Jal, Jalr, Branch, ShiftImmediate, Register, Fence, Ecall, CsrInsn, unsigned, size_of_load}
+use Rattle.abs_transfer.specs.Words.{Range, range_of_form, ScalarInsn, Lui, Auipc, Jal, Jalr, Branch, ShiftImmediate, Register, Fence, Ecall, unsigned, size_of_load}
 use Rattle.rv_decode.specs.declared.instructions.ScalarInsn.TheVariants.{Load, Store, Immediate}
 use Rattle.scalar_core.specs.Step.{size_of_store}
 use Rattle.abs_domain.specs.declared.why.Why.{Why}
@@ -9,7 +9,7 @@ use Rattle.abs_domain.specs.declared.zones.Zone.{Zone}
 use Rattle.abs_domain.specs.Values.{computed_range}
 use Rattle.abs_domain.specs.Zones.{load_allowed, store_allowed}
 use Rattle.abs_domain.specs.Numbers.{NumbersView, table_of, value_at, with_result}
-use Rattle.abs_domain.specs.Effects.{constant_effect, csr_effect, immediate_effect, load_effect, offset_form, offset_range, register_effect, shift_effect}
+use Rattle.abs_domain.specs.Effects.{constant_effect, immediate_effect, load_effect, offset_form, offset_range, register_effect, shift_effect}
 
 -- the range of an address: the number of rs1 and a signed offset, which is given by its bits
 unfoldable pub address_range : ℕ → ℕ → NumbersView → Range
@@ -54,7 +54,3 @@ scalar_after pc (Register op rd rs1 rs2) zones s =
     Ok (with_result rd (register_effect op (value_at s rs1) (value_at s rs2)) s)
 scalar_after pc Fence zones s = Ok s
 scalar_after pc Ecall zones s = Ok s
-
--- an instruction on a CSR, with vlenb bytes in a vector register: rd gets the CSR's old number
-unfoldable pub csr_after : ℕ → CsrInsn → NumbersView → NumbersView
-csr_after vlenb insn s = with_result insn.rd (csr_effect insn.csr vlenb (value_at s 32)) s

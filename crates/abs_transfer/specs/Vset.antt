@@ -1,12 +1,12 @@
 -- What an instruction that sets vtype and vl makes of what is known ("Vector Configuration-Setting Instructions").
 use Rattle.std.specs.Prelude.{ℕ, ◌+◌, ◌-◌, ◌*◌, ◌==◌, min, Bool, true, false, if◌then◌else◌, List, [], ◌∷◌, ◌++◌, length, Option, Some, None}
 use Rattle.std.specs.Option.{option_and_then, option_map_or}
-use Rattle.abs_state.specs.Words.{Range, Atom, number_form, atom_form, Vtype, vtype_of, vlmax_of}
+use Rattle.abs_transfer.specs.Words.{Range, Atom, number_form, atom_form, Vtype, vtype_of, vlmax_of}
 use Rattle.rv_decode.specs.declared.instructions.VSet.{VSet}
 use Rattle.rv_decode.specs.declared.instructions.VSet.TheVariants.{Vsetvli, Vsetivli, Vsetvl}
-use Rattle.abs_state.specs.declared.lengths.Asked.{Asked}
-use Rattle.abs_state.specs.declared.lengths.Asked.TheVariants.{Keep, Greatest, Register, Number}
-use Rattle.abs_state.specs.declared.lengths.Wanted.{Wanted}
+use Rattle.abs_transfer.specs.declared.vset.Asked.{Asked}
+use Rattle.abs_transfer.specs.declared.vset.Asked.TheVariants.{Keep, Greatest, Register, Number}
+use Rattle.abs_transfer.specs.declared.vset.Wanted.{Wanted}
 use Rattle.abs_domain.specs.declared.values.Effect.TheVariants.{Copied}
 use Rattle.abs_domain.specs.Values.{ValueView, just, known_of, up_to}
 use Rattle.abs_domain.specs.Numbers.{NumbersView, plain, value_at, whole_atom, with_fresh, with_result, with_split, with_value}

@@ -5,21 +5,21 @@ ghost use Rattle.rv_decode.specs.Needs.{eew_of as eew_of_of, needs_of};
 ghost use Rattle.vreg_groups.specs.Legality.{count_of as count_of_of, eew_bits as eew_bits_of};
 ghost use Rattle.vreg_groups.specs.VectorLength.{IsVlenb};
 ghost use Rattle.vreg_groups.specs.VectorType.{bits_of_width};
-ghost use Rattle.abs_state.specs.Groups.{all_of_bits as all_of_bits_of, is_source as is_source_of, source_range as source_range_of};
-ghost use Rattle.abs_state.specs.Groups.{low_range as low_range_of, second_range as second_range_of};
-ghost use Rattle.abs_state.specs.Groups.{fitting_bits as fitting_bits_of, left_elements as left_elements_of};
-ghost use Rattle.abs_state.specs.Groups.{right_elements as right_elements_of, remainder_by as remainder_by_of};
-ghost use Rattle.abs_state.specs.Groups.{int_range as int_range_of, narrow_range as narrow_range_of};
-ghost use Rattle.abs_state.specs.Groups.{unless_masked as unless_masked_of, arith_range as arith_range_of};
-ghost use Rattle.abs_state.specs.Groups.{mask_range as mask_range_of, place_range as place_range_of};
-ghost use Rattle.abs_state.specs.Groups.{stated_range as stated_range_of, fact_if as fact_if_of, stated_by as stated_by_of};
-ghost use Rattle.abs_state.specs.Groups.{is_apart as is_apart_of, untouched as untouched_of};
-ghost use Rattle.abs_state.specs.Groups.{elements_in as elements_in_of, counted as counted_of, is_lasting as is_lasting_of};
-ghost use Rattle.abs_state.specs.Groups.{cut_groups as cut_groups_of};
+ghost use Rattle.abs_transfer.specs.Facts.{all_of_bits as all_of_bits_of, is_source as is_source_of, source_range as source_range_of};
+ghost use Rattle.abs_transfer.specs.Facts.{low_range as low_range_of, second_range as second_range_of};
+ghost use Rattle.abs_transfer.specs.Facts.{fitting_bits as fitting_bits_of, left_elements as left_elements_of};
+ghost use Rattle.abs_transfer.specs.Facts.{right_elements as right_elements_of, remainder_by as remainder_by_of};
+ghost use Rattle.abs_transfer.specs.Facts.{int_range as int_range_of, narrow_range as narrow_range_of};
+ghost use Rattle.abs_transfer.specs.Facts.{unless_masked as unless_masked_of, arith_range as arith_range_of};
+ghost use Rattle.abs_transfer.specs.Facts.{mask_range as mask_range_of, place_range as place_range_of};
+ghost use Rattle.abs_transfer.specs.Facts.{stated_range as stated_range_of, fact_if as fact_if_of, stated_by as stated_by_of};
+ghost use Rattle.abs_transfer.specs.Facts.{is_apart as is_apart_of, untouched as untouched_of};
+ghost use Rattle.abs_transfer.specs.Facts.{elements_in as elements_in_of, counted as counted_of, is_lasting as is_lasting_of};
+ghost use Rattle.abs_transfer.specs.Facts.{cut_groups as cut_groups_of};
 ghost use Rattle.abs_domain.specs.Numbers.{value_at};
 ghost use Rattle.abs_domain.specs.Values.{just as just_of};
 
-use abs_domain::{VL, Numbers, known, up_to};
+use abs_domain::{Numbers, VL, known, up_to};
 use cert_note::VectorFact;
 use linear_facts::Range;
 use rv_decode::{
@@ -66,7 +66,7 @@ fn all_of_bits(bits: u32) -> Range
 }
 
 /// Whether a fact speaks of this group, and of all its elements below vl.
-#[tactic(auto, unfolding(crate::specs::Groups::is_source))]
+#[tactic(auto, unfolding(crate::specs::Facts::is_source))]
 fn is_source(vl: Range, first: Reg, width: u32, registers: usize, fact: &VectorFact) -> bool
     ensures { result ≡ is_source_of vl first width registers fact.now }
 {
@@ -93,14 +93,8 @@ fn source_fact(
 }
 
 /// The range of the elements below vl of the group that begins at a register.
-#[tactic(auto, unfolding(crate::specs::Groups::source_range))]
-pub(crate) fn source_range(
-    t: &Vtype,
-    vl: Range,
-    first: Reg,
-    eew: Eew,
-    facts: &[VectorFact],
-) -> Range
+#[tactic(auto, unfolding(crate::specs::Facts::source_range))]
+pub fn source_range(t: &Vtype, vl: Range, first: Reg, eew: Eew, facts: &[VectorFact]) -> Range
     ensures { result ≡ source_range_of t.now vl first eew facts.now }
 {
     let width = eew_bits(t.sew, eew);
@@ -124,7 +118,7 @@ fn eew_of(of: Fraction) -> Eew
 }
 
 /// The range of the low bits of a number.
-#[tactic(auto, unfolding(crate::specs::Groups::low_range))]
+#[tactic(auto, unfolding(crate::specs::Facts::low_range))]
 fn low_range(bits: u32, r: Range) -> Range
     requires { bits ≤ 32 }
     ensures { result ≡ low_range_of bits r }
@@ -146,7 +140,7 @@ fn immediate_range(bits: u32, imm: u32) -> Range
 }
 
 /// The range of the elements of the second operand.
-#[tactic(auto, unfolding(crate::specs::Groups::second_range))]
+#[tactic(auto, unfolding(crate::specs::Facts::second_range))]
 fn second_range<A: Allocator>(
     t: &Vtype,
     numbers: &Numbers<A>,
@@ -192,7 +186,7 @@ fn multiple_range(bits: u32, a: Range, k: u32) -> Option<Range>
 }
 
 /// A shift to the left by an amount, of which the low bits count, where it is known.
-#[tactic(auto, unfolding(crate::specs::Groups::left_elements))]
+#[tactic(auto, unfolding(crate::specs::Facts::left_elements))]
 fn left_elements(bits: u32, a: Range, amount: Option<u32>) -> Option<Range>
     requires least { 0 < bits }
     requires most { bits ≤ 32 }
@@ -205,7 +199,7 @@ fn left_elements(bits: u32, a: Range, amount: Option<u32>) -> Option<Range>
 }
 
 /// A shift to the right of elements with `of` bits, where what it leaves has `bits`.
-#[tactic(auto, unfolding(crate::specs::Groups::right_elements))]
+#[tactic(auto, unfolding(crate::specs::Facts::right_elements))]
 fn right_elements(of: u32, bits: u32, a: Range, amount: Option<u32>) -> Option<Range>
     requires least { 0 < of }
     requires most { of ≤ 64 }
@@ -223,7 +217,7 @@ fn right_elements(of: u32, bits: u32, a: Range, amount: Option<u32>) -> Option<R
 }
 
 /// The remainder by a number of an x register, where it is known and not 0.
-#[tactic(auto, unfolding(crate::specs::Groups::remainder_by, crate::specs::Groups::remainder_elements))]
+#[tactic(auto, unfolding(crate::specs::Facts::remainder_by, crate::specs::Facts::remainder_elements))]
 fn remainder_by(b: Source, a: Range, divisor: Option<u32>) -> Option<Range>
     ensures { result ≡ remainder_by_of b a divisor }
 {
@@ -241,7 +235,7 @@ fn remainder_by(b: Source, a: Range, divisor: Option<u32>) -> Option<Range>
 }
 
 /// The range of what an operation gives for elements of vs2 and of the second operand that lie in these.
-#[tactic(auto, unfolding(crate::specs::Groups::int_range))]
+#[tactic(auto, unfolding(crate::specs::Facts::int_range))]
 fn int_range(bits: u32, op: IntOp, b: Source, x: Range, y: Range) -> Option<Range>
     requires least { 0 < bits }
     requires most { bits ≤ 32 }
@@ -283,7 +277,7 @@ fn int_range(bits: u32, op: IntOp, b: Source, x: Range, y: Range) -> Option<Rang
 }
 
 /// The same for a shift of elements of 2*SEW to SEW.
-#[tactic(auto, unfolding(crate::specs::Groups::narrow_range))]
+#[tactic(auto, unfolding(crate::specs::Facts::narrow_range))]
 fn narrow_range(bits: u32, op: NarrowOp, x: Range, y: Range) -> Option<Range>
     requires least { 0 < bits }
     requires most { bits ≤ 32 }
@@ -339,7 +333,7 @@ fn narrow_results<A: Allocator>(
 }
 
 /// The range of the results of vector arithmetic, where one is stated.
-#[tactic(auto, unfolding(crate::specs::Groups::arith_range))]
+#[tactic(auto, unfolding(crate::specs::Facts::arith_range))]
 fn arith_range<A: Allocator>(
     t: &Vtype,
     numbers: &Numbers<A>,
@@ -397,7 +391,7 @@ fn place_range(vlenb: u32, t: &Vtype) -> Option<Range>
 }
 
 /// The range of what an instruction on masks gives.
-#[tactic(auto, unfolding(crate::specs::Groups::mask_range))]
+#[tactic(auto, unfolding(crate::specs::Facts::mask_range))]
 fn mask_range(vlenb: u32, t: &Vtype, insn: &VMask) -> Option<Range>
     requires { IsVlenb vlenb }
     ensures { result ≡ mask_range_of vlenb t.now insn.now }
@@ -412,7 +406,7 @@ fn mask_range(vlenb: u32, t: &Vtype, insn: &VMask) -> Option<Range>
 }
 
 /// The range of the elements below vl that an instruction leaves in its destination, where it states one.
-#[tactic(auto, unfolding(crate::specs::Groups::stated_range))]
+#[tactic(auto, unfolding(crate::specs::Facts::stated_range))]
 fn stated_range<A: Allocator>(
     vlenb: u32,
     t: &Vtype,
@@ -437,7 +431,7 @@ fn stated_range<A: Allocator>(
 }
 
 /// The fact for vl on a group of SEW. One on all numbers would say nothing.
-#[tactic(auto, unfolding(crate::specs::Groups::fact_if))]
+#[tactic(auto, unfolding(crate::specs::Facts::fact_if))]
 fn fact_if(t: &Vtype, first: Reg, range: Option<Range>) -> Option<VectorFact>
     ensures { option_to_list result ≡ fact_if_of t.now first range }
 {
@@ -460,7 +454,7 @@ fn fact_if(t: &Vtype, first: Reg, range: Option<Range>) -> Option<VectorFact>
 }
 
 /// What an instruction states of its destination, where vtype is known.
-#[tactic(auto, unfolding(crate::specs::Groups::stated_by, crate::specs::Groups::stated_at))]
+#[tactic(auto, unfolding(crate::specs::Facts::stated_by, crate::specs::Facts::stated_at))]
 fn stated_by<A: Allocator>(
     vlenb: u32,
     vtype: Option<Vtype>,
@@ -494,7 +488,7 @@ fn count_of(vtype: Option<Vtype>, extent: Extent) -> u32
 }
 
 /// Whether a fact's group has none of `count` registers from `first` on.
-#[tactic(auto, unfolding(crate::specs::Groups::is_apart))]
+#[tactic(auto, unfolding(crate::specs::Facts::is_apart))]
 fn is_apart(first: Reg, count: u32, fact: &VectorFact) -> bool
     requires { count ≤ 64 }
     ensures { result ≡ is_apart_of first count fact.now }
@@ -515,7 +509,7 @@ fn retain_apart<A: Allocator>(first: Reg, count: u32, facts: &mut Vec<VectorFact
 }
 
 /// Leaves the facts that a write to a destination leaves.
-#[tactic(auto, unfolding(crate::specs::Groups::untouched))]
+#[tactic(auto, unfolding(crate::specs::Facts::untouched))]
 fn untouched<A: Allocator>(
     vtype: Option<Vtype>,
     destination: Option<Operand>,
@@ -532,7 +526,7 @@ fn untouched<A: Allocator>(
 }
 
 /// The facts after an instruction that leaves vl as it is: those that its destination leaves, and what it states of that.
-pub(crate) fn after_groups<A: Allocator, B: Allocator>(
+pub fn after_groups<A: Allocator, B: Allocator>(
     vlenb: u32,
     vtype: Option<Vtype>,
     numbers: &Numbers<A>,
@@ -569,7 +563,7 @@ fn elements_in(vlenb: u32, fact: &VectorFact) -> u32
 }
 
 /// The fact for as many elements as vl is at least, where it is one for vl.
-#[tactic(auto, unfolding(crate::specs::Groups::counted))]
+#[tactic(auto, unfolding(crate::specs::Facts::counted))]
 fn counted(vlenb: u32, least: u32, fact: &VectorFact) -> VectorFact
     requires { IsVlenb vlenb }
     ensures { result ≡ counted_of vlenb least fact.now }
@@ -595,7 +589,7 @@ fn count_all(vlenb: u32, least: u32, facts: &mut [VectorFact])
 }
 
 /// Whether a fact is not for vl, or vl is at least 1.
-#[tactic(auto, unfolding(crate::specs::Groups::is_lasting))]
+#[tactic(auto, unfolding(crate::specs::Facts::is_lasting))]
 fn is_lasting(least: u32, fact: &VectorFact) -> bool
     ensures { result ≡ is_lasting_of least fact.now }
 {
@@ -613,8 +607,8 @@ fn retain_lasting<A: Allocator>(least: u32, facts: &mut Vec<VectorFact, A>)
 
 /// The facts where vl, which was at least `least`, changes: one for vl becomes one for that many elements, and is left out
 /// where that is 0.
-#[tactic(auto, unfolding(crate::specs::Groups::cut_groups))]
-pub(crate) fn cut_groups<A: Allocator>(vlenb: u32, least: u32, facts: &mut Vec<VectorFact, A>)
+#[tactic(auto, unfolding(crate::specs::Facts::cut_groups))]
+pub fn cut_groups<A: Allocator>(vlenb: u32, least: u32, facts: &mut Vec<VectorFact, A>)
     requires { IsVlenb vlenb }
     ensures items { facts.new.items ≡ cut_groups_of vlenb least facts.old.items }
     ensures bound { length facts.new.items ≤ length facts.old.items }

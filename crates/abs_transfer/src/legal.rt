@@ -1,7 +1,7 @@
 //! Whether a vector instruction is legal, as far as vtype is known.
 ghost use Rattle.std.specs.Prelude.{◌≡◌};
-ghost use Rattle.abs_state.specs.Legal.{legal_check as legal_check_of, needs_vtype as needs_vtype_of};
-ghost use Rattle.abs_state.specs.Legal.{operand_needs_vtype as operand_needs_vtype_of};
+ghost use Rattle.abs_transfer.specs.Legal.{legal_check as legal_check_of, needs_vtype as needs_vtype_of};
+ghost use Rattle.abs_transfer.specs.Legal.{operand_needs_vtype as operand_needs_vtype_of};
 
 use abs_domain::Why;
 use rv_decode::{Extent, Insn, Operand, needs};
@@ -33,7 +33,7 @@ fn needs_vtype(insn: &Insn) -> bool
 
 /// The answer on an instruction: where vtype is not known, it has to be legal at any.
 #[tactic(auto, unfolding(crate::specs::Legal::legal_check))]
-pub(crate) fn legal_check(vtype: Option<u8>, insn: &Insn) -> Result<(), Why>
+pub fn legal_check(vtype: Option<u8>, insn: &Insn) -> Result<(), Why>
     ensures { result ≡ legal_check_of vtype insn.now }
 {
     match vtype {

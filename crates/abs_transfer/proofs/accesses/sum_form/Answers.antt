@@ -2,8 +2,8 @@
 use Rattle.std.proofs.Common.{ap, sym, ◌∙◌}
 use Rattle.linear_facts.specs.Forms.{number_form, sum_of}
 use Rattle.linear_facts.proofs.FormLaws.{within-is}
-use Rattle.abs_state.specs.Reaches.{sum_form}
-use Rattle.abs_state.proofs.reaches.sum_form.Goals as goal
+use Rattle.abs_transfer.specs.Accesses.{sum_form}
+use Rattle.abs_transfer.proofs.accesses.sum_form.Goals as goal
 
 pub returns : goal.returns
 unfolding sum_form

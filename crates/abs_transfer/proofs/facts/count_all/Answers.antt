@@ -1,6 +1,6 @@
-use Rattle.abs_state.specs.Groups.{counted}
-use Rattle.abs_state.proofs.GroupLemmas.{changed_more, others_more}
-use Rattle.abs_state.proofs.groups.count_all.Goals as goal
+use Rattle.abs_transfer.specs.Facts.{counted}
+use Rattle.abs_transfer.proofs.ChangedItems.{changed_more, others_more}
+use Rattle.abs_transfer.proofs.facts.count_all.Goals as goal
 
 pub loop-fact-preserved : goal.loop-fact-preserved
 loop-fact-preserved c =

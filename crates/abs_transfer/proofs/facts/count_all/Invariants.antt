@@ -1,7 +1,7 @@
 -- The facts so far are counted, and the others are as they were.
 use Rattle.std.proofs.Common.{◌≡◌, take, drop, map}
-use Rattle.abs_state.specs.Groups.{counted}
-use Rattle.abs_state.proofs.groups.count_all.Given as goal
+use Rattle.abs_transfer.specs.Facts.{counted}
+use Rattle.abs_transfer.proofs.facts.count_all.Given as goal
 
 abbrev pub invariant-loop-fact : goal.invariant-loop-fact
 invariant-loop-fact l = record {

@@ -1,7 +1,7 @@
 use Rattle.std.proofs.Common.{rules}
 use Rattle.std.proofs.lemmas.Fn.{filter_same}
-use Rattle.abs_state.specs.Groups.{is_lasting}
-use Rattle.abs_state.proofs.groups.retain_lasting.Goals as goal
+use Rattle.abs_transfer.specs.Facts.{is_lasting}
+use Rattle.abs_transfer.proofs.facts.retain_lasting.Goals as goal
 
 pub returns-clause-items : goal.returns-clause-items
 returns-clause-items g c =

@@ -1,8 +1,8 @@
 use Rattle.std.proofs.Common.{rules, tests}
 use Rattle.std.proofs.lemmas.Iterator.{YieldsList-from_slice}
 use Rattle.std.proofs.lemmas.Iterator.Search.{find_from_yields_List}
-use Rattle.abs_state.specs.Groups.{is_source}
-use Rattle.abs_state.proofs.groups.source_fact.Goals as goal
+use Rattle.abs_transfer.specs.Facts.{is_source}
+use Rattle.abs_transfer.proofs.facts.source_fact.Goals as goal
 
 pub returns : goal.returns
 returns c =
