@@ -1,6 +1,6 @@
 -- The sums that a certificate states are forms, and over the atoms of a block's start.
-use Rattle.std.proofs.Common.{◌≡◌, ℕ, ◌<◌, ◌≤◌, ◌+◌, ◌^◌, Bool, true, false, ◌&&◌, ◌||◌, arith, refl, sym, ap, ◌∙◌, subst, length, map, take, get_or, append_assoc, zero, suc, List, [], ◌∷◌, ◌++◌, Option, Some, None, IfSome}
-use Rattle.std.specs.Prelude.{nat_le, nat_lt, ◌-◌, ◌==◌, if◌then◌else◌, find, slice_set, IsTrue}
+use Rattle.std.proofs.Common.{◌≡◌, ℕ, ◌<◌, ◌≤◌, ◌+◌, Bool, true, false, ◌&&◌, arith, refl, sym, ap, ◌∙◌, subst, length, map, take, get_or, append_assoc, zero, suc, List, [], ◌∷◌, ◌++◌, Option, Some, None, IfSome}
+use Rattle.std.specs.Prelude.{nat_le, nat_lt, ◌==◌, if◌then◌else◌, find, slice_set, IsTrue}
 use Rattle.std.specs.List.{AllByRecursion, slice_get, range_with_len}
 use Rattle.std.proofs.lemmas.Option.{get_or_from_slice_get}
 use Rattle.std.proofs.lemmas.List.FromFn.{map-range_with_len_more}

@@ -1,5 +1,5 @@
 -- What is known where a block or a run begins is true of the hart there.
-use Rattle.std.proofs.Common.{◌≡◌, ℕ, ◌<◌, ◌≤◌, ◌+◌, ◌%◌, ◌^◌, ◌⊎◌, ◌≢◌, ◌++◌, Bool, true, false, arith, refl, sym, ap, ◌∙◌, subst, inl, inr, length, length-append, map, List, [], ◌∷◌, Option, Some, None, IfSome}
+use Rattle.std.proofs.Common.{◌≡◌, ℕ, ◌<◌, ◌≤◌, ◌+◌, ◌%◌, ◌^◌, ◌⊎◌, ◌≢◌, Bool, true, false, arith, refl, sym, ap, ◌∙◌, subst, inl, inr, length, length-append, map, List, [], ◌∷◌, Option, Some, None, IfSome}
 use Rattle.std.specs.Prelude.{nat_le, nat_lt, ◌&&◌, ◌-◌, ◌==◌, if◌then◌else◌, unwrap_or}
 use Rattle.std.specs.List.{AllByRecursion, slice_get, range_with_len}
 use Rattle.std.specs.Option.{option_and_then}

@@ -7,12 +7,9 @@
 mod after;
 mod blocks;
 mod branches;
-mod edge_laws;
 mod edges;
-mod start_laws;
+mod laws;
 mod state;
-mod step_laws;
-mod vector_laws;
 mod vectors;
 
 pub use abs_domain::{
@@ -24,14 +21,11 @@ pub use abs_domain::{
 };
 pub use abs_transfer::{address_range, addresses_lie, after_csr, after_scalar};
 pub use branches::{Edge, Relation, Said};
-pub use edge_laws::{
-    edges_are_taken, edges_keep, implied_ends, implied_fits, one_edge, straight_edges,
-};
 pub use edges::implies;
-pub use start_laws::{blocks_are_held, entries_are_held};
-pub use state::{Abstract, MOST_WORDS, Way};
-pub use step_laws::{csr_steps_hold, scalar_steps_hold, steps_are_held, steps_count, steps_go_on};
-pub use vector_laws::{
-    checks_are_legal, cut_are_true, stated_are_true, transfers_are_permitted,
+pub use laws::{
+    blocks_are_held, checks_are_legal, csr_steps_hold, cut_are_true, edges_are_taken, edges_keep,
+    entries_are_held, implied_ends, implied_fits, one_edge, scalar_steps_hold, stated_are_true,
+    steps_are_held, steps_count, steps_go_on, straight_edges, transfers_are_permitted,
     transfers_keep_memory, untouched_are_true, vsets_are_held,
 };
+pub use state::{Abstract, MOST_WORDS, Way};

@@ -92,7 +92,7 @@ fn has_vlmax(vlenb: u32, known: Option<u8>, vlmax: u32) -> bool
 
 /// What an instruction asks for.
 #[tactic(auto, unfolding(crate::specs::Vset::wanted_of))]
-fn wanted<A: Allocator>(numbers: &Numbers<A>, insn: VSet) -> Wanted
+fn request_of<A: Allocator>(numbers: &Numbers<A>, insn: VSet) -> Wanted
     ensures { result ≡ wanted_of insn numbers.now }
 {
     match insn {
@@ -304,7 +304,7 @@ pub fn after_vset<A: Allocator>(
         result.is_kept ≡ (configured vlenb known w.length w.vtype numbers.old).is_kept }
     ensures grows { length numbers.new.atoms ≤ length numbers.old.atoms + 2 }
 {
-    let wanted = wanted(numbers, insn);
+    let wanted = request_of(numbers, insn);
     let set = configure(numbers, vlenb, known, wanted.length, wanted.vtype);
     set_length_in(numbers, wanted.rd);
     set
