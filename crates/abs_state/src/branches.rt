@@ -9,7 +9,7 @@ ghost use Rattle.abs_state.specs.Branches.{without_end as without_end_of};
 ghost use Rattle.abs_state.specs.declared.branches.Relation.TheVariants.{Below};
 
 use crate::state::{Abstract, Way};
-use abs_domain::{computed_range, copy_of};
+use abs_domain::{computed_range, copy_of, whole_atom};
 use linear_facts::{Atoms, Change, Form, Range};
 use rv_decode::{Condition, Reg};
 use std::alloc::{Allocator, Global};

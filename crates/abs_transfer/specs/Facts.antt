@@ -1,6 +1,6 @@
 -- What is known of the elements of groups of vector registers: what an instruction reads, what it states of its
 -- destination, and which facts stay true where registers are written or vl changes.
-use Rattle.std.specs.Prelude.{ℕ, ◌+◌, ◌-◌, ◌*◌, ◌/◌, ◌%◌, ◌^◌, ◌==◌, nat_lt, nat_le, ◌&&◌, ◌||◌, not, min, max, Bool, true, if◌then◌else◌, List, [], ◌∷◌, ◌++◌, map, filter, find, Option, Some, None}
+use Rattle.std.specs.Prelude.{ℕ, ◌+◌, ◌-◌, ◌*◌, ◌/◌, ◌%◌, ◌^◌, ◌==◌, nat_lt, nat_le, ◌&&◌, ◌||◌, not, min, max, Bool, if◌then◌else◌, List, [], ◌∷◌, ◌++◌, map, filter, find, Option, Some, None}
 use Rattle.std.specs.Option.{option_and_then, option_map_or}
 use Rattle.abs_transfer.specs.Words.{Range, Operand, Insn, Logic, Count, First, SetFirst, Iota, Index, needs_of, unsigned, Vtype, vlmax_of, vtype_of, VectorFact}
 use Rattle.rv_decode.specs.declared.extents.Eew.{Eew}
