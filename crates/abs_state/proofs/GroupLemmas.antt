@@ -1,5 +1,5 @@
 -- Which facts on groups of vector registers stay true.
-use Rattle.std.proofs.Common.{arith, refl, ◌∙◌, ◌≡◌, ◌+◌, ◌*◌, ◌/◌, ◌<◌, ◌≤◌, ◌||◌, min, ℕ, Bool, true, false, cond, List, [], ◌∷◌, map, filter, get_or, zero, suc, ◌⊎◌, inl, inr, Some, None}
+use Rattle.std.proofs.Common.{arith, refl, ◌≡◌, ◌+◌, ◌*◌, ◌/◌, ◌<◌, ◌≤◌, ◌||◌, min, ℕ, Bool, true, false, cond, List, [], ◌∷◌, map, filter, get_or, zero, suc, ◌⊎◌, inl, inr, Some, None}
 use Rattle.std.specs.Prelude.{if◌then◌else◌, ◌==◌, nat_le}
 use Rattle.std.specs.List.{AllByRecursion}
 use Rattle.std.proofs.Math.Nat.{mul-div-le, mul-le-mul_left}

@@ -1,6 +1,6 @@
 -- An instruction that is legal where vill is set is legal at any vtype: its operands are whole registers.
-use Rattle.std.proofs.Common.{◌≡◌, ℕ, Bool, true, false, refl, ◌∙◌, Option, Some, None}
-use Rattle.std.specs.Prelude.{if◌then◌else◌, ◌&&◌, ◌||◌, Result, Ok, Err, IfSome}
+use Rattle.std.proofs.Common.{◌≡◌, ℕ, Bool, true, false, refl, Option, Some, None}
+use Rattle.std.specs.Prelude.{if◌then◌else◌, ◌&&◌, Result, Ok, Err, IfSome}
 use Rattle.rv_decode.specs.declared.extents.Extent.{Extent}
 use Rattle.rv_decode.specs.declared.extents.Extent.TheVariants.{Group, Single, Mask, Whole}
 use Rattle.rv_decode.specs.declared.extents.Operand.{Operand}

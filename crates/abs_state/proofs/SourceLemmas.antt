@@ -1,6 +1,6 @@
 -- The elements that an instruction reads lie in the range that facts on them give.
 use Rattle.std.proofs.Common.{◌≡◌, ◌<◌, ◌≤◌, ◌+◌, ◌-◌, ◌*◌, ◌/◌, ◌^◌, ℕ, Bool, true, false, arith, refl, ap, ◌∙◌, subst, List, Option, Some, None}
-use Rattle.std.specs.Prelude.{if◌then◌else◌, ◌==◌, ◌&&◌, ◌||◌, min, find, get_or, slice_index}
+use Rattle.std.specs.Prelude.{if◌then◌else◌, ◌==◌, min, find, get_or, slice_index}
 use Rattle.std.specs.List.{AllByRecursion}
 use Rattle.std.specs.Option.{option_map_or}
 use Rattle.std.proofs.lemmas.Bool.Decides.{nat_tests}

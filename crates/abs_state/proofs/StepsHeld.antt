@@ -1,5 +1,5 @@
 -- What is known after an instruction is true of the machine to which it leads, whatever its class.
-use Rattle.std.proofs.Common.{◌≡◌, refl, subst}
+use Rattle.std.proofs.Common.{refl, subst}
 use Rattle.rv_decode.specs.declared.instructions.Insn.TheVariants.{Scalar, Csr, VSet, VArith, VMask, VPerm, VReduce, VMem, VMove}
 use Rattle.rv_decode.proofs.Meant.{meant}
 use Rattle.vector_core.specs.MachineStep.{carry_out}

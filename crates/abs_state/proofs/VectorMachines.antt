@@ -1,5 +1,5 @@
 -- What is known after a vector instruction is true of the machine to which it leads, by the laws of its parts.
-use Rattle.std.proofs.Common.{◌≡◌, ◌<◌, ◌≤◌, ◌+◌, ◌*◌, ◌%◌, ◌^◌, ◌⊎◌, ℕ, Bool, true, false, arith, refl, sym, ap, ◌∙◌, subst, eq-eqb, List, [], ◌∷◌, ◌++◌, Option, Some, None}
+use Rattle.std.proofs.Common.{◌≡◌, ◌<◌, ◌≤◌, ◌+◌, ◌*◌, ◌%◌, ◌⊎◌, ℕ, Bool, true, false, arith, refl, sym, ap, ◌∙◌, subst, eq-eqb, List, [], ◌∷◌, ◌++◌, Option, Some, None}
 use Rattle.std.specs.Prelude.{if◌then◌else◌, ◌==◌, Result, Ok, Err, IfSome}
 use Rattle.std.specs.List.{AllByRecursion}
 use Rattle.rv_decode.specs.declared.instructions.Insn.{Insn}

@@ -1,6 +1,6 @@
 -- A legal vector instruction whose accesses are permitted leads to a hart and memory of which is true what is known next.
 use Rattle.std.proofs.Common.{◌≡◌, ◌<◌, ◌≤◌, ◌+◌, ◌*◌, ◌%◌, ◌^◌, ℕ, Bool, true, false, arith, refl, sym, ap, ◌∙◌, length, List, Option, Some, None}
-use Rattle.std.specs.Prelude.{ℤ, pos, negsuc, if◌then◌else◌, ◌==◌, get_or, unwrap_or, Ok}
+use Rattle.std.specs.Prelude.{ℤ, pos, negsuc, get_or, unwrap_or, Ok}
 use Rattle.std.specs.Int.{w8, w16, w32, cast_signed, cast_unsigned}
 use Rattle.std.proofs.lemmas.List.Sums.{count_by-le-length}
 use Rattle.std.proofs.lemmas.List.Quantifiers.{position-Some}

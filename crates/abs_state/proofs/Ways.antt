@@ -1,5 +1,5 @@
 -- The edge that is taken is there, and what is known on it is true.
-use Rattle.std.proofs.Common.{◌≡◌, ◌<◌, ◌+◌, ◌*◌, ◌%◌, ◌^◌, ℕ, Bool, true, false, arith, refl, sym, ap, ◌∙◌, subst, inl, inr, List, [], ◌∷◌, length, get_or-set_same, get_or-set_other, Option, Some, None, IfSome, option_map, option_and_then}
+use Rattle.std.proofs.Common.{◌≡◌, ◌<◌, ◌^◌, ℕ, Bool, true, false, arith, refl, sym, ap, ◌∙◌, subst, inl, inr, List, length, get_or-set_same, get_or-set_other, Option, Some, None, IfSome, option_map, option_and_then}
 use Rattle.std.specs.Prelude.{if◌then◌else◌, ◌==◌, slice_set, slice_index_or}
 use Rattle.std.proofs.lemmas.Bool.{cases_eq}
 use Rattle.std.proofs.lemmas.Bool.Decides.{nat_tests}

@@ -1,5 +1,5 @@
 -- The ways out of an instruction, and what a branch says of the numbers that it compares.
-use Rattle.std.specs.Prelude.{ℕ, ◌+◌, ◌-◌, ◌^◌, ◌==◌, Bool, true, false, nat_le, nat_lt, ◌&&◌, min, max, if◌then◌else◌, List, [], ◌∷◌, slice_set, slice_index_or, Option, Some, None}
+use Rattle.std.specs.Prelude.{ℕ, ◌+◌, ◌-◌, ◌^◌, ◌==◌, Bool, true, false, nat_le, nat_lt, ◌&&◌, min, max, if◌then◌else◌, List, slice_set, slice_index_or, Option, Some, None}
 use Rattle.std.specs.Option.{option_map, option_and_then}
 use Rattle.abs_state.specs.Words.{Range, AtomTable, meet_of, range_of_form}
 use Rattle.linear_facts.specs.declared.ranges.Change.{Change}
