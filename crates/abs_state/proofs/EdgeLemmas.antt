@@ -24,22 +24,22 @@ use Rattle.linear_facts.specs.Differences.{is_not_less_of}
 use Rattle.linear_facts.proofs.DifferenceLaws.{orders-hold}
 use Rattle.abs_state.specs.declared.branches.Said.{Said}
 use Rattle.cert_note.specs.Certificate.{AllFrom, after_fact, after_order, after_block, IsRegisterFact, IsOrderFact, IsBudgetOf, IsBlock, SaysMore}
-use Rattle.abs_state.specs.declared.why.Why.{Why}
+use Rattle.abs_domain.specs.declared.why.Why.{Why}
 use Rattle.abs_state.specs.declared.state.Way.{Way}
 use Rattle.abs_state.specs.declared.state.Way.TheVariants.{To, Unknown, Fork}
-use Rattle.abs_state.specs.Described.{IsNumber}
-use Rattle.abs_state.specs.Numbers.{value_at}
-use Rattle.abs_state.specs.Holds.{number_of}
+use Rattle.abs_domain.specs.Described.{IsNumber}
+use Rattle.abs_domain.specs.Numbers.{value_at}
+use Rattle.abs_domain.specs.Holds.{number_of}
 use Rattle.abs_state.specs.State.{AbstractView}
-use Rattle.abs_state.specs.Blocks.{equality_form}
+use Rattle.abs_domain.specs.Starts.{equality_form}
 use Rattle.abs_state.specs.Branches.{EdgeView, plain_edge, edge_by, refined, table_on, value_on}
 use Rattle.abs_state.specs.Edges.{shown_or, and_then, Shown, is_interval_shown, is_equality_shown, is_sum_shown, is_vector_shown, are_these, says_order, tells_order, is_order_shown, own_total, next_total, no_budget, says, leads_to, is_vtype_shown, is_paid, is_paid_for, is_same, pays, implies_block, implies_end, implied_by}
 use Rattle.abs_state.specs.Held.{Setting, Goes, FactHolds, IsKnown, IsPaid, IsAt, IsTrueOf, AreTrueOf, OrderHolds, budget_of, group_elements, fact_element, number_at, vlenb_in}
 use Rattle.abs_state.specs.EdgeLaws.{TakesEdge, EdgesAreTaken, ImpliedFits, ImpliedEnds}
-use Rattle.abs_state.proofs.Addresses.{register_number}
+use Rattle.abs_transfer.proofs.Addresses.{register_number}
 use Rattle.abs_state.proofs.Substitutions.{both_true}
 use Rattle.abs_state.proofs.Payments.{equality_holds, parts_below, counted, covered, SaysMore as MoreSaid, says_more, paid_holds}
-use Rattle.abs_state.proofs.StartForms.{budget_below, second_below, greater_below, lesser_below}
+use Rattle.abs_domain.proofs.StartForms.{budget_below, second_below, greater_below, lesser_below}
 use Rattle.abs_state.proofs.Ways.{IsEdge, plain_is, branch_is}
 
 -- ---- the edge that is taken

@@ -21,9 +21,9 @@ use Rattle.lane_int.specs.Integer.{double, element}
 use Rattle.lane_int.specs.Resizing.{cut_to}
 use Rattle.vector_core.specs.Integer.{lane_width}
 use Rattle.vector_core.specs.Operations.{int_lanes, narrow_lanes}
-use Rattle.abs_state.specs.Values.{known_of, up_to}
-use Rattle.abs_state.specs.Groups.{fitting_bits, int_range, left_elements, narrow_range, remainder_by, remainder_elements, right_elements}
-use Rattle.abs_state.proofs.Operations.{div_up}
+use Rattle.abs_domain.specs.Values.{known_of, up_to}
+use Rattle.abs_transfer.specs.Facts.{fitting_bits, int_range, left_elements, narrow_range, remainder_by, remainder_elements, right_elements}
+use Rattle.abs_domain.proofs.Operations.{div_up}
 
 -- x lies in a range, and below a limit
 pub record IsWithin (limit : ℕ) (r : Range) (x : ℕ) : Type 0 where

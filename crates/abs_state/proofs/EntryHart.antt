@@ -18,7 +18,7 @@ use Rattle.scalar_core.specs.Hart.{Hart, IsHart, exit, new_hart, reg_of, with_re
 use Rattle.scalar_core.proofs.States.{with_reg-is_hart}
 use Rattle.vector_core.specs.Start.{passed_number, start_hart, with_arguments}
 use Rattle.cert_note.specs.Certificate.{FitsWords, IsParameter}
-use Rattle.abs_state.specs.BlockLaws.{ArePassed, IsEntry, IsPassed}
+use Rattle.abs_domain.specs.BlockLaws.{ArePassed, IsEntry, IsPassed}
 
 -- ---- one register
 

@@ -1,18 +1,15 @@
 -- Which facts on groups of vector registers stay true.
-use Rattle.std.proofs.Common.{arith, refl, sym, ap, ◌∙◌, ◌≡◌, ◌+◌, ◌*◌, ◌/◌, ◌<◌, ◌≤◌, ◌||◌, min, ℕ, Bool, true, false, cond, List, [], ◌∷◌, map, filter, length, take, drop, get_or, zero, suc, ◌⊎◌, inl, inr, Some, None}
-use Rattle.std.specs.Prelude.{if◌then◌else◌, ◌==◌, nat_le, slice_set}
+use Rattle.std.proofs.Common.{arith, refl, ◌≡◌, ◌+◌, ◌*◌, ◌/◌, ◌<◌, ◌≤◌, ◌||◌, min, ℕ, Bool, true, false, cond, List, [], ◌∷◌, map, filter, get_or, zero, suc, ◌⊎◌, inl, inr, Some, None}
+use Rattle.std.specs.Prelude.{if◌then◌else◌, ◌==◌, nat_le}
 use Rattle.std.specs.List.{AllByRecursion}
 use Rattle.std.proofs.Math.Nat.{mul-div-le, mul-le-mul_left}
 use Rattle.std.proofs.lemmas.Bool.Decides.{nat_tests}
-use Rattle.std.proofs.lemmas.Grind.{drop_more_same}
-use Rattle.std.proofs.lemmas.List.{drop-set-lt, get_or-drop}
 use Rattle.vreg_groups.specs.Elements.{element_at, number_at}
 use Rattle.vreg_groups.specs.Legality.{count_of as registers_in}
 use Rattle.cert_note.specs.declared.values.VectorFact.{VectorFact}
-use Rattle.abs_state.specs.Groups.{counted, cut_groups, elements_in, is_apart, is_lasting, untouched}
+use Rattle.abs_transfer.specs.Facts.{counted, cut_groups, elements_in, is_apart, is_lasting, untouched}
 use Rattle.abs_state.specs.Held.{IsTrueOf, fact_element}
 use Rattle.abs_state.specs.VectorLaws.{CutAreTrue, UntouchedAreTrue}
-use Rattle.abs_state.proofs.StartForms.{mapped_more}
 
 -- ---- where vl changes
 
@@ -59,25 +56,6 @@ pub cut_are_true : CutAreTrue
 unfolding cut_groups
 cut_are_true vlenb least v next facts same l h =
     rw same (cut_true vlenb least v.config.vl next.config.vl v.registers facts l h)
-
--- ---- facts that change in place
-
-same_place : {X : Type 0} (xs ys : List X) (n : ℕ) (d : X) → drop n xs ≡ drop n ys → get_or xs n d ≡ get_or ys n d
-same_place {X = X} xs ys n d e = sym (place xs) ∙ (ap (λ zs. get_or zs 0 d) e ∙ place ys)
-  where
-    place : (zs : List X) → get_or (drop n zs) 0 d ≡ get_or zs n d
-    place zs = (let here : n + 0 ≡ n = omega arith in get_or-drop n zs 0 d ∙ ap (λ k. get_or zs k d) here)
-
--- item n is changed, where those before it are and the others are as they were
-pub changed_more : {X : Type 0} (f : X → X) (xs old : List X) (n : ℕ) (d y : X) → n < length xs → length old ≡ length xs
-    → take n old ≡ map f (take n xs) → drop n old ≡ drop n xs → y ≡ f (get_or old n d)
-    → take (n + 1) (slice_set old n y) ≡ map f (take (n + 1) xs)
-changed_more f xs old n d y l same done rest is =
-    mapped_more f xs n d old y (omega (arith, l, same)) l done (is ∙ ap f (same_place old xs n d rest))
-
-pub others_more : {X : Type 0} (xs old : List X) (n : ℕ) (y : X) → drop n old ≡ drop n xs
-    → drop (n + 1) (slice_set old n y) ≡ drop (n + 1) xs
-others_more xs old n y rest = drop-set-lt (n + 1) old n y (omega arith) ∙ drop_more_same old xs n rest
 
 -- ---- where registers are written
 

@@ -13,15 +13,16 @@ use Rattle.rv_decode.specs.declared.instructions.VMask.TheVariants.{Logic, Count
 use Rattle.rv_decode.specs.declared.instructions.VMove as move
 use Rattle.rv_decode.specs.declared.instructions.VSet as vset
 use Rattle.rv_decode.specs.declared.instructions.VMove.TheVariants.{ToScalar, FromScalar, Whole}
-use Rattle.abs_state.specs.declared.why.Why.{Why}
-use Rattle.abs_state.specs.declared.zones.Zone.{Zone}
+use Rattle.abs_domain.specs.declared.why.Why.{Why}
+use Rattle.abs_domain.specs.declared.zones.Zone.{Zone}
 use Rattle.abs_state.specs.declared.state.Way.{Way}
-use Rattle.abs_state.specs.declared.values.Effect.{Effect}
-use Rattle.abs_state.specs.declared.values.Effect.TheVariants.{Computed, Fresh, Copied}
-use Rattle.abs_state.specs.Numbers.{NumbersView, plain, with_value, with_fresh, with_short, with_computed, with_effect, with_result}
-use Rattle.abs_state.specs.Steps.{if_allowed, scalar_after, csr_after}
+use Rattle.abs_domain.specs.declared.values.Effect.{Effect}
+use Rattle.abs_domain.specs.declared.values.Effect.TheVariants.{Computed, Fresh, Copied}
+use Rattle.abs_domain.specs.Numbers.{NumbersView, plain, with_value, with_fresh, with_short, with_computed, with_effect, with_result}
+use Rattle.abs_transfer.specs.Scalar.{if_allowed, scalar_after}
+use Rattle.abs_transfer.specs.Csr.{csr_after}
 use Rattle.abs_state.specs.State.{AbstractView}
-use Rattle.abs_state.specs.Legal.{legal_check}
+use Rattle.abs_transfer.specs.Legal.{legal_check}
 use Rattle.abs_state.specs.After.{access_check, after_of, mask_numbers, move_numbers, passed, taken, vector_after, vset_after}
 
 -- at most one atom more

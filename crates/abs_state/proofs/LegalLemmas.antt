@@ -1,6 +1,6 @@
 -- An instruction that is legal where vill is set is legal at any vtype: its operands are whole registers.
-use Rattle.std.proofs.Common.{◌≡◌, ℕ, Bool, true, false, refl, sym, ap, ◌∙◌, subst, List, Option, Some, None}
-use Rattle.std.specs.Prelude.{if◌then◌else◌, not, ◌&&◌, ◌||◌, Result, Ok, Err, IfSome}
+use Rattle.std.proofs.Common.{◌≡◌, ℕ, Bool, true, false, refl, Option, Some, None}
+use Rattle.std.specs.Prelude.{if◌then◌else◌, ◌&&◌, Result, Ok, Err, IfSome}
 use Rattle.rv_decode.specs.declared.extents.Extent.{Extent}
 use Rattle.rv_decode.specs.declared.extents.Extent.TheVariants.{Group, Single, Mask, Whole}
 use Rattle.rv_decode.specs.declared.extents.Operand.{Operand}
@@ -11,12 +11,11 @@ use Rattle.rv_decode.specs.Needs.{needs_of}
 use Rattle.vreg_groups.specs.declared.vector_length.Vconfig.{Vconfig}
 use Rattle.vreg_groups.specs.declared.vector_type.Vtype.{Vtype}
 use Rattle.vreg_groups.specs.VectorType.{vtype_of}
-use Rattle.vreg_groups.specs.VectorLength.{no_config}
 use Rattle.vreg_groups.specs.Legality.{are_operands_legal, count_of, is_destination_legal, is_legal, is_mask_legal, is_operand_legal, is_pair_legal, is_present_legal, is_source_legal, registers_of}
-use Rattle.abs_state.specs.declared.why.Why.{Why}
-use Rattle.abs_state.specs.declared.why.Why.TheVariants.{IllegalWord, VtypeUnknown}
-use Rattle.abs_state.specs.Groups.{known_type}
-use Rattle.abs_state.specs.Legal.{legal_check, needs_vtype}
+use Rattle.abs_domain.specs.declared.why.Why.{Why}
+use Rattle.abs_domain.specs.declared.why.Why.TheVariants.{IllegalWord, VtypeUnknown}
+use Rattle.abs_transfer.specs.Facts.{known_type}
+use Rattle.abs_transfer.specs.Legal.{legal_check, needs_vtype}
 use Rattle.abs_state.specs.VectorLaws.{ChecksAreLegal}
 use Rattle.abs_state.proofs.Substitutions.{both_true}
 

@@ -2,8 +2,8 @@
 use Rattle.std.proofs.Common.{◌≡◌, ◌<◌, ◌≤◌, ◌+◌, ◌-◌, ℕ, arith, sym, ◌∙◌, subst, length, Option, Some, None}
 use Rattle.linear_facts.proofs.LocalityLemmas.{forms-stay, agree-below}
 use Rattle.cert_note.specs.declared.values.Budget.{Budget}
-use Rattle.abs_state.specs.Values.{ValueView}
-use Rattle.abs_state.specs.Described.{IsNumber}
+use Rattle.abs_domain.specs.Values.{ValueView}
+use Rattle.abs_domain.specs.Described.{IsNumber}
 use Rattle.abs_state.specs.State.{AbstractView}
 use Rattle.abs_state.specs.Held.{IsPaid}
 

@@ -6,7 +6,7 @@ use Rattle.std.proofs.lemmas.List.{get_or_default}
 use Rattle.std.proofs.Math.ListN.{get_or-eq_default}
 use Rattle.std.proofs.Math.Nat.{mul-le-mul_left}
 use Rattle.linear_facts.specs.declared.ranges.Range.{Range}
-use Rattle.linear_facts.specs.Forms.{Linear, value, IsForm, number_form, atom_form, form_at, substituted}
+use Rattle.linear_facts.specs.Forms.{Linear, value, number_form, atom_form, form_at, substituted}
 use Rattle.linear_facts.specs.Ranges.{AtomTable, AgreesWith}
 use Rattle.linear_facts.specs.Differences.{Product, total_of, have_ranges, AreForms, difference_of, is_positive, is_at_least_of}
 use Rattle.linear_facts.specs.Laws.{AreBelow}
@@ -17,10 +17,9 @@ use Rattle.region_mem.specs.declared.parameter.Param.{Param}
 use Rattle.cert_note.specs.declared.values.Term.{Term as Part}
 use Rattle.cert_note.specs.declared.values.VectorFact.{VectorFact}
 use Rattle.cert_note.specs.Certificate.{is_atom, AllFrom, after_term, IsTerm}
-use Rattle.abs_state.specs.Values.{ValueView}
-use Rattle.abs_state.specs.Numbers.{NumbersView, value_at}
-use Rattle.abs_state.specs.Described.{LiesIn, IsNumber}
-use Rattle.abs_state.specs.Blocks.{form_term}
+use Rattle.abs_domain.specs.Numbers.{NumbersView, value_at}
+use Rattle.abs_domain.specs.Described.{LiesIn, IsNumber}
+use Rattle.abs_domain.specs.Starts.{form_term}
 use Rattle.abs_state.specs.Edges.{is_same, covers, says, Total, least_of, most_of, products_of, is_paid}
 use Rattle.abs_state.proofs.Substitutions.{both_true, same_if, same_forms}
 

@@ -11,7 +11,7 @@ use Rattle.rv_decode.specs.declared.instructions.Condition.TheVariants.{Eq, Ne, 
 use Rattle.scalar_core.specs.Arithmetic.{is_taken, signed}
 use Rattle.abs_state.specs.declared.branches.Relation.{Relation}
 use Rattle.abs_state.specs.declared.branches.Relation.TheVariants.{Same, Different, Below, NotBelow}
-use Rattle.abs_state.specs.Described.{LiesIn}
+use Rattle.abs_domain.specs.Described.{LiesIn}
 use Rattle.abs_state.specs.Branches.{if_small, relation_of, filled_range, both_ranges, without_end, apart_from, related_ranges}
 
 -- there is a range, and the number lies in it

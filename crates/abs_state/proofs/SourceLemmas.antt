@@ -1,6 +1,6 @@
 -- The elements that an instruction reads lie in the range that facts on them give.
-use Rattle.std.proofs.Common.{◌≡◌, ◌<◌, ◌≤◌, ◌+◌, ◌-◌, ◌*◌, ◌/◌, ◌^◌, ℕ, Bool, true, false, arith, refl, sym, ap, ◌∙◌, subst, List, Option, Some, None}
-use Rattle.std.specs.Prelude.{if◌then◌else◌, ◌==◌, ◌&&◌, ◌||◌, nat_le, min, find, get_or, slice_index}
+use Rattle.std.proofs.Common.{◌≡◌, ◌<◌, ◌≤◌, ◌+◌, ◌-◌, ◌*◌, ◌/◌, ◌^◌, ℕ, Bool, true, false, arith, refl, ap, ◌∙◌, subst, List, Option, Some, None}
+use Rattle.std.specs.Prelude.{if◌then◌else◌, ◌==◌, min, find, get_or, slice_index}
 use Rattle.std.specs.List.{AllByRecursion}
 use Rattle.std.specs.Option.{option_map_or}
 use Rattle.std.proofs.lemmas.Bool.Decides.{nat_tests}
@@ -18,9 +18,9 @@ use Rattle.vreg_groups.specs.VectorType.{bits_of_width, bytes_of_width, vlmax_of
 use Rattle.vreg_groups.proofs.Sizes.{bytes_fit, group_room}
 use Rattle.vreg_groups.proofs.Writes.{number_at-lt}
 use Rattle.cert_note.specs.declared.values.VectorFact.{VectorFact}
-use Rattle.abs_state.specs.Groups.{all_of_bits, fact_range, is_source, source_range}
+use Rattle.abs_transfer.specs.Facts.{all_of_bits, fact_range, is_source, source_range}
 use Rattle.abs_state.specs.Held.{IsTrueOf, count_of, fact_element, group_elements}
-use Rattle.abs_state.proofs.StartForms.{found_has, found_passes}
+use Rattle.abs_domain.proofs.StartForms.{found_has, found_passes}
 
 pub width_some : (width : Width) → 0 < bytes_of_width width
 width_some W8 = omega arith

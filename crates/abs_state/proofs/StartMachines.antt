@@ -30,19 +30,20 @@ use Rattle.cert_note.specs.declared.values.RegisterFact.{RegisterFact}
 use Rattle.cert_note.specs.declared.values.Block.{Block}
 use Rattle.cert_note.specs.declared.values.OrderFact.{OrderFact}
 use Rattle.cert_note.specs.Certificate.{CertificateView, IsBlock, IsCertificate, IsRegisterFact, IsOrderFact, AllFrom, after_fact, after_order, after_block}
-use Rattle.abs_state.specs.Numbers.{value_at}
-use Rattle.abs_state.specs.Described.{IsNumber}
-use Rattle.abs_state.specs.Holds.{Holds, number_of}
-use Rattle.abs_state.specs.Blocks.{equality_form, entry_numbers, start_numbers, numbers_by, at_block_of, at_entry_of}
-use Rattle.abs_state.specs.BlockLaws.{ArePassed, FactIsTrue, OrderIsTrue, HoldsWith}
+use Rattle.abs_domain.specs.Numbers.{value_at}
+use Rattle.abs_domain.specs.Described.{IsNumber}
+use Rattle.abs_domain.specs.Holds.{Holds, number_of}
+use Rattle.abs_domain.specs.Starts.{equality_form, entry_numbers, start_numbers, numbers_by}
+use Rattle.abs_state.specs.Blocks.{at_block_of, at_entry_of}
+use Rattle.abs_domain.specs.BlockLaws.{ArePassed, FactIsTrue, OrderIsTrue, HoldsWith}
 use Rattle.abs_state.specs.Held.{Setting, FactHolds, OrderHolds, Held, IsProper, number_at, vlenb_in}
 use Rattle.abs_state.specs.StartLaws.{ArePassedBy, BlocksAreHeld, EntriesAreHeld}
-use Rattle.abs_state.proofs.Addresses.{register_number}
+use Rattle.abs_transfer.proofs.Addresses.{register_number}
 use Rattle.abs_state.proofs.EntryHart.{all_valid, are_passed, code_low, numbers_fit, start_is_entry, start_is_hart, start_pc, zeros_count, zeros_small}
-use Rattle.abs_state.proofs.StartForms.{budget_below, second_below, greater_below, lesser_below, found_is}
-use Rattle.abs_state.proofs.OrderStarts.{block_numbers_hold}
-use Rattle.abs_state.proofs.StartNumbers.{atoms_many, entry_numbers_hold, number_below, number_past}
-use Rattle.abs_state.proofs.StartZones.{zones_are_there}
+use Rattle.abs_domain.proofs.StartForms.{budget_below, second_below, greater_below, lesser_below, found_is}
+use Rattle.abs_domain.proofs.OrderStarts.{block_numbers_hold}
+use Rattle.abs_domain.proofs.StartNumbers.{atoms_many, entry_numbers_hold, number_below, number_past}
+use Rattle.abs_domain.proofs.StartZones.{zones_are_there}
 
 -- ---- numbers of 32 bits
 

@@ -30,11 +30,11 @@ use Rattle.scalar_core.specs.Hart.{Hart, reg_of}
 use Rattle.vector_core.specs.KeepLaws.{AreRegisters}
 use Rattle.vector_core.specs.Operands.{low_bits, second_of}
 use Rattle.cert_note.specs.declared.values.VectorFact.{VectorFact}
-use Rattle.abs_state.specs.Described.{LiesIn}
-use Rattle.abs_state.specs.Groups.{all_of_bits, fact_range, is_source, low_range, second_range, source_range}
+use Rattle.abs_domain.specs.Described.{LiesIn}
+use Rattle.abs_transfer.specs.Facts.{all_of_bits, fact_range, is_source, low_range, second_range, source_range}
 use Rattle.abs_state.specs.Held.{IsTrueOf, fact_element}
-use Rattle.abs_state.specs.Numbers.{NumbersView, value_at}
-use Rattle.abs_state.specs.Values.{just, up_to}
+use Rattle.abs_domain.specs.Numbers.{NumbersView, value_at}
+use Rattle.abs_domain.specs.Values.{just, up_to}
 use Rattle.abs_state.proofs.Elements.{IsWithin}
 use Rattle.abs_state.proofs.StatedWrites.{AreResults, IsGroup, are_equal, both_true, element_inside}
 

@@ -54,13 +54,13 @@ use Rattle.vector_core.specs.Step.{arith_step, legal_step, vector_step}
 use Rattle.vector_core.specs.Vectors.{Stepped, Vectors}
 use Rattle.vector_core.specs.Widening.{double_width, extend_of, fraction_width}
 use Rattle.cert_note.specs.declared.values.VectorFact.{VectorFact}
-use Rattle.abs_state.specs.Described.{LiesIn}
-use Rattle.abs_state.specs.Groups.{arith_range, fact_if, int_range, known_type, mask_range, narrow_range, place_range, second_range, source_range, stated_at, stated_by, stated_range, unless_masked}
+use Rattle.abs_domain.specs.Described.{LiesIn}
+use Rattle.abs_transfer.specs.Facts.{arith_range, fact_if, int_range, known_type, mask_range, narrow_range, place_range, second_range, source_range, stated_at, stated_by, stated_range, unless_masked}
 use Rattle.abs_state.specs.Held.{AreTrueOf, Held, IsTrueOf, Setting, VtypeHolds, vlenb_in}
-use Rattle.abs_state.specs.Numbers.{NumbersView, value_at}
+use Rattle.abs_domain.specs.Numbers.{NumbersView, value_at}
 use Rattle.abs_state.specs.State.{AbstractView}
 use Rattle.abs_state.specs.VectorLaws.{StatedAreTrue}
-use Rattle.abs_state.proofs.Addresses.{register_number}
+use Rattle.abs_transfer.proofs.Addresses.{register_number}
 use Rattle.abs_state.proofs.Elements.{IsWithin, int_element, narrow_element, place_lies}
 use Rattle.abs_state.proofs.StatedOperands.{IsRead, IsSecond, map_lies, map_zip_lies, second_lies, source_lies, zip_lies}
 use Rattle.abs_state.proofs.StatedWrites.{AreResults, IsGroup, both_true, fact_true, legal_group}

@@ -26,7 +26,7 @@ use Rattle.vreg_groups.proofs.Sizes.{bytes_fit, group_ends, group_room}
 use Rattle.vreg_groups.proofs.Writes.{element_after}
 use Rattle.vector_core.specs.KeepLaws.{AreRegisters}
 use Rattle.vector_core.specs.Operands.{results_written}
-use Rattle.abs_state.specs.Groups.{fact_if, group_fact}
+use Rattle.abs_transfer.specs.Facts.{fact_if, group_fact}
 use Rattle.abs_state.specs.Held.{IsTrueOf}
 use Rattle.abs_state.proofs.Elements.{IsWithin}
 

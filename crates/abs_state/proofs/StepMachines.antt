@@ -21,20 +21,21 @@ use Rattle.scalar_core.specs.Hart.{Hart, IsHart}
 use Rattle.scalar_core.specs.Step.{rv32im_step, scalar_step}
 use Rattle.vector_core.specs.Machine.{Machine}
 use Rattle.vector_core.specs.MachineStep.{carry_out, unless_misaligned, with_scalar}
-use Rattle.abs_state.specs.declared.why.Why.{Why}
-use Rattle.abs_state.specs.declared.zones.Zone.{Zone}
+use Rattle.abs_domain.specs.declared.why.Why.{Why}
+use Rattle.abs_domain.specs.declared.zones.Zone.{Zone}
 use Rattle.abs_state.specs.declared.state.Way.{Way}
 use Rattle.abs_state.specs.declared.state.Way.TheVariants.{To}
-use Rattle.abs_state.specs.Zones.{zones_of}
-use Rattle.abs_state.specs.Numbers.{NumbersView}
-use Rattle.abs_state.specs.Memories.{HasZones}
-use Rattle.abs_state.specs.Steps.{csr_after}
+use Rattle.abs_domain.specs.Zones.{zones_of}
+use Rattle.abs_domain.specs.Numbers.{NumbersView}
+use Rattle.abs_domain.specs.Memories.{HasZones}
+use Rattle.abs_transfer.specs.Csr.{csr_after}
 use Rattle.abs_state.specs.State.{AbstractView}
-use Rattle.abs_state.specs.Legal.{legal_check}
+use Rattle.abs_transfer.specs.Legal.{legal_check}
 use Rattle.abs_state.specs.After.{access_check, after_of, next_word, passed, taken, vector_after, vset_after, way_of}
 use Rattle.abs_state.specs.Held.{Setting, IsProper, Held, vlenb_in}
-use Rattle.abs_state.specs.StepLaws.{or_misaligned, KeepsMemory, StepIsHeld, MachineIsHeld, StepsGoOn, jumps}
-use Rattle.abs_state.proofs.Configurations.{type_fits}
+use Rattle.abs_state.specs.StepLaws.{or_misaligned, StepIsHeld, MachineIsHeld, StepsGoOn, jumps}
+use Rattle.abs_domain.specs.Memories.{KeepsMemory}
+use Rattle.abs_transfer.proofs.Configurations.{type_fits}
 use Rattle.abs_state.proofs.Paid.{paid_stays}
 use Rattle.abs_state.proofs.StepScalars.{scalars_hold, csrs_hold}
 

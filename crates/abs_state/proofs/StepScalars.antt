@@ -27,28 +27,30 @@ use Rattle.scalar_core.specs.Csr.{csr_step, csr_value, csr_written, does_write, 
 use Rattle.scalar_core.specs.Hart.{Hart, IsHart, advanced, at_pc, exit, next_pc, put, reg_of, with_reg}
 use Rattle.scalar_core.specs.Step.{address_of, beside, branch_step, branch_to, jal_step, jalr_step, jump_and_link, jump_to, load_from, load_step, loaded, offset_by, rv32im_step, size_of_load, size_of_store, store_from, store_step, without_bit_0}
 use Rattle.scalar_core.proofs.States.{at_pc-is_hart, with_reg-is_hart}
-use Rattle.abs_state.specs.declared.why.Why.{Why}
-use Rattle.abs_state.specs.declared.zones.Zone.{Zone}
+use Rattle.abs_domain.specs.declared.why.Why.{Why}
+use Rattle.abs_domain.specs.declared.zones.Zone.{Zone}
 use Rattle.abs_state.specs.declared.state.Way.{Way}
 use Rattle.abs_state.specs.declared.state.Way.TheVariants.{To, Fork}
-use Rattle.abs_state.specs.declared.values.Effect.{Effect}
-use Rattle.abs_state.specs.declared.values.Effect.TheVariants.{Computed, Fresh, Copied}
-use Rattle.abs_state.specs.Values.{known_of}
-use Rattle.abs_state.specs.Zones.{is_inside, load_allowed, store_allowed}
-use Rattle.abs_state.specs.Numbers.{NumbersView, value_at, with_result}
-use Rattle.abs_state.specs.Effects.{constant_effect, csr_effect, load_effect}
-use Rattle.abs_state.specs.Described.{LiesIn, IsNumber, Describes}
-use Rattle.abs_state.specs.Holds.{Holds, Follows}
-use Rattle.abs_state.specs.Memories.{HasZones}
-use Rattle.abs_state.specs.Steps.{address_range, if_allowed, load_check, store_check, scalar_after, csr_after}
+use Rattle.abs_domain.specs.declared.values.Effect.{Effect}
+use Rattle.abs_domain.specs.declared.values.Effect.TheVariants.{Computed, Fresh, Copied}
+use Rattle.abs_domain.specs.Values.{known_of}
+use Rattle.abs_domain.specs.Zones.{is_inside}
+use Rattle.abs_domain.specs.Numbers.{NumbersView, value_at, with_result}
+use Rattle.abs_domain.specs.Effects.{constant_effect, csr_effect, load_effect}
+use Rattle.abs_domain.specs.Described.{LiesIn, IsNumber, Describes}
+use Rattle.abs_domain.specs.Holds.{Holds, Follows}
+use Rattle.abs_domain.specs.Memories.{HasZones}
+use Rattle.abs_transfer.specs.Scalar.{address_range, if_allowed, load_check, store_check, scalar_after}
+use Rattle.abs_transfer.specs.Csr.{csr_after}
 use Rattle.abs_state.specs.After.{next_word, jump_way, way_of}
 use Rattle.abs_state.specs.Held.{IsAt}
-use Rattle.abs_state.specs.StepLaws.{or_misaligned, KeepsMemory, StepIsHeld, ScalarStepsHold, CsrStepsHold}
-use Rattle.abs_state.proofs.Operations.{constant_describes, csr_describes, immediate_describes, load_describes, register_describes, shift_describes}
-use Rattle.abs_state.proofs.States.{result_holds, value_fits}
+use Rattle.abs_state.specs.StepLaws.{or_misaligned, StepIsHeld, ScalarStepsHold, CsrStepsHold}
+use Rattle.abs_domain.specs.Memories.{KeepsMemory}
+use Rattle.abs_domain.proofs.Operations.{constant_describes, csr_describes, immediate_describes, load_describes, register_describes, shift_describes}
+use Rattle.abs_domain.proofs.States.{result_holds, value_fits}
 use Rattle.abs_state.proofs.Growth.{ok_numbers, same_ok}
-use Rattle.abs_state.proofs.Addresses.{address_lies, register_number}
-use Rattle.abs_state.proofs.Memories.{inside_permitted, load_inside, nothing_changes, store_inside, store_keeps}
+use Rattle.abs_transfer.proofs.Addresses.{address_lies, register_number}
+use Rattle.abs_domain.proofs.Memories.{inside_permitted, load_inside, nothing_changes, store_inside, store_keeps}
 
 -- ---- harts
 

@@ -1,15 +1,11 @@
 -- What is known after an instruction is true of the machine to which it leads, whatever its class.
-use Rattle.std.proofs.Common.{◌≡◌, ℕ, List, Some, refl, subst}
-use Rattle.std.specs.Prelude.{Result, Ok}
-use Rattle.rv_decode.specs.declared.instructions.Insn.{Insn}
+use Rattle.std.proofs.Common.{refl, subst}
 use Rattle.rv_decode.specs.declared.instructions.Insn.TheVariants.{Scalar, Csr, VSet, VArith, VMask, VPerm, VReduce, VMem, VMove}
-use Rattle.rv_decode.specs.Decode.{meaning_of}
 use Rattle.rv_decode.proofs.Meant.{meant}
-use Rattle.vector_core.specs.Machine.{Machine}
 use Rattle.vector_core.specs.MachineStep.{carry_out}
 use Rattle.abs_state.specs.State.{AbstractView}
 use Rattle.abs_state.specs.After.{after_of, vset_after}
-use Rattle.abs_state.specs.Held.{Setting, Held, vlenb_in}
+use Rattle.abs_state.specs.Held.{vlenb_in}
 use Rattle.abs_state.specs.StepLaws.{MachineIsHeld, StepsAreHeld}
 use Rattle.vector_core.proofs.KeptSteps.{steps_kept}
 use Rattle.abs_state.proofs.GroupLemmas.{cut_are_true, untouched_are_true}

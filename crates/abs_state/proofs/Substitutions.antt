@@ -7,7 +7,7 @@ use Rattle.linear_facts.specs.declared.forms.Term.{Term}
 use Rattle.linear_facts.specs.Forms.{Linear, form_at, scaled, sum_of, with_replaced}
 use Rattle.linear_facts.proofs.FormLaws.{replaced-more, replaced-done}
 use Rattle.cert_note.specs.declared.values.Term.{Term as Part}
-use Rattle.abs_state.specs.Blocks.{form_term}
+use Rattle.abs_domain.specs.Starts.{form_term}
 use Rattle.abs_state.specs.Edges.{are_same_terms, is_same}
 
 -- one more term is replaced

@@ -1,5 +1,5 @@
 -- Vector loads and stores that pass their test are permitted, and stores keep of memory what a step has to keep.
-use Rattle.std.proofs.Common.{◌≡◌, ◌∙◌, ◌<◌, ◌≤◌, ◌+◌, ◌-◌, ◌*◌, ◌/◌, ◌%◌, ◌^◌, ℕ, zero, suc, Bool, true, false, cond, arith, refl, sym, ap, subst, lit<, List, [], ◌∷◌, length, map, find, replicate, Option, Some, None, IfSome, Ok, Err}
+use Rattle.std.proofs.Common.{◌≡◌, ◌∙◌, ◌<◌, ◌≤◌, ◌+◌, ◌-◌, ◌*◌, ◌/◌, ◌%◌, ◌^◌, ℕ, zero, suc, Bool, true, false, cond, arith, refl, sym, ap, subst, lit<, List, [], ◌∷◌, length, map, find, Option, Some, None, IfSome, Ok, Err}
 use Rattle.std.specs.Prelude.{if◌then◌else◌, ◌==◌, ◌&&◌, not, nat_lt, filter, get_or, slice_index, slice_index_or, unwrap_or, MatchOption, Result}
 use Rattle.std.specs.List.{AllByRecursion, range_with_len}
 use Rattle.std.proofs.Math.Nat.{mul-div-le}
@@ -36,26 +36,26 @@ use Rattle.scalar_core.specs.Hart.{Hart, reg_of}
 use Rattle.vector_core.specs.LoadsStores.{stride_of}
 use Rattle.vector_core.specs.Setup.{setup_of}
 use Rattle.cert_note.specs.declared.values.VectorFact.{VectorFact}
-use Rattle.abs_state.specs.declared.reaches.Reach.{Reach}
-use Rattle.abs_state.specs.declared.why.Why.{Why}
-use Rattle.abs_state.specs.declared.why.Why.TheVariants.{IllegalWord, VtypeUnknown}
-use Rattle.abs_state.specs.declared.zones.Zone.{Zone}
-use Rattle.abs_state.specs.Values.{ValueView, known_of}
-use Rattle.abs_state.specs.Zones.{is_inside}
-use Rattle.abs_state.specs.Numbers.{NumbersView, value_at}
-use Rattle.abs_state.specs.Described.{IsNumber}
-use Rattle.abs_state.specs.Holds.{Holds}
-use Rattle.abs_state.specs.Memories.{HasZones}
-use Rattle.abs_state.specs.Groups.{known_type, source_range}
-use Rattle.abs_state.specs.Legal.{legal_check, needs_vtype}
-use Rattle.abs_state.specs.Reaches.{falling_reach, indexed_reach, is_whole, reach_allowed, reach_at, rising_reach, strided_reach, transfer_check, unit_reach}
+use Rattle.abs_transfer.specs.declared.accesses.Reach.{Reach}
+use Rattle.abs_domain.specs.declared.why.Why.{Why}
+use Rattle.abs_domain.specs.declared.why.Why.TheVariants.{IllegalWord, VtypeUnknown}
+use Rattle.abs_domain.specs.declared.zones.Zone.{Zone}
+use Rattle.abs_domain.specs.Values.{ValueView, known_of}
+use Rattle.abs_domain.specs.Zones.{is_inside}
+use Rattle.abs_domain.specs.Numbers.{NumbersView, value_at}
+use Rattle.abs_domain.specs.Described.{IsNumber}
+use Rattle.abs_domain.specs.Holds.{Holds}
+use Rattle.abs_domain.specs.Memories.{HasZones}
+use Rattle.abs_transfer.specs.Facts.{known_type, source_range}
+use Rattle.abs_transfer.specs.Legal.{legal_check, needs_vtype}
+use Rattle.abs_transfer.specs.Accesses.{falling_reach, indexed_reach, is_whole, reach_allowed, reach_at, rising_reach, strided_reach, transfer_check, unit_reach}
 use Rattle.abs_state.specs.Held.{IsKnown, IsTrueOf, vlenb_in}
-use Rattle.abs_state.specs.StepLaws.{KeepsMemory}
+use Rattle.abs_domain.specs.Memories.{KeepsMemory}
 use Rattle.abs_state.specs.VectorLaws.{TransfersArePermitted, TransfersKeepMemory}
-use Rattle.abs_state.proofs.Addresses.{register_number}
-use Rattle.abs_state.proofs.Memories.{inside_fits, inside_permitted, load_inside, nothing_changes, store_inside, store_keeps}
-use Rattle.abs_state.proofs.Operations.{known_is}
-use Rattle.abs_state.proofs.ReachLemmas.{LieWithin, falling_first, falling_lies, indexed_lies, rising_end, rising_lies, row_lies, unit_end}
+use Rattle.abs_transfer.proofs.Addresses.{register_number}
+use Rattle.abs_domain.proofs.Memories.{inside_fits, inside_permitted, load_inside, nothing_changes, store_inside, store_keeps}
+use Rattle.abs_domain.proofs.Operations.{known_is}
+use Rattle.abs_transfer.proofs.AccessLemmas.{LieWithin, falling_first, falling_lies, indexed_lies, rising_end, rising_lies, row_lies, unit_end}
 use Rattle.abs_state.proofs.SourceLemmas.{element_is, source_lies, width_some}
 
 -- ---- stores

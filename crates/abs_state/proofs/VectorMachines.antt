@@ -1,6 +1,6 @@
 -- What is known after a vector instruction is true of the machine to which it leads, by the laws of its parts.
-use Rattle.std.proofs.Common.{◌≡◌, ◌<◌, ◌≤◌, ◌+◌, ◌*◌, ◌%◌, ◌^◌, ◌⊎◌, ℕ, Bool, true, false, arith, refl, sym, ap, ◌∙◌, subst, eq-eqb, length, List, [], ◌∷◌, ◌++◌, Option, Some, None}
-use Rattle.std.specs.Prelude.{if◌then◌else◌, ◌==◌, get_or, Result, Ok, Err, IfSome, MatchOption}
+use Rattle.std.proofs.Common.{◌≡◌, ◌<◌, ◌≤◌, ◌+◌, ◌*◌, ◌%◌, ◌⊎◌, ℕ, Bool, true, false, arith, refl, sym, ap, ◌∙◌, subst, eq-eqb, List, [], ◌∷◌, ◌++◌, Option, Some, None}
+use Rattle.std.specs.Prelude.{if◌then◌else◌, ◌==◌, Result, Ok, Err, IfSome}
 use Rattle.std.specs.List.{AllByRecursion}
 use Rattle.rv_decode.specs.declared.instructions.Insn.{Insn}
 use Rattle.rv_decode.specs.declared.instructions.Insn.TheVariants.{Scalar, Csr, VSet, VArith, VMask, VPerm, VReduce, VMem, VMove}
@@ -12,27 +12,25 @@ use Rattle.region_mem.specs.declared.faults.Fault.TheVariants.{JumpMisaligned}
 use Rattle.region_mem.specs.Memory.{Memory}
 use Rattle.vreg_groups.specs.declared.vector_length.Vconfig.{Vconfig}
 use Rattle.vreg_groups.specs.VectorLength.{IsConfig}
-use Rattle.vreg_groups.specs.VectorType.{type_in, vtype_of}
+use Rattle.vreg_groups.specs.VectorType.{vtype_of}
 use Rattle.vreg_groups.specs.Legality.{count_of, is_legal}
-use Rattle.scalar_core.specs.Hart.{Hart, IsHart}
+use Rattle.scalar_core.specs.Hart.{Hart}
 use Rattle.vector_core.specs.KeepLaws.{IsOutside, KeepsVectors, StepsKeepVectors, is_computing}
 use Rattle.vector_core.specs.Machine.{Machine}
-use Rattle.vector_core.specs.MachineStep.{carry_out, unless_misaligned, with_vector}
+use Rattle.vector_core.specs.MachineStep.{unless_misaligned, with_vector}
 use Rattle.vector_core.specs.Step.{vector_step}
-use Rattle.vector_core.specs.Vectors.{Stepped, Vectors, IsVectors}
-use Rattle.cert_note.specs.declared.values.VectorFact.{VectorFact}
-use Rattle.abs_state.specs.declared.why.Why.{Why}
+use Rattle.vector_core.specs.Vectors.{Stepped, Vectors}
+use Rattle.abs_domain.specs.declared.why.Why.{Why}
 use Rattle.abs_state.specs.declared.state.Way.TheVariants.{To}
-use Rattle.abs_state.specs.Numbers.{NumbersView}
-use Rattle.abs_state.specs.Holds.{Holds, Follows}
-use Rattle.abs_state.specs.Groups.{groups_after, known_type, stated_by, untouched}
-use Rattle.abs_state.specs.Legal.{legal_check}
+use Rattle.abs_domain.specs.Holds.{Holds}
+use Rattle.abs_transfer.specs.Facts.{groups_after, known_type, stated_by, untouched}
+use Rattle.abs_transfer.specs.Legal.{legal_check}
 use Rattle.abs_state.specs.State.{AbstractView}
 use Rattle.abs_state.specs.After.{access_check, next_word, passed, vector_after, vector_numbers}
-use Rattle.abs_state.specs.Held.{Setting, AreTrueOf, Held, IsProper, vlenb_in}
+use Rattle.abs_state.specs.Held.{Setting, AreTrueOf, Held, vlenb_in}
 use Rattle.abs_state.specs.StepLaws.{MachineIsHeld}
 use Rattle.abs_state.specs.VectorLaws.{ChecksAreLegal, StatedAreTrue, TransfersArePermitted, TransfersKeepMemory, UntouchedAreTrue}
-use Rattle.abs_state.specs.Zones.{zones_of}
+use Rattle.abs_domain.specs.Zones.{zones_of}
 use Rattle.abs_state.proofs.VectorSteps.{IsDone, IsPermitted, vector_done}
 use Rattle.abs_state.proofs.LegalLemmas.{counts_known}
 use Rattle.abs_state.proofs.Paid.{paid_stays}

@@ -1,8 +1,7 @@
 -- A legal vector instruction whose accesses are permitted leads to a hart and memory of which is true what is known next.
-use Rattle.std.proofs.Common.{◌≡◌, ◌<◌, ◌≤◌, ◌+◌, ◌*◌, ◌%◌, ◌^◌, ℕ, Bool, true, false, arith, refl, sym, ap, ◌∙◌, subst, length, List, Option, Some, None}
-use Rattle.std.specs.Prelude.{ℤ, pos, negsuc, if◌then◌else◌, ◌==◌, get_or, unwrap_or, Result, Ok, Err}
+use Rattle.std.proofs.Common.{◌≡◌, ◌<◌, ◌≤◌, ◌+◌, ◌*◌, ◌%◌, ◌^◌, ℕ, Bool, true, false, arith, refl, sym, ap, ◌∙◌, length, List, Option, Some, None}
+use Rattle.std.specs.Prelude.{ℤ, pos, negsuc, get_or, unwrap_or, Ok}
 use Rattle.std.specs.Int.{w8, w16, w32, cast_signed, cast_unsigned}
-use Rattle.std.specs.List.{count_by, position}
 use Rattle.std.proofs.lemmas.List.Sums.{count_by-le-length}
 use Rattle.std.proofs.lemmas.List.Quantifiers.{position-Some}
 use Rattle.std.proofs.lemmas.List.{length-replicate}
@@ -41,7 +40,7 @@ use Rattle.scalar_core.proofs.States.{advanced-is_hart, put-is_hart}
 use Rattle.lane_masks.specs.Masks as lanes
 use Rattle.vector_core.specs.Arithmetic.{arith_of}
 use Rattle.vector_core.specs.KeepLaws.{is_computing}
-use Rattle.vector_core.specs.LoadsStores.{direction_step, loaded_step, memory_step, stored_step, stride_of}
+use Rattle.vector_core.specs.LoadsStores.{direction_step, memory_step, stride_of}
 use Rattle.vector_core.specs.Masks.{count_of, first_of, mask_step, set_and_active}
 use Rattle.vector_core.specs.Moves.{move_step, to_scalar_of}
 use Rattle.vector_core.specs.Permutations.{perm_step}
@@ -49,15 +48,14 @@ use Rattle.vector_core.specs.Reductions.{reduce_step}
 use Rattle.vector_core.specs.Setup.{setup_of}
 use Rattle.vector_core.specs.Step.{arith_step, legal_step, vector_step, with_saturation}
 use Rattle.vector_core.specs.Vectors.{Stepped, Vectors}
-use Rattle.abs_state.specs.declared.values.Effect.TheVariants.{Fresh}
-use Rattle.abs_state.specs.Values.{full_range, up_to}
-use Rattle.abs_state.specs.Numbers.{NumbersView, value_at, with_result}
-use Rattle.abs_state.specs.Described.{LiesIn}
-use Rattle.abs_state.specs.Holds.{Holds, Follows}
+use Rattle.abs_domain.specs.declared.values.Effect.TheVariants.{Fresh}
+use Rattle.abs_domain.specs.Numbers.{NumbersView, value_at, with_result}
+use Rattle.abs_domain.specs.Described.{LiesIn}
+use Rattle.abs_domain.specs.Holds.{Holds, Follows}
 use Rattle.abs_state.specs.After.{mask_numbers, move_numbers, next_word, vector_numbers}
-use Rattle.abs_state.specs.StepLaws.{KeepsMemory}
-use Rattle.abs_state.proofs.Memories.{nothing_changes}
-use Rattle.abs_state.proofs.States.{result_holds}
+use Rattle.abs_domain.specs.Memories.{KeepsMemory}
+use Rattle.abs_domain.proofs.Memories.{nothing_changes}
+use Rattle.abs_domain.proofs.States.{result_holds}
 use Rattle.abs_state.proofs.StepScalars.{moved, pc_stays, same_registers, stays}
 
 -- a step that goes on at the next word, and what is known there

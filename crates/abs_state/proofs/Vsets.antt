@@ -23,24 +23,24 @@ use Rattle.vector_core.specs.Machine.{Machine}
 use Rattle.vector_core.specs.MachineStep.{carry_out, unless_misaligned}
 use Rattle.vector_core.specs.Step.{legal_step, vector_step}
 use Rattle.vector_core.specs.Vectors.{Vectors}
-use Rattle.abs_state.specs.declared.lengths.Asked.TheVariants.{Keep, Greatest, Register}
-use Rattle.abs_state.specs.declared.lengths.Wanted.{Wanted}
+use Rattle.abs_transfer.specs.declared.vset.Asked.TheVariants.{Keep, Greatest, Register}
+use Rattle.abs_transfer.specs.declared.vset.Wanted.{Wanted}
 use Rattle.abs_state.specs.declared.state.Way.TheVariants.{To}
-use Rattle.abs_state.specs.declared.values.Effect.TheVariants.{Copied}
-use Rattle.abs_state.specs.Values.{known_of}
-use Rattle.abs_state.specs.Numbers.{NumbersView, value_at}
-use Rattle.abs_state.specs.Described.{LiesIn}
-use Rattle.abs_state.specs.Holds.{Holds, Follows}
-use Rattle.abs_state.specs.Groups.{cut_groups}
-use Rattle.abs_state.specs.Lengths.{Configured, asked_of, configured, wanted_of, with_length_in}
+use Rattle.abs_domain.specs.declared.values.Effect.TheVariants.{Copied}
+use Rattle.abs_domain.specs.Values.{known_of}
+use Rattle.abs_domain.specs.Numbers.{NumbersView, value_at}
+use Rattle.abs_domain.specs.Described.{LiesIn}
+use Rattle.abs_domain.specs.Holds.{Holds, Follows}
+use Rattle.abs_transfer.specs.Facts.{cut_groups}
+use Rattle.abs_transfer.specs.Vset.{Configured, asked_of, configured, wanted_of, with_length_in}
 use Rattle.abs_state.specs.State.{AbstractView}
 use Rattle.abs_state.specs.After.{next_word, vset_after}
 use Rattle.abs_state.specs.Held.{Setting, Held, IsProper, IsTrueOf, AreTrueOf, vlenb_in}
 use Rattle.abs_state.specs.VectorLaws.{CutAreTrue, VsetsAreHeld}
-use Rattle.abs_state.proofs.Addresses.{register_number}
-use Rattle.abs_state.proofs.Configurations.{AskedFits, IsConfigured, avl_asked, configured_held, vset_is}
+use Rattle.abs_transfer.proofs.Addresses.{register_number}
+use Rattle.abs_transfer.proofs.Configurations.{AskedFits, IsConfigured, avl_asked, configured_held, vset_is}
 use Rattle.abs_state.proofs.Paid.{paid_stays}
-use Rattle.abs_state.proofs.States.{result_holds}
+use Rattle.abs_domain.proofs.States.{result_holds}
 use Rattle.abs_state.proofs.StepScalars.{moved, pc_stays}
 
 -- ---- what is asked for

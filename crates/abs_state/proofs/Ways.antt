@@ -1,10 +1,9 @@
 -- The edge that is taken is there, and what is known on it is true.
-use Rattle.std.proofs.Common.{◌≡◌, ◌<◌, ◌+◌, ◌*◌, ◌%◌, ◌^◌, ℕ, Bool, true, false, arith, refl, sym, ap, ◌∙◌, subst, inl, inr, List, [], ◌∷◌, length, get_or-set_same, get_or-set_other, Option, Some, None, IfSome, option_map, option_and_then}
+use Rattle.std.proofs.Common.{◌≡◌, ◌<◌, ◌^◌, ℕ, Bool, true, false, arith, refl, sym, ap, ◌∙◌, subst, inl, inr, List, length, get_or-set_same, get_or-set_other, Option, Some, None, IfSome, option_map, option_and_then}
 use Rattle.std.specs.Prelude.{if◌then◌else◌, ◌==◌, slice_set, slice_index_or}
 use Rattle.std.proofs.lemmas.Bool.{cases_eq}
 use Rattle.std.proofs.lemmas.Bool.Decides.{nat_tests}
 use Rattle.std.proofs.Math.ListN.{length-set}
-use Rattle.linear_facts.specs.declared.forms.Term.{Term}
 use Rattle.linear_facts.specs.declared.ranges.Range.{Range}
 use Rattle.linear_facts.specs.declared.ranges.Change.{Change}
 use Rattle.linear_facts.specs.declared.ranges.Atom.{Atom}
@@ -17,14 +16,15 @@ use Rattle.abs_state.specs.declared.branches.Relation.{Relation}
 use Rattle.abs_state.specs.declared.branches.Said.{Said}
 use Rattle.abs_state.specs.declared.state.Way.{Way}
 use Rattle.abs_state.specs.declared.state.Way.TheVariants.{To, Unknown, Fork}
-use Rattle.abs_state.specs.Values.{just, computed_range}
-use Rattle.abs_state.specs.Numbers.{value_at}
-use Rattle.abs_state.specs.Described.{LiesIn, IsNumber}
-use Rattle.abs_state.specs.Holds.{table_with}
+use Rattle.abs_domain.specs.Values.{just, computed_range}
+use Rattle.abs_domain.specs.Numbers.{value_at}
+use Rattle.abs_domain.specs.Described.{LiesIn, IsNumber}
+use Rattle.abs_domain.specs.Holds.{table_with}
 use Rattle.abs_state.specs.State.{AbstractView}
-use Rattle.abs_state.specs.Branches.{relation_of, related_ranges, EdgeView, plain_edge, atom_of_terms, whole_atom, change_to, one_change, changes_of, edge_with, edge_in, with_said, related_edge, branch_edge, edge_by, refined, table_on, value_on}
+use Rattle.abs_state.specs.Branches.{relation_of, related_ranges, EdgeView, plain_edge, change_to, one_change, changes_of, edge_with, edge_in, with_said, related_edge, branch_edge, edge_by, refined, table_on, value_on}
+use Rattle.abs_domain.specs.Numbers.{whole_atom}
 use Rattle.abs_state.specs.EdgeLaws.{EdgesKeep, is_fork, OneEdge, StraightEdges}
-use Rattle.abs_state.proofs.States.{computed_lies, form_range_lies}
+use Rattle.abs_domain.proofs.States.{computed_lies, form_range_lies, whole_is}
 use Rattle.abs_state.proofs.Refinements.{Stands, meet_is, related_is, relation_stands}
 
 -- ---- atoms with new ranges
@@ -52,32 +52,6 @@ changed_agrees atoms first second v agrees h k = record {
   in_range = λ a. changed_in v first a _ h (changed_in v second a _ k (agrees.in_range a));
   is_sum = agrees.is_sum;
 }
-
--- a form that is one whole atom is that atom's number
-pub whole_is : (v : ℕ → ℕ) (c : ℕ) (ts : List Term) (a : ℕ) → ((b : ℕ) → v b < 2 ^ 32)
-    → (if c == 0 then atom_of_terms ts else None) ≡ Some a → value v record { constant = c; terms = ts } ≡ v a
-unfolding value
-whole_is v c [] a fits e = by_test (c == 0) e
-  where
-    by_test : {P : Type 0} (t : Bool) → (if t then None else None) ≡ Some a → P
-    by_test true f = cc
-    by_test false f = cc
-whole_is v c (t ∷ []) a fits e = by_test (c == 0) refl (t.coefficient == 1) refl e
-  where
-    by_test : (p : Bool) → (c == 0) ≡ p → (q : Bool) → (t.coefficient == 1) ≡ q
-        → (if p then (if q then Some t.atom else None) else None) ≡ Some a → (c + (t.coefficient * v t.atom + 0)) % 2 ^ 32 ≡ v a
-    by_test true g true h f =
-        let none : c ≡ 0 = grind (arith, nat_tests) in
-        let one : t.coefficient ≡ 1 = grind (arith, nat_tests) in
-        let is : t.atom ≡ a = cc in
-        omega (arith, none, ap (λ (k : ℕ). k * v t.atom) one, fits t.atom, ap v is)
-    by_test true g false h f = cc
-    by_test false g q h f = cc
-whole_is v c (t ∷ u ∷ ts) a fits e = by_test (c == 0) e
-  where
-    by_test : {P : Type 0} (t : Bool) → (if t then None else None) ≡ Some a → P
-    by_test true f = cc
-    by_test false f = cc
 
 -- a number that a form is, in a range, is its atom's where the form is one
 atom_lies : (v : ℕ → ℕ) (f : Linear) (r : Range) (x : ℕ) → ((b : ℕ) → v b < 2 ^ 32) → x ≡ value v f → LiesIn r x

@@ -8,18 +8,19 @@ use Rattle.rv_decode.specs.declared.instructions.VMove as move
 use Rattle.rv_decode.specs.declared.instructions.VSet as vset
 use Rattle.rv_decode.specs.declared.instructions.ScalarInsn.TheVariants.{Load, Store, Immediate}
 use Rattle.scalar_core.specs.Step.{offset_by, without_bit_0}
-use Rattle.abs_state.specs.declared.why.Why.{Why}
-use Rattle.abs_state.specs.declared.values.Effect.TheVariants.{Fresh}
+use Rattle.abs_domain.specs.declared.why.Why.{Why}
+use Rattle.abs_domain.specs.declared.values.Effect.TheVariants.{Fresh}
 use Rattle.abs_state.specs.declared.state.Way.{Way}
 use Rattle.abs_state.specs.declared.state.Way.TheVariants.{To, Unknown, Fork}
-use Rattle.abs_state.specs.Values.{full_range, known_of, up_to}
-use Rattle.abs_state.specs.Numbers.{NumbersView, value_at, with_result}
-use Rattle.abs_state.specs.Steps.{address_range, scalar_after, csr_after}
+use Rattle.abs_domain.specs.Values.{full_range, known_of, up_to}
+use Rattle.abs_domain.specs.Numbers.{NumbersView, value_at, with_result}
+use Rattle.abs_transfer.specs.Scalar.{address_range, scalar_after}
+use Rattle.abs_transfer.specs.Csr.{csr_after}
 use Rattle.abs_state.specs.State.{AbstractView}
-use Rattle.abs_state.specs.Legal.{legal_check}
-use Rattle.abs_state.specs.Lengths.{configured, wanted_of, with_length_in}
-use Rattle.abs_state.specs.Reaches.{transfer_check}
-use Rattle.abs_state.specs.Groups.{cut_groups, groups_after, known_type}
+use Rattle.abs_transfer.specs.Legal.{legal_check}
+use Rattle.abs_transfer.specs.Vset.{configured, wanted_of, with_length_in}
+use Rattle.abs_transfer.specs.Accesses.{transfer_check}
+use Rattle.abs_transfer.specs.Facts.{cut_groups, groups_after, known_type}
 
 -- the word after the one at pc
 abbrev pub next_word : ℕ → ℕ

@@ -1,8 +1,7 @@
 -- The ways out of an instruction, and what a branch says of the numbers that it compares.
-use Rattle.std.specs.Prelude.{ℕ, ◌+◌, ◌-◌, ◌^◌, ◌==◌, Bool, true, false, nat_le, nat_lt, ◌&&◌, min, max, if◌then◌else◌, List, [], ◌∷◌, slice_set, slice_index_or, Option, Some, None}
+use Rattle.std.specs.Prelude.{ℕ, ◌+◌, ◌-◌, ◌^◌, ◌==◌, Bool, true, false, nat_le, nat_lt, ◌&&◌, min, max, if◌then◌else◌, List, slice_set, slice_index_or, Option, Some, None}
 use Rattle.std.specs.Option.{option_map, option_and_then}
-use Rattle.linear_facts.specs.declared.forms.Term.{Term}
-use Rattle.abs_state.specs.Words.{Range, Linear, AtomTable, meet_of, range_of_form}
+use Rattle.abs_state.specs.Words.{Range, AtomTable, meet_of, range_of_form}
 use Rattle.linear_facts.specs.declared.ranges.Change.{Change}
 use Rattle.rv_decode.specs.declared.instructions.Condition.{Condition}
 use Rattle.rv_decode.specs.declared.instructions.Condition.TheVariants.{Eq, Ne, Lt, Ge, Ltu, Geu}
@@ -11,8 +10,8 @@ use Rattle.abs_state.specs.declared.state.Way.TheVariants.{To, Unknown, Fork}
 use Rattle.abs_state.specs.declared.branches.Relation.{Relation}
 use Rattle.abs_state.specs.declared.branches.Said.{Said}
 use Rattle.abs_state.specs.declared.branches.Relation.TheVariants as is
-use Rattle.abs_state.specs.Values.{ValueView, just, computed_range}
-use Rattle.abs_state.specs.Numbers.{value_at}
+use Rattle.abs_domain.specs.Values.{ValueView, just, computed_range}
+use Rattle.abs_domain.specs.Numbers.{value_at, whole_atom}
 use Rattle.abs_state.specs.State.{AbstractView}
 
 -- ---- what two numbers in a relation say of each other
@@ -89,18 +88,6 @@ plain_edge a target = record {
   target = target;
   said = None;
 }
-
-abbrev pub atom_of_term : Term → Option ℕ
-atom_of_term t = if t.coefficient == 1 then Some t.atom else None
-
-abbrev pub atom_of_terms : List Term → Option ℕ
-atom_of_terms [] = None
-atom_of_terms (t ∷ []) = atom_of_term t
-atom_of_terms (t ∷ u ∷ ts) = None
-
--- the atom that a form is
-unfoldable pub whole_atom : Linear → Option ℕ
-whole_atom f = if f.constant == 0 then atom_of_terms f.terms else None
 
 -- an atom has this range
 abbrev pub change_to : Range → ℕ → Change

@@ -9,10 +9,10 @@ use Rattle.linear_facts.specs.Differences.{Product, is_at_least_of, is_not_less_
 use Rattle.rv_decode.specs.declared.instructions.Condition.{Condition}
 use Rattle.rv_decode.specs.declared.instructions.Condition.TheVariants.{Eq, Ne, Lt, Ge, Ltu, Geu}
 use Rattle.abs_state.specs.declared.branches.Said.{Said}
-use Rattle.abs_state.specs.declared.why.Why.{Why}
-use Rattle.abs_state.specs.declared.why.Why.TheVariants.{VtypeUnknown, TargetNotABlock, IntervalNotProved, EqualityNotProved, OrderNotProved, VectorFactNotProved, BudgetNotProved}
-use Rattle.abs_state.specs.Values.{ValueView}
-use Rattle.abs_state.specs.Blocks.{equality_form}
+use Rattle.abs_domain.specs.declared.why.Why.{Why}
+use Rattle.abs_domain.specs.declared.why.Why.TheVariants.{VtypeUnknown, TargetNotABlock, IntervalNotProved, EqualityNotProved, OrderNotProved, VectorFactNotProved, BudgetNotProved}
+use Rattle.abs_domain.specs.Values.{ValueView}
+use Rattle.abs_domain.specs.Starts.{equality_form}
 use Rattle.abs_state.specs.Branches.{EdgeView, table_on, value_on}
 
 -- ---- registers and vl

@@ -9,12 +9,12 @@ use Rattle.vector_core.specs.KeepLaws.{AreRegisters}
 use Rattle.vector_core.specs.Vectors.{IsVectors}
 use Rattle.abs_state.specs.declared.state.Way.{Way}
 use Rattle.abs_state.specs.declared.state.Way.TheVariants.{To, Unknown, Fork}
-use Rattle.abs_state.specs.Described.{IsNumber}
-use Rattle.abs_state.specs.Holds.{Holds, number_of}
-use Rattle.abs_state.specs.Memories.{HasZones}
-use Rattle.abs_state.specs.Zones.{zones_of}
+use Rattle.abs_domain.specs.Described.{IsNumber}
+use Rattle.abs_domain.specs.Holds.{Holds, number_of}
+use Rattle.abs_domain.specs.Memories.{HasZones}
+use Rattle.abs_domain.specs.Zones.{zones_of}
 use Rattle.abs_state.specs.State.{AbstractView}
-use Rattle.abs_state.specs.Blocks.{equality_form}
+use Rattle.abs_domain.specs.Starts.{equality_form}
 use Rattle.abs_state.specs.Branches.{EdgeView, table_on, value_on}
 
 -- What stays the same throughout a run: the image, its certificate, and the numbers that were passed.

@@ -1,10 +1,10 @@
 -- What is known of a machine at an instruction of a kernel.
 use Rattle.std.specs.Prelude.{ℕ, List, Option}
 use Rattle.abs_state.specs.Words.{Budget, VectorFact}
-use Rattle.abs_state.specs.declared.zones.Zone.{Zone}
+use Rattle.abs_domain.specs.declared.zones.Zone.{Zone}
 use Rattle.abs_state.specs.declared.state.Way.{Way}
-use Rattle.abs_state.specs.Values.{ValueView}
-use Rattle.abs_state.specs.Numbers.{NumbersView}
+use Rattle.abs_domain.specs.Values.{ValueView}
+use Rattle.abs_domain.specs.Numbers.{NumbersView}
 
 -- The numbers of registers and vl; the zones of memory; vtype, if it is known; facts on vector registers, of groups that share
 -- none. Of the block: its budget (none on the way from the entry), the number that the budget's register had at the block's

@@ -1,22 +1,22 @@
 -- Laws of one step: what is known after an instruction is true of the machine that it leads to.
 use Rattle.std.specs.Prelude.{ℕ, ◌≡◌, ◌<◌, ◌+◌, ◌%◌, ◌^◌, ◌==◌, Bool, true, false, if◌then◌else◌, List, Some, Result, Ok, Err}
-use Rattle.abs_state.specs.Words.{IsImage, Insn, Csr, VPerm, VReduce, VMove, ScalarInsn, Lui, Auipc, Jal, Jalr, Branch, ShiftImmediate, Register, Fence, Ecall, CsrInsn, FieldsFit, Memory, AreBytes, IsCodeSafe, Vconfig, Hart, IsHart, Machine, carry_out, IsCertificate}
+use Rattle.abs_state.specs.Words.{IsImage, Insn, Csr, VPerm, VReduce, VMove, ScalarInsn, Lui, Auipc, Jal, Jalr, Branch, ShiftImmediate, Register, Fence, Ecall, CsrInsn, FieldsFit, Memory, AreBytes, Vconfig, Hart, IsHart, Machine, carry_out, IsCertificate}
 use Rattle.rv_decode.specs.declared.instructions.Insn.TheVariants.{Scalar, VSet, VArith, VMask, VMem}
 use Rattle.rv_decode.specs.declared.instructions.ScalarInsn.TheVariants.{Load, Store, Immediate}
 use Rattle.rv_decode.specs.Decode.{meaning_of}
 use Rattle.region_mem.specs.declared.faults.Fault.{Fault}
 use Rattle.region_mem.specs.declared.faults.Fault.TheVariants.{JumpMisaligned}
-use Rattle.region_mem.specs.Memory.{fetch_of}
 use Rattle.scalar_core.specs.Csr.{csr_step}
 use Rattle.scalar_core.specs.Step.{rv32im_step}
 use Rattle.vector_core.specs.MachineStep.{unless_misaligned}
 use Rattle.abs_state.specs.declared.state.Way.{Way}
 use Rattle.abs_state.specs.declared.state.Way.TheVariants.{To}
-use Rattle.abs_state.specs.declared.zones.Zone.{Zone}
-use Rattle.abs_state.specs.Numbers.{NumbersView}
-use Rattle.abs_state.specs.Steps.{scalar_after, csr_after}
-use Rattle.abs_state.specs.Holds.{Holds, Follows}
-use Rattle.abs_state.specs.Memories.{HasZones}
+use Rattle.abs_domain.specs.declared.zones.Zone.{Zone}
+use Rattle.abs_domain.specs.Numbers.{NumbersView}
+use Rattle.abs_transfer.specs.Scalar.{scalar_after}
+use Rattle.abs_transfer.specs.Csr.{csr_after}
+use Rattle.abs_domain.specs.Holds.{Holds, Follows}
+use Rattle.abs_domain.specs.Memories.{HasZones, KeepsMemory}
 use Rattle.abs_state.specs.State.{AbstractView}
 use Rattle.abs_state.specs.After.{next_word, way_of, after_of}
 use Rattle.abs_state.specs.Held.{Setting, Held, IsAt, vlenb_in}
@@ -26,13 +26,6 @@ use Rattle.abs_state.specs.Held.{Setting, Held, IsAt, vlenb_in}
 -- a hart and memory, or the fault of a jump where the hart's pc is no multiple of 4
 abbrev pub or_misaligned : Hart → Memory → Result (Hart × Memory) Fault
 or_misaligned h m = if h.pc % 4 == 0 then Ok (h, m) else Err (JumpMisaligned h.pc)
-
--- What a step keeps of memory: its zones; where no byte that may be fetched may be written, that and all that is fetched; that
--- it holds bytes.
-pub record KeepsMemory (m next : Memory) : Type 0 where
-  pub zones : (zones : List Zone) → HasZones zones m → HasZones zones next
-  pub code : IsCodeSafe m → IsCodeSafe next × ((pc : ℕ) → fetch_of pc next ≡ fetch_of pc m)
-  pub bytes : AreBytes m → AreBytes next
 
 -- A step leads to a hart of which is true what is known next, and a memory. A jump to an address that is no multiple of 4
 -- counts as one there, though it faults.

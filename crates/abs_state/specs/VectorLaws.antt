@@ -1,6 +1,5 @@
 -- Laws of one vector instruction: what is known after it is true of the machine that it leads to.
-use Rattle.std.specs.Prelude.{ℕ, ◌≡◌, ◌≤◌, ◌%◌, true, List, Option, Some, None, Result, Ok, IfSome}
-use Rattle.std.specs.List.{AllByRecursion}
+use Rattle.std.specs.Prelude.{ℕ, ◌≡◌, ◌≤◌, ◌%◌, true, List, Option, None, Ok, IfSome}
 use Rattle.abs_state.specs.Words.{Operand, Insn, FieldsFit, Memory, Vconfig, Vtype, type_in, vtype_of, is_legal, Hart, reg_of, Machine, carry_out, Vectors, VectorFact}
 use Rattle.rv_decode.specs.declared.instructions.Insn.TheVariants as class
 use Rattle.rv_decode.specs.declared.instructions.VSet as vset
@@ -14,12 +13,13 @@ use Rattle.vector_core.specs.Setup.{setup_of}
 use Rattle.vector_core.specs.Step.{vector_step}
 use Rattle.std.specs.Prelude.{get_or}
 use Rattle.abs_state.specs.State.{AbstractView}
-use Rattle.abs_state.specs.Legal.{legal_check}
-use Rattle.abs_state.specs.Reaches.{transfer_check}
-use Rattle.abs_state.specs.Groups.{cut_groups, known_type, stated_by, untouched}
+use Rattle.abs_transfer.specs.Legal.{legal_check}
+use Rattle.abs_transfer.specs.Accesses.{transfer_check}
+use Rattle.abs_transfer.specs.Facts.{cut_groups, known_type, stated_by, untouched}
 use Rattle.abs_state.specs.After.{vset_after}
-use Rattle.abs_state.specs.Held.{Setting, Held, AreTrueOf, IsTrueOf, vlenb_in}
-use Rattle.abs_state.specs.StepLaws.{KeepsMemory, MachineIsHeld}
+use Rattle.abs_state.specs.Held.{Setting, Held, AreTrueOf, vlenb_in}
+use Rattle.abs_domain.specs.Memories.{KeepsMemory}
+use Rattle.abs_state.specs.StepLaws.{MachineIsHeld}
 
 -- ---- vtype and vl
 

@@ -1,13 +1,11 @@
 //! What an instruction makes of what is known, and where it leads.
 ghost use Rattle.std.specs.Prelude.{◌≡◌, ◌<◌, ◌+◌, length, IfErr, IfOk, OnErr, OnOk, Ok, Err};
-ghost use Rattle.abs_state.specs.Steps.{scalar_after};
+ghost use Rattle.abs_transfer.specs.Scalar.{scalar_after};
 ghost use Rattle.abs_state.specs.After.{after_of, jump_way as jump_way_of, way_of};
 
-use crate::numbers::{MOST_ATOMS, Numbers};
 use crate::state::{Abstract, Way};
-use crate::values::known;
-use crate::why::Why;
-use crate::zones::Zone;
+use abs_domain::{MOST_ATOMS, Numbers, Why, Zone, known};
+use abs_transfer::{address_range, after_csr, after_scalar};
 use arrayvec::ArrayVec;
 use rv_decode::{CsrInsn, Insn, ScalarInsn};
 use scalar_core::EXIT;
@@ -39,7 +37,9 @@ fn way<A: Allocator>(pc: u32, insn: &ScalarInsn, numbers: &Numbers<A>) -> Way
     let next = pc.wrapping_add(4);
     match *insn {
         ScalarInsn::Jal { offset, .. } => to(pc.wrapping_add_signed(offset)),
-        ScalarInsn::Jalr { rs1, offset, .. } => jump_way(known(numbers.address_range(rs1, offset))),
+        ScalarInsn::Jalr { rs1, offset, .. } => jump_way(known(address_range(
+            numbers, rs1, offset,
+        ))),
         ScalarInsn::Branch {
             condition,
             rs1,
@@ -79,7 +79,7 @@ fn put<A: Allocator>(
     ensures kept { OnErr result (numbers.new ≡ numbers.old) }
 {
     let way = way(pc, &insn, numbers);
-    numbers.after_scalar(pc, insn, zones.as_slice())?;
+    after_scalar(numbers, pc, insn, zones.as_slice())?;
     Ok(way)
 }
 
@@ -105,7 +105,7 @@ impl<A: Allocator> Abstract<A> {
         ensures state { after_of pc (Insn.Csr insn) self.old ≡ Ok self.new }
         ensures counts { self.new.words ≡ self.old.words + 1 }
     {
-        self.numbers.after_csr(self.vlenb, insn);
+        after_csr(&mut self.numbers, self.vlenb, insn);
         self.words += 1;
         self.way = to(pc.wrapping_add(4));
     }

@@ -1,16 +1,15 @@
 //! The ways out of an instruction, and what a branch says of the numbers that it compares.
 ghost use Rattle.std.specs.Prelude.{◌≡◌, Some, slice_index_or};
-ghost use Rattle.abs_state.specs.Values.{just};
+ghost use Rattle.abs_domain.specs.Values.{just};
 ghost use Rattle.abs_state.specs.Branches.{apart_from as apart_from_of, both_ranges, branch_edge as branch_edge_of};
 ghost use Rattle.abs_state.specs.Branches.{changes_of, edge_in as edge_in_of, filled_range, if_small as if_small_of};
 ghost use Rattle.abs_state.specs.Branches.{plain_edge as plain_edge_of, refined, related_edge as related_edge_of};
 ghost use Rattle.abs_state.specs.Branches.{related_ranges as related_ranges_of, relation_of, table_on, value_on};
-ghost use Rattle.abs_state.specs.Branches.{whole_atom as whole_atom_of, without_end as without_end_of};
+ghost use Rattle.abs_state.specs.Branches.{without_end as without_end_of};
 ghost use Rattle.abs_state.specs.declared.branches.Relation.TheVariants.{Below};
 
-use crate::effects::copy_of;
 use crate::state::{Abstract, Way};
-use crate::values::computed_range;
+use abs_domain::{computed_range, copy_of, whole_atom};
 use linear_facts::{Atoms, Change, Form, Range};
 use rv_decode::{Condition, Reg};
 use std::alloc::{Allocator, Global};
@@ -138,21 +137,6 @@ fn related_ranges(relation: Relation, a: Range, b: Range) -> Option<(Range, Rang
     }
 }
 
-/// The atom that a form is, if it is one.
-#[tactic(auto, unfolding(crate::specs::Branches::whole_atom))]
-pub(crate) fn whole_atom(form: &Form<8>) -> Option<u16>
-    ensures { result ≡ whole_atom_of form.now }
-{
-    match form.terms() {
-        [term] => if form.constant == 0 && term.coefficient == 1 {
-            Some(term.atom)
-        } else {
-            None
-        },
-        _ => None,
-    }
-}
-
 /// An atom has this range.
 fn change_to(atom: u16, range: Range) -> Option<Change>
     ensures { result ≡ Some record { atom = atom; range = range } }
@@ -234,7 +218,7 @@ impl<A: Allocator> Edge<'_, A> {
     }
 
     /// The form of a register's number, or of vl's (32). A number past these stands for none, and has the form 0.
-    #[tactic(auto, unfolding(crate::specs::Branches::value_on, crate::specs::Numbers::value_at))]
+    #[tactic(auto, unfolding(crate::specs::Branches::value_on, abs_domain::specs::Numbers::value_at))]
     pub(crate) fn form_on(&self, number: u8) -> Form<8>
         ensures { result ≡ (value_on self.now number).form }
     {

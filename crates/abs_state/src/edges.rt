@@ -4,7 +4,7 @@ ghost use Rattle.std.specs.List.{list_all, list_any};
 ghost use Rattle.std.specs.Option.{option_map, option_map_or};
 ghost use Rattle.linear_facts.specs.Differences.{is_not_less_of};
 ghost use Rattle.linear_facts.specs.Forms.{form_at, scaled, substituted};
-ghost use Rattle.abs_state.specs.Blocks.{form_term};
+ghost use Rattle.abs_domain.specs.Starts.{form_term};
 ghost use Rattle.abs_state.specs.Branches.{table_on, value_on};
 ghost use Rattle.abs_state.specs.Edges.{covers as covers_of, implied_by, implies_block as implies_block_of, implies_end as implies_end_of};
 ghost use Rattle.abs_state.specs.Edges.{is_equality_shown as is_equality_shown_of, is_interval_shown as is_interval_shown_of, is_order_shown as is_order_shown_of, tells_order as tells_order_of};
@@ -13,8 +13,7 @@ ghost use Rattle.abs_state.specs.Edges.{is_vector_shown as is_vector_shown_of, i
 ghost use Rattle.abs_state.specs.Edges.{leads_to as leads_to_of, says as says_of, shown_or as shown_or_of};
 
 use crate::branches::{Edge, Said};
-use crate::values::Value;
-use crate::why::Why;
+use abs_domain::{Value, Why};
 use cert_note::{Block, Budget, Equality, OrderFact, RegisterFact, Term, VectorFact};
 use linear_facts::{Atoms, Form, Multiple, Range, is_at_least, is_not_less};
 use rv_decode::Condition;

@@ -5,50 +5,27 @@
 #![tactic(auto)]
 
 mod after;
-mod block_laws;
 mod blocks;
 mod branches;
-mod edge_laws;
 mod edges;
-mod effects;
-mod groups;
 mod laws;
-mod legal;
-mod lengths;
-mod numbers;
-mod reaches;
-mod start_laws;
 mod state;
-mod step_laws;
-mod steps;
-mod values;
-mod vector_laws;
 mod vectors;
-mod why;
-mod zones;
 
-pub use block_laws::{block_numbers_hold, entry_numbers_hold};
+pub use abs_domain::{
+    Effect, MOST_ATOMS, Numbers, VL, Value, Why, Zone, block_numbers_hold, computed_range,
+    constant_effect, constant_effects, csr_effect, csr_effects, entry_numbers_hold,
+    immediate_effect, immediate_effects, load_allowed, load_effect, load_effects, memory_zones,
+    offset_form, offset_range, register_effect, register_effects, results_hold, shift_effect,
+    shift_effects, store_allowed, stores_keep_zones, zones_are_permitted, zones_are_there,
+};
+pub use abs_transfer::{address_range, addresses_lie, after_csr, after_scalar};
 pub use branches::{Edge, Relation, Said};
-pub use edge_laws::{
-    edges_are_taken, edges_keep, implied_ends, implied_fits, one_edge, straight_edges,
-};
 pub use edges::implies;
-pub use effects::{
-    constant_effect, csr_effect, immediate_effect, load_effect, offset_form, offset_range,
-    register_effect, shift_effect,
-};
 pub use laws::{
-    addresses_lie, constant_effects, csr_effects, immediate_effects, load_effects,
-    register_effects, results_hold, shift_effects, stores_keep_zones, zones_are_permitted,
-};
-pub use numbers::{MOST_ATOMS, Numbers, VL};
-pub use start_laws::{blocks_are_held, entries_are_held, zones_are_there};
-pub use state::{Abstract, MOST_WORDS, Way};
-pub use step_laws::{csr_steps_hold, scalar_steps_hold, steps_are_held, steps_count, steps_go_on};
-pub use values::{Effect, Value, computed_range};
-pub use vector_laws::{
-    checks_are_legal, cut_are_true, stated_are_true, transfers_are_permitted,
+    blocks_are_held, checks_are_legal, csr_steps_hold, cut_are_true, edges_are_taken, edges_keep,
+    entries_are_held, implied_ends, implied_fits, one_edge, scalar_steps_hold, stated_are_true,
+    steps_are_held, steps_count, steps_go_on, straight_edges, transfers_are_permitted,
     transfers_keep_memory, untouched_are_true, vsets_are_held,
 };
-pub use why::Why;
-pub use zones::{Zone, load_allowed, memory_zones, store_allowed};
+pub use state::{Abstract, MOST_WORDS, Way};

@@ -1,8 +1,7 @@
 //! What is known of a machine at an instruction of a kernel.
 ghost use Rattle.std.specs.Prelude.{◌≡◌};
 
-use crate::numbers::Numbers;
-use crate::zones::Zone;
+use abs_domain::{Numbers, Zone};
 use arrayvec::ArrayVec;
 use cert_note::{Budget, VectorFact};
 use linear_facts::{Form, Range};
@@ -54,7 +53,7 @@ pub struct Abstract<A: Allocator = Global> {
 }
 
 impl<A: Allocator> Model for Abstract<A> {
-    ghost use Rattle.std.specs.Prelude.{ℕ, ◌≡◌, ◌≤◌, ◌+◌, ◌*◌, length, vec_capacity};
+    ghost use Rattle.std.specs.Prelude.{◌≡◌, ◌≤◌, ◌+◌, ◌*◌, length, vec_capacity};
     ghost use Rattle.vreg_groups.specs.VectorLength.{IsVlenb};
     ghost use Rattle.abs_state.specs.State.{AbstractView};
 

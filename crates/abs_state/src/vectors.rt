@@ -1,17 +1,14 @@
 //! What each vector instruction makes of what is known.
 ghost use Rattle.std.specs.Prelude.{◌≡◌, ◌<◌, ◌≤◌, ◌+◌, length, IfErr, OnErr, OnOk, Ok, Err};
 ghost use Rattle.vreg_groups.specs.VectorType.{type_in as type_in_of};
-ghost use Rattle.abs_state.specs.Groups.{known_type as known_type_of};
-ghost use Rattle.abs_state.specs.Numbers.{with_result};
+ghost use Rattle.abs_transfer.specs.Facts.{known_type as known_type_of};
+ghost use Rattle.abs_domain.specs.Numbers.{with_result};
 ghost use Rattle.abs_state.specs.After.{access_check as access_check_of, mask_numbers, move_numbers};
 ghost use Rattle.abs_state.specs.After.{vector_after, vector_numbers, vset_after};
 
-use crate::groups::{after_groups, cut_groups};
-use crate::legal::legal_check;
-use crate::numbers::{MOST_ATOMS, Numbers, VL};
 use crate::state::{Abstract, Way};
-use crate::values::Effect;
-use crate::why::Why;
+use abs_domain::{Effect, MOST_ATOMS, Numbers, VL, Why};
+use abs_transfer::{after_groups, after_vset, cut_groups, legal_check, transfer_check};
 use linear_facts::Range;
 use rv_decode::{Insn, Reg, VMask, VMove, VSet, Width};
 use std::alloc::Allocator;
@@ -42,64 +39,60 @@ fn type_in(vtype: Option<Vtype>) -> Vtype
     }
 }
 
-impl<A: Allocator> Numbers<A> {
-    /// A register gets a number in this range.
-    fn set_register(&mut self, rd: Reg, range: Range)
-        requires { length self.old.atoms < MOST_ATOMS }
-        ensures { self.new ≡ with_result rd (Effect.Fresh range) self.old }
-    {
-        self.set_result(rd, Effect::Fresh { range });
-    }
+/// A register gets a number in this range.
+fn set_register<A: Allocator>(numbers: &mut Numbers<A>, rd: Reg, range: Range)
+    requires { length numbers.old.atoms < MOST_ATOMS }
+    ensures { numbers.new ≡ with_result rd (Effect.Fresh range) numbers.old }
+{
+    numbers.set_result(rd, Effect::Fresh { range });
+}
 
-    /// What an instruction on masks makes of the registers' numbers: a count of bits is at most vl.
-    #[tactic(auto, unfolding(crate::specs::After::mask_numbers))]
-    fn after_mask(&mut self, insn: &VMask)
-        requires { length self.old.atoms < MOST_ATOMS }
-        ensures { self.new ≡ mask_numbers insn.now self.old }
-    {
-        match *insn {
-            VMask::Count { rd, .. } => {
-                let most = self.range_at(VL).hi;
-                self.set_register(rd, Range { lo: 0, hi: most });
-            }
-            VMask::First { rd, .. } => self.set_register(rd, Range::FULL),
-            VMask::Logic { .. }
-            | VMask::SetFirst { .. }
-            | VMask::Iota { .. }
-            | VMask::Index { .. } => {}
+/// What an instruction on masks makes of the registers' numbers: a count of bits is at most vl.
+#[tactic(auto, unfolding(crate::specs::After::mask_numbers))]
+fn after_mask<A: Allocator>(numbers: &mut Numbers<A>, insn: &VMask)
+    requires { length numbers.old.atoms < MOST_ATOMS }
+    ensures { numbers.new ≡ mask_numbers insn.now numbers.old }
+{
+    match *insn {
+        VMask::Count { rd, .. } => {
+            let most = numbers.range_at(VL).hi;
+            set_register(numbers, rd, Range { lo: 0, hi: most });
         }
+        VMask::First { rd, .. } => set_register(numbers, rd, Range::FULL),
+        VMask::Logic { .. } | VMask::SetFirst { .. } | VMask::Iota { .. } | VMask::Index { .. } =>
+            {}
     }
+}
 
-    /// What a move between registers makes of the numbers of x registers.
-    #[tactic(auto, unfolding(crate::specs::After::move_numbers))]
-    fn after_move(&mut self, insn: &VMove)
-        requires { length self.old.atoms < MOST_ATOMS }
-        ensures { self.new ≡ move_numbers insn.now self.old }
-    {
-        match *insn {
-            VMove::ToScalar { rd, .. } => self.set_register(rd, Range::FULL),
-            VMove::FromScalar { .. } | VMove::Whole { .. } => {}
-        }
+/// What a move between registers makes of the numbers of x registers.
+#[tactic(auto, unfolding(crate::specs::After::move_numbers))]
+fn after_move<A: Allocator>(numbers: &mut Numbers<A>, insn: &VMove)
+    requires { length numbers.old.atoms < MOST_ATOMS }
+    ensures { numbers.new ≡ move_numbers insn.now numbers.old }
+{
+    match *insn {
+        VMove::ToScalar { rd, .. } => set_register(numbers, rd, Range::FULL),
+        VMove::FromScalar { .. } | VMove::Whole { .. } => {}
     }
+}
 
-    /// What a vector instruction makes of the registers' numbers.
-    #[tactic(auto, unfolding(crate::specs::After::vector_numbers), using(crate::proofs::Growth::mask_grows, crate::proofs::Growth::move_grows))]
-    fn after_vector(&mut self, insn: &Insn)
-        requires { length self.old.atoms < MOST_ATOMS }
-        ensures numbers { self.new ≡ vector_numbers insn.now self.old }
-        ensures grows { length self.new.atoms ≤ length self.old.atoms + 1 }
-    {
-        match insn {
-            Insn::VMask(insn) => self.after_mask(insn),
-            Insn::VMove(insn) => self.after_move(insn),
-            Insn::Scalar(_)
-            | Insn::Csr(_)
-            | Insn::VSet(_)
-            | Insn::VArith(_)
-            | Insn::VPerm(_)
-            | Insn::VReduce(_)
-            | Insn::VMem(_) => {}
-        }
+/// What a vector instruction makes of the registers' numbers.
+#[tactic(auto, unfolding(crate::specs::After::vector_numbers), using(crate::proofs::Growth::mask_grows, crate::proofs::Growth::move_grows))]
+fn after_vector<A: Allocator>(numbers: &mut Numbers<A>, insn: &Insn)
+    requires { length numbers.old.atoms < MOST_ATOMS }
+    ensures numbers { numbers.new ≡ vector_numbers insn.now numbers.old }
+    ensures grows { length numbers.new.atoms ≤ length numbers.old.atoms + 1 }
+{
+    match insn {
+        Insn::VMask(insn) => after_mask(numbers, insn),
+        Insn::VMove(insn) => after_move(numbers, insn),
+        Insn::Scalar(_)
+        | Insn::Csr(_)
+        | Insn::VSet(_)
+        | Insn::VArith(_)
+        | Insn::VPerm(_)
+        | Insn::VReduce(_)
+        | Insn::VMem(_) => {}
     }
 }
 
@@ -110,7 +103,8 @@ impl<A: Allocator> Abstract<A> {
         ensures { result ≡ access_check_of self.now insn.now }
     {
         match insn {
-            Insn::VMem(insn) => self.numbers.transfer_check(
+            Insn::VMem(insn) => transfer_check(
+                &self.numbers,
                 self.vlenb,
                 &type_in(known_type(self.vtype)),
                 self.groups.as_slice(),
@@ -136,7 +130,7 @@ impl<A: Allocator> Abstract<A> {
         ensures counts { self.new.words ≡ self.old.words + 1 }
     {
         let least = self.numbers.range_at(VL).lo;
-        let set = self.numbers.after_vset(self.vlenb, self.vtype, insn);
+        let set = after_vset(&mut self.numbers, self.vlenb, self.vtype, insn);
         if !set.is_kept {
             cut_groups(self.vlenb, least, &mut self.groups);
         }
@@ -148,7 +142,7 @@ impl<A: Allocator> Abstract<A> {
     }
 
     /// A vector instruction of any other class. Where it is refused nothing is changed.
-    #[tactic(auto, unfolding(crate::specs::After::vector_after, crate::specs::After::passed, crate::specs::Groups::groups_after))]
+    #[tactic(auto, unfolding(crate::specs::After::vector_after, crate::specs::After::passed, abs_transfer::specs::Facts::groups_after))]
     pub(crate) fn take_vector(&mut self, pc: u32, insn: &Insn) -> Result<(), Why>
         requires { self.old.words < 4096 }
         ensures ok { OnOk result (vector_after pc insn.now self.old ≡ Ok self.new) }
@@ -160,7 +154,7 @@ impl<A: Allocator> Abstract<A> {
         self.access_check(insn)?;
         let vtype = known_type(self.vtype);
         after_groups(self.vlenb, vtype, &self.numbers, insn, &mut self.groups);
-        self.numbers.after_vector(insn);
+        after_vector(&mut self.numbers, insn);
         self.words += 1;
         self.way = Way::To {
             target: pc.wrapping_add(4),

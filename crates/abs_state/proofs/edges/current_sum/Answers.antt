@@ -2,7 +2,7 @@
 use Rattle.std.proofs.Common.{arith, ap, sym, ◌∙◌, length}
 use Rattle.linear_facts.specs.Forms.{Linear, sum_of, substituted}
 use Rattle.linear_facts.proofs.FormLaws.{length-sum_of, within-is}
-use Rattle.abs_state.proofs.Rooms.{some_within}
+use Rattle.abs_domain.proofs.Rooms.{some_within}
 use Rattle.abs_state.proofs.Substitutions.{sums_more, sums_done}
 use Rattle.abs_state.proofs.edges.current_sum.Goals as goal
 

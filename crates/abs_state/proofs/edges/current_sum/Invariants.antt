@@ -1,7 +1,7 @@
 -- Replacing in what is left gives the whole, and each term added at most eight.
 use Rattle.std.proofs.Common.{◌≡◌, ◌≤◌, ◌*◌, length, drop, map}
 use Rattle.linear_facts.specs.Forms.{number_form, with_replaced}
-use Rattle.abs_state.specs.Blocks.{form_term}
+use Rattle.abs_domain.specs.Starts.{form_term}
 use Rattle.abs_state.proofs.edges.current_sum.Given as goal
 
 abbrev pub invariant-loop-term : goal.invariant-loop-term

@@ -1,0 +1,10 @@
+pub mod Lists
+pub mod Memories
+pub mod Operations
+pub mod OrderStarts
+pub mod Rooms
+pub mod StartForms
+pub mod StartNumbers
+pub mod StartRanges
+pub mod StartZones
+pub mod States

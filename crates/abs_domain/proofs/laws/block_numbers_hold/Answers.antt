@@ -1,0 +1,5 @@
+use Rattle.abs_domain.proofs.OrderStarts.{block_numbers_hold}
+use Rattle.abs_domain.proofs.laws.block_numbers_hold.Goals as goal
+
+pub returns : goal.returns
+returns c = block_numbers_hold

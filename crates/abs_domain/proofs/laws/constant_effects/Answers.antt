@@ -1,0 +1,5 @@
+use Rattle.abs_domain.proofs.Operations.{constant_describes}
+use Rattle.abs_domain.proofs.laws.constant_effects.Goals as goal
+
+pub returns : goal.returns
+returns c = constant_describes

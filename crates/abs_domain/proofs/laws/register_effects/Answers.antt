@@ -1,0 +1,5 @@
+use Rattle.abs_domain.proofs.Operations.{register_describes}
+use Rattle.abs_domain.proofs.laws.register_effects.Goals as goal
+
+pub returns : goal.returns
+returns c = register_describes

@@ -1,0 +1,5 @@
+use Rattle.abs_domain.proofs.Operations.{shift_describes}
+use Rattle.abs_domain.proofs.laws.shift_effects.Goals as goal
+
+pub returns : goal.returns
+returns c = shift_describes

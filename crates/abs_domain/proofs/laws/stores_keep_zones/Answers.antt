@@ -1,0 +1,5 @@
+use Rattle.abs_domain.proofs.Memories.{stores_kept}
+use Rattle.abs_domain.proofs.laws.stores_keep_zones.Goals as goal
+
+pub returns : goal.returns
+returns c = stores_kept

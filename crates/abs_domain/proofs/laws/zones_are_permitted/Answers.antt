@@ -1,0 +1,5 @@
+use Rattle.abs_domain.proofs.Memories.{inside_permitted}
+use Rattle.abs_domain.proofs.laws.zones_are_permitted.Goals as goal
+
+pub returns : goal.returns
+returns c = inside_permitted

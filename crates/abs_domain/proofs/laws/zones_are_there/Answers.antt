@@ -1,0 +1,5 @@
+use Rattle.abs_domain.proofs.StartZones.{zones_are_there}
+use Rattle.abs_domain.proofs.laws.zones_are_there.Goals as goal
+
+pub returns : goal.returns
+returns c = zones_are_there

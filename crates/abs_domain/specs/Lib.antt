@@ -1,0 +1,12 @@
+pub mod BlockLaws
+pub mod Described
+pub mod Effects
+pub mod Holds
+pub mod Memories
+pub mod Numbers
+pub mod Orders
+pub mod StartZones
+pub mod Starts
+pub mod Values
+pub mod Zones
+pub mod Words

@@ -1,0 +1,330 @@
+//! The numbers of registers and vl where a block of a certificate begins, and where a run does.
+ghost use Rattle.std.specs.Prelude.{◌≡◌, ◌<◌, ◌≤◌, ◌+◌, length, map, vec_capacity, IfOk, Some, None};
+ghost use Rattle.std.specs.List.{range_with_len, slice_get, AllByRecursion};
+ghost use Rattle.linear_facts.specs.Forms.{IsForm};
+ghost use Rattle.linear_facts.specs.Sums.{range_of_form};
+ghost use Rattle.abs_domain.specs.Values.{computed_range as computed_range_of};
+ghost use Rattle.std.specs.Option.{option_and_then, option_map};
+ghost use Rattle.abs_domain.specs.Starts.{fact_for, interval_of, form_or_atom};
+ghost use Rattle.abs_domain.specs.Starts.{stated_range as stated_range_of, equality_form as equality_form_of, stated_form as stated_form_of};
+ghost use Rattle.abs_domain.specs.Starts.{passed_range as passed_range_of, passed_form as passed_form_of, entry_form as entry_form_of};
+ghost use Rattle.abs_domain.specs.Starts.{HasForm, start_atoms as start_atoms_of, start_numbers as start_numbers_of, entry_numbers as entry_numbers_of};
+ghost use Rattle.abs_domain.specs.Orders.{with_order, with_orders};
+
+use crate::numbers::{MOST_ATOMS, Numbers};
+use crate::values::computed_range;
+use cert_note::{Equality, OrderFact, RegisterFact};
+use linear_facts::{Atom, Atoms, Form, Range, Split, Term};
+use region_mem::{Param, Parameters, STACK_END};
+use scalar_core::EXIT;
+use std::alloc::{AllocError, Allocator};
+
+/// The fact on a register or on vl (32), if there is one.
+fn fact_on(facts: &[RegisterFact], number: u8) -> Option<&RegisterFact>
+    ensures { option_map (λ fact. fact.now) result ≡ fact_for facts.now number }
+{
+    facts.iter().find(|fact| fact.number == number)
+}
+
+/// The interval of the fact on a register or on vl (32), if there is one.
+fn fact_range(facts: &[RegisterFact], number: u8) -> Range
+    ensures { result ≡ interval_of (fact_for facts.now number) }
+{
+    match fact_on(facts, number) {
+        None => Range::FULL,
+        Some(fact) => Range {
+            lo: fact.low,
+            hi: fact.high,
+        },
+    }
+}
+
+/// The interval that is stated of a register (0 to 31) or of vl (32).
+#[tactic(auto, unfolding(crate::specs::Starts::stated_range))]
+fn stated_range(facts: &[RegisterFact], number: u8) -> Range
+    ensures { result ≡ stated_range_of facts.now number }
+{
+    if number == 0 {
+        Range { lo: 0, hi: 0 }
+    } else {
+        fact_range(facts, number)
+    }
+}
+
+/// The sum of an equality as a form.
+fn equality_form(equality: &Equality) -> Form<8>
+    requires { IsForm 8 (equality_form_of equality.now) }
+    ensures { result ≡ equality_form_of equality.now }
+{
+    let mut form = Form::number(equality.constant);
+    for term in equality.terms.as_slice() {
+        form = form.with_term(Term {
+            atom: u16::from(term.atom),
+            coefficient: term.coefficient,
+        });
+    }
+    form
+}
+
+/// The form of a fact's sum, or the atom of this number where it states none.
+fn form_of_fact(fact: &RegisterFact, number: u8) -> Form<8>
+    requires { HasForm fact.now }
+    ensures { result ≡ form_or_atom number fact.now.equality }
+{
+    match &fact.equality {
+        None => Form::atom(u16::from(number)),
+        Some(equality) => equality_form(equality),
+    }
+}
+
+/// The form of the fact on a register or on vl (32), or its atom.
+fn fact_form(facts: &[RegisterFact], number: u8) -> Form<8>
+    requires { AllByRecursion HasForm facts.now }
+    ensures { result ≡ form_or_atom number
+        (option_and_then (λ fact. fact.equality) (fact_for facts.now number)) }
+{
+    match fact_on(facts, number) {
+        None => Form::atom(u16::from(number)),
+        Some(fact) => form_of_fact(fact, number),
+    }
+}
+
+/// The form that is stated of a register (0 to 31) or of vl (32).
+#[tactic(auto, unfolding(crate::specs::Starts::stated_form))]
+fn stated_form(facts: &[RegisterFact], number: u8) -> Form<8>
+    requires { AllByRecursion HasForm facts.now }
+    ensures { result ≡ stated_form_of facts.now number }
+{
+    if number == 0 {
+        Form::number(0)
+    } else {
+        fact_form(facts, number)
+    }
+}
+
+/// What is known of the number that is passed for a parameter.
+#[tactic(auto, unfolding(crate::specs::Starts::passed_range))]
+fn passed_range(param: Param) -> Range
+    ensures { result ≡ passed_range_of (Some param) }
+{
+    match param {
+        Param::Scalar { lo, hi } => Range { lo, hi },
+        Param::None | Param::Buffer { mode: _, size: _ } => Range::FULL,
+    }
+}
+
+/// The atoms of registers and vl, and those of the numbers passed.
+#[tactic(auto, unfolding(crate::specs::Starts::start_atoms))]
+fn start_atoms<A: Allocator>(
+    alloc: A,
+    parameters: &Parameters,
+    facts: &[RegisterFact],
+) -> Result<Vec<Atom, A>, AllocError>
+    ensures items { IfOk result (λ atoms. atoms.items ≡ start_atoms_of parameters.now facts.now) }
+    ensures room { IfOk result (λ atoms. MOST_ATOMS ≤ vec_capacity atoms) }
+{
+    let mut atoms = Vec::with_capacity(alloc, MOST_ATOMS)?;
+    for number in 0..33_u8 {
+        atoms.push(Atom {
+            range: stated_range(facts, number),
+            split: None,
+        })?;
+    }
+    for place in 0..8_usize {
+        atoms.push(Atom {
+            range: passed_range(parameters.param(place)),
+            split: None,
+        })?;
+    }
+    Ok(atoms)
+}
+
+/// The greater register's atom is split into the lesser one's and a new one, which is what lies between them; not where its
+/// range lies below the lesser one's.
+#[tactic(auto, unfolding(crate::specs::Orders::with_order, crate::specs::Numbers::with_split))]
+fn add_order<A: Allocator>(atoms: &mut Vec<Atom, A>, order: OrderFact)
+    requires greater { order.greater < length atoms.old.items }
+    requires few { length atoms.old.items < MOST_ATOMS }
+    requires room { MOST_ATOMS ≤ vec_capacity atoms.old }
+    ensures atoms { atoms.new.items ≡ with_order atoms.old.items order }
+    ensures count { length atoms.new.items ≤ length atoms.old.items + 1 }
+    ensures grows { length atoms.old.items ≤ length atoms.new.items }
+    ensures room { MOST_ATOMS ≤ vec_capacity atoms.new }
+{
+    let table = Atoms {
+        atoms: atoms.as_slice(),
+        first: None,
+        second: None,
+    };
+    let greater = table.range(u16::from(order.greater));
+    let lesser = table.range(u16::from(order.lesser));
+    if lesser.lo <= greater.hi {
+        let second = atoms.len() as u16;
+        let range = Range {
+            lo: greater.lo.saturating_sub(lesser.hi),
+            hi: greater.hi - lesser.lo,
+        };
+        atoms.push(Atom { range, split: None }).unwrap();
+        atoms[usize::from(order.greater)].split = Some(Split {
+            first: u16::from(order.lesser),
+            second,
+        });
+    }
+}
+
+/// The atoms where all orders hold.
+fn add_orders<A: Allocator>(atoms: &mut Vec<Atom, A>, orders: &[OrderFact])
+    requires greater { AllByRecursion (λ order. order.greater < 33) orders.now }
+    requires many { 33 ≤ length atoms.old.items }
+    requires few { length atoms.old.items + length orders.now ≤ 73 }
+    requires room { MOST_ATOMS ≤ vec_capacity atoms.old }
+    ensures atoms { atoms.new.items ≡ with_orders atoms.old.items orders.now }
+    ensures count { length atoms.new.items ≤ length atoms.old.items + length orders.now }
+    ensures room { MOST_ATOMS ≤ vec_capacity atoms.new }
+{
+    for order in orders {
+        add_order(atoms, *order);
+    }
+}
+
+/// The forms of registers and vl where these facts hold.
+fn start_forms<A: Allocator>(
+    alloc: A,
+    facts: &[RegisterFact],
+) -> Result<Vec<Form<8>, A>, AllocError>
+    requires { AllByRecursion HasForm facts.now }
+    ensures { IfOk result (λ forms.
+        forms.items ≡ map (stated_form_of facts.now) (range_with_len 0 33)) }
+{
+    let mut forms = Vec::with_capacity(alloc, 33)?;
+    for number in 0..33_u8 {
+        forms.push(stated_form(facts, number))?;
+    }
+    Ok(forms)
+}
+
+/// The ranges of registers and vl where these facts hold.
+fn start_ranges(atoms: &Atoms<'_>, forms: &[Form<8>], facts: &[RegisterFact]) -> [Range; 33]
+    requires { forms.now ≡ map (stated_form_of facts.now) (range_with_len 0 33) }
+    ensures { result ≡ map
+        (λ i. computed_range_of (Some (stated_range_of facts.now i))
+        (range_of_form atoms.now (stated_form_of facts.now i)))
+        (range_with_len 0 33) }
+{
+    let mut ranges = [Range::FULL; 33];
+    for number in 0..33_usize {
+        ranges[number] = computed_range(
+            Some(stated_range(facts, number as u8)),
+            forms[number].range_of(atoms),
+        );
+    }
+    ranges
+}
+
+/// What an argument register holds at the start of a run.
+#[tactic(auto, unfolding(crate::specs::Starts::passed_form))]
+fn passed_form(parameters: &Parameters, place: usize) -> Form<8>
+    requires { place < 8 }
+    ensures { result ≡ passed_form_of parameters.now place (slice_get parameters.now place) }
+{
+    match parameters.param(place) {
+        Param::None => Form::number(0),
+        Param::Scalar { lo: _, hi: _ } => Form::atom(33 + place as u16),
+        Param::Buffer { mode: _, size: _ } => Form::number(parameters.address(place).unwrap_or(0)),
+    }
+}
+
+/// What a register (0 to 31) or vl (32) holds at the start of a run.
+#[tactic(auto, unfolding(crate::specs::Starts::entry_form))]
+fn entry_form(parameters: &Parameters, number: usize) -> Form<8>
+    ensures { result ≡ entry_form_of parameters.now number }
+{
+    if number == 1 {
+        Form::number(EXIT)
+    } else if number == 2 {
+        Form::number(STACK_END)
+    } else if 10 <= number && number < 18 {
+        passed_form(parameters, number - 10)
+    } else {
+        Form::number(0)
+    }
+}
+
+/// The forms of registers and vl at the start of a run.
+fn entry_forms<A: Allocator>(
+    alloc: A,
+    parameters: &Parameters,
+) -> Result<Vec<Form<8>, A>, AllocError>
+    ensures { IfOk result (λ forms.
+        forms.items ≡ map (entry_form_of parameters.now) (range_with_len 0 33)) }
+{
+    let mut forms = Vec::with_capacity(alloc, 33)?;
+    for number in 0..33_usize {
+        forms.push(entry_form(parameters, number))?;
+    }
+    Ok(forms)
+}
+
+/// The ranges of these forms.
+fn form_ranges(atoms: &Atoms<'_>, forms: &[Form<8>]) -> [Range; 33]
+    requires { length forms.now ≡ 33 }
+    ensures { result
+        ≡ map (λ form. computed_range_of None (range_of_form atoms.now form)) forms.now }
+{
+    let mut ranges = [Range::FULL; 33];
+    for (place, form) in forms.iter().enumerate() {
+        ranges[place] = computed_range(None, form.range_of(atoms));
+    }
+    ranges
+}
+
+/// The numbers of registers and vl where these facts and orders hold.
+#[tactic(auto, unfolding(crate::specs::Starts::start_numbers, crate::specs::Starts::numbers_by))]
+pub fn start_numbers<A: Allocator>(
+    alloc: A,
+    parameters: &Parameters,
+    facts: &[RegisterFact],
+    orders: &[OrderFact],
+) -> Result<Numbers<A>, AllocError>
+where
+    A: Copy,
+    requires forms { AllByRecursion HasForm facts.now }
+    requires greater { AllByRecursion (λ order. order.greater < 33) orders.now }
+    requires few { length orders.now ≤ 32 }
+    ensures numbers { IfOk result (λ numbers.
+        numbers ≡ start_numbers_of parameters.now facts.now orders.now) }
+    ensures few { IfOk result (λ numbers. length numbers.atoms ≤ 73) }
+{
+    let mut atoms = start_atoms(alloc, parameters, facts)?;
+    add_orders(&mut atoms, orders);
+    let forms = start_forms(alloc, facts)?;
+    let table = Atoms {
+        atoms: atoms.as_slice(),
+        first: None,
+        second: None,
+    };
+    let ranges = start_ranges(&table, forms.as_slice(), facts);
+    Ok(Numbers::by(atoms, forms, ranges))
+}
+
+/// The numbers of registers and vl at the start of a run.
+#[tactic(auto, unfolding(crate::specs::Starts::entry_numbers, crate::specs::Starts::numbers_by))]
+pub fn entry_numbers<A: Allocator>(
+    alloc: A,
+    parameters: &Parameters,
+) -> Result<Numbers<A>, AllocError>
+where
+    A: Copy,
+    ensures numbers { IfOk result (λ numbers. numbers ≡ entry_numbers_of parameters.now) }
+    ensures few { IfOk result (λ numbers. length numbers.atoms ≡ 41) }
+{
+    let atoms = start_atoms(alloc, parameters, &[])?;
+    let forms = entry_forms(alloc, parameters)?;
+    let table = Atoms {
+        atoms: atoms.as_slice(),
+        first: None,
+        second: None,
+    };
+    let ranges = form_ranges(&table, forms.as_slice());
+    Ok(Numbers::by(atoms, forms, ranges))
+}

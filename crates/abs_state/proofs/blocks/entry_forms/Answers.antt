@@ -1,8 +1,0 @@
-use Rattle.abs_state.specs.Blocks.{entry_form}
-use Rattle.abs_state.proofs.StartForms.{pushed_more}
-use Rattle.abs_state.proofs.blocks.entry_forms.Goals as goal
-
-pub loop-number-preserved : goal.loop-number-preserved
-loop-number-preserved g c =
-    pushed_more (entry_form c.args.parameters.now) c.loop-number.number _ _ _ c.loop-number.invariant c.entry_form.ensures
-    c.in_ok-push.ensures.items

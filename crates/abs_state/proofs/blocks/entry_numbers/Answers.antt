@@ -1,7 +1,0 @@
-use Rattle.std.proofs.Common.{length, ap, ◌∙◌}
-use Rattle.abs_state.specs.Numbers.{NumbersView}
-use Rattle.abs_state.proofs.StartNumbers.{atoms_many}
-use Rattle.abs_state.proofs.blocks.entry_numbers.Goals as goal
-
-pub returns-clause-few : goal.returns-clause-few
-returns-clause-few g c = ap (λ (n : NumbersView). length n.atoms) c.by.ensures ∙ (ap length c.in_ok-atoms.ensures.items ∙ atoms_many _ _)

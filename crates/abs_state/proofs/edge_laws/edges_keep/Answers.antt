@@ -1,5 +1,0 @@
-use Rattle.abs_state.proofs.Ways.{edges-keep}
-use Rattle.abs_state.proofs.edge_laws.edges_keep.Goals as goal
-
-pub returns : goal.returns
-returns c = edges-keep

@@ -1,5 +1,0 @@
-use Rattle.abs_state.proofs.Ways.{straight-edges}
-use Rattle.abs_state.proofs.edge_laws.straight_edges.Goals as goal
-
-pub returns : goal.returns
-returns c = straight-edges

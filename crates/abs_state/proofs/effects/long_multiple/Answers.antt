@@ -1,7 +1,0 @@
--- The multiple is there, since it has room.
-use Rattle.std.proofs.Common.{sym, ◌∙◌}
-use Rattle.linear_facts.proofs.FormLaws.{within-is}
-use Rattle.abs_state.proofs.effects.long_multiple.Goals as goal
-
-pub returns : goal.returns
-returns c = within-is _ _ _ (sym c.scale.ensures.product ∙ c.unwrap.ensures)

@@ -1,5 +1,0 @@
-use Rattle.abs_state.proofs.Operations.{immediate_describes}
-use Rattle.abs_state.proofs.laws.immediate_effects.Goals as goal
-
-pub returns : goal.returns
-returns c = immediate_describes

@@ -1,5 +1,0 @@
-use Rattle.abs_state.proofs.States.{result_holds}
-use Rattle.abs_state.proofs.laws.results_hold.Goals as goal
-
-pub returns : goal.returns
-returns c = result_holds

@@ -1,5 +1,0 @@
-use Rattle.abs_state.proofs.Memories.{stores_kept}
-use Rattle.abs_state.proofs.laws.stores_keep_zones.Goals as goal
-
-pub returns : goal.returns
-returns c = stores_kept

@@ -1,8 +1,0 @@
--- At most two atoms are new.
-use Rattle.abs_state.proofs.Lengthened.{vset_grows}
-use Rattle.abs_state.proofs.numbers.Numbers.after_vset.Goals as goal
-
-pub returns-clause-grows : goal.returns-clause-grows
-returns-clause-grows g c =
-    vset_grows c.wanted-wanted.result.rd c.args.vlenb c.args.known c.wanted-wanted.result.length c.wanted-wanted.result.vtype c.args.self.now
-    c.set_length_in.new.self _ c.configure-set.ensures c.set_length_in.ensures

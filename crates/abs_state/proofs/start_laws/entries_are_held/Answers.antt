@@ -1,5 +1,0 @@
-use Rattle.abs_state.proofs.StartMachines.{entries-are_held}
-use Rattle.abs_state.proofs.start_laws.entries_are_held.Goals as goal
-
-pub returns : goal.returns
-returns c = entries-are_held

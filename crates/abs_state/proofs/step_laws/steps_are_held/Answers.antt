@@ -1,5 +1,0 @@
-use Rattle.abs_state.proofs.StepsHeld.{steps_held}
-use Rattle.abs_state.proofs.step_laws.steps_are_held.Goals as goal
-
-pub returns : goal.returns
-returns c = steps_held

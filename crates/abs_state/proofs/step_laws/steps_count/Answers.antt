@@ -1,5 +1,0 @@
-use Rattle.abs_state.proofs.Growth.{after_counts}
-use Rattle.abs_state.proofs.step_laws.steps_count.Goals as goal
-
-pub returns : goal.returns
-returns c = after_counts

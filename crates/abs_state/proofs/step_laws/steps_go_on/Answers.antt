@@ -1,5 +1,0 @@
-use Rattle.abs_state.proofs.StepMachines.{goes_on}
-use Rattle.abs_state.proofs.step_laws.steps_go_on.Goals as goal
-
-pub returns : goal.returns
-returns c = goes_on

@@ -1,5 +1,0 @@
-use Rattle.abs_state.proofs.LegalLemmas.{check_legal}
-use Rattle.abs_state.proofs.vector_laws.checks_are_legal.Goals as goal
-
-pub returns : goal.returns
-returns c = check_legal

@@ -1,5 +1,0 @@
-use Rattle.abs_state.proofs.StatedSteps.{steps_stated}
-use Rattle.abs_state.proofs.vector_laws.stated_are_true.Goals as goal
-
-pub returns : goal.returns
-returns c = steps_stated

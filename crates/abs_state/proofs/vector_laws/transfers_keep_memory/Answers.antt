@@ -1,5 +1,0 @@
-use Rattle.abs_state.proofs.Transfers.{transfers_kept}
-use Rattle.abs_state.proofs.vector_laws.transfers_keep_memory.Goals as goal
-
-pub returns : goal.returns
-returns c = transfers_kept

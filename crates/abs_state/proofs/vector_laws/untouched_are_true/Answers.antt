@@ -1,5 +1,0 @@
-use Rattle.abs_state.proofs.GroupLemmas.{untouched_are_true}
-use Rattle.abs_state.proofs.vector_laws.untouched_are_true.Goals as goal
-
-pub returns : goal.returns
-returns c = untouched_are_true

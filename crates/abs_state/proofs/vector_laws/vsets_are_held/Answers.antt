@@ -1,6 +1,0 @@
-use Rattle.abs_state.proofs.GroupLemmas.{cut_are_true}
-use Rattle.abs_state.proofs.Vsets.{vset_held}
-use Rattle.abs_state.proofs.vector_laws.vsets_are_held.Goals as goal
-
-pub returns : goal.returns
-returns c = vset_held cut_are_true

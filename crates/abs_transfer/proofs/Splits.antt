@@ -1,0 +1,240 @@
+-- What is known stays right where vl gets a new number, and where an atom is split into two others.
+use Rattle.std.proofs.Common.{◌≡◌, ◌≢◌, ◌<◌, ◌+◌, ◌-◌, ℕ, Bool, true, false, arith, refl, sym, ap, ◌∙◌, subst, inl, inr, length, List, [], ◌∷◌, ◌++◌, get_or-set_same, get_or-set_other, Option, Some, None}
+use Rattle.std.specs.Prelude.{if◌then◌else◌, ◌==◌, min}
+use Rattle.std.proofs.lemmas.Bool.{cases_eq}
+use Rattle.std.proofs.lemmas.Bool.Decides.{nat_tests}
+use Rattle.std.proofs.Math.ListN.{length-set}
+use Rattle.linear_facts.specs.declared.forms.Term.{Term}
+use Rattle.linear_facts.specs.declared.ranges.Range.{Range}
+use Rattle.linear_facts.specs.declared.ranges.Atom.{Atom}
+use Rattle.linear_facts.specs.declared.ranges.Split.{Split}
+use Rattle.linear_facts.specs.Forms.{atom_form}
+use Rattle.linear_facts.specs.Laws.{AreBelow}
+use Rattle.linear_facts.specs.Ranges.{AgreesWith, atom_at, range_at, split_at}
+use Rattle.vreg_groups.specs.declared.vector_length.Vconfig.{Vconfig}
+use Rattle.scalar_core.specs.Hart.{Hart}
+use Rattle.abs_domain.specs.Values.{ValueView}
+use Rattle.abs_domain.specs.Numbers.{NumbersView, plain, value_at, with_atom, with_fresh, with_value}
+use Rattle.abs_domain.specs.Described.{LiesIn, IsNumber}
+use Rattle.abs_domain.specs.Holds.{number_of, table_with, AreSplitsBelow, Holds, Follows}
+use Rattle.abs_domain.specs.Numbers.{atom_of_terms, whole_atom}
+use Rattle.abs_domain.specs.Numbers.{with_split}
+use Rattle.abs_transfer.specs.Vset.{split_into, limited_by, limited, lesser_range, excess_range}
+use Rattle.abs_domain.proofs.States.{atom_holds, atom_number, length_push, number_here, number_there, other_value, this_value, with_number}
+use Rattle.abs_domain.proofs.States.{whole_is}
+
+-- ---- vl
+
+-- vl is not a register
+registers_stay : (i : ℕ) (h : Hart) (config next : Vconfig) → i ≢ 32 → number_of i h next ≡ number_of i h config
+registers_stay i h config next ne = grind (arith, nat_tests)
+
+-- vl gets a number that is known
+pub length_holds : (s : NumbersView) (v : ℕ → ℕ) (h : Hart) (config next : Vconfig) (a : ValueView) → Holds s v h config
+    → IsNumber (length s.atoms) v a next.vl → Holds (with_value 32 a s) v h next
+unfolding with_value
+length_holds s v h config next a holds number =
+    record {
+      atoms = holds.atoms;
+      splits = holds.splits;
+      forms = length-set s.forms 32 a.form ∙ holds.forms;
+      ranges = length-set s.ranges 32 a.range ∙ holds.ranges;
+      each = λ i below. elim (cases_eq i 32) [
+        | inl e ↦ rw (e, this_value s 32 a (omega (arith, holds.forms)) (omega (arith, holds.ranges))) number
+        | inr ne ↦ rw (other_value s 32 i a ne, registers_stay i h config next ne) (holds.each i below)
+      ];
+    }
+
+-- vl gets a new atom
+pub fresh_length : (s : NumbersView) (v : ℕ → ℕ) (h : Hart) (config next : Vconfig) (r : Range) → Holds s v h config → LiesIn r next.vl
+    → Follows s (with_fresh 32 r s) v h next
+unfolding with_fresh with_value
+fresh_length s v h config next r holds lies =
+    let n = length s.atoms in
+    let w = with_number v n next.vl in
+    record {
+      numbers = w;
+      same = λ a below. number_there v n next.vl a (omega (arith, below));
+      grows = omega (arith, length_push s.atoms (plain r));
+      holds =
+          length_holds (with_atom r s) w h config next (record { form = atom_form n; range = r }) (atom_holds s v h config r next.vl holds lies)
+          (atom_number n (length (s.atoms ++ plain r ∷ [])) w r next.vl (length_push s.atoms (plain r)) (number_here v n next.vl) lies);
+    }
+
+-- vl stays
+pub same_length : (s : NumbersView) (v : ℕ → ℕ) (h : Hart) (config next : Vconfig) → Holds s v h config → next.vl ≡ config.vl
+    → Holds s v h next
+same_length s v h config next holds e =
+    record {
+      atoms = holds.atoms;
+      splits = holds.splits;
+      forms = holds.forms;
+      ranges = holds.ranges;
+      each = λ i below. elim (cases_eq i 32) [
+        | inl is ↦ rw (is, e) (holds.each 32 (omega arith))
+        | inr ne ↦ rw (registers_stay i h config next ne) (holds.each i below)
+      ];
+    }
+
+-- ---- a split
+
+module _ (atoms : List Atom) (a : ℕ) (p : Split) where
+  pub atom_other : (b : ℕ) → b ≢ a → atom_at (table_with (with_split a p atoms)) b ≡ atom_at (table_with atoms) b
+  unfolding atom_at with_split
+  atom_other b ne = get_or-set_other atoms a b _ _ ne
+
+  split_other : (b : ℕ) → b ≢ a → split_at (table_with (with_split a p atoms)) b ≡ split_at (table_with atoms) b
+  unfolding split_at
+  split_other b ne = ap (λ (k : Atom). k.split) (atom_other b ne)
+
+  pub atom_here : a < length atoms
+      → atom_at (table_with (with_split a p atoms)) a ≡ record { range = (atom_at (table_with atoms) a).range; split = Some p }
+  unfolding atom_at with_split
+  atom_here l = get_or-set_same atoms a _ _ l
+
+  split_here : a < length atoms → split_at (table_with (with_split a p atoms)) a ≡ Some p
+  unfolding split_at
+  split_here l = ap (λ (k : Atom). k.split) (atom_here l)
+
+  range_stays : (b : ℕ) → a < length atoms → range_at (table_with (with_split a p atoms)) b ≡ range_at (table_with atoms) b
+  unfolding range_at
+  range_stays b l = elim (cases_eq b a) [
+    | inl e ↦ rw e (ap (λ (k : Atom). k.range) (atom_here l))
+    | inr ne ↦ ap (λ (k : Atom). k.range) (atom_other b ne)
+  ]
+
+same_split : (p q : Split) → Some p ≡ Some q → p ≡ q
+same_split p q e = cc
+
+-- an atom that is the sum of two others may be split into them
+split_agrees : (atoms : List Atom) (v : ℕ → ℕ) (a : ℕ) (p : Split) → a < length atoms → AgreesWith (table_with atoms) v
+    → v a ≡ v p.first + v p.second → AgreesWith (table_with (with_split a p atoms)) v
+split_agrees atoms v a p l agrees e =
+    record {
+      fits = agrees.fits;
+      in_range = λ b. rw (range_stays atoms a p b l) (agrees.in_range b);
+      is_sum = λ b q f. elim (cases_eq b a) [
+        | inl here ↦
+            let k : p ≡ q = same_split p q (sym (split_here atoms a p l) ∙ (rw here at f)) in
+            rw (here, ← k) e
+        | inr ne ↦ agrees.is_sum b q (sym (split_other atoms a p b ne) ∙ f)
+      ];
+    }
+
+split_count : (a : ℕ) (p : Split) (atoms : List Atom) → length (with_split a p atoms) ≡ length atoms
+unfolding with_split
+split_count a p atoms = length-set atoms a _
+
+splits_stay : (atoms : List Atom) (a : ℕ) (p : Split) → a < length atoms → p.first < length atoms → p.second < length atoms
+    → AreSplitsBelow atoms → AreSplitsBelow (with_split a p atoms)
+splits_stay atoms a p l first second below b q e =
+    rw (split_count a p atoms)
+    (elim (cases_eq b a) [
+      | inl here ↦
+          let k : p ≡ q = same_split p q (sym (split_here atoms a p l) ∙ (rw here at e)) in
+          rw (← k) (first, second)
+      | inr ne ↦ below b q (sym (split_other atoms a p b ne) ∙ e)
+    ])
+
+split_holds : (s : NumbersView) (v : ℕ → ℕ) (h : Hart) (config : Vconfig) (a : ℕ) (p : Split) → a < length s.atoms
+    → p.first < length s.atoms → p.second < length s.atoms → v a ≡ v p.first + v p.second → Holds s v h config
+    → Holds (record s { atoms = with_split a p s.atoms }) v h config
+unfolding value_at
+split_holds s v h config a p l first second e holds =
+    record {
+      atoms = split_agrees s.atoms v a p l holds.atoms e;
+      splits = splits_stay s.atoms a p l first second holds.splits;
+      forms = holds.forms;
+      ranges = holds.ranges;
+      each = λ i below. subst (λ (n : ℕ). IsNumber n v (value_at s i) (number_of i h config)) (sym (split_count a p s.atoms)) (holds.each i below);
+    }
+
+-- ---- the lesser of a number and another
+
+-- an atom that is the sum of vl and of a rest is split into them
+into_holds : (s : NumbersView) (v : ℕ → ℕ) (h : Hart) (config next : Vconfig) (a y : ℕ) (r t : Range) → Holds s v h config
+    → a < length s.atoms → LiesIn r next.vl → LiesIn t y → v a ≡ next.vl + y → Follows s (limited_by (Some a) r t s) v h next
+unfolding limited_by split_into with_value
+into_holds s v h config next a y r t holds l p q e =
+    let n = length s.atoms in
+    let x : ℕ = next.vl in
+    let w = with_number v n x in
+    let one : List Atom = s.atoms ++ plain r ∷ [] in
+    let both : List Atom = one ++ plain t ∷ [] in
+    let longer : length one ≡ n + 1 = length_push s.atoms (plain r) in
+    let longest : length both ≡ n + 2 = omega (arith, length_push one (plain t), longer) in
+    let u = with_number w (length one) y in
+    let parts : Split = record { first = n; second = n + 1 } in
+    let old : (b : ℕ) → b < n → u b ≡ v b =
+    λ b below. number_there w (length one) y b (omega (arith, below, longer)) ∙ number_there v n x b (omega (arith, below)) in
+    let first_is : u n ≡ x = number_there w (length one) y n (omega (arith, longer)) ∙ number_here v n x in
+    let second_is : u (n + 1) ≡ y = ap u (sym longer) ∙ number_here w (length one) y in
+    let sum : u a ≡ u n + u (n + 1) = rw (old a l, first_is, second_is) e in
+    let grown : Holds (with_atom t (with_atom r s)) u h config =
+    atom_holds (with_atom r s) w h config t y (atom_holds s v h config r x holds p) q in
+    let split : Holds (record s { atoms = with_split a parts both }) u h config =
+    split_holds (with_atom t (with_atom r s)) u h config a parts (omega (arith, l, longest)) (omega (arith, longest)) (omega (arith, longest)) sum grown in
+    record {
+      numbers = u;
+      same = old;
+      grows = omega (arith, split_count a parts both, longest);
+      holds =
+          length_holds (record s { atoms = with_split a parts both }) u h config next (record { form = atom_form n; range = r }) split
+          (vl_number n (length (with_split a parts both)) u r x (omega (arith, split_count a parts both, longest)) first_is p);
+    }
+  where
+    vl_number : (n m : ℕ) (u : ℕ → ℕ) (r : Range) (x : ℕ) → m ≡ n + 2 → u n ≡ x → LiesIn r x
+        → IsNumber m u record { form = atom_form n; range = r } x
+    vl_number n m u r x e is lies =
+        let number = atom_number n (n + 1) u r x refl is lies in
+        record {
+          means = record { form = number.means.form; below = (omega (arith, e), tt); number = number.means.number };
+          lies = number.lies;
+        }
+
+-- the atom that a form is is one of those of which it speaks
+whole_below : (n c : ℕ) (ts : List Term) (a : ℕ) → (if c == 0 then atom_of_terms ts else None) ≡ Some a → AreBelow n ts → a < n
+whole_below n c [] a e below = by_test (c == 0) e
+  where
+    by_test : {P : Type 0} (t : Bool) → (if t then None else None) ≡ Some a → P
+    by_test true f = cc
+    by_test false f = cc
+whole_below n c (t ∷ []) a e below = by_test (c == 0) (t.coefficient == 1) e
+  where
+    by_test : (p q : Bool) → (if p then (if q then Some t.atom else None) else None) ≡ Some a → a < n
+    by_test true true f = (let is : t.atom ≡ a = cc in subst (λ (b : ℕ). b < n) is below.0)
+    by_test true false f = cc
+    by_test false q f = cc
+whole_below n c (t ∷ u ∷ ts) a e below = by_test (c == 0) e
+  where
+    by_test : {P : Type 0} (t : Bool) → (if t then None else None) ≡ Some a → P
+    by_test true f = cc
+    by_test false f = cc
+
+-- vl is the lesser of a number that is known and another one
+pub limited_holds : (s : NumbersView) (v : ℕ → ℕ) (h : Hart) (config next : Vconfig) (m : ℕ) (a : ValueView) (x : ℕ) → Holds s v h config
+    → IsNumber (length s.atoms) v a x → next.vl ≡ min x m → Follows s (limited m a s) v h next
+unfolding limited limited_by whole_atom
+limited_holds s v h config next m a x holds number is = by_atom (whole_atom a.form) refl
+  where
+    lesser : LiesIn (lesser_range m a.range) next.vl
+    lesser = record {
+      low = omega (arith, is, number.lies.low);
+      high = omega (arith, is, number.lies.high);
+      fits = omega (arith, number.lies.fits);
+    }
+
+    excess : LiesIn (excess_range m a.range) (x - m)
+    excess = record {
+      low = omega (arith, number.lies.low);
+      high = omega (arith, number.lies.high);
+      fits = omega (arith, number.lies.fits);
+    }
+
+    by_atom : (o : Option ℕ) → whole_atom a.form ≡ o → Follows s (limited_by o (lesser_range m a.range) (excess_range m a.range) s) v h next
+    by_atom None e = fresh_length s v h config next (lesser_range m a.range) holds lesser
+    by_atom (Some b) e =
+        let whole : x ≡ v b = number.means.number ∙ whole_is v a.form.constant a.form.terms b holds.atoms.fits e in
+        let below : b < length s.atoms = whole_below (length s.atoms) a.form.constant a.form.terms b e number.means.below in
+        into_holds s v h config next b (x - m) (lesser_range m a.range) (excess_range m a.range) holds below lesser excess
+        (omega (arith, whole, is))

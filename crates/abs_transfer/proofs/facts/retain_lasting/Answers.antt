@@ -1,0 +1,8 @@
+use Rattle.std.proofs.Common.{rules}
+use Rattle.std.proofs.lemmas.Fn.{filter_same}
+use Rattle.abs_transfer.specs.Facts.{is_lasting}
+use Rattle.abs_transfer.proofs.facts.retain_lasting.Goals as goal
+
+pub returns-clause-items : goal.returns-clause-items
+returns-clause-items g c =
+    filter_same _ (is_lasting c.args.least) _ (λ x b f' k. search rules) _ _ c.retain.ensures.filtered
