@@ -136,21 +136,81 @@ static void kept(void) {
     rvvbox_free(&handle);
 }
 
-/* Each allocation of an acceptance is refused once: want of memory, and nothing kept. Then none is refused */
-static void want_of_memory_for_a_handle(void) {
+/* The kept kernel runs, and leaves the words as they were expected */
+static void runs_well(struct rvvbox_handle *handle) {
+    EXPECT(run_kept(handle, 8) == RVVBOX_DONE && steps == 2002 && !memcmp(words, expected, sizeof words));
+    memcpy(words, before, sizeof words);
+}
+
+/* Lets go what is kept, for which no memory is asked for */
+static void let_go(struct rvvbox_handle *handle) {
+    refused = 0;
+    rvvbox_free(handle);
+    EXPECT(refused == 0 && !handle->at);
+    refused = -1;
+}
+
+/* Each allocation of an acceptance and of the run that follows is refused once: want of memory in that call, and words as they were. The
+ * handle can be used afterwards, in the same way as if nothing had been refused, until it is let go */
+static void want_of_memory_by_handle(void) {
     struct rvvbox_handle handle = {0};
     struct rvvbox_refusal refusal;
-    long given = 0;
+    long given = 0, in_runs = 0;
     for (;; given++) {
         refused = given;
-        uint32_t status = rvvbox_accept(image, size, 128, &handle, &refusal);
+        uint32_t accepted = rvvbox_accept(image, size, 128, &handle, &refusal);
+        uint32_t ran = run_kept(&handle, 8);
         int was_refused = refused < 0;
         refused = -1;
         if (!was_refused) break;
-        EXPECT(status == RVVBOX_NO_MEMORY && !handle.at);
+        EXPECT(refusal.status == accepted && !memcmp(words, before, sizeof words));
+        if (accepted == RVVBOX_DONE) {
+            in_runs++;
+            EXPECT(handle.at && ran == RVVBOX_NO_MEMORY);
+        } else {
+            EXPECT(accepted == RVVBOX_NO_MEMORY && !handle.at && ran == RVVBOX_NOTHING_KEPT);
+            EXPECT(rvvbox_accept(image, size, 128, &handle, &refusal) == RVVBOX_DONE);
+        }
+        runs_well(&handle);
+        let_go(&handle);
     }
-    EXPECT(given > 5 && handle.at);
-    rvvbox_free(&handle);
+    EXPECT(in_runs > 2 && given - in_runs > 2 && !memcmp(words, expected, sizeof words));
+    memcpy(words, before, sizeof words);
+    let_go(&handle);
+}
+
+/* Each allocation of an acceptance is refused once, while the handle keeps a kernel: it keeps that one, which runs as before */
+static void want_of_memory_in_place(void) {
+    struct rvvbox_handle handle = {0};
+    struct rvvbox_refusal refusal;
+    EXPECT(rvvbox_accept(image, size, 128, &handle, &refusal) == RVVBOX_DONE);
+    for (long given = 0;; given++) {
+        uint8_t *at = handle.at;
+        refused = given;
+        uint32_t accepted = rvvbox_accept(image, size, 128, &handle, &refusal);
+        int was_refused = refused < 0;
+        refused = -1;
+        if (!was_refused) break;
+        EXPECT(accepted == RVVBOX_NO_MEMORY && handle.at == at);
+        runs_well(&handle);
+    }
+    runs_well(&handle);
+    let_go(&handle);
+}
+
+/* Each allocation of a try is refused once: want of memory, and nothing changed. Then none is refused, and the run has ended */
+static void want_of_memory_in_a_try(void) {
+    struct rvvbox_stopped stopped;
+    for (long given = 0;; given++) {
+        refused = given;
+        uint32_t status = rvvbox_try(image, size, &setting, words, sizeof words, places, 8, &stopped);
+        int was_refused = refused < 0;
+        refused = -1;
+        if (!was_refused) break;
+        EXPECT(status == RVVBOX_NO_MEMORY && !memcmp(words, before, sizeof words));
+    }
+    EXPECT(stopped.steps == 2002 && !memcmp(words, expected, sizeof words));
+    memcpy(words, before, sizeof words);
 }
 
 /* Each allocation of a run is refused once: want of memory, and nothing changed. Then none is refused, and the run is done */
@@ -179,7 +239,9 @@ int main(void) {
     told_and_tried();
     two_runs();
     kept();
+    want_of_memory_by_handle();
+    want_of_memory_in_place();
+    want_of_memory_in_a_try();
     want_of_memory();
-    want_of_memory_for_a_handle();
     return 0;
 }

@@ -3,7 +3,7 @@ import os
 import re
 import shutil
 import subprocess
-import unittest
+import sys
 from functools import lru_cache
 from pathlib import Path
 
@@ -20,10 +20,9 @@ def sources():
 
 @lru_cache(maxsize=None)
 def archives():
-    """The library, made by `rt lib` where it is not there yet, and the kit's C. A machine without the kit tells so."""
+    """The library, made by `rt lib` where it is not there yet, and the kit's C. A test fails where there is no kit."""
     rt = shutil.which('rt')
-    if rt is None:
-        raise unittest.SkipTest('rt, the command of the Rattle kit, is not on the PATH: no library to link')
+    assert rt, 'rt, the command of the Rattle kit, is not on the PATH: no library to link'
     made = subprocess.run([rt, 'lib'], cwd=CRATE, capture_output=True, text=True)
     library = CRATE / 'out' / 'librvvbox_c.a'
     assert made.returncode == 0 and library.exists(), made.stdout[-500:] + made.stderr[-500:]
@@ -40,9 +39,18 @@ def ran(words, **how):
     return subprocess.run(words, capture_output=True, timeout=60, **how)
 
 
+@lru_cache(maxsize=None)
+def valgrind():
+    """Where valgrind is, if it is installed. Where it is not, that is told once."""
+    found = shutil.which('valgrind')
+    if found is None:
+        print('valgrind is not installed: what is leaked or misused goes unseen', file=sys.stderr)
+    return found
+
+
 def under_valgrind(program):
     """The words that run a program, under valgrind where it is installed."""
-    found = shutil.which('valgrind')
+    found = valgrind()
     words = ['--quiet', '--error-exitcode=99', '--leak-check=full', '--show-leak-kinds=all', '--errors-for-leak-kinds=all']
     return [found, *words, program] if found else [program]
 
