@@ -25,7 +25,7 @@ abbrev pub offset_of : List ℕ → ℕ → ℕ
 offset_of file number = e_phoff file + 32 * number
 
 -- the header with a number
-abbrev pub header_at : List ℕ → ℕ → ProgramHeader
+unfoldable pub header_at : List ℕ → ℕ → ProgramHeader
 header_at file number = program_header_at (offset_of file number) file
 
 -- What is told is the header with this number: where it begins, and the numbers that stand in the file there.
@@ -36,7 +36,7 @@ pub record IsHeader (file : List ℕ) (n : ℕ) (h : Header) : Type 0 where
   pub fields : fields_of h ≡ header_at file n
 
 -- a header breaks a rule, in a file of this size
-abbrev pub breaks : SegmentRule → ℕ → ProgramHeader → Bool
+unfoldable pub breaks : SegmentRule → ℕ → ProgramHeader → Bool
 breaks rule.Static size h = is_dynamic h
 breaks rule.InFile size h = is_out_of_file size h
 breaks rule.InPlace size h = is_segment h && is_out_of_place h
@@ -77,13 +77,20 @@ AreApart file count = (n : ℕ) → n < count → is_segment (header_at file n) 
 
 -- ---- how they are told
 
-abbrev pub header_text : Header → List ℕ
-header_text h = codes "  program header " ++ (decimal h.number ++ (codes ", at byte "
-    ++ (decimal h.offset ++ (codes " of the file:\n  p_type " ++ (decimal h.p_type
-    ++ (codes ", p_offset " ++ (decimal h.p_offset ++ (codes ", p_vaddr "
-    ++ (address_text h.p_vaddr ++ (codes "\n  p_filesz " ++ (decimal h.p_filesz
-    ++ (codes ", p_memsz " ++ (decimal h.p_memsz ++ (codes ", p_flags " ++ (decimal h.p_flags
-    ++ codes "\n")))))))))))))))
+abbrev pub place_line : Header → List ℕ
+place_line h = codes "  program header " ++ (decimal h.number ++ (codes " at byte "
+    ++ (decimal h.offset ++ codes " of the file:\n")))
+
+abbrev pub address_line : Header → List ℕ
+address_line h = codes "  p_type " ++ (decimal h.p_type ++ (codes ", p_offset "
+    ++ (decimal h.p_offset ++ (codes ", p_vaddr " ++ (address_text h.p_vaddr ++ codes "\n")))))
+
+abbrev pub size_line : Header → List ℕ
+size_line h = codes "  p_filesz " ++ (decimal h.p_filesz ++ (codes ", p_memsz "
+    ++ (decimal h.p_memsz ++ (codes ", p_flags " ++ (decimal h.p_flags ++ codes "\n")))))
+
+unfoldable pub header_text : Header → List ℕ
+header_text h = place_line h ++ (address_line h ++ size_line h)
 
 abbrev pub rule_text : SegmentRule → List ℕ
 rule_text rule.Static = codes "  wanted: no p_type of 2, 3 or 7\n  remedy: link with -static\n"

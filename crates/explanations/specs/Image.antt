@@ -164,18 +164,25 @@ wanted field.HeaderSize value = codes "  wanted: 52\n"
 wanted field.EntrySize value = codes "  wanted: 32\n"
 wanted field.EntryCount value = codes "  wanted: 1 to 64\n"
 
+abbrev pub large_wanted : List ℕ
+large_wanted =
+    codes "  wanted: at most 4194304, at most 16 segments, and at most 16777216 bytes of memory\n"
+
+abbrev pub field_line : ElfField → ℕ → ℕ → List ℕ
+field_line f offset value = codes "  " ++ (field_name f ++ (codes " at byte "
+    ++ (decimal offset ++ (codes " of the file: " ++ (decimal value ++ (codes " ("
+    ++ (address_text value ++ codes ")\n")))))))
+
 -- the lines of a reason
 abbrev pub image_text : ImageReason → List ℕ
 image_text reason.Untold = []
 image_text (reason.Short size) = codes "  size of the file: "
     ++ (decimal size ++ codes "\n  wanted: at least 52, an ELF header\n")
-image_text (reason.Field f offset value) = codes "  " ++ (field_name f ++ (codes " at byte "
-    ++ (decimal offset ++ (codes " of the file: " ++ (decimal value ++ (codes " ("
-    ++ (address_text value ++ (codes ")\n" ++ wanted f value))))))))
+image_text (reason.Field f offset value) = field_line f offset value ++ wanted f value
 image_text (reason.Segment broken header) = header_text header ++ rule_text broken
 image_text (reason.Overlap first second) =
     header_text first ++ (header_text second ++ codes "  wanted: no address of both\n")
-image_text (reason.Large size) = codes "  size of the file: " ++ (decimal size
-    ++ codes "\n  wanted: at most 4194304, 16 segments, and 16777216 in memory\n")
+image_text (reason.Large size) =
+    codes "  size of the file: " ++ (decimal size ++ (codes "\n" ++ large_wanted))
 image_text reason.Certificates = codes "  wanted: one note with a certificate\n"
 image_text reason.CertificateThere = codes "  wanted: an image without a certificate\n"

@@ -56,7 +56,8 @@ pub(crate) fn word(file: &[u8], offset: usize) -> u32
 
 /// Whether the ELF header and the table of program headers lie in the file, and the table has at most 64 headers.
 pub(crate) fn has_table(file: &[u8]) -> bool
-    ensures { result ≡ true → HasTable file.now }
+    ensures yes { result ≡ true → HasTable file.now }
+    ensures no { result ≡ false → ¬ (HasTable file.now) }
 {
     if file.len() < 52 {
         return false;
@@ -67,6 +68,7 @@ pub(crate) fn has_table(file: &[u8]) -> bool
 }
 
 /// The program header with a number.
+#[tactic(auto, unfolding(crate::specs::Headers::header_at))]
 fn header_at(file: &[u8], number: usize) -> Header
     requires table { HasTable file.now }
     requires there { number < e_phnum file.now }
@@ -128,6 +130,7 @@ fn is_out_of_file(size: u64, header: &Header) -> bool
 }
 
 /// Whether a header breaks a rule, in a file of this size.
+#[tactic(auto, unfolding(crate::specs::Headers::breaks))]
 fn breaks(rule: SegmentRule, size: u64, header: &Header) -> bool
     ensures { result ≡ breaks rule size (fields_of header.now) }
 {
@@ -190,31 +193,74 @@ pub(crate) fn first_overlap(file: &[u8]) -> Option<(Header, Header)>
     None
 }
 
+/// The line that tells which header it is.
+#[derive(Clone, Copy)]
+struct PlaceLine(Header);
+
+impl fmt::Display for PlaceLine {
+    ghost use Rattle.std.specs.Prelude.{Some};
+    ghost use Rattle.explanations.specs.Headers.{place_line};
+
+    ghost output = { λ line. Some (place_line line.0) };
+
+    fn fmt<W: fmt::Write>(&self, f: &mut fmt::Formatter<W>) -> fmt::Result {
+        let Header { number, offset, .. } = self.0;
+        writeln!(f, "  program header {number} at byte {offset} of the file:")
+    }
+}
+
+/// The line that tells its type, its offset and its address.
+#[derive(Clone, Copy)]
+struct AddressLine(Header);
+
+impl fmt::Display for AddressLine {
+    ghost use Rattle.std.specs.Prelude.{Some};
+    ghost use Rattle.explanations.specs.Headers.{address_line};
+
+    ghost output = { λ line. Some (address_line line.0) };
+
+    fn fmt<W: fmt::Write>(&self, f: &mut fmt::Formatter<W>) -> fmt::Result {
+        let Header {
+            p_type, p_offset, ..
+        } = self.0;
+        let address = Address(self.0.p_vaddr);
+        writeln!(f, "  p_type {p_type}, p_offset {p_offset}, p_vaddr {address}")
+    }
+}
+
+/// The line that tells its sizes and its flags.
+#[derive(Clone, Copy)]
+struct SizeLine(Header);
+
+impl fmt::Display for SizeLine {
+    ghost use Rattle.std.specs.Prelude.{Some};
+    ghost use Rattle.explanations.specs.Headers.{size_line};
+
+    ghost output = { λ line. Some (size_line line.0) };
+
+    fn fmt<W: fmt::Write>(&self, f: &mut fmt::Formatter<W>) -> fmt::Result {
+        let Header {
+            p_filesz,
+            p_memsz,
+            p_flags,
+            ..
+        } = self.0;
+        writeln!(f, "  p_filesz {p_filesz}, p_memsz {p_memsz}, p_flags {p_flags}")
+    }
+}
+
 impl fmt::Display for Header {
     ghost use Rattle.std.specs.Prelude.{Some};
     ghost use Rattle.explanations.specs.Headers.{header_text};
 
     ghost output = { λ header. Some (header_text header) };
 
+    #[tactic(auto, unfolding(crate::specs::Headers::header_text))]
     fn fmt<W: fmt::Write>(&self, f: &mut fmt::Formatter<W>) -> fmt::Result {
-        let Header {
-            number,
-            offset,
-            p_type,
-            p_offset,
-            p_vaddr,
-            p_filesz,
-            p_memsz,
-            p_flags,
-        } = *self;
-        let address = Address(p_vaddr);
-        write!(
-            f,
-            "  program header {number}, at byte {offset} of the file:
-  p_type {p_type}, p_offset {p_offset}, p_vaddr {address}
-  p_filesz {p_filesz}, p_memsz {p_memsz}, p_flags {p_flags}
-"
-        )
+        let place = PlaceLine(*self);
+        let address = AddressLine(*self);
+        let size = SizeLine(*self);
+        write!(f, "{place}{address}{size}")
     }
 }
 

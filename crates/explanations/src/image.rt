@@ -1,6 +1,6 @@
 //! Why a file is no image that runs: which number of it, where, and what is wanted there.
 ghost use Rattle.std.specs.Prelude.{◌≡◌, ◌≤◌, length};
-ghost use Rattle.explanations.specs.Image.{Tells, TellsOverlap, TellsSegment, flags_wanted, ident_field, number_in, offset_of, table_field, told_field, type_field, wanted};
+ghost use Rattle.explanations.specs.Image.{Tells, TellsOverlap, TellsSegment, flags_wanted, ident_field, number_in, offset_of, table_field, told_field, type_field, wanted, large_wanted};
 
 use crate::address::Address;
 use crate::headers;
@@ -276,6 +276,38 @@ fn wanted(field: ElfField, value: u32) -> &'static str
     }
 }
 
+/// What is wanted of a file and its memory.
+fn large_wanted() -> &'static str
+    ensures { result.now ≡ large_wanted }
+{
+    "  wanted: at most 4194304, at most 16 segments, and at most 16777216 bytes of memory\n"
+}
+
+/// The line that tells a field.
+#[derive(Clone, Copy)]
+struct FieldLine {
+    field: ElfField,
+    offset: usize,
+    value: u32,
+}
+
+impl fmt::Display for FieldLine {
+    ghost use Rattle.std.specs.Prelude.{Some};
+    ghost use Rattle.explanations.specs.Image.{field_line};
+
+    ghost output = { λ line. Some (field_line line.field line.offset line.value) };
+
+    fn fmt<W: fmt::Write>(&self, f: &mut fmt::Formatter<W>) -> fmt::Result {
+        let FieldLine {
+            field,
+            offset,
+            value,
+        } = *self;
+        let number = Address(value);
+        writeln!(f, "  {field} at byte {offset} of the file: {value} ({number})")
+    }
+}
+
 impl fmt::Display for ImageReason {
     ghost use Rattle.std.specs.Prelude.{Some};
     ghost use Rattle.explanations.specs.Image.{image_text};
@@ -293,21 +325,21 @@ impl fmt::Display for ImageReason {
                 offset,
                 value,
             } => {
-                let number = Address(value);
+                let line = FieldLine {
+                    field,
+                    offset,
+                    value,
+                };
                 let wanted = wanted(field, value);
-                write!(f, "  {field} at byte {offset} of the file: {value} ({number})\n{wanted}")
+                write!(f, "{line}{wanted}")
             }
             ImageReason::Segment { rule, header } => write!(f, "{header}{rule}"),
             ImageReason::Overlap { first, second } => {
                 write!(f, "{first}{second}  wanted: no address of both\n")
             }
             ImageReason::Large(size) => {
-                write!(
-                    f,
-                    "  size of the file: {size}
-  wanted: at most 4194304, 16 segments, and 16777216 in memory
-"
-                )
+                let wanted = large_wanted();
+                write!(f, "  size of the file: {size}\n{wanted}")
             }
             ImageReason::Certificates => writeln!(f, "  wanted: one note with a certificate"),
             ImageReason::CertificateThere => writeln!(f, "  wanted: an image without a certificate"),
