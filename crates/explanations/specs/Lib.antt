@@ -1,3 +1,4 @@
 pub mod Address
 pub mod Headers
 pub mod Image
+pub mod Certificate
