@@ -2,3 +2,4 @@ pub mod Address
 pub mod Headers
 pub mod Image
 pub mod Certificate
+pub mod Open

@@ -7,8 +7,10 @@ mod address;
 mod certificate;
 mod headers;
 mod image;
+mod open;
 
 pub use address::Address;
 pub use certificate::{CertificateReason, certificate_reason};
 pub use headers::{Header, SegmentRule};
 pub use image::{ElfField, ImageReason, image_reason};
+pub use open::{Given, OpenReason, open_reason};
