@@ -1,0 +1,5 @@
+pub mod Address
+pub mod Headers
+pub mod Image
+pub mod Certificate
+pub mod Open
