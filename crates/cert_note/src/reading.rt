@@ -9,22 +9,26 @@ use crate::fields;
 use crate::fields::{byte_at, expect, word_at};
 use crate::refusals::CertError;
 use crate::values::{
-    Block, Certificate, Contents, Equality, OrderFact, RegisterFact, Term, VectorFact, Version,
+    Block, Budget, Certificate, Contents, Equality, OrderFact, RegisterFact, Term, VectorFact,
+    Version,
 };
 use arrayvec::ArrayVec;
 use region_mem::Parameters;
 use std::alloc::Allocator;
 use vreg_groups::Vlen;
 
+/// Reads so many terms into `terms`, in place of what stood there.
 fn terms_at<'a>(
     parameters: &Parameters,
     count: u8,
     bytes: &'a [u8],
-) -> Result<(ArrayVec<Term, 8>, &'a [u8]), CertError>
+    terms: &mut ArrayVec<Term, 8>,
+) -> Result<&'a [u8], CertError>
     requires { count ≤ 8 }
-    ensures { Gives (λ x. (x.0.items, x.1.now)) result (terms_at parameters.now count 1 bytes.now) }
+    ensures { Gives (λ x. (terms.new.items, x.now)) result
+        (terms_at parameters.now count 1 bytes.now) }
 {
-    let mut terms = ArrayVec::new();
+    terms.clear();
     let mut from = 1;
     let mut rest = bytes;
     for _ in 0..count {
@@ -33,41 +37,40 @@ fn terms_at<'a>(
         from = term.atom as u16 + 1;
         rest = after;
     }
-    Ok((terms, rest))
+    Ok(rest)
 }
 
-#[tactic(auto, unfolding(crate::specs::Reading::sum_at))]
-fn sum_at<'a>(
-    parameters: &Parameters,
-    count: u8,
-    bytes: &'a [u8],
-) -> Result<(Equality, &'a [u8]), CertError>
-    ensures { Gives (λ x. (x.0, x.1.now)) result (sum_at parameters.now count bytes.now) }
-{
-    expect(count <= 8, CertError::Equality)?;
-    let (constant, rest) = word_at(bytes)?;
-    let (terms, rest) = terms_at(parameters, count, rest)?;
-    Ok((Equality { constant, terms }, rest))
-}
-
+/// Reads that there is no equality, which is one only where the interval says something.
 #[tactic(auto, unfolding(crate::specs::Reading::none_at))]
-fn none_at(low: u32, high: u32, bytes: &[u8]) -> Result<(Option<Equality>, &[u8]), CertError>
-    ensures { Gives (λ x. (x.0, x.1.now)) result (none_at low high bytes.now) }
+fn none_at<'a>(
+    low: u32,
+    high: u32,
+    bytes: &'a [u8],
+    equality: &mut Option<Equality>,
+) -> Result<&'a [u8], CertError>
+    ensures { Gives (λ x. (equality.new, x.now)) result (none_at low high bytes.now) }
 {
     expect(!fields::is_full_word(low, high), CertError::Fact)?;
-    Ok((None, bytes))
+    *equality = None;
+    Ok(bytes)
 }
 
-#[tactic(auto, unfolding(crate::specs::Reading::some_at))]
+/// Reads an equality of so many terms.
+#[tactic(auto, unfolding(crate::specs::Reading::some_at, crate::specs::Reading::sum_at))]
 fn some_at<'a>(
     parameters: &Parameters,
     count: u8,
     bytes: &'a [u8],
-) -> Result<(Option<Equality>, &'a [u8]), CertError>
-    ensures { Gives (λ x. (x.0, x.1.now)) result (some_at parameters.now count bytes.now) }
+    equality: &mut Option<Equality>,
+) -> Result<&'a [u8], CertError>
+    ensures { Gives (λ x. (equality.new, x.now)) result (some_at parameters.now count bytes.now) }
 {
-    let (sum, rest) = sum_at(parameters, count, bytes)?;
-    Ok((Some(sum), rest))
+    expect(count <= 8, CertError::Equality)?;
+    let (constant, rest) = word_at(bytes)?;
+    let mut terms = ArrayVec::new();
+    let rest = terms_at(parameters, count, rest, &mut terms)?;
+    *equality = Some(Equality { constant, terms });
+    Ok(rest)
 }
 
 #[tactic(auto, unfolding(crate::specs::Reading::equality_at))]
@@ -76,69 +79,74 @@ fn equality_at<'a>(
     low: u32,
     high: u32,
     bytes: &'a [u8],
-) -> Result<(Option<Equality>, &'a [u8]), CertError>
-    ensures { Gives (λ x. (x.0, x.1.now)) result (equality_at parameters.now low high bytes.now) }
+    equality: &mut Option<Equality>,
+) -> Result<&'a [u8], CertError>
+    ensures { Gives (λ x. (equality.new, x.now)) result
+        (equality_at parameters.now low high bytes.now) }
 {
     let (count, rest) = byte_at(bytes)?;
     if count == 255 {
-        none_at(low, high, rest)
+        none_at(low, high, rest, equality)
     } else {
-        some_at(parameters, count, rest)
+        some_at(parameters, count, rest, equality)
     }
 }
 
+/// Reads a fact on a register into `fact`, in place of what stood there.
 #[tactic(auto, unfolding(crate::specs::Reading::fact_at))]
 fn fact_at<'a>(
     parameters: &Parameters,
     from: u16,
     bytes: &'a [u8],
-) -> Result<(RegisterFact, &'a [u8]), CertError>
-    ensures { Gives (λ x. (x.0, x.1.now)) result (fact_at parameters.now from bytes.now) }
+    fact: &mut RegisterFact,
+) -> Result<&'a [u8], CertError>
+    ensures { Gives (λ x. (fact.new, x.now)) result (fact_at parameters.now from bytes.now) }
 {
     let (number, rest) = byte_at(bytes)?;
     expect(from <= number as u16 && number <= 32, CertError::Fact)?;
+    fact.number = number;
     let (low, rest) = word_at(rest)?;
+    fact.low = low;
     let (high, rest) = word_at(rest)?;
     expect(low <= high, CertError::Fact)?;
-    let (equality, rest) = equality_at(parameters, low, high, rest)?;
-    let fact = RegisterFact {
-        number,
-        low,
-        high,
-        equality,
-    };
-    Ok((fact, rest))
+    fact.high = high;
+    equality_at(parameters, low, high, rest, &mut fact.equality)
 }
 
+/// Reads so many facts on registers into `facts`, in place of what stood there.
 fn facts_at<'a>(
     parameters: &Parameters,
     count: u8,
     bytes: &'a [u8],
-) -> Result<(ArrayVec<RegisterFact, 32>, &'a [u8]), CertError>
+    facts: &mut ArrayVec<RegisterFact, 32>,
+) -> Result<&'a [u8], CertError>
     requires { count ≤ 32 }
-    ensures { Gives (λ x. (x.0.items, x.1.now)) result (facts_at parameters.now count 1 bytes.now) }
+    ensures { Gives (λ x. (facts.new.items, x.now)) result
+        (facts_at parameters.now count 1 bytes.now) }
 {
-    let mut facts = ArrayVec::new();
+    facts.clear();
     let mut from = 1;
     let mut rest = bytes;
     for _ in 0..count {
-        let (fact, after) = fact_at(parameters, from, rest)?;
+        let mut fact = RegisterFact::default();
+        rest = fact_at(parameters, from, rest, &mut fact)?;
         from = fact.number as u16 + 1;
         facts.push(fact);
-        rest = after;
     }
-    Ok((facts, rest))
+    Ok(rest)
 }
 
-fn vectors_at(
+/// Reads so many facts on vector registers into `facts`, in place of what stood there.
+fn vectors_at<'a>(
     vlen: Vlen,
     count: u8,
-    bytes: &[u8],
-) -> Result<(ArrayVec<VectorFact, 32>, &[u8]), CertError>
+    bytes: &'a [u8],
+    facts: &mut ArrayVec<VectorFact, 32>,
+) -> Result<&'a [u8], CertError>
     requires { count ≤ 32 }
-    ensures { Gives (λ x. (x.0.items, x.1.now)) result (vectors_at vlen count 0 bytes.now) }
+    ensures { Gives (λ x. (facts.new.items, x.now)) result (vectors_at vlen count 0 bytes.now) }
 {
-    let mut facts = ArrayVec::new();
+    facts.clear();
     let mut from = 0;
     let mut rest = bytes;
     for _ in 0..count {
@@ -147,7 +155,7 @@ fn vectors_at(
         facts.push(fact);
         rest = after;
     }
-    Ok((facts, rest))
+    Ok(rest)
 }
 
 #[tactic(auto, unfolding(crate::specs::Certificate::is_equated))]
@@ -212,15 +220,17 @@ fn order_at<'a>(
     Ok((OrderFact { greater, lesser }, rest))
 }
 
+/// Reads so many orders into `orders`, in place of what stood there.
 fn orders_at<'a>(
     facts: &[RegisterFact],
     count: u8,
     bytes: &'a [u8],
-) -> Result<(ArrayVec<OrderFact, 32>, &'a [u8]), CertError>
+    orders: &mut ArrayVec<OrderFact, 32>,
+) -> Result<&'a [u8], CertError>
     requires { count ≤ 32 }
-    ensures { Gives (λ x. (x.0.items, x.1.now)) result (orders_at facts.now count 1 bytes.now) }
+    ensures { Gives (λ x. (orders.new.items, x.now)) result (orders_at facts.now count 1 bytes.now) }
 {
-    let mut orders = ArrayVec::new();
+    orders.clear();
     let mut from = 1;
     let mut rest = bytes;
     for _ in 0..count {
@@ -229,9 +239,10 @@ fn orders_at<'a>(
         orders.push(order);
         rest = after;
     }
-    Ok((orders, rest))
+    Ok(rest)
 }
 
+/// Reads a block into `block`, in place of what stood there.
 #[tactic(auto, unfolding(crate::specs::Reading::block_at))]
 fn block_at<'a>(
     version: Version,
@@ -239,31 +250,48 @@ fn block_at<'a>(
     parameters: &Parameters,
     from: u64,
     bytes: &'a [u8],
-) -> Result<(Block, &'a [u8]), CertError>
-    ensures { Gives (λ x. (x.0, x.1.now)) result
+    block: &mut Block,
+) -> Result<&'a [u8], CertError>
+    ensures { Gives (λ x. (block.new, x.now)) result
         (block_at version vlen parameters.now from bytes.now) }
 {
     let (start, rest) = word_at(bytes)?;
     expect(fields::is_start(from, start), CertError::BlockOrder)?;
+    block.start = start;
     let (budget, rest) = fields::budget_at(version, rest)?;
+    block.budget = budget;
     let (vtype, rest) = fields::vtype_at(rest)?;
+    block.vtype = vtype;
     let (counts, rest) = fields::counts_at(version, rest)?;
-    let (registers, rest) = facts_at(parameters, counts.registers, rest)?;
-    let (vectors, rest) = vectors_at(vlen, counts.vectors, rest)?;
-    let (orders, rest) = orders_at(registers.as_slice(), counts.orders, rest)?;
-    expect(are_free(registers.as_slice()), CertError::Equality)?;
-    let block = Block {
-        start,
-        budget,
-        vtype,
-        registers,
-        vectors,
-        orders,
-    };
-    Ok((block, rest))
+    let rest = facts_at(parameters, counts.registers, rest, &mut block.registers)?;
+    let rest = vectors_at(vlen, counts.vectors, rest, &mut block.vectors)?;
+    let facts = block.registers.as_slice();
+    let rest = orders_at(facts, counts.orders, rest, &mut block.orders)?;
+    expect(are_free(facts), CertError::Equality)?;
+    Ok(rest)
 }
 
-/// The bytes behind the blocks, or the first fault in them. It takes no memory: of a block only its start is kept.
+/// A block without facts, into which another can be read.
+fn empty_block() -> Block {
+    let budget = Budget {
+        constant: 0,
+        factor: 0,
+        register: 0,
+        second_factor: 0,
+        second_register: 0,
+    };
+    Block {
+        start: 0,
+        budget,
+        vtype: None,
+        registers: ArrayVec::new(),
+        vectors: ArrayVec::new(),
+        orders: ArrayVec::new(),
+    }
+}
+
+/// The bytes behind the blocks, or the first fault in them. It takes no memory: each block is read in the place of the
+/// one before it.
 fn behind_blocks<'a>(
     version: Version,
     vlen: Vlen,
@@ -274,12 +302,12 @@ fn behind_blocks<'a>(
     ensures { Gives (λ x. x.now) result
         (rest_of (blocks_at version vlen parameters.now count 0 bytes.now)) }
 {
+    let mut block = empty_block();
     let mut from = 0;
     let mut rest = bytes;
     for _ in 0..count {
-        let (block, after) = block_at(version, vlen, parameters, from, rest)?;
+        rest = block_at(version, vlen, parameters, from, rest, &mut block)?;
         from = block.start as u64 + 1;
-        rest = after;
     }
     Ok(rest)
 }
@@ -295,14 +323,13 @@ fn blocks_at<'a, A: Allocator>(
     ensures { GivesOrNoMemory (λ x. (x.0.items, x.1.now)) result
         (blocks_at version vlen parameters.now count 0 bytes.now) }
 {
-    let mut blocks = Vec::new(alloc);
+    let mut blocks = Vec::with_capacity(alloc, count as usize)?;
     let mut from = 0;
     let mut rest = bytes;
     for _ in 0..count {
-        let (block, after) = block_at(version, vlen, parameters, from, rest)?;
+        let block = blocks.push_mut(empty_block())?;
+        rest = block_at(version, vlen, parameters, from, rest, block)?;
         from = block.start as u64 + 1;
-        blocks.push(block)?;
-        rest = after;
     }
     Ok((blocks, rest))
 }
