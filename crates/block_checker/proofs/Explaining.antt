@@ -16,11 +16,11 @@ use Rattle.cert_note.specs.declared.values.Block.{Block}
 use Rattle.cert_note.specs.Certificate.{AllFrom, CertificateView, IsBlock, IsCertificate, after_block}
 use Rattle.elf_image.specs.Image.{ImageView, code_at}
 use Rattle.rv_decode.specs.Decode.{meaning_of}
-use Rattle.abs_state.specs.declared.why.Why.{Why}
-use Rattle.abs_state.specs.declared.why.Why.TheVariants as why
+use Rattle.abs_domain.specs.declared.why.Why.{Why}
+use Rattle.abs_domain.specs.declared.why.Why.TheVariants as why
 use Rattle.abs_state.specs.State.{AbstractView}
 use Rattle.linear_facts.specs.declared.ranges.Range.{Range}
-use Rattle.abs_state.specs.Numbers.{value_at}
+use Rattle.abs_domain.specs.Numbers.{value_at}
 use Rattle.abs_state.specs.After.{after_of}
 use Rattle.abs_state.specs.Blocks.{at_block_of, at_entry_of}
 use Rattle.abs_state.specs.Branches.{EdgeView, refined}

@@ -18,13 +18,13 @@ use Rattle.vector_core.specs.Machine.{Machine}
 use Rattle.cert_note.specs.declared.values.Budget.{Budget}
 use Rattle.cert_note.specs.declared.values.Block.{Block}
 use Rattle.cert_note.specs.Certificate.{CertificateView, IsCertificate, IsBlock, AllFrom, after_block}
-use Rattle.abs_state.specs.declared.why.Why.{Why}
+use Rattle.abs_domain.specs.declared.why.Why.{Why}
 use Rattle.abs_state.specs.declared.state.Way.{Way}
 use Rattle.abs_state.specs.declared.state.Way.TheVariants.{To}
-use Rattle.abs_state.specs.Numbers.{NumbersView}
+use Rattle.abs_domain.specs.Numbers.{NumbersView}
 use Rattle.abs_state.specs.State.{AbstractView}
 use Rattle.abs_state.specs.After.{access_check, after_of, jump_way, passed, taken, vector_after, vset_after, way_of}
-use Rattle.abs_state.specs.Legal.{legal_check}
+use Rattle.abs_transfer.specs.Legal.{legal_check}
 use Rattle.abs_state.specs.Blocks.{at_block_of, at_entry_of}
 use Rattle.abs_state.specs.Branches.{EdgeView, refined}
 use Rattle.abs_state.specs.Edges.{implied_by}
@@ -34,7 +34,7 @@ use Rattle.abs_state.specs.EdgeLaws.{block_of, is_fork}
 use Rattle.abs_state.proofs.StepsHeld.{steps_held}
 use Rattle.abs_state.proofs.StepMachines.{goes_on, same_state}
 use Rattle.abs_state.proofs.StartMachines.{blocks-are_held, entries-are_held, setting_by, passed_by_them}
-use Rattle.abs_state.specs.BlockLaws.{ArePassed}
+use Rattle.abs_domain.specs.BlockLaws.{ArePassed}
 use Rattle.abs_state.specs.StartLaws.{IsSetting}
 use Rattle.abs_state.proofs.Growth.{after_counts}
 use Rattle.abs_state.proofs.EdgeLemmas.{edges-are_taken, implied-ends, implied-fits}

@@ -25,7 +25,7 @@ use Rattle.block_checker.specs.Sound.{IsWellBehaved, PassingRunsEnd, RunsEnd}
 use Rattle.block_checker.proofs.Finding.{both_first, both_second}
 use Rattle.block_checker.proofs.StepLaws.{Laws, budget_in}
 use Rattle.cert_note.specs.declared.values.Budget.{Budget}
-use Rattle.abs_state.proofs.StartForms.{budget_below, second_below, found_is}
+use Rattle.abs_domain.proofs.StartForms.{budget_below, second_below, found_is}
 use Rattle.block_checker.proofs.Runs.{passing-ends}
 use Rattle.block_checker.proofs.Bounds.{start-is, start-pc}
 

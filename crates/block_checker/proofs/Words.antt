@@ -13,7 +13,7 @@ use Rattle.vector_core.specs.MachineStep.{step, carry_out, unless_misaligned}
 use Rattle.vector_core.specs.Run.{has_ended}
 use Rattle.cert_note.specs.declared.values.Block.{Block}
 use Rattle.cert_note.specs.Certificate.{CertificateView}
-use Rattle.abs_state.specs.declared.why.Why.{Why}
+use Rattle.abs_domain.specs.declared.why.Why.{Why}
 use Rattle.abs_state.specs.State.{AbstractView}
 use Rattle.abs_state.specs.After.{after_of}
 use Rattle.abs_state.specs.Branches.{EdgeView, refined}

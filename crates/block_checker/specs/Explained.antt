@@ -5,7 +5,7 @@ use Rattle.std.specs.Option.{option_and_then, option_map, option_map_or}
 use Rattle.block_checker.specs.Words.{ImageView, Block, CertificateView, AbstractView}
 use Rattle.elf_image.specs.Image.{code_at}
 use Rattle.linear_facts.specs.declared.ranges.Range.{Range}
-use Rattle.abs_state.specs.Numbers.{value_at}
+use Rattle.abs_domain.specs.Numbers.{value_at}
 use Rattle.abs_state.specs.Blocks.{at_block_of, at_entry_of}
 use Rattle.block_checker.specs.declared.errors.CheckError.{CheckError}
 use Rattle.block_checker.specs.declared.explanation.Part.{Part}

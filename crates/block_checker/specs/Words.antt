@@ -7,4 +7,4 @@ pub use Rattle.cert_note.specs.Certificate.{CertificateView}
 pub use Rattle.cert_note.specs.declared.values.Block.{Block}
 pub use Rattle.abs_state.specs.State.{AbstractView}
 pub use Rattle.abs_state.specs.StepLaws.{jumps}
-pub use Rattle.abs_state.specs.declared.why.Why.{Why}
+pub use Rattle.abs_domain.specs.declared.why.Why.{Why}

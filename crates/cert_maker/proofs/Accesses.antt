@@ -15,13 +15,13 @@ use Rattle.region_mem.specs.declared.parameter.Param.{Param}
 use Rattle.region_mem.specs.declared.parameter.Param.TheVariants as parameter
 use Rattle.region_mem.specs.declared.parameter.Mode.{Mode}
 use Rattle.region_mem.specs.Parameter.{address_of}
-use Rattle.abs_state.specs.declared.zones.Zone.{Zone}
-use Rattle.abs_state.specs.Values.{ValueView, computed_range}
-use Rattle.abs_state.specs.Effects.{fitting}
-use Rattle.abs_state.specs.Numbers.{NumbersView, table_of}
-use Rattle.abs_state.specs.Zones.{zones_of, is_inside, spans, zone_right, buffer_zone, buffer_zones, segment_zone, stack_zone, may_write}
+use Rattle.abs_domain.specs.declared.zones.Zone.{Zone}
+use Rattle.abs_domain.specs.Values.{ValueView, computed_range}
+use Rattle.abs_domain.specs.Effects.{fitting}
+use Rattle.abs_domain.specs.Numbers.{NumbersView, table_of}
+use Rattle.abs_domain.specs.Zones.{zones_of, is_inside, spans, zone_right, buffer_zone, buffer_zones, segment_zone, stack_zone, may_write}
 use Rattle.elf_image.specs.Image.{ImageView}
-use Rattle.abs_state.specs.Reaches.{unit_reach, sum_form, sharpened_high, met_with_form}
+use Rattle.abs_transfer.specs.Accesses.{unit_reach, sum_form, sharpened_high, met_with_form}
 use Rattle.linear_facts.specs.LoopForms.{term, IsSize, pointer_form, moved_form}
 use Rattle.cert_maker.specs.Laws.{ReachesEnd}
 use Rattle.cert_maker.proofs.Equalities.{sum_parts, scaled_atom, merged_empty}

@@ -10,10 +10,10 @@ use Rattle.rv_decode.specs.declared.instructions.VMove as move
 use Rattle.rv_decode.specs.declared.instructions.VMove.TheVariants.{ToScalar, FromScalar, Whole}
 use Rattle.vreg_groups.specs.Legality.{is_legal}
 use Rattle.abs_state.specs.declared.state.Way.TheVariants.{To}
-use Rattle.abs_state.specs.Numbers.{NumbersView}
-use Rattle.abs_state.specs.Legal.{legal_check}
+use Rattle.abs_domain.specs.Numbers.{NumbersView}
+use Rattle.abs_transfer.specs.Legal.{legal_check}
 use Rattle.abs_state.specs.State.{AbstractView}
-use Rattle.abs_state.specs.Groups.{groups_after}
+use Rattle.abs_transfer.specs.Facts.{groups_after}
 use Rattle.abs_state.specs.After.{after_of, vector_after, passed, next_word, mask_numbers, move_numbers, vector_numbers, access_check}
 use Rattle.cert_maker.specs.Loops.{is_arithmetic, is_vector_class}
 use Rattle.cert_maker.specs.Laws.{Goes, BodyKeeps}

@@ -18,7 +18,7 @@ use Rattle.cert_note.specs.Certificate.{CertificateView}
 use Rattle.cert_note.specs.declared.values.Block.{Block}
 use Rattle.abs_state.specs.declared.state.Way.TheVariants.{Fork}
 use Rattle.abs_state.specs.State.{AbstractView}
-use Rattle.abs_state.specs.Steps.{scalar_after}
+use Rattle.abs_transfer.specs.Scalar.{scalar_after}
 use Rattle.abs_state.specs.StepLaws.{jumps}
 use Rattle.abs_state.specs.After.{after_of, next_word, taken, way_of}
 use Rattle.abs_state.specs.Blocks.{at_block_of, at_entry_of}

@@ -13,7 +13,7 @@ use Rattle.scalar_core.specs.Step.{offset_by}
 use Rattle.cert_note.specs.Certificate.{CertificateView}
 use Rattle.abs_state.specs.declared.state.Way.TheVariants.{Fork}
 use Rattle.abs_state.specs.State.{AbstractView}
-use Rattle.abs_state.specs.Steps.{scalar_after}
+use Rattle.abs_transfer.specs.Scalar.{scalar_after}
 use Rattle.abs_state.specs.StepLaws.{jumps}
 use Rattle.abs_state.specs.After.{after_of, taken, way_of, next_word}
 use Rattle.block_checker.specs.Passes.{edges_pass}

@@ -18,11 +18,12 @@ use Rattle.scalar_core.specs.Hart.{exit}
 use Rattle.cert_note.specs.Certificate.{CertificateView}
 use Rattle.cert_note.specs.declared.values.Budget.{Budget}
 use Rattle.abs_state.specs.declared.state.Way.TheVariants.{Fork}
-use Rattle.abs_state.specs.Values.{ValueView, just}
-use Rattle.abs_state.specs.Numbers.{NumbersView, table_of, value_at}
+use Rattle.abs_domain.specs.Values.{ValueView, just}
+use Rattle.abs_domain.specs.Numbers.{NumbersView, table_of, value_at}
 use Rattle.abs_state.specs.State.{AbstractView}
 use Rattle.abs_state.specs.After.{taken, next_word}
-use Rattle.abs_state.specs.Branches.{EdgeView, refined, edge_by, branch_edge, related_edge, relation_of, related_ranges, apart_from, without_end, edge_in, changes_of, whole_atom, value_on}
+use Rattle.abs_state.specs.Branches.{EdgeView, refined, edge_by, branch_edge, related_edge, relation_of, related_ranges, apart_from, without_end, edge_in, changes_of, value_on}
+use Rattle.abs_domain.specs.Numbers.{whole_atom}
 use Rattle.abs_state.specs.Edges.{is_interval_shown, is_equality_shown, is_paid_for, pays, is_paid, least_of, most_of, own_total, next_total}
 use Rattle.block_checker.specs.Passes.{Checked, both, edges_pass, possible_passes, edge_passes, is_branch, is_branch_insn}
 use Rattle.cert_maker.specs.declared.loops.Loop.{Loop}

@@ -14,11 +14,11 @@ use Rattle.region_mem.specs.declared.parameter.Param.{Param}
 use Rattle.region_mem.specs.declared.parameter.Param.TheVariants as parameter
 use Rattle.scalar_core.specs.Hart.{exit}
 use Rattle.cert_note.specs.declared.values.RegisterFact.{RegisterFact}
-use Rattle.abs_state.specs.Values.{ValueView, computed_range, just, or_full}
-use Rattle.abs_state.specs.Numbers.{NumbersView, table_of, value_at}
-use Rattle.abs_state.specs.Holds.{table_with}
-use Rattle.abs_state.specs.Blocks.{interval_of, form_or_atom, stated_range, stated_form, start_atoms, numbers_by, start_numbers, passed_form, entry_form, entry_numbers}
-use Rattle.abs_state.proofs.StartNumbers.{form_by, range_by, atom_of_passed, no_atom_split}
+use Rattle.abs_domain.specs.Values.{ValueView, computed_range, just, or_full}
+use Rattle.abs_domain.specs.Numbers.{NumbersView, table_of, value_at}
+use Rattle.abs_domain.specs.Holds.{table_with}
+use Rattle.abs_domain.specs.Starts.{interval_of, form_or_atom, stated_range, stated_form, start_atoms, numbers_by, start_numbers, passed_form, entry_form, entry_numbers}
+use Rattle.abs_domain.proofs.StartNumbers.{form_by, range_by, atom_of_passed, no_atom_split}
 use Rattle.cert_maker.specs.declared.loops.Loop.{Loop}
 use Rattle.cert_maker.specs.Certificates.{base_of, stated_by, entry_count, entry_facts, entry_pointer}
 use Rattle.cert_maker.specs.Known.{Round, known, atom_of, is_pointer}

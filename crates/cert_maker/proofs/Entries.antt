@@ -15,10 +15,11 @@ use Rattle.scalar_core.specs.Hart.{exit}
 use Rattle.cert_note.specs.Certificate.{CertificateView}
 use Rattle.cert_note.specs.declared.values.RegisterFact.{RegisterFact}
 use Rattle.abs_state.specs.declared.state.Way.TheVariants.{Fork}
-use Rattle.abs_state.specs.Values.{ValueView, just}
-use Rattle.abs_state.specs.Numbers.{value_at}
+use Rattle.abs_domain.specs.Values.{ValueView, just}
+use Rattle.abs_domain.specs.Numbers.{value_at}
 use Rattle.abs_state.specs.State.{AbstractView}
-use Rattle.abs_state.specs.Branches.{EdgeView, apart_from, branch_edge, changes_of, edge_by, edge_in, plain_edge, refined, related_edge, related_ranges, relation_of, table_on, value_on, whole_atom, without_end}
+use Rattle.abs_state.specs.Branches.{EdgeView, apart_from, branch_edge, changes_of, edge_by, edge_in, plain_edge, refined, related_edge, related_ranges, relation_of, table_on, value_on, without_end}
+use Rattle.abs_domain.specs.Numbers.{whole_atom}
 use Rattle.abs_state.specs.Edges.{is_equality_shown, is_interval_shown, is_paid, is_paid_for, is_sum_shown, least_of, most_of, next_total, own_total, pays}
 use Rattle.block_checker.specs.Passes.{block_at, edge_passes, edges_pass, is_branch, is_branch_insn, possible_passes}
 use Rattle.cert_maker.specs.Loops.{size_of}

@@ -22,14 +22,14 @@ use Rattle.region_mem.specs.declared.parameter.Mode.{Mode}
 use Rattle.region_mem.specs.declared.parameter.Param.TheVariants as parameter
 use Rattle.abs_state.specs.declared.state.Way.{Way}
 use Rattle.abs_state.specs.declared.state.Way.TheVariants.{To}
-use Rattle.abs_state.specs.Values.{ValueView, computed_range}
-use Rattle.abs_state.specs.Effects.{register_effect, difference_effect, difference_range}
-use Rattle.abs_state.specs.Numbers.{NumbersView, table_of, value_at, with_value, with_short, with_computed, with_effect, with_result}
+use Rattle.abs_domain.specs.Values.{ValueView, computed_range}
+use Rattle.abs_domain.specs.Effects.{register_effect, difference_effect, difference_range}
+use Rattle.abs_domain.specs.Numbers.{NumbersView, table_of, value_at, with_value, with_short, with_computed, with_effect, with_result}
 use Rattle.abs_state.specs.State.{AbstractView}
-use Rattle.abs_state.specs.Steps.{scalar_after}
+use Rattle.abs_transfer.specs.Scalar.{scalar_after}
 use Rattle.abs_state.specs.StepLaws.{jumps}
 use Rattle.abs_state.specs.After.{after_of, taken, way_of, next_word}
-use Rattle.abs_state.proofs.States.{this_value, other_value}
+use Rattle.abs_domain.proofs.States.{this_value, other_value}
 use Rattle.cert_maker.specs.declared.loops.Reading.{Reading}
 use Rattle.cert_maker.specs.declared.loops.Reading.TheVariants.{Moves, Back}
 use Rattle.cert_maker.specs.Loops.{size_of, is_flagged, moved_by}

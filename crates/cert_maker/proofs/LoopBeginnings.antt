@@ -7,9 +7,9 @@ use Rattle.linear_facts.specs.LoopForms.{pointer_form}
 use Rattle.linear_facts.proofs.LoopRanges.{atom-range, pointer-range}
 use Rattle.scalar_core.specs.Hart.{exit}
 use Rattle.cert_note.specs.declared.values.RegisterFact.{RegisterFact}
-use Rattle.abs_state.specs.Values.{just}
-use Rattle.abs_state.specs.Numbers.{NumbersView, table_of, value_at}
-use Rattle.abs_state.specs.Blocks.{interval_of, form_or_atom, stated_range, stated_form, start_numbers}
+use Rattle.abs_domain.specs.Values.{just}
+use Rattle.abs_domain.specs.Numbers.{NumbersView, table_of, value_at}
+use Rattle.abs_domain.specs.Starts.{interval_of, form_or_atom, stated_range, stated_form, start_numbers}
 use Rattle.cert_maker.specs.Loops.{size_of}
 use Rattle.cert_maker.specs.Certificates.{base_of, stated_by, loop_count, loop_facts, loop_pointer}
 use Rattle.cert_maker.specs.Known.{Round, IsRound, IsThere, known, atom_of, bytes_of, is_pointer}

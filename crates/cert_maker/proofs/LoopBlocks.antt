@@ -11,9 +11,9 @@ use Rattle.vreg_groups.specs.declared.vector_length.Vlen.{Vlen}
 use Rattle.vreg_groups.specs.declared.vector_type.Vtype.{Vtype}
 use Rattle.cert_note.specs.Certificate.{CertificateView}
 use Rattle.cert_note.specs.declared.values.Block.{Block}
-use Rattle.abs_state.specs.Values.{ValueView}
-use Rattle.abs_state.specs.Numbers.{NumbersView, table_of, value_at}
-use Rattle.abs_state.specs.Lengths.{configured, known_request, limited, supported_request, wanted_of, with_length_in}
+use Rattle.abs_domain.specs.Values.{ValueView}
+use Rattle.abs_domain.specs.Numbers.{NumbersView, table_of, value_at}
+use Rattle.abs_transfer.specs.Vset.{configured, known_request, limited, supported_request, wanted_of, with_length_in}
 use Rattle.abs_state.specs.State.{AbstractView}
 use Rattle.abs_state.specs.StepLaws.{jumps}
 use Rattle.abs_state.specs.After.{after_of, vset_after}

@@ -6,9 +6,9 @@ use Rattle.linear_facts.specs.declared.ranges.Range.{Range}
 use Rattle.linear_facts.specs.declared.forms.Term.{Term}
 use Rattle.linear_facts.specs.Forms.{Linear, sum_of, within, substituted}
 use Rattle.linear_facts.specs.Sums.{range_of_form}
-use Rattle.abs_state.specs.Values.{just, computed_range, or_own}
-use Rattle.abs_state.specs.Effects.{register_effect, sum_effect, sum_range}
-use Rattle.abs_state.specs.Numbers.{NumbersView, value_at, with_short, with_computed, with_effect, with_result}
+use Rattle.abs_domain.specs.Values.{just, computed_range, or_own}
+use Rattle.abs_domain.specs.Effects.{register_effect, sum_effect, sum_range}
+use Rattle.abs_domain.specs.Numbers.{NumbersView, value_at, with_short, with_computed, with_effect, with_result}
 use Rattle.abs_state.specs.Branches.{EdgeView, value_on, table_on}
 use Rattle.abs_state.specs.Edges.{is_same, are_same_terms, is_interval_shown, is_equality_shown, is_sum_shown}
 use Rattle.linear_facts.specs.LoopForms.{term, pointer_form, moved_form}

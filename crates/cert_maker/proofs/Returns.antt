@@ -13,18 +13,19 @@ use Rattle.cert_note.specs.Certificate.{CertificateView}
 use Rattle.scalar_core.specs.Arithmetic.{unsigned}
 use Rattle.scalar_core.specs.Hart.{exit}
 use Rattle.abs_state.specs.declared.state.Way.TheVariants.{To}
-use Rattle.abs_state.specs.Values.{just, computed_range, or_own}
-use Rattle.abs_state.specs.Effects.{offset_range}
-use Rattle.abs_state.specs.Numbers.{NumbersView, value_at, with_result}
-use Rattle.abs_state.specs.Orders.{with_orders}
-use Rattle.abs_state.specs.Blocks.{stated_range, stated_form, start_atoms, start_numbers, at_block_of}
+use Rattle.abs_domain.specs.Values.{just, computed_range, or_own}
+use Rattle.abs_domain.specs.Effects.{offset_range}
+use Rattle.abs_domain.specs.Numbers.{NumbersView, value_at, with_result}
+use Rattle.abs_domain.specs.Orders.{with_orders}
+use Rattle.abs_domain.specs.Starts.{stated_range, stated_form, start_atoms, start_numbers}
+use Rattle.abs_state.specs.Blocks.{at_block_of}
 use Rattle.abs_state.specs.State.{AbstractView}
-use Rattle.abs_state.specs.Steps.{address_range, scalar_after}
+use Rattle.abs_transfer.specs.Scalar.{address_range, scalar_after}
 use Rattle.abs_state.specs.After.{after_of, taken, way_of, jump_way}
 use Rattle.abs_state.specs.Branches.{EdgeView, refined, edge_by, plain_edge, value_on}
 use Rattle.abs_state.specs.Edges.{implied_by, implies_end, is_paid_for, pays, is_paid, own_total, next_total, least_of, most_of, no_budget}
 use Rattle.abs_state.specs.StepLaws.{jumps}
-use Rattle.abs_state.proofs.StartNumbers.{range_by}
+use Rattle.abs_domain.proofs.StartNumbers.{range_by}
 use Rattle.block_checker.specs.Passes.{edges_pass, possible_passes, edge_passes, block_for, is_branch, is_branch_insn, then_on, walk, block_passes}
 use Rattle.cert_maker.specs.Loops.{insn_at, is_return}
 use Rattle.cert_maker.specs.Certificates.{facts_by, budget, block}

@@ -7,8 +7,8 @@ use Rattle.cert_note.specs.Certificate.{CertificateView}
 use Rattle.cert_note.specs.declared.values.Block.{Block}
 use Rattle.cert_note.specs.declared.values.Budget.{Budget}
 use Rattle.cert_note.specs.declared.values.RegisterFact.{RegisterFact}
-use Rattle.abs_state.specs.declared.why.Why.TheVariants.{VtypeUnknown, TargetNotABlock, IntervalNotProved, EqualityNotProved, OrderNotProved, VectorFactNotProved, BudgetNotProved}
-use Rattle.abs_state.specs.Values.{just}
+use Rattle.abs_domain.specs.declared.why.Why.TheVariants.{VtypeUnknown, TargetNotABlock, IntervalNotProved, EqualityNotProved, OrderNotProved, VectorFactNotProved, BudgetNotProved}
+use Rattle.abs_domain.specs.Values.{just}
 use Rattle.abs_state.specs.Branches.{EdgeView}
 use Rattle.abs_state.specs.Edges.{shown_or, and_then, is_vtype_shown, is_interval_shown, is_equality_shown, is_paid_for, leads_to, implies_block, implied_by}
 use Rattle.block_checker.specs.Passes.{block_at, block_for, edge_passes, told_at}

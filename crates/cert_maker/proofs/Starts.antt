@@ -13,11 +13,11 @@ use Rattle.std.proofs.lemmas.Bool.Decides.{nat_tests}
 use Rattle.std.proofs.Math.ListN.{length-set}
 use Rattle.linear_facts.specs.declared.ranges.Range.{Range}
 use Rattle.linear_facts.specs.Forms.{atom_form}
-use Rattle.abs_state.specs.Values.{ValueView}
-use Rattle.abs_state.specs.Numbers.{NumbersView, table_of, value_at, with_value, with_effect, with_result}
-use Rattle.abs_state.specs.Branches.{whole_atom}
-use Rattle.abs_state.specs.Lengths.{limited, limited_by, split_into, with_length_in}
-use Rattle.abs_state.proofs.States.{this_value, other_value}
+use Rattle.abs_domain.specs.Values.{ValueView}
+use Rattle.abs_domain.specs.Numbers.{NumbersView, table_of, value_at, with_value, with_effect, with_result}
+use Rattle.abs_domain.specs.Numbers.{whole_atom}
+use Rattle.abs_transfer.specs.Vset.{limited, limited_by, split_into, with_length_in}
+use Rattle.abs_domain.proofs.States.{this_value, other_value}
 use Rattle.linear_facts.specs.LoopForms.{IsLoop}
 use Rattle.cert_maker.specs.Laws.{AreSplit, IsCount, IsSet, LengthsAreSet}
 use Rattle.cert_maker.proofs.Lengths.{are_split}

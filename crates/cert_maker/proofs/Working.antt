@@ -31,18 +31,18 @@ use Rattle.region_mem.specs.declared.parameter.Param.TheVariants as parameter
 use Rattle.vreg_groups.specs.Legality.{is_legal}
 use Rattle.vreg_groups.specs.VectorType.{bytes_of_width, type_in}
 use Rattle.abs_state.specs.declared.state.Way.TheVariants.{To}
-use Rattle.abs_state.specs.declared.values.Effect.{Effect}
-use Rattle.abs_state.specs.Values.{ValueView, computed_range, or_own}
-use Rattle.abs_state.specs.Effects.{shift_effect, left_shift_by, product_effect}
-use Rattle.abs_state.specs.Groups.{known_type}
-use Rattle.abs_state.specs.Numbers.{NumbersView, table_of, value_at, with_value, with_short, with_computed, with_effect, with_result}
+use Rattle.abs_domain.specs.declared.values.Effect.{Effect}
+use Rattle.abs_domain.specs.Values.{ValueView, computed_range, or_own}
+use Rattle.abs_domain.specs.Effects.{shift_effect, left_shift_by, product_effect}
+use Rattle.abs_transfer.specs.Facts.{known_type}
+use Rattle.abs_domain.specs.Numbers.{NumbersView, table_of, value_at, with_value, with_short, with_computed, with_effect, with_result}
 use Rattle.abs_state.specs.State.{AbstractView}
-use Rattle.abs_state.specs.Steps.{scalar_after}
+use Rattle.abs_transfer.specs.Scalar.{scalar_after}
 use Rattle.abs_state.specs.StepLaws.{jumps}
 use Rattle.abs_state.specs.After.{after_of, taken, way_of, next_word, access_check, vector_numbers}
-use Rattle.abs_state.specs.Zones.{may_write, zone_right, load_allowed, store_allowed}
-use Rattle.abs_state.specs.Reaches.{unit_reach, reach_at, reach_allowed, is_whole, transfer_check}
-use Rattle.abs_state.proofs.States.{this_value, other_value}
+use Rattle.abs_domain.specs.Zones.{may_write, zone_right, load_allowed, store_allowed}
+use Rattle.abs_transfer.specs.Accesses.{unit_reach, reach_at, reach_allowed, is_whole, transfer_check}
+use Rattle.abs_domain.proofs.States.{this_value, other_value}
 use Rattle.cert_maker.specs.declared.loops.Loop.{Loop}
 use Rattle.cert_maker.specs.declared.loops.Reading.{Reading}
 use Rattle.cert_maker.specs.declared.loops.Reading.TheVariants.{Works, Moves, Back, Through}

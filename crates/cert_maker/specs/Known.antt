@@ -7,9 +7,9 @@ use Rattle.region_mem.specs.declared.parameter.Mode.{Mode}
 use Rattle.region_mem.specs.declared.parameter.Param.TheVariants as parameter
 use Rattle.region_mem.specs.Parameter.{address_of}
 use Rattle.scalar_core.specs.Hart.{exit}
-use Rattle.abs_state.specs.Values.{ValueView, just}
-use Rattle.abs_state.specs.Numbers.{NumbersView, table_of, value_at}
-use Rattle.abs_state.specs.Zones.{zones_of}
+use Rattle.abs_domain.specs.Values.{ValueView, just}
+use Rattle.abs_domain.specs.Numbers.{NumbersView, table_of, value_at}
+use Rattle.abs_domain.specs.Zones.{zones_of}
 use Rattle.abs_state.specs.State.{AbstractView}
 use Rattle.cert_maker.specs.declared.loops.Loop.{Loop}
 use Rattle.cert_maker.specs.declared.loops.Reading.{Reading}

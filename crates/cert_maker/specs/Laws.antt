@@ -3,7 +3,7 @@ use Rattle.std.specs.Prelude.{ℕ, ◌≡◌, ◌<◌, ◌≤◌, ◌+◌, Bool,
 use Rattle.std.specs.List.{slice_get, list_all}
 use Rattle.scalar_core.specs.Hart.{exit}
 use Rattle.cert_note.specs.declared.values.RegisterFact.{RegisterFact}
-use Rattle.abs_state.specs.Blocks.{fact_for}
+use Rattle.abs_domain.specs.Starts.{fact_for}
 use Rattle.cert_maker.specs.Certificates.{fact, facts_by, block, budget, certificate_of}
 use Rattle.region_mem.specs.declared.faults.Right.{Right}
 use Rattle.region_mem.specs.declared.parameter.Mode.{Mode}
@@ -11,7 +11,7 @@ use Rattle.region_mem.specs.declared.parameter.Param.{Param}
 use Rattle.region_mem.specs.declared.parameter.Param.TheVariants as parameter
 use Rattle.region_mem.specs.Parameter.{address_of}
 use Rattle.elf_image.specs.Image.{ImageView, IsImage}
-use Rattle.abs_state.specs.Zones.{zones_of, is_inside, zone_right, may_write}
+use Rattle.abs_domain.specs.Zones.{zones_of, is_inside, zone_right, may_write}
 use Rattle.abs_state.specs.State.{AbstractView}
 use Rattle.abs_state.specs.After.{after_of, next_word}
 use Rattle.abs_state.specs.declared.state.Way.TheVariants.{To}
@@ -20,15 +20,15 @@ use Rattle.std.specs.Prelude.{◌≢◌, length}
 use Rattle.linear_facts.specs.declared.ranges.Range.{Range}
 use Rattle.linear_facts.specs.declared.ranges.Atom.{Atom}
 use Rattle.linear_facts.specs.Ranges.{range_at, split_at}
-use Rattle.abs_state.specs.Holds.{table_with}
-use Rattle.abs_state.specs.Lengths.{split_into, limited, with_length_in}
+use Rattle.abs_domain.specs.Holds.{table_with}
+use Rattle.abs_transfer.specs.Vset.{split_into, limited, with_length_in}
 use Rattle.std.specs.Prelude.{◌-◌, ◌^◌, ◌∷◌, [], slice_index_or, min}
 use Rattle.linear_facts.specs.Forms.{Linear, atom_form, form_at, substituted}
 use Rattle.linear_facts.specs.Sums.{range_of_form}
 use Rattle.rv_decode.specs.declared.instructions.RegisterOp.TheVariants.{Add}
-use Rattle.abs_state.specs.Values.{just}
-use Rattle.abs_state.specs.Effects.{register_effect}
-use Rattle.abs_state.specs.Numbers.{NumbersView, table_of, value_at, with_result, with_value}
+use Rattle.abs_domain.specs.Values.{just}
+use Rattle.abs_domain.specs.Effects.{register_effect}
+use Rattle.abs_domain.specs.Numbers.{NumbersView, table_of, value_at, with_result, with_value}
 use Rattle.abs_state.specs.Branches.{EdgeView}
 use Rattle.abs_state.specs.Edges.{is_interval_shown, is_equality_shown}
 use Rattle.linear_facts.specs.LoopForms.{term, IsSize, pointer_form, moved_form, left_form, IsLoop}

@@ -1,6 +1,6 @@
 use Rattle.std.proofs.Common.{arith, ap, ◌∙◌}
 use Rattle.std.proofs.Math.ListN.{length-set}
-use Rattle.abs_state.specs.Numbers.{NumbersView, value_at}
+use Rattle.abs_domain.specs.Numbers.{NumbersView, value_at}
 use Rattle.block_checker.proofs.Explaining.{interval_more}
 use Rattle.block_checker.proofs.explanation.intervals.Goals as goal
 

@@ -1,7 +1,7 @@
 -- The intervals so far.
 use Rattle.std.proofs.Common.{◌≡◌, map, take, length}
 use Rattle.std.specs.List.{range_with_len}
-use Rattle.abs_state.specs.Numbers.{value_at}
+use Rattle.abs_domain.specs.Numbers.{value_at}
 use Rattle.block_checker.proofs.explanation.intervals.Given as goal
 
 abbrev pub invariant-loop-number : goal.invariant-loop-number
