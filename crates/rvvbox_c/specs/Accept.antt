@@ -13,7 +13,7 @@ use Rattle.vreg_groups.specs.declared.policies.Agnostic.{Agnostic}
 use Rattle.vreg_groups.specs.declared.policies.Agnostic.TheVariants.{Keep, Ones}
 use Rattle.vreg_groups.specs.declared.vector_length.Vlen.{Vlen}
 use Rattle.vreg_groups.specs.declared.vector_length.Vlen.TheVariants.{V128, V256, V512}
-use Rattle.rvvbox_c.specs.Status.{plain, image_refusal, certificate_refusal, check_refusal}
+use Rattle.rvvbox_c.specs.Status.{code_of, plain, image_refusal, certificate_refusal, check_refusal}
 use Rattle.rvvbox_c.specs.declared.status.Refusal.{Refusal}
 use Rattle.rvvbox_c.specs.declared.status.Status.TheVariants as status
 
@@ -44,7 +44,8 @@ abbrev pub if_passed : AcceptedView → Checked → Result AcceptedView Refusal
 if_passed a (Ok done) = Ok a
 if_passed a (Err error) = Err (check_refusal error)
 
-abbrev pub if_certified : Vlen → ImageView → Result CertificateView Refusal → Result AcceptedView Refusal
+abbrev pub if_certified :
+    Vlen → ImageView → Result CertificateView Refusal → Result AcceptedView Refusal
 if_certified vlen image (Err refusal) = Err refusal
 if_certified vlen image (Ok certificate) =
     if_passed (record { image = image; certificate = certificate; vlen = vlen })
@@ -79,3 +80,8 @@ told (Err refusal) = refusal
 -- What is told is that of the answer that is defined, or want of memory.
 abbrev pub IsToldOrWant : {A : Type 0} → Result A Refusal → Refusal → Type 0
 IsToldOrWant defined refusal = (refusal ≡ told defined) ⊎ (refusal ≡ plain status.NoMemory)
+
+-- The same of the status alone.
+abbrev pub IsStatusOrWant : {A : Type 0} → Result A Refusal → ℕ → Type 0
+IsStatusOrWant defined number =
+    (number ≡ (told defined).status) ⊎ (number ≡ code_of status.NoMemory)

@@ -44,7 +44,8 @@ pub record IsRun (vlenb : ℕ) (agnostic : Agnostic) (a : AcceptedView) (args : 
 -- the memory with an argument's bytes where its place has room for them, if they are put back there
 abbrev pub put_at : Argument → Place → List ℕ → List ℕ
 put_at (arg.Buffer bytes) place memory =
-    if place.kind == 2 && nat_le (place.from + place.size) (length memory) && length bytes == place.size
+    if place.kind == 2 && nat_le (place.from + place.size) (length memory)
+        && length bytes == place.size
     then take place.from memory ++ (bytes ++ drop (place.from + place.size) memory)
     else memory
 put_at (arg.Scalar value) place memory = memory
@@ -56,7 +57,8 @@ all_put [] places memory = memory
 all_put (a ∷ args) [] memory = memory
 all_put (a ∷ args) (place ∷ places) memory = all_put args places (put_at a place memory)
 
--- Such a run was done on what the places name of memory, and what it left of the buffers was put back.
+-- Such a run was done on what the places name of memory, and what it left of the buffers was put
+-- back.
 pub record HasRun (vlenb : ℕ) (agnostic : Agnostic) (a : AcceptedView) (places : List Place)
     (old new : List ℕ) (steps : ℕ) : Type 0 where
   pub last : Machine

@@ -5,7 +5,7 @@ ghost use Rattle.vreg_groups.specs.VectorLength.{IsVlenb, vlenb_of};
 ghost use Rattle.block_checker.specs.Accepted.{AcceptedView};
 ghost use Rattle.rvvbox_c.specs.Holds.{IsFailure, IsKeptOf};
 ghost use Rattle.rvvbox_c.specs.Places.{KeepsOutside};
-ghost use Rattle.rvvbox_c.specs.Accept.{IsToldOrWant, answer_for};
+ghost use Rattle.rvvbox_c.specs.Accept.{IsStatusOrWant, IsToldOrWant, answer_for};
 ghost use Rattle.rvvbox_c.specs.Runs.{HasRun, HasRunFile, HaveRun, HaveRunFile};
 ghost use Rattle.rvvbox_c.specs.Scalars.{by_place};
 ghost use Rattle.rvvbox_c.specs.Status.{code_of};
@@ -123,8 +123,10 @@ pub extern "C" fn rvvbox_bound(
     scalars: &Scalars,
     bound: &mut Bound,
 ) -> u32
-    ensures { result ≡ 0 → (a : AcceptedView) × IsKeptOf file.now vlen (Some a)
+    ensures told { result ≡ 0 → (a : AcceptedView) × IsKeptOf file.now vlen (Some a)
         × (bound.new.high * 2 ^ 64 + bound.new.low ≡ bound_for a (by_place scalars.now)) }
+    ensures answer { IsStatusOrWant (answer_for vlen file.now) result }
+    ensures refused { IsFailure result → bound.new ≡ bound.old }
 {
     let Some(vlen) = vlen_of(vlen) else {
         return Status::BadVlen.code();

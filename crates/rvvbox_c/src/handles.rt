@@ -33,8 +33,8 @@ fn keep(alloc: Global, file: &[u8], bits: u32, handle: &mut Handle) -> Result<()
     }
 }
 
-/// Checks as [`rvvbox_check`](crate::calls::rvvbox_check) does, and keeps what is accepted in `handle`, which lets go what it kept.
-/// Where the image is refused the handle stays as it is, and `refusal` tells why.
+/// Checks as [`rvvbox_check`](crate::calls::rvvbox_check) does, and keeps what is accepted in `handle`, which lets go
+/// what it kept. Where the image is refused the handle stays as it is, and `refusal` tells why.
 #[unsafe(no_mangle)]
 pub extern "C" fn rvvbox_accept(
     alloc: Global,
