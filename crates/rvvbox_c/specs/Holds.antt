@@ -1,5 +1,5 @@
 -- What a handle owns, and what it keeps.
-use Rattle.std.specs.Prelude.{ℕ, ◌≡◌, ◌*◌, List, Option, None, Some}
+use Rattle.std.specs.Prelude.{ℕ, ◌≡◌, ◌*◌, List, Option, None, Some, Ok}
 use base.Fml.{Fml, feq}
 use denote.RattleType.{RattleType}
 use Rattle.std.specs.Box.Ownership.{box_owns}
@@ -11,6 +11,7 @@ use Rattle.block_checker.specs.Accepted.{AcceptedView, Passes}
 use Rattle.block_checker.specs.contracts.accepted.Accepted as accepted
 use Rattle.elf_image.specs.File.{image_of}
 use Rattle.vreg_groups.specs.VectorLength.{vlenb_of}
+use Rattle.rvvbox_c.specs.Accept.{answer_for}
 
 -- an accepted image, as a type
 abbrev pub accepted_row : RattleType
@@ -24,11 +25,13 @@ abbrev pub handle_owns : Ptr → Option AcceptedView → Fml
 handle_owns p None = feq Ptr p null_ptr
 handle_owns p (Some a) = box_owns (ghosts.dealloc_token global) accepted_row p a
 
--- The image that the file spells, which passed the check for vector registers of so many bits.
+-- The image that the file spells, with the certificate in its note, which passed the check for
+-- vector registers of so many bits.
 abbrev pub IsKeptOf : List ℕ → ℕ → Option AcceptedView → Type 0
 IsKeptOf file bits None = ⊥
 IsKeptOf file bits (Some a) =
     (a.image ≡ image_of file) × (vlenb_of a.vlen * 8 ≡ bits) × Passes a
+    × (answer_for bits file ≡ Ok a)
 
 -- A status other than that all was done.
 abbrev pub IsFailure : ℕ → Type 0

@@ -1,5 +1,6 @@
 -- A run on the host's memory: what is passed of it, how it ends, and what is put back.
-use Rattle.std.specs.Prelude.{ℕ, ◌≡◌, ◌≤◌, ◌+◌, ◌==◌, ◌&&◌, nat_le, List, [], ◌∷◌, ◌++◌, length, map, take, drop, Some, if◌then◌else◌}
+use Rattle.std.specs.Prelude.{ℕ, ◌≡◌, ◌≤◌, ◌<◌, ◌+◌, ◌*◌, ◌/◌, ◌==◌, ◌&&◌, nat_le, List, [], ◌∷◌, ◌++◌, length, map, take, drop, slice_index_or, Some, if◌then◌else◌}
+use Rattle.std.specs.Simd.{first_chunks}
 use Rattle.region_mem.specs.Memory.{args_of}
 use Rattle.region_mem.specs.Parameter.{Argument, AreArguments}
 use Rattle.region_mem.specs.declared.arguments.Arg.TheVariants as arg
@@ -11,7 +12,9 @@ use Rattle.block_checker.specs.Accepted.{AcceptedView}
 use Rattle.block_checker.specs.Bound.{bound_of, scalars_of}
 use Rattle.vreg_groups.specs.VectorLength.{vlenb_of}
 use Rattle.vreg_groups.specs.declared.policies.Agnostic.TheVariants.{Keep, Ones}
-use Rattle.rvvbox_c.specs.Holds.{IsKeptOf}
+use Rattle.rvvbox_c.specs.Holds.{IsFailure, IsKeptOf}
+use Rattle.rvvbox_c.specs.declared.calls.Ran.{Ran}
+use Rattle.rvvbox_c.specs.declared.calls.Setting.{Setting}
 use Rattle.rvvbox_c.specs.declared.places.Place.{Place}
 
 -- the setting's number for agnostic elements
@@ -29,17 +32,20 @@ argument_of memory place =
 abbrev pub arguments_of : List Place → List ℕ → List Argument
 arguments_of places memory = map (argument_of memory) places
 
--- A run of an accepted image on these arguments ends after so many steps, in this state: they match the image's parameters,
--- and the steps are no more than its bound.
-pub record IsRun (vlenb : ℕ) (agnostic : Agnostic) (a : AcceptedView) (args : List Argument) (steps : ℕ) (last : Machine) : Type 0 where
+-- A run of an accepted image on these arguments ends after so many steps, in this state: they
+-- match the image's parameters, and the steps are no more than its bound.
+pub record IsRun (vlenb : ℕ) (agnostic : Agnostic) (a : AcceptedView) (args : List Argument)
+    (steps : ℕ) (last : Machine) : Type 0 where
   pub matching : AreArguments a.certificate.parameters args
   pub within : steps ≤ bound_of a (scalars_of args)
-  pub ended : outcome vlenb (bound_of a (scalars_of args)) (start vlenb agnostic a.image a.certificate.parameters args) ≡ Ended steps last
+  pub ended : outcome vlenb (bound_of a (scalars_of args))
+      (start vlenb agnostic a.image a.certificate.parameters args) ≡ Ended steps last
 
 -- the memory with an argument's bytes where its place has room for them, if they are put back there
 abbrev pub put_at : Argument → Place → List ℕ → List ℕ
 put_at (arg.Buffer bytes) place memory =
-    if place.kind == 2 && nat_le (place.from + place.size) (length memory) && length bytes == place.size
+    if place.kind == 2 && nat_le (place.from + place.size) (length memory)
+        && length bytes == place.size
     then take place.from memory ++ (bytes ++ drop (place.from + place.size) memory)
     else memory
 put_at (arg.Scalar value) place memory = memory
@@ -51,21 +57,62 @@ all_put [] places memory = memory
 all_put (a ∷ args) [] memory = memory
 all_put (a ∷ args) (place ∷ places) memory = all_put args places (put_at a place memory)
 
--- Such a run was done on what the places name of memory, and what it left of the buffers was put back.
-pub record HasRun (vlenb : ℕ) (agnostic : Agnostic) (a : AcceptedView) (places : List Place) (old new : List ℕ) (steps : ℕ) : Type 0 where
+-- Such a run was done on what the places name of memory, and what it left of the buffers was put
+-- back.
+pub record HasRun (vlenb : ℕ) (agnostic : Agnostic) (a : AcceptedView) (places : List Place)
+    (old new : List ℕ) (steps : ℕ) : Type 0 where
   pub last : Machine
   pub run : IsRun vlenb agnostic a (arguments_of places old) steps last
   pub put : new ≡ all_put (args_of last.memory) places old
 
--- Such a run was done at the length of registers that the image was accepted for, with agnostic elements kept (0) or
--- filled with ones (1).
-pub record HasRunSet (number : ℕ) (a : AcceptedView) (places : List Place) (old new : List ℕ) (steps : ℕ) : Type 0 where
+-- Such a run was done at the length of registers that the image was accepted for, with agnostic
+-- elements kept (0) or filled with ones (1).
+pub record HasRunSet (number : ℕ) (a : AcceptedView) (places : List Place) (old new : List ℕ)
+    (steps : ℕ) : Type 0 where
   pub agnostic : Agnostic
   pub numbered : number ≡ number_of agnostic
   pub run : HasRun (vlenb_of a.vlen) agnostic a places old new steps
 
 -- Such a run was done of an accepted image that the file spells, for so many bits.
-pub record HasRunFile (file : List ℕ) (bits number : ℕ) (places : List Place) (old new : List ℕ) (steps : ℕ) : Type 0 where
+pub record HasRunFile (file : List ℕ) (bits number : ℕ) (places : List Place)
+    (old new : List ℕ) (steps : ℕ) : Type 0 where
   pub accepted : AcceptedView
   pub spelled : IsKeptOf file bits (Some accepted)
   pub set : HasRunSet number accepted places old new steps
+
+-- ---- many runs
+
+-- What came of a run of an accepted image that was allowed `max` steps: it was done, or refused,
+-- and memory is as it was.
+pub record CameOf (vlenb : ℕ) (agnostic : Agnostic) (a : AcceptedView) (max : ℕ)
+    (places : List Place) (old new : List ℕ) (ran : Ran) : Type 0 where
+  pub done : ran.status ≡ 0 → HasRun vlenb agnostic a places old new ran.steps
+  pub within : ran.steps ≤ max
+  pub refused : IsFailure ran.status → new ≡ old
+
+-- The first n runs were done on their sets of places one after another, each on memory as those
+-- before left it: `memory k` is as the first k of them left it.
+pub record HaveRun (vlenb : ℕ) (agnostic : Agnostic) (a : AcceptedView) (max : ℕ)
+    (sets : List (List Place)) (runs : List Ran) (n : ℕ) (old new : List ℕ) : Type 0 where
+  pub memory : ℕ → List ℕ
+  pub first : memory 0 ≡ old
+  pub last : memory n ≡ new
+  pub each : (k : ℕ) (none : List Place) (nothing : Ran) → k < n
+      → CameOf vlenb agnostic a max (slice_index_or sets k none) (memory k) (memory (k + 1))
+      (slice_index_or runs k nothing)
+
+-- places, eight by eight
+abbrev pub eights : List Place → List (List Place)
+eights places = first_chunks 8 (length places / 8) places
+
+-- There are eight places for each of the runs, and so they were done of an accepted image that the
+-- file spells, at the setting.
+pub record HaveRunFile (file : List ℕ) (setting : Setting) (places : List Place)
+    (runs : List Ran) (old new : List ℕ) : Type 0 where
+  pub accepted : AcceptedView
+  pub spelled : IsKeptOf file setting.vlen (Some accepted)
+  pub agnostic : Agnostic
+  pub numbered : setting.agnostic ≡ number_of agnostic
+  pub counted : length places ≡ 8 * length runs
+  pub run : HaveRun (vlenb_of accepted.vlen) agnostic accepted setting.max (eights places) runs
+      (length runs) old new

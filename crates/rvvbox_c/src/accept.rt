@@ -1,5 +1,6 @@
 //! An image with its certificate, out of a file's bytes.
 ghost use Rattle.std.specs.Prelude.{◌≡◌, ◌*◌, IfErr, IfOk, IfSome};
+ghost use Rattle.rvvbox_c.specs.Accept.{IsOrWant, accepted_of, agnostic_at, certificate_in as certificate_of, vlen_at};
 ghost use Rattle.block_checker.specs.Accepted.{Passes};
 ghost use Rattle.elf_image.specs.File.{image_of};
 ghost use Rattle.vreg_groups.specs.VectorLength.{vlenb_of};
@@ -8,12 +9,15 @@ ghost use Rattle.rvvbox_c.specs.Runs.{number_of};
 
 use crate::status::{Refusal, Status};
 use block_checker::{Accepted, check};
+use cert_note::Certificate;
+use elf_image::Image;
 use std::alloc::Global;
 use vreg_groups::{Agnostic, Vlen};
 
 /// The length of vector registers of so many bits.
 pub(crate) fn vlen_of(bits: u32) -> Option<Vlen>
-    ensures { IfSome result (λ vlen. vlenb_of vlen * 8 ≡ bits) }
+    ensures value { result ≡ vlen_at bits }
+    ensures bits { IfSome result (λ vlen. vlenb_of vlen * 8 ≡ bits) }
 {
     match bits {
         128 => Some(Vlen::V128),
@@ -25,7 +29,8 @@ pub(crate) fn vlen_of(bits: u32) -> Option<Vlen>
 
 /// What is done with agnostic elements: 0 keeps them, 1 fills them with ones.
 pub(crate) fn agnostic_of(number: u32) -> Option<Agnostic>
-    ensures { IfSome result (λ agnostic. number ≡ number_of agnostic) }
+    ensures value { result ≡ agnostic_at number }
+    ensures number { IfSome result (λ agnostic. number ≡ number_of agnostic) }
 {
     match number {
         0 => Some(Agnostic::Keep),
@@ -34,18 +39,27 @@ pub(crate) fn agnostic_of(number: u32) -> Option<Agnostic>
     }
 }
 
+/// The certificate in an image's note.
+fn certificate_in(alloc: Global, image: &Image) -> Result<Certificate, Refusal>
+    ensures answer { IsOrWant (certificate_of image.now.certificate) result }
+    ensures failed { IfErr result (λ refusal. IsFailure refusal.status) }
+{
+    match image.certificate() {
+        Some(note) => Ok(cert_note::read(alloc, note)?),
+        None => Err(Refusal::of(Status::NoCertificate)),
+    }
+}
+
 /// The image that a file spells, with the certificate in its note, where they pass the check.
 pub fn accept(alloc: Global, file: &[u8], vlen: Vlen) -> Result<Accepted, Refusal>
+    ensures answer { IsOrWant (accepted_of vlen file.now) result }
     ensures image { IfOk result (λ a. a.image ≡ image_of file.now) }
     ensures vlen { IfOk result (λ a. a.vlen ≡ vlen) }
     ensures passes { IfOk result Passes }
     ensures failed { IfErr result (λ refusal. IsFailure refusal.status) }
 {
     let image = elf_image::read(alloc, file)?;
-    let note = image
-        .certificate()
-        .ok_or(Refusal::of(Status::NoCertificate))?;
-    let certificate = cert_note::read(alloc, note)?;
+    let certificate = certificate_in(alloc, &image)?;
     match check(alloc, image, certificate, vlen) {
         Ok(accepted) => Ok(accepted),
         Err((error, _, _)) => Err(Refusal::from(error)),

@@ -1,12 +1,15 @@
 //! The calls themselves. None has a `requires`: what a host passes is tested.
-ghost use Rattle.std.specs.Prelude.{◌≡◌, ◌≢◌, ◌≤◌, ◌+◌, ◌*◌, ◌^◌, IfErr, IfOk, Some, length};
+ghost use Rattle.std.specs.Prelude.{◌≡◌, ◌≢◌, ◌≤◌, ◌⊎◌, ◌+◌, ◌*◌, ◌^◌, IfErr, IfOk, Some, length};
 ghost use Rattle.block_checker.specs.Bound.{bound_of as bound_for};
 ghost use Rattle.vreg_groups.specs.VectorLength.{IsVlenb, vlenb_of};
 ghost use Rattle.block_checker.specs.Accepted.{AcceptedView};
 ghost use Rattle.rvvbox_c.specs.Holds.{IsFailure, IsKeptOf};
 ghost use Rattle.rvvbox_c.specs.Places.{KeepsOutside};
-ghost use Rattle.rvvbox_c.specs.Runs.{HasRun, HasRunFile};
+ghost use Rattle.rvvbox_c.specs.Accept.{IsStatusOrWant, IsToldOrWant, answer_for};
+ghost use Rattle.rvvbox_c.specs.Runs.{HasRun, HasRunFile, HaveRun, HaveRunFile};
 ghost use Rattle.rvvbox_c.specs.Scalars.{by_place};
+ghost use Rattle.rvvbox_c.specs.Status.{code_of};
+ghost use Rattle.rvvbox_c.specs.Told.{parameter_of, parameters_told};
 ghost use Rattle.rvvbox_c.specs.declared.status.Status.TheVariants.{Done};
 
 use crate::accept::{accept, agnostic_of, vlen_of};
@@ -41,6 +44,7 @@ pub struct Ran {
 impl Ran {
     /// No run, for this reason.
     pub(crate) fn refused(status: Status) -> Ran
+        ensures status { result.status ≡ code_of status }
         ensures steps { result.steps ≡ 0 }
         ensures failed { status ≢ Done → IsFailure result.status }
     {
@@ -96,6 +100,7 @@ pub extern "C" fn rvvbox_version() -> u32
 #[unsafe(no_mangle)]
 pub extern "C" fn rvvbox_check(alloc: Global, file: &[u8], vlen: u32, refusal: &mut Refusal) -> u32
     ensures status { result ≡ refusal.new.status }
+    ensures answer { IsToldOrWant (answer_for vlen file.now) refusal.new }
     ensures accepted { result ≡ 0 → (a : AcceptedView) × IsKeptOf file.now vlen (Some a) }
 {
     *refusal = match vlen_of(vlen) {
@@ -118,8 +123,10 @@ pub extern "C" fn rvvbox_bound(
     scalars: &Scalars,
     bound: &mut Bound,
 ) -> u32
-    ensures { result ≡ 0 → (a : AcceptedView) × IsKeptOf file.now vlen (Some a)
+    ensures told { result ≡ 0 → (a : AcceptedView) × IsKeptOf file.now vlen (Some a)
         × (bound.new.high * 2 ^ 64 + bound.new.low ≡ bound_for a (by_place scalars.now)) }
+    ensures answer { IsStatusOrWant (answer_for vlen file.now) result }
+    ensures refused { IsFailure result → bound.new ≡ bound.old }
 {
     let Some(vlen) = vlen_of(vlen) else {
         return Status::BadVlen.code();
@@ -133,7 +140,9 @@ pub extern "C" fn rvvbox_bound(
     }
 }
 
-fn told(param: Param) -> Parameter {
+fn told(param: Param) -> Parameter
+    ensures { result ≡ parameter_of param }
+{
     let nothing = Parameter {
         kind: 0,
         lo: 0,
@@ -159,6 +168,23 @@ fn told(param: Param) -> Parameter {
     }
 }
 
+/// What eight parameters are, in numbers.
+fn all_told(params: [Param; 8]) -> [Parameter; 8]
+    ensures { result ≡ parameters_told params }
+{
+    let [a, b, c, d, e, f, g, h] = params;
+    [
+        told(a),
+        told(b),
+        told(c),
+        told(d),
+        told(e),
+        told(f),
+        told(g),
+        told(h),
+    ]
+}
+
 /// Checks as [`rvvbox_check`] does, and tells what the kernel takes, by place: into eight of `parameters`.
 #[unsafe(no_mangle)]
 pub extern "C" fn rvvbox_parameters(
@@ -168,7 +194,9 @@ pub extern "C" fn rvvbox_parameters(
     parameters: &mut [Parameter],
 ) -> u32
     ensures length { length parameters.new ≡ length parameters.old }
-    ensures accepted { result ≡ 0 → (a : AcceptedView) × IsKeptOf file.now vlen (Some a) }
+    ensures accepted { result ≡ 0 → (a : AcceptedView) × IsKeptOf file.now vlen (Some a)
+        × (parameters.new ≡ parameters_told a.certificate.parameters) }
+    ensures refused { IsFailure result → parameters.new ≡ parameters.old }
 {
     let Some(vlen) = vlen_of(vlen) else {
         return Status::BadVlen.code();
@@ -179,9 +207,7 @@ pub extern "C" fn rvvbox_parameters(
     match accept(alloc, file, vlen) {
         Err(refusal) => refusal.status,
         Ok(accepted) => {
-            for (parameter, param) in parameters.iter_mut().zip(accepted.parameters().to_array()) {
-                *parameter = told(param);
-            }
+            parameters.copy_from_slice(&all_told(accepted.parameters().to_array()));
             Status::Done.code()
         }
     }
@@ -243,6 +269,7 @@ pub(crate) fn run_one(
     ensures outside { KeepsOutside places.now memory.old memory.new }
     ensures ran { result.status ≡ 0 → HasRun (vlenb_of accepted.now.vlen) agnostic accepted.now
         places.now memory.old memory.new result.steps }
+    ensures refused { IsFailure result.status → memory.new ≡ memory.old }
     ensures within { result.steps ≤ max }
 {
     let steps = match accepted.vlen() {
@@ -259,8 +286,29 @@ pub(crate) fn run_one(
     }
 }
 
-/// Checks the image once and runs it once for each of `runs`, one run after another, each on the next eight of `places`. What came of
-/// each stands in `runs`. A run that is refused leaves memory as it is.
+/// Runs of an accepted image, one after another, each on its own set of places. What came of each stands in `runs`.
+fn run_all(
+    alloc: Global,
+    accepted: &Accepted,
+    memory: &mut [u8],
+    sets: &[[Place; 8]],
+    agnostic: Agnostic,
+    max: u64,
+    runs: &mut [Ran],
+)
+    requires { length sets.now ≡ length runs.old }
+    ensures memory { length memory.new ≡ length memory.old }
+    ensures runs { length runs.new ≡ length runs.old }
+    ensures ran { HaveRun (vlenb_of accepted.now.vlen) agnostic accepted.now max sets.now runs.new
+        (length runs.new) memory.old memory.new }
+{
+    for k in 0..runs.len() {
+        runs[k] = run_one(alloc, accepted, memory, &sets[k], agnostic, max);
+    }
+}
+
+/// Checks the image once and runs it once for each of `runs`, one run after another, each on the next eight of `places`.
+/// What came of each stands in `runs`. A run that is refused leaves memory as it is.
 #[unsafe(no_mangle)]
 pub extern "C" fn rvvbox_run_many(
     alloc: Global,
@@ -270,6 +318,9 @@ pub extern "C" fn rvvbox_run_many(
     places: &[Place],
     runs: &mut [Ran],
 ) -> u32
+    ensures ran { result ≡ 0 → HaveRunFile file.now setting.now places.now runs.new
+        memory.old memory.new }
+    ensures refused { IsFailure result → (memory.new ≡ memory.old) × (runs.new ≡ runs.old) }
     ensures accepted { result ≡ 0 → (a : AcceptedView)
         × IsKeptOf file.now setting.now.vlen (Some a) }
     ensures memory { length memory.new ≡ length memory.old }
@@ -288,9 +339,7 @@ pub extern "C" fn rvvbox_run_many(
     match accept(alloc, file, vlen) {
         Err(refusal) => refusal.status,
         Ok(accepted) => {
-            for (ran, set) in runs.iter_mut().zip(sets) {
-                *ran = run_one(alloc, &accepted, memory, set, agnostic, setting.max);
-            }
+            run_all(alloc, &accepted, memory, sets, agnostic, setting.max, runs);
             Status::Done.code()
         }
     }
@@ -308,6 +357,7 @@ pub extern "C" fn rvvbox_run(
 ) -> u32
     ensures ran { result ≡ 0 → HasRunFile file.now setting.now.vlen setting.now.agnostic
         places.now memory.old memory.new steps.new }
+    ensures refused { IsFailure result → memory.new ≡ memory.old }
     ensures length { length memory.new ≡ length memory.old }
     ensures outside { KeepsOutside places.now memory.old memory.new }
     ensures within { result ≡ 0 → steps.new ≤ setting.now.max }

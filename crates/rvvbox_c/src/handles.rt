@@ -1,6 +1,7 @@
 //! The calls on an image that is accepted once, and kept for many runs.
 ghost use Rattle.std.specs.Prelude.{◌≡◌, ◌≤◌, ◌+◌, ◌*◌, ◌^◌, IfErr, IfOk, IfSome, None, length};
 ghost use Rattle.block_checker.specs.Bound.{bound_of as bound_for};
+ghost use Rattle.rvvbox_c.specs.Accept.{IsToldOrWant, answer_for};
 ghost use Rattle.rvvbox_c.specs.Holds.{IsFailure, IsKeptOf};
 ghost use Rattle.rvvbox_c.specs.Places.{KeepsOutside};
 ghost use Rattle.rvvbox_c.specs.Runs.{HasRunSet};
@@ -19,6 +20,7 @@ fn keep(alloc: Global, file: &[u8], bits: u32, handle: &mut Handle) -> Result<()
     ensures kept { IfOk result (λ _. IsKeptOf file.now bits handle.new.kept) }
     ensures refused { IfErr result (λ _. handle.new.kept ≡ handle.old.kept) }
     ensures failed { IfErr result (λ refusal. IsFailure refusal.status) }
+    ensures told { IfErr result (IsToldOrWant (answer_for bits file.now)) }
 {
     let vlen = vlen_of(bits).ok_or(Refusal::of(Status::BadVlen))?;
     let accepted = accept(alloc, file, vlen)?;
@@ -31,8 +33,8 @@ fn keep(alloc: Global, file: &[u8], bits: u32, handle: &mut Handle) -> Result<()
     }
 }
 
-/// Checks as [`rvvbox_check`](crate::calls::rvvbox_check) does, and keeps what is accepted in `handle`, which lets go what it kept.
-/// Where the image is refused the handle stays as it is, and `refusal` tells why.
+/// Checks as [`rvvbox_check`](crate::calls::rvvbox_check) does, and keeps what is accepted in `handle`, which lets go
+/// what it kept. Where the image is refused the handle stays as it is, and `refusal` tells why.
 #[unsafe(no_mangle)]
 pub extern "C" fn rvvbox_accept(
     alloc: Global,
@@ -42,6 +44,7 @@ pub extern "C" fn rvvbox_accept(
     refusal: &mut Refusal,
 ) -> u32
     ensures status { result ≡ refusal.new.status }
+    ensures answer { IsToldOrWant (answer_for vlen file.now) refusal.new }
     ensures kept { result ≡ 0 → IsKeptOf file.now vlen handle.new.kept }
     ensures refused { IsFailure result → handle.new.kept ≡ handle.old.kept }
 {
@@ -88,6 +91,7 @@ fn run_set(
     ensures outside { KeepsOutside places.now memory.old memory.new }
     ensures ran { result.status ≡ 0 → HasRunSet setting.now.agnostic accepted.now
         places.now memory.old memory.new result.steps }
+    ensures refused { IsFailure result.status → memory.new ≡ memory.old }
     ensures within { result.steps ≤ setting.now.max }
 {
     if vlen_of(setting.vlen) != Some(accepted.vlen()) {
@@ -115,6 +119,7 @@ pub extern "C" fn rvvbox_run_accepted(
     ensures nothing { handle.old.kept ≡ None → IsFailure result }
     ensures ran { result ≡ 0 → IfSome handle.old.kept (λ a. HasRunSet setting.now.agnostic a
         places.now memory.old memory.new steps.new) }
+    ensures refused { IsFailure result → memory.new ≡ memory.old }
     ensures within { result ≡ 0 → steps.new ≤ setting.now.max }
 {
     let Some(places) = eight(places) else {

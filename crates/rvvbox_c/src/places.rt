@@ -1,8 +1,10 @@
 //! The eight places of a run, in the host's memory.
-ghost use Rattle.std.specs.Prelude.{◌≡◌, ◌≢◌, ◌+◌, ℕ, IfErr, IfOk, IfSome, drop, length, slice_index_or, take};
+ghost use Rattle.std.specs.Prelude.{◌≡◌, ◌≢◌, ◌+◌, ℕ, false, IfErr, IfOk, IfSome, drop, length, slice_index_or, take};
 ghost use Rattle.rvvbox_c.specs.Places.{IsApart, KeepsOutside};
 ghost use Rattle.rvvbox_c.specs.declared.status.Status.TheVariants.{Done};
 ghost use Rattle.rvvbox_c.specs.Runs.{all_put, argument_of, arguments_of, put_at};
+ghost use Rattle.rvvbox_c.specs.Status.{code_of};
+ghost use Rattle.rvvbox_c.specs.Tries.{is_tried, param_of, params_of};
 
 use crate::status::Status;
 use region_mem::{Arg, Args, Bytes, Mode, Param, Parameters};
@@ -32,6 +34,7 @@ fn named(memory: &[u8], place: Place) -> Option<&[u8]>
 fn argument(alloc: Global, memory: &[u8], place: Place) -> Result<Arg, Status>
     ensures named { IfOk result (λ arg. arg ≡ argument_of memory.now place) }
     ensures failed { IfErr result (λ status. status ≢ Done) }
+    ensures untried { IfErr result (λ status. is_tried (code_of status) ≡ false) }
 {
     match place.kind {
         0 => Ok(Arg::None),
@@ -48,6 +51,7 @@ fn argument(alloc: Global, memory: &[u8], place: Place) -> Result<Arg, Status>
 pub(crate) fn arguments(alloc: Global, memory: &[u8], places: &[Place; 8]) -> Result<Args, Status>
     ensures named { IfOk result (λ args. args.places ≡ arguments_of places.now memory.now) }
     ensures failed { IfErr result (λ status. status ≢ Done) }
+    ensures untried { IfErr result (λ status. is_tried (code_of status) ≡ false) }
 {
     let [a, b, c, d, e, f, g, h] = *places;
     Ok(Args {
@@ -109,7 +113,9 @@ pub(crate) fn eight(places: &[Place]) -> Option<&[Place; 8]>
 }
 
 /// What an image that is tried may do with a place: what stands there, and no more.
-fn parameter(place: Place) -> Option<Param> {
+fn parameter(place: Place) -> Option<Param>
+    ensures { IfSome result (λ param. param ≡ param_of place) }
+{
     match place.kind {
         0 => Some(Param::None),
         1 => Some(Param::Scalar {
@@ -129,7 +135,9 @@ fn parameter(place: Place) -> Option<Param> {
 }
 
 /// The parameters that eight places are arguments for, where buffers are within the limits.
-pub(crate) fn parameters(places: &[Place; 8]) -> Option<Parameters> {
+pub(crate) fn parameters(places: &[Place; 8]) -> Option<Parameters>
+    ensures { IfSome result (λ params. params ≡ params_of places.now) }
+{
     let [a, b, c, d, e, f, g, h] = *places;
     Parameters::new([
         parameter(a)?,

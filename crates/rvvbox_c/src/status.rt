@@ -1,6 +1,8 @@
 //! What a call answers, as `include/rvvbox.h` numbers it.
-ghost use Rattle.std.specs.Prelude.{◌≡◌, ◌≢◌};
+ghost use Rattle.std.specs.Prelude.{◌≡◌, ◌≢◌, false};
 ghost use Rattle.rvvbox_c.specs.Holds.{IsFailure};
+ghost use Rattle.rvvbox_c.specs.Status.{certificate_refusal, certificate_rule as certificate_rule_of, check_refusal, check_rule as check_rule_of, code_of, image_refusal, image_rule as image_rule_of, plain, status_of_open};
+ghost use Rattle.rvvbox_c.specs.Tries.{is_tried};
 ghost use Rattle.rvvbox_c.specs.declared.status.Status.TheVariants.{Done, NoMemory};
 
 use block_checker::CheckError;
@@ -57,6 +59,7 @@ pub enum Status {
 impl Status {
     /// The number in `include/rvvbox.h`.
     pub(crate) fn code(self) -> u32
+        ensures code { result ≡ code_of self }
         ensures done { self ≡ Done → result ≡ 0 }
         ensures failed { self ≢ Done → IsFailure result }
     {
@@ -94,6 +97,9 @@ impl From<AllocError> for Status {
 }
 
 impl From<ElfError> for Status {
+    ghost from_gives = { λ error status. (code_of status ≡ (image_refusal error).status)
+        × (is_tried (code_of status) ≡ false) };
+
     fn from(error: ElfError) -> Status {
         match error {
             ElfError::NoMemory => Status::NoMemory,
@@ -118,7 +124,8 @@ impl From<ElfError> for Status {
 }
 
 impl From<OpenError> for Status {
-    ghost from_gives = { λ _ status. status ≢ Done };
+    ghost from_gives = { λ error status. (status ≡ status_of_open error)
+        × (is_tried (code_of status) ≡ false) × (status ≢ Done) };
 
     fn from(error: OpenError) -> Status {
         match error {
@@ -145,6 +152,7 @@ pub struct Refusal {
 impl Refusal {
     /// A refusal that names no rule.
     pub(crate) fn of(status: Status) -> Refusal
+        ensures plain { result ≡ plain status }
         ensures done { status ≡ Done → result.status ≡ 0 }
         ensures failed { status ≢ Done → IsFailure result.status }
     {
@@ -156,87 +164,120 @@ impl Refusal {
     }
 }
 
+/// The number of the rule that a file breaks, and 0 of want of memory.
+fn image_rule(error: ElfError) -> u32
+    ensures { result ≡ image_rule_of error }
+{
+    match error {
+        ElfError::TooShort => 1,
+        ElfError::BadMagic => 2,
+        ElfError::BadClass => 3,
+        ElfError::BadType => 4,
+        ElfError::BadMachine => 5,
+        ElfError::BadFlags => 6,
+        ElfError::BadHeaderTable => 7,
+        ElfError::NotStatic => 8,
+        ElfError::SegmentOutOfFile => 9,
+        ElfError::SegmentOutOfPlace => 10,
+        ElfError::SegmentsOverlap => 11,
+        ElfError::WriteAndExecute => 12,
+        ElfError::TooLarge => 13,
+        ElfError::EntryNotCode => 14,
+        ElfError::TwoCertificates => 15,
+        ElfError::CertificateThere => 16,
+        ElfError::NoMemory => 0,
+    }
+}
+
+/// The number of the rule that a certificate's bytes break, and 0 of want of memory.
+fn certificate_rule(error: CertError) -> u32
+    ensures { result ≡ certificate_rule_of error }
+{
+    match error {
+        CertError::Short => 1,
+        CertError::Version => 2,
+        CertError::Parameter => 3,
+        CertError::BlockOrder => 4,
+        CertError::Fact => 5,
+        CertError::Equality => 6,
+        CertError::Budget => 7,
+        CertError::TrailingBytes => 8,
+        CertError::TooMany => 9,
+        CertError::Order => 10,
+        CertError::NoMemory => 0,
+    }
+}
+
+/// The number of the rule that fails in a check, and 0 of want of memory.
+fn check_rule(error: CheckError) -> u32
+    ensures { result ≡ check_rule_of error }
+{
+    match error {
+        CheckError::WrongVlen => 1,
+        CheckError::NoEntryBlock => 2,
+        CheckError::NotCode(_) => 3,
+        CheckError::IllegalWord(_) => 4,
+        CheckError::VtypeUnknown(_) => 5,
+        CheckError::AccessNotProved(_) => 6,
+        CheckError::ReadOnly(_) => 7,
+        CheckError::TargetNotABlock(_) => 8,
+        CheckError::IntervalNotProved(_) => 9,
+        CheckError::EqualityNotProved(_) => 10,
+        CheckError::OrderNotProved(_) => 11,
+        CheckError::VectorFactNotProved(_) => 12,
+        CheckError::BudgetNotProved(_) => 13,
+        CheckError::BlockTooLong(_) => 14,
+        CheckError::NoMemory => 0,
+    }
+}
+
 impl From<ElfError> for Refusal {
-    ghost from_gives = { λ _ refusal. IsFailure refusal.status };
+    ghost from_gives = { λ error refusal. (refusal ≡ image_refusal error)
+        × IsFailure refusal.status };
 
     fn from(error: ElfError) -> Refusal {
-        let rule = match error {
-            ElfError::NoMemory => return Refusal::of(Status::NoMemory),
-            ElfError::TooShort => 1,
-            ElfError::BadMagic => 2,
-            ElfError::BadClass => 3,
-            ElfError::BadType => 4,
-            ElfError::BadMachine => 5,
-            ElfError::BadFlags => 6,
-            ElfError::BadHeaderTable => 7,
-            ElfError::NotStatic => 8,
-            ElfError::SegmentOutOfFile => 9,
-            ElfError::SegmentOutOfPlace => 10,
-            ElfError::SegmentsOverlap => 11,
-            ElfError::WriteAndExecute => 12,
-            ElfError::TooLarge => 13,
-            ElfError::EntryNotCode => 14,
-            ElfError::TwoCertificates => 15,
-            ElfError::CertificateThere => 16,
-        };
-        Refusal {
-            status: Status::Image.code(),
-            rule,
-            address: 0,
+        if let ElfError::NoMemory = error {
+            Refusal::of(Status::NoMemory)
+        } else {
+            Refusal {
+                status: Status::Image.code(),
+                rule: image_rule(error),
+                address: 0,
+            }
         }
     }
 }
 
 impl From<CertError> for Refusal {
-    ghost from_gives = { λ _ refusal. IsFailure refusal.status };
+    ghost from_gives = { λ error refusal. (refusal ≡ certificate_refusal error)
+        × IsFailure refusal.status };
 
     fn from(error: CertError) -> Refusal {
-        let rule = match error {
-            CertError::NoMemory => return Refusal::of(Status::NoMemory),
-            CertError::Short => 1,
-            CertError::Version => 2,
-            CertError::Parameter => 3,
-            CertError::BlockOrder => 4,
-            CertError::Fact => 5,
-            CertError::Equality => 6,
-            CertError::Budget => 7,
-            CertError::TrailingBytes => 8,
-            CertError::TooMany => 9,
-            CertError::Order => 10,
-        };
-        Refusal {
-            status: Status::Certificate.code(),
-            rule,
-            address: 0,
+        if let CertError::NoMemory = error {
+            Refusal::of(Status::NoMemory)
+        } else {
+            Refusal {
+                status: Status::Certificate.code(),
+                rule: certificate_rule(error),
+                address: 0,
+            }
         }
     }
 }
 
 impl From<CheckError> for Refusal {
-    ghost from_gives = { λ _ refusal. IsFailure refusal.status };
+    ghost from_gives = { λ error refusal. (refusal ≡ check_refusal error)
+        × IsFailure refusal.status };
 
     fn from(error: CheckError) -> Refusal {
-        let rule = match error {
-            CheckError::NoMemory => return Refusal::of(Status::NoMemory),
-            CheckError::WrongVlen => 1,
-            CheckError::NoEntryBlock => 2,
-            CheckError::NotCode(_) => 3,
-            CheckError::IllegalWord(_) => 4,
-            CheckError::VtypeUnknown(_) => 5,
-            CheckError::AccessNotProved(_) => 6,
-            CheckError::ReadOnly(_) => 7,
-            CheckError::TargetNotABlock(_) => 8,
-            CheckError::IntervalNotProved(_) => 9,
-            CheckError::EqualityNotProved(_) => 10,
-            CheckError::OrderNotProved(_) => 11,
-            CheckError::VectorFactNotProved(_) => 12,
-            CheckError::BudgetNotProved(_) => 13,
-            CheckError::BlockTooLong(_) => 14,
-        };
-        Refusal {
-            status: Status::Check.code(),
-            rule,
-            address: error.address().unwrap_or(0),
+        if let CheckError::NoMemory = error {
+            Refusal::of(Status::NoMemory)
+        } else {
+            Refusal {
+                status: Status::Check.code(),
+                rule: check_rule(error),
+                address: error.address().unwrap_or(0),
+            }
         }
     }
 }

@@ -1,7 +1,9 @@
 //! Runs of any image, accepted or not.
-ghost use Rattle.std.specs.Prelude.{◌≡◌, length};
-ghost use Rattle.vreg_groups.specs.VectorLength.{IsVlenb};
+ghost use Rattle.std.specs.Prelude.{◌≡◌, IfErr, IfOk, false, length, true};
+ghost use Rattle.vreg_groups.specs.VectorLength.{IsVlenb, vlenb_of};
 ghost use Rattle.rvvbox_c.specs.Places.{KeepsOutside};
+ghost use Rattle.rvvbox_c.specs.Status.{code_of};
+ghost use Rattle.rvvbox_c.specs.Tries.{HasTried, IsTry, fault_number as number_of_fault, is_tried, stopped_at, tried_from, tried_of};
 
 use crate::accept::{agnostic_of, vlen_of};
 use crate::calls::Setting;
@@ -13,8 +15,8 @@ use sandbox_run::{Final, Outcome, try_run};
 use std::alloc::Global;
 use vreg_groups::{Agnostic, Vlen};
 
-/// Where a tried run stopped. `fault` is 0, or that of the next step: 1 an illegal word, 2 a fetch, 3 a load, 4 a store, 5 a jump to no
-/// multiple of 4; `number` is then the word or the address.
+/// Where a tried run stopped. `fault` is 0, or that of the next step: 1 an illegal word, 2 a fetch, 3 a load, 4 a
+/// store, 5 a jump to no multiple of 4; `number` is then the word or the address.
 #[repr(C)]
 #[derive(Clone, Copy)]
 pub struct Stopped {
@@ -32,7 +34,9 @@ struct Tried {
     args: Args,
 }
 
-fn fault_number(fault: Fault) -> u32 {
+fn fault_number(fault: Fault) -> u32
+    ensures { result ≡ number_of_fault fault }
+{
     match fault {
         Fault::Illegal(_) => 1,
         Fault::FetchFault(_) => 2,
@@ -42,7 +46,13 @@ fn fault_number(fault: Fault) -> u32 {
     }
 }
 
-fn stop<const VLENB: usize>(status: Status, fault: u32, number: u32, last: Final<VLENB>) -> Tried {
+fn stop<const VLENB: usize>(status: Status, fault: u32, number: u32, last: Final<VLENB>) -> Tried
+    ensures { result ≡ record {
+      status = status;
+      stopped = stopped_at fault number last.entry;
+      args = last.entry.args;
+    } }
+{
     let Final {
         steps,
         registers,
@@ -61,7 +71,9 @@ fn stop<const VLENB: usize>(status: Status, fault: u32, number: u32, last: Final
     }
 }
 
-fn told<const VLENB: usize>(outcome: Outcome<VLENB>) -> Tried {
+fn told<const VLENB: usize>(outcome: Outcome<VLENB>) -> Tried
+    ensures { result ≡ tried_of outcome.entry }
+{
     match outcome {
         Outcome::Ended(last) => stop(Status::Done, 0, 0, last),
         Outcome::Trapped(fault, last) => {
@@ -80,6 +92,9 @@ fn try_at<const VLENB: usize>(
     max: u64,
 ) -> Result<Tried, Status>
     requires { IsVlenb VLENB }
+    ensures tried { IfOk result (λ tried. tried ≡ tried_from VLENB agnostic max image.now
+        parameters.now args.places) }
+    ensures failed { IfErr result (λ status. is_tried (code_of status) ≡ false) }
 {
     match try_run::<VLENB>(alloc, image, parameters, args, agnostic, max) {
         Ok(outcome) => Ok(told(outcome)),
@@ -96,7 +111,11 @@ fn try_image(
     parameters: &Parameters,
     agnostic: Agnostic,
     max: u64,
-) -> Result<Tried, Status> {
+) -> Result<Tried, Status>
+    ensures tried { IfOk result (λ tried. tried ≡ tried_from (vlenb_of vlen) agnostic max image.now
+        parameters.now args.places) }
+    ensures failed { IfErr result (λ status. is_tried (code_of status) ≡ false) }
+{
     match vlen {
         Vlen::V128 => try_at::<16>(alloc, image, parameters, args, agnostic, max),
         Vlen::V256 => try_at::<32>(alloc, image, parameters, args, agnostic, max),
@@ -111,7 +130,10 @@ fn performed(
     setting: &Setting,
     memory: &[u8],
     places: &[Place; 8],
-) -> Result<Tried, Status> {
+) -> Result<Tried, Status>
+    ensures tried { IfOk result (IsTry file.now setting.now places.now memory.now) }
+    ensures failed { IfErr result (λ status. is_tried (code_of status) ≡ false) }
+{
     let vlen = vlen_of(setting.vlen).ok_or(Status::BadVlen)?;
     let agnostic = agnostic_of(setting.agnostic).ok_or(Status::BadAgnostic)?;
     let image = elf_image::read(alloc, file)?;
@@ -128,8 +150,9 @@ fn performed(
     )
 }
 
-/// Runs any image once, accepted or not, with every test at each step, on eight places, and puts the buffers back as they stand where
-/// it stopped. `stopped` is set where the answer is `Done`, `Trapped` or `OutOfSteps`.
+/// Runs any image once, accepted or not, with every test at each step, on eight places, and puts the buffers back as
+/// they stand where it stopped. `stopped` is set where the answer is `Done`, `Trapped` or `OutOfSteps`; after any other
+/// answer memory is as it was.
 #[unsafe(no_mangle)]
 pub extern "C" fn rvvbox_try(
     alloc: Global,
@@ -139,6 +162,10 @@ pub extern "C" fn rvvbox_try(
     places: &[Place],
     stopped: &mut Stopped,
 ) -> u32
+    ensures tried { is_tried result ≡ true → HasTried file.now setting.now places.now
+        memory.old memory.new result stopped.new }
+    ensures refused { is_tried result ≡ false
+        → (memory.new ≡ memory.old) × (stopped.new ≡ stopped.old) }
     ensures length { length memory.new ≡ length memory.old }
     ensures outside { KeepsOutside places.now memory.old memory.new }
 {

@@ -1,0 +1,122 @@
+-- The number of each status, and which refusal each error is.
+use Rattle.std.specs.Prelude.{ℕ, unwrap_or}
+use Rattle.block_checker.specs.Refusals.{address_of}
+use Rattle.block_checker.specs.declared.errors.CheckError.{CheckError}
+use Rattle.block_checker.specs.declared.errors.CheckError.TheVariants as check
+use Rattle.cert_note.specs.declared.refusals.CertError.{CertError}
+use Rattle.cert_note.specs.declared.refusals.CertError.TheVariants as certificate
+use Rattle.elf_image.specs.declared.error.ElfError.{ElfError}
+use Rattle.elf_image.specs.declared.error.ElfError.TheVariants as image
+use Rattle.sandbox_run.specs.declared.outcome.OpenError.{OpenError}
+use Rattle.sandbox_run.specs.declared.outcome.OpenError.TheVariants as open_error
+use Rattle.rvvbox_c.specs.declared.status.Refusal.{Refusal}
+use Rattle.rvvbox_c.specs.declared.status.Status.{Status}
+use Rattle.rvvbox_c.specs.declared.status.Status.TheVariants as status
+
+-- the number in include/rvvbox.h
+abbrev pub code_of : Status → ℕ
+code_of status.Done = 0
+code_of status.NoMemory = 1
+code_of status.BadVlen = 2
+code_of status.BadAgnostic = 3
+code_of status.BadCount = 4
+code_of status.BadKind = 5
+code_of status.BadRange = 6
+code_of status.TooLarge = 7
+code_of status.Image = 8
+code_of status.NoCertificate = 9
+code_of status.Certificate = 10
+code_of status.Check = 11
+code_of status.WrongKind = 12
+code_of status.ScalarOutOfInterval = 13
+code_of status.WrongSize = 14
+code_of status.BoundTooLarge = 15
+code_of status.WrongVlen = 16
+code_of status.Trapped = 17
+code_of status.OutOfSteps = 18
+code_of status.NothingKept = 19
+
+-- the status of a run that was not started
+abbrev pub status_of_open : OpenError → Status
+status_of_open (open_error.WrongKind place) = status.WrongKind
+status_of_open (open_error.ScalarOutOfInterval place) = status.ScalarOutOfInterval
+status_of_open (open_error.WrongSize place) = status.WrongSize
+status_of_open open_error.BoundTooLarge = status.BoundTooLarge
+status_of_open open_error.WrongVlen = status.WrongVlen
+status_of_open open_error.NoMemory = status.NoMemory
+
+-- ---- rules by their numbers, from 1 on; want of memory is no rule
+
+abbrev pub image_rule : ElfError → ℕ
+image_rule image.TooShort = 1
+image_rule image.BadMagic = 2
+image_rule image.BadClass = 3
+image_rule image.BadType = 4
+image_rule image.BadMachine = 5
+image_rule image.BadFlags = 6
+image_rule image.BadHeaderTable = 7
+image_rule image.NotStatic = 8
+image_rule image.SegmentOutOfFile = 9
+image_rule image.SegmentOutOfPlace = 10
+image_rule image.SegmentsOverlap = 11
+image_rule image.WriteAndExecute = 12
+image_rule image.TooLarge = 13
+image_rule image.EntryNotCode = 14
+image_rule image.TwoCertificates = 15
+image_rule image.CertificateThere = 16
+image_rule image.NoMemory = 0
+
+abbrev pub certificate_rule : CertError → ℕ
+certificate_rule certificate.Short = 1
+certificate_rule certificate.Version = 2
+certificate_rule certificate.Parameter = 3
+certificate_rule certificate.BlockOrder = 4
+certificate_rule certificate.Fact = 5
+certificate_rule certificate.Equality = 6
+certificate_rule certificate.Budget = 7
+certificate_rule certificate.TrailingBytes = 8
+certificate_rule certificate.TooMany = 9
+certificate_rule certificate.Order = 10
+certificate_rule certificate.NoMemory = 0
+
+abbrev pub check_rule : CheckError → ℕ
+check_rule check.WrongVlen = 1
+check_rule check.NoEntryBlock = 2
+check_rule (check.NotCode pc) = 3
+check_rule (check.IllegalWord pc) = 4
+check_rule (check.VtypeUnknown pc) = 5
+check_rule (check.AccessNotProved pc) = 6
+check_rule (check.ReadOnly pc) = 7
+check_rule (check.TargetNotABlock pc) = 8
+check_rule (check.IntervalNotProved pc) = 9
+check_rule (check.EqualityNotProved pc) = 10
+check_rule (check.OrderNotProved pc) = 11
+check_rule (check.VectorFactNotProved pc) = 12
+check_rule (check.BudgetNotProved pc) = 13
+check_rule (check.BlockTooLong pc) = 14
+check_rule check.NoMemory = 0
+
+-- ---- refusals
+
+-- one that names no rule
+abbrev pub plain : Status → Refusal
+plain s = record { status = code_of s; rule = 0; address = 0 }
+
+abbrev pub image_refusal : ElfError → Refusal
+image_refusal image.NoMemory = plain status.NoMemory
+image_refusal error =
+    record { status = code_of status.Image; rule = image_rule error; address = 0 }
+
+abbrev pub certificate_refusal : CertError → Refusal
+certificate_refusal certificate.NoMemory = plain status.NoMemory
+certificate_refusal error =
+    record { status = code_of status.Certificate; rule = certificate_rule error; address = 0 }
+
+-- with the address of the word at which the check stopped
+abbrev pub check_refusal : CheckError → Refusal
+check_refusal check.NoMemory = plain status.NoMemory
+check_refusal error = record {
+  status = code_of status.Check;
+  rule = check_rule error;
+  address = unwrap_or (address_of error) 0;
+}
