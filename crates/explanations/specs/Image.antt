@@ -168,17 +168,20 @@ abbrev pub large_wanted : List ℕ
 large_wanted =
     codes "  wanted: at most 4194304, at most 16 segments, and at most 16777216 bytes of memory\n"
 
-abbrev pub field_line : ElfField → ℕ → ℕ → List ℕ
-field_line f offset value = codes "  " ++ (field_name f ++ (codes " at byte "
-    ++ (decimal offset ++ (codes " of the file: " ++ (decimal value ++ (codes " ("
-    ++ (address_text value ++ codes ")\n")))))))
+abbrev pub field_place : ElfField → ℕ → List ℕ
+field_place f offset = codes "  " ++ (field_name f ++ (codes " at byte "
+    ++ (decimal offset ++ codes " of the file: ")))
+
+abbrev pub field_number : ℕ → List ℕ
+field_number value = decimal value ++ (codes " (" ++ (address_text value ++ codes ")\n"))
 
 -- the lines of a reason
 abbrev pub image_text : ImageReason → List ℕ
 image_text reason.Untold = []
 image_text (reason.Short size) = codes "  size of the file: "
     ++ (decimal size ++ codes "\n  wanted: at least 52, an ELF header\n")
-image_text (reason.Field f offset value) = field_line f offset value ++ wanted f value
+image_text (reason.Field f offset value) =
+    field_place f offset ++ (field_number value ++ wanted f value)
 image_text (reason.Segment broken header) = header_text header ++ rule_text broken
 image_text (reason.Overlap first second) =
     header_text first ++ (header_text second ++ codes "  wanted: no address of both\n")

@@ -61,5 +61,5 @@ open_text (reason.Argument place wanted passed) = codes "  wanted at place " ++ 
     ++ (codes ": " ++ (param_text wanted ++ (codes "\n  passed: " ++ (given_text passed
     ++ codes "\n")))))
 open_text (reason.Bound bound max) = codes "  bound of the run: " ++ (decimal bound
-    ++ (codes " steps\n  wanted: at most max, " ++ (decimal max ++ codes "\n")))
+    ++ (codes "\n  wanted: at most " ++ (decimal max ++ codes "\n")))
 open_text reason.Length = codes "  wanted: the length of vector registers of the certificate\n"

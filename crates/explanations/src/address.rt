@@ -3,7 +3,7 @@ use std::fmt;
 
 /// A number as eight digits of base 16.
 #[derive(Drop)]
-struct Digits(u32);
+struct Digits(u64);
 
 impl fmt::Display for Digits {
     ghost use Rattle.std.specs.Prelude.{Some};
@@ -17,9 +17,9 @@ impl fmt::Display for Digits {
     }
 }
 
-/// An address or a word, which is told as `0x` and eight digits of base 16.
+/// An address or a word, which is told as `0x` and eight digits of base 16. The end of an area may be 2^32.
 #[derive(Clone, Copy, Debug, PartialEq, Eq)]
-pub struct Address(pub u32);
+pub struct Address(pub u64);
 
 impl fmt::Display for Address {
     ghost use Rattle.std.specs.Prelude.{Some};

@@ -223,7 +223,7 @@ impl fmt::Display for AddressLine {
         let Header {
             p_type, p_offset, ..
         } = self.0;
-        let address = Address(self.0.p_vaddr);
+        let address = Address(u64::from(self.0.p_vaddr));
         writeln!(f, "  p_type {p_type}, p_offset {p_offset}, p_vaddr {address}")
     }
 }

@@ -283,28 +283,39 @@ fn large_wanted() -> &'static str
     "  wanted: at most 4194304, at most 16 segments, and at most 16777216 bytes of memory\n"
 }
 
-/// The line that tells a field.
+/// Where a field stands.
 #[derive(Clone, Copy)]
-struct FieldLine {
+struct FieldPlace {
     field: ElfField,
     offset: usize,
-    value: u32,
 }
 
-impl fmt::Display for FieldLine {
+impl fmt::Display for FieldPlace {
     ghost use Rattle.std.specs.Prelude.{Some};
-    ghost use Rattle.explanations.specs.Image.{field_line};
+    ghost use Rattle.explanations.specs.Image.{field_place};
 
-    ghost output = { λ line. Some (field_line line.field line.offset line.value) };
+    ghost output = { λ place. Some (field_place place.field place.offset) };
 
     fn fmt<W: fmt::Write>(&self, f: &mut fmt::Formatter<W>) -> fmt::Result {
-        let FieldLine {
-            field,
-            offset,
-            value,
-        } = *self;
-        let number = Address(value);
-        writeln!(f, "  {field} at byte {offset} of the file: {value} ({number})")
+        let FieldPlace { field, offset } = *self;
+        write!(f, "  {field} at byte {offset} of the file: ")
+    }
+}
+
+/// The number of a field, as a number and as a word.
+#[derive(Clone, Copy)]
+struct FieldNumber(u32);
+
+impl fmt::Display for FieldNumber {
+    ghost use Rattle.std.specs.Prelude.{Some};
+    ghost use Rattle.explanations.specs.Image.{field_number};
+
+    ghost output = { λ number. Some (field_number number.0) };
+
+    fn fmt<W: fmt::Write>(&self, f: &mut fmt::Formatter<W>) -> fmt::Result {
+        let value = self.0;
+        let word = Address(u64::from(value));
+        writeln!(f, "{value} ({word})")
     }
 }
 
@@ -325,13 +336,10 @@ impl fmt::Display for ImageReason {
                 offset,
                 value,
             } => {
-                let line = FieldLine {
-                    field,
-                    offset,
-                    value,
-                };
+                let place = FieldPlace { field, offset };
+                let number = FieldNumber(value);
                 let wanted = wanted(field, value);
-                write!(f, "{line}{wanted}")
+                write!(f, "{place}{number}{wanted}")
             }
             ImageReason::Segment { rule, header } => write!(f, "{header}{rule}"),
             ImageReason::Overlap { first, second } => {

@@ -50,13 +50,17 @@ fn argument_at<A: Allocator>(
 ) -> OpenReason
     ensures { result ≡ argument_at place parameters.now args.now.places }
 {
-    if place >= 8 {
+    let params = parameters.to_array();
+    let Some(wanted) = params.get(place) else {
         return OpenReason::Untold;
-    }
+    };
+    let Some(passed) = args.places.get(place) else {
+        return OpenReason::Untold;
+    };
     OpenReason::Argument {
         place,
-        wanted: parameters.param(place),
-        given: given_of(&args.places[place]),
+        wanted: *wanted,
+        given: given_of(passed),
     }
 }
 
@@ -136,7 +140,7 @@ impl fmt::Display for OpenReason {
                 write!(f, "  wanted at place {place}: {wanted}\n  passed: {given}\n")
             }
             OpenReason::Bound { bound, max } => {
-                write!(f, "  bound of the run: {bound} steps\n  wanted: at most max, {max}\n")
+                write!(f, "  bound of the run: {bound}\n  wanted: at most {max}\n")
             }
             OpenReason::Length => {
                 writeln!(f, "  wanted: the length of vector registers of the certificate")
