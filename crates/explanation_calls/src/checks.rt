@@ -46,10 +46,11 @@ fn tells_an_access(rt: HostRuntime) -> Result<(), Fail> {
   at 0x00010004: 0x00454283
   that is lbu rd=5 rs1=10 imm=4
   known: x10 in 0x40000000..=0x400003ff
-  size of the access: 1, offset from the base: 4
+  bytes of the access: 1
+  offset from the base: 4
   wanted: all bytes in one of these zones that may be read
     from 0x00010000 and below 0x0001001c: read
-    from 0x20000000 and below 0x30000000: read and write
+    from 0x2fff0000 and below 0x30000000: read and write
     from 0x40000000 and below 0x40000400: read
 ";
     assert_told(&rt, rt.alloc(), 1, 0x0045_4283, expected)
@@ -62,10 +63,11 @@ fn tells_a_store(rt: HostRuntime) -> Result<(), Fail> {
   at 0x00010004: 0x00550023
   that is sb rs1=10 rs2=5 imm=0
   known: x10 in 0x40000000..=0x400003ff
-  size of the access: 1, offset from the base: 0
+  bytes of the access: 1
+  offset from the base: 0
   wanted: all bytes in one of these zones that may be written
     from 0x00010000 and below 0x0001001c: read
-    from 0x20000000 and below 0x30000000: read and write
+    from 0x2fff0000 and below 0x30000000: read and write
     from 0x40000000 and below 0x40000400: read
 ";
     assert_told(&rt, rt.alloc(), 1, 0x0055_0023, expected)
@@ -88,4 +90,19 @@ fn tells_the_lengths(rt: HostRuntime) -> Result<(), Fail> {
     let text = format!(in alloc; "{reason}")?;
     assert_same!(rt; text.as_str(), "  stated: VLEN 128\n  wanted: VLEN 256\n");
     Ok(())
+}
+
+/// addi a0,a0,2: x10 may come to lie above its interval of the loop.
+#[test]
+fn tells_an_interval_on_a_way_out(rt: HostRuntime) -> Result<(), Fail> {
+    let expected = "  stopped in the block at 0x00010004
+  at 0x00010014: 0xfe0598e3
+  that is bne rs1=11 rs2=0 to=00010004
+  wanted: the intervals of the block entered
+  leads to 0x00010004, after 5 words of the block
+  enters block 1 of the certificate, with a budget of 1 + 5 * x11
+  known: x10 in 0x40000002..=0x40000401
+  wanted on entering it: x10 in 0x40000000..=0x400003ff
+";
+    assert_told(&rt, rt.alloc(), 2, 0x0025_0513, expected)
 }

@@ -80,9 +80,14 @@ base_line base interval =
 unfoldable pub offset_text : ℤ → List ℕ
 offset_text offset = signed_decimal offset
 
-abbrev pub size_line : ℤ → ℕ → List ℕ
-size_line offset size = codes "  size of the access: " ++ (decimal size
-    ++ (codes ", offset from the base: " ++ (offset_text offset ++ codes "\n")))
+abbrev pub bytes_line : ℕ → List ℕ
+bytes_line size = codes "  bytes of the access: " ++ (decimal size ++ codes "\n")
+
+abbrev pub offset_line : ℤ → List ℕ
+offset_line offset = codes "  offset from the base: " ++ (offset_text offset ++ codes "\n")
+
+unfoldable pub size_lines : ℤ → ℕ → List ℕ
+size_lines offset size = bytes_line size ++ offset_line offset
 
 abbrev pub access_wanted : Operand → List ℕ
 access_wanted o =
@@ -94,5 +99,5 @@ unfoldable pub access_text : Access → List ℕ
 access_text a =
     if a.operand.size == 0
     then base_line a.operand.base a.interval ++ (access_wanted a.operand ++ zone_lines a.zones.items)
-    else base_line a.operand.base a.interval ++ (size_line a.operand.offset a.operand.size
+    else base_line a.operand.base a.interval ++ (size_lines a.operand.offset a.operand.size
     ++ (access_wanted a.operand ++ zone_lines a.zones.items))

@@ -19,6 +19,7 @@ use Rattle.block_checker.specs.declared.explanation.Part.TheVariants as part
 use Rattle.block_checker.specs.declared.explanation.Stop.{Stop}
 use Rattle.explanations.specs.Access.{access_text, operand_of}
 use Rattle.explanations.specs.Address.{address_text}
+use Rattle.explanations.specs.Edge.{IsEdge, edge_text}
 use Rattle.explanations.specs.declared.access.Operand.{Operand}
 use Rattle.explanations.specs.declared.check.CheckReason.{CheckReason}
 use Rattle.explanations.specs.declared.check.Wanted.{Wanted}
@@ -48,11 +49,20 @@ IsAccessOf image certificate stop (Some o) (wanted.Access a) =
 IsAccessOf image certificate stop (Some o) wanted.Plain = ⊥
 IsAccessOf image certificate stop (Some o) (wanted.Length stated bits) = ⊥
 IsAccessOf image certificate stop (Some o) (wanted.Entry entry) = ⊥
+IsAccessOf image certificate stop (Some o) (wanted.Edge edge) = ⊥
 
 abbrev pub IsAccess : ImageView → CertificateView → Option Stop → Wanted → Type 0
 IsAccess image certificate None told = told ≡ wanted.Plain
 IsAccess image certificate (Some stop) told =
     IsAccessOf image certificate stop (access_operand stop) told
+
+-- What is told of a way out: the block that it enters, and an interval that this states.
+abbrev pub IsEdgeWanted : CertificateView → Wanted → Type 0
+IsEdgeWanted certificate (wanted.Edge edge) = IsEdge certificate edge
+IsEdgeWanted certificate wanted.Plain = Unit {0}
+IsEdgeWanted certificate (wanted.Length stated bits) = ⊥
+IsEdgeWanted certificate (wanted.Entry entry) = ⊥
+IsEdgeWanted certificate (wanted.Access access) = ⊥
 
 -- what is wanted where a check stops with an error
 abbrev pub IsWantedBy : ImageView → CertificateView → Vlen → CheckError → Option Stop → Wanted → Type 0
@@ -65,13 +75,13 @@ IsWantedBy image certificate bits (error.ReadOnly pc) stop told =
     IsAccess image certificate stop told
 IsWantedBy image certificate bits (error.NotCode pc) stop told = told ≡ wanted.Plain
 IsWantedBy image certificate bits (error.IllegalWord pc) stop told = told ≡ wanted.Plain
-IsWantedBy image certificate bits (error.VtypeUnknown pc) stop told = told ≡ wanted.Plain
-IsWantedBy image certificate bits (error.TargetNotABlock pc) stop told = told ≡ wanted.Plain
-IsWantedBy image certificate bits (error.IntervalNotProved pc) stop told = told ≡ wanted.Plain
-IsWantedBy image certificate bits (error.EqualityNotProved pc) stop told = told ≡ wanted.Plain
-IsWantedBy image certificate bits (error.OrderNotProved pc) stop told = told ≡ wanted.Plain
-IsWantedBy image certificate bits (error.VectorFactNotProved pc) stop told = told ≡ wanted.Plain
-IsWantedBy image certificate bits (error.BudgetNotProved pc) stop told = told ≡ wanted.Plain
+IsWantedBy image certificate bits (error.VtypeUnknown pc) stop told = IsEdgeWanted certificate told
+IsWantedBy image certificate bits (error.TargetNotABlock pc) stop told = IsEdgeWanted certificate told
+IsWantedBy image certificate bits (error.IntervalNotProved pc) stop told = IsEdgeWanted certificate told
+IsWantedBy image certificate bits (error.EqualityNotProved pc) stop told = IsEdgeWanted certificate told
+IsWantedBy image certificate bits (error.OrderNotProved pc) stop told = IsEdgeWanted certificate told
+IsWantedBy image certificate bits (error.VectorFactNotProved pc) stop told = IsEdgeWanted certificate told
+IsWantedBy image certificate bits (error.BudgetNotProved pc) stop told = IsEdgeWanted certificate told
 IsWantedBy image certificate bits (error.BlockTooLong pc) stop told = told ≡ wanted.Plain
 IsWantedBy image certificate bits error.NoMemory stop told = told ≡ wanted.Plain
 
@@ -128,6 +138,7 @@ wanted_text (wanted.Length stated bits) = codes "  stated: VLEN " ++ (bits_text 
 wanted_text (wanted.Entry entry) =
     codes "  wanted: a block at the entry, " ++ (address_text entry ++ codes "\n")
 wanted_text (wanted.Access access) = access_text access
+wanted_text (wanted.Edge edge) = edge_text edge
 
 -- the lines of a reason
 unfoldable pub check_text : {A : Type 0} → CheckReason A → List ℕ

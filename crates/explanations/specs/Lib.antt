@@ -6,3 +6,4 @@ pub mod Open
 pub mod Access
 pub mod Check
 pub mod Job
+pub mod Edge

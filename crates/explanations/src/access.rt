@@ -225,23 +225,56 @@ impl fmt::Display for Offset {
     }
 }
 
-/// How many bytes are accessed, and how far from the base on, as a line.
+/// How many bytes are accessed, as a line.
 #[derive(Clone, Copy)]
-struct SizeLine {
+struct BytesLine(u8);
+
+impl fmt::Display for BytesLine {
+    ghost use Rattle.std.specs.Prelude.{Some};
+    ghost use Rattle.explanations.specs.Access.{bytes_line};
+
+    ghost output = { λ line. Some (bytes_line line.0) };
+
+    fn fmt<W: fmt::Write>(&self, f: &mut fmt::Formatter<W>) -> fmt::Result {
+        let size = self.0;
+        writeln!(f, "  bytes of the access: {size}")
+    }
+}
+
+/// How far from the base on, as a line.
+#[derive(Clone, Copy)]
+struct OffsetLine(i32);
+
+impl fmt::Display for OffsetLine {
+    ghost use Rattle.std.specs.Prelude.{Some};
+    ghost use Rattle.explanations.specs.Access.{offset_line};
+
+    ghost output = { λ line. Some (offset_line line.0) };
+
+    fn fmt<W: fmt::Write>(&self, f: &mut fmt::Formatter<W>) -> fmt::Result {
+        let offset = Offset(self.0);
+        writeln!(f, "  offset from the base: {offset}")
+    }
+}
+
+/// How many bytes are accessed, and how far from the base on.
+#[derive(Clone, Copy)]
+struct SizeLines {
     offset: i32,
     size: u8,
 }
 
-impl fmt::Display for SizeLine {
+impl fmt::Display for SizeLines {
     ghost use Rattle.std.specs.Prelude.{Some};
-    ghost use Rattle.explanations.specs.Access.{size_line};
+    ghost use Rattle.explanations.specs.Access.{size_lines};
 
-    ghost output = { λ line. Some (size_line line.offset line.size) };
+    ghost output = { λ lines. Some (size_lines lines.offset lines.size) };
 
+    #[tactic(auto, unfolding(crate::specs::Access::size_lines))]
     fn fmt<W: fmt::Write>(&self, f: &mut fmt::Formatter<W>) -> fmt::Result {
-        let offset = Offset(self.offset);
-        let size = self.size;
-        writeln!(f, "  size of the access: {size}, offset from the base: {offset}")
+        let bytes = BytesLine(self.size);
+        let offset = OffsetLine(self.offset);
+        write!(f, "{bytes}{offset}")
     }
 }
 
@@ -268,7 +301,7 @@ impl fmt::Display for Access {
             base: self.operand.base,
             interval: self.interval,
         };
-        let size = SizeLine {
+        let size = SizeLines {
             offset: self.operand.offset,
             size: self.operand.size,
         };

@@ -5,10 +5,11 @@ ghost use Rattle.block_checker.specs.Explained.{Explains, answer_of};
 ghost use Rattle.block_checker.specs.Passes.{checked as checked_of};
 ghost use Rattle.rv_listing.specs.Listing.{listing_text};
 ghost use Rattle.std.specs.Str.Lossy.{utf8_lossy};
-ghost use Rattle.explanations.specs.Check.{IsAccess, IsListed, IsWanted, rule};
+ghost use Rattle.explanations.specs.Check.{IsAccess, IsEdgeWanted, IsListed, IsWanted, rule};
 
 use crate::access::{Access, operand_of};
 use crate::address::Address;
+use crate::edge::{Edge, edge_at};
 use abs_state::memory_zones;
 use block_checker::{CheckError, Explanation, Part, Stop, explain};
 use cert_note::Certificate;
@@ -30,6 +31,8 @@ pub enum Wanted {
     Entry(u32),
     /// Bytes that lie in one zone with the right.
     Access(Access),
+    /// What the block that a way out enters states.
+    Edge(Edge),
 }
 
 /// Why an image is refused with its certificate.
@@ -103,35 +106,56 @@ fn access_at<B: Allocator, C: Allocator>(
     })
 }
 
+/// What a way out at which a check stopped wants.
+fn edge_wanted<A: Allocator + Copy, B: Allocator, C: Allocator>(
+    alloc: A,
+    image: &Image<B>,
+    certificate: &Certificate<C>,
+    stop: &Option<Stop>,
+) -> Result<Wanted, AllocError>
+    ensures { IfOk result (IsEdgeWanted certificate.now) }
+{
+    let Some(stop) = stop else {
+        return Ok(Wanted::Plain);
+    };
+    match edge_at(alloc, image, certificate, stop)? {
+        Some(edge) => Ok(Wanted::Edge(edge)),
+        None => Ok(Wanted::Plain),
+    }
+}
+
 /// What was wanted.
-fn wanted_of<B: Allocator, C: Allocator>(
+fn wanted_of<A: Allocator + Copy, B: Allocator, C: Allocator>(
+    alloc: A,
     image: &Image<B>,
     certificate: &Certificate<C>,
     vlen: Vlen,
     explanation: &Explanation,
-) -> Wanted
-    ensures { IsWanted image.now certificate.now vlen explanation.now result }
+) -> Result<Wanted, AllocError>
+    ensures { IfOk result (IsWanted image.now certificate.now vlen explanation.now) }
 {
     match explanation.error {
-        CheckError::WrongVlen => Wanted::Length {
+        CheckError::WrongVlen => Ok(Wanted::Length {
             stated: certificate.contents().vlen,
             wanted: vlen,
-        },
-        CheckError::NoEntryBlock => Wanted::Entry(image.entry()),
+        }),
+        CheckError::NoEntryBlock => Ok(Wanted::Entry(image.entry())),
         CheckError::AccessNotProved(_) | CheckError::ReadOnly(_) => {
-            access_at(image, certificate, &explanation.stop)
+            Ok(access_at(image, certificate, &explanation.stop))
         }
-        CheckError::NotCode(_)
-        | CheckError::IllegalWord(_)
-        | CheckError::VtypeUnknown(_)
+        CheckError::VtypeUnknown(_)
         | CheckError::TargetNotABlock(_)
         | CheckError::IntervalNotProved(_)
         | CheckError::EqualityNotProved(_)
         | CheckError::OrderNotProved(_)
         | CheckError::VectorFactNotProved(_)
-        | CheckError::BudgetNotProved(_)
+        | CheckError::BudgetNotProved(_) => {
+            edge_wanted(alloc, image, certificate, &explanation.stop)
+        }
+        CheckError::NotCode(_)
+        | CheckError::IllegalWord(_)
         | CheckError::BlockTooLong(_)
-        | CheckError::NoMemory => Wanted::Plain,
+        | CheckError::NoMemory => Ok(Wanted::Plain),
     }
 }
 
@@ -160,7 +184,7 @@ pub fn check_reason<A: Allocator + Copy, B: Allocator, C: Allocator>(
         None => Ok(None),
         Some(explanation) => {
             let listing = listing_of(alloc, &explanation.stop)?;
-            let wanted = wanted_of(image, certificate, vlen, &explanation);
+            let wanted = wanted_of(alloc, image, certificate, vlen, &explanation)?;
             Ok(Some(CheckReason {
                 explanation,
                 listing,
@@ -303,6 +327,7 @@ impl fmt::Display for Wanted {
                 writeln!(f, "  wanted: a block at the entry, {entry}")
             }
             Wanted::Access(access) => write!(f, "{access}"),
+            Wanted::Edge(edge) => write!(f, "{edge}"),
         }
     }
 }
