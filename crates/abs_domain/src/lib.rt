@@ -23,7 +23,7 @@ pub use laws::{
     zones_are_permitted, zones_are_there,
 };
 pub use numbers::{MOST_ATOMS, Numbers, VL, whole_atom};
-pub use starts::{entry_numbers, start_numbers};
+pub use starts::entry_numbers;
 pub use values::{Effect, Value, computed_range, known, or_full};
 pub use why::Why;
 pub use zones::{Zone, load_allowed, memory_zones, store_allowed};

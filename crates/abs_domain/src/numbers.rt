@@ -21,9 +21,9 @@ pub const MOST_ATOMS: usize = 8300;
 /// taken at the start. `A` is the allocator.
 #[derive(Drop)]
 pub struct Numbers<A: Allocator = Global> {
-    atoms: Vec<Atom, A>,
-    forms: Vec<Form<8>, A>,
-    ranges: [Range; 33],
+    pub(crate) atoms: Vec<Atom, A>,
+    pub(crate) forms: Vec<Form<8>, A>,
+    pub(crate) ranges: [Range; 33],
 }
 
 impl<A: Allocator> Model for Numbers<A> {

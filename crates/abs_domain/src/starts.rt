@@ -1,5 +1,5 @@
 //! The numbers of registers and vl where a block of a certificate begins, and where a run does.
-ghost use Rattle.std.specs.Prelude.{◌≡◌, ◌<◌, ◌≤◌, ◌+◌, length, map, vec_capacity, IfOk, Some, None};
+ghost use Rattle.std.specs.Prelude.{◌≡◌, ◌<◌, ◌≤◌, ◌+◌, ◌++◌, ◌∷◌, [], length, map, vec_capacity, IfOk, Some, None};
 ghost use Rattle.std.specs.List.{range_with_len, slice_get, AllByRecursion};
 ghost use Rattle.linear_facts.specs.Forms.{IsForm};
 ghost use Rattle.linear_facts.specs.Sums.{range_of_form};
@@ -9,6 +9,7 @@ ghost use Rattle.abs_domain.specs.Starts.{fact_for, interval_of, form_or_atom};
 ghost use Rattle.abs_domain.specs.Starts.{stated_range as stated_range_of, equality_form as equality_form_of, stated_form as stated_form_of};
 ghost use Rattle.abs_domain.specs.Starts.{passed_range as passed_range_of, passed_form as passed_form_of, entry_form as entry_form_of};
 ghost use Rattle.abs_domain.specs.Starts.{HasForm, start_atoms as start_atoms_of, start_numbers as start_numbers_of, entry_numbers as entry_numbers_of};
+ghost use Rattle.abs_domain.specs.Numbers.{plain};
 ghost use Rattle.abs_domain.specs.Orders.{with_order, with_orders};
 
 use crate::numbers::{MOST_ATOMS, Numbers};
@@ -113,30 +114,35 @@ fn passed_range(param: Param) -> Range
     }
 }
 
-/// The atoms of registers and vl, and those of the numbers passed.
+/// One atom more, which is not split.
+fn push_plain<A: Allocator>(atoms: &mut Vec<Atom, A>, range: Range)
+    requires few { length atoms.old.items < MOST_ATOMS }
+    requires room { MOST_ATOMS ≤ vec_capacity atoms.old }
+    ensures items { atoms.new.items ≡ atoms.old.items ++ plain range ∷ [] }
+    ensures count { length atoms.new.items ≡ length atoms.old.items + 1 }
+    ensures room { MOST_ATOMS ≤ vec_capacity atoms.new }
+{
+    atoms.push(Atom { range, split: None }).unwrap();
+}
+
+/// The atoms of registers and vl, and those of the numbers passed, in place of what was there.
 #[tactic(auto, unfolding(crate::specs::Starts::start_atoms))]
-fn start_atoms<A: Allocator>(
-    alloc: A,
+fn put_atoms<A: Allocator>(
+    atoms: &mut Vec<Atom, A>,
     parameters: &Parameters,
     facts: &[RegisterFact],
-) -> Result<Vec<Atom, A>, AllocError>
-    ensures items { IfOk result (λ atoms. atoms.items ≡ start_atoms_of parameters.now facts.now) }
-    ensures room { IfOk result (λ atoms. MOST_ATOMS ≤ vec_capacity atoms) }
+)
+    requires { MOST_ATOMS ≤ vec_capacity atoms.old }
+    ensures items { atoms.new.items ≡ start_atoms_of parameters.now facts.now }
+    ensures room { MOST_ATOMS ≤ vec_capacity atoms.new }
 {
-    let mut atoms = Vec::with_capacity(alloc, MOST_ATOMS)?;
+    atoms.clear();
     for number in 0..33_u8 {
-        atoms.push(Atom {
-            range: stated_range(facts, number),
-            split: None,
-        })?;
+        push_plain(atoms, stated_range(facts, number));
     }
     for place in 0..8_usize {
-        atoms.push(Atom {
-            range: passed_range(parameters.param(place)),
-            split: None,
-        })?;
+        push_plain(atoms, passed_range(parameters.param(place)));
     }
-    Ok(atoms)
 }
 
 /// The greater register's atom is split into the lesser one's and a new one, which is what lies between them; not where its
@@ -187,20 +193,15 @@ fn add_orders<A: Allocator>(atoms: &mut Vec<Atom, A>, orders: &[OrderFact])
     }
 }
 
-/// The forms of registers and vl where these facts hold.
-fn start_forms<A: Allocator>(
-    alloc: A,
-    facts: &[RegisterFact],
-) -> Result<Vec<Form<8>, A>, AllocError>
-    requires { AllByRecursion HasForm facts.now }
-    ensures { IfOk result (λ forms.
-        forms.items ≡ map (stated_form_of facts.now) (range_with_len 0 33)) }
+/// The forms of registers and vl where these facts hold, in place of what was there.
+fn put_forms<A: Allocator>(forms: &mut Vec<Form<8>, A>, facts: &[RegisterFact])
+    requires form { AllByRecursion HasForm facts.now }
+    requires count { length forms.old.items ≡ 33 }
+    ensures { forms.new.items ≡ map (stated_form_of facts.now) (range_with_len 0 33) }
 {
-    let mut forms = Vec::with_capacity(alloc, 33)?;
-    for number in 0..33_u8 {
-        forms.push(stated_form(facts, number))?;
+    for number in 0..33_usize {
+        forms[number] = stated_form(facts, number as u8);
     }
-    Ok(forms)
 }
 
 /// The ranges of registers and vl where these facts hold.
@@ -278,33 +279,27 @@ fn form_ranges(atoms: &Atoms<'_>, forms: &[Form<8>]) -> [Range; 33]
     ranges
 }
 
-/// The numbers of registers and vl where these facts and orders hold.
-#[tactic(auto, unfolding(crate::specs::Starts::start_numbers, crate::specs::Starts::numbers_by))]
-pub fn start_numbers<A: Allocator>(
-    alloc: A,
-    parameters: &Parameters,
-    facts: &[RegisterFact],
-    orders: &[OrderFact],
-) -> Result<Numbers<A>, AllocError>
-where
-    A: Copy,
-    requires forms { AllByRecursion HasForm facts.now }
-    requires greater { AllByRecursion (λ order. order.greater < 33) orders.now }
-    requires few { length orders.now ≤ 32 }
-    ensures numbers { IfOk result (λ numbers.
-        numbers ≡ start_numbers_of parameters.now facts.now orders.now) }
-    ensures few { IfOk result (λ numbers. length numbers.atoms ≤ 73) }
-{
-    let mut atoms = start_atoms(alloc, parameters, facts)?;
-    add_orders(&mut atoms, orders);
-    let forms = start_forms(alloc, facts)?;
-    let table = Atoms {
-        atoms: atoms.as_slice(),
-        first: None,
-        second: None,
-    };
-    let ranges = start_ranges(&table, forms.as_slice(), facts);
-    Ok(Numbers::by(atoms, forms, ranges))
+impl<A: Allocator> Numbers<A> {
+    /// The numbers of registers and vl where these facts and orders hold, in place of what was known. It takes no memory.
+    #[tactic(auto, unfolding(crate::specs::Starts::start_numbers, crate::specs::Starts::numbers_by))]
+    pub fn start(&mut self, parameters: &Parameters, facts: &[RegisterFact], orders: &[OrderFact])
+        requires forms { AllByRecursion HasForm facts.now }
+        requires greater { AllByRecursion (λ order. order.greater < 33) orders.now }
+        requires few { length orders.now ≤ 32 }
+        ensures numbers { self.new ≡ start_numbers_of parameters.now facts.now orders.now }
+        ensures few { length self.new.atoms ≤ 73 }
+    {
+        put_atoms(&mut self.atoms, parameters, facts);
+        add_orders(&mut self.atoms, orders);
+        put_forms(&mut self.forms, facts);
+        let table = Atoms {
+            atoms: self.atoms.as_slice(),
+            first: None,
+            second: None,
+        };
+        let ranges = start_ranges(&table, self.forms.as_slice(), facts);
+        self.ranges = ranges;
+    }
 }
 
 /// The numbers of registers and vl at the start of a run.
@@ -318,7 +313,8 @@ where
     ensures numbers { IfOk result (λ numbers. numbers ≡ entry_numbers_of parameters.now) }
     ensures few { IfOk result (λ numbers. length numbers.atoms ≡ 41) }
 {
-    let atoms = start_atoms(alloc, parameters, &[])?;
+    let mut atoms = Vec::with_capacity(alloc, MOST_ATOMS)?;
+    put_atoms(&mut atoms, parameters, &[]);
     let forms = entry_forms(alloc, parameters)?;
     let table = Atoms {
         atoms: atoms.as_slice(),

@@ -1,75 +1,122 @@
 //! What is known of a machine where a block of a certificate begins, and where a run does.
-ghost use Rattle.std.specs.Prelude.{◌≡◌, ◌<◌, ◌≤◌, ◌+◌, length, vec_capacity, IfOk, Some};
+ghost use Rattle.std.specs.Prelude.{◌≡◌, ◌<◌, ◌≤◌, ◌+◌, ◌++◌, ◌∷◌, [], length, vec_capacity, IfOk, Some};
 ghost use Rattle.std.specs.List.{slice_get};
 ghost use Rattle.abs_domain.specs.Starts.{IsUsable};
 ghost use Rattle.abs_state.specs.Blocks.{at_block_of, at_entry_of};
 
 use crate::state::{Abstract, MOST_WORDS, Way};
-use abs_domain::{copy_of, entry_numbers, memory_zones, start_numbers};
+use abs_domain::{Numbers, copy_of, entry_numbers, memory_zones};
+use arrayvec::ArrayVec;
 use cert_note::{Block, Certificate, VectorFact};
 use elf_image::Image;
+use linear_facts::{Form, Range};
 use std::alloc::{AllocError, Allocator};
 
 /// How many facts on vector registers there may be: those of a block, and one for each instruction.
 const MOST_FACTS: usize = 32 + MOST_WORDS as usize;
 
-/// A list of these facts on vector registers, with room for those that instructions add.
-fn with_room<A: Allocator>(alloc: A, facts: &[VectorFact]) -> Result<Vec<VectorFact, A>, AllocError>
-    requires { length facts.now ≤ 32 }
-    ensures items { IfOk result (λ groups. groups.items ≡ facts.now) }
-    ensures room { IfOk result (λ groups. 32 + 4096 ≤ vec_capacity groups) }
+/// One fact more.
+fn push_fact<A: Allocator>(groups: &mut Vec<VectorFact, A>, fact: VectorFact)
+    requires few { length groups.old.items < 32 }
+    requires room { 32 + 4096 ≤ vec_capacity groups.old }
+    ensures items { groups.new.items ≡ groups.old.items ++ fact ∷ [] }
+    ensures count { length groups.new.items ≡ length groups.old.items + 1 }
+    ensures room { 32 + 4096 ≤ vec_capacity groups.new }
 {
-    let mut groups = Vec::with_capacity(alloc, MOST_FACTS)?;
+    groups.push(fact).unwrap();
+}
+
+/// These facts on vector registers in place of what was there.
+fn put_facts<A: Allocator>(groups: &mut Vec<VectorFact, A>, facts: &[VectorFact])
+    requires few { length facts.now ≤ 32 }
+    requires room { 32 + 4096 ≤ vec_capacity groups.old }
+    ensures items { groups.new.items ≡ facts.now }
+    ensures room { 32 + 4096 ≤ vec_capacity groups.new }
+{
+    groups.clear();
     for fact in facts {
-        groups.push(*fact)?;
+        push_fact(groups, *fact);
     }
-    Ok(groups)
 }
 
 impl<A: Allocator> Abstract<A> {
-    /// What is known where this block begins.
-    #[tactic(auto, unfolding(crate::specs::Blocks::at_block_of))]
-    fn at<B: Allocator, C: Allocator>(
+    /// A state that is not set to a start, with all memory that later calls need.
+    #[tactic(auto, unfolding(abs_domain::specs::Numbers::zero_numbers))]
+    fn with_room<C: Allocator>(
         alloc: A,
         certificate: &Certificate<C>,
-        image: &Image<B>,
-        block: &Block,
     ) -> Result<Abstract<A>, AllocError>
     where
         A: Copy,
+    {
+        Ok(Abstract {
+            vlenb: certificate.contents().vlen.bytes() as u32,
+            numbers: Numbers::new(alloc)?,
+            zones: ArrayVec::new(),
+            vtype: None,
+            groups: Vec::with_capacity(alloc, MOST_FACTS)?,
+            budget: None,
+            paid_form: Form::number(0),
+            paid_range: Range { lo: 0, hi: 0 },
+            second_form: Form::number(0),
+            second_range: Range { lo: 0, hi: 0 },
+            words: 0,
+            way: Way::Unknown,
+        })
+    }
+
+    /// What is known where this block begins, in place of what was known.
+    #[tactic(auto, unfolding(crate::specs::Blocks::at_block_of))]
+    fn set<B: Allocator, C: Allocator>(
+        &mut self,
+        certificate: &Certificate<C>,
+        image: &Image<B>,
+        block: &Block,
+    )
         requires { IsUsable block.now }
-        ensures state { IfOk result (λ a. a ≡ at_block_of image.now certificate.now block.now) }
-        ensures begins { IfOk result (λ a. a.words ≡ 0) }
+        ensures state { self.new ≡ at_block_of image.now certificate.now block.now }
+        ensures begins { self.new.words ≡ 0 }
     {
         let contents = certificate.contents();
-        let numbers = start_numbers(
-            alloc,
+        self.numbers.start(
             &contents.parameters,
             block.registers.as_slice(),
             block.orders.as_slice(),
-        )?;
-        let paid = numbers.value(usize::from(block.budget.register));
-        let paid_form = copy_of(paid.form);
-        let paid_range = paid.range;
-        let second = numbers.value(usize::from(block.budget.second_register));
-        let second_form = copy_of(second.form);
-        let second_range = second.range;
-        Ok(Abstract {
-            vlenb: contents.vlen.bytes() as u32,
-            zones: memory_zones(image, &contents.parameters),
-            vtype: block.vtype,
-            groups: with_room(alloc, block.vectors.as_slice())?,
-            budget: Some(block.budget),
-            paid_form,
-            paid_range,
-            second_form,
-            second_range,
-            words: 0,
-            way: Way::To {
-                target: block.start,
-            },
-            numbers,
-        })
+        );
+        put_facts(&mut self.groups, block.vectors.as_slice());
+        let paid = self.numbers.value(usize::from(block.budget.register));
+        self.paid_form = copy_of(paid.form);
+        self.paid_range = paid.range;
+        let second = self
+            .numbers
+            .value(usize::from(block.budget.second_register));
+        self.second_form = copy_of(second.form);
+        self.second_range = second.range;
+        self.vlenb = contents.vlen.bytes() as u32;
+        self.zones = memory_zones(image, &contents.parameters);
+        self.vtype = block.vtype;
+        self.budget = Some(block.budget);
+        self.words = 0;
+        self.way = Way::To {
+            target: block.start,
+        };
+    }
+
+    /// What is known where a block of the certificate begins, as [`Abstract::at_block`] says, in place of what was known. It
+    /// takes no memory.
+    pub fn set_block<B: Allocator, C: Allocator>(
+        &mut self,
+        certificate: &Certificate<C>,
+        image: &Image<B>,
+        index: usize,
+    )
+        requires { index < length certificate.now.blocks }
+        ensures state { (block : Block) → slice_get certificate.now.blocks index ≡ Some block
+            → self.new ≡ at_block_of image.now certificate.now block }
+        ensures begins { self.new.words ≡ 0 }
+    {
+        let block = &certificate.contents().blocks[index];
+        self.set(certificate, image, block);
     }
 
     /// What is known where a block of the certificate begins: what it states of registers, vl, vtype and the vector
@@ -89,8 +136,8 @@ impl<A: Allocator> Abstract<A> {
             → a ≡ at_block_of image.now certificate.now block) }
         ensures begins { IfOk result (λ a. a.words ≡ 0) }
     {
-        let block = &certificate.contents().blocks[index];
-        let state = Abstract::at(alloc, certificate, image, block)?;
+        let mut state = Abstract::with_room(alloc, certificate)?;
+        state.set_block(certificate, image, index);
         Ok(state)
     }
 
@@ -116,7 +163,7 @@ impl<A: Allocator> Abstract<A> {
             vlenb: contents.vlen.bytes() as u32,
             zones: memory_zones(image, &contents.parameters),
             vtype: None,
-            groups: with_room(alloc, &[])?,
+            groups: Vec::with_capacity(alloc, MOST_FACTS)?,
             budget: None,
             paid_form,
             paid_range,

@@ -1,13 +1,14 @@
 -- The atoms so far.
-use Rattle.std.proofs.Common.{◌≡◌, ◌≤◌, ◌++◌, map, vec_capacity}
+use Rattle.std.proofs.Common.{◌≡◌, ◌≤◌, ◌+◌, ◌++◌, map, length, vec_capacity}
 use Rattle.std.specs.List.{range_with_len, slice_get}
 use Rattle.abs_domain.specs.Numbers.{plain}
 use Rattle.abs_domain.specs.Starts.{stated_range, passed_range}
-use Rattle.abs_domain.proofs.starts.start_atoms.Given as goal
+use Rattle.abs_domain.proofs.starts.put_atoms.Given as goal
 
 abbrev pub invariant-loop-number : goal.invariant-loop-number
 invariant-loop-number g l = record {
   items : l.atoms.items ≡ map (λ i. plain (stated_range l.facts i)) (range_with_len 0 l.number);
+  count : length l.atoms.items ≡ l.number;
   room : 8300 ≤ vec_capacity l.atoms;
 }
 
@@ -16,5 +17,6 @@ invariant-loop-place g l = record {
   items : l.atoms.items
       ≡ map (λ i. plain (stated_range l.facts i)) (range_with_len 0 33)
       ++ map (λ place. plain (passed_range (slice_get l.parameters place))) (range_with_len 0 l.place);
+  count : length l.atoms.items ≡ 33 + l.place;
   room : 8300 ≤ vec_capacity l.atoms;
 }
