@@ -16,7 +16,7 @@ use Rattle.commands.proofs.CommandLemmas.{ends_more}
 use Rattle.command_line.specs.declared.line.asked.LineError.{LineError}
 use Rattle.command_line.specs.declared.line.asked.LineError.TheVariants as line_error
 use Rattle.commands.specs.Texts.{stop_text}
-use Rattle.commands.specs.Written.{Written}
+use Rattle.commands.specs.Written.{Gains, Written}
 use Rattle.commands.specs.declared.stop.Ending.{Ending}
 use Rattle.commands.specs.declared.stop.Stop.TheVariants as stop
 use Rattle.commands.specs.declared.stop.Status.{Status}
@@ -55,21 +55,22 @@ told_for (k ∷ ks) (line_error.Usage error) s among told answered = usage_for (
 told_for (k ∷ ks) line_error.NoMemory s fits told answered = subst (λ (t : Status). IsRefusal (k ∷ ks) t) (sym (told refl)) tt
 
 -- what a subcommand that the words name does, or a fault of theirs
-pub asked_for : (holds : Files) (words : List Text) (line : Line) (old new : Option (List ℕ)) (was has : Option Written)
+pub asked_for : (files : Files) (words : List Text) (line : Line) (old new : Option (List ℕ)) (was has : Option Written)
     (told tells : Option (List ℕ)) (ending : Ending)
-    → IsLineOf words line → Ends (Does holds line old new was has) (Stops holds line) told tells ending
-    → IsAsAsked holds words old new was has told tells ending
-asked_for holds words line old new was has told tells ending is ends none =
-    ends_more (Does holds line old new was has) (λ t. (l : Line) × IsLineOf words l × Does holds l old new was has t)
-    (Stops holds line) (λ reason. (reason ≡ stop.Memory) ⊎ ((l : Line) × IsLineOf words l × Stops holds l reason))
+    → IsLineOf words line → Ends (Does files line old new was has) (Stops files (Gains was has) line) told tells ending
+    → IsAsAsked files words old new was has told tells ending
+asked_for files words line old new was has told tells ending is ends none =
+    ends_more (Does files line old new was has) (λ t. (l : Line) × IsLineOf words l × Does files l old new was has t)
+    (Stops files (Gains was has) line)
+    (λ reason. ((reason ≡ stop.Memory) × Gains was has []) ⊎ ((l : Line) × IsLineOf words l × Stops files (Gains was has) l reason))
     told tells ending (λ t it. (line, is, it)) (λ reason it. inr (line, is, it)) ends
 
-pub asked_nothing : (holds : Files) (words : List Text) (error : LineError) (old new : Option (List ℕ)) (was has : Option Written)
+pub asked_nothing : (files : Files) (words : List Text) (error : LineError) (old new : Option (List ℕ)) (was has : Option Written)
     (told tells : Option (List ℕ)) (ending : Ending)
-    → IsFaultOf words error → (is_request error ≡ false → ending.status ≡ status_of_line error)
+    → Gains was has [] → IsFaultOf words error → (is_request error ≡ false → ending.status ≡ status_of_line error)
     → (error ≡ line_error.NoMemory → OnOk ending.told (Appends told tells (stop_text stop.Memory)))
-    → IsAsAsked holds words old new was has told tells ending
-asked_nothing holds words (line_error.Usage error) old new was has told tells ending fits status memory none =
+    → IsAsAsked files words old new was has told tells ending
+asked_nothing files words (line_error.Usage error) old new was has told tells ending kept fits status memory none =
     absurd (subst (λ (kinds : Kinds). IsAmong (kind_of error) kinds) none fits)
-asked_nothing holds words line_error.NoMemory old new was has told tells ending fits status memory none =
-    record { done = Err stop.Memory; comes = inl refl; status = status refl; told = memory refl }
+asked_nothing files words line_error.NoMemory old new was has told tells ending kept fits status memory none =
+    record { done = Err stop.Memory; comes = inl (refl, kept); status = status refl; told = memory refl }

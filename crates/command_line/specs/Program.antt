@@ -13,7 +13,7 @@ use Rattle.commands.specs.Makes.{Makes, StopsMake}
 use Rattle.commands.specs.Mons.{Mons, StopsMon}
 use Rattle.commands.specs.Runs.{Runs, StopsRun}
 use Rattle.commands.specs.Tries.{StopsTry, Tries}
-use Rattle.commands.specs.Written.{Written}
+use Rattle.commands.specs.Written.{Gains, Written}
 use Rattle.commands.specs.declared.stop.Ending.{Ending}
 use Rattle.commands.specs.declared.stop.Stop.{Stop}
 use Rattle.commands.specs.declared.stop.Stop.TheVariants as stop
@@ -40,32 +40,33 @@ IsStatusFor kinds s = IsRefusal kinds s
 -- what a command line's subcommand does with its paths
 abbrev pub Does : Files → Line → Option (List ℕ) → Option (List ℕ) → Option Written → Option Written
     → Status → Type 0
-Does holds (Check image) old new was has = Checks holds image.now old new was has
-Does holds (Run job) old new was has =
-    OfTable holds job.now (λ table. Runs holds table old new was has)
-Does holds (Try job) old new was has =
-    OfTable holds job.now (λ table. Tries holds table old new was has)
-Does holds (Mon job) old new was has = OfTable holds job.now (λ table. Mons holds table was has)
-Does holds (Make paths) old new was has = OfTable holds paths.job.now
-    (λ table. Makes holds paths.image.now paths.out.now table old new was has)
+Does files (Check image) old new was has = Checks files image.now old new was has
+Does files (Run job) old new was has =
+    OfTable files job.now (λ table. Runs files table old new was has)
+Does files (Try job) old new was has =
+    OfTable files job.now (λ table. Tries files table old new was has)
+Does files (Mon job) old new was has = OfTable files job.now (λ table. Mons files table was has)
+Does files (Make paths) old new was has = OfTable files paths.job.now
+    (λ table. Makes files paths.image.now paths.out.now table old new was has)
 
--- why it stops
-abbrev pub Stops : Files → Line → Stop → Type 0
-Stops holds (Check image) = StopsCheck holds image.now
-Stops holds (Run job) = StopsOfTable holds job.now (StopsRun holds)
-Stops holds (Try job) = StopsOfTable holds job.now (StopsTry holds)
-Stops holds (Mon job) = StopsOfTable holds job.now (StopsMon holds)
-Stops holds (Make paths) =
-    StopsOfTable holds paths.job.now (StopsMake holds paths.image.now paths.out.now)
+-- why it stops: `wrote xs` says that the files `xs` were written
+abbrev pub Stops : Files → (Written → Type 0) → Line → Stop → Type 0
+Stops files wrote (Check image) = StopsCheck files wrote image.now
+Stops files wrote (Run job) = StopsOfTable files wrote job.now (StopsRun files wrote)
+Stops files wrote (Try job) = StopsOfTable files wrote job.now (StopsTry files wrote)
+Stops files wrote (Mon job) = StopsOfTable files wrote job.now (StopsMon files wrote)
+Stops files wrote (Make paths) =
+    StopsOfTable files wrote paths.job.now (StopsMake files wrote paths.image.now paths.out.now)
 
--- words in which `clap` finds no fault end as the subcommand does that they name, or memory runs out.
+-- words in which `clap` finds no fault end as the subcommand does that they name, or memory runs out first.
 -- `old` and `new` are what standard output has before and after, `was` and `has` the files that were
 -- written, and `told` and `tells` what standard error has before and after
 abbrev pub IsAsAsked : Files → List Text → Option (List ℕ) → Option (List ℕ) → Option Written → Option Written
     → Option (List ℕ) → Option (List ℕ) → Ending → Type 0
-IsAsAsked holds words old new was has told tells ending = fault_of app words ≡ []
-    → Ends (λ s. (line : Line) × IsLineOf words line × Does holds line old new was has s)
-    (λ reason. (reason ≡ stop.Memory) ⊎ ((line : Line) × IsLineOf words line × Stops holds line reason))
+IsAsAsked files words old new was has told tells ending = fault_of app words ≡ []
+    → Ends (λ s. (line : Line) × IsLineOf words line × Does files line old new was has s)
+    (λ reason. ((reason ≡ stop.Memory) × Gains was has [])
+    ⊎ ((line : Line) × IsLineOf words line × Stops files (Gains was has) line reason))
     told tells ending
 
 -- words that the system does not give: memory ran out, or they are not UTF-8

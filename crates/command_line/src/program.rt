@@ -27,7 +27,7 @@ pub fn perform<'a, S: Store, I: Read, O: Write, E: Write>(
     errors: &mut E,
 ) -> Ending
     ensures status { IsStatusFor (fault_of app (map (λ w. w.now) words.entry.now)) result.status }
-    ensures asked { IsAsAsked S.holds (map (λ w. w.now) words.entry.now)
+    ensures asked { IsAsAsked S.files (map (λ w. w.now) words.entry.now)
         (O.contents output.old) (O.contents output.new)
         (S.written store.old) (S.written store.new)
         (E.contents errors.old) (E.contents errors.new) result }

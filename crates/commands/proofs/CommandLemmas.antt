@@ -16,7 +16,8 @@ use Rattle.toml.specs.Parse.{parse_document}
 use Rattle.commands.specs.Accepted.{IsOrWant, accepted_of}
 use Rattle.commands.specs.Ending.{Ends, status_after, status_of_end, stop_of_job, text_after}
 use Rattle.commands.specs.Files.{ArePassed, Files, IsImageAt, IsNoImageAt, IsNoTable, IsNoTableAt, IsTableAt, IsUnasked, IsUnfinished, IsUnwritten, OfTable, StopsOfTable, image_in, outs_of}
-use Rattle.commands.specs.Makes.{Makes}
+use Rattle.commands.specs.Makes.{Makes, StopsMake}
+use Rattle.commands.specs.Mons.{StopsMon}
 use Rattle.commands.specs.Runs.{Runs, StopsRun, run_of_job}
 use Rattle.commands.specs.Trial.{OrMemory, line_of}
 use Rattle.commands.specs.Tries.{StopsTry, Tries, passed_by, trial_of}
@@ -35,24 +36,27 @@ pub tells_nothing : (o : Option (List ℕ)) → Appends o o []
 tells_nothing None = tt
 tells_nothing (Some had) = sym (append-nil had)
 
--- a subcommand on the table of a job: `first` is what it does after the table was read
-pub ends_of_table : (holds : Files) (path : Text) (does : Members → Status → Type 0) (stops : Members → Stop → Type 0)
-    (old new : Option (List ℕ)) (table : Members) (first : Status → Type 0) (done : Result Status Stop) (ending : Ending)
-    → IsTableAt holds path table → ((s : Status) → first s → does table s) → MatchResult done first (stops table)
+-- a subcommand on the table of a job: `first` is what it does after the table was read, and `why` why it then stops
+pub ends_of_table : (files : Files) (wrote : Written → Type 0) (path : Text) (does : Members → Status → Type 0)
+    (stops : Members → Stop → Type 0) (old new : Option (List ℕ)) (table : Members) (first : Status → Type 0)
+    (why : Stop → Type 0) (done : Result Status Stop) (ending : Ending)
+    → IsTableAt files path table → ((s : Status) → first s → does table s)
+    → ((reason : Stop) → why reason → stops table reason) → MatchResult done first why
     → ending.status ≡ status_after done → OnOk ending.told (Appends old new (text_after done))
-    → Ends (OfTable holds path does) (StopsOfTable holds path stops) old new ending
-ends_of_table holds path does stops old new table first (Ok s) ending there more it status told =
+    → Ends (OfTable files path does) (StopsOfTable files wrote path stops) old new ending
+ends_of_table files wrote path does stops old new table first why (Ok s) ending there more mores it status told =
     record { done = Ok s; comes = (table, there, more s it); status = status; told = told }
-ends_of_table holds path does stops old new table first (Err reason) ending there more it status told =
-    record { done = Err reason; comes = inr (table, there, it); status = status; told = told }
+ends_of_table files wrote path does stops old new table first why (Err reason) ending there more mores it status told =
+    record { done = Err reason; comes = inr (table, there, mores reason it); status = status; told = told }
 
 -- where no table is read
-pub ends_untabled : (holds : Files) (path : Text) (does : Members → Status → Type 0) (stops : Members → Stop → Type 0)
-    (old new : Option (List ℕ)) (reason : Stop) (ending : Ending) → IsNoTableAt holds path reason
+pub ends_untabled : (files : Files) (wrote : Written → Type 0) (path : Text) (does : Members → Status → Type 0)
+    (stops : Members → Stop → Type 0) (old new : Option (List ℕ)) (reason : Stop) (ending : Ending)
+    → IsNoTableAt files path reason → wrote []
     → ending.status ≡ status_after (Err reason) → OnOk ending.told (Appends old new (text_after (Err reason)))
-    → Ends (OfTable holds path does) (StopsOfTable holds path stops) old new ending
-ends_untabled holds path does stops old new reason ending none status told =
-    record { done = Err reason; comes = inl none; status = status; told = told }
+    → Ends (OfTable files path does) (StopsOfTable files wrote path stops) old new ending
+ends_untabled files wrote path does stops old new reason ending none kept status told =
+    record { done = Err reason; comes = inl (none, kept); status = status; told = told }
 
 -- the same subcommand, of which less is said
 pub ends_more : (some all : Status → Type 0) (why whys : Stop → Type 0) (old new : Option (List ℕ)) (ending : Ending)
@@ -83,17 +87,17 @@ no_table bytes text job_error.NotToml same is = inr (subst (λ (t : List ℕ). p
 no_table bytes text job_error.BadKey same is = absurd is
 no_table bytes text job_error.NoMemory same is = tt
 
-pub table_read : {T : Type 0} (view : T → Members) (holds : Files) (path : Text) (had text : List ℕ) (result : Result T Stop)
-    → text ≡ had → holds path had → MatchResult result (λ table. parse_document text ≡ Some (view table)) (IsNoTable text)
-    → MatchResult result (λ table. IsTableAt holds path (view table)) (IsNoTableAt holds path)
-table_read view holds path had text (Ok table) same there is = (text, subst (holds path) (sym same) there, is)
-table_read view holds path had text (Err reason) same there is = inr (text, subst (holds path) (sym same) there, is)
+pub table_read : {T : Type 0} (view : T → Members) (files : Files) (path : Text) (had text : List ℕ) (result : Result T Stop)
+    → text ≡ had → files.holds path had → MatchResult result (λ table. parse_document text ≡ Some (view table)) (IsNoTable text)
+    → MatchResult result (λ table. IsTableAt files path (view table)) (IsNoTableAt files path)
+table_read view files path had text (Ok table) same there is = (text, subst (files.holds path) (sym same) there, is)
+table_read view files path had text (Err reason) same there is = inr (text, subst (files.holds path) (sym same) there, is)
 
-pub image_read : (holds : Files) (path : Text) (had file : List ℕ) (result : Result ImageView Stop)
-    → file ≡ had → holds path had → IsOrWant (image_in file) result → MatchResult result (IsImageAt holds path) (IsNoImageAt holds path)
-image_read holds path had file (Ok image) same there is =
-    (file, subst (holds path) (sym same) there, want_ok (image_in file) image is)
-image_read holds path had file (Err reason) same there is = inr (file, subst (holds path) (sym same) there, is)
+pub image_read : (files : Files) (path : Text) (had file : List ℕ) (result : Result ImageView Stop)
+    → file ≡ had → files.holds path had → IsOrWant (image_in file) result → MatchResult result (IsImageAt files path) (IsNoImageAt files path)
+image_read files path had file (Ok image) same there is =
+    (file, subst (files.holds path) (sym same) there, want_ok (image_in file) image is)
+image_read files path had file (Err reason) same there is = inr (file, subst (files.holds path) (sym same) there, is)
 
 -- ---- a table that asks for no job
 
@@ -117,16 +121,73 @@ pub unasked_self : {J : Type 0} (o asked : Option J) (r : Result J JobError) (e 
     → o ≡ asked → r ≡ ok_or o job_error.BadKey → r ≡ Err e → reason ≡ stop_of_job e → IsUnasked asked reason
 unasked_self o asked r e reason is or_else err why = unasked (λ j. j) o asked r e reason (map_self o ∙ is) or_else err why
 
--- a run that was not written
-pub unfinished : (old new : Option Written) (params : List (RunParam Text)) (args : List Argument) (reason : Stop)
-    → IsUnwritten old new params args reason → IsUnfinished params args reason
-unfinished old new params args reason u = inr (u.place, (u.path, u.bytes), u.out, u.why)
+-- ---- why it stops, where nothing was written before: what was written since is all that was written
+
+pub unwritten_more : (files : Files) (some all : Written → Type 0) (params : List (RunParam Text)) (args : List Argument) (reason : Stop)
+    → ((xs : Written) → some xs → all xs) → IsUnwritten files some params args reason → IsUnwritten files all params args reason
+unwritten_more files some all params args reason more u =
+    record { place = u.place; path = u.path; bytes = u.bytes; out = u.out; before = more _ u.before; why = u.why }
+
+pub unfinished_more : (files : Files) (some all : Written → Type 0) (params : List (RunParam Text)) (args : List Argument) (reason : Stop)
+    → ((xs : Written) → some xs → all xs) → IsUnfinished files some params args reason → IsUnfinished files all params args reason
+unfinished_more files some all params args reason more (inl u) = inl (unwritten_more files some all params args reason more u)
+unfinished_more files some all params args reason more (inr (is, wrote)) = inr (is, more _ wrote)
+
+pub run_stops_before : (files : Files) (some all : Written → Type 0) (table : Members) (reason : Stop)
+    → ((xs : Written) → some xs → all xs) → StopsRun files some table reason → StopsRun files all table reason
+run_stops_before files some all table reason more (inl (why, none)) = inl (why, more [] none)
+run_stops_before files some all table reason more (inr (job, asked, inl (why, none))) = inr (job, asked, inl (why, more [] none))
+run_stops_before files some all table reason more (inr (job, asked, inr (image, there, inl (why, none)))) =
+    inr (job, asked, inr (image, there, inl (why, more [] none)))
+run_stops_before files some all table reason more (inr (job, asked, inr (image, there, inr (accepted, passes, inl (why, none))))) =
+    inr (job, asked, inr (image, there, inr (accepted, passes, inl (why, more [] none))))
+run_stops_before files some all table reason more (inr (job, asked, inr (image, there, inr (accepted, passes, inr (args, passed, inl (why, none)))))) =
+    inr (job, asked, inr (image, there, inr (accepted, passes, inr (args, passed, inl (why, more [] none)))))
+run_stops_before files some all table reason more (inr (job, asked, inr (image, there, inr (accepted, passes, inr (args, passed, inr (trial, comes, un)))))) =
+    inr (job, asked, inr (image, there, inr (accepted, passes, inr (args, passed, inr (trial, comes, unfinished_more files some all job.params trial.args.places reason more un)))))
+
+pub try_stops_before : (files : Files) (some all : Written → Type 0) (table : Members) (reason : Stop)
+    → ((xs : Written) → some xs → all xs) → StopsTry files some table reason → StopsTry files all table reason
+try_stops_before files some all table reason more (inl (why, none)) = inl (why, more [] none)
+try_stops_before files some all table reason more (inr (job, asked, inl (why, none))) = inr (job, asked, inl (why, more [] none))
+try_stops_before files some all table reason more (inr (job, asked, inr (image, there, inl (why, none)))) =
+    inr (job, asked, inr (image, there, inl (why, more [] none)))
+try_stops_before files some all table reason more (inr (job, asked, inr (image, there, inr (args, passed, inl (why, none))))) =
+    inr (job, asked, inr (image, there, inr (args, passed, inl (why, more [] none))))
+try_stops_before files some all table reason more (inr (job, asked, inr (image, there, inr (args, passed, inr (trial, comes, un))))) =
+    inr (job, asked, inr (image, there, inr (args, passed, inr (trial, comes, unfinished_more files some all (map passed_by job.params) trial.args.places reason more un))))
+
+pub mon_stops_before : (files : Files) (some all : Written → Type 0) (table : Members) (reason : Stop)
+    → ((xs : Written) → some xs → all xs) → StopsMon files some table reason → StopsMon files all table reason
+mon_stops_before files some all table reason more (inl (why, none)) = inl (why, more [] none)
+mon_stops_before files some all table reason more (inr (job, asked, inl (why, none))) = inr (job, asked, inl (why, more [] none))
+mon_stops_before files some all table reason more (inr (job, asked, inr (image, there, inl (why, none)))) =
+    inr (job, asked, inr (image, there, inl (why, more [] none)))
+mon_stops_before files some all table reason more (inr (job, asked, inr (image, there, inr (accepted, passes, inl (why, none))))) =
+    inr (job, asked, inr (image, there, inr (accepted, passes, inl (why, more [] none))))
+mon_stops_before files some all table reason more (inr (job, asked, inr (image, there, inr (accepted, passes, inr (args, passed, inl (why, none)))))) =
+    inr (job, asked, inr (image, there, inr (accepted, passes, inr (args, passed, inl (why, more [] none)))))
+mon_stops_before files some all table reason more (inr (job, asked, inr (image, there, inr (accepted, passes, inr (args, passed, inr (kept, stopped, un)))))) =
+    inr (job, asked, inr (image, there, inr (accepted, passes, inr (args, passed, inr (kept, stopped, unwritten_more files some all job.params kept reason more un)))))
+
+pub make_stops_before : (files : Files) (some all : Written → Type 0) (path out : Text) (table : Members) (reason : Stop)
+    → ((xs : Written) → some xs → all xs) → StopsMake files some path out table reason → StopsMake files all path out table reason
+make_stops_before files some all path out table reason more (inl (why, none)) = inl (why, more [] none)
+make_stops_before files some all path out table reason more (inr (job, asked, inl (why, none))) = inr (job, asked, inl (why, more [] none))
+make_stops_before files some all path out table reason more (inr (job, asked, inr (file, there, inl (why, none)))) =
+    inr (job, asked, inr (file, there, inl (why, more [] none)))
+make_stops_before files some all path out table reason more (inr (job, asked, inr (file, there, inr (bytes, made, inl (why, none))))) =
+    inr (job, asked, inr (file, there, inr (bytes, made, inl (why, more [] none))))
+make_stops_before files some all path out table reason more (inr (job, asked, inr (file, there, inr (bytes, made, inr (accepted, passes, inl (why, none)))))) =
+    inr (job, asked, inr (file, there, inr (bytes, made, inr (accepted, passes, inl (why, more [] none)))))
+make_stops_before files some all path out table reason more (inr (job, asked, inr (file, there, inr (bytes, made, inr (accepted, passes, inr (is, wrote)))))) =
+    inr (job, asked, inr (file, there, inr (bytes, made, inr (accepted, passes, inr (is, more _ wrote)))))
 
 -- ---- what a job's table asks for, done
 
-pub makes_before : (holds : Files) (path out : Text) (table : Members) (old new : Option (List ℕ)) (first was has : Option Written) (s : Status)
-    → Gains first was [] → Makes holds path out table old new was has s → Makes holds path out table old new first has s
-makes_before holds path out table old new first was has s kept m = record {
+pub makes_before : (files : Files) (path out : Text) (table : Members) (old new : Option (List ℕ)) (first was has : Option Written) (s : Status)
+    → Gains first was [] → Makes files path out table old new was has s → Makes files path out table old new first has s
+makes_before files path out table old new first was has s kept m = record {
   job = m.job;
   asked = m.asked;
   file = m.file;
@@ -142,9 +203,9 @@ makes_before holds path out table old new first was has s kept m = record {
   done = m.done;
 }
 
-pub runs_before : (holds : Files) (table : Members) (old new : Option (List ℕ)) (first was has : Option Written) (s : Status)
-    → Gains first was [] → Runs holds table old new was has s → Runs holds table old new first has s
-runs_before holds table old new first was has s kept m = record {
+pub runs_before : (files : Files) (table : Members) (old new : Option (List ℕ)) (first was has : Option Written) (s : Status)
+    → Gains first was [] → Runs files table old new was has s → Runs files table old new first has s
+runs_before files table old new first was has s kept m = record {
   job = m.job;
   asked = m.asked;
   image = m.image;
@@ -160,9 +221,9 @@ runs_before holds table old new first was has s kept m = record {
   done = m.done;
 }
 
-pub tries_before : (holds : Files) (table : Members) (old new : Option (List ℕ)) (first was has : Option Written) (s : Status)
-    → Gains first was [] → Tries holds table old new was has s → Tries holds table old new first has s
-tries_before holds table old new first was has s kept m = record {
+pub tries_before : (files : Files) (table : Members) (old new : Option (List ℕ)) (first was has : Option Written) (s : Status)
+    → Gains first was [] → Tries files table old new was has s → Tries files table old new first has s
+tries_before files table old new first was has s kept m = record {
   job = m.job;
   asked = m.asked;
   image = m.image;
@@ -176,14 +237,14 @@ tries_before holds table old new first was has s kept m = record {
   done = m.done;
 }
 
-pub ran : (holds : Files) (table : Members) (old new : Option (List ℕ)) (was then has : Option Written) (result : Result Status Stop)
+pub ran : (files : Files) (table : Members) (old new : Option (List ℕ)) (was then has : Option Written) (result : Result Status Stop)
     → (job : RunJob Text) (image : ImageView) (accepted : AcceptedView) (args : List Argument) (trial : Trial)
-    → run_job_in table ≡ Some job → IsImageAt holds job.image image → IsOrWant (accepted_of (Some job.vlen) image) (Ok accepted)
-    → ArePassed holds job.params args → OrMemory (run_of_job job accepted args) (Ok trial) → Gains was then []
+    → run_job_in table ≡ Some job → IsImageAt files job.image image → IsOrWant (accepted_of (Some job.vlen) image) (Ok accepted)
+    → ArePassed files job.params args → OrMemory (run_of_job job accepted args) (Ok trial) → Gains was then []
     → IfOk result (λ s. s ≡ status_of_end trial.end) → OnOk result (Appends old new (line_of trial))
-    → OnOk result (Gains then has (outs_of job.params trial.args.places)) → IfErr result (IsUnfinished job.params trial.args.places)
-    → MatchResult result (Runs holds table old new was has) (StopsRun holds table)
-ran holds table old new was then has (Ok s) job image accepted args trial asked there passes passed comes kept done told wrote un = record {
+    → OnOk result (Gains then has (outs_of job.params trial.args.places)) → IfErr result (IsUnfinished files (Gains then has) job.params trial.args.places)
+    → MatchResult result (Runs files table old new was has) (StopsRun files (Gains was has) table)
+ran files table old new was then has (Ok s) job image accepted args trial asked there passes passed comes kept done told wrote un = record {
   job = job;
   asked = asked;
   image = image;
@@ -198,7 +259,8 @@ ran holds table old new was then has (Ok s) job image accepted args trial asked 
   told = told;
   done = done;
 }
-ran holds table old new was then has (Err reason) job image accepted args trial asked there passes passed comes kept done told wrote un =
+ran files table old new was then has (Err reason) job image accepted args trial asked there passes passed comes kept done told wrote un =
+    let all = unfinished_more files (Gains then has) (Gains was has) job.params trial.args.places reason (λ xs some. gains_more was then has [] xs kept some) un in
     inr (
       job,
       asked,
@@ -208,33 +270,34 @@ ran holds table old new was then has (Err reason) job image accepted args trial 
         inr (
           accepted,
           want_ok (accepted_of (Some job.vlen) image) accepted passes,
-          inr (args, passed, inr (trial, or_ok (run_of_job job accepted args) trial comes, un)),
+          inr (args, passed, inr (trial, or_ok (run_of_job job accepted args) trial comes, all)),
         ),
       ),
     )
 
 -- `given` is what the job passes, as `run` would be given it
-pub tried : (holds : Files) (table : Members) (old new : Option (List ℕ)) (was then has : Option Written) (result : Result Status Stop)
+pub tried : (files : Files) (table : Members) (old new : Option (List ℕ)) (was then has : Option Written) (result : Result Status Stop)
     → (job : TryJob Text) (given : List (RunParam Text)) (image : ImageView) (args : List Argument) (trial : Trial)
-    → given ≡ map passed_by job.params → try_job_in table ≡ Some job → IsImageAt holds job.image image
-    → ArePassed holds given args → OrMemory (trial_of job image args) (Ok trial) → Gains was then []
+    → given ≡ map passed_by job.params → try_job_in table ≡ Some job → IsImageAt files job.image image
+    → ArePassed files given args → OrMemory (trial_of job image args) (Ok trial) → Gains was then []
     → IfOk result (λ s. s ≡ status_of_end trial.end) → OnOk result (Appends old new (line_of trial))
-    → OnOk result (Gains then has (outs_of given trial.args.places)) → IfErr result (IsUnfinished given trial.args.places)
-    → MatchResult result (Tries holds table old new was has) (StopsTry holds table)
-tried holds table old new was then has (Ok s) job given image args trial same asked there passed comes kept done told wrote un = record {
+    → OnOk result (Gains then has (outs_of given trial.args.places)) → IfErr result (IsUnfinished files (Gains then has) given trial.args.places)
+    → MatchResult result (Tries files table old new was has) (StopsTry files (Gains was has) table)
+tried files table old new was then has (Ok s) job given image args trial same asked there passed comes kept done told wrote un = record {
   job = job;
   asked = asked;
   image = image;
   there = there;
   args = args;
-  passed = subst (λ (ps : List (RunParam Text)). ArePassed holds ps args) same passed;
+  passed = subst (λ (ps : List (RunParam Text)). ArePassed files ps args) same passed;
   trial = trial;
   comes = or_ok (trial_of job image args) trial comes;
   wrote = subst (λ (ps : List (RunParam Text)). Gains was has (outs_of ps trial.args.places)) same (gains_more was then has [] _ kept wrote);
   told = told;
   done = done;
 }
-tried holds table old new was then has (Err reason) job given image args trial same asked there passed comes kept done told wrote un =
-    let all = subst (λ (ps : List (RunParam Text)). ArePassed holds ps args) same passed in
-    let why = subst (λ (ps : List (RunParam Text)). IsUnfinished ps trial.args.places reason) same un in
+tried files table old new was then has (Err reason) job given image args trial same asked there passed comes kept done told wrote un =
+    let all = subst (λ (ps : List (RunParam Text)). ArePassed files ps args) same passed in
+    let more = unfinished_more files (Gains then has) (Gains was has) given trial.args.places reason (λ xs some. gains_more was then has [] xs kept some) un in
+    let why = subst (λ (ps : List (RunParam Text)). IsUnfinished files (Gains was has) ps trial.args.places reason) same more in
     inr (job, asked, inr (image, there, inr (args, all, inr (trial, or_ok (trial_of job image args) trial comes, why))))

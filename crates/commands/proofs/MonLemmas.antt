@@ -34,9 +34,9 @@ stopped vlenb agnostic max a args None opened session kept is none first same st
 
 -- ---- what was done, where nothing was written before
 
-pub mons_before : (holds : Files) (table : Members) (first was has : Option Written) (s : Status)
-    → Gains first was [] → Mons holds table was has s → Mons holds table first has s
-mons_before holds table first was has s kept m = record {
+pub mons_before : (files : Files) (table : Members) (first was has : Option Written) (s : Status)
+    → Gains first was [] → Mons files table was has s → Mons files table first has s
+mons_before files table first was has s kept m = record {
   job = m.job;
   asked = m.asked;
   image = m.image;

@@ -5,7 +5,7 @@ use Rattle.std.specs.Borrow.{Bor}
 use Rattle.std.specs.List.{cons_option}
 use Rattle.job_file.specs.Job.{Text}
 use Rattle.job_file.specs.Needs.{run_param_lent}
-use Rattle.commands.specs.Files.{IsOfParam, IsOutWritten, IsUnpassed, IsUnwritten, out_file, outs_of}
+use Rattle.commands.specs.Files.{Files, IsOfParam, IsOutWritten, IsUnpassed, IsUnwritten, out_file, outs_of}
 use Rattle.commands.specs.Words.{Argument}
 use Rattle.commands.specs.Written.{Gains, Written}
 use Rattle.job_file.specs.declared.values.RunParam.{RunParam}
@@ -43,9 +43,9 @@ outs-step (p ∷ ps) (a ∷ rest) (suc k) some same =
     let later = outs-step ps rest k (omega (arith, some)) (omega (arith, same)) in
     ap (cons_option o) later ∙ cons-append o (outs_of (take k (map run_param_lent ps)) (take k rest)) _
 
-of_one : (mid new : Option Written) (o : Option (Text × List ℕ)) → IsOutWritten mid new o (Ok tt) → Gains mid new (cons_option o [])
-of_one mid new None is = is
-of_one mid new (Some file) is = is
+of_one : (files : Files) (mid new : Option Written) (o : Option (Text × List ℕ)) → IsOutWritten files mid new o (Ok tt) → Gains mid new (cons_option o [])
+of_one files mid new None is = is
+of_one files mid new (Some file) is = is
 
 -- an element that is there, whatever stands for one that is not
 at_default : (args : List Argument) (k : ℕ) (one other : Argument) → k < length args → get_or args k one ≡ get_or args k other
@@ -54,12 +54,12 @@ at_default (a ∷ rest) zero one other some = refl
 at_default (a ∷ rest) (suc k) one other some = at_default rest k one other (omega (arith, some))
 
 -- the out file of a place is written after those of the places before
-pub outs_more : (old mid new : Option Written) (params : List (RunParam (Bor Text))) (args : List Argument) (k : ℕ) → k < length params → k < length args
+pub outs_more : (files : Files) (old mid new : Option Written) (params : List (RunParam (Bor Text))) (args : List Argument) (k : ℕ) → k < length params → k < length args
     → Gains old mid (outs_of (take k (map run_param_lent params)) (take k args))
-    → (arg : Argument) → IsOutWritten mid new (out_file (run_param_lent (get_or params k given.None), get_or args k arg)) (Ok tt)
+    → (arg : Argument) → IsOutWritten files mid new (out_file (run_param_lent (get_or params k given.None), get_or args k arg)) (Ok tt)
     → Gains old new (outs_of (take (suc k) (map run_param_lent params)) (take (suc k) args))
-outs_more old mid new params args k some same before arg is =
-    rw (outs-step params args k some same, at_default args k argument.None arg same) (gains_more old mid new _ _ before (of_one mid new _ is))
+outs_more files old mid new params args k some same before arg is =
+    rw (outs-step params args k some same, at_default args k argument.None arg same) (gains_more old mid new _ _ before (of_one files mid new _ is))
 
 pub get_or-lent : (params : List (RunParam (Bor Text))) (k : ℕ) → get_or (map run_param_lent params) k given.None ≡ run_param_lent (get_or params k given.None)
 get_or-lent [] k = refl
@@ -67,15 +67,15 @@ get_or-lent (p ∷ ps) zero = refl
 get_or-lent (p ∷ ps) (suc k) = get_or-lent ps k
 
 -- the out file of a place that is not written
-pub outs_fail : (old mid new : Option Written) (params : List (RunParam (Bor Text))) (args : List Argument) (k : ℕ) (reason : Stop) → k < length args
+pub outs_fail : (files : Files) (old mid new : Option Written) (params : List (RunParam (Bor Text))) (args : List Argument) (k : ℕ) (reason : Stop) → k < length args
     → Gains old mid (outs_of (take k (map run_param_lent params)) (take k args))
-    → (arg : Argument) → IsOutWritten mid new (out_file (run_param_lent (get_or params k given.None), get_or args k arg)) (Err reason)
-    → IsUnwritten old new (map run_param_lent params) args reason
-outs_fail old mid new params args k reason same before arg is =
+    → (arg : Argument) → IsOutWritten files mid new (out_file (run_param_lent (get_or params k given.None), get_or args k arg)) (Err reason)
+    → IsUnwritten files (Gains old new) (map run_param_lent params) args reason
+outs_fail files old mid new params args k reason same before arg is =
     go (out_file (run_param_lent (get_or params k given.None), get_or args k arg)) refl is
   where
     go : (o : Option (Text × List ℕ)) → out_file (run_param_lent (get_or params k given.None), get_or args k arg) ≡ o
-        → IsOutWritten mid new o (Err reason) → IsUnwritten old new (map run_param_lent params) args reason
+        → IsOutWritten files mid new o (Err reason) → IsUnwritten files (Gains old new) (map run_param_lent params) args reason
     go None at is = absurd is
     go (Some file) at is = record {
       place = k;
@@ -95,6 +95,6 @@ outs_all old new params args k few fewer is =
     (subst (λ (bs : List Argument). Gains old new (outs_of (take k (map run_param_lent params)) bs)) (take_all k args fewer) is)
 
 -- what a place passes is not read
-pub unpassed : (params : List (RunParam (Bor Text))) (k : ℕ) (reason : Stop) → IsOfParam (run_param_lent (get_or params k given.None)) reason
-    → IsUnpassed (map run_param_lent params) reason
-unpassed params k reason is = (k, rw (get_or-lent params k) is)
+pub unpassed : (files : Files) (params : List (RunParam (Bor Text))) (k : ℕ) (reason : Stop) → IsOfParam files (run_param_lent (get_or params k given.None)) reason
+    → IsUnpassed files (map run_param_lent params) reason
+unpassed files params k reason is = (k, rw (get_or-lent params k) is)

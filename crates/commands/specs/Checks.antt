@@ -35,10 +35,10 @@ bound_line budget =
 -- files that were written
 
 -- `check`: the image at a path is accepted, and its bound is printed; no file is written
-pub record Checks (holds : Files) (path : Text) (old new : Option (List ℕ)) (was has : Option Written)
+pub record Checks (files : Files) (path : Text) (old new : Option (List ℕ)) (was has : Option Written)
     (s : Status) : Type 0 where
   pub image : ImageView
-  pub there : IsImageAt holds path image
+  pub there : IsImageAt files path image
   pub accepted : AcceptedView
   pub passes : accepted_of None image ≡ Ok accepted
   pub budget : Budget
@@ -47,14 +47,14 @@ pub record Checks (holds : Files) (path : Text) (old new : Option (List ℕ)) (w
   pub told : Appends old new (bound_line budget)
   pub done : s ≡ status.Done
 
--- ---- why it stops
+-- ---- why it stops: `wrote xs` says that the files `xs` were written
 
 -- after the image was read: it is not accepted, or standard output takes no text
 abbrev pub StopsChecked : ImageView → Stop → Type 0
 StopsChecked image reason = IsOrWant (accepted_of None image) (Err reason)
     ⊎ ((accepted : AcceptedView) × (accepted_of None image ≡ Ok accepted) × (reason ≡ stop.Output))
 
--- `check`: no image is read at the path, or afterwards
-abbrev pub StopsCheck : Files → Text → Stop → Type 0
-StopsCheck holds path reason = IsNoImageAt holds path reason
-    ⊎ ((image : ImageView) × IsImageAt holds path image × StopsChecked image reason)
+-- `check`: no image is read at the path, or afterwards; no file is written
+abbrev pub StopsCheck : Files → (Written → Type 0) → Text → Stop → Type 0
+StopsCheck files wrote path reason = (IsNoImageAt files path reason
+    ⊎ ((image : ImageView) × IsImageAt files path image × StopsChecked image reason)) × wrote []

@@ -83,11 +83,11 @@ abbrev pub stop_at_file : StoreError → Bor (List ℕ) → Stop
 stop_at_file store_error.Failed path = stop.File path
 stop_at_file store_error.NoMemory path = stop.Memory
 
--- a reason to stop that a file at this path gives
-abbrev pub IsOfFile : List ℕ → Stop → Type 0
-IsOfFile path (stop.File at) = at.now ≡ path
-IsOfFile path stop.Memory = Unit {0}
-IsOfFile path other = ⊥
+-- a reason to stop that a file at this path gives, where these are the errors with which it may fail
+abbrev pub IsOfFile : (List ℕ → StoreError → Type 0) → List ℕ → Stop → Type 0
+IsOfFile fails path (stop.File at) = (at.now ≡ path) × fails path store_error.Failed
+IsOfFile fails path stop.Memory = fails path store_error.NoMemory
+IsOfFile fails path other = ⊥
 
 -- the status of a run that was printed
 abbrev pub status_of_end : End → Status

@@ -17,33 +17,43 @@ use Rattle.commands.specs.Ending.{IsOfFile, stop_of_image}
 use Rattle.commands.specs.Words.{Argument, ImageView}
 use Rattle.commands.specs.Written.{Gains, Written}
 use Rattle.commands.specs.declared.stop.Status.{Status}
+use Rattle.commands.specs.declared.store.StoreError.{StoreError}
 use Rattle.commands.specs.declared.stop.Stop.{Stop}
 use Rattle.commands.specs.declared.stop.Stop.TheVariants as stop
 
--- ---- what is read: `holds path bytes` says that the file at a path may be read as these bytes
+-- ---- what may come of the files at paths
 
--- which bytes the file at a path may be read as
-abbrev pub Files : Type 1
-Files = Text → List ℕ → Type 0
+-- the bytes that the file at a path may be read as, the errors with which it may not be read, and those with
+-- which it may not be written
+pub record Files : Type 1 where
+  pub holds : Text → List ℕ → Type 0
+  pub unread : Text → StoreError → Type 0
+  pub unwritten : Text → StoreError → Type 0
+
+-- files of which nothing is known
+abbrev pub unknown_files : Files
+unknown_files = record { holds = λ _ _. Unit {0}; unread = λ _ _. Unit {0}; unwritten = λ _ _. Unit {0} }
+
+-- ---- what is read
 
 -- what a job passes at a place: nothing, its scalar, or bytes that its file may be read as
 abbrev pub IsPassed : Files → RunParam Text → Argument → Type 0
-IsPassed holds given.None arg = arg ≡ argument.None
-IsPassed holds (given.Scalar value) arg = arg ≡ argument.Scalar value
-IsPassed holds (given.Buffer file out) arg = (bytes : List ℕ) × holds file bytes × (arg ≡ argument.Buffer bytes)
+IsPassed files given.None arg = arg ≡ argument.None
+IsPassed files (given.Scalar value) arg = arg ≡ argument.Scalar value
+IsPassed files (given.Buffer file out) arg = (bytes : List ℕ) × files.holds file bytes × (arg ≡ argument.Buffer bytes)
 
 -- place by place
 abbrev pub ArePassed : Files → List (RunParam Text) → List Argument → Type 0
-ArePassed holds params args =
-    (length args ≡ 8) × ((k : ℕ) → k < 8 → IsPassed holds (get_or params k given.None) (get_or args k argument.None))
+ArePassed files params args =
+    (length args ≡ 8) × ((k : ℕ) → k < 8 → IsPassed files (get_or params k given.None) (get_or args k argument.None))
 
 -- why what a job passes is not read: the file of a place is not
-abbrev pub IsOfParam : RunParam Text → Stop → Type 0
-IsOfParam (given.Buffer file out) reason = IsOfFile file reason
-IsOfParam other reason = ⊥
+abbrev pub IsOfParam : Files → RunParam Text → Stop → Type 0
+IsOfParam files (given.Buffer file out) reason = IsOfFile files.unread file reason
+IsOfParam files other reason = ⊥
 
-abbrev pub IsUnpassed : List (RunParam Text) → Stop → Type 0
-IsUnpassed params reason = (place : ℕ) × IsOfParam (get_or params place given.None) reason
+abbrev pub IsUnpassed : Files → List (RunParam Text) → Stop → Type 0
+IsUnpassed files params reason = (place : ℕ) × IsOfParam files (get_or params place given.None) reason
 
 -- what there is where no fault is found, or the reason to stop
 abbrev pub unless_fault : {A : Type 0} → Option ElfError → A → Result A Stop
@@ -56,16 +66,16 @@ image_in file = unless_fault (fault_of file) (image_of file)
 
 -- the file at a path spells this image
 abbrev pub IsImageAt : Files → Text → ImageView → Type 0
-IsImageAt holds path image = (bytes : List ℕ) × holds path bytes × (image_in bytes ≡ Ok image)
+IsImageAt files path image = (bytes : List ℕ) × files.holds path bytes × (image_in bytes ≡ Ok image)
 
 -- why no image is read there: the file is not read, or has a fault
 abbrev pub IsNoImageAt : Files → Text → Stop → Type 0
-IsNoImageAt holds path reason = IsOfFile path reason
-    ⊎ ((bytes : List ℕ) × holds path bytes × IsOrWant (image_in bytes) (Err reason))
+IsNoImageAt files path reason = IsOfFile files.unread path reason
+    ⊎ ((bytes : List ℕ) × files.holds path bytes × IsOrWant (image_in bytes) (Err reason))
 
 -- the file at a path spells this table of a job
 abbrev pub IsTableAt : Files → Text → Members → Type 0
-IsTableAt holds path table = (text : List ℕ) × holds path text × (parse_document text ≡ Some table)
+IsTableAt files path table = (text : List ℕ) × files.holds path text × (parse_document text ≡ Some table)
 
 -- why a text spells no table: it is not UTF-8, or not TOML; memory may run out
 abbrev pub IsNoTable : List ℕ → Stop → Type 0
@@ -75,17 +85,18 @@ IsNoTable text other = ⊥
 
 -- why no table is read at a path: the file is not read, or spells none
 abbrev pub IsNoTableAt : Files → Text → Stop → Type 0
-IsNoTableAt holds path reason = IsOfFile path reason
-    ⊎ ((text : List ℕ) × holds path text × IsNoTable text reason)
+IsNoTableAt files path reason = IsOfFile files.unread path reason
+    ⊎ ((text : List ℕ) × files.holds path text × IsNoTable text reason)
 
 -- the same on the table that the file at a path spells
 abbrev pub OfTable : Files → Text → (Members → Status → Type 0) → Status → Type 0
-OfTable holds path does s = (table : Members) × IsTableAt holds path table × does table s
+OfTable files path does s = (table : Members) × IsTableAt files path table × does table s
 
--- why a subcommand on a job stops: its file spells no table, or for a reason of the table's
-abbrev pub StopsOfTable : Files → Text → (Members → Stop → Type 0) → Stop → Type 0
-StopsOfTable holds path stops reason = IsNoTableAt holds path reason
-    ⊎ ((table : Members) × IsTableAt holds path table × stops table reason)
+-- why a subcommand on a job stops: its file spells no table, or for a reason of the table's. `wrote xs` says
+-- that the files `xs` were written
+abbrev pub StopsOfTable : Files → (Written → Type 0) → Text → (Members → Stop → Type 0) → Stop → Type 0
+StopsOfTable files wrote path stops reason = (IsNoTableAt files path reason × wrote [])
+    ⊎ ((table : Members) × IsTableAt files path table × stops table reason)
 
 -- a table that does not ask for the job
 abbrev pub IsUnasked : {J : Type 0} → Option J → Stop → Type 0
@@ -103,32 +114,33 @@ abbrev pub outs_of : List (RunParam Text) → List Argument → Written
 outs_of params args = filter_map out_file (zip params args)
 
 -- the file was written, or the reason to stop is of its path
-abbrev pub IsWritten : Option Written → Option Written → Text × List ℕ → Result (Unit {0}) Stop → Type 0
-IsWritten old new file (Ok done) = Gains old new (file ∷ [])
-IsWritten old new file (Err reason) = Gains old new [] × IsOfFile file.0 reason
+abbrev pub IsWritten : Files → Option Written → Option Written → Text × List ℕ → Result (Unit {0}) Stop → Type 0
+IsWritten files old new file (Ok done) = Gains old new (file ∷ [])
+IsWritten files old new file (Err reason) = Gains old new [] × IsOfFile files.unwritten file.0 reason
 
 -- the same of the out file of a place, where it has one
-abbrev pub IsOutWritten : Option Written → Option Written → Option (Text × List ℕ) → Result (Unit {0}) Stop → Type 0
-IsOutWritten old new (Some file) result = IsWritten old new file result
-IsOutWritten old new None (Ok done) = Gains old new []
-IsOutWritten old new None (Err reason) = ⊥
+abbrev pub IsOutWritten : Files → Option Written → Option Written → Option (Text × List ℕ) → Result (Unit {0}) Stop → Type 0
+IsOutWritten files old new (Some file) result = IsWritten files old new file result
+IsOutWritten files old new None (Ok done) = Gains old new []
+IsOutWritten files old new None (Err reason) = ⊥
 
 -- the out files of the places before one were written, and its own was not
-pub record IsUnwritten (old new : Option Written) (params : List (RunParam Text)) (args : List Argument) (reason : Stop) : Type 0 where
+pub record IsUnwritten (files : Files) (wrote : Written → Type 0) (params : List (RunParam Text)) (args : List Argument)
+    (reason : Stop) : Type 0 where
   pub place : ℕ
   pub path : Text
   pub bytes : List ℕ
   pub out : out_file (get_or params place given.None, get_or args place argument.None) ≡ Some (path, bytes)
-  pub before : Gains old new (outs_of (take place params) (take place args))
-  pub why : IsOfFile path reason
+  pub before : wrote (outs_of (take place params) (take place args))
+  pub why : IsOfFile files.unwritten path reason
 
 -- all out files were written, by place, or those before the first that was not
-abbrev pub AreWritten : Option Written → Option Written → List (RunParam Text) → List Argument → Result (Unit {0}) Stop → Type 0
-AreWritten old new params args (Ok done) = Gains old new (outs_of params args)
-AreWritten old new params args (Err reason) = IsUnwritten old new params args reason
+abbrev pub AreWritten : Files → Option Written → Option Written → List (RunParam Text) → List Argument
+    → Result (Unit {0}) Stop → Type 0
+AreWritten files old new params args (Ok done) = Gains old new (outs_of params args)
+AreWritten files old new params args (Err reason) = IsUnwritten files (Gains old new) params args reason
 
--- why a run that ended is not told: an out file is not written, or standard output takes no text
-abbrev pub IsUnfinished : List (RunParam Text) → List Argument → Stop → Type 0
-IsUnfinished params args reason = (reason ≡ stop.Output)
-    ⊎ ((place : ℕ) × (file : Text × List ℕ)
-    × (out_file (get_or params place given.None, get_or args place argument.None) ≡ Some file) × IsOfFile file.0 reason)
+-- why a run that ended is not told: an out file is not written, or, after all were, standard output takes no text
+abbrev pub IsUnfinished : Files → (Written → Type 0) → List (RunParam Text) → List Argument → Stop → Type 0
+IsUnfinished files wrote params args reason = IsUnwritten files wrote params args reason
+    ⊎ ((reason ≡ stop.Output) × wrote (outs_of params args))

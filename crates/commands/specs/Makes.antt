@@ -83,12 +83,12 @@ AnswersBytes defined answer =
 
 -- `make` on a job's table, an image's path and the path of the file to write: the image's file with the
 -- certificate that is made is accepted when it is read back, and written, and its bound is printed
-pub record Makes (holds : Files) (path out : Text) (table : Members) (old new : Option (List ℕ))
+pub record Makes (files : Files) (path out : Text) (table : Members) (old new : Option (List ℕ))
     (was has : Option Written) (s : Status) : Type 0 where
   pub job : MakeJob
   pub asked : make_job_in table ≡ Some job
   pub file : List ℕ
-  pub there : holds path file
+  pub there : files.holds path file
   pub bytes : List ℕ
   pub made : made_of job file ≡ Ok bytes
   pub accepted : AcceptedView
@@ -100,26 +100,26 @@ pub record Makes (holds : Files) (path out : Text) (table : Members) (old new : 
   pub told : Appends old new (bound_line budget)
   pub done : s ≡ status.Done
 
--- ---- why it stops
+-- ---- why it stops: `wrote xs` says that the files `xs` were written
 
 -- after the file was made: it is not accepted when it is read back, or not written, or standard output
 -- takes no text
-abbrev pub StopsMade : Text → MakeJob → List ℕ → Stop → Type 0
-StopsMade out job bytes reason = IsOrWant (accepted_in job bytes) (Err reason)
+abbrev pub StopsMade : Files → (Written → Type 0) → Text → MakeJob → List ℕ → Stop → Type 0
+StopsMade files wrote out job bytes reason = (IsOrWant (accepted_in job bytes) (Err reason) × wrote [])
     ⊎ ((accepted : AcceptedView) × (accepted_in job bytes ≡ Ok accepted)
-    × (IsOfFile out reason ⊎ (reason ≡ stop.Output)))
+    × ((IsOfFile files.unwritten out reason × wrote []) ⊎ ((reason ≡ stop.Output) × wrote ((out, bytes) ∷ []))))
 
 -- after the image's file was read: none is made of it, or afterwards
-abbrev pub StopsRead : Text → MakeJob → List ℕ → Stop → Type 0
-StopsRead out job file reason = IsOrWant (made_of job file) (Err reason)
-    ⊎ ((bytes : List ℕ) × (made_of job file ≡ Ok bytes) × StopsMade out job bytes reason)
+abbrev pub StopsRead : Files → (Written → Type 0) → Text → MakeJob → List ℕ → Stop → Type 0
+StopsRead files wrote out job file reason = (IsOrWant (made_of job file) (Err reason) × wrote [])
+    ⊎ ((bytes : List ℕ) × (made_of job file ≡ Ok bytes) × StopsMade files wrote out job bytes reason)
 
 -- for a job: the image's file is not read, or afterwards
-abbrev pub StopsMakeJob : Files → Text → Text → MakeJob → Stop → Type 0
-StopsMakeJob holds path out job reason = IsOfFile path reason
-    ⊎ ((file : List ℕ) × holds path file × StopsRead out job file reason)
+abbrev pub StopsMakeJob : Files → (Written → Type 0) → Text → Text → MakeJob → Stop → Type 0
+StopsMakeJob files wrote path out job reason = (IsOfFile files.unread path reason × wrote [])
+    ⊎ ((file : List ℕ) × files.holds path file × StopsRead files wrote out job file reason)
 
 -- `make` on a job's table: it asks for no job, or afterwards
-abbrev pub StopsMake : Files → Text → Text → Members → Stop → Type 0
-StopsMake holds path out table reason = IsUnasked (make_job_in table) reason
-    ⊎ ((job : MakeJob) × (make_job_in table ≡ Some job) × StopsMakeJob holds path out job reason)
+abbrev pub StopsMake : Files → (Written → Type 0) → Text → Text → Members → Stop → Type 0
+StopsMake files wrote path out table reason = (IsUnasked (make_job_in table) reason × wrote [])
+    ⊎ ((job : MakeJob) × (make_job_in table ≡ Some job) × StopsMakeJob files wrote path out job reason)

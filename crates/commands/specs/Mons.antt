@@ -1,5 +1,5 @@
 -- What `mon` does.
-use Rattle.std.specs.Prelude.{◌≡◌, ◌⊎◌, ◌++◌, codes, ℕ, List, Option, Some, None, Result, Ok, Err}
+use Rattle.std.specs.Prelude.{◌≡◌, ◌⊎◌, ◌++◌, codes, ℕ, List, [], Option, Some, None, Result, Ok, Err}
 use Rattle.block_checker.specs.Accepted.{AcceptedView}
 use Rattle.job_file.specs.Job.{Text}
 use Rattle.job_file.specs.Needs.{run_job_in}
@@ -16,7 +16,7 @@ use Rattle.toml.specs.Data.{Members}
 use Rattle.vector_core.specs.Machine.{Machine}
 use Rattle.commands.specs.Accepted.{IsOrWant, accepted_of}
 use Rattle.commands.specs.Ending.{stop_of_open}
-use Rattle.commands.specs.Files.{ArePassed, Files, IsImageAt, IsNoImageAt, IsUnasked, IsUnfinished, IsUnpassed, outs_of}
+use Rattle.commands.specs.Files.{ArePassed, Files, IsImageAt, IsNoImageAt, IsUnasked, IsUnpassed, IsUnwritten, outs_of}
 use Rattle.commands.specs.Texts.{monitor_error_name}
 use Rattle.commands.specs.Words.{Argument, ImageView, OpenError, start, vlenb_of, Agnostic}
 use Rattle.commands.specs.Written.{Gains, Written}
@@ -55,21 +55,21 @@ pub record IsStopped (vlenb : ℕ) (agnostic : Agnostic) (max : ℕ) (a : Accept
 
 -- `mon` on a job's table: the job's image is accepted, its run is left at a stop, and the out files of all
 -- places were written with the buffers as they stand there
-pub record Mons (holds : Files) (table : Members) (was has : Option Written) (s : Status) : Type 0 where
+pub record Mons (files : Files) (table : Members) (was has : Option Written) (s : Status) : Type 0 where
   pub job : RunJob Text
   pub asked : run_job_in table ≡ Some job
   pub image : ImageView
-  pub there : IsImageAt holds job.image image
+  pub there : IsImageAt files job.image image
   pub accepted : AcceptedView
   pub passes : accepted_of (Some job.vlen) image ≡ Ok accepted
   pub args : List Argument
-  pub passed : ArePassed holds job.params args
+  pub passed : ArePassed files job.params args
   pub kept : List Argument
   pub stopped : IsStopped (vlenb_of job.vlen) job.agnostic job.max accepted args kept
   pub wrote : Gains was has (outs_of job.params kept)
   pub done : s ≡ status.Done
 
--- ---- why it stops
+-- ---- why it stops: `wrote xs` says that the files `xs` were written
 
 -- why a line is not answered: memory ran out, standard output takes no text, or the input has no end
 abbrev pub IsUnanswered : Stop → Type 0
@@ -87,27 +87,29 @@ abbrev pub StopsWatching : ℕ → ℕ → AcceptedView → List Argument → St
 StopsWatching vlenb max a args reason = IsUnopened (open_fault vlenb a args max) reason ⊎ IsUnanswered reason
 
 -- after what is passed was read: no run is opened, a line is not answered, or an out file is not written
-abbrev pub StopsWatched : RunJob Text → AcceptedView → List Argument → Stop → Type 0
-StopsWatched job accepted args reason = StopsWatching (vlenb_of job.vlen) job.max accepted args reason
+abbrev pub StopsWatched : Files → (Written → Type 0) → RunJob Text → AcceptedView → List Argument → Stop → Type 0
+StopsWatched files wrote job accepted args reason =
+    (StopsWatching (vlenb_of job.vlen) job.max accepted args reason × wrote [])
     ⊎ ((kept : List Argument) × IsStopped (vlenb_of job.vlen) job.agnostic job.max accepted args kept
-    × IsUnfinished job.params kept reason)
+    × IsUnwritten files wrote job.params kept reason)
 
 -- after the image was accepted: what is passed is not read, or afterwards
-abbrev pub StopsPassing : Files → RunJob Text → AcceptedView → Stop → Type 0
-StopsPassing holds job accepted reason = IsUnpassed job.params reason
-    ⊎ ((args : List Argument) × ArePassed holds job.params args × StopsWatched job accepted args reason)
+abbrev pub StopsPassing : Files → (Written → Type 0) → RunJob Text → AcceptedView → Stop → Type 0
+StopsPassing files wrote job accepted reason = (IsUnpassed files job.params reason × wrote [])
+    ⊎ ((args : List Argument) × ArePassed files job.params args × StopsWatched files wrote job accepted args reason)
 
 -- after the image was read: it is not accepted, or afterwards
-abbrev pub StopsChecking : Files → RunJob Text → ImageView → Stop → Type 0
-StopsChecking holds job image reason = IsOrWant (accepted_of (Some job.vlen) image) (Err reason)
-    ⊎ ((accepted : AcceptedView) × (accepted_of (Some job.vlen) image ≡ Ok accepted) × StopsPassing holds job accepted reason)
+abbrev pub StopsChecking : Files → (Written → Type 0) → RunJob Text → ImageView → Stop → Type 0
+StopsChecking files wrote job image reason = (IsOrWant (accepted_of (Some job.vlen) image) (Err reason) × wrote [])
+    ⊎ ((accepted : AcceptedView) × (accepted_of (Some job.vlen) image ≡ Ok accepted)
+    × StopsPassing files wrote job accepted reason)
 
 -- for a job: the image is not read, or afterwards
-abbrev pub StopsMonJob : Files → RunJob Text → Stop → Type 0
-StopsMonJob holds job reason = IsNoImageAt holds job.image reason
-    ⊎ ((image : ImageView) × IsImageAt holds job.image image × StopsChecking holds job image reason)
+abbrev pub StopsMonJob : Files → (Written → Type 0) → RunJob Text → Stop → Type 0
+StopsMonJob files wrote job reason = (IsNoImageAt files job.image reason × wrote [])
+    ⊎ ((image : ImageView) × IsImageAt files job.image image × StopsChecking files wrote job image reason)
 
 -- `mon` on a job's table: it asks for no job, or afterwards
-abbrev pub StopsMon : Files → Members → Stop → Type 0
-StopsMon holds table reason = IsUnasked (run_job_in table) reason
-    ⊎ ((job : RunJob Text) × (run_job_in table ≡ Some job) × StopsMonJob holds job reason)
+abbrev pub StopsMon : Files → (Written → Type 0) → Members → Stop → Type 0
+StopsMon files wrote table reason = (IsUnasked (run_job_in table) reason × wrote [])
+    ⊎ ((job : RunJob Text) × (run_job_in table ≡ Some job) × StopsMonJob files wrote job reason)

@@ -1,5 +1,5 @@
 -- What `run` does.
-use Rattle.std.specs.Prelude.{◌≡◌, ◌⊎◌, ℕ, List, Option, Some, None, Result, Ok, Err}
+use Rattle.std.specs.Prelude.{◌≡◌, ◌⊎◌, ℕ, List, [], Option, Some, None, Result, Ok, Err}
 use Rattle.std.specs.Io.KnownBytes.{Appends}
 use Rattle.block_checker.specs.Accepted.{AcceptedView}
 use Rattle.block_checker.specs.Bound.{bound_of, scalars_of}
@@ -38,45 +38,47 @@ run_of_job job a args = session_of (vlenb_of job.vlen) job.agnostic job.max a ar
 
 -- `run` on a job's table: the job's image is accepted, what comes of the job on it is printed, and the out
 -- files of all places were written with the buffers as the run left them
-pub record Runs (holds : Files) (table : Members) (old new : Option (List ℕ)) (was has : Option Written)
+pub record Runs (files : Files) (table : Members) (old new : Option (List ℕ)) (was has : Option Written)
     (s : Status) : Type 0 where
   pub job : RunJob Text
   pub asked : run_job_in table ≡ Some job
   pub image : ImageView
-  pub there : IsImageAt holds job.image image
+  pub there : IsImageAt files job.image image
   pub accepted : AcceptedView
   pub passes : accepted_of (Some job.vlen) image ≡ Ok accepted
   pub args : List Argument
-  pub passed : ArePassed holds job.params args
+  pub passed : ArePassed files job.params args
   pub trial : Trial
   pub comes : run_of_job job accepted args ≡ Ok trial
   pub wrote : Gains was has (outs_of job.params trial.args.places)
   pub told : Appends old new (line_of trial)
   pub done : s ≡ status_of_end trial.end
 
--- ---- why it stops
+-- ---- why it stops: `wrote xs` says that the files `xs` were written
 
 -- after what is passed was read: no run starts, or its outcome is not written or told
-abbrev pub StopsRan : RunJob Text → AcceptedView → List Argument → Stop → Type 0
-StopsRan job accepted args reason = OrMemory (run_of_job job accepted args) (Err reason)
-    ⊎ ((trial : Trial) × (run_of_job job accepted args ≡ Ok trial) × IsUnfinished job.params trial.args.places reason)
+abbrev pub StopsRan : Files → (Written → Type 0) → RunJob Text → AcceptedView → List Argument → Stop → Type 0
+StopsRan files wrote job accepted args reason = (OrMemory (run_of_job job accepted args) (Err reason) × wrote [])
+    ⊎ ((trial : Trial) × (run_of_job job accepted args ≡ Ok trial)
+    × IsUnfinished files wrote job.params trial.args.places reason)
 
 -- after the image was accepted: what is passed is not read, or afterwards
-abbrev pub StopsRunning : Files → RunJob Text → AcceptedView → Stop → Type 0
-StopsRunning holds job accepted reason = IsUnpassed job.params reason
-    ⊎ ((args : List Argument) × ArePassed holds job.params args × StopsRan job accepted args reason)
+abbrev pub StopsRunning : Files → (Written → Type 0) → RunJob Text → AcceptedView → Stop → Type 0
+StopsRunning files wrote job accepted reason = (IsUnpassed files job.params reason × wrote [])
+    ⊎ ((args : List Argument) × ArePassed files job.params args × StopsRan files wrote job accepted args reason)
 
 -- after the image was read: it is not accepted, or afterwards
-abbrev pub StopsAccepting : Files → RunJob Text → ImageView → Stop → Type 0
-StopsAccepting holds job image reason = IsOrWant (accepted_of (Some job.vlen) image) (Err reason)
-    ⊎ ((accepted : AcceptedView) × (accepted_of (Some job.vlen) image ≡ Ok accepted) × StopsRunning holds job accepted reason)
+abbrev pub StopsAccepting : Files → (Written → Type 0) → RunJob Text → ImageView → Stop → Type 0
+StopsAccepting files wrote job image reason = (IsOrWant (accepted_of (Some job.vlen) image) (Err reason) × wrote [])
+    ⊎ ((accepted : AcceptedView) × (accepted_of (Some job.vlen) image ≡ Ok accepted)
+    × StopsRunning files wrote job accepted reason)
 
 -- for a job: the image is not read, or afterwards
-abbrev pub StopsRunJob : Files → RunJob Text → Stop → Type 0
-StopsRunJob holds job reason = IsNoImageAt holds job.image reason
-    ⊎ ((image : ImageView) × IsImageAt holds job.image image × StopsAccepting holds job image reason)
+abbrev pub StopsRunJob : Files → (Written → Type 0) → RunJob Text → Stop → Type 0
+StopsRunJob files wrote job reason = (IsNoImageAt files job.image reason × wrote [])
+    ⊎ ((image : ImageView) × IsImageAt files job.image image × StopsAccepting files wrote job image reason)
 
 -- `run` on a job's table: it asks for no job, or afterwards
-abbrev pub StopsRun : Files → Members → Stop → Type 0
-StopsRun holds table reason = IsUnasked (run_job_in table) reason
-    ⊎ ((job : RunJob Text) × (run_job_in table ≡ Some job) × StopsRunJob holds job reason)
+abbrev pub StopsRun : Files → (Written → Type 0) → Members → Stop → Type 0
+StopsRun files wrote table reason = (IsUnasked (run_job_in table) reason × wrote [])
+    ⊎ ((job : RunJob Text) × (run_job_in table ≡ Some job) × StopsRunJob files wrote job reason)

@@ -1,5 +1,5 @@
 -- What `try` does.
-use Rattle.std.specs.Prelude.{◌≡◌, ◌⊎◌, ◌-◌, ◌^◌, ℕ, min, List, length, map, Option, Some, None, Result, Ok, Err}
+use Rattle.std.specs.Prelude.{◌≡◌, ◌⊎◌, ◌-◌, ◌^◌, ℕ, min, List, [], length, map, Option, Some, None, Result, Ok, Err}
 use Rattle.std.specs.Io.KnownBytes.{Appends}
 use Rattle.std.specs.List.{zip}
 use Rattle.job_file.specs.Job.{Text}
@@ -77,39 +77,40 @@ passed_by (taken.Buffer mode file out) = given.Buffer file out
 
 -- `try` on a job's table: what comes of the job on its image is printed, and the out files of all places
 -- were written with the buffers as the run left them
-pub record Tries (holds : Files) (table : Members) (old new : Option (List ℕ)) (was has : Option Written)
+pub record Tries (files : Files) (table : Members) (old new : Option (List ℕ)) (was has : Option Written)
     (s : Status) : Type 0 where
   pub job : TryJob Text
   pub asked : try_job_in table ≡ Some job
   pub image : ImageView
-  pub there : IsImageAt holds job.image image
+  pub there : IsImageAt files job.image image
   pub args : List Argument
-  pub passed : ArePassed holds (map passed_by job.params) args
+  pub passed : ArePassed files (map passed_by job.params) args
   pub trial : Trial
   pub comes : trial_of job image args ≡ Ok trial
   pub wrote : Gains was has (outs_of (map passed_by job.params) trial.args.places)
   pub told : Appends old new (line_of trial)
   pub done : s ≡ status_of_end trial.end
 
--- ---- why it stops
+-- ---- why it stops: `wrote xs` says that the files `xs` were written
 
 -- after what is passed was read: no run starts, or its outcome is not written or told
-abbrev pub StopsTried : TryJob Text → ImageView → List Argument → Stop → Type 0
-StopsTried job image args reason = OrMemory (trial_of job image args) (Err reason)
+abbrev pub StopsTried : Files → (Written → Type 0) → TryJob Text → ImageView → List Argument → Stop → Type 0
+StopsTried files wrote job image args reason = (OrMemory (trial_of job image args) (Err reason) × wrote [])
     ⊎ ((trial : Trial) × (trial_of job image args ≡ Ok trial)
-    × IsUnfinished (map passed_by job.params) trial.args.places reason)
+    × IsUnfinished files wrote (map passed_by job.params) trial.args.places reason)
 
 -- after the image was read: what is passed is not, or afterwards
-abbrev pub StopsTrying : Files → TryJob Text → ImageView → Stop → Type 0
-StopsTrying holds job image reason = IsUnpassed (map passed_by job.params) reason
-    ⊎ ((args : List Argument) × ArePassed holds (map passed_by job.params) args × StopsTried job image args reason)
+abbrev pub StopsTrying : Files → (Written → Type 0) → TryJob Text → ImageView → Stop → Type 0
+StopsTrying files wrote job image reason = (IsUnpassed files (map passed_by job.params) reason × wrote [])
+    ⊎ ((args : List Argument) × ArePassed files (map passed_by job.params) args
+    × StopsTried files wrote job image args reason)
 
 -- for a job: the image is not read, or afterwards
-abbrev pub StopsTryJob : Files → TryJob Text → Stop → Type 0
-StopsTryJob holds job reason = IsNoImageAt holds job.image reason
-    ⊎ ((image : ImageView) × IsImageAt holds job.image image × StopsTrying holds job image reason)
+abbrev pub StopsTryJob : Files → (Written → Type 0) → TryJob Text → Stop → Type 0
+StopsTryJob files wrote job reason = (IsNoImageAt files job.image reason × wrote [])
+    ⊎ ((image : ImageView) × IsImageAt files job.image image × StopsTrying files wrote job image reason)
 
 -- `try` on a job's table: it asks for no job, or afterwards
-abbrev pub StopsTry : Files → Members → Stop → Type 0
-StopsTry holds table reason = IsUnasked (try_job_in table) reason
-    ⊎ ((job : TryJob Text) × (try_job_in table ≡ Some job) × StopsTryJob holds job reason)
+abbrev pub StopsTry : Files → (Written → Type 0) → Members → Stop → Type 0
+StopsTry files wrote table reason = (IsUnasked (try_job_in table) reason × wrote [])
+    ⊎ ((job : TryJob Text) × (try_job_in table ≡ Some job) × StopsTryJob files wrote job reason)

@@ -3,6 +3,7 @@ ghost use Rattle.std.specs.Io.KnownBytes.{Appends};
 ghost use Rattle.std.specs.Prelude.{◌≡◌, MatchResult, OnOk};
 ghost use Rattle.commands.specs.Checks.{Checks, StopsCheck, bound_line};
 ghost use Rattle.commands.specs.Ending.{Ends};
+ghost use Rattle.commands.specs.Written.{Gains};
 
 use crate::accepted::accept;
 use crate::files::read_image;
@@ -26,9 +27,9 @@ pub fn check_image<S: Store, O: Write, E: Write>(
     errors: &mut E,
 ) -> Ending
     ensures { Ends
-        (Checks S.holds path.now (O.contents output.old) (O.contents output.new)
+        (Checks S.files path.now (O.contents output.old) (O.contents output.new)
         (S.written store.old) (S.written store.new))
-        (StopsCheck S.holds path.now)
+        (StopsCheck S.files (Gains (S.written store.old) (S.written store.new)) path.now)
         (E.contents errors.old) (E.contents errors.new) result }
 {
     told(check_at(alloc, path, store, output), errors)
@@ -41,9 +42,9 @@ fn check_at<'a, S: Store, O: Write>(
     output: &mut O,
 ) -> Result<Status, Stop<'a>>
     ensures { MatchResult result
-        (Checks S.holds path.entry.now (O.contents output.old) (O.contents output.new)
+        (Checks S.files path.entry.now (O.contents output.old) (O.contents output.new)
         (S.written store.old) (S.written store.new))
-        (StopsCheck S.holds path.entry.now) }
+        (StopsCheck S.files (Gains (S.written store.old) (S.written store.new)) path.entry.now) }
 {
     let image = read_image(alloc, path, store)?;
     let accepted = accept(alloc, image, None)?;

@@ -21,7 +21,8 @@ use toml::Table;
 /// The file at `path`.
 pub fn read<'a, S: Store>(alloc: Global, path: &'a str, store: &mut S) -> Result<Vec<u8>, Stop<'a>>
     ensures bytes { MatchResult result
-        (λ bytes. S.holds path.entry.now bytes.items) (IsOfFile path.entry.now) }
+        (λ bytes. S.files.holds path.entry.now bytes.items)
+        (IsOfFile S.files.unread path.entry.now) }
     ensures files { Gains (S.written store.old) (S.written store.new) [] }
 {
     match store.read(alloc, path) {
@@ -37,8 +38,8 @@ pub fn read_table<'a, S: Store>(
     store: &mut S,
 ) -> Result<Table, Stop<'a>>
     ensures table { MatchResult result
-        (λ table. IsTableAt S.holds path.entry.now (table_view table))
-        (IsNoTableAt S.holds path.entry.now) }
+        (λ table. IsTableAt S.files path.entry.now (table_view table))
+        (IsNoTableAt S.files path.entry.now) }
     ensures files { Gains (S.written store.old) (S.written store.new) [] }
 {
     let bytes = read(alloc, path, store)?;
@@ -63,7 +64,7 @@ pub fn read_image<'a, S: Store>(
     store: &mut S,
 ) -> Result<Image, Stop<'a>>
     ensures image { MatchResult result
-        (IsImageAt S.holds path.entry.now) (IsNoImageAt S.holds path.entry.now) }
+        (IsImageAt S.files path.entry.now) (IsNoImageAt S.files path.entry.now) }
     ensures files { Gains (S.written store.old) (S.written store.new) [] }
 {
     let bytes = read(alloc, path, store)?;
@@ -84,8 +85,8 @@ pub fn read_args<'a, S: Store>(
     store: &mut S,
 ) -> Result<Args, Stop<'a>>
     ensures passed { MatchResult result
-        (λ args. ArePassed S.holds (map run_param_lent params.now) args.places)
-        (IsUnpassed (map run_param_lent params.now)) }
+        (λ args. ArePassed S.files (map run_param_lent params.now) args.places)
+        (IsUnpassed S.files (map run_param_lent params.now)) }
     ensures files { Gains (S.written store.old) (S.written store.new) [] }
 {
     let mut places = no_args();
@@ -115,8 +116,8 @@ fn read_arg<'a, S: Store>(
     param: &RunParam<&'a str>,
     store: &mut S,
 ) -> Result<Arg, Stop<'a>>
-    ensures passed { MatchResult result (IsPassed S.holds (run_param_lent param.now))
-        (IsOfParam (run_param_lent param.now)) }
+    ensures passed { MatchResult result (IsPassed S.files (run_param_lent param.now))
+        (IsOfParam S.files (run_param_lent param.now)) }
     ensures files { Gains (S.written store.old) (S.written store.new) [] }
 {
     match param {
@@ -148,7 +149,7 @@ fn out_file<'a, 'b>(param: &RunParam<&'a str>, arg: &'b Arg) -> Option<(&'a str,
 
 /// Writes the file at `path`.
 pub fn write<'a, S: Store>(path: &'a str, bytes: &[u8], store: &mut S) -> Result<(), Stop<'a>>
-    ensures { IsWritten (S.written store.old) (S.written store.new)
+    ensures { IsWritten S.files (S.written store.old) (S.written store.new)
         (path.entry.now, bytes.now) result }
 {
     match store.write(path, bytes) {
@@ -163,7 +164,7 @@ fn write_out<'a, S: Store>(
     arg: &Arg,
     store: &mut S,
 ) -> Result<(), Stop<'a>>
-    ensures { IsOutWritten (S.written store.old) (S.written store.new)
+    ensures { IsOutWritten S.files (S.written store.old) (S.written store.new)
         (out_file (run_param_lent param.now, arg.now)) result }
 {
     match out_file(param, arg) {
@@ -178,7 +179,7 @@ pub fn write_outs<'a, S: Store>(
     args: &[Arg; 8],
     store: &mut S,
 ) -> Result<(), Stop<'a>>
-    ensures { AreWritten (S.written store.old) (S.written store.new)
+    ensures { AreWritten S.files (S.written store.old) (S.written store.new)
         (map run_param_lent params.now) args.now result }
 {
     for place in 0..8 {

@@ -7,6 +7,7 @@ ghost use Rattle.commands.specs.Files.{OfTable, StopsOfTable};
 ghost use Rattle.commands.specs.Makes.{AnswersBytes, Makes, StopsMake, accepted_in};
 ghost use Rattle.commands.specs.Makes.{certificate_for, made_of, with_certificate};
 ghost use Rattle.commands.specs.Trial.{OrMemory};
+ghost use Rattle.commands.specs.Written.{Gains};
 ghost use Rattle.toml.specs.View.{table_view};
 
 use crate::accepted::accept;
@@ -50,12 +51,13 @@ pub fn make_image<'a, S: Store, O: Write, E: Write>(
     errors: &mut E,
 ) -> Ending
     ensures { Ends
-        (OfTable S.holds paths.entry.job.now (λ table.
-        Makes S.holds paths.entry.image.now paths.entry.out.now table
+        (OfTable S.files paths.entry.job.now (λ table.
+        Makes S.files paths.entry.image.now paths.entry.out.now table
         (O.contents output.old) (O.contents output.new)
         (S.written store.old) (S.written store.new)))
-        (StopsOfTable S.holds paths.entry.job.now
-        (StopsMake S.holds paths.entry.image.now paths.entry.out.now))
+        (StopsOfTable S.files (Gains (S.written store.old) (S.written store.new)) paths.entry.job.now
+        (StopsMake S.files (Gains (S.written store.old) (S.written store.new))
+        paths.entry.image.now paths.entry.out.now))
         (E.contents errors.old) (E.contents errors.new) result }
 {
     match read_table(alloc, paths.job, store) {
@@ -73,10 +75,11 @@ fn make_table<'a, S: Store, O: Write>(
     output: &mut O,
 ) -> Result<Status, Stop<'a>>
     ensures { MatchResult result
-        (Makes S.holds paths.entry.image.now paths.entry.out.now (table_view table.now)
+        (Makes S.files paths.entry.image.now paths.entry.out.now (table_view table.now)
         (O.contents output.old) (O.contents output.new)
         (S.written store.old) (S.written store.new))
-        (StopsMake S.holds paths.entry.image.now paths.entry.out.now (table_view table.now)) }
+        (StopsMake S.files (Gains (S.written store.old) (S.written store.new))
+        paths.entry.image.now paths.entry.out.now (table_view table.now)) }
 {
     let job = make_job_in(table).ok_or(JobError::BadKey)?;
     let file = read(alloc, paths.image, store)?;

@@ -5,6 +5,7 @@ ghost use Rattle.vreg_groups.specs.VectorLength.{IsVlenb, vlenb_of};
 ghost use Rattle.commands.specs.Ending.{Ends};
 ghost use Rattle.commands.specs.Files.{OfTable, StopsOfTable};
 ghost use Rattle.commands.specs.Mons.{IsStopped, IsUnanswered, Mons, StopsMon, StopsWatching};
+ghost use Rattle.commands.specs.Written.{Gains};
 
 use crate::accepted::accept;
 use crate::files::{read_args, read_image, read_table, write_outs};
@@ -37,9 +38,10 @@ pub fn mon_job<S: Store, I: Read, O: Write, E: Write>(
     errors: &mut E,
 ) -> Ending
     ensures { Ends
-        (OfTable S.holds path.now (λ table.
-        Mons S.holds table (S.written store.old) (S.written store.new)))
-        (StopsOfTable S.holds path.now (StopsMon S.holds))
+        (OfTable S.files path.now (λ table.
+        Mons S.files table (S.written store.old) (S.written store.new)))
+        (StopsOfTable S.files (Gains (S.written store.old) (S.written store.new)) path.now
+        (StopsMon S.files (Gains (S.written store.old) (S.written store.new))))
         (E.contents errors.old) (E.contents errors.new) result }
 {
     mon_job_within(alloc, path, store, input, output, errors, MOST_READS)
@@ -57,9 +59,10 @@ pub fn mon_job_within<S: Store, I: Read, O: Write, E: Write>(
     reads: u64,
 ) -> Ending
     ensures { Ends
-        (OfTable S.holds path.now (λ table.
-        Mons S.holds table (S.written store.old) (S.written store.new)))
-        (StopsOfTable S.holds path.now (StopsMon S.holds))
+        (OfTable S.files path.now (λ table.
+        Mons S.files table (S.written store.old) (S.written store.new)))
+        (StopsOfTable S.files (Gains (S.written store.old) (S.written store.new)) path.now
+        (StopsMon S.files (Gains (S.written store.old) (S.written store.new))))
         (E.contents errors.old) (E.contents errors.new) result }
 {
     match read_table(alloc, path, store) {
@@ -81,8 +84,9 @@ fn mon_table<'a, S: Store, I: Read, O: Write>(
     reads: u64,
 ) -> Result<Status, Stop<'a>>
     ensures { MatchResult result
-        (Mons S.holds (table_view table.entry.now) (S.written store.old) (S.written store.new))
-        (StopsMon S.holds (table_view table.entry.now)) }
+        (Mons S.files (table_view table.entry.now) (S.written store.old) (S.written store.new))
+        (StopsMon S.files (Gains (S.written store.old) (S.written store.new))
+        (table_view table.entry.now)) }
 {
     let job = run_job_in(table).ok_or(JobError::BadKey)?;
     let image = read_image(alloc, job.image, store)?;

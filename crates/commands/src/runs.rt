@@ -7,6 +7,7 @@ ghost use Rattle.commands.specs.Ending.{Ends};
 ghost use Rattle.commands.specs.Files.{OfTable, StopsOfTable};
 ghost use Rattle.commands.specs.Runs.{Runs, StopsRun, run_of_job, session_of};
 ghost use Rattle.commands.specs.Trial.{OrMemory};
+ghost use Rattle.commands.specs.Written.{Gains};
 ghost use Rattle.commands.specs.declared.trial.End.TheVariants.{Ended};
 
 use crate::accepted::accept;
@@ -37,10 +38,11 @@ pub fn run_job<S: Store, O: Write, E: Write>(
     errors: &mut E,
 ) -> Ending
     ensures { Ends
-        (OfTable S.holds path.now (λ table.
-        Runs S.holds table (O.contents output.old) (O.contents output.new)
+        (OfTable S.files path.now (λ table.
+        Runs S.files table (O.contents output.old) (O.contents output.new)
         (S.written store.old) (S.written store.new)))
-        (StopsOfTable S.holds path.now (StopsRun S.holds))
+        (StopsOfTable S.files (Gains (S.written store.old) (S.written store.new)) path.now
+        (StopsRun S.files (Gains (S.written store.old) (S.written store.new))))
         (E.contents errors.old) (E.contents errors.new) result }
 {
     match read_table(alloc, path, store) {
@@ -57,10 +59,11 @@ fn run_table<'a, S: Store, O: Write>(
     output: &mut O,
 ) -> Result<Status, Stop<'a>>
     ensures { MatchResult result
-        (Runs S.holds (table_view table.entry.now)
+        (Runs S.files (table_view table.entry.now)
         (O.contents output.old) (O.contents output.new)
         (S.written store.old) (S.written store.new))
-        (StopsRun S.holds (table_view table.entry.now)) }
+        (StopsRun S.files (Gains (S.written store.old) (S.written store.new))
+        (table_view table.entry.now)) }
 {
     let job = run_job_in(table).ok_or(JobError::BadKey)?;
     let image = read_image(alloc, job.image, store)?;

@@ -55,23 +55,26 @@ impl From<io::Error> for StoreError {
 
 /// Files by their paths.
 pub trait Store {
-    ghost use Rattle.std.specs.Prelude.{ℕ, List, [], Option, None};
+    ghost use Rattle.std.specs.Prelude.{[], IfErr, MatchResult, Option, None};
+    ghost use Rattle.commands.specs.Files.{Files, unknown_files};
     ghost use Rattle.commands.specs.Written.{Gains, GainsOnOk, Written};
 
-    // which bytes a file at a path may be read as
-    ghost holds: { List ℕ → List ℕ → Type 0 } = { λ _ _. Unit {0} };
+    // which bytes the file at a path may be read as, and with which errors it may not be read or written
+    ghost files: { Files } = { unknown_files };
 
     // the files that were written whole, in their order, where they are known
     ghost written: { Self → Option Written } = { λ _. None };
 
     /// The bytes of the file at `path`.
     fn read(&mut self, alloc: Global, path: &str) -> Result<Vec<u8>, StoreError>
-        ensures bytes { IfOk result (λ bytes. holds path.now bytes.items) }
-        ensures files { Gains (written self.old) (written self.new) [] };
+        ensures bytes { MatchResult result
+            (λ bytes. files.holds path.now bytes.items) (files.unread path.now) }
+        ensures kept { Gains (written self.old) (written self.new) [] };
 
     /// Makes a file at `path` that has these bytes, in place of what was there.
     fn write(&mut self, path: &str, bytes: &[u8]) -> Result<(), StoreError>
-        ensures { GainsOnOk (written self.old) (written self.new) (path.now, bytes.now) result };
+        ensures wrote { GainsOnOk (written self.old) (written self.new) (path.now, bytes.now) result }
+        ensures error { IfErr result (files.unwritten path.now) };
 }
 
 /// The files of the system. A path that is not absolute starts at the working directory.

@@ -95,7 +95,8 @@ pub fn finish<'a, S: Store, O: Write>(
     ensures wrote { OnOk result (Gains (S.written store.old) (S.written store.new)
         (outs_of (map run_param_lent params.now) trial.now.args.places)) }
     ensures unfinished { IfErr result
-        (IsUnfinished (map run_param_lent params.now) trial.now.args.places) }
+        (IsUnfinished S.files (Gains (S.written store.old) (S.written store.new))
+        (map run_param_lent params.now) trial.now.args.places) }
 {
     write_outs(params, &trial.args.places, store)?;
     match trial.print(output) {

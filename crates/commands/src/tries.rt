@@ -8,6 +8,7 @@ ghost use Rattle.commands.specs.Files.{OfTable, StopsOfTable};
 ghost use Rattle.commands.specs.Trial.{OrMemory};
 ghost use Rattle.commands.specs.Tries.{StopsTry, Tries, param_for, params_for, passed_by};
 ghost use Rattle.commands.specs.Tries.{passed_size, run_of, trial_of};
+ghost use Rattle.commands.specs.Written.{Gains};
 
 use crate::files::{read_args, read_image, read_table};
 use crate::stop::{Ending, Status, Stop, told};
@@ -35,10 +36,11 @@ pub fn try_job<S: Store, O: Write, E: Write>(
     errors: &mut E,
 ) -> Ending
     ensures { Ends
-        (OfTable S.holds path.now (λ table.
-        Tries S.holds table (O.contents output.old) (O.contents output.new)
+        (OfTable S.files path.now (λ table.
+        Tries S.files table (O.contents output.old) (O.contents output.new)
         (S.written store.old) (S.written store.new)))
-        (StopsOfTable S.holds path.now (StopsTry S.holds))
+        (StopsOfTable S.files (Gains (S.written store.old) (S.written store.new)) path.now
+        (StopsTry S.files (Gains (S.written store.old) (S.written store.new))))
         (E.contents errors.old) (E.contents errors.new) result }
 {
     match read_table(alloc, path, store) {
@@ -55,10 +57,11 @@ fn try_table<'a, S: Store, O: Write>(
     output: &mut O,
 ) -> Result<Status, Stop<'a>>
     ensures { MatchResult result
-        (Tries S.holds (table_view table.entry.now)
+        (Tries S.files (table_view table.entry.now)
         (O.contents output.old) (O.contents output.new)
         (S.written store.old) (S.written store.new))
-        (StopsTry S.holds (table_view table.entry.now)) }
+        (StopsTry S.files (Gains (S.written store.old) (S.written store.new))
+        (table_view table.entry.now)) }
 {
     let job = try_job_in(table).ok_or(JobError::BadKey)?;
     let image = read_image(alloc, job.image, store)?;

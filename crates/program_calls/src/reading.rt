@@ -1,5 +1,11 @@
-//! How a file is read to its end.
-use commands::{StoreError, read_all};
+//! How a file is read to its end, and a store whose files fail for memory alone.
+ghost use Rattle.std.specs.Prelude.{◌≡◌, codes};
+ghost use Rattle.commands.specs.declared.store.StoreError.TheVariants as store_error;
+
+use crate::shelf::Broken as Silent;
+use command_line::perform;
+use commands::{Status, Store, StoreError, read_all};
+use std::alloc::Global;
 use std::io;
 use std::io::Read;
 use std::test::Fail;
@@ -75,4 +81,51 @@ fn tells_why_a_file_was_not_read(rt: HostRuntime) -> Result<(), Fail> {
         assert_eq!(rt; told.as_str(), text);
     }
     Ok(())
+}
+
+/// At every path the same text, which is read unless memory runs out. None can be written.
+#[derive(Drop)]
+struct Same;
+
+impl Store for Same {
+    ghost files = { record {
+      holds = λ path bytes. bytes ≡ codes "max = 7";
+      unread = λ path error. error ≡ store_error.NoMemory;
+      unwritten = λ path error. error ≡ store_error.Failed;
+    } };
+
+    fn read(&mut self, alloc: Global, _path: &str) -> Result<Vec<u8>, StoreError> {
+        Ok(Vec::from_slice(alloc, "max = 7".as_bytes())?)
+    }
+
+    fn write(&mut self, _path: &str, _bytes: &[u8]) -> Result<(), StoreError> {
+        Err(StoreError::Failed)
+    }
+}
+
+#[test]
+fn reads_files_that_never_fail(rt: HostRuntime) {
+    let alloc = rt.alloc();
+    for (words, status, text) in [
+        (
+            ["rvvbox", "check", "any"],
+            Status::Refused,
+            "refused: TooShort\n",
+        ),
+        (["rvvbox", "try", "any"], Status::Usage, "job: BadKey\n"),
+    ] {
+        let mut errors = Vec::new(alloc);
+        let (mut store, mut output) = (Same, Vec::new(alloc));
+        let words = words.as_slice();
+        let ending = perform(
+            alloc,
+            words,
+            &mut store,
+            &mut Silent,
+            &mut output,
+            &mut errors,
+        );
+        assert_eq!(rt; ending.status, status);
+        assert_eq!(rt; std::str::from_utf8(errors.as_slice()), Ok(text));
+    }
 }

@@ -10,6 +10,6 @@ use Rattle.commands.proofs.files.read_args.Given as goal
 abbrev pub invariant-loop-place : goal.invariant-loop-place
 invariant-loop-place g l = record {
   eight : length l.places ≡ 8;
-  passed : (k : ℕ) → k < l.place → IsPassed g.S.Store.holds (run_param_lent (get_or l.params k given.None)) (get_or l.places k argument.None);
+  passed : (k : ℕ) → k < l.place → IsPassed g.S.Store.files (run_param_lent (get_or l.params k given.None)) (get_or l.places k argument.None);
   kept : Gains (g.S.Store.written l.initial.store) (g.S.Store.written l.store) [];
 }

@@ -10,4 +10,4 @@ returns-in_err-bytes-clause-image g c =
 
 pub returns-clause-image : goal.returns-clause-image
 returns-clause-image g c =
-    image_read g.S.Store.holds c.args.path.now c.in_ok-bytes.bytes.items c.as_slice.result.now c.image_in.result (search rules) c.in_ok-bytes.ensures.bytes c.image_in.ensures
+    image_read g.S.Store.files c.args.path.now c.in_ok-bytes.bytes.items c.as_slice.result.now c.image_in.result (search rules) c.in_ok-bytes.ensures.bytes c.image_in.ensures

@@ -6,11 +6,11 @@ use Rattle.commands.proofs.files.write_outs.Goals as goal
 pub returns-in_err-write_out : goal.returns-in_err-write_out
 returns-in_err-write_out g c =
     let p = err_from_is_err_and c.from_residual.result c.from_residual.ensures.1 in
-    rw (p.1, p.2) (outs_fail _ (g.S.Store.written c.loop-place.store) _ c.args.params.now c.args.args.now c.loop-place.place _ (search rules) c.loop-place.invariant c.index-args-place.result c.in_err-write_out.ensures)
+    rw (p.1, p.2) (outs_fail g.S.Store.files _ (g.S.Store.written c.loop-place.store) _ c.args.params.now c.args.args.now c.loop-place.place _ (search rules) c.loop-place.invariant c.index-args-place.result c.in_err-write_out.ensures)
 
 pub loop-place-preserved : goal.loop-place-preserved
 loop-place-preserved g c = rw add-one
-    (outs_more _ (g.S.Store.written c.loop-place.store) _ c.args.params.now c.args.args.now c.loop-place.place (search rules) (search rules) c.loop-place.invariant c.index-args-place.result c.in_ok-write_out.ensures)
+    (outs_more g.S.Store.files _ (g.S.Store.written c.loop-place.store) _ c.args.params.now c.args.args.now c.loop-place.place (search rules) (search rules) c.loop-place.invariant c.index-args-place.result c.in_ok-write_out.ensures)
 
 pub returns : goal.returns
 returns g c =

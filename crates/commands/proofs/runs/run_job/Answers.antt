@@ -1,12 +1,18 @@
+use Rattle.std.proofs.Common.{[]}
 use Rattle.toml.specs.View.{table_view}
-use Rattle.commands.proofs.CommandLemmas.{ends_of_table, ends_untabled, runs_before}
+use Rattle.commands.proofs.CommandLemmas.{ends_of_table, ends_untabled, run_stops_before, runs_before}
+use Rattle.commands.proofs.WrittenLemmas.{gains_more}
+use Rattle.commands.specs.Written.{Gains}
 use Rattle.commands.proofs.runs.run_job.Goals as goal
 
 pub returns-in-Ok : goal.returns-in-Ok
 returns-in-Ok g c =
-    ends_of_table g.S.Store.holds c.args.path.now _ _ _ _ (table_view c.in-Ok.table) _ c.run_table.result c.told.result c.in-Ok.ensures.table
-    (λ s it. runs_before g.S.Store.holds _ _ _ _ _ _ s c.in-Ok.ensures.files it) c.run_table.ensures c.told.ensures.status c.told.ensures.told
+    let some = Gains (g.S.Store.written c.read_table.new.store) (g.S.Store.written c.run_table.new.store) in
+    let all = Gains (g.S.Store.written c.args.store.now) (g.S.Store.written c.run_table.new.store) in
+    ends_of_table g.S.Store.files all c.args.path.now _ _ _ _ (table_view c.in-Ok.table) _ _ c.run_table.result c.told.result c.in-Ok.ensures.table
+    (λ s it. runs_before g.S.Store.files _ _ _ _ _ _ s c.in-Ok.ensures.files it)
+    (λ reason why. run_stops_before g.S.Store.files some all _ reason (λ xs since. gains_more _ (g.S.Store.written c.read_table.new.store) _ [] xs c.in-Ok.ensures.files since) why) c.run_table.ensures c.told.ensures.status c.told.ensures.told
 
 pub returns-in-Err : goal.returns-in-Err
 returns-in-Err g c =
-    ends_untabled g.S.Store.holds c.args.path.now _ _ _ _ c.in-Err.stop c.tell.result c.in-Err.ensures.table c.tell.ensures.status c.tell.ensures.told
+    ends_untabled g.S.Store.files (Gains (g.S.Store.written c.args.store.now) (g.S.Store.written c.read_table.new.store)) c.args.path.now _ _ _ _ c.in-Err.stop c.tell.result c.in-Err.ensures.table c.in-Err.ensures.files c.tell.ensures.status c.tell.ensures.told
