@@ -3,7 +3,8 @@
 ghost use Rattle.abs_domain.specs.BlockLaws.{BlockNumbersHold, EntryNumbersHold};
 ghost use Rattle.abs_domain.specs.Holds.{ResultsHold};
 ghost use Rattle.abs_domain.specs.Memories.{StoresKeepZones, ZonesArePermitted};
-ghost use Rattle.abs_domain.specs.Described.{ConstantEffects, CsrEffects, ImmediateEffects, LoadEffects, RegisterEffects, ShiftEffects};
+ghost use Rattle.abs_domain.specs.Described.{ConstantEffects, CsrEffects, ImmediateEffects};
+ghost use Rattle.abs_domain.specs.Described.{LoadEffects, RegisterEffects, ShiftEffects};
 ghost use Rattle.abs_domain.specs.StartZones.{ZonesAreThere};
 
 /// What an instruction on two registers makes of their numbers holds of the number that it computes.

@@ -1,8 +1,10 @@
 //! The numbers of the registers and of vl, as far as they are known.
 ghost use Rattle.std.specs.Prelude.{◌≡◌, ◌<◌, ◌≤◌, length, replicate, vec_capacity, IfOk};
 ghost use Rattle.linear_facts.specs.Forms.{number_form};
-ghost use Rattle.abs_domain.specs.Numbers.{zero_numbers, table_of, value_at, whole_atom as whole_atom_of};
-ghost use Rattle.abs_domain.specs.Numbers.{with_atom, with_value, with_fresh, with_computed, with_effect, with_result};
+ghost use Rattle.abs_domain.specs.Numbers.{zero_numbers, table_of, value_at};
+ghost use Rattle.abs_domain.specs.Numbers.{whole_atom as whole_atom_of};
+ghost use Rattle.abs_domain.specs.Numbers.{with_atom, with_value, with_fresh, with_computed};
+ghost use Rattle.abs_domain.specs.Numbers.{with_effect, with_result};
 ghost use Rattle.abs_domain.specs.Numbers.{with_split};
 
 use crate::values::{Effect, Value, computed_range, or_full};

@@ -1,14 +1,21 @@
 //! The numbers of registers and vl where a block of a certificate begins, and where a run does.
-ghost use Rattle.std.specs.Prelude.{◌≡◌, ◌<◌, ◌≤◌, ◌+◌, ◌++◌, ◌∷◌, [], length, map, vec_capacity, IfOk, Some, None};
+ghost use Rattle.std.specs.Prelude.{◌≡◌, ◌<◌, ◌≤◌, ◌+◌, ◌++◌, ◌∷◌, [], length, map, vec_capacity};
+ghost use Rattle.std.specs.Prelude.{IfOk, Some, None};
 ghost use Rattle.std.specs.List.{range_with_len, slice_get, AllByRecursion};
 ghost use Rattle.linear_facts.specs.Forms.{IsForm};
 ghost use Rattle.linear_facts.specs.Sums.{range_of_form};
 ghost use Rattle.abs_domain.specs.Values.{computed_range as computed_range_of};
 ghost use Rattle.std.specs.Option.{option_and_then, option_map};
 ghost use Rattle.abs_domain.specs.Starts.{fact_for, interval_of, form_or_atom};
-ghost use Rattle.abs_domain.specs.Starts.{stated_range as stated_range_of, equality_form as equality_form_of, stated_form as stated_form_of};
-ghost use Rattle.abs_domain.specs.Starts.{passed_range as passed_range_of, passed_form as passed_form_of, entry_form as entry_form_of};
-ghost use Rattle.abs_domain.specs.Starts.{HasForm, start_atoms as start_atoms_of, start_numbers as start_numbers_of, entry_numbers as entry_numbers_of};
+ghost use Rattle.abs_domain.specs.Starts.{stated_range as stated_range_of};
+ghost use Rattle.abs_domain.specs.Starts.{equality_form as equality_form_of};
+ghost use Rattle.abs_domain.specs.Starts.{stated_form as stated_form_of};
+ghost use Rattle.abs_domain.specs.Starts.{passed_range as passed_range_of};
+ghost use Rattle.abs_domain.specs.Starts.{passed_form as passed_form_of};
+ghost use Rattle.abs_domain.specs.Starts.{entry_form as entry_form_of};
+ghost use Rattle.abs_domain.specs.Starts.{HasForm, start_atoms as start_atoms_of};
+ghost use Rattle.abs_domain.specs.Starts.{start_numbers as start_numbers_of};
+ghost use Rattle.abs_domain.specs.Starts.{entry_numbers as entry_numbers_of};
 ghost use Rattle.abs_domain.specs.Numbers.{plain};
 ghost use Rattle.abs_domain.specs.Orders.{with_order, with_orders};
 

@@ -1,6 +1,7 @@
 //! What is known of a number, and what an instruction makes of the numbers that it reads.
 ghost use Rattle.std.specs.Prelude.{◌≡◌};
-ghost use Rattle.abs_domain.specs.Values.{computed_range as computed_range_of, known_of, or_full as or_full_of};
+ghost use Rattle.abs_domain.specs.Values.{computed_range as computed_range_of, known_of};
+ghost use Rattle.abs_domain.specs.Values.{or_full as or_full_of};
 
 use linear_facts::{Form, Range};
 use std::marker::Model;

@@ -4,9 +4,12 @@ ghost use Rattle.std.specs.List.{list_any};
 ghost use Rattle.std.specs.Option.{option_to_list};
 ghost use Rattle.arrayvec.specs.ArrayVec.{array_vec_len};
 ghost use Rattle.region_mem.specs.declared.faults.Right.TheVariants.{Read, Write};
-ghost use Rattle.abs_domain.specs.Zones.{segment_zone as segment_zone_of, stack_zone as stack_zone_of};
-ghost use Rattle.abs_domain.specs.Zones.{buffer_zone, buffer_zones, is_inside, may_write, spans, zones_of};
-ghost use Rattle.abs_domain.specs.Zones.{load_allowed as load_allowed_of, store_allowed as store_allowed_of};
+ghost use Rattle.abs_domain.specs.Zones.{segment_zone as segment_zone_of};
+ghost use Rattle.abs_domain.specs.Zones.{stack_zone as stack_zone_of};
+ghost use Rattle.abs_domain.specs.Zones.{buffer_zone, buffer_zones, is_inside, may_write, spans};
+ghost use Rattle.abs_domain.specs.Zones.{zones_of};
+ghost use Rattle.abs_domain.specs.Zones.{load_allowed as load_allowed_of};
+ghost use Rattle.abs_domain.specs.Zones.{store_allowed as store_allowed_of};
 
 use crate::why::Why;
 use arrayvec::ArrayVec;

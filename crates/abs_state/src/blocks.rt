@@ -1,5 +1,6 @@
 //! What is known of a machine where a block of a certificate begins, and where a run does.
-ghost use Rattle.std.specs.Prelude.{◌≡◌, ◌<◌, ◌≤◌, ◌+◌, ◌++◌, ◌∷◌, [], length, vec_capacity, IfOk, Some};
+ghost use Rattle.std.specs.Prelude.{◌≡◌, ◌<◌, ◌≤◌, ◌+◌, ◌++◌, ◌∷◌, [], length, vec_capacity, IfOk};
+ghost use Rattle.std.specs.Prelude.{Some};
 ghost use Rattle.std.specs.List.{slice_get};
 ghost use Rattle.abs_domain.specs.Starts.{IsUsable};
 ghost use Rattle.abs_state.specs.Blocks.{at_block_of, at_entry_of};

@@ -1,10 +1,14 @@
 //! The ways out of an instruction, and what a branch says of the numbers that it compares.
 ghost use Rattle.std.specs.Prelude.{◌≡◌, Some, slice_index_or};
 ghost use Rattle.abs_domain.specs.Values.{just};
-ghost use Rattle.abs_state.specs.Branches.{apart_from as apart_from_of, both_ranges, branch_edge as branch_edge_of};
-ghost use Rattle.abs_state.specs.Branches.{changes_of, edge_in as edge_in_of, filled_range, if_small as if_small_of};
-ghost use Rattle.abs_state.specs.Branches.{plain_edge as plain_edge_of, refined, related_edge as related_edge_of};
-ghost use Rattle.abs_state.specs.Branches.{related_ranges as related_ranges_of, relation_of, table_on, value_on};
+ghost use Rattle.abs_state.specs.Branches.{apart_from as apart_from_of, both_ranges};
+ghost use Rattle.abs_state.specs.Branches.{branch_edge as branch_edge_of};
+ghost use Rattle.abs_state.specs.Branches.{changes_of, edge_in as edge_in_of, filled_range};
+ghost use Rattle.abs_state.specs.Branches.{if_small as if_small_of};
+ghost use Rattle.abs_state.specs.Branches.{plain_edge as plain_edge_of, refined};
+ghost use Rattle.abs_state.specs.Branches.{related_edge as related_edge_of};
+ghost use Rattle.abs_state.specs.Branches.{related_ranges as related_ranges_of, relation_of};
+ghost use Rattle.abs_state.specs.Branches.{table_on, value_on};
 ghost use Rattle.abs_state.specs.Branches.{without_end as without_end_of};
 ghost use Rattle.abs_state.specs.declared.branches.Relation.TheVariants.{Below};
 

@@ -3,7 +3,8 @@ ghost use Rattle.std.specs.Prelude.{◌≡◌, ◌<◌, ◌≤◌, ◌+◌, leng
 ghost use Rattle.vreg_groups.specs.VectorType.{type_in as type_in_of};
 ghost use Rattle.abs_transfer.specs.Facts.{known_type as known_type_of};
 ghost use Rattle.abs_domain.specs.Numbers.{with_result};
-ghost use Rattle.abs_state.specs.After.{access_check as access_check_of, mask_numbers, move_numbers};
+ghost use Rattle.abs_state.specs.After.{access_check as access_check_of, mask_numbers};
+ghost use Rattle.abs_state.specs.After.{move_numbers};
 ghost use Rattle.abs_state.specs.After.{vector_after, vector_numbers, vset_after};
 
 use crate::state::{Abstract, Way};

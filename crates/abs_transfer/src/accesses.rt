@@ -2,12 +2,19 @@
 ghost use Rattle.std.specs.Prelude.{◌≡◌, ◌<◌, ◌≤◌, ◌+◌, ◌-◌, ◌*◌, ◌^◌};
 ghost use Rattle.linear_facts.specs.Forms.{within};
 ghost use Rattle.vreg_groups.specs.VectorType.{bytes_of_width};
-ghost use Rattle.abs_transfer.specs.Accesses.{fitting_less as fitting_less_of, met_with_form as met_with_form_of, sum_form as sum_form_of};
-ghost use Rattle.abs_transfer.specs.Accesses.{sharpened_high as sharpened_high_of, sharpened_low as sharpened_low_of};
-ghost use Rattle.abs_transfer.specs.Accesses.{unit_reach as unit_reach_of, rising_reach as rising_reach_of};
-ghost use Rattle.abs_transfer.specs.Accesses.{falling_reach as falling_reach_of, strided_reach as strided_reach_of};
-ghost use Rattle.abs_transfer.specs.Accesses.{indexed_reach as indexed_reach_of, reach_at as reach_at_of, is_whole as is_whole_of};
-ghost use Rattle.abs_transfer.specs.Accesses.{reach_allowed as reach_allowed_of, transfer_check as transfer_check_of};
+ghost use Rattle.abs_transfer.specs.Accesses.{fitting_less as fitting_less_of};
+ghost use Rattle.abs_transfer.specs.Accesses.{met_with_form as met_with_form_of};
+ghost use Rattle.abs_transfer.specs.Accesses.{sum_form as sum_form_of};
+ghost use Rattle.abs_transfer.specs.Accesses.{sharpened_high as sharpened_high_of};
+ghost use Rattle.abs_transfer.specs.Accesses.{sharpened_low as sharpened_low_of};
+ghost use Rattle.abs_transfer.specs.Accesses.{unit_reach as unit_reach_of};
+ghost use Rattle.abs_transfer.specs.Accesses.{rising_reach as rising_reach_of};
+ghost use Rattle.abs_transfer.specs.Accesses.{falling_reach as falling_reach_of};
+ghost use Rattle.abs_transfer.specs.Accesses.{strided_reach as strided_reach_of};
+ghost use Rattle.abs_transfer.specs.Accesses.{indexed_reach as indexed_reach_of};
+ghost use Rattle.abs_transfer.specs.Accesses.{reach_at as reach_at_of, is_whole as is_whole_of};
+ghost use Rattle.abs_transfer.specs.Accesses.{reach_allowed as reach_allowed_of};
+ghost use Rattle.abs_transfer.specs.Accesses.{transfer_check as transfer_check_of};
 
 use crate::facts::source_range;
 use abs_domain::{

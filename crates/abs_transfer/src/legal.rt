@@ -1,6 +1,7 @@
 //! Whether a vector instruction is legal, as far as vtype is known.
 ghost use Rattle.std.specs.Prelude.{◌≡◌};
-ghost use Rattle.abs_transfer.specs.Legal.{legal_check as legal_check_of, needs_vtype as needs_vtype_of};
+ghost use Rattle.abs_transfer.specs.Legal.{legal_check as legal_check_of};
+ghost use Rattle.abs_transfer.specs.Legal.{needs_vtype as needs_vtype_of};
 ghost use Rattle.abs_transfer.specs.Legal.{operand_needs_vtype as operand_needs_vtype_of};
 
 use abs_domain::Why;

@@ -1,13 +1,18 @@
 //! What each scalar instruction makes of what is known, or why it is refused.
 ghost use Rattle.std.specs.Prelude.{◌≡◌, ◌<◌, ◌≤◌, length, IfErr, OnErr, OnOk, Ok, Err};
 ghost use Rattle.scalar_core.specs.Arithmetic.{unsigned};
-ghost use Rattle.scalar_core.specs.Step.{size_of_load as size_of_load_of, size_of_store as size_of_store_of};
+ghost use Rattle.scalar_core.specs.Step.{size_of_load as size_of_load_of};
+ghost use Rattle.scalar_core.specs.Step.{size_of_store as size_of_store_of};
 ghost use Rattle.abs_domain.specs.Numbers.{value_at, with_result};
-ghost use Rattle.abs_domain.specs.Effects.{immediate_effect as immediate_effect_of, register_effect as register_effect_of};
-ghost use Rattle.abs_domain.specs.Effects.{load_effect as load_effect_of, shift_effect as shift_effect_of, constant_effect as constant_effect_of};
+ghost use Rattle.abs_domain.specs.Effects.{immediate_effect as immediate_effect_of};
+ghost use Rattle.abs_domain.specs.Effects.{register_effect as register_effect_of};
+ghost use Rattle.abs_domain.specs.Effects.{load_effect as load_effect_of};
+ghost use Rattle.abs_domain.specs.Effects.{shift_effect as shift_effect_of};
+ghost use Rattle.abs_domain.specs.Effects.{constant_effect as constant_effect_of};
 ghost use Rattle.abs_transfer.specs.Scalar.{address_range as address_range_of};
 ghost use Rattle.abs_transfer.specs.Scalar.{if_allowed, scalar_after as scalar_after_of};
-ghost use Rattle.abs_transfer.specs.Scalar.{load_check as load_check_of, store_check as store_check_of};
+ghost use Rattle.abs_transfer.specs.Scalar.{load_check as load_check_of};
+ghost use Rattle.abs_transfer.specs.Scalar.{store_check as store_check_of};
 
 use abs_domain::{
     MOST_ATOMS, Numbers, Value, Why, Zone, computed_range, constant_effect, immediate_effect,

@@ -2,9 +2,12 @@
 ghost use Rattle.std.specs.Prelude.{◌≡◌, ◌<◌, ◌≤◌, ◌+◌, length};
 ghost use Rattle.vreg_groups.specs.VectorLength.{IsVlenb};
 ghost use Rattle.vreg_groups.specs.VectorType.{vtype_of};
-ghost use Rattle.abs_transfer.specs.Vset.{asked_of, configured, excess_range, has_vlmax as has_vlmax_of};
-ghost use Rattle.abs_transfer.specs.Vset.{kept_or_zero, known_request, lesser_range, limited_by, supported_request};
-ghost use Rattle.abs_transfer.specs.Vset.{unknown_length, unknown_request, wanted_of, with_length_in};
+ghost use Rattle.abs_transfer.specs.Vset.{asked_of, configured, excess_range};
+ghost use Rattle.abs_transfer.specs.Vset.{has_vlmax as has_vlmax_of};
+ghost use Rattle.abs_transfer.specs.Vset.{kept_or_zero, known_request, lesser_range, limited_by};
+ghost use Rattle.abs_transfer.specs.Vset.{supported_request};
+ghost use Rattle.abs_transfer.specs.Vset.{unknown_length, unknown_request, wanted_of};
+ghost use Rattle.abs_transfer.specs.Vset.{with_length_in};
 
 use abs_domain::{MOST_ATOMS, Numbers, VL, copy_of, known, whole_atom};
 use linear_facts::{Form, Range, Split};

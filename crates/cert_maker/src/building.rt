@@ -2,7 +2,11 @@
 ghost use Rattle.std.specs.Prelude.{◌≡◌, ◌≤◌, ◌<◌, ◌+◌, ◌*◌, ◌^◌, [], ◌∷◌, ◌++◌, length, IfOk};
 ghost use Rattle.std.specs.Option.{option_to_list};
 ghost use Rattle.cert_maker.specs.Certificates.{fact, facts_by, block as block_of, base_of};
-ghost use Rattle.cert_maker.specs.Certificates.{entry_count as entry_count_of, entry_pointer as entry_pointer_of, loop_count as loop_count_of, loop_pointer as loop_pointer_of, budget as budget_of};
+ghost use Rattle.cert_maker.specs.Certificates.{entry_count as entry_count_of};
+ghost use Rattle.cert_maker.specs.Certificates.{entry_pointer as entry_pointer_of};
+ghost use Rattle.cert_maker.specs.Certificates.{loop_count as loop_count_of};
+ghost use Rattle.cert_maker.specs.Certificates.{loop_pointer as loop_pointer_of};
+ghost use Rattle.cert_maker.specs.Certificates.{budget as budget_of};
 ghost use Rattle.cert_maker.specs.Loops.{size_of, is_flagged as is_flagged_of};
 ghost use Rattle.cert_maker.specs.Make.{AreParameters, IsFor, stated_at, blocks_of, has_room};
 ghost use Rattle.cert_maker.specs.declared.building.Spot.TheVariants.{Entry, Body};

@@ -3,12 +3,21 @@ ghost use Rattle.std.specs.Prelude.{◌≡◌, ◌≤◌, ◌<◌, ◌+◌, ◌-
 ghost use Rattle.std.specs.List.{list_any};
 ghost use Rattle.rv_decode.specs.declared.instructions.Insn.{Insn};
 ghost use Rattle.vreg_groups.specs.VectorType.{bytes_of_width};
-ghost use Rattle.cert_maker.specs.Loops.{back_by as back_by_of, count_by as count_by_of, is_access as is_access_of, is_arithmetic as is_arithmetic_of};
-ghost use Rattle.cert_maker.specs.Loops.{is_buffer_for as is_buffer_for_of, is_double as is_double_of, is_flagged as is_flagged_of, is_free as is_free_of};
-ghost use Rattle.cert_maker.specs.Loops.{is_plain as is_plain_of, is_vector_class as is_vector_class_of, length_by as length_by_of, may_be as may_be_of};
-ghost use Rattle.cert_maker.specs.Loops.{most_of as most_of_of, moved_by as moved_by_of, next_of as next_of_of, parameter_in as parameter_in_of};
-ghost use Rattle.cert_maker.specs.Loops.{reads_double as reads_double_of, shift_of as shift_of_of, step_by as step_by_of, with_pointer as with_pointer_of};
-ghost use Rattle.cert_maker.specs.Loops.{works_on as works_on_of, writes_elements as writes_elements_of};
+ghost use Rattle.cert_maker.specs.Loops.{back_by as back_by_of, count_by as count_by_of};
+ghost use Rattle.cert_maker.specs.Loops.{is_access as is_access_of};
+ghost use Rattle.cert_maker.specs.Loops.{is_arithmetic as is_arithmetic_of};
+ghost use Rattle.cert_maker.specs.Loops.{is_buffer_for as is_buffer_for_of};
+ghost use Rattle.cert_maker.specs.Loops.{is_double as is_double_of, is_flagged as is_flagged_of};
+ghost use Rattle.cert_maker.specs.Loops.{is_free as is_free_of};
+ghost use Rattle.cert_maker.specs.Loops.{is_plain as is_plain_of};
+ghost use Rattle.cert_maker.specs.Loops.{is_vector_class as is_vector_class_of};
+ghost use Rattle.cert_maker.specs.Loops.{length_by as length_by_of, may_be as may_be_of};
+ghost use Rattle.cert_maker.specs.Loops.{most_of as most_of_of, moved_by as moved_by_of};
+ghost use Rattle.cert_maker.specs.Loops.{next_of as next_of_of, parameter_in as parameter_in_of};
+ghost use Rattle.cert_maker.specs.Loops.{reads_double as reads_double_of, shift_of as shift_of_of};
+ghost use Rattle.cert_maker.specs.Loops.{step_by as step_by_of, with_pointer as with_pointer_of};
+ghost use Rattle.cert_maker.specs.Loops.{works_on as works_on_of};
+ghost use Rattle.cert_maker.specs.Loops.{writes_elements as writes_elements_of};
 
 use crate::loops::{Head, Loop, Reading};
 use region_mem::{Mode, Param, Parameters};

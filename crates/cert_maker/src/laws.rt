@@ -1,7 +1,9 @@
 //! Laws of the loops for which certificates are made, each the contract of a function that does nothing when it runs.
 //!
 //! The last says that what is made passes the check; the others are the steps of that.
-ghost use Rattle.cert_maker.specs.Laws.{BodyKeeps, ReachesEnd, FactsAre, SplitsAre, LoopsEnd, LoopsLead, PointersMove, PointersReturn, LengthsAreSet, ReturnsPass, LoopsGoOn, RoundsEnd, CertificatesPass};
+ghost use Rattle.cert_maker.specs.Laws.{BodyKeeps, ReachesEnd, FactsAre, SplitsAre, LoopsEnd};
+ghost use Rattle.cert_maker.specs.Laws.{LoopsLead, PointersMove, PointersReturn, LengthsAreSet};
+ghost use Rattle.cert_maker.specs.Laws.{ReturnsPass, LoopsGoOn, RoundsEnd, CertificatesPass};
 
 /// Vector arithmetic that is legal at the vtype that is known leaves all that is known of numbers as it was.
 pub fn body_keeps()

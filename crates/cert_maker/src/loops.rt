@@ -2,8 +2,10 @@
 ghost use Rattle.std.specs.Prelude.{◌≡◌, ◌≤◌, ◌+◌, ◌*◌, IsSome, IsOk, IfOk, ok_or};
 ghost use Rattle.std.specs.Option.{option_and_then};
 ghost use Rattle.cert_maker.specs.declared.loops.Reading.TheVariants.{Works};
-ghost use Rattle.cert_maker.specs.Loops.{count_by as count_by_of, insn_at as insn_at_of, is_return as is_return_of, length_by as length_by_of};
-ghost use Rattle.cert_maker.specs.Loops.{loop_from as loop_from_of, loop_of as loop_of_of, next_of as next_of_of, return_by as return_by_of};
+ghost use Rattle.cert_maker.specs.Loops.{count_by as count_by_of, insn_at as insn_at_of};
+ghost use Rattle.cert_maker.specs.Loops.{is_return as is_return_of, length_by as length_by_of};
+ghost use Rattle.cert_maker.specs.Loops.{loop_from as loop_from_of, loop_of as loop_of_of};
+ghost use Rattle.cert_maker.specs.Loops.{next_of as next_of_of, return_by as return_by_of};
 
 use crate::instructions::{count_by, length_by, next_of};
 use elf_image::Image;

@@ -5,7 +5,8 @@ ghost use Rattle.cert_note.specs.Certificate.{FitsWords};
 ghost use Rattle.cert_maker.specs.Certificates.{certificate_of};
 ghost use Rattle.cert_maker.specs.Loops.{loop_of as loop_of_of};
 ghost use Rattle.cert_maker.specs.Make.{AreParameters, FitsAt, IsFor};
-ghost use Rattle.cert_maker.specs.declared.errors.MakeError.TheVariants.{NotALoopOfTheClass, NoMemory};
+ghost use Rattle.cert_maker.specs.declared.errors.MakeError.TheVariants.{NotALoopOfTheClass};
+ghost use Rattle.cert_maker.specs.declared.errors.MakeError.TheVariants.{NoMemory};
 
 use crate::building::blocks;
 use crate::errors::MakeError;

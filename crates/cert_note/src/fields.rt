@@ -1,10 +1,17 @@
 //! Fields of a certificate that need no memory.
-ghost use Rattle.std.specs.Prelude.{◌≡◌, ◌==◌, ◌&&◌, ◌≤◌, ◌+◌, ◌%◌, ◌^◌, nat_le, IsTrue, IfOk, ok_or};
+ghost use Rattle.std.specs.Prelude.{◌≡◌, ◌==◌, ◌&&◌, ◌≤◌, ◌+◌, ◌%◌, ◌^◌, nat_le, IsTrue, IfOk};
+ghost use Rattle.std.specs.Prelude.{ok_or};
 ghost use Rattle.region_mem.specs.Parameter.{parameters_of};
 ghost use Rattle.cert_note.specs.declared.refusals.CertError.TheVariants.{Parameter};
 ghost use Rattle.std.specs.Int.{w16, w32};
-ghost use Rattle.cert_note.specs.Certificate.{is_width, is_group, is_count, is_interval, is_full, is_budget, is_second, is_atom, is_scalar};
-ghost use Rattle.cert_note.specs.Reading.{Gives, expect, byte_at, number_at, zero_at, zeros_at, version_of, vlen_of, header_at, mode_of, is_first_number, is_second_number, param_of, parameter_at, parameters_at, term_at, group_at, vector_at, single_at, double_at, budget_at, known_vtype, vtype_at, few_at, order_count_at, counts_at, count_at};
+ghost use Rattle.cert_note.specs.Certificate.{is_width, is_group, is_count, is_interval, is_full};
+ghost use Rattle.cert_note.specs.Certificate.{is_budget, is_second, is_atom, is_scalar};
+ghost use Rattle.cert_note.specs.Reading.{Gives, expect, byte_at, number_at, zero_at, zeros_at};
+ghost use Rattle.cert_note.specs.Reading.{version_of, vlen_of, header_at, mode_of, is_first_number};
+ghost use Rattle.cert_note.specs.Reading.{is_second_number, param_of, parameter_at, parameters_at};
+ghost use Rattle.cert_note.specs.Reading.{term_at, group_at, vector_at, single_at, double_at};
+ghost use Rattle.cert_note.specs.Reading.{budget_at, known_vtype, vtype_at, few_at, order_count_at};
+ghost use Rattle.cert_note.specs.Reading.{counts_at, count_at};
 
 use crate::refusals::CertError;
 use crate::values::{Budget, Counts, Group, Term, VectorFact, Version};

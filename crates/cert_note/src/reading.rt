@@ -1,9 +1,14 @@
 //! Reading a certificate from its bytes.
-ghost use Rattle.std.specs.Prelude.{◌≡◌, ◌≤◌, ◌==◌, ◌&&◌, not, is_some, IfOk, IfErr, IsOk, MatchResult, Err};
+ghost use Rattle.std.specs.Prelude.{◌≡◌, ◌≤◌, ◌==◌, ◌&&◌, not, is_some, IfOk, IfErr, IsOk};
+ghost use Rattle.std.specs.Prelude.{MatchResult, Err};
 ghost use Rattle.cert_note.specs.Spelling.{spelling};
 ghost use Rattle.std.specs.List.{list_all, list_any};
-ghost use Rattle.cert_note.specs.Certificate.{view, CertificateView, IsCertificate, is_equated, is_free, is_greater, is_lesser, are_free};
-ghost use Rattle.cert_note.specs.Reading.{Gives, GivesOrNoMemory, rest_of, terms_at, sum_at, none_at, some_at, equality_at, fact_at, facts_at, vectors_at, order_at, orders_at, block_at, blocks_at, certificate_of};
+ghost use Rattle.cert_note.specs.Certificate.{view, CertificateView, IsCertificate, is_equated};
+ghost use Rattle.cert_note.specs.Certificate.{is_free, is_greater, is_lesser, are_free};
+ghost use Rattle.cert_note.specs.Reading.{Gives, GivesOrNoMemory, rest_of, terms_at, sum_at};
+ghost use Rattle.cert_note.specs.Reading.{none_at, some_at, equality_at, fact_at, facts_at};
+ghost use Rattle.cert_note.specs.Reading.{vectors_at, order_at, orders_at, block_at, blocks_at};
+ghost use Rattle.cert_note.specs.Reading.{certificate_of};
 
 use crate::fields;
 use crate::fields::{byte_at, expect, word_at};

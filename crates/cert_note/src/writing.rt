@@ -2,7 +2,11 @@
 ghost use Rattle.std.specs.Prelude.{◌≡◌, ◌<◌, ◌≤◌, ◌^◌, ◌++◌, length, OnOk, IfOk};
 ghost use Rattle.std.specs.List.{flat_map};
 ghost use Rattle.cert_note.specs.Certificate.{view};
-ghost use Rattle.cert_note.specs.Spelling.{half, word, counts, version_code, header, parameter_of, mode_code, spelled_parameter, spelled_term, spelled_equality, spelled_fact, spelled_vector, spelled_order, spelled_budget, spelled_vtype, spelled_block, spelling};
+ghost use Rattle.cert_note.specs.Spelling.{half, word, counts, version_code, header, parameter_of};
+ghost use Rattle.cert_note.specs.Spelling.{mode_code, spelled_parameter, spelled_term};
+ghost use Rattle.cert_note.specs.Spelling.{spelled_equality, spelled_fact, spelled_vector};
+ghost use Rattle.cert_note.specs.Spelling.{spelled_order, spelled_budget, spelled_vtype};
+ghost use Rattle.cert_note.specs.Spelling.{spelled_block, spelling};
 
 use crate::values::{
     Block, Budget, Certificate, Contents, Counts, Equality, OrderFact, RegisterFact, Term,

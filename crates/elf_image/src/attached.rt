@@ -1,11 +1,15 @@
 //! The file that a certificate is attached to.
 
-ghost use Rattle.std.specs.Prelude.{◌≡◌, ◌≤◌, ◌+◌, ◌*◌, ◌<◌, ◌^◌, ◌++◌, length, false, option_copied, slice_get, IfSome, IfNone, IfOk, OnOk, MatchResult};
+ghost use Rattle.std.specs.Prelude.{◌≡◌, ◌≤◌, ◌+◌, ◌*◌, ◌<◌, ◌^◌, ◌++◌, length, false};
+ghost use Rattle.std.specs.Prelude.{option_copied, slice_get, IfSome, IfNone, IfOk, OnOk};
+ghost use Rattle.std.specs.Prelude.{MatchResult};
 ghost use Rattle.elf_image.specs.Words.{half, word};
 ghost use Rattle.elf_image.specs.Notes.{padded};
 ghost use Rattle.elf_image.specs.File.{HasTable, certificates_of};
 ghost use Rattle.elf_image.specs.Faults.{has_certificate};
-ghost use Rattle.elf_image.specs.Attached.{HasRoom, attach_fault, attached_of, attached_size, headers_of, note_header, note_with, outgrows, padding, part, patched, rest_from};
+ghost use Rattle.elf_image.specs.Attached.{HasRoom, attach_fault, attached_of, attached_size};
+ghost use Rattle.elf_image.specs.Attached.{headers_of, note_header, note_with, outgrows, padding};
+ghost use Rattle.elf_image.specs.Attached.{part, patched, rest_from};
 
 use crate::error::ElfError;
 use crate::faults::{header_fault, is_entry_no_code, is_too_large_file, place_fault};

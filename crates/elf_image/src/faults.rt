@@ -3,7 +3,14 @@
 ghost use Rattle.std.specs.Prelude.{◌≡◌, ◌≤◌, false, IfNone, length};
 ghost use Rattle.std.specs.List.{list_any};
 ghost use Rattle.elf_image.specs.File.{HasTable, e_entry, program_headers, segment_headers};
-ghost use Rattle.elf_image.specs.Faults.{has_bad_class, has_bad_flags, has_bad_header_table, has_bad_machine, has_bad_magic, has_bad_type, has_out_of_file, has_out_of_place, has_overlap, has_write_and_execute, is_not_code, is_not_static, is_out_of_file, is_out_of_place, is_too_large, is_too_short, overlap, is_between, is_dynamic, is_write_and_execute, has_word, first_of, header_faults, place_faults, segment_faults};
+ghost use Rattle.elf_image.specs.Faults.{has_bad_class, has_bad_flags, has_bad_header_table};
+ghost use Rattle.elf_image.specs.Faults.{has_bad_machine, has_bad_magic, has_bad_type};
+ghost use Rattle.elf_image.specs.Faults.{has_out_of_file, has_out_of_place, has_overlap};
+ghost use Rattle.elf_image.specs.Faults.{has_write_and_execute, is_not_code, is_not_static};
+ghost use Rattle.elf_image.specs.Faults.{is_out_of_file, is_out_of_place, is_too_large};
+ghost use Rattle.elf_image.specs.Faults.{is_too_short, overlap, is_between, is_dynamic};
+ghost use Rattle.elf_image.specs.Faults.{is_write_and_execute, has_word, first_of, header_faults};
+ghost use Rattle.elf_image.specs.Faults.{place_faults, segment_faults};
 
 use crate::error::ElfError;
 use crate::header;

@@ -1,8 +1,11 @@
 //! The ELF header and the program headers of a file.
 
-ghost use Rattle.std.specs.Prelude.{◌≡◌, ◌≤◌, ◌+◌, ◌*◌, ◌++◌, ◌∷◌, [], ◌<◌, length, take, drop, filter};
+ghost use Rattle.std.specs.Prelude.{◌≡◌, ◌≤◌, ◌+◌, ◌*◌, ◌++◌, ◌∷◌, [], ◌<◌, length, take, drop};
+ghost use Rattle.std.specs.Prelude.{filter};
 ghost use Rattle.elf_image.specs.Words.{half_at, word_at};
-ghost use Rattle.elf_image.specs.File.{HasTable, program_header_at, program_headers, is_load, is_note, is_segment, is_executable, is_writable, is_readable, file_part};
+ghost use Rattle.elf_image.specs.File.{HasTable, program_header_at, program_headers, is_load};
+ghost use Rattle.elf_image.specs.File.{is_note, is_segment, is_executable, is_writable};
+ghost use Rattle.elf_image.specs.File.{is_readable, file_part};
 
 use byteorder::{ByteOrder, LittleEndian};
 use std::marker::Model;

@@ -1,8 +1,10 @@
 //! What a file becomes in memory.
 
-ghost use Rattle.std.specs.Prelude.{◌≡◌, ◌+◌, ◌≤◌, All, IfOk, IfSome, map, position, option_map, option_copied, slice_get};
+ghost use Rattle.std.specs.Prelude.{◌≡◌, ◌+◌, ◌≤◌, All, IfOk, IfSome, map, position, option_map};
+ghost use Rattle.std.specs.Prelude.{option_copied, slice_get};
 ghost use Rattle.elf_image.specs.Image.{IsImage, holds_address, code_at};
-ghost use Rattle.elf_image.specs.File.{HasTable, HasImage, IsLoadable, segment_of, segment_headers, certificates_of, image_of};
+ghost use Rattle.elf_image.specs.File.{HasTable, HasImage, IsLoadable, segment_of, segment_headers};
+ghost use Rattle.elf_image.specs.File.{certificates_of, image_of};
 
 use crate::header::{E_ENTRY, ProgramHeader, word_at};
 use crate::segment::Segment;

@@ -1,7 +1,10 @@
 //! How large a file and its image may be, and where its segments may lie.
 ghost use Rattle.std.specs.Prelude.{◌≡◌};
 ghost use Rattle.elf_image.specs.declared.header.TheConstants.{MAX_PROGRAM_HEADERS};
-ghost use Rattle.elf_image.specs.declared.layout.TheConstants.{HIGH_SEGMENTS, HIGH_SEGMENTS_END, LOW_SEGMENTS, LOW_SEGMENTS_END, MAX_FILE_SIZE, MAX_MEMORY_SIZE, MAX_SEGMENTS};
+ghost use Rattle.elf_image.specs.declared.layout.TheConstants.{HIGH_SEGMENTS, HIGH_SEGMENTS_END};
+ghost use Rattle.elf_image.specs.declared.layout.TheConstants.{LOW_SEGMENTS, LOW_SEGMENTS_END};
+ghost use Rattle.elf_image.specs.declared.layout.TheConstants.{MAX_FILE_SIZE, MAX_MEMORY_SIZE};
+ghost use Rattle.elf_image.specs.declared.layout.TheConstants.{MAX_SEGMENTS};
 
 /// How many bytes a file has at most.
 pub const MAX_FILE_SIZE: usize = 4 << 20;

@@ -1,9 +1,13 @@
 //! The notes of a note segment.
 
-ghost use Rattle.std.specs.Prelude.{◌≡◌, ◌<◌, ◌++◌, All, IfOk, IfErr, OnErr, is_err, option_copied, slice_get, ◌^◌, ◌+◌, ◌∷◌, [], true, false, IfSome, IfNone, MatchOption, length, drop};
+ghost use Rattle.std.specs.Prelude.{◌≡◌, ◌<◌, ◌++◌, All, IfOk, IfErr, OnErr, is_err, option_copied};
+ghost use Rattle.std.specs.Prelude.{slice_get, ◌^◌, ◌+◌, ◌∷◌, [], true, false, IfSome, IfNone};
+ghost use Rattle.std.specs.Prelude.{MatchOption, length, drop};
 ghost use Rattle.std.specs.List.{flat_map};
-ghost use Rattle.elf_image.specs.Notes.{padded, note_size_of, has_note, note_of, after_note, is_certificate, certificates_in, listed};
-ghost use Rattle.elf_image.specs.File.{is_note, IsInside, program_headers, certificates_at, certificates_of};
+ghost use Rattle.elf_image.specs.Notes.{padded, note_size_of, has_note, note_of, after_note};
+ghost use Rattle.elf_image.specs.Notes.{is_certificate, certificates_in, listed};
+ghost use Rattle.elf_image.specs.File.{is_note, IsInside, program_headers, certificates_at};
+ghost use Rattle.elf_image.specs.File.{certificates_of};
 ghost use Rattle.elf_image.specs.Faults.{has_two_certificates};
 
 use crate::error::ElfError;

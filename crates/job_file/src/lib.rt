@@ -8,7 +8,8 @@ ghost use Rattle.std.specs.Prelude.{◌≡◌, IfErr, IfOk, Some, option_map};
 ghost use Rattle.toml.specs.Parse.{parse_document};
 ghost use Rattle.toml.specs.View.{table_view};
 ghost use Rattle.job_file.specs.Job.{IsTableFault, job_fields, job_lent, job_of};
-ghost use Rattle.job_file.specs.Needs.{make_job_in, run_job_in, run_job_lent, try_job_in, try_job_lent};
+ghost use Rattle.job_file.specs.Needs.{make_job_in, run_job_in, run_job_lent, try_job_in};
+ghost use Rattle.job_file.specs.Needs.{try_job_lent};
 
 mod fields;
 mod needs;

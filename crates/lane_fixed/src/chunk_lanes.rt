@@ -5,7 +5,8 @@ use std::simd::prelude::*;
 
 /// A vector of unsigned lanes: `u8x16`, `u16x8` or `u32x4`.
 pub trait Chunk: Copy {
-    ghost use Rattle.std.specs.Prelude.{ℕ, ◌≡◌, ◌+◌, ◌-◌, ◌/◌, ◌%◌, ◌^◌, ◌<◌, ◌==◌, nat_lt, min, if◌then◌else◌};
+    ghost use Rattle.std.specs.Prelude.{ℕ, ◌≡◌, ◌+◌, ◌-◌, ◌/◌, ◌%◌, ◌^◌, ◌<◌, ◌==◌, nat_lt, min};
+    ghost use Rattle.std.specs.Prelude.{if◌then◌else◌};
     ghost use Rattle.std.specs.Int.{Width};
     ghost use mir.Val.{bits, hbits};
     ghost use Rattle.std.specs.Int.RustNames.{bit_and, bit_xor};

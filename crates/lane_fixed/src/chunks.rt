@@ -1,6 +1,7 @@
 //! The kernels' operations on chunks of sixteen bytes, by operations of `std::simd` alone. Signed lanes are computed
 //! with their top bit turned over, which makes them unsigned ones in the same order.
-ghost use Rattle.std.specs.Prelude.{◌≡◌, ℕ, ◌+◌, ◌-◌, ◌*◌, ◌%◌, ◌^◌, ◌<◌, ◌≤◌, ◌==◌, nat_lt, pos, ◌+ℤ◌, ◌-ℤ◌, if◌then◌else◌};
+ghost use Rattle.std.specs.Prelude.{◌≡◌, ℕ, ◌+◌, ◌-◌, ◌*◌, ◌%◌, ◌^◌, ◌<◌, ◌≤◌, ◌==◌, nat_lt, pos};
+ghost use Rattle.std.specs.Prelude.{◌+ℤ◌, ◌-ℤ◌, if◌then◌else◌};
 ghost use Rattle.std.specs.Int.{w8, w16, w32, cast_signed, from_bool, saturate_signed};
 ghost use mir.Val.{bits, hbits};
 ghost use lib.Lanes.{zip2};

@@ -1,8 +1,10 @@
 //! One element.
-ghost use Rattle.std.specs.Prelude.{◌≡◌, ◌≤◌, ◌<◌, ◌+◌, ◌*◌, ◌^◌, ◌%◌, ℤ, pos, unsigned_abs, ◌+ℤ◌, ◌-ℤ◌, ◌*ℤ◌};
+ghost use Rattle.std.specs.Prelude.{◌≡◌, ◌≤◌, ◌<◌, ◌+◌, ◌*◌, ◌^◌, ◌%◌, ℤ, pos, unsigned_abs, ◌+ℤ◌};
+ghost use Rattle.std.specs.Prelude.{◌-ℤ◌, ◌*ℤ◌};
 ghost use Rattle.std.specs.Int.{cast_signed};
 ghost use mir.Val.{bits};
-ghost use Rattle.lane_fixed.specs.FixedPoint.{clip_element, clip_exact, clip_saturates, clip_to, clipped, dropped, element, exact, saturates};
+ghost use Rattle.lane_fixed.specs.FixedPoint.{clip_element, clip_exact, clip_saturates, clip_to};
+ghost use Rattle.lane_fixed.specs.FixedPoint.{clipped, dropped, element, exact, saturates};
 
 use crate::lane::Lane;
 use crate::operations::{ClipOp, FixedOp, RoundingMode};

@@ -2,7 +2,8 @@
 //! own. What has a chunk call works by it, chunk after chunk, and by single elements after the last.
 ghost use Rattle.std.specs.Prelude.{◌≡◌, length, map};
 ghost use lib.Lanes.{zip2};
-ghost use Rattle.lane_fixed.specs.FixedPoint.{any_active, clip_element, clip_saturates, element, saturates};
+ghost use Rattle.lane_fixed.specs.FixedPoint.{any_active, clip_element, clip_saturates, element};
+ghost use Rattle.lane_fixed.specs.FixedPoint.{saturates};
 ghost use Rattle.lane_fixed.specs.Chunks.{lane_result, lane_saturates, mode_of, operation};
 
 use crate::elements::{fixed, narrowed};

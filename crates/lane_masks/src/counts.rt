@@ -1,7 +1,8 @@
 //! Counts and first bits of masks. A caller that has a mask of active elements takes the bits that are set and active
 //! (`LogicOp::And`) first.
 ghost use Rattle.std.specs.Prelude.{◌≡◌, ◌+◌, ◌≤◌, ◌<◌, ◌^◌, length, map};
-ghost use Rattle.lane_masks.specs.Masks.{first_set, index_of, iota_of, set_at, set_count, set_first_of};
+ghost use Rattle.lane_masks.specs.Masks.{first_set, index_of, iota_of, set_at, set_count};
+ghost use Rattle.lane_masks.specs.Masks.{set_first_of};
 
 use crate::lane::FoldLane;
 use crate::operations::FirstOp;

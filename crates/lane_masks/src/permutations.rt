@@ -1,7 +1,8 @@
 //! Elements that are moved.
 ghost use Rattle.std.specs.Prelude.{◌≡◌, ◌+◌, ◌≤◌, ◌<◌, ◌^◌, length, slice_index_or, take};
 ghost use Rattle.lane_masks.specs.Folds.{kept};
-ghost use Rattle.lane_masks.specs.Permutations.{gathered, slid_down, slid_one_down, slid_one_up, slid_up};
+ghost use Rattle.lane_masks.specs.Permutations.{gathered, slid_down, slid_one_down, slid_one_up};
+ghost use Rattle.lane_masks.specs.Permutations.{slid_up};
 
 /// Slides the elements of `source` up by `offset` into `values`, whose elements below the offset stay ("Vector Slideup
 /// Instructions").

@@ -1,9 +1,14 @@
 //! Differences of multiples of forms in whole numbers, and their lower bounds.
-ghost use Rattle.std.specs.Prelude.{◌≡◌, ℕ, ◌+◌, ◌-◌, ◌*◌, ◌^◌, ◌<◌, ◌≤◌, List, [], ◌∷◌, length, IsTrue, map, is_some};
+ghost use Rattle.std.specs.Prelude.{◌≡◌, ℕ, ◌+◌, ◌-◌, ◌*◌, ◌^◌, ◌<◌, ◌≤◌, List, [], ◌∷◌, length};
+ghost use Rattle.std.specs.Prelude.{IsTrue, map, is_some};
 ghost use Rattle.linear_facts.specs.Forms.{IsForm, value};
 ghost use Rattle.linear_facts.specs.Ranges.{AtomTable, AgreesWith};
 ghost use Rattle.linear_facts.specs.Sums.{AllAtMost, signed_term, range_of_form};
-ghost use Rattle.linear_facts.specs.Differences.{total_of, multiple_term, with_number, with_multiples, base_of, with_product, with_products, have_ranges, AreForms, difference_of, is_positive, is_at_least_of, once, sum_interval as sum_interval_of, is_not_less_of};
+ghost use Rattle.linear_facts.specs.Differences.{total_of, multiple_term, with_number};
+ghost use Rattle.linear_facts.specs.Differences.{with_multiples, base_of, with_product};
+ghost use Rattle.linear_facts.specs.Differences.{with_products, have_ranges, AreForms};
+ghost use Rattle.linear_facts.specs.Differences.{difference_of, is_positive, is_at_least_of, once};
+ghost use Rattle.linear_facts.specs.Differences.{sum_interval as sum_interval_of, is_not_less_of};
 
 use crate::forms::Form;
 use crate::ranges::{Atoms, End};

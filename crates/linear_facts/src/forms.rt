@@ -1,8 +1,12 @@
 //! Forms: addition, multiples and equality.
-ghost use Rattle.std.specs.Prelude.{◌≡◌, ℕ, ◌+◌, ◌*◌, ◌%◌, ◌^◌, ◌<◌, ◌≤◌, ◌↔◌, List, [], ◌∷◌, length, IsTrue, IfSome, IfNone, IsSome, OnSome, Some, MatchOption, ◌++◌};
+ghost use Rattle.std.specs.Prelude.{◌≡◌, ℕ, ◌+◌, ◌*◌, ◌%◌, ◌^◌, ◌<◌, ◌≤◌, ◌↔◌, List, [], ◌∷◌};
+ghost use Rattle.std.specs.Prelude.{length, IsTrue, IfSome, IfNone, IsSome, OnSome, Some};
+ghost use Rattle.std.specs.Prelude.{MatchOption, ◌++◌};
 ghost use Rattle.arrayvec.specs.ArrayVec.{array_vec_len};
 ghost use Rattle.linear_facts.specs.Laws.{AreBelow};
-ghost use Rattle.linear_facts.specs.Forms.{Linear, value, IsForm, term_or_none, merged, scaled_terms, sum_of, scaled, within, atom_form, form_at, with_replaced, substituted};
+ghost use Rattle.linear_facts.specs.Forms.{Linear, value, IsForm, term_or_none, merged};
+ghost use Rattle.linear_facts.specs.Forms.{scaled_terms, sum_of, scaled, within, atom_form};
+ghost use Rattle.linear_facts.specs.Forms.{form_at, with_replaced, substituted};
 
 use arrayvec::ArrayVec;
 use std::marker::Model;

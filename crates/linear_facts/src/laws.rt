@@ -1,5 +1,6 @@
 //! Laws of forms and ranges, each the contract of a function that does nothing when it runs.
-ghost use Rattle.linear_facts.specs.Laws.{FormsStayBelow, SumsStayBelow, MultiplesStayBelow, SubstitutionsStayBelow, AgreeBelow, RangesFit};
+ghost use Rattle.linear_facts.specs.Laws.{FormsStayBelow, SumsStayBelow, MultiplesStayBelow};
+ghost use Rattle.linear_facts.specs.Laws.{SubstitutionsStayBelow, AgreeBelow, RangesFit};
 ghost use Rattle.linear_facts.specs.Differences.{OrdersHold};
 
 /// A form that speaks of the first atoms alone speaks of no others once there are more.

@@ -1,5 +1,6 @@
 //! Laws of the forms of numbers in a loop that goes through buffers a part at a time.
-ghost use Rattle.linear_facts.specs.LoopForms.{MovedRange, LeftRange, RoundPaid, AtomRange, NumberRange, PointerRange, SamePaid};
+ghost use Rattle.linear_facts.specs.LoopForms.{MovedRange, LeftRange, RoundPaid, AtomRange};
+ghost use Rattle.linear_facts.specs.LoopForms.{NumberRange, PointerRange, SamePaid};
 
 /// A pointer that was moved on by what is done now stays within its buffer.
 pub fn moved_range()

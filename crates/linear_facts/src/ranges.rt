@@ -1,6 +1,8 @@
 //! Ranges of numbers, and atoms with their ranges.
-ghost use Rattle.std.specs.Prelude.{◌≡◌, ℕ, ◌≤◌, List, Option, min, max, nat_le, if◌then◌else◌, Some, None};
-ghost use Rattle.linear_facts.specs.Ranges.{end_of, meet_of, range_at, split_at, atom_at, changed_or};
+ghost use Rattle.std.specs.Prelude.{◌≡◌, ℕ, ◌≤◌, List, Option, min, max, nat_le, if◌then◌else◌};
+ghost use Rattle.std.specs.Prelude.{Some, None};
+ghost use Rattle.linear_facts.specs.Ranges.{end_of, meet_of, range_at, split_at, atom_at};
+ghost use Rattle.linear_facts.specs.Ranges.{changed_or};
 
 use std::marker::Model;
 

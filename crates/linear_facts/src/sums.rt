@@ -2,10 +2,14 @@
 //!
 //! A coefficient is `plus - minus`, and both ends of an interval are given with 2^112 added, so that all
 //! numbers are natural ones.
-ghost use Rattle.std.specs.Prelude.{◌≡◌, ℕ, ◌+◌, ◌-◌, ◌*◌, ◌/◌, ◌%◌, ◌^◌, ◌<◌, ◌≤◌, List, [], ◌∷◌, map, length, position, ◌==◌, IfSome};
+ghost use Rattle.std.specs.Prelude.{◌≡◌, ℕ, ◌+◌, ◌-◌, ◌*◌, ◌/◌, ◌%◌, ◌^◌, ◌<◌, ◌≤◌, List, [], ◌∷◌};
+ghost use Rattle.std.specs.Prelude.{map, length, position, ◌==◌, IfSome};
 ghost use Rattle.linear_facts.specs.Forms.{value};
 ghost use Rattle.linear_facts.specs.Ranges.{AgreesWith, IsIn, split_at};
-ghost use Rattle.linear_facts.specs.Sums.{AllAtMost, IsClose, signed_term, joined, with_term, with_parts, with_split, nonzero_count, gains, losses, ends, interval_of, met_or_own, form_interval, range_within, range_of_form};
+ghost use Rattle.linear_facts.specs.Sums.{AllAtMost, IsClose, signed_term, joined, with_term};
+ghost use Rattle.linear_facts.specs.Sums.{with_parts, with_split, nonzero_count, gains, losses};
+ghost use Rattle.linear_facts.specs.Sums.{ends, interval_of, met_or_own, form_interval};
+ghost use Rattle.linear_facts.specs.Sums.{range_within, range_of_form};
 
 use crate::forms::{Form, Term};
 use crate::ranges::{Atoms, End, Range};

@@ -1,6 +1,7 @@
 //! The addresses at which a run that goes on stops.
 ghost use Rattle.std.specs.Prelude.{◌≡◌, None, Some, IfErr, OnOk};
-ghost use Rattle.monitor.specs.Breakpoints.{delete_fault, set_fault, with_breakpoint, without_breakpoint};
+ghost use Rattle.monitor.specs.Breakpoints.{delete_fault, set_fault, with_breakpoint};
+ghost use Rattle.monitor.specs.Breakpoints.{without_breakpoint};
 
 use crate::commands::MonError;
 use arrayvec::ArrayVec;

@@ -1,7 +1,8 @@
 //! Numbers, as they are typed.
 
 ghost use Rattle.std.specs.Prelude.{◌≡◌, ◌≤◌};
-ghost use Rattle.monitor.specs.Numbers.{address_of, aligned_of, count_of, number_of, register_of, spelled};
+ghost use Rattle.monitor.specs.Numbers.{address_of, aligned_of, count_of, number_of, register_of};
+ghost use Rattle.monitor.specs.Numbers.{spelled};
 
 use rv_decode::Reg;
 

@@ -3,7 +3,8 @@ ghost use Rattle.std.specs.Prelude.{◌≡◌, ◌++◌, ◌∷◌, [], Some, co
 ghost use Rattle.hex.specs.Hex.{encode_lower};
 ghost use Rattle.rv_listing.specs.Sinks.{Told};
 ghost use Rattle.rv_listing.specs.Listing.{listing_text};
-ghost use Rattle.monitor.specs.Texts.{break_text, byte_text, csrs_text, gone_text, line_text, register_text, registers_text, stop_text, vector_text};
+ghost use Rattle.monitor.specs.Texts.{break_text, byte_text, csrs_text, gone_text, line_text};
+ghost use Rattle.monitor.specs.Texts.{register_text, registers_text, stop_text, vector_text};
 
 use rv_decode::Reg;
 use rv_listing::{Failed, Piece, Sink, put, put_all, put_listing};

@@ -2,7 +2,8 @@
 ghost use Rattle.std.specs.Prelude.{◌≡◌, ◌+◌, ◌++◌, codes};
 ghost use Rattle.rv_listing.specs.Sinks.{Told};
 ghost use Rattle.monitor.specs.Texts.{byte_text, line_text, texts};
-ghost use Rattle.monitor.specs.Views.{byte_at, has_bytes, has_words, lines_text, memory_text, word_at};
+ghost use Rattle.monitor.specs.Views.{byte_at, has_bytes, has_words, lines_text, memory_text};
+ghost use Rattle.monitor.specs.Views.{word_at};
 
 use crate::texts::{put_byte_if, put_line};
 use rv_listing::{Failed, Piece, Sink, put_all};

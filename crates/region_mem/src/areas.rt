@@ -1,10 +1,14 @@
 //! Regions in order: the one that an address lies in is found by a search, and an access that it holds whole goes to it
 //! at once.
-ghost use Rattle.std.specs.Prelude.{◌≡◌, ◌+◌, ◌<◌, ◌≤◌, ◌^◌, slice_index_or, unwrap_or, IfSome, Some, None, is_some, true, false, length, find, position, if◌then◌else◌};
+ghost use Rattle.std.specs.Prelude.{◌≡◌, ◌+◌, ◌<◌, ◌≤◌, ◌^◌, slice_index_or, unwrap_or, IfSome};
+ghost use Rattle.std.specs.Prelude.{Some, None, is_some, true, false, length, find, position};
+ghost use Rattle.std.specs.Prelude.{if◌then◌else◌};
 ghost use Rattle.std.specs.Option.{option_copied};
 ghost use Rattle.std.specs.List.{position_or_len};
 ghost use Rattle.region_mem.specs.Memory.{IsAccessSize};
-ghost use Rattle.region_mem.specs.Areas.{AreInOrder, AreInside, IsCount, holds, is_open_from, window_in, part_of, spans, nothing, byte_at, number_at, with_number};
+ghost use Rattle.region_mem.specs.Areas.{AreInOrder, AreInside, IsCount, holds, is_open_from};
+ghost use Rattle.region_mem.specs.Areas.{window_in, part_of, spans, nothing, byte_at, number_at};
+ghost use Rattle.region_mem.specs.Areas.{with_number};
 
 use crate::faults::Right;
 use crate::region::Region;

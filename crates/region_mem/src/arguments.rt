@@ -1,5 +1,6 @@
 //! The caller's eight arguments.
-ghost use Rattle.std.specs.Prelude.{◌≡◌, All, ◌+◌, ◌<◌, ◌≤◌, ◌++◌, length, take, drop, slice_set, ◌==◌};
+ghost use Rattle.std.specs.Prelude.{◌≡◌, All, ◌+◌, ◌<◌, ◌≤◌, ◌++◌, length, take, drop, slice_set};
+ghost use Rattle.std.specs.Prelude.{◌==◌};
 ghost use Rattle.std.specs.Borrow.{sem};
 
 use std::alloc::{Allocator, Global};

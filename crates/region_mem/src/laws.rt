@@ -1,6 +1,12 @@
 //! Laws of memory, for those who stand on its definitions: functions that do nothing, with the law as contract.
 ghost use Rattle.std.specs.List.{AllByRecursion};
-ghost use Rattle.region_mem.specs.Laws.{BringsBytes, StartsInOrder, StartsInside, GivesArgumentsBack, StoresKeepExtents, StoresKeepUnwritable, FetchesNothingAbove, StartsWithCode, StartsCodeSafe, StoresKeepCode, StartsWithBytes, StoresKeepBytes, NumbersFit, LoadsFit, WindowsToRead, LoadsInWindows, WindowsToWrite, StoresInWindows, StoresFillWindows, LentWindowsAreWritten};
+ghost use Rattle.region_mem.specs.Laws.{BringsBytes, StartsInOrder, StartsInside};
+ghost use Rattle.region_mem.specs.Laws.{GivesArgumentsBack, StoresKeepExtents};
+ghost use Rattle.region_mem.specs.Laws.{StoresKeepUnwritable, FetchesNothingAbove, StartsWithCode};
+ghost use Rattle.region_mem.specs.Laws.{StartsCodeSafe, StoresKeepCode, StartsWithBytes};
+ghost use Rattle.region_mem.specs.Laws.{StoresKeepBytes, NumbersFit, LoadsFit, WindowsToRead};
+ghost use Rattle.region_mem.specs.Laws.{LoadsInWindows, WindowsToWrite, StoresInWindows};
+ghost use Rattle.region_mem.specs.Laws.{StoresFillWindows, LentWindowsAreWritten};
 
 use crate::arguments::{Arg, Args, Bytes};
 use crate::memory::Regions;

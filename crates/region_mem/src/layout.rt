@@ -1,6 +1,8 @@
 //! Where the stack and the buffers lie. Where segments may lie is told by `elf_image`.
 ghost use Rattle.std.specs.Prelude.{◌≡◌};
-ghost use Rattle.region_mem.specs.declared.layout.TheConstants.{BUFFERS, BUFFERS_END, MAX_BUFFER_SIZE, PAGE_SIZE, STACK, STACK_END, STACK_SIZE};
+ghost use Rattle.region_mem.specs.declared.layout.TheConstants.{BUFFERS, BUFFERS_END};
+ghost use Rattle.region_mem.specs.declared.layout.TheConstants.{MAX_BUFFER_SIZE, PAGE_SIZE, STACK};
+ghost use Rattle.region_mem.specs.declared.layout.TheConstants.{STACK_END, STACK_SIZE};
 
 use elf_image::HIGH_SEGMENTS;
 

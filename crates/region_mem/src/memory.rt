@@ -1,5 +1,6 @@
 //! The memory of a run.
-ghost use Rattle.std.specs.Prelude.{◌≡◌, ◌<◌, ◌^◌, length, Some, None, true, false, if◌then◌else◌, IfOk, IfErr, option_copied};
+ghost use Rattle.std.specs.Prelude.{◌≡◌, ◌<◌, ◌^◌, length, Some, None, true, false, if◌then◌else◌};
+ghost use Rattle.std.specs.Prelude.{IfOk, IfErr, option_copied};
 ghost use Rattle.std.specs.Borrow.{sem};
 
 use crate::arguments::{Args, Bytes, Passed};
@@ -34,7 +35,9 @@ impl<A: Allocator> Model for Regions<A> {
 }
 
 impl<A: Allocator> Regions<A> {
-    ghost use Rattle.region_mem.specs.Memory.{Memory, byte_of, is_permitted, load_of, store_of, fetch_of, args_of, window_of, has_window, with_window, IsAccessSize};
+    ghost use Rattle.region_mem.specs.Memory.{Memory, byte_of, is_permitted, load_of, store_of};
+    ghost use Rattle.region_mem.specs.Memory.{fetch_of, args_of, window_of, has_window};
+    ghost use Rattle.region_mem.specs.Memory.{with_window, IsAccessSize};
     ghost use Rattle.region_mem.specs.Areas.{ArePlaced, window_in};
     ghost use Rattle.region_mem.specs.Lends.{lends_window};
     ghost use Rattle.region_mem.specs.Start.{start_memory};

@@ -3,7 +3,10 @@ ghost use Rattle.std.specs.Prelude.{◌≡◌, ◌≤◌, ◌<◌, ◌^◌, sum_
 ghost use Rattle.std.specs.Prelude.{position};
 ghost use Rattle.std.specs.List.{slice_get, list_all, zip, AllByRecursion};
 ghost use Rattle.std.specs.Option.{option_map};
-ghost use Rattle.region_mem.specs.Parameter.{is_valid, parameters_of, is_buffer, room_of, address_of, is_wrong_kind, is_out_of_interval, is_wrong_size, argument_error, refused_by, size_of, AreArguments};
+ghost use Rattle.region_mem.specs.Parameter.{is_valid, parameters_of, is_buffer, room_of};
+ghost use Rattle.region_mem.specs.Parameter.{address_of, is_wrong_kind, is_out_of_interval};
+ghost use Rattle.region_mem.specs.Parameter.{is_wrong_size, argument_error, refused_by, size_of};
+ghost use Rattle.region_mem.specs.Parameter.{AreArguments};
 ghost use Rattle.region_mem.specs.Areas.{ArePlaced};
 ghost use Rattle.region_mem.specs.Start.{start_memory};
 

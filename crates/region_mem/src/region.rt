@@ -1,5 +1,6 @@
 //! A region of memory.
-ghost use Rattle.std.specs.Prelude.{◌≡◌, ◌+◌, ◌<◌, ◌-◌, ◌≤◌, ◌^◌, IsTrue, IfSome, Some, None, true, option_copied, if◌then◌else◌, length, slice_index, slice_set};
+ghost use Rattle.std.specs.Prelude.{◌≡◌, ◌+◌, ◌<◌, ◌-◌, ◌≤◌, ◌^◌, IsTrue, IfSome, Some, None, true};
+ghost use Rattle.std.specs.Prelude.{option_copied, if◌then◌else◌, length, slice_index, slice_set};
 ghost use Rattle.std.specs.Borrow.{sem};
 
 use crate::arguments::Bytes;
@@ -30,7 +31,8 @@ impl<A: Allocator> Model for Region<A> {
 }
 
 impl<A: Allocator> Region<A> {
-    ghost use Rattle.region_mem.specs.Areas.{Area, holds, has_right, spans, admits, part_of, part_into, number_in, bytes_of};
+    ghost use Rattle.region_mem.specs.Areas.{Area, holds, has_right, spans, admits, part_of};
+    ghost use Rattle.region_mem.specs.Areas.{part_into, number_in, bytes_of};
     ghost use Rattle.region_mem.specs.Memory.{is_buffer_area, IsAccessSize};
     ghost use Rattle.region_mem.specs.Lends.{lends_area_part};
 

@@ -1,5 +1,6 @@
 //! The regions that a run starts with.
-ghost use Rattle.std.specs.Prelude.{◌≡◌, ◌+◌, ◌<◌, ◌≤◌, ◌^◌, [], ◌∷◌, IfOk, length, map, vec_len, vec_capacity, nat_lt, position};
+ghost use Rattle.std.specs.Prelude.{◌≡◌, ◌+◌, ◌<◌, ◌≤◌, ◌^◌, [], ◌∷◌, IfOk, length, map, vec_len};
+ghost use Rattle.std.specs.Prelude.{vec_capacity, nat_lt, position};
 ghost use Rattle.std.specs.List.{position_or_len};
 ghost use Rattle.elf_image.specs.Image.{SegmentView, ImageView, IsSegment};
 ghost use Rattle.std.specs.List.{AllByRecursion};
@@ -8,7 +9,9 @@ ghost use Rattle.std.specs.Option.{option_to_list};
 ghost use Rattle.std.specs.Vec.Iter.{into_iter_items};
 ghost use Rattle.region_mem.specs.Memory.{is_buffer_area, arg_with, left_after, args_with};
 ghost use Rattle.region_mem.specs.Areas.{Area};
-ghost use Rattle.region_mem.specs.Start.{zeros, segment_area, stack_area, insert_area, insert_areas, is_writable, buffer_area, buffer_areas, passed_of};
+ghost use Rattle.region_mem.specs.Start.{zeros, segment_area, stack_area, insert_area};
+ghost use Rattle.region_mem.specs.Start.{insert_areas, is_writable, buffer_area, buffer_areas};
+ghost use Rattle.region_mem.specs.Start.{passed_of};
 ghost use Rattle.region_mem.specs.Parameter.{size_of};
 
 use crate::arguments::{Arg, Args, Bytes, Passed};

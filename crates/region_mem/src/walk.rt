@@ -2,7 +2,8 @@
 ghost use Rattle.std.specs.Prelude.{unwrap_or, ◌≡◌, ◌+◌, ◌<◌, ◌^◌, IsTrue, find, position};
 ghost use Rattle.std.specs.List.{list_all, range_with_len};
 ghost use Rattle.region_mem.specs.Memory.{IsAccessSize};
-ghost use Rattle.region_mem.specs.Areas.{holds, is_open, is_open_from, byte_at, number_at, number_of, with_byte, with_number};
+ghost use Rattle.region_mem.specs.Areas.{holds, is_open, is_open_from, byte_at, number_at};
+ghost use Rattle.region_mem.specs.Areas.{number_of, with_byte, with_number};
 
 use crate::faults::Right;
 use crate::region::Region;

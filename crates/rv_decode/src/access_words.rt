@@ -2,8 +2,10 @@
 
 ghost use Rattle.std.specs.Prelude.{◌≡◌, option_to_list};
 ghost use Rattle.rv_decode.specs.Rows.{meanings_by_groups, meanings_by_rows};
-ghost use Rattle.rv_decode.specs.Access.{unit as unit_of, strided as strided_of, indexed as indexed_of, whole as whole_of};
-ghost use Rattle.rv_decode.specs.Access.{element_rows, whole_rows, mask_rows, byte_rows, wide_load_rows};
+ghost use Rattle.rv_decode.specs.Access.{unit as unit_of, strided as strided_of};
+ghost use Rattle.rv_decode.specs.Access.{indexed as indexed_of, whole as whole_of};
+ghost use Rattle.rv_decode.specs.Access.{element_rows, whole_rows, mask_rows, byte_rows};
+ghost use Rattle.rv_decode.specs.Access.{wide_load_rows};
 ghost use Rattle.rv_decode.specs.Access.{vector_load_groups, vector_store_groups};
 
 use crate::word::{bits, register};

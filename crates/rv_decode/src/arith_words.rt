@@ -3,10 +3,14 @@
 ghost use Rattle.std.specs.Prelude.{◌≡◌, option_to_list, [], ◌∷◌};
 ghost use Rattle.rv_decode.specs.Rows.{meanings_by_rows, row};
 ghost use Rattle.rv_decode.specs.Operations.{vm, vs2};
-ghost use Rattle.rv_decode.specs.Vector.{int as int_of, multiply_add as multiply_add_of, carry as carry_of, carry_out as carry_out_of};
-ghost use Rattle.rv_decode.specs.Vector.{merge as merge_of, copy as copy_of, compare as compare_of, fixed as fixed_of};
-ghost use Rattle.rv_decode.specs.Vector.{widen as widen_of, wide as wide_of, widen_multiply_add as widen_multiply_add_of};
-ghost use Rattle.rv_decode.specs.Vector.{narrow as narrow_of, clip as clip_of, extend as extend_of, extend_rows};
+ghost use Rattle.rv_decode.specs.Vector.{int as int_of, multiply_add as multiply_add_of};
+ghost use Rattle.rv_decode.specs.Vector.{carry as carry_of, carry_out as carry_out_of};
+ghost use Rattle.rv_decode.specs.Vector.{merge as merge_of, copy as copy_of, compare as compare_of};
+ghost use Rattle.rv_decode.specs.Vector.{fixed as fixed_of};
+ghost use Rattle.rv_decode.specs.Vector.{widen as widen_of, wide as wide_of};
+ghost use Rattle.rv_decode.specs.Vector.{widen_multiply_add as widen_multiply_add_of};
+ghost use Rattle.rv_decode.specs.Vector.{narrow as narrow_of, clip as clip_of, extend as extend_of};
+ghost use Rattle.rv_decode.specs.Vector.{extend_rows};
 
 use crate::word::{bits, register};
 use crate::{

@@ -1,8 +1,12 @@
 //! What an instruction needs of the vector registers: which groups it reads and writes, and how long they are.
 
 ghost use Rattle.std.specs.Prelude.{◌≡◌, Option};
-ghost use Rattle.rv_decode.specs.Needs.{needs_of, needs_of_arith, needs_of_access, needs_of_mask, needs_of_move, needs_of_perm, needs_of_reduce};
-ghost use Rattle.rv_decode.specs.Needs.{group as group_of, mask as mask_of, second as second_of, single as single_of, whole as whole_of, operands as operands_of, eew_of, access_operands as access_operands_of};
+ghost use Rattle.rv_decode.specs.Needs.{needs_of, needs_of_arith, needs_of_access, needs_of_mask};
+ghost use Rattle.rv_decode.specs.Needs.{needs_of_move, needs_of_perm, needs_of_reduce};
+ghost use Rattle.rv_decode.specs.Needs.{group as group_of, mask as mask_of, second as second_of};
+ghost use Rattle.rv_decode.specs.Needs.{single as single_of, whole as whole_of};
+ghost use Rattle.rv_decode.specs.Needs.{operands as operands_of, eew_of};
+ghost use Rattle.rv_decode.specs.Needs.{access_operands as access_operands_of};
 ghost use Rattle.rv_decode.specs.declared.extents.Eew.TheVariants as eew;
 
 use crate::{

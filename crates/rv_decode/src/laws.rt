@@ -2,9 +2,11 @@
 
 ghost use Rattle.std.specs.Prelude.{Some, ◌≡◌, ◌+◌, ◌*◌, ◌^◌, ◌<◌, ◌%◌, ◌≤ℤ◌, pos, negsuc};
 ghost use Rattle.std.specs.Option.{IfSome};
-ghost use Rattle.rv_decode.specs.Bits.{bits, immediate_i, immediate_s, immediate_b, immediate_u, immediate_j};
+ghost use Rattle.rv_decode.specs.Bits.{bits, immediate_i, immediate_s, immediate_b, immediate_u};
+ghost use Rattle.rv_decode.specs.Bits.{immediate_j};
 ghost use Rattle.rv_decode.specs.Decode.{meaning_of};
-ghost use Rattle.rv_decode.specs.Encode.{modulo, encode_i, encode_s, encode_b, encode_u, encode_j, encode, IsEncodable};
+ghost use Rattle.rv_decode.specs.Encode.{modulo, encode_i, encode_s, encode_b, encode_u, encode_j};
+ghost use Rattle.rv_decode.specs.Encode.{encode, IsEncodable};
 ghost use Rattle.rv_decode.specs.Encodings.{IsWordOf, FieldsFit, MeaningsFit};
 
 use crate::{Insn, ScalarInsn};

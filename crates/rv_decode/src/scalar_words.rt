@@ -10,8 +10,10 @@ ghost use Rattle.rv_decode.specs.Scalar.{
   shift as shift_of,
   register as register_of,
 };
-ghost use Rattle.rv_decode.specs.Scalar.{lui_groups, auipc_groups, jal_groups, jalr_groups, branch_groups, load_groups};
-ghost use Rattle.rv_decode.specs.Scalar.{store_groups, immediate_groups, base_rows, multiply_rows, register_groups, fence_groups};
+ghost use Rattle.rv_decode.specs.Scalar.{lui_groups, auipc_groups, jal_groups, jalr_groups};
+ghost use Rattle.rv_decode.specs.Scalar.{branch_groups, load_groups};
+ghost use Rattle.rv_decode.specs.Scalar.{store_groups, immediate_groups, base_rows, multiply_rows};
+ghost use Rattle.rv_decode.specs.Scalar.{register_groups, fence_groups};
 
 use crate::word::{
     bits, immediate_b, immediate_i, immediate_j, immediate_s, immediate_u, register,

@@ -1,8 +1,10 @@
 //! The fields of a word.
 
 ghost use Rattle.std.specs.Prelude.{◌≡◌, ◌+◌, ◌*◌, ◌^◌, ◌<◌, ◌≤◌};
-ghost use Rattle.rv_decode.specs.Bits.{bits as bits_of, signed as signed_of, immediate_i as i_of, immediate_s as s_of};
-ghost use Rattle.rv_decode.specs.Bits.{immediate_b as b_of, immediate_u as u_of, immediate_j as j_of};
+ghost use Rattle.rv_decode.specs.Bits.{bits as bits_of, signed as signed_of, immediate_i as i_of};
+ghost use Rattle.rv_decode.specs.Bits.{immediate_s as s_of};
+ghost use Rattle.rv_decode.specs.Bits.{immediate_b as b_of, immediate_u as u_of};
+ghost use Rattle.rv_decode.specs.Bits.{immediate_j as j_of};
 
 use crate::Reg;
 

@@ -1,9 +1,15 @@
 //! Mnemonics, and the digits of CSRs.
 
 ghost use Rattle.std.specs.Prelude.{◌≡◌};
-ghost use Rattle.rv_listing.specs.Names.{int_name, multiply_add_name, carry_name, carry_out_name, compare_name, fixed_name, widen_name, wide_name, widen_multiply_add_name, narrow_name, clip_name, immediate_name, shift_name, register_name, branch_name, load_name, store_name};
-ghost use Rattle.rv_listing.specs.Names.{csr_digits, csr_name, fold_name, logic_name, set_first_name};
-ghost use Rattle.rv_listing.specs.Names.{whole_load_name, whole_move_name, whole_store_name, width_form};
+ghost use Rattle.rv_listing.specs.Names.{int_name, multiply_add_name, carry_name, carry_out_name};
+ghost use Rattle.rv_listing.specs.Names.{compare_name, fixed_name, widen_name, wide_name};
+ghost use Rattle.rv_listing.specs.Names.{widen_multiply_add_name, narrow_name, clip_name};
+ghost use Rattle.rv_listing.specs.Names.{immediate_name, shift_name, register_name, branch_name};
+ghost use Rattle.rv_listing.specs.Names.{load_name, store_name};
+ghost use Rattle.rv_listing.specs.Names.{csr_digits, csr_name, fold_name, logic_name};
+ghost use Rattle.rv_listing.specs.Names.{set_first_name};
+ghost use Rattle.rv_listing.specs.Names.{whole_load_name, whole_move_name, whole_store_name};
+ghost use Rattle.rv_listing.specs.Names.{width_form};
 
 use rv_decode::{
     CarryOp, CarryOutOp, ClipOp, CompareOp, Condition, Count, CsrAction, CsrName, FirstOp, FixedOp,

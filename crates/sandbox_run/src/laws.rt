@@ -1,7 +1,8 @@
 //! Laws of runs: functions that do nothing, with the law as contract.
 ghost use Rattle.sandbox_run.specs.Back.{RunsHandBack};
 ghost use Rattle.sandbox_run.specs.Headline.{AcceptedRuns};
-ghost use Rattle.sandbox_run.specs.HostLaws.{MoreStepsChangeNothing, StartsAreAlike, StepsAreUnique, TriesAreRuns};
+ghost use Rattle.sandbox_run.specs.HostLaws.{MoreStepsChangeNothing, StartsAreAlike};
+ghost use Rattle.sandbox_run.specs.HostLaws.{StepsAreUnique, TriesAreRuns};
 ghost use Rattle.sandbox_run.specs.Laws.{ExitIsNoCode};
 ghost use Rattle.sandbox_run.specs.Stops.{AcceptedStops};
 

@@ -30,7 +30,8 @@ impl<const VLENB: usize, A: Allocator> Model for Machine<VLENB, A> {
 impl<const VLENB: usize, A: Allocator> Machine<VLENB, A> {
     ghost use Rattle.vector_core.specs.Run.{has_ended as has_ended_of};
     ghost use Rattle.rv_decode.specs.Decode.{meaning_of};
-    ghost use Rattle.vector_core.specs.MachineStep.{carry_out as carry_out_of, decoded, step as step_of};
+    ghost use Rattle.vector_core.specs.MachineStep.{carry_out as carry_out_of, decoded};
+    ghost use Rattle.vector_core.specs.MachineStep.{step as step_of};
     ghost use Rattle.sandbox_run.specs.Answer.{registers_of};
 
     /// Whether the run has ended, which is where pc is EXIT.

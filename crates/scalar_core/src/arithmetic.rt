@@ -3,7 +3,8 @@
 ghost use Rattle.std.specs.Prelude.{◌≡◌, ◌<◌, ◌≤◌, ◌*ℤ◌, ◌^◌, pos, unsigned_abs};
 ghost use Rattle.scalar_core.specs.Arithmetic.{immediate_result as immediate_result_of};
 ghost use Rattle.scalar_core.specs.Arithmetic.{register_result as register_result_of};
-ghost use Rattle.scalar_core.specs.Arithmetic.{is_taken as is_taken_of, shift_result as shift_result_of};
+ghost use Rattle.scalar_core.specs.Arithmetic.{is_taken as is_taken_of};
+ghost use Rattle.scalar_core.specs.Arithmetic.{shift_result as shift_result_of};
 ghost use Rattle.scalar_core.specs.Arithmetic.{quotient as quotient_of, remainder as remainder_of};
 ghost use Rattle.scalar_core.specs.Arithmetic.{unsigned_quotient as unsigned_quotient_of};
 ghost use Rattle.scalar_core.specs.Arithmetic.{unsigned_remainder as unsigned_remainder_of};

@@ -3,7 +3,8 @@
 
 ghost use Rattle.std.specs.Prelude.{◌≡◌, ◌≤◌, ◌*◌, length};
 ghost use Rattle.rv_decode.specs.Needs.{needs_of_arith};
-ghost use Rattle.vector_core.specs.Integer.{carry_in, carry_of, carry_out_of, compare_of, int_of, multiply_add_of};
+ghost use Rattle.vector_core.specs.Integer.{carry_in, carry_of, carry_out_of, compare_of, int_of};
+ghost use Rattle.vector_core.specs.Integer.{multiply_add_of};
 ghost use Rattle.vector_core.specs.Setup.{IsReady};
 
 use crate::elements::VectorElement;

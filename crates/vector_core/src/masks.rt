@@ -3,7 +3,9 @@
 ghost use Rattle.std.specs.Prelude.{◌≡◌, Ok, length};
 ghost use Rattle.region_mem.specs.Memory.{Memory};
 ghost use Rattle.rv_decode.specs.Needs.{needs_of_mask};
-ghost use Rattle.vector_core.specs.Masks.{count_of, first_lanes, first_of, index_of, iota_of, logic_lanes, logic_of, mask_step, set_and_active, set_first_of};
+ghost use Rattle.vector_core.specs.Masks.{count_of, first_lanes, first_of, index_of, iota_of};
+ghost use Rattle.vector_core.specs.Masks.{logic_lanes, logic_of, mask_step, set_and_active};
+ghost use Rattle.vector_core.specs.Masks.{set_first_of};
 ghost use Rattle.vector_core.specs.Setup.{IsReady, IsSetup};
 
 use crate::fold_elements::{FoldElement, index_results, iota_results};

@@ -2,7 +2,8 @@
 
 ghost use Rattle.std.specs.Prelude.{◌≡◌, ◌+◌, ◌≤◌, ◌<◌, ◌^◌, length, map, take};
 ghost use Rattle.lane_masks.specs.Folds.{kept};
-ghost use Rattle.lane_masks.specs.Permutations.{gathered, slid_down, slid_one_down, slid_one_up, slid_up};
+ghost use Rattle.lane_masks.specs.Permutations.{gathered, slid_down, slid_one_down, slid_one_up};
+ghost use Rattle.lane_masks.specs.Permutations.{slid_up};
 
 use crate::elements::VectorElement;
 

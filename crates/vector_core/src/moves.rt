@@ -3,7 +3,8 @@
 ghost use Rattle.std.specs.Prelude.{◌≡◌, Ok, length};
 ghost use Rattle.region_mem.specs.Memory.{Memory};
 ghost use Rattle.rv_decode.specs.Needs.{needs_of_arith, needs_of_move};
-ghost use Rattle.vector_core.specs.Moves.{copy_of, from_scalar_of, merge_of, move_step, to_scalar_of};
+ghost use Rattle.vector_core.specs.Moves.{copy_of, from_scalar_of, merge_of, move_step};
+ghost use Rattle.vector_core.specs.Moves.{to_scalar_of};
 ghost use Rattle.vector_core.specs.Setup.{IsReady};
 
 use crate::elements::VectorElement;

@@ -1,7 +1,11 @@
 //! The operation of the lanes for each instruction's, and how its sources of SEW are extended where it works at 2*SEW.
 
 ghost use Rattle.std.specs.Prelude.{◌≡◌};
-ghost use Rattle.vector_core.specs.Operations.{int_lanes, multiply_add_lanes, carry_lanes, carry_out_lanes, compare_lanes, fixed_lanes, clip_lanes, narrow_lanes, is_wide_signed, wide_lanes, widen_lanes, widen_multiply_add_signs, widen_signs};
+ghost use Rattle.vector_core.specs.Operations.{int_lanes, multiply_add_lanes, carry_lanes};
+ghost use Rattle.vector_core.specs.Operations.{carry_out_lanes, compare_lanes, fixed_lanes};
+ghost use Rattle.vector_core.specs.Operations.{clip_lanes, narrow_lanes, is_wide_signed};
+ghost use Rattle.vector_core.specs.Operations.{wide_lanes, widen_lanes, widen_multiply_add_signs};
+ghost use Rattle.vector_core.specs.Operations.{widen_signs};
 
 use lane_fixed::{ClipOp, FixedOp};
 use lane_int::{CarryOp, CompareOp, IntOp, MultiplyAddOp};

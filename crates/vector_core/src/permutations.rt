@@ -9,7 +9,10 @@ ghost use Rattle.vreg_groups.specs.Group.{IsGroupInside, body_of};
 ghost use Rattle.vreg_groups.specs.Legality.{IsInside};
 ghost use Rattle.vreg_groups.specs.VectorType.{bytes_of_width, vlmax_of};
 ghost use Rattle.vreg_groups.specs.declared.vector_type.TheConstants.{MOST_ELEMENTS};
-ghost use Rattle.vector_core.specs.Permutations.{active_from, all_at, compress_of, distance_of, gather16_of, gather_of, indices_of, perm_of, perm_step, results_written_from, slide_down_of, slide_one_down_of, slide_one_up_of, slide_up_of};
+ghost use Rattle.vector_core.specs.Permutations.{active_from, all_at, compress_of, distance_of};
+ghost use Rattle.vector_core.specs.Permutations.{gather16_of, gather_of, indices_of, perm_of};
+ghost use Rattle.vector_core.specs.Permutations.{perm_step, results_written_from, slide_down_of};
+ghost use Rattle.vector_core.specs.Permutations.{slide_one_down_of, slide_one_up_of, slide_up_of};
 ghost use Rattle.vector_core.specs.Setup.{IsReady, IsSetup};
 
 use crate::elements::VectorElement;

@@ -6,7 +6,8 @@ ghost use Rattle.region_mem.specs.Memory.{Memory};
 ghost use Rattle.rv_decode.specs.Needs.{needs_of_reduce};
 ghost use Rattle.vreg_groups.specs.VectorType.{bytes_of_width};
 ghost use Rattle.vector_core.specs.Integer.{lane_width};
-ghost use Rattle.vector_core.specs.Reductions.{fold_lanes, fold_of, reduce_of, reduce_step, sum_width, widen_sum_of};
+ghost use Rattle.vector_core.specs.Reductions.{fold_lanes, fold_of, reduce_of, reduce_step};
+ghost use Rattle.vector_core.specs.Reductions.{sum_width, widen_sum_of};
 ghost use Rattle.vector_core.specs.Setup.{IsReady};
 
 use crate::fold_elements::{FoldElement, extended_sum, fold_result};

@@ -7,7 +7,8 @@ ghost use Rattle.rv_decode.specs.declared.instructions.Fraction.TheVariants.{Hal
 ghost use Rattle.vreg_groups.specs.Legality.{eew_bits};
 ghost use Rattle.vector_core.specs.Integer.{lane_width};
 ghost use Rattle.vector_core.specs.Setup.{IsReady};
-ghost use Rattle.vector_core.specs.Widening.{extend_of, fraction_width, wide_of, widen_multiply_add_of, widen_of};
+ghost use Rattle.vector_core.specs.Widening.{extend_of, fraction_width, wide_of};
+ghost use Rattle.vector_core.specs.Widening.{widen_multiply_add_of, widen_of};
 
 use crate::elements::VectorElement;
 use crate::operands::write_results;

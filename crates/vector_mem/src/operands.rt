@@ -7,7 +7,8 @@ ghost use Rattle.vreg_groups.specs.Group.{IsGroupInside, body_of};
 ghost use Rattle.vreg_groups.specs.Setup.{IsReady, IsSetup, group_at};
 ghost use Rattle.vreg_groups.specs.VectorType.{bytes_of_width};
 ghost use Rattle.vreg_groups.specs.declared.vector_type.TheConstants.{MOST_ELEMENTS};
-ghost use Rattle.vector_mem.specs.Transfers.{data_of, is_in_a_row, is_masked, load_policy, width_at};
+ghost use Rattle.vector_mem.specs.Transfers.{data_of, is_in_a_row, is_masked, load_policy};
+ghost use Rattle.vector_mem.specs.Transfers.{width_at};
 
 use crate::elements::Datum;
 use rv_decode::{Eew, Place, Reg, VMem, Width};

@@ -1,6 +1,7 @@
 //! Loads and stores: all of an instruction's accesses are made, or none.
 
-ghost use Rattle.std.specs.Prelude.{◌≡◌, ◌≤◌, ◌*◌, false, true, None, IfSome, length, map, replicate, unwrap_or};
+ghost use Rattle.std.specs.Prelude.{◌≡◌, ◌≤◌, ◌*◌, false, true, None, IfSome, length, map};
+ghost use Rattle.std.specs.Prelude.{replicate, unwrap_or};
 ghost use Rattle.std.specs.List.{All};
 ghost use Rattle.std.specs.Option.{option_map};
 ghost use Rattle.region_mem.specs.Faults.{Steps};
@@ -14,7 +15,8 @@ ghost use Rattle.vreg_groups.specs.Setup.{IsReady};
 ghost use Rattle.vreg_groups.specs.VectorType.{bytes_of_width};
 ghost use Rattle.vreg_groups.specs.declared.vector_type.TheConstants.{MOST_ELEMENTS};
 ghost use Rattle.vector_mem.specs.Accesses.{IsAccessOf, first_refused, loaded, stored};
-ghost use Rattle.vector_mem.specs.Transfers.{accesses_of, data_of, loaded_to, vector_load, vector_store, width_at};
+ghost use Rattle.vector_mem.specs.Transfers.{accesses_of, data_of, loaded_to, vector_load};
+ghost use Rattle.vector_mem.specs.Transfers.{vector_store, width_at};
 
 use crate::accesses::access;
 use crate::elements::{Datum, splat};

@@ -3,7 +3,9 @@
 ghost use Rattle.std.specs.Prelude.{◌≡◌, ℕ, ◌+◌, ◌*◌, ◌<◌, ◌≤◌, true, length, map, replicate, All};
 ghost use Rattle.std.specs.List.{flat_map, list_all, range_with_len};
 ghost use Rattle.vreg_groups.specs.Elements.{bytes_of, element_at, bit_of, bit_at, number_of_bits};
-ghost use Rattle.vreg_groups.specs.NewElements.{bytes_written, filled, overlaid, replaced, new_bytes, new_element, new_mask_byte, new_mask_bytes};
+ghost use Rattle.vreg_groups.specs.NewElements.{bytes_written, filled, overlaid, replaced};
+ghost use Rattle.vreg_groups.specs.NewElements.{new_bytes, new_element, new_mask_byte};
+ghost use Rattle.vreg_groups.specs.NewElements.{new_mask_bytes};
 
 use crate::elements::Element;
 use crate::policies::{Agnostic, Policy, body_element, new_element};

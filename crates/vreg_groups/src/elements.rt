@@ -1,6 +1,7 @@
 //! Elements of 8, 16 and 32 bits, and how they lie in bytes.
 
-ghost use Rattle.std.specs.Prelude.{◌≡◌, ℕ, ◌+◌, ◌-◌, ◌*◌, ◌^◌, ◌<◌, ◌≤◌, ◌⊎◌, ◌++◌, length, take, drop};
+ghost use Rattle.std.specs.Prelude.{◌≡◌, ℕ, ◌+◌, ◌-◌, ◌*◌, ◌^◌, ◌<◌, ◌≤◌, ◌⊎◌, ◌++◌, length, take};
+ghost use Rattle.std.specs.Prelude.{drop};
 ghost use Rattle.vreg_groups.specs.Elements.{number_at, bytes_of};
 
 /// An element of a vector register group: an unsigned number of 8, 16 or 32 bits, little-endian in the registers.

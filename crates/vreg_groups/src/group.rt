@@ -3,7 +3,8 @@
 ghost use Rattle.std.specs.Prelude.{◌≡◌, ◌≤◌, ◌+◌, ◌*◌, true, length, map, replicate};
 ghost use Rattle.std.specs.List.{flat_map};
 ghost use Rattle.vreg_groups.specs.Elements.{bytes_of, numbers_of};
-ghost use Rattle.vreg_groups.specs.Group.{IsGroupInside, IsSize, group_of, body_bytes, body_of, mask_bytes_of, whole_of, written};
+ghost use Rattle.vreg_groups.specs.Group.{IsGroupInside, IsSize, group_of, body_bytes, body_of};
+ghost use Rattle.vreg_groups.specs.Group.{mask_bytes_of, whole_of, written};
 ghost use Rattle.vreg_groups.specs.Legality.{whole_count};
 ghost use Rattle.vreg_groups.specs.VectorLength.{IsVlenb};
 ghost use Rattle.vreg_groups.specs.VectorType.{vlmax_of};

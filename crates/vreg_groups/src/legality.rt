@@ -1,12 +1,21 @@
 //! Which vector instructions are legal under a vector type.
 
-ghost use Rattle.std.specs.Prelude.{◌≡◌, ◌==◌, ◌+◌, ◌%◌, ◌^◌, ◌≤◌, ◌<◌, ◌⊎◌, ◌&&◌, Option, Some, None, is_some, true, IfSome, if◌then◌else◌, ℕ};
+ghost use Rattle.std.specs.Prelude.{◌≡◌, ◌==◌, ◌+◌, ◌%◌, ◌^◌, ◌≤◌, ◌<◌, ◌⊎◌, ◌&&◌, Option, Some};
+ghost use Rattle.std.specs.Prelude.{None, is_some, true, IfSome, if◌then◌else◌, ℕ};
 ghost use Rattle.std.specs.List.{range_with_len};
 ghost use Rattle.rv_decode.specs.Needs.{needs_of, needs_of_access, group, operands, second};
 ghost use Rattle.rv_decode.specs.declared.extents.Eew.TheVariants.{Same};
 ghost use Rattle.vreg_groups.specs.VectorLength.{IsConfig, IsLength, IsVlenb};
 ghost use Rattle.vreg_groups.specs.VectorType.{type_in, vlmax_of, vtype_of};
-ghost use Rattle.vreg_groups.specs.Legality.{eew_bits, is_common, is_in_a_row, emul_eighths, group_count, whole_count, count_of, registers_of, is_among, are_apart, is_width, is_group_legal, is_operand_legal, element_bits, is_emul_whole, may_overlap, is_overlap_legal, is_grouped, is_pair_legal, keeps_mask, is_mask_legal, is_present_legal, is_source_legal, is_destination_legal, are_operands_legal, is_legal, AreAllInside, IsInside};
+ghost use Rattle.vreg_groups.specs.Legality.{eew_bits, is_common, is_in_a_row, emul_eighths};
+ghost use Rattle.vreg_groups.specs.Legality.{group_count, whole_count, count_of, registers_of};
+ghost use Rattle.vreg_groups.specs.Legality.{is_among, are_apart, is_width, is_group_legal};
+ghost use Rattle.vreg_groups.specs.Legality.{is_operand_legal, element_bits, is_emul_whole};
+ghost use Rattle.vreg_groups.specs.Legality.{may_overlap, is_overlap_legal, is_grouped};
+ghost use Rattle.vreg_groups.specs.Legality.{is_pair_legal, keeps_mask, is_mask_legal};
+ghost use Rattle.vreg_groups.specs.Legality.{is_present_legal, is_source_legal};
+ghost use Rattle.vreg_groups.specs.Legality.{is_destination_legal, are_operands_legal, is_legal};
+ghost use Rattle.vreg_groups.specs.Legality.{AreAllInside, IsInside};
 
 use crate::vector_length::Vconfig;
 use crate::vector_type::{Vtype, eew_bits, emul_eighths, type_in};

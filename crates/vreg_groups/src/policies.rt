@@ -1,7 +1,8 @@
 //! What becomes of the elements of a destination that no result is written to.
 
 ghost use Rattle.std.specs.Prelude.{◌≡◌, ◌<◌, length, if◌then◌else◌};
-ghost use Rattle.vreg_groups.specs.NewElements.{policy_of, mask_policy_of, agnostic_if, filled, new_element};
+ghost use Rattle.vreg_groups.specs.NewElements.{policy_of, mask_policy_of, agnostic_if, filled};
+ghost use Rattle.vreg_groups.specs.NewElements.{new_element};
 
 use crate::vector_type::Vtype;
 

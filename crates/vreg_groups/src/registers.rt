@@ -1,9 +1,11 @@
 //! The 32 vector registers.
 
 ghost use Rattle.std.specs.Borrow.{sem};
-ghost use Rattle.std.specs.Prelude.{◌≡◌, ℕ, ◌+◌, ◌*◌, ◌/◌, ◌<◌, ◌≤◌, ◌⊎◌, ◌++◌, true, length, map, replicate, take, drop, slice_index, All};
+ghost use Rattle.std.specs.Prelude.{◌≡◌, ℕ, ◌+◌, ◌*◌, ◌/◌, ◌<◌, ◌≤◌, ◌⊎◌, ◌++◌, true, length, map};
+ghost use Rattle.std.specs.Prelude.{replicate, take, drop, slice_index, All};
 ghost use Rattle.vreg_groups.specs.Copies.{copied};
-ghost use Rattle.vreg_groups.specs.Elements.{mask_bit, bytes_from, element_at, elements_of, mask_bits, active_of};
+ghost use Rattle.vreg_groups.specs.Elements.{mask_bit, bytes_from, element_at, elements_of};
+ghost use Rattle.vreg_groups.specs.Elements.{mask_bits, active_of};
 ghost use Rattle.vreg_groups.specs.VectorLength.{IsVlenb};
 ghost use Rattle.vreg_groups.specs.NewElements.{bytes_written, overlaid, write_of, mask_write_of};
 

@@ -2,7 +2,8 @@
 
 ghost use Rattle.std.specs.Prelude.{◌≡◌, ◌≤◌, ◌⊎◌, ℕ, min, IfSome, ◌*◌};
 ghost use Rattle.vreg_groups.specs.VectorType.{type_in, vtype_of, vlmax_of};
-ghost use Rattle.vreg_groups.specs.VectorLength.{IsVlenb, vlenb_of, no_config, supported_vset, vset_of, IsConfig, IsLength};
+ghost use Rattle.vreg_groups.specs.VectorLength.{IsVlenb, vlenb_of, no_config, supported_vset};
+ghost use Rattle.vreg_groups.specs.VectorLength.{vset_of, IsConfig, IsLength};
 
 use crate::vector_type::Vtype;
 

@@ -4,7 +4,8 @@
 ghost use Rattle.std.specs.Prelude.{◌≡◌, ℕ, ◌*◌, ◌/◌, ◌<◌, ◌≤◌, ◌⊎◌};
 ghost use Rattle.vreg_groups.specs.Legality.{eew_bits, emul_eighths, group_count};
 ghost use Rattle.vreg_groups.specs.VectorLength.{IsVlenb};
-ghost use Rattle.vreg_groups.specs.VectorType.{bits_of_width, bytes_of_width, eighths_of, sew_of, lmul_of, is_supported, type_in, vtype_of, vlmax_of};
+ghost use Rattle.vreg_groups.specs.VectorType.{bits_of_width, bytes_of_width, eighths_of, sew_of};
+ghost use Rattle.vreg_groups.specs.VectorType.{lmul_of, is_supported, type_in, vtype_of, vlmax_of};
 ghost use Rattle.vreg_groups.specs.declared.vector_type.TheConstants.{MOST_ELEMENTS};
 
 use rv_decode::{Eew, Width};

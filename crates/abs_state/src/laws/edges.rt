@@ -1,5 +1,6 @@
 //! Laws of edges, each the contract of a function that does nothing when it runs.
-ghost use Rattle.abs_state.specs.EdgeLaws.{EdgesAreTaken, EdgesKeep, ImpliedEnds, ImpliedFits, OneEdge, StraightEdges};
+ghost use Rattle.abs_state.specs.EdgeLaws.{EdgesAreTaken, EdgesKeep, ImpliedEnds, ImpliedFits};
+ghost use Rattle.abs_state.specs.EdgeLaws.{OneEdge, StraightEdges};
 
 /// An edge has the state that it leaves.
 pub fn edges_keep()

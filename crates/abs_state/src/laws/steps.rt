@@ -1,5 +1,6 @@
 //! Laws of one step, each the contract of a function that does nothing when it runs.
-ghost use Rattle.abs_state.specs.StepLaws.{CsrStepsHold, ScalarStepsHold, StepsAreHeld, StepsCount, StepsGoOn};
+ghost use Rattle.abs_state.specs.StepLaws.{CsrStepsHold, ScalarStepsHold, StepsAreHeld, StepsCount};
+ghost use Rattle.abs_state.specs.StepLaws.{StepsGoOn};
 
 /// What is known after an instruction of RV32I or M is true of the hart and memory to which it leads.
 pub fn scalar_steps_hold()

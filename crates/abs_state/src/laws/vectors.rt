@@ -1,5 +1,6 @@
 //! Laws of one vector instruction, each the contract of a function that does nothing when it runs.
-ghost use Rattle.abs_state.specs.VectorLaws.{ChecksAreLegal, CutAreTrue, StatedAreTrue, TransfersArePermitted};
+ghost use Rattle.abs_state.specs.VectorLaws.{ChecksAreLegal, CutAreTrue, StatedAreTrue};
+ghost use Rattle.abs_state.specs.VectorLaws.{TransfersArePermitted};
 ghost use Rattle.abs_state.specs.VectorLaws.{TransfersKeepMemory, UntouchedAreTrue, VsetsAreHeld};
 
 /// What is known after an instruction that sets vtype and vl is true of the machine that it leads to.
