@@ -259,41 +259,51 @@ fn walk<A: Allocator, B: Allocator, C: Allocator>(
     Err(CheckError::BlockTooLong(pc))
 }
 
-/// The block at a place of the certificate's list.
+/// The block at a place of the certificate's list. `state` is room for what is known: what it held is lost.
 #[tactic(auto, unfolding(crate::specs::Passes::block_passes))]
 fn block_passes<A: Allocator, B: Allocator, C: Allocator>(
-    alloc: A,
     image: &Image<B>,
     certificate: &Certificate<C>,
     index: usize,
+    state: &mut Abstract<A>,
 ) -> Result<(), CheckError>
-where
-    A: Copy,
     requires { index < length certificate.now.blocks }
     ensures { (block : Block) → slice_get certificate.now.blocks index ≡ Some block
         → IsAnswer result (block_passes_of image.now certificate.now block) }
 {
     let start = certificate.contents().blocks[index].start;
-    let Ok(mut state) = Abstract::at_block(alloc, certificate, image, index) else {
-        return Err(CheckError::NoMemory);
-    };
-    walk(image, certificate, start, &mut state)
+    state.set_block(certificate, image, index);
+    walk(image, certificate, start, state)
 }
 
-/// Each block, in the order of the list.
-fn blocks_pass<A: Allocator + Copy, B: Allocator, C: Allocator>(
+/// Each block, in the order of the list, with `state` as room.
+fn blocks_pass<A: Allocator, B: Allocator, C: Allocator>(
+    image: &Image<B>,
+    certificate: &Certificate<C>,
+    state: &mut Abstract<A>,
+) -> Result<(), CheckError>
+    ensures { IsAnswer result (blocks_pass_of image.now certificate.now certificate.now.blocks) }
+{
+    for index in 0..certificate.contents().blocks.len() {
+        if let Err(error) = block_passes(image, certificate, index, state) {
+            return Err(error);
+        }
+    }
+    Ok(())
+}
+
+/// Each block, in the order of the list, in room that is taken once.
+fn blocks_pass_in_room<A: Allocator + Copy, B: Allocator, C: Allocator>(
     alloc: A,
     image: &Image<B>,
     certificate: &Certificate<C>,
 ) -> Result<(), CheckError>
     ensures { IsAnswer result (blocks_pass_of image.now certificate.now certificate.now.blocks) }
 {
-    for index in 0..certificate.contents().blocks.len() {
-        if let Err(error) = block_passes(alloc, image, certificate, index) {
-            return Err(error);
-        }
-    }
-    Ok(())
+    let Ok(mut state) = Abstract::at_entry(alloc, certificate, image) else {
+        return Err(CheckError::NoMemory);
+    };
+    blocks_pass(image, certificate, &mut state)
 }
 
 /// The way from the start of a run into the block at the entry.
@@ -330,5 +340,5 @@ pub(crate) fn checked<A: Allocator + Copy, B: Allocator, C: Allocator>(
     if let Err(error) = entry_passes(alloc, image, certificate) {
         return Err(error);
     }
-    blocks_pass(alloc, image, certificate)
+    blocks_pass_in_room(alloc, image, certificate)
 }
