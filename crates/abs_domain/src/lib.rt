@@ -24,6 +24,6 @@ pub use laws::{
 };
 pub use numbers::{MOST_ATOMS, Numbers, VL, whole_atom};
 pub use starts::entry_numbers;
-pub use values::{Effect, Value, computed_range, known, or_full};
+pub use values::{Effect, Value, computed_range, known};
 pub use why::Why;
 pub use zones::{Zone, load_allowed, memory_zones, store_allowed};

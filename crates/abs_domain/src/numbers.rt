@@ -82,7 +82,7 @@ impl<A: Allocator> Numbers<A> {
     }
 
     /// The numbers with these atoms, forms and ranges.
-    pub fn by(atoms: Vec<Atom, A>, forms: Vec<Form<8>, A>, ranges: [Range; 33]) -> Numbers<A>
+    pub(crate) fn by(atoms: Vec<Atom, A>, forms: Vec<Form<8>, A>, ranges: [Range; 33]) -> Numbers<A>
         requires room { MOST_ATOMS ≤ vec_capacity atoms }
         requires count { length forms.items ≡ 33 }
         ensures { result ≡ record { atoms = atoms.items; forms = forms.items; ranges = ranges } }

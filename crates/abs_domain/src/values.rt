@@ -52,7 +52,7 @@ pub fn known(range: Range) -> Option<u32>
 }
 
 /// The range, or all numbers of 32 bits where there is none.
-pub fn or_full(range: Option<Range>) -> Range
+pub(crate) fn or_full(range: Option<Range>) -> Range
     ensures { result ≡ or_full_of range }
 {
     match range {

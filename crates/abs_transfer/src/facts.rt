@@ -105,7 +105,13 @@ fn source_fact(
 
 /// The range of the elements below vl of the group that begins at a register.
 #[tactic(auto, unfolding(crate::specs::Facts::source_range))]
-pub fn source_range(t: &Vtype, vl: Range, first: Reg, eew: Eew, facts: &[VectorFact]) -> Range
+pub(crate) fn source_range(
+    t: &Vtype,
+    vl: Range,
+    first: Reg,
+    eew: Eew,
+    facts: &[VectorFact],
+) -> Range
     ensures { result ≡ source_range_of t.now vl first eew facts.now }
 {
     let width = eew_bits(t.sew, eew);

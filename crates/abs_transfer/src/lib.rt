@@ -12,10 +12,10 @@ mod legal;
 mod scalar;
 mod vset;
 
-pub use accesses::{Reach, transfer_check};
+pub use accesses::transfer_check;
 pub use csr::after_csr;
-pub use facts::{after_groups, cut_groups, source_range};
+pub use facts::{after_groups, cut_groups};
 pub use laws::addresses_lie;
 pub use legal::legal_check;
 pub use scalar::{address_range, after_scalar};
-pub use vset::{Asked, Set, Wanted, after_vset};
+pub use vset::{Set, after_vset};
