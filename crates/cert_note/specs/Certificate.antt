@@ -34,7 +34,8 @@ is_scalar (parameter.Buffer mode size) = false
 unfoldable pub is_atom : List Param → ℕ → Bool
 is_atom params atom =
     (nat_le 1 atom && nat_le atom 32)
-    || (nat_le 33 atom && nat_lt atom 41 && option_map_or is_scalar (slice_get params (atom - 33)) false)
+    || (nat_le 33 atom && nat_lt atom 41
+    && option_map_or is_scalar (slice_get params (atom - 33)) false)
 
 -- The interval holds every number of this many bits.
 unfoldable pub is_full : ℕ → ℕ → ℕ → Bool
@@ -79,6 +80,12 @@ unfoldable pub is_free : List RegisterFact → Option Equality → Bool
 is_free facts None = true
 is_free facts (Some equality) =
     list_all (λ term. not (is_equated facts term.atom)) equality.terms.items
+
+-- No atom of the equality passes a test.
+abbrev pub has_no_atom : (ℕ → Bool) → Option Equality → Bool
+has_no_atom test None = true
+has_no_atom test (Some equality) =
+    list_all (λ term. not (test term.atom)) equality.terms.items
 
 unfoldable pub are_free : List RegisterFact → Bool
 are_free facts = list_all (λ fact. is_free facts fact.equality) facts
@@ -152,7 +159,8 @@ pub record IsBudgetOf (budget : Budget) : Type 0 where
   pub factor : budget.factor < 2 ^ 32
   pub register : IsTrue (is_budget budget.factor budget.register)
   pub second_factor : budget.second_factor < 2 ^ 32
-  pub second : IsTrue (is_second budget.factor budget.register budget.second_factor budget.second_register)
+  pub second : IsTrue
+      (is_second budget.factor budget.register budget.second_factor budget.second_register)
 
 pub record IsOrderFact (facts : List RegisterFact) (from : ℕ) (order : OrderFact) : Type 0 where
   pub greater : IsTrue (is_greater facts from order.greater)
@@ -167,7 +175,8 @@ abbrev pub IsOf : Version → Block → Type 0
 IsOf V1 block = (block.budget.second_factor ≡ 0) × (block.orders.items ≡ [])
 IsOf V2 block = Unit {0}
 
-pub record IsBlock (version : Version) (vlen : Vlen) (params : List Param) (from : ℕ) (block : Block) : Type 0 where
+pub record IsBlock
+    (version : Version) (vlen : Vlen) (params : List Param) (from : ℕ) (block : Block) : Type 0 where
   pub start : IsTrue (nat_le from block.start && (block.start % 4 == 0))
   pub start_fits : block.start < 2 ^ 32
   pub budget : IsBudgetOf block.budget
@@ -197,4 +206,5 @@ pub record IsCertificate (certificate : CertificateView) : Type 0 where
   pub parameters : AllByRecursion IsParameter certificate.parameters
   pub few : length certificate.blocks ≤ 1024
   pub blocks :
-      AllFrom (IsBlock certificate.version certificate.vlen certificate.parameters) after_block 0 certificate.blocks
+      AllFrom (IsBlock certificate.version certificate.vlen certificate.parameters) after_block 0
+      certificate.blocks

@@ -1,14 +1,13 @@
 //! Reading a certificate from its bytes.
-ghost use Rattle.std.specs.Prelude.{◌≡◌, ◌≤◌, ◌==◌, ◌&&◌, not, is_some, IfOk, IfErr, IsOk};
-ghost use Rattle.std.specs.Prelude.{MatchResult, Err};
+ghost use Rattle.std.specs.Prelude.{◌≡◌, ◌≤◌, ◌==◌, ◌&&◌, ◌||◌, ℕ, false, not, is_some};
+ghost use Rattle.std.specs.Prelude.{slice_index_or, IfOk, IfErr, IsOk, MatchResult, Err};
 ghost use Rattle.cert_note.specs.Spelling.{spelling};
 ghost use Rattle.std.specs.List.{list_all, list_any};
 ghost use Rattle.cert_note.specs.Certificate.{view, CertificateView, IsCertificate, is_equated};
-ghost use Rattle.cert_note.specs.Certificate.{is_free, is_greater, is_lesser, are_free};
-ghost use Rattle.cert_note.specs.Reading.{Gives, GivesOrNoMemory, rest_of, terms_at, sum_at};
-ghost use Rattle.cert_note.specs.Reading.{none_at, some_at, equality_at, fact_at, facts_at};
-ghost use Rattle.cert_note.specs.Reading.{vectors_at, order_at, orders_at, block_at, blocks_at};
-ghost use Rattle.cert_note.specs.Reading.{certificate_of};
+ghost use Rattle.cert_note.specs.Certificate.{has_no_atom, is_greater, is_lesser, are_free};
+ghost use Rattle.cert_note.specs.Reading.{Gives, GivesOrNoMemory, rest_of, terms_at, none_at};
+ghost use Rattle.cert_note.specs.Reading.{some_at, equality_at, fact_at, facts_at, vectors_at};
+ghost use Rattle.cert_note.specs.Reading.{order_at, orders_at, block_at, blocks_at, certificate_of};
 
 use crate::fields;
 use crate::fields::{byte_at, expect, word_at};
@@ -172,28 +171,58 @@ fn is_equated(facts: &[RegisterFact], number: u8) -> bool
         .any(|fact| fact.number == number && fact.equality.is_some())
 }
 
-#[tactic(auto, unfolding(crate::specs::Certificate::is_free))]
-fn is_free(facts: &[RegisterFact], equality: &Option<Equality>) -> bool
-    ensures { result ≡ is_free facts.now equality.now }
+/// Notes in a table whether the register of a fact has an equality.
+fn mark(found: &mut [bool; 256], fact: &RegisterFact)
+    ensures { (n : ℕ) → slice_index_or found.new n false
+        ≡ (slice_index_or found.old n false
+        || ((fact.now.number == n) && is_some fact.now.equality)) }
 {
-    match equality {
-        None => true,
-        Some(equality) => all_unequated(facts, equality.terms.as_slice()),
+    if fact.equality.is_some() {
+        let number = fact.number;
+        found[number as usize] = true;
     }
 }
 
-fn all_unequated(facts: &[RegisterFact], terms: &[Term]) -> bool
-    ensures { result ≡ list_all (λ term. not (is_equated facts.now term.atom)) terms.now }
+/// Of each number, whether the register of that number has a fact with an equality.
+fn equated(facts: &[RegisterFact]) -> [bool; 256]
+    ensures { (n : ℕ) → slice_index_or result n false ≡ is_equated facts.now n }
 {
-    terms.iter().all(|term| !is_equated(facts, term.atom))
+    let mut found = [false; 256];
+    for fact in facts {
+        mark(&mut found, fact);
+    }
+    found
+}
+
+fn has_no_atom(found: &[bool; 256], equality: &Option<Equality>) -> bool
+    ensures { result ≡ has_no_atom (λ n. slice_index_or found.now n false) equality.now }
+{
+    match equality {
+        None => true,
+        Some(equality) => all_outside(found, equality.terms.as_slice()),
+    }
+}
+
+fn all_outside(found: &[bool; 256], terms: &[Term]) -> bool
+    ensures { result
+        ≡ list_all (λ term. not (slice_index_or found.now term.atom false)) terms.now }
+{
+    terms.iter().all(|term| !found[term.atom as usize])
+}
+
+fn have_no_atom(found: &[bool; 256], facts: &[RegisterFact]) -> bool
+    ensures { result ≡ list_all (λ fact. has_no_atom (λ n. slice_index_or found.now n false)
+        fact.equality) facts.now }
+{
+    facts.iter().all(|fact| has_no_atom(found, &fact.equality))
 }
 
 /// Whether no atom of an equality is a register that has an equality itself.
-#[tactic(auto, unfolding(crate::specs::Certificate::are_free))]
 fn are_free(facts: &[RegisterFact]) -> bool
     ensures { result ≡ are_free facts.now }
 {
-    facts.iter().all(|fact| is_free(facts, &fact.equality))
+    let found = equated(facts);
+    have_no_atom(&found, facts)
 }
 
 #[tactic(auto, unfolding(crate::specs::Certificate::is_greater))]
