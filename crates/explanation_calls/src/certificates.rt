@@ -27,8 +27,8 @@ fn assert_told(
 #[test]
 fn tells_the_place_and_the_block(rt: HostRuntime) -> Result<(), Fail> {
     let mut bytes = CERTIFICATE;
-    bytes[173] = 0;
-    let expected = "  reading stopped behind byte 175 of 261
+    bytes[169] = 0;
+    let expected = "  reading stopped behind byte 171 of 261
   in block 1, counted from 0
   wanted: a multiple of 4 above the start of the block before
 ";

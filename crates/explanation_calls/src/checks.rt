@@ -83,6 +83,84 @@ fn tells_an_illegal_word(rt: HostRuntime) -> Result<(), Fail> {
     assert_told(&rt, rt.alloc(), 3, 0, expected)
 }
 
+/// bne x11,x0 leads four bytes further: no block begins there.
+#[test]
+fn tells_a_target(rt: HostRuntime) -> Result<(), Fail> {
+    let expected = "  stopped in the block at 0x00010004
+  at 0x00010014: 0xfe059ae3
+  that is bne rs1=11 rs2=0 to=00010008
+  wanted: a block where the word leads, or the exit
+  leads to 0x00010008, after 5 words of the block
+";
+    assert_told(&rt, rt.alloc(), 5, 0xfe05_9ae3, expected)
+}
+
+/// Asserts what is told where one byte of the certificate is another.
+fn assert_told_of_byte(
+    rt: &impl Abort,
+    alloc: Global,
+    place: usize,
+    byte: u8,
+    expected: &str,
+) -> Result<(), Fail> {
+    let mut bytes = Vec::from_slice(alloc, &CERTIFICATE)?;
+    if place < bytes.len() {
+        bytes[place] = byte;
+    }
+    let certificate = cert_note::read(alloc, bytes.as_slice())?;
+    let image = elf_image::read(alloc, &file_of(alloc, &SUM)?)?;
+    let reason = check_reason(alloc, &image, &certificate, Vlen::V128)?.ok_or("accepted")?;
+    let text = format!(in alloc; "{reason}")?;
+    assert_same!(*rt; text.as_str(), expected);
+    Ok(())
+}
+
+/// The way over the loop takes two instructions, and the first block has a budget of one for it.
+#[test]
+fn tells_a_budget(rt: HostRuntime) -> Result<(), Fail> {
+    let expected = "  stopped in the block at 0x00010000
+  at 0x00010000: 0x00058c63
+  that is beq rs1=11 rs2=0 to=00010018
+  wanted: a budget that pays for the words and the block entered
+  leads to 0x00010018, after 1 words of the block
+  enters block 2 of the certificate, with a budget of 1
+";
+    assert_told_of_byte(&rt, rt.alloc(), 108, 1, expected)
+}
+
+/// The number that is passed may be above what the first block states of it.
+#[test]
+fn tells_the_way_into_the_first_block(rt: HostRuntime) -> Result<(), Fail> {
+    let expected = "  stopped on the way into the first block
+  at 0x00010000: 0x00058c63
+  that is beq rs1=11 rs2=0 to=00010018
+  wanted: the intervals of the block entered
+  leads to 0x00010000, after 0 words of the block
+  enters block 0 of the certificate, with a budget of 2 + 5 * x11
+  known: x11 in 0x00000000..=0x00000400
+  wanted on entering it: x11 in 0x00000000..=0x00000300
+";
+    assert_told_of_byte(&rt, rt.alloc(), 154, 3, expected)
+}
+
+/// No block begins at the entry: the first one begins behind it.
+#[test]
+fn tells_the_entry(rt: HostRuntime) -> Result<(), Fail> {
+    let expected = "  wanted: a block at the entry, 0x00010000
+";
+    let alloc = rt.alloc();
+    let mut bytes = Vec::from_slice(alloc, &CERTIFICATE)?;
+    if bytes.len() > 106 {
+        bytes[106] = 0;
+    }
+    let certificate = cert_note::read(alloc, bytes.as_slice())?;
+    let image = elf_image::read(alloc, &file_of(alloc, &SUM)?)?;
+    let reason = check_reason(alloc, &image, &certificate, Vlen::V128)?.ok_or("accepted")?;
+    let text = format!(in alloc; "{reason}")?;
+    assert_same!(rt; text.as_str(), expected);
+    Ok(())
+}
+
 #[test]
 fn tells_the_lengths(rt: HostRuntime) -> Result<(), Fail> {
     let alloc = rt.alloc();
@@ -102,7 +180,7 @@ fn tells_an_interval_on_a_way_out(rt: HostRuntime) -> Result<(), Fail> {
   leads to 0x00010004, after 5 words of the block
   enters block 1 of the certificate, with a budget of 1 + 5 * x11
   known: x10 in 0x40000002..=0x40000401
-  wanted on entering it: x10 in 0x40000000..=0x400003ff
+  wanted on entering it: x10 in 0x40000000..=0x40000400
 ";
     assert_told(&rt, rt.alloc(), 2, 0x0025_0513, expected)
 }

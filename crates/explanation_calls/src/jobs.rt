@@ -75,12 +75,37 @@ fn tells_a_key_that_a_parameter_needs(rt: HostRuntime) -> Result<(), Fail> {
 }
 
 #[test]
-fn tells_a_broken_rule(rt: HostRuntime) -> Result<(), Fail> {
-    let expected = "  wanted: no other keys, and each value of its type and range\n";
+fn tells_a_value_out_of_its_range(rt: HostRuntime) -> Result<(), Fail> {
+    let expected = "  not as wanted: vlen in the job: 128, 256 or 512\n";
     assert_told(
         &rt,
         rt.alloc(),
         "vlen = 100".as_bytes(),
+        Command::Try,
+        expected,
+    )
+}
+
+#[test]
+fn tells_a_key_that_is_none(rt: HostRuntime) -> Result<(), Fail> {
+    let expected = "  no key of the job: vlne\n";
+    assert_told(
+        &rt,
+        rt.alloc(),
+        "vlne = 128".as_bytes(),
+        Command::Try,
+        expected,
+    )
+}
+
+#[test]
+fn tells_a_value_of_a_parameter(rt: HostRuntime) -> Result<(), Fail> {
+    let expected = "  not as wanted: mode in the param at place 1: \"r\" or \"rw\"\n";
+    let text = "param = [{ kind = \"none\" }, { kind = \"buffer\", mode = \"w\" }]\n";
+    assert_told(
+        &rt,
+        rt.alloc(),
+        text.as_bytes(),
         Command::Try,
         expected,
     )

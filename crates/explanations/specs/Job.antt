@@ -1,5 +1,5 @@
 -- Why a job is refused, and in which words it is told.
-use Rattle.std.specs.Prelude.{◌≡◌, ◌<◌, ℕ, ◌++◌, ◌==◌, Bool, true, false, List, [], codes, map, length, filter, take, Option, Some, None, is_some}
+use Rattle.std.specs.Prelude.{◌≡◌, ◌<◌, ℕ, ◌++◌, ◌==◌, Bool, true, false, List, [], codes, map, length, filter, take, Option, Some, None, is_some, string_bytes}
 use Rattle.std.specs.Fmt.{decimal}
 use Rattle.std.specs.Prelude.{slice_index_or}
 use Rattle.std.specs.Str.{IsUtf8}
@@ -11,6 +11,8 @@ use Rattle.job_file.specs.Needs.{make_job_in, run_job_in, try_job_in}
 use Rattle.job_file.specs.declared.values.Job.{Job}
 use Rattle.job_file.specs.declared.values.Param.{Param}
 use Rattle.job_file.specs.declared.values.Param.TheVariants as param
+use Rattle.explanations.specs.Keys.{key_name, key_wanted}
+use Rattle.explanations.specs.Rules.{IsBreach, is_wrong}
 use Rattle.explanations.specs.declared.job.Command.{Command}
 use Rattle.explanations.specs.declared.job.Command.TheVariants as command
 use Rattle.explanations.specs.declared.job.JobKey.{JobKey}
@@ -84,6 +86,10 @@ IsTableReason c ms None = is_taken c ms ≡ true
 IsTableReason c ms (Some reason.Broken) = is_taken c ms ≡ false
 IsTableReason c ms (Some (reason.Missing t k d)) =
     (d ≡ c) × (is_taken c ms ≡ false) × IsLacked c t k (job_of ms)
+IsTableReason c ms (Some (reason.Wrong t k)) =
+    (is_taken c ms ≡ false) × IsBreach ms (reason.Wrong t k)
+IsTableReason c ms (Some (reason.Unknown t name)) = is_taken c ms ≡ false
+IsTableReason c ms (Some reason.TooMany) = is_taken c ms ≡ false
 IsTableReason c ms (Some (reason.NotUtf8 byte)) = ⊥
 IsTableReason c ms (Some (reason.NotToml line byte)) = ⊥
 
@@ -105,36 +111,15 @@ IsJobReason c text (Some reason.Broken) =
     IfTable (λ ms. IsTableReason c ms (Some reason.Broken)) (parse_document text)
 IsJobReason c text (Some (reason.Missing t k d)) =
     IfTable (λ ms. IsTableReason c ms (Some (reason.Missing t k d))) (parse_document text)
+IsJobReason c text (Some (reason.Wrong t k)) =
+    IfTable (λ ms. IsTableReason c ms (Some (reason.Wrong t k))) (parse_document text)
+IsJobReason c text (Some (reason.Unknown t name)) =
+    IfTable (λ ms. IsTableReason c ms (Some (reason.Unknown t name))) (parse_document text)
+IsJobReason c text (Some reason.TooMany) =
+    IfTable (λ ms. IsTableReason c ms (Some reason.TooMany)) (parse_document text)
 IsJobReason c text None = IfTable (λ ms. IsTableReason c ms None) (parse_document text)
 
 -- ---- the words
-
-abbrev pub key_name : JobKey → List ℕ
-key_name key.Image = codes "image"
-key_name key.Vlen = codes "vlen"
-key_name key.Agnostic = codes "agnostic"
-key_name key.Max = codes "max"
-key_name key.Lo = codes "lo"
-key_name key.Hi = codes "hi"
-key_name key.Value = codes "value"
-key_name key.Mode = codes "mode"
-key_name key.Size = codes "size"
-key_name key.File = codes "file"
-
-abbrev pub word_wanted : List ℕ
-word_wanted = codes "a number in 0..=4294967295"
-
-abbrev pub key_wanted : JobKey → List ℕ
-key_wanted key.Image = codes "a path"
-key_wanted key.Vlen = codes "128, 256 or 512"
-key_wanted key.Agnostic = codes "\"keep\" or \"ones\""
-key_wanted key.Max = codes "a number in 0..=9223372036854775807"
-key_wanted key.Lo = word_wanted
-key_wanted key.Hi = word_wanted
-key_wanted key.Value = word_wanted
-key_wanted key.Mode = codes "\"r\" or \"rw\""
-key_wanted key.Size = word_wanted
-key_wanted key.File = codes "a path"
 
 abbrev pub command_name : Command → List ℕ
 command_name command.Run = codes "run"
@@ -145,6 +130,12 @@ abbrev pub table_text : JobTable → List ℕ
 table_text table.Job = codes "the job"
 table_text (table.Param place) = codes "the param at place " ++ decimal place
 
+abbrev pub needs_text : JobKey → Command → List ℕ
+needs_text k c = codes "  " ++ (command_name c ++ (codes " needs " ++ key_name k))
+
+abbrev pub in_text : JobTable → JobKey → List ℕ
+in_text t k = codes " in " ++ (table_text t ++ (codes ": " ++ (key_wanted k ++ codes "\n")))
+
 -- the lines of a reason
 abbrev pub job_text : JobReason → List ℕ
 job_text (reason.NotUtf8 byte) = codes "  not UTF-8 from byte " ++ (decimal byte ++ codes " on\n")
@@ -152,6 +143,8 @@ job_text (reason.NotToml line byte) = codes "  not TOML from byte " ++ (decimal 
     ++ (codes " on, behind " ++ (decimal line ++ codes " whole lines\n")))
 job_text reason.Broken =
     codes "  wanted: no other keys, and each value of its type and range\n"
-job_text (reason.Missing t k c) = codes "  " ++ (command_name c ++ (codes " needs "
-    ++ (key_name k ++ (codes " in " ++ (table_text t ++ (codes ": " ++ (key_wanted k
-    ++ codes "\n")))))))
+job_text (reason.Missing t k c) = needs_text k c ++ in_text t k
+job_text (reason.Wrong t k) = codes "  not as wanted: " ++ (key_name k ++ in_text t k)
+job_text (reason.Unknown t name) = codes "  no key of " ++ (table_text t ++ (codes ": "
+    ++ (string_bytes name ++ codes "\n")))
+job_text reason.TooMany = codes "  wanted: at most eight param tables\n"

@@ -7,3 +7,5 @@ pub mod Access
 pub mod Check
 pub mod Job
 pub mod Edge
+pub mod Keys
+pub mod Rules

@@ -3,8 +3,10 @@ ghost use Rattle.std.specs.Prelude.{◌≡◌, ◌<◌, IfOk, IfSome, Some, slic
 ghost use Rattle.job_file.specs.Job.{job_lent, param_lent};
 ghost use Rattle.job_file.specs.declared.values.Param.TheVariants as param_kind;
 ghost use Rattle.toml.specs.View.{table_view};
-ghost use Rattle.explanations.specs.Job.{IsJobReason, IsTableReason, is_taken, job_lacks, key_name, key_wanted, lacked_of, lines_in, make_lacks, param_lacks, run_lacks, try_lacks};
+ghost use Rattle.explanations.specs.Keys.{key_name, key_wanted};
+ghost use Rattle.explanations.specs.Job.{IsJobReason, IsTableReason, is_taken, job_lacks, lacked_of, lines_in, make_lacks, param_lacks, run_lacks, try_lacks};
 
+use crate::rules::breach;
 use job_file::{Job, Param};
 use std::alloc::{AllocError, Global};
 use std::fmt;
@@ -27,23 +29,26 @@ pub enum JobTable {
     Param(usize),
 }
 
-/// A key that a command may need.
+/// A key of a job.
 #[derive(Clone, Copy, Debug, PartialEq, Eq)]
 pub enum JobKey {
     Image,
     Vlen,
     Agnostic,
     Max,
+    Param,
+    Kind,
     Lo,
     Hi,
     Value,
     Mode,
     Size,
     File,
+    Out,
 }
 
 /// Why a job is refused.
-#[derive(Clone, Copy, Debug, PartialEq, Eq)]
+#[derive(Debug, Drop)]
 pub enum JobReason {
     /// The text is not UTF-8 from this byte on, counted from 0.
     NotUtf8(usize),
@@ -57,6 +62,12 @@ pub enum JobReason {
         key: JobKey,
         command: Command,
     },
+    /// The value of a key is not of its type and range.
+    Wrong { table: JobTable, key: JobKey },
+    /// A key that the table can't have.
+    Unknown { table: JobTable, key: String },
+    /// There are more than eight `[[param]]` tables.
+    TooMany,
 }
 
 /// The key, where its value is not there.
@@ -177,29 +188,36 @@ fn is_taken(command: Command, table: &Table) -> bool
 }
 
 /// Why a job's table is refused.
-fn table_reason(command: Command, table: &Table) -> Option<JobReason>
-    ensures { IsTableReason command (table_view table.now) result }
+fn table_reason(
+    alloc: Global,
+    command: Command,
+    table: &Table,
+) -> Result<Option<JobReason>, AllocError>
+    ensures { IfOk result (IsTableReason command (table_view table.now)) }
 {
     if is_taken(command, table) {
-        return None;
+        return Ok(None);
     }
     let Some(job) = job_file::job_in(table) else {
-        return Some(JobReason::Broken);
+        return match breach(alloc, table)? {
+            Some(reason) => Ok(Some(reason)),
+            None => Ok(Some(JobReason::Broken)),
+        };
     };
     if let Some(key) = job_lacks(command, &job) {
-        return Some(JobReason::Missing {
+        return Ok(Some(JobReason::Missing {
             table: JobTable::Job,
             key,
             command,
-        });
+        }));
     }
     match params_lack(command, job.params) {
-        Some((place, key)) => Some(JobReason::Missing {
+        Some((place, key)) => Ok(Some(JobReason::Missing {
             table: JobTable::Param(place),
             key,
             command,
-        }),
-        None => Some(JobReason::Broken),
+        })),
+        None => Ok(Some(JobReason::Broken)),
     }
 }
 
@@ -226,7 +244,7 @@ pub fn job_reason(
         Err(error) => return Ok(Some(JobReason::NotUtf8(error.valid_up_to()))),
     };
     match toml::table_from_str(alloc, text) {
-        Ok(table) => Ok(table_reason(command, &table)),
+        Ok(table) => table_reason(alloc, command, &table),
         Err(error) => match error.span() {
             None => Err(AllocError),
             Some(span) => Ok(Some(JobReason::NotToml {
@@ -238,7 +256,7 @@ pub fn job_reason(
 }
 
 impl JobKey {
-    fn name(self) -> &'static str
+    pub(crate) fn name(self) -> &'static str
         ensures { result.now ≡ key_name self }
     {
         match self {
@@ -246,12 +264,15 @@ impl JobKey {
             JobKey::Vlen => "vlen",
             JobKey::Agnostic => "agnostic",
             JobKey::Max => "max",
+            JobKey::Param => "param",
+            JobKey::Kind => "kind",
             JobKey::Lo => "lo",
             JobKey::Hi => "hi",
             JobKey::Value => "value",
             JobKey::Mode => "mode",
             JobKey::Size => "size",
             JobKey::File => "file",
+            JobKey::Out => "out",
         }
     }
 
@@ -260,7 +281,9 @@ impl JobKey {
         ensures { result.now ≡ key_wanted self }
     {
         match self {
-            JobKey::Image | JobKey::File => "a path",
+            JobKey::Image | JobKey::File | JobKey::Out => "a path",
+            JobKey::Param => "at most eight tables",
+            JobKey::Kind => "\"none\", \"scalar\" or \"buffer\"",
             JobKey::Vlen => "128, 256 or 512",
             JobKey::Agnostic => "\"keep\" or \"ones\"",
             JobKey::Max => "a number in 0..=9223372036854775807",
@@ -299,6 +322,46 @@ impl fmt::Display for JobTable {
     }
 }
 
+/// A key that a command needs.
+#[derive(Clone, Copy)]
+struct Needs {
+    key: JobKey,
+    command: Command,
+}
+
+impl fmt::Display for Needs {
+    ghost use Rattle.std.specs.Prelude.{Some};
+    ghost use Rattle.explanations.specs.Job.{needs_text};
+
+    ghost output = { λ needs. Some (needs_text needs.key needs.command) };
+
+    fn fmt<W: fmt::Write>(&self, f: &mut fmt::Formatter<W>) -> fmt::Result {
+        let command = self.command;
+        let name = self.key.name();
+        write!(f, "  {command} needs {name}")
+    }
+}
+
+/// Where a key stands, and what is wanted of it.
+#[derive(Clone, Copy)]
+struct In {
+    table: JobTable,
+    key: JobKey,
+}
+
+impl fmt::Display for In {
+    ghost use Rattle.std.specs.Prelude.{Some};
+    ghost use Rattle.explanations.specs.Job.{in_text};
+
+    ghost output = { λ place. Some (in_text place.table place.key) };
+
+    fn fmt<W: fmt::Write>(&self, f: &mut fmt::Formatter<W>) -> fmt::Result {
+        let table = self.table;
+        let wanted = self.key.wanted();
+        writeln!(f, " in {table}: {wanted}")
+    }
+}
+
 impl fmt::Display for JobReason {
     ghost use Rattle.std.specs.Prelude.{Some};
     ghost use Rattle.explanations.specs.Job.{job_text};
@@ -306,7 +369,7 @@ impl fmt::Display for JobReason {
     ghost output = { λ reason. Some (job_text reason) };
 
     fn fmt<W: fmt::Write>(&self, f: &mut fmt::Formatter<W>) -> fmt::Result {
-        match *self {
+        match self {
             JobReason::NotUtf8(byte) => writeln!(f, "  not UTF-8 from byte {byte} on"),
             JobReason::NotToml { line, byte } => {
                 writeln!(f, "  not TOML from byte {byte} on, behind {line} whole lines")
@@ -319,10 +382,26 @@ impl fmt::Display for JobReason {
                 key,
                 command,
             } => {
-                let name = key.name();
-                let wanted = key.wanted();
-                writeln!(f, "  {command} needs {name} in {table}: {wanted}")
+                let needs = Needs {
+                    key: *key,
+                    command: *command,
+                };
+                let place = In {
+                    table: *table,
+                    key: *key,
+                };
+                write!(f, "{needs}{place}")
             }
+            JobReason::Wrong { table, key } => {
+                let name = key.name();
+                let place = In {
+                    table: *table,
+                    key: *key,
+                };
+                write!(f, "  not as wanted: {name}{place}")
+            }
+            JobReason::Unknown { table, key } => writeln!(f, "  no key of {table}: {key}"),
+            JobReason::TooMany => writeln!(f, "  wanted: at most eight param tables"),
         }
     }
 }

@@ -12,6 +12,7 @@ mod headers;
 mod image;
 mod job;
 mod open;
+mod rules;
 
 pub use access::{Access, Operand};
 pub use address::Address;
