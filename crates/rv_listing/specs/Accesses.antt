@@ -38,8 +38,10 @@ values_field Store values = Vs3 values
 
 abbrev pub place_fields : Field → ℕ → Place → List Field
 place_fields values rs1 (Unit width masked) = values ∷ Rs1 rs1 ∷ Vm (not masked) ∷ []
-place_fields values rs1 (Strided width rs2 masked) = values ∷ Rs1 rs1 ∷ Rs2 rs2 ∷ Vm (not masked) ∷ []
-place_fields values rs1 (Indexed width vs2 ordered masked) = values ∷ Rs1 rs1 ∷ Vs2 vs2 ∷ Vm (not masked) ∷ []
+place_fields values rs1 (Strided width rs2 masked) =
+    values ∷ Rs1 rs1 ∷ Rs2 rs2 ∷ Vm (not masked) ∷ []
+place_fields values rs1 (Indexed width vs2 ordered masked) =
+    values ∷ Rs1 rs1 ∷ Vs2 vs2 ∷ Vm (not masked) ∷ []
 place_fields values rs1 Mask = values ∷ Rs1 rs1 ∷ Vm true ∷ []
 place_fields values rs1 (Whole width count) = values ∷ Rs1 rs1 ∷ Vm true ∷ []
 
