@@ -91,6 +91,7 @@ fn tells_a_target(rt: HostRuntime) -> Result<(), Fail> {
   that is bne rs1=11 rs2=0 to=00010008
   wanted: a block where the word leads, or the exit
   leads to 0x00010008, after 5 words of the block
+  leaves block 1 of the certificate, with a budget of 1 + 5 * x11
 ";
     assert_told(&rt, rt.alloc(), 5, 0xfe05_9ae3, expected)
 }
@@ -121,8 +122,9 @@ fn tells_a_budget(rt: HostRuntime) -> Result<(), Fail> {
     let expected = "  stopped in the block at 0x00010000
   at 0x00010000: 0x00058c63
   that is beq rs1=11 rs2=0 to=00010018
-  wanted: a budget that pays for the words and the block entered
+  wanted: a budget for these words and the block entered
   leads to 0x00010018, after 1 words of the block
+  leaves block 0 of the certificate, with a budget of 1 + 5 * x11
   enters block 2 of the certificate, with a budget of 1
 ";
     assert_told_of_byte(&rt, rt.alloc(), 108, 1, expected)
@@ -178,6 +180,7 @@ fn tells_an_interval_on_a_way_out(rt: HostRuntime) -> Result<(), Fail> {
   that is bne rs1=11 rs2=0 to=00010004
   wanted: the intervals of the block entered
   leads to 0x00010004, after 5 words of the block
+  leaves block 1 of the certificate, with a budget of 1 + 5 * x11
   enters block 1 of the certificate, with a budget of 1 + 5 * x11
   known: x10 in 0x40000002..=0x40000401
   wanted on entering it: x10 in 0x40000000..=0x40000400

@@ -59,7 +59,7 @@ fn tells_the_class(rt: HostRuntime) -> Result<(), Fail> {
 fn tells_the_type(rt: HostRuntime) -> Result<(), Fail> {
     let expected = "  e_type at byte 16 of the file: 3 (0x00000003)
   wanted: 2, an executable file
-  remedy: link with -static -nostdlib
+  remedy: link with -static
 ";
     assert_told(&rt, rt.alloc(), 16, 3, ElfError::BadType, expected)
 }
@@ -77,7 +77,7 @@ fn tells_a_dynamic_header(rt: HostRuntime) -> Result<(), Fail> {
     let expected = "  program header 0 at byte 52 of the file:
   p_type 2, p_offset 84, p_vaddr 0x00010000
   p_filesz 28, p_memsz 28, p_flags 5
-  wanted: no p_type of 2, 3 or 7
+  wanted: no p_type 2, 3 or 7
   remedy: link with -static
 ";
     assert_told(&rt, rt.alloc(), 52, 2, ElfError::NotStatic, expected)

@@ -1,5 +1,5 @@
 -- Accesses that the check refused, and in which words they are told.
-use Rattle.std.specs.Prelude.{ℕ, ℤ, pos, ◌++◌, ◌==◌, Bool, true, false, List, [], codes, Option, Some, None, if◌then◌else◌}
+use Rattle.std.specs.Prelude.{ℕ, ℤ, pos, ◌++◌, ◌==◌, Bool, true, false, List, codes, Option, Some, None, if◌then◌else◌}
 use Rattle.std.specs.Fmt.{decimal, signed_decimal}
 use Rattle.std.specs.List.{flat_map}
 use Rattle.linear_facts.specs.declared.ranges.Range.{Range}
@@ -9,8 +9,6 @@ use Rattle.rv_decode.specs.declared.instructions.ScalarInsn.{ScalarInsn}
 use Rattle.rv_decode.specs.declared.instructions.ScalarInsn.TheVariants as scalar
 use Rattle.rv_decode.specs.declared.instructions.Direction.{Direction}
 use Rattle.rv_decode.specs.declared.instructions.Direction.TheVariants as direction
-use Rattle.rv_decode.specs.declared.instructions.LoadKind.{LoadKind}
-use Rattle.rv_decode.specs.declared.instructions.Width.{Width}
 use Rattle.scalar_core.specs.Step.{size_of_load, size_of_store}
 use Rattle.abs_state.specs.declared.zones.Zone.{Zone}
 use Rattle.explanations.specs.Address.{address_text}

@@ -9,7 +9,6 @@ use Rattle.rv_decode.specs.Decode.{meaning_of}
 use Rattle.rv_listing.specs.Listing.{listing_text}
 use Rattle.vreg_groups.specs.declared.vector_length.Vlen.{Vlen}
 use Rattle.vreg_groups.specs.declared.vector_length.Vlen.TheVariants as vlen
-use Rattle.linear_facts.specs.declared.ranges.Range.{Range}
 use Rattle.abs_state.specs.Zones.{zones_of}
 use Rattle.block_checker.specs.declared.errors.CheckError.{CheckError}
 use Rattle.block_checker.specs.declared.errors.CheckError.TheVariants as error
@@ -122,7 +121,7 @@ rule (error.EqualityNotProved pc) = codes "  wanted: the equalities of the block
 rule (error.OrderNotProved pc) = codes "  wanted: the orders of the block entered\n"
 rule (error.VectorFactNotProved pc) = codes "  wanted: the vector facts of the block entered\n"
 rule (error.BudgetNotProved pc) =
-    codes "  wanted: a budget that pays for the words and the block entered\n"
+    codes "  wanted: a budget for these words and the block entered\n"
 rule (error.BlockTooLong pc) = codes "  wanted: at most 4096 words in a block\n"
 rule error.NoMemory = []
 

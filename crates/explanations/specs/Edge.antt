@@ -1,5 +1,5 @@
 -- The way out of a word that the check refused, and in which words it is told.
-use Rattle.std.specs.Prelude.{◌≡◌, ◌==◌, ℕ, ◌++◌, List, [], codes, Option, Some, None, if◌then◌else◌}
+use Rattle.std.specs.Prelude.{◌≡◌, ◌==◌, ℕ, ◌++◌, List, [], codes, Option, Some, None, option_map, if◌then◌else◌}
 use Rattle.std.specs.Fmt.{decimal}
 use Rattle.std.specs.List.{slice_get}
 use Rattle.cert_note.specs.Certificate.{CertificateView}
@@ -11,6 +11,7 @@ use Rattle.explanations.specs.Access.{span_text}
 use Rattle.explanations.specs.Address.{address_text}
 use Rattle.explanations.specs.declared.edge.Edge.{Edge}
 use Rattle.explanations.specs.declared.edge.Entered.{Entered}
+use Rattle.explanations.specs.declared.edge.Left.{Left}
 use Rattle.explanations.specs.declared.edge.Stated.{Stated}
 
 -- ---- what is told
@@ -42,9 +43,16 @@ IsEnteredBy certificate target None = Unit {0}
 IsEnteredBy certificate target (Some told) =
     (target ≡ Some told.start) × IsEntered certificate told
 
--- What is told of an edge: the block of the certificate that begins where it leads.
+-- What is told of the block that is left is a block of the certificate with its budget.
+abbrev pub IsLeft : CertificateView → Option Left → Type 0
+IsLeft certificate None = Unit {0}
+IsLeft certificate (Some told) =
+    option_map (λ block. block.budget) (slice_get certificate.blocks told.block) ≡ Some told.budget
+
+-- What is told of an edge: the block of the certificate that begins where it leads, and the one that it leaves.
 abbrev pub IsEdge : CertificateView → Edge → Type 0
-IsEdge certificate told = IsEnteredBy certificate told.target told.entered
+IsEdge certificate told =
+    IsEnteredBy certificate told.target told.entered × IsLeft certificate told.left
 
 -- ---- the words
 
@@ -66,6 +74,11 @@ budget_text b = decimal b.constant
 abbrev pub block_line : ℕ → Budget → List ℕ
 block_line block budget = codes "  enters block " ++ (decimal block
     ++ (codes " of the certificate, with a budget of " ++ (budget_text budget ++ codes "\n")))
+
+abbrev pub left_line : Option Left → List ℕ
+left_line None = []
+left_line (Some told) = codes "  leaves block " ++ (decimal told.block
+    ++ (codes " of the certificate, with a budget of " ++ (budget_text told.budget ++ codes "\n")))
 
 unfoldable pub name_text : ℕ → List ℕ
 name_text number = if number == 32 then codes "vl" else codes "x" ++ decimal number
@@ -95,4 +108,4 @@ entered_lines (Some told) = block_line told.block told.budget ++ interval_lines 
 
 -- the lines of an edge
 unfoldable pub edge_text : Edge → List ℕ
-edge_text e = target_line e.target e.words ++ entered_lines e.entered
+edge_text e = target_line e.target e.words ++ (left_line e.left ++ entered_lines e.entered)

@@ -93,9 +93,9 @@ unfoldable pub header_text : Header → List ℕ
 header_text h = place_line h ++ (address_line h ++ size_line h)
 
 abbrev pub rule_text : SegmentRule → List ℕ
-rule_text rule.Static = codes "  wanted: no p_type of 2, 3 or 7\n  remedy: link with -static\n"
+rule_text rule.Static = codes "  wanted: no p_type 2, 3 or 7\n  remedy: link with -static\n"
 rule_text rule.InFile =
     codes "  wanted: p_offset + p_filesz within the file, and p_filesz at most p_memsz\n"
 rule_text rule.InPlace =
-    codes "  wanted: from 0x00001000 and below 0x20000000, or from 0x80000000 and below 0xc0000000\n"
+    codes "  wanted: all in 0x00001000..0x20000000 or all in 0x80000000..0xc0000000\n"
 rule_text rule.WriteOrExecute = codes "  wanted: p_flags without 1 (execute) or without 2 (write)\n"

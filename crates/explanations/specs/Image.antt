@@ -8,7 +8,6 @@ use Rattle.elf_image.specs.declared.error.ElfError.{ElfError}
 use Rattle.elf_image.specs.declared.error.ElfError.TheVariants as error
 use Rattle.explanations.specs.Address.{address_text}
 use Rattle.explanations.specs.Headers.{AreApart, AreOverlapping, IsFirst, NoneBreaks, header_text, rule_text}
-use Rattle.explanations.specs.declared.headers.Header.{Header}
 use Rattle.explanations.specs.declared.headers.SegmentRule.{SegmentRule}
 use Rattle.explanations.specs.declared.headers.SegmentRule.TheVariants as rule
 use Rattle.explanations.specs.declared.image.ElfField.{ElfField}
@@ -154,7 +153,7 @@ wanted field.Class value = codes "  wanted: 1, 32 bits\n  remedy: compile with -
 wanted field.Order value = codes "  wanted: 1, little-endian\n"
 wanted field.IdentVersion value = codes "  wanted: 1\n"
 wanted field.Type value =
-    codes "  wanted: 2, an executable file\n  remedy: link with -static -nostdlib\n"
+    codes "  wanted: 2, an executable file\n  remedy: link with -static\n"
 wanted field.Machine value = codes "  wanted: 243, RISC-V\n  remedy: compile with --target=riscv32\n"
 wanted field.Version value = codes "  wanted: 1\n"
 wanted field.Entry value = codes "  wanted: a multiple of 4 in a segment that can be executed\n"
@@ -188,4 +187,4 @@ image_text (reason.Overlap first second) =
 image_text (reason.Large size) =
     codes "  size of the file: " ++ (decimal size ++ (codes "\n" ++ large_wanted))
 image_text reason.Certificates = codes "  wanted: one note with a certificate\n"
-image_text reason.CertificateThere = codes "  wanted: an image without a certificate\n"
+image_text reason.CertificateThere = codes "  wanted: an image with no certificate\n"

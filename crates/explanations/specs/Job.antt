@@ -1,5 +1,5 @@
 -- Why a job is refused, and in which words it is told.
-use Rattle.std.specs.Prelude.{◌≡◌, ◌<◌, ℕ, ◌++◌, ◌==◌, Bool, true, false, List, [], codes, map, length, filter, take, Option, Some, None, is_some, string_bytes}
+use Rattle.std.specs.Prelude.{◌≡◌, ◌<◌, ℕ, ◌++◌, ◌==◌, Bool, true, false, List, codes, length, filter, take, Option, Some, None, is_some, string_bytes}
 use Rattle.std.specs.Fmt.{decimal}
 use Rattle.std.specs.Prelude.{slice_index_or}
 use Rattle.std.specs.Str.{IsUtf8}
@@ -12,7 +12,7 @@ use Rattle.job_file.specs.declared.values.Job.{Job}
 use Rattle.job_file.specs.declared.values.Param.{Param}
 use Rattle.job_file.specs.declared.values.Param.TheVariants as param
 use Rattle.explanations.specs.Keys.{key_name, key_wanted}
-use Rattle.explanations.specs.Rules.{IsBreach, is_wrong}
+use Rattle.explanations.specs.Rules.{IsBreach}
 use Rattle.explanations.specs.declared.job.Command.{Command}
 use Rattle.explanations.specs.declared.job.Command.TheVariants as command
 use Rattle.explanations.specs.declared.job.JobKey.{JobKey}

@@ -1,5 +1,5 @@
 -- The rules of job files: which key of a table breaks one.
-use Rattle.std.specs.Prelude.{◌≡◌, Bool, true, false, ◌||◌, not, codes, Option, Some, None, is_some, List, ℕ}
+use Rattle.std.specs.Prelude.{◌≡◌, Bool, true, false, ◌||◌, not, codes, is_some, List, ℕ}
 use Rattle.std.specs.Option.{option_map_or}
 use Rattle.std.specs.Str.{bytes_eq}
 use Rattle.toml.specs.Data.{Data, Members, as_array, as_str, get_member}

@@ -69,7 +69,10 @@ fn scalar_operand(insn: ScalarInsn) -> Option<Operand>
             size: load_size(kind),
         }),
         ScalarInsn::Store {
-            size, rs1, offset, ..
+            size,
+            rs1,
+            offset,
+            ..
         } => Some(Operand {
             is_store: true,
             base: rs1.number(),

@@ -13,8 +13,8 @@ pub struct CertificateReason {
     pub error: CertError,
     /// How many bytes there are.
     pub size: usize,
-    /// How many bytes were read when the error was told: the field in question ends there. `None` where the bytes do not
-    /// tell this error.
+    /// How many bytes were read when the error was told: the field in question ends there. `None` where the bytes do
+    /// not tell this error.
     pub place: Option<usize>,
     /// The number of the block there, from 0 on. `None` where it is no block.
     pub block: Option<u16>,

@@ -1,5 +1,5 @@
-//! Why an image is refused with its certificate: the word at which the check stopped, what was known there, and what was
-//! wanted.
+//! Why an image is refused with its certificate: the word at which the check stopped, what was known there, and what
+//! was wanted.
 ghost use Rattle.std.specs.Prelude.{◌≡◌, IfOk, IfSome, option_map, string_bytes};
 ghost use Rattle.block_checker.specs.Explained.{Explains, answer_of};
 ghost use Rattle.block_checker.specs.Passes.{checked as checked_of};
@@ -301,7 +301,8 @@ fn rule(error: CheckError) -> &'static str
         CheckError::EqualityNotProved(_) => "  wanted: the equalities of the block entered\n",
         CheckError::OrderNotProved(_) => "  wanted: the orders of the block entered\n",
         CheckError::VectorFactNotProved(_) => "  wanted: the vector facts of the block entered\n",
-        CheckError::BudgetNotProved(_) => "  wanted: a budget that pays for the words and the block entered\n",
+        CheckError::BudgetNotProved(_) =>
+            "  wanted: a budget for these words and the block entered\n",
         CheckError::BlockTooLong(_) => "  wanted: at most 4096 words in a block\n",
         CheckError::NoMemory => "",
     }

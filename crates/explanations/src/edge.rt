@@ -1,6 +1,6 @@
 //! The way out of a word that the check refused: the block that it enters, and what is not shown of it.
 ghost use Rattle.std.specs.Prelude.{◌≡◌, ◌<◌, IfSome, IfOk, length};
-ghost use Rattle.explanations.specs.Edge.{IsEdge, IsEntered, IsStated};
+ghost use Rattle.explanations.specs.Edge.{IsEdge, IsEntered, IsLeft, IsStated};
 
 use crate::access::Span;
 use crate::address::Address;
@@ -37,6 +37,14 @@ pub struct Entered {
     pub interval: Option<Stated>,
 }
 
+/// The block that a way out of a word leaves.
+#[derive(Clone, Copy, Debug, PartialEq, Eq)]
+pub struct Left {
+    /// The number of the block in the certificate, from 0 on.
+    pub block: usize,
+    pub budget: Budget,
+}
+
 /// A way out of a word that the check refused.
 #[derive(Clone, Copy, Debug, PartialEq, Eq)]
 pub struct Edge {
@@ -44,6 +52,8 @@ pub struct Edge {
     pub target: Option<u32>,
     /// How many words of the block were taken.
     pub words: u32,
+    /// The block of the word. The way into the first block leaves none.
+    pub left: Option<Left>,
     /// The block there.
     pub entered: Option<Entered>,
 }
@@ -136,7 +146,9 @@ fn edge_on<A: Allocator, C: Allocator>(
     state: &Abstract<A>,
     way: &Way<'_, A>,
     certificate: &Certificate<C>,
+    left: Option<Left>,
 ) -> Edge
+    requires { IsLeft certificate.now left }
     ensures { IsEdge certificate.now result }
 {
     let target = way.target();
@@ -147,6 +159,7 @@ fn edge_on<A: Allocator, C: Allocator>(
     Edge {
         target,
         words: state.words(),
+        left,
         entered,
     }
 }
@@ -162,8 +175,10 @@ fn index_of(blocks: &[Block], address: u32) -> Option<usize>
 fn refused_when<A: Allocator, C: Allocator>(
     state: &Abstract<A>,
     certificate: &Certificate<C>,
+    left: Option<Left>,
     taken: bool,
 ) -> Option<Edge>
+    requires { IsLeft certificate.now left }
     ensures { IfSome result (IsEdge certificate.now) }
 {
     let way = state.refine(taken)?;
@@ -177,7 +192,7 @@ fn refused_when<A: Allocator, C: Allocator>(
     };
     match implies(&way, block) {
         Ok(()) => None,
-        Err(_) => Some(edge_on(state, &way, certificate)),
+        Err(_) => Some(edge_on(state, &way, certificate, left)),
     }
 }
 
@@ -185,12 +200,14 @@ fn refused_when<A: Allocator, C: Allocator>(
 fn refused_edge<A: Allocator, C: Allocator>(
     state: &Abstract<A>,
     certificate: &Certificate<C>,
+    left: Option<Left>,
 ) -> Option<Edge>
+    requires { IsLeft certificate.now left }
     ensures { IfSome result (IsEdge certificate.now) }
 {
-    match refused_when(state, certificate, true) {
+    match refused_when(state, certificate, left, true) {
         Some(edge) => Some(edge),
-        None => refused_when(state, certificate, false),
+        None => refused_when(state, certificate, left, false),
     }
 }
 
@@ -207,6 +224,10 @@ fn edge_in_block<A: Allocator + Copy, B: Allocator, C: Allocator>(
     let Some(index) = index_of(certificate.contents().blocks.as_slice(), start) else {
         return Ok(None);
     };
+    let left = Some(Left {
+        block: index,
+        budget: certificate.contents().blocks[index].budget,
+    });
     let mut state = Abstract::at_block(alloc, certificate, image, index)?;
     let mut at = start;
     for _word in 0..MOST_WORDS {
@@ -220,7 +241,7 @@ fn edge_in_block<A: Allocator + Copy, B: Allocator, C: Allocator>(
             return Ok(None);
         }
         if at == pc {
-            return Ok(refused_edge(&state, certificate));
+            return Ok(refused_edge(&state, certificate, left));
         }
         at = at.wrapping_add(4);
     }
@@ -240,7 +261,7 @@ pub(crate) fn edge_at<A: Allocator + Copy, B: Allocator, C: Allocator>(
         Part::Block(start) => edge_in_block(alloc, image, certificate, start, stop.pc),
         Part::Entry => {
             let state = Abstract::at_entry(alloc, certificate, image)?;
-            Ok(refused_when(&state, certificate, false))
+            Ok(refused_when(&state, certificate, None, false))
         }
     }
 }
@@ -261,7 +282,10 @@ impl fmt::Display for TargetLine {
     fn fmt<W: fmt::Write>(&self, f: &mut fmt::Formatter<W>) -> fmt::Result {
         let words = self.words;
         match self.target {
-            None => writeln!(f, "  leads to an address that is not known, after {words} words"),
+            None => writeln!(
+                f,
+                "  leads to an address that is not known, after {words} words"
+            ),
             Some(target) => {
                 let target = Address(u64::from(target));
                 writeln!(f, "  leads to {target}, after {words} words of the block")
@@ -335,7 +359,35 @@ impl fmt::Display for BlockLine {
     fn fmt<W: fmt::Write>(&self, f: &mut fmt::Formatter<W>) -> fmt::Result {
         let block = self.block;
         let budget = Sum(self.budget);
-        writeln!(f, "  enters block {block} of the certificate, with a budget of {budget}")
+        writeln!(
+            f,
+            "  enters block {block} of the certificate, with a budget of {budget}"
+        )
+    }
+}
+
+/// The block that a way out leaves, as a line.
+#[derive(Clone, Copy)]
+struct LeftLine(Option<Left>);
+
+impl fmt::Display for LeftLine {
+    ghost use Rattle.std.specs.Prelude.{Some};
+    ghost use Rattle.explanations.specs.Edge.{left_line};
+
+    ghost output = { λ line. Some (left_line line.0) };
+
+    fn fmt<W: fmt::Write>(&self, f: &mut fmt::Formatter<W>) -> fmt::Result {
+        match self.0 {
+            None => Ok(()),
+            Some(left) => {
+                let block = left.block;
+                let budget = Sum(left.budget);
+                writeln!(
+                    f,
+                    "  leaves block {block} of the certificate, with a budget of {budget}"
+                )
+            }
+        }
     }
 }
 
@@ -479,7 +531,8 @@ impl fmt::Display for Edge {
             target: self.target,
             words: self.words,
         };
+        let left = LeftLine(self.left);
         let entered = EnteredLines(self.entered);
-        write!(f, "{target}{entered}")
+        write!(f, "{target}{left}{entered}")
     }
 }

@@ -221,10 +221,15 @@ impl fmt::Display for AddressLine {
 
     fn fmt<W: fmt::Write>(&self, f: &mut fmt::Formatter<W>) -> fmt::Result {
         let Header {
-            p_type, p_offset, ..
+            p_type,
+            p_offset,
+            ..
         } = self.0;
         let address = Address(u64::from(self.0.p_vaddr));
-        writeln!(f, "  p_type {p_type}, p_offset {p_offset}, p_vaddr {address}")
+        writeln!(
+            f,
+            "  p_type {p_type}, p_offset {p_offset}, p_vaddr {address}"
+        )
     }
 }
 
@@ -245,7 +250,10 @@ impl fmt::Display for SizeLine {
             p_flags,
             ..
         } = self.0;
-        writeln!(f, "  p_filesz {p_filesz}, p_memsz {p_memsz}, p_flags {p_flags}")
+        writeln!(
+            f,
+            "  p_filesz {p_filesz}, p_memsz {p_memsz}, p_flags {p_flags}"
+        )
     }
 }
 
@@ -272,12 +280,12 @@ impl fmt::Display for SegmentRule {
 
     fn fmt<W: fmt::Write>(&self, f: &mut fmt::Formatter<W>) -> fmt::Result {
         f.write_str(match self {
-            SegmentRule::Static => "  wanted: no p_type of 2, 3 or 7\n  remedy: link with -static\n",
+            SegmentRule::Static => "  wanted: no p_type 2, 3 or 7\n  remedy: link with -static\n",
             SegmentRule::InFile => {
                 "  wanted: p_offset + p_filesz within the file, and p_filesz at most p_memsz\n"
             }
             SegmentRule::InPlace => {
-                "  wanted: from 0x00001000 and below 0x20000000, or from 0x80000000 and below 0xc0000000\n"
+                "  wanted: all in 0x00001000..0x20000000 or all in 0x80000000..0xc0000000\n"
             }
             SegmentRule::WriteOrExecute => {
                 "  wanted: p_flags without 1 (execute) or without 2 (write)\n"

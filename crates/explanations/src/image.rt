@@ -53,9 +53,15 @@ pub enum ImageReason {
         value: u32,
     },
     /// The first program header that breaks a rule.
-    Segment { rule: SegmentRule, header: Header },
+    Segment {
+        rule: SegmentRule,
+        header: Header,
+    },
     /// Two segments that share an address.
-    Overlap { first: Header, second: Header },
+    Overlap {
+        first: Header,
+        second: Header,
+    },
     /// The file has so many bytes, and it or its memory is too large.
     Large(usize),
     /// The file has more than one certificate.
@@ -264,7 +270,7 @@ fn wanted(field: ElfField, value: u32) -> &'static str
         ElfField::Class => "  wanted: 1, 32 bits\n  remedy: compile with --target=riscv32\n",
         ElfField::Order => "  wanted: 1, little-endian\n",
         ElfField::IdentVersion => "  wanted: 1\n",
-        ElfField::Type => "  wanted: 2, an executable file\n  remedy: link with -static -nostdlib\n",
+        ElfField::Type => "  wanted: 2, an executable file\n  remedy: link with -static\n",
         ElfField::Machine => "  wanted: 243, RISC-V\n  remedy: compile with --target=riscv32\n",
         ElfField::Version => "  wanted: 1\n",
         ElfField::Entry => "  wanted: a multiple of 4 in a segment that can be executed\n",
@@ -329,7 +335,10 @@ impl fmt::Display for ImageReason {
         match *self {
             ImageReason::Untold => Ok(()),
             ImageReason::Short(size) => {
-                write!(f, "  size of the file: {size}\n  wanted: at least 52, an ELF header\n")
+                write!(
+                    f,
+                    "  size of the file: {size}\n  wanted: at least 52, an ELF header\n"
+                )
             }
             ImageReason::Field {
                 field,
@@ -350,7 +359,7 @@ impl fmt::Display for ImageReason {
                 write!(f, "  size of the file: {size}\n{wanted}")
             }
             ImageReason::Certificates => writeln!(f, "  wanted: one note with a certificate"),
-            ImageReason::CertificateThere => writeln!(f, "  wanted: an image without a certificate"),
+            ImageReason::CertificateThere => writeln!(f, "  wanted: an image with no certificate"),
         }
     }
 }

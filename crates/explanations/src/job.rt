@@ -53,7 +53,10 @@ pub enum JobReason {
     /// The text is not UTF-8 from this byte on, counted from 0.
     NotUtf8(usize),
     /// The text is not TOML from this byte on, counted from 0, in a line that is counted from 1.
-    NotToml { line: usize, byte: usize },
+    NotToml {
+        line: usize,
+        byte: usize,
+    },
     /// There is a key that no such table has, or a value that is not of its type and range.
     Broken,
     /// A key that the command needs is not there.
@@ -63,9 +66,15 @@ pub enum JobReason {
         command: Command,
     },
     /// The value of a key is not of its type and range.
-    Wrong { table: JobTable, key: JobKey },
+    Wrong {
+        table: JobTable,
+        key: JobKey,
+    },
     /// A key that the table can't have.
-    Unknown { table: JobTable, key: String },
+    Unknown {
+        table: JobTable,
+        key: String,
+    },
     /// There are more than eight `[[param]]` tables.
     TooMany,
 }
@@ -144,7 +153,8 @@ fn param_lacks(command: Command, param: Param<&str>) -> Option<JobKey>
 /// The first parameter of which a command lacks a key, and that key.
 fn params_lack(command: Command, params: [Param<&str>; 8]) -> Option<(usize, JobKey)>
     ensures found { IfSome result (λ m. (m.0 < 8)
-        × (param_lacks command (param_lent (slice_index_or params.entry m.0 param_kind.None)) ≡ Some m.1)) }
+        × (param_lacks command (param_lent (slice_index_or params.entry m.0 param_kind.None))
+        ≡ Some m.1)) }
 {
     for place in 0..8 {
         if let Some(key) = param_lacks(command, params[place]) {
@@ -372,10 +382,16 @@ impl fmt::Display for JobReason {
         match self {
             JobReason::NotUtf8(byte) => writeln!(f, "  not UTF-8 from byte {byte} on"),
             JobReason::NotToml { line, byte } => {
-                writeln!(f, "  not TOML from byte {byte} on, behind {line} whole lines")
+                writeln!(
+                    f,
+                    "  not TOML from byte {byte} on, behind {line} whole lines"
+                )
             }
             JobReason::Broken => {
-                writeln!(f, "  wanted: no other keys, and each value of its type and range")
+                writeln!(
+                    f,
+                    "  wanted: no other keys, and each value of its type and range"
+                )
             }
             JobReason::Missing {
                 table,

@@ -18,7 +18,7 @@ pub use access::{Access, Operand};
 pub use address::Address;
 pub use certificate::{CertificateReason, certificate_reason};
 pub use check::{CheckReason, Wanted, check_reason};
-pub use edge::{Edge, Entered, Stated};
+pub use edge::{Edge, Entered, Left, Stated};
 pub use headers::{Header, SegmentRule};
 pub use image::{ElfField, ImageReason, image_reason};
 pub use job::{Command, JobKey, JobReason, JobTable, job_reason};

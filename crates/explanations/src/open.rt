@@ -27,7 +27,10 @@ pub enum OpenReason {
         given: Given,
     },
     /// How many steps the run may take, and how many are allowed.
-    Bound { bound: u128, max: u64 },
+    Bound {
+        bound: u128,
+        max: u64,
+    },
     /// The image was accepted for another length of vector registers.
     Length,
 }
@@ -137,13 +140,19 @@ impl fmt::Display for OpenReason {
                 given,
             } => {
                 let wanted = Wanted(wanted);
-                write!(f, "  wanted at place {place}: {wanted}\n  passed: {given}\n")
+                write!(
+                    f,
+                    "  wanted at place {place}: {wanted}\n  passed: {given}\n"
+                )
             }
             OpenReason::Bound { bound, max } => {
                 write!(f, "  bound of the run: {bound}\n  wanted: at most {max}\n")
             }
             OpenReason::Length => {
-                writeln!(f, "  wanted: the length of vector registers of the certificate")
+                writeln!(
+                    f,
+                    "  wanted: the length of vector registers of the certificate"
+                )
             }
         }
     }

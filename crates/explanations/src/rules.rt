@@ -169,18 +169,20 @@ fn keys_of(kind: &str) -> &'static [JobKey] {
     if kind == "scalar" {
         &[JobKey::Kind, JobKey::Lo, JobKey::Hi, JobKey::Value]
     } else if kind == "buffer" {
-        &[JobKey::Kind, JobKey::Mode, JobKey::Size, JobKey::File, JobKey::Out]
+        &[
+            JobKey::Kind,
+            JobKey::Mode,
+            JobKey::Size,
+            JobKey::File,
+            JobKey::Out,
+        ]
     } else {
         &[JobKey::Kind]
     }
 }
 
 /// Which key of a parameter's table breaks a rule.
-fn wrong_param(
-    alloc: Global,
-    value: &Value,
-    place: usize,
-) -> Result<Option<JobReason>, AllocError>
+fn wrong_param(alloc: Global, value: &Value, place: usize) -> Result<Option<JobReason>, AllocError>
     ensures { IfOk result (λ told. (ms : Members) → IfSome told (IsBreach ms)) }
 {
     let table = JobTable::Param(place);
@@ -235,7 +237,13 @@ fn wrong_params(alloc: Global, table: &Table) -> Result<Option<JobReason>, Alloc
 pub(crate) fn breach(alloc: Global, table: &Table) -> Result<Option<JobReason>, AllocError>
     ensures { IfOk result (λ told. IfSome told (IsBreach (table_view table.now))) }
 {
-    let keys = [JobKey::Image, JobKey::Vlen, JobKey::Agnostic, JobKey::Max, JobKey::Param];
+    let keys = [
+        JobKey::Image,
+        JobKey::Vlen,
+        JobKey::Agnostic,
+        JobKey::Max,
+        JobKey::Param,
+    ];
     if let Some(key) = first_unknown(alloc, table, keys.as_slice())? {
         return Ok(Some(JobReason::Unknown {
             table: JobTable::Job,
