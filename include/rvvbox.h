@@ -97,6 +97,12 @@ uint32_t rvvbox_version(void);
 /* Checks the image, and answers the status, which stands in `refusal` too. */
 uint32_t rvvbox_check(const uint8_t *image, size_t image_size, uint32_t vlen, struct rvvbox_refusal *refusal);
 
+/* Checks the image, and puts into `text` why it is refused: lines that begin with two spaces and end in a newline, or as much of them
+ * as there is room for, with no zero byte behind. `*written` is how many bytes were put there, none where the image is accepted. Where
+ * the answer is not RVVBOX_DONE, for want of memory or a length of registers that is none, both are as they were. */
+uint32_t rvvbox_explain(const uint8_t *image, size_t image_size, uint32_t vlen, uint8_t *text, size_t text_size,
+                        size_t *written);
+
 /* Checks the image, and tells the most steps of a run with these scalars. `bound` is set where the answer is RVVBOX_DONE. */
 uint32_t rvvbox_bound(const uint8_t *image, size_t image_size, uint32_t vlen, const struct rvvbox_scalars *scalars,
                       struct rvvbox_bound *bound);

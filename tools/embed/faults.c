@@ -107,6 +107,34 @@ static void two_runs(void) {
     put(places);
 }
 
+/* What is told of a refusal, as much of it as there is room for; of what is accepted nothing, and where nothing can be told all stays */
+static void explained(void) {
+    static const char wanted[] = "  stated: VLEN 128\n  wanted: VLEN 256\n";
+    uint8_t text[256], kept[256];
+    size_t written = 7, size_told = sizeof wanted - 1;
+    memset(kept, '.', sizeof kept);
+    memcpy(text, kept, sizeof text);
+    EXPECT(rvvbox_explain(image, size, 127, text, sizeof text, &written) == RVVBOX_BAD_VLEN && written == 7);
+    EXPECT(rvvbox_explain(image, size, 128, text, sizeof text, &written) == RVVBOX_DONE && written == 0);
+    EXPECT(!memcmp(text, kept, sizeof text));
+    EXPECT(rvvbox_explain(image, size, 256, text, 10, &written) == RVVBOX_DONE && written == 10);
+    EXPECT(!memcmp(text, wanted, 10) && !memcmp(text + 10, kept, sizeof text - 10));
+    EXPECT(rvvbox_explain(image, size, 256, text, sizeof text, &written) == RVVBOX_DONE && written == size_told);
+    EXPECT(!memcmp(text, wanted, size_told) && !memcmp(text + size_told, kept, sizeof text - size_told));
+    EXPECT(rvvbox_explain(image, 51, 128, text, sizeof text, &written) == RVVBOX_DONE && !memcmp(text, "  size of the file: 51", 22));
+    memcpy(text, kept, sizeof text);
+    for (long given = 0;; given++) {
+        written = 7;
+        refused = given;
+        uint32_t status = rvvbox_explain(image, size, 256, text, sizeof text, &written);
+        int was_refused = refused < 0;
+        refused = -1;
+        if (!was_refused) break;
+        EXPECT(status == RVVBOX_NO_MEMORY && written == 7 && !memcmp(text, kept, sizeof text));
+    }
+    EXPECT(written == size_told && !memcmp(text, wanted, size_told));
+}
+
 static uint32_t run_kept(struct rvvbox_handle *handle, size_t count) {
     return rvvbox_run_accepted(handle, &setting, words, sizeof words, places, count, &steps);
 }
@@ -237,6 +265,7 @@ int main(void) {
     put(places);
     wrong_arguments();
     told_and_tried();
+    explained();
     two_runs();
     kept();
     want_of_memory_by_handle();

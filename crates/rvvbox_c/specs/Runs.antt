@@ -45,7 +45,7 @@ pub record IsRun (vlenb : ℕ) (agnostic : Agnostic) (a : AcceptedView) (args : 
 abbrev pub put_at : Argument → Place → List ℕ → List ℕ
 put_at (arg.Buffer bytes) place memory =
     if place.kind == 2 && nat_le (place.from + place.size) (length memory)
-        && length bytes == place.size
+    && length bytes == place.size
     then take place.from memory ++ (bytes ++ drop (place.from + place.size) memory)
     else memory
 put_at (arg.Scalar value) place memory = memory

@@ -3,6 +3,7 @@
 
 mod accept;
 mod calls;
+mod explain;
 mod handles;
 mod kept;
 mod loose;
@@ -14,6 +15,7 @@ pub use calls::{
     Bound, Ran, Scalars, Setting, rvvbox_bound, rvvbox_check, rvvbox_run, rvvbox_run_many,
     rvvbox_version,
 };
+pub use explain::rvvbox_explain;
 pub use handles::{rvvbox_accept, rvvbox_bound_of, rvvbox_free, rvvbox_run_accepted};
 pub use kept::Handle;
 pub use places::Place;

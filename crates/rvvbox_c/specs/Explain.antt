@@ -1,0 +1,77 @@
+-- Why a file is refused, in words: those of the reason that the crate `explanations` tells.
+use Rattle.std.specs.Prelude.{ℕ, ◌≡◌, ◌⊎◌, ◌++◌, List, [], length, min, take, drop, codes, Option, None, Some, Result, Ok, Err}
+use Rattle.std.specs.declared.alloc.Global.{Global}
+use Rattle.block_checker.specs.Explained.{Explains, answer_of}
+use Rattle.block_checker.specs.Passes.{checked}
+use Rattle.cert_note.specs.Certificate.{CertificateView}
+use Rattle.cert_note.specs.Reading.{certificate_of}
+use Rattle.cert_note.specs.declared.refusals.CertError.{CertError}
+use Rattle.elf_image.specs.Faults.{fault_of}
+use Rattle.elf_image.specs.File.{image_of}
+use Rattle.elf_image.specs.Image.{ImageView}
+use Rattle.elf_image.specs.declared.error.ElfError.{ElfError}
+use Rattle.explanations.specs.Certificate.{IsReason, certificate_text}
+use Rattle.explanations.specs.Check.{IsListed, IsWanted, check_text}
+use Rattle.explanations.specs.Image.{Tells, image_text}
+use Rattle.explanations.specs.declared.certificate.CertificateReason.{CertificateReason}
+use Rattle.explanations.specs.declared.check.CheckReason.{CheckReason}
+use Rattle.explanations.specs.declared.image.ImageReason.{ImageReason}
+use Rattle.vreg_groups.specs.declared.vector_length.Vlen.{Vlen}
+use Rattle.rvvbox_c.specs.Accept.{vlen_at}
+
+-- of a file that is no image
+abbrev pub IsTextOfFault : List ℕ → ElfError → List ℕ → Type 0
+IsTextOfFault file error text =
+    (reason : ImageReason) × Tells file error reason × (text ≡ image_text reason)
+
+-- of a note that spells no certificate
+abbrev pub IsTextOfReading : List ℕ → CertError → List ℕ → Type 0
+IsTextOfReading note error text =
+    (reason : CertificateReason) × IsReason note error reason × (text ≡ certificate_text reason)
+
+-- Why an image is refused with a certificate: where the check stops, and what was known and wanted there.
+pub record IsTextOfStop (image : ImageView) (certificate : CertificateView) (vlen : Vlen)
+    (text : List ℕ) : Type 0 where
+  pub reason : CheckReason Global
+  pub refused : answer_of (Some reason.explanation) ≡ checked image certificate vlen
+  pub stop : Explains image certificate reason.explanation
+  pub listing : IsListed reason.explanation.stop reason.listing
+  pub wanted : IsWanted image certificate vlen reason.explanation reason.wanted
+  pub told : text ≡ check_text reason
+
+-- of an image with its certificate; there is no text where they pass the check
+abbrev pub IsTextOfCheck : ImageView → CertificateView → Vlen → List ℕ → Type 0
+IsTextOfCheck image certificate vlen text =
+    ((checked image certificate vlen ≡ Ok tt) × (text ≡ []))
+    ⊎ IsTextOfStop image certificate vlen text
+
+abbrev pub IsTextOfRead :
+    Vlen → ImageView → List ℕ → List ℕ → Result CertificateView CertError → Type 0
+IsTextOfRead vlen image note text (Ok certificate) = IsTextOfCheck image certificate vlen text
+IsTextOfRead vlen image note text (Err error) = IsTextOfReading note error text
+
+abbrev pub IsTextOfNote : Vlen → ImageView → List ℕ → Option (List ℕ) → Type 0
+IsTextOfNote vlen image text None = text ≡ codes "  wanted: a note with a certificate\n"
+IsTextOfNote vlen image text (Some note) =
+    IsTextOfRead vlen image note text (certificate_of note)
+
+-- of an image, with the certificate in its note
+abbrev pub IsTextOfImage : Vlen → ImageView → List ℕ → Type 0
+IsTextOfImage vlen image text = IsTextOfNote vlen image text image.certificate
+
+abbrev pub IsTextIf : Vlen → List ℕ → List ℕ → Option ElfError → Type 0
+IsTextIf vlen file text (Some fault) = IsTextOfFault file fault text
+IsTextIf vlen file text None = IsTextOfImage vlen (image_of file) text
+
+-- of a file, for vector registers of this length
+abbrev pub IsTextFor : Vlen → List ℕ → List ℕ → Type 0
+IsTextFor vlen file text = IsTextIf vlen file text (fault_of file)
+
+-- Such a text stands at the start of the host's, as much of it as there is room for; all behind it stays.
+pub record HasExplained (bits : ℕ) (file old new : List ℕ) (written : ℕ) : Type 0 where
+  pub vlen : Vlen
+  pub length_is : vlen_at bits ≡ Some vlen
+  pub text : List ℕ
+  pub told : IsTextFor vlen file text
+  pub many : written ≡ min (length text) (length old)
+  pub put : new ≡ take written text ++ drop written old
