@@ -32,13 +32,7 @@ fn tells_the_place_and_the_block(rt: HostRuntime) -> Result<(), Fail> {
   in block 1, counted from 0
   wanted: a multiple of 4 above the start of the block before
 ";
-    assert_told(
-        &rt,
-        rt.alloc(),
-        &bytes,
-        CertError::BlockOrder,
-        expected,
-    )
+    assert_told(&rt, rt.alloc(), &bytes, CertError::BlockOrder, expected)
 }
 
 #[test]

@@ -29,13 +29,7 @@ fn tells_nothing_of_what_is_taken(rt: HostRuntime) -> Result<(), Fail> {
 #[test]
 fn tells_a_byte_that_is_no_text(rt: HostRuntime) -> Result<(), Fail> {
     let expected = "  not UTF-8 from byte 2 on\n";
-    assert_told(
-        &rt,
-        rt.alloc(),
-        &[0x61, 0x62, 0xff],
-        Command::Run,
-        expected,
-    )
+    assert_told(&rt, rt.alloc(), &[0x61, 0x62, 0xff], Command::Run, expected)
 }
 
 #[test]
@@ -102,11 +96,5 @@ fn tells_a_key_that_is_none(rt: HostRuntime) -> Result<(), Fail> {
 fn tells_a_value_of_a_parameter(rt: HostRuntime) -> Result<(), Fail> {
     let expected = "  not as wanted: mode in the param at place 1: \"r\" or \"rw\"\n";
     let text = "param = [{ kind = \"none\" }, { kind = \"buffer\", mode = \"w\" }]\n";
-    assert_told(
-        &rt,
-        rt.alloc(),
-        text.as_bytes(),
-        Command::Try,
-        expected,
-    )
+    assert_told(&rt, rt.alloc(), text.as_bytes(), Command::Try, expected)
 }

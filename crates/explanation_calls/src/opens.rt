@@ -43,12 +43,7 @@ fn assert_told(
 #[test]
 fn tells_a_scalar(rt: HostRuntime) -> Result<(), Fail> {
     let expected = "  wanted at place 1: a number in 0..=40\n  passed: the number 41\n";
-    assert_told(
-        &rt,
-        rt.alloc(),
-        OpenError::ScalarOutOfInterval(1),
-        expected,
-    )
+    assert_told(&rt, rt.alloc(), OpenError::ScalarOutOfInterval(1), expected)
 }
 
 #[test]
