@@ -1,6 +1,6 @@
 //! What a monitor and a listing tell over a sink that fails: a run of the loop over strips, whose texts are cut at each of their bytes.
 
-ghost use Rattle.std.specs.Prelude.{◌≡◌};
+ghost use Rattle.std.specs.Prelude.{◌≡◌, ◌≤◌, length};
 
 use crate::assertions::assert_same;
 use crate::sessions::args;
@@ -141,7 +141,25 @@ fn opened(alloc: Global, accepted: &Accepted) -> Result<Session<16>, Fail> {
     }
 }
 
-/// The run stands at its end, with its breakpoint, wherever the texts were cut; what was written is their beginning.
+/// Asserts that the run stands at its end, with its breakpoint, where the texts had so much room, and that what was written
+/// is the beginning of the whole.
+fn assert_whole_run(
+    rt: &(impl Abort + AllocGlobal),
+    session: &mut Session<16>,
+    whole: &[u8],
+    room: usize,
+)
+    requires { room ≤ length whole.now }
+{
+    let mut monitor = Monitor::new(session);
+    let mut out = Recorder::new(rt.alloc(), room);
+    assert_cut(rt, &mut monitor, &mut out, room);
+    assert_same!(rt; out.bytes.as_slice(), &whole[..room]);
+    assert_same!(rt; out.failures > 0, room < whole.len());
+    assert_told(rt, &mut monitor, "s 0", "ended step 26\n");
+    assert_told(rt, &mut monitor, "d 10004", "gone 00010004\n");
+}
+
 #[test]
 fn a_failure_cuts_the_text_alone(rt: HostRuntime) -> Result<(), Fail> {
     let accepted = accepted_raise(rt.alloc(), Vlen::V128)?;
@@ -151,13 +169,7 @@ fn a_failure_cuts_the_text_alone(rt: HostRuntime) -> Result<(), Fail> {
     }
     for room in 0..=whole.len() {
         let mut session = opened(rt.alloc(), &accepted)?;
-        let mut monitor = Monitor::new(&mut session);
-        let mut out = Recorder::new(rt.alloc(), room);
-        assert_cut(&rt, &mut monitor, &mut out, room);
-        assert_same!(rt; out.bytes.as_slice(), &whole[..room]);
-        assert_same!(rt; out.failures > 0, room < whole.len());
-        assert_told(&rt, &mut monitor, "s 0", "ended step 26\n");
-        assert_told(&rt, &mut monitor, "d 10004", "gone 00010004\n");
+        assert_whole_run(&rt, &mut session, whole.as_slice(), room);
     }
     Ok(())
 }

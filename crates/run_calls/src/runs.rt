@@ -98,31 +98,39 @@ fn adds_bytes(rt: HostRuntime) -> Result<(), Fail> {
     Ok(())
 }
 
+/// Why the kernel does not run on these arguments, and the arguments.
+fn refused(alloc: Global, args: Args) -> Result<(OpenError, Args), Fail> {
+    let image = image_of(alloc, &ADD_BYTES)?;
+    let parameters = byte_parameters().ok_or("in order")?;
+    match try_run::<16>(alloc, &image, &parameters, args, Agnostic::Keep, 10) {
+        Ok(_) => Err(Fail::from("it runs")),
+        Err(refused) => Ok(refused),
+    }
+}
+
+/// A scalar above its interval.
 #[test]
 fn hands_arguments_back(rt: HostRuntime) -> Result<(), Fail> {
     let alloc = rt.alloc();
-    let image = image_of(alloc, &ADD_BYTES)?;
-    let parameters = byte_parameters().ok_or("in order")?;
-    let short = args_of(
-        buffer(alloc, &[7, 8])?,
-        buffer(alloc, &[1, 2, 3])?,
-        Arg::Scalar(4),
-    );
-    match try_run::<16>(alloc, &image, &parameters, short, Agnostic::Keep, 10) {
-        Err((OpenError::ScalarOutOfInterval(2), args)) => match &args.places[0] {
-            Arg::Buffer(bytes) => assert_same!(rt; bytes.as_slice(), [7, 8].as_slice()),
-            _ => assert!(rt; false, "the buffer comes back"),
-        },
-        _ => assert!(rt; false, "a scalar above its interval"),
+    let first = buffer(alloc, &[7, 8])?;
+    let second = buffer(alloc, &[1, 2, 3])?;
+    let (error, args) = refused(alloc, args_of(first, second, Arg::Scalar(4)))?;
+    assert_same!(rt; error, OpenError::ScalarOutOfInterval(2));
+    match &args.places[0] {
+        Arg::Buffer(bytes) => assert_same!(rt; bytes.as_slice(), [7, 8].as_slice()),
+        _ => assert!(rt; false, "the buffer comes back"),
     }
-    let kinds = args_of(Arg::None, buffer(alloc, &[1, 2, 3])?, Arg::Scalar(9));
-    match try_run::<16>(alloc, &image, &parameters, kinds, Agnostic::Keep, 10) {
-        Err((OpenError::WrongKind(0), args)) => assert!(rt;
-            matches!(&args.places[2], Arg::Scalar(9)),
-            "the scalar comes back"
-        ),
-        _ => assert!(rt; false, "no buffer where one is wanted"),
-    }
+    Ok(())
+}
+
+/// No buffer where one is wanted.
+#[test]
+fn hands_a_scalar_back(rt: HostRuntime) -> Result<(), Fail> {
+    let alloc = rt.alloc();
+    let second = buffer(alloc, &[1, 2, 3])?;
+    let (error, args) = refused(alloc, args_of(Arg::None, second, Arg::Scalar(9)))?;
+    assert_same!(rt; error, OpenError::WrongKind(0));
+    assert_same!(rt; matches!(&args.places[2], Arg::Scalar(9)), true);
     Ok(())
 }
 

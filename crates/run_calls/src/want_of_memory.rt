@@ -5,11 +5,11 @@ use crate::checks::{SUM, file_of};
 use crate::readme::RAISE;
 use crate::refusing::Refusing;
 use cert_maker::{MakeError, make_in};
-use cert_note::{CertError, Vlen};
-use elf_image::{ElfError, attach};
+use cert_note::{CertError, Certificate, Vlen};
+use elf_image::{ElfError, Image, attach};
 use hex::decode;
 use region_mem::{Mode, Param, Parameters};
-use std::alloc::Global;
+use std::alloc::{AllocError, Global};
 use std::process::Abort;
 use std::test::Fail;
 
@@ -44,6 +44,44 @@ pub(crate) fn file(alloc: Global) -> Result<Vec<u8>, Fail> {
     Ok(file)
 }
 
+/// Asserts, where a call was answered, that no memory was refused, and that it took some.
+pub(crate) fn assert_served(rt: &impl Abort, heap: Heap<'_>, after: u64) {
+    assert_same!(rt; (heap.has_refused(), after > 0), (false, true));
+}
+
+/// Asserts, where a call tells want of memory, that some was refused.
+pub(crate) fn assert_wanting(rt: &impl Abort, heap: Heap<'_>, after: u64) {
+    assert_same!(rt; (heap.has_refused(), after), (true, after));
+}
+
+/// Asserts that the file is read with this certificate, or that memory is wanting, and tells whether it is read. The other
+/// file's fault is told before any memory is asked for.
+fn is_image_read(
+    rt: &impl Abort,
+    heap: Heap<'_>,
+    after: u64,
+    files: [&[u8]; 2],
+    certificate: &[u8],
+) -> bool {
+    let [good, bad] = files;
+    let refused = elf_image::read(heap, bad).err();
+    assert_same!(rt; refused, Some(ElfError::BadFlags));
+    assert_same!(rt; heap.has_refused(), false);
+    match elf_image::read(heap, good) {
+        Ok(image) => {
+            assert_served(rt, heap, after);
+            assert_same!(rt; image.segments().len(), 2);
+            assert_same!(rt; image.certificate(), Some(certificate));
+            true
+        }
+        Err(error) => {
+            assert_wanting(rt, heap, after);
+            assert_same!(rt; error, ElfError::NoMemory);
+            false
+        }
+    }
+}
+
 /// A list of segments, the bytes of two, and those of the certificate.
 #[test]
 fn reading_an_image(rt: HostRuntime) -> Result<(), Fail> {
@@ -53,24 +91,11 @@ fn reading_an_image(rt: HostRuntime) -> Result<(), Fail> {
     if let Some(flags) = bad.get_mut(36) {
         *flags = 1;
     }
+    let certificate = decode(alloc, CERTIFICATE)?;
     for after in 0..MANY {
         let heap = Refusing::new(alloc, after);
-        // What is wrong with a file is told before any memory is asked for.
-        let refused = elf_image::read(&heap, bad.as_slice()).err();
-        assert_same!(rt; refused, Some(ElfError::BadFlags));
-        assert_same!(rt; heap.has_refused(), false);
-        match elf_image::read(&heap, good.as_slice()) {
-            Ok(image) => {
-                assert_same!(rt; (heap.has_refused(), after > 0), (false, true));
-                assert_same!(rt; image.segments().len(), 2);
-                let certificate = decode(alloc, CERTIFICATE)?;
-                assert_same!(rt; image.certificate(), Some(certificate.as_slice()));
-                return Ok(());
-            }
-            Err(error) => {
-                assert_same!(rt; (heap.has_refused(), after), (true, after));
-                assert_same!(rt; error, ElfError::NoMemory);
-            }
+        if is_image_read(&rt, &heap, after, [&good, &bad], &certificate) {
+            return Ok(());
         }
     }
     panic!(rt; "memory is never enough")
@@ -83,36 +108,95 @@ fn expect_unattached(rt: &impl Abort, heap: Heap<'_>, file: &[u8], fault: ElfErr
     assert_same!(rt; heap.has_refused(), false);
 }
 
+/// Asserts that the file is an image of one segment with this certificate.
+fn assert_attached(
+    rt: &impl Abort,
+    alloc: Global,
+    file: &[u8],
+    certificate: &[u8],
+) -> Result<(), ElfError> {
+    let image = elf_image::read(alloc, file)?;
+    assert_same!(rt; image.segments().len(), 1);
+    assert_same!(rt; image.certificate(), Some(certificate));
+    Ok(())
+}
+
+/// Asserts that the file of the sum is given the certificate, or that memory is wanting and the file as it was, and tells
+/// whether it is given it.
+fn is_attached(
+    rt: &impl Abort,
+    alloc: Global,
+    after: u64,
+    bare: &[u8],
+    certificate: &[u8],
+) -> Result<bool, Fail> {
+    let heap = Refusing::new(alloc, after);
+    match attach(&heap, bare, certificate) {
+        Ok(attached) => {
+            assert_served(rt, &heap, after);
+            assert_attached(rt, alloc, attached.as_slice(), certificate)?;
+            Ok(true)
+        }
+        Err(error) => {
+            assert_wanting(rt, &heap, after);
+            assert_same!(rt; error, ElfError::NoMemory);
+            assert_same!(rt; bare, file_of(alloc, &SUM)?.as_slice());
+            Ok(false)
+        }
+    }
+}
+
+/// Files that are given no certificate, whichever allocation would be refused.
+#[test]
+fn attaching_nothing(rt: HostRuntime) -> Result<(), Fail> {
+    let alloc = rt.alloc();
+    let certified = file(alloc)?;
+    let mut large = file_of(alloc, &SUM)?;
+    large.resize(4 << 20, 0)?;
+    for after in 0..MANY {
+        let heap = Refusing::new(alloc, after);
+        expect_unattached(&rt, &heap, b"\x7fELF", ElfError::TooShort);
+        expect_unattached(&rt, &heap, &large, ElfError::TooLarge);
+        expect_unattached(&rt, &heap, &certified, ElfError::CertificateThere);
+    }
+    Ok(())
+}
+
 /// The bytes of the file that is written. The one that is read stays as it is.
 #[test]
 fn attaching(rt: HostRuntime) -> Result<(), Fail> {
     let alloc = rt.alloc();
     let bare = file_of(alloc, &SUM)?;
-    let certified = file(alloc)?;
-    let mut large = file_of(alloc, &SUM)?;
-    large.resize(4 << 20, 0)?;
     let certificate = decode(alloc, CERTIFICATE)?;
     for after in 0..MANY {
-        let heap = Refusing::new(alloc, after);
-        expect_unattached(&rt, &heap, b"\x7fELF", ElfError::TooShort);
-        expect_unattached(&rt, &heap, large.as_slice(), ElfError::TooLarge);
-        expect_unattached(&rt, &heap, certified.as_slice(), ElfError::CertificateThere);
-        match attach(&heap, bare.as_slice(), certificate.as_slice()) {
-            Ok(attached) => {
-                assert_same!(rt; (heap.has_refused(), after > 0), (false, true));
-                let image = elf_image::read(alloc, attached.as_slice())?;
-                assert_same!(rt; image.segments().len(), 1);
-                assert_same!(rt; image.certificate(), Some(certificate.as_slice()));
-                return Ok(());
-            }
-            Err(error) => {
-                assert_same!(rt; (heap.has_refused(), after), (true, after));
-                assert_same!(rt; error, ElfError::NoMemory);
-                assert_same!(rt; bare.as_slice(), file_of(alloc, &SUM)?.as_slice());
-            }
+        if is_attached(&rt, alloc, after, &bare, &certificate)? {
+            return Ok(());
         }
     }
     panic!(rt; "memory is never enough")
+}
+
+/// Asserts that the certificate is read, or that memory is wanting, and tells whether it is read.
+fn is_certificate_read(
+    rt: &impl Abort,
+    alloc: Global,
+    after: u64,
+    spelling: &[u8],
+) -> Result<bool, AllocError> {
+    let heap = Refusing::new(alloc, after);
+    match cert_note::read(&heap, spelling) {
+        Ok(certificate) => {
+            assert_served(rt, &heap, after);
+            let written = cert_note::write(alloc, &certificate)?;
+            assert_same!(rt; written.as_slice(), spelling);
+            Ok(true)
+        }
+        Err(error) => {
+            assert_wanting(rt, &heap, after);
+            assert_same!(rt; error, CertError::NoMemory);
+            Ok(false)
+        }
+    }
 }
 
 /// Lists of blocks, of facts on registers, of terms and of facts on vector registers.
@@ -121,21 +205,33 @@ fn reading_a_certificate(rt: HostRuntime) -> Result<(), Fail> {
     let alloc = rt.alloc();
     let spelling = decode(alloc, CERTIFICATE)?;
     for after in 0..MANY {
-        let heap = Refusing::new(alloc, after);
-        match cert_note::read(&heap, spelling.as_slice()) {
-            Ok(certificate) => {
-                assert_same!(rt; (heap.has_refused(), after > 0), (false, true));
-                let written = cert_note::write(alloc, &certificate)?;
-                assert_same!(rt; written.as_slice(), spelling.as_slice());
-                return Ok(());
-            }
-            Err(error) => {
-                assert_same!(rt; (heap.has_refused(), after), (true, after));
-                assert_same!(rt; error, CertError::NoMemory);
-            }
+        if is_certificate_read(&rt, alloc, after, &spelling)? {
+            return Ok(());
         }
     }
     panic!(rt; "memory is never enough")
+}
+
+/// Asserts that the certificate is written so, or that memory is wanting, and tells whether it is written.
+fn is_written(
+    rt: &impl Abort,
+    alloc: Global,
+    after: u64,
+    certificate: &Certificate,
+    spelling: &[u8],
+) -> bool {
+    let heap = Refusing::new(alloc, after);
+    match cert_note::write(&heap, certificate) {
+        Ok(written) => {
+            assert_served(rt, &heap, after);
+            assert_same!(rt; written.as_slice(), spelling);
+            true
+        }
+        Err(_) => {
+            assert_wanting(rt, &heap, after);
+            false
+        }
+    }
 }
 
 /// A list of bytes, which grows as they come.
@@ -143,16 +239,10 @@ fn reading_a_certificate(rt: HostRuntime) -> Result<(), Fail> {
 fn writing_a_certificate(rt: HostRuntime) -> Result<(), Fail> {
     let alloc = rt.alloc();
     let spelling = decode(alloc, CERTIFICATE)?;
-    let certificate = cert_note::read(alloc, spelling.as_slice())?;
+    let certificate = cert_note::read(alloc, &spelling)?;
     for after in 0..MANY {
-        let heap = Refusing::new(alloc, after);
-        match cert_note::write(&heap, &certificate) {
-            Ok(written) => {
-                assert_same!(rt; (heap.has_refused(), after > 0), (false, true));
-                assert_same!(rt; written.as_slice(), spelling.as_slice());
-                return Ok(());
-            }
-            Err(_) => assert!(rt; heap.has_refused(), "at {after}"),
+        if is_written(&rt, alloc, after, &certificate, &spelling) {
+            return Ok(());
         }
     }
     panic!(rt; "memory is never enough")
@@ -168,7 +258,40 @@ fn too_short(parameters: &Parameters) -> Option<Parameters> {
     Parameters::new(params)
 }
 
-/// The list of blocks. What is no loop of the class is told before any memory is asked for.
+/// Asserts that no certificate is made for parameters that are too short: the load's fault, which is told before any memory is
+/// asked for.
+fn expect_unmade(rt: &impl Abort, heap: Heap<'_>, image: &Image, short: &Parameters) {
+    let refused = make_in(heap, image, short, Vlen::V128).err();
+    assert_same!(rt; refused, Some(MakeError::NotALoopOfTheClass(0x1_0008)));
+    assert_same!(rt; heap.has_refused(), false);
+}
+
+/// Asserts that the certificate by hand is made, or that memory is wanting, and tells whether it is made.
+fn is_made(
+    rt: &impl Abort,
+    alloc: Global,
+    heap: Heap<'_>,
+    after: u64,
+    image: &Image,
+    parameters: &Parameters,
+    by_hand: &[u8],
+) -> Result<bool, AllocError> {
+    match make_in(heap, image, parameters, Vlen::V128) {
+        Ok(certificate) => {
+            assert_served(rt, heap, after);
+            let written = cert_note::write(alloc, &certificate)?;
+            assert_same!(rt; written.as_slice(), by_hand);
+            Ok(true)
+        }
+        Err(error) => {
+            assert_wanting(rt, heap, after);
+            assert_same!(rt; error, MakeError::NoMemory);
+            Ok(false)
+        }
+    }
+}
+
+/// The list of blocks.
 #[test]
 fn making_a_certificate(rt: HostRuntime) -> Result<(), Fail> {
     let alloc = rt.alloc();
@@ -178,21 +301,9 @@ fn making_a_certificate(rt: HostRuntime) -> Result<(), Fail> {
     let short = too_short(&parameters).ok_or("the parameters are valid")?;
     for after in 0..MANY {
         let heap = Refusing::new(alloc, after);
-        let refused = make_in(&heap, &image, &short, Vlen::V128).err();
-        // The load's.
-        assert_same!(rt; refused, Some(MakeError::NotALoopOfTheClass(0x1_0008)));
-        assert_same!(rt; heap.has_refused(), false);
-        match make_in(&heap, &image, &parameters, Vlen::V128) {
-            Ok(certificate) => {
-                assert_same!(rt; (heap.has_refused(), after > 0), (false, true));
-                let written = cert_note::write(alloc, &certificate)?;
-                assert_same!(rt; written.as_slice(), by_hand);
-                return Ok(());
-            }
-            Err(error) => {
-                assert_same!(rt; (heap.has_refused(), after), (true, after));
-                assert_same!(rt; error, MakeError::NoMemory);
-            }
+        expect_unmade(&rt, &heap, &image, &short);
+        if is_made(&rt, alloc, &heap, after, &image, &parameters, by_hand)? {
+            return Ok(());
         }
     }
     panic!(rt; "memory is never enough")

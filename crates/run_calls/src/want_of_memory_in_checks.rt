@@ -5,7 +5,7 @@ ghost use Rattle.std.specs.Prelude.{◌<◌, length};
 use crate::assertions::assert_same;
 use crate::checks::{STORE, SUM, certificate, file_of, image_of, sum};
 use crate::refusing::Refusing;
-use crate::want_of_memory::{Heap, MANY};
+use crate::want_of_memory::{Heap, MANY, assert_served, assert_wanting};
 use abs_state::{Abstract, MOST_WORDS, implies};
 use block_checker::{CheckError, check_in};
 use cert_note::{Certificate, Vlen};
@@ -25,7 +25,55 @@ fn take(image: &Image, state: &mut Abstract<Heap<'_>>, pc: u32) -> Result<(), Fa
     Ok(state.after(pc, &insn).map_err(|_| "refused")?)
 }
 
+/// Takes the words from `start` on, and asserts that both ways out of the block are known.
+fn expect_words(
+    rt: &impl Abort,
+    image: &Image,
+    state: &mut Abstract<Heap<'_>>,
+    start: u32,
+    words: u32,
+) -> Result<(), Fail> {
+    let mut pc = start;
+    for _word in 0..words {
+        take(image, state, pc)?;
+        pc = pc.wrapping_add(4);
+    }
+    assert_same!(rt; state.words(), words);
+    assert_same!(rt; state.refine(false).is_some(), true);
+    assert_same!(rt; state.refine(true).is_some(), true);
+    Ok(())
+}
+
 /// Asserts that what is known at a block is told or wants memory, and that the words of the block, as many as here, take none.
+/// Tells whether it is told.
+fn is_block_known(
+    rt: &impl Abort,
+    heap: Heap<'_>,
+    after: u64,
+    kernel: &(Image, Certificate),
+    index: usize,
+    words: u32,
+) -> Result<bool, Fail>
+    requires { index < length kernel.now.1.blocks }
+{
+    let (image, certificate) = kernel;
+    let start = certificate.contents().blocks[index].start;
+    match Abstract::at_block(heap, certificate, image, index) {
+        Ok(mut state) => {
+            assert_served(rt, heap, after);
+            expect_words(rt, image, &mut state, start, words)?;
+            // One more would have been refused.
+            assert_same!(rt; heap.has_refused(), false);
+            Ok(true)
+        }
+        Err(_) => {
+            assert_wanting(rt, heap, after);
+            Ok(false)
+        }
+    }
+}
+
+/// Asserts so of each number of allocations.
 fn expect_block(
     rt: &impl Abort,
     alloc: Global,
@@ -35,25 +83,10 @@ fn expect_block(
 ) -> Result<(), Fail>
     requires { index < length kernel.now.1.blocks }
 {
-    let (image, certificate) = kernel;
     for after in 0..MANY {
         let heap = Refusing::new(alloc, after);
-        match Abstract::at_block(&heap, certificate, image, index) {
-            Ok(mut state) => {
-                assert_same!(rt; (heap.has_refused(), after > 0), (false, true));
-                let mut pc = certificate.contents().blocks[index].start;
-                for _word in 0..words {
-                    take(image, &mut state, pc)?;
-                    pc = pc.wrapping_add(4);
-                }
-                assert_same!(rt; state.words(), words);
-                assert_same!(rt; state.refine(false).is_some(), true);
-                assert_same!(rt; state.refine(true).is_some(), true);
-                // One more would have been refused.
-                assert_same!(rt; heap.has_refused(), false);
-                return Ok(());
-            }
-            Err(_) => assert_same!(rt; (heap.has_refused(), after), (true, after)),
+        if is_block_known(rt, &heap, after, kernel, index, words)? {
+            return Ok(());
         }
     }
     panic!(rt; "memory is never enough")
@@ -75,6 +108,44 @@ fn knowing_a_block(rt: HostRuntime) -> Result<(), Fail> {
     Ok(())
 }
 
+/// Asserts that the way from the entry leads into the first block.
+fn expect_way(
+    rt: &impl Abort,
+    state: &Abstract<Heap<'_>>,
+    image: &Image,
+    certificate: &Certificate,
+) -> Result<(), Fail> {
+    assert_same!(rt; state.words(), 0);
+    let edge = state.refine(false).ok_or("no way")?;
+    assert_same!(rt; edge.target(), Some(image.entry()));
+    let block = certificate.contents().blocks.first();
+    assert_same!(rt; implies(&edge, block).is_ok(), true);
+    Ok(())
+}
+
+/// Asserts that what is known at the entry is told or wants memory, and tells whether it is told.
+fn is_entry_known(
+    rt: &impl Abort,
+    heap: Heap<'_>,
+    after: u64,
+    image: &Image,
+    certificate: &Certificate,
+) -> Result<bool, Fail> {
+    match Abstract::at_entry(heap, certificate, image) {
+        Ok(state) => {
+            assert_served(rt, heap, after);
+            expect_way(rt, &state, image, certificate)?;
+            // One more would have been refused.
+            assert_same!(rt; heap.has_refused(), false);
+            Ok(true)
+        }
+        Err(_) => {
+            assert_wanting(rt, heap, after);
+            Ok(false)
+        }
+    }
+}
+
 /// The same lists. The way from there leads into the block at the entry.
 #[test]
 fn knowing_the_entry(rt: HostRuntime) -> Result<(), Fail> {
@@ -82,19 +153,8 @@ fn knowing_the_entry(rt: HostRuntime) -> Result<(), Fail> {
     let (image, certificate) = sum(alloc)?;
     for after in 0..MANY {
         let heap = Refusing::new(alloc, after);
-        match Abstract::at_entry(&heap, &certificate, &image) {
-            Ok(state) => {
-                assert_same!(rt; (heap.has_refused(), after > 0), (false, true));
-                assert_same!(rt; state.words(), 0);
-                let edge = state.refine(false).ok_or("no way")?;
-                assert_same!(rt; edge.target(), Some(image.entry()));
-                let block = certificate.contents().blocks.first();
-                assert_same!(rt; implies(&edge, block).is_ok(), true);
-                // One more would have been refused.
-                assert_same!(rt; heap.has_refused(), false);
-                return Ok(());
-            }
-            Err(_) => assert_same!(rt; (heap.has_refused(), after), (true, after)),
+        if is_entry_known(&rt, &heap, after, &image, &certificate)? {
+            return Ok(());
         }
     }
     panic!(rt; "memory is never enough")
@@ -105,6 +165,49 @@ fn said(alloc: Global, image: &Image, certificate: &Certificate) -> Result<Strin
     format!(in alloc; "{image:?} {certificate:?}")
 }
 
+/// Asserts that they say what they said before.
+fn assert_said(
+    rt: &impl Abort,
+    alloc: Global,
+    image: &Image,
+    certificate: &Certificate,
+    before: &str,
+) -> Result<(), AllocError> {
+    let back = said(alloc, image, certificate)?;
+    assert_same!(rt; back.as_str(), before);
+    Ok(())
+}
+
+/// Checks the kernel, whose fault is this one. Gives it back where memory was refused.
+fn checked_again(
+    rt: &impl Abort,
+    alloc: Global,
+    after: u64,
+    kernel: (Image, Certificate),
+    before: &str,
+    fault: Option<CheckError>,
+) -> Result<Option<(Image, Certificate)>, AllocError> {
+    let heap = Refusing::new(alloc, after);
+    let (image, certificate) = kernel;
+    match check_in(&heap, image, certificate, Vlen::V128) {
+        Ok(accepted) => {
+            assert_served(rt, &heap, after);
+            assert_same!(rt; None, fault);
+            assert_said(rt, alloc, accepted.image(), accepted.certificate(), before)?;
+            Ok(None)
+        }
+        Err((error, image, certificate)) => {
+            assert_said(rt, alloc, &image, &certificate, before)?;
+            if !heap.has_refused() {
+                assert_same!(rt; (Some(error), after > 0), (fault, true));
+                return Ok(None);
+            }
+            assert_same!(rt; error, CheckError::NoMemory);
+            Ok(Some((image, certificate)))
+        }
+    }
+}
+
 /// Asserts that the check of these words wants memory where it is refused, with the certificate of the sum, and accepts them
 /// or tells this fault where it isn't.
 fn expect_check(
@@ -113,29 +216,12 @@ fn expect_check(
     words: &[u32],
     fault: Option<CheckError>,
 ) -> Result<(), Fail> {
-    let (mut image, mut certificate) = (image_of(alloc, words)?, certificate(alloc)?);
-    let before = said(alloc, &image, &certificate)?;
+    let mut kernel = (image_of(alloc, words)?, certificate(alloc)?);
+    let before = said(alloc, &kernel.0, &kernel.1)?;
     for after in 0..MANY {
-        let heap = Refusing::new(alloc, after);
-        match check_in(&heap, image, certificate, Vlen::V128) {
-            Ok(accepted) => {
-                assert_same!(rt; (heap.has_refused(), after > 0), (false, true));
-                assert_same!(rt; None, fault);
-                let back = said(alloc, accepted.image(), accepted.certificate())?;
-                assert_same!(rt; back.as_str(), before.as_str());
-                return Ok(());
-            }
-            Err((error, same_image, same_certificate)) => {
-                let back = said(alloc, &same_image, &same_certificate)?;
-                assert_same!(rt; back.as_str(), before.as_str());
-                if !heap.has_refused() {
-                    assert_same!(rt; (Some(error), after > 0), (fault, true));
-                    return Ok(());
-                }
-                assert_same!(rt; error, CheckError::NoMemory);
-                image = same_image;
-                certificate = same_certificate;
-            }
+        match checked_again(rt, alloc, after, kernel, before.as_str(), fault)? {
+            Some(back) => kernel = back,
+            None => return Ok(()),
         }
     }
     panic!(rt; "memory is never enough")
@@ -169,21 +255,33 @@ fn moved_entry(alloc: Global) -> Result<Vec<u8>, Fail> {
     Ok(file)
 }
 
+/// Asserts that the check tells this fault, and gives the certificate back.
+fn expect_fault(
+    rt: &impl Abort,
+    heap: Heap<'_>,
+    kernel: (Image, Certificate),
+    vlen: Vlen,
+    fault: CheckError,
+) -> Result<Certificate, Fail> {
+    let (image, certificate) = kernel;
+    match check_in(heap, image, certificate, vlen) {
+        Ok(_) => Err(Fail::from("accepted")),
+        Err((error, _, certificate)) => {
+            assert_same!(rt; error, fault);
+            Ok(certificate)
+        }
+    }
+}
+
 /// Faults that are told before any memory is asked for.
 #[test]
 fn checking_no_block(rt: HostRuntime) -> Result<(), Fail> {
     let alloc = rt.alloc();
     let heap = Refusing::new(alloc, 0);
-    let (image, certificate) = sum(alloc)?;
-    let Err((error, _, certificate)) = check_in(&heap, image, certificate, Vlen::V256) else {
-        return Err(Fail::from("accepted"));
-    };
-    assert_same!(rt; error, CheckError::WrongVlen);
+    let certificate = expect_fault(&rt, &heap, sum(alloc)?, Vlen::V256, CheckError::WrongVlen)?;
     let elsewhere = elf_image::read(alloc, &moved_entry(alloc)?)?;
-    let Err((error, ..)) = check_in(&heap, elsewhere, certificate, Vlen::V128) else {
-        return Err(Fail::from("accepted"));
-    };
-    assert_same!(rt; error, CheckError::NoEntryBlock);
+    let kernel = (elsewhere, certificate);
+    expect_fault(&rt, &heap, kernel, Vlen::V128, CheckError::NoEntryBlock)?;
     assert_same!(rt; heap.has_refused(), false);
     Ok(())
 }

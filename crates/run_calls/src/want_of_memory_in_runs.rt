@@ -2,8 +2,9 @@
 //! they were.
 use crate::assertions::assert_same;
 use crate::refusing::Refusing;
-use crate::want_of_memory::{Heap, MANY, file};
+use crate::want_of_memory::{Heap, MANY, assert_served, assert_wanting, file};
 use block_checker::{Accepted, check};
+use elf_image::Image;
 use hex::decode;
 use region_mem::{Arg, Args, Bytes, Mode, Param, Parameters, Regions};
 use sandbox_run::{OpenError, Outcome, Session, open_in, try_run_in};
@@ -67,31 +68,72 @@ fn are_args(args: &Args<Bytes<Heap<'_>>>, written: &[u8]) -> bool {
             .all(|arg| matches!(arg, Arg::None))
 }
 
+/// Asserts that these are the arguments, as they were before the run.
+fn assert_back(rt: &impl Abort, args: &Args<Bytes<Heap<'_>>>) {
+    assert_same!(rt; are_args(args, &[0xff, 1, 2]), true);
+}
+
+/// Asserts that a memory starts with the arguments, or that memory is wanting, and tells whether it starts.
+fn is_started(
+    rt: &impl Abort,
+    heap: Heap<'_>,
+    after: u64,
+    image: &Image,
+    args: Args<Bytes<Heap<'_>>>,
+) -> Result<bool, Fail> {
+    let parameters = parameters().ok_or("the parameters are valid")?;
+    parameters.matches(&args)?;
+    match Regions::new(heap, image, &parameters, args) {
+        Ok(regions) => {
+            assert_served(rt, heap, after);
+            assert_same!(rt; regions.byte(0x2_0000), Some(0xde));
+            assert_back(rt, &regions.into_args());
+            Ok(true)
+        }
+        Err((_, args)) => {
+            assert_wanting(rt, heap, after);
+            assert_back(rt, &args);
+            Ok(false)
+        }
+    }
+}
+
 /// The list of regions, the bytes of two segments and those of the stack.
 #[test]
 fn starting_a_memory(rt: HostRuntime) -> Result<(), Fail> {
     let alloc = rt.alloc();
     let image = elf_image::read(alloc, file(alloc)?.as_slice())?;
-    let parameters = parameters().ok_or("the parameters are valid")?;
     let ample = Refusing::new(alloc, MANY);
     for after in 0..MANY {
         let heap = Refusing::new(alloc, after);
-        let args = args(&ample)?;
-        parameters.matches(&args)?;
-        match Regions::new(&heap, &image, &parameters, args) {
-            Ok(regions) => {
-                assert_same!(rt; (heap.has_refused(), after > 0), (false, true));
-                assert_same!(rt; regions.byte(0x2_0000), Some(0xde));
-                assert_same!(rt; are_args(&regions.into_args(), &[0xff, 1, 2]), true);
-                return Ok(());
-            }
-            Err((_, args)) => {
-                assert_same!(rt; (heap.has_refused(), after), (true, after));
-                assert_same!(rt; are_args(&args, &[0xff, 1, 2]), true);
-            }
+        if is_started(&rt, &heap, after, &image, args(&ample)?)? {
+            return Ok(());
         }
     }
     panic!(rt; "memory is never enough")
+}
+
+/// Asserts that the run has ended after six steps, and what it left.
+fn assert_sum<const VLENB: usize>(rt: &impl Abort, outcome: &Outcome<VLENB, Bytes<Heap<'_>>>) {
+    match outcome {
+        Outcome::Ended(end) => {
+            assert_same!(rt; end.steps, 6);
+            assert_same!(rt; are_args(&end.args, &[0, 2, 1]), true);
+        }
+        _ => panic!(rt; "the run ends"),
+    }
+}
+
+/// Asserts that no run starts for want of memory, and that the arguments come back.
+fn assert_unopened(
+    rt: &impl Abort,
+    heap: Heap<'_>,
+    after: u64,
+    refused: &(OpenError, Args<Bytes<Heap<'_>>>),
+) {
+    assert_wanting(rt, heap, after);
+    assert_same!(rt; refused.0, OpenError::NoMemory);
+    assert_back(rt, &refused.1);
 }
 
 /// A run takes the memory of its regions alone, a list of them, the bytes of two segments and those of the stack. No
@@ -105,26 +147,14 @@ fn running(rt: HostRuntime) -> Result<(), Fail> {
     for after in 0..MANY {
         let heap = Refusing::new(alloc, after);
         let args = args(&ample)?;
-        match try_run_in::<16, Heap<'_>, Global>(
-            &heap,
-            &image,
-            &parameters,
-            args,
-            Agnostic::Keep,
-            9,
-        ) {
-            Ok(Outcome::Ended(end)) => {
-                assert_same!(rt; (heap.has_refused(), after > 0), (false, true));
-                assert_same!(rt; end.steps, 6);
-                assert_same!(rt; are_args(&end.args, &[0, 2, 1]), true);
+        let keep = Agnostic::Keep;
+        match try_run_in::<16, Heap<'_>, Global>(&heap, &image, &parameters, args, keep, 9) {
+            Ok(outcome) => {
+                assert_served(&rt, &heap, after);
+                assert_sum(&rt, &outcome);
                 return Ok(());
             }
-            Ok(_) => panic!(rt; "the run ends"),
-            Err((error, args)) => {
-                assert_same!(rt; (heap.has_refused(), after), (true, after));
-                assert_same!(rt; error, OpenError::NoMemory);
-                assert_same!(rt; are_args(&args, &[0xff, 1, 2]), true);
-            }
+            Err(refused) => assert_unopened(&rt, &heap, after, &refused),
         }
     }
     panic!(rt; "memory is never enough")
@@ -166,15 +196,11 @@ fn opening(rt: HostRuntime) -> Result<(), Fail> {
         let args = args(&ample)?;
         match open_in::<16, Heap<'_>, Global>(&heap, &accepted, args, Agnostic::Keep, 1) {
             Ok(session) => {
-                assert_same!(rt; (heap.has_refused(), after > 0), (false, true));
+                assert_served(&rt, &heap, after);
                 expect_end(&rt, session);
                 return Ok(());
             }
-            Err((error, args)) => {
-                assert_same!(rt; (heap.has_refused(), after), (true, after));
-                assert_same!(rt; error, OpenError::NoMemory);
-                assert_same!(rt; are_args(&args, &[0xff, 1, 2]), true);
-            }
+            Err(refused) => assert_unopened(&rt, &heap, after, &refused),
         }
     }
     panic!(rt; "memory is never enough")
