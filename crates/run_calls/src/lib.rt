@@ -23,6 +23,8 @@ mod runs;
 #[cfg(test)]
 mod sessions;
 #[cfg(test)]
+mod states;
+#[cfg(test)]
 mod strips;
 #[cfg(test)]
 mod want_of_memory;
