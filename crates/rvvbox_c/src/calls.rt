@@ -1,5 +1,5 @@
 //! The calls themselves. None has a `requires`: what a host passes is tested.
-ghost use Rattle.std.specs.Prelude.{◌≡◌, ◌≢◌, ◌≤◌, ◌⊎◌, ◌+◌, ◌*◌, ◌^◌, IfErr, IfOk, Some, length};
+ghost use Rattle.std.specs.Prelude.{◌≡◌, ◌≢◌, ◌≤◌, ◌+◌, ◌*◌, ◌^◌, IfErr, IfOk, Some, length};
 ghost use Rattle.block_checker.specs.Bound.{bound_of as bound_for};
 ghost use Rattle.vreg_groups.specs.VectorLength.{IsVlenb, vlenb_of};
 ghost use Rattle.block_checker.specs.Accepted.{AcceptedView};
