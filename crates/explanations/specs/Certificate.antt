@@ -1,0 +1,76 @@
+-- Why bytes are no certificate: where reading stopped, and in which words it is told.
+use Rattle.std.specs.Prelude.{◌≡◌, ◌≢◌, ◌≤◌, ◌⊎◌, ℕ, ◌+◌, ◌-◌, ◌%◌, ◌/◌, ◌++◌, List, [], take, length, slice_set, codes, IfSome, Option, Some, None, Err}
+use Rattle.std.specs.Fmt.{decimal}
+use Rattle.cert_note.specs.Reading.{certificate_of}
+use Rattle.cert_note.specs.declared.refusals.CertError.{CertError}
+use Rattle.cert_note.specs.declared.refusals.CertError.TheVariants as error
+use Rattle.explanations.specs.declared.certificate.CertificateReason.{CertificateReason}
+
+-- reading these bytes tells this error
+abbrev pub IsTold : List ℕ → CertError → Type 0
+IsTold bytes e = certificate_of bytes ≡ Err e
+
+abbrev pub IsUntold : List ℕ → CertError → Type 0
+IsUntold bytes e = ¬ (IsTold bytes e)
+
+-- an error of the bytes, and not of want of memory
+abbrev pub IsOfBytes : CertError → Type 0
+IsOfBytes e = e ≢ error.NoMemory
+
+-- So many bytes are read when the error is told: they tell it, and with one less it is not told. The bytes that end before
+-- a field is whole tell it there.
+abbrev pub IsPlace : List ℕ → CertError → ℕ → Type 0
+IsPlace bytes e place = (place ≤ length bytes) × (IsTold (take place bytes) e)
+    × ((IsTold [] e) ⊎ (IsUntold (take (place - 1) bytes) e))
+
+-- the bytes with another count of blocks
+abbrev pub with_count : List ℕ → ℕ → List ℕ
+with_count bytes count = slice_set (slice_set bytes 100 (count % 256)) 101 (count / 256)
+
+-- The blocks before this one do not tell the error, and with this one they do.
+pub record IsBlock (bytes : List ℕ) (e : CertError) (block : ℕ) : Type 0 where
+  pub before : IsUntold (with_count bytes block) e
+  pub with_it : IsTold (with_count bytes (block + 1)) e
+
+abbrev pub IfFound : (ℕ → Type 0) → Type 0 → Option ℕ → Type 0
+IfFound Found NotFound None = NotFound
+IfFound Found NotFound (Some n) = Found n
+
+-- What is told of bytes that are no certificate: of want of memory nothing.
+abbrev pub IsPlaced : List ℕ → CertError → CertificateReason → Type 0
+IsPlaced bytes e told = IfFound (IsPlace bytes e) (IsUntold bytes e) told.place
+
+pub record IsReason (bytes : List ℕ) (e : CertError) (told : CertificateReason) : Type 0 where
+  pub fault : told.error ≡ e
+  pub size : told.size ≡ length bytes
+  pub place : (e ≡ error.NoMemory) ⊎ (IsPlaced bytes e told)
+  pub block : IfSome told.block (IsBlock bytes e)
+
+-- ---- the words
+
+abbrev pub wanted : CertError → List ℕ
+wanted error.Short = codes "  wanted: more bytes\n"
+wanted error.Version = codes "  wanted: version 1 or 2, and a vector length of 1, 2 or 3\n"
+wanted error.Parameter = codes "  wanted: a kind of 0 to 2, its mode, and its numbers\n"
+wanted error.BlockOrder = codes "  wanted: a multiple of 4 above the start of the block before\n"
+wanted error.Fact = codes "  wanted: a rising number, an interval that says something, zeros\n"
+wanted error.Equality = codes "  wanted: at most 8 terms, rising atoms without an equality\n"
+wanted error.Budget = codes "  wanted: a register exactly where its factor is not 0\n"
+wanted error.TrailingBytes = codes "  wanted: no bytes behind the last block\n"
+wanted error.TooMany = codes "  wanted: at most 1024 blocks, at most 32 facts of a kind, zeros\n"
+wanted error.Order = codes "  wanted: two registers without an equality, the greater one rising\n"
+wanted error.NoMemory = []
+
+abbrev pub place_line : Option ℕ → ℕ → List ℕ
+place_line None size = []
+place_line (Some place) size = codes "  reading stopped behind byte "
+    ++ (decimal place ++ (codes " of " ++ (decimal size ++ codes "\n")))
+
+abbrev pub block_line : Option ℕ → List ℕ
+block_line None = []
+block_line (Some block) = codes "  in block " ++ (decimal block ++ codes ", counted from 0\n")
+
+-- the lines of a reason
+abbrev pub certificate_text : CertificateReason → List ℕ
+certificate_text told =
+    place_line told.place told.size ++ (block_line told.block ++ wanted told.error)

@@ -1,0 +1,190 @@
+-- Why a file is no image that runs: which number of it is told, and in which words.
+use Rattle.std.specs.Prelude.{◌≡◌, ℕ, ◌==◌, ◌++◌, not, nat_lt, ◌||◌, Bool, List, [], bit_and, codes, length, if◌then◌else◌}
+use Rattle.std.specs.Fmt.{decimal}
+use Rattle.std.specs.List.{slice_index}
+use Rattle.elf_image.specs.Words.{word_at}
+use Rattle.elf_image.specs.File.{HasTable, e_ehsize, e_entry, e_flags, e_machine, e_phentsize, e_phnum, e_phoff, e_type, e_version}
+use Rattle.elf_image.specs.declared.error.ElfError.{ElfError}
+use Rattle.elf_image.specs.declared.error.ElfError.TheVariants as error
+use Rattle.explanations.specs.Address.{address_text}
+use Rattle.explanations.specs.Headers.{AreApart, AreOverlapping, IsFirst, NoneBreaks, header_text, rule_text}
+use Rattle.explanations.specs.declared.headers.SegmentRule.{SegmentRule}
+use Rattle.explanations.specs.declared.headers.SegmentRule.TheVariants as rule
+use Rattle.explanations.specs.declared.image.ElfField.{ElfField}
+use Rattle.explanations.specs.declared.image.ElfField.TheVariants as field
+use Rattle.explanations.specs.declared.image.ImageReason.{ImageReason}
+use Rattle.explanations.specs.declared.image.ImageReason.TheVariants as reason
+
+-- ---- the fields of an ELF header
+
+-- where a field begins in the file
+abbrev pub offset_of : ElfField → ℕ
+offset_of field.Magic = 0
+offset_of field.Class = 4
+offset_of field.Order = 5
+offset_of field.IdentVersion = 6
+offset_of field.Type = 16
+offset_of field.Machine = 18
+offset_of field.Version = 20
+offset_of field.Entry = 24
+offset_of field.TableOffset = 28
+offset_of field.Flags = 36
+offset_of field.HeaderSize = 40
+offset_of field.EntrySize = 42
+offset_of field.EntryCount = 44
+
+-- the number that stands there
+abbrev pub number_in : List ℕ → ElfField → ℕ
+number_in file field.Magic = word_at 0 file
+number_in file field.Class = slice_index file 4
+number_in file field.Order = slice_index file 5
+number_in file field.IdentVersion = slice_index file 6
+number_in file field.Type = e_type file
+number_in file field.Machine = e_machine file
+number_in file field.Version = e_version file
+number_in file field.Entry = e_entry file
+number_in file field.TableOffset = e_phoff file
+number_in file field.Flags = e_flags file
+number_in file field.HeaderSize = e_ehsize file
+number_in file field.EntrySize = e_phentsize file
+number_in file field.EntryCount = e_phnum file
+
+-- a field, with its place and its number; nothing where the file has no ELF header
+abbrev pub told_field : List ℕ → ElfField → ImageReason
+told_field file f =
+    if nat_lt (length file) 52 then reason.Untold
+    else reason.Field f (offset_of f) (number_in file f)
+
+abbrev pub is_no_header : List ℕ → Bool
+is_no_header file = nat_lt (length file) 52
+
+-- of class, order of bytes and version the first that is not 1
+abbrev pub ident_field : List ℕ → ElfField
+ident_field file =
+    if is_no_header file || not (slice_index file 4 == 1) then field.Class
+    else (if not (slice_index file 5 == 1) then field.Order else field.IdentVersion)
+
+-- e_type where it is not that of an executable file, else e_version
+abbrev pub type_field : List ℕ → ElfField
+type_field file =
+    if is_no_header file || not (e_type file == 2) then field.Type else field.Version
+
+-- the first of the sizes and the count that is wrong, else the table's offset
+abbrev pub table_field : List ℕ → ElfField
+table_field file =
+    if is_no_header file || not (e_ehsize file == 52) then field.HeaderSize
+    else (if not (e_phentsize file == 32) then field.EntrySize
+    else (if (e_phnum file == 0) || nat_lt 64 (e_phnum file) then field.EntryCount
+    else field.TableOffset))
+
+-- ---- what is told of an error
+
+-- the first program header that breaks a rule; nothing only where none does
+abbrev pub TellsSegment : List ℕ → SegmentRule → ImageReason → Type 0
+TellsSegment file rule (reason.Segment broken header) = (broken ≡ rule) × IsFirst rule file header
+TellsSegment file rule reason.Untold = HasTable file → NoneBreaks rule file (e_phnum file)
+TellsSegment file rule (reason.Short size) = ⊥
+TellsSegment file rule (reason.Field f offset value) = ⊥
+TellsSegment file rule (reason.Overlap first second) = ⊥
+TellsSegment file rule (reason.Large size) = ⊥
+TellsSegment file rule reason.Certificates = ⊥
+TellsSegment file rule reason.CertificateThere = ⊥
+
+-- two segments that share an address; nothing only where no two do
+abbrev pub TellsOverlap : List ℕ → ImageReason → Type 0
+TellsOverlap file (reason.Overlap first second) = AreOverlapping file first second
+TellsOverlap file reason.Untold = HasTable file → AreApart file (e_phnum file)
+TellsOverlap file (reason.Short size) = ⊥
+TellsOverlap file (reason.Field f offset value) = ⊥
+TellsOverlap file (reason.Segment broken header) = ⊥
+TellsOverlap file (reason.Large size) = ⊥
+TellsOverlap file reason.Certificates = ⊥
+TellsOverlap file reason.CertificateThere = ⊥
+
+-- what is told of a file that is refused with an error
+abbrev pub Tells : List ℕ → ElfError → ImageReason → Type 0
+Tells file error.TooShort told = told ≡ reason.Short (length file)
+Tells file error.BadMagic told = told ≡ told_field file field.Magic
+Tells file error.BadClass told = told ≡ told_field file (ident_field file)
+Tells file error.BadType told = told ≡ told_field file (type_field file)
+Tells file error.BadMachine told = told ≡ told_field file field.Machine
+Tells file error.BadFlags told = told ≡ told_field file field.Flags
+Tells file error.BadHeaderTable told = told ≡ told_field file (table_field file)
+Tells file error.NotStatic told = TellsSegment file rule.Static told
+Tells file error.SegmentOutOfFile told = TellsSegment file rule.InFile told
+Tells file error.SegmentOutOfPlace told = TellsSegment file rule.InPlace told
+Tells file error.SegmentsOverlap told = TellsOverlap file told
+Tells file error.WriteAndExecute told = TellsSegment file rule.WriteOrExecute told
+Tells file error.TooLarge told = told ≡ reason.Large (length file)
+Tells file error.EntryNotCode told = told ≡ told_field file field.Entry
+Tells file error.TwoCertificates told = told ≡ reason.Certificates
+Tells file error.CertificateThere told = told ≡ reason.CertificateThere
+Tells file error.NoMemory told = told ≡ reason.Untold
+
+-- ---- the words
+
+abbrev pub field_name : ElfField → List ℕ
+field_name field.Magic = codes "e_ident"
+field_name field.Class = codes "EI_CLASS of e_ident"
+field_name field.Order = codes "EI_DATA of e_ident"
+field_name field.IdentVersion = codes "EI_VERSION of e_ident"
+field_name field.Type = codes "e_type"
+field_name field.Machine = codes "e_machine"
+field_name field.Version = codes "e_version"
+field_name field.Entry = codes "e_entry"
+field_name field.TableOffset = codes "e_phoff"
+field_name field.Flags = codes "e_flags"
+field_name field.HeaderSize = codes "e_ehsize"
+field_name field.EntrySize = codes "e_phentsize"
+field_name field.EntryCount = codes "e_phnum"
+
+abbrev pub flags_wanted : ℕ → List ℕ
+flags_wanted value =
+    if not (bit_and value 1 == 0)
+    then codes "  wanted: no compressed code\n  remedy: compile with -march=rv32im_zve32x\n"
+    else (if not (bit_and value 6 == 0)
+    then codes "  wanted: no floating-point ABI\n  remedy: compile with -mabi=ilp32\n"
+    else codes "  wanted: no RV32E\n  remedy: compile with -march=rv32im_zve32x -mabi=ilp32\n")
+
+-- what is wanted of a field that has this number, and the remedy where there is one
+abbrev pub wanted : ElfField → ℕ → List ℕ
+wanted field.Magic value = codes "  wanted: 0x464c457f, the bytes 7f, E, L, F\n"
+wanted field.Class value = codes "  wanted: 1, 32 bits\n  remedy: compile with --target=riscv32\n"
+wanted field.Order value = codes "  wanted: 1, little-endian\n"
+wanted field.IdentVersion value = codes "  wanted: 1\n"
+wanted field.Type value =
+    codes "  wanted: 2, an executable file\n  remedy: link with -static\n"
+wanted field.Machine value = codes "  wanted: 243, RISC-V\n  remedy: compile with --target=riscv32\n"
+wanted field.Version value = codes "  wanted: 1\n"
+wanted field.Entry value = codes "  wanted: a multiple of 4 in a segment that can be executed\n"
+wanted field.TableOffset value = codes "  wanted: the table of program headers within the file\n"
+wanted field.Flags value = flags_wanted value
+wanted field.HeaderSize value = codes "  wanted: 52\n"
+wanted field.EntrySize value = codes "  wanted: 32\n"
+wanted field.EntryCount value = codes "  wanted: 1 to 64\n"
+
+abbrev pub large_wanted : List ℕ
+large_wanted =
+    codes "  wanted: at most 4194304, at most 16 segments, and at most 16777216 bytes of memory\n"
+
+abbrev pub field_place : ElfField → ℕ → List ℕ
+field_place f offset = codes "  " ++ (field_name f ++ (codes " at byte "
+    ++ (decimal offset ++ codes " of the file: ")))
+
+abbrev pub field_number : ℕ → List ℕ
+field_number value = decimal value ++ (codes " (" ++ (address_text value ++ codes ")\n"))
+
+-- the lines of a reason
+abbrev pub image_text : ImageReason → List ℕ
+image_text reason.Untold = []
+image_text (reason.Short size) = codes "  size of the file: "
+    ++ (decimal size ++ codes "\n  wanted: at least 52, an ELF header\n")
+image_text (reason.Field f offset value) =
+    field_place f offset ++ (field_number value ++ wanted f value)
+image_text (reason.Segment broken header) = header_text header ++ rule_text broken
+image_text (reason.Overlap first second) =
+    header_text first ++ (header_text second ++ codes "  wanted: no address of both\n")
+image_text (reason.Large size) =
+    codes "  size of the file: " ++ (decimal size ++ (codes "\n" ++ large_wanted))
+image_text reason.Certificates = codes "  wanted: one note with a certificate\n"
+image_text reason.CertificateThere = codes "  wanted: an image with no certificate\n"

@@ -1,0 +1,150 @@
+-- Why a job is refused, and in which words it is told.
+use Rattle.std.specs.Prelude.{◌≡◌, ◌<◌, ℕ, ◌++◌, ◌==◌, Bool, true, false, List, codes, length, filter, take, Option, Some, None, is_some, string_bytes}
+use Rattle.std.specs.Fmt.{decimal}
+use Rattle.std.specs.Prelude.{slice_index_or}
+use Rattle.std.specs.Str.{IsUtf8}
+use Rattle.std.specs.Str.Lossy.{utf8_valid_len}
+use Rattle.toml.specs.Data.{Members}
+use Rattle.toml.specs.Parse.{parse_document}
+use Rattle.job_file.specs.Job.{Text, job_of}
+use Rattle.job_file.specs.Needs.{make_job_in, run_job_in, try_job_in}
+use Rattle.job_file.specs.declared.values.Job.{Job}
+use Rattle.job_file.specs.declared.values.Param.{Param}
+use Rattle.job_file.specs.declared.values.Param.TheVariants as param
+use Rattle.explanations.specs.Keys.{key_name, key_wanted}
+use Rattle.explanations.specs.Rules.{IsBreach}
+use Rattle.explanations.specs.declared.job.Command.{Command}
+use Rattle.explanations.specs.declared.job.Command.TheVariants as command
+use Rattle.explanations.specs.declared.job.JobKey.{JobKey}
+use Rattle.explanations.specs.declared.job.JobKey.TheVariants as key
+use Rattle.explanations.specs.declared.job.JobReason.{JobReason}
+use Rattle.explanations.specs.declared.job.JobReason.TheVariants as reason
+use Rattle.explanations.specs.declared.job.JobTable.{JobTable}
+use Rattle.explanations.specs.declared.job.JobTable.TheVariants as table
+
+-- ---- the keys that a command lacks
+
+abbrev pub lacked_of : {A : Type 0} → Option A → JobKey → Option JobKey
+lacked_of (Some value) k = None
+lacked_of None k = Some k
+
+-- the first of two that is there
+abbrev pub or_else : Option JobKey → Option JobKey → Option JobKey
+or_else (Some k) other = Some k
+or_else None other = other
+
+abbrev pub try_lacks : Param Text → Option JobKey
+try_lacks param.None = None
+try_lacks (param.Scalar lo hi value) = lacked_of value key.Value
+try_lacks (param.Buffer mode size file out) =
+    or_else (lacked_of mode key.Mode) (lacked_of file key.File)
+
+abbrev pub run_lacks : Param Text → Option JobKey
+run_lacks param.None = None
+run_lacks (param.Scalar lo hi value) = lacked_of value key.Value
+run_lacks (param.Buffer mode size file out) = lacked_of file key.File
+
+abbrev pub make_lacks : Param Text → Option JobKey
+make_lacks param.None = None
+make_lacks (param.Scalar lo hi value) = or_else (lacked_of lo key.Lo) (lacked_of hi key.Hi)
+make_lacks (param.Buffer mode size file out) =
+    or_else (lacked_of mode key.Mode) (lacked_of size key.Size)
+
+-- the first key that a command lacks of a parameter
+abbrev pub param_lacks : Command → Param Text → Option JobKey
+param_lacks command.Run p = run_lacks p
+param_lacks command.Try p = try_lacks p
+param_lacks command.Make p = make_lacks p
+
+abbrev pub start_lacks : Job Text → Option JobKey
+start_lacks j = or_else (lacked_of j.image key.Image)
+    (or_else (lacked_of j.agnostic key.Agnostic) (lacked_of j.max key.Max))
+
+-- the first key of a job's own table that a command lacks
+abbrev pub job_lacks : Command → Job Text → Option JobKey
+job_lacks command.Run j = or_else (lacked_of j.vlen key.Vlen) (start_lacks j)
+job_lacks command.Try j = or_else (lacked_of j.vlen key.Vlen) (start_lacks j)
+job_lacks command.Make j = lacked_of j.vlen key.Vlen
+
+-- ---- what is told
+
+abbrev pub is_taken : Command → Members → Bool
+is_taken command.Run ms = is_some (run_job_in ms)
+is_taken command.Try ms = is_some (try_job_in ms)
+is_taken command.Make ms = is_some (make_job_in ms)
+
+-- a command lacks this key of a table
+abbrev pub IsLacked : Command → JobTable → JobKey → Option (Job Text) → Type 0
+IsLacked c t k None = ⊥
+IsLacked c table.Job k (Some j) = job_lacks c j ≡ Some k
+IsLacked c (table.Param place) k (Some j) =
+    (place < 8) × (param_lacks c (slice_index_or j.params place param.None) ≡ Some k)
+
+-- what is told of a table: nothing exactly where the command takes it
+abbrev pub IsTableReason : Command → Members → Option JobReason → Type 0
+IsTableReason c ms None = is_taken c ms ≡ true
+IsTableReason c ms (Some reason.Broken) = is_taken c ms ≡ false
+IsTableReason c ms (Some (reason.Missing t k d)) =
+    (d ≡ c) × (is_taken c ms ≡ false) × IsLacked c t k (job_of ms)
+IsTableReason c ms (Some (reason.Wrong t k)) =
+    (is_taken c ms ≡ false) × IsBreach ms (reason.Wrong t k)
+IsTableReason c ms (Some (reason.Unknown t name)) = is_taken c ms ≡ false
+IsTableReason c ms (Some reason.TooMany) = is_taken c ms ≡ false
+IsTableReason c ms (Some (reason.NotUtf8 byte)) = ⊥
+IsTableReason c ms (Some (reason.NotToml line byte)) = ⊥
+
+abbrev pub lines_in : List ℕ → ℕ
+lines_in bytes = length (filter (λ byte. byte == 10) bytes)
+
+-- a text has a table, of which this is true
+abbrev pub IfTable : (Members → Type 0) → Option Members → Type 0
+IfTable True None = ⊥
+IfTable True (Some ms) = True ms
+
+-- What is told of a job's text: where it is no UTF-8, where it is no TOML, or what is told of its table.
+abbrev pub IsJobReason : Command → List ℕ → Option JobReason → Type 0
+IsJobReason c text (Some (reason.NotUtf8 byte)) =
+    (byte ≡ utf8_valid_len text) × (¬ (IsUtf8 text))
+IsJobReason c text (Some (reason.NotToml line byte)) =
+    (parse_document text ≡ None) × (line ≡ lines_in (take byte text))
+IsJobReason c text (Some reason.Broken) =
+    IfTable (λ ms. IsTableReason c ms (Some reason.Broken)) (parse_document text)
+IsJobReason c text (Some (reason.Missing t k d)) =
+    IfTable (λ ms. IsTableReason c ms (Some (reason.Missing t k d))) (parse_document text)
+IsJobReason c text (Some (reason.Wrong t k)) =
+    IfTable (λ ms. IsTableReason c ms (Some (reason.Wrong t k))) (parse_document text)
+IsJobReason c text (Some (reason.Unknown t name)) =
+    IfTable (λ ms. IsTableReason c ms (Some (reason.Unknown t name))) (parse_document text)
+IsJobReason c text (Some reason.TooMany) =
+    IfTable (λ ms. IsTableReason c ms (Some reason.TooMany)) (parse_document text)
+IsJobReason c text None = IfTable (λ ms. IsTableReason c ms None) (parse_document text)
+
+-- ---- the words
+
+abbrev pub command_name : Command → List ℕ
+command_name command.Run = codes "run"
+command_name command.Try = codes "try"
+command_name command.Make = codes "make"
+
+abbrev pub table_text : JobTable → List ℕ
+table_text table.Job = codes "the job"
+table_text (table.Param place) = codes "the param at place " ++ decimal place
+
+abbrev pub needs_text : JobKey → Command → List ℕ
+needs_text k c = codes "  " ++ (command_name c ++ (codes " needs " ++ key_name k))
+
+abbrev pub in_text : JobTable → JobKey → List ℕ
+in_text t k = codes " in " ++ (table_text t ++ (codes ": " ++ (key_wanted k ++ codes "\n")))
+
+-- the lines of a reason
+abbrev pub job_text : JobReason → List ℕ
+job_text (reason.NotUtf8 byte) = codes "  not UTF-8 from byte " ++ (decimal byte ++ codes " on\n")
+job_text (reason.NotToml line byte) = codes "  not TOML from byte " ++ (decimal byte
+    ++ (codes " on, behind " ++ (decimal line ++ codes " whole lines\n")))
+job_text reason.Broken =
+    codes "  wanted: no other keys, and each value of its type and range\n"
+job_text (reason.Missing t k c) = needs_text k c ++ in_text t k
+job_text (reason.Wrong t k) = codes "  not as wanted: " ++ (key_name k ++ in_text t k)
+job_text (reason.Unknown t name) = codes "  no key of " ++ (table_text t ++ (codes ": "
+    ++ (string_bytes name ++ codes "\n")))
+job_text reason.TooMany = codes "  wanted: at most eight param tables\n"

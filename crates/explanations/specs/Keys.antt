@@ -1,0 +1,37 @@
+-- The keys of a job, and the values that they may have, in words.
+use Rattle.std.specs.Prelude.{ℕ, List, codes}
+use Rattle.explanations.specs.declared.job.JobKey.{JobKey}
+use Rattle.explanations.specs.declared.job.JobKey.TheVariants as key
+
+abbrev pub key_name : JobKey → List ℕ
+key_name key.Image = codes "image"
+key_name key.Vlen = codes "vlen"
+key_name key.Agnostic = codes "agnostic"
+key_name key.Max = codes "max"
+key_name key.Param = codes "param"
+key_name key.Kind = codes "kind"
+key_name key.Lo = codes "lo"
+key_name key.Hi = codes "hi"
+key_name key.Value = codes "value"
+key_name key.Mode = codes "mode"
+key_name key.Size = codes "size"
+key_name key.File = codes "file"
+key_name key.Out = codes "out"
+
+abbrev pub word_wanted : List ℕ
+word_wanted = codes "a number in 0..=4294967295"
+
+abbrev pub key_wanted : JobKey → List ℕ
+key_wanted key.Image = codes "a path"
+key_wanted key.Vlen = codes "128, 256 or 512"
+key_wanted key.Agnostic = codes "\"keep\" or \"ones\""
+key_wanted key.Max = codes "a number in 0..=9223372036854775807"
+key_wanted key.Param = codes "at most eight tables"
+key_wanted key.Kind = codes "\"none\", \"scalar\" or \"buffer\""
+key_wanted key.Lo = word_wanted
+key_wanted key.Hi = word_wanted
+key_wanted key.Value = word_wanted
+key_wanted key.Mode = codes "\"r\" or \"rw\""
+key_wanted key.Size = word_wanted
+key_wanted key.File = codes "a path"
+key_wanted key.Out = codes "a path"

@@ -1,0 +1,11 @@
+pub mod Address
+pub mod Headers
+pub mod Image
+pub mod Certificate
+pub mod Open
+pub mod Access
+pub mod Check
+pub mod Job
+pub mod Edge
+pub mod Keys
+pub mod Rules

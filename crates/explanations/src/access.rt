@@ -1,0 +1,319 @@
+//! Accesses that the check refused, and the zones of memory of a run.
+ghost use Rattle.std.specs.Prelude.{◌≡◌};
+ghost use Rattle.scalar_core.specs.Step.{size_of_load, size_of_store};
+ghost use Rattle.explanations.specs.Access.{access_wanted, is_store, operand_of, rights_text, scalar_operand};
+
+use crate::address::Address;
+use abs_state::Zone;
+use arrayvec::ArrayVec;
+use linear_facts::Range;
+use rv_decode::{Direction, Insn, LoadKind, ScalarInsn, Width};
+use std::fmt;
+
+/// The register to which a load or store adds its offset, the offset, and how many bytes are accessed, of a vector
+/// instruction 0.
+#[derive(Clone, Copy, Debug, PartialEq, Eq)]
+pub struct Operand {
+    pub is_store: bool,
+    pub base: u8,
+    pub offset: i32,
+    pub size: u8,
+}
+
+/// An access that is not proved.
+#[derive(Debug, Drop)]
+pub struct Access {
+    pub operand: Operand,
+    /// What is known of the base register.
+    pub interval: Range,
+    /// The zones of memory of a run.
+    pub zones: ArrayVec<Zone, 25>,
+}
+
+#[tactic(auto, unfolding(scalar_core::specs::Step::size_of_load))]
+fn load_size(kind: LoadKind) -> u8
+    ensures { result ≡ size_of_load kind }
+{
+    match kind {
+        LoadKind::Byte | LoadKind::ByteUnsigned => 1,
+        LoadKind::Half | LoadKind::HalfUnsigned => 2,
+        LoadKind::Word => 4,
+    }
+}
+
+#[tactic(auto, unfolding(scalar_core::specs::Step::size_of_store))]
+fn store_size(width: Width) -> u8
+    ensures { result ≡ size_of_store width }
+{
+    match width {
+        Width::W8 => 1,
+        Width::W16 => 2,
+        Width::W32 => 4,
+    }
+}
+
+/// The operand of a scalar instruction, if it is a load or store.
+fn scalar_operand(insn: ScalarInsn) -> Option<Operand>
+    ensures { result ≡ scalar_operand insn }
+{
+    match insn {
+        ScalarInsn::Load {
+            kind,
+            rs1,
+            offset,
+            ..
+        } => Some(Operand {
+            is_store: false,
+            base: rs1.number(),
+            offset,
+            size: load_size(kind),
+        }),
+        ScalarInsn::Store {
+            size,
+            rs1,
+            offset,
+            ..
+        } => Some(Operand {
+            is_store: true,
+            base: rs1.number(),
+            offset,
+            size: store_size(size),
+        }),
+        ScalarInsn::Lui { .. }
+        | ScalarInsn::Auipc { .. }
+        | ScalarInsn::Jal { .. }
+        | ScalarInsn::Jalr { .. }
+        | ScalarInsn::Branch { .. }
+        | ScalarInsn::Immediate { .. }
+        | ScalarInsn::ShiftImmediate { .. }
+        | ScalarInsn::Register { .. }
+        | ScalarInsn::Fence
+        | ScalarInsn::Ecall => None,
+    }
+}
+
+/// Whether a vector access is a store.
+fn is_store(direction: Direction) -> bool
+    ensures { result ≡ is_store direction }
+{
+    match direction {
+        Direction::Load => false,
+        Direction::Store => true,
+    }
+}
+
+/// The operand of an instruction, if it is a load or store.
+pub(crate) fn operand_of(insn: &Insn) -> Option<Operand>
+    ensures { result ≡ operand_of insn.now }
+{
+    match *insn {
+        Insn::Scalar(insn) => scalar_operand(insn),
+        Insn::VMem(insn) => Some(Operand {
+            is_store: is_store(insn.direction),
+            base: insn.rs1.number(),
+            offset: 0,
+            size: 0,
+        }),
+        Insn::Csr(_)
+        | Insn::VSet(_)
+        | Insn::VArith(_)
+        | Insn::VMask(_)
+        | Insn::VPerm(_)
+        | Insn::VReduce(_)
+        | Insn::VMove(_) => None,
+    }
+}
+
+/// The numbers from one to another, as addresses.
+#[derive(Clone, Copy)]
+pub(crate) struct Span(pub(crate) Range);
+
+impl fmt::Display for Span {
+    ghost use Rattle.std.specs.Prelude.{Some};
+    ghost use Rattle.explanations.specs.Access.{span_text};
+
+    ghost output = { λ span. Some (span_text span.0) };
+
+    fn fmt<W: fmt::Write>(&self, f: &mut fmt::Formatter<W>) -> fmt::Result {
+        let low = Address(u64::from(self.0.lo));
+        let high = Address(u64::from(self.0.hi));
+        write!(f, "{low}..={high}")
+    }
+}
+
+/// What may be done in a zone.
+fn rights(zone: Zone) -> &'static str
+    ensures { result.now ≡ rights_text zone }
+{
+    match (zone.read, zone.write) {
+        (true, true) => "read and write",
+        (true, false) => "read",
+        (false, true) => "write",
+        (false, false) => "neither read nor write",
+    }
+}
+
+/// A zone, as a line. A zone without a byte is told by its first address alone.
+#[derive(Clone, Copy)]
+struct ZoneLine(Zone);
+
+impl fmt::Display for ZoneLine {
+    ghost use Rattle.std.specs.Prelude.{Some};
+    ghost use Rattle.explanations.specs.Access.{zone_line};
+
+    ghost output = { λ line. Some (zone_line line.0) };
+
+    fn fmt<W: fmt::Write>(&self, f: &mut fmt::Formatter<W>) -> fmt::Result {
+        let first = Address(self.0.first);
+        let end = Address(self.0.end);
+        let rights = rights(self.0);
+        writeln!(f, "    from {first} and below {end}: {rights}")
+    }
+}
+
+/// The zones, a line each.
+#[derive(Clone, Copy)]
+struct ZoneLines<'a>(&'a [Zone]);
+
+impl fmt::Display for ZoneLines<'_> {
+    ghost use Rattle.std.specs.Prelude.{Some};
+    ghost use Rattle.explanations.specs.Access.{zone_lines};
+
+    ghost output = { λ lines. Some (zone_lines lines.0.now) };
+
+    #[tactic(auto, unfolding(crate::specs::Access::zone_lines))]
+    fn fmt<W: fmt::Write>(&self, f: &mut fmt::Formatter<W>) -> fmt::Result {
+        for zone in self.0 {
+            let line = ZoneLine(*zone);
+            write!(f, "{line}")?;
+        }
+        Ok(())
+    }
+}
+
+/// What is known of the base register, as a line.
+#[derive(Clone, Copy)]
+struct BaseLine {
+    base: u8,
+    interval: Range,
+}
+
+impl fmt::Display for BaseLine {
+    ghost use Rattle.std.specs.Prelude.{Some};
+    ghost use Rattle.explanations.specs.Access.{base_line};
+
+    ghost output = { λ line. Some (base_line line.base line.interval) };
+
+    fn fmt<W: fmt::Write>(&self, f: &mut fmt::Formatter<W>) -> fmt::Result {
+        let base = self.base;
+        let interval = Span(self.interval);
+        writeln!(f, "  known: x{base} in {interval}")
+    }
+}
+
+/// An offset from a base.
+#[derive(Clone, Copy)]
+struct Offset(i32);
+
+impl fmt::Display for Offset {
+    ghost use Rattle.std.specs.Prelude.{Some};
+    ghost use Rattle.explanations.specs.Access.{offset_text};
+
+    ghost output = { λ offset. Some (offset_text offset.0) };
+
+    #[tactic(auto, unfolding(crate::specs::Access::offset_text))]
+    fn fmt<W: fmt::Write>(&self, f: &mut fmt::Formatter<W>) -> fmt::Result {
+        let offset = self.0;
+        write!(f, "{offset}")
+    }
+}
+
+/// How many bytes are accessed, as a line.
+#[derive(Clone, Copy)]
+struct BytesLine(u8);
+
+impl fmt::Display for BytesLine {
+    ghost use Rattle.std.specs.Prelude.{Some};
+    ghost use Rattle.explanations.specs.Access.{bytes_line};
+
+    ghost output = { λ line. Some (bytes_line line.0) };
+
+    fn fmt<W: fmt::Write>(&self, f: &mut fmt::Formatter<W>) -> fmt::Result {
+        let size = self.0;
+        writeln!(f, "  bytes of the access: {size}")
+    }
+}
+
+/// How far from the base on, as a line.
+#[derive(Clone, Copy)]
+struct OffsetLine(i32);
+
+impl fmt::Display for OffsetLine {
+    ghost use Rattle.std.specs.Prelude.{Some};
+    ghost use Rattle.explanations.specs.Access.{offset_line};
+
+    ghost output = { λ line. Some (offset_line line.0) };
+
+    fn fmt<W: fmt::Write>(&self, f: &mut fmt::Formatter<W>) -> fmt::Result {
+        let offset = Offset(self.0);
+        writeln!(f, "  offset from the base: {offset}")
+    }
+}
+
+/// How many bytes are accessed, and how far from the base on.
+#[derive(Clone, Copy)]
+struct SizeLines {
+    offset: i32,
+    size: u8,
+}
+
+impl fmt::Display for SizeLines {
+    ghost use Rattle.std.specs.Prelude.{Some};
+    ghost use Rattle.explanations.specs.Access.{size_lines};
+
+    ghost output = { λ lines. Some (size_lines lines.offset lines.size) };
+
+    #[tactic(auto, unfolding(crate::specs::Access::size_lines))]
+    fn fmt<W: fmt::Write>(&self, f: &mut fmt::Formatter<W>) -> fmt::Result {
+        let bytes = BytesLine(self.size);
+        let offset = OffsetLine(self.offset);
+        write!(f, "{bytes}{offset}")
+    }
+}
+
+/// What is wanted, as a line.
+fn access_wanted(operand: Operand) -> &'static str
+    ensures { result.now ≡ access_wanted operand }
+{
+    if operand.is_store {
+        "  wanted: all bytes in one of these zones that may be written\n"
+    } else {
+        "  wanted: all bytes in one of these zones that may be read\n"
+    }
+}
+
+impl fmt::Display for Access {
+    ghost use Rattle.std.specs.Prelude.{Some};
+    ghost use Rattle.explanations.specs.Access.{access_text};
+
+    ghost output = { λ access. Some (access_text access) };
+
+    #[tactic(auto, unfolding(crate::specs::Access::access_text))]
+    fn fmt<W: fmt::Write>(&self, f: &mut fmt::Formatter<W>) -> fmt::Result {
+        let base = BaseLine {
+            base: self.operand.base,
+            interval: self.interval,
+        };
+        let size = SizeLines {
+            offset: self.operand.offset,
+            size: self.operand.size,
+        };
+        let wanted = access_wanted(self.operand);
+        let zones = ZoneLines(self.zones.as_slice());
+        if self.operand.size == 0 {
+            write!(f, "{base}{wanted}{zones}")
+        } else {
+            write!(f, "{base}{size}{wanted}{zones}")
+        }
+    }
+}

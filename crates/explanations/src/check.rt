@@ -1,0 +1,369 @@
+//! Why an image is refused with its certificate: the word at which the check stopped, what was known there, and what
+//! was wanted.
+ghost use Rattle.std.specs.Prelude.{◌≡◌, IfOk, IfSome, option_map, string_bytes};
+ghost use Rattle.block_checker.specs.Explained.{Explains, answer_of};
+ghost use Rattle.block_checker.specs.Passes.{checked as checked_of};
+ghost use Rattle.rv_listing.specs.Listing.{listing_text};
+ghost use Rattle.std.specs.Str.Lossy.{utf8_lossy};
+ghost use Rattle.explanations.specs.Check.{IsAccess, IsEdgeWanted, IsListed, IsWanted, rule};
+
+use crate::access::{Access, operand_of};
+use crate::address::Address;
+use crate::edge::{Edge, edge_at};
+use abs_state::memory_zones;
+use block_checker::{CheckError, Explanation, Part, Stop, explain};
+use cert_note::Certificate;
+use elf_image::Image;
+use rv_decode::decode;
+use rv_listing::{Over, put_listing};
+use std::alloc::{AllocError, Allocator, Global};
+use std::fmt;
+use vreg_groups::Vlen;
+
+/// What was wanted where a check stopped, beside what its error says.
+#[derive(Debug, Drop)]
+pub enum Wanted {
+    /// Nothing more.
+    Plain,
+    /// A certificate for vector registers of this length; it states another one.
+    Length { stated: Vlen, wanted: Vlen },
+    /// A block at the image's entry.
+    Entry(u32),
+    /// Bytes that lie in one zone with the right.
+    Access(Access),
+    /// What the block that a way out enters states.
+    Edge(Edge),
+}
+
+/// Why an image is refused with its certificate.
+#[derive(Debug, Drop)]
+pub struct CheckReason<A: Allocator = Global> {
+    /// The error, and where the check stopped.
+    pub explanation: Explanation,
+    /// The word there as it is listed, if there is a word.
+    pub listing: Option<String<A>>,
+    /// What was wanted.
+    pub wanted: Wanted,
+}
+
+/// A word as it is listed.
+fn listed<A: Allocator + Copy>(alloc: A, word: u32, pc: u32) -> Result<String<A>, AllocError>
+    ensures { IfOk result (λ text. string_bytes text ≡ utf8_lossy (listing_text pc word)) }
+{
+    let mut out = Over::new(Vec::new(alloc));
+    match put_listing(&mut out, word, pc) {
+        Ok(()) => {
+            let bytes = out.into_inner();
+            String::from_utf8_lossy(alloc, bytes.as_slice())
+        }
+        Err(_) => Err(AllocError),
+    }
+}
+
+/// The word at which a check stopped, as it is listed.
+fn listing_of<A: Allocator + Copy>(
+    alloc: A,
+    stop: &Option<Stop>,
+) -> Result<Option<String<A>>, AllocError>
+    ensures { IfOk result (IsListed stop.now) }
+{
+    let Some(stop) = stop else {
+        return Ok(None);
+    };
+    match stop.word {
+        None => Ok(None),
+        Some(word) => {
+            let text = listed(alloc, word, stop.pc)?;
+            Ok(Some(text))
+        }
+    }
+}
+
+/// What an access at which a check stopped wants.
+fn access_at<B: Allocator, C: Allocator>(
+    image: &Image<B>,
+    certificate: &Certificate<C>,
+    stop: &Option<Stop>,
+) -> Wanted
+    ensures { IsAccess image.now certificate.now stop.now result }
+{
+    let Some(stop) = stop else {
+        return Wanted::Plain;
+    };
+    let Some(word) = stop.word else {
+        return Wanted::Plain;
+    };
+    let Some(insn) = decode(word) else {
+        return Wanted::Plain;
+    };
+    let Some(operand) = operand_of(&insn) else {
+        return Wanted::Plain;
+    };
+    Wanted::Access(Access {
+        operand,
+        interval: stop.known[usize::from(operand.base)],
+        zones: memory_zones(image, &certificate.contents().parameters),
+    })
+}
+
+/// What a way out at which a check stopped wants.
+fn edge_wanted<A: Allocator + Copy, B: Allocator, C: Allocator>(
+    alloc: A,
+    image: &Image<B>,
+    certificate: &Certificate<C>,
+    stop: &Option<Stop>,
+) -> Result<Wanted, AllocError>
+    ensures { IfOk result (IsEdgeWanted certificate.now) }
+{
+    let Some(stop) = stop else {
+        return Ok(Wanted::Plain);
+    };
+    match edge_at(alloc, image, certificate, stop)? {
+        Some(edge) => Ok(Wanted::Edge(edge)),
+        None => Ok(Wanted::Plain),
+    }
+}
+
+/// What was wanted.
+fn wanted_of<A: Allocator + Copy, B: Allocator, C: Allocator>(
+    alloc: A,
+    image: &Image<B>,
+    certificate: &Certificate<C>,
+    vlen: Vlen,
+    explanation: &Explanation,
+) -> Result<Wanted, AllocError>
+    ensures { IfOk result (IsWanted image.now certificate.now vlen explanation.now) }
+{
+    match explanation.error {
+        CheckError::WrongVlen => Ok(Wanted::Length {
+            stated: certificate.contents().vlen,
+            wanted: vlen,
+        }),
+        CheckError::NoEntryBlock => Ok(Wanted::Entry(image.entry())),
+        CheckError::AccessNotProved(_) | CheckError::ReadOnly(_) => {
+            Ok(access_at(image, certificate, &explanation.stop))
+        }
+        CheckError::VtypeUnknown(_)
+        | CheckError::TargetNotABlock(_)
+        | CheckError::IntervalNotProved(_)
+        | CheckError::EqualityNotProved(_)
+        | CheckError::OrderNotProved(_)
+        | CheckError::VectorFactNotProved(_)
+        | CheckError::BudgetNotProved(_) => {
+            edge_wanted(alloc, image, certificate, &explanation.stop)
+        }
+        CheckError::NotCode(_)
+        | CheckError::IllegalWord(_)
+        | CheckError::BlockTooLong(_)
+        | CheckError::NoMemory => Ok(Wanted::Plain),
+    }
+}
+
+/// Why an image is refused with a certificate at a length of vector registers: `None` where the check accepts it.
+///
+/// # Errors
+/// An allocation was refused.
+pub fn check_reason<A: Allocator + Copy, B: Allocator, C: Allocator>(
+    alloc: A,
+    image: &Image<B>,
+    certificate: &Certificate<C>,
+    vlen: Vlen,
+) -> Result<Option<CheckReason<A>>, AllocError>
+    // None exactly where the check passes; else its own error.
+    ensures answer { IfOk result (λ told. answer_of (option_map (λ r. r.explanation) told)
+        ≡ checked_of image.now certificate.now vlen) }
+    ensures stop { IfOk result (λ told. IfSome told (λ r.
+        Explains image.now certificate.now r.explanation)) }
+    ensures listing { IfOk result (λ told. IfSome told (λ r.
+        IsListed r.explanation.stop r.listing)) }
+    ensures wanted { IfOk result (λ told. IfSome told (λ r.
+        IsWanted image.now certificate.now vlen r.explanation r.wanted)) }
+{
+    let told = explain(alloc, image, certificate, vlen)?;
+    match told {
+        None => Ok(None),
+        Some(explanation) => {
+            let listing = listing_of(alloc, &explanation.stop)?;
+            let wanted = wanted_of(alloc, image, certificate, vlen, &explanation)?;
+            Ok(Some(CheckReason {
+                explanation,
+                listing,
+                wanted,
+            }))
+        }
+    }
+}
+
+/// Where the check stopped, as a line.
+#[derive(Clone, Copy)]
+struct PartLine(Part);
+
+impl fmt::Display for PartLine {
+    ghost use Rattle.std.specs.Prelude.{Some};
+    ghost use Rattle.explanations.specs.Check.{part_line};
+
+    ghost output = { λ line. Some (part_line line.0) };
+
+    fn fmt<W: fmt::Write>(&self, f: &mut fmt::Formatter<W>) -> fmt::Result {
+        match self.0 {
+            Part::Entry => writeln!(f, "  stopped on the way into the first block"),
+            Part::Block(start) => {
+                let start = Address(u64::from(start));
+                writeln!(f, "  stopped in the block at {start}")
+            }
+        }
+    }
+}
+
+/// A word and its address, as a line.
+#[derive(Clone, Copy)]
+struct WordLine {
+    pc: u32,
+    word: Option<u32>,
+}
+
+impl fmt::Display for WordLine {
+    ghost use Rattle.std.specs.Prelude.{Some};
+    ghost use Rattle.explanations.specs.Check.{word_line};
+
+    ghost output = { λ line. Some (word_line line.pc line.word) };
+
+    fn fmt<W: fmt::Write>(&self, f: &mut fmt::Formatter<W>) -> fmt::Result {
+        let pc = Address(u64::from(self.pc));
+        match self.word {
+            None => writeln!(f, "  at {pc}: no word"),
+            Some(word) => {
+                let word = Address(u64::from(word));
+                writeln!(f, "  at {pc}: {word}")
+            }
+        }
+    }
+}
+
+/// Where a check stopped, and the word there.
+#[derive(Clone, Copy)]
+struct StopLines<'a>(&'a Option<Stop>);
+
+impl fmt::Display for StopLines<'_> {
+    ghost use Rattle.std.specs.Prelude.{Some};
+    ghost use Rattle.explanations.specs.Check.{stop_text};
+
+    ghost output = { λ lines. Some (stop_text lines.0.now) };
+
+    #[tactic(auto, unfolding(crate::specs::Check::stop_text))]
+    fn fmt<W: fmt::Write>(&self, f: &mut fmt::Formatter<W>) -> fmt::Result {
+        match self.0 {
+            None => Ok(()),
+            Some(stop) => {
+                let part = PartLine(stop.part);
+                let word = WordLine {
+                    pc: stop.pc,
+                    word: stop.word,
+                };
+                write!(f, "{part}{word}")
+            }
+        }
+    }
+}
+
+/// A word as it is listed, as a line.
+#[derive(Clone, Copy)]
+struct ListingLine<'a, A: Allocator>(&'a Option<String<A>>);
+
+impl<A: Allocator> fmt::Display for ListingLine<'_, A> {
+    ghost use Rattle.std.specs.Prelude.{Some};
+    ghost use Rattle.explanations.specs.Check.{listing_line};
+
+    ghost output = { λ line. Some (listing_line line.0.now) };
+
+    fn fmt<W: fmt::Write>(&self, f: &mut fmt::Formatter<W>) -> fmt::Result {
+        match self.0 {
+            None => Ok(()),
+            Some(text) => writeln!(f, "  that is {text}"),
+        }
+    }
+}
+
+/// What is wanted, by the error alone.
+fn rule(error: CheckError) -> &'static str
+    ensures { result.now ≡ rule error }
+{
+    match error {
+        CheckError::WrongVlen => "",
+        CheckError::NoEntryBlock => "",
+        CheckError::NotCode(_) => "  wanted: a word in one segment that can be executed\n",
+        CheckError::IllegalWord(_) => "  wanted: an instruction that is legal there\n",
+        CheckError::VtypeUnknown(_) => "  wanted: a vector type that is known there\n",
+        CheckError::AccessNotProved(_) => "",
+        CheckError::ReadOnly(_) => "",
+        CheckError::TargetNotABlock(_) => "  wanted: a block where the word leads, or the exit\n",
+        CheckError::IntervalNotProved(_) => "  wanted: the intervals of the block entered\n",
+        CheckError::EqualityNotProved(_) => "  wanted: the equalities of the block entered\n",
+        CheckError::OrderNotProved(_) => "  wanted: the orders of the block entered\n",
+        CheckError::VectorFactNotProved(_) => "  wanted: the vector facts of the block entered\n",
+        CheckError::BudgetNotProved(_) =>
+            "  wanted: a budget for these words and the block entered\n",
+        CheckError::BlockTooLong(_) => "  wanted: at most 4096 words in a block\n",
+        CheckError::NoMemory => "",
+    }
+}
+
+impl fmt::Display for Wanted {
+    ghost use Rattle.std.specs.Prelude.{Some};
+    ghost use Rattle.explanations.specs.Check.{wanted_text};
+
+    ghost output = { λ wanted. Some (wanted_text wanted) };
+
+    #[tactic(auto, unfolding(crate::specs::Check::wanted_text))]
+    fn fmt<W: fmt::Write>(&self, f: &mut fmt::Formatter<W>) -> fmt::Result {
+        match self {
+            Wanted::Plain => Ok(()),
+            Wanted::Length { stated, wanted } => {
+                let stated = Bits(*stated);
+                let wanted = Bits(*wanted);
+                write!(f, "  stated: VLEN {stated}\n  wanted: VLEN {wanted}\n")
+            }
+            Wanted::Entry(entry) => {
+                let entry = Address(u64::from(*entry));
+                writeln!(f, "  wanted: a block at the entry, {entry}")
+            }
+            Wanted::Access(access) => write!(f, "{access}"),
+            Wanted::Edge(edge) => write!(f, "{edge}"),
+        }
+    }
+}
+
+/// The number of bits of a vector register.
+#[derive(Clone, Copy)]
+struct Bits(Vlen);
+
+impl fmt::Display for Bits {
+    ghost use Rattle.std.specs.Prelude.{Some};
+    ghost use Rattle.explanations.specs.Check.{bits_text};
+
+    ghost output = { λ bits. Some (bits_text bits.0) };
+
+    fn fmt<W: fmt::Write>(&self, f: &mut fmt::Formatter<W>) -> fmt::Result {
+        f.write_str(match self.0 {
+            Vlen::V128 => "128",
+            Vlen::V256 => "256",
+            Vlen::V512 => "512",
+        })
+    }
+}
+
+impl<A: Allocator> fmt::Display for CheckReason<A> {
+    ghost use Rattle.std.specs.Prelude.{Some};
+    ghost use Rattle.explanations.specs.Check.{check_text};
+
+    ghost output = { λ reason. Some (check_text reason) };
+
+    #[tactic(auto, unfolding(crate::specs::Check::check_text))]
+    fn fmt<W: fmt::Write>(&self, f: &mut fmt::Formatter<W>) -> fmt::Result {
+        let stop = StopLines(&self.explanation.stop);
+        let listing = ListingLine(&self.listing);
+        let rule = rule(self.explanation.error);
+        let wanted = &self.wanted;
+        write!(f, "{stop}{listing}{rule}{wanted}")
+    }
+}

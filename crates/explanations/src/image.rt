@@ -1,0 +1,365 @@
+//! Why a file is no image that runs: which number of it, where, and what is wanted there.
+ghost use Rattle.std.specs.Prelude.{◌≡◌, ◌≤◌, length};
+ghost use Rattle.explanations.specs.Image.{Tells, TellsOverlap, TellsSegment, flags_wanted, ident_field, number_in, offset_of, table_field, told_field, type_field, wanted, large_wanted};
+
+use crate::address::Address;
+use crate::headers;
+use crate::headers::{Header, SegmentRule, half, word};
+use elf_image::ElfError;
+use std::fmt;
+
+/// A field of an ELF header.
+#[derive(Clone, Copy, Debug, PartialEq, Eq)]
+pub enum ElfField {
+    /// The first four bytes of `e_ident`.
+    Magic,
+    /// Its byte `EI_CLASS`.
+    Class,
+    /// Its byte `EI_DATA`.
+    Order,
+    /// Its byte `EI_VERSION`.
+    IdentVersion,
+    /// `e_type`.
+    Type,
+    /// `e_machine`.
+    Machine,
+    /// `e_version`.
+    Version,
+    /// `e_entry`.
+    Entry,
+    /// `e_phoff`.
+    TableOffset,
+    /// `e_flags`.
+    Flags,
+    /// `e_ehsize`.
+    HeaderSize,
+    /// `e_phentsize`.
+    EntrySize,
+    /// `e_phnum`.
+    EntryCount,
+}
+
+/// Why a file is no image that runs.
+#[derive(Clone, Copy, Debug, PartialEq, Eq)]
+pub enum ImageReason {
+    /// There is nothing to tell of the file.
+    Untold,
+    /// The file has too few bytes: so many.
+    Short(usize),
+    /// A field of the ELF header, the offset of its first byte in the file, and the number that stands there.
+    Field {
+        field: ElfField,
+        offset: usize,
+        value: u32,
+    },
+    /// The first program header that breaks a rule.
+    Segment {
+        rule: SegmentRule,
+        header: Header,
+    },
+    /// Two segments that share an address.
+    Overlap {
+        first: Header,
+        second: Header,
+    },
+    /// The file has so many bytes, and it or its memory is too large.
+    Large(usize),
+    /// The file has more than one certificate.
+    Certificates,
+    /// The file has a certificate already.
+    CertificateThere,
+}
+
+impl ElfField {
+    /// Where the field begins in the file.
+    fn offset(self) -> usize
+        ensures { result ≡ offset_of self }
+    {
+        match self {
+            ElfField::Magic => 0,
+            ElfField::Class => 4,
+            ElfField::Order => 5,
+            ElfField::IdentVersion => 6,
+            ElfField::Type => 16,
+            ElfField::Machine => 18,
+            ElfField::Version => 20,
+            ElfField::Entry => 24,
+            ElfField::TableOffset => 28,
+            ElfField::Flags => 36,
+            ElfField::HeaderSize => 40,
+            ElfField::EntrySize => 42,
+            ElfField::EntryCount => 44,
+        }
+    }
+}
+
+/// The number of a field.
+fn number_in(file: &[u8], field: ElfField) -> u32
+    requires { 52 ≤ length file.now }
+    ensures { result ≡ number_in file.now field }
+{
+    match field {
+        ElfField::Class | ElfField::Order | ElfField::IdentVersion => {
+            u32::from(file[field.offset()])
+        }
+        ElfField::Type
+        | ElfField::Machine
+        | ElfField::HeaderSize
+        | ElfField::EntrySize
+        | ElfField::EntryCount => u32::from(half(file, field.offset())),
+        ElfField::Magic
+        | ElfField::Version
+        | ElfField::Entry
+        | ElfField::TableOffset
+        | ElfField::Flags => word(file, field.offset()),
+    }
+}
+
+/// What is told of a field.
+fn told_field(file: &[u8], field: ElfField) -> ImageReason
+    ensures { result ≡ told_field file.now field }
+{
+    if file.len() < 52 {
+        return ImageReason::Untold;
+    }
+    ImageReason::Field {
+        field,
+        offset: field.offset(),
+        value: number_in(file, field),
+    }
+}
+
+/// The first byte of `e_ident` behind the magic that is not 1.
+fn ident_field(file: &[u8]) -> ElfField
+    ensures { result ≡ ident_field file.now }
+{
+    if file.len() < 52 || number_in(file, ElfField::Class) != 1 {
+        ElfField::Class
+    } else if number_in(file, ElfField::Order) != 1 {
+        ElfField::Order
+    } else {
+        ElfField::IdentVersion
+    }
+}
+
+/// `e_type` where it is not 2, else `e_version`.
+fn type_field(file: &[u8]) -> ElfField
+    ensures { result ≡ type_field file.now }
+{
+    if file.len() < 52 || number_in(file, ElfField::Type) != 2 {
+        ElfField::Type
+    } else {
+        ElfField::Version
+    }
+}
+
+/// The first of the fields on the table of program headers that is wrong; the table's offset where the others are not.
+fn table_field(file: &[u8]) -> ElfField
+    ensures { result ≡ table_field file.now }
+{
+    if file.len() < 52 || number_in(file, ElfField::HeaderSize) != 52 {
+        return ElfField::HeaderSize;
+    }
+    if number_in(file, ElfField::EntrySize) != 32 {
+        return ElfField::EntrySize;
+    }
+    let count = number_in(file, ElfField::EntryCount);
+    if count == 0 || 64 < count {
+        ElfField::EntryCount
+    } else {
+        ElfField::TableOffset
+    }
+}
+
+/// What is told of a rule on program headers.
+fn told_segment(file: &[u8], rule: SegmentRule) -> ImageReason
+    ensures { TellsSegment file.now rule result }
+{
+    if !headers::has_table(file) {
+        return ImageReason::Untold;
+    }
+    match headers::first_breaking(file, rule) {
+        Some(header) => ImageReason::Segment { rule, header },
+        None => ImageReason::Untold,
+    }
+}
+
+/// What is told of segments that overlap.
+fn told_overlap(file: &[u8]) -> ImageReason
+    ensures { TellsOverlap file.now result }
+{
+    if !headers::has_table(file) {
+        return ImageReason::Untold;
+    }
+    match headers::first_overlap(file) {
+        Some((first, second)) => ImageReason::Overlap { first, second },
+        None => ImageReason::Untold,
+    }
+}
+
+/// Why a file is refused with an error: which number of it is wrong, where it stands, and what is wanted there. `Untold`
+/// where there is nothing to tell: memory ran out, or the error is not this file's.
+pub fn image_reason(file: &[u8], error: ElfError) -> ImageReason
+    ensures { Tells file.now error result }
+{
+    match error {
+        ElfError::TooShort => ImageReason::Short(file.len()),
+        ElfError::BadMagic => told_field(file, ElfField::Magic),
+        ElfError::BadClass => told_field(file, ident_field(file)),
+        ElfError::BadType => told_field(file, type_field(file)),
+        ElfError::BadMachine => told_field(file, ElfField::Machine),
+        ElfError::BadFlags => told_field(file, ElfField::Flags),
+        ElfError::BadHeaderTable => told_field(file, table_field(file)),
+        ElfError::NotStatic => told_segment(file, SegmentRule::Static),
+        ElfError::SegmentOutOfFile => told_segment(file, SegmentRule::InFile),
+        ElfError::SegmentOutOfPlace => told_segment(file, SegmentRule::InPlace),
+        ElfError::SegmentsOverlap => told_overlap(file),
+        ElfError::WriteAndExecute => told_segment(file, SegmentRule::WriteOrExecute),
+        ElfError::TooLarge => ImageReason::Large(file.len()),
+        ElfError::EntryNotCode => told_field(file, ElfField::Entry),
+        ElfError::TwoCertificates => ImageReason::Certificates,
+        ElfError::CertificateThere => ImageReason::CertificateThere,
+        ElfError::NoMemory => ImageReason::Untold,
+    }
+}
+
+impl fmt::Display for ElfField {
+    ghost use Rattle.std.specs.Prelude.{Some};
+    ghost use Rattle.explanations.specs.Image.{field_name};
+
+    ghost output = { λ field. Some (field_name field) };
+
+    fn fmt<W: fmt::Write>(&self, f: &mut fmt::Formatter<W>) -> fmt::Result {
+        f.write_str(match self {
+            ElfField::Magic => "e_ident",
+            ElfField::Class => "EI_CLASS of e_ident",
+            ElfField::Order => "EI_DATA of e_ident",
+            ElfField::IdentVersion => "EI_VERSION of e_ident",
+            ElfField::Type => "e_type",
+            ElfField::Machine => "e_machine",
+            ElfField::Version => "e_version",
+            ElfField::Entry => "e_entry",
+            ElfField::TableOffset => "e_phoff",
+            ElfField::Flags => "e_flags",
+            ElfField::HeaderSize => "e_ehsize",
+            ElfField::EntrySize => "e_phentsize",
+            ElfField::EntryCount => "e_phnum",
+        })
+    }
+}
+
+/// What is wanted of `e_flags`, and the remedy.
+fn flags_wanted(value: u32) -> &'static str
+    ensures { result.now ≡ flags_wanted value }
+{
+    if value & 1 != 0 {
+        "  wanted: no compressed code\n  remedy: compile with -march=rv32im_zve32x\n"
+    } else if value & 6 != 0 {
+        "  wanted: no floating-point ABI\n  remedy: compile with -mabi=ilp32\n"
+    } else {
+        "  wanted: no RV32E\n  remedy: compile with -march=rv32im_zve32x -mabi=ilp32\n"
+    }
+}
+
+/// What is wanted of a field that has this number, and the remedy where there is one.
+fn wanted(field: ElfField, value: u32) -> &'static str
+    ensures { result.now ≡ wanted field value }
+{
+    match field {
+        ElfField::Magic => "  wanted: 0x464c457f, the bytes 7f, E, L, F\n",
+        ElfField::Class => "  wanted: 1, 32 bits\n  remedy: compile with --target=riscv32\n",
+        ElfField::Order => "  wanted: 1, little-endian\n",
+        ElfField::IdentVersion => "  wanted: 1\n",
+        ElfField::Type => "  wanted: 2, an executable file\n  remedy: link with -static\n",
+        ElfField::Machine => "  wanted: 243, RISC-V\n  remedy: compile with --target=riscv32\n",
+        ElfField::Version => "  wanted: 1\n",
+        ElfField::Entry => "  wanted: a multiple of 4 in a segment that can be executed\n",
+        ElfField::TableOffset => "  wanted: the table of program headers within the file\n",
+        ElfField::Flags => flags_wanted(value),
+        ElfField::HeaderSize => "  wanted: 52\n",
+        ElfField::EntrySize => "  wanted: 32\n",
+        ElfField::EntryCount => "  wanted: 1 to 64\n",
+    }
+}
+
+/// What is wanted of a file and its memory.
+fn large_wanted() -> &'static str
+    ensures { result.now ≡ large_wanted }
+{
+    "  wanted: at most 4194304, at most 16 segments, and at most 16777216 bytes of memory\n"
+}
+
+/// Where a field stands.
+#[derive(Clone, Copy)]
+struct FieldPlace {
+    field: ElfField,
+    offset: usize,
+}
+
+impl fmt::Display for FieldPlace {
+    ghost use Rattle.std.specs.Prelude.{Some};
+    ghost use Rattle.explanations.specs.Image.{field_place};
+
+    ghost output = { λ place. Some (field_place place.field place.offset) };
+
+    fn fmt<W: fmt::Write>(&self, f: &mut fmt::Formatter<W>) -> fmt::Result {
+        let FieldPlace { field, offset } = *self;
+        write!(f, "  {field} at byte {offset} of the file: ")
+    }
+}
+
+/// The number of a field, as a number and as a word.
+#[derive(Clone, Copy)]
+struct FieldNumber(u32);
+
+impl fmt::Display for FieldNumber {
+    ghost use Rattle.std.specs.Prelude.{Some};
+    ghost use Rattle.explanations.specs.Image.{field_number};
+
+    ghost output = { λ number. Some (field_number number.0) };
+
+    fn fmt<W: fmt::Write>(&self, f: &mut fmt::Formatter<W>) -> fmt::Result {
+        let value = self.0;
+        let word = Address(u64::from(value));
+        writeln!(f, "{value} ({word})")
+    }
+}
+
+impl fmt::Display for ImageReason {
+    ghost use Rattle.std.specs.Prelude.{Some};
+    ghost use Rattle.explanations.specs.Image.{image_text};
+
+    ghost output = { λ reason. Some (image_text reason) };
+
+    fn fmt<W: fmt::Write>(&self, f: &mut fmt::Formatter<W>) -> fmt::Result {
+        match *self {
+            ImageReason::Untold => Ok(()),
+            ImageReason::Short(size) => {
+                write!(
+                    f,
+                    "  size of the file: {size}\n  wanted: at least 52, an ELF header\n"
+                )
+            }
+            ImageReason::Field {
+                field,
+                offset,
+                value,
+            } => {
+                let place = FieldPlace { field, offset };
+                let number = FieldNumber(value);
+                let wanted = wanted(field, value);
+                write!(f, "{place}{number}{wanted}")
+            }
+            ImageReason::Segment { rule, header } => write!(f, "{header}{rule}"),
+            ImageReason::Overlap { first, second } => {
+                write!(f, "{first}{second}  wanted: no address of both\n")
+            }
+            ImageReason::Large(size) => {
+                let wanted = large_wanted();
+                write!(f, "  size of the file: {size}\n{wanted}")
+            }
+            ImageReason::Certificates => writeln!(f, "  wanted: one note with a certificate"),
+            ImageReason::CertificateThere => writeln!(f, "  wanted: an image with no certificate"),
+        }
+    }
+}

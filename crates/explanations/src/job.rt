@@ -1,0 +1,423 @@
+//! Why a job is refused: where its text is no TOML, or which key the command lacks.
+ghost use Rattle.std.specs.Prelude.{◌≡◌, ◌<◌, IfOk, IfSome, Some, slice_index_or};
+ghost use Rattle.job_file.specs.Job.{job_lent, param_lent};
+ghost use Rattle.job_file.specs.declared.values.Param.TheVariants as param_kind;
+ghost use Rattle.toml.specs.View.{table_view};
+ghost use Rattle.explanations.specs.Keys.{key_name, key_wanted};
+ghost use Rattle.explanations.specs.Job.{IsJobReason, IsTableReason, is_taken, job_lacks, lacked_of, lines_in, make_lacks, param_lacks, run_lacks, try_lacks};
+
+use crate::rules::breach;
+use job_file::{Job, Param};
+use std::alloc::{AllocError, Global};
+use std::fmt;
+use toml::Table;
+
+/// A command that takes a job.
+#[derive(Clone, Copy, Debug, PartialEq, Eq)]
+pub enum Command {
+    /// `run` and `mon`.
+    Run,
+    Try,
+    Make,
+}
+
+/// A table of a job.
+#[derive(Clone, Copy, Debug, PartialEq, Eq)]
+pub enum JobTable {
+    Job,
+    /// The `[[param]]` table of a place.
+    Param(usize),
+}
+
+/// A key of a job.
+#[derive(Clone, Copy, Debug, PartialEq, Eq)]
+pub enum JobKey {
+    Image,
+    Vlen,
+    Agnostic,
+    Max,
+    Param,
+    Kind,
+    Lo,
+    Hi,
+    Value,
+    Mode,
+    Size,
+    File,
+    Out,
+}
+
+/// Why a job is refused.
+#[derive(Debug, Drop)]
+pub enum JobReason {
+    /// The text is not UTF-8 from this byte on, counted from 0.
+    NotUtf8(usize),
+    /// The text is not TOML from this byte on, counted from 0, in a line that is counted from 1.
+    NotToml {
+        line: usize,
+        byte: usize,
+    },
+    /// There is a key that no such table has, or a value that is not of its type and range.
+    Broken,
+    /// A key that the command needs is not there.
+    Missing {
+        table: JobTable,
+        key: JobKey,
+        command: Command,
+    },
+    /// The value of a key is not of its type and range.
+    Wrong {
+        table: JobTable,
+        key: JobKey,
+    },
+    /// A key that the table can't have.
+    Unknown {
+        table: JobTable,
+        key: String,
+    },
+    /// There are more than eight `[[param]]` tables.
+    TooMany,
+}
+
+/// The key, where its value is not there.
+fn lacked<T>(value: Option<T>, key: JobKey) -> Option<JobKey>
+where
+    T: Drop,
+    ensures { result ≡ lacked_of value key }
+{
+    match value {
+        Some(_) => None,
+        None => Some(key),
+    }
+}
+
+/// The first key that `try` lacks of a parameter.
+fn try_lacks(param: Param<&str>) -> Option<JobKey>
+    ensures { result ≡ try_lacks (param_lent param.entry) }
+{
+    match param {
+        Param::None => None,
+        Param::Scalar { value, .. } => lacked(value, JobKey::Value),
+        Param::Buffer { mode, file, .. } => {
+            if mode.is_none() {
+                return Some(JobKey::Mode);
+            }
+            lacked(file, JobKey::File)
+        }
+    }
+}
+
+/// The first key that `run` lacks of a parameter.
+fn run_lacks(param: Param<&str>) -> Option<JobKey>
+    ensures { result ≡ run_lacks (param_lent param.entry) }
+{
+    match param {
+        Param::None => None,
+        Param::Scalar { value, .. } => lacked(value, JobKey::Value),
+        Param::Buffer { file, .. } => lacked(file, JobKey::File),
+    }
+}
+
+/// The first key that `make` lacks of a parameter.
+fn make_lacks(param: Param<&str>) -> Option<JobKey>
+    ensures { result ≡ make_lacks (param_lent param.entry) }
+{
+    match param {
+        Param::None => None,
+        Param::Scalar { lo, hi, .. } => {
+            if lo.is_none() {
+                return Some(JobKey::Lo);
+            }
+            lacked(hi, JobKey::Hi)
+        }
+        Param::Buffer { mode, size, .. } => {
+            if mode.is_none() {
+                return Some(JobKey::Mode);
+            }
+            lacked(size, JobKey::Size)
+        }
+    }
+}
+
+/// The first key that a command lacks of a parameter.
+fn param_lacks(command: Command, param: Param<&str>) -> Option<JobKey>
+    ensures { result ≡ param_lacks command (param_lent param.entry) }
+{
+    match command {
+        Command::Run => run_lacks(param),
+        Command::Try => try_lacks(param),
+        Command::Make => make_lacks(param),
+    }
+}
+
+/// The first parameter of which a command lacks a key, and that key.
+fn params_lack(command: Command, params: [Param<&str>; 8]) -> Option<(usize, JobKey)>
+    ensures found { IfSome result (λ m. (m.0 < 8)
+        × (param_lacks command (param_lent (slice_index_or params.entry m.0 param_kind.None))
+        ≡ Some m.1)) }
+{
+    for place in 0..8 {
+        if let Some(key) = param_lacks(command, params[place]) {
+            return Some((place, key));
+        }
+    }
+    None
+}
+
+/// The first key of a job's own table that a command lacks.
+fn job_lacks(command: Command, job: &Job<&str>) -> Option<JobKey>
+    ensures { result ≡ job_lacks command (job_lent job.now) }
+{
+    if job.vlen.is_none() {
+        return Some(JobKey::Vlen);
+    }
+    if command == Command::Make {
+        return None;
+    }
+    if job.image.is_none() {
+        return Some(JobKey::Image);
+    }
+    if job.agnostic.is_none() {
+        return Some(JobKey::Agnostic);
+    }
+    if job.max.is_none() {
+        return Some(JobKey::Max);
+    }
+    None
+}
+
+/// Whether a command takes a job.
+fn is_taken(command: Command, table: &Table) -> bool
+    ensures { result ≡ is_taken command (table_view table.now) }
+{
+    match command {
+        Command::Run => job_file::run_job_in(table).is_some(),
+        Command::Try => job_file::try_job_in(table).is_some(),
+        Command::Make => job_file::make_job_in(table).is_some(),
+    }
+}
+
+/// Why a job's table is refused.
+fn table_reason(
+    alloc: Global,
+    command: Command,
+    table: &Table,
+) -> Result<Option<JobReason>, AllocError>
+    ensures { IfOk result (IsTableReason command (table_view table.now)) }
+{
+    if is_taken(command, table) {
+        return Ok(None);
+    }
+    let Some(job) = job_file::job_in(table) else {
+        return match breach(alloc, table)? {
+            Some(reason) => Ok(Some(reason)),
+            None => Ok(Some(JobReason::Broken)),
+        };
+    };
+    if let Some(key) = job_lacks(command, &job) {
+        return Ok(Some(JobReason::Missing {
+            table: JobTable::Job,
+            key,
+            command,
+        }));
+    }
+    match params_lack(command, job.params) {
+        Some((place, key)) => Ok(Some(JobReason::Missing {
+            table: JobTable::Param(place),
+            key,
+            command,
+        })),
+        None => Ok(Some(JobReason::Broken)),
+    }
+}
+
+/// How many lines end in these bytes.
+fn lines_in(bytes: &[u8]) -> usize
+    ensures { result ≡ lines_in bytes.now }
+{
+    bytes.iter().filter(|byte| **byte == b'\n').count()
+}
+
+/// Why a job is refused: `None` where the command takes it.
+///
+/// # Errors
+/// An allocation was refused.
+pub fn job_reason(
+    alloc: Global,
+    text: &[u8],
+    command: Command,
+) -> Result<Option<JobReason>, AllocError>
+    ensures { IfOk result (IsJobReason command text.now) }
+{
+    let text = match str::from_utf8(text) {
+        Ok(text) => text,
+        Err(error) => return Ok(Some(JobReason::NotUtf8(error.valid_up_to()))),
+    };
+    match toml::table_from_str(alloc, text) {
+        Ok(table) => table_reason(alloc, command, &table),
+        Err(error) => match error.span() {
+            None => Err(AllocError),
+            Some(span) => Ok(Some(JobReason::NotToml {
+                line: lines_in(&text.as_bytes()[..span.start]),
+                byte: span.start,
+            })),
+        },
+    }
+}
+
+impl JobKey {
+    pub(crate) fn name(self) -> &'static str
+        ensures { result.now ≡ key_name self }
+    {
+        match self {
+            JobKey::Image => "image",
+            JobKey::Vlen => "vlen",
+            JobKey::Agnostic => "agnostic",
+            JobKey::Max => "max",
+            JobKey::Param => "param",
+            JobKey::Kind => "kind",
+            JobKey::Lo => "lo",
+            JobKey::Hi => "hi",
+            JobKey::Value => "value",
+            JobKey::Mode => "mode",
+            JobKey::Size => "size",
+            JobKey::File => "file",
+            JobKey::Out => "out",
+        }
+    }
+
+    /// The values that the key may have.
+    fn wanted(self) -> &'static str
+        ensures { result.now ≡ key_wanted self }
+    {
+        match self {
+            JobKey::Image | JobKey::File | JobKey::Out => "a path",
+            JobKey::Param => "at most eight tables",
+            JobKey::Kind => "\"none\", \"scalar\" or \"buffer\"",
+            JobKey::Vlen => "128, 256 or 512",
+            JobKey::Agnostic => "\"keep\" or \"ones\"",
+            JobKey::Max => "a number in 0..=9223372036854775807",
+            JobKey::Lo | JobKey::Hi | JobKey::Value | JobKey::Size => "a number in 0..=4294967295",
+            JobKey::Mode => "\"r\" or \"rw\"",
+        }
+    }
+}
+
+impl fmt::Display for Command {
+    ghost use Rattle.std.specs.Prelude.{Some};
+    ghost use Rattle.explanations.specs.Job.{command_name};
+
+    ghost output = { λ command. Some (command_name command) };
+
+    fn fmt<W: fmt::Write>(&self, f: &mut fmt::Formatter<W>) -> fmt::Result {
+        f.write_str(match self {
+            Command::Run => "run",
+            Command::Try => "try",
+            Command::Make => "make",
+        })
+    }
+}
+
+impl fmt::Display for JobTable {
+    ghost use Rattle.std.specs.Prelude.{Some};
+    ghost use Rattle.explanations.specs.Job.{table_text};
+
+    ghost output = { λ table. Some (table_text table) };
+
+    fn fmt<W: fmt::Write>(&self, f: &mut fmt::Formatter<W>) -> fmt::Result {
+        match *self {
+            JobTable::Job => write!(f, "the job"),
+            JobTable::Param(place) => write!(f, "the param at place {place}"),
+        }
+    }
+}
+
+/// A key that a command needs.
+#[derive(Clone, Copy)]
+struct Needs {
+    key: JobKey,
+    command: Command,
+}
+
+impl fmt::Display for Needs {
+    ghost use Rattle.std.specs.Prelude.{Some};
+    ghost use Rattle.explanations.specs.Job.{needs_text};
+
+    ghost output = { λ needs. Some (needs_text needs.key needs.command) };
+
+    fn fmt<W: fmt::Write>(&self, f: &mut fmt::Formatter<W>) -> fmt::Result {
+        let command = self.command;
+        let name = self.key.name();
+        write!(f, "  {command} needs {name}")
+    }
+}
+
+/// Where a key stands, and what is wanted of it.
+#[derive(Clone, Copy)]
+struct In {
+    table: JobTable,
+    key: JobKey,
+}
+
+impl fmt::Display for In {
+    ghost use Rattle.std.specs.Prelude.{Some};
+    ghost use Rattle.explanations.specs.Job.{in_text};
+
+    ghost output = { λ place. Some (in_text place.table place.key) };
+
+    fn fmt<W: fmt::Write>(&self, f: &mut fmt::Formatter<W>) -> fmt::Result {
+        let table = self.table;
+        let wanted = self.key.wanted();
+        writeln!(f, " in {table}: {wanted}")
+    }
+}
+
+impl fmt::Display for JobReason {
+    ghost use Rattle.std.specs.Prelude.{Some};
+    ghost use Rattle.explanations.specs.Job.{job_text};
+
+    ghost output = { λ reason. Some (job_text reason) };
+
+    fn fmt<W: fmt::Write>(&self, f: &mut fmt::Formatter<W>) -> fmt::Result {
+        match self {
+            JobReason::NotUtf8(byte) => writeln!(f, "  not UTF-8 from byte {byte} on"),
+            JobReason::NotToml { line, byte } => {
+                writeln!(
+                    f,
+                    "  not TOML from byte {byte} on, behind {line} whole lines"
+                )
+            }
+            JobReason::Broken => {
+                writeln!(
+                    f,
+                    "  wanted: no other keys, and each value of its type and range"
+                )
+            }
+            JobReason::Missing {
+                table,
+                key,
+                command,
+            } => {
+                let needs = Needs {
+                    key: *key,
+                    command: *command,
+                };
+                let place = In {
+                    table: *table,
+                    key: *key,
+                };
+                write!(f, "{needs}{place}")
+            }
+            JobReason::Wrong { table, key } => {
+                let name = key.name();
+                let place = In {
+                    table: *table,
+                    key: *key,
+                };
+                write!(f, "  not as wanted: {name}{place}")
+            }
+            JobReason::Unknown { table, key } => writeln!(f, "  no key of {table}: {key}"),
+            JobReason::TooMany => writeln!(f, "  wanted: at most eight param tables"),
+        }
+    }
+}

@@ -1,0 +1,25 @@
+//! Why a file, a certificate, a job or its arguments were refused: what stands there, and what is wanted.
+//!
+//! Each reason is a value, whose text is one or more lines. Each line begins with two spaces and ends in a newline.
+#![tactic(auto)]
+
+mod access;
+mod address;
+mod certificate;
+mod check;
+mod edge;
+mod headers;
+mod image;
+mod job;
+mod open;
+mod rules;
+
+pub use access::{Access, Operand};
+pub use address::Address;
+pub use certificate::{CertificateReason, certificate_reason};
+pub use check::{CheckReason, Wanted, check_reason};
+pub use edge::{Edge, Entered, Left, Stated};
+pub use headers::{Header, SegmentRule};
+pub use image::{ElfField, ImageReason, image_reason};
+pub use job::{Command, JobKey, JobReason, JobTable, job_reason};
+pub use open::{Given, OpenReason, open_reason};
