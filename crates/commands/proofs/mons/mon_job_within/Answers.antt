@@ -14,6 +14,6 @@ returns-in-Ok g c =
     (λ s it. mons_before g.S.Store.files _ _ _ _ s c.in-Ok.ensures.files it)
     (λ reason why. mon_stops_before g.S.Store.files some all _ reason (λ xs since. gains_more _ (g.S.Store.written c.read_table.new.store) _ [] xs c.in-Ok.ensures.files since) why) c.mon_table-done.ensures c.told.ensures.status c.lines_if.ensures c.told.ensures.told
 
-pub returns-in-Err : goal.returns-in-Err
-returns-in-Err g c =
-    ends_untabled c.args.explain c.lines_if.result.now g.S.Store.files (Gains (g.S.Store.written c.args.store.now) (g.S.Store.written c.read_table.new.store)) c.args.path.now _ _ _ _ c.in-Err.stop c.told.result c.in-Err.ensures.table c.in-Err.ensures.files c.told.ensures.status c.lines_if.ensures c.told.ensures.told
+pub returns : goal.returns
+returns g c =
+    ends_untabled c.args.explain c.lines_if-in-Err.result.now g.S.Store.files (Gains (g.S.Store.written c.args.store.now) (g.S.Store.written c.read_table.new.store)) c.args.path.now _ _ _ _ c.in-Err.stop c.told-in-Err.result c.in-Err.ensures.table c.in-Err.ensures.files c.told-in-Err.ensures.status c.lines_if-in-Err.ensures c.told-in-Err.ensures.told
