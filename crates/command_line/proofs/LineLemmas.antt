@@ -15,7 +15,7 @@ use Rattle.clap.specs.Walk.{answers_to, arg_by_id, arg_by_long, arg_by_short, fi
 use Rattle.clap.proofs.OnLiterals.{clap_on_literals}
 use Rattle.clap.specs.declared.parser.matches.ArgMatches.{ArgMatches}
 use Rattle.clap.specs.declared.parser.matches.ArgMatches.TheViews.{out-ArgMatches, out-SubCommand}
-use Rattle.command_line.specs.Line.{AreMakePathsOf, IsPathOf, app, bare_app, make_paths_of, make_shape, path_of, path_shape, texts_of}
+use Rattle.command_line.specs.Line.{AreMakePathsOf, IsExplained, IsPathOf, app, bare_app, flag_of, make_paths_of, make_shape, path_of, path_shape, texts_of}
 use Rattle.commands.specs.declared.makes.MakePaths.{MakePaths}
 use Rattle.command_line.proofs.FilledRows.{Filled, Filled-with_values, Filled-without, HasText, IsRequest, found_value, rows_filled}
 
@@ -70,37 +70,43 @@ path_given true none = refl
 path_given false none = cc
 
 module _ (name id : Text) where
-  -- the subcommand as `clap` builds it: the path, then `--help`
+  -- the subcommand as `clap` builds it: the path, `--explain`, then `--help`
   abbrev built_path : Shape
   built_path = unwrap_or (slice_get (built (with_subcommand bare_app (path_shape name id))).subs 0) bare_app.top
 
   abbrev path_built_rule : Rule
   path_built_rule = unwrap_or (slice_get built_path.rules 0) (new_rule [])
 
+  abbrev explain_flag : Rule
+  explain_flag = unwrap_or (slice_get built_path.rules 1) (new_rule [])
+
   abbrev help_flag : Rule
-  help_flag = unwrap_or (slice_get built_path.rules 1) (new_rule [])
+  help_flag = unwrap_or (slice_get built_path.rules 2) (new_rule [])
 
   rule_fills : (x : Text) (values : List Text) (rows : List Row) → HasText values → Filled rows
       → Filled (used_by_id (arg_by_id built_path.rules x) values rows)
-  rule_fills x values rows h f = go (bytes_eq id x) (bytes_eq (codes "help") x) values h
+  rule_fills x values rows h f = go (bytes_eq id x) (bytes_eq (codes "explain") x) (bytes_eq (codes "help") x) values h
     where
-      go : (a b : Bool) (values : List Text) → HasText values → Filled (used_by_id (cond a (Some path_built_rule) (cond b (Some help_flag) None)) values rows)
-      go true b [] h = absurd h
-      go true b (v ∷ vs) h = Filled-with_values path_built_rule.id _ _ (v ∷ vs) (without path_built_rule.id rows) tt (Filled-without path_built_rule.id rows f)
-      go false true values h = f
-      go false false values h = f
+      go : (a b c : Bool) (values : List Text) → HasText values
+          → Filled (used_by_id (cond a (Some path_built_rule) (cond b (Some explain_flag) (cond c (Some help_flag) None))) values rows)
+      go a b c [] h = absurd h
+      go true b c (v ∷ vs) h = Filled-with_values path_built_rule.id _ _ (v ∷ vs) (without path_built_rule.id rows) tt (Filled-without path_built_rule.id rows f)
+      go false true c (v ∷ vs) h = Filled-with_values explain_flag.id _ _ (v ∷ vs) (without explain_flag.id rows) tt (Filled-without explain_flag.id rows f)
+      go false false true (v ∷ vs) h = f
+      go false false false (v ∷ vs) h = f
 
   long_is_request : (x : Text) → IsRequest (arg_by_long built_path.rules x)
-  long_is_request x = go (bytes_eq (codes "help") x)
+  long_is_request x = go (bytes_eq (codes "explain") x) (bytes_eq (codes "help") x)
     where
-      go : (b : Bool) → IsRequest (cond (b || false) (slice_get built_path.rules 1) None)
-      go true = (refl, λ rows f. f)
-      go false = tt
+      go : (a b : Bool) → IsRequest (cond (a || false) (slice_get built_path.rules 1) (cond (b || false) (slice_get built_path.rules 2) None))
+      go true b = (refl, λ rows f. Filled-with_values explain_flag.id _ _ (codes "true" ∷ []) (without explain_flag.id rows) tt (Filled-without explain_flag.id rows f))
+      go false true = (refl, λ rows f. f)
+      go false false = tt
 
   short_is_request : (x : ℕ) → IsRequest (arg_by_short built_path.rules x)
   short_is_request x = go (104 == x)
     where
-      go : (b : Bool) → IsRequest (cond (b || false) (slice_get built_path.rules 1) None)
+      go : (b : Bool) → IsRequest (cond (b || false) (slice_get built_path.rules 2) None)
       go true = (refl, λ rows f. f)
       go false = tt
 
@@ -254,6 +260,11 @@ same_entered a words X entered is same =
 pub is_path : (words : List Text) (name id path : Text) (entered : Option (Text × List Row)) → fault_of app words ≡ []
     → entered ≡ subcommand_of app words → Some path ≡ path_of name id entered → IsPathOf words name id path
 is_path words name id path entered none same at = (none, ap (path_of name id) (sym same) ∙ sym at)
+
+-- whether it is to explain
+pub is_explained : (words : List Text) (name : Text) (explain : Bool) (entered : Option (Text × List Row))
+    → entered ≡ subcommand_of app words → explain ≡ flag_of name (codes "explain") entered → IsExplained words name explain
+is_explained words name explain entered same at = at ∙ ap (flag_of name (codes "explain")) same
 
 -- a path that was not found
 pub no_path_of : (words : List Text) (name id : Text) (entered : Option (Text × List Row)) → entered ≡ subcommand_of app words

@@ -1,5 +1,6 @@
 -- What words lead to: the status of a fault, or what their subcommand does.
 use Rattle.std.proofs.Common.{◌≡◌, ◌⊎◌, ℕ, List, Option, Err, OnOk, Bool, true, false, not, ◌||◌, [], ◌∷◌, refl, sym, subst, inl, inr}
+use Rattle.std.proofs.lemmas.List.{append-nil}
 use Rattle.std.specs.Io.KnownBytes.{Appends}
 use Rattle.std.specs.List.{list_any}
 use Rattle.clap.specs.Kinds.{Kinds, IsAmong}
@@ -7,12 +8,11 @@ use Rattle.clap.specs.Words.{kind_of}
 use Rattle.clap.specs.declared.error.kind.ErrorKind.{ErrorKind}
 use Rattle.command_line.specs.Asked.{is_help, is_request, status_of_line}
 use Rattle.commands.specs.Ending.{Ends}
-use Rattle.command_line.specs.Program.{Does, IsAsAsked, IsRefusal, IsStatusFor, Stops}
+use Rattle.command_line.specs.Program.{Does, IsAsAsked, explains, IsRefusal, IsStatusFor, Stops}
 use Rattle.command_line.specs.Line.{IsFaultIn, IsFaultOf, IsLineOf}
 use Rattle.commands.specs.Files.{Files}
 use Rattle.command_line.specs.declared.line.asked.Line.{Line}
 use Rattle.clap.specs.Words.{Text}
-use Rattle.commands.proofs.CommandLemmas.{ends_more}
 use Rattle.command_line.specs.declared.line.asked.LineError.{LineError}
 use Rattle.command_line.specs.declared.line.asked.LineError.TheVariants as line_error
 use Rattle.commands.specs.Texts.{stop_text}
@@ -57,13 +57,9 @@ told_for (k ∷ ks) line_error.NoMemory s fits told answered = subst (λ (t : St
 -- what a subcommand that the words name does, or a fault of theirs
 pub asked_for : (files : Files) (words : List Text) (line : Line) (old new : Option (List ℕ)) (was has : Option Written)
     (told tells : Option (List ℕ)) (ending : Ending)
-    → IsLineOf words line → Ends (Does files line old new was has) (Stops files (Gains was has) line) told tells ending
+    → IsLineOf words line → Ends (explains line) (Does files line old new was has) (Stops files (Gains was has) line) told tells ending
     → IsAsAsked files words old new was has told tells ending
-asked_for files words line old new was has told tells ending is ends none =
-    ends_more (Does files line old new was has) (λ t. (l : Line) × IsLineOf words l × Does files l old new was has t)
-    (Stops files (Gains was has) line)
-    (λ reason. ((reason ≡ stop.Memory) × Gains was has []) ⊎ ((l : Line) × IsLineOf words l × Stops files (Gains was has) l reason))
-    told tells ending (λ t it. (line, is, it)) (λ reason it. inr (line, is, it)) ends
+asked_for files words line old new was has told tells ending is ends none = inr (line, is, ends)
 
 pub asked_nothing : (files : Files) (words : List Text) (error : LineError) (old new : Option (List ℕ)) (was has : Option Written)
     (told tells : Option (List ℕ)) (ending : Ending)
@@ -73,4 +69,11 @@ pub asked_nothing : (files : Files) (words : List Text) (error : LineError) (old
 asked_nothing files words (line_error.Usage error) old new was has told tells ending kept fits status memory none =
     absurd (subst (λ (kinds : Kinds). IsAmong (kind_of error) kinds) none fits)
 asked_nothing files words line_error.NoMemory old new was has told tells ending kept fits status memory none =
-    record { done = Err stop.Memory; comes = inl (refl, kept); status = status refl; told = memory refl }
+    inl (record {
+      done = Err stop.Memory;
+      comes = (refl, kept);
+      status = status refl;
+      more = [];
+      unasked = λ off. refl;
+      told = rw (append-nil) (memory refl);
+    })

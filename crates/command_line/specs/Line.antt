@@ -1,10 +1,10 @@
 -- The command line: which words name which subcommand and paths, over `clap`'s own account of a command.
-use Rattle.std.specs.Prelude.{◌≡◌, List, [], Option, Some, None, option_and_then, option_map, if◌then◌else◌, codes, true}
+use Rattle.std.specs.Prelude.{◌≡◌, List, [], Option, Some, None, option_and_then, option_map, if◌then◌else◌, codes, Bool, true, false}
 use Rattle.std.specs.Str.{bytes_eq}
 use Rattle.command_line.specs.Words.{kind_of, Kinds}
 use Rattle.clap.specs.Words.{App, Row, Rule, Shape, Text, fault_of, first_of, new_app, new_rule, subcommand_of, with_rule, with_subcommand, IsAmong}
 use Rattle.clap.specs.Simple.{new_shape}
-use Rattle.clap.specs.declared.builder.action.ArgAction.TheVariants.{Set}
+use Rattle.clap.specs.declared.builder.action.ArgAction.TheVariants.{Set, SetTrue}
 use Rattle.commands.specs.declared.makes.MakePaths.{MakePaths}
 use Rattle.command_line.specs.declared.line.asked.Line.{Line}
 use Rattle.command_line.specs.declared.line.asked.Line.TheVariants.{Check, Make, Mon, Run, Try}
@@ -15,9 +15,13 @@ use Rattle.command_line.specs.declared.line.asked.LineError.TheVariants.{Usage, 
 abbrev pub path_rule : Text → Rule
 path_rule id = record (new_rule id) { action = Some Set; required = true; value_names = 1 }
 
--- a subcommand of this name, with one path
+-- `--explain`, which has no value
+abbrev pub explain_rule : Rule
+explain_rule = record (new_rule (codes "explain")) { long = Some (codes "explain"); action = Some SetTrue }
+
+-- a subcommand of this name, with one path and `--explain`
 abbrev pub path_shape : Text → Text → Shape
-path_shape name id = (with_rule (new_app name) (path_rule id)).top
+path_shape name id = (with_rule (with_rule (new_app name) (path_rule id)) explain_rule).top
 
 -- `rvvbox` with no subcommand yet
 abbrev pub bare_app : App
@@ -30,7 +34,7 @@ bare_app = record {
   subs = [];
 }
 
--- `check IMAGE`, `run JOB`, `try JOB`, `mon JOB` and `make IMAGE JOB OUT`
+-- `check IMAGE`, `run JOB`, `try JOB` and `mon JOB`, each with `--explain`, and `make IMAGE JOB OUT`
 abbrev pub check_shape : Shape
 check_shape = path_shape (codes "check") (codes "image")
 
@@ -57,6 +61,15 @@ abbrev pub path_of : Text → Text → Option (Text × List Row) → Option Text
 path_of name id entered =
     option_and_then (λ p. if bytes_eq p.0 name then first_of id p.1 else None) entered
 
+-- the text is `true`, as that of a flag that was used
+abbrev pub is_true : Option Text → Bool
+is_true None = false
+is_true (Some text) = bytes_eq text (codes "true")
+
+-- whether matches of a subcommand hold a flag that was used under an id, where the subcommand has this name
+abbrev pub flag_of : Text → Text → Option (Text × List Row) → Bool
+flag_of name id entered = is_true (path_of name id entered)
+
 -- the paths that matches hold, where the subcommand is `make`: of the image, of the job, and of
 -- the file that is written
 abbrev pub make_paths_of : Option (Text × List Row) → Option (Text × Text × Text)
@@ -73,17 +86,25 @@ abbrev pub IsPathOf : List Text → Text → Text → Text → Type 0
 IsPathOf words name id path =
     (fault_of app words ≡ []) × (path_of name id (subcommand_of app words) ≡ Some path)
 
+-- and whether `--explain` is among its words
+abbrev pub IsExplained : List Text → Text → Bool → Type 0
+IsExplained words name explain = explain ≡ flag_of name (codes "explain") (subcommand_of app words)
+
 -- the same of the paths of `make`
 abbrev pub AreMakePathsOf : List Text → MakePaths → Type 0
 AreMakePathsOf words paths =
     (fault_of app words ≡ []) × (make_paths_of (subcommand_of app words) ≡ Some (texts_of paths))
 
--- the subcommand and its paths
+-- the subcommand, its paths and whether it is to explain
 abbrev pub IsLineOf : List Text → Line → Type 0
-IsLineOf words (Check image) = IsPathOf words (codes "check") (codes "image") image.now
-IsLineOf words (Run job) = IsPathOf words (codes "run") (codes "job") job.now
-IsLineOf words (Try job) = IsPathOf words (codes "try") (codes "job") job.now
-IsLineOf words (Mon job) = IsPathOf words (codes "mon") (codes "job") job.now
+IsLineOf words (Check image explain) =
+    IsPathOf words (codes "check") (codes "image") image.now × IsExplained words (codes "check") explain
+IsLineOf words (Run job explain) =
+    IsPathOf words (codes "run") (codes "job") job.now × IsExplained words (codes "run") explain
+IsLineOf words (Try job explain) =
+    IsPathOf words (codes "try") (codes "job") job.now × IsExplained words (codes "try") explain
+IsLineOf words (Mon job explain) =
+    IsPathOf words (codes "mon") (codes "job") job.now × IsExplained words (codes "mon") explain
 IsLineOf words (Make paths) = AreMakePathsOf words paths
 
 -- a fault of usage is one of those that `clap` finds, of the kind that the error shows

@@ -1,5 +1,5 @@
 -- What the words say of how the program ends, and of what it does.
-use Rattle.std.specs.Prelude.{◌≡◌, ◌⊎◌, ℕ, List, Option, not, true, []}
+use Rattle.std.specs.Prelude.{◌≡◌, ◌⊎◌, Bool, ℕ, List, Option, not, true, false, []}
 use Rattle.std.specs.List.{list_any}
 use Rattle.std.specs.declared.io.ErrorKind.{ErrorKind as IoErrorKind}
 use Rattle.std.specs.declared.io.ErrorKind.TheVariants.{OutOfMemory}
@@ -40,23 +40,31 @@ IsStatusFor kinds s = IsRefusal kinds s
 -- what a command line's subcommand does with its paths
 abbrev pub Does : Files → Line → Option (List ℕ) → Option (List ℕ) → Option Written → Option Written
     → Status → Type 0
-Does files (Check image) old new was has = Checks files image.now old new was has
-Does files (Run job) old new was has =
+Does files (Check image explain) old new was has = Checks files image.now old new was has
+Does files (Run job explain) old new was has =
     OfTable files job.now (λ table. Runs files table old new was has)
-Does files (Try job) old new was has =
+Does files (Try job explain) old new was has =
     OfTable files job.now (λ table. Tries files table old new was has)
-Does files (Mon job) old new was has = OfTable files job.now (λ table. Mons files table was has)
+Does files (Mon job explain) old new was has = OfTable files job.now (λ table. Mons files table was has)
 Does files (Make paths) old new was has = OfTable files paths.job.now
     (λ table. Makes files paths.image.now paths.out.now table old new was has)
 
 -- why it stops: `wrote xs` says that the files `xs` were written
 abbrev pub Stops : Files → (Written → Type 0) → Line → Stop → Type 0
-Stops files wrote (Check image) = StopsCheck files wrote image.now
-Stops files wrote (Run job) = StopsOfTable files wrote job.now (StopsRun files wrote)
-Stops files wrote (Try job) = StopsOfTable files wrote job.now (StopsTry files wrote)
-Stops files wrote (Mon job) = StopsOfTable files wrote job.now (StopsMon files wrote)
+Stops files wrote (Check image explain) = StopsCheck files wrote image.now
+Stops files wrote (Run job explain) = StopsOfTable files wrote job.now (StopsRun files wrote)
+Stops files wrote (Try job explain) = StopsOfTable files wrote job.now (StopsTry files wrote)
+Stops files wrote (Mon job explain) = StopsOfTable files wrote job.now (StopsMon files wrote)
 Stops files wrote (Make paths) =
     StopsOfTable files wrote paths.job.now (StopsMake files wrote paths.image.now paths.out.now)
+
+-- whether it is to explain
+abbrev pub explains : Line → Bool
+explains (Check image explain) = explain
+explains (Run job explain) = explain
+explains (Try job explain) = explain
+explains (Mon job explain) = explain
+explains (Make paths) = false
 
 -- words in which `clap` finds no fault end as the subcommand does that they name, or memory runs out first.
 -- `old` and `new` are what standard output has before and after, `was` and `has` the files that were
@@ -64,10 +72,9 @@ Stops files wrote (Make paths) =
 abbrev pub IsAsAsked : Files → List Text → Option (List ℕ) → Option (List ℕ) → Option Written → Option Written
     → Option (List ℕ) → Option (List ℕ) → Ending → Type 0
 IsAsAsked files words old new was has told tells ending = fault_of app words ≡ []
-    → Ends (λ s. (line : Line) × IsLineOf words line × Does files line old new was has s)
-    (λ reason. ((reason ≡ stop.Memory) × Gains was has [])
-    ⊎ ((line : Line) × IsLineOf words line × Stops files (Gains was has) line reason))
-    told tells ending
+    → Ends false (λ s. ⊥) (λ reason. (reason ≡ stop.Memory) × Gains was has []) told tells ending
+    ⊎ ((line : Line) × IsLineOf words line
+    × Ends (explains line) (Does files line old new was has) (Stops files (Gains was has) line) told tells ending)
 
 -- words that the system does not give: memory ran out, or they are not UTF-8
 abbrev pub status_without_words : IoErrorKind → Status

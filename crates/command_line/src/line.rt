@@ -3,7 +3,8 @@ ghost use Rattle.std.specs.Prelude.{◌≡◌, IfErr, IfOk, codes, false, map, o
 ghost use Rattle.clap.specs.Words.{app_of, rule_of, shape_of, subcommand_rows_of};
 ghost use Rattle.clap.specs.Words.{with_rule, with_subcommand};
 ghost use Rattle.clap.specs.declared.builder.command.Command.TheViews.{out-Command as fields_of};
-ghost use Rattle.command_line.specs.Line.{IsFaultOf, IsLineOf, app, make_paths_of, path_of, path_rule};
+ghost use Rattle.command_line.specs.Line.{IsFaultOf, IsLineOf, app, explain_rule, flag_of};
+ghost use Rattle.command_line.specs.Line.{make_paths_of, path_of, path_rule};
 ghost use Rattle.command_line.specs.Line.{check_shape, make_shape, mon_shape, run_shape};
 ghost use Rattle.command_line.specs.Line.{texts_of, try_shape};
 
@@ -40,6 +41,17 @@ fn path_argument<'a>(alloc: Global, id: &'a str, name: &'a str, help: &'a str) -
         .action(ArgAction::Set)
 }
 
+/// `--explain`.
+fn explain_flag<'a>(alloc: Global) -> Arg<'a>
+    ensures rule { rule_of result ≡ explain_rule }
+    ensures local { result.global ≡ false }
+{
+    Arg::new(alloc, "explain")
+        .long("explain")
+        .help("Tells more of why it stops")
+        .action(ArgAction::SetTrue)
+}
+
 /// `check IMAGE`.
 fn check_command<'a>(alloc: Global) -> Result<Command<'a>, AllocError>
     ensures shape { IfOk result (λ c. shape_of c ≡ check_shape) }
@@ -48,7 +60,8 @@ fn check_command<'a>(alloc: Global) -> Result<Command<'a>, AllocError>
     let image = path_argument(alloc, "image", "IMAGE", "The image file");
     Command::new(alloc, "check")
         .about("Checks an image against its certificate")
-        .arg(image)
+        .arg(image)?
+        .arg(explain_flag(alloc))
 }
 
 /// `run JOB`.
@@ -59,7 +72,8 @@ fn run_command<'a>(alloc: Global) -> Result<Command<'a>, AllocError>
     let job = path_argument(alloc, "job", "JOB", "The job file");
     Command::new(alloc, "run")
         .about("Checks a job's image against its certificate, and runs it if it is accepted")
-        .arg(job)
+        .arg(job)?
+        .arg(explain_flag(alloc))
 }
 
 /// `try JOB`.
@@ -70,7 +84,8 @@ fn try_command<'a>(alloc: Global) -> Result<Command<'a>, AllocError>
     let job = path_argument(alloc, "job", "JOB", "The job file");
     Command::new(alloc, "try")
         .about("Runs a job's image, accepted or not, with every test at each step")
-        .arg(job)
+        .arg(job)?
+        .arg(explain_flag(alloc))
 }
 
 /// `mon JOB`.
@@ -82,7 +97,8 @@ fn mon_command<'a>(alloc: Global) -> Result<Command<'a>, AllocError>
     Command::new(alloc, "mon")
         .about("Checks a job's image, and answers commands on its run from standard input")
         .after_help(MON_COMMANDS)
-        .arg(job)
+        .arg(job)?
+        .arg(explain_flag(alloc))
 }
 
 /// `command` with one more path, under `id`, shown as `name`.
@@ -149,6 +165,16 @@ fn path<'a>(matches: &ArgMatches<'a>, name: &str, id: &str) -> Option<&'a str>
     matches.subcommand_matches(name)?.get_str(id)
 }
 
+/// Whether the subcommand `name` is to explain.
+fn is_asked(matches: &ArgMatches<'_>, name: &str) -> bool
+    ensures { result ≡ flag_of name.now (codes "explain") (subcommand_rows_of matches.now) }
+{
+    match path(matches, name, "explain") {
+        Some(word) => word == "true",
+        None => false,
+    }
+}
+
 /// The paths of `make`, where that one was used.
 fn make_paths<'a>(matches: &ArgMatches<'a>) -> Option<MakePaths<'a>>
     ensures { option_map texts_of result ≡ make_paths_of (subcommand_rows_of matches.now) }
@@ -172,13 +198,17 @@ pub fn line<'a>(alloc: Global, words: &'a [&'a str]) -> Result<Line<'a>, LineErr
     match command.try_get_matches_from(words) {
         Ok(matches) => {
             if let Some(image) = path(&matches, "check", "image") {
-                Ok(Line::Check { image })
+                let explain = is_asked(&matches, "check");
+                Ok(Line::Check { image, explain })
             } else if let Some(job) = path(&matches, "run", "job") {
-                Ok(Line::Run { job })
+                let explain = is_asked(&matches, "run");
+                Ok(Line::Run { job, explain })
             } else if let Some(job) = path(&matches, "try", "job") {
-                Ok(Line::Try { job })
+                let explain = is_asked(&matches, "try");
+                Ok(Line::Try { job, explain })
             } else if let Some(job) = path(&matches, "mon", "job") {
-                Ok(Line::Mon { job })
+                let explain = is_asked(&matches, "mon");
+                Ok(Line::Mon { job, explain })
             } else if let Some(paths) = make_paths(&matches) {
                 Ok(Line::Make(paths))
             } else {

@@ -1,5 +1,5 @@
 -- How a subcommand ends, from what was done and what was told.
-use Rattle.std.proofs.Common.{◌≡◌, ◌∙◌, ℕ, List, [], Option, Some, None, option_map, Result, Ok, Err, IfOk, IfErr, OnOk, MatchResult, map, ap, sym, subst, inl, inr, refl}
+use Rattle.std.proofs.Common.{◌≡◌, ◌∙◌, ◌++◌, Bool, false, ℕ, List, [], Option, Some, None, option_map, Result, Ok, Err, IfOk, IfErr, OnOk, MatchResult, map, ap, sym, subst, inl, inr, refl}
 use Rattle.std.proofs.lemmas.List.{append-nil}
 use Rattle.std.specs.Io.KnownBytes.{Appends}
 use Rattle.std.specs.Option.{ok_or}
@@ -37,37 +37,26 @@ tells_nothing None = tt
 tells_nothing (Some had) = sym (append-nil had)
 
 -- a subcommand on the table of a job: `first` is what it does after the table was read, and `why` why it then stops
-pub ends_of_table : (files : Files) (wrote : Written → Type 0) (path : Text) (does : Members → Status → Type 0)
+pub ends_of_table : (explains : Bool) (more : List ℕ) (files : Files) (wrote : Written → Type 0) (path : Text) (does : Members → Status → Type 0)
     (stops : Members → Stop → Type 0) (old new : Option (List ℕ)) (table : Members) (first : Status → Type 0)
     (why : Stop → Type 0) (done : Result Status Stop) (ending : Ending)
     → IsTableAt files path table → ((s : Status) → first s → does table s)
     → ((reason : Stop) → why reason → stops table reason) → MatchResult done first why
-    → ending.status ≡ status_after done → OnOk ending.told (Appends old new (text_after done))
-    → Ends (OfTable files path does) (StopsOfTable files wrote path stops) old new ending
-ends_of_table files wrote path does stops old new table first why (Ok s) ending there more mores it status told =
-    record { done = Ok s; comes = (table, there, more s it); status = status; told = told }
-ends_of_table files wrote path does stops old new table first why (Err reason) ending there more mores it status told =
-    record { done = Err reason; comes = inr (table, there, mores reason it); status = status; told = told }
+    → ending.status ≡ status_after done → (explains ≡ false → more ≡ []) → OnOk ending.told (Appends old new (text_after done ++ more))
+    → Ends explains (OfTable files path does) (StopsOfTable files wrote path stops) old new ending
+ends_of_table explains more files wrote path does stops old new table first why (Ok s) ending there does_so stops_so it status unasked told =
+    record { done = Ok s; comes = (table, there, does_so s it); status = status; more = more; unasked = unasked; told = told }
+ends_of_table explains more files wrote path does stops old new table first why (Err reason) ending there does_so stops_so it status unasked told =
+    record { done = Err reason; comes = inr (table, there, stops_so reason it); status = status; more = more; unasked = unasked; told = told }
 
 -- where no table is read
-pub ends_untabled : (files : Files) (wrote : Written → Type 0) (path : Text) (does : Members → Status → Type 0)
+pub ends_untabled : (explains : Bool) (more : List ℕ) (files : Files) (wrote : Written → Type 0) (path : Text) (does : Members → Status → Type 0)
     (stops : Members → Stop → Type 0) (old new : Option (List ℕ)) (reason : Stop) (ending : Ending)
     → IsNoTableAt files path reason → wrote []
-    → ending.status ≡ status_after (Err reason) → OnOk ending.told (Appends old new (text_after (Err reason)))
-    → Ends (OfTable files path does) (StopsOfTable files wrote path stops) old new ending
-ends_untabled files wrote path does stops old new reason ending none kept status told =
-    record { done = Err reason; comes = inl (none, kept); status = status; told = told }
-
--- the same subcommand, of which less is said
-pub ends_more : (some all : Status → Type 0) (why whys : Stop → Type 0) (old new : Option (List ℕ)) (ending : Ending)
-    → ((s : Status) → some s → all s) → ((reason : Stop) → why reason → whys reason)
-    → Ends some why old new ending → Ends all whys old new ending
-ends_more some all why whys old new ending more mores ends =
-    record { done = ends.done; comes = go ends.done ends.comes; status = ends.status; told = ends.told }
-  where
-    go : (done : Result Status Stop) → MatchResult done some why → MatchResult done all whys
-    go (Ok s) it = more s it
-    go (Err reason) it = mores reason it
+    → ending.status ≡ status_after (Err reason) → (explains ≡ false → more ≡ []) → OnOk ending.told (Appends old new (text_after (Err reason) ++ more))
+    → Ends explains (OfTable files path does) (StopsOfTable files wrote path stops) old new ending
+ends_untabled explains more files wrote path does stops old new reason ending none kept status unasked told =
+    record { done = Err reason; comes = inl (none, kept); status = status; more = more; unasked = unasked; told = told }
 
 -- ---- what is defined, where the answer is no reason to stop
 

@@ -1,5 +1,5 @@
 -- How the program ends: the reason to stop that each error is, the status of each reason, and each status as a number.
-use Rattle.std.specs.Prelude.{◌≡◌, ℕ, List, [], Option, Result, Ok, Err, MatchResult, OnOk}
+use Rattle.std.specs.Prelude.{◌≡◌, ◌++◌, Bool, false, ℕ, List, [], Option, Result, Ok, Err, MatchResult, OnOk}
 use Rattle.std.specs.Io.KnownBytes.{Appends}
 use Rattle.block_checker.specs.declared.errors.CheckError.{CheckError}
 use Rattle.block_checker.specs.declared.errors.CheckError.TheVariants as check_error
@@ -108,9 +108,12 @@ text_after (Ok s) = []
 text_after (Err reason) = stop_text reason
 
 -- a subcommand does what it does, or stops for one of its reasons: the status says which, and standard
--- error has grown by the reason's line, where it took that. `old` and `new` are what it has before and after
-pub record Ends (does : Status → Type 0) (stops : Stop → Type 0) (old new : Option (List ℕ)) (ending : Ending) : Type 0 where
+-- error has grown by the reason's line, and, where it is to explain, by some more behind it, where it took
+-- that. `old` and `new` are what it has before and after
+pub record Ends (explains : Bool) (does : Status → Type 0) (stops : Stop → Type 0) (old new : Option (List ℕ)) (ending : Ending) : Type 0 where
   pub done : Result Status Stop
   pub comes : MatchResult done does stops
   pub status : ending.status ≡ status_after done
-  pub told : OnOk ending.told (Appends old new (text_after done))
+  pub more : List ℕ
+  pub unasked : explains ≡ false → more ≡ []
+  pub told : OnOk ending.told (Appends old new (text_after done ++ more))

@@ -5,6 +5,7 @@ ghost use Rattle.commands.specs.Accepted.{IsOrWant, accepted_of, certificate_in}
 ghost use Rattle.commands.specs.Trial.{OrMemory};
 
 use crate::stop::Stop;
+use crate::why::{Missing, Why, note_certificate, note_check};
 use block_checker::{Accepted, check};
 use cert_note::Certificate;
 use elf_image::Image;
@@ -12,12 +13,23 @@ use std::alloc::Global;
 use vreg_groups::Vlen;
 
 /// The certificate in an image's note.
-fn certificate_in<'a>(alloc: Global, image: &Image) -> Result<Certificate, Stop<'a>>
+fn certificate_in<'a>(
+    alloc: Global,
+    image: &Image,
+    why: &mut Why,
+) -> Result<Certificate, Stop<'a>>
     ensures { OrMemory (certificate_in image.now.certificate) result }
 {
-    match image.certificate() {
-        Some(bytes) => Ok(cert_note::read(alloc, bytes)?),
-        None => Err(Stop::NoCertificate),
+    let Some(bytes) = image.certificate() else {
+        why.note(&Missing::Certificate);
+        return Err(Stop::NoCertificate);
+    };
+    match cert_note::read(alloc, bytes) {
+        Ok(certificate) => Ok(certificate),
+        Err(error) => {
+            note_certificate(alloc, bytes, error, why);
+            Err(Stop::from(error))
+        }
     }
 }
 
@@ -25,14 +37,22 @@ fn certificate_in<'a>(alloc: Global, image: &Image) -> Result<Certificate, Stop<
 /// certificate's own where that is `None`.
 ///
 /// `NoCertificate` and the error of a certificate that can't be read come before the check's error.
-pub fn accept<'a>(alloc: Global, image: Image, vlen: Option<Vlen>) -> Result<Accepted, Stop<'a>>
+pub fn accept<'a>(
+    alloc: Global,
+    image: Image,
+    vlen: Option<Vlen>,
+    why: &mut Why,
+) -> Result<Accepted, Stop<'a>>
     ensures answer { IsOrWant (accepted_of vlen image) result }
     ensures passes { IfOk result Passes }
 {
-    let certificate = certificate_in(alloc, &image)?;
+    let certificate = certificate_in(alloc, &image, why)?;
     let vlen = vlen.unwrap_or(certificate.contents().vlen);
     match check(alloc, image, certificate, vlen) {
         Ok(accepted) => Ok(accepted),
-        Err((error, _, _)) => Err(Stop::from(error)),
+        Err((error, image, certificate)) => {
+            note_check(alloc, &image, &certificate, vlen, why);
+            Err(Stop::from(error))
+        }
     }
 }

@@ -9,6 +9,7 @@ use crate::accepted::accept;
 use crate::files::read_image;
 use crate::stop::{Ending, Status, Stop, told};
 use crate::store::Store;
+use crate::why::Why;
 use cert_note::Budget;
 use std::alloc::Global;
 use std::io;
@@ -18,21 +19,24 @@ use std::io::Write;
 /// the bound that the certificate states.
 ///
 /// In this order, up to the first that is refused or fails, which is told: the image file, the image, the certificate, the
-/// check, the printed line.
+/// check, the printed line. Where it is to `explain`, more of why it stops is told behind the reason's line.
 pub fn check_image<S: Store, O: Write, E: Write>(
     alloc: Global,
     path: &str,
+    explain: bool,
     store: &mut S,
     output: &mut O,
     errors: &mut E,
 ) -> Ending
-    ensures { Ends
+    ensures { Ends explain
         (Checks S.files path.now (O.contents output.old) (O.contents output.new)
         (S.written store.old) (S.written store.new))
         (StopsCheck S.files (Gains (S.written store.old) (S.written store.new)) path.now)
         (E.contents errors.old) (E.contents errors.new) result }
 {
-    told(check_at(alloc, path, store, output), errors)
+    let mut why = Why::new(alloc, explain);
+    let done = check_at(alloc, path, store, output, &mut why);
+    told(done, why.lines_if(explain), errors)
 }
 
 fn check_at<'a, S: Store, O: Write>(
@@ -40,14 +44,15 @@ fn check_at<'a, S: Store, O: Write>(
     path: &'a str,
     store: &mut S,
     output: &mut O,
+    why: &mut Why,
 ) -> Result<Status, Stop<'a>>
     ensures { MatchResult result
         (Checks S.files path.entry.now (O.contents output.old) (O.contents output.new)
         (S.written store.old) (S.written store.new))
         (StopsCheck S.files (Gains (S.written store.old) (S.written store.new)) path.entry.now) }
 {
-    let image = read_image(alloc, path, store)?;
-    let accepted = accept(alloc, image, None)?;
+    let image = read_image(alloc, path, store, why)?;
+    let accepted = accept(alloc, image, None, why)?;
     match print_bound(accepted.budget(), output) {
         Ok(()) => Ok(Status::Done),
         Err(_) => Err(Stop::Output),

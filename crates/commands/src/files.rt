@@ -12,14 +12,28 @@ ghost use Rattle.commands.specs.Written.{Gains};
 
 use crate::stop::Stop;
 use crate::store::Store;
+use crate::why::{FileReason, Why, note_job};
 use elf_image::Image;
+use explanations::{Command, image_reason};
 use job_file::{JobError, RunParam, parse};
 use region_mem::{Arg, Args, Bytes};
 use std::alloc::Global;
 use toml::Table;
 
+/// Notes what the system said of the last call.
+fn note_failure<S: Store>(store: &S, why: &mut Why) {
+    if let Some(kind) = store.last_failure() {
+        why.note(&FileReason(kind));
+    }
+}
+
 /// The file at `path`.
-pub fn read<'a, S: Store>(alloc: Global, path: &'a str, store: &mut S) -> Result<Vec<u8>, Stop<'a>>
+pub fn read<'a, S: Store>(
+    alloc: Global,
+    path: &'a str,
+    store: &mut S,
+    why: &mut Why,
+) -> Result<Vec<u8>, Stop<'a>>
     ensures bytes { MatchResult result
         (λ bytes. S.files.holds path.entry.now bytes.items)
         (IsOfFile S.files.unread path.entry.now) }
@@ -27,22 +41,28 @@ pub fn read<'a, S: Store>(alloc: Global, path: &'a str, store: &mut S) -> Result
 {
     match store.read(alloc, path) {
         Ok(bytes) => Ok(bytes),
-        Err(error) => Err(Stop::at_file(error, path)),
+        Err(error) => {
+            note_failure(store, why);
+            Err(Stop::at_file(error, path))
+        }
     }
 }
 
-/// The table of the job at `path`.
+/// The table of the job at `path`, for a command. Why that refuses it, if it does, is noted.
 pub fn read_table<'a, S: Store>(
     alloc: Global,
     path: &'a str,
+    command: Command,
     store: &mut S,
+    why: &mut Why,
 ) -> Result<Table, Stop<'a>>
     ensures table { MatchResult result
         (λ table. IsTableAt S.files path.entry.now (table_view table))
         (IsNoTableAt S.files path.entry.now) }
     ensures files { Gains (S.written store.old) (S.written store.new) [] }
 {
-    let bytes = read(alloc, path, store)?;
+    let bytes = read(alloc, path, store, why)?;
+    note_job(alloc, bytes.as_slice(), command, why);
     table_in(alloc, bytes.as_slice())
 }
 
@@ -62,20 +82,27 @@ pub fn read_image<'a, S: Store>(
     alloc: Global,
     path: &'a str,
     store: &mut S,
+    why: &mut Why,
 ) -> Result<Image, Stop<'a>>
     ensures image { MatchResult result
         (IsImageAt S.files path.entry.now) (IsNoImageAt S.files path.entry.now) }
     ensures files { Gains (S.written store.old) (S.written store.new) [] }
 {
-    let bytes = read(alloc, path, store)?;
-    image_in(alloc, bytes.as_slice())
+    let bytes = read(alloc, path, store, why)?;
+    image_in(alloc, bytes.as_slice(), why)
 }
 
 /// The image that a file spells.
-pub fn image_in<'a>(alloc: Global, file: &[u8]) -> Result<Image, Stop<'a>>
+pub fn image_in<'a>(alloc: Global, file: &[u8], why: &mut Why) -> Result<Image, Stop<'a>>
     ensures { IsOrWant (image_in file.now) result }
 {
-    Ok(elf_image::read(alloc, file)?)
+    match elf_image::read(alloc, file) {
+        Ok(image) => Ok(image),
+        Err(error) => {
+            why.note(&image_reason(file, error));
+            Err(Stop::from(error))
+        }
+    }
 }
 
 /// What a job passes, by place: its scalars, and the bytes of its files.
@@ -83,6 +110,7 @@ pub fn read_args<'a, S: Store>(
     alloc: Global,
     params: &[RunParam<&'a str>; 8],
     store: &mut S,
+    why: &mut Why,
 ) -> Result<Args, Stop<'a>>
     ensures passed { MatchResult result
         (λ args. ArePassed S.files (map run_param_lent params.now) args.places)
@@ -91,7 +119,7 @@ pub fn read_args<'a, S: Store>(
 {
     let mut places = no_args();
     for place in 0..8 {
-        places[place] = read_arg(alloc, &params[place], store)?;
+        places[place] = read_arg(alloc, &params[place], store, why)?;
     }
     Ok(Args { places })
 }
@@ -115,6 +143,7 @@ fn read_arg<'a, S: Store>(
     alloc: Global,
     param: &RunParam<&'a str>,
     store: &mut S,
+    why: &mut Why,
 ) -> Result<Arg, Stop<'a>>
     ensures passed { MatchResult result (IsPassed S.files (run_param_lent param.now))
         (IsOfParam S.files (run_param_lent param.now)) }
@@ -124,7 +153,7 @@ fn read_arg<'a, S: Store>(
         RunParam::None => Ok(Arg::None),
         RunParam::Scalar(value) => Ok(Arg::Scalar(*value)),
         RunParam::Buffer { file, .. } => {
-            let bytes = read(alloc, *file, store)?;
+            let bytes = read(alloc, *file, store, why)?;
             Ok(Arg::Buffer(Bytes::new(bytes)))
         }
     }
@@ -148,13 +177,21 @@ fn out_file<'a, 'b>(param: &RunParam<&'a str>, arg: &'b Arg) -> Option<(&'a str,
 }
 
 /// Writes the file at `path`.
-pub fn write<'a, S: Store>(path: &'a str, bytes: &[u8], store: &mut S) -> Result<(), Stop<'a>>
+pub fn write<'a, S: Store>(
+    path: &'a str,
+    bytes: &[u8],
+    store: &mut S,
+    why: &mut Why,
+) -> Result<(), Stop<'a>>
     ensures { IsWritten S.files (S.written store.old) (S.written store.new)
         (path.entry.now, bytes.now) result }
 {
     match store.write(path, bytes) {
         Ok(()) => Ok(()),
-        Err(error) => Err(Stop::at_file(error, path)),
+        Err(error) => {
+            note_failure(store, why);
+            Err(Stop::at_file(error, path))
+        }
     }
 }
 
@@ -163,12 +200,13 @@ fn write_out<'a, S: Store>(
     param: &RunParam<&'a str>,
     arg: &Arg,
     store: &mut S,
+    why: &mut Why,
 ) -> Result<(), Stop<'a>>
     ensures { IsOutWritten S.files (S.written store.old) (S.written store.new)
         (out_file (run_param_lent param.now, arg.now)) result }
 {
     match out_file(param, arg) {
-        Some((path, bytes)) => write(path, bytes, store),
+        Some((path, bytes)) => write(path, bytes, store, why),
         None => Ok(()),
     }
 }
@@ -178,12 +216,13 @@ pub fn write_outs<'a, S: Store>(
     params: &[RunParam<&'a str>; 8],
     args: &[Arg; 8],
     store: &mut S,
+    why: &mut Why,
 ) -> Result<(), Stop<'a>>
     ensures { AreWritten S.files (S.written store.old) (S.written store.new)
         (map run_param_lent params.now) args.now result }
 {
     for place in 0..8 {
-        write_out(&params[place], &args[place], store)?;
+        write_out(&params[place], &args[place], store, why)?;
     }
     Ok(())
 }

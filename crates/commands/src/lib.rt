@@ -2,7 +2,8 @@
 //!
 //! Each has a module: `checks`, `makes`, `mons`, `runs` and `tries`. What they share stands in the others: `files` (what is read, and
 //! the out files), `accepted` (an image with its certificate), `lines` (the input of `mon`), `trial` (what comes of a run), `stop`
-//! (statuses and reasons to stop), `texts` (how those are told), `store` (where files are) and `hex`.
+//! (statuses and reasons to stop), `texts` (how those are told), `why` (what more is told of them),
+//! `store` (where files are) and `hex`.
 #![tactic(auto)]
 
 mod accepted;
@@ -18,6 +19,7 @@ mod store;
 mod texts;
 mod trial;
 mod tries;
+mod why;
 
 pub use checks::check_image;
 pub use makes::{MakePaths, make_image};

@@ -15,10 +15,12 @@ use crate::checks::print_bound;
 use crate::files::{image_in, read, read_table, write};
 use crate::stop::{Ending, Status, Stop, told};
 use crate::store::Store;
+use crate::why::Why;
 use block_checker::Accepted;
 use cert_maker::make;
 use cert_note::Certificate;
 use elf_image::{Image, attach};
+use explanations::Command;
 use job_file::{JobError, MakeJob, make_job_in};
 use region_mem::Parameters;
 use std::alloc::Global;
@@ -43,14 +45,17 @@ pub struct MakePaths<'a> {
 /// In this order, up to the first that is refused or fails, which is told: the job file, the job,
 /// the image file, the image, the parameters, the certificate, the file with it, that file read
 /// back, its certificate, the check, the file that is written, the printed line.
+///
+/// Where it is to `explain`, more of why it stops is told behind the reason's line.
 pub fn make_image<'a, S: Store, O: Write, E: Write>(
     alloc: Global,
     paths: MakePaths<'a>,
+    explain: bool,
     store: &mut S,
     output: &mut O,
     errors: &mut E,
 ) -> Ending
-    ensures { Ends
+    ensures { Ends explain
         (OfTable S.files paths.entry.job.now (λ table.
         Makes S.files paths.entry.image.now paths.entry.out.now table
         (O.contents output.old) (O.contents output.new)
@@ -60,9 +65,13 @@ pub fn make_image<'a, S: Store, O: Write, E: Write>(
         paths.entry.image.now paths.entry.out.now))
         (E.contents errors.old) (E.contents errors.new) result }
 {
-    match read_table(alloc, paths.job, store) {
-        Ok(table) => told(make_table(alloc, &table, paths, store, output), errors),
-        Err(stop) => stop.tell(errors),
+    let mut why = Why::new(alloc, explain);
+    match read_table(alloc, paths.job, Command::Make, store, &mut why) {
+        Ok(table) => {
+            let done = make_table(alloc, &table, paths, store, output, &mut why);
+            told(done, why.lines_if(explain), errors)
+        }
+        Err(stop) => told(Err(stop), why.lines_if(explain), errors),
     }
 }
 
@@ -73,6 +82,7 @@ fn make_table<'a, S: Store, O: Write>(
     paths: MakePaths<'a>,
     store: &mut S,
     output: &mut O,
+    why: &mut Why,
 ) -> Result<Status, Stop<'a>>
     ensures { MatchResult result
         (Makes S.files paths.entry.image.now paths.entry.out.now (table_view table.now)
@@ -82,10 +92,11 @@ fn make_table<'a, S: Store, O: Write>(
         paths.entry.image.now paths.entry.out.now (table_view table.now)) }
 {
     let job = make_job_in(table).ok_or(JobError::BadKey)?;
-    let file = read(alloc, paths.image, store)?;
-    let bytes = made(alloc, &job, file.as_slice())?;
-    let accepted = read_back(alloc, &job, bytes.as_slice())?;
-    write(paths.out, bytes.as_slice(), store)?;
+    why.forget();
+    let file = read(alloc, paths.image, store, why)?;
+    let bytes = made(alloc, &job, file.as_slice(), why)?;
+    let accepted = read_back(alloc, &job, bytes.as_slice(), why)?;
+    write(paths.out, bytes.as_slice(), store, why)?;
     match print_bound(accepted.budget(), output) {
         Ok(()) => Ok(Status::Done),
         Err(_) => Err(Stop::Output),
@@ -113,19 +124,29 @@ fn with_certificate<'a>(
 }
 
 /// A file with the certificate that is made of it for a job.
-fn made<'a>(alloc: Global, job: &MakeJob, file: &[u8]) -> Result<Vec<u8>, Stop<'a>>
+fn made<'a>(
+    alloc: Global,
+    job: &MakeJob,
+    file: &[u8],
+    why: &mut Why,
+) -> Result<Vec<u8>, Stop<'a>>
     ensures { AnswersBytes (made_of job.now file.now) result }
 {
-    let image = image_in(alloc, file)?;
+    let image = image_in(alloc, file, why)?;
     let certificate = certificate_for(alloc, job, &image)?;
     with_certificate(alloc, file, &certificate)
 }
 
 /// What is accepted where a file that was made is read back.
-fn read_back<'a>(alloc: Global, job: &MakeJob, bytes: &[u8]) -> Result<Accepted, Stop<'a>>
+fn read_back<'a>(
+    alloc: Global,
+    job: &MakeJob,
+    bytes: &[u8],
+    why: &mut Why,
+) -> Result<Accepted, Stop<'a>>
     ensures answer { IsOrWant (accepted_in job.now bytes.now) result }
     ensures passes { IfOk result Passes }
 {
-    let image = image_in(alloc, bytes)?;
-    accept(alloc, image, Some(job.vlen))
+    let image = image_in(alloc, bytes, why)?;
+    accept(alloc, image, Some(job.vlen), why)
 }

@@ -12,7 +12,9 @@ use crate::files::{read_args, read_image, read_table, write_outs};
 use crate::lines::answer_lines;
 use crate::stop::{Ending, Status, Stop, told};
 use crate::store::{MOST_READS, Store};
+use crate::why::{Why, note_open};
 use block_checker::Accepted;
+use explanations::Command;
 use job_file::{JobError, RunJob, run_job_in};
 use monitor::Monitor;
 use region_mem::Args;
@@ -29,22 +31,25 @@ use vreg_groups::{Agnostic, Vlen};
 /// In this order, up to the first that is refused or fails, which is told: the job file, the job, the image file, the
 /// image, the certificate, the check, the parameters' files by place, the start of the run, the lines and their answers,
 /// the out files by place.
+///
+/// Where it is to `explain`, more of why it stops is told behind the reason's line.
 pub fn mon_job<S: Store, I: Read, O: Write, E: Write>(
     alloc: Global,
     path: &str,
+    explain: bool,
     store: &mut S,
     input: &mut I,
     output: &mut O,
     errors: &mut E,
 ) -> Ending
-    ensures { Ends
+    ensures { Ends explain
         (OfTable S.files path.now (λ table.
         Mons S.files table (S.written store.old) (S.written store.new)))
         (StopsOfTable S.files (Gains (S.written store.old) (S.written store.new)) path.now
         (StopsMon S.files (Gains (S.written store.old) (S.written store.new))))
         (E.contents errors.old) (E.contents errors.new) result }
 {
-    mon_job_within(alloc, path, store, input, output, errors, MOST_READS)
+    mon_job_within(alloc, path, explain, store, input, output, errors, MOST_READS)
 }
 
 /// As `mon_job`, with at most `reads` reads of the input. If none of them finds its end or the command `q`, it counts as one that
@@ -52,25 +57,27 @@ pub fn mon_job<S: Store, I: Read, O: Write, E: Write>(
 pub fn mon_job_within<S: Store, I: Read, O: Write, E: Write>(
     alloc: Global,
     path: &str,
+    explain: bool,
     store: &mut S,
     input: &mut I,
     output: &mut O,
     errors: &mut E,
     reads: u64,
 ) -> Ending
-    ensures { Ends
+    ensures { Ends explain
         (OfTable S.files path.now (λ table.
         Mons S.files table (S.written store.old) (S.written store.new)))
         (StopsOfTable S.files (Gains (S.written store.old) (S.written store.new)) path.now
         (StopsMon S.files (Gains (S.written store.old) (S.written store.new))))
         (E.contents errors.old) (E.contents errors.new) result }
 {
-    match read_table(alloc, path, store) {
-        Ok(table) => told(
-            mon_table(alloc, &table, store, input, output, reads),
-            errors,
-        ),
-        Err(stop) => stop.tell(errors),
+    let mut why = Why::new(alloc, explain);
+    match read_table(alloc, path, Command::Run, store, &mut why) {
+        Ok(table) => {
+            let done = mon_table(alloc, &table, store, input, output, reads, &mut why);
+            told(done, why.lines_if(explain), errors)
+        }
+        Err(stop) => told(Err(stop), why.lines_if(explain), errors),
     }
 }
 
@@ -82,6 +89,7 @@ fn mon_table<'a, S: Store, I: Read, O: Write>(
     input: &mut I,
     output: &mut O,
     reads: u64,
+    why: &mut Why,
 ) -> Result<Status, Stop<'a>>
     ensures { MatchResult result
         (Mons S.files (table_view table.entry.now) (S.written store.old) (S.written store.new))
@@ -89,11 +97,12 @@ fn mon_table<'a, S: Store, I: Read, O: Write>(
         (table_view table.entry.now)) }
 {
     let job = run_job_in(table).ok_or(JobError::BadKey)?;
-    let image = read_image(alloc, job.image, store)?;
-    let accepted = accept(alloc, image, Some(job.vlen))?;
-    let args = read_args(alloc, &job.params, store)?;
-    let kept = mon_accepted(alloc, &job, &accepted, args, input, output, reads)?;
-    write_outs(&job.params, &kept.places, store)?;
+    why.forget();
+    let image = read_image(alloc, job.image, store, why)?;
+    let accepted = accept(alloc, image, Some(job.vlen), why)?;
+    let args = read_args(alloc, &job.params, store, why)?;
+    let kept = mon_accepted(alloc, &job, &accepted, args, input, output, reads, why)?;
+    write_outs(&job.params, &kept.places, store, why)?;
     Ok(Status::Done)
 }
 
@@ -107,6 +116,7 @@ fn mon_accepted<'a, I: Read, O: Write>(
     input: &mut I,
     output: &mut O,
     reads: u64,
+    why: &mut Why,
 ) -> Result<Args, Stop<'a>>
     ensures { MatchResult result
         (λ kept. IsStopped (vlenb_of job.now.vlen) job.now.agnostic job.now.max accepted.now
@@ -116,13 +126,13 @@ fn mon_accepted<'a, I: Read, O: Write>(
     let (agnostic, max) = (job.agnostic, job.max);
     match job.vlen {
         Vlen::V128 => {
-            mon_session::<16, I, O>(alloc, accepted, args, agnostic, max, input, output, reads)
+            mon_session::<16, I, O>(alloc, accepted, args, agnostic, max, input, output, reads, why)
         }
         Vlen::V256 => {
-            mon_session::<32, I, O>(alloc, accepted, args, agnostic, max, input, output, reads)
+            mon_session::<32, I, O>(alloc, accepted, args, agnostic, max, input, output, reads, why)
         }
         Vlen::V512 => {
-            mon_session::<64, I, O>(alloc, accepted, args, agnostic, max, input, output, reads)
+            mon_session::<64, I, O>(alloc, accepted, args, agnostic, max, input, output, reads, why)
         }
     }
 }
@@ -151,6 +161,7 @@ fn mon_session<'a, const VLENB: usize, I: Read, O: Write>(
     input: &mut I,
     output: &mut O,
     reads: u64,
+    why: &mut Why,
 ) -> Result<Args, Stop<'a>>
     requires { IsVlenb VLENB }
     ensures { MatchResult result
@@ -163,6 +174,9 @@ fn mon_session<'a, const VLENB: usize, I: Read, O: Write>(
             session.stands();
             Ok(session.close())
         }
-        Err((error, _args)) => Err(Stop::from(error)),
+        Err((error, args)) => {
+            note_open(accepted, &args, max, error, why);
+            Err(Stop::from(error))
+        }
     }
 }

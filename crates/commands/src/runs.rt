@@ -15,7 +15,9 @@ use crate::files::{read_args, read_image, read_table};
 use crate::stop::{Ending, Status, Stop, told};
 use crate::store::Store;
 use crate::trial::{Trial, finish};
+use crate::why::{Why, note_open};
 use block_checker::Accepted;
+use explanations::Command;
 use job_file::{JobError, RunJob, run_job_in};
 use region_mem::Args;
 use sandbox_run::Session;
@@ -30,14 +32,17 @@ use vreg_groups::{Agnostic, Vlen};
 /// In this order, up to the first that is refused or fails, which is told: the job file, the job, the image file, the
 /// image, the certificate, the check, the parameters' files by place, the start of the run, the run, the out files by
 /// place, the printed line.
+///
+/// Where it is to `explain`, more of why it stops is told behind the reason's line.
 pub fn run_job<S: Store, O: Write, E: Write>(
     alloc: Global,
     path: &str,
+    explain: bool,
     store: &mut S,
     output: &mut O,
     errors: &mut E,
 ) -> Ending
-    ensures { Ends
+    ensures { Ends explain
         (OfTable S.files path.now (λ table.
         Runs S.files table (O.contents output.old) (O.contents output.new)
         (S.written store.old) (S.written store.new)))
@@ -45,9 +50,13 @@ pub fn run_job<S: Store, O: Write, E: Write>(
         (StopsRun S.files (Gains (S.written store.old) (S.written store.new))))
         (E.contents errors.old) (E.contents errors.new) result }
 {
-    match read_table(alloc, path, store) {
-        Ok(table) => told(run_table(alloc, &table, store, output), errors),
-        Err(stop) => stop.tell(errors),
+    let mut why = Why::new(alloc, explain);
+    match read_table(alloc, path, Command::Run, store, &mut why) {
+        Ok(table) => {
+            let done = run_table(alloc, &table, store, output, &mut why);
+            told(done, why.lines_if(explain), errors)
+        }
+        Err(stop) => told(Err(stop), why.lines_if(explain), errors),
     }
 }
 
@@ -57,6 +66,7 @@ fn run_table<'a, S: Store, O: Write>(
     table: &'a Table,
     store: &mut S,
     output: &mut O,
+    why: &mut Why,
 ) -> Result<Status, Stop<'a>>
     ensures { MatchResult result
         (Runs S.files (table_view table.entry.now)
@@ -66,11 +76,12 @@ fn run_table<'a, S: Store, O: Write>(
         (table_view table.entry.now)) }
 {
     let job = run_job_in(table).ok_or(JobError::BadKey)?;
-    let image = read_image(alloc, job.image, store)?;
-    let accepted = accept(alloc, image, Some(job.vlen))?;
-    let args = read_args(alloc, &job.params, store)?;
-    let trial = run_accepted(alloc, &job, &accepted, args)?;
-    finish(&job.params, &trial, store, output)
+    why.forget();
+    let image = read_image(alloc, job.image, store, why)?;
+    let accepted = accept(alloc, image, Some(job.vlen), why)?;
+    let args = read_args(alloc, &job.params, store, why)?;
+    let trial = run_accepted(alloc, &job, &accepted, args, why)?;
+    finish(&job.params, &trial, store, output, why)
 }
 
 /// Runs a job on an accepted image and arguments, at the job's length of vector registers and setting.
@@ -83,14 +94,15 @@ fn run_accepted<'a>(
     job: &RunJob<&str>,
     accepted: &Accepted,
     args: Args,
+    why: &mut Why,
 ) -> Result<Trial, Stop<'a>>
     ensures answer { OrMemory (run_of_job (run_job_lent job.now) accepted.now args.places) result }
     ensures ended { IfOk result (λ trial. trial.end ≡ Ended) }
 {
     match job.vlen {
-        Vlen::V128 => run_session::<16>(alloc, accepted, args, job.agnostic, job.max),
-        Vlen::V256 => run_session::<32>(alloc, accepted, args, job.agnostic, job.max),
-        Vlen::V512 => run_session::<64>(alloc, accepted, args, job.agnostic, job.max),
+        Vlen::V128 => run_session::<16>(alloc, accepted, args, job.agnostic, job.max, why),
+        Vlen::V256 => run_session::<32>(alloc, accepted, args, job.agnostic, job.max, why),
+        Vlen::V512 => run_session::<64>(alloc, accepted, args, job.agnostic, job.max, why),
     }
 }
 
@@ -100,6 +112,7 @@ fn run_session<'a, const VLENB: usize>(
     args: Args,
     agnostic: Agnostic,
     max: u64,
+    why: &mut Why,
 ) -> Result<Trial, Stop<'a>>
     requires { IsVlenb VLENB }
     ensures answer { OrMemory (session_of VLENB agnostic max accepted.now args.places) result }
@@ -110,6 +123,9 @@ fn run_session<'a, const VLENB: usize>(
             let steps = session.run();
             Ok(Trial::ended(steps, session.close()))
         }
-        Err((error, _args)) => Err(Stop::from(error)),
+        Err((error, args)) => {
+            note_open(accepted, &args, max, error, why);
+            Err(Stop::from(error))
+        }
     }
 }

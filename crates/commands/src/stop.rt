@@ -1,6 +1,6 @@
 //! How the program ends.
 ghost use Rattle.std.specs.Io.KnownBytes.{Appends};
-ghost use Rattle.std.specs.Prelude.{◌≡◌, OnOk};
+ghost use Rattle.std.specs.Prelude.{◌≡◌, ◌++◌, OnOk};
 ghost use Rattle.commands.specs.Ending.{code_of, status_after, status_of, stop_at_file};
 ghost use Rattle.commands.specs.Ending.{stop_of_certificate, stop_of_check, stop_of_image};
 ghost use Rattle.commands.specs.Ending.{stop_of_job, stop_of_make, stop_of_open};
@@ -219,17 +219,24 @@ impl<'a> Stop<'a> {
     }
 }
 
-/// How the program ends after what was done, or after the reason to stop, which is told.
-pub fn told<E: Write>(done: Result<Status, Stop<'_>>, errors: &mut E) -> Ending
+/// How the program ends after what was done, or after the reason to stop, which is told, and then `more`.
+pub fn told<E: Write>(done: Result<Status, Stop<'_>>, more: &[u8], errors: &mut E) -> Ending
     ensures status { result.status ≡ status_after done.entry }
     ensures told { OnOk result.told
-        (Appends (E.contents errors.old) (E.contents errors.new) (text_after done.entry)) }
+        (Appends (E.contents errors.old) (E.contents errors.new) (text_after done.entry ++ more.now)) }
 {
-    match done {
-        Ok(status) => Ending {
-            status,
-            told: Ok(()),
-        },
-        Err(stop) => stop.tell(errors),
-    }
+    let (status, told) = match done {
+        Ok(status) => (status, errors.write_all(more)),
+        Err(stop) => (stop.status(), tell_all(&stop, more, errors)),
+    };
+    Ending { status, told }
+}
+
+/// Tells why, and then more.
+fn tell_all<E: Write>(stop: &Stop<'_>, more: &[u8], errors: &mut E) -> io::Result<()>
+    ensures { OnOk result
+        (Appends (E.contents errors.old) (E.contents errors.new) (stop_text stop.now ++ more.now)) }
+{
+    stop.print(errors)?;
+    errors.write_all(more)
 }

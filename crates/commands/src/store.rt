@@ -75,12 +75,18 @@ pub trait Store {
     fn write(&mut self, path: &str, bytes: &[u8]) -> Result<(), StoreError>
         ensures wrote { GainsOnOk (written self.old) (written self.new) (path.now, bytes.now) result }
         ensures error { IfErr result (files.unwritten path.now) };
+
+    /// What the system said of the last call, where that failed and the system said why.
+    fn last_failure(&self) -> Option<ErrorKind> {
+        None
+    }
 }
 
 /// The files of the system. A path that is not absolute starts at the working directory.
 #[derive(Drop)]
 pub struct Disk<'a, R> {
     rt: &'a R,
+    failure: Option<ErrorKind>,
 }
 
 impl<'a, R> Disk<'a, R> {
@@ -88,25 +94,47 @@ impl<'a, R> Disk<'a, R> {
     pub fn new(rt: &'a R) -> Disk<'a, R>
         ensures { result.rt ≡ rt.entry }
     {
-        Disk { rt }
+        Disk { rt, failure: None }
     }
 }
 
 impl<'a, R: Files> Store for Disk<'a, R> {
     fn read(&mut self, alloc: Global, path: &str) -> Result<Vec<u8>, StoreError> {
-        let mut file = fs::open(self.rt, path)?;
-        read_all(alloc, &mut file, MOST_READS)
+        let had = read_file(self.rt, alloc, path);
+        self.failure = had.as_ref().err().map(|error| error.kind());
+        Ok(had?)
     }
 
     fn write(&mut self, path: &str, bytes: &[u8]) -> Result<(), StoreError> {
-        let mut file = fs::create(self.rt, path)?;
-        file.write_all(bytes)?;
-        Ok(())
+        let done = write_file(self.rt, path, bytes);
+        self.failure = done.as_ref().err().map(|error| error.kind());
+        Ok(done?)
     }
+}
+
+/// The bytes of the file of the system at a path.
+fn read_file<R: Files>(rt: &R, alloc: Global, path: &str) -> io::Result<Vec<u8>> {
+    let mut file = fs::open(rt, path)?;
+    read_to_end(alloc, &mut file, MOST_READS)
+}
+
+/// Makes a file of the system at a path.
+fn write_file<R: Files>(rt: &R, path: &str, bytes: &[u8]) -> io::Result<()> {
+    let mut file = fs::create(rt, path)?;
+    file.write_all(bytes)
 }
 
 /// All bytes that the reader gives, in at most `reads` reads, of which the last one finds its end.
 pub fn read_all<R: Read>(alloc: Global, reader: &mut R, reads: u64) -> Result<Vec<u8>, StoreError>
+    ensures bytes { IfOk result (λ bytes.
+        Consumes (R.remaining reader.old) (R.remaining reader.new) bytes.items) }
+    ensures end { OnOk result (IsAtEnd (R.remaining reader.new)) }
+{
+    Ok(read_to_end(alloc, reader, reads)?)
+}
+
+/// The same, with what the system says where it fails.
+fn read_to_end<R: Read>(alloc: Global, reader: &mut R, reads: u64) -> io::Result<Vec<u8>>
     ensures bytes { IfOk result (λ bytes.
         Consumes (R.remaining reader.old) (R.remaining reader.new) bytes.items) }
     ensures end { OnOk result (IsAtEnd (R.remaining reader.new)) }
@@ -118,8 +146,8 @@ pub fn read_all<R: Read>(alloc: Global, reader: &mut R, reads: u64) -> Result<Ve
             Ok(0) => return Ok(bytes),
             Ok(n) => bytes.extend_from_slice(&chunk[..n])?,
             Err(error) if error.kind() == ErrorKind::Interrupted => {}
-            Err(error) => return Err(StoreError::from(error)),
+            Err(error) => return Err(error),
         }
     }
-    Err(StoreError::Failed)
+    Err(io::Error::from(ErrorKind::FileTooLarge))
 }

@@ -11,6 +11,7 @@ use crate::files::write_outs;
 use crate::hex::Hex;
 use crate::stop::{Status, Stop};
 use crate::store::Store;
+use crate::why::Why;
 use job_file::RunParam;
 use region_mem::{Args, Fault};
 use sandbox_run::Final;
@@ -88,6 +89,7 @@ pub fn finish<'a, S: Store, O: Write>(
     trial: &Trial,
     store: &mut S,
     output: &mut O,
+    why: &mut Why,
 ) -> Result<Status, Stop<'a>>
     ensures done { IfOk result (λ status. status ≡ status_of_end trial.now.end) }
     ensures told { OnOk result
@@ -98,9 +100,12 @@ pub fn finish<'a, S: Store, O: Write>(
         (IsUnfinished S.files (Gains (S.written store.old) (S.written store.new))
         (map run_param_lent params.now) trial.now.args.places) }
 {
-    write_outs(params, &trial.args.places, store)?;
+    write_outs(params, &trial.args.places, store, why)?;
     match trial.print(output) {
         Ok(()) => Ok(trial.status()),
-        Err(_) => Err(Stop::Output),
+        Err(_) => {
+            why.forget();
+            Err(Stop::Output)
+        }
     }
 }

@@ -14,7 +14,9 @@ use crate::files::{read_args, read_image, read_table};
 use crate::stop::{Ending, Status, Stop, told};
 use crate::store::Store;
 use crate::trial::{End, Trial, finish, trial_at};
+use crate::why::{Missing, Why, note_trap};
 use elf_image::Image;
+use explanations::{Command, open_reason};
 use job_file::{JobError, RunParam, TryJob, TryParam, try_job_in};
 use region_mem::{Arg, Args, Param, Parameters};
 use sandbox_run::{Outcome, try_run};
@@ -28,14 +30,17 @@ use vreg_groups::{Agnostic, Vlen};
 ///
 /// In this order, up to the first that is refused or fails, which is told: the job file, the job, the image file, the
 /// image, the parameters' files by place, the parameters, the run, the out files by place, the printed line.
+///
+/// Where it is to `explain`, more of why it stops is told behind the reason's line.
 pub fn try_job<S: Store, O: Write, E: Write>(
     alloc: Global,
     path: &str,
+    explain: bool,
     store: &mut S,
     output: &mut O,
     errors: &mut E,
 ) -> Ending
-    ensures { Ends
+    ensures { Ends explain
         (OfTable S.files path.now (λ table.
         Tries S.files table (O.contents output.old) (O.contents output.new)
         (S.written store.old) (S.written store.new)))
@@ -43,9 +48,13 @@ pub fn try_job<S: Store, O: Write, E: Write>(
         (StopsTry S.files (Gains (S.written store.old) (S.written store.new))))
         (E.contents errors.old) (E.contents errors.new) result }
 {
-    match read_table(alloc, path, store) {
-        Ok(table) => told(try_table(alloc, &table, store, output), errors),
-        Err(stop) => stop.tell(errors),
+    let mut why = Why::new(alloc, explain);
+    match read_table(alloc, path, Command::Try, store, &mut why) {
+        Ok(table) => {
+            let done = try_table(alloc, &table, store, output, &mut why);
+            told(done, why.lines_if(explain), errors)
+        }
+        Err(stop) => told(Err(stop), why.lines_if(explain), errors),
     }
 }
 
@@ -55,6 +64,7 @@ fn try_table<'a, S: Store, O: Write>(
     table: &'a Table,
     store: &mut S,
     output: &mut O,
+    why: &mut Why,
 ) -> Result<Status, Stop<'a>>
     ensures { MatchResult result
         (Tries S.files (table_view table.entry.now)
@@ -64,11 +74,12 @@ fn try_table<'a, S: Store, O: Write>(
         (table_view table.entry.now)) }
 {
     let job = try_job_in(table).ok_or(JobError::BadKey)?;
-    let image = read_image(alloc, job.image, store)?;
+    why.forget();
+    let image = read_image(alloc, job.image, store, why)?;
     let passed = passed_params(&job.params);
-    let args = read_args(alloc, &passed, store)?;
-    let trial = run_tried(alloc, &job, &image, args)?;
-    finish(&passed, &trial, store, output)
+    let args = read_args(alloc, &passed, store, why)?;
+    let trial = run_tried(alloc, &job, &image, args, why)?;
+    finish(&passed, &trial, store, output, why)
 }
 
 /// Runs a job on an image and on arguments, at the job's length of vector registers, setting and number of steps.
@@ -80,16 +91,18 @@ fn run_tried<'a>(
     job: &TryJob<&str>,
     image: &Image,
     args: Args,
+    why: &mut Why,
 ) -> Result<Trial, Stop<'a>>
     ensures { OrMemory (trial_of (try_job_lent job.now) image.now args.places) result }
 {
     let Some(parameters) = Parameters::new(params_for(&job.params, &args.places)) else {
+        why.note(&Missing::SmallFile);
         return Err(Stop::Job(JobError::BadKey));
     };
     match job.vlen {
-        Vlen::V128 => run::<16>(alloc, image, &parameters, args, job.agnostic, job.max),
-        Vlen::V256 => run::<32>(alloc, image, &parameters, args, job.agnostic, job.max),
-        Vlen::V512 => run::<64>(alloc, image, &parameters, args, job.agnostic, job.max),
+        Vlen::V128 => run::<16>(alloc, image, &parameters, args, job.agnostic, job.max, why),
+        Vlen::V256 => run::<32>(alloc, image, &parameters, args, job.agnostic, job.max, why),
+        Vlen::V512 => run::<64>(alloc, image, &parameters, args, job.agnostic, job.max, why),
     }
 }
 
@@ -138,15 +151,22 @@ fn run<'a, const VLENB: usize>(
     args: Args,
     agnostic: Agnostic,
     max: u64,
+    why: &mut Why,
 ) -> Result<Trial, Stop<'a>>
     requires { IsVlenb VLENB }
     ensures { OrMemory (run_of VLENB agnostic max image.now args.places parameters.now) result }
 {
     match try_run::<VLENB>(alloc, image, parameters, args, agnostic, max) {
         Ok(Outcome::Ended(last)) => Ok(trial_at(End::Ended, last)),
-        Ok(Outcome::Trapped(fault, last)) => Ok(trial_at(End::Trapped(fault), last)),
+        Ok(Outcome::Trapped(fault, last)) => {
+            note_trap(alloc, image, last.registers.pc, why);
+            Ok(trial_at(End::Trapped(fault), last))
+        }
         Ok(Outcome::OutOfSteps(last)) => Ok(trial_at(End::OutOfSteps, last)),
-        Err((error, _args)) => Err(Stop::from(error)),
+        Err((error, args)) => {
+            why.note(&open_reason(parameters, &args, 0, max, error));
+            Err(Stop::from(error))
+        }
     }
 }
 

@@ -81,7 +81,7 @@ fn certificate_of_two(alloc: Global) -> Result<Vec<u8>, AllocError> {
 }
 
 /// A static image whose one segment is `TELL`, at 0x10000, and whose note has this certificate.
-fn image_with(alloc: Global, certificate: &[u8]) -> Result<Vec<u8>, AllocError> {
+pub(crate) fn image_with(alloc: Global, certificate: &[u8]) -> Result<Vec<u8>, AllocError> {
     image_of(alloc, [].as_slice(), certificate)
 }
 
@@ -120,6 +120,12 @@ fn image_of(alloc: Global, others: &[[u32; 8]], certificate: &[u8]) -> Result<Ve
     file.extend_from_slice(b"RVVBOX\0\0".as_slice())?;
     file.extend_from_slice(certificate)?;
     Ok(file)
+}
+
+/// The image whose certificate claims that so many instructions suffice, of which it takes four.
+pub(crate) fn image_within(alloc: Global, constant: u32) -> Result<Vec<u8>, AllocError> {
+    let claimed = certificate(alloc, Claims { constant, ..FOUR })?;
+    image_with(alloc, &claimed)
 }
 
 /// The start of a job, before its number of steps.

@@ -4,6 +4,8 @@
 #[cfg(test)]
 mod accepted;
 #[cfg(test)]
+mod explaining;
+#[cfg(test)]
 mod limits;
 #[cfg(test)]
 mod making;

@@ -258,7 +258,7 @@ fn reads_as_often_as_it_may(rt: HostRuntime) -> Result<(), Fail> {
         };
         let (mut out, mut err) = (Vec::new(alloc), Vec::new(alloc));
         let had = mon_job_within(
-            alloc, "job.toml", &mut shelf, &mut input, &mut out, &mut err, 8,
+            alloc, "job.toml", false, &mut shelf, &mut input, &mut out, &mut err, 8,
         );
         assert_eq!(rt; had.status, status);
         assert_eq!(rt; std::str::from_utf8(out.as_slice()), Ok(output));
@@ -296,6 +296,7 @@ fn ends_where_output_fails(rt: HostRuntime) -> Result<(), Fail> {
     let had = mon_job_within(
         alloc,
         "job.toml",
+        false,
         &mut files,
         &mut input,
         &mut Stuck,

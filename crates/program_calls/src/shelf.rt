@@ -12,6 +12,7 @@ pub struct Shelf {
     alloc: Global,
     files: Vec<(String, Vec<u8>)>,
     pub failing: &'static str,
+    last: Option<io::ErrorKind>,
     pub calls: String,
 }
 
@@ -21,6 +22,7 @@ impl Shelf {
             alloc,
             files: Vec::new(alloc),
             failing: "",
+            last: None,
             calls: String::new(alloc),
         }
     }
@@ -49,6 +51,7 @@ impl Store for Shelf {
         self.calls.push_str("read ")?;
         self.calls.push_str(path)?;
         self.calls.push('\n')?;
+        self.last = self.get(path).err().map(|_| io::ErrorKind::NotFound);
         Ok(Vec::from_slice(alloc, self.get(path)?)?)
     }
 
@@ -61,9 +64,14 @@ impl Store for Shelf {
         }
         self.calls.push('\n')?;
         if path == self.failing {
+            self.last = Some(io::ErrorKind::PermissionDenied);
             return Err(StoreError::Failed);
         }
         Ok(self.put(path, bytes)?)
+    }
+
+    fn last_failure(&self) -> Option<io::ErrorKind> {
+        self.last
     }
 }
 

@@ -16,15 +16,15 @@ returns-in-Err-clause-asked g c =
 
 pub returns-in-Ok-Check-clause-asked : goal.returns-in-Ok-Check-clause-asked
 returns-in-Ok-Check-clause-asked g c =
-    asked_for g.S.Store.files (map (λ w. w.now) c.args.words.now) (line.Check c.in-Ok-Check.image) _ _ _ _ _ _ c.check_image.result (rw c.in-Ok-Check.field-0-is at c.in-Ok-Check.ensures.line) c.check_image.ensures
+    asked_for g.S.Store.files (map (λ w. w.now) c.args.words.now) (line.Check c.in-Ok-Check.image c.in-Ok-Check.explain) _ _ _ _ _ _ c.check_image.result (rw c.in-Ok-Check.field-0-is at c.in-Ok-Check.ensures.line) c.check_image.ensures
 
 pub returns-in-Ok-Run-clause-asked : goal.returns-in-Ok-Run-clause-asked
 returns-in-Ok-Run-clause-asked g c =
-    asked_for g.S.Store.files (map (λ w. w.now) c.args.words.now) (line.Run c.in-Ok-Run.job) _ _ _ _ _ _ c.run_job.result (rw c.in-Ok-Run.field-0-is at c.in-Ok-Run.ensures.line) c.run_job.ensures
+    asked_for g.S.Store.files (map (λ w. w.now) c.args.words.now) (line.Run c.in-Ok-Run.job c.in-Ok-Run.explain) _ _ _ _ _ _ c.run_job.result (rw c.in-Ok-Run.field-0-is at c.in-Ok-Run.ensures.line) c.run_job.ensures
 
 pub returns-in-Ok-Try-clause-asked : goal.returns-in-Ok-Try-clause-asked
 returns-in-Ok-Try-clause-asked g c =
-    asked_for g.S.Store.files (map (λ w. w.now) c.args.words.now) (line.Try c.in-Ok-Try.job) _ _ _ _ _ _ c.try_job.result (rw c.in-Ok-Try.field-0-is at c.in-Ok-Try.ensures.line) c.try_job.ensures
+    asked_for g.S.Store.files (map (λ w. w.now) c.args.words.now) (line.Try c.in-Ok-Try.job c.in-Ok-Try.explain) _ _ _ _ _ _ c.try_job.result (rw c.in-Ok-Try.field-0-is at c.in-Ok-Try.ensures.line) c.try_job.ensures
 
 pub returns-in-Ok-Make-clause-asked : goal.returns-in-Ok-Make-clause-asked
 returns-in-Ok-Make-clause-asked g c =
@@ -32,4 +32,4 @@ returns-in-Ok-Make-clause-asked g c =
 
 pub returns-in-Ok-Mon-clause-asked : goal.returns-in-Ok-Mon-clause-asked
 returns-in-Ok-Mon-clause-asked g c =
-    asked_for g.S.Store.files (map (λ w. w.now) c.args.words.now) (line.Mon c.in-Ok-Mon.job) _ _ _ _ _ _ c.mon_job.result (rw c.in-Ok-Mon.field-0-is at c.in-Ok-Mon.ensures.line) c.mon_job.ensures
+    asked_for g.S.Store.files (map (λ w. w.now) c.args.words.now) (line.Mon c.in-Ok-Mon.job c.in-Ok-Mon.explain) _ _ _ _ _ _ c.mon_job.result (rw c.in-Ok-Mon.field-0-is at c.in-Ok-Mon.ensures.line) c.mon_job.ensures

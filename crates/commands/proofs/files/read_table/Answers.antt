@@ -11,4 +11,4 @@ returns-in_err-bytes-clause-table g c =
 
 pub returns-clause-table : goal.returns-clause-table
 returns-clause-table g c =
-    table_read table_view g.S.Store.files c.args.path.now c.in_ok-bytes.bytes.items c.as_slice.result.now c.table_in.result (search rules) c.in_ok-bytes.ensures.bytes c.table_in.ensures
+    table_read table_view g.S.Store.files c.args.path.now c.in_ok-bytes.bytes.items c.as_slice-2.result.now c.table_in.result (search rules) c.in_ok-bytes.ensures.bytes c.table_in.ensures

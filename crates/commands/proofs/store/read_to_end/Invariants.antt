@@ -1,5 +1,5 @@
 use Rattle.std.specs.Io.KnownBytes.{Consumes}
-use Rattle.commands.proofs.store.read_all.Given as goal
+use Rattle.commands.proofs.store.read_to_end.Given as goal
 
 -- the bytes so far are what the reader gave
 abbrev pub invariant-loop : goal.invariant-loop
