@@ -33,10 +33,14 @@ pub fn perform<'a, S: Store, I: Read, O: Write, E: Write>(
         (E.contents errors.old) (E.contents errors.new) result }
 {
     match line(alloc, words) {
-        Ok(Line::Check { image, explain }) => check_image(alloc, image, explain, store, output, errors),
+        Ok(Line::Check { image, explain }) => check_image(
+            alloc, image, explain, store, output, errors,
+        ),
         Ok(Line::Run { job, explain }) => run_job(alloc, job, explain, store, output, errors),
         Ok(Line::Try { job, explain }) => try_job(alloc, job, explain, store, output, errors),
-        Ok(Line::Mon { job, explain }) => mon_job(alloc, job, explain, store, input, output, errors),
+        Ok(Line::Mon { job, explain }) => mon_job(
+            alloc, job, explain, store, input, output, errors,
+        ),
         Ok(Line::Make(paths)) => make_image(alloc, paths, false, store, output, errors),
         Err(error) => error.tell(output, errors),
     }

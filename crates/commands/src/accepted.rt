@@ -13,11 +13,7 @@ use std::alloc::Global;
 use vreg_groups::Vlen;
 
 /// The certificate in an image's note.
-fn certificate_in<'a>(
-    alloc: Global,
-    image: &Image,
-    why: &mut Why,
-) -> Result<Certificate, Stop<'a>>
+fn certificate_in<'a>(alloc: Global, image: &Image, why: &mut Why) -> Result<Certificate, Stop<'a>>
     ensures { OrMemory (certificate_in image.now.certificate) result }
 {
     let Some(bytes) = image.certificate() else {

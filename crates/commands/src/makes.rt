@@ -124,12 +124,7 @@ fn with_certificate<'a>(
 }
 
 /// A file with the certificate that is made of it for a job.
-fn made<'a>(
-    alloc: Global,
-    job: &MakeJob,
-    file: &[u8],
-    why: &mut Why,
-) -> Result<Vec<u8>, Stop<'a>>
+fn made<'a>(alloc: Global, job: &MakeJob, file: &[u8], why: &mut Why) -> Result<Vec<u8>, Stop<'a>>
     ensures { AnswersBytes (made_of job.now file.now) result }
 {
     let image = image_in(alloc, file, why)?;

@@ -49,7 +49,9 @@ pub fn mon_job<S: Store, I: Read, O: Write, E: Write>(
         (StopsMon S.files (Gains (S.written store.old) (S.written store.new))))
         (E.contents errors.old) (E.contents errors.new) result }
 {
-    mon_job_within(alloc, path, explain, store, input, output, errors, MOST_READS)
+    mon_job_within(
+        alloc, path, explain, store, input, output, errors, MOST_READS,
+    )
 }
 
 /// As `mon_job`, with at most `reads` reads of the input. If none of them finds its end or the command `q`, it counts as one that
@@ -126,13 +128,19 @@ fn mon_accepted<'a, I: Read, O: Write>(
     let (agnostic, max) = (job.agnostic, job.max);
     match job.vlen {
         Vlen::V128 => {
-            mon_session::<16, I, O>(alloc, accepted, args, agnostic, max, input, output, reads, why)
+            mon_session::<16, I, O>(
+                alloc, accepted, args, agnostic, max, input, output, reads, why,
+            )
         }
         Vlen::V256 => {
-            mon_session::<32, I, O>(alloc, accepted, args, agnostic, max, input, output, reads, why)
+            mon_session::<32, I, O>(
+                alloc, accepted, args, agnostic, max, input, output, reads, why,
+            )
         }
         Vlen::V512 => {
-            mon_session::<64, I, O>(alloc, accepted, args, agnostic, max, input, output, reads, why)
+            mon_session::<64, I, O>(
+                alloc, accepted, args, agnostic, max, input, output, reads, why,
+            )
         }
     }
 }

@@ -111,10 +111,16 @@ impl fmt::Display for Missing {
     fn fmt<W: fmt::Write>(&self, f: &mut fmt::Formatter<W>) -> fmt::Result {
         match self {
             Missing::Certificate => {
-                writeln!(f, "  wanted: a certificate in a note of the image, as `make` writes it")
+                writeln!(
+                    f,
+                    "  wanted: a certificate in a note of the image, as `make` writes it"
+                )
             }
             Missing::SmallFile => {
-                writeln!(f, "  wanted: for each buffer a file of at most 16777216 bytes")
+                writeln!(
+                    f,
+                    "  wanted: for each buffer a file of at most 16777216 bytes"
+                )
             }
         }
     }

@@ -44,6 +44,15 @@ fn job(alloc: Global, shelf: &mut Shelf, lines: &str) -> Result<(), AllocError> 
 /// The keys of a job that is run.
 const KEYS: &str = "vlen = 128\nagnostic = \"keep\"\nmax = 5\n";
 
+/// What is told of a budget that is one too small for the four words up to the exit.
+const BUDGET: &str = "  stopped in the block at 0x00010000
+  at 0x0001000c: 0x00008067
+  that is jalr rd=0 rs1=1 imm=0
+  wanted: a budget for these words and the block entered
+  leads to 0xfffffff0, after 4 words of the block
+  leaves block 0 of the certificate, with a budget of 3
+";
+
 /// What the store says of a file that it does not have.
 const NONE: &str = "  the system says: entity not found\n";
 
@@ -87,10 +96,7 @@ fn explains_certificates(rt: HostRuntime) -> Result<(), Fail> {
             image_with(alloc, [1, 0, 1].as_slice())?,
             "  reading stopped behind byte 3 of 3\n  wanted: more bytes\n",
         ),
-        (
-            image_within(alloc, 3)?,
-            "  stopped in the block at 0x00010000\n",
-        ),
+        (image_within(alloc, 3)?, BUDGET),
     ] {
         shelf.put("kernel.elf", image.as_slice())?;
         explains(&rt, ("check", "kernel.elf"), &mut shelf, wanted);
@@ -126,20 +132,21 @@ fn explains_arguments(rt: HostRuntime) -> Result<(), Fail> {
     shelf.put("seven", [7; 7].as_slice())?;
     shelf.put("eight", [7; 8].as_slice())?;
     for (params, wanted) in [
+        ("[[param]]\nkind = \"buffer\"\nfile = \"none\"\n", NONE),
         (
-            "[[param]]\nkind = \"buffer\"\nfile = \"none\"\n",
-            NONE,
+            "[[param]]\nkind = \"buffer\"\nfile = \"seven\"\n\
+             [[param]]\nkind = \"scalar\"\nvalue = 5\n",
+            "  wanted at place 0: a buffer of 8 bytes to read and write\n  \
+             passed: a buffer of 7 bytes\n",
         ),
         (
-            "[[param]]\nkind = \"buffer\"\nfile = \"seven\"\n[[param]]\nkind = \"scalar\"\nvalue = 5\n",
-            "  wanted at place 0: a buffer of 8 bytes to read and write\n  passed: a buffer of 7 bytes\n",
-        ),
-        (
-            "[[param]]\nkind = \"buffer\"\nfile = \"eight\"\n[[param]]\nkind = \"scalar\"\nvalue = 10\n",
+            "[[param]]\nkind = \"buffer\"\nfile = \"eight\"\n\
+             [[param]]\nkind = \"scalar\"\nvalue = 10\n",
             "  wanted at place 1: a number in 0..=9\n  passed: the number 10\n",
         ),
         (
-            "[[param]]\nkind = \"buffer\"\nfile = \"eight\"\n[[param]]\nkind = \"scalar\"\nvalue = 5\n",
+            "[[param]]\nkind = \"buffer\"\nfile = \"eight\"\n\
+             [[param]]\nkind = \"scalar\"\nvalue = 5\n",
             "  bound of the run: 6\n  wanted: at most 5\n",
         ),
     ] {
@@ -169,7 +176,8 @@ fn explains_nothing_where_all_is_done(rt: HostRuntime) -> Result<(), Fail> {
     let mut shelf = Shelf::new(alloc);
     shelf.put("kernel.elf", image_within(alloc, 5)?.as_slice())?;
     shelf.put("eight", [7; 8].as_slice())?;
-    let params = "[[param]]\nkind = \"buffer\"\nmode = \"rw\"\nfile = \"eight\"\n[[param]]\nkind = \"scalar\"\nvalue = 5\n";
+    let params = "[[param]]\nkind = \"buffer\"\nmode = \"rw\"\nfile = \"eight\"\n\
+         [[param]]\nkind = \"scalar\"\nvalue = 5\n";
     let keys = format!(in alloc; "{KEYS}{params}")?;
     job(alloc, &mut shelf, keys.as_str())?;
     explains(&rt, ("check", "kernel.elf"), &mut shelf, "");

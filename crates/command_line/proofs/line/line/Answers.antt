@@ -9,28 +9,28 @@ returns-in-Some-clause-line c =
     let words : List (List ℕ) = map (λ w. w.now) c.args.words.now in
     let is : app_of c.in_ok-command.command ≡ app = search rules in
     let same = same_entered _ words _ (subcommand_rows_of c.in-Ok.matches) is c.in-Ok.ensures.matches in
-    (is_path words _ _ _ _ (no_fault _ words is c.in-Ok.ensures.kinds) same c.in-Some.ensures, is_explained words _ _ _ same c.is_asked.ensures)
+    (is_path words _ _ _ _ (no_fault _ words is c.in-Ok.ensures.kinds) same c.in-Some.ensures, is_explained words _ _ _ same c.is_asked-explain.ensures)
 
 pub returns-in-Some-path-clause-line : goal.returns-in-Some-path-clause-line
 returns-in-Some-path-clause-line c =
     let words : List (List ℕ) = map (λ w. w.now) c.args.words.now in
     let is : app_of c.in_ok-command.command ≡ app = search rules in
     let same = same_entered _ words _ (subcommand_rows_of c.in-Ok.matches) is c.in-Ok.ensures.matches in
-    (is_path words _ _ _ _ (no_fault _ words is c.in-Ok.ensures.kinds) same c.in-Some-path.ensures, is_explained words _ _ _ same c.is_asked-2.ensures)
+    (is_path words _ _ _ _ (no_fault _ words is c.in-Ok.ensures.kinds) same c.in-Some-path.ensures, is_explained words _ _ _ same c.is_asked-explain-in-Some-path.ensures)
 
 pub returns-in-Some-path-2-clause-line : goal.returns-in-Some-path-2-clause-line
 returns-in-Some-path-2-clause-line c =
     let words : List (List ℕ) = map (λ w. w.now) c.args.words.now in
     let is : app_of c.in_ok-command.command ≡ app = search rules in
     let same = same_entered _ words _ (subcommand_rows_of c.in-Ok.matches) is c.in-Ok.ensures.matches in
-    (is_path words _ _ _ _ (no_fault _ words is c.in-Ok.ensures.kinds) same c.in-Some-path-2.ensures, is_explained words _ _ _ same c.is_asked-3.ensures)
+    (is_path words _ _ _ _ (no_fault _ words is c.in-Ok.ensures.kinds) same c.in-Some-path-2.ensures, is_explained words _ _ _ same c.is_asked-explain-in-Some-path-2.ensures)
 
 pub returns-in-Some-path-3-clause-line : goal.returns-in-Some-path-3-clause-line
 returns-in-Some-path-3-clause-line c =
     let words : List (List ℕ) = map (λ w. w.now) c.args.words.now in
     let is : app_of c.in_ok-command.command ≡ app = search rules in
     let same = same_entered _ words _ (subcommand_rows_of c.in-Ok.matches) is c.in-Ok.ensures.matches in
-    (is_path words _ _ _ _ (no_fault _ words is c.in-Ok.ensures.kinds) same c.in-Some-path-3.ensures, is_explained words _ _ _ same c.is_asked-4.ensures)
+    (is_path words _ _ _ _ (no_fault _ words is c.in-Ok.ensures.kinds) same c.in-Some-path-3.ensures, is_explained words _ _ _ same c.is_asked-explain-in-Some-path-3.ensures)
 
 pub returns-in-Some-make_paths-clause-line : goal.returns-in-Some-make_paths-clause-line
 returns-in-Some-make_paths-clause-line c =
