@@ -10,7 +10,7 @@ use Rattle.rv_decode.specs.declared.instructions.ScalarInsn.TheVariants as scala
 use Rattle.rv_decode.specs.declared.instructions.Direction.{Direction}
 use Rattle.rv_decode.specs.declared.instructions.Direction.TheVariants as direction
 use Rattle.scalar_core.specs.Step.{size_of_load, size_of_store}
-use Rattle.abs_state.specs.declared.zones.Zone.{Zone}
+use Rattle.abs_domain.specs.declared.zones.Zone.{Zone}
 use Rattle.explanations.specs.Address.{address_text}
 use Rattle.explanations.specs.declared.access.Access.{Access}
 use Rattle.explanations.specs.declared.access.Operand.{Operand}

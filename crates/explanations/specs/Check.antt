@@ -9,7 +9,7 @@ use Rattle.rv_decode.specs.Decode.{meaning_of}
 use Rattle.rv_listing.specs.Listing.{listing_text}
 use Rattle.vreg_groups.specs.declared.vector_length.Vlen.{Vlen}
 use Rattle.vreg_groups.specs.declared.vector_length.Vlen.TheVariants as vlen
-use Rattle.abs_state.specs.Zones.{zones_of}
+use Rattle.abs_domain.specs.Zones.{zones_of}
 use Rattle.block_checker.specs.declared.errors.CheckError.{CheckError}
 use Rattle.block_checker.specs.declared.errors.CheckError.TheVariants as error
 use Rattle.block_checker.specs.declared.explanation.Explanation.{Explanation}
