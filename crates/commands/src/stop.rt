@@ -223,7 +223,8 @@ impl<'a> Stop<'a> {
 pub fn told<E: Write>(done: Result<Status, Stop<'_>>, more: &[u8], errors: &mut E) -> Ending
     ensures status { result.status ≡ status_after done.entry }
     ensures told { OnOk result.told
-        (Appends (E.contents errors.old) (E.contents errors.new) (text_after done.entry ++ more.now)) }
+        (Appends (E.contents errors.old) (E.contents errors.new)
+        (text_after done.entry ++ more.now)) }
 {
     let (status, told) = match done {
         Ok(status) => (status, errors.write_all(more)),

@@ -110,6 +110,10 @@ impl<'a, R: Files> Store for Disk<'a, R> {
         self.failure = done.as_ref().err().map(|error| error.kind());
         Ok(done?)
     }
+
+    fn last_failure(&self) -> Option<ErrorKind> {
+        self.failure
+    }
 }
 
 /// The bytes of the file of the system at a path.
