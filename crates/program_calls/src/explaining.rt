@@ -2,14 +2,15 @@
 use crate::accepted::{image_with, image_within};
 use crate::shelf::{Broken, Shelf, image};
 use command_line::perform;
+use commands::{Disk, Store};
 use std::alloc::{AllocError, Global};
 use std::process::Abort;
 use std::test::Fail;
 
 /// What standard output and standard error have after these words.
-fn told_of(alloc: Global, words: &[&str], shelf: &mut Shelf) -> (Vec<u8>, Vec<u8>) {
+fn told_of<S: Store>(alloc: Global, words: &[&str], store: &mut S) -> (Vec<u8>, Vec<u8>) {
     let (mut output, mut errors) = (Vec::new(alloc), Vec::new(alloc));
-    let _ending = perform(alloc, words, shelf, &mut Broken, &mut output, &mut errors);
+    let _ending = perform(alloc, words, store, &mut Broken, &mut output, &mut errors);
     (output, errors)
 }
 
@@ -55,6 +56,18 @@ const BUDGET: &str = "  stopped in the block at 0x00010000
 
 /// What the store says of a file that it does not have.
 const NONE: &str = "  the system says: entity not found\n";
+
+#[test]
+fn says_what_the_system_says(rt: HostRuntime) -> Result<(), Fail> {
+    let alloc = rt.alloc();
+    let mut disk = Disk::new(&rt);
+    let words = ["rvvbox", "check", "--explain", "none.elf"];
+    let (output, errors) = told_of(alloc, words.as_slice(), &mut disk);
+    assert!(rt; output.is_empty());
+    let wanted = format!(in alloc; "file: none.elf\n{NONE}")?;
+    assert!(rt; errors.as_slice() == wanted.as_bytes());
+    Ok(())
+}
 
 #[test]
 fn explains_files_that_are_no_image(rt: HostRuntime) -> Result<(), Fail> {
