@@ -4,7 +4,6 @@ use crate::assertions::assert_same;
 use crate::refusing::Refusing;
 use crate::want_of_memory::{Heap, MANY, assert_served, assert_wanting, file};
 use block_checker::{Accepted, check};
-use elf_image::Image;
 use hex::decode;
 use region_mem::{Arg, Args, Bytes, Mode, Param, Parameters, Regions};
 use sandbox_run::{OpenError, Outcome, Session, open_in, try_run_in};
@@ -73,41 +72,28 @@ fn assert_back(rt: &impl Abort, args: &Args<Bytes<Heap<'_>>>) {
     assert_same!(rt; are_args(args, &[0xff, 1, 2]), true);
 }
 
-/// Asserts that a memory starts with the arguments, or that memory is wanting, and tells whether it starts.
-fn is_started(
-    rt: &impl Abort,
-    heap: Heap<'_>,
-    after: u64,
-    image: &Image,
-    args: Args<Bytes<Heap<'_>>>,
-) -> Result<bool, Fail> {
-    let parameters = parameters().ok_or("the parameters are valid")?;
-    parameters.matches(&args)?;
-    match Regions::new(heap, image, &parameters, args) {
-        Ok(regions) => {
-            assert_served(rt, heap, after);
-            assert_same!(rt; regions.byte(0x2_0000), Some(0xde));
-            assert_back(rt, &regions.into_args());
-            Ok(true)
-        }
-        Err((_, args)) => {
-            assert_wanting(rt, heap, after);
-            assert_back(rt, &args);
-            Ok(false)
-        }
-    }
-}
-
 /// The list of regions, the bytes of two segments and those of the stack.
 #[test]
 fn starting_a_memory(rt: HostRuntime) -> Result<(), Fail> {
     let alloc = rt.alloc();
     let image = elf_image::read(alloc, file(alloc)?.as_slice())?;
+    let parameters = parameters().ok_or("the parameters are valid")?;
     let ample = Refusing::new(alloc, MANY);
     for after in 0..MANY {
         let heap = Refusing::new(alloc, after);
-        if is_started(&rt, &heap, after, &image, args(&ample)?)? {
-            return Ok(());
+        let args = args(&ample)?;
+        parameters.matches(&args)?;
+        match Regions::new(&heap, &image, &parameters, args) {
+            Ok(regions) => {
+                assert_served(&rt, &heap, after);
+                assert_same!(rt; regions.byte(0x2_0000), Some(0xde));
+                assert_back(&rt, &regions.into_args());
+                return Ok(());
+            }
+            Err((_, args)) => {
+                assert_wanting(&rt, &heap, after);
+                assert_back(&rt, &args);
+            }
         }
     }
     panic!(rt; "memory is never enough")
