@@ -4,7 +4,7 @@ use lib.Lanes.{zip2}
 use Rattle.std.specs.List.{list_any}
 use Rattle.std.proofs.lemmas.Simd.{length-zip2, get_or-zip2}
 use Rattle.std.proofs.lemmas.List.Folds.{list_any-append}
-use Rattle.std.proofs.lemmas.List.{take_more, take_all, drop_all, get_or-map, map-set}
+use Rattle.std.proofs.lemmas.List.{take_more, take_all, drop_all, get_or-map, length-map, map-set}
 use Rattle.lane_fixed.specs.FixedPoint.{any_active}
 
 or_false : (b : Bool) → (b || false) ≡ b
@@ -81,3 +81,39 @@ any_all test xs ys active i flag end same_y same_m e =
     let long : length (zip2 test xs ys) ≡ length xs = length-zip2 test xs ys (sym same_y) in
     let whole : length (flags_of test xs ys active) ≡ length active = length-zip2 (λ a s. a && s) active (zip2 test xs ys) (same_m ∙ sym long) in
     e ∙ ap (λ flags. list_any (λ is. is) flags) (take_all i (flags_of test xs ys active) (omega arith))
+
+-- ---- over elements, by their numbers: vs and bs are read, and what is written over `old` stands in `now`
+
+-- one more element is written
+pub one_done : {V B R : Type 0} (nv : V → ℕ) (nb : B → ℕ) (nr : R → ℕ) (f : ℕ → ℕ → ℕ) (test : ℕ → ℕ → Bool) (vs : List V) (bs : List B) (active : List Bool) (old now : List R) (i : ℕ) (v : V) (b : B) (z : R) (flag new : Bool)
+    → i < length old → length vs ≡ length old → length bs ≡ length old → length active ≡ length old
+    → nv v ≡ get_or (map nv vs) i (nv v) → nb b ≡ get_or (map nb bs) i (nb b)
+    → nr z ≡ f (nv v) (nb b) → new ≡ (flag || (get_or active i false && test (nv v) (nb b)))
+    → map nr now ≡ overlaid i (zip2 f (map nv vs) (map nb bs)) (map nr old) → flag ≡ any_before i test (map nv vs) (map nb bs) active
+    → (map nr (set now i z) ≡ overlaid (i + 1) (zip2 f (map nv vs) (map nb bs)) (map nr old)) × (new ≡ any_before (i + 1) test (map nv vs) (map nb bs) active)
+one_done nv nb nr f test vs bs active old now i v b z flag new lt same_v same_b same_a is_v is_b is_z is_new written flagged =
+    let long_v : length (map nv vs) ≡ length vs = length-map vs nv in
+    let long_b : length (map nb bs) ≡ length bs = length-map bs nb in
+    let long : length (map nr old) ≡ length old = length-map old nr in (
+      written_into nr f (map nv vs) (map nb bs) (map nr old) now i (nv v) (nb b) z written (omega arith) (omega arith) (omega arith) is_v is_b is_z,
+      one_more test (map nv vs) (map nb bs) active i (nv v) (nb b) (get_or active i false) flag new (omega arith) (omega arith) (omega arith) is_v is_b refl flagged is_new,
+    )
+
+-- all of them are
+pub all_done : {V B R : Type 0} (nv : V → ℕ) (nb : B → ℕ) (nr : R → ℕ) (f : ℕ → ℕ → ℕ) (vs : List V) (bs : List B) (old now : List R) (i : ℕ)
+    → length old ≤ i → length vs ≡ length old → length bs ≡ length old → map nr now ≡ overlaid i (zip2 f (map nv vs) (map nb bs)) (map nr old)
+    → map nr now ≡ zip2 f (map nv vs) (map nb bs)
+all_done nv nb nr f vs bs old now i end same_v same_b written =
+    let long_v : length (map nv vs) ≡ length vs = length-map vs nv in
+    let long_b : length (map nb bs) ≡ length bs = length-map bs nb in
+    let long : length (map nr old) ≡ length old = length-map old nr in
+    let whole : length (zip2 f (map nv vs) (map nb bs)) ≡ length (map nv vs) = length-zip2 f (map nv vs) (map nb bs) (omega arith) in
+    overlaid_all i (zip2 f (map nv vs) (map nb bs)) (map nr old) (map nr now) written (omega arith) (omega arith)
+
+pub flag_done : {V B : Type 0} (nv : V → ℕ) (nb : B → ℕ) (test : ℕ → ℕ → Bool) (vs : List V) (bs : List B) (active : List Bool) (i : ℕ) (flag : Bool)
+    → length vs ≤ i → length bs ≡ length vs → length active ≡ length vs → flag ≡ any_before i test (map nv vs) (map nb bs) active
+    → flag ≡ any_active test (map nv vs) (map nb bs) active
+flag_done nv nb test vs bs active i flag end same_b same_a flagged =
+    let long_v : length (map nv vs) ≡ length vs = length-map vs nv in
+    let long_b : length (map nb bs) ≡ length bs = length-map bs nb in
+    any_all test (map nv vs) (map nb bs) active i flag (omega arith) (omega arith) (omega arith) flagged

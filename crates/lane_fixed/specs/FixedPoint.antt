@@ -65,7 +65,8 @@ unfoldable pub element : FixedOp → RoundingMode → Width → ℕ → ℕ → 
 element op mode w a b = low_bits (bits w) (clipped op w (unclipped op mode w a b))
 
 unfoldable pub saturates : FixedOp → RoundingMode → Width → ℕ → ℕ → Bool
-saturates op mode w a b = not (int_eq (clipped op w (unclipped op mode w a b)) (unclipped op mode w a b))
+saturates op mode w a b =
+    not (int_eq (clipped op w (unclipped op mode w a b)) (unclipped op mode w a b))
 
 -- vnclipu and vnclip: a has the wide width, the result the narrow one, and the shift reads the low log2 bits of the wide width
 unfoldable pub clip_exact : ClipOp → Width → ℕ → ℤ
@@ -80,13 +81,16 @@ unfoldable pub clip_unclipped : ClipOp → RoundingMode → Width → ℕ → �
 clip_unclipped op mode wide a b = rounded mode (clip_exact op wide a) (b % bits wide)
 
 unfoldable pub clip_element : ClipOp → RoundingMode → Width → Width → ℕ → ℕ → ℕ
-clip_element op mode wide narrow a b = low_bits (bits narrow) (clip_to op narrow (clip_unclipped op mode wide a b))
+clip_element op mode wide narrow a b =
+    low_bits (bits narrow) (clip_to op narrow (clip_unclipped op mode wide a b))
 
 unfoldable pub clip_saturates : ClipOp → RoundingMode → Width → Width → ℕ → ℕ → Bool
 clip_saturates op mode wide narrow a b =
-    not (int_eq (clip_to op narrow (clip_unclipped op mode wide a b)) (clip_unclipped op mode wide a b))
+    not (int_eq (clip_to op narrow (clip_unclipped op mode wide a b))
+    (clip_unclipped op mode wide a b))
 
 -- whether one of the active elements saturates: vxsat becomes 1 by an active element alone
 unfoldable pub any_active : (ℕ → ℕ → Bool) → List ℕ → List ℕ → List Bool → Bool
 any_active test xs ys active =
-    list_any (λ is_saturated. is_saturated) (zip2 (λ is_active saturates. is_active && saturates) active (zip2 test xs ys))
+    list_any (λ is_saturated. is_saturated)
+    (zip2 (λ is_active saturates. is_active && saturates) active (zip2 test xs ys))

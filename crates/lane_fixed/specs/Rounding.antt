@@ -19,7 +19,8 @@ is_odd v = low_bits 1 v == 1
 -- whether the mode rounds up, where `quotient` is left and the d lowest bits held `rest`
 unfoldable pub rounds_up : RoundingMode → ℤ → ℕ → ℕ → Bool
 rounds_up NearestUp quotient rest d = nat_le (2 ^ d) (2 * rest)
-rounds_up NearestEven quotient rest d = nat_lt (2 ^ d) (2 * rest) || ((2 ^ d == 2 * rest) && is_odd quotient)
+rounds_up NearestEven quotient rest d =
+    nat_lt (2 ^ d) (2 * rest) || ((2 ^ d == 2 * rest) && is_odd quotient)
 rounds_up Down quotient rest d = false
 rounds_up Odd quotient rest d = not (rest == 0) && not (is_odd quotient)
 

@@ -59,9 +59,11 @@ element MulHighU w a b = high_half w (a * b)
 element MulHighSignedU w a b = high_half w (extended w a * b)
 element MulHigh w a b = high_half w (extended w a * extended w b)
 element DivU w a b = if b == 0 then 2 ^ bits w - 1 else a / b
-element Div w a b = if b == 0 then 2 ^ bits w - 1 else cast_unsigned w (int_div (cast_signed w a) (cast_signed w b))
+element Div w a b =
+    if b == 0 then 2 ^ bits w - 1 else cast_unsigned w (int_div (cast_signed w a) (cast_signed w b))
 element RemU w a b = if b == 0 then a else a % b
-element Rem w a b = if b == 0 then a else cast_unsigned w (int_rem (cast_signed w a) (cast_signed w b))
+element Rem w a b =
+    if b == 0 then a else cast_unsigned w (int_rem (cast_signed w a) (cast_signed w b))
 
 -- vmseq .. vmsgt: vs2 against b
 unfoldable pub compares : CompareOp → Width → ℕ → ℕ → Bool

@@ -6,7 +6,8 @@ use mir.Val.{bits}
 
 -- by its sign or by zeros
 unfoldable pub extended_to : Bool → Width → Width → ℕ → ℕ
-extended_to is_signed narrow wide n = if is_signed then cast_unsigned wide (cast_signed narrow n) else n
+extended_to is_signed narrow wide n =
+    if is_signed then cast_unsigned wide (cast_signed narrow n) else n
 
 -- its lowest bits
 unfoldable pub cut_to : Width → ℕ → ℕ

@@ -23,7 +23,8 @@ joined Max w a b = cast_unsigned w (int_max (cast_signed w a) (cast_signed w b))
 unfoldable pub kept : {A : Type 0} → List Bool → List A → List A
 kept [] values = []
 kept (is_kept ∷ bits) [] = []
-kept (is_kept ∷ bits) (value ∷ values) = if is_kept then value ∷ kept bits values else kept bits values
+kept (is_kept ∷ bits) (value ∷ values) =
+    if is_kept then value ∷ kept bits values else kept bits values
 
 -- the fold of vs1's element 0 with the active elements
 unfoldable pub fold_of : FoldOp → Width → ℕ → List Bool → List ℕ → ℕ
@@ -31,4 +32,5 @@ fold_of op w start active values = fold (joined op w) start (kept active values)
 
 -- an element that is extended to a wider width, by zeros or by its sign
 unfoldable pub extended : Bool → Width → Width → ℕ → ℕ
-extended is_signed narrow wide n = (if is_signed then cast_unsigned w32 (cast_signed narrow n) else n) % 2 ^ bits wide
+extended is_signed narrow wide n =
+    (if is_signed then cast_unsigned w32 (cast_signed narrow n) else n) % 2 ^ bits wide

@@ -9,7 +9,8 @@ slid_up offset source old = take offset old ++ take (length old - offset) source
 
 -- vslidedown: past the end of the source `zero` comes in
 unfoldable pub slid_down : {A : Type 0} → ℕ → List A → A → ℕ → List A
-slid_down offset source zero count = map (λ i. slice_index_or source (i + offset) zero) (range_with_len 0 count)
+slid_down offset source zero count =
+    map (λ i. slice_index_or source (i + offset) zero) (range_with_len 0 count)
 
 -- vslide1up and vslide1down of the body's elements: x comes in at the low end, or at the high end
 unfoldable pub slid_one_up : {A : Type 0} → A → List A → List A

@@ -1,8 +1,7 @@
 -- Texts by their pieces.
-use Rattle.std.specs.Prelude.{ℕ, List, [], ◌∷◌, ◌++◌, codes}
+use Rattle.std.specs.Prelude.{ℕ, List, [], ◌∷◌, ◌++◌}
 use Rattle.std.specs.Fmt.{decimal, signed_decimal}
 use Rattle.std.specs.Int.{to_be_bytes, w32}
-use Rattle.std.specs.List.{flat_map}
 use Rattle.hex.specs.Hex.{encode_lower}
 use Rattle.rv_listing.specs.declared.pieces.Piece.{Piece}
 use Rattle.rv_listing.specs.declared.pieces.Piece.TheVariants.{Text, Word, Number, Signed}

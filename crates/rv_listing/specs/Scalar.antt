@@ -5,7 +5,6 @@ use Rattle.rv_decode.specs.declared.instructions.{CsrAction.CsrAction, CsrInsn.C
 use Rattle.rv_decode.specs.declared.instructions.ScalarInsn.TheVariants.{Lui, Auipc, Jal, Jalr, Branch, Load, Store, Immediate, ShiftImmediate, Register, Fence, Ecall}
 use Rattle.rv_listing.specs.Fields.{line_text}
 use Rattle.rv_listing.specs.Names.{branch_name, csr_name, immediate_name, load_name, register_name, shift_name, store_name}
-use Rattle.rv_listing.specs.declared.fields.Field.{Field}
 use Rattle.rv_listing.specs.declared.fields.Field.TheVariants.{Rd, Rs1, Rs2, Imm, Upper, Amount, Csr, To}
 
 -- where a jump or branch at an address leads to: its offset is signed, and addresses are modulo 2^32

@@ -6,7 +6,6 @@ use Rattle.rv_listing.specs.Arithmetic.{operation_text}
 use Rattle.rv_listing.specs.Fields.{line_text}
 use Rattle.rv_listing.specs.Names.{fold_name, logic_name, set_first_name, whole_move_name}
 use Rattle.rv_listing.specs.declared.arithmetic.Forms.TheVariants.{Single}
-use Rattle.rv_listing.specs.declared.fields.Field.{Field}
 use Rattle.rv_listing.specs.declared.fields.Field.TheVariants.{Rd, Vd, Rs1, Rs2, Vs2, Vs1, Avl, Amount, Vm}
 
 -- the requested vtype is the immediate

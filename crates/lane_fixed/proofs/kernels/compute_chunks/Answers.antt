@@ -4,7 +4,7 @@ use Rattle.std.proofs.lemmas.List.{length-map, length-set}
 use Rattle.std.proofs.lemmas.Simd.{length-put_chunk, length-zip2}
 use Rattle.lane_fixed.specs.FixedPoint.{element, saturates}
 use Rattle.lane_fixed.specs.Chunks.{lane_result, lane_saturates}
-use Rattle.lane_fixed.proofs.KernelLemmas.{number_at, still_old, written_over, overlaid_all, one_more, any_all}
+use Rattle.lane_fixed.proofs.KernelLemmas.{number_at, still_old, written_over, one_more, all_done, flag_done}
 use Rattle.lane_fixed.proofs.ChunkKernelLemmas.{chunk_any, chunk_written}
 use Rattle.lane_fixed.proofs.kernels.compute_chunks.Goals as goal
 
@@ -58,20 +58,8 @@ loop-i-preserved g c =
 
 pub returns-clause-results : goal.returns-clause-results
 returns-clause-results g c =
-    let number = g.T.Lane.number in
-    let xs = map number c.args.values.now in
-    let ys = map number c.args.b.now in
-    let f = lane_result c.args.op g.T.Lane.width in
-    let long_x : length xs ≡ length c.args.values.now = length-map c.args.values.now number in
-    let long_y : length ys ≡ length c.args.b.now = length-map c.args.b.now number in
-    let whole : length (zip2 f xs ys) ≡ length xs = length-zip2 f xs ys (omega (arith, c.requires.b_len)) in
-    overlaid_all c.loop-i.i (zip2 f xs ys) xs (map number c.loop-i.values) c.loop-i.invariant.1 (omega (arith, c.loop-i.invariant.0)) whole
+    all_done g.T.Lane.number g.T.Lane.number g.T.Lane.number (lane_result c.args.op g.T.Lane.width) c.args.values.now c.args.b.now c.args.values.now c.loop-i.values c.loop-i.i (omega (arith, c.loop-i.invariant.0)) refl c.requires.b_len c.loop-i.invariant.1
 
 pub returns-clause-saturated : goal.returns-clause-saturated
 returns-clause-saturated g c =
-    let number = g.T.Lane.number in
-    let xs = map number c.args.values.now in
-    let ys = map number c.args.b.now in
-    let long_x : length xs ≡ length c.args.values.now = length-map c.args.values.now number in
-    let long_y : length ys ≡ length c.args.b.now = length-map c.args.b.now number in
-    any_all (lane_saturates c.args.op g.T.Lane.width) xs ys c.args.active.now c.loop-i.i c.loop-i.is_saturated (omega (arith, c.loop-i.invariant.0)) (omega (arith, c.requires.b_len)) (omega (arith, c.requires.active_len)) c.loop-i.invariant.2
+    flag_done g.T.Lane.number g.T.Lane.number (lane_saturates c.args.op g.T.Lane.width) c.args.values.now c.args.b.now c.args.active.now c.loop-i.i c.loop-i.is_saturated (omega (arith, c.loop-i.invariant.0)) c.requires.b_len c.requires.active_len c.loop-i.invariant.2

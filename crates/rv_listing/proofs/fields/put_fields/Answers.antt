@@ -1,4 +1,3 @@
-use Rattle.std.proofs.Common.{Ok, Err}
 use Rattle.rv_listing.specs.Fields.{fields_text}
 use Rattle.rv_listing.proofs.SinkLemmas.{told_then, told_part}
 use Rattle.rv_listing.proofs.FieldLemmas.{head_text}

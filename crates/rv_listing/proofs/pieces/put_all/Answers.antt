@@ -1,4 +1,4 @@
-use Rattle.std.proofs.Common.{rules, ◌≡◌, ◌+◌, ◌∙◌, Err, Ok, arith, add-one, sym, take}
+use Rattle.std.proofs.Common.{◌∙◌, Err, add-one}
 use Rattle.rv_listing.proofs.SinkLemmas.{appends_both, told_part, told_then}
 use Rattle.rv_listing.proofs.PieceLemmas.{pieces-next, pieces-rest}
 use Rattle.rv_listing.proofs.pieces.put_all.Goals as goal
