@@ -1,3 +1,4 @@
+pub mod AtomSplits
 pub mod Lists
 pub mod Memories
 pub mod Operations

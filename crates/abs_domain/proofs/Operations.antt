@@ -49,7 +49,7 @@ known_is r x c l e = go (r.lo == r.hi) refl e
     go false f g = cc
 
 -- interval arithmetic that stays within 32 bits
-fitting_lies : (lo hi x : ℕ) → lo ≤ x → x ≤ hi → IfSome (fitting lo hi) (λ r. LiesIn r (x % 2 ^ 32))
+fitting_lies : (lo hi x : ℕ) → lo ≤ x → x ≤ hi → IfSome (fitting 32 lo hi) (λ r. LiesIn r (x % 2 ^ 32))
 fitting_lies lo hi x l h = go (nat_lt lo (2 ^ 32) && nat_lt hi (2 ^ 32)) refl
   where
     go : (t : Bool) → (nat_lt lo (2 ^ 32) && nat_lt hi (2 ^ 32)) ≡ t
@@ -84,7 +84,7 @@ unfolding offset_range
 offset_lies r x m h fits = go (nat_lt m (2 ^ 31)) refl
   where
     go : (t : Bool) → nat_lt m (2 ^ 31) ≡ t
-        → IfSome (if t then fitting (r.lo + m) (r.hi + m) else difference_range r (just (2 ^ 32 - m))) (λ s. LiesIn s ((x + m) % 2 ^ 32))
+        → IfSome (if t then fitting 32 (r.lo + m) (r.hi + m) else difference_range r (just (2 ^ 32 - m))) (λ s. LiesIn s ((x + m) % 2 ^ 32))
     go true f = fitting_lies (r.lo + m) (r.hi + m) (x + m) (omega (arith, h.low)) (omega (arith, h.high))
     go false f =
         let l : 2 ^ 31 ≤ m = grind (arith, nat_tests) in

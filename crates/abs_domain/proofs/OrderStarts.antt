@@ -1,15 +1,13 @@
 -- What is known where a block begins is true of the hart there, where its orders split atoms.
-use Rattle.std.proofs.Common.{◌≡◌, ◌≢◌, ◌<◌, ◌≤◌, ◌+◌, ◌-◌, ◌^◌, ℕ, zero, suc, Bool, true, false, arith, refl, sym, ap, ◌∙◌, subst, inl, inr, length, List, [], ◌∷◌, ◌++◌, get_or, get_or-set_same, get_or-set_other, drop, Some, None}
+use Rattle.std.proofs.Common.{◌≡◌, ◌<◌, ◌≤◌, ◌+◌, ◌-◌, ◌^◌, ℕ, zero, suc, Bool, true, false, arith, refl, sym, ap, ◌∙◌, subst, length, List, [], ◌∷◌, ◌++◌, get_or, drop, Some}
 use Rattle.std.specs.Prelude.{if◌then◌else◌, ◌==◌, nat_le}
 use Rattle.std.specs.List.{AllByRecursion, slice_get}
-use Rattle.std.proofs.lemmas.Bool.{cases_eq}
-use Rattle.std.proofs.Math.ListN.{length-set}
 use Rattle.std.proofs.lemmas.List.{drop_more, drop_all}
 use Rattle.linear_facts.specs.declared.ranges.Range.{Range}
 use Rattle.linear_facts.specs.declared.ranges.Atom.{Atom}
 use Rattle.linear_facts.specs.declared.ranges.Split.{Split}
 use Rattle.linear_facts.specs.Forms.{Linear}
-use Rattle.linear_facts.specs.Ranges.{AgreesWith, IsIn, atom_at, range_at, split_at}
+use Rattle.linear_facts.specs.Ranges.{AgreesWith, IsIn, range_at}
 use Rattle.linear_facts.proofs.LocalityLemmas.{forms-stay, agree-below}
 use Rattle.region_mem.specs.declared.parameter.Param.{Param}
 use Rattle.vreg_groups.specs.declared.vector_length.Vconfig.{Vconfig}
@@ -18,148 +16,16 @@ use Rattle.cert_note.specs.declared.values.RegisterFact.{RegisterFact}
 use Rattle.cert_note.specs.declared.values.Block.{Block}
 use Rattle.cert_note.specs.declared.values.OrderFact.{OrderFact}
 use Rattle.cert_note.specs.Certificate.{IsBlock, IsOrderFact, AllFrom, after_order, after_block}
-use Rattle.abs_domain.specs.Numbers.{plain}
+use Rattle.abs_domain.specs.Numbers.{plain, table_with, with_split}
 use Rattle.abs_domain.specs.Described.{LiesIn, Means}
-use Rattle.abs_domain.specs.Holds.{number_of, table_with, AreSplitsBelow}
-use Rattle.abs_domain.specs.Numbers.{with_split}
+use Rattle.abs_domain.specs.Holds.{number_of, AreSplitsBelow}
 use Rattle.abs_domain.specs.Starts.{stated_range, stated_form, passed_range, start_atoms, numbers_by, start_numbers}
 use Rattle.abs_domain.specs.BlockLaws.{number_in, OrderIsTrue, HoldsWith, BlockNumbersHold}
 use Rattle.abs_domain.specs.Orders.{with_order, with_orders}
-use Rattle.abs_domain.proofs.States.{with_number, number_here, number_there, length_push}
+use Rattle.abs_domain.proofs.AtomSplits.{range_stays, split_agrees, split_count, splits_stay}
+use Rattle.abs_domain.proofs.States.{atoms_grow, length_push, number_here, number_there, range_old, splits_grow, with_number}
 use Rattle.abs_domain.proofs.StartForms.{found_is, greater_below, lesser_below}
 use Rattle.abs_domain.proofs.StartNumbers.{by_holds, atoms_many, starts_agree, starts_split, stated_means, stated_lies, number_below, number_small, are_stated, all_passed_in, IsStated, atom_of_register}
-
--- ---- a new atom, and a split (as in States and Splits)
-
-push_at : (xs : List Atom) (y d : Atom) → get_or (xs ++ y ∷ []) (length xs) d ≡ y
-push_at [] y d = refl
-push_at (x ∷ xs) y d = push_at xs y d
-
-push_other : (xs : List Atom) (y d : Atom) (a : ℕ) → a ≢ length xs → get_or (xs ++ y ∷ []) a d ≡ get_or xs a d
-push_other [] y d zero ne = absurd (ne refl)
-push_other [] y d (suc a) ne = refl
-push_other (x ∷ xs) y d zero ne = refl
-push_other (x ∷ xs) y d (suc a) ne = push_other xs y d a (λ e. ne (ap suc e))
-
-module _ (atoms : List Atom) (k : Atom) where
-  atom_new : atom_at (table_with (atoms ++ k ∷ [])) (length atoms) ≡ k
-  unfolding atom_at
-  atom_new = push_at atoms k _
-
-  atom_old : (a : ℕ) → a ≢ length atoms → atom_at (table_with (atoms ++ k ∷ [])) a ≡ atom_at (table_with atoms) a
-  unfolding atom_at
-  atom_old a ne = push_other atoms k _ a ne
-
-  range_new : range_at (table_with (atoms ++ k ∷ [])) (length atoms) ≡ k.range
-  unfolding range_at
-  range_new = ap (λ (b : Atom). b.range) atom_new
-
-  range_old : (a : ℕ) → a ≢ length atoms → range_at (table_with (atoms ++ k ∷ [])) a ≡ range_at (table_with atoms) a
-  unfolding range_at
-  range_old a ne = ap (λ (b : Atom). b.range) (atom_old a ne)
-
-  split_new : split_at (table_with (atoms ++ k ∷ [])) (length atoms) ≡ k.split
-  unfolding split_at
-  split_new = ap (λ (b : Atom). b.split) atom_new
-
-  split_old : (a : ℕ) → a ≢ length atoms → split_at (table_with (atoms ++ k ∷ [])) a ≡ split_at (table_with atoms) a
-  unfolding split_at
-  split_old a ne = ap (λ (b : Atom). b.split) (atom_old a ne)
-
-no_split : {A : Type 0} (s : Split) → None ≡ Some s → A
-no_split s e = cc
-
--- the atoms with one more, which is x, agree with the numbers
-atoms_grow : (atoms : List Atom) (v : ℕ → ℕ) (r : Range) (x : ℕ) → AgreesWith (table_with atoms) v → AreSplitsBelow atoms → LiesIn r x
-    → AgreesWith (table_with (atoms ++ plain r ∷ [])) (with_number v (length atoms) x)
-atoms_grow atoms v r x agrees splits lies =
-    let n = length atoms in
-    let small : x < 2 ^ 32 = omega (arith, lies.high, lies.fits) in
-    record {
-      fits = λ a. elim (cases_eq a n) [
-        | inl e ↦ rw (e, number_here v n x) small
-        | inr ne ↦ rw (number_there v n x a ne) (agrees.fits a)
-      ];
-      in_range = λ a. elim (cases_eq a n) [
-        | inl e ↦ rw (e, number_here v n x, range_new atoms (plain r)) (lies.low, lies.high)
-        | inr ne ↦ rw (number_there v n x a ne, range_old atoms (plain r) a ne) (agrees.in_range a)
-      ];
-      is_sum = λ a s e. elim (cases_eq a n) [
-        | inl here ↦ no_split s (sym (split_new atoms (plain r)) ∙ (rw here at e))
-        | inr ne ↦
-            let old : split_at (table_with atoms) a ≡ Some s = sym (split_old atoms (plain r) a ne) ∙ e in
-            let both = splits a s old in
-            rw (number_there v n x a ne, number_there v n x s.first (omega (arith, both.0)), number_there v n x s.second (omega (arith, both.1)))
-            (agrees.is_sum a s old)
-      ];
-    }
-
-splits_grow : (atoms : List Atom) (r : Range) → AreSplitsBelow atoms → AreSplitsBelow (atoms ++ plain r ∷ [])
-splits_grow atoms r splits a s e =
-    elim (cases_eq a (length atoms)) [
-      | inl here ↦ no_split s (sym (split_new atoms (plain r)) ∙ (rw here at e))
-      | inr ne ↦
-          let both = splits a s (sym (split_old atoms (plain r) a ne) ∙ e) in
-          (omega (arith, both.0, length_push atoms (plain r)), omega (arith, both.1, length_push atoms (plain r)))
-    ]
-
-module _ (atoms : List Atom) (a : ℕ) (p : Split) where
-  atom_other : (b : ℕ) → b ≢ a → atom_at (table_with (with_split a p atoms)) b ≡ atom_at (table_with atoms) b
-  unfolding atom_at with_split
-  atom_other b ne = get_or-set_other atoms a b _ _ ne
-
-  split_other : (b : ℕ) → b ≢ a → split_at (table_with (with_split a p atoms)) b ≡ split_at (table_with atoms) b
-  unfolding split_at
-  split_other b ne = ap (λ (k : Atom). k.split) (atom_other b ne)
-
-  atom_here : a < length atoms
-      → atom_at (table_with (with_split a p atoms)) a ≡ record { range = (atom_at (table_with atoms) a).range; split = Some p }
-  unfolding atom_at with_split
-  atom_here l = get_or-set_same atoms a _ _ l
-
-  split_here : a < length atoms → split_at (table_with (with_split a p atoms)) a ≡ Some p
-  unfolding split_at
-  split_here l = ap (λ (k : Atom). k.split) (atom_here l)
-
-  range_stays : (b : ℕ) → a < length atoms → range_at (table_with (with_split a p atoms)) b ≡ range_at (table_with atoms) b
-  unfolding range_at
-  range_stays b l = elim (cases_eq b a) [
-    | inl e ↦ rw e (ap (λ (k : Atom). k.range) (atom_here l))
-    | inr ne ↦ ap (λ (k : Atom). k.range) (atom_other b ne)
-  ]
-
-same_split : (p q : Split) → Some p ≡ Some q → p ≡ q
-same_split p q e = cc
-
--- an atom that is the sum of two others may be split into them
-split_agrees : (atoms : List Atom) (v : ℕ → ℕ) (a : ℕ) (p : Split) → a < length atoms → AgreesWith (table_with atoms) v
-    → v a ≡ v p.first + v p.second → AgreesWith (table_with (with_split a p atoms)) v
-split_agrees atoms v a p l agrees e =
-    record {
-      fits = agrees.fits;
-      in_range = λ b. rw (range_stays atoms a p b l) (agrees.in_range b);
-      is_sum = λ b q f. elim (cases_eq b a) [
-        | inl here ↦
-            let k : p ≡ q = same_split p q (sym (split_here atoms a p l) ∙ (rw here at f)) in
-            rw (here, ← k) e
-        | inr ne ↦ agrees.is_sum b q (sym (split_other atoms a p b ne) ∙ f)
-      ];
-    }
-
-split_count : (a : ℕ) (p : Split) (atoms : List Atom) → length (with_split a p atoms) ≡ length atoms
-unfolding with_split
-split_count a p atoms = length-set atoms a _
-
-splits_stay : (atoms : List Atom) (a : ℕ) (p : Split) → a < length atoms → p.first < length atoms → p.second < length atoms
-    → AreSplitsBelow atoms → AreSplitsBelow (with_split a p atoms)
-splits_stay atoms a p l first second below b q e =
-    rw (split_count a p atoms)
-    (elim (cases_eq b a) [
-      | inl here ↦
-          let k : p ≡ q = same_split p q (sym (split_here atoms a p l) ∙ (rw here at e)) in
-          rw (← k) (first, second)
-      | inr ne ↦ below b q (sym (split_other atoms a p b ne) ∙ e)
-    ])
 
 -- ---- order facts
 

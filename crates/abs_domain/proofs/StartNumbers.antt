@@ -1,6 +1,6 @@
 -- What is known where a block or a run begins is true of the hart there.
-use Rattle.std.proofs.Common.{◌≡◌, ℕ, ◌<◌, ◌≤◌, ◌+◌, ◌%◌, ◌^◌, ◌⊎◌, ◌≢◌, Bool, true, false, arith, refl, sym, ap, ◌∙◌, subst, inl, inr, length, length-append, map, List, [], ◌∷◌, Option, Some, None, IfSome}
-use Rattle.std.specs.Prelude.{nat_le, nat_lt, ◌&&◌, ◌-◌, ◌==◌, if◌then◌else◌, unwrap_or}
+use Rattle.std.proofs.Common.{◌≡◌, ℕ, ◌<◌, ◌≤◌, ◌+◌, ◌%◌, ◌^◌, Bool, true, false, arith, refl, sym, ap, ◌∙◌, subst, length, length-append, map, List, [], ◌∷◌, Option, Some, None, IfSome}
+use Rattle.std.specs.Prelude.{nat_le, ◌-◌, ◌==◌, if◌then◌else◌, unwrap_or}
 use Rattle.std.specs.List.{AllByRecursion, slice_get, range_with_len}
 use Rattle.std.specs.Option.{option_and_then}
 use Rattle.std.proofs.lemmas.Bool.Decides.{nat_tests}
@@ -14,20 +14,23 @@ use Rattle.linear_facts.specs.Forms.{Linear, value, atom_form, number_form}
 use Rattle.linear_facts.specs.Ranges.{AgreesWith, IsIn, atom_at, range_at, split_at, unknown_atom}
 use Rattle.linear_facts.specs.Sums.{range_of_form}
 use Rattle.linear_facts.proofs.FormLaws.{value-atom_form, atom-IsForm}
-use Rattle.region_mem.specs.declared.layout.TheConstants.{STACK_END}
 use Rattle.region_mem.specs.declared.parameter.Param.TheVariants as parameter
 use Rattle.region_mem.specs.Parameter.{address_of}
 use Rattle.vreg_groups.specs.declared.vector_length.Vconfig.{Vconfig}
-use Rattle.scalar_core.specs.Hart.{Hart, IsHart, exit, reg_of}
+use Rattle.scalar_core.specs.declared.entry.EntryValue.{EntryValue}
+use Rattle.scalar_core.specs.declared.entry.EntryValue.TheVariants.{Number, Passed}
+use Rattle.scalar_core.specs.Entry.{entry_number, entry_value, number_with}
+use Rattle.scalar_core.specs.Hart.{Hart, IsHart, reg_of}
+use Rattle.scalar_core.proofs.EntryLemmas.{entry_place}
 use Rattle.region_mem.specs.declared.parameter.Param.{Param}
 use Rattle.cert_note.specs.declared.values.Equality.{Equality}
 use Rattle.cert_note.specs.declared.values.RegisterFact.{RegisterFact}
 use Rattle.cert_note.specs.Certificate.{IsRegisterFact, SaysMore, AllFrom, after_fact}
 use Rattle.abs_domain.specs.Values.{full_range, just, computed_range}
-use Rattle.abs_domain.specs.Numbers.{plain, value_at}
+use Rattle.abs_domain.specs.Numbers.{plain, table_with, value_at}
 use Rattle.abs_domain.specs.Described.{LiesIn, Means, IsNumber}
-use Rattle.abs_domain.specs.Holds.{Holds, number_of, table_with, AreSplitsBelow}
-use Rattle.abs_domain.specs.Starts.{fact_for, interval_of, stated_range, equality_form, form_or_atom, stated_form, passed_range, start_atoms, numbers_by, passed_form, entry_form, entry_numbers}
+use Rattle.abs_domain.specs.Holds.{Holds, number_of, AreSplitsBelow}
+use Rattle.abs_domain.specs.Starts.{fact_for, interval_of, stated_range, equality_form, form_or_atom, stated_form, passed_range, start_atoms, numbers_by, passed_value, value_for, start_value, form_with, entry_form, entry_numbers}
 use Rattle.abs_domain.specs.BlockLaws.{IsPassed, ArePassed, number_in, FactIsTrue, IsEntry, EntryNumbersHold}
 use Rattle.abs_domain.proofs.States.{computed_lies, form_range_lies}
 use Rattle.abs_domain.proofs.StartForms.{found_has, found_passes, equality_is, equality_below}
@@ -314,8 +317,8 @@ module _ (params : List Param) (passed : ℕ → ℕ) (h : Hart) (config : Vconf
       (constant_means 41 (number_in passed h config) x l)
 
   passed_means : (place : ℕ) → place < 8 → (o : Option Param) → IsPassed params place o (passed place)
-      → Means 8 41 (number_in passed h config) (passed_form params place o) (passed place)
-  unfolding passed_form
+      → Means 8 41 (number_in passed h config) (form_with (passed_value params place o)) (passed place)
+  unfolding passed_value
   passed_means place l None is = constant_is 0 (passed place) is (are.fit place)
   passed_means place l (Some parameter.None) is = constant_is 0 (passed place) is (are.fit place)
   passed_means place l (Some (parameter.Scalar lo hi)) is =
@@ -331,23 +334,16 @@ module _ (params : List Param) (passed : ℕ → ℕ) (h : Hart) (config : Vconf
   abbrev v : ℕ → ℕ
   v = number_in passed h config
 
-  register : (i : ℕ) → i ≢ 32 → number_of i h config ≡ reg_of i h
-  register i ne = grind (arith, nat_tests)
-
-  other : (i : ℕ) → i ≢ 1 → i ≢ 2 → (i < 10) ⊎ (18 ≤ i) → number_of i h config ≡ 0
-  other i one two out = by_test (i == 32)
+  -- what a register holds, or vl, which is 0
+  entry_is : (i : ℕ) → i < 33 → number_of i h config ≡ entry_number passed i
+  unfolding entry_value
+  entry_is i l = by_test (i == 32) refl
     where
-      by_test : (t : Bool) → (if t then config.vl else reg_of i h) ≡ 0
-      by_test true = none
-      by_test false = entry.others i one two out
-
-  argument : (i : ℕ) → 10 ≤ i → i < 18 → number_of i h config ≡ passed (i - 10)
-  argument i l g =
-      let place : 10 + (i - 10) ≡ i = omega (arith, l) in
-      register i (omega (arith, g)) ∙ (ap (λ (j : ℕ). reg_of j h) (sym place) ∙ entry.arguments (i - 10) (omega (arith, l, g)))
-
-  zero_is : (i : ℕ) → number_of i h config ≡ 0 → Means 8 41 v (number_form 0) (number_of i h config)
-  zero_is i e = subst (λ (x : ℕ). Means 8 41 v (number_form 0) x) (sym e) (zero_means 41 v)
+      by_test : (t : Bool) → (i == 32) ≡ t → (if t then config.vl else reg_of i h) ≡ entry_number passed i
+      by_test true e =
+          let at : i ≡ 32 = grind (arith, nat_tests) in
+          rw at none
+      by_test false e = entry i (grind (arith, nat_tests))
 
   small : (a : ℕ) → v a < 2 ^ 32
   small = number_small passed h config hart (omega (arith, none)) are.fit
@@ -367,52 +363,17 @@ module _ (params : List Param) (passed : ℕ → ℕ) (h : Hart) (config : Vconf
           (omega (arith, is), omega (arith, is))
       by_test false e = (let s = small a in (omega arith, omega (arith, s)))
 
-  one_is : (i : ℕ) → (i == 1) ≡ false → i ≢ 1
-  one_is i e here = absurd (grind (arith, nat_tests))
-
-  two_is : (i : ℕ) → (i == 2) ≡ false → i ≢ 2
-  two_is i e here = absurd (grind (arith, nat_tests))
-
-  outside : (i : ℕ) → (nat_le 10 i && nat_lt i 18) ≡ false → (i < 10) ⊎ (18 ≤ i)
-  outside i e = by_low (nat_le 10 i) refl
-    where
-      by_high : (t : Bool) → nat_lt i 18 ≡ t → nat_le 10 i ≡ true → (i < 10) ⊎ (18 ≤ i)
-      by_high true f g = absurd (grind (arith, nat_tests))
-      by_high false f g = (let k : 18 ≤ i = grind (arith, nat_tests) in inr k)
-
-      by_low : (t : Bool) → nat_le 10 i ≡ t → (i < 10) ⊎ (18 ≤ i)
-      by_low true g = by_high (nat_lt i 18) refl g
-      by_low false g = (let k : i < 10 = grind (arith, nat_tests) in inl k)
-
   entry_means : (i : ℕ) → i < 33 → Means 8 41 v (entry_form params i) (number_of i h config)
-  unfolding entry_form
-  entry_means i l = first (i == 1) refl
+  unfolding entry_form start_value
+  entry_means i l = by_value (entry_value i) refl (entry_is i l)
     where
-      past : i ≢ 1 → i ≢ 2 → (t : Bool) → (nat_le 10 i && nat_lt i 18) ≡ t
-          → Means 8 41 v (if t then passed_form params (i - 10) (slice_get params (i - 10)) else number_form 0) (number_of i h config)
-      past one two true e =
-          let low : 10 ≤ i = grind (arith, nat_tests) in
-          let high : i < 18 = grind (arith, nat_tests) in
-          let place : i - 10 < 8 = omega (arith, low, high) in
-          subst (λ (x : ℕ). Means 8 41 v (passed_form params (i - 10) (slice_get params (i - 10))) x) (sym (argument i low high))
-          (passed_means params passed h config are (i - 10) place (slice_get params (i - 10)) (are.each (i - 10) place))
-      past one two false e = zero_is i (other i one two (outside i e))
-
-      second : i ≢ 1 → (t : Bool) → (i == 2) ≡ t
-          → Means 8 41 v (if t then number_form STACK_END else (if nat_le 10 i && nat_lt i 18 then passed_form params (i - 10) (slice_get params (i - 10)) else number_form 0)) (number_of i h config)
-      second one true e =
-          let here : i ≡ 2 = grind (arith, nat_tests) in
-          constant_is params passed h config are STACK_END (number_of i h config) (register i (omega (arith, here)) ∙ (ap (λ (j : ℕ). reg_of j h) here ∙ entry.sp))
-          (number_fits i l)
-      second one false e = past one (λ here. two_is i e here) (nat_le 10 i && nat_lt i 18) refl
-
-      first : (t : Bool) → (i == 1) ≡ t
-          → Means 8 41 v (if t then number_form exit else (if i == 2 then number_form STACK_END else (if nat_le 10 i && nat_lt i 18 then passed_form params (i - 10) (slice_get params (i - 10)) else number_form 0))) (number_of i h config)
-      first true e =
-          let here : i ≡ 1 = grind (arith, nat_tests) in
-          constant_is params passed h config are exit (number_of i h config) (register i (omega (arith, here)) ∙ (ap (λ (j : ℕ). reg_of j h) here ∙ entry.ra))
-          (number_fits i l)
-      first false e = second (λ here. one_is i e here) (i == 2) refl
+      by_value : (w : EntryValue) → entry_value i ≡ w → number_of i h config ≡ number_with passed w
+          → Means 8 41 v (form_with (value_for params w)) (number_of i h config)
+      by_value (Number number) e is = constant_is params passed h config are number (number_of i h config) is (number_fits i l)
+      by_value (Passed place) e is =
+          let low : place < 8 = entry_place i place e in
+          subst (λ (x : ℕ). Means 8 41 v (form_with (passed_value params place (slice_get params place))) x) (sym is)
+          (passed_means params passed h config are place low (slice_get params place) (are.each place low))
 
   entry_hold : Holds (entry_numbers params) v h config
   unfolding entry_numbers

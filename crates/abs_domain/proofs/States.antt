@@ -19,9 +19,9 @@ use Rattle.scalar_core.specs.Hart.{Hart, IsHart, reg_of, with_reg}
 use Rattle.abs_domain.specs.declared.values.Effect.{Effect}
 use Rattle.abs_domain.specs.declared.values.Effect.TheVariants.{Computed, Fresh, Copied}
 use Rattle.abs_domain.specs.Values.{ValueView, just, or_full, or_own, computed_range}
-use Rattle.abs_domain.specs.Numbers.{NumbersView, atom_of_terms, plain, table_of, value_at, with_atom, with_value, with_fresh, with_short, with_computed, with_effect, with_result}
+use Rattle.abs_domain.specs.Numbers.{NumbersView, atom_of_terms, plain, table_of, table_with, value_at, with_atom, with_computed, with_effect, with_fresh, with_result, with_short, with_value}
 use Rattle.abs_domain.specs.Described.{LiesIn, Means, IsNumber, Describes}
-use Rattle.abs_domain.specs.Holds.{number_of, table_with, AreSplitsBelow, Holds, Follows, ResultsHold}
+use Rattle.abs_domain.specs.Holds.{number_of, AreSplitsBelow, Holds, Follows, ResultsHold}
 use Rattle.abs_domain.proofs.Operations.{full_lies}
 
 -- ---- a new atom
@@ -64,7 +64,7 @@ module _ (atoms : List Atom) (k : Atom) where
   unfolding range_at
   range_new = ap (λ (b : Atom). b.range) atom_new
 
-  range_old : (a : ℕ) → a ≢ length atoms → range_at (table_with (atoms ++ k ∷ [])) a ≡ range_at (table_with atoms) a
+  pub range_old : (a : ℕ) → a ≢ length atoms → range_at (table_with (atoms ++ k ∷ [])) a ≡ range_at (table_with atoms) a
   unfolding range_at
   range_old a ne = ap (λ (b : Atom). b.range) (atom_old a ne)
 
@@ -80,7 +80,7 @@ no_split : {A : Type 0} (s : Split) → None ≡ Some s → A
 no_split s e = cc
 
 -- the atoms with one more, which is x, agree with the numbers
-atoms_grow : (atoms : List Atom) (v : ℕ → ℕ) (r : Range) (x : ℕ) → AgreesWith (table_with atoms) v → AreSplitsBelow atoms → LiesIn r x
+pub atoms_grow : (atoms : List Atom) (v : ℕ → ℕ) (r : Range) (x : ℕ) → AgreesWith (table_with atoms) v → AreSplitsBelow atoms → LiesIn r x
     → AgreesWith (table_with (atoms ++ plain r ∷ [])) (with_number v (length atoms) x)
 atoms_grow atoms v r x agrees splits lies =
     let n = length atoms in
@@ -104,7 +104,7 @@ atoms_grow atoms v r x agrees splits lies =
       ];
     }
 
-splits_grow : (atoms : List Atom) (r : Range) → AreSplitsBelow atoms → AreSplitsBelow (atoms ++ plain r ∷ [])
+pub splits_grow : (atoms : List Atom) (r : Range) → AreSplitsBelow atoms → AreSplitsBelow (atoms ++ plain r ∷ [])
 splits_grow atoms r splits a s e =
     elim (cases_eq a (length atoms)) [
       | inl here ↦ no_split s (sym (split_new atoms (plain r)) ∙ (rw here at e))

@@ -1,9 +1,10 @@
 -- That what is known where a block or a run begins is true of the hart there.
-use Rattle.std.specs.Prelude.{ℕ, ◌≡◌, ◌≢◌, ◌<◌, ◌≤◌, ◌+◌, ◌-◌, ◌^◌, ◌==◌, ◌⊎◌, nat_le, if◌then◌else◌, List, length, Option, Some, None, find, unwrap_or, IfSome}
+use Rattle.std.specs.Prelude.{ℕ, ◌≡◌, ◌<◌, ◌≤◌, ◌-◌, ◌^◌, ◌==◌, nat_le, if◌then◌else◌, List, length, Option, Some, None, find, unwrap_or, IfSome}
 use Rattle.std.specs.List.{AllByRecursion, slice_get}
-use Rattle.abs_domain.specs.Words.{value, STACK_END, Vconfig, Hart, IsHart, exit, reg_of, Param, RegisterFact, OrderFact, Block, CertificateView, IsCertificate}
+use Rattle.abs_domain.specs.Words.{value, Vconfig, Hart, IsHart, reg_of, Param, RegisterFact, OrderFact, Block, CertificateView, IsCertificate}
 use Rattle.region_mem.specs.declared.parameter.Param.TheVariants as parameter
 use Rattle.region_mem.specs.Parameter.{address_of}
+use Rattle.scalar_core.specs.Entry.{entry_number}
 use Rattle.abs_domain.specs.Holds.{Holds, number_of}
 use Rattle.abs_domain.specs.Numbers.{NumbersView}
 use Rattle.abs_domain.specs.Starts.{equality_form, start_numbers, entry_numbers}
@@ -55,13 +56,9 @@ BlockNumbersHold =
     → HoldsWith (start_numbers certificate.parameters block.registers.items block.orders.items)
     (number_in passed h config) h config
 
--- The registers of a hart at the start of a run: ra is EXIT, sp the stack's end, a0 (x10) to a7 hold what was passed, and
--- all others are 0.
-pub record IsEntry (passed : ℕ → ℕ) (h : Hart) : Type 0 where
-  pub ra : reg_of 1 h ≡ exit
-  pub sp : reg_of 2 h ≡ STACK_END
-  pub arguments : (place : ℕ) → place < 8 → reg_of (10 + place) h ≡ passed place
-  pub others : (i : ℕ) → i ≢ 1 → i ≢ 2 → (i < 10) ⊎ (18 ≤ i) → reg_of i h ≡ 0
+-- Each register of a hart holds what it does at the start of a run.
+abbrev pub IsEntry : (ℕ → ℕ) → Hart → Type 0
+IsEntry passed h = (i : ℕ) → i < 32 → reg_of i h ≡ entry_number passed i
 
 -- What is known where a run begins is true of such a hart, where vl is 0.
 abbrev pub EntryNumbersHold : Type 0

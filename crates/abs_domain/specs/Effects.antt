@@ -13,20 +13,21 @@ use Rattle.abs_domain.specs.Values.{ValueView, full_range, just, known_of, up_to
 
 -- ---- interval arithmetic, where it stays within 32 bits
 
--- the range between two ends that both fit
-abbrev pub fitting : ℕ → ℕ → Option Range
-fitting lo hi =
-    if nat_lt lo (2 ^ 32) && nat_lt hi (2 ^ 32) then Some record { lo = lo; hi = hi } else None
+-- the range between two ends that both have this many bits
+abbrev pub fitting : ℕ → ℕ → ℕ → Option Range
+fitting bits lo hi =
+    if nat_lt lo (2 ^ bits) && nat_lt hi (2 ^ bits) then Some record { lo = lo; hi = hi } else None
 
 abbrev pub sum_range : Range → Range → Option Range
-sum_range a b = fitting (a.lo + b.lo) (a.hi + b.hi)
+sum_range a b = fitting 32 (a.lo + b.lo) (a.hi + b.hi)
 
 abbrev pub difference_range : Range → Range → Option Range
 difference_range a b =
     if nat_le b.hi a.lo then Some record { lo = a.lo - b.hi; hi = a.hi - b.lo } else None
 
-abbrev pub multiple_range : ℕ → Range → Option Range
-multiple_range k a = fitting (k * a.lo) (k * a.hi)
+-- the multiples of a range's numbers that have this many bits
+abbrev pub multiple_range : ℕ → ℕ → Range → Option Range
+multiple_range bits k a = fitting bits (k * a.lo) (k * a.hi)
 
 -- a range moved by a signed number of 32 bits, which is given by its bits
 unfoldable pub offset_range : ℕ → Range → Option Range
@@ -55,7 +56,7 @@ unfoldable pub offset_effect : ValueView → ℕ → Effect
 offset_effect a n = Computed (offset_form a.form n) (offset_range n a.range)
 
 unfoldable pub product_effect : ℕ → ValueView → Effect
-product_effect k a = Computed (scaled k a.form) (multiple_range k a.range)
+product_effect k a = Computed (scaled k a.form) (multiple_range 32 k a.range)
 
 -- a product where one of its factors is known; the first factor given here is tried first
 unfoldable pub product_by : ValueView → Option ℕ → ValueView → Option ℕ → Effect

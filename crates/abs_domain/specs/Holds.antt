@@ -1,18 +1,15 @@
 -- That what is known of the registers and of vl is true of a hart.
-use Rattle.std.specs.Prelude.{ℕ, ◌≡◌, ◌<◌, ◌≤◌, ◌==◌, if◌then◌else◌, List, length, Some, None}
-use Rattle.abs_domain.specs.Words.{Atom, Split, AtomTable, AgreesWith, Vconfig, Hart, IsHart, reg_of}
+use Rattle.std.specs.Prelude.{ℕ, ◌≡◌, ◌<◌, ◌≤◌, ◌==◌, if◌then◌else◌, List, length, Some}
+use Rattle.abs_domain.specs.Words.{Atom, Split, AgreesWith, Vconfig, Hart, IsHart, reg_of}
 use Rattle.linear_facts.specs.Ranges.{split_at}
 use Rattle.scalar_core.specs.Hart.{with_reg}
 use Rattle.abs_domain.specs.declared.values.Effect.{Effect}
-use Rattle.abs_domain.specs.Numbers.{NumbersView, value_at, with_result}
+use Rattle.abs_domain.specs.Numbers.{NumbersView, table_with, value_at, with_result}
 use Rattle.abs_domain.specs.Described.{IsNumber, Describes}
 
 -- the number of register i, or of vl for 32
 abbrev pub number_of : ℕ → Hart → Vconfig → ℕ
 number_of i h config = if i == 32 then config.vl else reg_of i h
-
-abbrev pub table_with : List Atom → AtomTable
-table_with atoms = record { atoms = atoms; first = None; second = None }
 
 -- The parts of each atom that was split are among the atoms.
 abbrev pub AreSplitsBelow : List Atom → Type 0

@@ -21,9 +21,13 @@ zero_numbers = record {
   ranges = replicate 33 (just 0);
 }
 
+-- atoms as a table, with no split put into their place
+abbrev pub table_with : List Atom → AtomTable
+table_with atoms = record { atoms = atoms; first = None; second = None }
+
 -- what is known of the atoms
 abbrev pub table_of : NumbersView → AtomTable
-table_of s = record { atoms = s.atoms; first = None; second = None }
+table_of s = table_with s.atoms
 
 abbrev pub atom_of_term : Term → Option ℕ
 atom_of_term t = if t.coefficient == 1 then Some t.atom else None

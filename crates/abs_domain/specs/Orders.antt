@@ -2,9 +2,7 @@
 use Rattle.std.specs.Prelude.{◌-◌, nat_le, if◌then◌else◌, List, [], ◌∷◌, ◌++◌, length}
 use Rattle.abs_domain.specs.Words.{Atom, OrderFact}
 use Rattle.linear_facts.specs.Ranges.{range_at}
-use Rattle.abs_domain.specs.Holds.{table_with}
-use Rattle.abs_domain.specs.Numbers.{plain}
-use Rattle.abs_domain.specs.Numbers.{with_split}
+use Rattle.abs_domain.specs.Numbers.{plain, table_with, with_split}
 
 -- The greater one's atom is split into the lesser one's and a new one, which is what lies between them; not where its range
 -- lies below the lesser one's, so that the order can't be true.

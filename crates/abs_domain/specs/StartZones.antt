@@ -7,4 +7,5 @@ use Rattle.abs_domain.specs.Zones.{zones_of}
 -- It has the zones of the segments, of the stack, and of each parameter that is a buffer.
 abbrev pub ZonesAreThere : Type 0
 ZonesAreThere =
-    ForEachStart (λ image params args. HasZones (zones_of image params) (start_memory image params args))
+    ForEachStart (λ image params args.
+    HasZones (zones_of image params) (start_memory image params args))

@@ -1,15 +1,18 @@
 -- What is known where a block begins, and where a run does. Atom i below 33 is the number of x0 to x31 or of vl there, and
 -- atom 33 + j the number that was passed for the parameter at place j.
-use Rattle.std.specs.Prelude.{ℕ, ◌<◌, ◌≤◌, ◌+◌, ◌-◌, ◌==◌, nat_le, nat_lt, ◌&&◌, if◌then◌else◌, List, [], ◌++◌, length, map, find, unwrap_or, Option, Some, None, IfSome}
+use Rattle.std.specs.Prelude.{ℕ, ◌<◌, ◌≤◌, ◌+◌, ◌==◌, if◌then◌else◌, List, [], ◌++◌, length, map, find, unwrap_or, Option, Some, None, IfSome}
 use Rattle.std.specs.List.{slice_get, range_with_len, AllByRecursion}
 use Rattle.std.specs.Option.{option_and_then}
-use Rattle.abs_domain.specs.Words.{Range, Atom, Linear, IsForm, number_form, atom_form, AtomTable, range_of_form, STACK_END, exit, Param, Equality, RegisterFact, OrderFact, Block}
+use Rattle.abs_domain.specs.Words.{Range, Atom, Linear, IsForm, number_form, atom_form, range_of_form, Param, Equality, RegisterFact, OrderFact, Block}
 use Rattle.linear_facts.specs.declared.forms.Term.{Term as FormTerm}
 use Rattle.region_mem.specs.declared.parameter.Param.TheVariants as parameter
 use Rattle.region_mem.specs.Parameter.{address_of}
 use Rattle.cert_note.specs.declared.values.Term.{Term}
+use Rattle.scalar_core.specs.declared.entry.EntryValue.{EntryValue}
+use Rattle.scalar_core.specs.declared.entry.EntryValue.TheVariants.{Number, Passed}
+use Rattle.scalar_core.specs.Entry.{entry_value}
 use Rattle.abs_domain.specs.Values.{full_range, just, computed_range}
-use Rattle.abs_domain.specs.Numbers.{NumbersView, plain}
+use Rattle.abs_domain.specs.Numbers.{NumbersView, plain, table_with}
 use Rattle.abs_domain.specs.Orders.{with_orders}
 
 -- the fact on a register, or on vl (32), if there is one
@@ -70,15 +73,12 @@ start_atoms params facts =
     map (λ i. plain (stated_range facts i)) (range_with_len 0 33)
     ++ map (λ place. plain (passed_range (slice_get params place))) (range_with_len 0 8)
 
-abbrev pub table_of_atoms : List Atom → AtomTable
-table_of_atoms atoms = record { atoms = atoms; first = None; second = None }
-
 -- the numbers where number i has this form and lies in this interval, if there is one
 unfoldable pub numbers_by : List Atom → (ℕ → Linear) → (ℕ → Option Range) → NumbersView
 numbers_by atoms form interval = record {
   atoms = atoms;
   forms = map form (range_with_len 0 33);
-  ranges = map (λ i. computed_range (interval i) (range_of_form (table_of_atoms atoms) (form i)))
+  ranges = map (λ i. computed_range (interval i) (range_of_form (table_with atoms) (form i)))
       (range_with_len 0 33);
 }
 
@@ -88,22 +88,31 @@ start_numbers params facts orders =
     numbers_by (with_orders (start_atoms params facts) orders) (stated_form facts)
     (λ i. Some (stated_range facts i))
 
--- what an argument register holds at the start of a run
-unfoldable pub passed_form : List Param → ℕ → Option Param → Linear
-passed_form params place None = number_form 0
-passed_form params place (Some parameter.None) = number_form 0
-passed_form params place (Some (parameter.Scalar lo hi)) = atom_form (33 + place)
-passed_form params place (Some (parameter.Buffer mode size)) =
-    number_form (unwrap_or (address_of place params) 0)
+-- what is passed for a parameter: 0 for none, for a scalar what is passed at its place, or the buffer's address
+unfoldable pub passed_value : List Param → ℕ → Option Param → EntryValue
+passed_value params place None = Number 0
+passed_value params place (Some parameter.None) = Number 0
+passed_value params place (Some (parameter.Scalar lo hi)) = Passed place
+passed_value params place (Some (parameter.Buffer mode size)) =
+    Number (unwrap_or (address_of place params) 0)
 
--- what a register or vl (32) holds at the start of a run: ra (x1) is EXIT, sp (x2) the stack's end, a0 (x10) to a7 hold the
--- arguments, and all else is 0
+-- a register's value with these parameters
+abbrev pub value_for : List Param → EntryValue → EntryValue
+value_for params (Number number) = Number number
+value_for params (Passed place) = passed_value params place (slice_get params place)
+
+-- what a register holds at the start of a run with these parameters
+unfoldable pub start_value : List Param → ℕ → EntryValue
+start_value params r = value_for params (entry_value r)
+
+-- it as a form: what is passed is an atom
+abbrev pub form_with : EntryValue → Linear
+form_with (Number number) = number_form number
+form_with (Passed place) = atom_form (33 + place)
+
+-- what a register or vl (32) holds there; vl is 0
 unfoldable pub entry_form : List Param → ℕ → Linear
-entry_form params i =
-    if i == 1 then number_form exit
-    else (if i == 2 then number_form STACK_END
-    else (if nat_le 10 i && nat_lt i 18 then passed_form params (i - 10) (slice_get params (i - 10))
-    else number_form 0))
+entry_form params i = form_with (start_value params i)
 
 unfoldable pub entry_numbers : List Param → NumbersView
 entry_numbers params = numbers_by (start_atoms params []) (entry_form params) (λ i. None)

@@ -16,7 +16,6 @@ pub use Rattle.vreg_groups.specs.declared.vector_length.Vconfig.{Vconfig}
 pub use Rattle.region_mem.specs.Laws.{IsCodeSafe, AreBytes}
 pub use Rattle.region_mem.specs.Memory.{Memory}
 pub use Rattle.region_mem.specs.declared.faults.Right.{Right}
-pub use Rattle.region_mem.specs.declared.layout.TheConstants.{STACK_END}
 pub use Rattle.region_mem.specs.declared.parameter.Param.{Param}
 pub use Rattle.cert_note.specs.Certificate.{CertificateView, IsCertificate}
 pub use Rattle.cert_note.specs.declared.values.Block.{Block}
@@ -24,5 +23,5 @@ pub use Rattle.cert_note.specs.declared.values.Equality.{Equality}
 pub use Rattle.cert_note.specs.declared.values.OrderFact.{OrderFact}
 pub use Rattle.cert_note.specs.declared.values.RegisterFact.{RegisterFact}
 pub use Rattle.scalar_core.specs.Arithmetic.{unsigned}
-pub use Rattle.scalar_core.specs.Hart.{Hart, exit, IsHart, reg_of}
+pub use Rattle.scalar_core.specs.Hart.{Hart, IsHart, reg_of}
 pub use Rattle.scalar_core.specs.Step.{size_of_load}

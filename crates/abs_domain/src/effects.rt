@@ -1,5 +1,5 @@
 //! What the instructions of RV32I and M, and reads of CSRs, make of the numbers of their operands, as far as these are known.
-ghost use Rattle.std.specs.Prelude.{◌≡◌};
+ghost use Rattle.std.specs.Prelude.{◌≡◌, ◌≤◌};
 ghost use Rattle.linear_facts.specs.Forms.{scaled};
 ghost use Rattle.abs_domain.specs.Effects.{fitting as fitting_of, sum_range as sum_range_of};
 ghost use Rattle.abs_domain.specs.Effects.{difference_range as difference_range_of};
@@ -21,12 +21,19 @@ ghost use Rattle.abs_domain.specs.Effects.{immediate_effect as immediate_effect_
 ghost use Rattle.abs_domain.specs.Effects.{shift_effect as shift_effect_of};
 ghost use Rattle.abs_domain.specs.Effects.{load_effect as load_effect_of};
 ghost use Rattle.abs_domain.specs.Effects.{csr_effect as csr_effect_of, bit_effect, unknown_effect};
-ghost use Rattle.abs_domain.specs.Values.{up_to as up_to_of};
+ghost use Rattle.abs_domain.specs.Values.{just as just_of, up_to as up_to_of};
 ghost use Rattle.scalar_core.specs.Arithmetic.{unsigned};
 
 use crate::values::{Effect, Value, known};
 use linear_facts::{Form, Range};
 use rv_decode::{CsrName, ImmediateOp, LoadKind, RegisterOp, ShiftOp};
+
+/// One number alone.
+pub fn just(n: u32) -> Range
+    ensures { result ≡ just_of n }
+{
+    Range { lo: n, hi: n }
+}
 
 /// The numbers from 0 to one.
 pub fn up_to(hi: u32) -> Range
@@ -35,11 +42,12 @@ pub fn up_to(hi: u32) -> Range
     Range { lo: 0, hi }
 }
 
-/// The range between two ends, where both fit 32 bits.
-pub fn fitting(lo: u64, hi: u64) -> Option<Range>
-    ensures { result ≡ fitting_of lo hi }
+/// The range between two ends, where both have this many bits.
+pub fn fitting(bits: u32, lo: u64, hi: u64) -> Option<Range>
+    requires { bits ≤ 32 }
+    ensures { result ≡ fitting_of bits lo hi }
 {
-    if lo < 1 << 32 && hi < 1 << 32 {
+    if lo < 1 << bits && hi < 1 << bits {
         Some(Range {
             lo: lo as u32,
             hi: hi as u32,
@@ -54,6 +62,7 @@ fn sum_range(a: Range, b: Range) -> Option<Range>
     ensures { result ≡ sum_range_of a b }
 {
     fitting(
+        32,
         u64::from(a.lo) + u64::from(b.lo),
         u64::from(a.hi) + u64::from(b.hi),
     )
@@ -73,11 +82,13 @@ fn difference_range(a: Range, b: Range) -> Option<Range>
     }
 }
 
-/// The multiples of a range's numbers.
-fn multiple_range(k: u32, a: Range) -> Option<Range>
-    ensures { result ≡ multiple_range_of k a }
+/// The multiples of a range's numbers, where both ends have this many bits.
+pub fn multiple_range(bits: u32, k: u32, a: Range) -> Option<Range>
+    requires { bits ≤ 32 }
+    ensures { result ≡ multiple_range_of bits k a }
 {
     fitting(
+        bits,
         u64::from(k) * u64::from(a.lo),
         u64::from(k) * u64::from(a.hi),
     )
@@ -90,16 +101,9 @@ pub fn offset_range(n: u32, a: Range) -> Option<Range>
     ensures { result ≡ offset_range_of n a }
 {
     if n < 1 << 31 {
-        sum_range(a, Range { lo: n, hi: n })
+        sum_range(a, just(n))
     } else {
-        let taken = u32::MAX - n + 1;
-        difference_range(
-            a,
-            Range {
-                lo: taken,
-                hi: taken,
-            },
-        )
+        difference_range(a, just(u32::MAX - n + 1))
     }
 }
 
@@ -118,7 +122,7 @@ pub fn constant_effect(n: u32) -> Effect
 {
     Effect::Computed {
         form: Form::number(n),
-        interval: Some(Range { lo: n, hi: n }),
+        interval: Some(just(n)),
     }
 }
 
@@ -169,7 +173,7 @@ fn product_effect(k: u32, a: &Value) -> Effect
 {
     Effect::Computed {
         form: long_multiple(k, a.form),
-        interval: multiple_range(k, a.range),
+        interval: multiple_range(32, k, a.range),
     }
 }
 

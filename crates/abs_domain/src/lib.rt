@@ -14,8 +14,8 @@ mod why;
 mod zones;
 
 pub use effects::{
-    constant_effect, copy_of, csr_effect, fitting, immediate_effect, load_effect, offset_form,
-    offset_range, register_effect, shift_effect, up_to,
+    constant_effect, copy_of, csr_effect, fitting, immediate_effect, just, load_effect,
+    multiple_range, offset_form, offset_range, register_effect, shift_effect, up_to,
 };
 pub use laws::{
     block_numbers_hold, constant_effects, csr_effects, entry_numbers_hold, immediate_effects,
@@ -23,7 +23,7 @@ pub use laws::{
     zones_are_permitted, zones_are_there,
 };
 pub use numbers::{MOST_ATOMS, Numbers, VL, whole_atom};
-pub use starts::entry_numbers;
+pub use starts::{entry_numbers, start_value};
 pub use values::{Effect, Value, computed_range, known};
 pub use why::Why;
 pub use zones::{Zone, load_allowed, memory_zones, store_allowed};

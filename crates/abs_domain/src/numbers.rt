@@ -31,13 +31,18 @@ pub struct Numbers<A: Allocator = Global> {
 impl<A: Allocator> Model for Numbers<A> {
     ghost use Rattle.std.specs.Prelude.{◌≡◌, ◌≤◌, length, vec_capacity};
     ghost use Rattle.abs_domain.specs.Numbers.{NumbersView};
+    ghost use Rattle.abs_domain.specs.declared.numbers.TheConstants.{MOST_ATOMS};
 
     ghost Value = { NumbersView };
 
-    ghost view = { λ s. record { atoms = s.atoms.items; forms = s.forms.items; ranges = s.ranges } };
+    ghost view = { λ s. record {
+      atoms = s.atoms.items;
+      forms = s.forms.items;
+      ranges = s.ranges;
+    } };
 
     // There are 33 forms, and room for all atoms.
-    ghost invariant = { λ s. (length s.forms.items ≡ 33) × (8300 ≤ vec_capacity s.atoms) };
+    ghost invariant = { λ s. (length s.forms.items ≡ 33) × (MOST_ATOMS ≤ vec_capacity s.atoms) };
 }
 
 /// As many forms as there are numbers, each the number 0.

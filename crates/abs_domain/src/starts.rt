@@ -1,6 +1,7 @@
 //! The numbers of registers and vl where a block of a certificate begins, and where a run does.
 ghost use Rattle.std.specs.Prelude.{◌≡◌, ◌<◌, ◌≤◌, ◌+◌, ◌++◌, ◌∷◌, [], length, map, vec_capacity};
-ghost use Rattle.std.specs.Prelude.{IfOk, Some, None};
+ghost use Rattle.std.specs.Prelude.{ℕ, IfOk, Some, None};
+ghost use Rattle.scalar_core.specs.declared.entry.EntryValue.TheVariants.{Passed};
 ghost use Rattle.std.specs.List.{range_with_len, slice_get, AllByRecursion};
 ghost use Rattle.linear_facts.specs.Forms.{IsForm};
 ghost use Rattle.linear_facts.specs.Sums.{range_of_form};
@@ -11,7 +12,8 @@ ghost use Rattle.abs_domain.specs.Starts.{stated_range as stated_range_of};
 ghost use Rattle.abs_domain.specs.Starts.{equality_form as equality_form_of};
 ghost use Rattle.abs_domain.specs.Starts.{stated_form as stated_form_of};
 ghost use Rattle.abs_domain.specs.Starts.{passed_range as passed_range_of};
-ghost use Rattle.abs_domain.specs.Starts.{passed_form as passed_form_of};
+ghost use Rattle.abs_domain.specs.Starts.{passed_value as passed_value_of};
+ghost use Rattle.abs_domain.specs.Starts.{start_value as start_value_of};
 ghost use Rattle.abs_domain.specs.Starts.{entry_form as entry_form_of};
 ghost use Rattle.abs_domain.specs.Starts.{HasForm, start_atoms as start_atoms_of};
 ghost use Rattle.abs_domain.specs.Starts.{start_numbers as start_numbers_of};
@@ -19,12 +21,13 @@ ghost use Rattle.abs_domain.specs.Starts.{entry_numbers as entry_numbers_of};
 ghost use Rattle.abs_domain.specs.Numbers.{plain};
 ghost use Rattle.abs_domain.specs.Orders.{with_order, with_orders};
 
+use crate::effects::just;
 use crate::numbers::{MOST_ATOMS, Numbers};
 use crate::values::computed_range;
 use cert_note::{Equality, OrderFact, RegisterFact};
 use linear_facts::{Atom, Atoms, Form, Range, Split, Term};
-use region_mem::{Param, Parameters, STACK_END};
-use scalar_core::EXIT;
+use region_mem::{Param, Parameters};
+use scalar_core::{EntryValue, entry_value};
 use std::alloc::{AllocError, Allocator};
 
 /// The fact on a register or on vl (32), if there is one.
@@ -53,7 +56,7 @@ fn stated_range(facts: &[RegisterFact], number: u8) -> Range
     ensures { result ≡ stated_range_of facts.now number }
 {
     if number == 0 {
-        Range { lo: 0, hi: 0 }
+        just(0)
     } else {
         fact_range(facts, number)
     }
@@ -229,32 +232,43 @@ fn start_ranges(atoms: &Atoms<'_>, forms: &[Form<8>], facts: &[RegisterFact]) ->
     ranges
 }
 
-/// What an argument register holds at the start of a run.
-#[tactic(auto, unfolding(crate::specs::Starts::passed_form))]
-fn passed_form(parameters: &Parameters, place: usize) -> Form<8>
+/// What is passed at a place: a buffer's address is known.
+#[tactic(auto, unfolding(crate::specs::Starts::passed_value))]
+fn passed_value(parameters: &Parameters, place: usize) -> EntryValue
     requires { place < 8 }
-    ensures { result ≡ passed_form_of parameters.now place (slice_get parameters.now place) }
+    ensures value { result ≡ passed_value_of parameters.now place
+        (slice_get parameters.now place) }
+    ensures place { (q : ℕ) → result ≡ Passed q → q < 8 }
 {
     match parameters.param(place) {
-        Param::None => Form::number(0),
-        Param::Scalar { lo: _, hi: _ } => Form::atom(33 + place as u16),
-        Param::Buffer { mode: _, size: _ } => Form::number(parameters.address(place).unwrap_or(0)),
+        Param::None => EntryValue::Number(0),
+        Param::Scalar { lo: _, hi: _ } => EntryValue::Passed(place),
+        Param::Buffer { mode: _, size: _ } => {
+            EntryValue::Number(parameters.address(place).unwrap_or(0))
+        }
+    }
+}
+
+/// What a register holds at the start of a run with these parameters: of what is passed, buffers' addresses are known.
+#[tactic(auto, unfolding(crate::specs::Starts::start_value))]
+pub fn start_value(parameters: &Parameters, register: u8) -> EntryValue
+    ensures value { result ≡ start_value_of parameters.now register }
+    ensures place { (q : ℕ) → result ≡ Passed q → q < 8 }
+{
+    match entry_value(register) {
+        EntryValue::Number(number) => EntryValue::Number(number),
+        EntryValue::Passed(place) => passed_value(parameters, place),
     }
 }
 
 /// What a register (0 to 31) or vl (32) holds at the start of a run.
 #[tactic(auto, unfolding(crate::specs::Starts::entry_form))]
-fn entry_form(parameters: &Parameters, number: usize) -> Form<8>
+fn entry_form(parameters: &Parameters, number: u8) -> Form<8>
     ensures { result ≡ entry_form_of parameters.now number }
 {
-    if number == 1 {
-        Form::number(EXIT)
-    } else if number == 2 {
-        Form::number(STACK_END)
-    } else if 10 <= number && number < 18 {
-        passed_form(parameters, number - 10)
-    } else {
-        Form::number(0)
+    match start_value(parameters, number) {
+        EntryValue::Number(number) => Form::number(number),
+        EntryValue::Passed(place) => Form::atom(33 + place as u16),
     }
 }
 
@@ -267,7 +281,7 @@ fn entry_forms<A: Allocator>(
         forms.items ≡ map (entry_form_of parameters.now) (range_with_len 0 33)) }
 {
     let mut forms = Vec::with_capacity(alloc, 33)?;
-    for number in 0..33_usize {
+    for number in 0..33_u8 {
         forms.push(entry_form(parameters, number))?;
     }
     Ok(forms)

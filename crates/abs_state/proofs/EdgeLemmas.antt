@@ -29,12 +29,14 @@ use Rattle.abs_state.specs.declared.state.Way.{Way}
 use Rattle.abs_state.specs.declared.state.Way.TheVariants.{To, Unknown, Fork}
 use Rattle.abs_domain.specs.Described.{IsNumber}
 use Rattle.abs_domain.specs.Numbers.{value_at}
+use Rattle.abs_domain.specs.BlockLaws.{FactIsTrue, OrderIsTrue}
 use Rattle.abs_domain.specs.Holds.{number_of}
+use Rattle.abs_domain.proofs.StartNumbers.{number_below as register_below}
 use Rattle.abs_state.specs.State.{AbstractView}
 use Rattle.abs_domain.specs.Starts.{equality_form}
 use Rattle.abs_state.specs.Branches.{EdgeView, plain_edge, edge_by, refined, table_on, value_on}
 use Rattle.abs_state.specs.Edges.{shown_or, and_then, Shown, is_interval_shown, is_equality_shown, is_sum_shown, is_vector_shown, are_these, says_order, tells_order, is_order_shown, own_total, next_total, no_budget, says, leads_to, is_vtype_shown, is_paid, is_paid_for, is_same, pays, implies_block, implies_end, implied_by}
-use Rattle.abs_state.specs.Held.{Setting, Goes, FactHolds, IsKnown, IsPaid, IsAt, IsTrueOf, AreTrueOf, OrderHolds, budget_of, group_elements, fact_element, number_at, vlenb_in}
+use Rattle.abs_state.specs.Held.{Setting, Goes, IsKnown, IsPaid, IsAt, IsTrueOf, AreTrueOf, budget_of, group_elements, fact_element, number_at, vlenb_in}
 use Rattle.abs_state.specs.EdgeLaws.{TakesEdge, EdgesAreTaken, ImpliedFits, ImpliedEnds}
 use Rattle.abs_transfer.proofs.Addresses.{register_number}
 use Rattle.abs_state.proofs.Substitutions.{both_true}
@@ -176,33 +178,32 @@ said_holds number Geu false rs1 rs2 lesser greater e h = these_are number rs1 rs
 module _ (e : Setting) (n : ℕ) (edge : EdgeView) (m : Machine) (goes : Goes e n edge m) where
   -- a fact that is shown holds
   fact_holds : (params : List Param) (from : ℕ) (fact : RegisterFact) → IsRegisterFact params from fact → is_interval_shown edge fact ≡ true
-      → is_equality_shown edge fact ≡ true → FactHolds e m fact
+      → is_equality_shown edge fact ≡ true → FactIsTrue (number_at e m) fact
   unfolding is_interval_shown is_equality_shown
   fact_holds params from fact is h k =
       let below : fact.number < 33 = number_below (nat_le from fact.number) is.number in
       let both = both_true _ _ h in
       let lies = (goes.each fact.number below).lies in
+      let same = register_below e.passed m.hart m.vectors.config fact.number below in
       record {
-        low = at_most fact.low _ _ (le both.0) lies.low;
-        high = at_most _ _ fact.high lies.high (le both.1);
+        low = (let k : fact.low ≤ (value_on edge fact.number).range.lo = le both.0 in omega (arith, k, lies.low, same));
+        high = (let k : (value_on edge fact.number).range.hi ≤ fact.high = le both.1 in omega (arith, k, lies.high, same));
         equality = by_equality fact.equality refl is.says;
       }
     where
       le : {a b : ℕ} → nat_le a b ≡ true → a ≤ b
       le f = grind (arith, nat_tests)
 
-      at_most : (a b c : ℕ) → a ≤ b → b ≤ c → a ≤ c
-      at_most a b c f g = omega (arith, f, g)
-
       number_below : (b : Bool) → IsTrue (b && nat_le fact.number 32) → fact.number < 33
       number_below true f = grind (arith, nat_tests)
       number_below false f = cc
 
       by_equality : (o : Option Equality) → fact.equality ≡ o → SaysMore params fact.low fact.high o
-          → IfSome o (λ equality. number_of fact.number m.hart m.vectors.config ≡ value (number_at e m) (equality_form equality))
+          → IfSome o (λ equality. number_at e m fact.number ≡ value (number_at e m) (equality_form equality))
       by_equality None f g = tt
       by_equality (Some equality) f g =
-          equality_holds edge.state.numbers goes.numbers (λ i. number_of i m.hart m.vectors.config) e.passed fact.number (equality_form equality)
+          register_below e.passed m.hart m.vectors.config fact.number (number_below (nat_le from fact.number) is.number)
+          ∙ equality_holds edge.state.numbers goes.numbers (λ i. number_of i m.hart m.vectors.config) e.passed fact.number (equality_form equality)
           goes.known.known.forms goes.known.known.each goes.atoms.fits goes.known.passed
           (parts_below params 1 equality.terms.items g.terms) (number_below (nat_le from fact.number) is.number)
           (sum_shown_in edge fact.number equality (sym (ap (λ (o : Option Equality). equality_test o) f) ∙ k))
@@ -211,7 +212,7 @@ module _ (e : Setting) (n : ℕ) (edge : EdgeView) (m : Machine) (goes : Goes e 
           equality_test o = option_map_or (is_sum_shown edge fact.number) o true
 
   facts_hold : (params : List Param) (from : ℕ) (facts : List RegisterFact) → AllFrom (IsRegisterFact params) after_fact from facts
-      → list_all (is_interval_shown edge) facts ≡ true → list_all (is_equality_shown edge) facts ≡ true → AllByRecursion (FactHolds e m) facts
+      → list_all (is_interval_shown edge) facts ≡ true → list_all (is_equality_shown edge) facts ≡ true → AllByRecursion (FactIsTrue (number_at e m)) facts
   facts_hold params from [] is h k = tt
   facts_hold params from (x ∷ xs) is h k =
       let p = both_true (is_interval_shown edge x) (list_all (is_interval_shown edge) xs) h in
@@ -253,8 +254,14 @@ module _ (e : Setting) (n : ℕ) (edge : EdgeView) (m : Machine) (goes : Goes e 
       (vector_holds x edge.state.groups (vector_shown_in edge x p.0) goes.known.groups, vectors_hold xs p.1)
 
   -- an order that is shown holds
-  order_holds : (order : OrderFact) → order.lesser < 33 → order.greater < 33 → is_order_shown edge order ≡ true → OrderHolds m order
-  order_holds order l g h = by_ranges (nat_le (value_on edge order.lesser).range.hi (value_on edge order.greater).range.lo) refl (order_shown_in edge order h)
+  order_holds : (order : OrderFact) → order.lesser < 33 → order.greater < 33 → is_order_shown edge order ≡ true → OrderIsTrue (number_at e m) order
+  order_holds order l g h =
+      omega (
+        arith,
+        by_ranges (nat_le (value_on edge order.lesser).range.hi (value_on edge order.greater).range.lo) refl (order_shown_in edge order h),
+        register_below e.passed m.hart m.vectors.config order.lesser l,
+        register_below e.passed m.hart m.vectors.config order.greater g,
+      )
     where
       number : ℕ → ℕ
       number i = number_of i m.hart m.vectors.config
@@ -290,7 +297,7 @@ module _ (e : Setting) (n : ℕ) (edge : EdgeView) (m : Machine) (goes : Goes e 
       by_ranges false f o = by_forms (is_not_less_of (table_on edge) (value_on edge order.greater).form (value_on edge order.lesser).form) refl o
 
   orders_hold : (facts : List RegisterFact) (from : ℕ) (orders : List OrderFact) → AllFrom (IsOrderFact facts) after_order from orders
-      → list_all (is_order_shown edge) orders ≡ true → AllByRecursion (OrderHolds m) orders
+      → list_all (is_order_shown edge) orders ≡ true → AllByRecursion (OrderIsTrue (number_at e m)) orders
   orders_hold facts from [] is h = tt
   orders_hold facts from (o ∷ os) is h =
       let p = both_true (is_order_shown edge o) (list_all (is_order_shown edge) os) h in

@@ -20,9 +20,10 @@ use Rattle.vreg_groups.specs.VectorType.{bits_of_width}
 use Rattle.lane_int.specs.Integer.{double, element}
 use Rattle.lane_int.specs.Resizing.{cut_to}
 use Rattle.vector_core.specs.Integer.{lane_width}
-use Rattle.vector_core.specs.Operations.{int_lanes, narrow_lanes}
+use Rattle.vector_core.specs.Operations.{narrow_lanes}
 use Rattle.abs_domain.specs.Values.{known_of, up_to}
-use Rattle.abs_transfer.specs.Facts.{fitting_bits, int_range, left_elements, narrow_range, remainder_by, remainder_elements, right_elements}
+use Rattle.abs_domain.specs.Effects.{fitting}
+use Rattle.abs_transfer.specs.Facts.{int_range, left_elements, narrow_range, remainder_by, remainder_elements, right_elements}
 use Rattle.abs_domain.proofs.Operations.{div_up}
 
 -- x lies in a range, and below a limit
@@ -43,7 +44,7 @@ known_one limit r x l c e = go (r.lo == r.hi) refl e
     go false f g = cc
 
 -- a number between two ends that both have this many bits
-fitting_lies : (n lo hi x : ℕ) → lo ≤ x → x ≤ hi → IfSome (fitting_bits n lo hi) (λ r. IsWithin (2 ^ n) r x)
+fitting_lies : (n lo hi x : ℕ) → lo ≤ x → x ≤ hi → IfSome (fitting n lo hi) (λ r. IsWithin (2 ^ n) r x)
 fitting_lies n lo hi x l h = go (nat_lt lo (2 ^ n) && nat_lt hi (2 ^ n)) refl
   where
     go : (t : Bool) → nat_lt lo (2 ^ n) && nat_lt hi (2 ^ n) ≡ t → IfSome (if t then Some record { lo = lo; hi = hi } else None) (λ r. IsWithin (2 ^ n) r x)
@@ -53,7 +54,7 @@ fitting_lies n lo hi x l h = go (nat_lt lo (2 ^ n) && nat_lt hi (2 ^ n)) refl
     go false f = tt
 
 -- so are its low bits
-cut_lies : (n lo hi x : ℕ) → lo ≤ x → x ≤ hi → IfSome (fitting_bits n lo hi) (λ r. IsWithin (2 ^ n) r (x % 2 ^ n))
+cut_lies : (n lo hi x : ℕ) → lo ≤ x → x ≤ hi → IfSome (fitting n lo hi) (λ r. IsWithin (2 ^ n) r (x % 2 ^ n))
 cut_lies n lo hi x l h = go (nat_lt lo (2 ^ n) && nat_lt hi (2 ^ n)) refl
   where
     go : (t : Bool) → nat_lt lo (2 ^ n) && nat_lt hi (2 ^ n) ≡ t
@@ -71,10 +72,10 @@ unfolding left_elements
 left_lies n a x y None h is = tt
 left_lies n a x y (Some c) h is =
     let k = 2 ^ (c % n) in
-    let l : a.lo * k ≤ x * k = (let p = mul-le-mul_left k h.low in omega (arith, p)) in
-    let u : x * k ≤ a.hi * k = (let p = mul-le-mul_left k h.high in omega (arith, p)) in
+    let l : k * a.lo ≤ x * k = (let p = mul-le-mul_left k h.low in omega (arith, p)) in
+    let u : x * k ≤ k * a.hi = (let p = mul-le-mul_left k h.high in omega (arith, p)) in
     subst (λ (z : ℕ). IfSome (left_elements n a (Some c)) (λ r. IsWithin (2 ^ n) r (x * 2 ^ (z % n) % 2 ^ n))) (sym (is c refl))
-    (cut_lies n (a.lo * k) (a.hi * k) (x * k) l u)
+    (cut_lies n (k * a.lo) (k * a.hi) (x * k) l u)
 
 right_lies : (of n limit : ℕ) (a : Range) (x y : ℕ) (o : Option ℕ) → IsWithin limit a x → ((c : ℕ) → o ≡ Some c → y ≡ c)
     → IfSome (right_elements of n a o) (λ r. IsWithin (2 ^ n) r (x / 2 ^ (y % of)))
@@ -126,8 +127,8 @@ and_lies limit a c x y h k l =
 
 -- what an operation gives for elements of vs2 and of the second operand that lie in ranges
 int_lies : (w : Width) (op : IntOp) (b : Source) (a c : Range) (x y : ℕ) → IsWithin (2 ^ bits w) a x → IsWithin (2 ^ bits w) c y
-    → IfSome (int_range (bits w) op b a c) (λ r. IsWithin (2 ^ bits w) r (element (int_lanes op) w x y))
-unfolding int_range int_lanes element
+    → IfSome (int_range (bits w) op b a c) (λ r. IsWithin (2 ^ bits w) r (element op w x y))
+unfolding int_range element
 int_lies w Add b a c x y h k =
     cut_lies (bits w) (a.lo + c.lo) (a.hi + c.hi) (x + y) (omega (arith, h.low, k.low)) (omega (arith, h.high, k.high))
 int_lies w Sub b a c x y h k = tt
@@ -156,7 +157,7 @@ int_lies w Rem b a c x y h k = tt
 pub int_element : (w : sew.Width) (op : IntOp) (b : Source) (a c : Range) (x y : ℕ)
     → IsWithin (2 ^ bits_of_width w) a x → IsWithin (2 ^ bits_of_width w) c y
     → IfSome (int_range (bits_of_width w) op b a c)
-    (λ r. IsWithin (2 ^ bits_of_width w) r (element (int_lanes op) (lane_width w) x y))
+    (λ r. IsWithin (2 ^ bits_of_width w) r (element op (lane_width w) x y))
 int_element W8 op b a c x y h k = int_lies int.w8 op b a c x y h k
 int_element W16 op b a c x y h k = int_lies int.w16 op b a c x y h k
 int_element W32 op b a c x y h k = int_lies int.w32 op b a c x y h k
@@ -180,5 +181,5 @@ narrow_element W16 limit op a c x y h k = narrow_lies int.w16 limit op a c x y r
 narrow_element W32 limit op a c x y h k = narrow_lies int.w32 limit op a c x y refl h k
 
 -- a number of a place below as many as fit
-pub place_lies : (n most x : ℕ) → x < most → IfSome (fitting_bits n 0 (most - 1)) (λ r. IsWithin (2 ^ n) r (x % 2 ^ n))
+pub place_lies : (n most x : ℕ) → x < most → IfSome (fitting n 0 (most - 1)) (λ r. IsWithin (2 ^ n) r (x % 2 ^ n))
 place_lies n most x l = cut_lies n 0 (most - 1) x (omega arith) (omega (arith, l))

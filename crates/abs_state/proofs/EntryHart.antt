@@ -1,104 +1,24 @@
 -- The registers of the hart that a run starts with, and the numbers that are passed in them.
-use Rattle.std.proofs.Common.{◌≡◌, ◌≢◌, ℕ, zero, suc, ◌<◌, ◌≤◌, ◌+◌, ◌^◌, ◌&&◌, ◌||◌, ◌⊎◌, not, Bool, true, false, arith, refl, sym, ap, ◌∙◌, subst, inl, inr, length, take, get_or, get_or-set_same, get_or-set_other, List, [], ◌∷◌, Option, Some, None, sum_by}
-use Rattle.std.specs.Prelude.{◌==◌, nat_le, if◌then◌else◌, slice_set, slice_index_or, unwrap_or, IsTrue}
+use Rattle.std.proofs.Common.{◌≡◌, ℕ, zero, suc, ◌<◌, ◌≤◌, ◌+◌, ◌^◌, ◌&&◌, ◌||◌, not, Bool, true, false, arith, refl, sym, ◌∙◌, subst, inl, inr, length, take, get_or, List, [], ◌∷◌, Option, Some, None, sum_by}
+use Rattle.std.specs.Prelude.{nat_le, if◌then◌else◌, unwrap_or, IsTrue}
 use Rattle.std.specs.List.{AllByRecursion, list_all, list_any, slice_get, zip}
 use Rattle.std.specs.Option.{option_map, option_and_then, option_or}
 use Rattle.std.proofs.lemmas.Bool.Decides.{nat_tests}
 use Rattle.std.proofs.lemmas.Option.{slice_get-get_or}
-use Rattle.std.proofs.Math.ListN.{length-set, replicate}
+use Rattle.std.proofs.Math.ListN.{replicate}
 use Rattle.elf_image.specs.Image.{SegmentView, IsInPlace, IsSegment, holds_code}
-use Rattle.region_mem.specs.declared.layout.TheConstants.{BUFFERS, STACK_END}
+use Rattle.region_mem.specs.declared.layout.TheConstants.{BUFFERS}
 use Rattle.region_mem.specs.declared.parameter.Param.{Param}
 use Rattle.region_mem.specs.declared.parameter.Param.TheVariants as parameter
 use Rattle.region_mem.specs.declared.arguments.Arg.TheVariants as argument
 use Rattle.region_mem.specs.Parameter.{Argument, AreArguments, address_of, argument_error, is_buffer, is_out_of_interval, is_valid, is_wrong_kind, room_of}
 use Rattle.region_mem.proofs.Matching.{NonePasses, none_passes, nothing_wrong}
 use Rattle.region_mem.proofs.Rooms.{sum_by_room}
-use Rattle.scalar_core.specs.Hart.{Hart, IsHart, exit, new_hart, reg_of, with_reg}
-use Rattle.scalar_core.proofs.States.{with_reg-is_hart}
-use Rattle.vector_core.specs.Start.{passed_number, start_hart, with_arguments}
+use Rattle.scalar_core.specs.Hart.{IsHart}
+use Rattle.scalar_core.proofs.EntryLemmas.{entry_hart-is_hart, entry_hart-pc, entry_number-same, reg_of-entry_hart}
+use Rattle.vector_core.specs.Start.{passed_at, passed_number, start_hart}
 use Rattle.cert_note.specs.Certificate.{FitsWords, IsParameter}
 use Rattle.abs_domain.specs.BlockLaws.{ArePassed, IsEntry, IsPassed}
-
--- ---- one register
-
-written : (r x : ℕ) (h : Hart) → r ≢ 0 → with_reg r x h ≡ record h { x = slice_set h.x r x }
-unfolding with_reg
-written r x h ne = by_test (r == 0) refl
-  where
-    by_test : (t : Bool) → (r == 0) ≡ t → (if t then h else record h { x = slice_set h.x r x }) ≡ record h { x = slice_set h.x r x }
-    by_test true e = (let none : r ≡ 0 = grind (arith, nat_tests) in absurd (ne none))
-    by_test false e = refl
-
-register_count : (r x : ℕ) (h : Hart) → r ≢ 0 → length (with_reg r x h).x ≡ length h.x
-register_count r x h ne = ap (λ (g : Hart). length g.x) (written r x h ne) ∙ length-set h.x r x
-
-this_register : (r x : ℕ) (h : Hart) → r ≢ 0 → r < length h.x → reg_of r (with_reg r x h) ≡ x
-this_register r x h ne l = ap (λ (g : Hart). reg_of r g) (written r x h ne) ∙ get_or-set_same h.x r x 0 l
-
-other_register : (r x i : ℕ) (h : Hart) → r ≢ 0 → i ≢ r → reg_of i (with_reg r x h) ≡ reg_of i h
-other_register r x i h ne other = ap (λ (g : Hart). reg_of i g) (written r x h ne) ∙ get_or-set_other h.x r i x 0 other
-
-same_pc : (r x : ℕ) (h : Hart) → r ≢ 0 → (with_reg r x h).pc ≡ h.pc
-same_pc r x h ne = ap (λ (g : Hart). g.pc) (written r x h ne)
-
-past_zero : (n : ℕ) → 10 + n ≢ 0
-past_zero n e = absurd (omega (arith, e))
-
--- ---- the registers of arguments, of which the first is a0 (x10)
-
--- registers below the first one and past the last one stay
-others_stay : (params : List Param) (place : ℕ) (args : List Argument) (h : Hart) (i : ℕ) → (i < 10 + place) ⊎ (10 + place + length args ≤ i)
-    → reg_of i (with_arguments params place args h) ≡ reg_of i h
-unfolding with_arguments
-others_stay params place [] h i out = refl
-others_stay params place (arg ∷ args) h i (inl l) =
-    others_stay params (place + 1) args (with_reg (10 + place) (passed_number params place arg) h) i (inl (omega (arith, l)))
-    ∙ other_register (10 + place) (passed_number params place arg) i h (past_zero place) (λ e. absurd (omega (arith, l, e)))
-others_stay params place (arg ∷ args) h i (inr l) =
-    others_stay params (place + 1) args (with_reg (10 + place) (passed_number params place arg) h) i (inr (omega (arith, l)))
-    ∙ other_register (10 + place) (passed_number params place arg) i h (past_zero place) (λ e. absurd (omega (arith, l, e)))
-
-each_put : (params : List Param) (place : ℕ) (args : List Argument) (h : Hart) (k : ℕ) → k < length args → 10 + place + length args ≤ length h.x
-    → reg_of (10 + place + k) (with_arguments params place args h) ≡ passed_number params (place + k) (get_or args k argument.None)
-unfolding with_arguments
-each_put params place [] h k l room = absurd (omega (arith, l))
-each_put params place (arg ∷ args) h zero l room =
-    let x : ℕ = passed_number params place arg in
-    let here : 10 + place + zero ≡ 10 + place = omega arith in
-    let there : place ≡ place + zero = omega arith in
-    others_stay params (place + 1) args (with_reg (10 + place) x h) (10 + place + zero) (inl (omega arith))
-    ∙ (ap (λ (i : ℕ). reg_of i (with_reg (10 + place) x h)) here
-    ∙ (this_register (10 + place) x h (past_zero place) (omega (arith, room))
-    ∙ ap (λ (i : ℕ). passed_number params i arg) there))
-each_put params place (arg ∷ args) h (suc k) l room =
-    let g : Hart = with_reg (10 + place) (passed_number params place arg) h in
-    let count : length g.x ≡ length h.x = register_count (10 + place) (passed_number params place arg) h (past_zero place) in
-    let here : 10 + place + suc k ≡ 10 + (place + 1) + k = omega arith in
-    let there : place + 1 + k ≡ place + suc k = omega arith in
-    ap (λ (i : ℕ). reg_of i (with_arguments params (place + 1) args g)) here
-    ∙ (each_put params (place + 1) args g k (omega (arith, l)) (omega (arith, room, count))
-    ∙ ap (λ (i : ℕ). passed_number params i (get_or args k argument.None)) there)
-
-pc_stays : (params : List Param) (place : ℕ) (args : List Argument) (h : Hart) → (with_arguments params place args h).pc ≡ h.pc
-unfolding with_arguments
-pc_stays params place [] h = refl
-pc_stays params place (arg ∷ args) h =
-    pc_stays params (place + 1) args (with_reg (10 + place) (passed_number params place arg) h)
-    ∙ same_pc (10 + place) (passed_number params place arg) h (past_zero place)
-
-stays_hart : (params : List Param) (place : ℕ) (args : List Argument) (h : Hart)
-    → ((k : ℕ) → k < length args → passed_number params (place + k) (get_or args k argument.None) < 2 ^ 32) → IsHart h
-    → IsHart (with_arguments params place args h)
-unfolding with_arguments
-stays_hart params place [] h fit is = is
-stays_hart params place (arg ∷ args) h fit is =
-    let here : place + zero ≡ place = omega arith in
-    stays_hart params (place + 1) args (with_reg (10 + place) (passed_number params place arg) h)
-    (λ k l. (let there : place + suc k ≡ place + 1 + k = omega arith in
-    subst (λ (i : ℕ). passed_number params i (get_or args k argument.None) < 2 ^ 32) there (fit (suc k) (omega (arith, l)))))
-    (with_reg-is_hart (10 + place) (passed_number params place arg) h
-    (subst (λ (i : ℕ). passed_number params i arg < 2 ^ 32) here (fit zero (omega arith))) is)
 
 -- ---- the hart that a run starts with
 
@@ -117,75 +37,22 @@ pub zeros_count : (n : ℕ) → length (all_zeros n) ≡ n
 zeros_count zero = refl
 zeros_count (suc n) = (let rest = zeros_count n in omega (arith, rest))
 
-new_is_hart : (pc : ℕ) → pc < 2 ^ 32 → IsHart (new_hart pc)
-new_is_hart pc l = record {
-  pc_fits = l;
-  registers = zeros_count 32;
-  fit = λ k. zeros_small 32 k (2 ^ 32) (omega arith);
-  x0 = refl;
-  vxrm_fits = omega arith;
-  vxsat_fits = omega arith;
-}
-
-module _ (entry : ℕ) (params : List Param) (args : List Argument) (eight : length args ≡ 8) where
-  abbrev first : Hart
-  first = with_reg 1 exit (new_hart entry)
-
-  abbrev base : Hart
-  base = with_reg 2 STACK_END first
-
-  first_count : length first.x ≡ 32
-  first_count = register_count 1 exit (new_hart entry) (λ e. absurd (omega (arith, e))) ∙ zeros_count 32
-
-  base_count : length base.x ≡ 32
-  base_count = register_count 2 STACK_END first (λ e. absurd (omega (arith, e))) ∙ first_count
-
+module _ (entry : ℕ) (params : List Param) (args : List Argument) where
   pub start_pc : (start_hart entry params args).pc ≡ entry
   unfolding start_hart
-  start_pc =
-      pc_stays params 0 args base
-      ∙ (same_pc 2 STACK_END first (λ e. absurd (omega (arith, e)))
-      ∙ same_pc 1 exit (new_hart entry) (λ e. absurd (omega (arith, e))))
+  start_pc = entry_hart-pc entry (passed_at params args)
 
-  pub start_is_hart : entry < 2 ^ 32 → ((k : ℕ) → k < 8 → passed_number params k (get_or args k argument.None) < 2 ^ 32)
+  pub start_is_hart : entry < 2 ^ 32 → ((k : ℕ) → k < 8 → passed_at params args k < 2 ^ 32)
       → IsHart (start_hart entry params args)
   unfolding start_hart
-  start_is_hart l fit =
-      stays_hart params 0 args base
-      (λ k g. (let at : k ≡ 0 + k = omega arith in
-      subst (λ (i : ℕ). passed_number params i (get_or args k argument.None) < 2 ^ 32) at (fit k (omega (arith, eight, g)))))
-      (with_reg-is_hart 2 STACK_END first (omega arith) (with_reg-is_hart 1 exit (new_hart entry) (omega arith) (new_is_hart entry l)))
+  start_is_hart = entry_hart-is_hart entry (passed_at params args)
 
-  pub start_is_entry : (passed : ℕ → ℕ)
-      → ((place : ℕ) → place < 8 → passed place ≡ passed_number params place (slice_index_or args place argument.None))
+  pub start_is_entry : (passed : ℕ → ℕ) → ((place : ℕ) → place < 8 → passed place ≡ passed_at params args place)
       → IsEntry passed (start_hart entry params args)
   unfolding start_hart
-  start_is_entry passed are = record {
-    ra =
-        others_stay params 0 args base 1 (inl (omega arith))
-        ∙ (other_register 2 STACK_END 1 first (λ e. absurd (omega (arith, e))) (λ e. absurd (omega (arith, e)))
-        ∙ this_register 1 exit (new_hart entry) (λ e. absurd (omega (arith, e))) (omega (arith, zeros_count 32)));
-    sp =
-        others_stay params 0 args base 2 (inl (omega arith))
-        ∙ this_register 2 STACK_END first (λ e. absurd (omega (arith, e))) (omega (arith, first_count));
-    arguments = λ place l. (
-        let here : 10 + place ≡ 10 + 0 + place = omega arith in
-        let there : 0 + place ≡ place = omega arith in
-        ap (λ (i : ℕ). reg_of i (with_arguments params 0 args base)) here
-        ∙ (each_put params 0 args base place (omega (arith, eight, l)) (omega (arith, eight, base_count))
-        ∙ (ap (λ (i : ℕ). passed_number params i (get_or args place argument.None)) there ∙ back place l)));
-    others = λ i one two out.
-        others_stay params 0 args base i (outside i out)
-        ∙ (other_register 2 STACK_END i first (λ e. absurd (omega (arith, e))) two
-        ∙ (other_register 1 exit i (new_hart entry) (λ e. absurd (omega (arith, e))) one ∙ all_zero 32 i));
-  }
-    where
-      back : (place : ℕ) → place < 8 → passed_number params place (get_or args place argument.None) ≡ passed place
-      back place l = sym (are place l)
-
-      outside : (i : ℕ) → (i < 10) ⊎ (18 ≤ i) → (i < 10 + 0) ⊎ (10 + 0 + length args ≤ i)
-      outside i (inl l) = inl (omega (arith, l))
-      outside i (inr l) = inr (omega (arith, l, eight))
+  start_is_entry passed are i l =
+      reg_of-entry_hart entry (passed_at params args) i l
+      ∙ entry_number-same (passed_at params args) passed i (λ place low. sym (are place low))
 
 -- ---- the entry
 
@@ -225,7 +92,7 @@ none_outside params args h =
     let rest = or_none _ _ kind.1 in
     none_passes is_out_of_interval (zip params args) (map_none _ _ rest.0)
 
-pair_at : (p : Param × Argument → Bool) (params : List Param) (args : List Argument) (i : ℕ) → NonePasses p (zip params args)
+pub pair_at : (p : Param × Argument → Bool) (params : List Param) (args : List Argument) (i : ℕ) → NonePasses p (zip params args)
     → i < length params → i < length args → p (get_or params i parameter.None, get_or args i argument.None) ≡ false
 pair_at p [] args i none l g = absurd (omega (arith, l))
 pair_at p (x ∷ xs) [] i none l g = absurd (omega (arith, g))
@@ -307,7 +174,7 @@ module _ (params : List Param) (args : List Argument) (count : length params ≡
   param_at place l = slice_get-get_or params place parameter.None (omega (arith, count, l))
 
   passed_there : (place : ℕ) → place < 8
-      → IsPassed params place (Some (get_or params place parameter.None)) (passed_number params place (get_or args place argument.None))
+      → IsPassed params place (Some (get_or params place parameter.None)) (passed_at params args place)
   passed_there place l =
       let within : place < length params = omega (arith, count, l) in
       let below : place < length args = omega (arith, eight, l) in
@@ -315,15 +182,15 @@ module _ (params : List Param) (args : List Argument) (count : length params ≡
       (pair_at is_wrong_kind params args place (nothing_wrong params args matching).0 within below)
       (pair_at is_out_of_interval params args place (none_outside params args matching) within below)
 
-  pub numbers_fit : (place : ℕ) → place < 8 → passed_number params place (get_or args place argument.None) < 2 ^ 32
+  pub numbers_fit : (place : ℕ) → place < 8 → passed_at params args place < 2 ^ 32
   numbers_fit place l =
-      number_fits params place (passed_number params place (get_or args place argument.None)) (get_or params place parameter.None)
+      number_fits params place (passed_at params args place) (get_or params place parameter.None)
       (item_at IsParameter params place parameter.None all (omega (arith, count, l))).1
       (address_small params place (all_valid params all) count l) (passed_there place l)
 
   -- numbers that were passed are what the parameters ask for
   pub are_passed : (passed : ℕ → ℕ)
-      → ((place : ℕ) → place < 8 → passed place ≡ passed_number params place (slice_index_or args place argument.None))
+      → ((place : ℕ) → place < 8 → passed place ≡ passed_at params args place)
       → ((place : ℕ) → 8 ≤ place → passed place < 2 ^ 32) → ArePassed params passed
   are_passed passed are past = record { fit = λ place. by_place place (nat_le 8 place) refl; each = each }
     where
@@ -336,5 +203,5 @@ module _ (params : List Param) (args : List Argument) (count : length params ≡
       each : (place : ℕ) → place < 8 → IsPassed params place (slice_get params place) (passed place)
       each place l =
           subst (λ (x : ℕ). IsPassed params place (slice_get params place) x) (sym (are place l))
-          (subst (λ (o : Option Param). IsPassed params place o (passed_number params place (get_or args place argument.None))) (sym (param_at place l))
+          (subst (λ (o : Option Param). IsPassed params place o (passed_at params args place)) (sym (param_at place l))
           (passed_there place l))

@@ -1,10 +1,8 @@
 -- What is known where a block begins is true of a machine that fits it, and what is known where a run begins of its first one.
-use Rattle.std.proofs.Common.{◌≡◌, ℕ, ◌<◌, ◌≤◌, ◌+◌, ◌*◌, ◌^◌, inl, inr, Bool, true, false, arith, refl, sym, ap, ◌∙◌, subst, length, get_or, List, [], ◌∷◌, Option, Some, None, IfSome}
-use Rattle.std.specs.Prelude.{nat_le, ◌&&◌, ◌==◌, slice_index_or, IsTrue, MatchOption}
+use Rattle.std.proofs.Common.{◌≡◌, ℕ, ◌<◌, ◌≤◌, ◌+◌, ◌*◌, ◌^◌, inl, inr, arith, refl, sym, ap, ◌∙◌, subst, length, get_or, List, [], Option, Some, None}
+use Rattle.std.specs.Prelude.{◌==◌, MatchOption}
 use Rattle.std.specs.List.{AllByRecursion}
-use Rattle.std.proofs.lemmas.Bool.Decides.{nat_tests}
 use Rattle.std.proofs.Math.ListN.{get_or-eq_default}
-use Rattle.linear_facts.specs.Forms.{value}
 use Rattle.elf_image.specs.Image.{ImageView, IsImage}
 use Rattle.region_mem.specs.declared.parameter.Param.{Param}
 use Rattle.region_mem.specs.declared.arguments.Arg.TheVariants as argument
@@ -23,26 +21,25 @@ use Rattle.vreg_groups.specs.VectorLength.{IsVlenb, IsConfig, no_config, vlenb_o
 use Rattle.vreg_groups.proofs.Sizes.{vlmax_small}
 use Rattle.scalar_core.specs.Hart.{Hart, IsHart, reg_of}
 use Rattle.vector_core.specs.Machine.{Machine}
-use Rattle.vector_core.specs.Start.{passed_number, start, start_hart}
+use Rattle.vector_core.specs.Start.{passed_at, passed_number, start, start_hart}
 use Rattle.vector_core.specs.Vectors.{Vectors, new_vectors}
-use Rattle.cert_note.specs.declared.values.Equality.{Equality}
 use Rattle.cert_note.specs.declared.values.RegisterFact.{RegisterFact}
 use Rattle.cert_note.specs.declared.values.Block.{Block}
 use Rattle.cert_note.specs.declared.values.OrderFact.{OrderFact}
-use Rattle.cert_note.specs.Certificate.{CertificateView, IsBlock, IsCertificate, IsRegisterFact, IsOrderFact, AllFrom, after_fact, after_order, after_block}
+use Rattle.cert_note.specs.Certificate.{CertificateView, IsBlock, IsCertificate, after_block}
 use Rattle.abs_domain.specs.Numbers.{value_at}
 use Rattle.abs_domain.specs.Described.{IsNumber}
-use Rattle.abs_domain.specs.Holds.{Holds, number_of}
-use Rattle.abs_domain.specs.Starts.{equality_form, entry_numbers, start_numbers, numbers_by}
+use Rattle.abs_domain.specs.Holds.{Holds}
+use Rattle.abs_domain.specs.Starts.{entry_numbers, start_numbers, numbers_by}
 use Rattle.abs_state.specs.Blocks.{at_block_of, at_entry_of}
-use Rattle.abs_domain.specs.BlockLaws.{ArePassed, FactIsTrue, OrderIsTrue, HoldsWith}
-use Rattle.abs_state.specs.Held.{Setting, FactHolds, OrderHolds, Held, IsProper, number_at, vlenb_in}
+use Rattle.abs_domain.specs.BlockLaws.{ArePassed, HoldsWith}
+use Rattle.abs_state.specs.Held.{Setting, Held, IsProper, number_at, vlenb_in}
 use Rattle.abs_state.specs.StartLaws.{ArePassedBy, BlocksAreHeld, EntriesAreHeld}
 use Rattle.abs_transfer.proofs.Addresses.{register_number}
 use Rattle.abs_state.proofs.EntryHart.{all_valid, are_passed, code_low, numbers_fit, start_is_entry, start_is_hart, start_pc, zeros_count, zeros_small}
-use Rattle.abs_domain.proofs.StartForms.{budget_below, second_below, greater_below, lesser_below, found_is}
+use Rattle.abs_domain.proofs.StartForms.{budget_below, second_below, found_is}
 use Rattle.abs_domain.proofs.OrderStarts.{block_numbers_hold}
-use Rattle.abs_domain.proofs.StartNumbers.{atoms_many, entry_numbers_hold, number_below, number_past}
+use Rattle.abs_domain.proofs.StartNumbers.{atoms_many, entry_numbers_hold, number_past}
 use Rattle.abs_domain.proofs.StartZones.{zones_are_there}
 
 -- ---- numbers of 32 bits
@@ -62,51 +59,6 @@ vl_fits vlenb config is h = by_type (vtype_of config.vtype) h
     by_type None f = (let none : config.vl ≡ 0 = ap (λ (c : Vconfig). c.vl) f in omega (arith, none))
     by_type (Some t) f = small (vlmax_small t vlenb config.vl f)
 
--- ---- facts
-
-fact_below : (params : List Param) (from : ℕ) (fact : RegisterFact) → IsRegisterFact params from fact → fact.number < 33
-fact_below params from fact is = by_test (nat_le from fact.number) is.number
-  where
-    by_test : (b : Bool) → IsTrue (b && nat_le fact.number 32) → fact.number < 33
-    by_test true f = grind (arith, nat_tests)
-    by_test false f = cc
-
-module _ (e : Setting) (m : Machine) where
-  abbrev numbers : ℕ → ℕ
-  numbers = number_at e m
-
-  below : (i : ℕ) → i < 33 → numbers i ≡ number_of i m.hart m.vectors.config
-  below i l = number_below e.passed m.hart m.vectors.config i l
-
-  fact_is_true : (params : List Param) (from : ℕ) (fact : RegisterFact) → IsRegisterFact params from fact → FactHolds e m fact → FactIsTrue numbers fact
-  fact_is_true params from fact is h =
-      let same = below fact.number (fact_below params from fact is) in
-      record {
-        low = omega (arith, h.low, same);
-        high = omega (arith, h.high, same);
-        equality = by_equality fact.equality same h.equality;
-      }
-    where
-      by_equality : (o : Option Equality) → numbers fact.number ≡ number_of fact.number m.hart m.vectors.config
-          → IfSome o (λ equality. number_of fact.number m.hart m.vectors.config ≡ value numbers (equality_form equality))
-          → IfSome o (λ equality. numbers fact.number ≡ value numbers (equality_form equality))
-      by_equality None same f = tt
-      by_equality (Some equality) same f = same ∙ f
-
-  facts_are_true : (params : List Param) (from : ℕ) (facts : List RegisterFact) → AllFrom (IsRegisterFact params) after_fact from facts
-      → AllByRecursion (FactHolds e m) facts → AllByRecursion (FactIsTrue numbers) facts
-  facts_are_true params from [] is h = tt
-  facts_are_true params from (fact ∷ facts) is h =
-      (fact_is_true params from fact is.0 h.0, facts_are_true params (after_fact fact) facts is.1 h.1)
-
-  orders_are_true : (facts : List RegisterFact) (from : ℕ) (orders : List OrderFact) → AllFrom (IsOrderFact facts) after_order from orders
-      → AllByRecursion (OrderHolds m) orders → AllByRecursion (OrderIsTrue numbers) orders
-  orders_are_true facts from [] is h = tt
-  orders_are_true facts from (o ∷ os) is h = (
-    omega (arith, h.0, below o.lesser (lesser_below facts from o is.0), below o.greater (greater_below facts from o is.0)),
-    orders_are_true facts (after_order o) os is.1 h.1,
-  )
-
 -- ---- blocks
 
 pub blocks-are_held : BlocksAreHeld
@@ -120,7 +72,7 @@ blocks-are_held e block m is at fits =
     let vl = vl_fits (vlenb_in e) config fits.proper.vectors.vlenb_is fits.proper.vectors.config in
     let with : HoldsWith (start_numbers params facts orders) (number_at e m) m.hart config =
     block_numbers_hold e.certificate block m.hart.pc e.passed m.hart config is.certificate at is.passed fits.proper.hart vl
-    (facts_are_true e m params 1 facts block_is.1.registers fits.facts) (orders_are_true e m facts 1 orders block_is.1.orders fits.orders) in
+    fits.facts fits.orders in
     let known = with.holds in
     let first : block.budget.register < 32 = budget_below block.budget block_is.1.budget in
     let second : block.budget.second_register < 32 = second_below block.budget block_is.1.budget in
@@ -180,7 +132,7 @@ module _ (e : Setting) (agnostic : Agnostic) (args : List Argument) (image : IsI
 
   is_hart : IsHart hart
   is_hart =
-      start_is_hart e.image.entry params args eight (code_low e.image.segments e.image.entry image.each image.entry_is_code)
+      start_is_hart e.image.entry params args (code_low e.image.segments e.image.entry image.each image.entry_is_code)
       (numbers_fit params args certificate.eight certificate.parameters eight matching)
 
   passed : ArePassed params e.passed
@@ -204,7 +156,7 @@ module _ (e : Setting) (agnostic : Agnostic) (args : List Argument) (image : IsI
 
   entry_known : Holds (entry_numbers params) (number_at e machine) hart vectors.config
   entry_known =
-      entry_numbers_hold params e.passed hart vectors.config passed is_hart (start_is_entry e.image.entry params args eight e.passed by.each) refl
+      entry_numbers_hold params e.passed hart vectors.config passed is_hart (start_is_entry e.image.entry params args e.passed by.each) refl
 
   entry_held : (n : ℕ) → Held e n (at_entry_of e.image e.certificate) machine
   unfolding at_entry_of
@@ -221,7 +173,7 @@ module _ (e : Setting) (agnostic : Agnostic) (args : List Argument) (image : IsI
       paid = tt;
       proper = proper;
     };
-    way = start_pc e.image.entry params args eight;
+    way = start_pc e.image.entry params args;
   }
 
 pub entries-are_held : EntriesAreHeld
@@ -240,7 +192,7 @@ abbrev pub setting_by : ImageView → CertificateView → List Argument → Sett
 setting_by image certificate args = record {
   image = image;
   certificate = certificate;
-  passed = λ place. passed_number certificate.parameters place (slice_index_or args place argument.None);
+  passed = passed_at certificate.parameters args;
 }
 
 pub passed_by_them : (image : ImageView) (certificate : CertificateView) (args : List Argument) → length args ≡ 8

@@ -48,7 +48,7 @@ use Rattle.vector_core.specs.Masks.{index_of, iota_of, mask_step, set_and_active
 use Rattle.vector_core.specs.Moves.{copy_of}
 use Rattle.vector_core.specs.Narrowing.{narrow_of}
 use Rattle.vector_core.specs.Operands.{results_written}
-use Rattle.vector_core.specs.Operations.{int_lanes, narrow_lanes}
+use Rattle.vector_core.specs.Operations.{narrow_lanes}
 use Rattle.vector_core.specs.Setup.{setup_of}
 use Rattle.vector_core.specs.Step.{arith_step, legal_step, vector_step}
 use Rattle.vector_core.specs.Vectors.{Stepped, Vectors}
@@ -151,7 +151,7 @@ module _ (vlenb : ℕ) (s : Setup) (hart : Hart) (file : List ℕ) (numbers : Nu
       let a = source_range s.vtype vl_range vs2 Same facts in
       let c = second_range s.vtype numbers facts b in
       unless masked vd (int_range sew op b a c) _ destination
-      (zip_lies sew sew sew s.vl a c (int_range sew op b a c) (element (int_lanes op) (lane_width s.vtype.sew)) _ _
+      (zip_lies sew sew sew s.vl a c (int_range sew op b a c) (element op (lane_width s.vtype.sew)) _ _
       (source_lies vlenb s hart file numbers facts h vs2 Same source)
       (second_lies vlenb s hart file numbers facts h b inside) (λ x y. int_element s.vtype.sew op b a c x y))
   arith_true (MultiplyAdd op vd vs2 b masked) fits legal = tt

@@ -17,9 +17,8 @@ use Rattle.abs_state.specs.declared.branches.Said.{Said}
 use Rattle.abs_state.specs.declared.state.Way.{Way}
 use Rattle.abs_state.specs.declared.state.Way.TheVariants.{To, Unknown, Fork}
 use Rattle.abs_domain.specs.Values.{just, computed_range}
-use Rattle.abs_domain.specs.Numbers.{value_at}
+use Rattle.abs_domain.specs.Numbers.{table_with, value_at}
 use Rattle.abs_domain.specs.Described.{LiesIn, IsNumber}
-use Rattle.abs_domain.specs.Holds.{table_with}
 use Rattle.abs_state.specs.State.{AbstractView}
 use Rattle.abs_state.specs.Branches.{relation_of, related_ranges, EdgeView, plain_edge, change_to, one_change, changes_of, edge_with, edge_in, with_said, related_edge, branch_edge, edge_by, refined, table_on, value_on}
 use Rattle.abs_domain.specs.Numbers.{whole_atom}

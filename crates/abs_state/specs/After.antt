@@ -4,6 +4,7 @@ use Rattle.abs_state.specs.Words.{Insn, Csr, VPerm, VReduce, VMove, Logic, Count
 use Rattle.rv_decode.specs.declared.instructions.Insn.TheVariants.{Scalar, VSet, VArith, VMask, VMem}
 use Rattle.rv_decode.specs.declared.instructions.VMask as mask
 use Rattle.rv_decode.specs.declared.instructions.VMove.TheVariants.{ToScalar, FromScalar, Whole}
+use Rattle.rv_decode.specs.declared.instructions.VMem.{VMem as VectorAccess}
 use Rattle.rv_decode.specs.declared.instructions.VMove as move
 use Rattle.rv_decode.specs.declared.instructions.VSet as vset
 use Rattle.rv_decode.specs.declared.instructions.ScalarInsn.TheVariants.{Load, Store, Immediate}
@@ -19,7 +20,8 @@ use Rattle.abs_transfer.specs.Csr.{csr_after}
 use Rattle.abs_state.specs.State.{AbstractView}
 use Rattle.abs_transfer.specs.Legal.{legal_check}
 use Rattle.abs_transfer.specs.Vset.{configured, wanted_of, with_length_in}
-use Rattle.abs_transfer.specs.Accesses.{transfer_check}
+use Rattle.abs_transfer.specs.Accesses.{reach_at, transfer_check}
+use Rattle.abs_transfer.specs.declared.accesses.Reach.{Reach}
 use Rattle.abs_transfer.specs.Facts.{cut_groups, groups_after, known_type}
 
 -- the word after the one at pc
@@ -94,6 +96,12 @@ vector_numbers (VReduce insn) s = s
 vector_numbers (VMem insn) s = s
 vector_numbers (VMove insn) s = move_numbers insn s
 
+-- where the bytes of a vector load or store may lie, if that is known
+unfoldable pub reach_of : AbstractView → VectorAccess → Option Reach
+reach_of a insn =
+    reach_at a.vlenb (type_in (known_type a.vtype)) a.numbers a.groups insn.place
+    (value_at a.numbers insn.rs1)
+
 -- the test of what an instruction accesses
 unfoldable pub access_check : AbstractView → Insn → Result (Unit {0}) Why
 access_check a (Scalar insn) = Ok tt
@@ -108,7 +116,8 @@ access_check a (VMem insn) =
 access_check a (VMove insn) = Ok tt
 
 -- what is known where two tests are passed
-unfoldable pub passed : Result (Unit {0}) Why → Result (Unit {0}) Why → AbstractView → Result AbstractView Why
+unfoldable pub passed : Result (Unit {0}) Why → Result (Unit {0}) Why → AbstractView
+    → Result AbstractView Why
 passed (Ok first) (Ok second) b = Ok b
 passed (Ok first) (Err why) b = Err why
 passed (Err why) second b = Err why

@@ -60,7 +60,8 @@ related_ranges is.Same a b = both_ranges (meet_of a b) (meet_of a b)
 related_ranges is.Different a b = both_ranges (apart_from b a) (apart_from a b)
 related_ranges is.Below a b =
     if b.hi == 0 then None
-    else both_ranges (filled_range a.lo (min a.hi (b.hi - 1))) (filled_range (max b.lo (a.lo + 1)) b.hi)
+    else both_ranges (filled_range a.lo (min a.hi (b.hi - 1)))
+    (filled_range (max b.lo (a.lo + 1)) b.hi)
 related_ranges is.NotBelow a b =
     both_ranges (filled_range (max a.lo b.lo) a.hi) (filled_range b.lo (min b.hi a.hi))
 
@@ -99,7 +100,8 @@ one_change a None = None
 one_change a (Some r) = Some (Some (change_to r a), None)
 
 -- the ranges of the atoms that the two compared forms are; none where one atom has no number left
-unfoldable pub changes_of : Option ℕ → Range → Option ℕ → Range → Option (Option Change × Option Change)
+unfoldable pub changes_of : Option ℕ → Range → Option ℕ → Range
+    → Option (Option Change × Option Change)
 changes_of (Some a) p (Some b) q =
     if a == b then one_change a (meet_of p q) else Some (Some (change_to p a), Some (change_to q b))
 changes_of (Some a) p None q = Some (Some (change_to p a), None)
@@ -120,7 +122,8 @@ edge_with target a ranges (first, second) = record {
 unfoldable pub edge_in : ℕ → ℕ → ℕ → AbstractView → Range × Range → Option EdgeView
 edge_in rs1 rs2 target a (p, q) =
     option_map (edge_with target a (slice_set (slice_set a.numbers.ranges rs1 p) rs2 q))
-    (changes_of (whole_atom (value_at a.numbers rs1).form) p (whole_atom (value_at a.numbers rs2).form) q)
+    (changes_of (whole_atom (value_at a.numbers rs1).form) p
+    (whole_atom (value_at a.numbers rs2).form) q)
 
 -- the edge where rs1 and rs2 stand in a relation, if one is known
 unfoldable pub related_edge : Option Relation → ℕ → ℕ → ℕ → AbstractView → Option EdgeView
@@ -166,5 +169,6 @@ value_on e i =
     let own = slice_index_or e.ranges i (just 0) in
     record {
       form = form;
-      range = if e.refined then computed_range (Some own) (range_of_form (table_on e) form) else own;
+      range =
+          if e.refined then computed_range (Some own) (range_of_form (table_on e) form) else own;
     }

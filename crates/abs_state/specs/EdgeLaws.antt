@@ -17,7 +17,8 @@ pub record TakesEdge (e : Setting) (n : ℕ) (a : AbstractView) (m : Machine) : 
 
 -- What is known is true on the edge that is taken; so where there is no edge, it can't come to that.
 abbrev pub EdgesAreTaken : Type 0
-EdgesAreTaken = (e : Setting) (n : ℕ) (a : AbstractView) (m : Machine) → Held e n a m → TakesEdge e n a m
+EdgesAreTaken =
+    (e : Setting) (n : ℕ) (a : AbstractView) (m : Machine) → Held e n a m → TakesEdge e n a m
 
 -- the block that begins where the machine is
 abbrev pub block_of : Setting → Machine → Option Block
@@ -42,7 +43,8 @@ ImpliedEnds =
 -- An edge has the state that it leaves.
 abbrev pub EdgesKeep : Type 0
 EdgesKeep =
-    (taken : Bool) (a : AbstractView) (edge : EdgeView) → refined taken a ≡ Some edge → edge.state ≡ a
+    (taken : Bool) (a : AbstractView) (edge : EdgeView) → refined taken a ≡ Some edge
+    → edge.state ≡ a
 
 -- whether a way is a branch's
 abbrev pub is_fork : Way → Bool
@@ -52,7 +54,9 @@ is_fork (Fork condition rs1 rs2 target next) = true
 
 -- An instruction that is no branch has one edge.
 abbrev pub OneEdge : Type 0
-OneEdge = (taken : Bool) (a : AbstractView) → is_fork a.way ≡ false → refined taken a ≡ refined false a
+OneEdge =
+    (taken : Bool) (a : AbstractView) → is_fork a.way ≡ false
+    → refined taken a ≡ refined false a
 
 -- An edge leads where the instruction is known to lead.
 abbrev pub StraightEdges : Type 0

@@ -1,7 +1,7 @@
 -- That what is known is true of a machine, throughout a run.
-use Rattle.std.specs.Prelude.{ℕ, nat_le, ◌≡◌, ◌<◌, ◌≤◌, ◌+◌, ◌*◌, ◌/◌, ◌-◌, ◌==◌, min, if◌then◌else◌, List, length, Option, Some, None, IfSome}
+use Rattle.std.specs.Prelude.{ℕ, ◌≡◌, ◌<◌, ◌≤◌, ◌+◌, ◌*◌, ◌/◌, ◌==◌, min, if◌then◌else◌, List, length, Option, Some, None, IfSome}
 use Rattle.std.specs.List.{AllByRecursion}
-use Rattle.abs_state.specs.Words.{ImageView, value, AgreesWith, IsCodeSafe, AreBytes, vlenb_of, Hart, IsHart, reg_of, Machine, Vectors, Budget, RegisterFact, VectorFact, OrderFact, Block, CertificateView}
+use Rattle.abs_state.specs.Words.{ImageView, AgreesWith, IsCodeSafe, AreBytes, vlenb_of, Hart, IsHart, reg_of, Machine, Vectors, Budget, VectorFact, Block, CertificateView}
 use Rattle.region_mem.specs.Laws.{HasCode}
 use Rattle.vreg_groups.specs.Elements.{element_at}
 use Rattle.scalar_core.specs.Arithmetic.{is_taken}
@@ -9,12 +9,12 @@ use Rattle.vector_core.specs.KeepLaws.{AreRegisters}
 use Rattle.vector_core.specs.Vectors.{IsVectors}
 use Rattle.abs_state.specs.declared.state.Way.{Way}
 use Rattle.abs_state.specs.declared.state.Way.TheVariants.{To, Unknown, Fork}
+use Rattle.abs_domain.specs.BlockLaws.{FactIsTrue, OrderIsTrue, number_in}
 use Rattle.abs_domain.specs.Described.{IsNumber}
 use Rattle.abs_domain.specs.Holds.{Holds, number_of}
 use Rattle.abs_domain.specs.Memories.{HasZones}
 use Rattle.abs_domain.specs.Zones.{zones_of}
 use Rattle.abs_state.specs.State.{AbstractView}
-use Rattle.abs_domain.specs.Starts.{equality_form}
 use Rattle.abs_state.specs.Branches.{EdgeView, table_on, value_on}
 
 -- What stays the same throughout a run: the image, its certificate, and the numbers that were passed.
@@ -45,36 +45,26 @@ group_elements vlenb fact = fact.registers * vlenb / (fact.width / 8)
 
 -- of how many elements a fact on vector registers speaks; a count of 0 stands for vl
 abbrev pub count_of : ℕ → ℕ → VectorFact → ℕ
-count_of vlenb vl fact = min (if fact.count == 0 then vl else fact.count) (group_elements vlenb fact)
+count_of vlenb vl fact =
+    min (if fact.count == 0 then vl else fact.count) (group_elements vlenb fact)
 
 abbrev pub fact_element : ℕ → List ℕ → VectorFact → ℕ → ℕ
-fact_element vlenb registers fact i = element_at (fact.width / 8) (fact.register * vlenb) registers i
+fact_element vlenb registers fact i =
+    element_at (fact.width / 8) (fact.register * vlenb) registers i
 
 -- The first elements of the fact's group lie in its interval.
 abbrev pub IsTrueOf : ℕ → ℕ → List ℕ → VectorFact → Type 0
 IsTrueOf vlenb vl registers fact =
     (i : ℕ) → i < count_of vlenb vl fact
-    → (fact.low ≤ fact_element vlenb registers fact i) × (fact_element vlenb registers fact i ≤ fact.high)
+    → (fact.low ≤ fact_element vlenb registers fact i)
+    × (fact_element vlenb registers fact i ≤ fact.high)
 
 abbrev pub AreTrueOf : ℕ → Vectors → List VectorFact → Type 0
 AreTrueOf vlenb v facts = AllByRecursion (IsTrueOf vlenb v.config.vl v.registers) facts
 
--- the numbers of registers and vl below 33, and from there on those that were passed
+-- the numbers of a block's atoms where it begins
 abbrev pub number_at : Setting → Machine → ℕ → ℕ
-number_at e m a =
-    if nat_le a 32 then number_of a m.hart m.vectors.config else e.passed (a - 33)
-
--- The number lies in its interval, and is equal to the sum that is stated.
-pub record FactHolds (e : Setting) (m : Machine) (fact : RegisterFact) : Type 0 where
-  pub low : fact.low ≤ number_of fact.number m.hart m.vectors.config
-  pub high : number_of fact.number m.hart m.vectors.config ≤ fact.high
-  pub equality : IfSome fact.equality (λ equality.
-      number_of fact.number m.hart m.vectors.config ≡ value (number_at e m) (equality_form equality))
-
--- The lesser register's number is at most the greater one's.
-abbrev pub OrderHolds : Machine → OrderFact → Type 0
-OrderHolds m order =
-    number_of order.lesser m.hart m.vectors.config ≤ number_of order.greater m.hart m.vectors.config
+number_at e m = number_in e.passed m.hart m.vectors.config
 
 abbrev pub VtypeHolds : Option ℕ → Machine → Type 0
 VtypeHolds vtype m = IfSome vtype (λ t. m.vectors.config.vtype ≡ t)
@@ -82,25 +72,32 @@ VtypeHolds vtype m = IfSome vtype (λ t. m.vectors.config.vtype ≡ t)
 -- The machine stands at the block's start, where all that the block states is true.
 pub record Fits (e : Setting) (block : Block) (m : Machine) : Type 0 where
   pub pc : m.hart.pc ≡ block.start
-  pub facts : AllByRecursion (FactHolds e m) block.registers.items
-  pub orders : AllByRecursion (OrderHolds m) block.orders.items
+  pub facts : AllByRecursion (FactIsTrue (number_at e m)) block.registers.items
+  pub orders : AllByRecursion (OrderIsTrue (number_at e m)) block.orders.items
   pub vtype : VtypeHolds block.vtype m
   pub vectors : AreTrueOf (vlenb_in e) m.vectors block.vectors.items
   pub proper : IsProper e m
 
 -- ---- states and edges
 
--- what a budget comes to in a state
+-- what a budget comes to where its registers hold these numbers
+abbrev pub budget_with : Budget → ℕ → ℕ → ℕ
+budget_with budget x y = budget.constant + budget.factor * x + budget.second_factor * y
+
+-- what it comes to where each register holds its number
+abbrev pub budget_at : Budget → (ℕ → ℕ) → ℕ
+budget_at budget number =
+    budget_with budget (number budget.register) (number budget.second_register)
+
+-- what it comes to in a state
 abbrev pub budget_of : Budget → Hart → ℕ
-budget_of budget h =
-    budget.constant + budget.factor * reg_of budget.register h
-    + budget.second_factor * reg_of budget.second_register h
+budget_of budget h = budget_at budget (λ r. reg_of r h)
 
 -- The budget came to n where the block began: the numbers of its registers then are what is known of them.
 abbrev pub IsPaid : (ℕ → ℕ) → ℕ → Option Budget → AbstractView → Type 0
 IsPaid v n None a = Unit {0}
 IsPaid v n (Some budget) a =
-    (x : ℕ) × (y : ℕ) × (n ≡ budget.constant + budget.factor * x + budget.second_factor * y)
+    (x : ℕ) × (y : ℕ) × (n ≡ budget_with budget x y)
     × IsNumber (length a.numbers.atoms) v a.paid x
     × IsNumber (length a.numbers.atoms) v a.second_paid y
 

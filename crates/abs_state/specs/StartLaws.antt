@@ -1,12 +1,11 @@
 -- That what is known where a block or a run begins is true of the machine there.
-use Rattle.std.specs.Prelude.{ℕ, ◌≡◌, ◌<◌, ◌≤◌, ◌^◌, List, length, slice_index_or, Some}
+use Rattle.std.specs.Prelude.{ℕ, ◌≡◌, ◌<◌, ◌≤◌, ◌^◌, List, length, Some}
 use Rattle.std.specs.List.{AllByRecursion}
 use Rattle.abs_state.specs.Words.{IsImage, Machine, Block, IsCertificate}
-use Rattle.region_mem.specs.declared.arguments.Arg.TheVariants as argument
 use Rattle.region_mem.specs.Laws.{BringsBytes}
 use Rattle.region_mem.specs.Parameter.{Argument, AreArguments}
 use Rattle.vreg_groups.specs.declared.policies.Agnostic.{Agnostic}
-use Rattle.vector_core.specs.Start.{passed_number, start}
+use Rattle.vector_core.specs.Start.{passed_at, start}
 use Rattle.abs_domain.specs.BlockLaws.{ArePassed}
 use Rattle.abs_state.specs.Blocks.{at_block_of, at_entry_of}
 use Rattle.abs_state.specs.Held.{Setting, Held, Fits, budget_of, vlenb_in}
@@ -30,8 +29,7 @@ BlocksAreHeld =
 -- The numbers are those that arguments pass in a0 to a7, and past these any of 32 bits.
 pub record ArePassedBy (e : Setting) (args : List Argument) : Type 0 where
   pub each : (place : ℕ) → place < 8
-      → e.passed place
-      ≡ passed_number e.certificate.parameters place (slice_index_or args place argument.None)
+      → e.passed place ≡ passed_at e.certificate.parameters args place
   pub past : (place : ℕ) → 8 ≤ place → e.passed place < 2 ^ 32
 
 -- What is known where a run begins is true of the machine that it starts with, on arguments that match; no budget is known

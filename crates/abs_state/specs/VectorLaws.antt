@@ -28,7 +28,8 @@ abbrev pub VsetsAreHeld : Type 0
 VsetsAreHeld =
     (e : Setting) (n : ℕ) (a : AbstractView) (s : Machine) (word : ℕ) (insn : vset.VSet)
     → Held e n a s → s.hart.pc % 4 ≡ 0 → FieldsFit (class.VSet insn)
-    → MachineIsHeld e n (vset_after s.hart.pc insn a) (carry_out (vlenb_in e) word s (class.VSet insn))
+    → MachineIsHeld e n (vset_after s.hart.pc insn a)
+    (carry_out (vlenb_in e) word s (class.VSet insn))
 
 -- ---- legality
 
@@ -61,7 +62,8 @@ TransfersKeepMemory =
 abbrev pub StatedAreTrue : Type 0
 StatedAreTrue =
     (e : Setting) (n : ℕ) (a : AbstractView) (s : Machine) (word : ℕ) (insn : Insn) (h : Hart)
-    (v : Vectors) (m : Memory) → Held e n a s → FieldsFit insn → is_legal s.vectors.config insn ≡ true
+    (v : Vectors) (m : Memory) → Held e n a s → FieldsFit insn
+    → is_legal s.vectors.config insn ≡ true
     → vector_step (vlenb_in e) insn word s.hart s.vectors s.memory ≡ Ok (h, v, m)
     → AreTrueOf (vlenb_in e) v (stated_by (vlenb_in e) (known_type a.vtype) a.numbers a.groups insn)
 
@@ -70,7 +72,8 @@ abbrev pub UntouchedAreTrue : Type 0
 UntouchedAreTrue =
     (vlenb : ℕ) (t : Option Vtype) (destination : Option Operand) (v next : Vectors)
     (facts : List VectorFact) → next.config.vl ≡ v.config.vl
-    → ((i : ℕ) → IsOutside vlenb t destination i → get_or next.registers i 0 ≡ get_or v.registers i 0)
+    → ((i : ℕ) → IsOutside vlenb t destination i
+    → get_or next.registers i 0 ≡ get_or v.registers i 0)
     → AreTrueOf vlenb v facts → AreTrueOf vlenb next (untouched t destination facts)
 
 -- Facts that are cut stay true where vl changes.

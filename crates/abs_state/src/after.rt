@@ -3,7 +3,7 @@ ghost use Rattle.std.specs.Prelude.{◌≡◌, ◌<◌, ◌+◌, length, IfErr, 
 ghost use Rattle.abs_transfer.specs.Scalar.{scalar_after};
 ghost use Rattle.abs_state.specs.After.{after_of, jump_way as jump_way_of, way_of};
 
-use crate::state::{Abstract, Way};
+use crate::state::{Abstract, MOST_WORDS, Way};
 use abs_domain::{MOST_ATOMS, Numbers, Why, Zone, known};
 use abs_transfer::{address_range, after_csr, after_scalar};
 use arrayvec::ArrayVec;
@@ -87,7 +87,7 @@ impl<A: Allocator> Abstract<A> {
     /// An instruction of RV32I or M.
     #[tactic(auto, unfolding(crate::specs::After::after_of, crate::specs::After::taken), using(crate::proofs::Growth::scalar_grows))]
     fn take_scalar(&mut self, pc: u32, insn: ScalarInsn) -> Result<(), Why>
-        requires { self.old.words < 4096 }
+        requires { self.old.words < MOST_WORDS }
         ensures ok { OnOk result (after_of pc (Insn.Scalar insn) self.old ≡ Ok self.new) }
         ensures err { IfErr result (λ why. after_of pc (Insn.Scalar insn) self.old ≡ Err why) }
         ensures kept { OnErr result (self.new ≡ self.old) }
@@ -101,7 +101,7 @@ impl<A: Allocator> Abstract<A> {
     /// An instruction on a CSR.
     #[tactic(auto, unfolding(crate::specs::After::after_of, crate::specs::After::taken), using(crate::proofs::Growth::csr_grows))]
     fn take_csr(&mut self, pc: u32, insn: CsrInsn)
-        requires { self.old.words < 4096 }
+        requires { self.old.words < MOST_WORDS }
         ensures state { after_of pc (Insn.Csr insn) self.old ≡ Ok self.new }
         ensures counts { self.new.words ≡ self.old.words + 1 }
     {
@@ -110,14 +110,14 @@ impl<A: Allocator> Abstract<A> {
         self.way = to(pc.wrapping_add(4));
     }
 
-    /// What the instruction at `pc` makes of what is known, after fewer than [`MOST_WORDS`](crate::MOST_WORDS)
+    /// What the instruction at `pc` makes of what is known, after fewer than [`MOST_WORDS`]
     /// instructions. Where it is refused nothing is changed: a vector instruction has to be legal
     /// ([`Why::IllegalWord`]), for which vtype may have to be known ([`Why::VtypeUnknown`]), and what a load or store
     /// accesses has to lie in one of the zones, whatever its address may be ([`Why::AccessNotProved`],
     /// [`Why::ReadOnly`]).
     #[tactic(auto, unfolding(crate::specs::After::after_of))]
     pub fn after(&mut self, pc: u32, insn: &Insn) -> Result<(), Why>
-        requires { self.old.words < 4096 }
+        requires { self.old.words < MOST_WORDS }
         ensures ok { OnOk result (after_of pc insn.now self.old ≡ Ok self.new) }
         ensures err { IfErr result (λ why. after_of pc insn.now self.old ≡ Err why) }
         ensures kept { OnErr result (self.new ≡ self.old) }

@@ -6,11 +6,11 @@ ghost use Rattle.abs_domain.specs.Starts.{IsUsable};
 ghost use Rattle.abs_state.specs.Blocks.{at_block_of, at_entry_of};
 
 use crate::state::{Abstract, MOST_WORDS, Way};
-use abs_domain::{Numbers, copy_of, entry_numbers, memory_zones};
+use abs_domain::{Numbers, copy_of, entry_numbers, just, memory_zones};
 use arrayvec::ArrayVec;
 use cert_note::{Block, Certificate, VectorFact};
 use elf_image::Image;
-use linear_facts::{Form, Range};
+use linear_facts::Form;
 use std::alloc::{AllocError, Allocator};
 
 /// How many facts on vector registers there may be: those of a block, and one for each instruction.
@@ -19,10 +19,10 @@ const MOST_FACTS: usize = 32 + MOST_WORDS as usize;
 /// One fact more.
 fn push_fact<A: Allocator>(groups: &mut Vec<VectorFact, A>, fact: VectorFact)
     requires few { length groups.old.items < 32 }
-    requires room { 32 + 4096 ≤ vec_capacity groups.old }
+    requires room { MOST_FACTS ≤ vec_capacity groups.old }
     ensures items { groups.new.items ≡ groups.old.items ++ fact ∷ [] }
     ensures count { length groups.new.items ≡ length groups.old.items + 1 }
-    ensures room { 32 + 4096 ≤ vec_capacity groups.new }
+    ensures room { MOST_FACTS ≤ vec_capacity groups.new }
 {
     groups.push(fact).unwrap();
 }
@@ -30,9 +30,9 @@ fn push_fact<A: Allocator>(groups: &mut Vec<VectorFact, A>, fact: VectorFact)
 /// These facts on vector registers in place of what was there.
 fn put_facts<A: Allocator>(groups: &mut Vec<VectorFact, A>, facts: &[VectorFact])
     requires few { length facts.now ≤ 32 }
-    requires room { 32 + 4096 ≤ vec_capacity groups.old }
+    requires room { MOST_FACTS ≤ vec_capacity groups.old }
     ensures items { groups.new.items ≡ facts.now }
-    ensures room { 32 + 4096 ≤ vec_capacity groups.new }
+    ensures room { MOST_FACTS ≤ vec_capacity groups.new }
 {
     groups.clear();
     for fact in facts {
@@ -58,9 +58,9 @@ impl<A: Allocator> Abstract<A> {
             groups: Vec::with_capacity(alloc, MOST_FACTS)?,
             budget: None,
             paid_form: Form::number(0),
-            paid_range: Range { lo: 0, hi: 0 },
+            paid_range: just(0),
             second_form: Form::number(0),
-            second_range: Range { lo: 0, hi: 0 },
+            second_range: just(0),
             words: 0,
             way: Way::Unknown,
         })

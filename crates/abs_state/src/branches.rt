@@ -14,6 +14,7 @@ ghost use Rattle.abs_state.specs.declared.branches.Relation.TheVariants.{Below};
 
 use crate::state::{Abstract, Way};
 use abs_domain::{computed_range, copy_of, whole_atom};
+use cert_note::VectorFact;
 use linear_facts::{Atoms, Change, Form, Range};
 use rv_decode::{Condition, Reg};
 use std::alloc::{Allocator, Global};
@@ -208,6 +209,22 @@ impl<A: Allocator> Edge<'_, A> {
         self.target
     }
 
+    /// How many instructions have been taken since the block began that the edge leaves.
+    pub fn words(&self) -> u32
+        ensures { result ≡ self.now.state.words }
+    {
+        let state = self.state;
+        state.words
+    }
+
+    /// The facts on vector registers.
+    pub fn groups(&self) -> &[VectorFact]
+        ensures { result.now ≡ self.now.state.groups }
+    {
+        let state = self.state;
+        state.groups.as_slice()
+    }
+
     /// What is known of the atoms on the edge.
     pub(crate) fn table(&self) -> Atoms<'_>
         ensures { result ≡ table_on self.now }
@@ -223,7 +240,7 @@ impl<A: Allocator> Edge<'_, A> {
 
     /// The form of a register's number, or of vl's (32). A number past these stands for none, and has the form 0.
     #[tactic(auto, unfolding(crate::specs::Branches::value_on, abs_domain::specs::Numbers::value_at))]
-    pub(crate) fn form_on(&self, number: u8) -> Form<8>
+    pub fn form_on(&self, number: u8) -> Form<8>
         ensures { result ≡ (value_on self.now number).form }
     {
         let state = self.state;
@@ -246,7 +263,7 @@ impl<A: Allocator> Edge<'_, A> {
     /// The range of a register's number, or of vl's (32). After a branch it is met with the range of its form, which what is
     /// known of the atoms may have changed.
     #[tactic(auto, unfolding(crate::specs::Branches::value_on))]
-    pub(crate) fn range_on(&self, number: u8) -> Range
+    pub fn range_on(&self, number: u8) -> Range
         ensures { result ≡ (value_on self.now number).range }
     {
         let own = self.own_range(number);

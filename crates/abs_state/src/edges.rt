@@ -4,7 +4,7 @@ ghost use Rattle.std.specs.List.{list_all, list_any};
 ghost use Rattle.std.specs.Option.{option_map, option_map_or};
 ghost use Rattle.linear_facts.specs.Differences.{is_not_less_of};
 ghost use Rattle.linear_facts.specs.Forms.{form_at, scaled, substituted};
-ghost use Rattle.abs_domain.specs.Starts.{form_term};
+ghost use Rattle.abs_domain.specs.Starts.{equality_form, form_term};
 ghost use Rattle.abs_state.specs.Branches.{table_on, value_on};
 ghost use Rattle.abs_state.specs.Edges.{covers as covers_of, implied_by};
 ghost use Rattle.abs_state.specs.Edges.{implies_block as implies_block_of};
@@ -15,7 +15,7 @@ ghost use Rattle.abs_state.specs.Edges.{is_order_shown as is_order_shown_of};
 ghost use Rattle.abs_state.specs.Edges.{tells_order as tells_order_of};
 ghost use Rattle.abs_state.specs.Edges.{is_paid as is_paid_of, is_paid_for as is_paid_for_of};
 ghost use Rattle.abs_state.specs.Edges.{is_sum_shown as is_sum_shown_of, least_of, most_of};
-ghost use Rattle.abs_state.specs.Edges.{pays as pays_of};
+ghost use Rattle.abs_state.specs.Edges.{next_total, own_total, pays as pays_of};
 ghost use Rattle.abs_state.specs.Edges.{is_vector_shown as is_vector_shown_of};
 ghost use Rattle.abs_state.specs.Edges.{is_vtype_shown as is_vtype_shown_of};
 ghost use Rattle.abs_state.specs.Edges.{leads_to as leads_to_of, says as says_of};
@@ -68,11 +68,20 @@ fn current_sum(constant: u32, terms: &[Term], forms: &[Form<8>]) -> Form<64>
 
 /// Whether the interval of the fact is shown.
 #[tactic(auto, unfolding(crate::specs::Edges::is_interval_shown))]
-fn is_interval_shown<A: Allocator>(edge: &Edge<'_, A>, fact: &RegisterFact) -> bool
+pub fn is_interval_shown<A: Allocator>(edge: &Edge<'_, A>, fact: &RegisterFact) -> bool
     ensures { result ≡ is_interval_shown_of edge.now fact.now }
 {
     let range = edge.range_on(fact.number);
     fact.low <= range.lo && range.hi <= fact.high
+}
+
+/// The sum of an equality, with registers and vl as they are now.
+pub fn sum_on<A: Allocator>(edge: &Edge<'_, A>, equality: &Equality) -> Form<64>
+    ensures { result ≡ substituted edge.now.state.numbers.forms (equality_form equality.now) }
+{
+    let state = edge.state;
+    let terms = equality.terms.as_slice();
+    current_sum(equality.constant, terms, state.numbers.forms())
 }
 
 /// Whether the sum, with registers and vl as they are now, is the number's form.
@@ -87,7 +96,7 @@ fn is_sum_shown<A: Allocator>(edge: &Edge<'_, A>, number: u8, equality: &Equalit
 
 /// Whether the equality of the fact is shown, if it has one.
 #[tactic(auto, unfolding(crate::specs::Edges::is_equality_shown))]
-fn is_equality_shown<A: Allocator>(edge: &Edge<'_, A>, fact: &RegisterFact) -> bool
+pub fn is_equality_shown<A: Allocator>(edge: &Edge<'_, A>, fact: &RegisterFact) -> bool
     ensures { result ≡ is_equality_shown_of edge.now fact.now }
 {
     match &fact.equality {
@@ -163,7 +172,7 @@ fn is_order_by_forms<A: Allocator>(edge: &Edge<'_, A>, order: OrderFact) -> bool
 
 /// Whether an order is shown: by the ranges, by the difference of the forms, or by the branch.
 #[tactic(auto, unfolding(crate::specs::Edges::is_order_shown))]
-fn is_order_shown<A: Allocator>(edge: &Edge<'_, A>, order: OrderFact) -> bool
+pub fn is_order_shown<A: Allocator>(edge: &Edge<'_, A>, order: OrderFact) -> bool
     ensures { result ≡ is_order_shown_of edge.now order }
 {
     let lesser = edge.range_on(order.lesser);
@@ -221,7 +230,7 @@ fn is_said(vl: Range, wanted: VectorFact, groups: &[VectorFact]) -> bool
 
 /// Whether a fact on vector registers is shown.
 #[tactic(auto, unfolding(crate::specs::Edges::is_vector_shown))]
-fn is_vector_shown<A: Allocator>(edge: &Edge<'_, A>, wanted: VectorFact) -> bool
+pub fn is_vector_shown<A: Allocator>(edge: &Edge<'_, A>, wanted: VectorFact) -> bool
     ensures { result ≡ is_vector_shown_of edge.now wanted }
 {
     let state = edge.state;
@@ -290,6 +299,28 @@ impl Total<'_> {
             + times(self.factor, self.number.range.hi)
             + times(self.second_factor, self.second_number.range.hi)
     }
+}
+
+/// What the budget of the block that the edge leaves came to at its start, at least.
+pub fn least_left<A: Allocator>(edge: &Edge<'_, A>, own: Budget) -> u128
+    ensures { result ≡ least_of (own_total edge.now own) }
+{
+    let state = edge.state;
+    u128::from(own.constant)
+        + times(own.factor, state.paid_range.lo)
+        + times(own.second_factor, state.second_range.lo)
+}
+
+/// What was taken and another budget come to on the edge, at most.
+pub fn most_asked<A: Allocator>(edge: &Edge<'_, A>, next: Budget) -> u128
+    ensures { result ≡ most_of (next_total edge.now next) }
+{
+    let range = edge.range_on(next.register);
+    let second = edge.range_on(next.second_register);
+    u128::from(edge.words())
+        + u128::from(next.constant)
+        + times(next.factor, range.hi)
+        + times(next.second_factor, second.hi)
 }
 
 /// Whether one total is at least the next one, by the ends of their ranges or by the difference of their forms.

@@ -19,9 +19,12 @@ pub use abs_domain::{
     offset_form, offset_range, register_effect, register_effects, results_hold, shift_effect,
     shift_effects, store_allowed, stores_keep_zones, zones_are_permitted, zones_are_there,
 };
-pub use abs_transfer::{address_range, addresses_lie, after_csr, after_scalar};
+pub use abs_transfer::{Reach, address_range, addresses_lie, after_csr, after_scalar};
 pub use branches::{Edge, Relation, Said};
-pub use edges::implies;
+pub use edges::{
+    implies, is_equality_shown, is_interval_shown, is_order_shown, is_vector_shown, least_left,
+    most_asked, sum_on,
+};
 pub use laws::{
     blocks_are_held, checks_are_legal, csr_steps_hold, cut_are_true, edges_are_taken, edges_keep,
     entries_are_held, implied_ends, implied_fits, one_edge, scalar_steps_hold, stated_are_true,

@@ -56,6 +56,7 @@ impl<A: Allocator> Model for Abstract<A> {
     ghost use Rattle.std.specs.Prelude.{◌≡◌, ◌≤◌, ◌+◌, ◌*◌, length, vec_capacity};
     ghost use Rattle.vreg_groups.specs.VectorLength.{IsVlenb};
     ghost use Rattle.abs_state.specs.State.{AbstractView};
+    ghost use Rattle.abs_state.specs.declared.state.TheConstants.{MOST_WORDS};
 
     ghost Value = { AbstractView };
 
@@ -72,9 +73,10 @@ impl<A: Allocator> Model for Abstract<A> {
       way = a.way;
     } };
 
-    // VLEN is 128, 256 or 512. An instruction makes at most two atoms and one fact on vector registers more.
-    ghost invariant = { λ a. IsVlenb a.vlenb × (a.words ≤ 4096) × (length a.numbers.atoms ≤ 73 + 2 * a.words)
-        × (length a.groups.items ≤ 32 + a.words) × (32 + 4096 ≤ vec_capacity a.groups) };
+    // An instruction makes at most two atoms and one fact on vector registers more.
+    ghost invariant = { λ a. IsVlenb a.vlenb × (a.words ≤ MOST_WORDS)
+        × (length a.numbers.atoms ≤ 73 + 2 * a.words)
+        × (length a.groups.items ≤ 32 + a.words) × (32 + MOST_WORDS ≤ vec_capacity a.groups) };
 }
 
 impl<A: Allocator> Abstract<A> {

@@ -4,14 +4,16 @@ ghost use Rattle.vreg_groups.specs.VectorType.{type_in as type_in_of};
 ghost use Rattle.abs_transfer.specs.Facts.{known_type as known_type_of};
 ghost use Rattle.abs_domain.specs.Numbers.{with_result};
 ghost use Rattle.abs_state.specs.After.{access_check as access_check_of, mask_numbers};
-ghost use Rattle.abs_state.specs.After.{move_numbers};
+ghost use Rattle.abs_state.specs.After.{move_numbers, reach_of};
 ghost use Rattle.abs_state.specs.After.{vector_after, vector_numbers, vset_after};
 
-use crate::state::{Abstract, Way};
-use abs_domain::{Effect, MOST_ATOMS, Numbers, VL, Why};
-use abs_transfer::{after_groups, after_vset, cut_groups, legal_check, transfer_check};
+use crate::state::{Abstract, MOST_WORDS, Way};
+use abs_domain::{Effect, MOST_ATOMS, Numbers, VL, Why, up_to};
+use abs_transfer::{
+    Reach, after_groups, after_vset, cut_groups, legal_check, reach_at, transfer_check,
+};
 use linear_facts::Range;
-use rv_decode::{Insn, Reg, VMask, VMove, VSet, Width};
+use rv_decode::{Insn, Reg, VMask, VMem, VMove, VSet, Width};
 use std::alloc::Allocator;
 use vreg_groups::{Lmul, Vtype};
 
@@ -57,7 +59,7 @@ fn after_mask<A: Allocator>(numbers: &mut Numbers<A>, insn: &VMask)
     match *insn {
         VMask::Count { rd, .. } => {
             let most = numbers.range_at(VL).hi;
-            set_register(numbers, rd, Range { lo: 0, hi: most });
+            set_register(numbers, rd, up_to(most));
         }
         VMask::First { rd, .. } => set_register(numbers, rd, Range::FULL),
         VMask::Logic { .. } | VMask::SetFirst { .. } | VMask::Iota { .. } | VMask::Index { .. } =>
@@ -98,6 +100,21 @@ fn after_vector<A: Allocator>(numbers: &mut Numbers<A>, insn: &Insn)
 }
 
 impl<A: Allocator> Abstract<A> {
+    /// Where the bytes of a vector load or store may lie, if that is known.
+    #[tactic(auto, unfolding(crate::specs::After::reach_of))]
+    pub fn reach(&self, insn: &VMem) -> Option<Reach>
+        ensures { result ≡ reach_of self.now insn.now }
+    {
+        reach_at(
+            &self.numbers,
+            self.vlenb,
+            &type_in(known_type(self.vtype)),
+            self.groups.as_slice(),
+            insn.place,
+            &self.numbers.value(usize::from(insn.rs1.number())),
+        )
+    }
+
     /// The answer on what an instruction accesses.
     #[tactic(auto, unfolding(crate::specs::After::access_check))]
     fn access_check(&self, insn: &Insn) -> Result<(), Why>
@@ -126,7 +143,7 @@ impl<A: Allocator> Abstract<A> {
     /// An instruction that sets vtype and vl.
     #[tactic(auto, unfolding(crate::specs::After::vset_after))]
     pub(crate) fn take_vset(&mut self, pc: u32, insn: VSet)
-        requires { self.old.words < 4096 }
+        requires { self.old.words < MOST_WORDS }
         ensures state { self.new ≡ vset_after pc insn self.old }
         ensures counts { self.new.words ≡ self.old.words + 1 }
     {
@@ -145,7 +162,7 @@ impl<A: Allocator> Abstract<A> {
     /// A vector instruction of any other class. Where it is refused nothing is changed.
     #[tactic(auto, unfolding(crate::specs::After::vector_after, crate::specs::After::passed, abs_transfer::specs::Facts::groups_after))]
     pub(crate) fn take_vector(&mut self, pc: u32, insn: &Insn) -> Result<(), Why>
-        requires { self.old.words < 4096 }
+        requires { self.old.words < MOST_WORDS }
         ensures ok { OnOk result (vector_after pc insn.now self.old ≡ Ok self.new) }
         ensures counts { OnOk result (self.new.words ≡ self.old.words + 1) }
         ensures err { IfErr result (λ why. vector_after pc insn.now self.old ≡ Err why) }

@@ -92,7 +92,7 @@ indexed_lies x lo hi size n first end index some above below low high fits =
 -- ---- ranges of whole numbers
 
 -- a number between two ends lies in their range, if there is one
-whole_lies : (lo hi z : ℕ) → lo ≤ z → z ≤ hi → IfSome (fitting lo hi) (λ r. LiesIn r z)
+whole_lies : (lo hi z : ℕ) → lo ≤ z → z ≤ hi → IfSome (fitting 32 lo hi) (λ r. LiesIn r z)
 whole_lies lo hi z l h = by_test (nat_lt lo (2 ^ 32) && nat_lt hi (2 ^ 32)) refl
   where
     by_test : (t : Bool) → (nat_lt lo (2 ^ 32) && nat_lt hi (2 ^ 32)) ≡ t
@@ -105,7 +105,7 @@ less_lies : (lo hi less z : ℕ) → lo ≤ z → z ≤ hi → IfSome (fitting_l
 unfolding fitting_less
 less_lies lo hi less z l h = by_test (nat_le less lo)
   where
-    by_test : (t : Bool) → IfSome (if t then fitting (lo - less) (hi - less) else None) (λ r. LiesIn r (z - less))
+    by_test : (t : Bool) → IfSome (if t then fitting 32 (lo - less) (hi - less) else None) (λ r. LiesIn r (z - less))
     by_test true = whole_lies (lo - less) (hi - less) (z - less) (omega arith) (omega arith)
     by_test false = tt
 
@@ -191,7 +191,7 @@ module _ (s : NumbersView) (v : ℕ → ℕ) (agrees : AgreesWith (table_of s) v
     pub unit_end : (size : ℕ) → x + size * y ≤ (unit_reach s size a b).end
     unfolding unit_reach
     unit_end size =
-        high_holds (a.range.hi + size * b.range.hi) (fitting (a.range.lo + size * b.range.lo) (a.range.hi + size * b.range.hi))
+        high_holds (a.range.hi + size * b.range.hi) (fitting 32 (a.range.lo + size * b.range.lo) (a.range.hi + size * b.range.hi))
         (sum_form a.form size b.form 0) (x + size * y) (below size) (whole_lies _ _ (x + size * y) (above size) (below size))
         (sum_is size 0 (x + size * y) (lit< tt) (omega arith))
 
@@ -222,7 +222,7 @@ module _ (s : NumbersView) (v : ℕ → ℕ) (agrees : AgreesWith (table_of s) v
         lo = a.range.lo + k - k * b.range.hi
 
         first : ℕ
-        first = sharpened_low s lo (fitting lo (a.range.hi + k - k * b.range.lo)) (sum_form a.form (2 ^ 32 - k) b.form k)
+        first = sharpened_low s lo (fitting 32 lo (a.range.hi + k - k * b.range.lo)) (sum_form a.form (2 ^ 32 - k) b.form k)
 
         by_test : (t : Bool) → nat_le (k * b.range.hi) (a.range.lo + k) ≡ t
             → (if t then Some record { first = first; end = a.range.hi + size } else None) ≡ Some r
@@ -242,7 +242,7 @@ module _ (s : NumbersView) (v : ℕ → ℕ) (agrees : AgreesWith (table_of s) v
             let is_first : first ≡ r.first = ap (λ (q : Reach). q.first) (same_reach _ r g) in
             let is_end : a.range.hi + size ≡ r.end = ap (λ (q : Reach). q.end) (same_reach _ r g) in (
               up,
-              subst (λ (z : ℕ). z ≤ x + k - k * y) is_first (low_holds lo (fitting lo (a.range.hi + k - k * b.range.lo)) _ _ from (whole_lies lo _ _ from to) sum),
+              subst (λ (z : ℕ). z ≤ x + k - k * y) is_first (low_holds lo (fitting 32 lo (a.range.hi + k - k * b.range.lo)) _ _ from (whole_lies lo _ _ from to) sum),
               sym is_end,
             )
           where

@@ -43,7 +43,7 @@ sum_form a k b n = sum_of (sum_of a (scaled k b)) (number_form n)
 
 -- the interval between two ends less a number, where it stays within 32 bits
 unfoldable pub fitting_less : ℕ → ℕ → ℕ → Option Range
-fitting_less lo hi less = if nat_le less lo then fitting (lo - less) (hi - less) else None
+fitting_less lo hi less = if nat_le less lo then fitting 32 (lo - less) (hi - less) else None
 
 -- ---- where bytes may lie
 
@@ -54,7 +54,7 @@ unit_reach s size x vl =
     let hi = x.range.hi + size * vl.range.hi in
     record {
       first = x.range.lo;
-      end = sharpened_high s hi (fitting lo hi) (sum_form x.form size vl.form 0);
+      end = sharpened_high s hi (fitting 32 lo hi) (sum_form x.form size vl.form 0);
     }
 
 -- elements a number of bytes apart that is not negative: the last one ends at `x + k * vl - k + size`
@@ -74,7 +74,7 @@ falling_reach s size k x vl =
     if nat_le (k * vl.range.hi) (x.range.lo + k)
     then Some record {
       first = sharpened_low s (x.range.lo + k - k * vl.range.hi)
-          (fitting (x.range.lo + k - k * vl.range.hi) (x.range.hi + k - k * vl.range.lo))
+          (fitting 32 (x.range.lo + k - k * vl.range.hi) (x.range.hi + k - k * vl.range.lo))
           (sum_form x.form (2 ^ 32 - k) vl.form k);
       end = x.range.hi + size;
     }
@@ -91,7 +91,8 @@ strided_reach s size (Some n) x vl =
 abbrev pub indexed_reach : ℕ → Range → Range → Reach
 indexed_reach size x i = record { first = x.lo + i.lo; end = x.hi + i.hi + size }
 
-unfoldable pub reach_at : ℕ → Vtype → NumbersView → List VectorFact → Place → ValueView → Option Reach
+unfoldable pub reach_at : ℕ → Vtype → NumbersView → List VectorFact → Place → ValueView
+    → Option Reach
 reach_at vlenb t s facts (place.Unit width masked) x =
     Some (unit_reach s (bytes_of_width width) x (value_at s 32))
 reach_at vlenb t s facts (place.Strided width rs2 masked) x =
@@ -124,7 +125,8 @@ reach_allowed Load (Some reach) zones = load_allowed reach.first reach.end zones
 reach_allowed Store (Some reach) zones = store_allowed reach.first reach.end zones
 
 -- nothing is accessed where vl is known to be 0, but for whole registers
-unfoldable pub transfer_check : ℕ → Vtype → NumbersView → List VectorFact → List Zone → VMem → Result (Unit {0}) Why
+unfoldable pub transfer_check : ℕ → Vtype → NumbersView → List VectorFact → List Zone → VMem
+    → Result (Unit {0}) Why
 transfer_check vlenb t s facts zones insn =
     if not (is_whole insn.place) && ((value_at s 32).range.hi == 0) then Ok tt
     else reach_allowed insn.direction

@@ -18,6 +18,7 @@ use Rattle.rv_decode.specs.declared.instructions.VMask.{VMask}
 use Rattle.rv_decode.specs.Needs.{eew_of}
 use Rattle.vreg_groups.specs.VectorType.{bits_of_width}
 use Rattle.vreg_groups.specs.Legality.{count_of, eew_bits, group_count}
+use Rattle.abs_domain.specs.Effects.{fitting, multiple_range}
 use Rattle.abs_domain.specs.Values.{just, known_of, up_to}
 use Rattle.abs_domain.specs.Numbers.{NumbersView, value_at}
 
@@ -59,20 +60,15 @@ second_range t s facts (Immediate imm) = just (unsigned imm % 2 ^ bits_of_width 
 
 -- ---- what an operation makes of elements, where that is known
 
--- the range between two ends that both have this many bits
-abbrev pub fitting_bits : ℕ → ℕ → ℕ → Option Range
-fitting_bits bits lo hi =
-    if nat_lt lo (2 ^ bits) && nat_lt hi (2 ^ bits) then Some record { lo = lo; hi = hi } else None
-
 -- a shift to the left by an amount, of which the low bits count, where it is known
 unfoldable pub left_elements : ℕ → Range → Option ℕ → Option Range
 left_elements bits a None = None
-left_elements bits a (Some n) = fitting_bits bits (a.lo * 2 ^ (n % bits)) (a.hi * 2 ^ (n % bits))
+left_elements bits a (Some n) = multiple_range bits (2 ^ (n % bits)) a
 
 -- a shift to the right of elements with `of` bits, where what it leaves has `bits`
 unfoldable pub right_elements : ℕ → ℕ → Range → Option ℕ → Option Range
 right_elements of bits a None = None
-right_elements of bits a (Some n) = fitting_bits bits (a.lo / 2 ^ (n % of)) (a.hi / 2 ^ (n % of))
+right_elements of bits a (Some n) = fitting bits (a.lo / 2 ^ (n % of)) (a.hi / 2 ^ (n % of))
 
 -- the remainder by a number that is known and not 0
 unfoldable pub remainder_elements : Range → Option ℕ → Option Range
@@ -87,7 +83,7 @@ remainder_by (Immediate imm) a c = None
 
 -- the range of what an operation gives for elements of vs2 and of the second operand that lie in these
 unfoldable pub int_range : ℕ → IntOp → Source → Range → Range → Option Range
-int_range bits int.Add b x y = fitting_bits bits (x.lo + y.lo) (x.hi + y.hi)
+int_range bits int.Add b x y = fitting bits (x.lo + y.lo) (x.hi + y.hi)
 int_range bits int.Sub b x y = None
 int_range bits int.Rsub b x y = None
 int_range bits int.Minu b x y = Some record { lo = min x.lo y.lo; hi = min x.hi y.hi }
@@ -142,7 +138,7 @@ arith_range t s facts (Extend signed of vd vs2 masked) =
 
 -- numbers of elements, where all of them fit
 abbrev pub place_range : ℕ → Vtype → Option Range
-place_range vlenb t = fitting_bits (bits_of_width t.sew) 0 (vlmax_of vlenb t - 1)
+place_range vlenb t = fitting (bits_of_width t.sew) 0 (vlmax_of vlenb t - 1)
 
 unfoldable pub mask_range : ℕ → Vtype → VMask → Option Range
 mask_range vlenb t (Logic op vd vs2 vs1) = None
@@ -179,7 +175,8 @@ fact_if t first None = []
 fact_if t first (Some r) =
     if (r.lo == 0) && (r.hi == 2 ^ bits_of_width t.sew - 1) then [] else group_fact t first r ∷ []
 
-unfoldable pub stated_at : ℕ → Vtype → NumbersView → List VectorFact → Insn → Option Operand → List VectorFact
+unfoldable pub stated_at : ℕ → Vtype → NumbersView → List VectorFact → Insn → Option Operand
+    → List VectorFact
 stated_at vlenb t s facts insn None = []
 stated_at vlenb t s facts insn (Some destination) =
     fact_if t destination.first (stated_range vlenb t s facts insn)

@@ -19,7 +19,8 @@ asked_of rd rs1 = if rs1 == 0 then (if rd == 0 then Keep else Greatest) else Reg
 
 -- the register that gets vl, the length, and the bits of vtype, if they are known
 unfoldable pub wanted_of : VSet → NumbersView → Wanted
-wanted_of (Vsetvli rd rs1 vtype) s = record { rd = rd; length = asked_of rd rs1; vtype = Some vtype }
+wanted_of (Vsetvli rd rs1 vtype) s =
+    record { rd = rd; length = asked_of rd rs1; vtype = Some vtype }
 wanted_of (Vsetivli rd avl vtype) s = record { rd = rd; length = Number avl; vtype = Some vtype }
 wanted_of (Vsetvl rd rs1 rs2) s =
     record { rd = rd; length = asked_of rd rs1; vtype = known_of (value_at s rs2).range }
@@ -104,7 +105,8 @@ unknown_request vlenb (Number n) s = unknown_length (up_to (8 * vlenb)) s
 
 unfoldable pub configured : ℕ → Option ℕ → Asked → Option ℕ → NumbersView → Configured
 configured vlenb known length None s = unknown_request vlenb length s
-configured vlenb known length (Some bits) s = known_request vlenb known length bits (vtype_of bits) s
+configured vlenb known length (Some bits) s =
+    known_request vlenb known length bits (vtype_of bits) s
 
 -- a register gets vl's number
 unfoldable pub with_length_in : ℕ → NumbersView → NumbersView

@@ -76,7 +76,7 @@ fn fitting_less(lo: u64, hi: u64, less: u32) -> Option<Range>
 {
     let less = u64::from(less);
     if less <= lo {
-        fitting(lo - less, hi.saturating_sub(less))
+        fitting(32, lo - less, hi.saturating_sub(less))
     } else {
         None
     }
@@ -169,7 +169,7 @@ fn unit_reach<A: Allocator>(numbers: &Numbers<A>, size: u32, x: &Value, vl: &Val
     let form = sum_form(x.form, size, vl.form, 0);
     Reach {
         first: u64::from(x.range.lo),
-        end: sharpened_high(numbers, hi, fitting(lo, hi), &form),
+        end: sharpened_high(numbers, hi, fitting(32, lo, hi), &form),
     }
 }
 
@@ -222,7 +222,7 @@ fn falling_reach<A: Allocator>(
     let hi = sum(x.range.hi, k, 1).saturating_sub(product(k, vl.range.lo));
     let form = sum_form(x.form, u32::MAX - k + 1, vl.form, k);
     Some(Reach {
-        first: sharpened_low(numbers, lo, fitting(lo, hi), &form),
+        first: sharpened_low(numbers, lo, fitting(32, lo, hi), &form),
         end: u64::from(x.range.hi) + u64::from(size),
     })
 }
@@ -251,7 +251,7 @@ fn strided_reach<A: Allocator>(
 
 /// Where the bytes of an access from x on may lie, if that is known.
 #[tactic(auto, unfolding(crate::specs::Accesses::reach_at))]
-fn reach_at<A: Allocator>(
+pub fn reach_at<A: Allocator>(
     numbers: &Numbers<A>,
     vlenb: u32,
     t: &Vtype,

@@ -11,7 +11,6 @@ ghost use Rattle.abs_transfer.specs.Facts.{is_source as is_source_of};
 ghost use Rattle.abs_transfer.specs.Facts.{source_range as source_range_of};
 ghost use Rattle.abs_transfer.specs.Facts.{low_range as low_range_of};
 ghost use Rattle.abs_transfer.specs.Facts.{second_range as second_range_of};
-ghost use Rattle.abs_transfer.specs.Facts.{fitting_bits as fitting_bits_of};
 ghost use Rattle.abs_transfer.specs.Facts.{left_elements as left_elements_of};
 ghost use Rattle.abs_transfer.specs.Facts.{right_elements as right_elements_of};
 ghost use Rattle.abs_transfer.specs.Facts.{remainder_by as remainder_by_of};
@@ -30,7 +29,7 @@ ghost use Rattle.abs_transfer.specs.Facts.{cut_groups as cut_groups_of};
 ghost use Rattle.abs_domain.specs.Numbers.{value_at};
 ghost use Rattle.abs_domain.specs.Values.{just as just_of};
 
-use abs_domain::{Numbers, VL, known, up_to};
+use abs_domain::{Numbers, VL, fitting, just, known, multiple_range, up_to};
 use cert_note::VectorFact;
 use linear_facts::Range;
 use rv_decode::{
@@ -153,7 +152,7 @@ fn immediate_range(bits: u32, imm: u32) -> Range
     ensures { result ≡ just_of (imm % 2 ^ bits) }
 {
     let n = (u64::from(imm) % (1 << bits)) as u32;
-    Range { lo: n, hi: n }
+    just(n)
 }
 
 /// The range of the elements of the second operand.
@@ -175,33 +174,6 @@ fn second_range<A: Allocator>(
     }
 }
 
-/// The range between two ends, where both have this many bits.
-fn fitting_bits(bits: u32, lo: u64, hi: u64) -> Option<Range>
-    requires { bits ≤ 32 }
-    ensures { result ≡ fitting_bits_of bits lo hi }
-{
-    if lo < 1 << bits && hi < 1 << bits {
-        Some(Range {
-            lo: lo as u32,
-            hi: hi as u32,
-        })
-    } else {
-        None
-    }
-}
-
-/// The multiples of a range's numbers, where both ends have this many bits.
-fn multiple_range(bits: u32, a: Range, k: u32) -> Option<Range>
-    requires { bits ≤ 32 }
-    ensures { result ≡ fitting_bits_of bits (a.lo * k) (a.hi * k) }
-{
-    fitting_bits(
-        bits,
-        u64::from(a.lo) * u64::from(k),
-        u64::from(a.hi) * u64::from(k),
-    )
-}
-
 /// A shift to the left by an amount, of which the low bits count, where it is known.
 #[tactic(auto, unfolding(crate::specs::Facts::left_elements))]
 fn left_elements(bits: u32, a: Range, amount: Option<u32>) -> Option<Range>
@@ -210,7 +182,7 @@ fn left_elements(bits: u32, a: Range, amount: Option<u32>) -> Option<Range>
     ensures { result ≡ left_elements_of bits a amount }
 {
     match amount {
-        Some(n) => multiple_range(bits, a, 1 << (n % bits)),
+        Some(n) => multiple_range(bits, 1 << (n % bits), a),
         None => None,
     }
 }
@@ -224,7 +196,7 @@ fn right_elements(of: u32, bits: u32, a: Range, amount: Option<u32>) -> Option<R
     ensures { result ≡ right_elements_of of bits a amount }
 {
     match amount {
-        Some(n) => fitting_bits(
+        Some(n) => fitting(
             bits,
             u64::from(a.lo) >> (n % of),
             u64::from(a.hi) >> (n % of),
@@ -259,7 +231,7 @@ fn int_range(bits: u32, op: IntOp, b: Source, x: Range, y: Range) -> Option<Rang
     ensures { result ≡ int_range_of bits op b x y }
 {
     match op {
-        IntOp::Add => fitting_bits(
+        IntOp::Add => fitting(
             bits,
             u64::from(x.lo) + u64::from(y.lo),
             u64::from(x.hi) + u64::from(y.hi),
@@ -404,7 +376,7 @@ fn place_range(vlenb: u32, t: &Vtype) -> Option<Range>
     ensures { result ≡ place_range_of vlenb t.now }
 {
     let last = t.vlmax(vlenb as usize).saturating_sub(1);
-    fitting_bits(bits_of(t.sew), 0, u64::from(last))
+    fitting(bits_of(t.sew), 0, u64::from(last))
 }
 
 /// The range of what an instruction on masks gives.

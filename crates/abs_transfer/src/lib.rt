@@ -12,7 +12,7 @@ mod legal;
 mod scalar;
 mod vset;
 
-pub use accesses::transfer_check;
+pub use accesses::{Reach, reach_at, transfer_check};
 pub use csr::after_csr;
 pub use facts::{after_groups, cut_groups};
 pub use laws::addresses_lie;

@@ -1,15 +1,19 @@
 //! What each instruction that sets vtype and vl makes of what is known.
-ghost use Rattle.std.specs.Prelude.{◌≡◌, ◌<◌, ◌≤◌, ◌+◌, length};
+ghost use Rattle.std.specs.Prelude.{◌≡◌, ◌<◌, ◌≤◌, ◌+◌, length, Some};
 ghost use Rattle.vreg_groups.specs.VectorLength.{IsVlenb};
 ghost use Rattle.vreg_groups.specs.VectorType.{vtype_of};
 ghost use Rattle.abs_transfer.specs.Vset.{asked_of, configured, excess_range};
 ghost use Rattle.abs_transfer.specs.Vset.{has_vlmax as has_vlmax_of};
-ghost use Rattle.abs_transfer.specs.Vset.{kept_or_zero, known_request, lesser_range, limited_by};
+ghost use Rattle.linear_facts.specs.Forms.{number_form};
+ghost use Rattle.abs_domain.specs.Numbers.{value_at};
+ghost use Rattle.abs_domain.specs.Values.{just as just_of};
+ghost use Rattle.abs_transfer.specs.Vset.{kept_or_zero, known_request, lesser_range, limited};
+ghost use Rattle.abs_transfer.specs.Vset.{limited_by};
 ghost use Rattle.abs_transfer.specs.Vset.{supported_request};
 ghost use Rattle.abs_transfer.specs.Vset.{unknown_length, unknown_request, wanted_of};
 ghost use Rattle.abs_transfer.specs.Vset.{with_length_in};
 
-use abs_domain::{MOST_ATOMS, Numbers, VL, copy_of, known, whole_atom};
+use abs_domain::{MOST_ATOMS, Numbers, VL, copy_of, just, known, up_to, whole_atom};
 use linear_facts::{Form, Range, Split};
 use rv_decode::{Reg, VSet};
 use std::alloc::Allocator;
@@ -147,6 +151,16 @@ fn set_unknown<A: Allocator>(numbers: &mut Numbers<A>, range: Range) -> Set
     }
 }
 
+/// vtype is known.
+fn set_to(bits: u8, is_kept: bool) -> Set
+    ensures { result ≡ record { vtype = Some bits; is_kept = is_kept } }
+{
+    Set {
+        vtype: Some(bits),
+        is_kept,
+    }
+}
+
 /// vl was kept, or is 0.
 fn set_kept_or_zero<A: Allocator>(numbers: &mut Numbers<A>) -> Set
     requires { length numbers.old.atoms + 1 < MOST_ATOMS }
@@ -154,11 +168,35 @@ fn set_kept_or_zero<A: Allocator>(numbers: &mut Numbers<A>) -> Set
         ≡ record { numbers = numbers.new; vtype = result.vtype; is_kept = result.is_kept } }
 {
     let hi = numbers.range_at(VL).hi;
-    set_unknown(numbers, Range { lo: 0, hi })
+    set_unknown(numbers, up_to(hi))
+}
+
+/// vl is the lesser of VLMAX and a register's number.
+#[tactic(auto, unfolding(crate::specs::Vset::limited))]
+fn limit_to_register<A: Allocator>(numbers: &mut Numbers<A>, vlmax: u32, register: Reg)
+    requires { length numbers.old.atoms + 1 < MOST_ATOMS }
+    ensures { numbers.new ≡ limited vlmax (value_at numbers.old register) numbers.old }
+{
+    let length = numbers.value(usize::from(register.number()));
+    let whole = whole_atom(length.form);
+    let range = length.range;
+    limit(numbers, whole, lesser(vlmax, range), excess(vlmax, range));
+}
+
+/// vl is the lesser of VLMAX and a number.
+#[tactic(auto, unfolding(crate::specs::Vset::limited))]
+fn limit_to_number<A: Allocator>(numbers: &mut Numbers<A>, vlmax: u32, number: u32)
+    requires { length numbers.old.atoms + 1 < MOST_ATOMS }
+    ensures { numbers.new ≡ limited vlmax
+        record { form = number_form number; range = just_of number } numbers.old }
+{
+    let whole = whole_atom(&Form::number(number));
+    let range = just(number);
+    limit(numbers, whole, lesser(vlmax, range), excess(vlmax, range));
 }
 
 /// A supported type of these bits, of which this is VLMAX.
-#[tactic(auto, unfolding(crate::specs::Vset::supported_request, crate::specs::Vset::limited))]
+#[tactic(auto, unfolding(crate::specs::Vset::supported_request))]
 fn set_supported<A: Allocator>(
     numbers: &mut Numbers<A>,
     vlenb: u32,
@@ -172,44 +210,23 @@ fn set_supported<A: Allocator>(
     ensures { supported_request vlenb known asked bits vlmax numbers.old
         ≡ record { numbers = numbers.new; vtype = result.vtype; is_kept = result.is_kept } }
 {
-    let set = Set {
-        vtype: Some(bits),
-        is_kept: false,
-    };
     match asked {
         Asked::Keep => if has_vlmax(vlenb, known, vlmax) {
-            Set {
-                vtype: Some(bits),
-                is_kept: true,
-            }
+            set_to(bits, true)
         } else {
             set_kept_or_zero(numbers)
         },
         Asked::Greatest => {
-            numbers.set_fresh(
-                VL,
-                Range {
-                    lo: vlmax,
-                    hi: vlmax,
-                },
-            );
-            set
+            numbers.set_fresh(VL, just(vlmax));
+            set_to(bits, false)
         }
         Asked::Register { register } => {
-            let length = numbers.value(usize::from(register.number()));
-            let whole = whole_atom(length.form);
-            let range = length.range;
-            limit(numbers, whole, lesser(vlmax, range), excess(vlmax, range));
-            set
+            limit_to_register(numbers, vlmax, register);
+            set_to(bits, false)
         }
         Asked::Number { number } => {
-            let whole = whole_atom(&Form::number(number));
-            let range = Range {
-                lo: number,
-                hi: number,
-            };
-            limit(numbers, whole, lesser(vlmax, range), excess(vlmax, range));
-            set
+            limit_to_number(numbers, vlmax, number);
+            set_to(bits, false)
         }
     }
 }
@@ -230,7 +247,7 @@ fn set_known<A: Allocator>(
 {
     match Vtype::from_bits(bits) {
         None => {
-            numbers.set_value(VL, Form::number(0), Range { lo: 0, hi: 0 });
+            numbers.set_value(VL, Form::number(0), just(0));
             Set {
                 vtype: None,
                 is_kept: false,
@@ -262,13 +279,7 @@ fn configure<A: Allocator>(
         None => match asked {
             Asked::Keep => set_kept_or_zero(numbers),
             Asked::Greatest | Asked::Register { .. } | Asked::Number { .. } => {
-                set_unknown(
-                    numbers,
-                    Range {
-                        lo: 0,
-                        hi: 8 * vlenb,
-                    },
-                )
+                set_unknown(numbers, up_to(8 * vlenb))
             }
         },
     }

@@ -1,5 +1,5 @@
 -- What passes the check has a block at its entry.
-use Rattle.std.proofs.Common.{◌≡◌, ◌==◌, Bool, true, false, Option, Some, None, Ok, Err, subst, if◌then◌else◌}
+use Rattle.std.proofs.Common.{◌≡◌, ◌==◌, Bool, true, false, Option, None, Ok, Err, subst, if◌then◌else◌}
 use Rattle.block_checker.specs.Passes.{Checked, block_at, blocks_pass, both, checked, entry_passes, entry_passes_to}
 use Rattle.block_checker.specs.declared.errors.CheckError.TheVariants.{WrongVlen}
 use Rattle.block_checker.specs.Words.{CertificateView, ImageView, Vlen, Block}

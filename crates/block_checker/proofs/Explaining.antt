@@ -1,12 +1,14 @@
 -- An error of a word, of an edge or of a block carries the address at which the check stopped; and a block is the one that begins
 -- at its start.
 use Rattle.std.proofs.Common.{◌≡◌, ◌<◌, ◌≤◌, ◌+◌, ◌-◌, ◌*◌, ◌/◌, ◌==◌, ◌&&◌, ◌||◌, ℕ, zero, suc, Bool, true, false, arith, refl, sym, ap, ◌∙◌, subst, List, [], ◌∷◌, ◌++◌, length, map, take, drop, add-one, inl, Option, Some, None, Result, Ok, Err, find, is_some, if◌then◌else◌}
-use Rattle.std.specs.Prelude.{IfErr, IsTrue, nat_le, slice_set}
-use Rattle.std.specs.List.{slice_get, range_with_len}
+use Rattle.std.specs.Prelude.{IfErr, IsTrue, nat_le, nat_lt, slice_set}
+use Rattle.std.specs.List.{position_or_len, slice_get, range_with_len}
 use Rattle.std.specs.Option.{option_map}
 use Rattle.std.proofs.lemmas.List.{take_more_set}
 use Rattle.std.proofs.lemmas.List.FromFn.{map-range_with_len_more}
 use Rattle.std.proofs.lemmas.Bool.Decides.{nat_tests}
+use Rattle.std.proofs.lemmas.List.Folds.{find_at}
+use Rattle.std.proofs.lemmas.Option.{slice_get_past}
 use Rattle.std.proofs.lemmas.Result.{IfErr-at_err}
 use Rattle.region_mem.specs.declared.parameter.Param.{Param}
 use Rattle.rv_decode.specs.declared.instructions.Insn.{Insn}
@@ -32,7 +34,7 @@ use Rattle.block_checker.specs.declared.explanation.Stop.{Stop}
 use Rattle.block_checker.specs.declared.explanation.Explanation.{Explanation}
 use Rattle.block_checker.specs.Refusals.{address_of, refusal}
 use Rattle.block_checker.specs.Passes.{Checked, Progress, On, both, ends, told_at, block_at, block_for, is_branch, edge_passes, possible_passes, edges_pass, followed, decoded, fetched, word_passes, walk, block_passes, blocks_pass, entry_passes}
-use Rattle.block_checker.specs.Explained.{IsStop, answer_of, known_before, intervals_of}
+use Rattle.block_checker.specs.Explained.{IsStop, answer_of, before_in, before_word, behind, behind_in, behind_word, known_before, intervals_of, place_in}
 use Rattle.block_checker.specs.Walking.{StopsWalk}
 use Rattle.block_checker.proofs.Walks.{at_place, blocks_next}
 
@@ -161,6 +163,81 @@ unfolding block_at
 block_there certificate n block is there =
     find_there certificate.version certificate.vlen certificate.parameters 0 certificate.blocks n block is.blocks there
 
+-- ---- the place of a block
+
+some_at : (t : Bool) (x i : ℕ) → (if t then Some x else None) ≡ Some i → x ≡ i
+some_at true x i e = cc
+some_at false x i e = cc
+
+none_at : (t : Bool) (x : ℕ) → (if t then Some x else None) ≡ None → t ≡ false
+none_at true x e = cc
+none_at false x e = refl
+
+passes_at : (address : ℕ) (t : Bool) (c b : Block) (rest : Option Block) → (c.start == address) ≡ t → (if t then Some c else rest) ≡ Some b
+    → (rest ≡ Some b → (b.start == address) ≡ true) → (b.start == address) ≡ true
+passes_at address true c b rest here e next =
+    let same : c ≡ b = cc in
+    subst (λ (x : Block). (x.start == address) ≡ true) same here
+passes_at address false c b rest here e next = next e
+
+find_passes : (address : ℕ) (blocks : List Block) (b : Block) → find (λ c. c.start == address) blocks ≡ Some b → (b.start == address) ≡ true
+find_passes address [] b e = cc
+find_passes address (c ∷ cs) b e = passes_at address (c.start == address) c b (find (λ c. c.start == address) cs) refl e (find_passes address cs b)
+
+same_start : (start address : ℕ) → (start == address) ≡ true → start ≡ address
+same_start start address e = grind (arith, nat_tests, e)
+
+past : (n m : ℕ) → nat_lt n m ≡ false → m ≤ n
+past n m e = grind (arith, nat_tests, e)
+
+-- the block at the place is the one that begins at the address
+place_found : (address : ℕ) (blocks : List Block) (i : ℕ) (b : Block) → place_in address blocks ≡ Some i → slice_get blocks i ≡ Some b
+    → block_at address blocks ≡ Some b
+unfolding block_at place_in
+place_found address blocks i b place there =
+    let p : Block → Bool = λ c. c.start == address in
+    let at : position_or_len p blocks ≡ i = some_at (nat_lt (position_or_len p blocks) (length blocks)) (position_or_len p blocks) i place in
+    find_at p blocks ∙ (ap (λ k. slice_get blocks k) at ∙ there)
+
+found_start : (address : ℕ) (blocks : List Block) (b : Block) → block_at address blocks ≡ Some b → b.start ≡ address
+unfolding block_at
+found_start address blocks b found = same_start b.start address (find_passes address blocks b found)
+
+place_none : (address : ℕ) (blocks : List Block) → place_in address blocks ≡ None → block_at address blocks ≡ None
+unfolding block_at place_in
+place_none address blocks none =
+    let p : Block → Bool = λ c. c.start == address in
+    let behind : length blocks ≤ position_or_len p blocks =
+    past (position_or_len p blocks) (length blocks) (none_at (nat_lt (position_or_len p blocks) (length blocks)) (position_or_len p blocks) none) in
+    find_at p blocks ∙ slice_get_past blocks (position_or_len p blocks) behind
+
+-- what is known before a word of the block at a place
+pub before_placed : (image : ImageView) (certificate : CertificateView) (start pc i : ℕ) (b : Block) (a : AbstractView)
+    → place_in start certificate.blocks ≡ Some i → slice_get certificate.blocks i ≡ Some b → a ≡ at_block_of image certificate b
+    → before_word image certificate start pc a ≡ before_in image certificate (part.Block start) pc
+unfolding before_in
+before_placed image certificate start pc i b a place there state =
+    let found = place_found start certificate.blocks i b place there in
+    let same : b.start ≡ start = found_start start certificate.blocks b found in
+    rw found (ap (λ (x : AbstractView). before_word image certificate start pc x) state
+    ∙ ap (λ (s : ℕ). before_word image certificate s pc (at_block_of image certificate b)) (sym same))
+
+pub before_unplaced : (image : ImageView) (certificate : CertificateView) (start pc : ℕ) → place_in start certificate.blocks ≡ None
+    → before_in image certificate (part.Block start) pc ≡ None
+unfolding before_in
+before_unplaced image certificate start pc none = rw (place_none start certificate.blocks none) refl
+
+-- where no word comes before, none comes behind
+pub behind_none : (image : ImageView) (certificate : CertificateView) (start pc : ℕ) → before_in image certificate (part.Block start) pc ≡ None
+    → behind_in image certificate (part.Block start) pc ≡ None
+unfolding behind_in
+behind_none image certificate start pc none = rw none refl
+
+pub behind_from : (image : ImageView) (certificate : CertificateView) (start pc : ℕ) (a : AbstractView)
+    → before_in image certificate (part.Block start) pc ≡ Some a → behind_in image certificate (part.Block start) pc ≡ behind_word image pc a
+unfolding behind_in
+behind_from image certificate start pc a there = rw there refl
+
 -- ---- what is known
 
 pub known_first : (image : ImageView) (certificate : CertificateView) (start : ℕ) (a : AbstractView)
@@ -176,6 +253,27 @@ unfolding known_before
 known_next image certificate start n pc a b c place known passed =
     let here : word_passes image certificate (start + 4 * n) b ≡ Ok (On c) = subst (λ (p : ℕ). word_passes image certificate p b ≡ Ok (On c)) place passed in
     rw (add-one, known, here) refl
+
+-- where a word does not lead on, nothing is known at the words behind it
+none_behind : (image : ImageView) (certificate : CertificateView) (start n : ℕ) (a : AbstractView)
+    → known_before image certificate start a n ≡ None → (k : ℕ) → known_before image certificate start a (k + n) ≡ None
+unfolding known_before
+none_behind image certificate start n a none zero =
+    let here : zero + n ≡ n = omega arith in
+    rw here none
+none_behind image certificate start n a none (suc k) =
+    let more : suc k + n ≡ suc (k + n) = omega arith in
+    rw (more, none_behind image certificate start n a none k) refl
+
+pub known_ended : (image : ImageView) (certificate : CertificateView) (start n m pc : ℕ) (a b : AbstractView) (answer : Result Progress CheckError)
+    → pc ≡ start + 4 * n → known_before image certificate start a n ≡ Some b → word_passes image certificate pc b ≡ answer
+    → behind answer ≡ None → n < m → known_before image certificate start a m ≡ None
+unfolding known_before
+known_ended image certificate start n m pc a b answer place known is none l =
+    let here : word_passes image certificate (start + 4 * n) b ≡ answer = subst (λ (p : ℕ). word_passes image certificate p b ≡ answer) place is in
+    let next : known_before image certificate start a (n + 1) ≡ None = rw (add-one, known, here) none in
+    let rest : (m - (n + 1)) + (n + 1) ≡ m = omega (arith, l) in
+    subst (λ (k : ℕ). known_before image certificate start a k ≡ None) rest (none_behind image certificate start (n + 1) a next (m - (n + 1)))
 
 word_number : (start n pc : ℕ) → pc ≡ start + 4 * n → (pc - start) / 4 ≡ n
 word_number start n pc place = omega (arith, place)

@@ -1,10 +1,9 @@
 -- From the induction to runs: what passes the check ends on all arguments that match, if the laws on single steps hold there.
-use Rattle.std.proofs.Common.{◌≡◌, ◌<◌, ◌*◌, ◌==◌, ℕ, Bool, true, false, arith, refl, sym, ap, ◌∙◌, subst, List, [], ◌∷◌, length, Option, Some, None, Ok, Err, IsTrue}
-use Rattle.std.specs.Prelude.{find, if◌then◌else◌, ◌&&◌, nat_le}
+use Rattle.std.proofs.Common.{◌≡◌, ◌<◌, ◌*◌, ◌==◌, ℕ, Bool, true, false, arith, refl, sym, ap, ◌∙◌, subst, List, length, Option, Some, None, Ok, Err}
+use Rattle.std.specs.Prelude.{if◌then◌else◌}
 use Rattle.std.specs.List.{AllByRecursion}
 use Rattle.std.proofs.lemmas.Bool.Decides.{nat_tests}
 use Rattle.elf_image.specs.Image.{ImageView, IsImage}
-use Rattle.region_mem.specs.declared.parameter.Param.{Param}
 use Rattle.region_mem.specs.Laws.{BringsBytes}
 use Rattle.region_mem.specs.Parameter.{Argument, AreArguments}
 use Rattle.vreg_groups.specs.declared.policies.Agnostic.{Agnostic}
@@ -20,14 +19,16 @@ use Rattle.abs_state.specs.Branches.{EdgeView}
 use Rattle.block_checker.specs.declared.errors.CheckError.TheVariants.{WrongVlen}
 use Rattle.block_checker.specs.Passes.{both, block_at, entry_passes_to, entry_passes, blocks_pass, checked}
 use Rattle.block_checker.specs.Accepted.{AcceptedView}
-use Rattle.block_checker.specs.Bound.{budget_at, entry_number, bound_in, bound_of, scalars_of}
+use Rattle.abs_state.specs.Held.{budget_at}
+use Rattle.block_checker.specs.Bound.{start_number, bound_in, bound_of, scalars_of}
 use Rattle.block_checker.specs.Sound.{IsWellBehaved, PassingRunsEnd, RunsEnd}
 use Rattle.block_checker.proofs.Finding.{both_first, both_second}
 use Rattle.block_checker.proofs.StepLaws.{Laws, budget_in}
 use Rattle.cert_note.specs.declared.values.Budget.{Budget}
 use Rattle.abs_domain.proofs.StartForms.{budget_below, second_below, found_is}
 use Rattle.block_checker.proofs.Runs.{passing-ends}
-use Rattle.block_checker.proofs.Bounds.{start-is, start-pc}
+use Rattle.abs_state.proofs.EntryHart.{start_pc}
+use Rattle.block_checker.proofs.Bounds.{start-is}
 
 -- ---- what a check that passes says
 
@@ -94,7 +95,7 @@ passing-runs-end laws image certificate vlen args agnostic block is_image is_cer
     let begin = start (vlenb_of certificate.vlen) agnostic image certificate.parameters args in
     let given = laws image certificate args agnostic is_image is_certificate eight matching bytes in
     let passed = has-passed image certificate vlen passes in
-    let starts : begin.hart.pc ≡ image.entry = start-pc image.entry certificate.parameters args is_certificate.eight eight matching in
+    let starts : begin.hart.pc ≡ image.entry = start_pc image.entry certificate.parameters args in
     let ends : IsWellBehaved (vlenb_of certificate.vlen) (budget_in block begin) begin =
     passing-ends image certificate (vlenb_of certificate.vlen) begin given.held given.goes given.fits given.laws block starts found passed.entry passed.blocks in
     subst (λ (vlenb : ℕ). IsWellBehaved vlenb (budget_at block.budget (λ r. reg_of r (start_hart image.entry certificate.parameters args)))
@@ -108,7 +109,7 @@ bound-is a args b is eight matching found =
     let below = block-below a.certificate a.image.entry b is found in
     let first = start-is a.image.entry a.certificate.parameters args is.eight eight matching b.budget.register below.0 in
     let second = start-is a.image.entry a.certificate.parameters args is.eight eight matching b.budget.second_register below.1 in
-    ap (bound_in a.certificate.parameters (scalars_of args)) found ∙ budget-same b.budget (entry_number a.certificate.parameters (scalars_of args)) (λ r. reg_of r (start_hart a.image.entry a.certificate.parameters args)) (sym first) (sym second)
+    ap (bound_in a.certificate.parameters (scalars_of args)) found ∙ budget-same b.budget (start_number a.certificate.parameters (scalars_of args)) (λ r. reg_of r (start_hart a.image.entry a.certificate.parameters args)) (sym first) (sym second)
 
 pub runs-end : LawsHold → (a : AcceptedView) → IsImage a.image → IsCertificate a.certificate
     → checked a.image a.certificate a.vlen ≡ Ok tt → RunsEnd a

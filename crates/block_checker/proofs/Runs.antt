@@ -10,6 +10,7 @@ use Rattle.vector_core.specs.Run.{after}
 use Rattle.vector_core.proofs.RunLemmas.{after-plus}
 use Rattle.cert_note.specs.declared.values.Block.{Block}
 use Rattle.cert_note.specs.Certificate.{CertificateView}
+use Rattle.abs_state.specs.declared.state.TheConstants.{MOST_WORDS}
 use Rattle.abs_state.specs.State.{AbstractView}
 use Rattle.abs_state.specs.Blocks.{at_block_of, at_entry_of}
 use Rattle.abs_state.specs.Branches.{EdgeView, refined}
@@ -83,10 +84,10 @@ module _ (image : ImageView) (certificate : CertificateView) (vlenb : ℕ) (begi
   block-leads b s passes found fits =
       let held = laws.block b s found fits in
       let start : b.start ≡ s.hart.pc = grind (arith, nat_tests, block-begins s.hart.pc certificate.blocks b found) in
-      let here : walk image certificate 4096 b.start (at_block_of image certificate b) ≡ Ok tt = block-passes image certificate s.hart.pc b found passes in
-      let walks : walk image certificate 4096 s.hart.pc (at_block_of image certificate b) ≡ Ok tt =
-      ap (λ pc. walk image certificate 4096 pc (at_block_of image certificate b)) (sym start) ∙ here in
-      let reaches = walk-leads (budget_in b s) 4096 (at_block_of image certificate b) s held (laws.aligned s.hart.pc b found) walks in
+      let here : walk image certificate MOST_WORDS b.start (at_block_of image certificate b) ≡ Ok tt = block-passes image certificate s.hart.pc b found passes in
+      let walks : walk image certificate MOST_WORDS s.hart.pc (at_block_of image certificate b) ≡ Ok tt =
+      ap (λ pc. walk image certificate MOST_WORDS pc (at_block_of image certificate b)) (sym start) ∙ here in
+      let reaches = walk-leads (budget_in b s) MOST_WORDS (at_block_of image certificate b) s held (laws.aligned s.hart.pc b found) walks in
       let sum : (at_block_of image certificate b).words + suc reaches.0 ≡ suc reaches.0 = omega (arith, laws.begins b) in
       (reaches.0, reaches.1, reaches.2, subst (λ d. Arrives certificate Fits (budget_in b s) d reaches.1) sum reaches.3)
 

@@ -18,7 +18,7 @@ use Rattle.abs_state.specs.Branches.{EdgeView, refined}
 use Rattle.abs_state.specs.Edges.{implied_by}
 use Rattle.abs_state.specs.StepLaws.{jumps}
 use Rattle.block_checker.specs.Passes.{block_at, is_branch}
-use Rattle.block_checker.specs.Bound.{budget_at}
+use Rattle.abs_state.specs.Held.{budget_at}
 
 -- what the block's budget comes to in a state
 abbrev pub budget_in : Block → Machine → ℕ

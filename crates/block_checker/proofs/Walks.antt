@@ -5,6 +5,7 @@ use Rattle.std.proofs.lemmas.Option.{slice_get_cases}
 use Rattle.elf_image.specs.Image.{ImageView}
 use Rattle.cert_note.specs.declared.values.Block.{Block}
 use Rattle.cert_note.specs.Certificate.{CertificateView}
+use Rattle.abs_state.specs.declared.state.TheConstants.{MOST_WORDS}
 use Rattle.abs_state.specs.State.{AbstractView}
 use Rattle.block_checker.specs.declared.errors.CheckError.{CheckError}
 use Rattle.block_checker.specs.declared.errors.CheckError.TheVariants.{BlockTooLong}
@@ -15,34 +16,34 @@ use Rattle.block_checker.specs.Accepted.{IsAnswer}
 
 -- a block that goes on has one word less to go
 pub walk_more : (image : ImageView) (certificate : CertificateView) (n pc : ℕ) (a b : AbstractView)
-    → n < 4096 → word_passes image certificate pc a ≡ Ok (On b)
-    → walk image certificate (4096 - n) pc a ≡ walk image certificate (4096 - (n + 1)) (pc + 4) b
+    → n < MOST_WORDS → word_passes image certificate pc a ≡ Ok (On b)
+    → walk image certificate (MOST_WORDS - n) pc a ≡ walk image certificate (MOST_WORDS - (n + 1)) (pc + 4) b
 unfolding walk
 walk_more image certificate n pc a b l e =
-    let more : 4096 - n ≡ suc (4096 - (n + 1)) = omega (arith, l) in
+    let more : MOST_WORDS - n ≡ suc (MOST_WORDS - (n + 1)) = omega (arith, l) in
     rw more (rw e refl)
 
 pub walk_ended : (image : ImageView) (certificate : CertificateView) (n pc : ℕ) (a : AbstractView)
-    → n < 4096 → word_passes image certificate pc a ≡ Ok Ended
-    → walk image certificate (4096 - n) pc a ≡ Ok tt
+    → n < MOST_WORDS → word_passes image certificate pc a ≡ Ok Ended
+    → walk image certificate (MOST_WORDS - n) pc a ≡ Ok tt
 unfolding walk
 walk_ended image certificate n pc a l e =
-    let more : 4096 - n ≡ suc (4096 - (n + 1)) = omega (arith, l) in
+    let more : MOST_WORDS - n ≡ suc (MOST_WORDS - (n + 1)) = omega (arith, l) in
     rw more (rw e refl)
 
 pub walk_refused : (image : ImageView) (certificate : CertificateView) (n pc : ℕ) (a : AbstractView) (error : CheckError)
-    → n < 4096 → word_passes image certificate pc a ≡ Err error
-    → walk image certificate (4096 - n) pc a ≡ Err error
+    → n < MOST_WORDS → word_passes image certificate pc a ≡ Err error
+    → walk image certificate (MOST_WORDS - n) pc a ≡ Err error
 unfolding walk
 walk_refused image certificate n pc a error l e =
-    let more : 4096 - n ≡ suc (4096 - (n + 1)) = omega (arith, l) in
+    let more : MOST_WORDS - n ≡ suc (MOST_WORDS - (n + 1)) = omega (arith, l) in
     rw more (rw e refl)
 
 pub walk_none : (image : ImageView) (certificate : CertificateView) (n pc : ℕ) (a : AbstractView)
-    → 4096 ≤ n → walk image certificate (4096 - n) pc a ≡ Err (BlockTooLong pc)
+    → MOST_WORDS ≤ n → walk image certificate (MOST_WORDS - n) pc a ≡ Err (BlockTooLong pc)
 unfolding walk
 walk_none image certificate n pc a l =
-    let none : 4096 - n ≡ zero = omega (arith, l) in
+    let none : MOST_WORDS - n ≡ zero = omega (arith, l) in
     rw none refl
 
 -- ---- blocks

@@ -1,19 +1,25 @@
 -- Why an image is refused, where the check stops, and what is known there.
-use Rattle.std.specs.Prelude.{ℕ, zero, suc, ◌≡◌, ◌+◌, ◌-◌, ◌*◌, ◌/◌, List, map, Option, Some, None, Result, Ok, Err}
+use Rattle.std.specs.Prelude.{ℕ, zero, suc, true, false, ◌≡◌, ◌+◌, ◌-◌, ◌*◌, ◌/◌, ◌==◌, nat_lt, if◌then◌else◌, List, map, position, Option, Some, None, Result, Ok, Err}
 use Rattle.std.specs.List.{range_with_len}
-use Rattle.std.specs.Option.{option_and_then, option_map, option_map_or}
+use Rattle.std.specs.Option.{option_and_then, option_map, option_map_or, option_or}
+use Rattle.std.specs.Result.{is_err}
 use Rattle.block_checker.specs.Words.{ImageView, Block, CertificateView, AbstractView}
 use Rattle.elf_image.specs.Image.{code_at}
+use Rattle.rv_decode.specs.Decode.{meaning_of}
+use Rattle.rv_decode.specs.declared.instructions.Insn.{Insn}
 use Rattle.linear_facts.specs.declared.ranges.Range.{Range}
 use Rattle.abs_domain.specs.Numbers.{value_at}
+use Rattle.abs_domain.specs.declared.why.Why.{Why}
+use Rattle.abs_state.specs.After.{after_of}
 use Rattle.abs_state.specs.Blocks.{at_block_of, at_entry_of}
+use Rattle.abs_state.specs.Branches.{EdgeView, refined}
 use Rattle.block_checker.specs.declared.errors.CheckError.{CheckError}
 use Rattle.block_checker.specs.declared.explanation.Part.{Part}
 use Rattle.block_checker.specs.declared.explanation.Part.TheVariants as part
 use Rattle.block_checker.specs.declared.explanation.Stop.{Stop}
 use Rattle.block_checker.specs.declared.explanation.Explanation.{Explanation}
 use Rattle.block_checker.specs.Refusals.{address_of}
-use Rattle.block_checker.specs.Passes.{Checked, Progress, Ended, On, block_at, word_passes, block_passes, entry_passes}
+use Rattle.block_checker.specs.Passes.{Checked, Progress, Ended, On, block_at, edge_passes, word_passes, block_passes, entry_passes}
 
 -- ---- what is known
 
@@ -45,6 +51,62 @@ state_in image certificate (part.Block start) pc =
 -- the intervals of x0 to x31 and of vl in a state
 abbrev pub intervals_of : AbstractView → List Range
 intervals_of a = map (λ i. (value_at a.numbers i).range) (range_with_len 0 33)
+
+-- ---- the way out that is refused
+
+-- the place in a certificate's list of the block that begins at an address
+unfoldable pub place_in : ℕ → List Block → Option ℕ
+place_in address blocks = position (λ block. block.start == address) blocks
+
+-- What is known before the word at pc, if a walk from an address on comes there. A block has at most 4,096 words.
+unfoldable pub before_word : ImageView → CertificateView → ℕ → ℕ → AbstractView → Option AbstractView
+before_word image certificate start pc a =
+    if nat_lt ((pc - start) / 4) 4096 then known_before image certificate start a ((pc - start) / 4)
+    else None
+
+abbrev pub before_in_block : ImageView → CertificateView → ℕ → Block → Option AbstractView
+before_in_block image certificate pc block =
+    before_word image certificate block.start pc (at_block_of image certificate block)
+
+-- The same of any part of the check. On the way into the first block it is what is known where a run begins.
+unfoldable pub before_in : ImageView → CertificateView → Part → ℕ → Option AbstractView
+before_in image certificate part.Entry pc = Some (at_entry_of image certificate)
+before_in image certificate (part.Block start) pc =
+    option_and_then (before_in_block image certificate pc) (block_at start certificate.blocks)
+
+abbrev pub if_allowed : Result AbstractView Why → Option AbstractView
+if_allowed (Ok a) = Some a
+if_allowed (Err why) = None
+
+abbrev pub after_insn : ℕ → AbstractView → Option Insn → Option AbstractView
+after_insn pc a None = None
+after_insn pc a (Some insn) = if_allowed (after_of pc insn a)
+
+-- what is known behind the word at pc, if it is code, means an instruction, and is allowed
+unfoldable pub behind_word : ImageView → ℕ → AbstractView → Option AbstractView
+behind_word image pc a = after_insn pc a (option_and_then meaning_of (code_at pc image))
+
+-- What is known where the ways out begin. On the way into the first block no word is taken.
+unfoldable pub behind_in : ImageView → CertificateView → Part → ℕ → Option AbstractView
+behind_in image certificate part.Entry pc = before_in image certificate part.Entry pc
+behind_in image certificate (part.Block start) pc =
+    option_and_then (behind_word image pc) (before_in image certificate (part.Block start) pc)
+
+-- an edge, if it is refused
+unfoldable pub if_refused : CertificateView → ℕ → Option EdgeView → Option EdgeView
+if_refused certificate pc None = None
+if_refused certificate pc (Some edge) =
+    if is_err (edge_passes certificate pc edge) then Some edge else None
+
+-- the way out that is refused, of a branch the one where it is taken first
+unfoldable pub refused_edge : CertificateView → ℕ → AbstractView → Option EdgeView
+refused_edge certificate pc a =
+    option_or (if_refused certificate pc (refined true a)) (if_refused certificate pc (refined false a))
+
+-- The edge at which a part of the check stops at pc; none where the word itself is refused.
+abbrev pub edge_in : ImageView → CertificateView → Part → ℕ → Option EdgeView
+edge_in image certificate part pc =
+    option_and_then (refused_edge certificate pc) (behind_in image certificate part pc)
 
 -- ---- stops
 

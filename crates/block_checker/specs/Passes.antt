@@ -8,6 +8,7 @@ use Rattle.rv_decode.specs.declared.instructions.Insn.TheVariants.{Scalar, Csr, 
 use Rattle.rv_decode.specs.declared.instructions.ScalarInsn.{ScalarInsn}
 use Rattle.rv_decode.specs.declared.instructions.ScalarInsn.TheVariants.{Lui, Auipc, Jal, Jalr, Branch, Load, Store, Immediate, ShiftImmediate, Register, Fence, Ecall}
 use Rattle.scalar_core.specs.Hart.{exit}
+use Rattle.abs_state.specs.declared.state.TheConstants.{MOST_WORDS}
 use Rattle.abs_state.specs.After.{after_of}
 use Rattle.abs_state.specs.Blocks.{at_block_of, at_entry_of}
 use Rattle.abs_state.specs.Branches.{EdgeView, refined}
@@ -97,14 +98,16 @@ ends (Ok done) = Ok Ended
 ends (Err error) = Err error
 
 -- A block ends with a branch, a jump or ecall, or before the next block.
-unfoldable pub followed : CertificateView → ℕ → Insn → Result AbstractView Why → Result Progress CheckError
+unfoldable pub followed : CertificateView → ℕ → Insn → Result AbstractView Why
+    → Result Progress CheckError
 followed certificate pc insn (Err why) = Err (refusal why pc)
 followed certificate pc insn (Ok a) =
     if jumps insn || is_some (block_at (pc + 4) certificate.blocks)
     then ends (edges_pass certificate pc insn a)
     else Ok (On a)
 
-unfoldable pub decoded : CertificateView → ℕ → AbstractView → Option Insn → Result Progress CheckError
+unfoldable pub decoded : CertificateView → ℕ → AbstractView → Option Insn
+    → Result Progress CheckError
 decoded certificate pc a None = Err (IllegalWord pc)
 decoded certificate pc a (Some insn) = followed certificate pc insn (after_of pc insn a)
 
@@ -113,7 +116,8 @@ fetched certificate pc a None = Err (NotCode pc)
 fetched certificate pc a (Some word) = decoded certificate pc a (meaning_of word)
 
 -- The word at pc, with what is known there, has to be code, to mean an instruction, and to be allowed.
-unfoldable pub word_passes : ImageView → CertificateView → ℕ → AbstractView → Result Progress CheckError
+unfoldable pub word_passes : ImageView → CertificateView → ℕ → AbstractView
+    → Result Progress CheckError
 word_passes image certificate pc a = fetched certificate pc a (code_at pc image)
 
 -- ---- blocks
@@ -132,7 +136,7 @@ walk image certificate (suc more) pc a =
 
 unfoldable pub block_passes : ImageView → CertificateView → Block → Checked
 block_passes image certificate block =
-    walk image certificate 4096 block.start (at_block_of image certificate block)
+    walk image certificate MOST_WORDS block.start (at_block_of image certificate block)
 
 unfoldable pub blocks_pass : ImageView → CertificateView → List Block → Checked
 blocks_pass image certificate [] = Ok tt

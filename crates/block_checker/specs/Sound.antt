@@ -13,7 +13,8 @@ use Rattle.vector_core.specs.Start.{start}
 use Rattle.cert_note.specs.Certificate.{IsCertificate}
 use Rattle.block_checker.specs.Passes.{block_at, checked}
 use Rattle.block_checker.specs.Accepted.{AcceptedView}
-use Rattle.block_checker.specs.Bound.{budget_at, bound_of, scalars_of}
+use Rattle.abs_state.specs.Held.{budget_at}
+use Rattle.block_checker.specs.Bound.{bound_of, scalars_of}
 
 -- After at most n steps without a fault the run from here has ended.
 abbrev pub IsWellBehaved : ℕ → ℕ → Machine → Type 0

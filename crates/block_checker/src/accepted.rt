@@ -1,16 +1,16 @@
 //! An image that passed the check with its certificate.
 ghost use Rattle.std.specs.Prelude.{◌≡◌, ◌*◌, ◌^◌, ◌<◌, IfOk, IfErr, Ok, Err, Some, option_map};
-ghost use Rattle.std.specs.List.{slice_get};
 ghost use Rattle.block_checker.specs.Passes.{block_at as block_at_of, checked as checked_of};
 ghost use Rattle.block_checker.specs.Accepted.{IsAnswer};
-ghost use Rattle.block_checker.specs.Bound.{place_number as place_number_of, entry_number as entry_number_of};
+ghost use Rattle.block_checker.specs.Bound.{start_number as start_number_of};
 
 use crate::checks::{block_at, checked};
 use crate::errors::CheckError;
+use abs_domain::start_value;
 use cert_note::{Budget, Certificate};
 use elf_image::Image;
-use region_mem::{Param, Parameters, STACK_END};
-use scalar_core::EXIT;
+use region_mem::Parameters;
+use scalar_core::EntryValue;
 use std::alloc::{Allocator, Global};
 use std::marker::Model;
 use vreg_groups::Vlen;
@@ -30,7 +30,11 @@ impl<A: Allocator> Model for Accepted<A> {
 
     ghost view = { λ a. record { image = a.image; certificate = a.certificate; vlen = a.vlen } };
 
-    ghost invariant = { λ a. Passes record { image = a.image; certificate = a.certificate; vlen = a.vlen } };
+    ghost invariant = { λ a. Passes record {
+      image = a.image;
+      certificate = a.certificate;
+      vlen = a.vlen;
+    } };
 }
 
 /// Checks an image against its certificate, for vector registers of this length.
@@ -80,34 +84,13 @@ pub fn check_in<A: Allocator + Copy, B: Allocator>(
     }
 }
 
-/// What the argument register of a place holds at the start of a run.
-#[tactic(auto, unfolding(crate::specs::Bound::place_number))]
-fn place_number(parameters: &Parameters, place: usize, scalar: u32) -> u32
-    requires { place < 8 }
-    ensures { result ≡ place_number_of parameters.now place scalar
-        (slice_get parameters.now place) }
+/// What a register holds at the start of a run with these scalars.
+fn start_number(parameters: &Parameters, scalars: &[u32; 8], register: u8) -> u32
+    ensures { result ≡ start_number_of parameters.now scalars.now register }
 {
-    match parameters.param(place) {
-        Param::None => 0,
-        Param::Scalar { lo: _, hi: _ } => scalar,
-        Param::Buffer { mode: _, size: _ } => parameters.address(place).unwrap_or(0),
-    }
-}
-
-/// What a register holds at the start of a run.
-#[tactic(auto, unfolding(crate::specs::Bound::entry_number))]
-fn entry_number(parameters: &Parameters, scalars: &[u32; 8], register: u8) -> u32
-    ensures { result ≡ entry_number_of parameters.now scalars.now register }
-{
-    if register == 1 {
-        EXIT
-    } else if register == 2 {
-        STACK_END
-    } else if 10 <= register && register < 18 {
-        let place = usize::from(register - 10);
-        place_number(parameters, place, scalars[place])
-    } else {
-        0
+    match start_value(parameters, register) {
+        EntryValue::Number(number) => number,
+        EntryValue::Passed(place) => scalars[place],
     }
 }
 
@@ -190,8 +173,8 @@ impl<A: Allocator> Accepted<A> {
         match block_at(&self.certificate, self.image.entry()) {
             None => 0,
             Some(block) => {
-                let first = entry_number(self.parameters(), scalars, block.budget.register);
-                let second = entry_number(self.parameters(), scalars, block.budget.second_register);
+                let first = start_number(self.parameters(), scalars, block.budget.register);
+                let second = start_number(self.parameters(), scalars, block.budget.second_register);
                 u128::from(block.budget.constant)
                     + times(block.budget.factor, first)
                     + times(block.budget.second_factor, second)

@@ -136,7 +136,7 @@ fn is_jump(insn: &Insn) -> bool
 
 /// What an edge has to show of the block to which it leads, or of the end of the run.
 #[tactic(auto, unfolding(crate::specs::Passes::edge_passes))]
-fn edge_passes<A: Allocator, C: Allocator>(
+pub(crate) fn edge_passes<A: Allocator, C: Allocator>(
     certificate: &Certificate<C>,
     pc: u32,
     edge: &Edge<'_, A>,
@@ -219,7 +219,7 @@ pub(crate) fn word_passes<A: Allocator, B: Allocator, C: Allocator>(
     pc: u32,
     state: &mut Abstract<A>,
 ) -> Result<Told, CheckError>
-    requires { state.old.words < 4096 }
+    requires { state.old.words < MOST_WORDS }
     ensures value { progress_of result state.new
         ≡ word_passes_of image.now certificate.now pc state.old }
     ensures counts { result ≡ Ok Told.On → state.new.words ≡ state.old.words + 1 }
@@ -246,7 +246,7 @@ fn walk<A: Allocator, B: Allocator, C: Allocator>(
     state: &mut Abstract<A>,
 ) -> Result<(), CheckError>
     requires { state.old.words ≡ 0 }
-    ensures { result ≡ walk_of image.now certificate.now 4096 start state.old }
+    ensures { result ≡ walk_of image.now certificate.now MOST_WORDS start state.old }
 {
     let mut pc = start;
     for _steps in 0..MOST_WORDS {

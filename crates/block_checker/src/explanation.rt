@@ -1,19 +1,27 @@
 //! Why an image is refused: the check once more, which keeps where it stops and what is known there.
-ghost use Rattle.std.specs.Prelude.{◌≡◌, ◌<◌, length, IfOk, IfErr, IfSome, Some};
+ghost use Rattle.std.specs.Prelude.{◌≡◌, ◌<◌, length, IfOk, IfErr, IfSome, Some, None, true};
+ghost use Rattle.std.specs.Prelude.{if◌then◌else◌};
 ghost use Rattle.std.specs.List.{slice_get};
 ghost use Rattle.elf_image.specs.Image.{code_at};
 ghost use Rattle.cert_note.specs.declared.values.Block.{Block};
 ghost use Rattle.block_checker.specs.Passes.{walk as walk_of, block_passes as block_passes_of, blocks_pass as blocks_pass_of};
 ghost use Rattle.block_checker.specs.Passes.{entry_passes as entry_passes_of, checked as checked_of};
+ghost use Rattle.abs_state.specs.Branches.{refined};
 ghost use Rattle.block_checker.specs.Explained.{Explains, answer_of, intervals_of};
+ghost use Rattle.block_checker.specs.Explained.{before_in as before_in_of, before_word as before_word_of};
+ghost use Rattle.block_checker.specs.Explained.{behind_in as behind_in_of, behind_word as behind_word_of};
+ghost use Rattle.block_checker.specs.Explained.{if_refused as if_refused_of, known_before};
+ghost use Rattle.block_checker.specs.Explained.{place_in, refused_edge as refused_edge_of};
+ghost use Rattle.block_checker.specs.declared.explanation.Part.TheVariants as part;
 ghost use Rattle.block_checker.specs.Walking.{StopsWalk, walk_answer};
 
-use crate::checks::{Told, block_at, possible_passes, word_passes};
+use crate::checks::{Told, block_at, edge_passes, possible_passes, word_passes};
 use crate::errors::CheckError;
-use abs_state::{Abstract, MOST_WORDS, VL};
+use abs_state::{Abstract, Edge, MOST_WORDS, VL};
 use cert_note::Certificate;
 use elf_image::Image;
 use linear_facts::Range;
+use rv_decode::decode;
 use std::alloc::{AllocError, Allocator};
 use std::fmt;
 use vreg_groups::Vlen;
@@ -198,6 +206,202 @@ pub fn explain<A: Allocator + Copy, B: Allocator, C: Allocator>(
         return Ok(told);
     }
     explain_blocks(alloc, image, certificate)
+}
+
+/// The place in a certificate's list of the block that begins at an address.
+#[tactic(auto, unfolding(crate::specs::Explained::place_in))]
+pub fn place_of<C: Allocator>(certificate: &Certificate<C>, address: u32) -> Option<usize>
+    ensures place { result ≡ place_in address certificate.now.blocks }
+    ensures inside { IfSome result (λ index. index < length certificate.now.blocks) }
+{
+    let blocks = certificate.contents().blocks.as_slice();
+    blocks.iter().position(|block| block.start == address)
+}
+
+/// Takes so many words of a block from its start on. The answer is whether they pass, and the block goes on behind each.
+fn take_words<A: Allocator, B: Allocator, C: Allocator>(
+    image: &Image<B>,
+    certificate: &Certificate<C>,
+    start: u32,
+    count: u32,
+    state: &mut Abstract<A>,
+) -> bool
+    requires begins { state.old.words ≡ 0 }
+    requires few { count < 4096 }
+    ensures known { (if result then Some state.new else None)
+        ≡ known_before image.now certificate.now start state.old count }
+    ensures counts { result ≡ true → state.new.words ≡ count }
+{
+    let mut at = start;
+    for _word in 0..count {
+        match word_passes(image, certificate, at, state) {
+            Err(_) => return false,
+            Ok(Told::Ended) => return false,
+            Ok(Told::On) => at += 4,
+        }
+    }
+    true
+}
+
+/// Takes the words of a block before the one at pc.
+#[tactic(auto, unfolding(crate::specs::Explained::before_word))]
+fn take_before<A: Allocator, B: Allocator, C: Allocator>(
+    image: &Image<B>,
+    certificate: &Certificate<C>,
+    start: u32,
+    pc: u32,
+    state: &mut Abstract<A>,
+) -> bool
+    requires { state.old.words ≡ 0 }
+    ensures known { (if result then Some state.new else None)
+        ≡ before_word_of image.now certificate.now start pc state.old }
+    ensures counts { result ≡ true → state.new.words < 4096 }
+{
+    let count = pc.saturating_sub(start) / 4;
+    if count < MOST_WORDS {
+        take_words(image, certificate, start, count, state)
+    } else {
+        false
+    }
+}
+
+/// What is known before the word at pc in the block that begins at an address, if a walk comes there.
+fn before_in_block<A: Allocator + Copy, B: Allocator, C: Allocator>(
+    alloc: A,
+    image: &Image<B>,
+    certificate: &Certificate<C>,
+    start: u32,
+    pc: u32,
+) -> Result<Option<Abstract<A>>, AllocError>
+    ensures known { IfOk result (λ told.
+        told ≡ before_in_of image.now certificate.now (part.Block start) pc) }
+    ensures counts { IfOk result (λ told. IfSome told (λ a. a.words < 4096)) }
+{
+    let Some(index) = place_of(certificate, start) else {
+        return Ok(None);
+    };
+    let mut state = Abstract::at_block(alloc, certificate, image, index)?;
+    if take_before(image, certificate, start, pc, &mut state) {
+        Ok(Some(state))
+    } else {
+        Ok(None)
+    }
+}
+
+/// What is known before the word at which a check stopped, or where a run begins.
+///
+/// # Errors
+/// An allocation was refused.
+#[tactic(auto, unfolding(crate::specs::Explained::before_in))]
+pub fn state_before<A: Allocator + Copy, B: Allocator, C: Allocator>(
+    alloc: A,
+    image: &Image<B>,
+    certificate: &Certificate<C>,
+    part: Part,
+    pc: u32,
+) -> Result<Option<Abstract<A>>, AllocError>
+    ensures { IfOk result (λ told. told ≡ before_in_of image.now certificate.now part pc) }
+{
+    match part {
+        Part::Entry => {
+            let state = Abstract::at_entry(alloc, certificate, image)?;
+            Ok(Some(state))
+        }
+        Part::Block(start) => before_in_block(alloc, image, certificate, start, pc),
+    }
+}
+
+/// Takes the word at pc. The answer is whether it is code, means an instruction, and is allowed.
+#[tactic(auto, unfolding(crate::specs::Explained::behind_word))]
+fn take_word<A: Allocator, B: Allocator>(image: &Image<B>, pc: u32, state: &mut Abstract<A>) -> bool
+    requires { state.old.words < 4096 }
+    ensures { (if result then Some state.new else None)
+        ≡ behind_word_of image.now pc state.old }
+{
+    let Some(word) = image.code_at(pc) else {
+        return false;
+    };
+    let Some(insn) = decode(word) else {
+        return false;
+    };
+    match state.after(pc, &insn) {
+        Ok(()) => true,
+        Err(_) => false,
+    }
+}
+
+/// What is known behind the word at pc in the block that begins at an address, if the word is allowed.
+fn behind_in_block<A: Allocator + Copy, B: Allocator, C: Allocator>(
+    alloc: A,
+    image: &Image<B>,
+    certificate: &Certificate<C>,
+    start: u32,
+    pc: u32,
+) -> Result<Option<Abstract<A>>, AllocError>
+    ensures { IfOk result (λ told.
+        told ≡ behind_in_of image.now certificate.now (part.Block start) pc) }
+{
+    let Some(mut state) = before_in_block(alloc, image, certificate, start, pc)? else {
+        return Ok(None);
+    };
+    if take_word(image, pc, &mut state) {
+        Ok(Some(state))
+    } else {
+        Ok(None)
+    }
+}
+
+/// What is known behind the word at which a check stopped, if that word is allowed; on the way into the first block, what is
+/// known where a run begins.
+///
+/// # Errors
+/// An allocation was refused.
+#[tactic(auto, unfolding(crate::specs::Explained::behind_in))]
+pub fn state_behind<A: Allocator + Copy, B: Allocator, C: Allocator>(
+    alloc: A,
+    image: &Image<B>,
+    certificate: &Certificate<C>,
+    part: Part,
+    pc: u32,
+) -> Result<Option<Abstract<A>>, AllocError>
+    ensures { IfOk result (λ told. told ≡ behind_in_of image.now certificate.now part pc) }
+{
+    match part {
+        Part::Entry => state_before(alloc, image, certificate, part, pc),
+        Part::Block(start) => behind_in_block(alloc, image, certificate, start, pc),
+    }
+}
+
+/// The way out where a branch is taken, or where it isn't, if it is refused.
+#[tactic(auto, unfolding(crate::specs::Explained::if_refused))]
+fn refused_when<'a, A: Allocator, C: Allocator>(
+    certificate: &Certificate<C>,
+    pc: u32,
+    state: &'a Abstract<A>,
+    taken: bool,
+) -> Option<Edge<'a, A>>
+    ensures { result ≡ if_refused_of certificate.now pc (refined taken state.now) }
+{
+    let edge = state.refine(taken)?;
+    match edge_passes(certificate, pc, &edge) {
+        Ok(()) => None,
+        Err(_) => Some(edge),
+    }
+}
+
+/// The way out of a state that is refused, of a branch the one where it is taken first.
+#[tactic(auto, unfolding(crate::specs::Explained::refused_edge))]
+pub fn refused_edge<'a, A: Allocator, C: Allocator>(
+    certificate: &Certificate<C>,
+    pc: u32,
+    state: &'a Abstract<A>,
+) -> Option<Edge<'a, A>>
+    ensures { result ≡ refused_edge_of certificate.now pc state.now }
+{
+    match refused_when(certificate, pc, state, true) {
+        Some(edge) => Some(edge),
+        None => refused_when(certificate, pc, state, false),
+    }
 }
 
 impl fmt::Display for Part {

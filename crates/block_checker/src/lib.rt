@@ -9,5 +9,7 @@ mod laws;
 
 pub use accepted::{Accepted, check, check_in};
 pub use errors::CheckError;
-pub use explanation::{Explanation, Part, Stop, explain};
+pub use explanation::{
+    Explanation, Part, Stop, explain, place_of, refused_edge, state_before, state_behind,
+};
 pub use laws::passing_runs_end;

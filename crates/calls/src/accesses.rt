@@ -7,7 +7,6 @@ use crate::fixture::memory;
 use region_mem::{Fault, Regions, Right};
 use rv_decode::{Count, Direction, Insn, Place, Reg, VMem, Width};
 use std::process::Abort;
-use std::test::Fail;
 use vector_mem::{Access, access, load, store};
 use vreg_groups::{Agnostic, Avl, Setup, Vconfig, VregFile, legal_type, vset};
 
@@ -48,7 +47,7 @@ fn moved(
 
 /// Three elements of e16, m1, ta, ma, from an address on downwards.
 fn assert_strided(
-    rt: &impl Abort,
+    rt: impl Abort + Copy,
     config: &Vconfig,
     registers: &mut VregFile<16>,
     memory: &mut Regions,
@@ -87,7 +86,7 @@ fn assert_strided(
 
 /// A whole register, four bytes of which are past the end: the word at 0x2010.
 fn assert_past_the_end(
-    rt: &impl Abort,
+    rt: impl Abort + Copy,
     config: &Vconfig,
     registers: &mut VregFile<16>,
     memory: &mut Regions,
@@ -113,7 +112,7 @@ fn assert_past_the_end(
 
 /// One byte of a mask, though it has three bits.
 fn assert_mask(
-    rt: &impl Abort,
+    rt: impl Abort + Copy,
     config: &Vconfig,
     registers: &mut VregFile<16>,
     memory: &mut Regions,
@@ -136,7 +135,7 @@ fn assert_mask(
 
 /// To 0x2000 plus the bytes 2, 255 and 255 of v8 itself.
 fn assert_indexed(
-    rt: &impl Abort,
+    rt: impl Abort + Copy,
     config: &Vconfig,
     registers: &mut VregFile<16>,
     memory: &mut Regions,
@@ -162,13 +161,12 @@ fn assert_indexed(
 }
 
 #[test]
-fn elements_are_moved(rt: HostRuntime) -> Result<(), Fail> {
-    let mut memory = memory(rt.alloc())?;
+fn elements_are_moved(rt: HostRuntime) {
+    let mut memory = memory(rt, rt.alloc());
     let mut registers = VregFile::<16>::new();
     let config = vset(16, Vconfig::none(), Avl::Of(3), 0xc8);
-    assert_strided(&rt, &config, &mut registers, &mut memory);
-    assert_past_the_end(&rt, &config, &mut registers, &mut memory);
-    assert_mask(&rt, &config, &mut registers, &mut memory);
-    assert_indexed(&rt, &config, &mut registers, &mut memory);
-    Ok(())
+    assert_strided(rt, &config, &mut registers, &mut memory);
+    assert_past_the_end(rt, &config, &mut registers, &mut memory);
+    assert_mask(rt, &config, &mut registers, &mut memory);
+    assert_indexed(rt, &config, &mut registers, &mut memory);
 }

@@ -1,7 +1,6 @@
 //! How a file is given a certificate.
-use crate::assertions::assert_same;
+use crate::assertions::{assert_same, found, given};
 use elf_image::{ElfError, attach, read};
-use std::test::Fail;
 
 /// An executable: a header, one program header, and an ecall at 0x10000.
 const FILE: [u8; 88] = [
@@ -29,19 +28,17 @@ const BEHIND: [u8; 92] = [
 ];
 
 #[test]
-fn a_certificate_is_attached_and_read_back(rt: HostRuntime) -> Result<(), Fail> {
-    let bytes = attach(rt.alloc(), &FILE, &[1, 2, 3, 4, 5])?;
+fn a_certificate_is_attached_and_read_back(rt: HostRuntime) {
+    let bytes = given!(rt; attach(rt.alloc(), &FILE, &[1, 2, 3, 4, 5]));
     let mut head = FILE;
     head[28] = 88;
     head[44] = 2;
     let mut expected = Vec::new(rt.alloc());
-    expected.extend_from_slice(&head)?;
-    expected.extend_from_slice(&BEHIND)?;
+    given!(rt; expected.extend_from_slice(&head));
+    given!(rt; expected.extend_from_slice(&BEHIND));
     assert_same!(rt; bytes.as_slice(), expected.as_slice());
-    let image = read(rt.alloc(), bytes.as_slice())?;
+    let image = given!(rt; read(rt.alloc(), bytes.as_slice()));
     assert_same!(rt; image.entry(), 0x10000);
-    let certificate = image.certificate().ok_or("a certificate")?;
-    assert_same!(rt; certificate, [1, 2, 3, 4, 5].as_slice());
+    assert_same!(rt; found!(rt; image.certificate()), [1, 2, 3, 4, 5].as_slice());
     assert_same!(rt; attach(rt.alloc(), bytes.as_slice(), &[]).err(), Some(ElfError::CertificateThere));
-    Ok(())
 }

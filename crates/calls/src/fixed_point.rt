@@ -1,13 +1,14 @@
 //! How the kernels are called. Expected values are worked out by hand from the standard's rules on rounding.
 
 use crate::assertions::assert_same;
-use lane_fixed::{ClipOp, FixedOp, RoundingMode, clip, compute};
+use lane_fixed::{RoundingMode, clip, compute};
+use rv_decode::{ClipOp, FixedOp};
 
 /// 6, 10 and -6 shifted right by two, and whether one of them saturates.
 fn shifted_by_two(mode: RoundingMode) -> ([u8; 3], bool) {
     let mut values = [6u8, 10, 0xfa];
     let is_saturated = compute(
-        FixedOp::ShiftRightSigned,
+        FixedOp::Ssra,
         mode,
         values.as_mut_slice(),
         [2u8; 3].as_slice(),
@@ -33,7 +34,7 @@ fn a_product_saturates_only_where_it_is_active(rt: HostRuntime) {
     for is_active in [true, false] {
         let mut values = [0x80u8];
         let is_saturated = compute(
-            FixedOp::Mul,
+            FixedOp::Smul,
             RoundingMode::NearestUp,
             values.as_mut_slice(),
             [0x80u8].as_slice(),
@@ -48,7 +49,7 @@ fn a_product_saturates_only_where_it_is_active(rt: HostRuntime) {
 fn a_clip_is_judged_after_rounding(rt: HostRuntime) {
     let mut results = [0u8; 2];
     let is_saturated = clip(
-        ClipOp::ClipU,
+        ClipOp::Clipu,
         RoundingMode::NearestUp,
         [0x01ffu16, 0x01fe].as_slice(),
         [1u8, 1].as_slice(),

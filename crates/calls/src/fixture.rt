@@ -1,9 +1,10 @@
 //! The memory of a run without arguments, in which steps and accesses are tried.
 
+use crate::assertions::{found, given};
 use elf_image::read;
 use region_mem::{Arg, Args, Param, Parameters, Regions};
 use std::alloc::Global;
-use std::test::Fail;
+use std::process::Abort;
 
 /// An executable with a word at 0x1000, and sixteen bytes at 0x2000 that may be read and written.
 const FILE: [u8; 136] = [
@@ -19,9 +20,9 @@ const FILE: [u8; 136] = [
 ];
 
 /// The memory in which it starts.
-pub(crate) fn memory(alloc: Global) -> Result<Regions, Fail> {
-    let image = read(alloc, FILE.as_slice())?;
-    let parameters = Parameters::new([Param::None; 8]).ok_or("parameters")?;
+pub(crate) fn memory(rt: impl Abort + Copy, alloc: Global) -> Regions {
+    let image = given!(rt; read(alloc, FILE.as_slice()));
+    let parameters = found!(rt; Parameters::new([Param::None; 8]));
     let args = Args {
         places: [
             Arg::None,
@@ -34,9 +35,8 @@ pub(crate) fn memory(alloc: Global) -> Result<Regions, Fail> {
             Arg::None,
         ],
     };
-    parameters.matches(&args)?;
-    match Regions::new(alloc, &image, &parameters, args) {
-        Ok(regions) => Ok(regions),
-        Err((error, _)) => Err(error)?,
+    if parameters.matches(&args).is_err() {
+        panic!(rt; "no match");
     }
+    given!(rt; Regions::new(alloc, &image, &parameters, args))
 }

@@ -1,9 +1,8 @@
 //! How a file is read.
-use crate::assertions::assert_same;
+use crate::assertions::{assert_same, found, given};
 use elf_image::*;
 use std::alloc::Global;
 use std::process::Abort;
-use std::test::Fail;
 
 /// An executable as the standard lays it out: a header, three program headers, code, data, a note.
 ///
@@ -34,22 +33,20 @@ const FILE: [u8; 200] = [
     1, 2, 3, 4,
 ];
 
-fn image(alloc: Global) -> Result<Image, ElfError> {
-    read(alloc, &FILE)
+fn image(rt: impl Abort + Copy, alloc: Global) -> Image {
+    given!(rt; read(alloc, &FILE))
 }
 
 #[test]
-fn reads_a_file(rt: HostRuntime) -> Result<(), Fail> {
-    let image = image(rt.alloc())?;
+fn reads_a_file(rt: HostRuntime) {
+    let image = image(rt, rt.alloc());
     assert_same!(rt; image.entry(), 0x10000);
     assert_same!(rt; image.segments().len(), 2);
-    let data = image.segments().get(1).ok_or("two segments")?;
-    assert_data(&rt, data);
-    Ok(())
+    assert_data(rt, found!(rt; image.segments().get(1)));
 }
 
 /// The segment of data.
-fn assert_data(rt: &impl Abort, data: &Segment) {
+fn assert_data(rt: impl Abort + Copy, data: &Segment) {
     assert_same!(rt; data.address(), 0x20000);
     assert_same!(rt; data.memory_size(), 16);
     assert_same!(rt; data.bytes(), [0xde, 0xad, 0xbe, 0xef].as_slice());
@@ -63,18 +60,16 @@ fn assert_data(rt: &impl Abort, data: &Segment) {
 }
 
 #[test]
-fn finds_code_and_the_certificate(rt: HostRuntime) -> Result<(), Fail> {
-    let image = image(rt.alloc())?;
+fn finds_code_and_the_certificate(rt: HostRuntime) {
+    let image = image(rt, rt.alloc());
     assert_same!(rt; image.segment_at(0x10017), Some(0));
     assert_same!(rt; image.segment_at(0x10018), None);
-    assert_code(&rt, &image);
-    let certificate = image.certificate().ok_or("a certificate")?;
-    assert_same!(rt; certificate, [1, 2, 3, 4].as_slice());
-    Ok(())
+    assert_code(rt, &image);
+    assert_same!(rt; found!(rt; image.certificate()), [1, 2, 3, 4].as_slice());
 }
 
 /// vsetvli, ecall, a word that passes the end of the code, and data.
-fn assert_code(rt: &impl Abort, image: &Image) {
+fn assert_code(rt: impl Abort + Copy, image: &Image) {
     assert_same!(rt; image.code_at(0x10000), Some(0x0c06_72d7));
     assert_same!(rt; image.code_at(0x10014), Some(0x0000_0073));
     assert_same!(rt; image.code_at(0x10015), None);
@@ -90,10 +85,9 @@ fn faulty() -> [u8; 200] {
 }
 
 #[test]
-fn tells_why_a_file_is_refused(rt: HostRuntime) -> Result<(), Fail> {
-    let error = read(rt.alloc(), &faulty()).err().ok_or("an error")?;
+fn tells_why_a_file_is_refused(rt: HostRuntime) {
+    let error = found!(rt; read(rt.alloc(), &faulty()).err());
     assert_same!(rt; error, ElfError::BadMachine);
-    let text = format!(in rt.alloc(); "{error}")?;
+    let text = given!(rt; format!(in rt.alloc(); "{error}"));
     assert_same!(rt; text.as_str(), "the file is not for RISC-V");
-    Ok(())
 }

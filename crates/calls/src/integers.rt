@@ -1,7 +1,8 @@
 //! How a kernel is called. What each operation gives is tried against QEMU by the crate `conformance`.
 
 use crate::assertions::assert_same;
-use lane_int::{CompareOp, IntOp, compare, compute, cut, extend};
+use lane_int::{compare, compute, cut, extend};
+use rv_decode::{CompareOp, IntOp};
 
 #[test]
 fn bytes_and_their_mask(rt: HostRuntime) {
@@ -9,7 +10,7 @@ fn bytes_and_their_mask(rt: HostRuntime) {
     compute(IntOp::Add, &mut values, &[0x80, 0x01, 0x01, 0x03]); // vadd.vv at SEW 8
     assert_same!(rt; values, [0x00, 0x80, 0x00, 0x0a]);
     let mut bits = [false; 4];
-    compare(CompareOp::Less, &values, &[0; 4], &mut bits); // vmslt.vx with x0
+    compare(CompareOp::Lt, &values, &[0; 4], &mut bits); // vmslt.vx with x0
     assert_same!(rt; bits, [false, true, false, false]);
 }
 

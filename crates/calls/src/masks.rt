@@ -2,9 +2,10 @@
 
 use crate::assertions::assert_same;
 use lane_masks::{
-    FirstOp, FoldOp, LogicOp, combine, compress, count, first, fold, fold_extended, gather, index,
-    iota, set_first, slide_down, slide_one_down, slide_one_up, slide_up,
+    combine, compress, count, first, fold, fold_extended, gather, index, iota, set_first,
+    slide_down, slide_one_down, slide_one_up, slide_up,
 };
+use rv_decode::{FirstOp, FoldOp, LogicOp};
 
 const MASK: [bool; 6] = [false, true, false, true, false, false];
 
@@ -35,7 +36,7 @@ fn sets_the_first_bit_alone(rt: HostRuntime) {
     let mut mask = MASK;
     set_first(FirstOp::Only, mask.as_mut_slice());
     assert_same!(rt; mask, [false, true, false, false, false, false]);
-    combine(LogicOp::OrNot, mask.as_mut_slice(), MASK.as_slice());
+    combine(LogicOp::Orn, mask.as_mut_slice(), MASK.as_slice());
     assert_same!(rt; mask, [true, true, true, false, true, true]);
 }
 

@@ -1,12 +1,11 @@
 //! How a run's memory is made, used and given back.
-use crate::assertions::assert_same;
+use crate::assertions::{assert_same, found, given};
 use elf_image::Image;
 use region_mem::{
     Arg, ArgError, Args, Bytes, Fault, Mode, Param, Parameters, Regions, Right, args_bring_bytes,
 };
-use std::alloc::{AllocError, Global};
+use std::alloc::Global;
 use std::process::Abort;
-use std::test::Fail;
 
 /// An executable of one segment that may be read and fetched, 8 bytes at 0x1_0000.
 const FILE: [u8; 92] = [
@@ -36,14 +35,14 @@ fn parameters() -> Option<Parameters> {
     ])
 }
 
-fn bytes(alloc: Global, items: &[u8]) -> Result<Arg, AllocError> {
-    Ok(Arg::Buffer(Bytes::new(Vec::from_slice(alloc, items)?)))
+fn bytes(rt: impl Abort + Copy, alloc: Global, items: &[u8]) -> Arg {
+    Arg::Buffer(Bytes::new(given!(rt; Vec::from_slice(alloc, items))))
 }
 
-fn args(alloc: Global, scalar: u32) -> Result<Args, AllocError> {
-    let read = bytes(alloc, &[0x21, 0x22])?;
-    let written = bytes(alloc, &[0x31, 0x32, 0x33])?;
-    Ok(Args {
+fn args(rt: impl Abort + Copy, alloc: Global, scalar: u32) -> Args {
+    let read = bytes(rt, alloc, &[0x21, 0x22]);
+    let written = bytes(rt, alloc, &[0x31, 0x32, 0x33]);
+    Args {
         places: [
             read,
             Arg::Scalar(scalar),
@@ -54,10 +53,10 @@ fn args(alloc: Global, scalar: u32) -> Result<Args, AllocError> {
             Arg::None,
             Arg::None,
         ],
-    })
+    }
 }
 
-fn expect_args(rt: &impl Abort, args: &Args, third: &[u8]) {
+fn expect_args(rt: impl Abort + Copy, args: &Args, third: &[u8]) {
     args_bring_bytes(args);
     match &args.places {
         [Arg::Buffer(first), Arg::Scalar(5), Arg::Buffer(last), ..] => {
@@ -69,22 +68,24 @@ fn expect_args(rt: &impl Abort, args: &Args, third: &[u8]) {
 }
 
 /// The memory of a run. Where memory is refused the arguments have come back as they were.
-fn regions(rt: &impl Abort, alloc: Global) -> Result<Regions, Fail> {
-    let image: Image = elf_image::read(alloc, &FILE)?;
-    let parameters = parameters().ok_or("parameters")?;
+fn regions(rt: impl Abort + Copy, alloc: Global) -> Regions {
+    let image: Image = given!(rt; elf_image::read(alloc, &FILE));
+    let parameters = found!(rt; parameters());
     assert_same!(rt; parameters.address(2), Some(0x4000_2000));
-    let args = args(alloc, 5)?;
-    parameters.matches(&args)?;
+    let args = args(rt, alloc, 5);
+    if parameters.matches(&args).is_err() {
+        panic!(rt; "no match");
+    }
     match Regions::new(alloc, &image, &parameters, args) {
-        Ok(regions) => Ok(regions),
-        Err((error, args)) => {
+        Ok(regions) => regions,
+        Err((_, args)) => {
             expect_args(rt, &args, &[0x31, 0x32, 0x33]);
-            Err(error)?
+            panic!(rt; "no memory")
         }
     }
 }
 
-fn expect_reads(rt: &impl Abort, regions: &Regions) {
+fn expect_reads(rt: impl Abort + Copy, regions: &Regions) {
     assert_same!(rt; regions.fetch(0x1_0004), Some(0x0807_0605));
     assert_same!(rt; regions.fetch(0x4000_2000), None);
     assert_same!(rt; regions.load(0x4000_2000, 2), Some(0x3231));
@@ -97,37 +98,27 @@ fn expect_reads(rt: &impl Abort, regions: &Regions) {
 }
 
 #[test]
-fn runs_memory(rt: HostRuntime) -> Result<(), Fail> {
-    let mut regions = regions(&rt, rt.alloc())?;
-    expect_reads(&rt, &regions);
+fn runs_memory(rt: HostRuntime) {
+    let mut regions = regions(rt, rt.alloc());
+    expect_reads(rt, &regions);
     assert!(rt; regions.has_window(0x4000_2001, 2));
     regions.set_window(0x4000_2001, &[0x41, 0x42]);
     assert_same!(rt; regions.store(0x4000_2001, 1, 0xffff_ff77), true);
     assert_same!(rt; regions.store(0x4000_0000, 1, 0), false);
     assert_same!(rt; regions.store(0x4000_2002, 2, 0), false);
-    expect_args(&rt, &regions.into_args(), &[0x31, 0x77, 0x42]);
-    Ok(())
+    expect_args(rt, &regions.into_args(), &[0x31, 0x77, 0x42]);
 }
 
 #[test]
-fn tells_what_is_wrong(rt: HostRuntime) -> Result<(), Fail> {
+fn tells_what_is_wrong(rt: HostRuntime) {
     let alloc = rt.alloc();
-    let parameters = parameters().ok_or("parameters")?;
-    let error = parameters.matches(&args(alloc, 10)?);
+    let parameters = found!(rt; parameters());
+    let error = parameters.matches(&args(rt, alloc, 10));
     assert_same!(rt; error, Err(ArgError::ScalarOutOfInterval(1)));
-    for (text, expected) in [
-        (
-            format!(in alloc; "{}", ArgError::WrongSize(7))?,
-            "argument 7 is a buffer of the wrong size",
-        ),
-        (
-            format!(in alloc; "{}", Fault::FetchFault(0x20))?,
-            "no instruction may be fetched at 00000020",
-        ),
-    ] {
-        assert_same!(rt; text.as_str(), expected);
-    }
+    let text = given!(rt; format!(in alloc; "{}", ArgError::WrongSize(7)));
+    assert_same!(rt; text.as_str(), "argument 7 is a buffer of the wrong size");
+    let text = given!(rt; format!(in alloc; "{}", Fault::FetchFault(0x20)));
+    assert_same!(rt; text.as_str(), "no instruction may be fetched at 00000020");
     assert_same!(rt; Fault::FetchFault(0x20).name(), "FetchFault");
     assert_same!(rt; Fault::FetchFault(0x20).number(), 0x20);
-    Ok(())
 }

@@ -1,7 +1,7 @@
 //! How a step is made: a vset, a load, a sum, a store, and a fault; and instructions of two widths, whose results are worked
 //! out by hand from the standard.
 
-use crate::assertions::assert_same;
+use crate::assertions::{assert_same, given};
 use crate::fixture::memory;
 use region_mem::{Fault, Regions};
 use rv_decode::{
@@ -10,7 +10,6 @@ use rv_decode::{
 };
 use scalar_core::Scalar;
 use std::process::Abort;
-use std::test::Fail;
 use vector_core::{VectorState, step_vector};
 use vreg_groups::{Agnostic, Vconfig};
 
@@ -28,27 +27,26 @@ fn step(
 }
 
 #[test]
-fn bytes_are_raised_in_memory(rt: HostRuntime) -> Result<(), Fail> {
-    let mut memory = memory(rt.alloc())?;
+fn bytes_are_raised_in_memory(rt: HostRuntime) {
+    let mut memory = memory(rt, rt.alloc());
     let mut vectors = VectorState::<16>::new(Agnostic::Ones);
     let mut scalar = Scalar::new(0x1000);
     scalar.set_reg(Reg::new(10), 0x2000);
     // vsetivli x7,3,e8,m1,ta,ma; vle8.v v8,(x10); vadd.vi v8,v8,2; vse8.v v8,(x10)
     for word in [0xcc01_f3d7, 0x0205_0407, 0x0281_3457, 0x0205_0427] {
-        step(&mut vectors, &mut scalar, &mut memory, word)?;
+        given!(rt; step(&mut vectors, &mut scalar, &mut memory, word));
     }
     assert_same!(rt; vectors.config(), Vconfig { vtype: 0xc0, vl: 3 });
     assert_same!(rt; memory.load(0x2000, 4), Some(0xff00_0403));
     assert_same!(rt; vectors.byte(Reg::new(8), 3), 0xff);
     assert_same!(rt; scalar.pc(), 0x1010);
-    assert_store_refused(&rt, &mut vectors, &mut scalar, &mut memory);
+    assert_store_refused(rt, &mut vectors, &mut scalar, &mut memory);
     assert_same!(rt; vectors.into_registers().byte(Reg::new(8), 0), 3);
-    Ok(())
 }
 
 /// vse8.v v8,(x10), of which two bytes may be written.
 fn assert_store_refused(
-    rt: &impl Abort,
+    rt: impl Abort + Copy,
     vectors: &mut VectorState<16>,
     scalar: &mut Scalar,
     memory: &mut Regions,
@@ -73,27 +71,29 @@ fn computed(
 
 /// A state under e8,m1 or e16,m1 with vl 3, whose v8 has bytes 80 and whose x12 is fe.
 fn ready(
+    rt: impl Abort + Copy,
     scalar: &mut Scalar,
     memory: &mut Regions,
     vsetivli: u32,
-) -> Result<VectorState<16>, Fail> {
+) -> VectorState<16> {
     let mut vectors = VectorState::<16>::new(Agnostic::Keep);
     scalar.set_reg(Reg::new(11), 0x8080);
     scalar.set_reg(Reg::new(12), 0xfe);
-    step(&mut vectors, scalar, memory, vsetivli)?;
+    given!(rt; step(&mut vectors, scalar, memory, vsetivli));
     let splat = VArith::Copy {
         vd: Reg::new(8),
         b: Source::Scalar(Reg::new(11)),
     };
-    step_vector(&mut vectors, scalar, 0, Insn::VArith(splat), memory)?;
-    Ok(vectors)
+    given!(rt; step_vector(&mut vectors, scalar, 0, Insn::VArith(splat), memory));
+    vectors
 }
 
 #[test]
-fn an_active_element_alone_saturates(rt: HostRuntime) -> Result<(), Fail> {
-    let mut memory = memory(rt.alloc())?;
+fn an_active_element_alone_saturates(rt: HostRuntime) {
+    let mut memory = memory(rt, rt.alloc());
     let mut scalar = Scalar::new(0x1000);
-    let mut vectors = ready(&mut scalar, &mut memory, 0xcc01_f3d7)?; // vsetivli x7,3,e8,m1,ta,ma
+    // vsetivli x7,3,e8,m1,ta,ma
+    let mut vectors = ready(rt, &mut scalar, &mut memory, 0xcc01_f3d7);
     let product = |masked: bool| VArith::Fixed {
         op: FixedOp::Smul,
         vd: Reg::new(10),
@@ -119,7 +119,6 @@ fn an_active_element_alone_saturates(rt: HostRuntime) -> Result<(), Fail> {
         Ok(0x8181)
     );
     assert_same!(rt; scalar.vxsat(), 1);
-    Ok(())
 }
 
 fn vwmulsu() -> VArith {
@@ -173,10 +172,11 @@ fn vnclipu() -> VArith {
 }
 
 #[test]
-fn elements_of_two_widths(rt: HostRuntime) -> Result<(), Fail> {
-    let mut memory = memory(rt.alloc())?;
+fn elements_of_two_widths(rt: HostRuntime) {
+    let mut memory = memory(rt, rt.alloc());
     let mut scalar = Scalar::new(0x1000);
-    let mut vectors = ready(&mut scalar, &mut memory, 0xcc01_f3d7)?; // vsetivli x7,3,e8,m1,ta,ma
+    // vsetivli x7,3,e8,m1,ta,ma
+    let mut vectors = ready(rt, &mut scalar, &mut memory, 0xcc01_f3d7);
     let cases = [
         (vwmulsu(), 0x8100), // -128 * 254
         (vwsub_wide(), 0x8102), // less -2
@@ -189,14 +189,14 @@ fn elements_of_two_widths(rt: HostRuntime) -> Result<(), Fail> {
         let result = computed(&mut vectors, &mut scalar, &mut memory, insn);
         assert_same!(rt; result, Ok(expected));
     }
-    Ok(())
 }
 
 #[test]
-fn a_half_is_extended(rt: HostRuntime) -> Result<(), Fail> {
-    let mut memory = memory(rt.alloc())?;
+fn a_half_is_extended(rt: HostRuntime) {
+    let mut memory = memory(rt, rt.alloc());
     let mut scalar = Scalar::new(0x1000);
-    let mut vectors = ready(&mut scalar, &mut memory, 0xcc81_f3d7)?; // vsetivli x7,3,e16,m1,ta,ma
+    // vsetivli x7,3,e16,m1,ta,ma
+    let mut vectors = ready(rt, &mut scalar, &mut memory, 0xcc81_f3d7);
     for (signed, expected) in [(true, 0xff80), (false, 0x80)] {
         let insn = VArith::Extend {
             signed,
@@ -208,5 +208,4 @@ fn a_half_is_extended(rt: HostRuntime) -> Result<(), Fail> {
         let result = computed(&mut vectors, &mut scalar, &mut memory, insn);
         assert_same!(rt; result, Ok(expected));
     }
-    Ok(())
 }

@@ -92,7 +92,7 @@ module _ (s : NumbersView) (base w n e v N m p : ℕ) (x vl : ValueView) (is : I
   unfolding within
   met = rw is.moved (met_high (base + w * 1) (base + w * N - w + w * m) p (base + w * N) (omega (arith, a, b, is.low)))
 
-  fitted : fitting (base + w * 1) (base + w * N - w + w * m) ≡ Some record { lo = base + w * 1; hi = base + w * N - w + w * m }
+  fitted : fitting 32 (base + w * 1) (base + w * N - w + w * m) ≡ Some record { lo = base + w * 1; hi = base + w * N - w + w * m }
   fitted = rw (lt_true (base + w * 1) (2 ^ 32) (omega (arith, a, b, is.fits)), lt_true (base + w * N - w + w * m) (2 ^ 32) (omega (arith, a, b, is.fits))) refl
 
   -- the elements of an access end within the buffer

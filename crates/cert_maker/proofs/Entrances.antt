@@ -12,12 +12,12 @@ use Rattle.linear_facts.proofs.LoopRanges.{atom-range, number-range}
 use Rattle.region_mem.specs.declared.parameter.Mode.{Mode}
 use Rattle.region_mem.specs.declared.parameter.Param.{Param}
 use Rattle.region_mem.specs.declared.parameter.Param.TheVariants as parameter
+use Rattle.scalar_core.specs.Entry.{entry_value}
 use Rattle.scalar_core.specs.Hart.{exit}
 use Rattle.cert_note.specs.declared.values.RegisterFact.{RegisterFact}
 use Rattle.abs_domain.specs.Values.{ValueView, computed_range, just, or_full}
-use Rattle.abs_domain.specs.Numbers.{NumbersView, table_of, value_at}
-use Rattle.abs_domain.specs.Holds.{table_with}
-use Rattle.abs_domain.specs.Starts.{interval_of, form_or_atom, stated_range, stated_form, start_atoms, numbers_by, start_numbers, passed_form, entry_form, entry_numbers}
+use Rattle.abs_domain.specs.Numbers.{NumbersView, table_of, table_with, value_at}
+use Rattle.abs_domain.specs.Starts.{interval_of, form_or_atom, stated_range, stated_form, start_atoms, numbers_by, start_numbers, passed_value, start_value, form_with, entry_form, entry_numbers}
 use Rattle.abs_domain.proofs.StartNumbers.{form_by, range_by, atom_of_passed, no_atom_split}
 use Rattle.cert_maker.specs.declared.loops.Loop.{Loop}
 use Rattle.cert_maker.specs.Certificates.{base_of, stated_by, entry_count, entry_facts, entry_pointer}
@@ -149,8 +149,8 @@ module _ (k : Round) (is : IsEntered k) where
   runs_as i l f r form range = value_is run_start i f r (run_form i l ∙ form) (run_range i l ∙ (rw (form, range) refl))
 
   argument_form : (place : ℕ) → place < 8 → (p : Param) → slice_get k.params place ≡ Some p
-      → entry_form k.params (place + 10) ≡ passed_form k.params place (Some p)
-  unfolding entry_form
+      → entry_form k.params (place + 10) ≡ form_with (passed_value k.params place (Some p))
+  unfolding entry_form start_value entry_value
   argument_form place l p there =
       let at : place + 10 - 10 ≡ place = omega arith in
       rw (
@@ -172,24 +172,24 @@ module _ (k : Round) (is : IsEntered k) where
       ap (λ (q : Atom). q.range) (atom_of_passed k.params [] e e_low e_high) ∙ scalar_range k.params (n - 10) e k.least k.loop.most is.count_is e_place
 
   count_form : entry_form k.params n ≡ atom_form e
-  unfolding passed_form
+  unfolding passed_value
   count_form =
       let at : 33 + (n - 10) ≡ e = (let low = is.count_low in omega (arith, low)) in
       subst (λ (r : ℕ). entry_form k.params r ≡ atom_form e) place_of
       (argument_form (n - 10) place_low (parameter.Scalar k.least k.loop.most) is.count_is ∙ ap (λ (a : ℕ). atom_form a) at)
 
   pointer_form_is : (place : ℕ) → place < 8 → is_pointer k.loop place ≡ true → entry_form k.params (place + 10) ≡ number_form (base_of k.params place)
-  unfolding passed_form
+  unfolding passed_value
   pointer_form_is place l p =
       let room = is.room place l p in
       argument_form place l (parameter.Buffer room.access room.size) room.is
 
   zero_form : entry_form k.params 0 ≡ number_form 0
-  unfolding entry_form
+  unfolding entry_form start_value entry_value
   zero_form = refl
 
   ra_form : entry_form k.params 1 ≡ number_form exit
-  unfolding entry_form
+  unfolding entry_form start_value entry_value
   ra_form = refl
 
   many_forms : length run_start.forms ≡ 33

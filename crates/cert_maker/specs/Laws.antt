@@ -20,7 +20,6 @@ use Rattle.std.specs.Prelude.{◌≢◌, length}
 use Rattle.linear_facts.specs.declared.ranges.Range.{Range}
 use Rattle.linear_facts.specs.declared.ranges.Atom.{Atom}
 use Rattle.linear_facts.specs.Ranges.{range_at, split_at}
-use Rattle.abs_domain.specs.Holds.{table_with}
 use Rattle.abs_transfer.specs.Vset.{split_into, limited, with_length_in}
 use Rattle.std.specs.Prelude.{◌-◌, ◌^◌, ◌∷◌, [], slice_index_or, min}
 use Rattle.linear_facts.specs.Forms.{Linear, atom_form, form_at, substituted}
@@ -28,7 +27,7 @@ use Rattle.linear_facts.specs.Sums.{range_of_form}
 use Rattle.rv_decode.specs.declared.instructions.RegisterOp.TheVariants.{Add}
 use Rattle.abs_domain.specs.Values.{just}
 use Rattle.abs_domain.specs.Effects.{register_effect}
-use Rattle.abs_domain.specs.Numbers.{NumbersView, table_of, value_at, with_result, with_value}
+use Rattle.abs_domain.specs.Numbers.{NumbersView, table_of, table_with, value_at, with_result, with_value}
 use Rattle.abs_state.specs.Branches.{EdgeView}
 use Rattle.abs_state.specs.Edges.{is_interval_shown, is_equality_shown}
 use Rattle.linear_facts.specs.LoopForms.{term, IsSize, pointer_form, moved_form, left_form, IsLoop}

@@ -1,5 +1,5 @@
 -- What `clap` takes has a subcommand with its paths.
-use Rattle.std.proofs.Common.{◌≡◌, ◌∙◌, refl, ap, sym, Bool, true, false, cond, not, ◌||◌, List, [], ◌∷◌, Option, Some, None, IsSome, ℕ, ◌==◌, is_some, option_and_then, option_map, codes}
+use Rattle.std.proofs.Common.{◌≡◌, ◌∙◌, refl, ap, subst, sym, Bool, true, false, cond, not, ◌||◌, List, [], ◌∷◌, Option, Some, None, IsSome, ℕ, ◌==◌, is_some, option_and_then, option_map, codes}
 use Rattle.std.specs.Prelude.{find, unwrap_or, slice_get}
 use Rattle.std.specs.Option.{option_map_or}
 use Rattle.std.specs.Str.{bytes_eq}
@@ -7,12 +7,13 @@ use Rattle.std.proofs.lemmas.Slice.Eq.{bytes_eq-Decides}
 use Rattle.clap.specs.Words.{App, Row, Rule, Shape, Text, fault_of, first_of, new_rule, is_simple, is_simple_and_free, subcommand_of, subcommand_rows, subcommand_rows_of, subcommand_name_of, with_subcommand}
 use Rattle.std.specs.Box.{box_value}
 use Rattle.clap.specs.Facts.{explicit_source}
-use Rattle.clap.specs.Kinds.{Kinds, check_kinds, or_else}
+use Rattle.clap.specs.Kinds.{HasKind, Kinds, check_kinds, or_else}
 use Rattle.clap.specs.Faults.{check_fault, defaults_fault, entered_fault, level_fault, settle_fault, walk_fault}
 use Rattle.clap.specs.Simple.{argument_words, built, entered, label_of, names_of, rows_at}
 use Rattle.clap.specs.Takes.{is_given}
 use Rattle.clap.specs.Walk.{answers_to, arg_by_id, arg_by_long, arg_by_short, finished, nothing_held, rows_after, settled, stop_after, used_by_id, walk, walk_from, without}
 use Rattle.clap.proofs.OnLiterals.{clap_on_literals}
+use Rattle.clap.specs.declared.error.Error.{Error}
 use Rattle.clap.specs.declared.parser.matches.ArgMatches.{ArgMatches}
 use Rattle.clap.specs.declared.parser.matches.ArgMatches.TheViews.{out-ArgMatches, out-SubCommand}
 use Rattle.command_line.specs.Line.{AreMakePathsOf, IsExplained, IsPathOf, app, bare_app, flag_of, make_paths_of, make_shape, path_of, path_shape, texts_of}
@@ -122,7 +123,7 @@ module _ (name id : Text) where
 
 -- ---- the subcommand with three paths
 
--- `make` as `clap` builds it: the paths, then `--help`
+-- `make` as `clap` builds it: the paths, `--explain`, then `--help`
 abbrev make_built : Shape
 make_built = unwrap_or (slice_get (built (with_subcommand bare_app make_shape)).subs 0) bare_app.top
 
@@ -132,28 +133,30 @@ make_rule place = unwrap_or (slice_get make_built.rules place) (new_rule [])
 make_fills : (x : Text) (values : List Text) (rows : List Row) → HasText values → Filled rows
     → Filled (used_by_id (arg_by_id make_built.rules x) values rows)
 make_fills x values rows h f =
-    go (bytes_eq (codes "image") x) (bytes_eq (codes "job") x) (bytes_eq (codes "out") x) (bytes_eq (codes "help") x) values h
+    go (bytes_eq (codes "image") x) (bytes_eq (codes "job") x) (bytes_eq (codes "out") x) (bytes_eq (codes "explain") x) (bytes_eq (codes "help") x) values h
   where
-    go : (a b c d : Bool) (values : List Text) → HasText values
-        → Filled (used_by_id (cond a (Some (make_rule 0)) (cond b (Some (make_rule 1)) (cond c (Some (make_rule 2)) (cond d (Some (make_rule 3)) None)))) values rows)
-    go a b c d [] h = absurd h
-    go true b c d (v ∷ vs) h = Filled-with_values (make_rule 0).id _ _ (v ∷ vs) (without (make_rule 0).id rows) tt (Filled-without (make_rule 0).id rows f)
-    go false true c d (v ∷ vs) h = Filled-with_values (make_rule 1).id _ _ (v ∷ vs) (without (make_rule 1).id rows) tt (Filled-without (make_rule 1).id rows f)
-    go false false true d (v ∷ vs) h = Filled-with_values (make_rule 2).id _ _ (v ∷ vs) (without (make_rule 2).id rows) tt (Filled-without (make_rule 2).id rows f)
-    go false false false true (v ∷ vs) h = f
-    go false false false false (v ∷ vs) h = f
+    go : (a b c d e : Bool) (values : List Text) → HasText values
+        → Filled (used_by_id (cond a (Some (make_rule 0)) (cond b (Some (make_rule 1)) (cond c (Some (make_rule 2)) (cond d (Some (make_rule 3)) (cond e (Some (make_rule 4)) None))))) values rows)
+    go a b c d e [] h = absurd h
+    go true b c d e (v ∷ vs) h = Filled-with_values (make_rule 0).id _ _ (v ∷ vs) (without (make_rule 0).id rows) tt (Filled-without (make_rule 0).id rows f)
+    go false true c d e (v ∷ vs) h = Filled-with_values (make_rule 1).id _ _ (v ∷ vs) (without (make_rule 1).id rows) tt (Filled-without (make_rule 1).id rows f)
+    go false false true d e (v ∷ vs) h = Filled-with_values (make_rule 2).id _ _ (v ∷ vs) (without (make_rule 2).id rows) tt (Filled-without (make_rule 2).id rows f)
+    go false false false true e (v ∷ vs) h = Filled-with_values (make_rule 3).id _ _ (v ∷ vs) (without (make_rule 3).id rows) tt (Filled-without (make_rule 3).id rows f)
+    go false false false false true (v ∷ vs) h = f
+    go false false false false false (v ∷ vs) h = f
 
 make_long_is_request : (x : Text) → IsRequest (arg_by_long make_built.rules x)
-make_long_is_request x = go (bytes_eq (codes "help") x)
+make_long_is_request x = go (bytes_eq (codes "explain") x) (bytes_eq (codes "help") x)
   where
-    go : (b : Bool) → IsRequest (cond (b || false) (slice_get make_built.rules 3) None)
-    go true = (refl, λ rows f. f)
-    go false = tt
+    go : (a b : Bool) → IsRequest (cond (a || false) (slice_get make_built.rules 3) (cond (b || false) (slice_get make_built.rules 4) None))
+    go true b = (refl, λ rows f. Filled-with_values (make_rule 3).id _ _ (codes "true" ∷ []) (without (make_rule 3).id rows) tt (Filled-without (make_rule 3).id rows f))
+    go false true = (refl, λ rows f. f)
+    go false false = tt
 
 make_short_is_request : (x : ℕ) → IsRequest (arg_by_short make_built.rules x)
 make_short_is_request x = go (104 == x)
   where
-    go : (b : Bool) → IsRequest (cond (b || false) (slice_get make_built.rules 3) None)
+    go : (b : Bool) → IsRequest (cond (b || false) (slice_get make_built.rules 4) None)
     go true = (refl, λ rows f. f)
     go false = tt
 
@@ -249,6 +252,12 @@ path_named words none =
 
 pub no_fault : (a : App) (words : List Text) → a ≡ app → (is_simple_and_free a ≡ true → fault_of a words ≡ []) → fault_of app words ≡ []
 no_fault a words is none = ap (λ x. fault_of x words) (sym is) ∙ none (ap is_simple_and_free is ∙ app_is_plain)
+
+-- an error is of want of memory, or of a kind that `clap` finds
+pub has_kind : (a : App) (words : List Text) (e : Error) → a ≡ app
+    → (is_simple_and_free a ≡ true → HasKind (fault_of a words) e) → HasKind (fault_of app words) e
+has_kind a words e is has =
+    subst (λ (x : App). HasKind (fault_of x words) e) is (has (ap is_simple_and_free is ∙ app_is_plain))
 
 pub same_entered : (a : App) (words : List Text) (X : Type 0) (entered : Option (Text × List Row)) → a ≡ app
     → (is_simple a ≡ true → X × (entered ≡ subcommand_of a words)) → entered ≡ subcommand_of app words

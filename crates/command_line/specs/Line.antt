@@ -17,7 +17,10 @@ path_rule id = record (new_rule id) { action = Some Set; required = true; value_
 
 -- `--explain`, which has no value
 abbrev pub explain_rule : Rule
-explain_rule = record (new_rule (codes "explain")) { long = Some (codes "explain"); action = Some SetTrue }
+explain_rule = record (new_rule (codes "explain")) {
+  long = Some (codes "explain");
+  action = Some SetTrue;
+}
 
 -- a subcommand of this name, with one path and `--explain`
 abbrev pub path_shape : Text → Text → Shape
@@ -34,7 +37,7 @@ bare_app = record {
   subs = [];
 }
 
--- `check IMAGE`, `run JOB`, `try JOB` and `mon JOB`, each with `--explain`, and `make IMAGE JOB OUT`
+-- `check IMAGE`, `run JOB`, `try JOB`, `mon JOB` and `make IMAGE JOB OUT`, each with `--explain`
 abbrev pub check_shape : Shape
 check_shape = path_shape (codes "check") (codes "image")
 
@@ -48,8 +51,9 @@ abbrev pub mon_shape : Shape
 mon_shape = path_shape (codes "mon") (codes "job")
 
 abbrev pub make_shape : Shape
-make_shape = (with_rule (with_rule (with_rule (new_app (codes "make"))
-    (path_rule (codes "image"))) (path_rule (codes "job"))) (path_rule (codes "out"))).top
+make_shape = (with_rule (with_rule (with_rule (with_rule (new_app (codes "make"))
+    (path_rule (codes "image"))) (path_rule (codes "job"))) (path_rule (codes "out")))
+    explain_rule).top
 
 -- `rvvbox` as `clap` sees it
 abbrev pub app : App
@@ -98,14 +102,16 @@ AreMakePathsOf words paths =
 -- the subcommand, its paths and whether it is to explain
 abbrev pub IsLineOf : List Text → Line → Type 0
 IsLineOf words (Check image explain) =
-    IsPathOf words (codes "check") (codes "image") image.now × IsExplained words (codes "check") explain
+    IsPathOf words (codes "check") (codes "image") image.now
+    × IsExplained words (codes "check") explain
 IsLineOf words (Run job explain) =
     IsPathOf words (codes "run") (codes "job") job.now × IsExplained words (codes "run") explain
 IsLineOf words (Try job explain) =
     IsPathOf words (codes "try") (codes "job") job.now × IsExplained words (codes "try") explain
 IsLineOf words (Mon job explain) =
     IsPathOf words (codes "mon") (codes "job") job.now × IsExplained words (codes "mon") explain
-IsLineOf words (Make paths) = AreMakePathsOf words paths
+IsLineOf words (Make paths explain) =
+    AreMakePathsOf words paths × IsExplained words (codes "make") explain
 
 -- a fault of usage is one of those that `clap` finds, of the kind that the error shows
 abbrev pub IsFaultIn : Kinds → LineError → Type 0

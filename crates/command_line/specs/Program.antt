@@ -45,8 +45,9 @@ Does files (Run job explain) old new was has =
     OfTable files job.now (λ table. Runs files table old new was has)
 Does files (Try job explain) old new was has =
     OfTable files job.now (λ table. Tries files table old new was has)
-Does files (Mon job explain) old new was has = OfTable files job.now (λ table. Mons files table was has)
-Does files (Make paths) old new was has = OfTable files paths.job.now
+Does files (Mon job explain) old new was has =
+    OfTable files job.now (λ table. Mons files table was has)
+Does files (Make paths explain) old new was has = OfTable files paths.job.now
     (λ table. Makes files paths.image.now paths.out.now table old new was has)
 
 -- why it stops: `wrote xs` says that the files `xs` were written
@@ -55,7 +56,7 @@ Stops files wrote (Check image explain) = StopsCheck files wrote image.now
 Stops files wrote (Run job explain) = StopsOfTable files wrote job.now (StopsRun files wrote)
 Stops files wrote (Try job explain) = StopsOfTable files wrote job.now (StopsTry files wrote)
 Stops files wrote (Mon job explain) = StopsOfTable files wrote job.now (StopsMon files wrote)
-Stops files wrote (Make paths) =
+Stops files wrote (Make paths explain) =
     StopsOfTable files wrote paths.job.now (StopsMake files wrote paths.image.now paths.out.now)
 
 -- whether it is to explain
@@ -64,17 +65,18 @@ explains (Check image explain) = explain
 explains (Run job explain) = explain
 explains (Try job explain) = explain
 explains (Mon job explain) = explain
-explains (Make paths) = false
+explains (Make paths explain) = explain
 
 -- words in which `clap` finds no fault end as the subcommand does that they name, or memory runs out first.
 -- `old` and `new` are what standard output has before and after, `was` and `has` the files that were
 -- written, and `told` and `tells` what standard error has before and after
-abbrev pub IsAsAsked : Files → List Text → Option (List ℕ) → Option (List ℕ) → Option Written → Option Written
-    → Option (List ℕ) → Option (List ℕ) → Ending → Type 0
+abbrev pub IsAsAsked : Files → List Text → Option (List ℕ) → Option (List ℕ) → Option Written
+    → Option Written → Option (List ℕ) → Option (List ℕ) → Ending → Type 0
 IsAsAsked files words old new was has told tells ending = fault_of app words ≡ []
     → Ends false (λ s. ⊥) (λ reason. (reason ≡ stop.Memory) × Gains was has []) told tells ending
     ⊎ ((line : Line) × IsLineOf words line
-    × Ends (explains line) (Does files line old new was has) (Stops files (Gains was has) line) told tells ending)
+    × Ends (explains line) (Does files line old new was has) (Stops files (Gains was has) line)
+    told tells ending)
 
 -- words that the system does not give: memory ran out, or they are not UTF-8
 abbrev pub status_without_words : IoErrorKind → Status

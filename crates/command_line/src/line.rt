@@ -118,6 +118,15 @@ fn with_path<'a>(
     command.arg(path)
 }
 
+/// `command` with `--explain`.
+fn with_explain<'a>(alloc: Global, command: Command<'a>) -> Result<Command<'a>, AllocError>
+    requires { (fields_of command).has_globals ≡ false }
+    ensures app { IfOk result (λ c. app_of c ≡ with_rule (app_of command.entry) explain_rule) }
+    ensures local { IfOk result (λ c. (fields_of c).has_globals ≡ false) }
+{
+    command.arg(explain_flag(alloc))
+}
+
 /// `make IMAGE JOB OUT`.
 fn make_command<'a>(alloc: Global) -> Result<Command<'a>, AllocError>
     ensures shape { IfOk result (λ c. shape_of c ≡ make_shape) }
@@ -128,7 +137,8 @@ fn make_command<'a>(alloc: Global) -> Result<Command<'a>, AllocError>
     );
     let image = with_path(alloc, bare, "image", "IMAGE", "The image file")?;
     let job = with_path(alloc, image, "job", "JOB", "The job file")?;
-    with_path(alloc, job, "out", "OUT", "The image file that is written")
+    let out = with_path(alloc, job, "out", "OUT", "The image file that is written")?;
+    with_explain(alloc, out)
 }
 
 /// `command` with one more subcommand.
@@ -210,7 +220,8 @@ pub fn line<'a>(alloc: Global, words: &'a [&'a str]) -> Result<Line<'a>, LineErr
                 let explain = is_asked(&matches, "mon");
                 Ok(Line::Mon { job, explain })
             } else if let Some(paths) = make_paths(&matches) {
-                Ok(Line::Make(paths))
+                let explain = is_asked(&matches, "make");
+                Ok(Line::Make { paths, explain })
             } else {
                 unreachable!()
             }

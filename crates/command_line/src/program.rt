@@ -41,7 +41,9 @@ pub fn perform<'a, S: Store, I: Read, O: Write, E: Write>(
         Ok(Line::Mon { job, explain }) => mon_job(
             alloc, job, explain, store, input, output, errors,
         ),
-        Ok(Line::Make(paths)) => make_image(alloc, paths, false, store, output, errors),
+        Ok(Line::Make { paths, explain }) => make_image(
+            alloc, paths, explain, store, output, errors,
+        ),
         Err(error) => error.tell(output, errors),
     }
 }

@@ -1,6 +1,5 @@
 -- How a subcommand ends, from what was done and what was told.
 use Rattle.std.proofs.Common.{◌≡◌, ◌∙◌, ◌++◌, Bool, false, ℕ, List, [], Option, Some, None, option_map, Result, Ok, Err, IfOk, IfErr, OnOk, MatchResult, map, ap, sym, subst, inl, inr, refl}
-use Rattle.std.proofs.lemmas.List.{append-nil}
 use Rattle.std.specs.Io.KnownBytes.{Appends}
 use Rattle.std.specs.Option.{ok_or}
 use Rattle.block_checker.specs.Accepted.{AcceptedView}
@@ -30,11 +29,6 @@ use Rattle.commands.specs.declared.trial.Trial.{Trial}
 use Rattle.commands.proofs.WrittenLemmas.{gains_more}
 
 -- ---- how a subcommand ends
-
--- where nothing is told, standard error stays as it was
-pub tells_nothing : (o : Option (List ℕ)) → Appends o o []
-tells_nothing None = tt
-tells_nothing (Some had) = sym (append-nil had)
 
 -- a subcommand on the table of a job: `first` is what it does after the table was read, and `why` why it then stops
 pub ends_of_table : (explains : Bool) (more : List ℕ) (files : Files) (wrote : Written → Type 0) (path : Text) (does : Members → Status → Type 0)

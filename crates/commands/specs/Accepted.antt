@@ -1,13 +1,11 @@
 -- What comes of an image with a certificate: whether it is accepted.
 use Rattle.std.specs.Prelude.{◌≡◌, ◌⊎◌, ℕ, List, Option, Some, None, Result, Ok, Err, unwrap_or}
-use Rattle.block_checker.specs.Accepted.{AcceptedView}
 use Rattle.block_checker.specs.Passes.{Checked, checked}
 use Rattle.cert_note.specs.Certificate.{CertificateView}
 use Rattle.cert_note.specs.Reading.{certificate_of}
 use Rattle.vreg_groups.specs.declared.vector_length.Vlen.{Vlen}
 use Rattle.commands.specs.Ending.{stop_of_certificate, stop_of_check}
-use Rattle.commands.specs.Words.{CertError, ImageView}
-use Rattle.commands.specs.declared.stop.Stop.{Stop}
+use Rattle.commands.specs.Words.{AcceptedView, CertError, ImageView, Stop}
 use Rattle.commands.specs.declared.stop.Stop.TheVariants as stop
 
 -- ---- the certificate
@@ -35,7 +33,8 @@ with_vlen vlen image certificate = record {
   vlen = unwrap_or vlen certificate.vlen;
 }
 
-abbrev pub if_certified : Option Vlen → ImageView → Result CertificateView Stop → Result AcceptedView Stop
+abbrev pub if_certified : Option Vlen → ImageView → Result CertificateView Stop
+    → Result AcceptedView Stop
 if_certified vlen image (Err reason) = Err reason
 if_certified vlen image (Ok certificate) =
     let a = with_vlen vlen image certificate in

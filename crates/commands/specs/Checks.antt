@@ -2,17 +2,13 @@
 use Rattle.std.specs.Prelude.{◌≡◌, ◌⊎◌, ◌++◌, codes, ℕ, List, [], Option, Some, None, Ok, Err, option_map, ◌==◌, if◌then◌else◌}
 use Rattle.std.specs.Fmt.{decimal}
 use Rattle.std.specs.Io.KnownBytes.{Appends}
-use Rattle.block_checker.specs.Accepted.{AcceptedView}
 use Rattle.block_checker.specs.Passes.{block_at}
 use Rattle.cert_note.specs.declared.values.Budget.{Budget}
-use Rattle.job_file.specs.Job.{Text}
 use Rattle.commands.specs.Accepted.{IsOrWant, accepted_of}
 use Rattle.commands.specs.Files.{Files, IsImageAt, IsNoImageAt}
-use Rattle.commands.specs.Words.{ImageView}
+use Rattle.commands.specs.Words.{AcceptedView, ImageView, Status, Stop, Text}
 use Rattle.commands.specs.Written.{Gains, Written}
-use Rattle.commands.specs.declared.stop.Status.{Status}
 use Rattle.commands.specs.declared.stop.Status.TheVariants as status
-use Rattle.commands.specs.declared.stop.Stop.{Stop}
 use Rattle.commands.specs.declared.stop.Stop.TheVariants as stop
 
 -- the line that tells the bound of an accepted image's runs
@@ -35,14 +31,15 @@ bound_line budget =
 -- files that were written
 
 -- `check`: the image at a path is accepted, and its bound is printed; no file is written
-pub record Checks (files : Files) (path : Text) (old new : Option (List ℕ)) (was has : Option Written)
-    (s : Status) : Type 0 where
+pub record Checks (files : Files) (path : Text) (old new : Option (List ℕ))
+    (was has : Option Written) (s : Status) : Type 0 where
   pub image : ImageView
   pub there : IsImageAt files path image
   pub accepted : AcceptedView
   pub passes : accepted_of None image ≡ Ok accepted
   pub budget : Budget
-  pub entry : option_map (λ block. block.budget) (block_at accepted.image.entry accepted.certificate.blocks) ≡ Some budget
+  pub entry : option_map (λ block. block.budget)
+      (block_at accepted.image.entry accepted.certificate.blocks) ≡ Some budget
   pub wrote : Gains was has []
   pub told : Appends old new (bound_line budget)
   pub done : s ≡ status.Done

@@ -5,7 +5,7 @@ use Rattle.block_checker.specs.declared.errors.CheckError.{CheckError}
 use Rattle.block_checker.specs.declared.errors.CheckError.TheVariants as check_error
 use Rattle.cert_maker.specs.declared.errors.MakeError.{MakeError}
 use Rattle.cert_maker.specs.declared.errors.MakeError.TheVariants as make_error
-use Rattle.commands.specs.Words.{CertError, OpenError}
+use Rattle.commands.specs.Words.{CertError, OpenError, Status, Stop}
 use Rattle.cert_note.specs.declared.refusals.CertError.TheVariants as certificate_error
 use Rattle.elf_image.specs.declared.error.ElfError.{ElfError}
 use Rattle.elf_image.specs.declared.error.ElfError.TheVariants as image_error
@@ -21,9 +21,7 @@ use Rattle.commands.specs.declared.trial.End.{End}
 use Rattle.commands.specs.declared.trial.End.TheVariants as end
 use Rattle.commands.specs.Texts.{stop_text}
 use Rattle.commands.specs.declared.stop.Ending.{Ending}
-use Rattle.commands.specs.declared.stop.Status.{Status}
 use Rattle.commands.specs.declared.stop.Status.TheVariants as status
-use Rattle.commands.specs.declared.stop.Stop.{Stop}
 use Rattle.commands.specs.declared.stop.Stop.TheVariants as stop
 
 -- the exit status
@@ -110,7 +108,8 @@ text_after (Err reason) = stop_text reason
 -- a subcommand does what it does, or stops for one of its reasons: the status says which, and standard
 -- error has grown by the reason's line, and, where it is to explain, by some more behind it, where it took
 -- that. `old` and `new` are what it has before and after
-pub record Ends (explains : Bool) (does : Status → Type 0) (stops : Stop → Type 0) (old new : Option (List ℕ)) (ending : Ending) : Type 0 where
+pub record Ends (explains : Bool) (does : Status → Type 0) (stops : Stop → Type 0)
+    (old new : Option (List ℕ)) (ending : Ending) : Type 0 where
   pub done : Result Status Stop
   pub comes : MatchResult done does stops
   pub status : ending.status ≡ status_after done

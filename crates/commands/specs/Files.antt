@@ -5,20 +5,16 @@ use Rattle.std.specs.Str.{IsUtf8}
 use Rattle.elf_image.specs.Faults.{fault_of}
 use Rattle.elf_image.specs.File.{image_of}
 use Rattle.elf_image.specs.declared.error.ElfError.{ElfError}
-use Rattle.job_file.specs.Job.{Text}
 use Rattle.job_file.specs.declared.values.JobError.TheVariants.{NotToml, BadKey}
 use Rattle.job_file.specs.declared.values.RunParam.{RunParam}
 use Rattle.job_file.specs.declared.values.RunParam.TheVariants as given
 use Rattle.region_mem.specs.declared.arguments.Arg.TheVariants as argument
-use Rattle.toml.specs.Data.{Members}
 use Rattle.toml.specs.Parse.{parse_document}
 use Rattle.commands.specs.Accepted.{IsOrWant}
 use Rattle.commands.specs.Ending.{IsOfFile, stop_of_image}
-use Rattle.commands.specs.Words.{Argument, ImageView}
+use Rattle.commands.specs.Words.{Argument, ImageView, Members, Status, Stop, Text}
 use Rattle.commands.specs.Written.{Gains, Written}
-use Rattle.commands.specs.declared.stop.Status.{Status}
 use Rattle.commands.specs.declared.store.StoreError.{StoreError}
-use Rattle.commands.specs.declared.stop.Stop.{Stop}
 use Rattle.commands.specs.declared.stop.Stop.TheVariants as stop
 
 -- ---- what may come of the files at paths
@@ -32,7 +28,11 @@ pub record Files : Type 1 where
 
 -- files of which nothing is known
 abbrev pub unknown_files : Files
-unknown_files = record { holds = λ _ _. Unit {0}; unread = λ _ _. Unit {0}; unwritten = λ _ _. Unit {0} }
+unknown_files = record {
+  holds = λ _ _. Unit {0};
+  unread = λ _ _. Unit {0};
+  unwritten = λ _ _. Unit {0};
+}
 
 -- ---- what is read
 
@@ -40,12 +40,14 @@ unknown_files = record { holds = λ _ _. Unit {0}; unread = λ _ _. Unit {0}; un
 abbrev pub IsPassed : Files → RunParam Text → Argument → Type 0
 IsPassed files given.None arg = arg ≡ argument.None
 IsPassed files (given.Scalar value) arg = arg ≡ argument.Scalar value
-IsPassed files (given.Buffer file out) arg = (bytes : List ℕ) × files.holds file bytes × (arg ≡ argument.Buffer bytes)
+IsPassed files (given.Buffer file out) arg =
+    (bytes : List ℕ) × files.holds file bytes × (arg ≡ argument.Buffer bytes)
 
 -- place by place
 abbrev pub ArePassed : Files → List (RunParam Text) → List Argument → Type 0
 ArePassed files params args =
-    (length args ≡ 8) × ((k : ℕ) → k < 8 → IsPassed files (get_or params k given.None) (get_or args k argument.None))
+    (length args ≡ 8) × ((k : ℕ) → k < 8
+    → IsPassed files (get_or params k given.None) (get_or args k argument.None))
 
 -- why what a job passes is not read: the file of a place is not
 abbrev pub IsOfParam : Files → RunParam Text → Stop → Type 0
@@ -53,7 +55,8 @@ IsOfParam files (given.Buffer file out) reason = IsOfFile files.unread file reas
 IsOfParam files other reason = ⊥
 
 abbrev pub IsUnpassed : Files → List (RunParam Text) → Stop → Type 0
-IsUnpassed files params reason = (place : ℕ) × IsOfParam files (get_or params place given.None) reason
+IsUnpassed files params reason =
+    (place : ℕ) × IsOfParam files (get_or params place given.None) reason
 
 -- what there is where no fault is found, or the reason to stop
 abbrev pub unless_fault : {A : Type 0} → Option ElfError → A → Result A Stop
@@ -75,7 +78,8 @@ IsNoImageAt files path reason = IsOfFile files.unread path reason
 
 -- the file at a path spells this table of a job
 abbrev pub IsTableAt : Files → Text → Members → Type 0
-IsTableAt files path table = (text : List ℕ) × files.holds path text × (parse_document text ≡ Some table)
+IsTableAt files path table =
+    (text : List ℕ) × files.holds path text × (parse_document text ≡ Some table)
 
 -- why a text spells no table: it is not UTF-8, or not TOML; memory may run out
 abbrev pub IsNoTable : List ℕ → Stop → Type 0
@@ -94,7 +98,8 @@ OfTable files path does s = (table : Members) × IsTableAt files path table × d
 
 -- why a subcommand on a job stops: its file spells no table, or for a reason of the table's. `wrote xs` says
 -- that the files `xs` were written
-abbrev pub StopsOfTable : Files → (Written → Type 0) → Text → (Members → Stop → Type 0) → Stop → Type 0
+abbrev pub StopsOfTable : Files → (Written → Type 0) → Text → (Members → Stop → Type 0) → Stop
+    → Type 0
 StopsOfTable files wrote path stops reason = (IsNoTableAt files path reason × wrote [])
     ⊎ ((table : Members) × IsTableAt files path table × stops table reason)
 
@@ -114,33 +119,39 @@ abbrev pub outs_of : List (RunParam Text) → List Argument → Written
 outs_of params args = filter_map out_file (zip params args)
 
 -- the file was written, or the reason to stop is of its path
-abbrev pub IsWritten : Files → Option Written → Option Written → Text × List ℕ → Result (Unit {0}) Stop → Type 0
+abbrev pub IsWritten : Files → Option Written → Option Written → Text × List ℕ
+    → Result (Unit {0}) Stop → Type 0
 IsWritten files old new file (Ok done) = Gains old new (file ∷ [])
-IsWritten files old new file (Err reason) = Gains old new [] × IsOfFile files.unwritten file.0 reason
+IsWritten files old new file (Err reason) =
+    Gains old new [] × IsOfFile files.unwritten file.0 reason
 
 -- the same of the out file of a place, where it has one
-abbrev pub IsOutWritten : Files → Option Written → Option Written → Option (Text × List ℕ) → Result (Unit {0}) Stop → Type 0
+abbrev pub IsOutWritten : Files → Option Written → Option Written → Option (Text × List ℕ)
+    → Result (Unit {0}) Stop → Type 0
 IsOutWritten files old new (Some file) result = IsWritten files old new file result
 IsOutWritten files old new None (Ok done) = Gains old new []
 IsOutWritten files old new None (Err reason) = ⊥
 
 -- the out files of the places before one were written, and its own was not
-pub record IsUnwritten (files : Files) (wrote : Written → Type 0) (params : List (RunParam Text)) (args : List Argument)
-    (reason : Stop) : Type 0 where
+pub record IsUnwritten (files : Files) (wrote : Written → Type 0) (params : List (RunParam Text))
+    (args : List Argument) (reason : Stop) : Type 0 where
   pub place : ℕ
   pub path : Text
   pub bytes : List ℕ
-  pub out : out_file (get_or params place given.None, get_or args place argument.None) ≡ Some (path, bytes)
+  pub out : out_file (get_or params place given.None, get_or args place argument.None)
+      ≡ Some (path, bytes)
   pub before : wrote (outs_of (take place params) (take place args))
   pub why : IsOfFile files.unwritten path reason
 
 -- all out files were written, by place, or those before the first that was not
-abbrev pub AreWritten : Files → Option Written → Option Written → List (RunParam Text) → List Argument
-    → Result (Unit {0}) Stop → Type 0
+abbrev pub AreWritten : Files → Option Written → Option Written → List (RunParam Text)
+    → List Argument → Result (Unit {0}) Stop → Type 0
 AreWritten files old new params args (Ok done) = Gains old new (outs_of params args)
-AreWritten files old new params args (Err reason) = IsUnwritten files (Gains old new) params args reason
+AreWritten files old new params args (Err reason) =
+    IsUnwritten files (Gains old new) params args reason
 
 -- why a run that ended is not told: an out file is not written, or, after all were, standard output takes no text
-abbrev pub IsUnfinished : Files → (Written → Type 0) → List (RunParam Text) → List Argument → Stop → Type 0
+abbrev pub IsUnfinished : Files → (Written → Type 0) → List (RunParam Text) → List Argument → Stop
+    → Type 0
 IsUnfinished files wrote params args reason = IsUnwritten files wrote params args reason
     ⊎ ((reason ≡ stop.Output) × wrote (outs_of params args))

@@ -9,5 +9,6 @@ pub mod Runs
 pub mod Texts
 pub mod Trial
 pub mod Tries
+pub mod Why
 pub mod Words
 pub mod Written

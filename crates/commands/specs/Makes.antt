@@ -3,7 +3,6 @@ use Rattle.std.specs.Prelude.{◌≡◌, ◌⊎◌, ◌∷◌, [], ℕ, List, Op
 use Rattle.std.specs.Global.{Vec}
 use Rattle.std.specs.Io.KnownBytes.{Appends}
 use Rattle.std.specs.Result.{result_map_both}
-use Rattle.block_checker.specs.Accepted.{AcceptedView}
 use Rattle.block_checker.specs.Passes.{block_at}
 use Rattle.cert_maker.specs.Certificates as maker
 use Rattle.cert_maker.specs.Loops.{loop_of}
@@ -13,22 +12,18 @@ use Rattle.cert_note.specs.Certificate.{CertificateView}
 use Rattle.cert_note.specs.Spelling.{spelling}
 use Rattle.cert_note.specs.declared.values.Budget.{Budget}
 use Rattle.elf_image.specs.Attached.{attach_fault, attached_of}
-use Rattle.job_file.specs.Job.{Text}
 use Rattle.job_file.specs.Needs.{make_job_in}
 use Rattle.job_file.specs.declared.values.JobError.TheVariants.{BadKey}
 use Rattle.job_file.specs.declared.values.MakeJob.{MakeJob}
 use Rattle.region_mem.specs.Parameter.{parameters_of}
 use Rattle.region_mem.specs.declared.parameter.Param.{Param}
-use Rattle.toml.specs.Data.{Members}
 use Rattle.commands.specs.Accepted.{IsOrWant, accepted_of}
 use Rattle.commands.specs.Checks.{bound_line}
 use Rattle.commands.specs.Ending.{IsOfFile}
 use Rattle.commands.specs.Files.{Files, IsUnasked, image_in, unless_fault}
-use Rattle.commands.specs.Words.{ImageView}
+use Rattle.commands.specs.Words.{AcceptedView, ImageView, Members, Status, Stop, Text}
 use Rattle.commands.specs.Written.{Gains, Written}
-use Rattle.commands.specs.declared.stop.Status.{Status}
 use Rattle.commands.specs.declared.stop.Status.TheVariants as status
-use Rattle.commands.specs.declared.stop.Stop.{Stop}
 use Rattle.commands.specs.declared.stop.Stop.TheVariants as stop
 
 -- what follows a value, or the reason to stop
@@ -105,14 +100,17 @@ pub record Makes (files : Files) (path out : Text) (table : Members) (old new : 
 -- after the file was made: it is not accepted when it is read back, or not written, or standard output
 -- takes no text
 abbrev pub StopsMade : Files → (Written → Type 0) → Text → MakeJob → List ℕ → Stop → Type 0
-StopsMade files wrote out job bytes reason = (IsOrWant (accepted_in job bytes) (Err reason) × wrote [])
+StopsMade files wrote out job bytes reason =
+    (IsOrWant (accepted_in job bytes) (Err reason) × wrote [])
     ⊎ ((accepted : AcceptedView) × (accepted_in job bytes ≡ Ok accepted)
-    × ((IsOfFile files.unwritten out reason × wrote []) ⊎ ((reason ≡ stop.Output) × wrote ((out, bytes) ∷ []))))
+    × ((IsOfFile files.unwritten out reason × wrote [])
+    ⊎ ((reason ≡ stop.Output) × wrote ((out, bytes) ∷ []))))
 
 -- after the image's file was read: none is made of it, or afterwards
 abbrev pub StopsRead : Files → (Written → Type 0) → Text → MakeJob → List ℕ → Stop → Type 0
 StopsRead files wrote out job file reason = (IsOrWant (made_of job file) (Err reason) × wrote [])
-    ⊎ ((bytes : List ℕ) × (made_of job file ≡ Ok bytes) × StopsMade files wrote out job bytes reason)
+    ⊎ ((bytes : List ℕ) × (made_of job file ≡ Ok bytes)
+    × StopsMade files wrote out job bytes reason)
 
 -- for a job: the image's file is not read, or afterwards
 abbrev pub StopsMakeJob : Files → (Written → Type 0) → Text → Text → MakeJob → Stop → Type 0
@@ -122,4 +120,5 @@ StopsMakeJob files wrote path out job reason = (IsOfFile files.unread path reaso
 -- `make` on a job's table: it asks for no job, or afterwards
 abbrev pub StopsMake : Files → (Written → Type 0) → Text → Text → Members → Stop → Type 0
 StopsMake files wrote path out table reason = (IsUnasked (make_job_in table) reason × wrote [])
-    ⊎ ((job : MakeJob) × (make_job_in table ≡ Some job) × StopsMakeJob files wrote path out job reason)
+    ⊎ ((job : MakeJob) × (make_job_in table ≡ Some job)
+    × StopsMakeJob files wrote path out job reason)

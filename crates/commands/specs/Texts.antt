@@ -13,8 +13,7 @@ use Rattle.monitor.specs.declared.commands.MonError.{MonError}
 use Rattle.monitor.specs.declared.commands.MonError.TheVariants as monitor_error
 use Rattle.sandbox_run.specs.declared.outcome.OpenError.TheVariants as open_error
 use Rattle.commands.specs.Hex.{hex_text}
-use Rattle.commands.specs.Words.{CertError, OpenError}
-use Rattle.commands.specs.declared.stop.Stop.{Stop}
+use Rattle.commands.specs.Words.{CertError, OpenError, Stop}
 use Rattle.commands.specs.declared.stop.Stop.TheVariants as stop
 
 -- ---- the names of errors

@@ -8,7 +8,7 @@ use Rattle.sandbox_run.specs.declared.outcome.Outcome.TheVariants as stopped
 use Rattle.vector_core.specs.Machine.{Machine}
 use Rattle.vector_core.specs.Run.{outcome}
 use Rattle.commands.specs.Hex.{hex_text}
-use Rattle.commands.specs.declared.stop.Stop.{Stop}
+use Rattle.commands.specs.Words.{Stop}
 use Rattle.commands.specs.declared.stop.Stop.TheVariants as stop
 use Rattle.commands.specs.declared.trial.End.{End}
 use Rattle.commands.specs.declared.trial.End.TheVariants as end
@@ -17,8 +17,10 @@ use Rattle.commands.specs.declared.trial.Trial.{Trial}
 -- how a run ended, after how many steps, and the arguments as they then stood
 abbrev pub trial_at : {vlenb : ℕ} → Outcome vlenb (List ℕ) → Trial
 trial_at (stopped.Ended last) = record { end = end.Ended; steps = last.steps; args = last.args }
-trial_at (stopped.Trapped fault last) = record { end = end.Trapped fault; steps = last.steps; args = last.args }
-trial_at (stopped.OutOfSteps last) = record { end = end.OutOfSteps; steps = last.steps; args = last.args }
+trial_at (stopped.Trapped fault last) =
+    record { end = end.Trapped fault; steps = last.steps; args = last.args }
+trial_at (stopped.OutOfSteps last) =
+    record { end = end.OutOfSteps; steps = last.steps; args = last.args }
 
 -- what comes of a run from a state on, with at most `max` steps
 abbrev pub trial_from : ℕ → ℕ → Machine → Trial

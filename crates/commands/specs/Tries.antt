@@ -2,7 +2,6 @@
 use Rattle.std.specs.Prelude.{◌≡◌, ◌⊎◌, ◌-◌, ◌^◌, ℕ, min, List, [], length, map, Option, Some, None, Result, Ok, Err}
 use Rattle.std.specs.Io.KnownBytes.{Appends}
 use Rattle.std.specs.List.{zip}
-use Rattle.job_file.specs.Job.{Text}
 use Rattle.job_file.specs.Needs.{try_job_in}
 use Rattle.job_file.specs.declared.values.JobError.TheVariants.{BadKey}
 use Rattle.job_file.specs.declared.values.RunParam.{RunParam}
@@ -16,23 +15,22 @@ use Rattle.region_mem.specs.declared.parameter.ArgError.{ArgError}
 use Rattle.region_mem.specs.declared.parameter.Param.{Param}
 use Rattle.region_mem.specs.declared.parameter.Param.TheVariants as parameter
 use Rattle.sandbox_run.specs.Errors.{open_error_of}
-use Rattle.toml.specs.Data.{Members}
 use Rattle.commands.specs.Ending.{status_of_end}
 use Rattle.commands.specs.Files.{ArePassed, Files, IsImageAt, IsNoImageAt, IsUnasked, IsUnfinished, IsUnpassed, outs_of}
 use Rattle.commands.specs.Trial.{OrMemory, line_of, trial_from}
-use Rattle.commands.specs.Words.{ImageView, Argument, start, vlenb_of, Agnostic}
+use Rattle.commands.specs.Words.{Agnostic, Argument, ImageView, Members, start, Status, Stop, Text, vlenb_of}
 use Rattle.commands.specs.Written.{Gains, Written}
-use Rattle.commands.specs.declared.stop.Status.{Status}
-use Rattle.commands.specs.declared.stop.Stop.{Stop}
 use Rattle.commands.specs.declared.stop.Stop.TheVariants as stop
 use Rattle.commands.specs.declared.trial.Trial.{Trial}
 
 -- ---- a run
 
 -- arguments that do not match the parameters are refused, and else the run starts
-abbrev pub started : ℕ → Agnostic → ℕ → ImageView → List Argument → List Param → Option ArgError → Result Trial Stop
+abbrev pub started : ℕ → Agnostic → ℕ → ImageView → List Argument → List Param → Option ArgError
+    → Result Trial Stop
 started vlenb agnostic max image args params (Some error) = Err (stop.Open (open_error_of error))
-started vlenb agnostic max image args params None = Ok (trial_from vlenb max (start vlenb agnostic image params args))
+started vlenb agnostic max image args params None =
+    Ok (trial_from vlenb max (start vlenb agnostic image params args))
 
 abbrev pub run_of : ℕ → Agnostic → ℕ → ImageView → List Argument → List Param → Result Trial Stop
 run_of vlenb agnostic max image args params =
@@ -56,13 +54,16 @@ unfoldable pub params_for : List (TryParam Text) → List Argument → List Para
 params_for params args = map param_for (zip params args)
 
 -- the run at the job's VLEN and setting, for at most its number of steps
-abbrev pub with_parameters : TryJob Text → ImageView → List Argument → Option (List Param) → Result Trial Stop
+abbrev pub with_parameters : TryJob Text → ImageView → List Argument → Option (List Param)
+    → Result Trial Stop
 with_parameters job image args None = Err (stop.Job BadKey)
-with_parameters job image args (Some params) = run_of (vlenb_of job.vlen) job.agnostic job.max image args params
+with_parameters job image args (Some params) =
+    run_of (vlenb_of job.vlen) job.agnostic job.max image args params
 
 -- what comes of a job on an image and arguments, or the reason to stop
 abbrev pub trial_of : TryJob Text → ImageView → List Argument → Result Trial Stop
-trial_of job image args = with_parameters job image args (parameters_of (params_for job.params args))
+trial_of job image args =
+    with_parameters job image args (parameters_of (params_for job.params args))
 
 -- ---- what is passed
 
@@ -77,8 +78,8 @@ passed_by (taken.Buffer mode file out) = given.Buffer file out
 
 -- `try` on a job's table: what comes of the job on its image is printed, and the out files of all places
 -- were written with the buffers as the run left them
-pub record Tries (files : Files) (table : Members) (old new : Option (List ℕ)) (was has : Option Written)
-    (s : Status) : Type 0 where
+pub record Tries (files : Files) (table : Members) (old new : Option (List ℕ))
+    (was has : Option Written) (s : Status) : Type 0 where
   pub job : TryJob Text
   pub asked : try_job_in table ≡ Some job
   pub image : ImageView
@@ -94,21 +95,25 @@ pub record Tries (files : Files) (table : Members) (old new : Option (List ℕ))
 -- ---- why it stops: `wrote xs` says that the files `xs` were written
 
 -- after what is passed was read: no run starts, or its outcome is not written or told
-abbrev pub StopsTried : Files → (Written → Type 0) → TryJob Text → ImageView → List Argument → Stop → Type 0
-StopsTried files wrote job image args reason = (OrMemory (trial_of job image args) (Err reason) × wrote [])
+abbrev pub StopsTried : Files → (Written → Type 0) → TryJob Text → ImageView → List Argument → Stop
+    → Type 0
+StopsTried files wrote job image args reason =
+    (OrMemory (trial_of job image args) (Err reason) × wrote [])
     ⊎ ((trial : Trial) × (trial_of job image args ≡ Ok trial)
     × IsUnfinished files wrote (map passed_by job.params) trial.args.places reason)
 
 -- after the image was read: what is passed is not, or afterwards
 abbrev pub StopsTrying : Files → (Written → Type 0) → TryJob Text → ImageView → Stop → Type 0
-StopsTrying files wrote job image reason = (IsUnpassed files (map passed_by job.params) reason × wrote [])
+StopsTrying files wrote job image reason =
+    (IsUnpassed files (map passed_by job.params) reason × wrote [])
     ⊎ ((args : List Argument) × ArePassed files (map passed_by job.params) args
     × StopsTried files wrote job image args reason)
 
 -- for a job: the image is not read, or afterwards
 abbrev pub StopsTryJob : Files → (Written → Type 0) → TryJob Text → Stop → Type 0
 StopsTryJob files wrote job reason = (IsNoImageAt files job.image reason × wrote [])
-    ⊎ ((image : ImageView) × IsImageAt files job.image image × StopsTrying files wrote job image reason)
+    ⊎ ((image : ImageView) × IsImageAt files job.image image
+    × StopsTrying files wrote job image reason)
 
 -- `try` on a job's table: it asks for no job, or afterwards
 abbrev pub StopsTry : Files → (Written → Type 0) → Members → Stop → Type 0

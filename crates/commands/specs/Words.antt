@@ -1,4 +1,4 @@
--- What definitions here speak of that other crates define.
+-- What several definitions here speak of.
 pub use Rattle.elf_image.specs.Image.{ImageView}
 pub use Rattle.vreg_groups.specs.VectorLength.{vlenb_of}
 pub use Rattle.vreg_groups.specs.declared.policies.Agnostic.{Agnostic}
@@ -6,3 +6,8 @@ pub use Rattle.region_mem.specs.Parameter.{Argument}
 pub use Rattle.cert_note.specs.declared.refusals.CertError.{CertError}
 pub use Rattle.vector_core.specs.Start.{start}
 pub use Rattle.sandbox_run.specs.declared.outcome.OpenError.{OpenError}
+pub use Rattle.block_checker.specs.Accepted.{AcceptedView}
+pub use Rattle.job_file.specs.Job.{Text}
+pub use Rattle.toml.specs.Data.{Members}
+pub use Rattle.commands.specs.declared.stop.Status.{Status}
+pub use Rattle.commands.specs.declared.stop.Stop.{Stop}

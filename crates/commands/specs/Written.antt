@@ -12,5 +12,7 @@ Gains (Some had) None files = ⊥
 Gains (Some had) (Some has) files = has ≡ had ++ files
 
 -- the file was written, or, where that failed, none
-abbrev pub GainsOnOk : {E : Type 0} → Option Written → Option Written → List ℕ × List ℕ → Result (Unit {0}) E → Type 0
-GainsOnOk old new file result = MatchResult result (λ _. Gains old new (file ∷ [])) (λ _. Gains old new [])
+abbrev pub GainsOnOk : {E : Type 0} → Option Written → Option Written → List ℕ × List ℕ
+    → Result (Unit {0}) E → Type 0
+GainsOnOk old new file result =
+    MatchResult result (λ _. Gains old new (file ∷ [])) (λ _. Gains old new [])

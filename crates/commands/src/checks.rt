@@ -79,7 +79,8 @@ pub fn print_bound<O: Write>(budget: Budget, output: &mut O) -> io::Result<()>
     } else {
         writeln!(
             output,
-            "accepted: bound {constant} + {factor} * x{register} + {second_factor} * x{second_register}"
+            "accepted: bound {constant} + {factor} * x{register} \
+             + {second_factor} * x{second_register}"
         )?;
     }
     output.flush()

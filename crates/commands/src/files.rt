@@ -8,10 +8,11 @@ ghost use Rattle.commands.specs.Ending.{IsOfFile};
 ghost use Rattle.commands.specs.Files.{ArePassed, AreWritten, IsImageAt, IsNoImageAt, IsNoTable};
 ghost use Rattle.commands.specs.Files.{IsNoTableAt, IsOfParam, IsOutWritten, IsPassed, IsTableAt};
 ghost use Rattle.commands.specs.Files.{IsUnpassed, IsWritten, image_in, out_file};
+ghost use Rattle.commands.specs.Why.{Notes};
 ghost use Rattle.commands.specs.Written.{Gains};
 
 use crate::stop::Stop;
-use crate::store::Store;
+use crate::store::{Store, StoreError};
 use crate::why::{FileReason, Why, note_job};
 use elf_image::Image;
 use explanations::{Command, image_reason};
@@ -20,10 +21,17 @@ use region_mem::{Arg, Args, Bytes};
 use std::alloc::Global;
 use toml::Table;
 
-/// Notes what the system said of the last call.
-fn note_failure<S: Store>(store: &S, why: &mut Why) {
-    if let Some(kind) = store.last_failure() {
-        why.note(&FileReason(kind));
+/// Notes what the system said of the last call, where that failed for another reason than want of memory.
+fn note_failure<S: Store>(store: &S, error: StoreError, why: &mut Why)
+    ensures { Notes why.old why.new }
+{
+    match error {
+        StoreError::Failed => {
+            if let Some(kind) = store.last_failure() {
+                why.note(&FileReason(kind));
+            }
+        }
+        StoreError::NoMemory => {}
     }
 }
 
@@ -42,7 +50,7 @@ pub fn read<'a, S: Store>(
     match store.read(alloc, path) {
         Ok(bytes) => Ok(bytes),
         Err(error) => {
-            note_failure(store, why);
+            note_failure(store, error, why);
             Err(Stop::at_file(error, path))
         }
     }
@@ -189,7 +197,7 @@ pub fn write<'a, S: Store>(
     match store.write(path, bytes) {
         Ok(()) => Ok(()),
         Err(error) => {
-            note_failure(store, why);
+            note_failure(store, error, why);
             Err(Stop::at_file(error, path))
         }
     }

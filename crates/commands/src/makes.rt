@@ -15,12 +15,12 @@ use crate::checks::print_bound;
 use crate::files::{image_in, read, read_table, write};
 use crate::stop::{Ending, Status, Stop, told};
 use crate::store::Store;
-use crate::why::Why;
+use crate::why::{Why, note_misfit};
 use block_checker::Accepted;
 use cert_maker::make;
 use cert_note::Certificate;
 use elf_image::{Image, attach};
-use explanations::Command;
+use explanations::{Command, attach_reason, parameter_reason};
 use job_file::{JobError, MakeJob, make_job_in};
 use region_mem::Parameters;
 use std::alloc::Global;
@@ -60,8 +60,8 @@ pub fn make_image<'a, S: Store, O: Write, E: Write>(
         Makes S.files paths.entry.image.now paths.entry.out.now table
         (O.contents output.old) (O.contents output.new)
         (S.written store.old) (S.written store.new)))
-        (StopsOfTable S.files (Gains (S.written store.old) (S.written store.new)) paths.entry.job.now
-        (StopsMake S.files (Gains (S.written store.old) (S.written store.new))
+        (StopsOfTable S.files (Gains (S.written store.old) (S.written store.new))
+        paths.entry.job.now (StopsMake S.files (Gains (S.written store.old) (S.written store.new))
         paths.entry.image.now paths.entry.out.now))
         (E.contents errors.old) (E.contents errors.new) result }
 {
@@ -104,23 +104,45 @@ fn make_table<'a, S: Store, O: Write>(
 }
 
 /// The certificate that is made for a job of the loop at an image's entry.
-fn certificate_for<'a>(alloc: Global, job: &MakeJob, image: &Image) -> Result<Certificate, Stop<'a>>
+fn certificate_for<'a>(
+    alloc: Global,
+    job: &MakeJob,
+    image: &Image,
+    why: &mut Why,
+) -> Result<Certificate, Stop<'a>>
     ensures { OrMemory (certificate_for job.now image.now) result }
 {
-    let parameters = Parameters::new(job.params).ok_or(JobError::BadKey)?;
-    Ok(make(alloc, image, &parameters, job.vlen)?)
+    let Some(parameters) = Parameters::new(job.params) else {
+        why.note(&parameter_reason(&job.params));
+        return Err(Stop::Job(JobError::BadKey));
+    };
+    match make(alloc, image, &parameters, job.vlen) {
+        Ok(certificate) => Ok(certificate),
+        Err(error) => {
+            note_misfit(alloc, image, error, why);
+            Err(Stop::from(error))
+        }
+    }
 }
 
-/// A file with a certificate in a note.
+/// The file of an image with a certificate in a note.
 fn with_certificate<'a>(
     alloc: Global,
     file: &[u8],
+    image: &Image,
     certificate: &Certificate,
+    why: &mut Why,
 ) -> Result<Vec<u8>, Stop<'a>>
     ensures { AnswersBytes (with_certificate file.now certificate.now) result }
 {
     let note = cert_note::write(alloc, certificate)?;
-    Ok(attach(alloc, file, note.as_slice())?)
+    match attach(alloc, file, note.as_slice()) {
+        Ok(bytes) => Ok(bytes),
+        Err(error) => {
+            why.note(&attach_reason(file, image, note.len(), error));
+            Err(Stop::from(error))
+        }
+    }
 }
 
 /// A file with the certificate that is made of it for a job.
@@ -128,8 +150,8 @@ fn made<'a>(alloc: Global, job: &MakeJob, file: &[u8], why: &mut Why) -> Result<
     ensures { AnswersBytes (made_of job.now file.now) result }
 {
     let image = image_in(alloc, file, why)?;
-    let certificate = certificate_for(alloc, job, &image)?;
-    with_certificate(alloc, file, &certificate)
+    let certificate = certificate_for(alloc, job, &image, why)?;
+    with_certificate(alloc, file, &image, &certificate, why)
 }
 
 /// What is accepted where a file that was made is read back.

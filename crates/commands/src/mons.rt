@@ -74,7 +74,7 @@ pub fn mon_job_within<S: Store, I: Read, O: Write, E: Write>(
         (E.contents errors.old) (E.contents errors.new) result }
 {
     let mut why = Why::new(alloc, explain);
-    match read_table(alloc, path, Command::Run, store, &mut why) {
+    match read_table(alloc, path, Command::Mon, store, &mut why) {
         Ok(table) => {
             let done = mon_table(alloc, &table, store, input, output, reads, &mut why);
             told(done, why.lines_if(explain), errors)

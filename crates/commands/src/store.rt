@@ -55,7 +55,8 @@ impl From<io::Error> for StoreError {
 
 /// Files by their paths.
 pub trait Store {
-    ghost use Rattle.std.specs.Prelude.{[], IfErr, MatchResult, Option, None};
+    ghost use Rattle.std.specs.Prelude.{◌≡◌, [], IfErr, MatchResult, OnOk, Option, None};
+    ghost use Rattle.std.specs.declared.io.ErrorKind.{ErrorKind};
     ghost use Rattle.commands.specs.Files.{Files, unknown_files};
     ghost use Rattle.commands.specs.Written.{Gains, GainsOnOk, Written};
 
@@ -65,21 +66,26 @@ pub trait Store {
     // the files that were written whole, in their order, where they are known
     ghost written: { Self → Option Written } = { λ _. None };
 
+    // what the system said of the last call, where that failed and the system said why
+    ghost failure: { Self → Option ErrorKind } = { λ _. None };
+
     /// The bytes of the file at `path`.
     fn read(&mut self, alloc: Global, path: &str) -> Result<Vec<u8>, StoreError>
         ensures bytes { MatchResult result
             (λ bytes. files.holds path.now bytes.items) (files.unread path.now) }
-        ensures kept { Gains (written self.old) (written self.new) [] };
+        ensures kept { Gains (written self.old) (written self.new) [] }
+        ensures done { OnOk result (failure self.new ≡ None) };
 
     /// Makes a file at `path` that has these bytes, in place of what was there.
     fn write(&mut self, path: &str, bytes: &[u8]) -> Result<(), StoreError>
-        ensures wrote { GainsOnOk (written self.old) (written self.new) (path.now, bytes.now) result }
-        ensures error { IfErr result (files.unwritten path.now) };
+        ensures wrote { GainsOnOk (written self.old) (written self.new)
+            (path.now, bytes.now) result }
+        ensures error { IfErr result (files.unwritten path.now) }
+        ensures done { OnOk result (failure self.new ≡ None) };
 
     /// What the system said of the last call, where that failed and the system said why.
-    fn last_failure(&self) -> Option<ErrorKind> {
-        None
-    }
+    fn last_failure(&self) -> Option<ErrorKind>
+        ensures { result ≡ failure self.now };
 }
 
 /// The files of the system. A path that is not absolute starts at the working directory.
@@ -99,16 +105,32 @@ impl<'a, R> Disk<'a, R> {
 }
 
 impl<'a, R: Files> Store for Disk<'a, R> {
+    ghost failure = { λ disk. disk.failure };
+
     fn read(&mut self, alloc: Global, path: &str) -> Result<Vec<u8>, StoreError> {
-        let had = read_file(self.rt, alloc, path);
-        self.failure = had.as_ref().err().map(|error| error.kind());
-        Ok(had?)
+        match read_file(self.rt, alloc, path) {
+            Ok(bytes) => {
+                self.failure = None;
+                Ok(bytes)
+            }
+            Err(error) => {
+                self.failure = Some(error.kind());
+                Err(StoreError::from(error))
+            }
+        }
     }
 
     fn write(&mut self, path: &str, bytes: &[u8]) -> Result<(), StoreError> {
-        let done = write_file(self.rt, path, bytes);
-        self.failure = done.as_ref().err().map(|error| error.kind());
-        Ok(done?)
+        match write_file(self.rt, path, bytes) {
+            Ok(()) => {
+                self.failure = None;
+                Ok(())
+            }
+            Err(error) => {
+                self.failure = Some(error.kind());
+                Err(StoreError::from(error))
+            }
+        }
     }
 
     fn last_failure(&self) -> Option<ErrorKind> {

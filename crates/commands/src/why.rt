@@ -1,10 +1,14 @@
 //! What more is told of why a subcommand stops, where that is asked for.
 ghost use Rattle.std.specs.Prelude.{◌≡◌, [], false};
+ghost use Rattle.commands.specs.Why.{Notes};
 
 use block_checker::Accepted;
+use cert_maker::MakeError;
 use cert_note::{CertError, Certificate};
 use elf_image::Image;
-use explanations::{Command, certificate_reason, check_reason, job_reason, open_reason};
+use explanations::{
+    Command, certificate_reason, check_reason, job_reason, open_reason, word_reason,
+};
 use region_mem::{Arg, Args};
 use rv_listing::{Over, put_listing};
 use sandbox_run::OpenError;
@@ -24,7 +28,9 @@ pub struct Why {
 
 impl Why {
     /// No lines yet.
-    pub fn new(alloc: Global, asked: bool) -> Why {
+    pub fn new(alloc: Global, asked: bool) -> Why
+        ensures { result.asked ≡ asked }
+    {
         Why {
             alloc,
             asked,
@@ -33,12 +39,16 @@ impl Why {
     }
 
     /// Whether lines are asked for.
-    pub fn is_asked(&self) -> bool {
+    fn is_asked(&self) -> bool
+        ensures { result ≡ self.now.asked }
+    {
         self.asked
     }
 
     /// Notes lines in place of those before.
-    pub fn note<T: fmt::Display>(&mut self, lines: &T) {
+    pub fn note<T: fmt::Display>(&mut self, lines: &T)
+        ensures { Notes self.old self.new }
+    {
         if self.asked {
             if let Ok(text) = format!(in self.alloc; "{lines}") {
                 self.text = text;
@@ -47,7 +57,9 @@ impl Why {
     }
 
     /// Forgets the lines, where nothing more is to be told.
-    pub fn forget(&mut self) {
+    pub fn forget(&mut self)
+        ensures { self.new.asked ≡ self.old.asked }
+    {
         self.text.clear();
     }
 
@@ -88,7 +100,9 @@ impl fmt::Display for Trap<'_> {
 }
 
 /// Notes where a run of an image met a fault.
-pub fn note_trap(alloc: Global, image: &Image, pc: u32, why: &mut Why) {
+pub fn note_trap(alloc: Global, image: &Image, pc: u32, why: &mut Why)
+    ensures { Notes why.old why.new }
+{
     let mut listing = Over::new(Vec::new(alloc));
     if let Some(word) = image.code_at(pc) {
         let _put = put_listing(&mut listing, word, pc);
@@ -127,7 +141,9 @@ impl fmt::Display for Missing {
 }
 
 /// Notes why bytes are no certificate.
-pub fn note_certificate(alloc: Global, bytes: &[u8], error: CertError, why: &mut Why) {
+pub fn note_certificate(alloc: Global, bytes: &[u8], error: CertError, why: &mut Why)
+    ensures { Notes why.old why.new }
+{
     if why.is_asked() {
         if let Ok(reason) = certificate_reason(alloc, bytes, error) {
             why.note(&reason);
@@ -142,7 +158,9 @@ pub fn note_check(
     certificate: &Certificate,
     vlen: Vlen,
     why: &mut Why,
-) {
+)
+    ensures { Notes why.old why.new }
+{
     if why.is_asked() {
         if let Ok(Some(reason)) = check_reason(alloc, image, certificate, vlen) {
             why.note(&reason);
@@ -151,10 +169,25 @@ pub fn note_check(
 }
 
 /// Notes why a text is no job of a command, if it is none.
-pub fn note_job(alloc: Global, text: &[u8], command: Command, why: &mut Why) {
+pub fn note_job(alloc: Global, text: &[u8], command: Command, why: &mut Why)
+    ensures { Notes why.old why.new }
+{
     if why.is_asked() {
         if let Ok(Some(reason)) = job_reason(alloc, text, command) {
             why.note(&reason);
+        }
+    }
+}
+
+/// Notes why no certificate is made of an image.
+pub fn note_misfit(alloc: Global, image: &Image, error: MakeError, why: &mut Why)
+    ensures { Notes why.old why.new }
+{
+    if why.is_asked() {
+        if let Some(pc) = error.address() {
+            if let Ok(reason) = word_reason(alloc, image, pc) {
+                why.note(&reason);
+            }
         }
     }
 }
@@ -168,7 +201,9 @@ fn scalar_of(arg: &Arg) -> u32 {
 }
 
 /// Notes why no run of an accepted image is opened.
-pub fn note_open(accepted: &Accepted, args: &Args, max: u64, error: OpenError, why: &mut Why) {
+pub fn note_open(accepted: &Accepted, args: &Args, max: u64, error: OpenError, why: &mut Why)
+    ensures { Notes why.old why.new }
+{
     if why.is_asked() {
         let mut scalars = [0; 8];
         for place in 0..8_usize {

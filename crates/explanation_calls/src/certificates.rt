@@ -1,6 +1,6 @@
 //! Why bytes are no certificate: the kernel's certificate with a byte changed, or cut off.
 use crate::assertions::assert_same;
-use crate::samples::CERTIFICATE;
+use crate::samples::{CERTIFICATE, ORDERED};
 use cert_note::CertError;
 use explanations::certificate_reason;
 use std::alloc::Global;
@@ -43,6 +43,93 @@ fn tells_the_version(rt: HostRuntime) -> Result<(), Fail> {
   wanted: version 1 or 2, and a vector length of 1, 2 or 3
 ";
     assert_told(&rt, rt.alloc(), &bytes, CertError::Version, expected)
+}
+
+/// Asserts that the kernel's certificate with one byte changed is refused with this error, and what is told of it.
+fn assert_told_of_byte(
+    rt: &impl Abort,
+    alloc: Global,
+    place: usize,
+    byte: u8,
+    error: CertError,
+    expected: &str,
+) -> Result<(), Fail> {
+    let mut bytes = CERTIFICATE;
+    if place < bytes.len() {
+        bytes[place] = byte;
+    }
+    assert_told(rt, alloc, &bytes, error, expected)
+}
+
+#[test]
+fn tells_a_parameter(rt: HostRuntime) -> Result<(), Fail> {
+    let expected = "  reading stopped behind byte 5 of 261
+  wanted: a kind of 0 to 2, its mode, and its numbers
+";
+    assert_told_of_byte(&rt, rt.alloc(), 4, 3, CertError::Parameter, expected)
+}
+
+/// 1,283 blocks.
+#[test]
+fn tells_too_many_blocks(rt: HostRuntime) -> Result<(), Fail> {
+    let expected = "  reading stopped behind byte 102 of 261
+  in block 1024, counted from 0
+  wanted: at most 1024 blocks, at most 32 facts of a kind, zeros
+";
+    assert_told_of_byte(&rt, rt.alloc(), 101, 5, CertError::TooMany, expected)
+}
+
+/// No register, with a factor of 5.
+#[test]
+fn tells_a_budget(rt: HostRuntime) -> Result<(), Fail> {
+    let expected = "  reading stopped behind byte 117 of 261
+  in block 0, counted from 0
+  wanted: a register exactly where its factor is not 0
+";
+    assert_told_of_byte(&rt, rt.alloc(), 116, 0, CertError::Budget, expected)
+}
+
+/// A fact on x0.
+#[test]
+fn tells_a_fact(rt: HostRuntime) -> Result<(), Fail> {
+    let expected = "  reading stopped behind byte 125 of 261
+  in block 0, counted from 0
+  wanted: a rising number, an interval that says something, zeros
+";
+    assert_told_of_byte(&rt, rt.alloc(), 124, 0, CertError::Fact, expected)
+}
+
+/// Nine terms.
+#[test]
+fn tells_an_equality(rt: HostRuntime) -> Result<(), Fail> {
+    let expected = "  reading stopped behind byte 144 of 261
+  in block 0, counted from 0
+  wanted: at most 8 terms, rising atoms without an equality
+";
+    assert_told_of_byte(&rt, rt.alloc(), 143, 9, CertError::Equality, expected)
+}
+
+/// In the order of the last block, x0 for the greater register.
+#[test]
+fn tells_an_order(rt: HostRuntime) -> Result<(), Fail> {
+    let mut bytes = ORDERED;
+    bytes[273] = 0;
+    let expected = "  reading stopped behind byte 274 of 275
+  in block 2, counted from 0
+  wanted: two registers without an equality, the greater one rising
+";
+    assert_told(&rt, rt.alloc(), &bytes, CertError::Order, expected)
+}
+
+#[test]
+fn tells_bytes_behind_the_last_block(rt: HostRuntime) -> Result<(), Fail> {
+    let alloc = rt.alloc();
+    let mut bytes = Vec::from_slice(alloc, &CERTIFICATE)?;
+    bytes.push(0)?;
+    let expected = "  reading stopped behind byte 262 of 262
+  wanted: no bytes behind the last block
+";
+    assert_told(&rt, alloc, &bytes, CertError::TrailingBytes, expected)
 }
 
 #[test]

@@ -1,6 +1,6 @@
 //! Why images are refused: the kernel with a word or a number of its certificate changed.
 use crate::assertions::assert_same;
-use crate::samples::{CERTIFICATE, SUM, file_of};
+use crate::samples::{CERTIFICATE, ORDERED, SUM, file_of};
 use cert_note::Vlen;
 use explanations::{CheckReason, check_reason};
 use std::alloc::Global;
@@ -48,6 +48,7 @@ fn tells_an_access(rt: HostRuntime) -> Result<(), Fail> {
   known: x10 in 0x40000000..=0x400003ff
   bytes of the access: 1
   offset from the base: 4
+  known: its bytes in 0x40000004..=0x40000403
   wanted: all bytes in one of these zones that may be read
     from 0x00010000 and below 0x0001001c: read
     from 0x2fff0000 and below 0x30000000: read and write
@@ -65,12 +66,40 @@ fn tells_a_store(rt: HostRuntime) -> Result<(), Fail> {
   known: x10 in 0x40000000..=0x400003ff
   bytes of the access: 1
   offset from the base: 0
+  known: its bytes in 0x40000000..=0x400003ff
   wanted: all bytes in one of these zones that may be written
     from 0x00010000 and below 0x0001001c: read
     from 0x2fff0000 and below 0x30000000: read and write
     from 0x40000000 and below 0x40000400: read
 ";
     assert_told(&rt, rt.alloc(), 1, 0x0055_0023, expected)
+}
+
+/// vl1re8.v v8,(a0): the last of its 16 bytes lie behind the buffer.
+#[test]
+fn tells_a_vector_access(rt: HostRuntime) -> Result<(), Fail> {
+    let expected = "  stopped in the block at 0x00010004
+  at 0x00010004: 0x02850407
+  that is vl1re8.v vd=8 rs1=10 vm=1
+  known: x10 in 0x40000000..=0x400003ff
+  known: its bytes in 0x40000000..=0x4000040e
+  wanted: all bytes in one of these zones that may be read
+    from 0x00010000 and below 0x0001001c: read
+    from 0x2fff0000 and below 0x30000000: read and write
+    from 0x40000000 and below 0x40000400: read
+";
+    assert_told(&rt, rt.alloc(), 1, 0x0285_0407, expected)
+}
+
+/// vadd.vv v8,v8,v8: no vset stands before it.
+#[test]
+fn tells_a_vector_type(rt: HostRuntime) -> Result<(), Fail> {
+    let expected = "  stopped in the block at 0x00010004
+  at 0x00010004: 0x02840457
+  that is vadd.vv vd=8 vs2=8 vs1=8 vm=1
+  wanted: a vector type that is known there
+";
+    assert_told(&rt, rt.alloc(), 1, 0x0284_0457, expected)
 }
 
 #[test]
@@ -126,6 +155,8 @@ fn tells_a_budget(rt: HostRuntime) -> Result<(), Fail> {
   leads to 0x00010018, after 1 words of the block
   leaves block 0 of the certificate, with a budget of 1 + 5 * x11
   enters block 2 of the certificate, with a budget of 1
+  known: the budget left is at least 1
+  known: these words and the budget entered are at most 2
 ";
     assert_told_of_byte(&rt, rt.alloc(), 108, 1, expected)
 }
@@ -140,6 +171,7 @@ fn tells_the_way_into_the_first_block(rt: HostRuntime) -> Result<(), Fail> {
   leads to 0x00010000, after 0 words of the block
   enters block 0 of the certificate, with a budget of 2 + 5 * x11
   known: x11 in 0x00000000..=0x00000400
+  known: x11 = 0x00000000 + 1 * param 1
   wanted on entering it: x11 in 0x00000000..=0x00000300
 ";
     assert_told_of_byte(&rt, rt.alloc(), 154, 3, expected)
@@ -183,7 +215,144 @@ fn tells_an_interval_on_a_way_out(rt: HostRuntime) -> Result<(), Fail> {
   leaves block 1 of the certificate, with a budget of 1 + 5 * x11
   enters block 1 of the certificate, with a budget of 1 + 5 * x11
   known: x10 in 0x40000002..=0x40000401
+  known: x10 = 0x40000002 - 1 * x11 + 1 * param 1
   wanted on entering it: x10 in 0x40000000..=0x40000400
 ";
     assert_told(&rt, rt.alloc(), 2, 0x0025_0513, expected)
+}
+
+/// A branch tells that x11 is not 0 in the loop, where 2 is wanted.
+#[test]
+fn tells_what_a_branch_says(rt: HostRuntime) -> Result<(), Fail> {
+    let expected = "  stopped in the block at 0x00010000
+  at 0x00010000: 0x00058c63
+  that is beq rs1=11 rs2=0 to=00010018
+  wanted: the intervals of the block entered
+  leads to 0x00010004, after 1 words of the block
+  leaves block 0 of the certificate, with a budget of 2 + 5 * x11
+  enters block 1 of the certificate, with a budget of 1 + 5 * x11
+  known: x11 in 0x00000001..=0x00000400
+  known: x11 = 0x00000000 + 1 * param 1
+  wanted on entering it: x11 in 0x00000002..=0x00000400
+";
+    assert_told_of_byte(&rt, rt.alloc(), 222, 2, expected)
+}
+
+/// addi a0,a0,0: x10 stays as it is, and x11 falls.
+#[test]
+fn tells_an_equality(rt: HostRuntime) -> Result<(), Fail> {
+    let expected = "  stopped in the block at 0x00010004
+  at 0x00010014: 0xfe0598e3
+  that is bne rs1=11 rs2=0 to=00010004
+  wanted: the equalities of the block entered
+  leads to 0x00010004, after 5 words of the block
+  leaves block 1 of the certificate, with a budget of 1 + 5 * x11
+  enters block 1 of the certificate, with a budget of 1 + 5 * x11
+  known: x10 in 0x40000000..=0x400003ff
+  known: x10 = 0x40000000 - 1 * x11 + 1 * param 1
+  wanted on entering it: x10 = 0x40000000 - 1 * x11 + 1 * param 1
+  that sum on this way: 0x40000001 - 1 * x11 + 1 * param 1
+";
+    assert_told(&rt, rt.alloc(), 2, 0x0005_0513, expected)
+}
+
+/// Asserts what is told of the kernel with another certificate.
+fn assert_told_with(
+    rt: &impl Abort,
+    alloc: Global,
+    bytes: &[u8],
+    words: &[u32],
+    expected: &str,
+) -> Result<(), Fail> {
+    let certificate = cert_note::read(alloc, bytes)?;
+    let image = elf_image::read(alloc, &file_of(alloc, words)?)?;
+    let reason = check_reason(alloc, &image, &certificate, Vlen::V128)?.ok_or("accepted")?;
+    let text = format!(in alloc; "{reason}")?;
+    assert_same!(*rt; text.as_str(), expected);
+    Ok(())
+}
+
+/// The last block states that x10 is at most x11.
+#[test]
+fn tells_an_order(rt: HostRuntime) -> Result<(), Fail> {
+    let expected = "  stopped in the block at 0x00010000
+  at 0x00010000: 0x00058c63
+  that is beq rs1=11 rs2=0 to=00010018
+  wanted: the orders of the block entered
+  leads to 0x00010018, after 1 words of the block
+  leaves block 0 of the certificate, with a budget of 2 + 5 * x11
+  enters block 2 of the certificate, with a budget of 1
+  known: x10 in 0x40000000..=0x40000000
+  known: x10 = 0x40000000
+  known: x11 in 0x00000000..=0x00000000
+  known: x11 = 0x00000000 + 1 * param 1
+  wanted on entering it: x10 <= x11
+";
+    assert_told_with(&rt, rt.alloc(), &ORDERED, &SUM, expected)
+}
+
+/// The last block states that the 16 bytes of v8 are at most 127.
+#[test]
+fn tells_a_vector_fact(rt: HostRuntime) -> Result<(), Fail> {
+    let alloc = rt.alloc();
+    let mut bytes = Vec::from_slice(alloc, &CERTIFICATE)?;
+    bytes.extend_from_slice(&[8, 8, 1, 0, 16, 0, 0, 0, 0, 0, 0, 0, 127, 0, 0, 0])?;
+    if bytes.len() > 247 {
+        bytes[247] = 1;
+    }
+    let expected = "  stopped in the block at 0x00010000
+  at 0x00010000: 0x00058c63
+  that is beq rs1=11 rs2=0 to=00010018
+  wanted: the vector facts of the block entered
+  leads to 0x00010018, after 1 words of the block
+  leaves block 0 of the certificate, with a budget of 2 + 5 * x11
+  enters block 2 of the certificate, with a budget of 1
+  known: vl in 0x00000000..=0xffffffff
+  known: nothing of this group
+  wanted on entering it: v8, registers 1, SEW 8: 16 elements in 0x00000000..=0x0000007f
+";
+    assert_told_with(&rt, alloc, bytes.as_slice(), &SUM, expected)
+}
+
+/// The last block states a vector type.
+#[test]
+fn tells_a_vector_type_of_a_block(rt: HostRuntime) -> Result<(), Fail> {
+    let expected = "  stopped in the block at 0x00010000
+  at 0x00010000: 0x00058c63
+  that is beq rs1=11 rs2=0 to=00010018
+  wanted: a vector type that is known there
+  leads to 0x00010018, after 1 words of the block
+  leaves block 0 of the certificate, with a budget of 2 + 5 * x11
+  enters block 2 of the certificate, with a budget of 1
+";
+    assert_told_of_byte(&rt, rt.alloc(), 244, 1, expected)
+}
+
+/// The last word is not in the file.
+#[test]
+fn tells_where_no_code_is(rt: HostRuntime) -> Result<(), Fail> {
+    let expected = "  stopped in the block at 0x00010018
+  at 0x00010018: no word
+  wanted: a word in one segment that can be executed
+";
+    assert_told_with(&rt, rt.alloc(), &CERTIFICATE, &SUM[..6], expected)
+}
+
+/// 4,097 times addi x0,x0,0 in one block, at 0x10000.
+#[test]
+fn tells_a_long_block(rt: HostRuntime) -> Result<(), Fail> {
+    let alloc = rt.alloc();
+    let mut words = Vec::new(alloc);
+    for _word in 0..4097 {
+        words.push(0x0000_0013)?;
+    }
+    let mut bytes = Vec::from_slice(alloc, &CERTIFICATE[..100])?;
+    bytes.extend_from_slice(&[1, 0, 0, 0, 0, 0, 1, 0, 0, 0, 0, 0])?;
+    bytes.extend_from_slice(&[0, 0, 0, 0, 0, 0, 0, 0, 0, 0, 0, 0])?;
+    let expected = "  stopped in the block at 0x00010000
+  at 0x00014000: 0x00000013
+  that is addi rd=0 rs1=0 imm=0
+  wanted: at most 4096 words in a block
+";
+    assert_told_with(&rt, alloc, bytes.as_slice(), words.as_slice(), expected)
 }

@@ -102,6 +102,160 @@ fn tells_the_entry(rt: HostRuntime) -> Result<(), Fail> {
 }
 
 #[test]
+fn tells_the_magic(rt: HostRuntime) -> Result<(), Fail> {
+    let expected = "  e_ident at byte 0 of the file: 1179403520 (0x464c4500)
+  wanted: 0x464c457f, the bytes 7f, E, L, F
+";
+    assert_told(&rt, rt.alloc(), 0, 0, ElfError::BadMagic, expected)
+}
+
+#[test]
+fn tells_a_segment_past_the_file(rt: HostRuntime) -> Result<(), Fail> {
+    let expected = "  program header 0 at byte 52 of the file:
+  p_type 1, p_offset 85, p_vaddr 0x00010000
+  p_filesz 28, p_memsz 28, p_flags 5
+  wanted: p_offset + p_filesz within the file, and p_filesz at most p_memsz
+";
+    assert_told(
+        &rt,
+        rt.alloc(),
+        56,
+        85,
+        ElfError::SegmentOutOfFile,
+        expected,
+    )
+}
+
+#[test]
+fn tells_a_segment_at_no_place_for_one(rt: HostRuntime) -> Result<(), Fail> {
+    let expected = "  program header 0 at byte 52 of the file:
+  p_type 1, p_offset 84, p_vaddr 0x00000000
+  p_filesz 28, p_memsz 28, p_flags 5
+  wanted: all in 0x00001000..0x20000000 or all in 0x80000000..0xc0000000
+";
+    assert_told(
+        &rt,
+        rt.alloc(),
+        62,
+        0,
+        ElfError::SegmentOutOfPlace,
+        expected,
+    )
+}
+
+#[test]
+fn tells_a_large_segment(rt: HostRuntime) -> Result<(), Fail> {
+    let expected = "  size of the file: 112
+  wanted: at most 4194304, at most 16 segments, and at most 16777216 bytes of memory
+";
+    assert_told(&rt, rt.alloc(), 75, 1, ElfError::TooLarge, expected)
+}
+
+/// A file with so many program headers, of which these words spell the ones behind the first.
+fn file_with(alloc: Global, headers: u8, words: &[u32]) -> Result<Vec<u8>, Fail> {
+    let mut file = file_of(alloc, words)?;
+    if file.len() > 44 {
+        file[44] = headers;
+    }
+    Ok(file)
+}
+
+/// Asserts that a file is refused with this error, and what is told of it.
+fn assert_refused(
+    rt: &impl Abort,
+    alloc: Global,
+    file: &[u8],
+    error: ElfError,
+    expected: &str,
+) -> Result<(), Fail> {
+    let refused = elf_image::read(alloc, file).err();
+    assert_same!(*rt; refused, Some(error));
+    let reason = image_reason(file, error);
+    let text = format!(in alloc; "{reason}")?;
+    assert_same!(*rt; text.as_str(), expected);
+    Ok(())
+}
+
+/// The second segment begins four bytes before the end of the first one.
+#[test]
+fn tells_two_segments_that_overlap(rt: HostRuntime) -> Result<(), Fail> {
+    let alloc = rt.alloc();
+    let second = [1, 84, 0x0001_001c, 0x0001_001c, 4, 4, 4, 4];
+    let file = file_with(alloc, 2, &second)?;
+    let expected = "  program header 0 at byte 52 of the file:
+  p_type 1, p_offset 84, p_vaddr 0x00010000
+  p_filesz 32, p_memsz 32, p_flags 5
+  program header 1 at byte 84 of the file:
+  p_type 1, p_offset 84, p_vaddr 0x0001001c
+  p_filesz 4, p_memsz 4, p_flags 4
+  wanted: no address of both
+";
+    assert_refused(&rt, alloc, &file, ElfError::SegmentsOverlap, expected)
+}
+
+/// Two program headers name one note: its name is `RVVBOX`, its type 1, and it has four bytes.
+#[test]
+fn tells_two_certificates(rt: HostRuntime) -> Result<(), Fail> {
+    let alloc = rt.alloc();
+    let words = [
+        4,
+        148,
+        0,
+        0,
+        24,
+        24,
+        4,
+        4,
+        4,
+        148,
+        0,
+        0,
+        24,
+        24,
+        4,
+        4,
+        7,
+        4,
+        1,
+        0x4256_5652,
+        0x0000_584f,
+        0,
+    ];
+    let file = file_with(alloc, 3, &words)?;
+    let expected = "  wanted: one note with a certificate\n";
+    assert_refused(&rt, alloc, &file, ElfError::TwoCertificates, expected)
+}
+
+/// A file with such a note gets no other.
+#[test]
+fn tells_a_certificate_that_is_there(rt: HostRuntime) -> Result<(), Fail> {
+    let alloc = rt.alloc();
+    let words = [
+        4,
+        116,
+        0,
+        0,
+        24,
+        24,
+        4,
+        4,
+        7,
+        4,
+        1,
+        0x4256_5652,
+        0x0000_584f,
+        0,
+    ];
+    let file = file_with(alloc, 2, &words)?;
+    let refused = elf_image::attach(alloc, &file, "another".as_bytes()).err();
+    assert_same!(rt; refused, Some(ElfError::CertificateThere));
+    let reason = image_reason(&file, ElfError::CertificateThere);
+    let text = format!(in alloc; "{reason}")?;
+    assert_same!(rt; text.as_str(), "  wanted: an image with no certificate\n");
+    Ok(())
+}
+
+#[test]
 fn tells_a_short_file(rt: HostRuntime) -> Result<(), Fail> {
     let alloc = rt.alloc();
     let reason = image_reason("no file".as_bytes(), ElfError::TooShort);

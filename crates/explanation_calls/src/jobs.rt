@@ -34,11 +34,24 @@ fn tells_a_byte_that_is_no_text(rt: HostRuntime) -> Result<(), Fail> {
 
 #[test]
 fn tells_where_a_text_is_no_toml(rt: HostRuntime) -> Result<(), Fail> {
-    let expected = "  not TOML from byte 18 on, behind 1 whole lines\n";
+    let expected = "  not TOML from byte 18 on: line 2, column 8\n";
     assert_told(
         &rt,
         rt.alloc(),
         "vlen = 128\nimage =\n".as_bytes(),
+        Command::Run,
+        expected,
+    )
+}
+
+/// A character of two bytes stands before the place.
+#[test]
+fn tells_a_column_in_characters(rt: HostRuntime) -> Result<(), Fail> {
+    let expected = "  not TOML from byte 24 on: line 3, column 3\n";
+    assert_told(
+        &rt,
+        rt.alloc(),
+        "vlen = 128\n# comment\n\"é\n".as_bytes(),
         Command::Run,
         expected,
     )

@@ -8,10 +8,11 @@ use std::process::Abort;
 use std::test::Fail;
 
 /// Asserts what is told of an error, where the first place takes a buffer of 8 bytes and the second a number up to 40,
-/// and a buffer of two bytes and the number 41 are passed.
-fn assert_told(
+/// and a buffer of two bytes and this argument are passed.
+fn assert_told_of(
     rt: &impl Abort,
     alloc: Global,
+    second: Arg<Bytes>,
     error: OpenError,
     expected: &str,
 ) -> Result<(), Fail> {
@@ -25,7 +26,7 @@ fn assert_told(
     let args = Args {
         places: [
             Arg::Buffer(Bytes::new(Vec::from_slice(alloc, &[1, 2])?)),
-            Arg::Scalar(41),
+            second,
             Arg::None,
             Arg::None,
             Arg::None,
@@ -38,6 +39,34 @@ fn assert_told(
     let text = format!(in alloc; "{reason}")?;
     assert_same!(*rt; text.as_str(), expected);
     Ok(())
+}
+
+/// The same, where the number 41 is passed.
+fn assert_told(
+    rt: &impl Abort,
+    alloc: Global,
+    error: OpenError,
+    expected: &str,
+) -> Result<(), Fail> {
+    assert_told_of(rt, alloc, Arg::Scalar(41), error, expected)
+}
+
+#[test]
+fn tells_a_kind(rt: HostRuntime) -> Result<(), Fail> {
+    let expected = "  wanted at place 1: a number in 0..=40\n  passed: nothing\n";
+    assert_told_of(
+        &rt,
+        rt.alloc(),
+        Arg::None,
+        OpenError::WrongKind(1),
+        expected,
+    )
+}
+
+#[test]
+fn tells_a_length(rt: HostRuntime) -> Result<(), Fail> {
+    let expected = "  wanted: the length of vector registers of the certificate\n";
+    assert_told(&rt, rt.alloc(), OpenError::WrongVlen, expected)
 }
 
 #[test]

@@ -1,5 +1,5 @@
 -- Accesses that the check refused, and in which words they are told.
-use Rattle.std.specs.Prelude.{ℕ, ℤ, pos, ◌++◌, ◌==◌, Bool, true, false, List, codes, Option, Some, None, if◌then◌else◌}
+use Rattle.std.specs.Prelude.{ℕ, ℤ, pos, ◌+◌, ◌-◌, ◌++◌, ◌==◌, Bool, true, false, List, codes, Option, Some, None, if◌then◌else◌}
 use Rattle.std.specs.Fmt.{decimal, signed_decimal}
 use Rattle.std.specs.List.{flat_map}
 use Rattle.linear_facts.specs.declared.ranges.Range.{Range}
@@ -9,8 +9,14 @@ use Rattle.rv_decode.specs.declared.instructions.ScalarInsn.{ScalarInsn}
 use Rattle.rv_decode.specs.declared.instructions.ScalarInsn.TheVariants as scalar
 use Rattle.rv_decode.specs.declared.instructions.Direction.{Direction}
 use Rattle.rv_decode.specs.declared.instructions.Direction.TheVariants as direction
+use Rattle.scalar_core.specs.Arithmetic.{unsigned}
 use Rattle.scalar_core.specs.Step.{size_of_load, size_of_store}
+use Rattle.abs_domain.specs.Numbers.{NumbersView}
 use Rattle.abs_domain.specs.declared.zones.Zone.{Zone}
+use Rattle.abs_transfer.specs.Scalar.{address_range}
+use Rattle.abs_transfer.specs.declared.accesses.Reach.{Reach}
+use Rattle.abs_state.specs.After.{reach_of}
+use Rattle.abs_state.specs.State.{AbstractView}
 use Rattle.explanations.specs.Address.{address_text}
 use Rattle.explanations.specs.declared.access.Access.{Access}
 use Rattle.explanations.specs.declared.access.Operand.{Operand}
@@ -50,6 +56,39 @@ operand_of (insn.VPerm i) = None
 operand_of (insn.VReduce i) = None
 operand_of (insn.VMove i) = None
 
+-- so many bytes, the first of which has its address in a range
+abbrev pub reach_from : Range → ℕ → Option Reach
+reach_from r size = Some record { first = r.lo; end = r.hi + size }
+
+-- where the bytes of a load or store may lie
+unfoldable pub scalar_reach : NumbersView → ScalarInsn → Option Reach
+scalar_reach s (scalar.Load kind rd rs1 offset) =
+    reach_from (address_range rs1 (unsigned offset) s) (size_of_load kind)
+scalar_reach s (scalar.Store size rs1 rs2 offset) =
+    reach_from (address_range rs1 (unsigned offset) s) (size_of_store size)
+scalar_reach s (scalar.Lui rd imm) = None
+scalar_reach s (scalar.Auipc rd imm) = None
+scalar_reach s (scalar.Jal rd offset) = None
+scalar_reach s (scalar.Jalr rd rs1 offset) = None
+scalar_reach s (scalar.Branch condition rs1 rs2 offset) = None
+scalar_reach s (scalar.Immediate op rd rs1 imm) = None
+scalar_reach s (scalar.ShiftImmediate op rd rs1 amount) = None
+scalar_reach s (scalar.Register op rd rs1 rs2) = None
+scalar_reach s scalar.Fence = None
+scalar_reach s scalar.Ecall = None
+
+-- the same of any instruction, with what is known before it, if that says where
+unfoldable pub reach_in : Insn → AbstractView → Option Reach
+reach_in (insn.Scalar i) a = scalar_reach a.numbers i
+reach_in (insn.VMem i) a = reach_of a i
+reach_in (insn.Csr i) a = None
+reach_in (insn.VSet i) a = None
+reach_in (insn.VArith i) a = None
+reach_in (insn.VMask i) a = None
+reach_in (insn.VPerm i) a = None
+reach_in (insn.VReduce i) a = None
+reach_in (insn.VMove i) a = None
+
 -- ---- the words
 
 abbrev pub span_text : Range → List ℕ
@@ -87,15 +126,25 @@ offset_line offset = codes "  offset from the base: " ++ (offset_text offset ++ 
 unfoldable pub size_lines : ℤ → ℕ → List ℕ
 size_lines offset size = bytes_line size ++ offset_line offset
 
+-- the first byte and the last one
+abbrev pub reach_line : Option Reach → List ℕ
+reach_line None = codes "  known: nothing of where its bytes lie\n"
+reach_line (Some r) = codes "  known: its bytes in " ++ (address_text r.first
+    ++ (codes "..=" ++ (address_text (r.end - 1) ++ codes "\n")))
+
 abbrev pub access_wanted : Operand → List ℕ
 access_wanted o =
     if o.is_store then codes "  wanted: all bytes in one of these zones that may be written\n"
     else codes "  wanted: all bytes in one of these zones that may be read\n"
 
+-- the lines of what is wanted of an access
+unfoldable pub wanted_lines : Access → List ℕ
+wanted_lines a =
+    reach_line a.reach ++ (access_wanted a.operand ++ zone_lines a.zones.items)
+
 -- the lines of an access
 unfoldable pub access_text : Access → List ℕ
 access_text a =
-    if a.operand.size == 0
-    then base_line a.operand.base a.interval ++ (access_wanted a.operand ++ zone_lines a.zones.items)
-    else base_line a.operand.base a.interval ++ (size_lines a.operand.offset a.operand.size
-    ++ (access_wanted a.operand ++ zone_lines a.zones.items))
+    if a.operand.size == 0 then base_line a.operand.base a.interval ++ wanted_lines a
+    else base_line a.operand.base a.interval
+    ++ (size_lines a.operand.offset a.operand.size ++ wanted_lines a)

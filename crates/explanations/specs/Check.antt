@@ -10,17 +10,20 @@ use Rattle.rv_listing.specs.Listing.{listing_text}
 use Rattle.vreg_groups.specs.declared.vector_length.Vlen.{Vlen}
 use Rattle.vreg_groups.specs.declared.vector_length.Vlen.TheVariants as vlen
 use Rattle.abs_domain.specs.Zones.{zones_of}
+use Rattle.abs_transfer.specs.declared.accesses.Reach.{Reach}
+use Rattle.block_checker.specs.Explained.{before_in}
 use Rattle.block_checker.specs.declared.errors.CheckError.{CheckError}
 use Rattle.block_checker.specs.declared.errors.CheckError.TheVariants as error
 use Rattle.block_checker.specs.declared.explanation.Explanation.{Explanation}
 use Rattle.block_checker.specs.declared.explanation.Part.{Part}
 use Rattle.block_checker.specs.declared.explanation.Part.TheVariants as part
 use Rattle.block_checker.specs.declared.explanation.Stop.{Stop}
-use Rattle.explanations.specs.Access.{access_text, operand_of}
+use Rattle.explanations.specs.Access.{access_text, operand_of, reach_in}
 use Rattle.explanations.specs.Address.{address_text}
-use Rattle.explanations.specs.Edge.{IsEdge, edge_text}
+use Rattle.explanations.specs.Edge.{edge_at, edge_text}
 use Rattle.explanations.specs.declared.access.Operand.{Operand}
 use Rattle.explanations.specs.declared.check.CheckReason.{CheckReason}
+use Rattle.explanations.specs.declared.edge.Edge.{Edge}
 use Rattle.explanations.specs.declared.check.Wanted.{Wanted}
 use Rattle.explanations.specs.declared.check.Wanted.TheVariants as wanted
 
@@ -39,11 +42,18 @@ IsListed (Some stop) text = IsWordListed stop.pc stop.word (option_map string_by
 abbrev pub access_operand : Stop → Option Operand
 access_operand stop = option_and_then operand_of (option_and_then meaning_of stop.word)
 
--- What is told of a load or store: what is known of its base register, and all zones.
+-- where its bytes may lie, with what is known before it
+abbrev pub access_reach : ImageView → CertificateView → Stop → Option Reach
+access_reach image certificate stop =
+    option_and_then (λ insn. option_and_then (reach_in insn) (before_in image certificate stop.part stop.pc))
+    (option_and_then meaning_of stop.word)
+
+-- What is told of a load or store: what is known of its base register, where its bytes may lie, and all zones.
 abbrev pub IsAccessOf : ImageView → CertificateView → Stop → Option Operand → Wanted → Type 0
 IsAccessOf image certificate stop None told = told ≡ wanted.Plain
 IsAccessOf image certificate stop (Some o) (wanted.Access a) =
     (a.operand ≡ o) × (slice_get stop.known o.base ≡ Some a.interval)
+    × (a.reach ≡ access_reach image certificate stop)
     × (a.zones.items ≡ zones_of image certificate.parameters)
 IsAccessOf image certificate stop (Some o) wanted.Plain = ⊥
 IsAccessOf image certificate stop (Some o) (wanted.Length stated bits) = ⊥
@@ -55,13 +65,16 @@ IsAccess image certificate None told = told ≡ wanted.Plain
 IsAccess image certificate (Some stop) told =
     IsAccessOf image certificate stop (access_operand stop) told
 
--- What is told of a way out: the block that it enters, and an interval that this states.
-abbrev pub IsEdgeWanted : CertificateView → Wanted → Type 0
-IsEdgeWanted certificate (wanted.Edge edge) = IsEdge certificate edge
-IsEdgeWanted certificate wanted.Plain = Unit {0}
-IsEdgeWanted certificate (wanted.Length stated bits) = ⊥
-IsEdgeWanted certificate (wanted.Entry entry) = ⊥
-IsEdgeWanted certificate (wanted.Access access) = ⊥
+abbrev pub if_edge : Option Edge → Wanted
+if_edge None = wanted.Plain
+if_edge (Some edge) = wanted.Edge edge
+
+-- What is told of a way out: the one that is refused where the check stops, exactly. `Plain` stands where the word itself is
+-- refused.
+abbrev pub IsEdgeWanted : ImageView → CertificateView → CheckError → Option Stop → Wanted → Type 0
+IsEdgeWanted image certificate e None told = told ≡ wanted.Plain
+IsEdgeWanted image certificate e (Some stop) told =
+    told ≡ if_edge (edge_at image certificate e stop.part stop.pc)
 
 -- what is wanted where a check stops with an error
 abbrev pub IsWantedBy : ImageView → CertificateView → Vlen → CheckError → Option Stop → Wanted → Type 0
@@ -74,13 +87,20 @@ IsWantedBy image certificate bits (error.ReadOnly pc) stop told =
     IsAccess image certificate stop told
 IsWantedBy image certificate bits (error.NotCode pc) stop told = told ≡ wanted.Plain
 IsWantedBy image certificate bits (error.IllegalWord pc) stop told = told ≡ wanted.Plain
-IsWantedBy image certificate bits (error.VtypeUnknown pc) stop told = IsEdgeWanted certificate told
-IsWantedBy image certificate bits (error.TargetNotABlock pc) stop told = IsEdgeWanted certificate told
-IsWantedBy image certificate bits (error.IntervalNotProved pc) stop told = IsEdgeWanted certificate told
-IsWantedBy image certificate bits (error.EqualityNotProved pc) stop told = IsEdgeWanted certificate told
-IsWantedBy image certificate bits (error.OrderNotProved pc) stop told = IsEdgeWanted certificate told
-IsWantedBy image certificate bits (error.VectorFactNotProved pc) stop told = IsEdgeWanted certificate told
-IsWantedBy image certificate bits (error.BudgetNotProved pc) stop told = IsEdgeWanted certificate told
+IsWantedBy image certificate bits (error.VtypeUnknown pc) stop told =
+    IsEdgeWanted image certificate (error.VtypeUnknown pc) stop told
+IsWantedBy image certificate bits (error.TargetNotABlock pc) stop told =
+    IsEdgeWanted image certificate (error.TargetNotABlock pc) stop told
+IsWantedBy image certificate bits (error.IntervalNotProved pc) stop told =
+    IsEdgeWanted image certificate (error.IntervalNotProved pc) stop told
+IsWantedBy image certificate bits (error.EqualityNotProved pc) stop told =
+    IsEdgeWanted image certificate (error.EqualityNotProved pc) stop told
+IsWantedBy image certificate bits (error.OrderNotProved pc) stop told =
+    IsEdgeWanted image certificate (error.OrderNotProved pc) stop told
+IsWantedBy image certificate bits (error.VectorFactNotProved pc) stop told =
+    IsEdgeWanted image certificate (error.VectorFactNotProved pc) stop told
+IsWantedBy image certificate bits (error.BudgetNotProved pc) stop told =
+    IsEdgeWanted image certificate (error.BudgetNotProved pc) stop told
 IsWantedBy image certificate bits (error.BlockTooLong pc) stop told = told ≡ wanted.Plain
 IsWantedBy image certificate bits error.NoMemory stop told = told ≡ wanted.Plain
 

@@ -1,58 +1,74 @@
 -- The way out of a word that the check refused, and in which words it is told.
-use Rattle.std.specs.Prelude.{◌≡◌, ◌==◌, ℕ, ◌++◌, List, [], codes, Option, Some, None, option_map, if◌then◌else◌}
+use Rattle.std.specs.Prelude.{◌==◌, ℕ, ◌++◌, List, [], codes, Option, Some, None, option_map, if◌then◌else◌}
 use Rattle.std.specs.Fmt.{decimal}
 use Rattle.std.specs.List.{slice_get}
+use Rattle.std.specs.Option.{option_and_then}
 use Rattle.cert_note.specs.Certificate.{CertificateView}
 use Rattle.cert_note.specs.declared.values.Block.{Block}
 use Rattle.cert_note.specs.declared.values.Budget.{Budget}
-use Rattle.cert_note.specs.declared.values.RegisterFact.{RegisterFact}
-use Rattle.linear_facts.specs.declared.ranges.Range.{Range}
-use Rattle.explanations.specs.Access.{span_text}
+use Rattle.elf_image.specs.Image.{ImageView}
+use Rattle.scalar_core.specs.Hart.{exit}
+use Rattle.abs_state.specs.Branches.{EdgeView}
+use Rattle.block_checker.specs.declared.errors.CheckError.{CheckError}
+use Rattle.block_checker.specs.declared.explanation.Part.{Part}
+use Rattle.block_checker.specs.declared.explanation.Part.TheVariants as part
+use Rattle.block_checker.specs.Explained.{edge_in, place_in}
 use Rattle.explanations.specs.Address.{address_text}
+use Rattle.explanations.specs.Unshown.{unshown_of, unshown_text}
 use Rattle.explanations.specs.declared.edge.Edge.{Edge}
 use Rattle.explanations.specs.declared.edge.Entered.{Entered}
 use Rattle.explanations.specs.declared.edge.Left.{Left}
-use Rattle.explanations.specs.declared.edge.Stated.{Stated}
 
 -- ---- what is told
 
-abbrev pub IsFact : Stated → Option RegisterFact → Type 0
-IsFact told None = ⊥
-IsFact told (Some fact) =
-    (told.register ≡ fact.number) × (told.low ≡ fact.low) × (told.high ≡ fact.high)
+abbrev pub left_at : ℕ → Option Block → Option Left
+left_at place None = None
+left_at place (Some block) = Some record { block = place; budget = block.budget }
 
--- What is told is an interval that the block states.
-abbrev pub IsStated : Block → Stated → Type 0
-IsStated block told = IsFact told (slice_get block.registers.items told.place)
+-- the block of a part of the check; the way into the first block leaves none
+unfoldable pub left_of : CertificateView → Part → Option Left
+left_of certificate part.Entry = None
+left_of certificate (part.Block start) =
+    option_and_then (λ place. left_at place (slice_get certificate.blocks place))
+    (place_in start certificate.blocks)
 
-abbrev pub IsStatedIn : Block → Option Stated → Type 0
-IsStatedIn block None = Unit {0}
-IsStatedIn block (Some told) = IsStated block told
+abbrev pub entered_at : CheckError → Option Budget → EdgeView → ℕ → Option Block → Option Entered
+entered_at error own e place None = None
+entered_at error own e place (Some block) = Some record {
+  block = place;
+  start = block.start;
+  budget = block.budget;
+  unshown = unshown_of error own e block;
+}
 
-abbrev pub IsBlockOf : Entered → Option Block → Type 0
-IsBlockOf told None = ⊥
-IsBlockOf told (Some block) = (told.start ≡ block.start) × (told.budget ≡ block.budget)
-    × IsStatedIn block told.interval
+-- the block of the certificate that begins at an address
+unfoldable pub entered_by : CheckError → Option Budget → EdgeView → List Block → ℕ → Option Entered
+entered_by error own e blocks address =
+    if address == exit then None
+    else option_and_then (λ place. entered_at error own e place (slice_get blocks place))
+    (place_in address blocks)
 
--- What is told is a block of the certificate.
-abbrev pub IsEntered : CertificateView → Entered → Type 0
-IsEntered certificate told = IsBlockOf told (slice_get certificate.blocks told.block)
+-- the block to which an edge leads, if it leads to one
+unfoldable pub entered_of : CertificateView → CheckError → Option Budget → EdgeView → Option Entered
+entered_of certificate error own e =
+    option_and_then (entered_by error own e certificate.blocks) e.target
 
-abbrev pub IsEnteredBy : CertificateView → Option ℕ → Option Entered → Type 0
-IsEnteredBy certificate target None = Unit {0}
-IsEnteredBy certificate target (Some told) =
-    (target ≡ Some told.start) × IsEntered certificate told
+abbrev pub budget_of : Option Left → Option Budget
+budget_of left = option_map (λ block. block.budget) left
 
--- What is told of the block that is left is a block of the certificate with its budget.
-abbrev pub IsLeft : CertificateView → Option Left → Type 0
-IsLeft certificate None = Unit {0}
-IsLeft certificate (Some told) =
-    option_map (λ block. block.budget) (slice_get certificate.blocks told.block) ≡ Some told.budget
+-- what is told of an edge out of a part of the check, which has this error
+unfoldable pub edge_told : CertificateView → CheckError → Part → EdgeView → Edge
+edge_told certificate error part e = record {
+  target = e.target;
+  words = e.state.words;
+  left = left_of certificate part;
+  entered = entered_of certificate error (budget_of (left_of certificate part)) e;
+}
 
--- What is told of an edge: the block of the certificate that begins where it leads, and the one that it leaves.
-abbrev pub IsEdge : CertificateView → Edge → Type 0
-IsEdge certificate told =
-    IsEnteredBy certificate told.target told.entered × IsLeft certificate told.left
+-- what is told where a part of the check stops at pc with this error: the edge that is refused
+unfoldable pub edge_at : ImageView → CertificateView → CheckError → Part → ℕ → Option Edge
+edge_at image certificate error part pc =
+    option_map (edge_told certificate error part) (edge_in image certificate part pc)
 
 -- ---- the words
 
@@ -80,31 +96,9 @@ left_line None = []
 left_line (Some told) = codes "  leaves block " ++ (decimal told.block
     ++ (codes " of the certificate, with a budget of " ++ (budget_text told.budget ++ codes "\n")))
 
-unfoldable pub name_text : ℕ → List ℕ
-name_text number = if number == 32 then codes "vl" else codes "x" ++ decimal number
-
-abbrev pub stated_interval : Stated → Range
-stated_interval told = record { lo = told.low; hi = told.high }
-
-abbrev pub known_line : ℕ → Range → List ℕ
-known_line register range = codes "  known: " ++ (name_text register
-    ++ (codes " in " ++ (span_text range ++ codes "\n")))
-
-abbrev pub wanted_line : ℕ → Range → List ℕ
-wanted_line register range = codes "  wanted on entering it: " ++ (name_text register
-    ++ (codes " in " ++ (span_text range ++ codes "\n")))
-
-unfoldable pub stated_text : Stated → List ℕ
-stated_text told =
-    known_line told.register told.known ++ wanted_line told.register (stated_interval told)
-
-abbrev pub interval_lines : Option Stated → List ℕ
-interval_lines None = []
-interval_lines (Some told) = stated_text told
-
 unfoldable pub entered_lines : Option Entered → List ℕ
 entered_lines None = []
-entered_lines (Some told) = block_line told.block told.budget ++ interval_lines told.interval
+entered_lines (Some told) = block_line told.block told.budget ++ unshown_text told.unshown
 
 -- the lines of an edge
 unfoldable pub edge_text : Edge → List ℕ

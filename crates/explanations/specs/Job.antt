@@ -1,5 +1,5 @@
 -- Why a job is refused, and in which words it is told.
-use Rattle.std.specs.Prelude.{◌≡◌, ◌<◌, ℕ, ◌++◌, ◌==◌, Bool, true, false, List, codes, length, filter, take, Option, Some, None, is_some, string_bytes}
+use Rattle.std.specs.Prelude.{◌≡◌, ◌<◌, ◌≤◌, ℕ, ◌+◌, ◌++◌, ◌==◌, nat_lt, nat_le, ◌||◌, if◌then◌else◌, Bool, true, false, List, codes, length, filter, fold, take, Option, Some, None, is_some, string_bytes}
 use Rattle.std.specs.Fmt.{decimal}
 use Rattle.std.specs.Prelude.{slice_index_or}
 use Rattle.std.specs.Str.{IsUtf8}
@@ -53,6 +53,7 @@ make_lacks (param.Buffer mode size file out) =
 -- the first key that a command lacks of a parameter
 abbrev pub param_lacks : Command → Param Text → Option JobKey
 param_lacks command.Run p = run_lacks p
+param_lacks command.Mon p = run_lacks p
 param_lacks command.Try p = try_lacks p
 param_lacks command.Make p = make_lacks p
 
@@ -63,6 +64,7 @@ start_lacks j = or_else (lacked_of j.image key.Image)
 -- the first key of a job's own table that a command lacks
 abbrev pub job_lacks : Command → Job Text → Option JobKey
 job_lacks command.Run j = or_else (lacked_of j.vlen key.Vlen) (start_lacks j)
+job_lacks command.Mon j = or_else (lacked_of j.vlen key.Vlen) (start_lacks j)
 job_lacks command.Try j = or_else (lacked_of j.vlen key.Vlen) (start_lacks j)
 job_lacks command.Make j = lacked_of j.vlen key.Vlen
 
@@ -70,6 +72,7 @@ job_lacks command.Make j = lacked_of j.vlen key.Vlen
 
 abbrev pub is_taken : Command → Members → Bool
 is_taken command.Run ms = is_some (run_job_in ms)
+is_taken command.Mon ms = is_some (run_job_in ms)
 is_taken command.Try ms = is_some (try_job_in ms)
 is_taken command.Make ms = is_some (make_job_in ms)
 
@@ -91,10 +94,27 @@ IsTableReason c ms (Some (reason.Wrong t k)) =
 IsTableReason c ms (Some (reason.Unknown t name)) = is_taken c ms ≡ false
 IsTableReason c ms (Some reason.TooMany) = is_taken c ms ≡ false
 IsTableReason c ms (Some (reason.NotUtf8 byte)) = ⊥
-IsTableReason c ms (Some (reason.NotToml line byte)) = ⊥
+IsTableReason c ms (Some (reason.NotToml line column byte)) = ⊥
 
 abbrev pub lines_in : List ℕ → ℕ
 lines_in bytes = length (filter (λ byte. byte == 10) bytes)
+
+-- the line, counted from 1, of what stands behind these bytes
+abbrev pub line_behind : List ℕ → ℕ
+line_behind bytes = lines_in bytes + 1
+
+-- a byte begins a character of UTF-8: it is not between 0x80 and 0xbf
+abbrev pub begins_character : ℕ → Bool
+begins_character byte = nat_lt byte 128 || nat_le 192 byte
+
+-- the column of what stands behind one byte more
+unfoldable pub next_column : ℕ → ℕ → ℕ
+next_column column byte =
+    if byte == 10 then 1 else (if begins_character byte then column + 1 else column)
+
+-- the column, in characters and counted from 1, of what stands behind these bytes
+abbrev pub column_behind : List ℕ → ℕ
+column_behind bytes = fold next_column 1 bytes
 
 -- a text has a table, of which this is true
 abbrev pub IfTable : (Members → Type 0) → Option Members → Type 0
@@ -105,8 +125,9 @@ IfTable True (Some ms) = True ms
 abbrev pub IsJobReason : Command → List ℕ → Option JobReason → Type 0
 IsJobReason c text (Some (reason.NotUtf8 byte)) =
     (byte ≡ utf8_valid_len text) × (¬ (IsUtf8 text))
-IsJobReason c text (Some (reason.NotToml line byte)) =
-    (parse_document text ≡ None) × (line ≡ lines_in (take byte text))
+IsJobReason c text (Some (reason.NotToml line column byte)) = (parse_document text ≡ None)
+    × (line ≡ line_behind (take byte text)) × (column ≡ column_behind (take byte text))
+    × (byte ≤ length text)
 IsJobReason c text (Some reason.Broken) =
     IfTable (λ ms. IsTableReason c ms (Some reason.Broken)) (parse_document text)
 IsJobReason c text (Some (reason.Missing t k d)) =
@@ -123,6 +144,7 @@ IsJobReason c text None = IfTable (λ ms. IsTableReason c ms None) (parse_docume
 
 abbrev pub command_name : Command → List ℕ
 command_name command.Run = codes "run"
+command_name command.Mon = codes "mon"
 command_name command.Try = codes "try"
 command_name command.Make = codes "make"
 
@@ -139,8 +161,8 @@ in_text t k = codes " in " ++ (table_text t ++ (codes ": " ++ (key_wanted k ++ c
 -- the lines of a reason
 abbrev pub job_text : JobReason → List ℕ
 job_text (reason.NotUtf8 byte) = codes "  not UTF-8 from byte " ++ (decimal byte ++ codes " on\n")
-job_text (reason.NotToml line byte) = codes "  not TOML from byte " ++ (decimal byte
-    ++ (codes " on, behind " ++ (decimal line ++ codes " whole lines\n")))
+job_text (reason.NotToml line column byte) = codes "  not TOML from byte " ++ (decimal byte
+    ++ (codes " on: line " ++ (decimal line ++ (codes ", column " ++ (decimal column ++ codes "\n")))))
 job_text reason.Broken =
     codes "  wanted: no other keys, and each value of its type and range\n"
 job_text (reason.Missing t k c) = needs_text k c ++ in_text t k

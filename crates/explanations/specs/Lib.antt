@@ -9,3 +9,6 @@ pub mod Job
 pub mod Edge
 pub mod Keys
 pub mod Rules
+pub mod Sums
+pub mod Unshown
+pub mod Make

@@ -47,4 +47,4 @@ IsBreach ms reason.TooMany = Unit {0}
 IsBreach ms reason.Broken = ⊥
 IsBreach ms (reason.Missing t k c) = ⊥
 IsBreach ms (reason.NotUtf8 byte) = ⊥
-IsBreach ms (reason.NotToml line byte) = ⊥
+IsBreach ms (reason.NotToml line column byte) = ⊥

@@ -1,13 +1,17 @@
 //! Accesses that the check refused, and the zones of memory of a run.
 ghost use Rattle.std.specs.Prelude.{◌≡◌};
 ghost use Rattle.scalar_core.specs.Step.{size_of_load, size_of_store};
-ghost use Rattle.explanations.specs.Access.{access_wanted, is_store, operand_of, rights_text, scalar_operand};
+ghost use Rattle.abs_transfer.specs.Scalar.{address_range as address_range_of};
+ghost use Rattle.explanations.specs.Access.{access_wanted, is_store, operand_of, reach_from as reach_from_of};
+ghost use Rattle.explanations.specs.Access.{reach_in as reach_in_of, rights_text, scalar_operand};
+ghost use Rattle.explanations.specs.Access.{scalar_reach as scalar_reach_of};
 
 use crate::address::Address;
-use abs_state::Zone;
+use abs_state::{Abstract, Numbers, Reach, Zone, address_range};
 use arrayvec::ArrayVec;
 use linear_facts::Range;
 use rv_decode::{Direction, Insn, LoadKind, ScalarInsn, Width};
+use std::alloc::Allocator;
 use std::fmt;
 
 /// The register to which a load or store adds its offset, the offset, and how many bytes are accessed, of a vector
@@ -26,6 +30,8 @@ pub struct Access {
     pub operand: Operand,
     /// What is known of the base register.
     pub interval: Range,
+    /// Where its bytes may lie, if that is known.
+    pub reach: Option<Reach>,
     /// The zones of memory of a run.
     pub zones: ArrayVec<Zone, 25>,
 }
@@ -114,6 +120,65 @@ pub(crate) fn operand_of(insn: &Insn) -> Option<Operand>
             offset: 0,
             size: 0,
         }),
+        Insn::Csr(_)
+        | Insn::VSet(_)
+        | Insn::VArith(_)
+        | Insn::VMask(_)
+        | Insn::VPerm(_)
+        | Insn::VReduce(_)
+        | Insn::VMove(_) => None,
+    }
+}
+
+/// So many bytes, the first of which has its address in a range.
+fn reach_from(range: Range, size: u8) -> Option<Reach>
+    ensures { result ≡ reach_from_of range size }
+{
+    Some(Reach {
+        first: u64::from(range.lo),
+        end: u64::from(range.hi) + u64::from(size),
+    })
+}
+
+/// Where the bytes of a load or store may lie.
+#[tactic(auto, unfolding(crate::specs::Access::scalar_reach))]
+fn scalar_reach<A: Allocator>(numbers: &Numbers<A>, insn: ScalarInsn) -> Option<Reach>
+    ensures { result ≡ scalar_reach_of numbers.now insn }
+{
+    match insn {
+        ScalarInsn::Load {
+            kind,
+            rs1,
+            offset,
+            ..
+        } => reach_from(address_range(numbers, rs1, offset), load_size(kind)),
+        ScalarInsn::Store {
+            size,
+            rs1,
+            offset,
+            ..
+        } => reach_from(address_range(numbers, rs1, offset), store_size(size)),
+        ScalarInsn::Lui { .. }
+        | ScalarInsn::Auipc { .. }
+        | ScalarInsn::Jal { .. }
+        | ScalarInsn::Jalr { .. }
+        | ScalarInsn::Branch { .. }
+        | ScalarInsn::Immediate { .. }
+        | ScalarInsn::ShiftImmediate { .. }
+        | ScalarInsn::Register { .. }
+        | ScalarInsn::Fence
+        | ScalarInsn::Ecall => None,
+    }
+}
+
+/// Where the bytes of an instruction's access may lie, with what is known before it.
+#[tactic(auto, unfolding(crate::specs::Access::reach_in))]
+pub(crate) fn reach_in<A: Allocator>(state: &Abstract<A>, insn: &Insn) -> Option<Reach>
+    ensures { result ≡ reach_in_of insn.now state.now }
+{
+    match insn {
+        Insn::Scalar(insn) => scalar_reach(state.numbers(), *insn),
+        Insn::VMem(insn) => state.reach(insn),
         Insn::Csr(_)
         | Insn::VSet(_)
         | Insn::VArith(_)
@@ -281,6 +346,28 @@ impl fmt::Display for SizeLines {
     }
 }
 
+/// The first byte and the last one that may be accessed, as a line.
+#[derive(Clone, Copy)]
+struct ReachLine(Option<Reach>);
+
+impl fmt::Display for ReachLine {
+    ghost use Rattle.std.specs.Prelude.{Some};
+    ghost use Rattle.explanations.specs.Access.{reach_line};
+
+    ghost output = { λ line. Some (reach_line line.0) };
+
+    fn fmt<W: fmt::Write>(&self, f: &mut fmt::Formatter<W>) -> fmt::Result {
+        match self.0 {
+            None => writeln!(f, "  known: nothing of where its bytes lie"),
+            Some(reach) => {
+                let first = Address(reach.first);
+                let last = Address(reach.end.saturating_sub(1));
+                writeln!(f, "  known: its bytes in {first}..={last}")
+            }
+        }
+    }
+}
+
 /// What is wanted, as a line.
 fn access_wanted(operand: Operand) -> &'static str
     ensures { result.now ≡ access_wanted operand }
@@ -289,6 +376,26 @@ fn access_wanted(operand: Operand) -> &'static str
         "  wanted: all bytes in one of these zones that may be written\n"
     } else {
         "  wanted: all bytes in one of these zones that may be read\n"
+    }
+}
+
+/// What is wanted of an access.
+#[derive(Clone, Copy)]
+struct WantedLines<'a>(&'a Access);
+
+impl fmt::Display for WantedLines<'_> {
+    ghost use Rattle.std.specs.Prelude.{Some};
+    ghost use Rattle.explanations.specs.Access.{wanted_lines};
+
+    ghost output = { λ lines. Some (wanted_lines lines.0.now) };
+
+    #[tactic(auto, unfolding(crate::specs::Access::wanted_lines))]
+    fn fmt<W: fmt::Write>(&self, f: &mut fmt::Formatter<W>) -> fmt::Result {
+        let access = self.0;
+        let reach = ReachLine(access.reach);
+        let wanted = access_wanted(access.operand);
+        let zones = ZoneLines(access.zones.as_slice());
+        write!(f, "{reach}{wanted}{zones}")
     }
 }
 
@@ -308,12 +415,11 @@ impl fmt::Display for Access {
             offset: self.operand.offset,
             size: self.operand.size,
         };
-        let wanted = access_wanted(self.operand);
-        let zones = ZoneLines(self.zones.as_slice());
+        let wanted = WantedLines(self);
         if self.operand.size == 0 {
-            write!(f, "{base}{wanted}{zones}")
+            write!(f, "{base}{wanted}")
         } else {
-            write!(f, "{base}{size}{wanted}{zones}")
+            write!(f, "{base}{size}{wanted}")
         }
     }
 }

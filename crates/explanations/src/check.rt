@@ -1,20 +1,22 @@
 //! Why an image is refused with its certificate: the word at which the check stopped, what was known there, and what
 //! was wanted.
 ghost use Rattle.std.specs.Prelude.{◌≡◌, IfOk, IfSome, option_map, string_bytes};
-ghost use Rattle.block_checker.specs.Explained.{Explains, answer_of};
+ghost use Rattle.std.specs.Option.{option_and_then};
+ghost use Rattle.block_checker.specs.Explained.{Explains, answer_of, before_in};
 ghost use Rattle.block_checker.specs.Passes.{checked as checked_of};
 ghost use Rattle.rv_listing.specs.Listing.{listing_text};
 ghost use Rattle.std.specs.Str.Lossy.{utf8_lossy};
+ghost use Rattle.explanations.specs.Access.{reach_in as reach_in_of};
 ghost use Rattle.explanations.specs.Check.{IsAccess, IsEdgeWanted, IsListed, IsWanted, rule};
 
-use crate::access::{Access, operand_of};
+use crate::access::{Access, operand_of, reach_in};
 use crate::address::Address;
 use crate::edge::{Edge, edge_at};
-use abs_state::memory_zones;
-use block_checker::{CheckError, Explanation, Part, Stop, explain};
+use abs_state::{Reach, memory_zones};
+use block_checker::{CheckError, Explanation, Part, Stop, explain, state_before};
 use cert_note::Certificate;
 use elf_image::Image;
-use rv_decode::decode;
+use rv_decode::{Insn, decode};
 use rv_listing::{Over, put_listing};
 use std::alloc::{AllocError, Allocator, Global};
 use std::fmt;
@@ -47,7 +49,11 @@ pub struct CheckReason<A: Allocator = Global> {
 }
 
 /// A word as it is listed.
-fn listed<A: Allocator + Copy>(alloc: A, word: u32, pc: u32) -> Result<String<A>, AllocError>
+pub(crate) fn listed<A: Allocator + Copy>(
+    alloc: A,
+    word: u32,
+    pc: u32,
+) -> Result<String<A>, AllocError>
     ensures { IfOk result (λ text. string_bytes text ≡ utf8_lossy (listing_text pc word)) }
 {
     let mut out = Over::new(Vec::new(alloc));
@@ -79,31 +85,51 @@ fn listing_of<A: Allocator + Copy>(
     }
 }
 
+/// Where the bytes of an access at which a check stopped may lie.
+fn reach_at<A: Allocator + Copy, B: Allocator, C: Allocator>(
+    alloc: A,
+    image: &Image<B>,
+    certificate: &Certificate<C>,
+    stop: &Stop,
+    insn: &Insn,
+) -> Result<Option<Reach>, AllocError>
+    ensures { IfOk result (λ reach. reach ≡ option_and_then (reach_in_of insn.now)
+        (before_in image.now certificate.now stop.now.part stop.now.pc)) }
+{
+    match state_before(alloc, image, certificate, stop.part, stop.pc)? {
+        None => Ok(None),
+        Some(state) => Ok(reach_in(&state, insn)),
+    }
+}
+
 /// What an access at which a check stopped wants.
-fn access_at<B: Allocator, C: Allocator>(
+fn access_at<A: Allocator + Copy, B: Allocator, C: Allocator>(
+    alloc: A,
     image: &Image<B>,
     certificate: &Certificate<C>,
     stop: &Option<Stop>,
-) -> Wanted
-    ensures { IsAccess image.now certificate.now stop.now result }
+) -> Result<Wanted, AllocError>
+    ensures { IfOk result (IsAccess image.now certificate.now stop.now) }
 {
     let Some(stop) = stop else {
-        return Wanted::Plain;
+        return Ok(Wanted::Plain);
     };
     let Some(word) = stop.word else {
-        return Wanted::Plain;
+        return Ok(Wanted::Plain);
     };
     let Some(insn) = decode(word) else {
-        return Wanted::Plain;
+        return Ok(Wanted::Plain);
     };
     let Some(operand) = operand_of(&insn) else {
-        return Wanted::Plain;
+        return Ok(Wanted::Plain);
     };
-    Wanted::Access(Access {
+    let reach = reach_at(alloc, image, certificate, stop, &insn)?;
+    Ok(Wanted::Access(Access {
         operand,
         interval: stop.known[usize::from(operand.base)],
+        reach,
         zones: memory_zones(image, &certificate.contents().parameters),
-    })
+    }))
 }
 
 /// What a way out at which a check stopped wants.
@@ -111,14 +137,15 @@ fn edge_wanted<A: Allocator + Copy, B: Allocator, C: Allocator>(
     alloc: A,
     image: &Image<B>,
     certificate: &Certificate<C>,
+    error: CheckError,
     stop: &Option<Stop>,
 ) -> Result<Wanted, AllocError>
-    ensures { IfOk result (IsEdgeWanted certificate.now) }
+    ensures { IfOk result (IsEdgeWanted image.now certificate.now error stop.now) }
 {
     let Some(stop) = stop else {
         return Ok(Wanted::Plain);
     };
-    match edge_at(alloc, image, certificate, stop)? {
+    match edge_at(alloc, image, certificate, error, stop.part, stop.pc)? {
         Some(edge) => Ok(Wanted::Edge(edge)),
         None => Ok(Wanted::Plain),
     }
@@ -141,7 +168,7 @@ fn wanted_of<A: Allocator + Copy, B: Allocator, C: Allocator>(
         }),
         CheckError::NoEntryBlock => Ok(Wanted::Entry(image.entry())),
         CheckError::AccessNotProved(_) | CheckError::ReadOnly(_) => {
-            Ok(access_at(image, certificate, &explanation.stop))
+            access_at(alloc, image, certificate, &explanation.stop)
         }
         CheckError::VtypeUnknown(_)
         | CheckError::TargetNotABlock(_)
@@ -150,7 +177,13 @@ fn wanted_of<A: Allocator + Copy, B: Allocator, C: Allocator>(
         | CheckError::OrderNotProved(_)
         | CheckError::VectorFactNotProved(_)
         | CheckError::BudgetNotProved(_) => {
-            edge_wanted(alloc, image, certificate, &explanation.stop)
+            edge_wanted(
+                alloc,
+                image,
+                certificate,
+                explanation.error,
+                &explanation.stop,
+            )
         }
         CheckError::NotCode(_)
         | CheckError::IllegalWord(_)

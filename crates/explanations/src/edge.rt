@@ -1,40 +1,28 @@
 //! The way out of a word that the check refused: the block that it enters, and what is not shown of it.
-ghost use Rattle.std.specs.Prelude.{◌≡◌, ◌<◌, IfSome, IfOk, length};
-ghost use Rattle.explanations.specs.Edge.{IsEdge, IsEntered, IsLeft, IsStated};
+ghost use Rattle.std.specs.Prelude.{◌≡◌, IfOk};
+ghost use Rattle.explanations.specs.Edge.{budget_of};
+ghost use Rattle.explanations.specs.Edge.{edge_at as edge_at_of, edge_told, entered_at as entered_at_of};
+ghost use Rattle.explanations.specs.Edge.{entered_by as entered_by_of, entered_of, left_of};
 
-use crate::access::Span;
 use crate::address::Address;
-use abs_state::{Abstract, Edge as Way, MOST_WORDS, Why, implies};
-use arrayvec::ArrayVec;
-use block_checker::{Part, Stop};
-use cert_note::{Block, Budget, Certificate, RegisterFact};
+use crate::unshown::{Unshown, unshown_in};
+use abs_state::Edge as Way;
+use block_checker::{CheckError, Part, place_of, refused_edge, state_behind};
+use cert_note::{Budget, Certificate};
 use elf_image::Image;
-use linear_facts::Range;
-use rv_decode::decode;
+use scalar_core::EXIT;
 use std::alloc::{AllocError, Allocator};
 use std::fmt;
 
-/// An interval that a block states, and what is known behind the word.
-#[derive(Clone, Copy, Debug, PartialEq, Eq)]
-pub struct Stated {
-    /// The number of the fact among those of the block, from 0 on.
-    pub place: usize,
-    pub register: u8,
-    pub low: u32,
-    pub high: u32,
-    /// What is known of the register behind the word; a branch may tell more of it.
-    pub known: Range,
-}
-
 /// The block that a way out of a word enters.
-#[derive(Clone, Copy, Debug, PartialEq, Eq)]
+#[derive(Debug, Drop)]
 pub struct Entered {
     /// The number of the block in the certificate, from 0 on.
     pub block: usize,
     pub start: u32,
     pub budget: Budget,
-    /// The first interval that is not shown.
-    pub interval: Option<Stated>,
+    /// What of the block is not shown.
+    pub unshown: Unshown,
 }
 
 /// The block that a way out of a word leaves.
@@ -46,7 +34,7 @@ pub struct Left {
 }
 
 /// A way out of a word that the check refused.
-#[derive(Clone, Copy, Debug, PartialEq, Eq)]
+#[derive(Debug, Drop)]
 pub struct Edge {
     /// Where it leads, if that is known.
     pub target: Option<u32>,
@@ -58,211 +46,110 @@ pub struct Edge {
     pub entered: Option<Entered>,
 }
 
-/// A block of which nothing is stated but one interval.
-fn alone(start: u32, fact: &RegisterFact) -> Block {
-    let mut registers = ArrayVec::new();
-    registers.push(RegisterFact {
-        number: fact.number,
-        low: fact.low,
-        high: fact.high,
-        equality: None,
-    });
-    Block {
-        start,
-        budget: Budget {
-            constant: 0,
-            factor: 0,
-            register: 0,
-            second_factor: 0,
-            second_register: 0,
-        },
-        vtype: None,
-        registers,
-        vectors: ArrayVec::new(),
-        orders: ArrayVec::new(),
-    }
-}
-
-/// Whether an interval is not shown on a way to the block.
-fn is_unshown<A: Allocator>(way: &Way<'_, A>, start: u32, fact: &RegisterFact) -> bool {
-    let block = alone(start, fact);
-    match implies(way, Some(&block)) {
-        Ok(()) => false,
-        Err(why) => why == Why::IntervalNotProved,
-    }
-}
-
-/// The first interval of a block that is not shown.
-fn first_unshown<A: Allocator>(
-    state: &Abstract<A>,
-    way: &Way<'_, A>,
-    block: &Block,
-) -> Option<Stated>
-    ensures { IfSome result (IsStated block.now) }
+/// The block of a part of the check.
+#[tactic(auto, unfolding(crate::specs::Edge::left_of))]
+fn left_block<C: Allocator>(certificate: &Certificate<C>, part: Part) -> Option<Left>
+    ensures { result ≡ left_of certificate.now part }
 {
-    let facts = block.registers.as_slice();
-    for place in 0..facts.len() {
-        let fact = &facts[place];
-        let number = usize::from(fact.number);
-        if number < 33 && is_unshown(way, block.start, fact) {
-            return Some(Stated {
-                place,
-                register: fact.number,
-                low: fact.low,
-                high: fact.high,
-                known: state.numbers().range_at(number),
-            });
+    match part {
+        Part::Entry => None,
+        Part::Block(start) => {
+            let block = place_of(certificate, start)?;
+            Some(Left {
+                block,
+                budget: certificate.contents().blocks[block].budget,
+            })
         }
     }
-    None
 }
 
-/// The block of the certificate that begins where a way leads.
-fn block_entered<A: Allocator, C: Allocator>(
-    state: &Abstract<A>,
-    way: &Way<'_, A>,
+/// The block of the certificate that begins at an address.
+#[tactic(auto, unfolding(crate::specs::Edge::entered_by))]
+fn entered_by<A: Allocator, C: Allocator>(
     certificate: &Certificate<C>,
-    target: u32,
+    error: CheckError,
+    own: Option<Budget>,
+    way: &Way<'_, A>,
+    address: u32,
 ) -> Option<Entered>
-    ensures { IfSome result (λ told. (told.start ≡ target) × IsEntered certificate.now told) }
+    ensures { result ≡ entered_by_of error own way.now certificate.now.blocks address }
 {
-    let blocks = certificate.contents().blocks.as_slice();
-    for index in 0..blocks.len() {
-        let block = &blocks[index];
-        if block.start == target {
-            return Some(Entered {
-                block: index,
-                start: block.start,
-                budget: block.budget,
-                interval: first_unshown(state, way, block),
-            });
-        }
+    if address == EXIT {
+        return None;
     }
-    None
+    let place = place_of(certificate, address)?;
+    let block = &certificate.contents().blocks[place];
+    Some(Entered {
+        block: place,
+        start: block.start,
+        budget: block.budget,
+        unshown: unshown_in(error, own, way, block),
+    })
 }
 
-/// What is told of a way out of a word.
-fn edge_on<A: Allocator, C: Allocator>(
-    state: &Abstract<A>,
+/// The block to which a way leads, if it leads to one.
+#[tactic(auto, unfolding(crate::specs::Edge::entered_of))]
+fn entered_block<A: Allocator, C: Allocator>(
+    certificate: &Certificate<C>,
+    error: CheckError,
+    own: Option<Budget>,
     way: &Way<'_, A>,
+) -> Option<Entered>
+    ensures { result ≡ entered_of certificate.now error own way.now }
+{
+    match way.target() {
+        None => None,
+        Some(address) => entered_by(certificate, error, own, way, address),
+    }
+}
+
+/// The budget of the block that is left.
+fn budget_of(left: Option<Left>) -> Option<Budget>
+    ensures { result ≡ budget_of left }
+{
+    match left {
+        None => None,
+        Some(left) => Some(left.budget),
+    }
+}
+
+/// What is told of a way out.
+#[tactic(auto, unfolding(crate::specs::Edge::edge_told))]
+fn told<A: Allocator, C: Allocator>(
     certificate: &Certificate<C>,
-    left: Option<Left>,
+    error: CheckError,
+    part: Part,
+    way: &Way<'_, A>,
 ) -> Edge
-    requires { IsLeft certificate.now left }
-    ensures { IsEdge certificate.now result }
+    ensures { result ≡ edge_told certificate.now error part way.now }
 {
-    let target = way.target();
-    let entered = match target {
-        None => None,
-        Some(address) => block_entered(state, way, certificate, address),
-    };
+    let left = left_block(certificate, part);
     Edge {
-        target,
-        words: state.words(),
+        target: way.target(),
+        words: way.words(),
         left,
-        entered,
+        entered: entered_block(certificate, error, budget_of(left), way),
     }
 }
 
-/// The number of the block that begins at an address.
-fn index_of(blocks: &[Block], address: u32) -> Option<usize>
-    ensures { IfSome result (λ index. index < length blocks.now) }
-{
-    blocks.iter().position(|block| block.start == address)
-}
-
-/// The way out of the last word where a branch is taken, or where it isn't, if it is refused.
-fn refused_when<A: Allocator, C: Allocator>(
-    state: &Abstract<A>,
-    certificate: &Certificate<C>,
-    left: Option<Left>,
-    taken: bool,
-) -> Option<Edge>
-    requires { IsLeft certificate.now left }
-    ensures { IfSome result (IsEdge certificate.now) }
-{
-    let way = state.refine(taken)?;
-    let blocks = certificate.contents().blocks.as_slice();
-    let block = match way.target() {
-        None => None,
-        Some(address) => match index_of(blocks, address) {
-            None => None,
-            Some(index) => Some(&blocks[index]),
-        },
-    };
-    match implies(&way, block) {
-        Ok(()) => None,
-        Err(_) => Some(edge_on(state, &way, certificate, left)),
-    }
-}
-
-/// The way out of the last word that is refused, of a branch the one where it is taken first.
-fn refused_edge<A: Allocator, C: Allocator>(
-    state: &Abstract<A>,
-    certificate: &Certificate<C>,
-    left: Option<Left>,
-) -> Option<Edge>
-    requires { IsLeft certificate.now left }
-    ensures { IfSome result (IsEdge certificate.now) }
-{
-    match refused_when(state, certificate, left, true) {
-        Some(edge) => Some(edge),
-        None => refused_when(state, certificate, left, false),
-    }
-}
-
-/// The way out of the word at pc in the block that begins at an address, if it is refused.
-fn edge_in_block<A: Allocator + Copy, B: Allocator, C: Allocator>(
-    alloc: A,
-    image: &Image<B>,
-    certificate: &Certificate<C>,
-    start: u32,
-    pc: u32,
-) -> Result<Option<Edge>, AllocError>
-    ensures { IfOk result (λ told. IfSome told (IsEdge certificate.now)) }
-{
-    let Some(index) = index_of(certificate.contents().blocks.as_slice(), start) else {
-        return Ok(None);
-    };
-    let left = Some(Left {
-        block: index,
-        budget: certificate.contents().blocks[index].budget,
-    });
-    let mut state = Abstract::at_block(alloc, certificate, image, index)?;
-    let mut at = start;
-    for _word in 0..MOST_WORDS {
-        let Some(word) = image.code_at(at) else {
-            return Ok(None);
-        };
-        let Some(insn) = decode(word) else {
-            return Ok(None);
-        };
-        if state.after(at, &insn).is_err() {
-            return Ok(None);
-        }
-        if at == pc {
-            return Ok(refused_edge(&state, certificate, left));
-        }
-        at = at.wrapping_add(4);
-    }
-    Ok(None)
-}
-
-/// The way out at which a check stopped.
+/// The way out that is refused where a part of the check stops at pc; `None` where the word itself is refused.
+#[tactic(auto, unfolding(crate::specs::Edge::edge_at))]
 pub(crate) fn edge_at<A: Allocator + Copy, B: Allocator, C: Allocator>(
     alloc: A,
     image: &Image<B>,
     certificate: &Certificate<C>,
-    stop: &Stop,
+    error: CheckError,
+    part: Part,
+    pc: u32,
 ) -> Result<Option<Edge>, AllocError>
-    ensures { IfOk result (λ told. IfSome told (IsEdge certificate.now)) }
+    ensures { IfOk result (λ edge. edge ≡ edge_at_of image.now certificate.now error part pc) }
 {
-    match stop.part {
-        Part::Block(start) => edge_in_block(alloc, image, certificate, start, stop.pc),
-        Part::Entry => {
-            let state = Abstract::at_entry(alloc, certificate, image)?;
-            Ok(refused_when(&state, certificate, None, false))
-        }
+    let Some(state) = state_behind(alloc, image, certificate, part, pc)? else {
+        return Ok(None);
+    };
+    match refused_edge(certificate, pc, &state) {
+        None => Ok(None),
+        Some(way) => Ok(Some(told(certificate, error, part, &way))),
     }
 }
 
@@ -391,117 +278,15 @@ impl fmt::Display for LeftLine {
     }
 }
 
-/// A register, or vl (32).
-#[derive(Clone, Copy)]
-struct Name(u8);
-
-impl fmt::Display for Name {
-    ghost use Rattle.std.specs.Prelude.{Some};
-    ghost use Rattle.explanations.specs.Edge.{name_text};
-
-    ghost output = { λ name. Some (name_text name.0) };
-
-    #[tactic(auto, unfolding(crate::specs::Edge::name_text))]
-    fn fmt<W: fmt::Write>(&self, f: &mut fmt::Formatter<W>) -> fmt::Result {
-        let number = self.0;
-        if number == 32 {
-            write!(f, "vl")
-        } else {
-            write!(f, "x{number}")
-        }
-    }
-}
-
-/// What is known of a register, as a line.
-#[derive(Clone, Copy)]
-struct KnownLine {
-    register: u8,
-    range: Range,
-}
-
-impl fmt::Display for KnownLine {
-    ghost use Rattle.std.specs.Prelude.{Some};
-    ghost use Rattle.explanations.specs.Edge.{known_line};
-
-    ghost output = { λ line. Some (known_line line.register line.range) };
-
-    fn fmt<W: fmt::Write>(&self, f: &mut fmt::Formatter<W>) -> fmt::Result {
-        let name = Name(self.register);
-        let range = Span(self.range);
-        writeln!(f, "  known: {name} in {range}")
-    }
-}
-
-/// What is wanted of a register on entering the block, as a line.
-#[derive(Clone, Copy)]
-struct WantedLine {
-    register: u8,
-    range: Range,
-}
-
-impl fmt::Display for WantedLine {
-    ghost use Rattle.std.specs.Prelude.{Some};
-    ghost use Rattle.explanations.specs.Edge.{wanted_line};
-
-    ghost output = { λ line. Some (wanted_line line.register line.range) };
-
-    fn fmt<W: fmt::Write>(&self, f: &mut fmt::Formatter<W>) -> fmt::Result {
-        let name = Name(self.register);
-        let range = Span(self.range);
-        writeln!(f, "  wanted on entering it: {name} in {range}")
-    }
-}
-
-impl fmt::Display for Stated {
-    ghost use Rattle.std.specs.Prelude.{Some};
-    ghost use Rattle.explanations.specs.Edge.{stated_text};
-
-    ghost output = { λ stated. Some (stated_text stated) };
-
-    #[tactic(auto, unfolding(crate::specs::Edge::stated_text))]
-    fn fmt<W: fmt::Write>(&self, f: &mut fmt::Formatter<W>) -> fmt::Result {
-        let known = KnownLine {
-            register: self.register,
-            range: self.known,
-        };
-        let wanted = WantedLine {
-            register: self.register,
-            range: Range {
-                lo: self.low,
-                hi: self.high,
-            },
-        };
-        write!(f, "{known}{wanted}")
-    }
-}
-
-/// The lines on an interval, if there is one.
-#[derive(Clone, Copy)]
-struct IntervalLines(Option<Stated>);
-
-impl fmt::Display for IntervalLines {
-    ghost use Rattle.std.specs.Prelude.{Some};
-    ghost use Rattle.explanations.specs.Edge.{interval_lines};
-
-    ghost output = { λ lines. Some (interval_lines lines.0) };
-
-    fn fmt<W: fmt::Write>(&self, f: &mut fmt::Formatter<W>) -> fmt::Result {
-        match self.0 {
-            None => Ok(()),
-            Some(stated) => write!(f, "{stated}"),
-        }
-    }
-}
-
 /// The lines on the block entered, if there is one.
 #[derive(Clone, Copy)]
-struct EnteredLines(Option<Entered>);
+struct EnteredLines<'a>(&'a Option<Entered>);
 
-impl fmt::Display for EnteredLines {
+impl fmt::Display for EnteredLines<'_> {
     ghost use Rattle.std.specs.Prelude.{Some};
     ghost use Rattle.explanations.specs.Edge.{entered_lines};
 
-    ghost output = { λ lines. Some (entered_lines lines.0) };
+    ghost output = { λ lines. Some (entered_lines lines.0.now) };
 
     #[tactic(auto, unfolding(crate::specs::Edge::entered_lines))]
     fn fmt<W: fmt::Write>(&self, f: &mut fmt::Formatter<W>) -> fmt::Result {
@@ -512,8 +297,8 @@ impl fmt::Display for EnteredLines {
                     block: entered.block,
                     budget: entered.budget,
                 };
-                let interval = IntervalLines(entered.interval);
-                write!(f, "{block}{interval}")
+                let unshown = &entered.unshown;
+                write!(f, "{block}{unshown}")
             }
         }
     }
@@ -532,7 +317,7 @@ impl fmt::Display for Edge {
             words: self.words,
         };
         let left = LeftLine(self.left);
-        let entered = EnteredLines(self.entered);
+        let entered = EnteredLines(&self.entered);
         write!(f, "{target}{left}{entered}")
     }
 }

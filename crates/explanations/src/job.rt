@@ -1,10 +1,13 @@
 //! Why a job is refused: where its text is no TOML, or which key the command lacks.
-ghost use Rattle.std.specs.Prelude.{◌≡◌, ◌<◌, IfOk, IfSome, Some, slice_index_or};
+ghost use Rattle.std.specs.Prelude.{◌≡◌, ◌<◌, ◌≤◌, ◌+◌, ◌^◌, IfOk, IfSome, Some, length, slice_index_or, take};
 ghost use Rattle.job_file.specs.Job.{job_lent, param_lent};
 ghost use Rattle.job_file.specs.declared.values.Param.TheVariants as param_kind;
 ghost use Rattle.toml.specs.View.{table_view};
 ghost use Rattle.explanations.specs.Keys.{key_name, key_wanted};
-ghost use Rattle.explanations.specs.Job.{IsJobReason, IsTableReason, is_taken, job_lacks, lacked_of, lines_in, make_lacks, param_lacks, run_lacks, try_lacks};
+ghost use Rattle.explanations.specs.Job.{IsJobReason, IsTableReason, is_taken, job_lacks, lacked_of, make_lacks, param_lacks, run_lacks, try_lacks};
+ghost use Rattle.explanations.specs.Job.{begins_character, column_behind, line_behind, lines_in};
+ghost use Rattle.explanations.specs.Job.{next_column as next_column_of};
+ghost use Rattle.explanations.specs.declared.job.JobReason.TheVariants as reason;
 
 use crate::rules::breach;
 use job_file::{Job, Param};
@@ -15,8 +18,8 @@ use toml::Table;
 /// A command that takes a job.
 #[derive(Clone, Copy, Debug, PartialEq, Eq)]
 pub enum Command {
-    /// `run` and `mon`.
     Run,
+    Mon,
     Try,
     Make,
 }
@@ -52,9 +55,11 @@ pub enum JobKey {
 pub enum JobReason {
     /// The text is not UTF-8 from this byte on, counted from 0.
     NotUtf8(usize),
-    /// The text is not TOML from this byte on, counted from 0, in a line that is counted from 1.
+    /// The text is not TOML from this byte on, counted from 0, which stands in this line, at this character, both counted
+    /// from 1.
     NotToml {
         line: usize,
+        column: usize,
         byte: usize,
     },
     /// There is a key that no such table has, or a value that is not of its type and range.
@@ -144,7 +149,7 @@ fn param_lacks(command: Command, param: Param<&str>) -> Option<JobKey>
     ensures { result ≡ param_lacks command (param_lent param.entry) }
 {
     match command {
-        Command::Run => run_lacks(param),
+        Command::Run | Command::Mon => run_lacks(param),
         Command::Try => try_lacks(param),
         Command::Make => make_lacks(param),
     }
@@ -191,7 +196,7 @@ fn is_taken(command: Command, table: &Table) -> bool
     ensures { result ≡ is_taken command (table_view table.now) }
 {
     match command {
-        Command::Run => job_file::run_job_in(table).is_some(),
+        Command::Run | Command::Mon => job_file::run_job_in(table).is_some(),
         Command::Try => job_file::try_job_in(table).is_some(),
         Command::Make => job_file::make_job_in(table).is_some(),
     }
@@ -233,9 +238,66 @@ fn table_reason(
 
 /// How many lines end in these bytes.
 fn lines_in(bytes: &[u8]) -> usize
-    ensures { result ≡ lines_in bytes.now }
+    ensures value { result ≡ lines_in bytes.now }
+    ensures few { result ≤ length bytes.now }
 {
     bytes.iter().filter(|byte| **byte == b'\n').count()
+}
+
+/// The line, counted from 1, of what stands behind these bytes.
+fn line_behind(bytes: &[u8]) -> usize
+    ensures { result ≡ line_behind bytes.now }
+{
+    lines_in(bytes) + 1
+}
+
+/// Whether a byte begins a character.
+fn begins_character(byte: u8) -> bool
+    ensures { result ≡ begins_character byte }
+{
+    byte < 0x80 || 0xc0 <= byte
+}
+
+/// The column of what stands behind one byte more.
+#[tactic(auto, unfolding(crate::specs::Job::next_column))]
+fn next_column(column: usize, byte: u8) -> usize
+    requires { column < 2 ^ 63 }
+    ensures value { result ≡ next_column_of column byte }
+    ensures few { result ≤ column + 1 }
+{
+    if byte == b'\n' {
+        1
+    } else if begins_character(byte) {
+        column + 1
+    } else {
+        column
+    }
+}
+
+/// The column, in characters and counted from 1, of what stands behind these bytes.
+#[tactic(auto, using(std::proofs::lemmas::List::Sums::fold_more))]
+fn column_behind(bytes: &[u8]) -> usize
+    ensures { result ≡ column_behind bytes.now }
+{
+    let mut column = 1;
+    for byte in bytes {
+        column = next_column(column, *byte);
+    }
+    column
+}
+
+/// Where a text is not TOML.
+fn told_place(text: &str, byte: usize) -> JobReason
+    requires { byte ≤ length text.now }
+    ensures { result ≡ reason.NotToml (line_behind (take byte text.now))
+        (column_behind (take byte text.now)) byte }
+{
+    let before = &text.as_bytes()[..byte];
+    JobReason::NotToml {
+        line: line_behind(before),
+        column: column_behind(before),
+        byte,
+    }
 }
 
 /// Why a job is refused: `None` where the command takes it.
@@ -257,10 +319,7 @@ pub fn job_reason(
         Ok(table) => table_reason(alloc, command, &table),
         Err(error) => match error.span() {
             None => Err(AllocError),
-            Some(span) => Ok(Some(JobReason::NotToml {
-                line: lines_in(&text.as_bytes()[..span.start]),
-                byte: span.start,
-            })),
+            Some(span) => Ok(Some(told_place(text, span.start))),
         },
     }
 }
@@ -312,6 +371,7 @@ impl fmt::Display for Command {
     fn fmt<W: fmt::Write>(&self, f: &mut fmt::Formatter<W>) -> fmt::Result {
         f.write_str(match self {
             Command::Run => "run",
+            Command::Mon => "mon",
             Command::Try => "try",
             Command::Make => "make",
         })
@@ -381,10 +441,10 @@ impl fmt::Display for JobReason {
     fn fmt<W: fmt::Write>(&self, f: &mut fmt::Formatter<W>) -> fmt::Result {
         match self {
             JobReason::NotUtf8(byte) => writeln!(f, "  not UTF-8 from byte {byte} on"),
-            JobReason::NotToml { line, byte } => {
+            JobReason::NotToml { line, column, byte } => {
                 writeln!(
                     f,
-                    "  not TOML from byte {byte} on, behind {line} whole lines"
+                    "  not TOML from byte {byte} on: line {line}, column {column}"
                 )
             }
             JobReason::Broken => {

@@ -15,7 +15,7 @@ use Rattle.lane_fixed.specs.FixedPoint.{any_active, clipped, dropped, element, e
 use Rattle.lane_fixed.specs.Rounding.{low_bits}
 use Rattle.lane_fixed.specs.declared.operations.RoundingMode.{RoundingMode}
 use Rattle.lane_fixed.specs.declared.operations.RoundingMode.TheVariants.{Down}
-use Rattle.lane_fixed.specs.declared.operations.FixedOp.{FixedOp}
+use Rattle.rv_decode.specs.declared.instructions.FixedOp.{FixedOp}
 use Rattle.lane_fixed.proofs.ChunkLemmas.{rounded_by_none}
 use Rattle.lane_fixed.specs.Chunks.{lane_flag, lane_saturates}
 use Rattle.lane_fixed.specs.declared.operations.Op.{Op}

@@ -17,7 +17,7 @@ use Rattle.std.proofs.lemmas.Bool.Decides.{Decides-eqb, Decides-int_eq}
 use Rattle.lane_fixed.specs.Rounding.{rounded, rounds_up, shifted, low_bits}
 use Rattle.lane_fixed.specs.FixedPoint.{element, saturates, clipped, unclipped, exact, dropped}
 use Rattle.lane_fixed.specs.Chunks.{lane_result, lane_flag}
-use Rattle.lane_fixed.specs.declared.operations.Op.TheVariants.{SatAddU, SatAdd, SatSubU, SatSub}
+use Rattle.lane_fixed.specs.declared.operations.Op.TheVariants.{Saddu, Sadd, Ssubu, Ssub}
 use Rattle.lane_fixed.specs.declared.operations.RoundingMode.{RoundingMode}
 use Rattle.lane_fixed.specs.declared.operations.RoundingMode.TheVariants.{NearestUp, NearestEven, Down, Odd}
 
@@ -205,7 +205,7 @@ flag_of : (w : Width) (c v : ℤ) (r s : ℕ) → r ≡ low_bits (bits w) c → 
 flag_of w c v r s er es same = rw (er, es, same) (flipped (int_eq c v) 0 (2 ^ bits w - 1))
 
 -- the saturating operations: the result, and whether it is clipped
-pub add_u_lane : (w : Width) (a b : ℕ) → a < 2 ^ bits w → b < 2 ^ bits w → (min (a + b) (2 ^ bits w - 1) ≡ lane_result SatAddU w a b) × (cond (min (a + b) (2 ^ bits w - 1) == (a + b) % 2 ^ bits w) 0 (2 ^ bits w - 1) ≡ lane_flag SatAddU w a b)
+pub add_u_lane : (w : Width) (a b : ℕ) → a < 2 ^ bits w → b < 2 ^ bits w → (min (a + b) (2 ^ bits w - 1) ≡ lane_result Saddu w a b) × (cond (min (a + b) (2 ^ bits w - 1) == (a + b) % 2 ^ bits w) 0 (2 ^ bits w - 1) ≡ lane_flag Saddu w a b)
 unfolding element saturates clipped unclipped exact dropped
 add_u_lane w a b la lb =
     let v : ℤ = pos a +ℤ pos b in
@@ -214,7 +214,7 @@ add_u_lane w a b la lb =
     let s : (a + b) % 2 ^ bits w ≡ low_bits (bits w) v = sym (low_of (bits w) v 0 (a + b) (omega (arith, ints))) in
     rw (rounded_by_none Down v) (r, flag_of w (pos (saturate_unsigned w v)) v _ _ r s clip.1)
 
-pub sub_u_lane : (w : Width) (a b : ℕ) → a < 2 ^ bits w → b < 2 ^ bits w → (a - b ≡ lane_result SatSubU w a b) × (cond (a - b == (a + (2 ^ bits w - b)) % 2 ^ bits w) 0 (2 ^ bits w - 1) ≡ lane_flag SatSubU w a b)
+pub sub_u_lane : (w : Width) (a b : ℕ) → a < 2 ^ bits w → b < 2 ^ bits w → (a - b ≡ lane_result Ssubu w a b) × (cond (a - b == (a + (2 ^ bits w - b)) % 2 ^ bits w) 0 (2 ^ bits w - 1) ≡ lane_flag Ssubu w a b)
 unfolding element saturates clipped unclipped exact dropped
 sub_u_lane w a b la lb =
     let v : ℤ = pos a -ℤ pos b in
@@ -223,7 +223,7 @@ sub_u_lane w a b la lb =
     let s : (a + (2 ^ bits w - b)) % 2 ^ bits w ≡ low_bits (bits w) v = sym (low_of (bits w) v 1 (a + (2 ^ bits w - b)) (omega (arith, ints, lb))) in
     rw (rounded_by_none Down v) (r, flag_of w (pos (saturate_unsigned w v)) v _ _ r s clip.1)
 
-pub add_lane : (w : Width) (a b r : ℕ) → a < 2 ^ bits w → b < 2 ^ bits w → r ≡ low_bits (bits w) (saturate_signed w (cast_signed w a +ℤ cast_signed w b)) → (r ≡ lane_result SatAdd w a b) × (cond (r == (a + b) % 2 ^ bits w) 0 (2 ^ bits w - 1) ≡ lane_flag SatAdd w a b)
+pub add_lane : (w : Width) (a b r : ℕ) → a < 2 ^ bits w → b < 2 ^ bits w → r ≡ low_bits (bits w) (saturate_signed w (cast_signed w a +ℤ cast_signed w b)) → (r ≡ lane_result Sadd w a b) × (cond (r == (a + b) % 2 ^ bits w) 0 (2 ^ bits w - 1) ≡ lane_flag Sadd w a b)
 unfolding element saturates clipped unclipped exact dropped
 add_lane w a b r la lb e =
     let v : ℤ = cast_signed w a +ℤ cast_signed w b in
@@ -234,7 +234,7 @@ add_lane w a b r la lb e =
     let clip = signed_clip w v ((a + 2 ^ hbits w) % 2 ^ bits w + (b + 2 ^ hbits w) % 2 ^ bits w) (2 ^ bits w) n (omega arith) (omega (arith, x, y)) in
     rw (rounded_by_none Down v) (e, flag_of w (saturate_signed w v) v _ _ e (sym (low_sum w a b la lb)) clip.1)
 
-pub sub_lane : (w : Width) (a b r : ℕ) → a < 2 ^ bits w → b < 2 ^ bits w → r ≡ low_bits (bits w) (saturate_signed w (cast_signed w a -ℤ cast_signed w b)) → (r ≡ lane_result SatSub w a b) × (cond (r == (a + (2 ^ bits w - b)) % 2 ^ bits w) 0 (2 ^ bits w - 1) ≡ lane_flag SatSub w a b)
+pub sub_lane : (w : Width) (a b r : ℕ) → a < 2 ^ bits w → b < 2 ^ bits w → r ≡ low_bits (bits w) (saturate_signed w (cast_signed w a -ℤ cast_signed w b)) → (r ≡ lane_result Ssub w a b) × (cond (r == (a + (2 ^ bits w - b)) % 2 ^ bits w) 0 (2 ^ bits w - 1) ≡ lane_flag Ssub w a b)
 unfolding element saturates clipped unclipped exact dropped
 sub_lane w a b r la lb e =
     let v : ℤ = cast_signed w a -ℤ cast_signed w b in

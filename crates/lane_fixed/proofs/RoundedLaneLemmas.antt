@@ -19,8 +19,8 @@ use Rattle.lane_fixed.specs.declared.operations.RoundingMode.{RoundingMode}
 use Rattle.lane_fixed.specs.declared.operations.RoundingMode.TheVariants.{NearestUp, NearestEven, Down, Odd}
 use Rattle.lane_fixed.specs.FixedPoint.{element, saturates, clipped, unclipped, exact, dropped}
 use Rattle.lane_fixed.specs.Chunks.{lane_result}
-use Rattle.lane_fixed.specs.declared.operations.FixedOp.{FixedOp}
-use Rattle.lane_fixed.specs.declared.operations.Op.TheVariants.{AverageAddU, AverageAdd, AverageSubU, AverageSub, ShiftRight, ShiftRightSigned}
+use Rattle.rv_decode.specs.declared.instructions.FixedOp.{FixedOp}
+use Rattle.lane_fixed.specs.declared.operations.Op.TheVariants.{Aaddu, Aadd, Asubu, Asub, Ssrl, Ssra}
 use Rattle.lane_fixed.proofs.ChunkLemmas.{low_of, signed_is, twice}
 use Rattle.lane_fixed.proofs.RoundingLemmas.{complement}
 
@@ -203,31 +203,31 @@ scaled_rest w a l j d lt is =
     rw mask (and_mask a d ∙ sym (low_of d (pos a -ℤ pos l) j a (omega (arith, ints, is))))
 
 -- the operations; x and y are signed lanes with their top bits turned over
-pub average_add_u : (w : Width) (mode : RoundingMode) (a b z : ℕ) → z ≡ 0 → low_bits (bits w) (rounded mode (pos (a + b) -ℤ pos (z * 2)) 1) ≡ lane_result (AverageAddU mode) w a b
+pub average_add_u : (w : Width) (mode : RoundingMode) (a b z : ℕ) → z ≡ 0 → low_bits (bits w) (rounded mode (pos (a + b) -ℤ pos (z * 2)) 1) ≡ lane_result (Aaddu mode) w a b
 unfolding element clipped unclipped exact dropped
 average_add_u w mode a b z is = let e : pos (a + b) -ℤ pos (z * 2) ≡ pos a +ℤ pos b = omega (arith, ints, is) in ap (λ v. low_bits (bits w) (rounded mode v 1)) e
 
-pub average_add : (w : Width) (mode : RoundingMode) (a b x y z : ℕ) → a < 2 ^ bits w → b < 2 ^ bits w → x ≡ (a + 2 ^ hbits w) % 2 ^ bits w → y ≡ (b + 2 ^ hbits w) % 2 ^ bits w → z ≡ 2 ^ hbits w → low_bits (bits w) (rounded mode (pos (x + y) -ℤ pos (z * 2)) 1) ≡ lane_result (AverageAdd mode) w a b
+pub average_add : (w : Width) (mode : RoundingMode) (a b x y z : ℕ) → a < 2 ^ bits w → b < 2 ^ bits w → x ≡ (a + 2 ^ hbits w) % 2 ^ bits w → y ≡ (b + 2 ^ hbits w) % 2 ^ bits w → z ≡ 2 ^ hbits w → low_bits (bits w) (rounded mode (pos (x + y) -ℤ pos (z * 2)) 1) ≡ lane_result (Aadd mode) w a b
 unfolding element clipped unclipped exact dropped
 average_add w mode a b x y z la lb is_x is_y is =
     let e : pos (x + y) -ℤ pos (z * 2) ≡ cast_signed w a +ℤ cast_signed w b = omega (arith, ints, signed_is w a la, signed_is w b lb, is_x, is_y, is) in
     ap (λ v. low_bits (bits w) (rounded mode v 1)) e
 
-pub average_sub_u : (w : Width) (mode : RoundingMode) (a b : ℕ) → low_bits (bits w) (rounded mode (pos (a + b) -ℤ pos (b * 2)) 1) ≡ lane_result (AverageSubU mode) w a b
+pub average_sub_u : (w : Width) (mode : RoundingMode) (a b : ℕ) → low_bits (bits w) (rounded mode (pos (a + b) -ℤ pos (b * 2)) 1) ≡ lane_result (Asubu mode) w a b
 unfolding element clipped unclipped exact dropped
 average_sub_u w mode a b = let e : pos (a + b) -ℤ pos (b * 2) ≡ pos a -ℤ pos b = omega (arith, ints) in ap (λ v. low_bits (bits w) (rounded mode v 1)) e
 
-pub average_sub : (w : Width) (mode : RoundingMode) (a b x y z : ℕ) → a < 2 ^ bits w → b < 2 ^ bits w → x ≡ (a + 2 ^ hbits w) % 2 ^ bits w → y ≡ (b + 2 ^ hbits w) % 2 ^ bits w → z ≡ (b + 2 ^ hbits w) % 2 ^ bits w → low_bits (bits w) (rounded mode (pos (x + y) -ℤ pos (z * 2)) 1) ≡ lane_result (AverageSub mode) w a b
+pub average_sub : (w : Width) (mode : RoundingMode) (a b x y z : ℕ) → a < 2 ^ bits w → b < 2 ^ bits w → x ≡ (a + 2 ^ hbits w) % 2 ^ bits w → y ≡ (b + 2 ^ hbits w) % 2 ^ bits w → z ≡ (b + 2 ^ hbits w) % 2 ^ bits w → low_bits (bits w) (rounded mode (pos (x + y) -ℤ pos (z * 2)) 1) ≡ lane_result (Asub mode) w a b
 unfolding element clipped unclipped exact dropped
 average_sub w mode a b x y z la lb is_x is_y is =
     let e : pos (x + y) -ℤ pos (z * 2) ≡ cast_signed w a -ℤ cast_signed w b = omega (arith, ints, signed_is w a la, signed_is w b lb, is_x, is_y, is) in
     ap (λ v. low_bits (bits w) (rounded mode v 1)) e
 
-pub shift_u : (w : Width) (mode : RoundingMode) (a b z : ℕ) → z ≡ 0 → low_bits (bits w) (rounded mode (pos a -ℤ pos z) (b % bits w)) ≡ lane_result (ShiftRight mode) w a b
+pub shift_u : (w : Width) (mode : RoundingMode) (a b z : ℕ) → z ≡ 0 → low_bits (bits w) (rounded mode (pos a -ℤ pos z) (b % bits w)) ≡ lane_result (Ssrl mode) w a b
 unfolding element clipped unclipped exact dropped
 shift_u w mode a b z is = let e : pos a -ℤ pos z ≡ pos a = omega (arith, ints, is) in ap (λ v. low_bits (bits w) (rounded mode v (b % bits w))) e
 
-pub shift_signed : (w : Width) (mode : RoundingMode) (a b x z : ℕ) → a < 2 ^ bits w → x ≡ (a + 2 ^ hbits w) % 2 ^ bits w → z ≡ 2 ^ hbits w → low_bits (bits w) (rounded mode (pos x -ℤ pos z) (b % bits w)) ≡ lane_result (ShiftRightSigned mode) w a b
+pub shift_signed : (w : Width) (mode : RoundingMode) (a b x z : ℕ) → a < 2 ^ bits w → x ≡ (a + 2 ^ hbits w) % 2 ^ bits w → z ≡ 2 ^ hbits w → low_bits (bits w) (rounded mode (pos x -ℤ pos z) (b % bits w)) ≡ lane_result (Ssra mode) w a b
 unfolding element clipped unclipped exact dropped
 shift_signed w mode a b x z la is_x is =
     let e : pos x -ℤ pos z ≡ cast_signed w a = omega (arith, ints, signed_is w a la, is_x, is) in

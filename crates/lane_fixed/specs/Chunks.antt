@@ -5,35 +5,35 @@ use mir.Val.{bits}
 use Rattle.lane_fixed.specs.FixedPoint.{element, saturates}
 use Rattle.lane_fixed.specs.declared.operations.RoundingMode.{RoundingMode}
 use Rattle.lane_fixed.specs.declared.operations.RoundingMode.TheVariants.{Down}
-use Rattle.lane_fixed.specs.declared.operations.FixedOp.{FixedOp}
-use Rattle.lane_fixed.specs.declared.operations.FixedOp.TheVariants as fixed
+use Rattle.rv_decode.specs.declared.instructions.FixedOp.{FixedOp}
+use Rattle.rv_decode.specs.declared.instructions.FixedOp.TheVariants as fixed
 use Rattle.lane_fixed.specs.declared.operations.Op.{Op}
-use Rattle.lane_fixed.specs.declared.operations.Op.TheVariants.{SatAddU, SatAdd, SatSubU, SatSub, AverageAddU, AverageAdd, AverageSubU, AverageSub, ShiftRight, ShiftRightSigned}
+use Rattle.lane_fixed.specs.declared.operations.Op.TheVariants.{Saddu, Sadd, Ssubu, Ssub, Aaddu, Aadd, Asubu, Asub, Ssrl, Ssra}
 
 abbrev pub operation : Op → FixedOp
-operation SatAddU = fixed.SatAddU
-operation SatAdd = fixed.SatAdd
-operation SatSubU = fixed.SatSubU
-operation SatSub = fixed.SatSub
-operation (AverageAddU mode) = fixed.AverageAddU
-operation (AverageAdd mode) = fixed.AverageAdd
-operation (AverageSubU mode) = fixed.AverageSubU
-operation (AverageSub mode) = fixed.AverageSub
-operation (ShiftRight mode) = fixed.ShiftRight
-operation (ShiftRightSigned mode) = fixed.ShiftRightSigned
+operation Saddu = fixed.Saddu
+operation Sadd = fixed.Sadd
+operation Ssubu = fixed.Ssubu
+operation Ssub = fixed.Ssub
+operation (Aaddu mode) = fixed.Aaddu
+operation (Aadd mode) = fixed.Aadd
+operation (Asubu mode) = fixed.Asubu
+operation (Asub mode) = fixed.Asub
+operation (Ssrl mode) = fixed.Ssrl
+operation (Ssra mode) = fixed.Ssra
 
 -- how it rounds; a saturating operation rounds nothing off, so that it is the same in each mode
 abbrev pub mode_of : Op → RoundingMode
-mode_of SatAddU = Down
-mode_of SatAdd = Down
-mode_of SatSubU = Down
-mode_of SatSub = Down
-mode_of (AverageAddU mode) = mode
-mode_of (AverageAdd mode) = mode
-mode_of (AverageSubU mode) = mode
-mode_of (AverageSub mode) = mode
-mode_of (ShiftRight mode) = mode
-mode_of (ShiftRightSigned mode) = mode
+mode_of Saddu = Down
+mode_of Sadd = Down
+mode_of Ssubu = Down
+mode_of Ssub = Down
+mode_of (Aaddu mode) = mode
+mode_of (Aadd mode) = mode
+mode_of (Asubu mode) = mode
+mode_of (Asub mode) = mode
+mode_of (Ssrl mode) = mode
+mode_of (Ssra mode) = mode
 
 -- the first n lanes are numbers of the width
 abbrev pub AllFit : Width → ℕ → (ℕ → ℕ) → Type 0

@@ -9,52 +9,52 @@ use mir.Val.{bits}
 use lib.Lanes.{zip2}
 use Rattle.lane_fixed.specs.Rounding.{rounded, low_bits}
 use Rattle.lane_fixed.specs.declared.operations.RoundingMode.{RoundingMode}
-use Rattle.lane_fixed.specs.declared.operations.FixedOp.{FixedOp}
-use Rattle.lane_fixed.specs.declared.operations.FixedOp.TheVariants.{SatAddU, SatAdd, SatSubU, SatSub, AverageAddU, AverageAdd, AverageSubU, AverageSub, Mul, ShiftRight, ShiftRightSigned}
-use Rattle.lane_fixed.specs.declared.operations.ClipOp.{ClipOp}
-use Rattle.lane_fixed.specs.declared.operations.ClipOp.TheVariants.{ClipU, Clip}
+use Rattle.rv_decode.specs.declared.instructions.FixedOp.{FixedOp}
+use Rattle.rv_decode.specs.declared.instructions.FixedOp.TheVariants.{Saddu, Sadd, Ssubu, Ssub, Aaddu, Aadd, Asubu, Asub, Smul, Ssrl, Ssra}
+use Rattle.rv_decode.specs.declared.instructions.ClipOp.{ClipOp}
+use Rattle.rv_decode.specs.declared.instructions.ClipOp.TheVariants.{Clipu, Clip}
 
 -- the exact number
 unfoldable pub exact : FixedOp → Width → ℕ → ℕ → ℤ
-exact SatAddU w a b = pos a +ℤ pos b
-exact SatAdd w a b = cast_signed w a +ℤ cast_signed w b
-exact SatSubU w a b = pos a -ℤ pos b
-exact SatSub w a b = cast_signed w a -ℤ cast_signed w b
-exact AverageAddU w a b = pos a +ℤ pos b
-exact AverageAdd w a b = cast_signed w a +ℤ cast_signed w b
-exact AverageSubU w a b = pos a -ℤ pos b
-exact AverageSub w a b = cast_signed w a -ℤ cast_signed w b
-exact Mul w a b = cast_signed w a *ℤ cast_signed w b
-exact ShiftRight w a b = pos a
-exact ShiftRightSigned w a b = cast_signed w a
+exact Saddu w a b = pos a +ℤ pos b
+exact Sadd w a b = cast_signed w a +ℤ cast_signed w b
+exact Ssubu w a b = pos a -ℤ pos b
+exact Ssub w a b = cast_signed w a -ℤ cast_signed w b
+exact Aaddu w a b = pos a +ℤ pos b
+exact Aadd w a b = cast_signed w a +ℤ cast_signed w b
+exact Asubu w a b = pos a -ℤ pos b
+exact Asub w a b = cast_signed w a -ℤ cast_signed w b
+exact Smul w a b = cast_signed w a *ℤ cast_signed w b
+exact Ssrl w a b = pos a
+exact Ssra w a b = cast_signed w a
 
 -- how many of its lowest bits are rounded off; a shift reads the low log2(SEW) bits of b alone
 unfoldable pub dropped : FixedOp → Width → ℕ → ℕ
-dropped SatAddU w b = 0
-dropped SatAdd w b = 0
-dropped SatSubU w b = 0
-dropped SatSub w b = 0
-dropped AverageAddU w b = 1
-dropped AverageAdd w b = 1
-dropped AverageSubU w b = 1
-dropped AverageSub w b = 1
-dropped Mul w b = bits w - 1
-dropped ShiftRight w b = b % bits w
-dropped ShiftRightSigned w b = b % bits w
+dropped Saddu w b = 0
+dropped Sadd w b = 0
+dropped Ssubu w b = 0
+dropped Ssub w b = 0
+dropped Aaddu w b = 1
+dropped Aadd w b = 1
+dropped Asubu w b = 1
+dropped Asub w b = 1
+dropped Smul w b = bits w - 1
+dropped Ssrl w b = b % bits w
+dropped Ssra w b = b % bits w
 
 -- the number after it was clipped; averages and shifts are not
 unfoldable pub clipped : FixedOp → Width → ℤ → ℤ
-clipped SatAddU w v = pos (saturate_unsigned w v)
-clipped SatAdd w v = saturate_signed w v
-clipped SatSubU w v = pos (saturate_unsigned w v)
-clipped SatSub w v = saturate_signed w v
-clipped AverageAddU w v = v
-clipped AverageAdd w v = v
-clipped AverageSubU w v = v
-clipped AverageSub w v = v
-clipped Mul w v = saturate_signed w v
-clipped ShiftRight w v = v
-clipped ShiftRightSigned w v = v
+clipped Saddu w v = pos (saturate_unsigned w v)
+clipped Sadd w v = saturate_signed w v
+clipped Ssubu w v = pos (saturate_unsigned w v)
+clipped Ssub w v = saturate_signed w v
+clipped Aaddu w v = v
+clipped Aadd w v = v
+clipped Asubu w v = v
+clipped Asub w v = v
+clipped Smul w v = saturate_signed w v
+clipped Ssrl w v = v
+clipped Ssra w v = v
 
 -- the number before it is clipped
 unfoldable pub unclipped : FixedOp → RoundingMode → Width → ℕ → ℕ → ℤ
@@ -70,11 +70,11 @@ saturates op mode w a b =
 
 -- vnclipu and vnclip: a has the wide width, the result the narrow one, and the shift reads the low log2 bits of the wide width
 unfoldable pub clip_exact : ClipOp → Width → ℕ → ℤ
-clip_exact ClipU wide a = pos a
+clip_exact Clipu wide a = pos a
 clip_exact Clip wide a = cast_signed wide a
 
 unfoldable pub clip_to : ClipOp → Width → ℤ → ℤ
-clip_to ClipU w v = pos (saturate_unsigned w v)
+clip_to Clipu w v = pos (saturate_unsigned w v)
 clip_to Clip w v = saturate_signed w v
 
 unfoldable pub clip_unclipped : ClipOp → RoundingMode → Width → ℕ → ℕ → ℤ

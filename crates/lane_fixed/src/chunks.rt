@@ -131,16 +131,16 @@ fn computed<T: Chunk>(op: Op, a: T, b: T) -> (T, T)
         ≡ lane_flag op T.width (T.lane a i) (T.lane b i) }
 {
     match op {
-        Op::SatAddU => flagged(a.saturating_sum(b), a.sum(b)),
-        Op::SatAdd => flagged(signed_sum(a, b), a.sum(b)),
-        Op::SatSubU => flagged(a.saturating_difference(b), a.difference(b)),
-        Op::SatSub => flagged(signed_difference(a, b), a.difference(b)),
-        Op::AverageAddU(mode) => (average(mode, a, b, T::zero()), T::zero()),
-        Op::AverageAdd(mode) => (average(mode, turned(a), turned(b), T::top()), T::zero()),
-        Op::AverageSubU(mode) => (average(mode, a, b, b), T::zero()),
-        Op::AverageSub(mode) => (average(mode, turned(a), turned(b), turned(b)), T::zero()),
-        Op::ShiftRight(mode) => (scaled(mode, a, b, T::zero()), T::zero()),
-        Op::ShiftRightSigned(mode) => (scaled(mode, turned(a), b, T::top()), T::zero()),
+        Op::Saddu => flagged(a.saturating_sum(b), a.sum(b)),
+        Op::Sadd => flagged(signed_sum(a, b), a.sum(b)),
+        Op::Ssubu => flagged(a.saturating_difference(b), a.difference(b)),
+        Op::Ssub => flagged(signed_difference(a, b), a.difference(b)),
+        Op::Aaddu(mode) => (average(mode, a, b, T::zero()), T::zero()),
+        Op::Aadd(mode) => (average(mode, turned(a), turned(b), T::top()), T::zero()),
+        Op::Asubu(mode) => (average(mode, a, b, b), T::zero()),
+        Op::Asub(mode) => (average(mode, turned(a), turned(b), turned(b)), T::zero()),
+        Op::Ssrl(mode) => (scaled(mode, a, b, T::zero()), T::zero()),
+        Op::Ssra(mode) => (scaled(mode, turned(a), b, T::top()), T::zero()),
     }
 }
 

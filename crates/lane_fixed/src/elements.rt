@@ -7,8 +7,9 @@ ghost use Rattle.lane_fixed.specs.FixedPoint.{clip_element, clip_exact, clip_sat
 ghost use Rattle.lane_fixed.specs.FixedPoint.{clipped, dropped, element, exact, saturates};
 
 use crate::lane::Lane;
-use crate::operations::{ClipOp, FixedOp, RoundingMode};
+use crate::operations::RoundingMode;
 use crate::rounding::rounded;
+use rv_decode::{ClipOp, FixedOp};
 
 #[inline(always)]
 fn unsigned_sum<T: Lane>(a: T, b: T) -> i64
@@ -83,13 +84,13 @@ fn exact<T: Lane>(op: FixedOp, a: T, b: T) -> i64
     ensures room { unsigned_abs result ≤ 2 ^ 62 }
 {
     match op {
-        FixedOp::SatAddU | FixedOp::AverageAddU => unsigned_sum(a, b),
-        FixedOp::SatAdd | FixedOp::AverageAdd => signed_sum(a, b),
-        FixedOp::SatSubU | FixedOp::AverageSubU => unsigned_difference(a, b),
-        FixedOp::SatSub | FixedOp::AverageSub => signed_difference(a, b),
-        FixedOp::Mul => signed_product(a, b),
-        FixedOp::ShiftRight => unsigned_value(a),
-        FixedOp::ShiftRightSigned => signed_value(a),
+        FixedOp::Saddu | FixedOp::Aaddu => unsigned_sum(a, b),
+        FixedOp::Sadd | FixedOp::Aadd => signed_sum(a, b),
+        FixedOp::Ssubu | FixedOp::Asubu => unsigned_difference(a, b),
+        FixedOp::Ssub | FixedOp::Asub => signed_difference(a, b),
+        FixedOp::Smul => signed_product(a, b),
+        FixedOp::Ssrl => unsigned_value(a),
+        FixedOp::Ssra => signed_value(a),
     }
 }
 
@@ -101,11 +102,10 @@ fn dropped<T: Lane>(op: FixedOp, b: T) -> u32
     ensures few { result ≤ 32 }
 {
     match op {
-        FixedOp::SatAddU | FixedOp::SatAdd | FixedOp::SatSubU | FixedOp::SatSub => 0,
-        FixedOp::AverageAddU | FixedOp::AverageAdd | FixedOp::AverageSubU | FixedOp::AverageSub =>
-            1,
-        FixedOp::Mul => T::bits() - 1,
-        FixedOp::ShiftRight | FixedOp::ShiftRightSigned => b.unsigned() % T::bits(),
+        FixedOp::Saddu | FixedOp::Sadd | FixedOp::Ssubu | FixedOp::Ssub => 0,
+        FixedOp::Aaddu | FixedOp::Aadd | FixedOp::Asubu | FixedOp::Asub => 1,
+        FixedOp::Smul => T::bits() - 1,
+        FixedOp::Ssrl | FixedOp::Ssra => b.unsigned() % T::bits(),
     }
 }
 
@@ -116,14 +116,14 @@ fn clipped<T: Lane>(op: FixedOp, value: i64) -> i64
     ensures { result ≡ clipped op T.width value }
 {
     match op {
-        FixedOp::SatAddU | FixedOp::SatSubU => T::clip_unsigned(value),
-        FixedOp::SatAdd | FixedOp::SatSub | FixedOp::Mul => T::clip_signed(value),
-        FixedOp::AverageAddU
-        | FixedOp::AverageAdd
-        | FixedOp::AverageSubU
-        | FixedOp::AverageSub
-        | FixedOp::ShiftRight
-        | FixedOp::ShiftRightSigned => value,
+        FixedOp::Saddu | FixedOp::Ssubu => T::clip_unsigned(value),
+        FixedOp::Sadd | FixedOp::Ssub | FixedOp::Smul => T::clip_signed(value),
+        FixedOp::Aaddu
+        | FixedOp::Aadd
+        | FixedOp::Asubu
+        | FixedOp::Asub
+        | FixedOp::Ssrl
+        | FixedOp::Ssra => value,
     }
 }
 
@@ -147,7 +147,7 @@ fn clip_exact<W: Lane>(op: ClipOp, a: W) -> i64
     ensures room { unsigned_abs result ≤ 2 ^ 62 }
 {
     match op {
-        ClipOp::ClipU => unsigned_value(a),
+        ClipOp::Clipu => unsigned_value(a),
         ClipOp::Clip => signed_value(a),
     }
 }
@@ -158,7 +158,7 @@ fn clip_to<N: Lane>(op: ClipOp, value: i64) -> i64
     ensures { result ≡ clip_to op N.width value }
 {
     match op {
-        ClipOp::ClipU => N::clip_unsigned(value),
+        ClipOp::Clipu => N::clip_unsigned(value),
         ClipOp::Clip => N::clip_signed(value),
     }
 }

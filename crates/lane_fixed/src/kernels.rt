@@ -9,7 +9,8 @@ ghost use Rattle.lane_fixed.specs.Chunks.{lane_result, lane_saturates, mode_of, 
 use crate::elements::{fixed, narrowed};
 use crate::flags::or_active;
 use crate::lane::Lane;
-use crate::operations::{ClipOp, FixedOp, Op, RoundingMode};
+use crate::operations::{Op, RoundingMode};
+use rv_decode::{ClipOp, FixedOp};
 
 /// Writes over each element of `values`, which are vs2's, what `op` makes of it and of `b`'s element, and answers whether an
 /// active element saturated ("Vector Single-Width Saturating Add and Subtract", "Vector Single-Width Averaging Add and
@@ -31,17 +32,17 @@ pub fn compute<T: Lane>(
         (map T.number b.now) active.now }
 {
     match op {
-        FixedOp::SatAddU => compute_chunks(Op::SatAddU, values, b, active),
-        FixedOp::SatAdd => compute_chunks(Op::SatAdd, values, b, active),
-        FixedOp::SatSubU => compute_chunks(Op::SatSubU, values, b, active),
-        FixedOp::SatSub => compute_chunks(Op::SatSub, values, b, active),
-        FixedOp::AverageAddU => compute_chunks(Op::AverageAddU(mode), values, b, active),
-        FixedOp::AverageAdd => compute_chunks(Op::AverageAdd(mode), values, b, active),
-        FixedOp::AverageSubU => compute_chunks(Op::AverageSubU(mode), values, b, active),
-        FixedOp::AverageSub => compute_chunks(Op::AverageSub(mode), values, b, active),
-        FixedOp::Mul => compute_each(FixedOp::Mul, mode, values, b, active),
-        FixedOp::ShiftRight => compute_chunks(Op::ShiftRight(mode), values, b, active),
-        FixedOp::ShiftRightSigned => compute_chunks(Op::ShiftRightSigned(mode), values, b, active),
+        FixedOp::Saddu => compute_chunks(Op::Saddu, values, b, active),
+        FixedOp::Sadd => compute_chunks(Op::Sadd, values, b, active),
+        FixedOp::Ssubu => compute_chunks(Op::Ssubu, values, b, active),
+        FixedOp::Ssub => compute_chunks(Op::Ssub, values, b, active),
+        FixedOp::Aaddu => compute_chunks(Op::Aaddu(mode), values, b, active),
+        FixedOp::Aadd => compute_chunks(Op::Aadd(mode), values, b, active),
+        FixedOp::Asubu => compute_chunks(Op::Asubu(mode), values, b, active),
+        FixedOp::Asub => compute_chunks(Op::Asub(mode), values, b, active),
+        FixedOp::Smul => compute_each(FixedOp::Smul, mode, values, b, active),
+        FixedOp::Ssrl => compute_chunks(Op::Ssrl(mode), values, b, active),
+        FixedOp::Ssra => compute_chunks(Op::Ssra(mode), values, b, active),
     }
 }
 
@@ -51,16 +52,16 @@ fn operation(op: Op) -> FixedOp
     ensures { result ≡ operation op }
 {
     match op {
-        Op::SatAddU => FixedOp::SatAddU,
-        Op::SatAdd => FixedOp::SatAdd,
-        Op::SatSubU => FixedOp::SatSubU,
-        Op::SatSub => FixedOp::SatSub,
-        Op::AverageAddU(_) => FixedOp::AverageAddU,
-        Op::AverageAdd(_) => FixedOp::AverageAdd,
-        Op::AverageSubU(_) => FixedOp::AverageSubU,
-        Op::AverageSub(_) => FixedOp::AverageSub,
-        Op::ShiftRight(_) => FixedOp::ShiftRight,
-        Op::ShiftRightSigned(_) => FixedOp::ShiftRightSigned,
+        Op::Saddu => FixedOp::Saddu,
+        Op::Sadd => FixedOp::Sadd,
+        Op::Ssubu => FixedOp::Ssubu,
+        Op::Ssub => FixedOp::Ssub,
+        Op::Aaddu(_) => FixedOp::Aaddu,
+        Op::Aadd(_) => FixedOp::Aadd,
+        Op::Asubu(_) => FixedOp::Asubu,
+        Op::Asub(_) => FixedOp::Asub,
+        Op::Ssrl(_) => FixedOp::Ssrl,
+        Op::Ssra(_) => FixedOp::Ssra,
     }
 }
 
@@ -70,13 +71,13 @@ fn mode_of(op: Op) -> RoundingMode
     ensures { result ≡ mode_of op }
 {
     match op {
-        Op::SatAddU | Op::SatAdd | Op::SatSubU | Op::SatSub => RoundingMode::Down,
-        Op::AverageAddU(mode)
-        | Op::AverageAdd(mode)
-        | Op::AverageSubU(mode)
-        | Op::AverageSub(mode)
-        | Op::ShiftRight(mode)
-        | Op::ShiftRightSigned(mode) => mode,
+        Op::Saddu | Op::Sadd | Op::Ssubu | Op::Ssub => RoundingMode::Down,
+        Op::Aaddu(mode)
+        | Op::Aadd(mode)
+        | Op::Asubu(mode)
+        | Op::Asub(mode)
+        | Op::Ssrl(mode)
+        | Op::Ssra(mode) => mode,
     }
 }
 
@@ -151,7 +152,7 @@ pub fn clip<W: Lane, N: Lane>(
         (map N.number b.now) active.now }
 {
     match op {
-        ClipOp::ClipU => clip_each(ClipOp::ClipU, mode, a, b, active, results),
+        ClipOp::Clipu => clip_each(ClipOp::Clipu, mode, a, b, active, results),
         ClipOp::Clip => clip_each(ClipOp::Clip, mode, a, b, active, results),
     }
 }

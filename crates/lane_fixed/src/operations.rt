@@ -1,4 +1,5 @@
-//! The operations of the kernels, by the names of the instructions that use them, and the rounding modes.
+//! The rounding modes, and the operations of the chunk calls, by the names of the instructions that use them. Those of the
+//! kernels are rv_decode's.
 
 /// How the bits that a result has no room for are rounded off: the values of vxrm ("Vector Fixed-Point Rounding Mode
 /// Register vxrm").
@@ -14,63 +15,27 @@ pub enum RoundingMode {
     Odd,
 }
 
-/// A fixed-point operation on two elements of one width.
-#[derive(Clone, Copy, PartialEq, Eq, Debug)]
-pub enum FixedOp {
-    /// vsaddu
-    SatAddU,
-    /// vsadd
-    SatAdd,
-    /// vssubu: vs2 - b
-    SatSubU,
-    /// vssub: vs2 - b
-    SatSub,
-    /// vaaddu
-    AverageAddU,
-    /// vaadd
-    AverageAdd,
-    /// vasubu: vs2 - b
-    AverageSubU,
-    /// vasub: vs2 - b
-    AverageSub,
-    /// vsmul
-    Mul,
-    /// vssrl
-    ShiftRight,
-    /// vssra
-    ShiftRightSigned,
-}
-
-/// A clip of an element to half its width.
-#[derive(Clone, Copy, PartialEq, Eq, Debug)]
-pub enum ClipOp {
-    /// vnclipu
-    ClipU,
-    /// vnclip
-    Clip,
-}
-
 /// An operation of the chunk calls, with vxrm where it rounds.
 #[derive(Clone, Copy, PartialEq, Eq, Debug)]
 pub enum Op {
     /// vsaddu
-    SatAddU,
+    Saddu,
     /// vsadd
-    SatAdd,
+    Sadd,
     /// vssubu: vs2 - b
-    SatSubU,
+    Ssubu,
     /// vssub: vs2 - b
-    SatSub,
+    Ssub,
     /// vaaddu
-    AverageAddU(RoundingMode),
+    Aaddu(RoundingMode),
     /// vaadd
-    AverageAdd(RoundingMode),
+    Aadd(RoundingMode),
     /// vasubu: vs2 - b
-    AverageSubU(RoundingMode),
+    Asubu(RoundingMode),
     /// vasub: vs2 - b
-    AverageSub(RoundingMode),
+    Asub(RoundingMode),
     /// vssrl
-    ShiftRight(RoundingMode),
+    Ssrl(RoundingMode),
     /// vssra
-    ShiftRightSigned(RoundingMode),
+    Ssra(RoundingMode),
 }

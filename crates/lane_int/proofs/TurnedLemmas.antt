@@ -10,7 +10,7 @@ use Rattle.std.proofs.lemmas.Int.{of_z-to_z}
 use Rattle.std.proofs.lemmas.List.{length-map}
 use Rattle.lane_int.specs.Chunks.{turned}
 use Rattle.lane_int.specs.Integer.{element, shift_amount}
-use Rattle.lane_int.specs.declared.operations.IntOp.TheVariants.{ShiftRightSigned}
+use Rattle.rv_decode.specs.declared.instructions.IntOp.TheVariants.{Sra}
 use Rattle.lane_int.proofs.VectorLemmas.{zip2_maps, zip2_splat_of, zip2_agrees}
 
 half : (w : Width) → 2 ^ bits w ≡ 2 ^ hbits w + 2 ^ hbits w
@@ -143,7 +143,7 @@ below_width w64 b = let low : b % 64 < 64 = mod-lt b (lit< tt) in omega (arith, 
 below_width w128 b = let low : b % 128 < 128 = mod-lt b (lit< tt) in omega (arith, low)
 
 pub shifted_lanes : (w : Width) (n : ℕ) {us amounts : List ℕ} (xs ys : List ℕ) → us ≡ map (turned w) xs → amounts ≡ map (shift_amount w) ys → length ys ≡ n → Each1 (Fits w) xs → Each1 (Fits w) ys
-    → zip2 (λ a b. (a + (2 ^ bits w - b)) % 2 ^ bits w) (zip2 (λ a s. a / 2 ^ s) us amounts) (zip2 (λ a s. a / 2 ^ s) (replicate n (2 ^ hbits w)) amounts) ≡ zip2 (element ShiftRightSigned w) xs ys
+    → zip2 (λ a b. (a + (2 ^ bits w - b)) % 2 ^ bits w) (zip2 (λ a s. a / 2 ^ s) us amounts) (zip2 (λ a s. a / 2 ^ s) (replicate n (2 ^ hbits w)) amounts) ≡ zip2 (element Sra w) xs ys
 unfolding element
 shifted_lanes w n {us} {amounts} xs ys e f long fits_x fits_y =
     let shift = λ (a s : ℕ). a / 2 ^ s in

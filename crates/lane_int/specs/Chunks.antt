@@ -4,9 +4,9 @@ use Rattle.std.specs.Prelude.{ℕ, ◌+◌, ◌-◌, ◌%◌, ◌^◌, Bool, if�
 use Rattle.std.specs.Int.{Width}
 use mir.Val.{bits, hbits}
 use Rattle.lane_int.specs.Integer.{element, compares, multiply_added}
-use Rattle.lane_int.specs.declared.operations.IntOp.TheVariants as int
+use Rattle.rv_decode.specs.declared.instructions.IntOp.TheVariants as int
 use Rattle.lane_int.specs.declared.operations.Op.{Op}
-use Rattle.lane_int.specs.declared.operations.Op.TheVariants.{Add, Sub, ReverseSub, MinU, Min, MaxU, Max, And, Or, Xor, ShiftLeft, ShiftRight, ShiftRightSigned, Mul, Compare, MultiplyAdd}
+use Rattle.lane_int.specs.declared.operations.Op.TheVariants.{Add, Sub, Rsub, Minu, Min, Maxu, Max, And, Or, Xor, Sll, Srl, Sra, Mul, Compare, MultiplyAdd}
 
 -- all ones where a compare holds, else 0
 abbrev pub all_ones : Width → Bool → ℕ
@@ -19,17 +19,17 @@ turned w a = (a + 2 ^ hbits w) % 2 ^ bits w
 unfoldable pub lane_of : Op → Width → ℕ → ℕ → ℕ → ℕ
 lane_of Add w a b d = element int.Add w a b
 lane_of Sub w a b d = element int.Sub w a b
-lane_of ReverseSub w a b d = element int.ReverseSub w a b
-lane_of MinU w a b d = element int.MinU w a b
+lane_of Rsub w a b d = element int.Rsub w a b
+lane_of Minu w a b d = element int.Minu w a b
 lane_of Min w a b d = element int.Min w a b
-lane_of MaxU w a b d = element int.MaxU w a b
+lane_of Maxu w a b d = element int.Maxu w a b
 lane_of Max w a b d = element int.Max w a b
 lane_of And w a b d = element int.And w a b
 lane_of Or w a b d = element int.Or w a b
 lane_of Xor w a b d = element int.Xor w a b
-lane_of ShiftLeft w a b d = element int.ShiftLeft w a b
-lane_of ShiftRight w a b d = element int.ShiftRight w a b
-lane_of ShiftRightSigned w a b d = element int.ShiftRightSigned w a b
+lane_of Sll w a b d = element int.Sll w a b
+lane_of Srl w a b d = element int.Srl w a b
+lane_of Sra w a b d = element int.Sra w a b
 lane_of Mul w a b d = element int.Mul w a b
 lane_of (Compare op) w a b d = all_ones w (compares op w a b)
 lane_of (MultiplyAdd op) w a b d = multiply_added op w a b d

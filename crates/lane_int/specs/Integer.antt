@@ -5,14 +5,14 @@ use Rattle.std.specs.Prelude.{ℕ, ◌+◌, ◌-◌, ◌*◌, ◌/◌, ◌%◌, 
 use Rattle.std.specs.Int.{Width, w8, w16, w32, w64, w128, cast_signed, cast_unsigned, int_min, int_max, int_shr}
 use Rattle.std.specs.Int.RustNames.{bit_and, bit_or, bit_xor}
 use mir.Val.{bits}
-use Rattle.lane_int.specs.declared.operations.IntOp.{IntOp}
-use Rattle.lane_int.specs.declared.operations.IntOp.TheVariants.{Add, Sub, ReverseSub, MinU, Min, MaxU, Max, And, Or, Xor, ShiftLeft, ShiftRight, ShiftRightSigned, Mul, MulHighU, MulHighSignedU, MulHigh, DivU, Div, RemU, Rem}
-use Rattle.lane_int.specs.declared.operations.CompareOp.{CompareOp}
-use Rattle.lane_int.specs.declared.operations.CompareOp.TheVariants.{Equal, NotEqual, LessU, Less, LessEqualU, LessEqual, GreaterU, Greater}
-use Rattle.lane_int.specs.declared.operations.CarryOp.{CarryOp}
-use Rattle.lane_int.specs.declared.operations.CarryOp.TheVariants.{AddCarry, SubBorrow}
-use Rattle.lane_int.specs.declared.operations.MultiplyAddOp.{MultiplyAddOp}
-use Rattle.lane_int.specs.declared.operations.MultiplyAddOp.TheVariants.{Macc, Nmsac, Madd, Nmsub}
+use Rattle.rv_decode.specs.declared.instructions.IntOp.{IntOp}
+use Rattle.rv_decode.specs.declared.instructions.IntOp.TheVariants.{Add, Sub, Rsub, Minu, Min, Maxu, Max, And, Or, Xor, Sll, Srl, Sra, Mul, Mulhu, Mulhsu, Mulh, Divu, Div, Remu, Rem}
+use Rattle.rv_decode.specs.declared.instructions.CompareOp.{CompareOp}
+use Rattle.rv_decode.specs.declared.instructions.CompareOp.TheVariants.{Eq, Ne, Ltu, Lt, Leu, Le, Gtu, Gt}
+use Rattle.rv_decode.specs.declared.instructions.CarryOp.{CarryOp}
+use Rattle.rv_decode.specs.declared.instructions.CarryOp.TheVariants.{Adc, Sbc}
+use Rattle.rv_decode.specs.declared.instructions.MultiplyAddOp.{MultiplyAddOp}
+use Rattle.rv_decode.specs.declared.instructions.MultiplyAddOp.TheVariants.{Macc, Nmsac, Madd, Nmsub}
 
 -- the width of twice as many bits
 abbrev pub double : Width → Width
@@ -43,38 +43,38 @@ shift_amount w b = b % bits w
 unfoldable pub element : IntOp → Width → ℕ → ℕ → ℕ
 element Add w a b = (a + b) % 2 ^ bits w
 element Sub w a b = difference w a b
-element ReverseSub w a b = difference w b a
-element MinU w a b = min a b
+element Rsub w a b = difference w b a
+element Minu w a b = min a b
 element Min w a b = cast_unsigned w (int_min (cast_signed w a) (cast_signed w b))
-element MaxU w a b = max a b
+element Maxu w a b = max a b
 element Max w a b = cast_unsigned w (int_max (cast_signed w a) (cast_signed w b))
 element And w a b = bit_and a b
 element Or w a b = bit_or a b
 element Xor w a b = bit_xor a b
-element ShiftLeft w a b = a * 2 ^ shift_amount w b % 2 ^ bits w
-element ShiftRight w a b = a / 2 ^ shift_amount w b
-element ShiftRightSigned w a b = cast_unsigned w (int_shr (cast_signed w a) (shift_amount w b))
+element Sll w a b = a * 2 ^ shift_amount w b % 2 ^ bits w
+element Srl w a b = a / 2 ^ shift_amount w b
+element Sra w a b = cast_unsigned w (int_shr (cast_signed w a) (shift_amount w b))
 element Mul w a b = a * b % 2 ^ bits w
-element MulHighU w a b = high_half w (a * b)
-element MulHighSignedU w a b = high_half w (extended w a * b)
-element MulHigh w a b = high_half w (extended w a * extended w b)
-element DivU w a b = if b == 0 then 2 ^ bits w - 1 else a / b
+element Mulhu w a b = high_half w (a * b)
+element Mulhsu w a b = high_half w (extended w a * b)
+element Mulh w a b = high_half w (extended w a * extended w b)
+element Divu w a b = if b == 0 then 2 ^ bits w - 1 else a / b
 element Div w a b =
     if b == 0 then 2 ^ bits w - 1 else cast_unsigned w (int_div (cast_signed w a) (cast_signed w b))
-element RemU w a b = if b == 0 then a else a % b
+element Remu w a b = if b == 0 then a else a % b
 element Rem w a b =
     if b == 0 then a else cast_unsigned w (int_rem (cast_signed w a) (cast_signed w b))
 
 -- vmseq .. vmsgt: vs2 against b
 unfoldable pub compares : CompareOp → Width → ℕ → ℕ → Bool
-compares Equal w a b = a == b
-compares NotEqual w a b = not (a == b)
-compares LessU w a b = nat_lt a b
-compares Less w a b = int_lt (cast_signed w a) (cast_signed w b)
-compares LessEqualU w a b = nat_le a b
-compares LessEqual w a b = int_le (cast_signed w a) (cast_signed w b)
-compares GreaterU w a b = nat_lt b a
-compares Greater w a b = int_lt (cast_signed w b) (cast_signed w a)
+compares Eq w a b = a == b
+compares Ne w a b = not (a == b)
+compares Ltu w a b = nat_lt a b
+compares Lt w a b = int_lt (cast_signed w a) (cast_signed w b)
+compares Leu w a b = nat_le a b
+compares Le w a b = int_le (cast_signed w a) (cast_signed w b)
+compares Gtu w a b = nat_lt b a
+compares Gt w a b = int_lt (cast_signed w b) (cast_signed w a)
 
 -- the carry or borrow as a number
 abbrev pub bit : Bool → ℕ
@@ -83,13 +83,13 @@ bit true = 1
 
 -- vadc and vsbc: vs2 + b + the bit, and vs2 - b - the bit
 unfoldable pub carried : CarryOp → Width → ℕ → ℕ → Bool → ℕ
-carried AddCarry w a b c = (a + b + bit c) % 2 ^ bits w
-carried SubBorrow w a b c = difference w (difference w a b) (bit c)
+carried Adc w a b c = (a + b + bit c) % 2 ^ bits w
+carried Sbc w a b c = difference w (difference w a b) (bit c)
 
 -- vmadc and vmsbc: the carry out of the sum, and the borrow of the difference
 unfoldable pub carries : CarryOp → Width → ℕ → ℕ → Bool → Bool
-carries AddCarry w a b c = nat_le (2 ^ bits w) (a + b + bit c)
-carries SubBorrow w a b c = nat_lt a (b + bit c)
+carries Adc w a b c = nat_le (2 ^ bits w) (a + b + bit c)
+carries Sbc w a b c = nat_lt a (b + bit c)
 
 -- vmacc, vnmsac, vmadd, vnmsub: a is vs2's element, b that of vs1 or the scalar, d the old one of vd
 unfoldable pub multiply_added : MultiplyAddOp → Width → ℕ → ℕ → ℕ → ℕ

@@ -28,28 +28,28 @@ macro_rules! int_result {
         match $op {
             IntOp::Add => $a.wrapping_add($b),
             IntOp::Sub => $a.wrapping_sub($b),
-            IntOp::ReverseSub => $b.wrapping_sub($a),
-            IntOp::MinU => $a.min($b),
+            IntOp::Rsub => $b.wrapping_sub($a),
+            IntOp::Minu => $a.min($b),
             IntOp::Min => by_sign!(min, $a, $b),
-            IntOp::MaxU => $a.max($b),
+            IntOp::Maxu => $a.max($b),
             IntOp::Max => by_sign!(max, $a, $b),
             IntOp::And => $a & $b,
             IntOp::Or => $a | $b,
             IntOp::Xor => $a ^ $b,
-            IntOp::ShiftLeft => $a << ($b % $bits),
-            IntOp::ShiftRight => $a >> ($b % $bits),
-            IntOp::ShiftRightSigned => ($a.cast_signed() >> ($b % $bits)).cast_unsigned(),
+            IntOp::Sll => $a << ($b % $bits),
+            IntOp::Srl => $a >> ($b % $bits),
+            IntOp::Sra => ($a.cast_signed() >> ($b % $bits)).cast_unsigned(),
             IntOp::Mul => $a.wrapping_mul($b),
-            IntOp::MulHighU => high_half!($element, $bits, $wide::from($a), $wide::from($b)),
-            IntOp::MulHighSignedU => {
+            IntOp::Mulhu => high_half!($element, $bits, $wide::from($a), $wide::from($b)),
+            IntOp::Mulhsu => {
                 high_half!($element, $bits, extended!($signed, $a), $wide::from($b))
             }
-            IntOp::MulHigh => {
+            IntOp::Mulh => {
                 high_half!($element, $bits, extended!($signed, $a), extended!($signed, $b))
             }
-            IntOp::DivU => if $b == 0 { $element::MAX } else { $a / $b },
+            IntOp::Divu => if $b == 0 { $element::MAX } else { $a / $b },
             IntOp::Div => if $b == 0 { $element::MAX } else { by_sign!(wrapping_div, $a, $b) },
-            IntOp::RemU => if $b == 0 { $a } else { $a % $b },
+            IntOp::Remu => if $b == 0 { $a } else { $a % $b },
             IntOp::Rem => if $b == 0 { $a } else { by_sign!(wrapping_rem, $a, $b) },
         }
     };
@@ -59,14 +59,14 @@ macro_rules! int_result {
 macro_rules! int_test {
     ($op:ident, $a:ident, $b:ident) => {
         match $op {
-            CompareOp::Equal => $a == $b,
-            CompareOp::NotEqual => $a != $b,
-            CompareOp::LessU => $a < $b,
-            CompareOp::Less => $a.cast_signed() < $b.cast_signed(),
-            CompareOp::LessEqualU => $a <= $b,
-            CompareOp::LessEqual => $a.cast_signed() <= $b.cast_signed(),
-            CompareOp::GreaterU => $b < $a,
-            CompareOp::Greater => $b.cast_signed() < $a.cast_signed(),
+            CompareOp::Eq => $a == $b,
+            CompareOp::Ne => $a != $b,
+            CompareOp::Ltu => $a < $b,
+            CompareOp::Lt => $a.cast_signed() < $b.cast_signed(),
+            CompareOp::Leu => $a <= $b,
+            CompareOp::Le => $a.cast_signed() <= $b.cast_signed(),
+            CompareOp::Gtu => $b < $a,
+            CompareOp::Gt => $b.cast_signed() < $a.cast_signed(),
         }
     };
 }
@@ -75,8 +75,8 @@ macro_rules! int_test {
 macro_rules! carry_result {
     ($element:ident, $op:ident, $a:ident, $b:ident, $carry:ident) => {
         match $op {
-            CarryOp::AddCarry => $a.wrapping_add($b).wrapping_add($element::from($carry)),
-            CarryOp::SubBorrow => $a.wrapping_sub($b).wrapping_sub($element::from($carry)),
+            CarryOp::Adc => $a.wrapping_add($b).wrapping_add($element::from($carry)),
+            CarryOp::Sbc => $a.wrapping_sub($b).wrapping_sub($element::from($carry)),
         }
     };
 }
@@ -85,10 +85,10 @@ macro_rules! carry_result {
 macro_rules! carry_out {
     ($element:ident, $wide:ident, $op:ident, $a:ident, $b:ident, $carry:ident) => {
         match $op {
-            CarryOp::AddCarry => {
+            CarryOp::Adc => {
                 $wide::from($a) + $wide::from($b) + $wide::from($carry) > $wide::from($element::MAX)
             }
-            CarryOp::SubBorrow => $wide::from($a) < $wide::from($b) + $wide::from($carry),
+            CarryOp::Sbc => $wide::from($a) < $wide::from($b) + $wide::from($carry),
         }
     };
 }

@@ -7,7 +7,7 @@ ghost use lib.Lanes.{zip2};
 ghost use Rattle.lane_int.specs.Lists.{zip3};
 
 use crate::lane::Lane;
-use crate::operations::{CarryOp, CompareOp, IntOp, MultiplyAddOp};
+use rv_decode::{CarryOp, CompareOp, IntOp, MultiplyAddOp};
 
 /// Writes over each element of `values`, which are vs2's, what `op` makes of it and of `b`'s element.
 pub fn compute<T: Lane>(op: IntOp, values: &mut [T], b: &[T])
@@ -17,24 +17,24 @@ pub fn compute<T: Lane>(op: IntOp, values: &mut [T], b: &[T])
     match op {
         IntOp::Add => compute_each(IntOp::Add, values, b),
         IntOp::Sub => compute_each(IntOp::Sub, values, b),
-        IntOp::ReverseSub => compute_each(IntOp::ReverseSub, values, b),
-        IntOp::MinU => compute_each(IntOp::MinU, values, b),
+        IntOp::Rsub => compute_each(IntOp::Rsub, values, b),
+        IntOp::Minu => compute_each(IntOp::Minu, values, b),
         IntOp::Min => compute_each(IntOp::Min, values, b),
-        IntOp::MaxU => compute_each(IntOp::MaxU, values, b),
+        IntOp::Maxu => compute_each(IntOp::Maxu, values, b),
         IntOp::Max => compute_each(IntOp::Max, values, b),
         IntOp::And => compute_each(IntOp::And, values, b),
         IntOp::Or => compute_each(IntOp::Or, values, b),
         IntOp::Xor => compute_each(IntOp::Xor, values, b),
-        IntOp::ShiftLeft => compute_each(IntOp::ShiftLeft, values, b),
-        IntOp::ShiftRight => compute_each(IntOp::ShiftRight, values, b),
-        IntOp::ShiftRightSigned => compute_each(IntOp::ShiftRightSigned, values, b),
+        IntOp::Sll => compute_each(IntOp::Sll, values, b),
+        IntOp::Srl => compute_each(IntOp::Srl, values, b),
+        IntOp::Sra => compute_each(IntOp::Sra, values, b),
         IntOp::Mul => compute_each(IntOp::Mul, values, b),
-        IntOp::MulHighU => compute_each(IntOp::MulHighU, values, b),
-        IntOp::MulHighSignedU => compute_each(IntOp::MulHighSignedU, values, b),
-        IntOp::MulHigh => compute_each(IntOp::MulHigh, values, b),
-        IntOp::DivU => compute_each(IntOp::DivU, values, b),
+        IntOp::Mulhu => compute_each(IntOp::Mulhu, values, b),
+        IntOp::Mulhsu => compute_each(IntOp::Mulhsu, values, b),
+        IntOp::Mulh => compute_each(IntOp::Mulh, values, b),
+        IntOp::Divu => compute_each(IntOp::Divu, values, b),
         IntOp::Div => compute_each(IntOp::Div, values, b),
-        IntOp::RemU => compute_each(IntOp::RemU, values, b),
+        IntOp::Remu => compute_each(IntOp::Remu, values, b),
         IntOp::Rem => compute_each(IntOp::Rem, values, b),
     }
 }
@@ -57,14 +57,14 @@ pub fn compare<T: Lane>(op: CompareOp, a: &[T], b: &[T], bits: &mut [bool])
     ensures { bits.new ≡ zip2 (T.test_of op) a.now b.now }
 {
     match op {
-        CompareOp::Equal => compare_each(CompareOp::Equal, a, b, bits),
-        CompareOp::NotEqual => compare_each(CompareOp::NotEqual, a, b, bits),
-        CompareOp::LessU => compare_each(CompareOp::LessU, a, b, bits),
-        CompareOp::Less => compare_each(CompareOp::Less, a, b, bits),
-        CompareOp::LessEqualU => compare_each(CompareOp::LessEqualU, a, b, bits),
-        CompareOp::LessEqual => compare_each(CompareOp::LessEqual, a, b, bits),
-        CompareOp::GreaterU => compare_each(CompareOp::GreaterU, a, b, bits),
-        CompareOp::Greater => compare_each(CompareOp::Greater, a, b, bits),
+        CompareOp::Eq => compare_each(CompareOp::Eq, a, b, bits),
+        CompareOp::Ne => compare_each(CompareOp::Ne, a, b, bits),
+        CompareOp::Ltu => compare_each(CompareOp::Ltu, a, b, bits),
+        CompareOp::Lt => compare_each(CompareOp::Lt, a, b, bits),
+        CompareOp::Leu => compare_each(CompareOp::Leu, a, b, bits),
+        CompareOp::Le => compare_each(CompareOp::Le, a, b, bits),
+        CompareOp::Gtu => compare_each(CompareOp::Gtu, a, b, bits),
+        CompareOp::Gt => compare_each(CompareOp::Gt, a, b, bits),
     }
 }
 
@@ -88,8 +88,8 @@ pub fn compute_carried<T: Lane>(op: CarryOp, values: &mut [T], b: &[T], carries:
     ensures { values.new ≡ zip3 (T.carried_of op) values.old b.now carries.now }
 {
     match op {
-        CarryOp::AddCarry => carry_each(CarryOp::AddCarry, values, b, carries),
-        CarryOp::SubBorrow => carry_each(CarryOp::SubBorrow, values, b, carries),
+        CarryOp::Adc => carry_each(CarryOp::Adc, values, b, carries),
+        CarryOp::Sbc => carry_each(CarryOp::Sbc, values, b, carries),
     }
 }
 
@@ -113,8 +113,8 @@ pub fn compute_carries<T: Lane>(op: CarryOp, a: &[T], b: &[T], carries: &mut [bo
     ensures { carries.new ≡ zip3 (T.carry_of op) a.now b.now carries.old }
 {
     match op {
-        CarryOp::AddCarry => carry_out_each(CarryOp::AddCarry, a, b, carries),
-        CarryOp::SubBorrow => carry_out_each(CarryOp::SubBorrow, a, b, carries),
+        CarryOp::Adc => carry_out_each(CarryOp::Adc, a, b, carries),
+        CarryOp::Sbc => carry_out_each(CarryOp::Sbc, a, b, carries),
     }
 }
 

@@ -4,17 +4,17 @@ ghost use Rattle.std.specs.Prelude.{◌≡◌, ℕ, Bool};
 use crate::elements::{
     by_sign, carry_out, carry_result, extended, high_half, int_result, int_test, multiply_add,
 };
-use crate::operations::{CarryOp, CompareOp, IntOp, MultiplyAddOp};
+use rv_decode::{CarryOp, CompareOp, IntOp, MultiplyAddOp};
 
 /// An element of one width: `u8`, `u16` or `u32`.
 pub trait Lane: Copy {
     ghost use Rattle.std.specs.Prelude.{ℕ, Bool, ◌≡◌};
     ghost use Rattle.std.specs.Int.{Width};
     ghost use Rattle.lane_int.specs.Integer.{element, compares, carried, carries, multiply_added};
-    ghost use Rattle.lane_int.specs.declared.operations.IntOp.{IntOp};
-    ghost use Rattle.lane_int.specs.declared.operations.CompareOp.{CompareOp};
-    ghost use Rattle.lane_int.specs.declared.operations.CarryOp.{CarryOp};
-    ghost use Rattle.lane_int.specs.declared.operations.MultiplyAddOp.{MultiplyAddOp};
+    ghost use Rattle.rv_decode.specs.declared.instructions.IntOp.{IntOp};
+    ghost use Rattle.rv_decode.specs.declared.instructions.CompareOp.{CompareOp};
+    ghost use Rattle.rv_decode.specs.declared.instructions.CarryOp.{CarryOp};
+    ghost use Rattle.rv_decode.specs.declared.instructions.MultiplyAddOp.{MultiplyAddOp};
 
     // the width, and the number that an element holds
     ghost width: { Width };

@@ -12,5 +12,5 @@ mod resizing;
 pub use chunks::{chunk_u8, chunk_u16, chunk_u32, lane_u8, lane_u16, lane_u32};
 pub use kernels::{compare, compute, compute_carried, compute_carries, multiply_add};
 pub use lane::Lane;
-pub use operations::{CarryOp, CompareOp, IntOp, MultiplyAddOp, Op};
+pub use operations::Op;
 pub use resizing::{Narrow, cut, extend};

@@ -1,94 +1,6 @@
-//! The operations of the kernels, by the names of the instructions that use them.
+//! The operations of the chunk calls, by the names of the instructions that use them. Those of the kernels are rv_decode's.
 
-/// An integer operation on two elements of one width.
-#[derive(Clone, Copy, PartialEq, Eq, Debug)]
-pub enum IntOp {
-    /// vadd
-    Add,
-    /// vsub: vs2 - b
-    Sub,
-    /// vrsub: b - vs2
-    ReverseSub,
-    /// vminu
-    MinU,
-    /// vmin
-    Min,
-    /// vmaxu
-    MaxU,
-    /// vmax
-    Max,
-    /// vand
-    And,
-    /// vor
-    Or,
-    /// vxor
-    Xor,
-    /// vsll
-    ShiftLeft,
-    /// vsrl
-    ShiftRight,
-    /// vsra
-    ShiftRightSigned,
-    /// vmul
-    Mul,
-    /// vmulhu
-    MulHighU,
-    /// vmulhsu: vs2 signed, b unsigned
-    MulHighSignedU,
-    /// vmulh
-    MulHigh,
-    /// vdivu
-    DivU,
-    /// vdiv
-    Div,
-    /// vremu
-    RemU,
-    /// vrem
-    Rem,
-}
-
-/// A comparison of vs2's element against b.
-#[derive(Clone, Copy, PartialEq, Eq, Debug)]
-pub enum CompareOp {
-    /// vmseq
-    Equal,
-    /// vmsne
-    NotEqual,
-    /// vmsltu
-    LessU,
-    /// vmslt
-    Less,
-    /// vmsleu
-    LessEqualU,
-    /// vmsle
-    LessEqual,
-    /// vmsgtu
-    GreaterU,
-    /// vmsgt
-    Greater,
-}
-
-/// An addition or subtraction with a carry or borrow.
-#[derive(Clone, Copy, PartialEq, Eq, Debug)]
-pub enum CarryOp {
-    /// vadc and vmadc
-    AddCarry,
-    /// vsbc and vmsbc
-    SubBorrow,
-}
-
-/// A multiplication and an addition or subtraction in one.
-#[derive(Clone, Copy, PartialEq, Eq, Debug)]
-pub enum MultiplyAddOp {
-    /// vmacc: b * vs2 + vd
-    Macc,
-    /// vnmsac: -(b * vs2) + vd
-    Nmsac,
-    /// vmadd: b * vd + vs2
-    Madd,
-    /// vnmsub: -(b * vd) + vs2
-    Nmsub,
-}
+use rv_decode::{CompareOp, MultiplyAddOp};
 
 /// An operation of the chunk calls: on vs2's lane, on b and on vd's old lane.
 #[derive(Clone, Copy, PartialEq, Eq, Debug)]
@@ -98,13 +10,13 @@ pub enum Op {
     /// vsub: vs2 - b
     Sub,
     /// vrsub: b - vs2
-    ReverseSub,
+    Rsub,
     /// vminu
-    MinU,
+    Minu,
     /// vmin
     Min,
     /// vmaxu
-    MaxU,
+    Maxu,
     /// vmax
     Max,
     /// vand
@@ -114,11 +26,11 @@ pub enum Op {
     /// vxor
     Xor,
     /// vsll
-    ShiftLeft,
+    Sll,
     /// vsrl
-    ShiftRight,
+    Srl,
     /// vsra
-    ShiftRightSigned,
+    Sra,
     /// vmul
     Mul,
     /// vmseq to vmsgt: all ones where it holds, else 0

@@ -9,8 +9,8 @@ use Rattle.std.proofs.lemmas.Nat.Bits.{bit_at_and, bit_at_or, bit_at_xor, bit_at
 use Rattle.std.proofs.lemmas.Simd.{get_or-zip2, Each1-get_or}
 use Rattle.lane_masks.specs.Chunks.{byte_of, is_set}
 use Rattle.lane_masks.specs.Masks.{logic_of}
-use Rattle.lane_masks.specs.declared.operations.LogicOp.{LogicOp}
-use Rattle.lane_masks.specs.declared.operations.LogicOp.TheVariants.{And, Nand, AndNot, Xor, Or, Nor, OrNot, Xnor}
+use Rattle.rv_decode.specs.declared.instructions.LogicOp.{LogicOp}
+use Rattle.rv_decode.specs.declared.instructions.LogicOp.TheVariants.{And, Nand, Andn, Xor, Or, Nor, Orn, Xnor}
 
 pub same_lanes : {A B C : Type 0} (f g : A → B → C) → ((a : A) (b : B) → f a b ≡ g a b) → (xs : List A) (ys : List B) → zip2 f xs ys ≡ zip2 g xs ys
 same_lanes f g e [] ys = refl
@@ -32,22 +32,22 @@ before_zip2 f g (x ∷ xs) (y ∷ ys) = ap (λ zs. f x (g y) ∷ zs) (before_zip
 abbrev on_bits : LogicOp → ℕ → ℕ → ℕ
 on_bits And x y = min x y
 on_bits Nand x y = 1 - min x y
-on_bits AndNot x y = min x (1 - y)
+on_bits Andn x y = min x (1 - y)
 on_bits Xor x y = (x + y) % 2
 on_bits Or x y = max x y
 on_bits Nor x y = 1 - max x y
-on_bits OrNot x y = max x (1 - y)
+on_bits Orn x y = max x (1 - y)
 on_bits Xnor x y = 1 - (x + y) % 2
 
 bit_of_byte : (op : LogicOp) (a b j : ℕ) → a < 2 ^ 8 → b < 2 ^ 8 → j < 8 → bit_at (byte_of op a b) j ≡ on_bits op (bit_at a j) (bit_at b j)
 unfolding byte_of
 bit_of_byte And a b j p q r = bit_at_and a b j
 bit_of_byte Nand a b j p q r = bit_at_not w8 (bit_and a b) j (omega (arith, and_le_l a b)) r ∙ ap (λ n. 1 - n) (bit_at_and a b j)
-bit_of_byte AndNot a b j p q r = bit_at_and a (bit_not w8 b) j ∙ ap (λ n. min (bit_at a j) n) (bit_at_not w8 b j q r)
+bit_of_byte Andn a b j p q r = bit_at_and a (bit_not w8 b) j ∙ ap (λ n. min (bit_at a j) n) (bit_at_not w8 b j q r)
 bit_of_byte Xor a b j p q r = bit_at_xor a b j
 bit_of_byte Or a b j p q r = bit_at_or a b j
 bit_of_byte Nor a b j p q r = bit_at_not w8 (bit_or a b) j (or_of_8 a b p q) r ∙ ap (λ n. 1 - n) (bit_at_or a b j)
-bit_of_byte OrNot a b j p q r = bit_at_or a (bit_not w8 b) j ∙ ap (λ n. max (bit_at a j) n) (bit_at_not w8 b j q r)
+bit_of_byte Orn a b j p q r = bit_at_or a (bit_not w8 b) j ∙ ap (λ n. max (bit_at a j) n) (bit_at_not w8 b j q r)
 bit_of_byte Xnor a b j p q r = bit_at_not w8 (bit_xor a b) j (xor_of_8 a b p q) r ∙ ap (λ n. 1 - n) (bit_at_xor a b j)
 
 abbrev SameBit : LogicOp → ℕ → ℕ → Type 0
@@ -65,11 +65,11 @@ as_bools : (op : LogicOp) (x y : ℕ) → x < 2 → y < 2 → SameBit op x y
 unfolding logic_of
 as_bools And = on_two And refl refl refl refl
 as_bools Nand = on_two Nand refl refl refl refl
-as_bools AndNot = on_two AndNot refl refl refl refl
+as_bools Andn = on_two Andn refl refl refl refl
 as_bools Xor = on_two Xor refl refl refl refl
 as_bools Or = on_two Or refl refl refl refl
 as_bools Nor = on_two Nor refl refl refl refl
-as_bools OrNot = on_two OrNot refl refl refl refl
+as_bools Orn = on_two Orn refl refl refl refl
 as_bools Xnor = on_two Xnor refl refl refl refl
 
 -- each bit of a chunk

@@ -2,8 +2,8 @@
 use Rattle.std.specs.Prelude.{ℕ, ◌==◌, Bool}
 use Rattle.std.specs.Int.{w8, bit_at, bit_not}
 use Rattle.std.specs.Int.RustNames.{bit_and, bit_or, bit_xor}
-use Rattle.lane_masks.specs.declared.operations.LogicOp.{LogicOp}
-use Rattle.lane_masks.specs.declared.operations.LogicOp.TheVariants.{And, Nand, AndNot, Xor, Or, Nor, OrNot, Xnor}
+use Rattle.rv_decode.specs.declared.instructions.LogicOp.{LogicOp}
+use Rattle.rv_decode.specs.declared.instructions.LogicOp.TheVariants.{And, Nand, Andn, Xor, Or, Nor, Orn, Xnor}
 
 -- whether bit j of a byte is set
 abbrev pub is_set : ℕ → ℕ → Bool
@@ -13,9 +13,9 @@ is_set j byte = bit_at byte j == 1
 unfoldable pub byte_of : LogicOp → ℕ → ℕ → ℕ
 byte_of And a b = bit_and a b
 byte_of Nand a b = bit_not w8 (bit_and a b)
-byte_of AndNot a b = bit_and a (bit_not w8 b)
+byte_of Andn a b = bit_and a (bit_not w8 b)
 byte_of Xor a b = bit_xor a b
 byte_of Or a b = bit_or a b
 byte_of Nor a b = bit_not w8 (bit_or a b)
-byte_of OrNot a b = bit_or a (bit_not w8 b)
+byte_of Orn a b = bit_or a (bit_not w8 b)
 byte_of Xnor a b = bit_not w8 (bit_xor a b)

@@ -5,8 +5,8 @@ use Rattle.std.specs.List.{fold}
 use Rattle.std.specs.Int.{Width, w32, cast_signed, cast_unsigned, int_min, int_max}
 use Rattle.std.specs.Int.RustNames.{bit_and, bit_or, bit_xor}
 use mir.Val.{bits}
-use Rattle.lane_masks.specs.declared.operations.FoldOp.{FoldOp}
-use Rattle.lane_masks.specs.declared.operations.FoldOp.TheVariants.{Sum, And, Or, Xor, MinU, Min, MaxU, Max}
+use Rattle.rv_decode.specs.declared.instructions.FoldOp.{FoldOp}
+use Rattle.rv_decode.specs.declared.instructions.FoldOp.TheVariants.{Sum, And, Or, Xor, Minu, Min, Maxu, Max}
 
 -- the value so far and one more element
 unfoldable pub joined : FoldOp → Width → ℕ → ℕ → ℕ
@@ -14,9 +14,9 @@ joined Sum w a b = (a + b) % 2 ^ bits w
 joined And w a b = bit_and a b
 joined Or w a b = bit_or a b
 joined Xor w a b = bit_xor a b
-joined MinU w a b = min a b
+joined Minu w a b = min a b
 joined Min w a b = cast_unsigned w (int_min (cast_signed w a) (cast_signed w b))
-joined MaxU w a b = max a b
+joined Maxu w a b = max a b
 joined Max w a b = cast_unsigned w (int_max (cast_signed w a) (cast_signed w b))
 
 -- the elements whose bit is set, in order

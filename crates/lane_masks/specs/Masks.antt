@@ -3,10 +3,10 @@ use Rattle.std.specs.Prelude.{ℕ, ◌%◌, ◌^◌, ◌==◌, nat_lt, nat_le, B
 use Rattle.std.specs.List.{count_by, position, range_with_len}
 use Rattle.std.specs.Int.{Width}
 use mir.Val.{bits}
-use Rattle.lane_masks.specs.declared.operations.LogicOp.{LogicOp}
-use Rattle.lane_masks.specs.declared.operations.LogicOp.TheVariants.{And, Nand, AndNot, Xor, Or, Nor, OrNot, Xnor}
-use Rattle.lane_masks.specs.declared.operations.FirstOp.{FirstOp}
-use Rattle.lane_masks.specs.declared.operations.FirstOp.TheVariants.{Before, Including, Only}
+use Rattle.rv_decode.specs.declared.instructions.LogicOp.{LogicOp}
+use Rattle.rv_decode.specs.declared.instructions.LogicOp.TheVariants.{And, Nand, Andn, Xor, Or, Nor, Orn, Xnor}
+use Rattle.rv_decode.specs.declared.instructions.FirstOp.{FirstOp}
+use Rattle.rv_decode.specs.declared.instructions.FirstOp.TheVariants.{Before, Including, Only}
 
 abbrev pub differ : Bool → Bool → Bool
 differ true b = not b
@@ -16,11 +16,11 @@ differ false b = b
 unfoldable pub logic_of : LogicOp → Bool → Bool → Bool
 logic_of And a b = a && b
 logic_of Nand a b = not (a && b)
-logic_of AndNot a b = a && not b
+logic_of Andn a b = a && not b
 logic_of Xor a b = differ a b
 logic_of Or a b = a || b
 logic_of Nor a b = not (a || b)
-logic_of OrNot a b = a || not b
+logic_of Orn a b = a || not b
 logic_of Xnor a b = not (differ a b)
 
 -- how many bits are set, and the first that is

@@ -4,7 +4,7 @@ ghost use lib.Lanes.{zip2};
 ghost use Rattle.lane_masks.specs.Chunks.{byte_of, is_set};
 ghost use Rattle.lane_masks.specs.Masks.{logic_of};
 
-use crate::operations::LogicOp;
+use rv_decode::LogicOp;
 use std::simd::prelude::*;
 
 /// What `op` makes of sixteen bytes of vs2, which are `values`, and of vs1's bytes `b`: each bit is that of `combine`
@@ -18,11 +18,11 @@ pub fn chunk_u8(op: LogicOp, values: u8x16, b: u8x16) -> u8x16
     match op {
         LogicOp::And => values & b,
         LogicOp::Nand => !(values & b),
-        LogicOp::AndNot => values & !b,
+        LogicOp::Andn => values & !b,
         LogicOp::Xor => values ^ b,
         LogicOp::Or => values | b,
         LogicOp::Nor => !(values | b),
-        LogicOp::OrNot => values | !b,
+        LogicOp::Orn => values | !b,
         LogicOp::Xnor => !(values ^ b),
     }
 }

@@ -5,7 +5,7 @@ ghost use Rattle.lane_masks.specs.Masks.{first_set, index_of, iota_of, set_at, s
 ghost use Rattle.lane_masks.specs.Masks.{set_first_of};
 
 use crate::lane::FoldLane;
-use crate::operations::FirstOp;
+use rv_decode::FirstOp;
 
 /// How many bits are set ("Vector count population in mask vcpop.m").
 pub fn count(mask: &[bool]) -> usize

@@ -1,10 +1,10 @@
 //! Folds.
 ghost use Rattle.std.specs.Prelude.{◌≡◌, length, map};
 ghost use Rattle.lane_masks.specs.Folds.{extended, fold_of};
-ghost use Rattle.lane_masks.specs.declared.operations.FoldOp.TheVariants.{Sum};
+ghost use Rattle.rv_decode.specs.declared.instructions.FoldOp.TheVariants.{Sum};
 
 use crate::lane::FoldLane;
-use crate::operations::FoldOp;
+use rv_decode::FoldOp;
 
 /// The fold of `start`, which is vs1's element 0, with the active elements of `values`, which are vs2's ("Vector
 /// Single-Width Integer Reduction Instructions").

@@ -1,7 +1,7 @@
 //! The widths that the kernels compute in.
 ghost use Rattle.std.specs.Prelude.{◌≡◌, ℕ};
 
-use crate::operations::FoldOp;
+use rv_decode::FoldOp;
 
 /// An element of one width: `u8`, `u16` or `u32`.
 pub trait FoldLane: Copy {
@@ -55,9 +55,9 @@ impl FoldLane for u8 {
             FoldOp::And => a & b,
             FoldOp::Or => a | b,
             FoldOp::Xor => a ^ b,
-            FoldOp::MinU => a.min(b),
+            FoldOp::Minu => a.min(b),
             FoldOp::Min => a.cast_signed().min(b.cast_signed()).cast_unsigned(),
-            FoldOp::MaxU => a.max(b),
+            FoldOp::Maxu => a.max(b),
             FoldOp::Max => a.cast_signed().max(b.cast_signed()).cast_unsigned(),
         }
     }
@@ -89,9 +89,9 @@ impl FoldLane for u16 {
             FoldOp::And => a & b,
             FoldOp::Or => a | b,
             FoldOp::Xor => a ^ b,
-            FoldOp::MinU => a.min(b),
+            FoldOp::Minu => a.min(b),
             FoldOp::Min => a.cast_signed().min(b.cast_signed()).cast_unsigned(),
-            FoldOp::MaxU => a.max(b),
+            FoldOp::Maxu => a.max(b),
             FoldOp::Max => a.cast_signed().max(b.cast_signed()).cast_unsigned(),
         }
     }
@@ -120,9 +120,9 @@ impl FoldLane for u32 {
             FoldOp::And => a & b,
             FoldOp::Or => a | b,
             FoldOp::Xor => a ^ b,
-            FoldOp::MinU => a.min(b),
+            FoldOp::Minu => a.min(b),
             FoldOp::Min => a.cast_signed().min(b.cast_signed()).cast_unsigned(),
-            FoldOp::MaxU => a.max(b),
+            FoldOp::Maxu => a.max(b),
             FoldOp::Max => a.cast_signed().max(b.cast_signed()).cast_unsigned(),
         }
     }

@@ -7,7 +7,6 @@ mod counts;
 mod folds;
 mod lane;
 mod logic;
-mod operations;
 mod permutations;
 
 pub use chunks::chunk_u8;
@@ -15,5 +14,4 @@ pub use counts::{count, first, index, iota, set_first};
 pub use folds::{fold, fold_extended};
 pub use lane::FoldLane;
 pub use logic::combine;
-pub use operations::{FirstOp, FoldOp, LogicOp};
 pub use permutations::{compress, gather, slide_down, slide_one_down, slide_one_up, slide_up};

@@ -3,7 +3,7 @@ ghost use Rattle.std.specs.Prelude.{◌≡◌, length};
 ghost use lib.Lanes.{zip2};
 ghost use Rattle.lane_masks.specs.Masks.{logic_of};
 
-use crate::operations::LogicOp;
+use rv_decode::LogicOp;
 
 #[tactic(auto, unfolding(crate::specs::Masks::logic_of))]
 fn bit_of(op: LogicOp, a: bool, b: bool) -> bool
@@ -12,11 +12,11 @@ fn bit_of(op: LogicOp, a: bool, b: bool) -> bool
     match op {
         LogicOp::And => a && b,
         LogicOp::Nand => !(a && b),
-        LogicOp::AndNot => a && !b,
+        LogicOp::Andn => a && !b,
         LogicOp::Xor => a != b,
         LogicOp::Or => a || b,
         LogicOp::Nor => !(a || b),
-        LogicOp::OrNot => a || !b,
+        LogicOp::Orn => a || !b,
         LogicOp::Xnor => a == b,
     }
 }

@@ -1,8 +1,10 @@
 -- Why a form's value lies in its range.
-use Rattle.std.proofs.Common.{◌≡◌, ℕ, ◌+◌, ◌-◌, ◌*◌, ◌/◌, ◌%◌, ◌^◌, ◌<◌, ◌≤◌, ◌==◌, inl, inr, zero, suc, List, [], ◌∷◌, ◌++◌, map, length, get_or, position, slice_set, min, max, refl, ap, sym, ◌∙◌, subst, arith, Option, Some, None, true, IfSome}
+use Rattle.std.proofs.Common.{◌≡◌, ℕ, ◌+◌, ◌-◌, ◌*◌, ◌/◌, ◌%◌, ◌^◌, ◌<◌, ◌≤◌, ◌==◌, inl, inr, zero, suc, List, [], ◌∷◌, ◌++◌, map, length, get_or, position, slice_set, min, max, refl, ap, sym, ◌∙◌, subst, arith, append-nil, append_assoc, Option, Some, None, is_some, true, false, not, IfSome}
+use Rattle.std.specs.List.{list_any, position_or_len}
 use Rattle.std.proofs.lemmas.Bool.{cases_eq, cases_lt}
 use Rattle.std.proofs.lemmas.Bool.Decides.{nat_tests}
 use Rattle.std.proofs.lemmas.List.{length-map}
+use Rattle.std.proofs.lemmas.List.Sums.{count_by-le-length}
 use Rattle.std.proofs.lemmas.List.Quantifiers.{position-Some}
 use Rattle.std.proofs.lemmas.Grind.{common_steps}
 use Rattle.std.proofs.lemmas.Nat.{mul-le}
@@ -11,7 +13,7 @@ use Rattle.linear_facts.specs.Forms.{Linear, weight, value, RisesFrom}
 use Rattle.linear_facts.specs.Ranges.{AtomTable, IsIn, AgreesWith, split_at}
 use Rattle.linear_facts.specs.Sums.{AllAtMost, signed_term, joined, with_term, with_term_at, with_parts, with_split, nonzero_count, gains, losses, ends, interval_of, met_or_own, interval_by_both, form_interval, range_within, range_of_form}
 use Rattle.linear_facts.proofs.Congruent.{Congruent, mod-Congruent, congruent_equal, congruent_trans, congruent_add}
-use Rattle.linear_facts.proofs.SumLaws.{signed-low, signed-high, signed_at_most}
+use Rattle.linear_facts.proofs.SumLaws.{signed-low, signed-high, signed_at_most, signed_atom, with_term-new}
 
 pub by_both-few : (table : AtomTable) (c : ℕ) (own split : List WholeTerm) → nonzero_count split ≤ 8
     → interval_by_both table c own split ≡ met_or_own (interval_of table c 0 own) (interval_of table c 0 split)
@@ -39,6 +41,70 @@ module _ (table : AtomTable) (f : Linear) (own split : List WholeTerm)
   -- the interval, where they are more
   pub form_interval-many : 8 < nonzero_count split → interval_of table f.constant 0 own ≡ form_interval table f
   form_interval-many many = sym (by_both-many table f.constant own split many) ∙ by_parts
+
+-- each atom is below n
+abbrev pub AtomsBelow : ℕ → List WholeTerm → Type 0
+AtomsBelow n [] = Unit {0}
+AtomsBelow n (t ∷ ts) = (t.atom < n) × AtomsBelow n ts
+
+below-append : (m n : ℕ) (ts : List WholeTerm) (t : WholeTerm) → m ≤ n → t.atom < n → AtomsBelow m ts → AtomsBelow n (ts ++ t ∷ [])
+below-append m n [] t le last h = (last, tt)
+below-append m n (u ∷ ts) t le last h = (omega arith, below-append m n ts t le last h.1)
+
+-- an atom that is above all others has no place yet
+past_all : (low a : ℕ) (ts : List WholeTerm) → low ≤ a → AtomsBelow low ts → position_or_len (λ u. u.atom == a) ts ≡ length ts
+past_all low a [] le below = refl
+past_all low a (t ∷ ts) le below =
+    let rest = past_all low a ts le below.1 in
+    let other : (t.atom == a) ≡ false = grind (arith, nat_tests, common_steps) in
+    grind (arith, nat_tests, common_steps)
+
+no_place : (low a : ℕ) (ts : List WholeTerm) → low ≤ a → AtomsBelow low ts → position (λ u. u.atom == a) ts ≡ None
+no_place low a ts le below =
+    let past = past_all low a ts le below in
+    grind (arith, nat_tests, common_steps)
+
+not_split : (o : Option Split) → is_some o ≡ false → o ≡ None
+not_split None e = refl
+not_split (Some s) e = absurd (grind (arith, common_steps))
+
+module _ (table : AtomTable) where
+  -- a term whose atom is above all others and is not split is put last
+  put_last : (low : ℕ) (so_far : List WholeTerm) (t : WholeTerm) → AtomsBelow low so_far → low ≤ t.atom
+      → is_some (split_at table t.atom) ≡ false → with_parts (split_at table t.atom) so_far t ≡ so_far ++ t ∷ []
+  put_last low so_far t below le whole =
+      ap (λ o. with_parts o so_far t) (not_split _ whole) ∙ with_term-new so_far t (no_place low t.atom so_far le below)
+
+  -- where no atom is split, all terms stay
+  unsplit : (low : ℕ) (so_far : List WholeTerm) (ts : List Term) → AtomsBelow low so_far → RisesFrom low ts
+      → list_any (λ t. is_some (split_at table t.atom)) ts ≡ false
+      → with_split table so_far (map signed_term ts) ≡ so_far ++ map signed_term ts
+  unfolding with_split
+  unsplit low so_far [] below rises none = sym (append-nil so_far)
+  unsplit low so_far (t ∷ ts) below rises none =
+      let here : is_some (split_at table t.atom) ≡ false = grind (arith, common_steps) in
+      let later : list_any (λ (u : Term). is_some (split_at table u.atom)) ts ≡ false = grind (arith, common_steps) in
+      let atom = signed_atom t in
+      ap (λ l. with_split table l (map signed_term ts))
+      (put_last low so_far (signed_term t) below (omega (arith, atom, rises.0)) (ap (λ n. is_some (split_at table n)) atom ∙ here))
+      ∙ (unsplit (t.atom + 1) (so_far ++ signed_term t ∷ []) ts
+      (below-append low (t.atom + 1) so_far (signed_term t) (omega (arith, rises.0)) (omega (arith, atom)) below) rises.3 later
+      ∙ append_assoc so_far (signed_term t ∷ []) (map signed_term ts))
+
+met-same : (i : Interval) → met_or_own i i ≡ i
+unfolding met_or_own
+met-same i = grind (arith, common_steps)
+
+-- the interval, where no atom is split
+pub form_interval-unsplit : (table : AtomTable) (c : ℕ) (ts : List Term) → length ts ≤ 8 → RisesFrom 0 ts
+    → list_any (λ t. is_some (split_at table t.atom)) ts ≡ false
+    → interval_of table c 0 (map signed_term ts) ≡ form_interval table record { constant = c; terms = ts }
+form_interval-unsplit table c ts few rises none =
+    let own = map signed_term ts in
+    let same : own ≡ with_split table [] own = sym (unsplit table 0 [] ts tt rises none) in
+    let count : nonzero_count own ≤ 8 =
+    omega (arith, few, length-map ts signed_term, count_by-le-length (λ (t : WholeTerm). not (t.plus == t.minus)) own) in
+    sym (met-same (interval_of table c 0 own)) ∙ form_interval-few table record { constant = c; terms = ts } own own refl same count
 
 same_atom : (a b : ℕ) → (a == b) ≡ true → a ≡ b
 same_atom a b e = grind (arith, nat_tests, common_steps)

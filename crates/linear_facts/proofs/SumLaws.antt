@@ -7,9 +7,9 @@ use Rattle.std.proofs.lemmas.Grind.{common_steps}
 use Rattle.std.proofs.lemmas.Nat.{mul-le}
 use Rattle.std.specs.List.{refill}
 use Rattle.arrayvec.proofs.ArrayVecLemmas.{items-with_items}
-use Rattle.linear_facts.specs.Words.{Term, Split, WholeTerm}
+use Rattle.linear_facts.specs.Words.{Term, Split, WholeTerm, Lo, Hi}
 use Rattle.linear_facts.specs.Ranges.{AtomTable, split_at}
-use Rattle.linear_facts.specs.Sums.{AllAtMost, signed_term, joined, with_term, with_term_at, with_parts, with_split, gains, losses}
+use Rattle.linear_facts.specs.Sums.{AllAtMost, signed_term, joined, with_term, with_term_at, with_parts, with_split, gains, losses, ends, interval_of}
 
 -- one term's parts
 pub at_most_at : (n : ℕ) (ts : List WholeTerm) (i : ℕ) (d : WholeTerm) → AllAtMost n ts → i < length ts
@@ -145,6 +145,77 @@ signed-low t low = grind (arith, common_steps)
 pub signed-high : (t : Term) → 2 ^ 31 ≤ t.coefficient → signed_term t ≡ record { atom = t.atom; plus = 0; minus = 2 ^ 32 - t.coefficient }
 unfolding signed_term
 signed-high t high = grind (arith, common_steps)
+
+-- what is left of a form's terms
+pub signed_gains-more : (r : ℕ → ℕ) (ts : List Term) (i : ℕ) (d : Term) → i < length ts
+    → gains r (map signed_term (drop i ts))
+    ≡ ((signed_term (get_or ts i d)).plus - (signed_term (get_or ts i d)).minus) * r (signed_term (get_or ts i d)).atom + gains r (map signed_term (drop (i + 1) ts))
+unfolding gains
+signed_gains-more r ts i d inside = ap (λ l. gains r (map signed_term l)) (drop_more ts i d inside)
+
+pub signed_gains-done : (r : ℕ → ℕ) (ts : List Term) (i : ℕ) → length ts ≤ i → gains r (map signed_term (drop i ts)) ≡ 0
+unfolding gains
+signed_gains-done r ts i done = ap (λ l. gains r (map signed_term l)) (drop_all i ts done)
+
+pub signed_losses-more : (r : ℕ → ℕ) (ts : List Term) (i : ℕ) (d : Term) → i < length ts
+    → losses r (map signed_term (drop i ts))
+    ≡ ((signed_term (get_or ts i d)).minus - (signed_term (get_or ts i d)).plus) * r (signed_term (get_or ts i d)).atom + losses r (map signed_term (drop (i + 1) ts))
+unfolding losses
+signed_losses-more r ts i d inside = ap (λ l. losses r (map signed_term l)) (drop_more ts i d inside)
+
+pub signed_losses-done : (r : ℕ → ℕ) (ts : List Term) (i : ℕ) → length ts ≤ i → losses r (map signed_term (drop i ts)) ≡ 0
+unfolding losses
+signed_losses-done r ts i done = ap (λ l. losses r (map signed_term l)) (drop_all i ts done)
+
+no_share : (c y : ℕ) → (0 - c) * y ≡ 0
+no_share c y = omega (arith, ap (λ n. n * y) (nothing c))
+  where
+    nothing : (c : ℕ) → 0 - c ≡ 0
+    nothing c = omega arith
+
+full_share : (k c y z : ℕ) → k ≡ c → y ≡ z → (c - 0) * y ≡ k * z
+full_share k c y z is_k is_y = omega (arith, ap (λ n. n * z) is_k, ap (λ n. c * n) is_y, ap (λ n. n * y) (whole c))
+  where
+    whole : (c : ℕ) → c - 0 ≡ c
+    whole c = omega arith
+
+-- an end moves by the term's share
+pub end_up : (t : Term) (sum moved k up up' down : ℕ) → t.coefficient < 2 ^ 31 → k ≡ t.coefficient → up ≡ up' → moved ≡ sum + k * up'
+    → moved + ((signed_term t).minus - (signed_term t).plus) * down ≡ sum + ((signed_term t).plus - (signed_term t).minus) * up
+end_up t sum moved k up up' down low is_k is_up is_moved =
+    subst (λ (u : WholeTerm). moved + (u.minus - u.plus) * down ≡ sum + (u.plus - u.minus) * up) (sym (signed-low t low))
+    (omega (arith, is_moved, no_share t.coefficient down, full_share k t.coefficient up up' is_k is_up))
+
+pub end_down : (t : Term) (sum moved k up down down' : ℕ) → 2 ^ 31 ≤ t.coefficient → k ≡ 2 ^ 32 - t.coefficient → down ≡ down' → moved + k * down' ≡ sum
+    → moved + ((signed_term t).minus - (signed_term t).plus) * down ≡ sum + ((signed_term t).plus - (signed_term t).minus) * up
+end_down t sum moved k up down down' high is_k is_down is_moved =
+    subst (λ (u : WholeTerm). moved + (u.minus - u.plus) * down ≡ sum + (u.plus - u.minus) * up) (sym (signed-high t high))
+    (omega (arith, is_moved, no_share (2 ^ 32 - t.coefficient) up, full_share k (2 ^ 32 - t.coefficient) down down' is_k is_down))
+
+-- a term's own atom
+pub signed_atom : (t : Term) → (signed_term t).atom ≡ t.atom
+signed_atom t =
+    elim (cases_lt t.coefficient (2 ^ 31)) [
+      | inl low ↦ ap (λ (u : WholeTerm). u.atom) (signed-low t low)
+      | inr high ↦ ap (λ (u : WholeTerm). u.atom) (signed-high t high)
+    ]
+
+-- one more term is in an end's sum
+pub next_end : (sum moved up up' down down' plus minus g g' l l' front back : ℕ) → moved + minus * down ≡ sum + plus * up
+    → g ≡ plus * up' + g' → l ≡ minus * down' + l' → up ≡ up' → down ≡ down'
+    → sum + g + back ≡ front + l → moved + g' + back ≡ front + l'
+next_end sum moved up up' down down' plus minus g g' l l' front back step is_g is_l is_up is_down so_far =
+    omega (arith, step, is_g, is_l, so_far, ap (λ n. plus * n) is_up, ap (λ n. minus * n) is_down)
+
+-- both ends once all terms are in
+pub own-done : (table : AtomTable) (c lo hi : ℕ) (own : List WholeTerm)
+    → lo + losses (ends table Hi) own ≡ 2 ^ 112 + c + gains (ends table Lo) own
+    → hi + losses (ends table Lo) own ≡ 2 ^ 112 + c + gains (ends table Hi) own
+    → record { lo = lo; hi = hi } ≡ interval_of table c 0 own
+unfolding interval_of
+own-done table c lo hi own is_lo is_hi =
+    ap (λ (n : ℕ). record { lo = n; hi = hi }) (omega (arith, is_lo))
+    ∙ ap (λ (n : ℕ). record { lo = (2 ^ 112 + c + gains (ends table Lo) own) - (0 + losses (ends table Hi) own); hi = n }) (omega (arith, is_hi))
 
 signed_small : (t : Term) → ((signed_term t).plus ≤ 2 ^ 32) × ((signed_term t).minus ≤ 2 ^ 32)
 signed_small t =

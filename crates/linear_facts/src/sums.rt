@@ -3,8 +3,9 @@
 //! A coefficient is `plus - minus`, and both ends of an interval are given with 2^112 added, so that all
 //! numbers are natural ones.
 ghost use Rattle.std.specs.Prelude.{◌≡◌, ℕ, ◌+◌, ◌-◌, ◌*◌, ◌/◌, ◌%◌, ◌^◌, ◌<◌, ◌≤◌, List, [], ◌∷◌};
-ghost use Rattle.std.specs.Prelude.{map, length, position, ◌==◌, IfSome};
-ghost use Rattle.linear_facts.specs.Forms.{value};
+ghost use Rattle.std.specs.Prelude.{map, length, position, is_some, ◌==◌, IfSome};
+ghost use Rattle.std.specs.List.{list_any};
+ghost use Rattle.linear_facts.specs.Forms.{value, RisesFrom};
 ghost use Rattle.linear_facts.specs.Ranges.{AgreesWith, IsIn, split_at};
 ghost use Rattle.linear_facts.specs.Sums.{AllAtMost, IsClose, signed_term, joined, with_term};
 ghost use Rattle.linear_facts.specs.Sums.{with_parts, with_split, nonzero_count, gains, losses};
@@ -57,7 +58,7 @@ impl From<Term> for WholeTerm {
 }
 
 /// The terms with their coefficients as signed numbers of 32 bits.
-pub(crate) fn signed_terms(terms: &[Term]) -> ArrayVec<WholeTerm, 32>
+pub(crate) fn signed_terms(terms: &[Term]) -> ArrayVec<WholeTerm, 8>
     requires { length terms.now ≤ 8 }
     ensures terms { result.items ≡ map signed_term terms.now }
     ensures small { AllAtMost (2 ^ 32) result.items }
@@ -256,8 +257,51 @@ impl Form<8> {
     }
 }
 
-/// The interval of a form's sum, met with the one after each split atom is replaced by its two parts.
-pub(crate) fn interval_of_terms(constant: u32, terms: &[Term], atoms: &Atoms) -> Interval
+/// Whether one of the terms' atoms is split.
+fn some_split(terms: &[Term], atoms: &Atoms) -> bool
+    ensures { result ≡ list_any (λ t. is_some (split_at atoms.now t.atom)) terms.now }
+{
+    terms.iter().any(|term| atoms.split(term.atom).is_some())
+}
+
+/// An end of a sum's interval with one more term: the end of its atom's range that counts is `up`, or
+/// `down` where the coefficient is negative.
+fn end_with_term(sum: u128, term: Term, up: u32, down: u32) -> u128
+    requires low { 2 ^ 64 ≤ sum }
+    requires high { sum ≤ 2 ^ 113 }
+    ensures sum { let t = signed_term term in
+        result + (t.minus - t.plus) * down ≡ sum + (t.plus - t.minus) * up }
+    ensures low { sum ≤ result + 2 ^ 64 }
+    ensures high { result ≤ sum + 2 ^ 64 }
+{
+    let coefficient = u64::from(term.coefficient);
+    if term.coefficient < 1 << 31 {
+        sum + u128::from(coefficient * u64::from(up))
+    } else {
+        sum - u128::from(((1 << 32) - coefficient) * u64::from(down))
+    }
+}
+
+/// The interval of a form's sum with its own terms alone.
+#[tactic(auto, unfolding(crate::specs::Sums::interval_of))]
+fn own_interval(constant: u32, terms: &[Term], atoms: &Atoms) -> Interval
+    requires { length terms.now ≤ 8 }
+    ensures interval { result ≡ interval_of atoms.now constant 0 (map signed_term terms.now) }
+    ensures close { IsClose result }
+{
+    let mut lo = OFFSET + u128::from(constant);
+    let mut hi = lo;
+    for term in terms {
+        let range = atoms.range(term.atom);
+        lo = end_with_term(lo, *term, range.lo, range.hi);
+        hi = end_with_term(hi, *term, range.hi, range.lo);
+    }
+    Interval { lo, hi }
+}
+
+/// The interval of a form's sum, met with the one after each split atom is replaced by its two parts, by
+/// both lists of terms.
+fn interval_of_both(constant: u32, terms: &[Term], atoms: &Atoms) -> Interval
     requires { length terms.now ≤ 8 }
     ensures interval { result ≡
         form_interval atoms.now record { constant = constant; terms = terms.now } }
@@ -271,5 +315,22 @@ pub(crate) fn interval_of_terms(constant: u32, terms: &[Term], atoms: &Atoms) ->
         met(own, interval_by_ends(constant, 0, split.as_slice(), atoms))
     } else {
         own
+    }
+}
+
+/// The interval of a form's sum, met with the one after each split atom is replaced by its two parts.
+///
+/// Where no atom is split, both are the same one.
+pub(crate) fn interval_of_terms(constant: u32, terms: &[Term], atoms: &Atoms) -> Interval
+    requires few { length terms.now ≤ 8 }
+    requires rises { RisesFrom 0 terms.now }
+    ensures interval { result ≡
+        form_interval atoms.now record { constant = constant; terms = terms.now } }
+    ensures close { IsClose result }
+{
+    if some_split(terms, atoms) {
+        interval_of_both(constant, terms, atoms)
+    } else {
+        own_interval(constant, terms, atoms)
     }
 }

@@ -18,8 +18,8 @@ use Rattle.monitor.specs.declared.commands.Flow.TheVariants as flow
 use Rattle.monitor.specs.declared.commands.MonError.{MonError}
 use Rattle.monitor.specs.declared.commands.MonError.TheVariants as error
 
--- why the state refuses a command: sixteen breakpoints are set and this is none of them, there is none to
--- delete, or a byte or a word that is to be shown is not there
+-- why the state refuses a command: sixteen breakpoints are set and this is none of them, there is
+-- none to delete, or a byte or a word that is to be shown is not there
 abbrev pub fault_in : Command → List ℕ → SessionView → Option MonError
 fault_in (asked.Break a) bs s = set_fault a bs
 fault_in (asked.Delete a) bs s = delete_fault a bs
@@ -62,7 +62,8 @@ Moves vlenb asked.Quit bs old new = new ≡ old
 
 -- the breakpoints and the run after a command
 abbrev pub Carries : ℕ → Command → List ℕ → List ℕ → SessionView → SessionView → Type 0
-Carries vlenb command bs after old new = Moves vlenb command bs old new × (after ≡ set_after command bs)
+Carries vlenb command bs after old new =
+    Moves vlenb command bs old new × (after ≡ set_after command bs)
 
 -- what a command tells of the run as it then stands
 abbrev pub text_of : ℕ → Command → SessionView → List ℕ
@@ -103,9 +104,10 @@ admitted bs s (Err fault) = Err fault
 unfoldable pub order_of : List ℕ → List ℕ → SessionView → Result Command MonError
 order_of line bs s = admitted bs s (command_of line)
 
--- what a command that is carried out answers and tells: all, or, after a failure that was counted, the
--- beginning
-abbrev pub Answers : ℕ → Result Flow MonError → Command → SessionView → Option (List ℕ) → Option (List ℕ)
+-- what a command that is carried out answers and tells: all, or, after a failure that was counted,
+-- the beginning
+abbrev pub Answers :
+    ℕ → Result Flow MonError → Command → SessionView → Option (List ℕ) → Option (List ℕ)
     → ℕ → ℕ → Type 0
 Answers vlenb result command s old new before now = MatchResult result
     (λ f. (f ≡ flow_of command) × Appends old new (text_of vlenb command s) × (now ≡ before))

@@ -25,7 +25,8 @@ pub record GoesOn (vlenb : ℕ) (breakpoints : List ℕ) (old new : SessionView)
   pub none : has_ended old.machine ≡ true → j ≡ 0
   pub some : has_ended old.machine ≡ false → 0 < j
   pub stopped : stops breakpoints new.machine ≡ true
-  pub first : (i : ℕ) → 0 < i → i < j → (m : Machine) → after vlenb old.machine i ≡ Ok m → stops breakpoints m ≡ false
+  pub first : (i : ℕ) → 0 < i → i < j → (m : Machine) → after vlenb old.machine i ≡ Ok m
+      → stops breakpoints m ≡ false
 
 -- the lesser of n and the steps that are left
 pub record Steps (vlenb n : ℕ) (old new : SessionView) : Type 0 where

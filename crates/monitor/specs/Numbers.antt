@@ -8,10 +8,12 @@ use Rattle.std.specs.Str.Parse.{digits_value}
 abbrev pub is_spelled : ℕ → ℕ → List ℕ → Bool
 is_spelled radix most word =
     nat_lt 0 (length word) && nat_le (length word) most
-    && list_all (λ byte. nat_lt (digit_value byte) radix) word && nat_lt (digits_value radix word) (2 ^ 32)
+    && list_all (λ byte. nat_lt (digit_value byte) radix) word
+    && nat_lt (digits_value radix word) (2 ^ 32)
 
 unfoldable pub spelled : ℕ → ℕ → List ℕ → Option ℕ
-spelled radix most word = if is_spelled radix most word then Some (digits_value radix word) else None
+spelled radix most word =
+    if is_spelled radix most word then Some (digits_value radix word) else None
 
 -- a number, where it passes a test
 abbrev pub only : (ℕ → Bool) → Option ℕ → Option ℕ

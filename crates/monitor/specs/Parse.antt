@@ -39,7 +39,8 @@ with_one name word =
 abbrev pub with_two : List ℕ → List ℕ → List ℕ → Result Command MonError
 with_two name first second =
     if bytes_eq name (codes "m") then two_or_bad Memory (address_of first) (count_of second)
-    else (if bytes_eq name (codes "l") then two_or_bad Listing (address_of first) (count_of second) else Err Unknown)
+    else (if bytes_eq name (codes "l") then two_or_bad Listing (address_of first) (count_of second)
+    else Err Unknown)
 
 -- The command that words are. An unknown one is told before a bad number.
 abbrev pub command_from : List (List ℕ) → Result Command MonError

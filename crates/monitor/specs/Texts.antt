@@ -42,7 +42,8 @@ vector_text number bytes =
 -- pc, and what the vector extension keeps beside its registers
 unfoldable pub csrs_text : Registers → ℕ → List ℕ
 csrs_text r vlenb =
-    codes "pc=" ++ (word_text r.pc ++ (codes " vl=" ++ (decimal r.vl ++ (codes " vtype=" ++ (word_text r.vtype
+    codes "pc=" ++ (word_text r.pc
+    ++ (codes " vl=" ++ (decimal r.vl ++ (codes " vtype=" ++ (word_text r.vtype
     ++ (codes " vxrm=" ++ (decimal r.vxrm ++ (codes " vxsat=" ++ (decimal r.vxsat
     ++ (codes " vlenb=" ++ (decimal vlenb ++ codes "\n")))))))))))
 
@@ -55,4 +56,5 @@ byte_text (Some byte) = encode_lower (byte ∷ [])
 unfoldable pub line_text : ℕ → Option ℕ → List ℕ
 line_text address None = []
 line_text address (Some word) =
-    word_text address ++ (codes " " ++ (word_text word ++ (codes " " ++ (listing_text address word ++ codes "\n"))))
+    word_text address ++ (codes " " ++ (word_text word
+    ++ (codes " " ++ (listing_text address word ++ codes "\n"))))

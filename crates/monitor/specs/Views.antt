@@ -4,7 +4,8 @@ use Rattle.region_mem.specs.Memory.{Memory, byte_of, fetch_of}
 use Rattle.rv_listing.specs.Pieces.{word_text}
 use Rattle.monitor.specs.Texts.{texts, byte_text, line_text}
 
--- The byte at an address, whatever the rights, and the word that is fetched there. No address is 2^32 or more.
+-- The byte at an address, whatever the rights, and the word that is fetched there. No address is
+-- 2^32 or more.
 unfoldable pub byte_at : Memory → ℕ → Option ℕ
 byte_at memory address = if nat_lt address (2 ^ 32) then byte_of address memory else None
 
@@ -26,7 +27,9 @@ has_words memory address n = all_first (λ i. is_some (word_at memory (address +
 -- the bytes, and the words, a line each
 unfoldable pub memory_text : Memory → ℕ → ℕ → List ℕ
 memory_text memory address n =
-    word_text address ++ (codes "=" ++ (texts (λ i. byte_text (byte_at memory (address + i))) n ++ codes "\n"))
+    word_text address
+    ++ (codes "=" ++ (texts (λ i. byte_text (byte_at memory (address + i))) n ++ codes "\n"))
 
 unfoldable pub lines_text : Memory → ℕ → ℕ → List ℕ
-lines_text memory address n = texts (λ i. line_text (address + 4 * i) (word_at memory (address + 4 * i))) n
+lines_text memory address n =
+    texts (λ i. line_text (address + 4 * i) (word_at memory (address + 4 * i))) n

@@ -109,8 +109,8 @@ impl<'a, const VLENB: usize> Monitor<'a, VLENB> {
             × (self.new.session.now ≡ self.old.session.now)
             × (self.new.breakpoints.items ≡ self.old.breakpoints.items)
             × (out.new ≡ out.old)) }
-        ensures carried { fault_in command.now self.old.breakpoints.items self.old.session.now ≡ None
-            → Carries VLENB command.now self.old.breakpoints.items self.new.breakpoints.items
+        ensures carried { fault_in command.now self.old.breakpoints.items self.old.session.now
+            ≡ None → Carries VLENB command.now self.old.breakpoints.items self.new.breakpoints.items
             self.old.session.now self.new.session.now }
         ensures told { fault_in command.now self.old.breakpoints.items self.old.session.now ≡ None
             → Answers VLENB result command.now self.new.session.now
@@ -136,9 +136,9 @@ impl<'a, const VLENB: usize> Monitor<'a, VLENB> {
     /// Does what a line asks for, and writes what is told of it.
     ///
     /// # Errors
-    /// The first of: `Unknown`, `BadNumber`, `TooManyBreakpoints`, `NotThere`, `NoBytes`; then nothing
-    /// was done, and nothing written. `Write` where the sink failed: the command is carried out all the
-    /// same, and its text may be cut.
+    /// The first of: `Unknown`, `BadNumber`, `TooManyBreakpoints`, `NotThere`, `NoBytes`; then
+    /// nothing was done, and nothing written. `Write` where the sink failed: the command is carried
+    /// out all the same, and its text may be cut.
     pub fn command<W: Sink>(&mut self, line: &str, out: &mut W) -> Result<Flow, MonError>
         ensures same_reference { self.new.session.ghost_name ≡ self.old.session.ghost_name }
         ensures refused { IfErr

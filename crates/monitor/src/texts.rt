@@ -3,6 +3,7 @@ ghost use Rattle.std.specs.Prelude.{◌≡◌, ◌++◌, ◌∷◌, [], Some, co
 ghost use Rattle.hex.specs.Hex.{encode_lower};
 ghost use Rattle.rv_listing.specs.Sinks.{Told};
 ghost use Rattle.rv_listing.specs.Listing.{listing_text};
+ghost use Rattle.rv_listing.specs.Pieces.{word_text};
 ghost use Rattle.monitor.specs.Texts.{break_text, byte_text, csrs_text, gone_text, line_text};
 ghost use Rattle.monitor.specs.Texts.{register_text, registers_text, stop_text, vector_text};
 
@@ -10,20 +11,24 @@ use rv_decode::Reg;
 use rv_listing::{Failed, Piece, Sink, put, put_all, put_listing};
 use sandbox_run::Registers;
 
+/// Tells an address, in a line that begins so.
+fn put_address<S: Sink>(out: &mut S, before: &str, address: u32) -> Result<(), Failed>
+    ensures { Told result (S.contents out.old) (S.contents out.new) (S.failures out.old)
+        (S.failures out.new) (before.now ++ (word_text address ++ codes "\n")) }
+{
+    put_all(
+        out,
+        &[Piece::Text(before), Piece::Word(address), Piece::Text("\n")],
+    )
+}
+
 /// Tells that a breakpoint is set.
 #[tactic(auto, unfolding(crate::specs::Texts::break_text))]
 pub(crate) fn put_break<S: Sink>(out: &mut S, address: u32) -> Result<(), Failed>
     ensures { Told result (S.contents out.old) (S.contents out.new)
         (S.failures out.old) (S.failures out.new) (break_text address) }
 {
-    put_all(
-        out,
-        &[
-            Piece::Text("break "),
-            Piece::Word(address),
-            Piece::Text("\n"),
-        ],
-    )
+    put_address(out, "break ", address)
 }
 
 /// Tells that a breakpoint is gone.
@@ -32,14 +37,7 @@ pub(crate) fn put_gone<S: Sink>(out: &mut S, address: u32) -> Result<(), Failed>
     ensures { Told result (S.contents out.old) (S.contents out.new)
         (S.failures out.old) (S.failures out.new) (gone_text address) }
 {
-    put_all(
-        out,
-        &[
-            Piece::Text("gone "),
-            Piece::Word(address),
-            Piece::Text("\n"),
-        ],
-    )
+    put_address(out, "gone ", address)
 }
 
 /// Tells where a run stands.

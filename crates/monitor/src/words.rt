@@ -20,8 +20,8 @@ fn split(line: &str) -> (&str, Option<&str>)
 /// What a line asks for.
 ///
 /// # Errors
-/// `Unknown` where the first word is no command's, or another number of words than the command takes follows it; else
-/// `BadNumber` where a word is no number, or none that the command takes.
+/// `Unknown` where the first word is no command's, or another number of words than the command
+/// takes follows it; else `BadNumber` where a word is no number, or none that the command takes.
 pub fn parse(line: &str) -> Result<Command, MonError>
     ensures { result ≡ command_of line.now }
 {

@@ -1,25 +1,10 @@
 //! Calls at the limits: streams that fail late, large files, long jobs, many segments, the most steps.
-use crate::shelf::{Shelf, expect, image};
+use crate::shelf::{Shelf, Stuck, expect, image};
 use command_line::{end_without_words, perform};
 use commands::{Disk, Status, Store};
 use std::alloc::{AllocError, Global};
-use std::io::Write;
 use std::test::Fail;
 use std::{fs, io};
-
-/// Takes every byte, and fails to pass them on.
-#[derive(Drop)]
-struct Stuck;
-
-impl Write for Stuck {
-    fn write(&mut self, buf: &[u8]) -> io::Result<usize> {
-        Ok(buf.len())
-    }
-
-    fn flush(&mut self) -> io::Result<()> {
-        Err(io::Error::from(io::ErrorKind::Other))
-    }
-}
 
 /// ecall-free code that ends at once: ret.
 const RET: [u32; 1] = [0x0000_8067];

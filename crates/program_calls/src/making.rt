@@ -35,11 +35,12 @@ const CERTIFICATE: [u8; 261] = [
 ];
 
 /// The parameters: 4096 bytes, and a number up to 1024.
-const PARAMS: &str = "[[param]]\nkind = \"buffer\"\nmode = \"rw\"\nsize = 4096\nfile = \"words\"\n\
+pub(crate) const PARAMS: &str =
+    "[[param]]\nkind = \"buffer\"\nmode = \"rw\"\nsize = 4096\nfile = \"words\"\n\
     [[param]]\nkind = \"scalar\"\nlo = 0\nhi = 1024\nvalue = 9\n";
 
 /// The words of `rvvbox make kernel.elf job.toml made.elf`.
-const MAKE: [&str; 5] = ["rvvbox", "make", "kernel.elf", "job.toml", "made.elf"];
+pub(crate) const MAKE: [&str; 5] = ["rvvbox", "make", "kernel.elf", "job.toml", "made.elf"];
 
 /// What is read where the image is.
 const READS: &str = "read job.toml\nread kernel.elf\n";

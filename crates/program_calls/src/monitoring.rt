@@ -1,10 +1,11 @@
 //! `mon`, on the loop of the example `raise_words`: what is answered, what is written, and how it ends.
 use crate::making::{RAISE_WORDS, files, made};
-use crate::shelf::{Broken, Shelf, expect_on, expect_silence_on};
+use crate::shelf::{Broken, Shelf, Stuck, expect_on, expect_silence_on};
 use commands::{Status, mon_job_within};
 use std::alloc::{AllocError, Global};
 use std::io;
-use std::io::{Read, Write};
+use std::io::Read;
+use std::process::Abort;
 use std::test::Fail;
 
 /// The parameters: the words, which are written back, and how many of them are raised.
@@ -63,22 +64,25 @@ fn calls(alloc: Global, written: &[u8]) -> Result<String, AllocError> {
     Ok(calls)
 }
 
+/// Performs `mon` on an input, and asserts its status, what was printed, and the calls of the store.
+fn watch<R: Abort + AllocGlobal, I: Read>(
+    rt: &R,
+    input: &mut I,
+    told: (Status, &str, &str),
+    calls: &str,
+) -> Result<(), Fail> {
+    let mut shelf = shelf(rt.alloc())?;
+    expect_on(rt, MON.as_slice(), &mut shelf, input, told, calls);
+    Ok(())
+}
+
 #[test]
 fn answers_each_line(rt: HostRuntime) -> Result<(), Fail> {
     let alloc = rt.alloc();
-    let mut shelf = shelf(alloc)?;
     let mut input = SCRIPT.as_bytes();
     let calls = calls(alloc, numbers(alloc, 1)?.as_slice())?;
     let told = (Status::Done, ANSWERS, "");
-    expect_on(
-        &rt,
-        MON.as_slice(),
-        &mut shelf,
-        &mut input,
-        told,
-        calls.as_str(),
-    );
-    Ok(())
+    watch(&rt, &mut input, told, calls.as_str())
 }
 
 #[test]
@@ -100,14 +104,7 @@ fn writes_what_stands_where_lines_end(rt: HostRuntime) -> Result<(), Fail> {
     ] {
         let mut input = script.as_bytes();
         let told = (Status::Done, answers, "");
-        expect_on(
-            &rt,
-            MON.as_slice(),
-            &mut shelf(alloc)?,
-            &mut input,
-            told,
-            before.as_str(),
-        );
+        watch(&rt, &mut input, told, before.as_str())?;
     }
     Ok(())
 }
@@ -131,15 +128,7 @@ fn tells_each_error_and_changes_nothing(rt: HostRuntime) -> Result<(), Fail> {
     let mut input = script.as_bytes();
     let calls = calls(alloc, numbers(alloc, 1)?.as_slice())?;
     let told = (Status::Done, answers.as_str(), "");
-    expect_on(
-        &rt,
-        MON.as_slice(),
-        &mut shelf(alloc)?,
-        &mut input,
-        told,
-        calls.as_str(),
-    );
-    Ok(())
+    watch(&rt, &mut input, told, calls.as_str())
 }
 
 #[test]
@@ -149,20 +138,9 @@ fn takes_any_bytes(rt: HostRuntime) -> Result<(), Fail> {
     let mut long = vec![in alloc; b'a'; 100_000]?;
     long.extend_from_slice(b"\nb \xff\ns \xe2\x82\xac\n".as_slice())?;
     let mut input = long.as_slice();
-    let told = (
-        Status::Done,
-        "error: Unknown\nerror: Unknown\nerror: BadNumber\n",
-        "",
-    );
-    expect_on(
-        &rt,
-        MON.as_slice(),
-        &mut shelf(alloc)?,
-        &mut input,
-        told,
-        before.as_str(),
-    );
-    Ok(())
+    let answers = "error: Unknown\nerror: Unknown\nerror: BadNumber\n";
+    let told = (Status::Done, answers, "");
+    watch(&rt, &mut input, told, before.as_str())
 }
 
 /// Gives its bytes one by one, is interrupted once before the last, and then ends, or fails.
@@ -196,30 +174,39 @@ impl Read for Drip<'_> {
 
 #[test]
 fn ends_where_the_input_fails(rt: HostRuntime) -> Result<(), Fail> {
-    let alloc = rt.alloc();
     let mut input = Drip {
         bytes: b"s 1\ns 1".as_slice(),
         interrupted: false,
         fails: true,
     };
     let told = (Status::File, "at 00010004 step 1\n", "file: -\n");
-    expect_on(
-        &rt,
-        MON.as_slice(),
-        &mut shelf(alloc)?,
-        &mut input,
-        told,
-        READS,
-    );
+    watch(&rt, &mut input, told, READS)?;
     let told = (Status::File, "", "file: -\n");
-    expect_on(
-        &rt,
-        MON.as_slice(),
-        &mut shelf(alloc)?,
-        &mut Broken,
-        told,
-        READS,
+    watch(&rt, &mut Broken, told, READS)
+}
+
+/// Performs `mon` with eight reads of these bytes, one by one, of which one is interrupted, and asserts how it ends.
+fn read_eight_times<R: Abort + AllocGlobal>(
+    rt: &R,
+    bytes: &str,
+    (status, output, errors): (Status, &str, &str),
+    calls: &str,
+) -> Result<(), Fail> {
+    let alloc = rt.alloc();
+    let mut shelf = shelf(alloc)?;
+    let mut input = Drip {
+        bytes: bytes.as_bytes(),
+        interrupted: false,
+        fails: false,
+    };
+    let (mut out, mut err) = (Vec::new(alloc), Vec::new(alloc));
+    let had = mon_job_within(
+        alloc, "job.toml", false, &mut shelf, &mut input, &mut out, &mut err, 8,
     );
+    assert_eq!(rt; had.status, status);
+    assert_eq!(rt; std::str::from_utf8(out.as_slice()), Ok(output));
+    assert_eq!(rt; std::str::from_utf8(err.as_slice()), Ok(errors));
+    assert_eq!(rt; shelf.calls.as_str(), calls);
     Ok(())
 }
 
@@ -227,59 +214,13 @@ fn ends_where_the_input_fails(rt: HostRuntime) -> Result<(), Fail> {
 fn reads_as_often_as_it_may(rt: HostRuntime) -> Result<(), Fail> {
     let alloc = rt.alloc();
     let whole = calls(alloc, numbers(alloc, 0)?.as_slice())?;
-    for (bytes, status, output, errors, calls) in [
-        (
-            "s 1\ns 1",
-            Status::File,
-            "at 00010004 step 1\n",
-            "file: -\n",
-            READS,
-        ),
-        (
-            "s 1\ns ",
-            Status::Done,
-            "at 00010004 step 1\nerror: BadNumber\n",
-            "",
-            whole.as_str(),
-        ),
-        (
-            "s 1\nq\nq",
-            Status::Done,
-            "at 00010004 step 1\n",
-            "",
-            whole.as_str(),
-        ),
-    ] {
-        let mut shelf = shelf(alloc)?;
-        let mut input = Drip {
-            bytes: bytes.as_bytes(),
-            interrupted: false,
-            fails: false,
-        };
-        let (mut out, mut err) = (Vec::new(alloc), Vec::new(alloc));
-        let had = mon_job_within(
-            alloc, "job.toml", false, &mut shelf, &mut input, &mut out, &mut err, 8,
-        );
-        assert_eq!(rt; had.status, status);
-        assert_eq!(rt; std::str::from_utf8(out.as_slice()), Ok(output));
-        assert_eq!(rt; std::str::from_utf8(err.as_slice()), Ok(errors));
-        assert_eq!(rt; shelf.calls.as_str(), calls);
-    }
-    Ok(())
-}
-
-/// Takes all bytes, and fails to pass them on.
-#[derive(Drop)]
-struct Stuck;
-
-impl Write for Stuck {
-    fn write(&mut self, buf: &[u8]) -> io::Result<usize> {
-        Ok(buf.len())
-    }
-
-    fn flush(&mut self) -> io::Result<()> {
-        Err(io::Error::from(io::ErrorKind::Other))
-    }
+    let told = (Status::File, "at 00010004 step 1\n", "file: -\n");
+    read_eight_times(&rt, "s 1\ns 1", told, READS)?;
+    let answers = "at 00010004 step 1\nerror: BadNumber\n";
+    let told = (Status::Done, answers, "");
+    read_eight_times(&rt, "s 1\ns ", told, whole.as_str())?;
+    let told = (Status::Done, "at 00010004 step 1\n", "");
+    read_eight_times(&rt, "s 1\nq\nq", told, whole.as_str())
 }
 
 #[test]

@@ -101,6 +101,10 @@ impl Store for Same {
     fn write(&mut self, _path: &str, _bytes: &[u8]) -> Result<(), StoreError> {
         Err(StoreError::Failed)
     }
+
+    fn last_failure(&self) -> Option<io::ErrorKind> {
+        None
+    }
 }
 
 #[test]

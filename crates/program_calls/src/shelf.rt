@@ -47,12 +47,16 @@ impl Shelf {
 }
 
 impl Store for Shelf {
+    ghost failure = { λ shelf. shelf.last };
+
     fn read(&mut self, alloc: Global, path: &str) -> Result<Vec<u8>, StoreError> {
         self.calls.push_str("read ")?;
         self.calls.push_str(path)?;
         self.calls.push('\n')?;
-        self.last = self.get(path).err().map(|_| io::ErrorKind::NotFound);
-        Ok(Vec::from_slice(alloc, self.get(path)?)?)
+        self.last = Some(io::ErrorKind::NotFound);
+        let bytes = Vec::from_slice(alloc, self.get(path)?)?;
+        self.last = None;
+        Ok(bytes)
     }
 
     fn write(&mut self, path: &str, bytes: &[u8]) -> Result<(), StoreError> {
@@ -67,7 +71,9 @@ impl Store for Shelf {
             self.last = Some(io::ErrorKind::PermissionDenied);
             return Err(StoreError::Failed);
         }
-        Ok(self.put(path, bytes)?)
+        self.put(path, bytes)?;
+        self.last = None;
+        Ok(())
     }
 
     fn last_failure(&self) -> Option<io::ErrorKind> {
@@ -91,6 +97,20 @@ impl Write for Broken {
 
 impl Read for Broken {
     fn read(&mut self, _buf: &mut [u8]) -> io::Result<usize> {
+        Err(io::Error::from(io::ErrorKind::Other))
+    }
+}
+
+/// Takes every byte, and fails to pass them on.
+#[derive(Drop)]
+pub(crate) struct Stuck;
+
+impl Write for Stuck {
+    fn write(&mut self, buf: &[u8]) -> io::Result<usize> {
+        Ok(buf.len())
+    }
+
+    fn flush(&mut self) -> io::Result<()> {
         Err(io::Error::from(io::ErrorKind::Other))
     }
 }

@@ -101,50 +101,56 @@ fn runs_at_each_length_and_setting(rt: HostRuntime) -> Result<(), Fail> {
     )
 }
 
+/// What is written where a run stops before it stores a sum, and behind that.
+const NONE: &str = "write a.out ff 01 02\nwrite b.out 01 01 ff\n";
+
+const SUM: &str = "write a.out 00 02 01\nwrite b.out 01 01 ff\n";
+
+/// Runs code for five steps, and asserts how it stops and what is written.
+fn stops<R: Abort + AllocGlobal>(
+    rt: &R,
+    code: &[u32],
+    told: &str,
+    written: &str,
+) -> Result<(), Fail> {
+    let alloc = rt.alloc();
+    let mut files = job_files(alloc, code, 5)?;
+    let calls = format!(in alloc; "{READS}{written}")?;
+    let told = (Status::Stopped, told, "");
+    expect(rt, TRY.as_slice(), &mut files, told, calls.as_str());
+    Ok(())
+}
+
 #[test]
 fn tells_how_a_run_stops(rt: HostRuntime) -> Result<(), Fail> {
-    let alloc = rt.alloc();
-    let sum = "write a.out 00 02 01\nwrite b.out 01 01 ff\n";
-    let none = "write a.out ff 01 02\nwrite b.out 01 01 ff\n";
-    for (code, told, written) in [
-        (ADD_BYTES.as_slice(), "out of steps: 5\n", sum),
+    stops(&rt, ADD_BYTES.as_slice(), "out of steps: 5\n", SUM)?;
+    for (code, told) in [
         // vsetvli t0,a2,e8,m1,ta,ma and a word that means nothing
         (
-            [0x0c06_72d7, 0xffff_ffff].as_slice(),
+            [0x0c06_72d7, 0xffff_ffff],
             "trapped: Illegal ffffffff after 1 steps\n",
-            none,
         ),
-        // vle8.v v8,(zero) after vsetvli t0,a2,e8,m1,ta,ma
+        // vsetvli t0,a2,e8,m1,ta,ma; vle8.v v8,(zero)
         (
-            [0x0c06_72d7, 0x0200_0407].as_slice(),
+            [0x0c06_72d7, 0x0200_0407],
             "trapped: LoadFault 00000000 after 1 steps\n",
-            none,
         ),
         // vsetvli t0,a2,e8,m1,ta,ma; vse8.v v8,(a1)
         (
-            [0x0c06_72d7, 0x0205_8427].as_slice(),
+            [0x0c06_72d7, 0x0205_8427],
             "trapped: StoreFault 40002000 after 1 steps\n",
-            none,
-        ),
-        // vsetvli t0,a2,e8,m1,ta,ma, and then nothing
-        (
-            [0x0c06_72d7].as_slice(),
-            "trapped: FetchFault 00010004 after 1 steps\n",
-            none,
         ),
         // jalr ra,2(x0)
         (
-            [0x0020_00e7].as_slice(),
+            [0x0020_00e7, 0],
             "trapped: JumpMisaligned 00000002 after 0 steps\n",
-            none,
         ),
     ] {
-        let mut files = job_files(alloc, code, 5)?;
-        let calls = format!(in alloc; "{READS}{written}")?;
-        let told = (Status::Stopped, told, "");
-        expect(&rt, TRY.as_slice(), &mut files, told, calls.as_str());
+        stops(&rt, code.as_slice(), told, NONE)?;
     }
-    Ok(())
+    // vsetvli t0,a2,e8,m1,ta,ma, and then nothing
+    let told = "trapped: FetchFault 00010004 after 1 steps\n";
+    stops(&rt, [0x0c06_72d7].as_slice(), told, NONE)
 }
 
 #[test]

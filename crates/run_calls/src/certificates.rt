@@ -1,9 +1,9 @@
 //! How certificates are read, written and made.
-use crate::assertions::assert_same;
+use crate::assertions::{assert_same, found, given};
 use cert_note::{CertError, Certificate, Contents, Version, Vlen, read, write};
 use region_mem::{Param, Parameters};
-use std::alloc::{AllocError, Global};
-use std::test::Fail;
+use std::alloc::Global;
+use std::process::Abort;
 
 /// The certificate of a loop that raises each word of a buffer by one, as laid out by hand.
 pub const BYTES: [u8; 261] = [
@@ -35,27 +35,23 @@ constant: 1073741824, terms: [Term { atom: 11, coefficient: 4294967292 }, \
 Term { atom: 34, coefficient: 4 }] }) }, \
 RegisterFact { number: 11, low: 1, high: 1024, equality: None }], vectors: [], orders: [] }";
 
-fn example(alloc: Global) -> Result<Certificate, CertError> {
-    read(alloc, &BYTES)
-}
-
 /// Whether these are the example's bytes.
 fn is_example(bytes: &[u8]) -> bool {
     bytes == BYTES.as_slice()
 }
 
 #[test]
-fn reads_and_writes_the_example(rt: HostRuntime) -> Result<(), Fail> {
+fn reads_and_writes_the_example(rt: HostRuntime) {
     let alloc = rt.alloc();
-    let certificate = example(alloc)?;
+    let certificate = given!(rt; read(alloc, &BYTES));
     let contents = certificate.contents();
     assert_same!(rt; contents.vlen, Vlen::V128);
     assert_same!(rt; contents.blocks.len(), 3);
-    let block = contents.blocks.get(1).expect(&rt, "the loop's block");
-    assert_same!(rt; format!(in alloc; "{block:?}")?.as_str(), LOOP);
-    let written = write(alloc, &certificate)?;
+    let block = found!(rt; contents.blocks.get(1));
+    let text = given!(rt; format!(in alloc; "{block:?}"));
+    assert_same!(rt; text.as_str(), LOOP);
+    let written = given!(rt; write(alloc, &certificate));
     assert_same!(rt; is_example(written.as_slice()), true);
-    Ok(())
 }
 
 /// What is wrong with the example's bytes, of which one is changed.
@@ -68,26 +64,28 @@ fn fault_at(alloc: Global, place: usize, byte: u8) -> Option<CertError> {
 }
 
 /// What is wrong with the example's bytes, of which the last is missing or stands twice.
-fn faults_of_length(alloc: Global) -> Result<(Option<CertError>, Option<CertError>), AllocError> {
-    let mut bytes = Vec::from_slice(alloc, &BYTES[..260])?;
+fn faults_of_length(
+    rt: impl Abort + Copy,
+    alloc: Global,
+) -> (Option<CertError>, Option<CertError>) {
+    let mut bytes = given!(rt; Vec::from_slice(alloc, &BYTES[..260]));
     let shorter = read(alloc, bytes.as_slice()).err();
-    bytes.extend_from_slice(&[0xff, 0xff])?;
-    Ok((shorter, read(alloc, bytes.as_slice()).err()))
+    given!(rt; bytes.extend_from_slice(&[0xff, 0xff]));
+    (shorter, read(alloc, bytes.as_slice()).err())
 }
 
 #[test]
-fn refuses_bytes_that_spell_none(rt: HostRuntime) -> Result<(), Fail> {
+fn refuses_bytes_that_spell_none(rt: HostRuntime) {
     let alloc = rt.alloc();
     assert_same!(rt; read(alloc, &[]).err(), Some(CertError::Short));
     let fault = fault_at(alloc, 217, 0);
     // The coefficient 4 of n.
     assert_same!(rt; fault, Some(CertError::Equality));
-    let (shorter, longer) = faults_of_length(alloc)?;
+    let (shorter, longer) = faults_of_length(rt, alloc);
     assert_same!(rt; shorter, Some(CertError::Short));
     assert_same!(rt; longer, Some(CertError::TrailingBytes));
-    let text = format!(in alloc; "{}", CertError::TrailingBytes)?;
+    let text = given!(rt; format!(in alloc; "{}", CertError::TrailingBytes));
     assert_same!(rt; text.as_str(), "bytes stand behind the certificate");
-    Ok(())
 }
 
 /// A certificate of no blocks.
@@ -102,11 +100,10 @@ fn empty(alloc: Global) -> Certificate {
 }
 
 #[test]
-fn writes_what_was_made(rt: HostRuntime) -> Result<(), Fail> {
+fn writes_what_was_made(rt: HostRuntime) {
     let alloc = rt.alloc();
     let certificate = empty(alloc);
-    let bytes = write(alloc, &certificate)?;
+    let bytes = given!(rt; write(alloc, &certificate));
     assert_same!(rt; bytes.len(), 104);
     assert_same!(rt; bytes.starts_with(&[1, 0, 2, 0]), true);
-    Ok(())
 }

@@ -2,7 +2,7 @@
 
 ghost use Rattle.std.specs.Prelude.{◌≡◌, ◌≤◌, length};
 
-use crate::assertions::assert_same;
+use crate::assertions::{assert_same, given};
 use crate::sessions::args;
 use crate::strips::accepted_raise;
 use block_checker::Accepted;
@@ -12,7 +12,6 @@ use rv_listing::{Failed, Over, Piece, Sink, put_all, put_listing};
 use sandbox_run::Session;
 use std::alloc::Global;
 use std::process::Abort;
-use std::test::Fail;
 use vreg_groups::Agnostic;
 
 /// Keeps what it is given, until it has no room.
@@ -103,7 +102,7 @@ const STRIPS: [(&str, &str); 11] = [
 
 /// Gives the commands over a sink with so much room. Each is carried out; it fails where its text has no room.
 fn assert_cut(
-    rt: &(impl Abort + AllocGlobal),
+    rt: impl Abort + Copy,
     monitor: &mut Monitor<'_, 16>,
     out: &mut Recorder,
     room: usize,
@@ -122,29 +121,28 @@ fn assert_cut(
 
 /// Gives a command, and asserts what is told of it.
 fn assert_told(
-    rt: &(impl Abort + AllocGlobal),
+    rt: impl Abort + Copy,
+    alloc: Global,
     monitor: &mut Monitor<'_, 16>,
     line: &str,
     text: &str,
 ) {
-    let mut out = Over::new(Vec::new(rt.alloc()));
+    let mut out = Over::new(Vec::new(alloc));
     assert_same!(rt; monitor.command(line, &mut out), Ok(Flow::Go));
     assert_same!(rt; out.into_inner().as_slice(), text.as_bytes());
 }
 
 /// A run of the loop over nine words.
-fn opened(alloc: Global, accepted: &Accepted) -> Result<Session<16>, Fail> {
-    let args = args(alloc, 4096, 9)?;
-    match Session::<16>::open(alloc, accepted, args, Agnostic::Keep, 8194) {
-        Ok(session) => Ok(session),
-        Err(_) => Err(Fail::from("not opened")),
-    }
+fn opened(rt: impl Abort + Copy, alloc: Global, accepted: &Accepted) -> Session<16> {
+    let args = args(rt, alloc, 4096, 9);
+    given!(rt; Session::<16>::open(alloc, accepted, args, Agnostic::Keep, 8194))
 }
 
 /// Asserts that the run stands at its end, with its breakpoint, where the texts had so much room, and that what was written
 /// is the beginning of the whole.
 fn assert_whole_run(
-    rt: &(impl Abort + AllocGlobal),
+    rt: impl Abort + Copy,
+    alloc: Global,
     session: &mut Session<16>,
     whole: &[u8],
     room: usize,
@@ -152,24 +150,24 @@ fn assert_whole_run(
     requires { room ≤ length whole.now }
 {
     let mut monitor = Monitor::new(session);
-    let mut out = Recorder::new(rt.alloc(), room);
+    let mut out = Recorder::new(alloc, room);
     assert_cut(rt, &mut monitor, &mut out, room);
     assert_same!(rt; out.bytes.as_slice(), &whole[..room]);
     assert_same!(rt; out.failures > 0, room < whole.len());
-    assert_told(rt, &mut monitor, "s 0", "ended step 26\n");
-    assert_told(rt, &mut monitor, "d 10004", "gone 00010004\n");
+    assert_told(rt, alloc, &mut monitor, "s 0", "ended step 26\n");
+    assert_told(rt, alloc, &mut monitor, "d 10004", "gone 00010004\n");
 }
 
 #[test]
-fn a_failure_cuts_the_text_alone(rt: HostRuntime) -> Result<(), Fail> {
-    let accepted = accepted_raise(rt.alloc(), Vlen::V128)?;
-    let mut whole = Vec::new(rt.alloc());
+fn a_failure_cuts_the_text_alone(rt: HostRuntime) {
+    let alloc = rt.alloc();
+    let accepted = accepted_raise(rt, alloc, Vlen::V128);
+    let mut whole = Vec::new(alloc);
     for (_, text) in STRIPS {
-        whole.extend_from_slice(text.as_bytes())?;
+        given!(rt; whole.extend_from_slice(text.as_bytes()));
     }
     for room in 0..=whole.len() {
-        let mut session = opened(rt.alloc(), &accepted)?;
-        assert_whole_run(&rt, &mut session, whole.as_slice(), room);
+        let mut session = opened(rt, alloc, &accepted);
+        assert_whole_run(rt, alloc, &mut session, whole.as_slice(), room);
     }
-    Ok(())
 }

@@ -1,14 +1,14 @@
 //! A kernel whose loop branches: what it does not know where the two ways join, a certificate of version 2 states as an order of
 //! two registers. Its words come from the LLVM assembler, its certificate was laid out by hand.
-use crate::assertions::assert_same;
-use crate::checks::image_of;
+use crate::assertions::{assert_same, found, given};
+use crate::checks::{image_of, refused};
+use crate::sessions::first_byte;
 use block_checker::{Accepted, CheckError, check};
 use cert_note::{CertError, OrderFact, Version, Vlen, read, write};
 use region_mem::{Arg, Args, Bytes};
 use sandbox_run::Session;
-use std::alloc::{AllocError, Global};
+use std::alloc::Global;
 use std::process::Abort;
-use std::test::Fail;
 use vreg_groups::Agnostic;
 
 /// beqz a1,end; loop: vsetvli t0,a1,e8,m1,ta,ma; vle8.v v8,(a0); beqz a2,join; vadd.vi v8,v8,1; join: vse8.v v8,(a0);
@@ -65,89 +65,82 @@ const BYTES: [u8; 471] = [
 const ORDER: usize = 336;
 
 /// The order of the block at 0x10010 has these registers.
-fn with_order(alloc: Global, greater: u8, lesser: u8) -> Result<Vec<u8>, AllocError> {
-    let mut bytes = Vec::from_slice(alloc, &BYTES)?;
+fn with_order(greater: u8, lesser: u8) -> [u8; 471] {
+    let mut bytes = BYTES;
     bytes[ORDER] = greater;
     bytes[ORDER + 1] = lesser;
-    Ok(bytes)
+    bytes
 }
 
-fn accepted_raise_if(alloc: Global) -> Result<Accepted, Fail> {
-    let certificate = read(alloc, &BYTES)?;
-    let image = image_of(alloc, &RAISE_IF)?;
-    check(alloc, image, certificate, Vlen::V128).map_err(|_| Fail::from("refused"))
+fn accepted_raise_if(rt: impl Abort + Copy, alloc: Global) -> Accepted {
+    let certificate = given!(rt; read(alloc, &BYTES));
+    let image = image_of(rt, alloc, &RAISE_IF);
+    given!(rt; check(alloc, image, certificate, Vlen::V128))
 }
 
 #[test]
-fn reads_and_writes_version_two(rt: HostRuntime) -> Result<(), Fail> {
+fn reads_and_writes_version_two(rt: HostRuntime) {
     let alloc = rt.alloc();
-    let certificate = read(alloc, &BYTES)?;
+    let certificate = given!(rt; read(alloc, &BYTES));
     let contents = certificate.contents();
     assert_same!(rt; contents.version, Version::V2);
     assert_same!(rt; contents.blocks.len(), 5);
-    let block = contents.blocks.get(2).expect(&rt, "the block at 0x10010");
+    // The block at 0x10010.
+    let block = found!(rt; contents.blocks.get(2));
     let order = OrderFact {
         greater: 11,
         lesser: 32,
     };
     assert_same!(rt; block.orders.as_slice().first().copied(), Some(order));
     assert_same!(rt; block.budget.second_factor, 0);
-    let written = write(alloc, &certificate)?;
+    let written = given!(rt; write(alloc, &certificate));
     assert_same!(rt; written.as_slice() == BYTES.as_slice(), true);
-    Ok(())
 }
 
 /// What is wrong with the certificate's bytes where the order has these registers.
-fn fault_of(alloc: Global, greater: u8, lesser: u8) -> Result<Option<CertError>, AllocError> {
-    let bytes = with_order(alloc, greater, lesser)?;
-    Ok(read(alloc, bytes.as_slice()).err())
+fn fault_of(alloc: Global, greater: u8, lesser: u8) -> Option<CertError> {
+    read(alloc, &with_order(greater, lesser)).err()
 }
 
 #[test]
-fn tells_a_wrong_order(rt: HostRuntime) -> Result<(), Fail> {
+fn tells_a_wrong_order(rt: HostRuntime) {
     let alloc = rt.alloc();
     let wrong = Some(CertError::Order);
-    assert_same!(rt; fault_of(alloc, 11, 32)?, None);
-    assert_same!(rt; fault_of(alloc, 32, 11)?, None);
-    assert_same!(rt; fault_of(alloc, 0, 32)?, wrong);
-    assert_same!(rt; fault_of(alloc, 33, 32)?, wrong);
-    assert_same!(rt; fault_of(alloc, 11, 33)?, wrong);
-    assert_same!(rt; fault_of(alloc, 11, 11)?, wrong);
+    assert_same!(rt; fault_of(alloc, 11, 32), None);
+    assert_same!(rt; fault_of(alloc, 32, 11), None);
+    assert_same!(rt; fault_of(alloc, 0, 32), wrong);
+    assert_same!(rt; fault_of(alloc, 33, 32), wrong);
+    assert_same!(rt; fault_of(alloc, 11, 33), wrong);
+    assert_same!(rt; fault_of(alloc, 11, 11), wrong);
     // x10 has an equality.
-    assert_same!(rt; fault_of(alloc, 10, 32)?, wrong);
-    assert_same!(rt; fault_of(alloc, 11, 10)?, wrong);
-    let text = format!(in alloc; "{}", CertError::Order)?;
+    assert_same!(rt; fault_of(alloc, 10, 32), wrong);
+    assert_same!(rt; fault_of(alloc, 11, 10), wrong);
+    let text = given!(rt; format!(in alloc; "{}", CertError::Order));
     assert_same!(rt; text.as_str(), "an order is wrong");
-    Ok(())
 }
 
 #[test]
-fn accepts_a_loop_that_branches(rt: HostRuntime) -> Result<(), Fail> {
-    let accepted = accepted_raise_if(rt.alloc())?;
+fn accepts_a_loop_that_branches(rt: HostRuntime) {
+    let accepted = accepted_raise_if(rt, rt.alloc());
     assert_same!(rt; accepted.bound(&[0, 17, 1, 0, 0, 0, 0, 0]), 141);
     assert_same!(rt; accepted.bound(&[0, 0, 0, 0, 0, 0, 0, 0]), 5);
-    Ok(())
 }
 
 #[test]
-fn refuses_the_order_turned_round(rt: HostRuntime) -> Result<(), Fail> {
+fn refuses_the_order_turned_round(rt: HostRuntime) {
     let alloc = rt.alloc();
-    let bytes = with_order(alloc, 32, 11)?;
-    let certificate = read(alloc, bytes.as_slice())?;
-    let image = image_of(alloc, &RAISE_IF)?;
-    match check(alloc, image, certificate, Vlen::V128) {
-        Ok(_) => assert!(rt; false, "accepted"),
-        Err((error, _, _)) => assert_same!(rt; error, CheckError::OrderNotProved(0x1_000c)),
-    }
-    let text = format!(in alloc; "{}", CheckError::OrderNotProved(0x1_000c))?;
+    let certificate = given!(rt; read(alloc, &with_order(32, 11)));
+    let kernel = (image_of(rt, alloc, &RAISE_IF), certificate);
+    let (error, _, _) = refused(rt, alloc, kernel, Vlen::V128);
+    assert_same!(rt; error, CheckError::OrderNotProved(0x1_000c));
+    let text = given!(rt; format!(in alloc; "{error}"));
     assert_same!(rt; text.as_str(), "an order is not proved at 0001000c");
-    Ok(())
 }
 
 /// 1024 bytes, each 3, how many of them, and whether they are raised.
-fn args(alloc: Global, number: u32, raised: u32) -> Result<Args, AllocError> {
-    let bytes = vec![in alloc; 3u8; 1024]?;
-    Ok(Args {
+fn args(rt: impl Abort + Copy, alloc: Global, number: u32, raised: u32) -> Args {
+    let bytes = given!(rt; vec![in alloc; 3u8; 1024]);
+    Args {
         places: [
             Arg::Buffer(Bytes::new(bytes)),
             Arg::Scalar(number),
@@ -158,37 +151,29 @@ fn args(alloc: Global, number: u32, raised: u32) -> Result<Args, AllocError> {
             Arg::None,
             Arg::None,
         ],
-    })
+    }
 }
 
 /// Asserts that a run takes so many steps, and what the first byte of the buffer is then.
 fn assert_runs(
-    rt: &(impl Abort + AllocGlobal),
-    number: u32,
-    raised: u32,
+    rt: impl Abort + Copy,
+    alloc: Global,
+    accepted: &Accepted,
+    args: Args,
     steps: u64,
     first: u8,
-) -> Result<(), Fail> {
-    let alloc = rt.alloc();
-    let accepted = accepted_raise_if(alloc)?;
-    let args = args(alloc, number, raised)?;
-    match Session::<16>::open(alloc, &accepted, args, Agnostic::Keep, 8197) {
-        Ok(mut session) => {
-            assert_same!(rt; session.run(), steps);
-            let args = session.close();
-            let Arg::Buffer(bytes) = &args.places[0] else {
-                return Err(Fail::from("no buffer"));
-            };
-            assert_same!(rt; bytes.as_slice().first().copied(), Some(first));
-        }
-        Err(_) => assert!(rt; false, "not opened"),
-    }
-    Ok(())
+) {
+    let opened = Session::<16>::open(alloc, accepted, args, Agnostic::Keep, 8197);
+    let mut session = given!(rt; opened);
+    assert_same!(rt; session.run(), steps);
+    assert_same!(rt; first_byte(&session.close().places[0]), Some(first));
 }
 
 #[test]
-fn runs_either_way(rt: HostRuntime) -> Result<(), Fail> {
-    assert_runs(&rt, 17, 1, 18, 4)?;
-    assert_runs(&rt, 17, 0, 16, 3)?;
-    assert_runs(&rt, 0, 1, 2, 3)
+fn runs_either_way(rt: HostRuntime) {
+    let alloc = rt.alloc();
+    let accepted = accepted_raise_if(rt, alloc);
+    assert_runs(rt, alloc, &accepted, args(rt, alloc, 17, 1), 18, 4);
+    assert_runs(rt, alloc, &accepted, args(rt, alloc, 17, 0), 16, 3);
+    assert_runs(rt, alloc, &accepted, args(rt, alloc, 0, 1), 2, 3);
 }

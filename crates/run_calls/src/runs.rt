@@ -3,14 +3,13 @@
 
 ghost use Rattle.vreg_groups.specs.VectorLength.{IsVlenb};
 
-use crate::assertions::assert_same;
+use crate::assertions::{assert_same, found, given};
 use crate::checks::image_of;
 use elf_image::Image;
 use region_mem::{Arg, Args, Bytes, Mode, Param, Parameters};
 use sandbox_run::{Final, OpenError, Outcome, try_run};
-use std::alloc::{AllocError, Global};
+use std::alloc::Global;
 use std::process::Abort;
-use std::test::Fail;
 use vreg_groups::Agnostic;
 
 /// vsetvli t0,a2,e8,m1,ta,ma; vle8.v v8,(a0); vle8.v v16,(a1); vadd.vv v8,v8,v16; vse8.v v8,(a0); ecall
@@ -23,8 +22,8 @@ const ADD_BYTES: [u32; 6] = [
     0x0000_0073,
 ];
 
-fn buffer(alloc: Global, bytes: &[u8]) -> Result<Arg, AllocError> {
-    Ok(Arg::Buffer(Bytes::new(Vec::from_slice(alloc, bytes)?)))
+fn buffer(rt: impl Abort + Copy, alloc: Global, bytes: &[u8]) -> Arg {
+    Arg::Buffer(Bytes::new(given!(rt; Vec::from_slice(alloc, bytes))))
 }
 
 fn args_of(a: Arg, b: Arg, c: Arg) -> Args {
@@ -59,108 +58,118 @@ fn byte_parameters() -> Option<Parameters> {
 }
 
 fn add_bytes<const VLENB: usize>(
+    rt: impl Abort + Copy,
     alloc: Global,
     image: &Image,
     max: u64,
-) -> Result<Outcome<VLENB>, Fail>
+) -> Outcome<VLENB>
     requires { IsVlenb VLENB }
 {
-    let parameters = byte_parameters().ok_or("the parameters are in order")?;
-    let a = buffer(alloc, &[0xff, 1, 2])?;
-    let b = buffer(alloc, &[1, 1, 0xff])?;
+    let parameters = found!(rt; byte_parameters());
+    let a = buffer(rt, alloc, &[0xff, 1, 2]);
+    let b = buffer(rt, alloc, &[1, 1, 0xff]);
     let args = args_of(a, b, Arg::Scalar(3));
-    try_run::<VLENB>(alloc, image, &parameters, args, Agnostic::Keep, max).map_err(|_| Fail::from(
-        "refused",
-    ))
+    given!(rt; try_run::<VLENB>(alloc, image, &parameters, args, Agnostic::Keep, max))
 }
 
-fn assert_sum<const VLENB: usize>(rt: &impl Abort, last: &Final<VLENB>) {
+/// Asserts that a run has ended, and what it leaves.
+fn assert_sum<const VLENB: usize>(rt: impl Abort + Copy, outcome: &Outcome<VLENB>) {
+    match outcome {
+        Outcome::Ended(last) => assert_left(rt, last),
+        _ => panic!(rt; "it does not end"),
+    }
+}
+
+fn assert_left<const VLENB: usize>(rt: impl Abort + Copy, last: &Final<VLENB>) {
     assert_same!(rt; last.steps, 6);
     assert_same!(rt; last.registers.pc, 0xffff_fff0);
     assert_same!(rt; last.registers.vl, 3);
     match &last.args.places[0] {
         Arg::Buffer(bytes) => assert_same!(rt; bytes.as_slice(), [0, 2, 1].as_slice()),
-        _ => assert!(rt; false, "a0 is no buffer"),
+        _ => panic!(rt; "a0 is no buffer"),
     }
 }
 
 #[test]
-fn adds_bytes(rt: HostRuntime) -> Result<(), Fail> {
-    let image = image_of(rt.alloc(), &ADD_BYTES)?;
-    match add_bytes::<16>(rt.alloc(), &image, 6)? {
-        Outcome::Ended(last) => assert_sum(&rt, &last),
-        _ => assert!(rt; false, "at 16 bytes"),
-    }
-    match add_bytes::<32>(rt.alloc(), &image, 1000)? {
-        Outcome::Ended(last) => assert_sum(&rt, &last),
-        _ => assert!(rt; false, "at 32 bytes"),
-    }
-    Ok(())
+fn adds_bytes(rt: HostRuntime) {
+    let alloc = rt.alloc();
+    let image = image_of(rt, alloc, &ADD_BYTES);
+    assert_sum(rt, &add_bytes::<16>(rt, alloc, &image, 6));
+    assert_sum(rt, &add_bytes::<32>(rt, alloc, &image, 1000));
 }
 
 /// Why the kernel does not run on these arguments, and the arguments.
-fn refused(alloc: Global, args: Args) -> Result<(OpenError, Args), Fail> {
-    let image = image_of(alloc, &ADD_BYTES)?;
-    let parameters = byte_parameters().ok_or("in order")?;
+fn refused(rt: impl Abort + Copy, alloc: Global, args: Args) -> (OpenError, Args) {
+    let image = image_of(rt, alloc, &ADD_BYTES);
+    let parameters = found!(rt; byte_parameters());
     match try_run::<16>(alloc, &image, &parameters, args, Agnostic::Keep, 10) {
-        Ok(_) => Err(Fail::from("it runs")),
-        Err(refused) => Ok(refused),
+        Ok(_) => panic!(rt; "it runs"),
+        Err(refused) => refused,
     }
 }
 
 /// A scalar above its interval.
 #[test]
-fn hands_arguments_back(rt: HostRuntime) -> Result<(), Fail> {
+fn hands_arguments_back(rt: HostRuntime) {
     let alloc = rt.alloc();
-    let first = buffer(alloc, &[7, 8])?;
-    let second = buffer(alloc, &[1, 2, 3])?;
-    let (error, args) = refused(alloc, args_of(first, second, Arg::Scalar(4)))?;
+    let first = buffer(rt, alloc, &[7, 8]);
+    let second = buffer(rt, alloc, &[1, 2, 3]);
+    let (error, args) = refused(rt, alloc, args_of(first, second, Arg::Scalar(4)));
     assert_same!(rt; error, OpenError::ScalarOutOfInterval(2));
     match &args.places[0] {
         Arg::Buffer(bytes) => assert_same!(rt; bytes.as_slice(), [7, 8].as_slice()),
-        _ => assert!(rt; false, "the buffer comes back"),
+        _ => panic!(rt; "the buffer does not come back"),
     }
-    Ok(())
 }
 
 /// No buffer where one is wanted.
 #[test]
-fn hands_a_scalar_back(rt: HostRuntime) -> Result<(), Fail> {
+fn hands_a_scalar_back(rt: HostRuntime) {
     let alloc = rt.alloc();
-    let second = buffer(alloc, &[1, 2, 3])?;
-    let (error, args) = refused(alloc, args_of(Arg::None, second, Arg::Scalar(9)))?;
+    let second = buffer(rt, alloc, &[1, 2, 3]);
+    let (error, args) = refused(rt, alloc, args_of(Arg::None, second, Arg::Scalar(9)));
     assert_same!(rt; error, OpenError::WrongKind(0));
     assert_same!(rt; matches!(&args.places[2], Arg::Scalar(9)), true);
-    Ok(())
 }
 
 /// Asserts that this is the text of a reason.
-fn assert_text(
-    rt: &(impl Abort + AllocGlobal),
-    error: OpenError,
-    text: &str,
-) -> Result<(), AllocError> {
-    let told = format!(in rt.alloc(); "{error}")?;
+fn assert_text(rt: impl Abort + Copy, alloc: Global, error: OpenError, text: &str) {
+    let told = given!(rt; format!(in alloc; "{error}"));
     assert_same!(rt; told.as_str(), text);
-    Ok(())
 }
 
 #[test]
-fn prints_reasons(rt: HostRuntime) -> Result<(), Fail> {
+fn prints_reasons(rt: HostRuntime) {
+    let alloc = rt.alloc();
     let kind = OpenError::WrongKind(0);
-    assert_text(&rt, kind, "the argument at place 0 is of the wrong kind")?;
+    assert_text(
+        rt,
+        alloc,
+        kind,
+        "the argument at place 0 is of the wrong kind",
+    );
     let scalar = OpenError::ScalarOutOfInterval(7);
-    assert_text(&rt, scalar, "the scalar at place 7 is outside its interval")?;
+    assert_text(
+        rt,
+        alloc,
+        scalar,
+        "the scalar at place 7 is outside its interval",
+    );
     let size = OpenError::WrongSize(2);
-    assert_text(&rt, size, "the buffer at place 2 is of the wrong size")?;
+    assert_text(
+        rt,
+        alloc,
+        size,
+        "the buffer at place 2 is of the wrong size",
+    );
     let bound = OpenError::BoundTooLarge;
-    assert_text(&rt, bound, "the run may take too many steps")?;
+    assert_text(rt, alloc, bound, "the run may take too many steps");
     let vlen = OpenError::WrongVlen;
     assert_text(
-        &rt,
+        rt,
+        alloc,
         vlen,
         "the image was accepted for another vector length",
-    )?;
-    assert_text(&rt, OpenError::NoMemory, "out of memory")?;
-    Ok(())
+    );
+    assert_text(rt, alloc, OpenError::NoMemory, "out of memory");
 }

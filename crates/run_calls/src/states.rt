@@ -1,19 +1,18 @@
 //! What is known where a block begins, in room that was taken for another one.
 
-use crate::assertions::assert_same;
+use crate::assertions::{assert_same, given};
 use crate::checks::sum;
 use abs_state::Abstract;
-use std::test::Fail;
 
 /// At each block x1 is EXIT. x11 is at most 1,024 at the first, where it may be 0, and not 0 at the second.
 #[test]
-fn a_state_is_set_to_another_block(rt: HostRuntime) -> Result<(), Fail> {
-    let (image, certificate) = sum(rt.alloc())?;
+fn a_state_is_set_to_another_block(rt: HostRuntime) {
+    let alloc = rt.alloc();
+    let (image, certificate) = sum(rt, alloc);
     if certificate.contents().blocks.len() < 2 {
-        return Err(Fail::from("no second block"));
+        panic!(rt; "no second block");
     }
-    let first = Abstract::at_block(rt.alloc(), &certificate, &image, 0);
-    let mut state = first.map_err(|_| Fail::from("no memory"))?;
+    let mut state = given!(rt; Abstract::at_block(alloc, &certificate, &image, 0));
     assert_same!(rt; state.numbers().range_at(11).lo, 0);
     assert_same!(rt; state.numbers().range_at(11).hi, 1024);
     state.set_block(&certificate, &image, 1);
@@ -21,5 +20,4 @@ fn a_state_is_set_to_another_block(rt: HostRuntime) -> Result<(), Fail> {
     assert_same!(rt; state.numbers().range_at(11).lo, 1);
     assert_same!(rt; state.numbers().range_at(11).hi, 1024);
     assert_same!(rt; state.words(), 0);
-    Ok(())
 }

@@ -1,6 +1,6 @@
 //! Calls on files and certificates of which each allocation fails in turn: the answer is want of memory there, and what is
 //! wrong with the bytes is told all the same.
-use crate::assertions::assert_same;
+use crate::assertions::{assert_same, found, given};
 use crate::checks::{SUM, file_of};
 use crate::readme::RAISE;
 use crate::refusing::Refusing;
@@ -9,9 +9,8 @@ use cert_note::{CertError, Certificate, Vlen};
 use elf_image::{ElfError, Image, attach};
 use hex::decode;
 use region_mem::{Mode, Param, Parameters};
-use std::alloc::{AllocError, Global};
+use std::alloc::Global;
 use std::process::Abort;
-use std::test::Fail;
 
 /// An allocator that refuses one allocation.
 pub(crate) type Heap<'a> = &'a Refusing<Global>;
@@ -38,26 +37,32 @@ const CERTIFICATE: &str = "\
 00000000230100000008080100000000000000000009000000";
 
 /// That file, with the certificate.
-pub(crate) fn file(alloc: Global) -> Result<Vec<u8>, Fail> {
-    let mut file = decode(alloc, FILE)?;
-    file.extend_from_slice(decode(alloc, CERTIFICATE)?.as_slice())?;
-    Ok(file)
+pub(crate) fn file(rt: impl Abort + Copy, alloc: Global) -> Vec<u8> {
+    let mut file = given!(rt; decode(alloc, FILE));
+    let certificate = certificate(rt, alloc);
+    given!(rt; file.extend_from_slice(&certificate));
+    file
+}
+
+/// The bytes of the certificate.
+fn certificate(rt: impl Abort + Copy, alloc: Global) -> Vec<u8> {
+    given!(rt; decode(alloc, CERTIFICATE))
 }
 
 /// Asserts, where a call was answered, that no memory was refused, and that it took some.
-pub(crate) fn assert_served(rt: &impl Abort, heap: Heap<'_>, after: u64) {
+pub(crate) fn assert_served(rt: impl Abort + Copy, heap: Heap<'_>, after: u64) {
     assert_same!(rt; (heap.has_refused(), after > 0), (false, true));
 }
 
 /// Asserts, where a call tells want of memory, that some was refused.
-pub(crate) fn assert_wanting(rt: &impl Abort, heap: Heap<'_>, after: u64) {
+pub(crate) fn assert_wanting(rt: impl Abort + Copy, heap: Heap<'_>, after: u64) {
     assert_same!(rt; (heap.has_refused(), after), (true, after));
 }
 
 /// Asserts that the file is read with this certificate, or that memory is wanting, and tells whether it is read. The other
 /// file's fault is told before any memory is asked for.
 fn is_image_read(
-    rt: &impl Abort,
+    rt: impl Abort + Copy,
     heap: Heap<'_>,
     after: u64,
     files: [&[u8]; 2],
@@ -84,129 +89,117 @@ fn is_image_read(
 
 /// A list of segments, the bytes of two, and those of the certificate.
 #[test]
-fn reading_an_image(rt: HostRuntime) -> Result<(), Fail> {
+fn reading_an_image(rt: HostRuntime) {
     let alloc = rt.alloc();
-    let good = file(alloc)?;
-    let mut bad = file(alloc)?;
+    let good = file(rt, alloc);
+    let mut bad = file(rt, alloc);
     if let Some(flags) = bad.get_mut(36) {
         *flags = 1;
     }
-    let certificate = decode(alloc, CERTIFICATE)?;
+    let certificate = certificate(rt, alloc);
     for after in 0..MANY {
         let heap = Refusing::new(alloc, after);
-        if is_image_read(&rt, &heap, after, [&good, &bad], &certificate) {
-            return Ok(());
+        if is_image_read(rt, &heap, after, [&good, &bad], &certificate) {
+            return;
         }
     }
     panic!(rt; "memory is never enough")
 }
 
 /// Asserts that a file is given no certificate, for a reason that is told before any memory is asked for.
-fn expect_unattached(rt: &impl Abort, heap: Heap<'_>, file: &[u8], fault: ElfError) {
+fn expect_unattached(rt: impl Abort + Copy, heap: Heap<'_>, file: &[u8], fault: ElfError) {
     let refused = attach(heap, file, b"any").err();
     assert_same!(rt; refused, Some(fault));
     assert_same!(rt; heap.has_refused(), false);
 }
 
 /// Asserts that the file is an image of one segment with this certificate.
-fn assert_attached(
-    rt: &impl Abort,
-    alloc: Global,
-    file: &[u8],
-    certificate: &[u8],
-) -> Result<(), ElfError> {
-    let image = elf_image::read(alloc, file)?;
+fn assert_attached(rt: impl Abort + Copy, alloc: Global, file: &[u8], certificate: &[u8]) {
+    let image = given!(rt; elf_image::read(alloc, file));
     assert_same!(rt; image.segments().len(), 1);
     assert_same!(rt; image.certificate(), Some(certificate));
-    Ok(())
 }
 
 /// Asserts that the file of the sum is given the certificate, or that memory is wanting and the file as it was, and tells
 /// whether it is given it.
 fn is_attached(
-    rt: &impl Abort,
+    rt: impl Abort + Copy,
     alloc: Global,
     after: u64,
     bare: &[u8],
     certificate: &[u8],
-) -> Result<bool, Fail> {
+) -> bool {
     let heap = Refusing::new(alloc, after);
     match attach(&heap, bare, certificate) {
         Ok(attached) => {
             assert_served(rt, &heap, after);
-            assert_attached(rt, alloc, attached.as_slice(), certificate)?;
-            Ok(true)
+            assert_attached(rt, alloc, attached.as_slice(), certificate);
+            true
         }
         Err(error) => {
             assert_wanting(rt, &heap, after);
             assert_same!(rt; error, ElfError::NoMemory);
-            assert_same!(rt; bare, file_of(alloc, &SUM)?.as_slice());
-            Ok(false)
+            assert_same!(rt; bare, file_of(rt, alloc, &SUM).as_slice());
+            false
         }
     }
 }
 
 /// Files that are given no certificate, whichever allocation would be refused.
 #[test]
-fn attaching_nothing(rt: HostRuntime) -> Result<(), Fail> {
+fn attaching_nothing(rt: HostRuntime) {
     let alloc = rt.alloc();
-    let certified = file(alloc)?;
-    let mut large = file_of(alloc, &SUM)?;
-    large.resize(4 << 20, 0)?;
+    let certified = file(rt, alloc);
+    let mut large = file_of(rt, alloc, &SUM);
+    given!(rt; large.resize(4 << 20, 0));
     for after in 0..MANY {
         let heap = Refusing::new(alloc, after);
-        expect_unattached(&rt, &heap, b"\x7fELF", ElfError::TooShort);
-        expect_unattached(&rt, &heap, &large, ElfError::TooLarge);
-        expect_unattached(&rt, &heap, &certified, ElfError::CertificateThere);
+        expect_unattached(rt, &heap, b"\x7fELF", ElfError::TooShort);
+        expect_unattached(rt, &heap, &large, ElfError::TooLarge);
+        expect_unattached(rt, &heap, &certified, ElfError::CertificateThere);
     }
-    Ok(())
 }
 
 /// The bytes of the file that is written. The one that is read stays as it is.
 #[test]
-fn attaching(rt: HostRuntime) -> Result<(), Fail> {
+fn attaching(rt: HostRuntime) {
     let alloc = rt.alloc();
-    let bare = file_of(alloc, &SUM)?;
-    let certificate = decode(alloc, CERTIFICATE)?;
+    let bare = file_of(rt, alloc, &SUM);
+    let certificate = certificate(rt, alloc);
     for after in 0..MANY {
-        if is_attached(&rt, alloc, after, &bare, &certificate)? {
-            return Ok(());
+        if is_attached(rt, alloc, after, &bare, &certificate) {
+            return;
         }
     }
     panic!(rt; "memory is never enough")
 }
 
 /// Asserts that the certificate is read, or that memory is wanting, and tells whether it is read.
-fn is_certificate_read(
-    rt: &impl Abort,
-    alloc: Global,
-    after: u64,
-    spelling: &[u8],
-) -> Result<bool, AllocError> {
+fn is_certificate_read(rt: impl Abort + Copy, alloc: Global, after: u64, spelling: &[u8]) -> bool {
     let heap = Refusing::new(alloc, after);
     match cert_note::read(&heap, spelling) {
         Ok(certificate) => {
             assert_served(rt, &heap, after);
-            let written = cert_note::write(alloc, &certificate)?;
+            let written = given!(rt; cert_note::write(alloc, &certificate));
             assert_same!(rt; written.as_slice(), spelling);
-            Ok(true)
+            true
         }
         Err(error) => {
             assert_wanting(rt, &heap, after);
             assert_same!(rt; error, CertError::NoMemory);
-            Ok(false)
+            false
         }
     }
 }
 
 /// Lists of blocks, of facts on registers, of terms and of facts on vector registers.
 #[test]
-fn reading_a_certificate(rt: HostRuntime) -> Result<(), Fail> {
+fn reading_a_certificate(rt: HostRuntime) {
     let alloc = rt.alloc();
-    let spelling = decode(alloc, CERTIFICATE)?;
+    let spelling = certificate(rt, alloc);
     for after in 0..MANY {
-        if is_certificate_read(&rt, alloc, after, &spelling)? {
-            return Ok(());
+        if is_certificate_read(rt, alloc, after, &spelling) {
+            return;
         }
     }
     panic!(rt; "memory is never enough")
@@ -214,7 +207,7 @@ fn reading_a_certificate(rt: HostRuntime) -> Result<(), Fail> {
 
 /// Asserts that the certificate is written so, or that memory is wanting, and tells whether it is written.
 fn is_written(
-    rt: &impl Abort,
+    rt: impl Abort + Copy,
     alloc: Global,
     after: u64,
     certificate: &Certificate,
@@ -236,13 +229,13 @@ fn is_written(
 
 /// A list of bytes, which grows as they come.
 #[test]
-fn writing_a_certificate(rt: HostRuntime) -> Result<(), Fail> {
+fn writing_a_certificate(rt: HostRuntime) {
     let alloc = rt.alloc();
-    let spelling = decode(alloc, CERTIFICATE)?;
-    let certificate = cert_note::read(alloc, &spelling)?;
+    let spelling = certificate(rt, alloc);
+    let certificate = given!(rt; cert_note::read(alloc, &spelling));
     for after in 0..MANY {
-        if is_written(&rt, alloc, after, &certificate, &spelling) {
-            return Ok(());
+        if is_written(rt, alloc, after, &certificate, &spelling) {
+            return;
         }
     }
     panic!(rt; "memory is never enough")
@@ -260,7 +253,7 @@ fn too_short(parameters: &Parameters) -> Option<Parameters> {
 
 /// Asserts that no certificate is made for parameters that are too short: the load's fault, which is told before any memory is
 /// asked for.
-fn expect_unmade(rt: &impl Abort, heap: Heap<'_>, image: &Image, short: &Parameters) {
+fn expect_unmade(rt: impl Abort + Copy, heap: Heap<'_>, image: &Image, short: &Parameters) {
     let refused = make_in(heap, image, short, Vlen::V128).err();
     assert_same!(rt; refused, Some(MakeError::NotALoopOfTheClass(0x1_0008)));
     assert_same!(rt; heap.has_refused(), false);
@@ -268,42 +261,45 @@ fn expect_unmade(rt: &impl Abort, heap: Heap<'_>, image: &Image, short: &Paramet
 
 /// Asserts that the certificate by hand is made, or that memory is wanting, and tells whether it is made.
 fn is_made(
-    rt: &impl Abort,
+    rt: impl Abort + Copy,
     alloc: Global,
     heap: Heap<'_>,
     after: u64,
     image: &Image,
     parameters: &Parameters,
     by_hand: &[u8],
-) -> Result<bool, AllocError> {
+) -> bool {
     match make_in(heap, image, parameters, Vlen::V128) {
         Ok(certificate) => {
             assert_served(rt, heap, after);
-            let written = cert_note::write(alloc, &certificate)?;
+            let written = given!(rt; cert_note::write(alloc, &certificate));
             assert_same!(rt; written.as_slice(), by_hand);
-            Ok(true)
+            true
         }
         Err(error) => {
             assert_wanting(rt, heap, after);
             assert_same!(rt; error, MakeError::NoMemory);
-            Ok(false)
+            false
         }
     }
 }
 
 /// The list of blocks.
 #[test]
-fn making_a_certificate(rt: HostRuntime) -> Result<(), Fail> {
+fn making_a_certificate(rt: HostRuntime) {
     let alloc = rt.alloc();
-    let image = elf_image::read(alloc, decode(alloc, RAISE)?.as_slice())?;
-    let by_hand = image.certificate().ok_or("no certificate")?;
-    let parameters = cert_note::read(alloc, by_hand)?.contents().parameters;
-    let short = too_short(&parameters).ok_or("the parameters are valid")?;
+    let file = given!(rt; decode(alloc, RAISE));
+    let image = given!(rt; elf_image::read(alloc, &file));
+    let by_hand = found!(rt; image.certificate());
+    let parameters = given!(rt; cert_note::read(alloc, by_hand))
+        .contents()
+        .parameters;
+    let short = found!(rt; too_short(&parameters));
     for after in 0..MANY {
         let heap = Refusing::new(alloc, after);
-        expect_unmade(&rt, &heap, &image, &short);
-        if is_made(&rt, alloc, &heap, after, &image, &parameters, by_hand)? {
-            return Ok(());
+        expect_unmade(rt, &heap, &image, &short);
+        if is_made(rt, alloc, &heap, after, &image, &parameters, by_hand) {
+            return;
         }
     }
     panic!(rt; "memory is never enough")

@@ -2,7 +2,7 @@
 //! what is refused is refused all the same, and the image and the certificate come back as they were.
 ghost use Rattle.std.specs.Prelude.{◌<◌, length};
 
-use crate::assertions::assert_same;
+use crate::assertions::{assert_same, found, given};
 use crate::checks::{STORE, SUM, certificate, file_of, image_of, sum};
 use crate::refusing::Refusing;
 use crate::want_of_memory::{Heap, MANY, assert_served, assert_wanting};
@@ -11,49 +11,47 @@ use block_checker::{CheckError, check_in};
 use cert_note::{Certificate, Vlen};
 use elf_image::Image;
 use rv_decode::decode;
-use std::alloc::{AllocError, Global};
+use std::alloc::Global;
 use std::process::Abort;
-use std::test::Fail;
 
 /// Takes the word at an address.
-fn take(image: &Image, state: &mut Abstract<Heap<'_>>, pc: u32) -> Result<(), Fail> {
-    let word = image.code_at(pc).ok_or("no code")?;
-    let insn = decode(word).ok_or("no instruction")?;
+fn take(rt: impl Abort + Copy, image: &Image, state: &mut Abstract<Heap<'_>>, pc: u32) {
+    let word = found!(rt; image.code_at(pc));
+    let insn = found!(rt; decode(word));
     if state.words() >= MOST_WORDS {
-        return Err(Fail::from("too many words"));
+        panic!(rt; "too many words");
     }
-    Ok(state.after(pc, &insn).map_err(|_| "refused")?)
+    given!(rt; state.after(pc, &insn));
 }
 
 /// Takes the words from `start` on, and asserts that both ways out of the block are known.
 fn expect_words(
-    rt: &impl Abort,
+    rt: impl Abort + Copy,
     image: &Image,
     state: &mut Abstract<Heap<'_>>,
     start: u32,
     words: u32,
-) -> Result<(), Fail> {
+) {
     let mut pc = start;
     for _word in 0..words {
-        take(image, state, pc)?;
+        take(rt, image, state, pc);
         pc = pc.wrapping_add(4);
     }
     assert_same!(rt; state.words(), words);
     assert_same!(rt; state.refine(false).is_some(), true);
     assert_same!(rt; state.refine(true).is_some(), true);
-    Ok(())
 }
 
 /// Asserts that what is known at a block is told or wants memory, and that the words of the block, as many as here, take none.
 /// Tells whether it is told.
 fn is_block_known(
-    rt: &impl Abort,
+    rt: impl Abort + Copy,
     heap: Heap<'_>,
     after: u64,
     kernel: &(Image, Certificate),
     index: usize,
     words: u32,
-) -> Result<bool, Fail>
+) -> bool
     requires { index < length kernel.now.1.blocks }
 {
     let (image, certificate) = kernel;
@@ -61,32 +59,32 @@ fn is_block_known(
     match Abstract::at_block(heap, certificate, image, index) {
         Ok(mut state) => {
             assert_served(rt, heap, after);
-            expect_words(rt, image, &mut state, start, words)?;
+            expect_words(rt, image, &mut state, start, words);
             // One more would have been refused.
             assert_same!(rt; heap.has_refused(), false);
-            Ok(true)
+            true
         }
         Err(_) => {
             assert_wanting(rt, heap, after);
-            Ok(false)
+            false
         }
     }
 }
 
 /// Asserts so of each number of allocations.
 fn expect_block(
-    rt: &impl Abort,
+    rt: impl Abort + Copy,
     alloc: Global,
     kernel: &(Image, Certificate),
     index: usize,
     words: u32,
-) -> Result<(), Fail>
+)
     requires { index < length kernel.now.1.blocks }
 {
     for after in 0..MANY {
         let heap = Refusing::new(alloc, after);
-        if is_block_known(rt, &heap, after, kernel, index, words)? {
-            return Ok(());
+        if is_block_known(rt, &heap, after, kernel, index, words) {
+            return;
         }
     }
     panic!(rt; "memory is never enough")
@@ -95,133 +93,125 @@ fn expect_block(
 /// What is known at a block takes the memory for all that is known behind each of its words: lists of atoms, of forms and of
 /// facts on vector registers.
 #[test]
-fn knowing_a_block(rt: HostRuntime) -> Result<(), Fail> {
+fn knowing_a_block(rt: HostRuntime) {
     let alloc = rt.alloc();
-    let kernel = sum(alloc)?;
+    let kernel = sum(rt, alloc);
     let words = [1, 5, 1];
     assert_same!(rt; kernel.1.contents().blocks.len(), words.len());
     for (index, words) in words.iter().enumerate() {
         if index < kernel.1.contents().blocks.len() {
-            expect_block(&rt, alloc, &kernel, index, *words)?;
+            expect_block(rt, alloc, &kernel, index, *words);
         }
     }
-    Ok(())
 }
 
 /// Asserts that the way from the entry leads into the first block.
 fn expect_way(
-    rt: &impl Abort,
+    rt: impl Abort + Copy,
     state: &Abstract<Heap<'_>>,
     image: &Image,
     certificate: &Certificate,
-) -> Result<(), Fail> {
+) {
     assert_same!(rt; state.words(), 0);
-    let edge = state.refine(false).ok_or("no way")?;
+    let edge = found!(rt; state.refine(false));
     assert_same!(rt; edge.target(), Some(image.entry()));
     let block = certificate.contents().blocks.first();
     assert_same!(rt; implies(&edge, block).is_ok(), true);
-    Ok(())
 }
 
 /// Asserts that what is known at the entry is told or wants memory, and tells whether it is told.
 fn is_entry_known(
-    rt: &impl Abort,
+    rt: impl Abort + Copy,
     heap: Heap<'_>,
     after: u64,
     image: &Image,
     certificate: &Certificate,
-) -> Result<bool, Fail> {
+) -> bool {
     match Abstract::at_entry(heap, certificate, image) {
         Ok(state) => {
             assert_served(rt, heap, after);
-            expect_way(rt, &state, image, certificate)?;
+            expect_way(rt, &state, image, certificate);
             // One more would have been refused.
             assert_same!(rt; heap.has_refused(), false);
-            Ok(true)
+            true
         }
         Err(_) => {
             assert_wanting(rt, heap, after);
-            Ok(false)
+            false
         }
     }
 }
 
 /// The same lists. The way from there leads into the block at the entry.
 #[test]
-fn knowing_the_entry(rt: HostRuntime) -> Result<(), Fail> {
+fn knowing_the_entry(rt: HostRuntime) {
     let alloc = rt.alloc();
-    let (image, certificate) = sum(alloc)?;
+    let (image, certificate) = sum(rt, alloc);
     for after in 0..MANY {
         let heap = Refusing::new(alloc, after);
-        if is_entry_known(&rt, &heap, after, &image, &certificate)? {
-            return Ok(());
+        if is_entry_known(rt, &heap, after, &image, &certificate) {
+            return;
         }
     }
     panic!(rt; "memory is never enough")
 }
 
 /// What an image and a certificate say.
-fn said(alloc: Global, image: &Image, certificate: &Certificate) -> Result<String, AllocError> {
-    format!(in alloc; "{image:?} {certificate:?}")
+fn said(rt: impl Abort + Copy, alloc: Global, image: &Image, certificate: &Certificate) -> String {
+    given!(rt; format!(in alloc; "{image:?} {certificate:?}"))
 }
 
 /// Asserts that they say what they said before.
 fn assert_said(
-    rt: &impl Abort,
+    rt: impl Abort + Copy,
     alloc: Global,
     image: &Image,
     certificate: &Certificate,
     before: &str,
-) -> Result<(), AllocError> {
-    let back = said(alloc, image, certificate)?;
+) {
+    let back = said(rt, alloc, image, certificate);
     assert_same!(rt; back.as_str(), before);
-    Ok(())
 }
 
 /// Checks the kernel, whose fault is this one. Gives it back where memory was refused.
 fn checked_again(
-    rt: &impl Abort,
+    rt: impl Abort + Copy,
     alloc: Global,
     after: u64,
     kernel: (Image, Certificate),
     before: &str,
     fault: Option<CheckError>,
-) -> Result<Option<(Image, Certificate)>, AllocError> {
+) -> Option<(Image, Certificate)> {
     let heap = Refusing::new(alloc, after);
     let (image, certificate) = kernel;
     match check_in(&heap, image, certificate, Vlen::V128) {
         Ok(accepted) => {
             assert_served(rt, &heap, after);
             assert_same!(rt; None, fault);
-            assert_said(rt, alloc, accepted.image(), accepted.certificate(), before)?;
-            Ok(None)
+            assert_said(rt, alloc, accepted.image(), accepted.certificate(), before);
+            None
         }
         Err((error, image, certificate)) => {
-            assert_said(rt, alloc, &image, &certificate, before)?;
+            assert_said(rt, alloc, &image, &certificate, before);
             if !heap.has_refused() {
                 assert_same!(rt; (Some(error), after > 0), (fault, true));
-                return Ok(None);
+                return None;
             }
             assert_same!(rt; error, CheckError::NoMemory);
-            Ok(Some((image, certificate)))
+            Some((image, certificate))
         }
     }
 }
 
 /// Asserts that the check of these words wants memory where it is refused, with the certificate of the sum, and accepts them
 /// or tells this fault where it isn't.
-fn expect_check(
-    rt: &impl Abort,
-    alloc: Global,
-    words: &[u32],
-    fault: Option<CheckError>,
-) -> Result<(), Fail> {
-    let mut kernel = (image_of(alloc, words)?, certificate(alloc)?);
-    let before = said(alloc, &kernel.0, &kernel.1)?;
+fn expect_check(rt: impl Abort + Copy, alloc: Global, words: &[u32], fault: Option<CheckError>) {
+    let mut kernel = (image_of(rt, alloc, words), certificate(rt, alloc));
+    let before = said(rt, alloc, &kernel.0, &kernel.1);
     for after in 0..MANY {
-        match checked_again(rt, alloc, after, kernel, before.as_str(), fault)? {
+        match checked_again(rt, alloc, after, kernel, before.as_str(), fault) {
             Some(back) => kernel = back,
-            None => return Ok(()),
+            None => return,
         }
     }
     panic!(rt; "memory is never enough")
@@ -229,59 +219,56 @@ fn expect_check(
 
 /// What is known at the entry and at a block, one block after the other.
 #[test]
-fn checking(rt: HostRuntime) -> Result<(), Fail> {
-    expect_check(&rt, rt.alloc(), &SUM, None)
+fn checking(rt: HostRuntime) {
+    expect_check(rt, rt.alloc(), &SUM, None);
 }
 
 /// The fault of the second block stands behind what is known at the entry and at the first.
 #[test]
-fn checking_what_is_refused(rt: HostRuntime) -> Result<(), Fail> {
+fn checking_what_is_refused(rt: HostRuntime) {
     let mut words = SUM;
     words[1] = STORE;
-    expect_check(
-        &rt,
-        rt.alloc(),
-        &words,
-        Some(CheckError::ReadOnly(0x1_0004)),
-    )
+    let fault = CheckError::ReadOnly(0x1_0004);
+    expect_check(rt, rt.alloc(), &words, Some(fault));
 }
 
 /// The file of the sum whose entry is its third word, where no block begins.
-fn moved_entry(alloc: Global) -> Result<Vec<u8>, Fail> {
-    let mut file = file_of(alloc, &SUM)?;
+fn moved_entry(rt: impl Abort + Copy, alloc: Global) -> Vec<u8> {
+    let mut file = file_of(rt, alloc, &SUM);
     if let Some(entry) = file.get_mut(24) {
         *entry = 8;
     }
-    Ok(file)
+    file
 }
 
 /// Asserts that the check tells this fault, and gives the certificate back.
 fn expect_fault(
-    rt: &impl Abort,
+    rt: impl Abort + Copy,
     heap: Heap<'_>,
     kernel: (Image, Certificate),
     vlen: Vlen,
     fault: CheckError,
-) -> Result<Certificate, Fail> {
+) -> Certificate {
     let (image, certificate) = kernel;
     match check_in(heap, image, certificate, vlen) {
-        Ok(_) => Err(Fail::from("accepted")),
+        Ok(_) => panic!(rt; "accepted"),
         Err((error, _, certificate)) => {
             assert_same!(rt; error, fault);
-            Ok(certificate)
+            certificate
         }
     }
 }
 
 /// Faults that are told before any memory is asked for.
 #[test]
-fn checking_no_block(rt: HostRuntime) -> Result<(), Fail> {
+fn checking_no_block(rt: HostRuntime) {
     let alloc = rt.alloc();
     let heap = Refusing::new(alloc, 0);
-    let certificate = expect_fault(&rt, &heap, sum(alloc)?, Vlen::V256, CheckError::WrongVlen)?;
-    let elsewhere = elf_image::read(alloc, &moved_entry(alloc)?)?;
+    let kernel = sum(rt, alloc);
+    let certificate = expect_fault(rt, &heap, kernel, Vlen::V256, CheckError::WrongVlen);
+    let file = moved_entry(rt, alloc);
+    let elsewhere = given!(rt; elf_image::read(alloc, &file));
     let kernel = (elsewhere, certificate);
-    expect_fault(&rt, &heap, kernel, Vlen::V128, CheckError::NoEntryBlock)?;
+    expect_fault(rt, &heap, kernel, Vlen::V128, CheckError::NoEntryBlock);
     assert_same!(rt; heap.has_refused(), false);
-    Ok(())
 }

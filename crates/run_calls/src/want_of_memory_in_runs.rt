@@ -1,15 +1,15 @@
 //! Runs and sessions of which each allocation fails in turn: the answer is want of memory there, and the arguments come back as
 //! they were.
-use crate::assertions::assert_same;
+use crate::assertions::{assert_same, found, given};
 use crate::refusing::Refusing;
 use crate::want_of_memory::{Heap, MANY, assert_served, assert_wanting, file};
 use block_checker::{Accepted, check};
+use elf_image::Image;
 use hex::decode;
 use region_mem::{Arg, Args, Bytes, Mode, Param, Parameters, Regions};
 use sandbox_run::{OpenError, Outcome, Session, open_in, try_run_in};
-use std::alloc::{AllocError, Global};
+use std::alloc::Global;
 use std::process::Abort;
-use std::test::Fail;
 use vreg_groups::{Agnostic, Vlen};
 
 /// Three bytes that are written, three that are read, and their number.
@@ -29,15 +29,15 @@ fn parameters() -> Option<Parameters> {
     ])
 }
 
-fn buffer<'a>(heap: Heap<'a>, bytes: &[u8]) -> Result<Arg<Bytes<Heap<'a>>>, AllocError> {
-    Ok(Arg::Buffer(Bytes::new(Vec::from_slice(heap, bytes)?)))
+fn buffer<'a>(rt: impl Abort + Copy, heap: Heap<'a>, bytes: &[u8]) -> Arg<Bytes<Heap<'a>>> {
+    Arg::Buffer(Bytes::new(given!(rt; Vec::from_slice(heap, bytes))))
 }
 
-fn args(heap: Heap<'_>) -> Result<Args<Bytes<Heap<'_>>>, AllocError> {
-    Ok(Args {
+fn args(rt: impl Abort + Copy, heap: Heap<'_>) -> Args<Bytes<Heap<'_>>> {
+    Args {
         places: [
-            buffer(heap, &[0xff, 1, 2])?,
-            buffer(heap, &[1, 1, 0xff])?,
+            buffer(rt, heap, &[0xff, 1, 2]),
+            buffer(rt, heap, &[1, 1, 0xff]),
             Arg::Scalar(3),
             Arg::None,
             Arg::None,
@@ -45,7 +45,7 @@ fn args(heap: Heap<'_>) -> Result<Args<Bytes<Heap<'_>>>, AllocError> {
             Arg::None,
             Arg::None,
         ],
-    })
+    }
 }
 
 fn is_buffer(arg: &Arg<Bytes<Heap<'_>>>, bytes: &[u8]) -> bool {
@@ -68,31 +68,39 @@ fn are_args(args: &Args<Bytes<Heap<'_>>>, written: &[u8]) -> bool {
 }
 
 /// Asserts that these are the arguments, as they were before the run.
-fn assert_back(rt: &impl Abort, args: &Args<Bytes<Heap<'_>>>) {
+fn assert_back(rt: impl Abort + Copy, args: &Args<Bytes<Heap<'_>>>) {
     assert_same!(rt; are_args(args, &[0xff, 1, 2]), true);
+}
+
+/// The image of `file`.
+fn image(rt: impl Abort + Copy, alloc: Global) -> Image {
+    let file = file(rt, alloc);
+    given!(rt; elf_image::read(alloc, &file))
 }
 
 /// The list of regions, the bytes of two segments and those of the stack.
 #[test]
-fn starting_a_memory(rt: HostRuntime) -> Result<(), Fail> {
+fn starting_a_memory(rt: HostRuntime) {
     let alloc = rt.alloc();
-    let image = elf_image::read(alloc, file(alloc)?.as_slice())?;
-    let parameters = parameters().ok_or("the parameters are valid")?;
+    let image = image(rt, alloc);
+    let parameters = found!(rt; parameters());
     let ample = Refusing::new(alloc, MANY);
     for after in 0..MANY {
         let heap = Refusing::new(alloc, after);
-        let args = args(&ample)?;
-        parameters.matches(&args)?;
+        let args = args(rt, &ample);
+        if parameters.matches(&args).is_err() {
+            panic!(rt; "no match");
+        }
         match Regions::new(&heap, &image, &parameters, args) {
             Ok(regions) => {
-                assert_served(&rt, &heap, after);
+                assert_served(rt, &heap, after);
                 assert_same!(rt; regions.byte(0x2_0000), Some(0xde));
-                assert_back(&rt, &regions.into_args());
-                return Ok(());
+                assert_back(rt, &regions.into_args());
+                return;
             }
             Err((_, args)) => {
-                assert_wanting(&rt, &heap, after);
-                assert_back(&rt, &args);
+                assert_wanting(rt, &heap, after);
+                assert_back(rt, &args);
             }
         }
     }
@@ -100,7 +108,10 @@ fn starting_a_memory(rt: HostRuntime) -> Result<(), Fail> {
 }
 
 /// Asserts that the run has ended after six steps, and what it left.
-fn assert_sum<const VLENB: usize>(rt: &impl Abort, outcome: &Outcome<VLENB, Bytes<Heap<'_>>>) {
+fn assert_sum<const VLENB: usize>(
+    rt: impl Abort + Copy,
+    outcome: &Outcome<VLENB, Bytes<Heap<'_>>>,
+) {
     match outcome {
         Outcome::Ended(end) => {
             assert_same!(rt; end.steps, 6);
@@ -112,7 +123,7 @@ fn assert_sum<const VLENB: usize>(rt: &impl Abort, outcome: &Outcome<VLENB, Byte
 
 /// Asserts that no run starts for want of memory, and that the arguments come back.
 fn assert_unopened(
-    rt: &impl Abort,
+    rt: impl Abort + Copy,
     heap: Heap<'_>,
     after: u64,
     refused: &(OpenError, Args<Bytes<Heap<'_>>>),
@@ -125,22 +136,22 @@ fn assert_unopened(
 /// A run takes the memory of its regions alone, a list of them, the bytes of two segments and those of the stack. No
 /// step takes any.
 #[test]
-fn running(rt: HostRuntime) -> Result<(), Fail> {
+fn running(rt: HostRuntime) {
     let alloc = rt.alloc();
-    let image = elf_image::read(alloc, file(alloc)?.as_slice())?;
-    let parameters = parameters().ok_or("the parameters are valid")?;
+    let image = image(rt, alloc);
+    let parameters = found!(rt; parameters());
     let ample = Refusing::new(alloc, MANY);
     for after in 0..MANY {
         let heap = Refusing::new(alloc, after);
-        let args = args(&ample)?;
+        let args = args(rt, &ample);
         let keep = Agnostic::Keep;
         match try_run_in::<16, Heap<'_>, Global>(&heap, &image, &parameters, args, keep, 9) {
             Ok(outcome) => {
-                assert_served(&rt, &heap, after);
-                assert_sum(&rt, &outcome);
-                return Ok(());
+                assert_served(rt, &heap, after);
+                assert_sum(rt, &outcome);
+                return;
             }
-            Err(refused) => assert_unopened(&rt, &heap, after, &refused),
+            Err(refused) => assert_unopened(rt, &heap, after, &refused),
         }
     }
     panic!(rt; "memory is never enough")
@@ -153,40 +164,41 @@ const ONE_STEP: &str = "\
 00000000010000000000010001000000000000000000000000000000";
 
 /// The image of `file` with ecall as its first word, and a certificate for that.
-fn accepted(alloc: Global) -> Result<Accepted, Fail> {
-    let mut file = file(alloc)?;
+fn accepted(rt: impl Abort + Copy, alloc: Global) -> Accepted {
+    let mut file = file(rt, alloc);
     for (place, byte) in [(0x94, 0x73), (0x95, 0), (0x96, 0), (0x97, 0)] {
         if let Some(code) = file.get_mut(place) {
             *code = byte;
         }
     }
-    let image = elf_image::read(alloc, file.as_slice())?;
-    let certificate = cert_note::read(alloc, decode(alloc, ONE_STEP)?.as_slice())?;
-    check(alloc, image, certificate, Vlen::V128).map_err(|_| Fail::from("not accepted"))
+    let image = given!(rt; elf_image::read(alloc, &file));
+    let spelling = given!(rt; decode(alloc, ONE_STEP));
+    let certificate = given!(rt; cert_note::read(alloc, &spelling));
+    given!(rt; check(alloc, image, certificate, Vlen::V128))
 }
 
 /// Runs a session of the accepted image to its end.
-fn expect_end(rt: &impl Abort, mut session: Session<16, Heap<'_>>) {
+fn expect_end(rt: impl Abort + Copy, mut session: Session<16, Heap<'_>>) {
     assert_same!(rt; session.run(), 1);
     assert_same!(rt; are_args(&session.close(), &[0xff, 1, 2]), true);
 }
 
 /// A session takes the memory of its regions alone, as a run does. No step takes any.
 #[test]
-fn opening(rt: HostRuntime) -> Result<(), Fail> {
+fn opening(rt: HostRuntime) {
     let alloc = rt.alloc();
-    let accepted = accepted(alloc)?;
+    let accepted = accepted(rt, alloc);
     let ample = Refusing::new(alloc, MANY);
     for after in 0..MANY {
         let heap = Refusing::new(alloc, after);
-        let args = args(&ample)?;
+        let args = args(rt, &ample);
         match open_in::<16, Heap<'_>, Global>(&heap, &accepted, args, Agnostic::Keep, 1) {
             Ok(session) => {
-                assert_served(&rt, &heap, after);
-                expect_end(&rt, session);
-                return Ok(());
+                assert_served(rt, &heap, after);
+                expect_end(rt, session);
+                return;
             }
-            Err(refused) => assert_unopened(&rt, &heap, after, &refused),
+            Err(refused) => assert_unopened(rt, &heap, after, &refused),
         }
     }
     panic!(rt; "memory is never enough")

@@ -1,4 +1,5 @@
--- The vector loads and stores as text ("Vector Loads and Stores"): the data's group is vd of a load and vs3 of a store.
+-- The vector loads and stores as text ("Vector Loads and Stores"): the data's group is vd of a load
+-- and vs3 of a store.
 use Rattle.std.specs.Prelude.{ℕ, true, false, not, List, [], ◌∷◌, codes}
 use Rattle.rv_decode.specs.declared.instructions.{Direction.Direction, Place.Place, VMem.VMem}
 use Rattle.rv_decode.specs.declared.instructions.Direction.TheVariants.{Load, Store}

@@ -1,4 +1,5 @@
--- Vector arithmetic as text ("Vector Integer Arithmetic Instructions", "Vector Fixed-Point Arithmetic Instructions").
+-- Vector arithmetic as text ("Vector Integer Arithmetic Instructions", "Vector Fixed-Point
+-- Arithmetic Instructions").
 use Rattle.std.specs.Prelude.{ℕ, Bool, true, false, not, List, [], ◌∷◌, codes}
 use Rattle.rv_decode.specs.declared.instructions.{Source.Source, VArith.VArith, Fraction.Fraction}
 use Rattle.rv_decode.specs.declared.instructions.VArith.TheVariants.{Int, MultiplyAdd, Carry, CarryOut, Merge, Copy, Compare, Fixed, Widen, Wide, WidenMultiplyAdd, Narrow, Clip, Extend}

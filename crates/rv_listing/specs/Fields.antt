@@ -10,8 +10,8 @@ use Rattle.rv_listing.specs.declared.fields.Field.TheVariants.{Rd, Vd, Vs3, Rs1,
 abbrev pub register_text : List ℕ → ℕ → List ℕ
 register_text name r = codes " " ++ (name ++ (codes "=" ++ decimal r))
 
--- a signed immediate and an unsigned one are decimal; a word's upper bits and a jump's target have eight hexadecimal
--- digits, a CSR's number three; vm is 0 where the mask governs
+-- a signed immediate and an unsigned one are decimal; a word's upper bits and a jump's target have
+-- eight hexadecimal digits, a CSR's number three; vm is 0 where the mask governs
 abbrev pub field_text : Field → List ℕ
 field_text (Rd r) = register_text (codes "rd") r
 field_text (Vd r) = register_text (codes "vd") r

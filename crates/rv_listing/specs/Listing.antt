@@ -1,5 +1,5 @@
--- The text of a word: the standard's mnemonic with its suffix, and the operand fields as ` name=value`, in the order rd, vd,
--- vs3, rs1, rs2, vs2, vs1, avl, imm, csr, to, vm.
+-- The text of a word: the standard's mnemonic with its suffix, and the operand fields as `
+-- name=value`, in the order rd, vd, vs3, rs1, rs2, vs2, vs1, avl, imm, csr, to, vm.
 use Rattle.std.specs.Prelude.{ℕ, List, Option, Some, None, codes}
 use Rattle.rv_decode.specs.Decode.{meaning_of}
 use Rattle.rv_decode.specs.declared.instructions.Insn.{Insn}

@@ -1,4 +1,5 @@
--- The scalar instructions as text ("RV32/64G Instruction Set Listings"). A jump or branch shows where it leads to.
+-- The scalar instructions as text ("RV32/64G Instruction Set Listings"). A jump or branch shows
+-- where it leads to.
 use Rattle.std.specs.Prelude.{ℕ, ◌+◌, ◌%◌, ◌^◌, ℤ, List, [], ◌∷◌, codes}
 use Rattle.std.specs.Int.{w32, cast_unsigned}
 use Rattle.rv_decode.specs.declared.instructions.{CsrAction.CsrAction, CsrInsn.CsrInsn, CsrName.CsrName, CsrSource.CsrSource, ScalarInsn.ScalarInsn}
@@ -7,7 +8,8 @@ use Rattle.rv_listing.specs.Fields.{line_text}
 use Rattle.rv_listing.specs.Names.{branch_name, csr_name, immediate_name, load_name, register_name, shift_name, store_name}
 use Rattle.rv_listing.specs.declared.fields.Field.TheVariants.{Rd, Rs1, Rs2, Imm, Upper, Amount, Csr, To}
 
--- where a jump or branch at an address leads to: its offset is signed, and addresses are modulo 2^32
+-- where a jump or branch at an address leads to: its offset is signed, and addresses are modulo
+-- 2^32
 abbrev pub target : ℕ → ℤ → ℕ
 target address offset = (address + cast_unsigned w32 offset) % 2 ^ 32
 

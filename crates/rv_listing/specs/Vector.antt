@@ -1,4 +1,5 @@
--- The vector instructions but arithmetic and accesses as text ("Vector Instruction Listing"): all show vm, but the vset forms.
+-- The vector instructions but arithmetic and accesses as text ("Vector Instruction Listing"): all
+-- show vm, but the vset forms.
 use Rattle.std.specs.Prelude.{ℕ, Bool, true, false, not, List, [], ◌∷◌, codes}
 use Rattle.rv_decode.specs.declared.instructions.{Offset.Offset, Source.Source, VMask.VMask, VMove.VMove, VPerm.VPerm, VReduce.VReduce, VSet.VSet}
 use Rattle.rv_decode.specs.declared.instructions.VPerm.TheVariants.{SlideUp, SlideDown, SlideOneUp, SlideOneDown, Gather, Gather16, Compress}

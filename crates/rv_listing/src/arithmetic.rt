@@ -52,7 +52,8 @@ pub(crate) fn put_operation<S: Sink>(
     masked: bool,
 ) -> Result<(), Failed>
     ensures { Told result (S.contents out.old) (S.contents out.new)
-        (S.failures out.old) (S.failures out.new) (operation_text name.now forms vd vs2 b.now masked) }
+        (S.failures out.old) (S.failures out.new)
+        (operation_text name.now forms vd vs2 b.now masked) }
 {
     let form = form(forms, b);
     match b {

@@ -44,9 +44,10 @@ fn put_meaning<S: Sink>(out: &mut S, meaning: &Option<Insn>, address: u32) -> Re
     }
 }
 
-/// Writes the text of a word that lies at an address, with no end of line: the standard's mnemonic with its suffix, and
-/// the operand fields as ` name=value`, or `illegal` for a word that encodes no instruction. After a write that failed the
-/// answer is `Err(Failed)`, and what the sink took is the beginning of that text.
+/// Writes the text of a word that lies at an address, with no end of line: the standard's mnemonic
+/// with its suffix, and the operand fields as ` name=value`, or `illegal` for a word that encodes
+/// no instruction. After a write that failed the answer is `Err(Failed)`, and what the sink took is
+/// the beginning of that text.
 #[tactic(auto, unfolding(crate::specs::Listing::listing_text))]
 pub fn put_listing<S: Sink>(out: &mut S, word: u32, address: u32) -> Result<(), Failed>
     ensures { Told result (S.contents out.old) (S.contents out.new)

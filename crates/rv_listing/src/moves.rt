@@ -1,4 +1,5 @@
-//! Listings of the vset forms, and of the moves between element 0 and an x register and those of whole registers.
+//! Listings of the vset forms, and of the moves between element 0 and an x register and those of
+//! whole registers.
 
 ghost use Rattle.rv_listing.specs.Vector.{move_text, vset_text};
 ghost use Rattle.rv_listing.specs.Sinks.{Told};

@@ -19,11 +19,13 @@ pub trait Sink {
     // How many writes have failed, up to 2^64 - 1.
     ghost failures: { Self → ℕ };
 
-    /// Takes some of the bytes, from the first on, and answers how many. A write that took none, of some, counts as failed.
+    /// Takes some of the bytes, from the first on, and answers how many. A write that took none, of
+    /// some, counts as failed.
     fn write(&mut self, bytes: &[u8]) -> Result<usize, Failed>
         ensures bound { IfOk result (λ n. n ≤ length bytes.now) }
         ensures bytes { WriteAppends (contents self.old) (contents self.new) result bytes.now }
-        ensures counts { failures self.new ≡ counted (has_failed result bytes.now) (failures self.old) };
+        ensures counts { failures self.new
+            ≡ counted (has_failed result bytes.now) (failures self.old) };
 }
 
 /// Any writer, with a count of the writes that failed.

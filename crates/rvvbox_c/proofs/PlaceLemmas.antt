@@ -63,3 +63,6 @@ pub all_put_done : (args : List Argument) (places : List Place) (memory : List �
     → all_put (drop k args) (drop k places) memory ≡ memory
 unfolding all_put
 all_put_done args places memory k h = ap (λ (l : List Argument). all_put l (drop k places) memory) (drop_all k args h)
+
+-- the steps of putting all back
+pub ruleset putting = (all_put_next, all_put_done)

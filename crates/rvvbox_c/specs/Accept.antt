@@ -1,5 +1,6 @@
 -- What a file is answered with: what it spells, where that passes the check, or why it is refused.
 use Rattle.std.specs.Prelude.{ℕ, ◌≡◌, ◌⊎◌, ◌==◌, List, Option, Some, None, Result, Ok, Err, if◌then◌else◌}
+use Rattle.std.specs.Option.{option_map}
 use Rattle.block_checker.specs.Accepted.{AcceptedView}
 use Rattle.block_checker.specs.Passes.{Checked, checked}
 use Rattle.cert_note.specs.Certificate.{CertificateView}
@@ -67,6 +68,15 @@ at_vlen (Some vlen) file = accepted_of vlen file
 
 abbrev pub answer_for : ℕ → List ℕ → Result AcceptedView Refusal
 answer_for bits file = at_vlen (vlen_at bits) file
+
+-- why a file is refused before memory is asked for: a length of registers that is none, or bytes
+-- that spell no image
+abbrev pub refused_at : Option Vlen → List ℕ → Option Refusal
+refused_at None file = Some (plain status.BadVlen)
+refused_at (Some vlen) file = option_map image_refusal (fault_of file)
+
+abbrev pub refused_at_once : ℕ → List ℕ → Option Refusal
+refused_at_once bits file = refused_at (vlen_at bits) file
 
 -- the answer is what is defined, or want of memory
 abbrev pub IsOrWant : {A : Type 0} → Result A Refusal → Result A Refusal → Type 0

@@ -29,7 +29,8 @@ abbrev pub IsTextOfReading : List ℕ → CertError → List ℕ → Type 0
 IsTextOfReading note error text =
     (reason : CertificateReason) × IsReason note error reason × (text ≡ certificate_text reason)
 
--- Why an image is refused with a certificate: where the check stops, and what was known and wanted there.
+-- Why an image is refused with a certificate: where the check stops, and what was known and wanted
+-- there.
 pub record IsTextOfStop (image : ImageView) (certificate : CertificateView) (vlen : Vlen)
     (text : List ℕ) : Type 0 where
   pub reason : CheckReason Global
@@ -67,7 +68,8 @@ IsTextIf vlen file text None = IsTextOfImage vlen (image_of file) text
 abbrev pub IsTextFor : Vlen → List ℕ → List ℕ → Type 0
 IsTextFor vlen file text = IsTextIf vlen file text (fault_of file)
 
--- Such a text stands at the start of the host's, as much of it as there is room for; all behind it stays.
+-- Such a text stands at the start of the host's, as much of it as there is room for; all behind it
+-- stays.
 pub record HasExplained (bits : ℕ) (file old new : List ℕ) (written : ℕ) : Type 0 where
   pub vlen : Vlen
   pub length_is : vlen_at bits ≡ Some vlen

@@ -1,4 +1,5 @@
 pub mod Accept
+pub mod Answers
 pub mod Explain
 pub mod Holds
 pub mod Places

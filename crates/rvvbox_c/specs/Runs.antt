@@ -1,5 +1,6 @@
 -- A run on the host's memory: what is passed of it, how it ends, and what is put back.
-use Rattle.std.specs.Prelude.{ℕ, ◌≡◌, ◌≤◌, ◌<◌, ◌+◌, ◌*◌, ◌/◌, ◌==◌, ◌&&◌, nat_le, List, [], ◌∷◌, ◌++◌, length, map, take, drop, slice_index_or, Some, if◌then◌else◌}
+use Rattle.std.specs.Prelude.{ℕ, ◌≡◌, ◌≤◌, ◌<◌, ◌+◌, ◌*◌, ◌/◌, ◌==◌, ◌&&◌, nat_le, List, [], ◌∷◌, ◌++◌, length, map, take, drop, slice_index_or, Option, Some, IfSome, if◌then◌else◌}
+use Rattle.std.specs.Option.{option_map, option_or}
 use Rattle.std.specs.Simd.{first_chunks}
 use Rattle.region_mem.specs.Memory.{args_of}
 use Rattle.region_mem.specs.Parameter.{Argument, AreArguments}
@@ -12,10 +13,14 @@ use Rattle.block_checker.specs.Accepted.{AcceptedView}
 use Rattle.block_checker.specs.Bound.{bound_of, scalars_of}
 use Rattle.vreg_groups.specs.VectorLength.{vlenb_of}
 use Rattle.vreg_groups.specs.declared.policies.Agnostic.TheVariants.{Keep, Ones}
+use Rattle.sandbox_run.specs.Session.{open_fault}
 use Rattle.rvvbox_c.specs.Holds.{IsFailure, IsKeptOf}
+use Rattle.rvvbox_c.specs.Places.{places_fault}
+use Rattle.rvvbox_c.specs.Status.{IsThisOrWant, answer_to, code_of, status_of_open}
 use Rattle.rvvbox_c.specs.declared.calls.Ran.{Ran}
 use Rattle.rvvbox_c.specs.declared.calls.Setting.{Setting}
 use Rattle.rvvbox_c.specs.declared.places.Place.{Place}
+use Rattle.rvvbox_c.specs.declared.status.Status.{Status}
 
 -- the setting's number for agnostic elements
 abbrev pub number_of : Agnostic → ℕ
@@ -80,15 +85,32 @@ pub record HasRunFile (file : List ℕ) (bits number : ℕ) (places : List Place
   pub spelled : IsKeptOf file bits (Some accepted)
   pub set : HasRunSet number accepted places old new steps
 
+-- ---- runs that are refused
+
+-- why a run of an accepted image is not begun: a place that names nothing, or what a session is not
+-- opened for
+abbrev pub run_fault : ℕ → AcceptedView → ℕ → List Place → List ℕ → Option Status
+run_fault vlenb a max places memory =
+    option_or (places_fault memory places)
+    (option_map status_of_open (open_fault vlenb a (arguments_of places memory) max))
+
+-- The number is what such a run answers: that of a place that names nothing, before memory is asked
+-- for; else that of why it is not begun, or 0, or that of want of memory.
+pub record IsRunAnswer (vlenb : ℕ) (a : AcceptedView) (max : ℕ) (places : List Place)
+    (memory : List ℕ) (number : ℕ) : Type 0 where
+  pub at_once : IfSome (places_fault memory places) (λ fault. number ≡ code_of fault)
+  pub later : IsThisOrWant (answer_to (run_fault vlenb a max places memory)) number
+
 -- ---- many runs
 
--- What came of a run of an accepted image that was allowed `max` steps: it was done, or refused,
--- and memory is as it was.
+-- What came of a run of an accepted image that was allowed `max` steps: it was done, or refused for
+-- the reason that is told, and memory is as it was.
 pub record CameOf (vlenb : ℕ) (agnostic : Agnostic) (a : AcceptedView) (max : ℕ)
     (places : List Place) (old new : List ℕ) (ran : Ran) : Type 0 where
   pub done : ran.status ≡ 0 → HasRun vlenb agnostic a places old new ran.steps
   pub within : ran.steps ≤ max
   pub refused : IsFailure ran.status → new ≡ old
+  pub answer : IsRunAnswer vlenb a max places old ran.status
 
 -- The first n runs were done on their sets of places one after another, each on memory as those
 -- before left it: `memory k` is as the first k of them left it.

@@ -1,5 +1,6 @@
--- The number of each status, and which refusal each error is.
-use Rattle.std.specs.Prelude.{ℕ, unwrap_or}
+-- The number of each status, which status and which refusal each error is, and how what is wrong is
+-- answered.
+use Rattle.std.specs.Prelude.{ℕ, ◌≡◌, ◌⊎◌, Option, None, Some, Result, Ok, Err, unwrap_or}
 use Rattle.block_checker.specs.Refusals.{address_of}
 use Rattle.block_checker.specs.declared.errors.CheckError.{CheckError}
 use Rattle.block_checker.specs.declared.errors.CheckError.TheVariants as check
@@ -44,6 +45,20 @@ status_of_open (open_error.WrongSize place) = status.WrongSize
 status_of_open open_error.BoundTooLarge = status.BoundTooLarge
 status_of_open open_error.WrongVlen = status.WrongVlen
 status_of_open open_error.NoMemory = status.NoMemory
+
+-- the status of a file that is no image, of a note that is no certificate, and of a check that
+-- stops
+abbrev pub status_of_image : ElfError → Status
+status_of_image image.NoMemory = status.NoMemory
+status_of_image error = status.Image
+
+abbrev pub status_of_certificate : CertError → Status
+status_of_certificate certificate.NoMemory = status.NoMemory
+status_of_certificate error = status.Certificate
+
+abbrev pub status_of_check : CheckError → Status
+status_of_check check.NoMemory = status.NoMemory
+status_of_check error = status.Check
 
 -- ---- rules by their numbers, from 1 on; want of memory is no rule
 
@@ -103,20 +118,40 @@ abbrev pub plain : Status → Refusal
 plain s = record { status = code_of s; rule = 0; address = 0 }
 
 abbrev pub image_refusal : ElfError → Refusal
-image_refusal image.NoMemory = plain status.NoMemory
 image_refusal error =
-    record { status = code_of status.Image; rule = image_rule error; address = 0 }
+    record { status = code_of (status_of_image error); rule = image_rule error; address = 0 }
 
 abbrev pub certificate_refusal : CertError → Refusal
-certificate_refusal certificate.NoMemory = plain status.NoMemory
-certificate_refusal error =
-    record { status = code_of status.Certificate; rule = certificate_rule error; address = 0 }
+certificate_refusal error = record {
+  status = code_of (status_of_certificate error);
+  rule = certificate_rule error;
+  address = 0;
+}
 
 -- with the address of the word at which the check stopped
 abbrev pub check_refusal : CheckError → Refusal
-check_refusal check.NoMemory = plain status.NoMemory
 check_refusal error = record {
-  status = code_of status.Check;
+  status = code_of (status_of_check error);
   rule = check_rule error;
   address = unwrap_or (address_of error) 0;
 }
+
+-- ---- what is wrong, and the answer
+
+-- the fault where there is no value
+abbrev pub lacking : {A : Type 0} → Option A → Status → Option Status
+lacking (Some value) fault = None
+lacking None fault = Some fault
+
+-- A result is this fault, or want of memory; there is one only where there is no fault.
+abbrev pub IsFaultOrWant : {A : Type 0} → Option Status → Result A Status → Type 0
+IsFaultOrWant fault (Ok done) = fault ≡ None
+IsFaultOrWant fault (Err told) = (fault ≡ Some told) ⊎ (told ≡ status.NoMemory)
+
+-- the number of a fault, and 0 where there is none
+abbrev pub answer_to : Option Status → ℕ
+answer_to fault = code_of (unwrap_or fault status.Done)
+
+-- The number is this one, or that of want of memory.
+abbrev pub IsThisOrWant : ℕ → ℕ → Type 0
+IsThisOrWant this number = (number ≡ this) ⊎ (number ≡ code_of status.NoMemory)

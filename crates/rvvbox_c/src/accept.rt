@@ -1,11 +1,14 @@
 //! An image with its certificate, out of a file's bytes.
-ghost use Rattle.std.specs.Prelude.{◌≡◌, ◌*◌, IfErr, IfOk, IfSome};
-ghost use Rattle.rvvbox_c.specs.Accept.{IsOrWant, accepted_of, agnostic_at, certificate_in as certificate_of, vlen_at};
+ghost use Rattle.std.specs.Prelude.{◌≡◌, ◌*◌, IfErr, IfOk, IfSome, IsErrAnd};
+ghost use Rattle.rvvbox_c.specs.Accept.{IsOrWant, accepted_of, agnostic_at, vlen_at};
+ghost use Rattle.rvvbox_c.specs.Accept.{certificate_in as certificate_of};
 ghost use Rattle.block_checker.specs.Accepted.{Passes};
+ghost use Rattle.elf_image.specs.Faults.{fault_of};
 ghost use Rattle.elf_image.specs.File.{image_of};
 ghost use Rattle.vreg_groups.specs.VectorLength.{vlenb_of};
 ghost use Rattle.rvvbox_c.specs.Holds.{IsFailure};
 ghost use Rattle.rvvbox_c.specs.Runs.{number_of};
+ghost use Rattle.rvvbox_c.specs.Status.{image_refusal};
 
 use crate::status::{Refusal, Status};
 use block_checker::{Accepted, check};
@@ -52,6 +55,8 @@ fn certificate_in(alloc: Global, image: &Image) -> Result<Certificate, Refusal>
 
 /// The image that a file spells, with the certificate in its note, where they pass the check.
 pub fn accept(alloc: Global, file: &[u8], vlen: Vlen) -> Result<Accepted, Refusal>
+    ensures at_once { IfSome (fault_of file.now)
+        (λ fault. IsErrAnd result (λ refusal. refusal ≡ image_refusal fault)) }
     ensures answer { IsOrWant (accepted_of vlen file.now) result }
     ensures image { IfOk result (λ a. a.image ≡ image_of file.now) }
     ensures vlen { IfOk result (λ a. a.vlen ≡ vlen) }

@@ -1,19 +1,28 @@
 //! The calls themselves. None has a `requires`: what a host passes is tested.
-ghost use Rattle.std.specs.Prelude.{◌≡◌, ◌≢◌, ◌≤◌, ◌+◌, ◌*◌, ◌^◌, IfErr, IfOk, Some, length};
+ghost use Rattle.std.specs.Prelude.{◌≡◌, ◌≢◌, ◌≤◌, ◌+◌, ◌*◌, ◌^◌, ◌==◌, IfErr, IfOk, IfSome, None};
+ghost use Rattle.std.specs.Prelude.{Some, false, length};
+ghost use Rattle.std.specs.Option.{option_map, option_or};
+ghost use Rattle.std.specs.Result.{result_err};
 ghost use Rattle.block_checker.specs.Bound.{bound_of as bound_for};
 ghost use Rattle.vreg_groups.specs.VectorLength.{IsVlenb, vlenb_of};
 ghost use Rattle.block_checker.specs.Accepted.{AcceptedView};
 ghost use Rattle.rvvbox_c.specs.Holds.{IsFailure, IsKeptOf};
-ghost use Rattle.rvvbox_c.specs.Places.{KeepsOutside};
-ghost use Rattle.rvvbox_c.specs.Accept.{IsStatusOrWant, IsToldOrWant, answer_for};
-ghost use Rattle.rvvbox_c.specs.Runs.{HasRun, HasRunFile, HaveRun, HaveRunFile};
+ghost use Rattle.rvvbox_c.specs.Places.{KeepsOutside, places_fault};
+ghost use Rattle.rvvbox_c.specs.Accept.{IsStatusOrWant, IsToldOrWant, agnostic_at, answer_for};
+ghost use Rattle.rvvbox_c.specs.Accept.{refused_at_once, vlen_at};
+ghost use Rattle.rvvbox_c.specs.Answers.{call_fault, checked_answer, told_fault};
+ghost use Rattle.rvvbox_c.specs.Answers.{image_fault, run_answer, set_fault, setting_fault};
+ghost use Rattle.rvvbox_c.specs.Runs.{HasRun, HasRunFile, HaveRun, HaveRunFile, IsRunAnswer};
+ghost use Rattle.rvvbox_c.specs.Runs.{arguments_of, number_of};
 ghost use Rattle.rvvbox_c.specs.Scalars.{by_place};
-ghost use Rattle.rvvbox_c.specs.Status.{code_of};
+ghost use Rattle.rvvbox_c.specs.Status.{IsFaultOrWant, IsThisOrWant, code_of, status_of_open};
 ghost use Rattle.rvvbox_c.specs.Told.{parameter_of, parameters_told};
+ghost use Rattle.rvvbox_c.specs.Tries.{is_tried};
+ghost use Rattle.sandbox_run.specs.Session.{open_fault};
 ghost use Rattle.rvvbox_c.specs.declared.status.Status.TheVariants.{Done};
 
 use crate::accept::{accept, agnostic_of, vlen_of};
-use crate::places::{Place, arguments, eight, put_all_back};
+use crate::places::{Place, arguments, eight, first_fault, put_all_back};
 use crate::status::{Refusal, Status};
 use block_checker::Accepted;
 use region_mem::{Mode, Param};
@@ -31,6 +40,23 @@ pub struct Setting {
     pub agnostic: u32,
     /// The most steps that a run may take.
     pub max: u64,
+}
+
+impl Setting {
+    /// The length of registers, and what is done with agnostic elements.
+    pub(crate) fn read(&self) -> Result<(Vlen, Agnostic), Status>
+        ensures fault { result_err result ≡ setting_fault self.now }
+        ensures vlen { IfOk result (λ set. vlen_at self.now.vlen ≡ Some set.0) }
+        ensures bits { IfOk result (λ set. vlenb_of set.0 * 8 ≡ self.now.vlen) }
+        ensures agnostic { IfOk result (λ set. agnostic_at self.now.agnostic ≡ Some set.1) }
+        ensures number { IfOk result (λ set. self.now.agnostic ≡ number_of set.1) }
+        ensures failed { IfErr result (λ status. status ≢ Done) }
+        ensures untried { IfErr result (λ status. is_tried (code_of status) ≡ false) }
+    {
+        let vlen = vlen_of(self.vlen).ok_or(Status::BadVlen)?;
+        let agnostic = agnostic_of(self.agnostic).ok_or(Status::BadAgnostic)?;
+        Ok((vlen, agnostic))
+    }
 }
 
 /// What came of one run.
@@ -77,7 +103,8 @@ pub struct Bound {
     pub high: u64,
 }
 
-/// What a kernel takes at one place, of the kinds of a place: a number from `lo` to `hi`, or a buffer of `size` bytes.
+/// What a kernel takes at one place, of the kinds of a place: a number from `lo` to `hi`, or a
+/// buffer of `size` bytes.
 #[repr(C)]
 #[derive(Clone, Copy)]
 pub struct Parameter {
@@ -95,11 +122,12 @@ pub extern "C" fn rvvbox_version() -> u32
     1
 }
 
-/// Checks the image that `file` spells, for vector registers of `vlen` bits, and answers the status. Where it is refused,
-/// `refusal` tells why.
+/// Checks the image that `file` spells, for vector registers of `vlen` bits, and answers the
+/// status. Where it is refused, `refusal` tells why.
 #[unsafe(no_mangle)]
 pub extern "C" fn rvvbox_check(alloc: Global, file: &[u8], vlen: u32, refusal: &mut Refusal) -> u32
     ensures status { result ≡ refusal.new.status }
+    ensures at_once { IfSome (refused_at_once vlen file.now) (λ told. refusal.new ≡ told) }
     ensures answer { IsToldOrWant (answer_for vlen file.now) refusal.new }
     ensures accepted { result ≡ 0 → (a : AcceptedView) × IsKeptOf file.now vlen (Some a) }
 {
@@ -113,8 +141,8 @@ pub extern "C" fn rvvbox_check(alloc: Global, file: &[u8], vlen: u32, refusal: &
     refusal.status
 }
 
-/// Checks as [`rvvbox_check`] does, and tells the most steps that a run takes with these numbers at the places of scalars.
-/// What stands at any other place says nothing.
+/// Checks as [`rvvbox_check`] does, and tells the most steps that a run takes with these numbers at
+/// the places of scalars. What stands at any other place says nothing.
 #[unsafe(no_mangle)]
 pub extern "C" fn rvvbox_bound(
     alloc: Global,
@@ -125,6 +153,7 @@ pub extern "C" fn rvvbox_bound(
 ) -> u32
     ensures told { result ≡ 0 → (a : AcceptedView) × IsKeptOf file.now vlen (Some a)
         × (bound.new.high * 2 ^ 64 + bound.new.low ≡ bound_for a (by_place scalars.now)) }
+    ensures at_once { IfSome (refused_at_once vlen file.now) (λ told. result ≡ told.status) }
     ensures answer { IsStatusOrWant (answer_for vlen file.now) result }
     ensures refused { IsFailure result → bound.new ≡ bound.old }
 {
@@ -185,7 +214,8 @@ fn all_told(params: [Param; 8]) -> [Parameter; 8]
     ]
 }
 
-/// Checks as [`rvvbox_check`] does, and tells what the kernel takes, by place: into eight of `parameters`.
+/// Checks as [`rvvbox_check`] does, and tells what the kernel takes, by place: into eight of
+/// `parameters`.
 #[unsafe(no_mangle)]
 pub extern "C" fn rvvbox_parameters(
     alloc: Global,
@@ -194,6 +224,10 @@ pub extern "C" fn rvvbox_parameters(
     parameters: &mut [Parameter],
 ) -> u32
     ensures length { length parameters.new ≡ length parameters.old }
+    ensures at_once { IfSome (option_or (told_fault vlen (length parameters.old == 8))
+        (image_fault file.now)) (λ fault. result ≡ code_of fault) }
+    ensures answer { IsThisOrWant (checked_answer (told_fault vlen (length parameters.old == 8))
+        vlen file.now) result }
     ensures accepted { result ≡ 0 → (a : AcceptedView) × IsKeptOf file.now vlen (Some a)
         × (parameters.new ≡ parameters_told a.certificate.parameters) }
     ensures refused { IsFailure result → parameters.new ≡ parameters.old }
@@ -227,7 +261,8 @@ pub(crate) fn bound_of(accepted: &Accepted, scalars: &Scalars) -> Bound
     }
 }
 
-/// Runs an accepted image at its length of vector registers, and puts the buffers back where it has ended.
+/// Runs an accepted image at its length of vector registers, and puts the buffers back where it has
+/// ended.
 fn run_session<const VLENB: usize>(
     alloc: Global,
     accepted: &Accepted,
@@ -236,11 +271,14 @@ fn run_session<const VLENB: usize>(
     agnostic: Agnostic,
     max: u64,
 ) -> Result<u64, Status>
-    requires { IsVlenb VLENB }
+    requires length { IsVlenb VLENB }
+    requires named { places_fault memory.old places.now ≡ None }
     ensures length { length memory.new ≡ length memory.old }
     ensures outside { KeepsOutside places.now memory.old memory.new }
     ensures refused { IfErr result (λ _. memory.new ≡ memory.old) }
     ensures failed { IfErr result (λ status. status ≢ Done) }
+    ensures fault { IsFaultOrWant (option_map status_of_open (open_fault VLENB accepted.now
+        (arguments_of places.now memory.old) max)) result }
     ensures ran { IfOk result (λ steps.
         HasRun VLENB agnostic accepted.now places.now memory.old memory.new steps) }
     ensures within { IfOk result (λ steps. steps ≤ max) }
@@ -271,7 +309,12 @@ pub(crate) fn run_one(
         places.now memory.old memory.new result.steps }
     ensures refused { IsFailure result.status → memory.new ≡ memory.old }
     ensures within { result.steps ≤ max }
+    ensures answer { IsRunAnswer (vlenb_of accepted.now.vlen) accepted.now max places.now
+        memory.old result.status }
 {
+    if let Some(fault) = first_fault(memory, places) {
+        return Ran::refused(fault);
+    }
     let steps = match accepted.vlen() {
         Vlen::V128 => run_session::<16>(alloc, accepted, memory, places, agnostic, max),
         Vlen::V256 => run_session::<32>(alloc, accepted, memory, places, agnostic, max),
@@ -286,7 +329,8 @@ pub(crate) fn run_one(
     }
 }
 
-/// Runs of an accepted image, one after another, each on its own set of places. What came of each stands in `runs`.
+/// Runs of an accepted image, one after another, each on its own set of places. What came of each
+/// stands in `runs`.
 fn run_all(
     alloc: Global,
     accepted: &Accepted,
@@ -307,8 +351,9 @@ fn run_all(
     }
 }
 
-/// Checks the image once and runs it once for each of `runs`, one run after another, each on the next eight of `places`.
-/// What came of each stands in `runs`. A run that is refused leaves memory as it is.
+/// Checks the image once and runs it once for each of `runs`, one run after another, each on the
+/// next eight of `places`. What came of each stands in `runs`. A run that is refused leaves memory
+/// as it is.
 #[unsafe(no_mangle)]
 pub extern "C" fn rvvbox_run_many(
     alloc: Global,
@@ -320,17 +365,19 @@ pub extern "C" fn rvvbox_run_many(
 ) -> u32
     ensures ran { result ≡ 0 → HaveRunFile file.now setting.now places.now runs.new
         memory.old memory.new }
+    ensures at_once { IfSome (call_fault file.now setting.now
+        (length places.now == 8 * length runs.old)) (λ fault. result ≡ code_of fault) }
+    ensures answer { IsThisOrWant (checked_answer (set_fault setting.now
+        (length places.now == 8 * length runs.old)) setting.now.vlen file.now) result }
     ensures refused { IsFailure result → (memory.new ≡ memory.old) × (runs.new ≡ runs.old) }
     ensures accepted { result ≡ 0 → (a : AcceptedView)
         × IsKeptOf file.now setting.now.vlen (Some a) }
     ensures memory { length memory.new ≡ length memory.old }
     ensures runs { length runs.new ≡ length runs.old }
 {
-    let Some(vlen) = vlen_of(setting.vlen) else {
-        return Status::BadVlen.code();
-    };
-    let Some(agnostic) = agnostic_of(setting.agnostic) else {
-        return Status::BadAgnostic.code();
+    let (vlen, agnostic) = match setting.read() {
+        Err(fault) => return fault.code(),
+        Ok(set) => set,
     };
     let (sets, rest) = places.as_chunks::<8>();
     if sets.len() != runs.len() || !rest.is_empty() {
@@ -357,16 +404,17 @@ pub extern "C" fn rvvbox_run(
 ) -> u32
     ensures ran { result ≡ 0 → HasRunFile file.now setting.now.vlen setting.now.agnostic
         places.now memory.old memory.new steps.new }
+    ensures at_once { IfSome (call_fault file.now setting.now (length places.now == 8))
+        (λ fault. result ≡ code_of fault) }
+    ensures answer { IsThisOrWant (run_answer file.now setting.now places.now memory.old) result }
     ensures refused { IsFailure result → memory.new ≡ memory.old }
     ensures length { length memory.new ≡ length memory.old }
     ensures outside { KeepsOutside places.now memory.old memory.new }
     ensures within { result ≡ 0 → steps.new ≤ setting.now.max }
 {
-    let Some(vlen) = vlen_of(setting.vlen) else {
-        return Status::BadVlen.code();
-    };
-    let Some(agnostic) = agnostic_of(setting.agnostic) else {
-        return Status::BadAgnostic.code();
+    let (vlen, agnostic) = match setting.read() {
+        Err(fault) => return fault.code(),
+        Ok(set) => set,
     };
     let Some(places) = eight(places) else {
         return Status::BadCount.code();

@@ -1,8 +1,12 @@
 //! Why a file is refused, in words that a host reads.
-ghost use Rattle.std.specs.Prelude.{◌≡◌, ◌≢◌, ◌++◌, IfErr, IfOk, drop, length, min, string_bytes, take};
-ghost use Rattle.rvvbox_c.specs.Explain.{HasExplained, IsTextFor, IsTextOfCheck, IsTextOfFault, IsTextOfImage, IsTextOfReading};
+ghost use Rattle.std.specs.Prelude.{◌≡◌, ◌++◌, IfErr, IfOk, IfSome, drop, length, min, string_bytes};
+ghost use Rattle.std.specs.Prelude.{take};
+ghost use Rattle.rvvbox_c.specs.Answers.{length_fault};
+ghost use Rattle.rvvbox_c.specs.Explain.{HasExplained, IsTextFor, IsTextOfCheck, IsTextOfFault};
+ghost use Rattle.rvvbox_c.specs.Explain.{IsTextOfImage, IsTextOfReading};
 ghost use Rattle.rvvbox_c.specs.Holds.{IsFailure};
-ghost use Rattle.rvvbox_c.specs.declared.status.Status.TheVariants.{Done};
+ghost use Rattle.rvvbox_c.specs.Status.{IsThisOrWant, answer_to, code_of};
+ghost use Rattle.rvvbox_c.specs.declared.status.Status.TheVariants.{NoMemory};
 
 use crate::accept::vlen_of;
 use crate::status::Status;
@@ -15,7 +19,7 @@ use vreg_groups::Vlen;
 /// Why a file is no image.
 fn text_of_fault(alloc: Global, file: &[u8], error: ElfError) -> Result<String, Status>
     ensures text { IfOk result (λ text. IsTextOfFault file.now error (string_bytes text)) }
-    ensures failed { IfErr result (λ status. status ≢ Done) }
+    ensures want { IfErr result (λ status. status ≡ NoMemory) }
 {
     let reason = image_reason(file, error);
     Ok(format!(in alloc; "{reason}")?)
@@ -24,7 +28,7 @@ fn text_of_fault(alloc: Global, file: &[u8], error: ElfError) -> Result<String, 
 /// Why a note spells no certificate.
 fn text_of_reading(alloc: Global, note: &[u8], error: CertError) -> Result<String, Status>
     ensures text { IfOk result (λ text. IsTextOfReading note.now error (string_bytes text)) }
-    ensures failed { IfErr result (λ status. status ≢ Done) }
+    ensures want { IfErr result (λ status. status ≡ NoMemory) }
 {
     let reason = certificate_reason(alloc, note, error)?;
     Ok(format!(in alloc; "{reason}")?)
@@ -39,7 +43,7 @@ fn text_of_check(
 ) -> Result<String, Status>
     ensures text { IfOk result (λ text.
         IsTextOfCheck image.now certificate.now vlen (string_bytes text)) }
-    ensures failed { IfErr result (λ status. status ≢ Done) }
+    ensures want { IfErr result (λ status. status ≡ NoMemory) }
 {
     match check_reason(alloc, image, certificate, vlen)? {
         None => Ok(String::new(alloc)),
@@ -50,7 +54,7 @@ fn text_of_check(
 /// Why an image is refused, and no text where it is not.
 fn text_of_image(alloc: Global, image: &Image, vlen: Vlen) -> Result<String, Status>
     ensures text { IfOk result (λ text. IsTextOfImage vlen image.now (string_bytes text)) }
-    ensures failed { IfErr result (λ status. status ≢ Done) }
+    ensures want { IfErr result (λ status. status ≡ NoMemory) }
 {
     let Some(note) = image.certificate() else {
         return Ok(format!(in alloc; "  wanted: a note with a certificate\n")?);
@@ -65,7 +69,7 @@ fn text_of_image(alloc: Global, image: &Image, vlen: Vlen) -> Result<String, Sta
 /// Why a file is refused, and no text where it is not.
 fn text_for(alloc: Global, file: &[u8], vlen: Vlen) -> Result<String, Status>
     ensures text { IfOk result (λ text. IsTextFor vlen file.now (string_bytes text)) }
-    ensures failed { IfErr result (λ status. status ≢ Done) }
+    ensures want { IfErr result (λ status. status ≡ NoMemory) }
 {
     match elf_image::read(alloc, file) {
         Ok(image) => text_of_image(alloc, &image, vlen),
@@ -84,8 +88,9 @@ fn put(words: &[u8], text: &mut [u8]) -> usize
     many
 }
 
-/// Checks as [`rvvbox_check`](crate::calls::rvvbox_check) does, and puts into `text` why the file is refused, in lines, or as
-/// much of it as there is room for; `written` is how many bytes were put there, none where the file is accepted.
+/// Checks as [`rvvbox_check`](crate::calls::rvvbox_check) does, and puts into `text` why the file
+/// is refused, in lines, or as much of it as there is room for; `written` is how many bytes were
+/// put there, none where the file is accepted.
 #[unsafe(no_mangle)]
 pub extern "C" fn rvvbox_explain(
     alloc: Global,
@@ -95,6 +100,8 @@ pub extern "C" fn rvvbox_explain(
     written: &mut usize,
 ) -> u32
     ensures told { result ≡ 0 → HasExplained vlen file.now text.old text.new written.new }
+    ensures at_once { IfSome (length_fault vlen) (λ fault. result ≡ code_of fault) }
+    ensures answer { IsThisOrWant (answer_to (length_fault vlen)) result }
     ensures refused { IsFailure result → (text.new ≡ text.old) × (written.new ≡ written.old) }
 {
     let Some(vlen) = vlen_of(vlen) else {

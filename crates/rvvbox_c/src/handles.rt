@@ -1,11 +1,16 @@
 //! The calls on an image that is accepted once, and kept for many runs.
-ghost use Rattle.std.specs.Prelude.{◌≡◌, ◌≤◌, ◌+◌, ◌*◌, ◌^◌, IfErr, IfOk, IfSome, None, length};
+ghost use Rattle.std.specs.Prelude.{◌≡◌, ◌≤◌, ◌+◌, ◌*◌, ◌^◌, ◌==◌, IfErr, IfOk, IfSome, IsErrAnd};
+ghost use Rattle.std.specs.Prelude.{None, Some, length};
+ghost use Rattle.std.specs.Option.{option_or};
 ghost use Rattle.block_checker.specs.Bound.{bound_of as bound_for};
-ghost use Rattle.rvvbox_c.specs.Accept.{IsToldOrWant, answer_for};
+ghost use Rattle.rvvbox_c.specs.Accept.{IsToldOrWant, answer_for, refused_at_once};
+ghost use Rattle.rvvbox_c.specs.Answers.{count_fault, kept_fault, kept_run_fault};
 ghost use Rattle.rvvbox_c.specs.Holds.{IsFailure, IsKeptOf};
 ghost use Rattle.rvvbox_c.specs.Places.{KeepsOutside};
 ghost use Rattle.rvvbox_c.specs.Runs.{HasRunSet};
 ghost use Rattle.rvvbox_c.specs.Scalars.{by_place};
+ghost use Rattle.rvvbox_c.specs.Status.{IsThisOrWant, answer_to, code_of};
+ghost use Rattle.rvvbox_c.specs.declared.status.Status.TheVariants.{NothingKept};
 
 use crate::accept::{accept, agnostic_of, vlen_of};
 use crate::calls::{Bound, Ran, Scalars, Setting, bound_of, run_one};
@@ -20,6 +25,8 @@ fn keep(alloc: Global, file: &[u8], bits: u32, handle: &mut Handle) -> Result<()
     ensures kept { IfOk result (λ _. IsKeptOf file.now bits handle.new.kept) }
     ensures refused { IfErr result (λ _. handle.new.kept ≡ handle.old.kept) }
     ensures failed { IfErr result (λ refusal. IsFailure refusal.status) }
+    ensures at_once { IfSome (refused_at_once bits file.now)
+        (λ told. IsErrAnd result (λ refusal. refusal ≡ told)) }
     ensures told { IfErr result (IsToldOrWant (answer_for bits file.now)) }
 {
     let vlen = vlen_of(bits).ok_or(Refusal::of(Status::BadVlen))?;
@@ -33,8 +40,9 @@ fn keep(alloc: Global, file: &[u8], bits: u32, handle: &mut Handle) -> Result<()
     }
 }
 
-/// Checks as [`rvvbox_check`](crate::calls::rvvbox_check) does, and keeps what is accepted in `handle`, which lets go
-/// what it kept. Where the image is refused the handle stays as it is, and `refusal` tells why.
+/// Checks as [`rvvbox_check`](crate::calls::rvvbox_check) does, and keeps what is accepted in
+/// `handle`, which lets go what it kept. Where the image is refused the handle stays as it is, and
+/// `refusal` tells why.
 #[unsafe(no_mangle)]
 pub extern "C" fn rvvbox_accept(
     alloc: Global,
@@ -44,6 +52,7 @@ pub extern "C" fn rvvbox_accept(
     refusal: &mut Refusal,
 ) -> u32
     ensures status { result ≡ refusal.new.status }
+    ensures at_once { IfSome (refused_at_once vlen file.now) (λ told. refusal.new ≡ told) }
     ensures answer { IsToldOrWant (answer_for vlen file.now) refusal.new }
     ensures kept { result ≡ 0 → IsKeptOf file.now vlen handle.new.kept }
     ensures refused { IsFailure result → handle.new.kept ≡ handle.old.kept }
@@ -55,7 +64,8 @@ pub extern "C" fn rvvbox_accept(
     refusal.status
 }
 
-/// Tells the most steps that a run of what is kept takes with these numbers at the places of scalars.
+/// Tells the most steps that a run of what is kept takes with these numbers at the places of
+/// scalars.
 #[unsafe(no_mangle)]
 pub extern "C" fn rvvbox_bound_of(
     alloc: Global,
@@ -67,7 +77,7 @@ pub extern "C" fn rvvbox_bound_of(
     ensures done { IfSome handle.old.kept (λ _. result ≡ 0) }
     ensures bound { IfSome handle.old.kept (λ a.
         bound.new.high * 2 ^ 64 + bound.new.low ≡ bound_for a (by_place scalars.now)) }
-    ensures nothing { handle.old.kept ≡ None → IsFailure result }
+    ensures nothing { handle.old.kept ≡ None → result ≡ code_of NothingKept }
 {
     match handle.take(alloc) {
         None => Status::NothingKept.code(),
@@ -79,7 +89,8 @@ pub extern "C" fn rvvbox_bound_of(
     }
 }
 
-/// One run of an accepted image, where the setting names the length of registers that it was accepted for.
+/// One run of an accepted image, where the setting names the length of registers that it was
+/// accepted for.
 fn run_set(
     alloc: Global,
     accepted: &Accepted,
@@ -93,8 +104,12 @@ fn run_set(
         places.now memory.old memory.new result.steps }
     ensures refused { IsFailure result.status → memory.new ≡ memory.old }
     ensures within { result.steps ≤ setting.now.max }
+    ensures at_once { IfSome (kept_fault setting.now places.now memory.old (Some accepted.now))
+        (λ fault. result.status ≡ code_of fault) }
+    ensures answer { IsThisOrWant (answer_to
+        (kept_run_fault setting.now places.now memory.old (Some accepted.now))) result.status }
 {
-    if vlen_of(setting.vlen) != Some(accepted.vlen()) {
+    if accepted.vlen().bytes() * 8 != setting.vlen as usize {
         return Ran::refused(Status::WrongVlen);
     }
     match agnostic_of(setting.agnostic) {
@@ -103,7 +118,8 @@ fn run_set(
     }
 }
 
-/// Runs what is kept, as [`rvvbox_run`](crate::calls::rvvbox_run) runs what it accepts, and checks nothing again.
+/// Runs what is kept, as [`rvvbox_run`](crate::calls::rvvbox_run) runs what it accepts, and checks
+/// nothing again.
 #[unsafe(no_mangle)]
 pub extern "C" fn rvvbox_run_accepted(
     alloc: Global,
@@ -121,6 +137,11 @@ pub extern "C" fn rvvbox_run_accepted(
         places.now memory.old memory.new steps.new) }
     ensures refused { IsFailure result → memory.new ≡ memory.old }
     ensures within { result ≡ 0 → steps.new ≤ setting.now.max }
+    ensures at_once { IfSome (option_or (count_fault (length places.now == 8))
+        (kept_fault setting.now places.now memory.old handle.old.kept))
+        (λ fault. result ≡ code_of fault) }
+    ensures answer { IsThisOrWant (answer_to (option_or (count_fault (length places.now == 8))
+        (kept_run_fault setting.now places.now memory.old handle.old.kept))) result }
 {
     let Some(places) = eight(places) else {
         return Status::BadCount.code();

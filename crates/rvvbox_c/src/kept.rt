@@ -10,7 +10,8 @@ use std::alloc::Global;
 use std::marker::Model;
 use std::{mem, ptr};
 
-/// An accepted image, or none, where the pointer is null. The host keeps it as it is, and in one place.
+/// An accepted image, or none, where the pointer is null. The host keeps it as it is, and in one
+/// place.
 #[repr(C)]
 pub struct Handle {
     at: *mut u8,

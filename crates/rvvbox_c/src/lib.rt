@@ -1,4 +1,5 @@
-//! What a host in C calls: to check an image, to run it on the host's memory, once or many times, and to try any image.
+//! What a host in C calls: to check an image, to run it on the host's memory, once or many times,
+//! and to try any image.
 #![tactic(auto)]
 
 mod accept;

@@ -1,7 +1,11 @@
 //! What a call answers, as `include/rvvbox.h` numbers it.
 ghost use Rattle.std.specs.Prelude.{◌≡◌, ◌≢◌, false};
 ghost use Rattle.rvvbox_c.specs.Holds.{IsFailure};
-ghost use Rattle.rvvbox_c.specs.Status.{certificate_refusal, certificate_rule as certificate_rule_of, check_refusal, check_rule as check_rule_of, code_of, image_refusal, image_rule as image_rule_of, plain, status_of_open};
+ghost use Rattle.rvvbox_c.specs.Status.{certificate_refusal, certificate_rule as certificate_rule_of};
+ghost use Rattle.rvvbox_c.specs.Status.{check_refusal, check_rule as check_rule_of, code_of};
+ghost use Rattle.rvvbox_c.specs.Status.{image_refusal, image_rule as image_rule_of, plain};
+ghost use Rattle.rvvbox_c.specs.Status.{status_of_certificate, status_of_check, status_of_image};
+ghost use Rattle.rvvbox_c.specs.Status.{status_of_open};
 ghost use Rattle.rvvbox_c.specs.Tries.{is_tried};
 ghost use Rattle.rvvbox_c.specs.declared.status.Status.TheVariants.{Done, NoMemory};
 
@@ -97,8 +101,8 @@ impl From<AllocError> for Status {
 }
 
 impl From<ElfError> for Status {
-    ghost from_gives = { λ error status. (code_of status ≡ (image_refusal error).status)
-        × (is_tried (code_of status) ≡ false) };
+    ghost from_gives = { λ error status. (status ≡ status_of_image error)
+        × (is_tried (code_of status) ≡ false) × (status ≢ Done) };
 
     fn from(error: ElfError) -> Status {
         match error {
@@ -123,6 +127,51 @@ impl From<ElfError> for Status {
     }
 }
 
+impl From<CertError> for Status {
+    ghost from_gives = { λ error status. (status ≡ status_of_certificate error)
+        × (status ≢ Done) };
+
+    fn from(error: CertError) -> Status {
+        match error {
+            CertError::NoMemory => Status::NoMemory,
+            CertError::Short
+            | CertError::Version
+            | CertError::Parameter
+            | CertError::BlockOrder
+            | CertError::Fact
+            | CertError::Equality
+            | CertError::Budget
+            | CertError::TrailingBytes
+            | CertError::TooMany
+            | CertError::Order => Status::Certificate,
+        }
+    }
+}
+
+impl From<CheckError> for Status {
+    ghost from_gives = { λ error status. (status ≡ status_of_check error) × (status ≢ Done) };
+
+    fn from(error: CheckError) -> Status {
+        match error {
+            CheckError::NoMemory => Status::NoMemory,
+            CheckError::WrongVlen
+            | CheckError::NoEntryBlock
+            | CheckError::NotCode(_)
+            | CheckError::IllegalWord(_)
+            | CheckError::VtypeUnknown(_)
+            | CheckError::AccessNotProved(_)
+            | CheckError::ReadOnly(_)
+            | CheckError::TargetNotABlock(_)
+            | CheckError::IntervalNotProved(_)
+            | CheckError::EqualityNotProved(_)
+            | CheckError::OrderNotProved(_)
+            | CheckError::VectorFactNotProved(_)
+            | CheckError::BudgetNotProved(_)
+            | CheckError::BlockTooLong(_) => Status::Check,
+        }
+    }
+}
+
 impl From<OpenError> for Status {
     ghost from_gives = { λ error status. (status ≡ status_of_open error)
         × (is_tried (code_of status) ≡ false) × (status ≢ Done) };
@@ -139,8 +188,8 @@ impl From<OpenError> for Status {
     }
 }
 
-/// Why an image is refused: the status, the number of the rule in its order in `include/rvvbox.h`, from 1 on, and the address
-/// of the word at which a check stopped. What there is not is 0.
+/// Why an image is refused: the status, the number of the rule in its order in `include/rvvbox.h`,
+/// from 1 on, and the address of the word at which a check stopped. What there is not is 0.
 #[repr(C)]
 #[derive(Clone, Copy, Debug, PartialEq, Eq)]
 pub struct Refusal {
@@ -236,14 +285,10 @@ impl From<ElfError> for Refusal {
         × IsFailure refusal.status };
 
     fn from(error: ElfError) -> Refusal {
-        if let ElfError::NoMemory = error {
-            Refusal::of(Status::NoMemory)
-        } else {
-            Refusal {
-                status: Status::Image.code(),
-                rule: image_rule(error),
-                address: 0,
-            }
+        Refusal {
+            status: Status::from(error).code(),
+            rule: image_rule(error),
+            address: 0,
         }
     }
 }
@@ -253,14 +298,10 @@ impl From<CertError> for Refusal {
         × IsFailure refusal.status };
 
     fn from(error: CertError) -> Refusal {
-        if let CertError::NoMemory = error {
-            Refusal::of(Status::NoMemory)
-        } else {
-            Refusal {
-                status: Status::Certificate.code(),
-                rule: certificate_rule(error),
-                address: 0,
-            }
+        Refusal {
+            status: Status::from(error).code(),
+            rule: certificate_rule(error),
+            address: 0,
         }
     }
 }
@@ -270,14 +311,10 @@ impl From<CheckError> for Refusal {
         × IsFailure refusal.status };
 
     fn from(error: CheckError) -> Refusal {
-        if let CheckError::NoMemory = error {
-            Refusal::of(Status::NoMemory)
-        } else {
-            Refusal {
-                status: Status::Check.code(),
-                rule: check_rule(error),
-                address: error.address().unwrap_or(0),
-            }
+        Refusal {
+            status: Status::from(error).code(),
+            rule: check_rule(error),
+            address: error.address().unwrap_or(0),
         }
     }
 }

@@ -1,13 +1,18 @@
 //! Runs of any image, accepted or not.
-ghost use Rattle.std.specs.Prelude.{◌≡◌, IfErr, IfOk, false, length, true};
+ghost use Rattle.std.specs.Prelude.{◌≡◌, ◌==◌, IfErr, IfOk, IfSome, IsErrAnd, false, length, true};
+ghost use Rattle.std.specs.Option.{option_or};
+ghost use Rattle.region_mem.specs.Parameter.{AreArguments};
 ghost use Rattle.vreg_groups.specs.VectorLength.{IsVlenb, vlenb_of};
 ghost use Rattle.rvvbox_c.specs.Places.{KeepsOutside};
-ghost use Rattle.rvvbox_c.specs.Status.{code_of};
-ghost use Rattle.rvvbox_c.specs.Tries.{HasTried, IsTry, fault_number as number_of_fault, is_tried, stopped_at, tried_from, tried_of};
+ghost use Rattle.rvvbox_c.specs.Answers.{IsTryAnswer, image_fault, setting_fault};
+ghost use Rattle.rvvbox_c.specs.Answers.{tried_at_once, tried_places_fault, try_fault};
+ghost use Rattle.rvvbox_c.specs.Status.{IsFaultOrWant, code_of};
+ghost use Rattle.rvvbox_c.specs.Tries.{HasTried, IsTry, fault_number as number_of_fault, is_tried};
+ghost use Rattle.rvvbox_c.specs.Tries.{stopped_at, tried_from, tried_of};
+ghost use Rattle.rvvbox_c.specs.declared.status.Status.TheVariants.{NoMemory};
 
-use crate::accept::{agnostic_of, vlen_of};
 use crate::calls::Setting;
-use crate::places::{Place, arguments, eight, parameters, put_all_back};
+use crate::places::{Place, arguments, eight, first_fault, parameters, put_all_back};
 use crate::status::Status;
 use elf_image::Image;
 use region_mem::{Args, Fault, Parameters};
@@ -15,8 +20,8 @@ use sandbox_run::{Final, Outcome, try_run};
 use std::alloc::Global;
 use vreg_groups::{Agnostic, Vlen};
 
-/// Where a tried run stopped. `fault` is 0, or that of the next step: 1 an illegal word, 2 a fetch, 3 a load, 4 a
-/// store, 5 a jump to no multiple of 4; `number` is then the word or the address.
+/// Where a tried run stopped. `fault` is 0, or that of the next step: 1 an illegal word, 2 a fetch,
+/// 3 a load, 4 a store, 5 a jump to no multiple of 4; `number` is then the word or the address.
 #[repr(C)]
 #[derive(Clone, Copy)]
 pub struct Stopped {
@@ -91,10 +96,11 @@ fn try_at<const VLENB: usize>(
     agnostic: Agnostic,
     max: u64,
 ) -> Result<Tried, Status>
-    requires { IsVlenb VLENB }
+    requires length { IsVlenb VLENB }
+    requires matching { AreArguments parameters.now args.places }
     ensures tried { IfOk result (λ tried. tried ≡ tried_from VLENB agnostic max image.now
         parameters.now args.places) }
-    ensures failed { IfErr result (λ status. is_tried (code_of status) ≡ false) }
+    ensures want { IfErr result (λ status. status ≡ NoMemory) }
 {
     match try_run::<VLENB>(alloc, image, parameters, args, agnostic, max) {
         Ok(outcome) => Ok(told(outcome)),
@@ -112,9 +118,10 @@ fn try_image(
     agnostic: Agnostic,
     max: u64,
 ) -> Result<Tried, Status>
+    requires { AreArguments parameters.now args.places }
     ensures tried { IfOk result (λ tried. tried ≡ tried_from (vlenb_of vlen) agnostic max image.now
         parameters.now args.places) }
-    ensures failed { IfErr result (λ status. is_tried (code_of status) ≡ false) }
+    ensures want { IfErr result (λ status. status ≡ NoMemory) }
 {
     match vlen {
         Vlen::V128 => try_at::<16>(alloc, image, parameters, args, agnostic, max),
@@ -133,12 +140,19 @@ fn performed(
 ) -> Result<Tried, Status>
     ensures tried { IfOk result (IsTry file.now setting.now places.now memory.now) }
     ensures failed { IfErr result (λ status. is_tried (code_of status) ≡ false) }
+    ensures at_once { IfSome (option_or (setting_fault setting.now) (image_fault file.now))
+        (λ fault. IsErrAnd result (λ status. status ≡ fault)) }
+    ensures fault { IsFaultOrWant (option_or
+        (option_or (setting_fault setting.now) (image_fault file.now))
+        (tried_places_fault places.now memory.now)) result }
 {
-    let vlen = vlen_of(setting.vlen).ok_or(Status::BadVlen)?;
-    let agnostic = agnostic_of(setting.agnostic).ok_or(Status::BadAgnostic)?;
+    let (vlen, agnostic) = setting.read()?;
     let image = elf_image::read(alloc, file)?;
-    let args = arguments(alloc, memory, places)?;
+    if let Some(fault) = first_fault(memory, places) {
+        return Err(fault);
+    }
     let parameters = parameters(places).ok_or(Status::TooLarge)?;
+    let args = arguments(alloc, memory, places)?;
     try_image(
         alloc,
         &image,
@@ -150,9 +164,9 @@ fn performed(
     )
 }
 
-/// Runs any image once, accepted or not, with every test at each step, on eight places, and puts the buffers back as
-/// they stand where it stopped. `stopped` is set where the answer is `Done`, `Trapped` or `OutOfSteps`; after any other
-/// answer memory is as it was.
+/// Runs any image once, accepted or not, with every test at each step, on eight places, and puts
+/// the buffers back as they stand where it stopped. `stopped` is set where the answer is `Done`,
+/// `Trapped` or `OutOfSteps`; after any other answer memory is as it was.
 #[unsafe(no_mangle)]
 pub extern "C" fn rvvbox_try(
     alloc: Global,
@@ -164,6 +178,9 @@ pub extern "C" fn rvvbox_try(
 ) -> u32
     ensures tried { is_tried result ≡ true → HasTried file.now setting.now places.now
         memory.old memory.new result stopped.new }
+    ensures at_once { IfSome (tried_at_once file.now setting.now (length places.now == 8))
+        (λ fault. result ≡ code_of fault) }
+    ensures answer { IsTryAnswer (try_fault file.now setting.now places.now memory.old) result }
     ensures refused { is_tried result ≡ false
         → (memory.new ≡ memory.old) × (stopped.new ≡ stopped.old) }
     ensures length { length memory.new ≡ length memory.old }

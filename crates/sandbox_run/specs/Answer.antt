@@ -1,11 +1,7 @@
 -- What a run answers.
 use Rattle.std.specs.Prelude.{ℕ, List}
-use Rattle.region_mem.specs.Memory.{args_of}
-use Rattle.sandbox_run.specs.Words.{Machine}
-use Rattle.vector_core.specs.Run.{Stop, Ended, Trapped, OutOfSteps}
-use Rattle.sandbox_run.specs.declared.outcome.Registers.{Registers}
-use Rattle.sandbox_run.specs.declared.outcome.Final.{Final}
-use Rattle.sandbox_run.specs.declared.outcome.Outcome.{Outcome}
+use Rattle.sandbox_run.specs.Words.{args_of, Machine, Stop, Ended, Trapped, OutOfSteps}
+use Rattle.sandbox_run.specs.declared.outcome.{Registers.Registers, Final.Final, Outcome.Outcome}
 use Rattle.sandbox_run.specs.declared.outcome.Outcome.TheVariants as outcome
 
 -- the registers of a machine

@@ -1,8 +1,7 @@
 -- A run of an accepted image, at whichever length of vector registers.
 use Rattle.std.specs.Prelude.{ℕ}
 use Rattle.sandbox_run.specs.Session.{SessionView}
-use Rattle.sandbox_run.specs.declared.any_session.AnySession.{AnySession}
-use Rattle.sandbox_run.specs.declared.any_session.AnySession.TheVariants.{V128, V256, V512}
+use Rattle.sandbox_run.specs.declared.any_session.AnySession.{AnySession, TheVariants.V128, TheVariants.V256, TheVariants.V512}
 
 -- the run
 abbrev pub run_in : AnySession → SessionView

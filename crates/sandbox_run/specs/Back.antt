@@ -1,14 +1,7 @@
 -- What a run hands back of its arguments.
 use Rattle.std.specs.Prelude.{ℕ, ◌≡◌, false, List, [], ◌∷◌, length, Ok}
-use Rattle.region_mem.specs.Laws.{ForEachStart}
-use Rattle.region_mem.specs.Memory.{args_of}
-use Rattle.region_mem.specs.Start.{is_writable}
-use Rattle.region_mem.specs.declared.parameter.Param.{Param}
 use Rattle.region_mem.specs.declared.arguments.Arg.TheVariants as argument
-use Rattle.vreg_groups.specs.declared.policies.Agnostic.{Agnostic}
-use Rattle.vector_core.specs.Run.{after}
-use Rattle.vector_core.specs.Start.{start}
-use Rattle.sandbox_run.specs.Words.{Argument, Machine}
+use Rattle.sandbox_run.specs.Words.{Agnostic, Argument, ForEachStart, Machine, Param, after, args_of, is_writable, start}
 
 -- the same, but for the bytes of a buffer, of which there are as many
 abbrev pub HasShapeOf : Argument → Argument → Type 0
@@ -17,8 +10,8 @@ HasShapeOf (argument.Scalar value) back = back ≡ argument.Scalar value
 HasShapeOf (argument.Buffer bytes) back =
     (new : List ℕ) × (back ≡ argument.Buffer new) × (length new ≡ length bytes)
 
--- Place by place: a scalar comes back as it was passed, a buffer with as many bytes, and with the same ones where its
--- parameter has it only read.
+-- Place by place: a scalar comes back as it was passed, a buffer with as many bytes, and with the
+-- same ones where its parameter has it only read.
 abbrev pub ComesBack : List Param → List Argument → List Argument → Type 0
 ComesBack params [] back = back ≡ []
 ComesBack [] (arg ∷ args) back = ⊥

@@ -1,6 +1,6 @@
 -- Why a run was not started.
-use Rattle.region_mem.specs.declared.parameter.ArgError.{ArgError}
 use Rattle.region_mem.specs.declared.parameter.ArgError.TheVariants as argument_error
+use Rattle.sandbox_run.specs.Words.{ArgError}
 use Rattle.sandbox_run.specs.declared.outcome.OpenError.{OpenError}
 use Rattle.sandbox_run.specs.declared.outcome.OpenError.TheVariants as open_error
 

@@ -1,20 +1,14 @@
 -- The theorem on accepted images.
 use Rattle.std.specs.Prelude.{ℕ, ◌≡◌, ◌<◌, ◌≤◌, true, List, length, Ok}
 use Rattle.std.specs.List.{AllByRecursion}
-use Rattle.region_mem.specs.Laws.{BringsBytes}
-use Rattle.sandbox_run.specs.Words.{Argument, vlenb_of, Machine, AcceptedView, bound_of, scalars_of}
-use Rattle.region_mem.specs.Parameter.{AreArguments}
-use Rattle.vreg_groups.specs.declared.policies.Agnostic.{Agnostic}
-use Rattle.vector_core.specs.Kept.{Keeps}
-use Rattle.vector_core.specs.Permitted.{IsPermittedIn, IsPermittedStep}
-use Rattle.vector_core.specs.Run.{after, has_ended}
-use Rattle.vector_core.specs.Start.{start}
 use Rattle.vector_core.specs.Touches.{ReadsInside, WritesInside}
+use Rattle.sandbox_run.specs.Words.{AcceptedView, Agnostic, AreArguments, Argument, BringsBytes, IsPermittedIn, IsPermittedStep, Keeps, Machine, after, bound_of, has_ended, scalars_of, start, vlenb_of}
 
--- After at most n steps without a fault the run from here has ended, and each byte that one of them fetched, loaded or
--- stored was permitted, also by the areas and rights of the start. A step changes no byte but those that its list of accesses
--- writes, and goes by no byte but those that it fetches and that the list reads. All the way memory keeps where its areas lie,
--- their rights, what was passed, and each byte that may not be written.
+-- After at most n steps without a fault the run from here has ended, and each byte that one of them
+-- fetched, loaded or stored was permitted, also by the areas and rights of the start. A step
+-- changes no byte but those that its list of accesses writes, and goes by no byte but those that it
+-- fetches and that the list reads. All the way memory keeps where its areas lie, their rights, what
+-- was passed, and each byte that may not be written.
 pub record RunsWell (vlenb n : ℕ) (first : Machine) : Type 0 where
   pub steps : ℕ
   pub last : Machine
@@ -32,8 +26,8 @@ pub record RunsWell (vlenb n : ℕ) (first : Machine) : Type 0 where
   pub keeps : (j : ℕ) → j ≤ steps → (m : Machine) → after vlenb first j ≡ Ok m
       → Keeps first.memory m.memory
 
--- An accepted image, run with any arguments that match its parameters, and any setting for agnostic elements, does so
--- within the bound of its certificate for the scalars among them.
+-- An accepted image, run with any arguments that match its parameters, and any setting for agnostic
+-- elements, does so within the bound of its certificate for the scalars among them.
 abbrev pub AcceptedRuns : AcceptedView → Type 0
 AcceptedRuns a =
     (args : List Argument) (agnostic : Agnostic) → length args ≡ 8

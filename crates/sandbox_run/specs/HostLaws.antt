@@ -1,17 +1,10 @@
 -- Laws of runs for those who run kernels.
 use Rattle.std.specs.Prelude.{ℕ, ◌≡◌, ◌≤◌, true, List, length}
 use Rattle.std.specs.List.{AllByRecursion}
-use Rattle.elf_image.specs.Image.{ImageView}
-use Rattle.region_mem.specs.Laws.{BringsBytes}
-use Rattle.region_mem.specs.Parameter.{AreArguments}
-use Rattle.region_mem.specs.declared.parameter.Param.{Param}
-use Rattle.vreg_groups.specs.declared.policies.Agnostic.{Agnostic}
-use Rattle.vector_core.specs.Run.{Ended, has_ended, outcome}
-use Rattle.vector_core.specs.Start.{start}
 use Rattle.sandbox_run.specs.Answer.{answer_of, final_of}
-use Rattle.sandbox_run.specs.declared.outcome.Outcome.TheVariants as answer
 use Rattle.sandbox_run.specs.Stops.{IsStop}
-use Rattle.sandbox_run.specs.Words.{Argument, vlenb_of, Machine, AcceptedView, bound_of, scalars_of}
+use Rattle.sandbox_run.specs.Words.{AcceptedView, Agnostic, AreArguments, Argument, BringsBytes, Ended, ImageView, Machine, Param, bound_of, has_ended, outcome, scalars_of, start, vlenb_of}
+use Rattle.sandbox_run.specs.declared.outcome.Outcome.TheVariants as answer
 
 -- A run that has ended with n steps allowed ends there with more.
 abbrev pub MoreStepsChangeNothing : Type 0
@@ -25,15 +18,17 @@ StepsAreUnique =
     (vlenb j k : ℕ) (first t u : Machine) → IsStop vlenb first j t → has_ended t ≡ true
     → IsStop vlenb first k u → has_ended u ≡ true → (j ≡ k) × (t ≡ u)
 
--- The first state goes by the image's entry and segments, the parameters and the arguments, and by no certificate.
+-- The first state goes by the image's entry and segments, the parameters and the arguments, and by
+-- no certificate.
 abbrev pub StartsAreAlike : Type 0
 StartsAreAlike =
-    (vlenb : ℕ) (agnostic : Agnostic) (image other : ImageView) (params : List Param) (args : List Argument)
+    (vlenb : ℕ) (agnostic : Agnostic) (image other : ImageView) (params : List Param)
+    (args : List Argument)
     → image.entry ≡ other.entry → image.segments ≡ other.segments
     → start vlenb agnostic image params args ≡ start vlenb agnostic other params args
 
--- With at least as many steps as the bound a run of an accepted image has ended, and what it answers is the end of the run
--- with the bound.
+-- With at least as many steps as the bound a run of an accepted image has ended, and what it
+-- answers is the end of the run with the bound.
 abbrev pub TriesAreRuns : AcceptedView → Type 0
 TriesAreRuns a =
     (args : List Argument) (agnostic : Agnostic) (max : ℕ) → length args ≡ 8

@@ -1,6 +1,9 @@
 -- What definitions here speak of that other crates define.
-pub use Rattle.vreg_groups.specs.VectorLength.{vlenb_of}
-pub use Rattle.region_mem.specs.Parameter.{Argument}
-pub use Rattle.vector_core.specs.Machine.{Machine}
-pub use Rattle.block_checker.specs.Accepted.{AcceptedView}
-pub use Rattle.block_checker.specs.Bound.{bound_of, scalars_of}
+pub use Rattle.elf_image.specs.Image.{ImageView}
+pub use Rattle.vreg_groups.specs.{VectorLength.vlenb_of, declared.policies.Agnostic.Agnostic}
+pub use Rattle.region_mem.specs.{Laws.BringsBytes, Laws.ForEachStart, Laws.HasExtentsOf, Memory.Memory, Memory.args_of, Memory.fetch_of}
+pub use Rattle.region_mem.specs.{Parameter.Argument, Parameter.AreArguments, Parameter.argument_error, Start.is_writable, Start.start_memory}
+pub use Rattle.region_mem.specs.declared.parameter.{ArgError.ArgError, Param.Param}
+pub use Rattle.vector_core.specs.{Kept.Keeps, Machine.Machine, Permitted.IsPermittedIn, Permitted.IsPermittedStep, Start.start}
+pub use Rattle.vector_core.specs.Run.{Stop, Ended, Trapped, OutOfSteps, GoesOnUntil, after, has_ended, outcome}
+pub use Rattle.block_checker.specs.{Accepted.AcceptedView, Bound.bound_of, Bound.scalars_of}

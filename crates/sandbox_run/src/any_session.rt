@@ -1,18 +1,17 @@
 //! Runs of accepted images, for hosts that do not know the length of their vector registers.
 ghost use Rattle.std.specs.Prelude.{◌≡◌, ◌≤◌, ◌-◌, ◌+◌, ◌*◌, ◌↔◌, None, Ok, true, length};
 ghost use Rattle.std.specs.Prelude.{IfErr, IfOk, IfSome, IsErrAnd, IsNone, IsSome};
-ghost use Rattle.block_checker.specs.Bound.{bound_of, scalars_of};
+ghost use Rattle.block_checker.specs.Bound.{scalars_of};
 ghost use Rattle.region_mem.specs.Memory.{args_of, byte_of, fetch_of};
 ghost use Rattle.region_mem.specs.Parameter.{AreArguments};
 ghost use Rattle.vector_core.specs.MachineStep.{step as step_of};
 ghost use Rattle.vector_core.specs.Run.{Ended, after, has_ended, outcome_from};
-ghost use Rattle.vector_core.specs.Start.{start as start_of};
 ghost use Rattle.vreg_groups.specs.Elements.{bytes_from};
 ghost use Rattle.vreg_groups.specs.VectorLength.{vlenb_of};
 ghost use Rattle.sandbox_run.specs.Answer.{registers_of};
 ghost use Rattle.sandbox_run.specs.AnySession.{run_in, vlenb_in};
 ghost use Rattle.sandbox_run.specs.Back.{ComesBack};
-ghost use Rattle.sandbox_run.specs.Session.{open_fault};
+ghost use Rattle.sandbox_run.specs.Session.{IsOpened, open_fault};
 ghost use Rattle.sandbox_run.specs.Stops.{IsStop};
 
 use crate::outcome::{OpenError, Registers};
@@ -35,13 +34,14 @@ pub enum AnySession {
 }
 
 impl AnySession {
-    /// Opens a run of an accepted image on arguments, which are moved in, as [`Session::open`] does at the image's own length of
-    /// vector registers.
+    /// Opens a run of an accepted image on arguments, which are moved in, as [`Session::open`] does
+    /// at the image's own length of vector registers.
     ///
     /// # Errors
     /// The first of: arguments that do not match the image's parameters, in the order of
-    /// [`Parameters::matches`](region_mem::Parameters::matches); `BoundTooLarge` where the bound is above `max`; and `NoMemory`
-    /// where memory for the run was refused. The arguments come back as they were.
+    /// [`Parameters::matches`](region_mem::Parameters::matches); `BoundTooLarge` where the bound is
+    /// above `max`; and `NoMemory` where memory for the run was refused. The arguments come back as
+    /// they were.
     pub fn open(
         alloc: Global,
         accepted: &Accepted,
@@ -50,19 +50,8 @@ impl AnySession {
         max: u64,
     ) -> Result<AnySession, (OpenError, Args)>
         ensures vlenb { IfOk result (λ s. vlenb_in s ≡ vlenb_of accepted.now.vlen) }
-        ensures machine { IfOk result (λ s. (run_in s).machine
-            ≡ start_of (vlenb_of accepted.now.vlen) agnostic accepted.now.image
-            accepted.now.certificate.parameters args.places) }
-        ensures steps { IfOk result (λ s. (run_in s).steps ≡ 0) }
-        ensures bound { IfOk result
-            (λ s. (run_in s).bound ≡ bound_of accepted.now (scalars_of args.places)) }
-        ensures within { IfOk result (λ s. (run_in s).bound ≤ max) }
-        ensures matching { IfOk result
-            (λ s. AreArguments accepted.now.certificate.parameters args.places) }
-        ensures first { IfOk result (λ s. (run_in s).first ≡ (run_in s).machine) }
-        ensures parameters { IfOk result
-            (λ s. (run_in s).parameters ≡ accepted.now.certificate.parameters) }
-        ensures passed { IfOk result (λ s. args_of (run_in s).first.memory ≡ args.places) }
+        ensures opened { IfOk result (λ s. IsOpened (vlenb_of accepted.now.vlen) agnostic
+            accepted.now args.places max (run_in s)) }
         ensures refused { IfSome
             (open_fault (vlenb_of accepted.now.vlen) accepted.now args.places max)
             (λ error. IsErrAnd result (λ e. e.0 ≡ error)) }
@@ -97,7 +86,8 @@ impl AnySession {
         }
     }
 
-    /// Does one step, or nothing where the run has ended. Which it was is told by `Some` and `None`.
+    /// Does one step, or nothing where the run has ended. Which it was is told by `Some` and
+    /// `None`.
     pub fn step(&mut self) -> Option<()>
         ensures vlenb { vlenb_in self.new ≡ vlenb_in self.old }
         ensures end { IsNone result ↔ (has_ended (run_in self.old).machine ≡ true) }
@@ -117,8 +107,8 @@ impl AnySession {
         }
     }
 
-    /// Goes on to the end of the run, and answers how many steps have been done since it was opened. A run that has ended
-    /// stays as it is.
+    /// Goes on to the end of the run, and answers how many steps have been done since it was
+    /// opened. A run that has ended stays as it is.
     pub fn run(&mut self) -> u64
         ensures vlenb { vlenb_in self.new ≡ vlenb_in self.old }
         ensures ended { has_ended (run_in self.new).machine ≡ true }
@@ -152,8 +142,8 @@ impl AnySession {
         }
     }
 
-    /// A law, which does nothing when it runs: the steps that have been done, at most the bound, lead here from the state that
-    /// the run was opened in, and in none before had it ended.
+    /// A law, which does nothing when it runs: the steps that have been done, at most the bound,
+    /// lead here from the state that the run was opened in, and in none before had it ended.
     pub fn stands(&self)
         ensures stop { IsStop (vlenb_in self.now) (run_in self.now).first (run_in self.now).steps
             (run_in self.now).machine }
@@ -222,7 +212,8 @@ impl AnySession {
         }
     }
 
-    /// The word at an address, the lowest byte first; `None` where one of its bytes may not be fetched.
+    /// The word at an address, the lowest byte first; `None` where one of its bytes may not be
+    /// fetched.
     pub fn fetch(&self, address: u32) -> Option<u32>
         ensures { result ≡ fetch_of address (run_in self.now).machine.memory }
     {
@@ -233,8 +224,9 @@ impl AnySession {
         }
     }
 
-    /// Ends the session, wherever the run stands. The arguments come out: buffers as they stand, scalars as they were
-    /// passed. So they match the parameters again; and a buffer that is only read is as it was passed.
+    /// Ends the session, wherever the run stands. The arguments come out: buffers as they stand,
+    /// scalars as they were passed. So they match the parameters again; and a buffer that is only
+    /// read is as it was passed.
     pub fn close(self) -> Args
         ensures places { result.places ≡ args_of (run_in self).machine.memory }
         ensures back { ComesBack (run_in self).parameters (args_of (run_in self).first.memory)

@@ -10,40 +10,43 @@ use block_checker::Accepted;
 use region_mem::fetches_nothing_above;
 use std::alloc::Allocator;
 
-/// The theorem on accepted images. Run with any contents of buffers of the declared sizes and any scalars in the declared
-/// intervals, such an image meets no illegal instruction and no access fault, touches no byte that it may not, and ends
-/// within the number of instructions that its certificate states. The states of the run are those of the instructions'
-/// meaning, element by element: what [`Session::run`](crate::Session::run) leads to is the last of them.
+/// The theorem on accepted images. Run with any contents of buffers of the declared sizes and any
+/// scalars in the declared intervals, such an image meets no illegal instruction and no access
+/// fault, touches no byte that it may not, and ends within the number of instructions that its
+/// certificate states. The states of the run are those of the instructions' meaning, element by
+/// element: what [`Session::run`](crate::Session::run) leads to is the last of them.
 pub fn accepted_runs<A: Allocator>(accepted: &Accepted<A>)
     ensures { AcceptedRuns accepted.now }
 {
     accepted.runs_end();
 }
 
-/// Where a run ends there is no code: at its start and after any stores, no word is fetched from there.
+/// Where a run ends there is no code: at its start and after any stores, no word is fetched from
+/// there.
 pub fn exit_is_no_code()
     ensures { ExitIsNoCode }
 {
     fetches_nothing_above();
 }
 
-/// What a run of any image hands back, from each state that it leads to: scalars as they were passed, buffers of their sizes,
-/// and those that are only read byte for byte.
+/// What a run of any image hands back, from each state that it leads to: scalars as they were
+/// passed, buffers of their sizes, and those that are only read byte for byte.
 pub fn runs_hand_back()
     ensures { RunsHandBack }
 {}
 
-/// Wherever a run of an accepted image on matching arguments is stopped, no later than at its end, the steps done are at
-/// most the bound, each of them was permitted by the areas and rights of the start, and memory keeps those, what was passed,
-/// and each byte that may not be written.
+/// Wherever a run of an accepted image on matching arguments is stopped, no later than at its end,
+/// the steps done are at most the bound, each of them was permitted by the areas and rights of the
+/// start, and memory keeps those, what was passed, and each byte that may not be written.
 pub fn accepted_stops<A: Allocator>(accepted: &Accepted<A>)
     ensures { AcceptedStops accepted.now }
 {
     accepted.runs_end();
 }
 
-/// For an accepted image, arguments that match and at least as many steps as its bound, what [`try_run`](crate::try_run)
-/// answers is `Ended`, with the steps, the registers and the buffers of the run that a session does.
+/// For an accepted image, arguments that match and at least as many steps as its bound, what
+/// [`try_run`](crate::try_run) answers is `Ended`, with the steps, the registers and the buffers of
+/// the run that a session does.
 pub fn tries_are_runs<A: Allocator>(accepted: &Accepted<A>)
     ensures { TriesAreRuns accepted.now }
 {
@@ -60,8 +63,8 @@ pub fn steps_are_unique()
     ensures { StepsAreUnique }
 {}
 
-/// Two images with the same entry and segments start alike on the same parameters and arguments, whatever their
-/// certificates: so their runs are the same, and leave the same buffers.
+/// Two images with the same entry and segments start alike on the same parameters and arguments,
+/// whatever their certificates: so their runs are the same, and leave the same buffers.
 pub fn starts_are_alike()
     ensures { StartsAreAlike }
 {}

@@ -1,7 +1,8 @@
 //! Whole runs of an image on a caller's buffers.
 //!
-//! A run steps from the first state until it ends, is out of steps, or meets a fault. What each step does is said by the
-//! crates below; here a step is put together from fetch, decode and the two halves of the machine.
+//! A run steps from the first state until it ends, is out of steps, or meets a fault. What each
+//! step does is said by the crates below; here a step is put together from fetch, decode and the
+//! two halves of the machine.
 #![tactic(auto)]
 
 mod any_session;

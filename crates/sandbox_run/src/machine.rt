@@ -71,8 +71,8 @@ impl<const VLENB: usize, A: Allocator> Machine<VLENB, A> {
         }
     }
 
-    /// Decodes any word and carries it out. It stands apart so that the instructions that are most often met are never
-    /// written to memory between decode and step; and so do loads and stores.
+    /// Decodes any word and carries it out. It stands apart so that the instructions that are most
+    /// often met are never written to memory between decode and step; and so do loads and stores.
     #[inline(never)]
     #[tactic(auto, unfolding(vector_core::specs::MachineStep::carry_out))]
     fn carry_out_word(&mut self, word: u32) -> Result<(), Fault>

@@ -19,15 +19,17 @@ use vreg_groups::Agnostic;
 
 /// Runs an image, accepted or not, with every test at each step, for at most `max` steps.
 ///
-/// The answer is the outcome of the run from the first state: ended, out of steps or trapped, whichever comes first and in
-/// this order at one state, with the registers, the vector registers and the arguments of the state in which it stops. A
-/// fault changes nothing and is not counted as a step.
+/// The answer is the outcome of the run from the first state: ended, out of steps or trapped,
+/// whichever comes first and in this order at one state, with the registers, the vector registers
+/// and the arguments of the state in which it stops. A fault changes nothing and is not counted as
+/// a step.
 ///
-/// VLENB, the length of a vector register in bytes, is 16, 32 or 64. Memory for the run is taken at its start alone.
+/// VLENB, the length of a vector register in bytes, is 16, 32 or 64. Memory for the run is taken at
+/// its start alone.
 ///
 /// # Errors
-/// Arguments that do not match the parameters, in the order of [`Parameters::matches`]; `NoMemory` where memory for the
-/// run was refused. The arguments come back as they were.
+/// Arguments that do not match the parameters, in the order of [`Parameters::matches`]; `NoMemory`
+/// where memory for the run was refused. The arguments come back as they were.
 pub fn try_run<const VLENB: usize>(
     alloc: Global,
     image: &Image,
@@ -37,16 +39,19 @@ pub fn try_run<const VLENB: usize>(
     max: u64,
 ) -> Result<Outcome<VLENB>, (OpenError, Args)>
     requires { IsVlenb VLENB }
-    ensures outcome { IfOk result (λ answer. answer ≡ answer_of VLENB (outcome VLENB max (start_of VLENB agnostic image.now parameters.now args.places))) }
-    ensures refused { IfSome (argument_error parameters.now args.places) (λ error. IsErrAnd result (λ e. e.0 ≡ open_error_of error)) }
-    ensures memory { AreArguments parameters.now args.places → IfErr result (λ e. e.0 ≡ OpenError.NoMemory) }
+    ensures outcome { IfOk result (λ answer. answer ≡ answer_of VLENB
+        (outcome VLENB max (start_of VLENB agnostic image.now parameters.now args.places))) }
+    ensures refused { IfSome (argument_error parameters.now args.places)
+        (λ error. IsErrAnd result (λ e. e.0 ≡ open_error_of error)) }
+    ensures memory { AreArguments parameters.now args.places
+        → IfErr result (λ e. e.0 ≡ OpenError.NoMemory) }
     ensures back { IfErr result (λ e. e.1 ≡ args) }
 {
     try_run_in(alloc, image, parameters, args, agnostic, max)
 }
 
-/// As [`try_run`], with the run's memory and the buffers of the arguments from any allocator, whose values are small enough
-/// for the state of a run, which holds some, to fit in memory.
+/// As [`try_run`], with the run's memory and the buffers of the arguments from any allocator, whose
+/// values are small enough for the state of a run, which holds some, to fit in memory.
 pub fn try_run_in<const VLENB: usize, A: Allocator + Copy, B: Allocator>(
     alloc: A,
     image: &Image<B>,
@@ -118,13 +123,14 @@ fn finish<const VLENB: usize, A: Allocator>(
     }
 }
 
-/// A law, which does nothing when it runs: the outcome of a run is the first of these, in this order at one state: it has
-/// ended, it has done `max` steps, its next step is a fault.
+/// A law, which does nothing when it runs: the outcome of a run is the first of these, in this
+/// order at one state: it has ended, it has done `max` steps, its next step is a fault.
 pub fn outcome_is_first()
     ensures { OutcomeIsFirst }
 {}
 
-/// A law, which does nothing when it runs: a run from the state after j steps goes on as the run does.
+/// A law, which does nothing when it runs: a run from the state after j steps goes on as the run
+/// does.
 pub fn runs_go_on()
     ensures { RunsGoOn }
 {}

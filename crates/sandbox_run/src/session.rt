@@ -1,18 +1,17 @@
 //! Runs of images that were accepted.
 ghost use Rattle.std.specs.Prelude.{◌≡◌, ◌≤◌, ◌⊎◌, ◌+◌, ◌-◌, ◌*◌, ◌↔◌, None, Ok, true, length};
 ghost use Rattle.std.specs.Prelude.{IfErr, IfOk, IfSome, IsErrAnd, IsNone, IsSome};
-ghost use Rattle.block_checker.specs.Bound.{bound_of, scalar_of, scalars_of};
+ghost use Rattle.block_checker.specs.Bound.{scalar_of, scalars_of};
 ghost use Rattle.region_mem.specs.Memory.{args_of, byte_of, fetch_of};
 ghost use Rattle.region_mem.specs.Parameter.{AreArguments};
 ghost use Rattle.vector_core.specs.MachineStep.{step as step_of};
 ghost use Rattle.vector_core.specs.Run.{Ended, after, has_ended, outcome_from};
-ghost use Rattle.vector_core.specs.Start.{start as start_of};
 ghost use Rattle.vreg_groups.specs.Elements.{bytes_from};
 ghost use Rattle.vreg_groups.specs.VectorLength.{IsVlenb};
 ghost use Rattle.sandbox_run.specs.Answer.{registers_of};
 ghost use Rattle.sandbox_run.specs.Back.{ComesBack};
 ghost use Rattle.sandbox_run.specs.Rooms.{StateFitsInMemory};
-ghost use Rattle.sandbox_run.specs.Session.{open_fault};
+ghost use Rattle.sandbox_run.specs.Session.{IsOpened, open_fault};
 ghost use Rattle.sandbox_run.specs.Stops.{IsStop};
 
 use crate::machine::Machine;
@@ -26,11 +25,11 @@ use std::marker::Model;
 use std::snapshot::Snapshot;
 use vreg_groups::Agnostic;
 
-/// A run of an accepted image, between two steps. It ends without a fault, within a number of steps that was known when it
-/// was opened.
+/// A run of an accepted image, between two steps. It ends without a fault, within a number of steps
+/// that was known when it was opened.
 ///
-/// `VLENB` is the length of a vector register in bytes, 16, 32 or 64. `A` is the allocator of the run's memory. Only
-/// [`Session::open`] takes memory.
+/// `VLENB` is the length of a vector register in bytes, 16, 32 or 64. `A` is the allocator of the
+/// run's memory. Only [`Session::open`] takes memory.
 #[derive(Drop)]
 pub struct Session<const VLENB: usize, A: Allocator = Global> {
     machine: Machine<VLENB, A>,
@@ -57,8 +56,8 @@ impl<const VLENB: usize, A: Allocator> Model for Session<VLENB, A> {
       parameters = s.parameters.value;
     } };
 
-    // From here the run ends without a fault, in at most the steps that are left of the bound. It came here from its first
-    // state, and had not ended before; and what it was passed comes back.
+    // From here the run ends without a fault, in at most the steps that are left of the bound. It
+    // came here from its first state, and had not ended before; and what it was passed comes back.
     ghost invariant = { λ s. (s.steps ≤ s.bound) × IsWellBehaved VLENB (s.bound - s.steps) s.machine
         × IsStop VLENB s.first.value s.steps s.machine
         × HandsBack s.parameters.value s.first.value.memory };
@@ -89,13 +88,14 @@ fn scalars<A: Allocator>(places: &[Arg<Bytes<A>>; 8]) -> [u32; 8]
 impl<const VLENB: usize> Session<VLENB> {
     /// Opens a run of an accepted image on arguments, which are moved in.
     ///
-    /// No run is opened whose bound, which the image was accepted with for these scalars, is above `max` steps.
+    /// No run is opened whose bound, which the image was accepted with for these scalars, is above
+    /// `max` steps.
     ///
     /// # Errors
     /// The first of: arguments that do not match the image's parameters, in the order of
-    /// [`Parameters::matches`](region_mem::Parameters::matches); `BoundTooLarge`; `WrongVlen` where the image was accepted
-    /// for another length of vector registers; and `NoMemory` where memory for the run was refused. The arguments come
-    /// back as they were.
+    /// [`Parameters::matches`](region_mem::Parameters::matches); `BoundTooLarge`; `WrongVlen` where
+    /// the image was accepted for another length of vector registers; and `NoMemory` where memory
+    /// for the run was refused. The arguments come back as they were.
     pub fn open(
         alloc: Global,
         accepted: &Accepted,
@@ -104,18 +104,7 @@ impl<const VLENB: usize> Session<VLENB> {
         max: u64,
     ) -> Result<Session<VLENB>, (OpenError, Args)>
         requires { IsVlenb VLENB }
-        ensures machine { IfOk result (λ s. s.machine ≡ start_of VLENB agnostic accepted.now.image
-            accepted.now.certificate.parameters args.places) }
-        ensures steps { IfOk result (λ s. s.steps ≡ 0) }
-        ensures bound { IfOk result
-            (λ s. s.bound ≡ bound_of accepted.now (scalars_of args.places)) }
-        ensures within { IfOk result (λ s. s.bound ≤ max) }
-        ensures matching { IfOk result
-            (λ s. AreArguments accepted.now.certificate.parameters args.places) }
-        ensures first { IfOk result (λ s. s.first ≡ s.machine) }
-        ensures parameters { IfOk result
-            (λ s. s.parameters ≡ accepted.now.certificate.parameters) }
-        ensures passed { IfOk result (λ s. args_of s.first.memory ≡ args.places) }
+        ensures opened { IfOk result (IsOpened VLENB agnostic accepted.now args.places max) }
         ensures refused { IfSome (open_fault VLENB accepted.now args.places max)
             (λ error. IsErrAnd result (λ e. e.0 ≡ error)) }
         ensures memory { open_fault VLENB accepted.now args.places max ≡ None
@@ -126,8 +115,8 @@ impl<const VLENB: usize> Session<VLENB> {
     }
 }
 
-/// As [`Session::open`], with the run's memory and the buffers of the arguments from any allocator, whose values are small
-/// enough for the state of a run, which holds some, to fit in memory.
+/// As [`Session::open`], with the run's memory and the buffers of the arguments from any allocator,
+/// whose values are small enough for the state of a run, which holds some, to fit in memory.
 #[tactic(auto, unfolding(crate::specs::Session::open_fault))]
 pub fn open_in<const VLENB: usize, A: Allocator + Copy, B: Allocator>(
     alloc: A,
@@ -138,17 +127,7 @@ pub fn open_in<const VLENB: usize, A: Allocator + Copy, B: Allocator>(
 ) -> Result<Session<VLENB, A>, (OpenError, Args<Bytes<A>>)>
     requires length { IsVlenb VLENB }
     requires fits { StateFitsInMemory VLENB.row A.row A.Allocator }
-    ensures machine { IfOk result (λ s. s.machine ≡ start_of VLENB agnostic accepted.now.image
-        accepted.now.certificate.parameters args.places) }
-    ensures steps { IfOk result (λ s. s.steps ≡ 0) }
-    ensures bound { IfOk result (λ s. s.bound ≡ bound_of accepted.now (scalars_of args.places)) }
-    ensures within { IfOk result (λ s. s.bound ≤ max) }
-    ensures matching { IfOk result
-        (λ s. AreArguments accepted.now.certificate.parameters args.places) }
-    ensures first { IfOk result (λ s. s.first ≡ s.machine) }
-    ensures parameters { IfOk result
-        (λ s. s.parameters ≡ accepted.now.certificate.parameters) }
-    ensures passed { IfOk result (λ s. args_of s.first.memory ≡ args.places) }
+    ensures opened { IfOk result (IsOpened VLENB agnostic accepted.now args.places max) }
     ensures refused { IfSome (open_fault VLENB accepted.now args.places max)
         (λ error. IsErrAnd result (λ e. e.0 ≡ error)) }
     ensures memory { open_fault VLENB accepted.now args.places max ≡ None
@@ -183,7 +162,8 @@ pub fn open_in<const VLENB: usize, A: Allocator + Copy, B: Allocator>(
 }
 
 impl<const VLENB: usize, A: Allocator> Session<VLENB, A> {
-    /// Does one step, or nothing where the run has ended. Which it was is told by `Some` and `None`.
+    /// Does one step, or nothing where the run has ended. Which it was is told by `Some` and
+    /// `None`.
     pub fn step(&mut self) -> Option<()>
         ensures end { IsNone result ↔ (has_ended self.old.machine ≡ true) }
         ensures stays { IsNone result → self.new ≡ self.old }
@@ -206,8 +186,8 @@ impl<const VLENB: usize, A: Allocator> Session<VLENB, A> {
         }
     }
 
-    /// Goes on to the end of the run, and answers how many steps have been done since it was opened. A run that has ended
-    /// stays as it is.
+    /// Goes on to the end of the run, and answers how many steps have been done since it was
+    /// opened. A run that has ended stays as it is.
     pub fn run(&mut self) -> u64
         ensures ended { has_ended self.new.machine ≡ true }
         ensures steps { result ≡ self.new.steps }
@@ -232,8 +212,8 @@ impl<const VLENB: usize, A: Allocator> Session<VLENB, A> {
         self.steps
     }
 
-    /// A law, which does nothing when it runs: the steps that have been done, at most the bound, lead here from the state that
-    /// the run was opened in, and in none before had it ended.
+    /// A law, which does nothing when it runs: the steps that have been done, at most the bound,
+    /// lead here from the state that the run was opened in, and in none before had it ended.
     pub fn stands(&self)
         ensures stop { IsStop VLENB self.now.first self.now.steps self.now.machine }
         ensures within { self.now.steps ≤ self.now.bound }
@@ -277,15 +257,17 @@ impl<const VLENB: usize, A: Allocator> Session<VLENB, A> {
         self.machine.memory.byte(address)
     }
 
-    /// The word at an address, the lowest byte first; `None` where one of its bytes may not be fetched.
+    /// The word at an address, the lowest byte first; `None` where one of its bytes may not be
+    /// fetched.
     pub fn fetch(&self, address: u32) -> Option<u32>
         ensures { result ≡ fetch_of address self.now.machine.memory }
     {
         self.machine.memory.fetch(address)
     }
 
-    /// Ends the session, wherever the run stands. The arguments come out: buffers as they stand, scalars as they were
-    /// passed. So they match the parameters again; and a buffer that is only read is as it was passed.
+    /// Ends the session, wherever the run stands. The arguments come out: buffers as they stand,
+    /// scalars as they were passed. So they match the parameters again; and a buffer that is only
+    /// read is as it was passed.
     pub fn close(self) -> Args<Bytes<A>>
         ensures places { result.places ≡ args_of self.machine.memory }
         ensures back { ComesBack self.parameters (args_of self.first.memory) result.places }

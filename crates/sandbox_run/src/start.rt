@@ -1,21 +1,22 @@
 //! The first state of a run.
 
-ghost use Rattle.std.specs.Prelude.{◌≡◌, ◌≤◌, length, IfOk, IfErr};
+ghost use Rattle.std.specs.Prelude.{◌≡◌, length, IfOk, IfErr};
 ghost use Rattle.region_mem.specs.Parameter.{AreArguments};
-ghost use Rattle.vector_core.specs.Start.{passed_number as passed_number_of};
+ghost use Rattle.scalar_core.specs.Entry.{entry_number};
+ghost use Rattle.vector_core.specs.Start.{passed_at, passed_number as passed_number_of};
 ghost use Rattle.vector_core.specs.Start.{start as start_of, start_hart as start_hart_of};
 ghost use Rattle.vreg_groups.specs.VectorLength.{IsVlenb};
 
 use crate::machine::Machine;
 use elf_image::Image;
-use region_mem::{Arg, Args, Bytes, Parameters, Regions, STACK_END};
+use region_mem::{Arg, Args, Bytes, Parameters, Regions};
 use rv_decode::Reg;
-use scalar_core::{EXIT, Scalar};
+use scalar_core::{EntryValue, Scalar, entry_value};
 use std::alloc::{AllocError, Allocator};
 use vector_core::VectorState;
 use vreg_groups::Agnostic;
 
-/// What the argument register of a place holds.
+/// What an argument at a place passes.
 #[tactic(auto, unfolding(vector_core::specs::Start::passed_number))]
 fn passed_number<A: Allocator>(parameters: &Parameters, place: usize, arg: &Arg<Bytes<A>>) -> u32
     ensures { result ≡ passed_number_of parameters.now place arg.now }
@@ -27,19 +28,32 @@ fn passed_number<A: Allocator>(parameters: &Parameters, place: usize, arg: &Arg<
     }
 }
 
-/// The scalar registers at the start: the arguments in a0 to a7, EXIT in ra, and the stack's end in sp.
+/// What a register holds at the start.
+fn start_number<A: Allocator>(
+    parameters: &Parameters,
+    places: &[Arg<Bytes<A>>],
+    register: u8,
+) -> u32
+    requires { length places.now ≡ 8 }
+    ensures { result ≡ entry_number (passed_at parameters.now places.now) register }
+{
+    match entry_value(register) {
+        EntryValue::Number(number) => number,
+        EntryValue::Passed(place) => passed_number(parameters, place, &places[place]),
+    }
+}
+
+/// The scalar registers at the start.
 #[tactic(auto, unfolding(vector_core::specs::Start::start_hart))]
 fn start_hart<A: Allocator>(entry: u32, parameters: &Parameters, places: &[Arg<Bytes<A>>]) -> Scalar
-    requires { length places.now ≤ 8 }
+    requires { length places.now ≡ 8 }
     ensures { result ≡ start_hart_of entry parameters.now places.now }
 {
     let mut hart = Scalar::new(entry);
-    hart.set_reg(Reg::new(1), EXIT);
-    hart.set_reg(Reg::new(2), STACK_END);
-    for (place, arg) in places.iter().enumerate() {
+    for register in 1..32_u8 {
         hart.set_reg(
-            Reg::new(10 + place as u8),
-            passed_number(parameters, place, arg),
+            Reg::new(register),
+            start_number(parameters, places, register),
         );
     }
     hart

@@ -1,3 +1,4 @@
 pub mod Division
+pub mod EntryLemmas
 pub mod States
 pub mod UpperHalf

@@ -7,12 +7,14 @@
 mod arithmetic;
 mod computations;
 mod csrs;
+mod entry;
 mod hart;
 mod jumps;
 mod laws;
 mod steps;
 mod transfers;
 
+pub use entry::{EntryValue, entry_value};
 pub use hart::{EXIT, Scalar};
 pub use laws::{division_with_remainder, exit_in_numbers, steps_keep_harts};
 pub use steps::step_scalar;

@@ -1,35 +1,45 @@
 -- What the instructions that compute make of the registers, by their shapes.
 use Rattle.std.specs.Prelude.{ℕ, Bool, true, false, List}
+use Rattle.rv_decode.specs.declared.instructions.VArith.TheVariants as shape
 use Rattle.vector_core.specs.Words.{Hart, Setup, VArith}
-use Rattle.rv_decode.specs.declared.instructions.VArith.TheVariants.{Int, MultiplyAdd, Carry, CarryOut, Merge, Copy, Compare, Fixed, Widen, Wide, WidenMultiplyAdd, Narrow, Clip, Extend}
-use Rattle.vector_core.specs.Computed.{Computed, exact}
-use Rattle.vector_core.specs.FixedPoint.{fixed_of}
 use Rattle.vector_core.specs.Integer.{carry_of, carry_out_of, compare_of, int_of, multiply_add_of}
-use Rattle.vector_core.specs.Moves.{copy_of, merge_of}
-use Rattle.vector_core.specs.Narrowing.{clip_of, narrow_of}
 use Rattle.vector_core.specs.Widening.{extend_of, wide_of, widen_multiply_add_of, widen_of}
+use Rattle.vector_core.specs.{Computed.Computed, Computed.exact, FixedPoint.fixed_of, Moves.copy_of}
+use Rattle.vector_core.specs.{Moves.merge_of, Narrowing.clip_of, Narrowing.narrow_of}
 
 unfoldable pub arith_of : ℕ → Setup → Hart → VArith → List ℕ → Computed
-arith_of vlenb s hart (Int op vd vs2 b masked) file = exact (int_of vlenb s hart op vd vs2 b masked file)
-arith_of vlenb s hart (MultiplyAdd op vd vs2 b masked) file = exact (multiply_add_of vlenb s hart op vd vs2 b masked file)
-arith_of vlenb s hart (Carry op vd vs2 b) file = exact (carry_of vlenb s hart op vd vs2 b file)
-arith_of vlenb s hart (CarryOut op vd vs2 b with_carry) file = exact (carry_out_of vlenb s hart op vd vs2 b with_carry file)
-arith_of vlenb s hart (Merge vd vs2 b) file = exact (merge_of vlenb s hart vd vs2 b file)
-arith_of vlenb s hart (Copy vd b) file = exact (copy_of vlenb s hart vd b file)
-arith_of vlenb s hart (Compare op vd vs2 b masked) file = exact (compare_of vlenb s hart op vd vs2 b masked file)
-arith_of vlenb s hart (Fixed op vd vs2 b masked) file = fixed_of vlenb s hart op vd vs2 b masked file
-arith_of vlenb s hart (Widen op vd vs2 b masked) file = exact (widen_of vlenb s hart op vd vs2 b masked file)
-arith_of vlenb s hart (Wide op vd vs2 b masked) file = exact (wide_of vlenb s hart op vd vs2 b masked file)
-arith_of vlenb s hart (WidenMultiplyAdd op vd vs2 b masked) file = exact (widen_multiply_add_of vlenb s hart op vd vs2 b masked file)
-arith_of vlenb s hart (Narrow op vd vs2 b masked) file = exact (narrow_of vlenb s hart op vd vs2 b masked file)
-arith_of vlenb s hart (Clip op vd vs2 b masked) file = clip_of vlenb s hart op vd vs2 b masked file
-arith_of vlenb s hart (Extend signed of vd vs2 masked) file = exact (extend_of vlenb s signed of vd vs2 masked file)
+arith_of vlenb s hart (shape.Int op vd vs2 b masked) file =
+    exact (int_of vlenb s hart op vd vs2 b masked file)
+arith_of vlenb s hart (shape.MultiplyAdd op vd vs2 b masked) file =
+    exact (multiply_add_of vlenb s hart op vd vs2 b masked file)
+arith_of vlenb s hart (shape.Carry op vd vs2 b) file =
+    exact (carry_of vlenb s hart op vd vs2 b file)
+arith_of vlenb s hart (shape.CarryOut op vd vs2 b with_carry) file =
+    exact (carry_out_of vlenb s hart op vd vs2 b with_carry file)
+arith_of vlenb s hart (shape.Merge vd vs2 b) file = exact (merge_of vlenb s hart vd vs2 b file)
+arith_of vlenb s hart (shape.Copy vd b) file = exact (copy_of vlenb s hart vd b file)
+arith_of vlenb s hart (shape.Compare op vd vs2 b masked) file =
+    exact (compare_of vlenb s hart op vd vs2 b masked file)
+arith_of vlenb s hart (shape.Fixed op vd vs2 b masked) file =
+    fixed_of vlenb s hart op vd vs2 b masked file
+arith_of vlenb s hart (shape.Widen op vd vs2 b masked) file =
+    exact (widen_of vlenb s hart op vd vs2 b masked file)
+arith_of vlenb s hart (shape.Wide op vd vs2 b masked) file =
+    exact (wide_of vlenb s hart op vd vs2 b masked file)
+arith_of vlenb s hart (shape.WidenMultiplyAdd op vd vs2 b masked) file =
+    exact (widen_multiply_add_of vlenb s hart op vd vs2 b masked file)
+arith_of vlenb s hart (shape.Narrow op vd vs2 b masked) file =
+    exact (narrow_of vlenb s hart op vd vs2 b masked file)
+arith_of vlenb s hart (shape.Clip op vd vs2 b masked) file =
+    clip_of vlenb s hart op vd vs2 b masked file
+arith_of vlenb s hart (shape.Extend signed of vd vs2 masked) file =
+    exact (extend_of vlenb s signed of vd vs2 masked file)
 
 -- whether an instruction has a group of 2*SEW
 unfoldable pub has_doubles : VArith → Bool
-has_doubles (Widen op vd vs2 b masked) = true
-has_doubles (Wide op vd vs2 b masked) = true
-has_doubles (WidenMultiplyAdd op vd vs2 b masked) = true
-has_doubles (Narrow op vd vs2 b masked) = true
-has_doubles (Clip op vd vs2 b masked) = true
+has_doubles (shape.Widen op vd vs2 b masked) = true
+has_doubles (shape.Wide op vd vs2 b masked) = true
+has_doubles (shape.WidenMultiplyAdd op vd vs2 b masked) = true
+has_doubles (shape.Narrow op vd vs2 b masked) = true
+has_doubles (shape.Clip op vd vs2 b masked) = true
 has_doubles insn = false

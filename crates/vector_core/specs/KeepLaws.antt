@@ -1,15 +1,14 @@
 -- What a step of a vector instruction keeps: the number of bytes of the registers, that they are bytes, and those of all
 -- registers but its destination's.
-use Rattle.std.specs.Prelude.{ℕ, ◌≡◌, ◌⊎◌, ◌<◌, ◌≤◌, ◌+◌, ◌*◌, Bool, true, false, List, length, get_or, Option, Some, None, Ok}
+use Rattle.std.specs.Prelude.{ℕ, ◌≡◌, ◌⊎◌, ◌<◌, ◌≤◌, ◌+◌, ◌*◌, Bool, true, false, List, length}
+use Rattle.std.specs.Prelude.{get_or, Option, Some, None, Ok}
 use Rattle.rv_decode.specs.declared.extents.Operand.{Operand}
-use Rattle.rv_decode.specs.declared.instructions.Insn.TheVariants.{Scalar, Csr, VSet, VArith, VMask, VPerm, VReduce, VMem, VMove}
-use Rattle.rv_decode.specs.Encodings.{FieldsFit}
-use Rattle.rv_decode.specs.Needs.{needs_of}
-use Rattle.vreg_groups.specs.VectorType.{vtype_of}
-use Rattle.vreg_groups.specs.Legality.{count_of}
+use Rattle.rv_decode.specs.declared.instructions.Insn.TheVariants.{Scalar, Csr, VSet, VArith, VMask}
+use Rattle.rv_decode.specs.declared.instructions.Insn.TheVariants.{VPerm, VReduce, VMem, VMove}
+use Rattle.rv_decode.specs.{Encodings.FieldsFit, Needs.needs_of}
+use Rattle.vreg_groups.specs.{VectorType.vtype_of, Legality.count_of}
 use Rattle.vector_core.specs.Words.{Hart, Insn, Memory, Vtype}
-use Rattle.vector_core.specs.Step.{vector_step}
-use Rattle.vector_core.specs.Vectors.{Vectors, IsVectors}
+use Rattle.vector_core.specs.{Step.vector_step, Vectors.Vectors, Vectors.IsVectors}
 
 -- byte i of the registers is none of those that an operand covers
 abbrev pub IsOutside : ℕ → Option Vtype → Option Operand → ℕ → Type 0

@@ -1,13 +1,8 @@
 -- What a run keeps of memory: where its areas lie, their rights, what was passed, and each byte that may not be written.
 use Rattle.std.specs.Prelude.{ℕ, ◌≡◌, false, Ok}
-use Rattle.region_mem.specs.Areas.{is_open}
-use Rattle.region_mem.specs.Laws.{HasExtentsOf}
-use Rattle.region_mem.specs.Memory.{byte_of}
-use Rattle.region_mem.specs.declared.faults.Right.TheVariants.{Write}
-use Rattle.vector_core.specs.Machine.{Machine}
-use Rattle.vector_core.specs.MachineStep.{step}
-use Rattle.vector_core.specs.Run.{after}
-use Rattle.vector_core.specs.Words.{Memory}
+use Rattle.region_mem.specs.{Areas.is_open, Laws.HasExtentsOf, Memory.byte_of}
+use Rattle.vector_core.specs.Words.{Write, Memory}
+use Rattle.vector_core.specs.{Machine.Machine, MachineStep.step, Run.after}
 
 pub record Keeps (memory next : Memory) : Type 0 where
   pub extents : HasExtentsOf next memory

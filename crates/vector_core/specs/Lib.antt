@@ -19,6 +19,7 @@ pub mod Permutations
 pub mod Reductions
 pub mod Run
 pub mod Setup
+pub mod Shapes
 pub mod Singles
 pub mod Start
 pub mod Step

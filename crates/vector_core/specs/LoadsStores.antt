@@ -1,10 +1,12 @@
 -- Vector loads and stores ("Vector Loads and Stores"): the registers or memory are what the load or store leaves.
 use Rattle.std.specs.Prelude.{ℕ, List, Result, Ok, Err}
-use Rattle.rv_decode.specs.declared.instructions.Place.TheVariants.{Unit, Strided, Indexed, Mask, Whole}
-use Rattle.rv_decode.specs.declared.instructions.VMem as mem
-use Rattle.vector_core.specs.Words.{Direction, Fault, Hart, Load, Memory, Place, Setup, Store, advanced, reg_of}
-use Rattle.vector_core.specs.Vectors.{Stepped, Vectors, with_registers}
+use Rattle.rv_decode.specs.declared.instructions.Place.TheVariants.{Unit, Strided, Indexed, Mask}
+use Rattle.rv_decode.specs.declared.instructions.Place.TheVariants.{Whole}
 use Rattle.vector_mem.specs.Transfers.{vector_load, vector_store}
+use Rattle.rv_decode.specs.declared.instructions.VMem as mem
+use Rattle.vector_core.specs.Words.{Direction, Fault, Hart, Load, Memory, Place, Setup, Store}
+use Rattle.vector_core.specs.Words.{advanced, reg_of}
+use Rattle.vector_core.specs.Vectors.{Stepped, Vectors, with_registers}
 
 -- x[rs2], of a strided access
 abbrev pub stride_of : Place → Hart → ℕ
@@ -25,9 +27,13 @@ stored_step (Err fault) hart v = Err fault
 
 unfoldable pub direction_step : Direction → ℕ → Setup → mem.VMem → Hart → Vectors → Memory → Stepped
 direction_step Load vlenb s insn hart v memory =
-    loaded_step (vector_load vlenb s insn (reg_of insn.rs1 hart) (stride_of insn.place hart) v.registers memory) hart v memory
+    loaded_step
+    (vector_load vlenb s insn (reg_of insn.rs1 hart) (stride_of insn.place hart) v.registers memory)
+    hart v memory
 direction_step Store vlenb s insn hart v memory =
-    stored_step (vector_store vlenb s insn (reg_of insn.rs1 hart) (stride_of insn.place hart) v.registers memory) hart v
+    stored_step
+    (vector_store vlenb s insn (reg_of insn.rs1 hart) (stride_of insn.place hart) v.registers
+    memory) hart v
 
 unfoldable pub memory_step : ℕ → Setup → mem.VMem → Hart → Vectors → Memory → Stepped
 memory_step vlenb s insn hart v memory = direction_step insn.direction vlenb s insn hart v memory

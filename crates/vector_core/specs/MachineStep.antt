@@ -1,16 +1,12 @@
 -- One step: fetch, decode, and what the instruction does.
 use Rattle.std.specs.Prelude.{ℕ, ◌%◌, ◌==◌, Option, Some, None, Result, Ok, Err, if◌then◌else◌}
-use Rattle.rv_decode.specs.declared.instructions.Insn.{Insn}
-use Rattle.rv_decode.specs.declared.instructions.Insn.TheVariants.{Scalar, Csr, VSet, VArith, VMask, VPerm, VReduce, VMem, VMove}
+use Rattle.rv_decode.specs.declared.instructions.Insn.TheVariants as class
 use Rattle.rv_decode.specs.Decode.{meaning_of}
-use Rattle.region_mem.specs.declared.faults.Fault.{Fault}
-use Rattle.region_mem.specs.declared.faults.Fault.TheVariants.{Illegal, FetchFault, JumpMisaligned}
-use Rattle.region_mem.specs.Memory.{Memory, fetch_of}
-use Rattle.scalar_core.specs.Hart.{Hart}
+use Rattle.region_mem.specs.declared.faults.Fault.TheVariants.{FetchFault, JumpMisaligned}
+use Rattle.region_mem.specs.Memory.{fetch_of}
 use Rattle.scalar_core.specs.Step.{scalar_step}
-use Rattle.vector_core.specs.Vectors.{Vectors}
-use Rattle.vector_core.specs.Step.{vector_step}
-use Rattle.vector_core.specs.Machine.{Machine}
+use Rattle.vector_core.specs.Words.{Insn, Fault, Illegal, Memory, Hart}
+use Rattle.vector_core.specs.{Vectors.Vectors, Step.vector_step, Machine.Machine}
 
 -- the machine with what a scalar step made of its hart and memory
 abbrev pub with_scalar : Machine → Result (Hart × Memory) Fault → Result Machine Fault
@@ -19,20 +15,30 @@ with_scalar m (Err fault) = Err fault
 
 -- the machine that a vector step made
 abbrev pub with_vector : Result (Hart × Vectors × Memory) Fault → Result Machine Fault
-with_vector (Ok (hart, vectors, memory)) = Ok (record { hart = hart; vectors = vectors; memory = memory })
+with_vector (Ok (hart, vectors, memory)) =
+    Ok (record { hart = hart; vectors = vectors; memory = memory })
 with_vector (Err fault) = Err fault
 
 -- The instruction is carried out by its class.
 unfoldable pub carry_out : ℕ → ℕ → Machine → Insn → Result Machine Fault
-carry_out vlenb word m (Scalar insn) = with_scalar m (scalar_step vlenb (Scalar insn) m.vectors.config m.hart m.memory)
-carry_out vlenb word m (Csr insn) = with_scalar m (scalar_step vlenb (Csr insn) m.vectors.config m.hart m.memory)
-carry_out vlenb word m (VSet insn) = with_vector (vector_step vlenb (VSet insn) word m.hart m.vectors m.memory)
-carry_out vlenb word m (VArith insn) = with_vector (vector_step vlenb (VArith insn) word m.hart m.vectors m.memory)
-carry_out vlenb word m (VMask insn) = with_vector (vector_step vlenb (VMask insn) word m.hart m.vectors m.memory)
-carry_out vlenb word m (VPerm insn) = with_vector (vector_step vlenb (VPerm insn) word m.hart m.vectors m.memory)
-carry_out vlenb word m (VReduce insn) = with_vector (vector_step vlenb (VReduce insn) word m.hart m.vectors m.memory)
-carry_out vlenb word m (VMove insn) = with_vector (vector_step vlenb (VMove insn) word m.hart m.vectors m.memory)
-carry_out vlenb word m (VMem insn) = with_vector (vector_step vlenb (VMem insn) word m.hart m.vectors m.memory)
+carry_out vlenb word m (class.Scalar insn) =
+    with_scalar m (scalar_step vlenb (class.Scalar insn) m.vectors.config m.hart m.memory)
+carry_out vlenb word m (class.Csr insn) =
+    with_scalar m (scalar_step vlenb (class.Csr insn) m.vectors.config m.hart m.memory)
+carry_out vlenb word m (class.VSet insn) =
+    with_vector (vector_step vlenb (class.VSet insn) word m.hart m.vectors m.memory)
+carry_out vlenb word m (class.VArith insn) =
+    with_vector (vector_step vlenb (class.VArith insn) word m.hart m.vectors m.memory)
+carry_out vlenb word m (class.VMask insn) =
+    with_vector (vector_step vlenb (class.VMask insn) word m.hart m.vectors m.memory)
+carry_out vlenb word m (class.VPerm insn) =
+    with_vector (vector_step vlenb (class.VPerm insn) word m.hart m.vectors m.memory)
+carry_out vlenb word m (class.VReduce insn) =
+    with_vector (vector_step vlenb (class.VReduce insn) word m.hart m.vectors m.memory)
+carry_out vlenb word m (class.VMove insn) =
+    with_vector (vector_step vlenb (class.VMove insn) word m.hart m.vectors m.memory)
+carry_out vlenb word m (class.VMem insn) =
+    with_vector (vector_step vlenb (class.VMem insn) word m.hart m.vectors m.memory)
 
 -- A word that means nothing is illegal.
 abbrev pub decoded : ℕ → ℕ → Machine → Option Insn → Result Machine Fault

@@ -3,21 +3,20 @@
 use Rattle.std.specs.Prelude.{ℕ, ◌≡◌, ◌<◌, true, List, [], ◌∷◌, Some, Ok}
 use Rattle.std.specs.List.{AllByRecursion}
 use Rattle.rv_decode.specs.Decode.{meaning_of}
-use Rattle.rv_decode.specs.declared.instructions.Insn.TheVariants.{Scalar, Csr, VSet, VArith, VMask, VPerm, VReduce, VMem, VMove}
-use Rattle.rv_decode.specs.declared.instructions.ScalarInsn.{ScalarInsn}
-use Rattle.rv_decode.specs.declared.instructions.ScalarInsn.TheVariants.{Lui, Auipc, Jal, Jalr, Branch, Load, Store, Immediate, ShiftImmediate, Register, Fence, Ecall}
-use Rattle.region_mem.specs.declared.faults.Right.TheVariants.{Fetch, Read, Write}
+use Rattle.rv_decode.specs.declared.instructions.Insn.TheVariants.{Scalar, Csr, VSet, VArith, VMask}
+use Rattle.rv_decode.specs.declared.instructions.Insn.TheVariants.{VPerm, VReduce, VMem, VMove}
+use Rattle.rv_decode.specs.declared.instructions.ScalarInsn.TheVariants.{Lui, Auipc, Jal, Jalr}
+use Rattle.rv_decode.specs.declared.instructions.ScalarInsn.TheVariants.{Branch, Load, Store, Fence}
+use Rattle.rv_decode.specs.declared.instructions.ScalarInsn.TheVariants.{Immediate, ShiftImmediate}
+use Rattle.rv_decode.specs.declared.instructions.ScalarInsn.TheVariants.{Register, Ecall}
+use Rattle.region_mem.specs.declared.faults.Right.TheVariants.{Fetch}
 use Rattle.region_mem.specs.Memory.{fetch_of, is_permitted}
 use Rattle.scalar_core.specs.Step.{address_of, size_of_load, size_of_store}
 use Rattle.vreg_groups.specs.VectorType.{type_in, vtype_of}
-use Rattle.vector_mem.specs.Transfers.{accesses_of}
-use Rattle.vector_mem.specs.declared.plan.Access.{Access}
-use Rattle.vector_core.specs.Words.{Hart, Insn, Memory, Right, reg_of}
-use Rattle.vector_core.specs.LoadsStores.{stride_of}
-use Rattle.vector_core.specs.Machine.{Machine}
-use Rattle.vector_core.specs.MachineStep.{step}
-use Rattle.vector_core.specs.Run.{after}
-use Rattle.vector_core.specs.Setup.{setup_of}
+use Rattle.vector_mem.specs.{Transfers.accesses_of, declared.plan.Access.Access}
+use Rattle.vector_core.specs.Words.{ScalarInsn, Read, Write, Hart, Insn, Memory, Right, reg_of}
+use Rattle.vector_core.specs.{LoadsStores.stride_of, Machine.Machine, MachineStep.step, Run.after}
+use Rattle.vector_core.specs.{Setup.setup_of}
 
 -- the one access of a scalar load or store
 abbrev pub one : Right → ℕ → ℕ → List Access

@@ -1,20 +1,18 @@
 -- Instructions that move elements among places, a definition for each shape ("Vector Permutation Instructions").
-use Rattle.std.specs.Prelude.{ℕ, ◌==◌, Bool, true, false, List, ◌++◌, drop, length, min, replicate, if◌then◌else◌}
+use Rattle.std.specs.Prelude.{ℕ, ◌==◌, Bool, true, false, List, ◌++◌, drop, length, min, replicate}
+use Rattle.std.specs.Prelude.{if◌then◌else◌}
 use Rattle.std.specs.Int.{w32, cast_unsigned}
-use Rattle.vector_core.specs.Words.{Fixed, Hart, Memory, Same, Setup, Source, Span, VPerm, W16, active_of, body_of}
-use Rattle.vector_core.specs.Words.{bytes_of_width, mask_bits, reg_of}
-use Rattle.rv_decode.specs.declared.instructions.Offset.{Offset}
-use Rattle.rv_decode.specs.declared.instructions.Offset.TheVariants as offset
 use Rattle.rv_decode.specs.declared.instructions.Source.TheVariants.{Vector, Scalar, Immediate}
-use Rattle.rv_decode.specs.declared.instructions.VPerm.TheVariants.{SlideUp, SlideDown, SlideOneUp, SlideOneDown, Gather, Gather16, Compress}
+use Rattle.rv_decode.specs.declared.instructions.VPerm.TheVariants as perm
 use Rattle.lane_masks.specs.Folds.{kept}
 use Rattle.lane_masks.specs.Permutations.{gathered, slid_down, slid_one_down, slid_one_up, slid_up}
 use Rattle.vreg_groups.specs.Group.{group_of, written}
-use Rattle.vreg_groups.specs.NewElements.{policy_of}
-use Rattle.vreg_groups.specs.VectorType.{vlmax_of}
-use Rattle.vector_core.specs.Operands.{low_bits, results_written}
-use Rattle.vector_core.specs.Setup.{group_at}
+use Rattle.vreg_groups.specs.{NewElements.policy_of, VectorType.vlmax_of}
+use Rattle.rv_decode.specs.declared.instructions.Offset.TheVariants as offset
+use Rattle.vector_core.specs.Words.{Fixed, Hart, Memory, Same, Setup, Source, Span, VPerm, W16}
+use Rattle.vector_core.specs.Words.{active_of, body_of, bytes_of_width, mask_bits, reg_of, Offset}
 use Rattle.vector_core.specs.Vectors.{Stepped, Vectors, in_registers}
+use Rattle.vector_core.specs.{Operands.low_bits, Operands.results_written, Setup.group_at}
 
 -- all elements of SEW that a group has: VLMAX of them, whatever vl is
 abbrev pub all_at : ℕ → Setup → ℕ → Span
@@ -34,13 +32,15 @@ active_from distance active =
 unfoldable pub results_written_from : ℕ → Setup → Span → ℕ → Bool → List ℕ → List ℕ → List ℕ
 results_written_from vlenb s group distance masked results file =
     if s.vl == 0 then file
-    else written vlenb group (policy_of s.agnostic s.vtype) results (active_from distance (active_of vlenb masked s.vl file)) file
+    else written vlenb group (policy_of s.agnostic s.vtype) results
+    (active_from distance (active_of vlenb masked s.vl file)) file
 
 -- element i of vd is element i - offset of vs2, from the offset on
 unfoldable pub slide_up_of : ℕ → Setup → Hart → ℕ → ℕ → Offset → Bool → List ℕ → List ℕ
 slide_up_of vlenb s hart vd vs2 offset masked file =
     results_written_from vlenb s (group_at s vd Same) (distance_of offset hart) masked
-    (slid_up (distance_of offset hart) (body_of vlenb (group_at s vs2 Same) file) (body_of vlenb (group_at s vd Same) file)) file
+    (slid_up (distance_of offset hart) (body_of vlenb (group_at s vs2 Same) file)
+    (body_of vlenb (group_at s vd Same) file)) file
 
 -- element i of vd is element i + offset of vs2, and 0 where that is at or past VLMAX
 unfoldable pub slide_down_of : ℕ → Setup → Hart → ℕ → ℕ → Offset → Bool → List ℕ → List ℕ
@@ -52,12 +52,14 @@ slide_down_of vlenb s hart vd vs2 offset masked file =
 unfoldable pub slide_one_up_of : ℕ → Setup → Hart → ℕ → ℕ → ℕ → Bool → List ℕ → List ℕ
 slide_one_up_of vlenb s hart vd vs2 rs1 masked file =
     results_written vlenb s (group_at s vd Same) masked
-    (slid_one_up (low_bits (bytes_of_width s.vtype.sew) (reg_of rs1 hart)) (body_of vlenb (group_at s vs2 Same) file)) file
+    (slid_one_up (low_bits (bytes_of_width s.vtype.sew) (reg_of rs1 hart))
+    (body_of vlenb (group_at s vs2 Same) file)) file
 
 unfoldable pub slide_one_down_of : ℕ → Setup → Hart → ℕ → ℕ → ℕ → Bool → List ℕ → List ℕ
 slide_one_down_of vlenb s hart vd vs2 rs1 masked file =
     results_written vlenb s (group_at s vd Same) masked
-    (slid_one_down (low_bits (bytes_of_width s.vtype.sew) (reg_of rs1 hart)) (body_of vlenb (group_at s vs2 Same) file)) file
+    (slid_one_down (low_bits (bytes_of_width s.vtype.sew) (reg_of rs1 hart))
+    (body_of vlenb (group_at s vs2 Same) file)) file
 
 -- the indices of a gather: the elements of vs1, or for all all 32 bits of x[rs1], or an immediate
 unfoldable pub indices_of : ℕ → Setup → Hart → Source → List ℕ → List ℕ
@@ -75,7 +77,8 @@ gather_of vlenb s hart vd vs2 b masked file =
 unfoldable pub gather16_of : ℕ → Setup → ℕ → ℕ → ℕ → Bool → List ℕ → List ℕ
 gather16_of vlenb s vd vs2 vs1 masked file =
     results_written vlenb s (group_at s vd Same) masked
-    (gathered (body_of vlenb (all_at vlenb s vs2) file) 0 (body_of vlenb (group_at s vs1 (Fixed W16)) file)) file
+    (gathered (body_of vlenb (all_at vlenb s vs2) file) 0
+    (body_of vlenb (group_at s vs1 (Fixed W16)) file)) file
 
 -- the elements of vs2 whose bit of vs1 is set, packed; past them is the tail
 unfoldable pub compress_of : ℕ → Setup → ℕ → ℕ → ℕ → List ℕ → List ℕ
@@ -84,13 +87,20 @@ compress_of vlenb s vd vs2 vs1 file =
     (kept (mask_bits vlenb vs1 s.vl file) (body_of vlenb (group_at s vs2 Same) file)) file
 
 unfoldable pub perm_of : ℕ → Setup → Hart → VPerm → List ℕ → List ℕ
-perm_of vlenb s hart (SlideUp vd vs2 offset masked) file = slide_up_of vlenb s hart vd vs2 offset masked file
-perm_of vlenb s hart (SlideDown vd vs2 offset masked) file = slide_down_of vlenb s hart vd vs2 offset masked file
-perm_of vlenb s hart (SlideOneUp vd vs2 rs1 masked) file = slide_one_up_of vlenb s hart vd vs2 rs1 masked file
-perm_of vlenb s hart (SlideOneDown vd vs2 rs1 masked) file = slide_one_down_of vlenb s hart vd vs2 rs1 masked file
-perm_of vlenb s hart (Gather vd vs2 b masked) file = gather_of vlenb s hart vd vs2 b masked file
-perm_of vlenb s hart (Gather16 vd vs2 vs1 masked) file = gather16_of vlenb s vd vs2 vs1 masked file
-perm_of vlenb s hart (Compress vd vs2 vs1) file = compress_of vlenb s vd vs2 vs1 file
+perm_of vlenb s hart (perm.SlideUp vd vs2 offset masked) file =
+    slide_up_of vlenb s hart vd vs2 offset masked file
+perm_of vlenb s hart (perm.SlideDown vd vs2 offset masked) file =
+    slide_down_of vlenb s hart vd vs2 offset masked file
+perm_of vlenb s hart (perm.SlideOneUp vd vs2 rs1 masked) file =
+    slide_one_up_of vlenb s hart vd vs2 rs1 masked file
+perm_of vlenb s hart (perm.SlideOneDown vd vs2 rs1 masked) file =
+    slide_one_down_of vlenb s hart vd vs2 rs1 masked file
+perm_of vlenb s hart (perm.Gather vd vs2 b masked) file =
+    gather_of vlenb s hart vd vs2 b masked file
+perm_of vlenb s hart (perm.Gather16 vd vs2 vs1 masked) file =
+    gather16_of vlenb s vd vs2 vs1 masked file
+perm_of vlenb s hart (perm.Compress vd vs2 vs1) file = compress_of vlenb s vd vs2 vs1 file
 
 unfoldable pub perm_step : ℕ → Setup → VPerm → Hart → Vectors → Memory → Stepped
-perm_step vlenb s insn hart v memory = in_registers (perm_of vlenb s hart insn v.registers) hart v memory
+perm_step vlenb s insn hart v memory =
+    in_registers (perm_of vlenb s hart insn v.registers) hart v memory

@@ -2,34 +2,21 @@
 -- with the active elements of vs2.
 use Rattle.std.specs.Prelude.{ℕ, ◌*◌, Bool, List, map}
 use Rattle.std.specs.Int.{w16, w32, w64}
-use Rattle.std.specs.Int as int
-use Rattle.vector_core.specs.Words.{Hart, Memory, Same, Setup, VReduce, W16, W32, W8, Width, active_of, body_of, bytes_of_width}
-use Rattle.rv_decode.specs.declared.instructions.FoldOp as fold
-use Rattle.rv_decode.specs.declared.instructions.FoldOp.TheVariants as fold_op
+use Rattle.rv_decode.specs.declared.instructions.FoldOp.TheVariants.{Sum}
 use Rattle.rv_decode.specs.declared.instructions.VReduce.TheVariants.{Fold, WidenSum}
+use Rattle.std.specs.Int as int
 use Rattle.lane_masks.specs.Folds as lanes
-use Rattle.lane_masks.specs.declared.operations.FoldOp.{FoldOp}
-use Rattle.lane_masks.specs.declared.operations.FoldOp.TheVariants.{Sum, And, Or, Xor, MinU, Min, MaxU, Max}
-use Rattle.vector_core.specs.Integer.{lane_width}
-use Rattle.vector_core.specs.Setup.{group_at}
+use Rattle.vector_core.specs.Words.{Hart, Memory, Same, Setup, VReduce, W16, W32, W8, Width}
+use Rattle.vector_core.specs.Words.{active_of, body_of, bytes_of_width, FoldOp}
 use Rattle.vector_core.specs.Singles.{first_element, first_written}
 use Rattle.vector_core.specs.Vectors.{Stepped, Vectors, in_registers}
+use Rattle.vector_core.specs.{Integer.lane_width, Setup.group_at}
 
--- the operation of the lanes for each instruction's
-unfoldable pub fold_lanes : fold.FoldOp → FoldOp
-fold_lanes fold_op.Sum = Sum
-fold_lanes fold_op.And = And
-fold_lanes fold_op.Or = Or
-fold_lanes fold_op.Xor = Xor
-fold_lanes fold_op.Minu = MinU
-fold_lanes fold_op.Min = Min
-fold_lanes fold_op.Maxu = MaxU
-fold_lanes fold_op.Max = Max
-
-unfoldable pub fold_of : ℕ → Setup → fold.FoldOp → ℕ → ℕ → ℕ → Bool → List ℕ → List ℕ
+unfoldable pub fold_of : ℕ → Setup → FoldOp → ℕ → ℕ → ℕ → Bool → List ℕ → List ℕ
 fold_of vlenb s op vd vs2 vs1 masked file =
     first_written vlenb s (bytes_of_width s.vtype.sew) vd
-    (lanes.fold_of (fold_lanes op) (lane_width s.vtype.sew) (first_element vlenb (bytes_of_width s.vtype.sew) vs1 file)
+    (lanes.fold_of op (lane_width s.vtype.sew)
+    (first_element vlenb (bytes_of_width s.vtype.sew) vs1 file)
     (active_of vlenb masked s.vl file) (body_of vlenb (group_at s vs2 Same) file)) file
 
 -- the width of a widening reduction's sum: 2*SEW. No instruction that is legal has 64 bits.
@@ -42,13 +29,17 @@ sum_width W32 = w64
 unfoldable pub widen_sum_of : ℕ → Setup → Bool → ℕ → ℕ → ℕ → Bool → List ℕ → List ℕ
 widen_sum_of vlenb s signed vd vs2 vs1 masked file =
     first_written vlenb s (2 * bytes_of_width s.vtype.sew) vd
-    (lanes.fold_of Sum (sum_width s.vtype.sew) (first_element vlenb (2 * bytes_of_width s.vtype.sew) vs1 file)
+    (lanes.fold_of Sum (sum_width s.vtype.sew)
+    (first_element vlenb (2 * bytes_of_width s.vtype.sew) vs1 file)
     (active_of vlenb masked s.vl file)
-    (map (lanes.extended signed (lane_width s.vtype.sew) (sum_width s.vtype.sew)) (body_of vlenb (group_at s vs2 Same) file))) file
+    (map (lanes.extended signed (lane_width s.vtype.sew) (sum_width s.vtype.sew))
+    (body_of vlenb (group_at s vs2 Same) file))) file
 
 unfoldable pub reduce_of : ℕ → Setup → VReduce → List ℕ → List ℕ
 reduce_of vlenb s (Fold op vd vs2 vs1 masked) file = fold_of vlenb s op vd vs2 vs1 masked file
-reduce_of vlenb s (WidenSum signed vd vs2 vs1 masked) file = widen_sum_of vlenb s signed vd vs2 vs1 masked file
+reduce_of vlenb s (WidenSum signed vd vs2 vs1 masked) file =
+    widen_sum_of vlenb s signed vd vs2 vs1 masked file
 
 unfoldable pub reduce_step : ℕ → Setup → VReduce → Hart → Vectors → Memory → Stepped
-reduce_step vlenb s insn hart v memory = in_registers (reduce_of vlenb s insn v.registers) hart v memory
+reduce_step vlenb s insn hart v memory =
+    in_registers (reduce_of vlenb s insn v.registers) hart v memory

@@ -1,9 +1,8 @@
 -- Runs: the state after some steps, and the outcome of a run with at most `max` steps.
-use Rattle.std.specs.Prelude.{ℕ, zero, suc, ◌+◌, ◌==◌, ◌≡◌, ◌≤◌, ◌<◌, Bool, true, false, Result, Ok, Err, if◌then◌else◌}
-use Rattle.region_mem.specs.declared.faults.Fault.{Fault}
+use Rattle.std.specs.Prelude.{ℕ, zero, suc, ◌+◌, ◌==◌, ◌≡◌, ◌≤◌, ◌<◌, Bool, true, false, Result, Ok}
+use Rattle.std.specs.Prelude.{Err, if◌then◌else◌}
 use Rattle.scalar_core.specs.Hart.{exit}
-use Rattle.vector_core.specs.Machine.{Machine}
-use Rattle.vector_core.specs.MachineStep.{step}
+use Rattle.vector_core.specs.{Words.Fault, Machine.Machine, MachineStep.step}
 
 -- A run has ended where pc is EXIT.
 abbrev pub has_ended : Machine → Bool
@@ -30,7 +29,8 @@ unfoldable pub outcome_from : ℕ → ℕ → ℕ → Machine → Stop
 outcome_from vlenb zero steps m = if has_ended m then Ended steps m else OutOfSteps steps m
 outcome_from vlenb (suc n) steps m =
     if has_ended m then Ended steps m
-    else elim (step vlenb m) [ Ok t ↦ outcome_from vlenb n (steps + 1) t | Err fault ↦ Trapped fault steps m ]
+    else elim (step vlenb m)
+    [ Ok t ↦ outcome_from vlenb n (steps + 1) t | Err fault ↦ Trapped fault steps m ]
 
 -- the run with at most `max` steps
 unfoldable pub outcome : ℕ → ℕ → Machine → Stop
@@ -38,14 +38,18 @@ outcome vlenb max m = outcome_from vlenb max 0 m
 
 -- Before step k the run neither ended nor met a fault.
 abbrev pub GoesOnUntil : ℕ → Machine → ℕ → Type 0
-GoesOnUntil vlenb s k = (j : ℕ) → j < k → (t : Machine) × (after vlenb s j ≡ Ok t) × (has_ended t ≡ false)
+GoesOnUntil vlenb s k =
+    (j : ℕ) → j < k → (t : Machine) × (after vlenb s j ≡ Ok t) × (has_ended t ≡ false)
 
 -- The run from s stops so: at the least k at which it has ended, or k is `max`, or the next step is a fault, in this order.
 abbrev pub IsOutcome : ℕ → ℕ → Machine → Stop → Type 0
-IsOutcome vlenb max s (Ended k t) = (k ≤ max) × (after vlenb s k ≡ Ok t) × (has_ended t ≡ true) × GoesOnUntil vlenb s k
-IsOutcome vlenb max s (OutOfSteps k t) = (k ≡ max) × (after vlenb s k ≡ Ok t) × (has_ended t ≡ false) × GoesOnUntil vlenb s k
+IsOutcome vlenb max s (Ended k t) =
+    (k ≤ max) × (after vlenb s k ≡ Ok t) × (has_ended t ≡ true) × GoesOnUntil vlenb s k
+IsOutcome vlenb max s (OutOfSteps k t) =
+    (k ≡ max) × (after vlenb s k ≡ Ok t) × (has_ended t ≡ false) × GoesOnUntil vlenb s k
 IsOutcome vlenb max s (Trapped fault k t) =
-    (k < max) × (after vlenb s k ≡ Ok t) × (has_ended t ≡ false) × (step vlenb t ≡ Err fault) × GoesOnUntil vlenb s k
+    (k < max) × (after vlenb s k ≡ Ok t) × (has_ended t ≡ false) × (step vlenb t ≡ Err fault)
+    × GoesOnUntil vlenb s k
 
 -- Each outcome is the first of these.
 abbrev pub OutcomeIsFirst : Type 0
@@ -53,4 +57,6 @@ OutcomeIsFirst = (vlenb max : ℕ) (s : Machine) → IsOutcome vlenb max s (outc
 
 -- A run from the state after j steps goes on as the run does.
 abbrev pub RunsGoOn : Type 0
-RunsGoOn = (vlenb : ℕ) (s : Machine) (j k : ℕ) (t : Machine) → after vlenb s j ≡ Ok t → after vlenb s (j + k) ≡ after vlenb t k
+RunsGoOn =
+    (vlenb : ℕ) (s : Machine) (j k : ℕ) (t : Machine) → after vlenb s j ≡ Ok t
+    → after vlenb s (j + k) ≡ after vlenb t k

@@ -3,16 +3,11 @@
 use Rattle.std.specs.Prelude.{ℕ, ◌≡◌, ◌⊎◌, ◌<◌, ◌≤◌, ◌+◌, map, Some, Result, Ok, Err}
 use Rattle.std.specs.List.{AllByRecursion}
 use Rattle.rv_decode.specs.Decode.{meaning_of}
-use Rattle.region_mem.specs.Laws.{extent_of}
-use Rattle.region_mem.specs.Memory.{byte_of, fetch_of}
-use Rattle.region_mem.specs.declared.faults.Fault.{Fault}
-use Rattle.region_mem.specs.declared.faults.Right.TheVariants.{Read, Write}
+use Rattle.region_mem.specs.{Laws.extent_of, Memory.byte_of, Memory.fetch_of}
 use Rattle.vector_mem.specs.declared.plan.Access.{Access}
-use Rattle.vector_core.specs.Machine.{Machine}
-use Rattle.vector_core.specs.MachineStep.{step}
-use Rattle.vector_core.specs.Permitted.{accesses_of_insn}
-use Rattle.vector_core.specs.Vectors.{Vectors}
-use Rattle.vector_core.specs.Words.{Hart, Insn, Memory}
+use Rattle.vector_core.specs.Words.{Fault, Read, Write, Hart, Insn, Memory}
+use Rattle.vector_core.specs.{Machine.Machine, MachineStep.step, Permitted.accesses_of_insn}
+use Rattle.vector_core.specs.{Vectors.Vectors}
 
 -- The access does not write the byte at x.
 abbrev pub IsNotWritten : ℕ → Access → Type 0

@@ -1,7 +1,7 @@
 -- The vector half of a hart's state.
 use Rattle.std.specs.Prelude.{ℕ, ◌*◌, List, replicate, Result, Ok}
-use Rattle.vector_core.specs.Words.{Agnostic, Fault, Hart, Memory, Vconfig, advanced, with_reg}
 use Rattle.vreg_groups.specs.VectorLength.{no_config, IsConfig, IsVlenb}
+use Rattle.vector_core.specs.Words.{Agnostic, Fault, Hart, Memory, Vconfig, advanced, with_reg}
 
 -- the bytes of the 32 registers end to end, vtype and vl, and what becomes of agnostic elements throughout the run
 pub record Vectors : Type 0 where
@@ -11,7 +11,8 @@ pub record Vectors : Type 0 where
 
 -- where a run starts: registers of `vlenb` zero bytes, vill set, vl 0
 abbrev pub new_vectors : ℕ → Agnostic → Vectors
-new_vectors vlenb agnostic = record { registers = replicate (32 * vlenb) 0; config = no_config; agnostic = agnostic }
+new_vectors vlenb agnostic =
+    record { registers = replicate (32 * vlenb) 0; config = no_config; agnostic = agnostic }
 
 -- the state with these registers
 abbrev pub with_registers : List ℕ → Vectors → Vectors

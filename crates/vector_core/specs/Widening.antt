@@ -3,21 +3,20 @@
 -- Widening Integer Multiply Instructions", "Vector Widening Integer Multiply-Add Instructions"); an extension reads a
 -- fraction of SEW ("Vector Integer Extension").
 use Rattle.std.specs.Prelude.{ℕ, Bool, List, map}
-use Rattle.std.specs.Int as int
-use Rattle.std.specs.Int.{w16, w8}
 use lib.Lanes.{zip2}
-use Rattle.vector_core.specs.Words.{Double, Hart, Same, Setup, Source, WideOp, WidenMultiplyAddOp, WidenOp, body_of}
-use Rattle.vector_core.specs.Words.{Fraction, W32, Width}
+use Rattle.std.specs.Int.{w16, w8}
 use Rattle.rv_decode.specs.Needs.{eew_of}
 use Rattle.rv_decode.specs.declared.instructions.Fraction.TheVariants.{Half}
+use Rattle.rv_decode.specs.declared.instructions.MultiplyAddOp.TheVariants.{Macc}
 use Rattle.lane_int.specs.Integer.{double, element, multiply_added}
-use Rattle.lane_int.specs.Lists.{zip3}
-use Rattle.lane_int.specs.Resizing.{extended_to}
-use Rattle.lane_int.specs.declared.operations.MultiplyAddOp.TheVariants.{Macc}
-use Rattle.vector_core.specs.Integer.{lane_width}
+use Rattle.lane_int.specs.{Lists.zip3, Resizing.extended_to}
+use Rattle.std.specs.Int as int
+use Rattle.vector_core.specs.Words.{Double, Hart, Same, Setup, Source, WideOp, WidenMultiplyAddOp}
+use Rattle.vector_core.specs.Words.{WidenOp, body_of, Fraction, W32, Width}
 use Rattle.vector_core.specs.Operands.{results_written, second_of}
-use Rattle.vector_core.specs.Operations.{is_wide_signed, wide_lanes, widen_lanes, widen_multiply_add_signs, widen_signs}
-use Rattle.vector_core.specs.Setup.{group_at}
+use Rattle.vector_core.specs.Operations.{is_wide_signed, wide_lanes, widen_lanes}
+use Rattle.vector_core.specs.Operations.{widen_multiply_add_signs, widen_signs}
+use Rattle.vector_core.specs.{Integer.lane_width, Setup.group_at}
 
 -- the width of the lanes that work on elements of 2*SEW
 abbrev pub double_width : Setup → int.Width
@@ -25,7 +24,8 @@ double_width s = double (lane_width s.vtype.sew)
 
 -- elements of SEW as elements of 2*SEW, by their sign or by zeros
 abbrev pub doubled : Setup → Bool → List ℕ → List ℕ
-doubled s is_signed values = map (extended_to is_signed (lane_width s.vtype.sew) (double_width s)) values
+doubled s is_signed values =
+    map (extended_to is_signed (lane_width s.vtype.sew) (double_width s)) values
 
 -- vd is an operation on vs2 and b, both of SEW
 unfoldable pub widen_of : ℕ → Setup → Hart → WidenOp → ℕ → ℕ → Source → Bool → List ℕ → List ℕ
@@ -44,7 +44,8 @@ wide_of vlenb s hart op vd vs2 b masked file =
     (doubled s (is_wide_signed op) (second_of vlenb s hart b file))) file
 
 -- vd is the product of b and vs2, both of SEW, and the old vd together
-unfoldable pub widen_multiply_add_of : ℕ → Setup → Hart → WidenMultiplyAddOp → ℕ → ℕ → Source → Bool → List ℕ → List ℕ
+unfoldable pub widen_multiply_add_of : ℕ → Setup → Hart → WidenMultiplyAddOp → ℕ → ℕ → Source → Bool
+    → List ℕ → List ℕ
 widen_multiply_add_of vlenb s hart op vd vs2 b masked file =
     results_written vlenb s (group_at s vd Double) masked
     (zip3 (multiply_added Macc (double_width s))

@@ -6,7 +6,8 @@ ghost use Rattle.vector_core.specs.Arithmetic.{arith_of};
 ghost use Rattle.vector_core.specs.Setup.{IsReady};
 
 use crate::doubles::doubles;
-use crate::fixed_point::{FixedElement, fixed};
+use crate::elements::VectorElement;
+use crate::fixed_point::fixed;
 use crate::integer::{carry, carry_out, compare, int, multiply_add};
 use crate::moves::{copy, merge};
 use crate::setup::Setup;
@@ -114,7 +115,7 @@ fn arith_words<const VLENB: usize>(
 
 /// The same on elements of one width, with room for the body of three operands.
 #[tactic(auto, unfolding(crate::specs::Arithmetic::arith_of, crate::specs::Arithmetic::has_doubles))]
-fn arith_elements<E: FixedElement, const VLENB: usize>(
+fn arith_elements<E: VectorElement, const VLENB: usize>(
     registers: &mut VregFile<VLENB>,
     scalar: &Scalar,
     setup: &Setup,
@@ -132,59 +133,14 @@ fn arith_elements<E: FixedElement, const VLENB: usize>(
         ≡ record { registers = registers.new; saturated = result } }
 {
     match insn {
-        VArith::Int {
-            op,
-            vd,
-            vs2,
-            b,
-            masked,
-        } => int(registers, scalar, setup, *op, *vd, *vs2, *b, *masked, a, c),
-        VArith::MultiplyAdd {
-            op,
-            vd,
-            vs2,
-            b,
-            masked,
-        } => multiply_add(
-            registers, scalar, setup, *op, *vd, *vs2, *b, *masked, a, c, d,
-        ),
-        VArith::Carry { op, vd, vs2, b } => carry(
-            registers, scalar, setup, *op, *vd, *vs2, *b, a, c,
-        ),
-        VArith::CarryOut {
-            op,
-            vd,
-            vs2,
-            b,
-            with_carry,
-        } => carry_out(
-            registers,
-            scalar,
-            setup,
-            *op,
-            *vd,
-            *vs2,
-            *b,
-            *with_carry,
-            a,
-            c,
-        ),
-        VArith::Merge { vd, vs2, b } => merge(registers, scalar, setup, *vd, *vs2, *b, a, c),
-        VArith::Copy { vd, b } => copy(registers, scalar, setup, *vd, *b, c),
-        VArith::Compare {
-            op,
-            vd,
-            vs2,
-            b,
-            masked,
-        } => compare(registers, scalar, setup, *op, *vd, *vs2, *b, *masked, a, c),
-        VArith::Fixed {
-            op,
-            vd,
-            vs2,
-            b,
-            masked,
-        } => return fixed(registers, scalar, setup, *op, *vd, *vs2, *b, *masked, a, c),
+        VArith::Int { .. } => int(registers, scalar, setup, insn, a, c),
+        VArith::MultiplyAdd { .. } => multiply_add(registers, scalar, setup, insn, a, c, d),
+        VArith::Carry { .. } => carry(registers, scalar, setup, insn, a, c),
+        VArith::CarryOut { .. } => carry_out(registers, scalar, setup, insn, a, c),
+        VArith::Merge { .. } => merge(registers, scalar, setup, insn, a, c),
+        VArith::Copy { .. } => copy(registers, scalar, setup, insn, c),
+        VArith::Compare { .. } => compare(registers, scalar, setup, insn, a, c),
+        VArith::Fixed { .. } => return fixed(registers, scalar, setup, insn, a, c),
         VArith::Extend {
             signed,
             of,

@@ -140,51 +140,13 @@ fn doubles_of_elements<N: HalfOf<W>, W: VectorElement, const VLENB: usize>(
         ≡ record { registers = registers.new; saturated = result } }
 {
     match insn {
-        VArith::Widen {
-            op,
-            vd,
-            vs2,
-            b,
-            masked,
-        } => widen(
-            registers, scalar, setup, *op, *vd, *vs2, *b, *masked, a, x, y,
-        ),
-        VArith::Wide {
-            op,
-            vd,
-            vs2,
-            b,
-            masked,
-        } => wide(
-            registers, scalar, setup, *op, *vd, *vs2, *b, *masked, a, x, y,
-        ),
-        VArith::WidenMultiplyAdd {
-            op,
-            vd,
-            vs2,
-            b,
-            masked,
-        } => widen_multiply_add(
-            registers, scalar, setup, *op, *vd, *vs2, *b, *masked, a, x, y, d,
-        ),
-        VArith::Narrow {
-            op,
-            vd,
-            vs2,
-            b,
-            masked,
-        } => narrow(
-            registers, scalar, setup, *op, *vd, *vs2, *b, *masked, a, x, y,
-        ),
-        VArith::Clip {
-            op,
-            vd,
-            vs2,
-            b,
-            masked,
-        } => return clip(
-            registers, scalar, setup, *op, *vd, *vs2, *b, *masked, a, c, x,
-        ),
+        VArith::Widen { .. } => widen(registers, scalar, setup, insn, a, x, y),
+        VArith::Wide { .. } => wide(registers, scalar, setup, insn, a, x, y),
+        VArith::WidenMultiplyAdd { .. } => {
+            widen_multiply_add(registers, scalar, setup, insn, a, x, y, d);
+        }
+        VArith::Narrow { .. } => narrow(registers, scalar, setup, insn, a, x, y),
+        VArith::Clip { .. } => return clip(registers, scalar, setup, insn, a, c, x),
         VArith::Int { .. }
         | VArith::MultiplyAdd { .. }
         | VArith::Carry { .. }

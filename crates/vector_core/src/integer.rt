@@ -3,169 +3,194 @@
 
 ghost use Rattle.std.specs.Prelude.{◌≡◌, ◌≤◌, ◌*◌, length};
 ghost use Rattle.rv_decode.specs.Needs.{needs_of_arith};
-ghost use Rattle.vector_core.specs.Integer.{carry_in, carry_of, carry_out_of, compare_of, int_of};
-ghost use Rattle.vector_core.specs.Integer.{multiply_add_of};
+ghost use Rattle.vector_core.specs.Arithmetic.{arith_of};
+ghost use Rattle.vector_core.specs.Computed.{exact};
+ghost use Rattle.vector_core.specs.Shapes.{CarryOutShape, CarryShape, CompareShape, IntShape};
+ghost use Rattle.vector_core.specs.Shapes.{MultiplyAddShape, shape_of};
+ghost use Rattle.vector_core.specs.Integer.{carry_in};
 ghost use Rattle.vector_core.specs.Setup.{IsReady};
 
 use crate::elements::VectorElement;
 use crate::operands::{read_body, read_second, read_v0, write_bits, write_results};
-use crate::operations::{
-    carry_lanes, carry_out_lanes, compare_lanes, int_lanes, multiply_add_lanes,
-};
+use crate::operations::carry_out_lanes;
 use crate::results::{
     carry_out_results, carry_results, compare_results, int_results, multiply_add_results,
 };
 use crate::setup::Setup;
-use rv_decode::{CarryOp, CarryOutOp, CompareOp, Eew, IntOp, MultiplyAddOp, Reg, Source, VArith};
+use rv_decode::{Eew, VArith};
 use scalar_core::Scalar;
 use vreg_groups::{MOST_ELEMENTS, VregFile};
 
 /// vd is an operation on vs2 and b.
-#[tactic(auto, unfolding(rv_decode::specs::Needs::needs_of_arith, crate::specs::Integer::int_of))]
+#[tactic(auto, unfolding(rv_decode::specs::Needs::needs_of_arith, crate::specs::Integer::int_of, crate::specs::Arithmetic::arith_of))]
 pub fn int<E: VectorElement, const VLENB: usize>(
     registers: &mut VregFile<VLENB>,
     scalar: &Scalar,
     setup: &Setup,
-    op: IntOp,
-    vd: Reg,
-    vs2: Reg,
-    b: Source,
-    masked: bool,
+    insn: &VArith,
     a: &mut [E],
     c: &mut [E],
 )
+    requires shape { shape_of insn.now ≡ IntShape }
     requires a_len { length a.old ≡ setup.now.vl }
     requires c_len { length c.old ≡ setup.now.vl }
     requires width { E.sew ≡ setup.now.vtype.sew }
-    requires ready { IsReady VLENB setup.now (needs_of_arith (VArith.Int op vd vs2 b masked)) }
-    ensures { registers.new ≡ int_of VLENB setup.now scalar.now op vd vs2 b masked registers.old }
+    requires ready { IsReady VLENB setup.now (needs_of_arith insn.now) }
+    ensures { arith_of VLENB setup.now scalar.now insn.now registers.old ≡ exact registers.new }
 {
-    let destination = setup.group(vd, Eew::Same);
-    read_body(registers, setup, vs2, a);
-    read_second(registers, scalar, setup, b, c);
-    int_results(int_lanes(op), a, c);
-    write_results(registers, setup, &destination, masked, a);
+    let VArith::Int {
+        op,
+        vd,
+        vs2,
+        b,
+        masked,
+    } = insn
+    else {
+        unreachable!()
+    };
+    let destination = setup.group(*vd, Eew::Same);
+    read_body(registers, setup, *vs2, a);
+    read_second(registers, scalar, setup, *b, c);
+    int_results(*op, a, c);
+    write_results(registers, setup, &destination, *masked, a);
 }
 
 /// vd is a product and a sum of b, vs2 and the old vd, whose body there is room for in `d`.
-#[tactic(auto, unfolding(rv_decode::specs::Needs::needs_of_arith, crate::specs::Integer::multiply_add_of))]
+#[tactic(auto, unfolding(rv_decode::specs::Needs::needs_of_arith, crate::specs::Integer::multiply_add_of, crate::specs::Arithmetic::arith_of))]
 pub fn multiply_add<E: VectorElement, const VLENB: usize>(
     registers: &mut VregFile<VLENB>,
     scalar: &Scalar,
     setup: &Setup,
-    op: MultiplyAddOp,
-    vd: Reg,
-    vs2: Reg,
-    b: Source,
-    masked: bool,
+    insn: &VArith,
     a: &mut [E],
     c: &mut [E],
     d: &mut [E],
 )
+    requires shape { shape_of insn.now ≡ MultiplyAddShape }
     requires a_len { length a.old ≡ setup.now.vl }
     requires c_len { length c.old ≡ setup.now.vl }
     requires d_len { length d.old ≡ setup.now.vl }
     requires width { E.sew ≡ setup.now.vtype.sew }
-    requires ready { IsReady VLENB setup.now (needs_of_arith
-        (VArith.MultiplyAdd op vd vs2 b masked)) }
-    ensures { registers.new ≡ multiply_add_of VLENB setup.now scalar.now op vd vs2 b masked
-        registers.old }
+    requires ready { IsReady VLENB setup.now (needs_of_arith insn.now) }
+    ensures { arith_of VLENB setup.now scalar.now insn.now registers.old ≡ exact registers.new }
 {
-    let destination = setup.group(vd, Eew::Same);
-    read_body(registers, setup, vs2, a);
-    read_second(registers, scalar, setup, b, c);
+    let VArith::MultiplyAdd {
+        op,
+        vd,
+        vs2,
+        b,
+        masked,
+    } = insn
+    else {
+        unreachable!()
+    };
+    let destination = setup.group(*vd, Eew::Same);
+    read_body(registers, setup, *vs2, a);
+    read_second(registers, scalar, setup, *b, c);
     destination.read(registers, d);
-    multiply_add_results(multiply_add_lanes(op), a, c, d);
-    write_results(registers, setup, &destination, masked, d);
+    multiply_add_results(*op, a, c, d);
+    write_results(registers, setup, &destination, *masked, d);
 }
 
 /// vd is a sum or difference of vs2, b and the bit of v0.
-#[tactic(auto, unfolding(rv_decode::specs::Needs::needs_of_arith, crate::specs::Integer::carry_of))]
+#[tactic(auto, unfolding(rv_decode::specs::Needs::needs_of_arith, crate::specs::Integer::carry_of, crate::specs::Arithmetic::arith_of))]
 pub fn carry<E: VectorElement, const VLENB: usize>(
     registers: &mut VregFile<VLENB>,
     scalar: &Scalar,
     setup: &Setup,
-    op: CarryOp,
-    vd: Reg,
-    vs2: Reg,
-    b: Source,
+    insn: &VArith,
     a: &mut [E],
     c: &mut [E],
 )
+    requires shape { shape_of insn.now ≡ CarryShape }
     requires a_len { length a.old ≡ setup.now.vl }
     requires c_len { length c.old ≡ setup.now.vl }
     requires width { E.sew ≡ setup.now.vtype.sew }
-    requires ready { IsReady VLENB setup.now (needs_of_arith (VArith.Carry op vd vs2 b)) }
-    ensures { registers.new ≡ carry_of VLENB setup.now scalar.now op vd vs2 b registers.old }
+    requires ready { IsReady VLENB setup.now (needs_of_arith insn.now) }
+    ensures { arith_of VLENB setup.now scalar.now insn.now registers.old ≡ exact registers.new }
 {
-    let destination = setup.group(vd, Eew::Same);
+    let VArith::Carry { op, vd, vs2, b } = insn else {
+        unreachable!()
+    };
+    let destination = setup.group(*vd, Eew::Same);
     let mut bits = [false; MOST_ELEMENTS];
     let carries = &mut bits[..setup.vl];
-    read_body(registers, setup, vs2, a);
-    read_second(registers, scalar, setup, b, c);
+    read_body(registers, setup, *vs2, a);
+    read_second(registers, scalar, setup, *b, c);
     read_v0(registers, carries);
-    carry_results(carry_lanes(op), a, c, carries);
+    carry_results(*op, a, c, carries);
     write_results(registers, setup, &destination, false, a);
 }
 
 /// The bits of vd are the carries or borrows of vs2 and b, with the bit of v0 where `with_carry` says so.
-#[tactic(auto, unfolding(rv_decode::specs::Needs::needs_of_arith, crate::specs::Integer::carry_out_of))]
+#[tactic(auto, unfolding(rv_decode::specs::Needs::needs_of_arith, crate::specs::Integer::carry_out_of, crate::specs::Arithmetic::arith_of))]
 pub fn carry_out<E: VectorElement, const VLENB: usize>(
     registers: &mut VregFile<VLENB>,
     scalar: &Scalar,
     setup: &Setup,
-    op: CarryOutOp,
-    vd: Reg,
-    vs2: Reg,
-    b: Source,
-    with_carry: bool,
+    insn: &VArith,
     a: &mut [E],
     c: &mut [E],
 )
+    requires shape { shape_of insn.now ≡ CarryOutShape }
     requires a_len { length a.old ≡ setup.now.vl }
     requires c_len { length c.old ≡ setup.now.vl }
     requires width { E.sew ≡ setup.now.vtype.sew }
-    requires ready { IsReady VLENB setup.now (needs_of_arith
-        (VArith.CarryOut op vd vs2 b with_carry)) }
-    ensures { registers.new ≡ carry_out_of VLENB setup.now scalar.now op vd vs2 b with_carry
-        registers.old }
+    requires ready { IsReady VLENB setup.now (needs_of_arith insn.now) }
+    ensures { arith_of VLENB setup.now scalar.now insn.now registers.old ≡ exact registers.new }
 {
+    let VArith::CarryOut {
+        op,
+        vd,
+        vs2,
+        b,
+        with_carry,
+    } = insn
+    else {
+        unreachable!()
+    };
     let mut bits = [false; MOST_ELEMENTS];
     let carries = &mut bits[..setup.vl];
-    read_body(registers, setup, vs2, a);
-    read_second(registers, scalar, setup, b, c);
-    read_carries(registers, with_carry, carries);
-    carry_out_results(carry_out_lanes(op), a, c, carries);
-    write_bits(registers, setup, vd, false, carries);
+    read_body(registers, setup, *vs2, a);
+    read_second(registers, scalar, setup, *b, c);
+    read_carries(registers, *with_carry, carries);
+    carry_out_results(carry_out_lanes(*op), a, c, carries);
+    write_bits(registers, setup, *vd, false, carries);
 }
 
 /// The bits of vd say how vs2 compares with b.
-#[tactic(auto, unfolding(rv_decode::specs::Needs::needs_of_arith, crate::specs::Integer::compare_of))]
+#[tactic(auto, unfolding(rv_decode::specs::Needs::needs_of_arith, crate::specs::Integer::compare_of, crate::specs::Arithmetic::arith_of))]
 pub fn compare<E: VectorElement, const VLENB: usize>(
     registers: &mut VregFile<VLENB>,
     scalar: &Scalar,
     setup: &Setup,
-    op: CompareOp,
-    vd: Reg,
-    vs2: Reg,
-    b: Source,
-    masked: bool,
+    insn: &VArith,
     a: &mut [E],
     c: &mut [E],
 )
+    requires shape { shape_of insn.now ≡ CompareShape }
     requires a_len { length a.old ≡ setup.now.vl }
     requires c_len { length c.old ≡ setup.now.vl }
     requires width { E.sew ≡ setup.now.vtype.sew }
-    requires ready { IsReady VLENB setup.now (needs_of_arith (VArith.Compare op vd vs2 b masked)) }
-    ensures { registers.new
-        ≡ compare_of VLENB setup.now scalar.now op vd vs2 b masked registers.old }
+    requires ready { IsReady VLENB setup.now (needs_of_arith insn.now) }
+    ensures { arith_of VLENB setup.now scalar.now insn.now registers.old ≡ exact registers.new }
 {
+    let VArith::Compare {
+        op,
+        vd,
+        vs2,
+        b,
+        masked,
+    } = insn
+    else {
+        unreachable!()
+    };
     let mut bits = [false; MOST_ELEMENTS];
     let results = &mut bits[..setup.vl];
-    read_body(registers, setup, vs2, a);
-    read_second(registers, scalar, setup, b, c);
-    compare_results(compare_lanes(op), a, c, results);
-    write_bits(registers, setup, vd, masked, results);
+    read_body(registers, setup, *vs2, a);
+    read_second(registers, scalar, setup, *b, c);
+    compare_results(*op, a, c, results);
+    write_bits(registers, setup, *vd, *masked, results);
 }
 
 /// Reads the carries or borrows that go in: the bits of v0, or none.

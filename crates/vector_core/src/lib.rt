@@ -23,6 +23,7 @@ mod permutations;
 mod reductions;
 mod resizing;
 mod results;
+mod rooms;
 mod setup;
 mod singles;
 mod state;

@@ -3,46 +3,20 @@
 ghost use Rattle.std.specs.Prelude.{◌≡◌, Ok, length};
 ghost use Rattle.region_mem.specs.Memory.{Memory};
 ghost use Rattle.rv_decode.specs.Needs.{needs_of_mask};
-ghost use Rattle.vector_core.specs.Masks.{count_of, first_lanes, first_of, index_of, iota_of};
-ghost use Rattle.vector_core.specs.Masks.{logic_lanes, logic_of, mask_step, set_and_active};
-ghost use Rattle.vector_core.specs.Masks.{set_first_of};
+ghost use Rattle.vector_core.specs.Masks.{count_of, first_of, index_of, iota_of, logic_of};
+ghost use Rattle.vector_core.specs.Masks.{mask_step, set_and_active, set_first_of};
 ghost use Rattle.vector_core.specs.Setup.{IsReady, IsSetup};
 
-use crate::fold_elements::{FoldElement, index_results, iota_results};
+use crate::elements::VectorElement;
+use crate::fold_elements::{index_results, iota_results};
 use crate::operands::{write_bits, write_results};
+use crate::rooms::with_rooms;
 use crate::setup::Setup;
 use crate::state::VectorState;
-use lane_masks::{FirstOp, LogicOp, combine, set_first};
-use rv_decode::{Eew, Reg, VMask, Width};
+use lane_masks::{combine, set_first};
+use rv_decode::{Eew, FirstOp, LogicOp, Reg, VMask, Width};
 use scalar_core::Scalar;
 use vreg_groups::{MOST_ELEMENTS, VregFile};
-
-#[tactic(auto, unfolding(crate::specs::Masks::logic_lanes))]
-fn logic_lanes(op: rv_decode::LogicOp) -> LogicOp
-    ensures { result ≡ logic_lanes op }
-{
-    match op {
-        rv_decode::LogicOp::Andn => LogicOp::AndNot,
-        rv_decode::LogicOp::And => LogicOp::And,
-        rv_decode::LogicOp::Or => LogicOp::Or,
-        rv_decode::LogicOp::Xor => LogicOp::Xor,
-        rv_decode::LogicOp::Orn => LogicOp::OrNot,
-        rv_decode::LogicOp::Nand => LogicOp::Nand,
-        rv_decode::LogicOp::Nor => LogicOp::Nor,
-        rv_decode::LogicOp::Xnor => LogicOp::Xnor,
-    }
-}
-
-#[tactic(auto, unfolding(crate::specs::Masks::first_lanes))]
-fn first_lanes(op: rv_decode::FirstOp) -> FirstOp
-    ensures { result ≡ first_lanes op }
-{
-    match op {
-        rv_decode::FirstOp::Before => FirstOp::Before,
-        rv_decode::FirstOp::Only => FirstOp::Only,
-        rv_decode::FirstOp::Including => FirstOp::Including,
-    }
-}
 
 /// Reads the bits of vs2 below vl that are set and active.
 #[tactic(auto, unfolding(crate::specs::Masks::set_and_active))]
@@ -69,7 +43,7 @@ fn read_set_and_active<const VLENB: usize>(
 fn logic<const VLENB: usize>(
     registers: &mut VregFile<VLENB>,
     setup: &Setup,
-    op: rv_decode::LogicOp,
+    op: LogicOp,
     vd: Reg,
     vs2: Reg,
     vs1: Reg,
@@ -83,7 +57,7 @@ fn logic<const VLENB: usize>(
     let b = &mut others[..setup.vl];
     registers.read_mask(vs2, results);
     registers.read_mask(vs1, b);
-    combine(logic_lanes(op), results, b);
+    combine(op, results, b);
     write_bits(registers, setup, vd, false, results);
 }
 
@@ -129,7 +103,7 @@ fn first<const VLENB: usize>(
 fn set_around_first<const VLENB: usize>(
     registers: &mut VregFile<VLENB>,
     setup: &Setup,
-    op: rv_decode::FirstOp,
+    op: FirstOp,
     vd: Reg,
     vs2: Reg,
     masked: bool,
@@ -140,13 +114,13 @@ fn set_around_first<const VLENB: usize>(
     let mut bits = [false; MOST_ELEMENTS];
     let bits = &mut bits[..setup.vl];
     read_set_and_active(registers, setup, vs2, masked, bits);
-    set_first(first_lanes(op), bits);
+    set_first(op, bits);
     write_bits(registers, setup, vd, masked, bits);
 }
 
 /// Each element of vd is how many bits of vs2 below it are set and active; `a` has room for the body.
 #[tactic(auto, unfolding(rv_decode::specs::Needs::needs_of_mask, crate::specs::Masks::iota_of))]
-fn iota_elements<E: FoldElement, const VLENB: usize>(
+fn iota_elements<E: VectorElement, const VLENB: usize>(
     registers: &mut VregFile<VLENB>,
     setup: &Setup,
     vd: Reg,
@@ -155,7 +129,7 @@ fn iota_elements<E: FoldElement, const VLENB: usize>(
     a: &mut [E],
 )
     requires a_len { length a.old ≡ setup.now.vl }
-    requires width { E.VectorElement.sew ≡ setup.now.vtype.sew }
+    requires width { E.sew ≡ setup.now.vtype.sew }
     requires ready { IsReady VLENB setup.now (needs_of_mask (VMask.Iota vd vs2 masked)) }
     ensures { registers.new ≡ iota_of VLENB setup.now vd vs2 masked registers.old }
 {
@@ -179,26 +153,16 @@ fn iota<const VLENB: usize>(
     ensures { registers.new ≡ iota_of VLENB setup.now vd vs2 masked registers.old }
 {
     let vl = setup.vl;
-    let sew = setup.vtype.sew;
-    match sew {
-        Width::W8 => {
-            let mut a = [0u8; MOST_ELEMENTS];
-            iota_elements(registers, setup, vd, vs2, masked, &mut a[..vl]);
-        }
-        Width::W16 => {
-            let mut a = [0u16; MOST_ELEMENTS / 2];
-            iota_elements(registers, setup, vd, vs2, masked, &mut a[..vl]);
-        }
-        Width::W32 => {
-            let mut a = [0u32; MOST_ELEMENTS / 4];
-            iota_elements(registers, setup, vd, vs2, masked, &mut a[..vl]);
-        }
-    }
+    with_rooms!(
+        setup,
+        [a: vl],
+        iota_elements(registers, setup, vd, vs2, masked, a)
+    );
 }
 
 /// Each element of vd is its own number; `a` has room for the body.
 #[tactic(auto, unfolding(rv_decode::specs::Needs::needs_of_mask, crate::specs::Masks::index_of))]
-fn index_elements<E: FoldElement, const VLENB: usize>(
+fn index_elements<E: VectorElement, const VLENB: usize>(
     registers: &mut VregFile<VLENB>,
     setup: &Setup,
     vd: Reg,
@@ -206,7 +170,7 @@ fn index_elements<E: FoldElement, const VLENB: usize>(
     a: &mut [E],
 )
     requires a_len { length a.old ≡ setup.now.vl }
-    requires width { E.VectorElement.sew ≡ setup.now.vtype.sew }
+    requires width { E.sew ≡ setup.now.vtype.sew }
     requires ready { IsReady VLENB setup.now (needs_of_mask (VMask.Index vd masked)) }
     ensures { registers.new ≡ index_of VLENB setup.now vd masked registers.old }
 {
@@ -221,21 +185,7 @@ fn index<const VLENB: usize>(registers: &mut VregFile<VLENB>, setup: &Setup, vd:
     ensures { registers.new ≡ index_of VLENB setup.now vd masked registers.old }
 {
     let vl = setup.vl;
-    let sew = setup.vtype.sew;
-    match sew {
-        Width::W8 => {
-            let mut a = [0u8; MOST_ELEMENTS];
-            index_elements(registers, setup, vd, masked, &mut a[..vl]);
-        }
-        Width::W16 => {
-            let mut a = [0u16; MOST_ELEMENTS / 2];
-            index_elements(registers, setup, vd, masked, &mut a[..vl]);
-        }
-        Width::W32 => {
-            let mut a = [0u32; MOST_ELEMENTS / 4];
-            index_elements(registers, setup, vd, masked, &mut a[..vl]);
-        }
-    }
+    with_rooms!(setup, [a: vl], index_elements(registers, setup, vd, masked, a));
 }
 
 /// The step of an instruction on masks.

@@ -3,7 +3,10 @@
 ghost use Rattle.std.specs.Prelude.{◌≡◌, Ok, length};
 ghost use Rattle.region_mem.specs.Memory.{Memory};
 ghost use Rattle.rv_decode.specs.Needs.{needs_of_arith, needs_of_move};
-ghost use Rattle.vector_core.specs.Moves.{copy_of, from_scalar_of, merge_of, move_step};
+ghost use Rattle.vector_core.specs.Arithmetic.{arith_of};
+ghost use Rattle.vector_core.specs.Computed.{exact};
+ghost use Rattle.vector_core.specs.Shapes.{CopyShape, MergeShape, shape_of};
+ghost use Rattle.vector_core.specs.Moves.{from_scalar_of, move_step};
 ghost use Rattle.vector_core.specs.Moves.{to_scalar_of};
 ghost use Rattle.vector_core.specs.Setup.{IsReady};
 
@@ -14,55 +17,60 @@ use crate::results::merge_results;
 use crate::setup::Setup;
 use crate::singles::write_first;
 use crate::state::VectorState;
-use rv_decode::{Eew, Reg, Source, VArith, VMove, Width};
+use rv_decode::{Eew, Reg, VArith, VMove, Width};
 use scalar_core::Scalar;
 use vreg_groups::{MOST_ELEMENTS, VregFile, whole_count};
 
 /// vd is b where the bit of v0 is 1, and vs2 elsewhere.
-#[tactic(auto, unfolding(rv_decode::specs::Needs::needs_of_arith, crate::specs::Moves::merge_of))]
+#[tactic(auto, unfolding(rv_decode::specs::Needs::needs_of_arith, crate::specs::Moves::merge_of, crate::specs::Arithmetic::arith_of))]
 pub fn merge<E: VectorElement, const VLENB: usize>(
     registers: &mut VregFile<VLENB>,
     scalar: &Scalar,
     setup: &Setup,
-    vd: Reg,
-    vs2: Reg,
-    b: Source,
+    insn: &VArith,
     a: &mut [E],
     c: &mut [E],
 )
+    requires shape { shape_of insn.now ≡ MergeShape }
     requires a_len { length a.old ≡ setup.now.vl }
     requires c_len { length c.old ≡ setup.now.vl }
     requires width { E.sew ≡ setup.now.vtype.sew }
-    requires ready { IsReady VLENB setup.now (needs_of_arith (VArith.Merge vd vs2 b)) }
-    ensures { registers.new ≡ merge_of VLENB setup.now scalar.now vd vs2 b registers.old }
+    requires ready { IsReady VLENB setup.now (needs_of_arith insn.now) }
+    ensures { arith_of VLENB setup.now scalar.now insn.now registers.old ≡ exact registers.new }
 {
-    let destination = setup.group(vd, Eew::Same);
+    let VArith::Merge { vd, vs2, b } = insn else {
+        unreachable!()
+    };
+    let destination = setup.group(*vd, Eew::Same);
     let mut bits = [false; MOST_ELEMENTS];
     let mask = &mut bits[..setup.vl];
-    read_body(registers, setup, vs2, a);
-    read_second(registers, scalar, setup, b, c);
+    read_body(registers, setup, *vs2, a);
+    read_second(registers, scalar, setup, *b, c);
     read_v0(registers, mask);
     merge_results(a, c, mask);
     write_results(registers, setup, &destination, false, a);
 }
 
 /// vd is b.
-#[tactic(auto, unfolding(rv_decode::specs::Needs::needs_of_arith, crate::specs::Moves::copy_of))]
+#[tactic(auto, unfolding(rv_decode::specs::Needs::needs_of_arith, crate::specs::Moves::copy_of, crate::specs::Arithmetic::arith_of))]
 pub fn copy<E: VectorElement, const VLENB: usize>(
     registers: &mut VregFile<VLENB>,
     scalar: &Scalar,
     setup: &Setup,
-    vd: Reg,
-    b: Source,
+    insn: &VArith,
     c: &mut [E],
 )
+    requires shape { shape_of insn.now ≡ CopyShape }
     requires c_len { length c.old ≡ setup.now.vl }
     requires width { E.sew ≡ setup.now.vtype.sew }
-    requires ready { IsReady VLENB setup.now (needs_of_arith (VArith.Copy vd b)) }
-    ensures { registers.new ≡ copy_of VLENB setup.now scalar.now vd b registers.old }
+    requires ready { IsReady VLENB setup.now (needs_of_arith insn.now) }
+    ensures { arith_of VLENB setup.now scalar.now insn.now registers.old ≡ exact registers.new }
 {
-    let destination = setup.group(vd, Eew::Same);
-    read_second(registers, scalar, setup, b, c);
+    let VArith::Copy { vd, b } = insn else {
+        unreachable!()
+    };
+    let destination = setup.group(*vd, Eew::Same);
+    read_second(registers, scalar, setup, *b, c);
     write_results(registers, setup, &destination, false, c);
 }
 

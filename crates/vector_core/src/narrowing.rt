@@ -3,85 +3,100 @@
 
 ghost use Rattle.std.specs.Prelude.{◌≡◌, length};
 ghost use Rattle.rv_decode.specs.Needs.{needs_of_arith};
-ghost use Rattle.vector_core.specs.Narrowing.{clip_of, narrow_of};
+ghost use Rattle.vector_core.specs.Arithmetic.{arith_of};
+ghost use Rattle.vector_core.specs.Computed.{exact};
+ghost use Rattle.vector_core.specs.Shapes.{ClipShape, NarrowShape, shape_of};
 ghost use Rattle.vector_core.specs.Setup.{IsReady};
 
 use crate::elements::VectorElement;
 use crate::fixed_point::rounding_mode;
 use crate::operands::{read_second, write_results};
-use crate::operations::{clip_lanes, narrow_lanes};
+use crate::operations::narrow_lanes;
 use crate::resizing::{HalfOf, read_second_doubled};
 use crate::results::int_results;
 use crate::setup::Setup;
-use rv_decode::{ClipOp, Eew, NarrowOp, Reg, Source, VArith};
+use rv_decode::{Eew, VArith};
 use scalar_core::Scalar;
 use vreg_groups::{MOST_ELEMENTS, VregFile};
 
 /// vd is the low half of vs2 shifted right by b, which there is room for at 2*SEW in `y`.
-#[tactic(auto, unfolding(rv_decode::specs::Needs::needs_of_arith, crate::specs::Narrowing::narrow_of))]
+#[tactic(auto, unfolding(rv_decode::specs::Needs::needs_of_arith, crate::specs::Narrowing::narrow_of, crate::specs::Arithmetic::arith_of))]
 pub fn narrow<N: HalfOf<W>, W: VectorElement, const VLENB: usize>(
     registers: &mut VregFile<VLENB>,
     scalar: &Scalar,
     setup: &Setup,
-    op: NarrowOp,
-    vd: Reg,
-    vs2: Reg,
-    b: Source,
-    masked: bool,
+    insn: &VArith,
     a: &mut [N],
     x: &mut [W],
     y: &mut [W],
 )
+    requires shape { shape_of insn.now ≡ NarrowShape }
     requires a_len { length a.old ≡ setup.now.vl }
     requires x_len { length x.old ≡ setup.now.vl }
     requires y_len { length y.old ≡ setup.now.vl }
     requires width { N.sew ≡ setup.now.vtype.sew }
-    requires ready { IsReady VLENB setup.now (needs_of_arith (VArith.Narrow op vd vs2 b masked)) }
-    ensures { registers.new
-        ≡ narrow_of VLENB setup.now scalar.now op vd vs2 b masked registers.old }
+    requires ready { IsReady VLENB setup.now (needs_of_arith insn.now) }
+    ensures { arith_of VLENB setup.now scalar.now insn.now registers.old ≡ exact registers.new }
 {
-    let destination = setup.group(vd, Eew::Same);
-    let source = setup.group::<VLENB>(vs2, Eew::Double);
+    let VArith::Narrow {
+        op,
+        vd,
+        vs2,
+        b,
+        masked,
+    } = insn
+    else {
+        unreachable!()
+    };
+    let destination = setup.group(*vd, Eew::Same);
+    let source = setup.group::<VLENB>(*vs2, Eew::Double);
     source.read(registers, x);
-    read_second_doubled(registers, scalar, setup, b, false, a, y);
-    int_results(narrow_lanes(op), x, y);
+    read_second_doubled(registers, scalar, setup, *b, false, a, y);
+    int_results(narrow_lanes(*op), x, y);
     N::cut(x, a);
-    write_results(registers, setup, &destination, masked, a);
+    write_results(registers, setup, &destination, *masked, a);
 }
 
 /// vd is vs2, rounded off by b bits and clipped to SEW, which there is room for in `c`. Tells whether an active element
 /// saturated.
-#[tactic(auto, unfolding(rv_decode::specs::Needs::needs_of_arith, crate::specs::Narrowing::clip_of))]
+#[tactic(auto, unfolding(rv_decode::specs::Needs::needs_of_arith, crate::specs::Narrowing::clip_of, crate::specs::Arithmetic::arith_of))]
 pub fn clip<N: HalfOf<W>, W: VectorElement, const VLENB: usize>(
     registers: &mut VregFile<VLENB>,
     scalar: &Scalar,
     setup: &Setup,
-    op: ClipOp,
-    vd: Reg,
-    vs2: Reg,
-    b: Source,
-    masked: bool,
+    insn: &VArith,
     a: &mut [N],
     c: &mut [N],
     x: &mut [W],
 ) -> bool
+    requires shape { shape_of insn.now ≡ ClipShape }
     requires a_len { length a.old ≡ setup.now.vl }
     requires c_len { length c.old ≡ setup.now.vl }
     requires x_len { length x.old ≡ setup.now.vl }
     requires width { N.sew ≡ setup.now.vtype.sew }
-    requires ready { IsReady VLENB setup.now (needs_of_arith (VArith.Clip op vd vs2 b masked)) }
-    ensures { clip_of VLENB setup.now scalar.now op vd vs2 b masked registers.old
+    requires ready { IsReady VLENB setup.now (needs_of_arith insn.now) }
+    ensures { arith_of VLENB setup.now scalar.now insn.now registers.old
         ≡ record { registers = registers.new; saturated = result } }
 {
-    let destination = setup.group(vd, Eew::Same);
-    let source = setup.group::<VLENB>(vs2, Eew::Double);
+    let VArith::Clip {
+        op,
+        vd,
+        vs2,
+        b,
+        masked,
+    } = insn
+    else {
+        unreachable!()
+    };
+    let destination = setup.group(*vd, Eew::Same);
+    let source = setup.group::<VLENB>(*vs2, Eew::Double);
     let mut bits = [false; MOST_ELEMENTS];
     let active = &mut bits[..setup.vl];
     source.read(registers, x);
-    read_second(registers, scalar, setup, b, a);
-    registers.read_active(masked, active);
+    read_second(registers, scalar, setup, *b, a);
+    registers.read_active(*masked, active);
     let mode = rounding_mode(scalar.vxrm());
-    let saturated = N::clip_results(clip_lanes(op), mode, x, a, active, c);
-    write_results(registers, setup, &destination, masked, c);
+    let saturated = N::clip_results(*op, mode, x, a, active, c);
+    write_results(registers, setup, &destination, *masked, c);
     saturated
 }

@@ -9,10 +9,11 @@ ghost use Rattle.vreg_groups.specs.Group.{IsGroupInside, body_of};
 ghost use Rattle.vreg_groups.specs.Legality.{IsInside};
 ghost use Rattle.vreg_groups.specs.VectorType.{bytes_of_width, vlmax_of};
 ghost use Rattle.vreg_groups.specs.declared.vector_type.TheConstants.{MOST_ELEMENTS};
-ghost use Rattle.vector_core.specs.Permutations.{active_from, all_at, compress_of, distance_of};
-ghost use Rattle.vector_core.specs.Permutations.{gather16_of, gather_of, indices_of, perm_of};
-ghost use Rattle.vector_core.specs.Permutations.{perm_step, results_written_from, slide_down_of};
-ghost use Rattle.vector_core.specs.Permutations.{slide_one_down_of, slide_one_up_of, slide_up_of};
+ghost use Rattle.vector_core.specs.Permutations.{active_from, all_at, distance_of, indices_of};
+ghost use Rattle.vector_core.specs.Permutations.{perm_of, perm_step, results_written_from};
+ghost use Rattle.vector_core.specs.Shapes.{CompressShape, Gather16Shape, GatherShape};
+ghost use Rattle.vector_core.specs.Shapes.{SlideDownShape, SlideOneDownShape, SlideOneUpShape};
+ghost use Rattle.vector_core.specs.Shapes.{SlideUpShape, perm_shape_of};
 ghost use Rattle.vector_core.specs.Setup.{IsReady, IsSetup};
 
 use crate::elements::VectorElement;
@@ -98,107 +99,129 @@ fn write_results_from<E: VectorElement, const VLENB: usize>(
 }
 
 /// Element i of vd is element i - offset of vs2, from the offset on.
-#[tactic(auto, unfolding(rv_decode::specs::Needs::needs_of_perm, crate::specs::Permutations::slide_up_of))]
+#[tactic(auto, unfolding(rv_decode::specs::Needs::needs_of_perm, crate::specs::Permutations::slide_up_of, crate::specs::Permutations::perm_of))]
 fn slide_up<E: VectorElement, const VLENB: usize>(
     registers: &mut VregFile<VLENB>,
     scalar: &Scalar,
     setup: &Setup,
-    vd: Reg,
-    vs2: Reg,
-    offset: Offset,
-    masked: bool,
+    insn: &VPerm,
     a: &mut [E],
     c: &mut [E],
 )
+    requires shape { perm_shape_of insn.now ≡ SlideUpShape }
     requires a_len { length a.old ≡ setup.now.vl }
     requires c_len { length c.old ≡ setup.now.vl }
     requires width { E.sew ≡ setup.now.vtype.sew }
-    requires ready { IsReady VLENB setup.now (needs_of_perm (VPerm.SlideUp vd vs2 offset masked)) }
-    ensures { registers.new ≡ slide_up_of VLENB setup.now scalar.now vd vs2 offset masked
-        registers.old }
+    requires ready { IsReady VLENB setup.now (needs_of_perm insn.now) }
+    ensures { registers.new ≡ perm_of VLENB setup.now scalar.now insn.now registers.old }
 {
-    let destination = setup.group(vd, Eew::Same);
-    let distance = distance(offset, scalar);
-    read_body(registers, setup, vs2, a);
+    let VPerm::SlideUp {
+        vd,
+        vs2,
+        offset,
+        masked,
+    } = insn
+    else {
+        unreachable!()
+    };
+    let destination = setup.group(*vd, Eew::Same);
+    let distance = distance(*offset, scalar);
+    read_body(registers, setup, *vs2, a);
     destination.read(registers, c);
     slide_up_results(distance, a, c);
-    write_results_from(registers, setup, &destination, distance, masked, c);
+    write_results_from(registers, setup, &destination, distance, *masked, c);
 }
 
 /// Element i of vd is element i + offset of vs2, and 0 where that is at or past VLMAX.
-#[tactic(auto, unfolding(rv_decode::specs::Needs::needs_of_perm, crate::specs::Permutations::slide_down_of))]
+#[tactic(auto, unfolding(rv_decode::specs::Needs::needs_of_perm, crate::specs::Permutations::slide_down_of, crate::specs::Permutations::perm_of))]
 fn slide_down<E: VectorElement, const VLENB: usize>(
     registers: &mut VregFile<VLENB>,
     scalar: &Scalar,
     setup: &Setup,
-    vd: Reg,
-    vs2: Reg,
-    offset: Offset,
-    masked: bool,
+    insn: &VPerm,
     a: &mut [E],
     all: &mut [E],
 )
+    requires shape { perm_shape_of insn.now ≡ SlideDownShape }
     requires a_len { length a.old ≡ setup.now.vl }
     requires all_len { length all.old ≡ vlmax_of VLENB setup.now.vtype }
     requires width { E.sew ≡ setup.now.vtype.sew }
-    requires ready { IsReady VLENB setup.now (needs_of_perm
-        (VPerm.SlideDown vd vs2 offset masked)) }
-    ensures { registers.new ≡ slide_down_of VLENB setup.now scalar.now vd vs2 offset masked
-        registers.old }
+    requires ready { IsReady VLENB setup.now (needs_of_perm insn.now) }
+    ensures { registers.new ≡ perm_of VLENB setup.now scalar.now insn.now registers.old }
 {
-    let destination = setup.group(vd, Eew::Same);
-    read_all(registers, setup, vs2, all);
-    slide_down_results(distance(offset, scalar), all, a);
-    write_results(registers, setup, &destination, masked, a);
+    let VPerm::SlideDown {
+        vd,
+        vs2,
+        offset,
+        masked,
+    } = insn
+    else {
+        unreachable!()
+    };
+    let destination = setup.group(*vd, Eew::Same);
+    read_all(registers, setup, *vs2, all);
+    slide_down_results(distance(*offset, scalar), all, a);
+    write_results(registers, setup, &destination, *masked, a);
 }
 
 /// x[rs1] comes in at element 0, and the others move up by one place.
-#[tactic(auto, unfolding(rv_decode::specs::Needs::needs_of_perm, crate::specs::Permutations::slide_one_up_of))]
+#[tactic(auto, unfolding(rv_decode::specs::Needs::needs_of_perm, crate::specs::Permutations::slide_one_up_of, crate::specs::Permutations::perm_of))]
 fn slide_one_up<E: VectorElement, const VLENB: usize>(
     registers: &mut VregFile<VLENB>,
     scalar: &Scalar,
     setup: &Setup,
-    vd: Reg,
-    vs2: Reg,
-    rs1: Reg,
-    masked: bool,
+    insn: &VPerm,
     a: &mut [E],
 )
+    requires shape { perm_shape_of insn.now ≡ SlideOneUpShape }
     requires a_len { length a.old ≡ setup.now.vl }
     requires width { E.sew ≡ setup.now.vtype.sew }
-    requires ready { IsReady VLENB setup.now (needs_of_perm (VPerm.SlideOneUp vd vs2 rs1 masked)) }
-    ensures { registers.new ≡ slide_one_up_of VLENB setup.now scalar.now vd vs2 rs1 masked
-        registers.old }
+    requires ready { IsReady VLENB setup.now (needs_of_perm insn.now) }
+    ensures { registers.new ≡ perm_of VLENB setup.now scalar.now insn.now registers.old }
 {
-    let destination = setup.group(vd, Eew::Same);
-    read_body(registers, setup, vs2, a);
-    slide_one_up_results(E::low_bits(scalar.reg(rs1)), a);
-    write_results(registers, setup, &destination, masked, a);
+    let VPerm::SlideOneUp {
+        vd,
+        vs2,
+        rs1,
+        masked,
+    } = insn
+    else {
+        unreachable!()
+    };
+    let destination = setup.group(*vd, Eew::Same);
+    read_body(registers, setup, *vs2, a);
+    slide_one_up_results(E::low_bits(scalar.reg(*rs1)), a);
+    write_results(registers, setup, &destination, *masked, a);
 }
 
 /// x[rs1] comes in at element vl - 1, and the others move down by one place.
-#[tactic(auto, unfolding(rv_decode::specs::Needs::needs_of_perm, crate::specs::Permutations::slide_one_down_of))]
+#[tactic(auto, unfolding(rv_decode::specs::Needs::needs_of_perm, crate::specs::Permutations::slide_one_down_of, crate::specs::Permutations::perm_of))]
 fn slide_one_down<E: VectorElement, const VLENB: usize>(
     registers: &mut VregFile<VLENB>,
     scalar: &Scalar,
     setup: &Setup,
-    vd: Reg,
-    vs2: Reg,
-    rs1: Reg,
-    masked: bool,
+    insn: &VPerm,
     a: &mut [E],
 )
+    requires shape { perm_shape_of insn.now ≡ SlideOneDownShape }
     requires a_len { length a.old ≡ setup.now.vl }
     requires width { E.sew ≡ setup.now.vtype.sew }
-    requires ready { IsReady VLENB setup.now (needs_of_perm
-        (VPerm.SlideOneDown vd vs2 rs1 masked)) }
-    ensures { registers.new ≡ slide_one_down_of VLENB setup.now scalar.now vd vs2 rs1 masked
-        registers.old }
+    requires ready { IsReady VLENB setup.now (needs_of_perm insn.now) }
+    ensures { registers.new ≡ perm_of VLENB setup.now scalar.now insn.now registers.old }
 {
-    let destination = setup.group(vd, Eew::Same);
-    read_body(registers, setup, vs2, a);
-    slide_one_down_results(E::low_bits(scalar.reg(rs1)), a);
-    write_results(registers, setup, &destination, masked, a);
+    let VPerm::SlideOneDown {
+        vd,
+        vs2,
+        rs1,
+        masked,
+    } = insn
+    else {
+        unreachable!()
+    };
+    let destination = setup.group(*vd, Eew::Same);
+    read_body(registers, setup, *vs2, a);
+    slide_one_down_results(E::low_bits(scalar.reg(*rs1)), a);
+    write_results(registers, setup, &destination, *masked, a);
 }
 
 /// Reads the indices of a gather; `a` has room for those that are elements.
@@ -229,84 +252,96 @@ fn read_indices<E: VectorElement, const VLENB: usize>(
 }
 
 /// Each element of vd is that of vs2 at its index, and 0 where that is at or past VLMAX.
-#[tactic(auto, unfolding(rv_decode::specs::Needs::needs_of_perm, crate::specs::Permutations::gather_of))]
+#[tactic(auto, unfolding(rv_decode::specs::Needs::needs_of_perm, crate::specs::Permutations::gather_of, crate::specs::Permutations::perm_of))]
 fn gather<E: VectorElement, const VLENB: usize>(
     registers: &mut VregFile<VLENB>,
     scalar: &Scalar,
     setup: &Setup,
-    vd: Reg,
-    vs2: Reg,
-    b: Source,
-    masked: bool,
+    insn: &VPerm,
     a: &mut [E],
     all: &mut [E],
 )
+    requires shape { perm_shape_of insn.now ≡ GatherShape }
     requires a_len { length a.old ≡ setup.now.vl }
     requires all_len { length all.old ≡ vlmax_of VLENB setup.now.vtype }
     requires width { E.sew ≡ setup.now.vtype.sew }
-    requires ready { IsReady VLENB setup.now (needs_of_perm (VPerm.Gather vd vs2 b masked)) }
-    ensures { registers.new ≡ gather_of VLENB setup.now scalar.now vd vs2 b masked registers.old }
+    requires ready { IsReady VLENB setup.now (needs_of_perm insn.now) }
+    ensures { registers.new ≡ perm_of VLENB setup.now scalar.now insn.now registers.old }
 {
-    let destination = setup.group(vd, Eew::Same);
+    let VPerm::Gather { vd, vs2, b, masked } = insn else {
+        unreachable!()
+    };
+    let destination = setup.group(*vd, Eew::Same);
     let mut numbers = [0u32; MOST_ELEMENTS];
     let indices = &mut numbers[..setup.vl];
-    read_indices(registers, scalar, setup, b, a, indices);
-    read_all(registers, setup, vs2, all);
+    read_indices(registers, scalar, setup, *b, a, indices);
+    read_all(registers, setup, *vs2, all);
     gather_results(all, indices, a);
-    write_results(registers, setup, &destination, masked, a);
+    write_results(registers, setup, &destination, *masked, a);
 }
 
 /// The same with indices of 16 bits.
-#[tactic(auto, unfolding(rv_decode::specs::Needs::needs_of_perm, crate::specs::Permutations::gather16_of))]
+#[tactic(auto, unfolding(rv_decode::specs::Needs::needs_of_perm, crate::specs::Permutations::gather16_of, crate::specs::Permutations::perm_of))]
 fn gather16<E: VectorElement, const VLENB: usize>(
     registers: &mut VregFile<VLENB>,
+    scalar: &Scalar,
     setup: &Setup,
-    vd: Reg,
-    vs2: Reg,
-    vs1: Reg,
-    masked: bool,
+    insn: &VPerm,
     a: &mut [E],
     all: &mut [E],
 )
+    requires shape { perm_shape_of insn.now ≡ Gather16Shape }
     requires a_len { length a.old ≡ setup.now.vl }
     requires all_len { length all.old ≡ vlmax_of VLENB setup.now.vtype }
     requires width { E.sew ≡ setup.now.vtype.sew }
-    requires ready { IsReady VLENB setup.now (needs_of_perm (VPerm.Gather16 vd vs2 vs1 masked)) }
-    ensures { registers.new ≡ gather16_of VLENB setup.now vd vs2 vs1 masked registers.old }
+    requires ready { IsReady VLENB setup.now (needs_of_perm insn.now) }
+    ensures { registers.new ≡ perm_of VLENB setup.now scalar.now insn.now registers.old }
 {
-    let destination = setup.group(vd, Eew::Same);
-    let others = setup.group::<VLENB>(vs1, Eew::Fixed(Width::W16));
+    let VPerm::Gather16 {
+        vd,
+        vs2,
+        vs1,
+        masked,
+    } = insn
+    else {
+        unreachable!()
+    };
+    let destination = setup.group(*vd, Eew::Same);
+    let others = setup.group::<VLENB>(*vs1, Eew::Fixed(Width::W16));
     let mut halves = [0u16; MOST_ELEMENTS];
     let halves = &mut halves[..setup.vl];
     let mut numbers = [0u32; MOST_ELEMENTS];
     let indices = &mut numbers[..setup.vl];
     others.read(registers, halves);
     numbers_of(halves, indices);
-    read_all(registers, setup, vs2, all);
+    read_all(registers, setup, *vs2, all);
     gather_results(all, indices, a);
-    write_results(registers, setup, &destination, masked, a);
+    write_results(registers, setup, &destination, *masked, a);
 }
 
 /// The elements of vs2 whose bit of vs1 is set, packed; past them is the tail.
-#[tactic(auto, unfolding(rv_decode::specs::Needs::needs_of_perm, crate::specs::Permutations::compress_of))]
+#[tactic(auto, unfolding(rv_decode::specs::Needs::needs_of_perm, crate::specs::Permutations::compress_of, crate::specs::Permutations::perm_of))]
 fn compress<E: VectorElement, const VLENB: usize>(
     registers: &mut VregFile<VLENB>,
+    scalar: &Scalar,
     setup: &Setup,
-    vd: Reg,
-    vs2: Reg,
-    vs1: Reg,
+    insn: &VPerm,
     a: &mut [E],
 )
+    requires shape { perm_shape_of insn.now ≡ CompressShape }
     requires a_len { length a.old ≡ setup.now.vl }
     requires width { E.sew ≡ setup.now.vtype.sew }
-    requires ready { IsReady VLENB setup.now (needs_of_perm (VPerm.Compress vd vs2 vs1)) }
-    ensures { registers.new ≡ compress_of VLENB setup.now vd vs2 vs1 registers.old }
+    requires ready { IsReady VLENB setup.now (needs_of_perm insn.now) }
+    ensures { registers.new ≡ perm_of VLENB setup.now scalar.now insn.now registers.old }
 {
-    let destination = setup.group(vd, Eew::Same);
+    let VPerm::Compress { vd, vs2, vs1 } = insn else {
+        unreachable!()
+    };
+    let destination = setup.group(*vd, Eew::Same);
     let mut bits = [false; MOST_ELEMENTS];
     let bits = &mut bits[..setup.vl];
-    registers.read_mask(vs1, bits);
-    read_body(registers, setup, vs2, a);
+    registers.read_mask(*vs1, bits);
+    read_body(registers, setup, *vs2, a);
     let count = compress_results(bits, a);
     write_results(registers, setup, &destination, false, &a[..count]);
 }
@@ -330,42 +365,13 @@ fn permute_elements<E: VectorElement, const VLENB: usize>(
     ensures { registers.new ≡ perm_of VLENB setup.now scalar.now insn.now registers.old }
 {
     match insn {
-        VPerm::SlideUp {
-            vd,
-            vs2,
-            offset,
-            masked,
-        } => slide_up(registers, scalar, setup, *vd, *vs2, *offset, *masked, a, c),
-        VPerm::SlideDown {
-            vd,
-            vs2,
-            offset,
-            masked,
-        } => slide_down(
-            registers, scalar, setup, *vd, *vs2, *offset, *masked, a, all,
-        ),
-        VPerm::SlideOneUp {
-            vd,
-            vs2,
-            rs1,
-            masked,
-        } => slide_one_up(registers, scalar, setup, *vd, *vs2, *rs1, *masked, a),
-        VPerm::SlideOneDown {
-            vd,
-            vs2,
-            rs1,
-            masked,
-        } => slide_one_down(registers, scalar, setup, *vd, *vs2, *rs1, *masked, a),
-        VPerm::Gather { vd, vs2, b, masked } => {
-            gather(registers, scalar, setup, *vd, *vs2, *b, *masked, a, all);
-        }
-        VPerm::Gather16 {
-            vd,
-            vs2,
-            vs1,
-            masked,
-        } => gather16(registers, setup, *vd, *vs2, *vs1, *masked, a, all),
-        VPerm::Compress { vd, vs2, vs1 } => compress(registers, setup, *vd, *vs2, *vs1, a),
+        VPerm::SlideUp { .. } => slide_up(registers, scalar, setup, insn, a, c),
+        VPerm::SlideDown { .. } => slide_down(registers, scalar, setup, insn, a, all),
+        VPerm::SlideOneUp { .. } => slide_one_up(registers, scalar, setup, insn, a),
+        VPerm::SlideOneDown { .. } => slide_one_down(registers, scalar, setup, insn, a),
+        VPerm::Gather { .. } => gather(registers, scalar, setup, insn, a, all),
+        VPerm::Gather16 { .. } => gather16(registers, scalar, setup, insn, a, all),
+        VPerm::Compress { .. } => compress(registers, scalar, setup, insn, a),
     }
 }
 

@@ -6,42 +6,27 @@ ghost use Rattle.region_mem.specs.Memory.{Memory};
 ghost use Rattle.rv_decode.specs.Needs.{needs_of_reduce};
 ghost use Rattle.vreg_groups.specs.VectorType.{bytes_of_width};
 ghost use Rattle.vector_core.specs.Integer.{lane_width};
-ghost use Rattle.vector_core.specs.Reductions.{fold_lanes, fold_of, reduce_of, reduce_step};
-ghost use Rattle.vector_core.specs.Reductions.{sum_width, widen_sum_of};
+ghost use Rattle.vector_core.specs.Reductions.{fold_of, reduce_of, reduce_step, sum_width};
+ghost use Rattle.vector_core.specs.Reductions.{widen_sum_of};
 ghost use Rattle.vector_core.specs.Setup.{IsReady};
 
-use crate::fold_elements::{FoldElement, extended_sum, fold_result};
+use crate::elements::VectorElement;
+use crate::fold_elements::{extended_sum, fold_result};
 use crate::operands::read_body;
+use crate::rooms::with_rooms;
 use crate::setup::Setup;
 use crate::singles::write_first;
 use crate::state::VectorState;
-use lane_masks::FoldOp;
-use rv_decode::{Reg, VReduce, Width};
+use rv_decode::{FoldOp, Reg, VReduce, Width};
 use scalar_core::Scalar;
 use vreg_groups::{MOST_ELEMENTS, VregFile};
 
-#[tactic(auto, unfolding(crate::specs::Reductions::fold_lanes))]
-fn fold_lanes(op: rv_decode::FoldOp) -> FoldOp
-    ensures { result ≡ fold_lanes op }
-{
-    match op {
-        rv_decode::FoldOp::Sum => FoldOp::Sum,
-        rv_decode::FoldOp::And => FoldOp::And,
-        rv_decode::FoldOp::Or => FoldOp::Or,
-        rv_decode::FoldOp::Xor => FoldOp::Xor,
-        rv_decode::FoldOp::Minu => FoldOp::MinU,
-        rv_decode::FoldOp::Min => FoldOp::Min,
-        rv_decode::FoldOp::Maxu => FoldOp::MaxU,
-        rv_decode::FoldOp::Max => FoldOp::Max,
-    }
-}
-
 /// Element 0 of vd is the fold of element 0 of vs1 with the active elements of vs2, whose body there is room for in `a`.
 #[tactic(auto, unfolding(rv_decode::specs::Needs::needs_of_reduce, crate::specs::Reductions::fold_of))]
-fn fold_elements<E: FoldElement, const VLENB: usize>(
+fn fold_elements<E: VectorElement, const VLENB: usize>(
     registers: &mut VregFile<VLENB>,
     setup: &Setup,
-    op: rv_decode::FoldOp,
+    op: FoldOp,
     vd: Reg,
     vs2: Reg,
     vs1: Reg,
@@ -50,7 +35,7 @@ fn fold_elements<E: FoldElement, const VLENB: usize>(
 )
     requires a_len { length a.old ≡ setup.now.vl }
     requires fits { FitsInMemory E.row }
-    requires width { E.VectorElement.sew ≡ setup.now.vtype.sew }
+    requires width { E.sew ≡ setup.now.vtype.sew }
     requires ready { IsReady VLENB setup.now (needs_of_reduce
         (VReduce.Fold op vd vs2 vs1 masked)) }
     ensures { registers.new ≡ fold_of VLENB setup.now op vd vs2 vs1 masked registers.old }
@@ -60,7 +45,7 @@ fn fold_elements<E: FoldElement, const VLENB: usize>(
     registers.read_active(masked, active);
     let start = registers.first_element::<E>(vs1);
     read_body(registers, setup, vs2, a);
-    let value = fold_result(fold_lanes(op), start, a, active);
+    let value = fold_result(op, start, a, active);
     write_first(registers, setup, vd, value);
 }
 
@@ -68,7 +53,7 @@ fn fold_elements<E: FoldElement, const VLENB: usize>(
 fn fold<const VLENB: usize>(
     registers: &mut VregFile<VLENB>,
     setup: &Setup,
-    op: rv_decode::FoldOp,
+    op: FoldOp,
     vd: Reg,
     vs2: Reg,
     vs1: Reg,
@@ -78,27 +63,17 @@ fn fold<const VLENB: usize>(
     ensures { registers.new ≡ fold_of VLENB setup.now op vd vs2 vs1 masked registers.old }
 {
     let vl = setup.vl;
-    let sew = setup.vtype.sew;
-    match sew {
-        Width::W8 => {
-            let mut a = [0u8; MOST_ELEMENTS];
-            fold_elements(registers, setup, op, vd, vs2, vs1, masked, &mut a[..vl]);
-        }
-        Width::W16 => {
-            let mut a = [0u16; MOST_ELEMENTS / 2];
-            fold_elements(registers, setup, op, vd, vs2, vs1, masked, &mut a[..vl]);
-        }
-        Width::W32 => {
-            let mut a = [0u32; MOST_ELEMENTS / 4];
-            fold_elements(registers, setup, op, vd, vs2, vs1, masked, &mut a[..vl]);
-        }
-    }
+    with_rooms!(
+        setup,
+        [a: vl],
+        fold_elements(registers, setup, op, vd, vs2, vs1, masked, a)
+    );
 }
 
 /// Element 0 of vd, of 2*SEW, is the sum of element 0 of vs1, of 2*SEW, with the active elements of vs2, which are extended
 /// and whose body there is room for in `a`.
 #[tactic(auto, unfolding(rv_decode::specs::Needs::needs_of_reduce, crate::specs::Reductions::widen_sum_of))]
-fn widen_sum_elements<W: FoldElement, N: FoldElement, const VLENB: usize>(
+fn widen_sum_elements<W: VectorElement, N: VectorElement, const VLENB: usize>(
     registers: &mut VregFile<VLENB>,
     setup: &Setup,
     signed: bool,
@@ -110,9 +85,9 @@ fn widen_sum_elements<W: FoldElement, N: FoldElement, const VLENB: usize>(
 )
     requires a_len { length a.old ≡ setup.now.vl }
     requires fits { FitsInMemory W.row }
-    requires width { N.VectorElement.sew ≡ setup.now.vtype.sew }
+    requires width { N.sew ≡ setup.now.vtype.sew }
     requires wide_size { W.SIZE ≡ 2 * bytes_of_width setup.now.vtype.sew }
-    requires wide_width { lane_width W.VectorElement.sew ≡ sum_width setup.now.vtype.sew }
+    requires wide_width { lane_width W.sew ≡ sum_width setup.now.vtype.sew }
     requires ready { IsReady VLENB setup.now (needs_of_reduce
         (VReduce.WidenSum signed vd vs2 vs1 masked)) }
     ensures { registers.new ≡ widen_sum_of VLENB setup.now signed vd vs2 vs1 masked registers.old }

@@ -12,8 +12,8 @@ ghost use Rattle.vector_core.specs.Widening.{doubled};
 use crate::elements::VectorElement;
 use crate::operands::{read_body, read_second};
 use crate::setup::Setup;
-use lane_fixed::{ClipOp, RoundingMode};
-use rv_decode::{Reg, Source};
+use lane_fixed::RoundingMode;
+use rv_decode::{ClipOp, Reg, Source};
 use scalar_core::Scalar;
 use vreg_groups::VregFile;
 

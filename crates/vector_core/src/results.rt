@@ -8,7 +8,7 @@ ghost use Rattle.vector_core.specs.Integer.{lane_width};
 ghost use Rattle.vector_core.specs.Moves.{chosen};
 
 use crate::elements::VectorElement;
-use lane_int::{CarryOp, CompareOp, IntOp, MultiplyAddOp};
+use rv_decode::{CarryOp, CompareOp, IntOp, MultiplyAddOp};
 
 /// An operation on each pair of elements, over the first of them.
 pub fn int_results<E: VectorElement>(op: IntOp, values: &mut [E], b: &[E])

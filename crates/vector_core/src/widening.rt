@@ -5,10 +5,12 @@ ghost use Rattle.std.specs.Prelude.{◌≡◌, ◌/◌, length};
 ghost use Rattle.rv_decode.specs.Needs.{eew_of, needs_of_arith};
 ghost use Rattle.rv_decode.specs.declared.instructions.Fraction.TheVariants.{Half, Quarter};
 ghost use Rattle.vreg_groups.specs.Legality.{eew_bits};
+ghost use Rattle.vector_core.specs.Arithmetic.{arith_of};
+ghost use Rattle.vector_core.specs.Computed.{exact};
+ghost use Rattle.vector_core.specs.Shapes.{WideShape, WidenMultiplyAddShape, WidenShape, shape_of};
 ghost use Rattle.vector_core.specs.Integer.{lane_width};
 ghost use Rattle.vector_core.specs.Setup.{IsReady};
-ghost use Rattle.vector_core.specs.Widening.{extend_of, fraction_width, wide_of};
-ghost use Rattle.vector_core.specs.Widening.{widen_multiply_add_of, widen_of};
+ghost use Rattle.vector_core.specs.Widening.{extend_of, fraction_width};
 
 use crate::elements::VectorElement;
 use crate::operands::write_results;
@@ -18,104 +20,122 @@ use crate::operations::{
 use crate::resizing::{HalfOf, Narrow, read_doubled, read_second_doubled};
 use crate::results::{int_results, multiply_add_results};
 use crate::setup::Setup;
-use lane_int::MultiplyAddOp;
-use rv_decode::{Eew, Fraction, Reg, Source, VArith, WideOp, WidenMultiplyAddOp, WidenOp, Width};
+use rv_decode::{Eew, Fraction, MultiplyAddOp, Reg, VArith, Width};
 use scalar_core::Scalar;
 use vreg_groups::{MOST_ELEMENTS, VregFile};
 
 /// vd is an operation on vs2 and b, both of SEW.
-#[tactic(auto, unfolding(rv_decode::specs::Needs::needs_of_arith, crate::specs::Widening::widen_of))]
+#[tactic(auto, unfolding(rv_decode::specs::Needs::needs_of_arith, crate::specs::Widening::widen_of, crate::specs::Arithmetic::arith_of))]
 pub fn widen<N: HalfOf<W>, W: VectorElement, const VLENB: usize>(
     registers: &mut VregFile<VLENB>,
     scalar: &Scalar,
     setup: &Setup,
-    op: WidenOp,
-    vd: Reg,
-    vs2: Reg,
-    b: Source,
-    masked: bool,
+    insn: &VArith,
     a: &mut [N],
     x: &mut [W],
     y: &mut [W],
 )
+    requires shape { shape_of insn.now ≡ WidenShape }
     requires a_len { length a.old ≡ setup.now.vl }
     requires x_len { length x.old ≡ setup.now.vl }
     requires y_len { length y.old ≡ setup.now.vl }
     requires width { N.sew ≡ setup.now.vtype.sew }
-    requires ready { IsReady VLENB setup.now (needs_of_arith (VArith.Widen op vd vs2 b masked)) }
-    ensures { registers.new ≡ widen_of VLENB setup.now scalar.now op vd vs2 b masked registers.old }
+    requires ready { IsReady VLENB setup.now (needs_of_arith insn.now) }
+    ensures { arith_of VLENB setup.now scalar.now insn.now registers.old ≡ exact registers.new }
 {
-    let destination = setup.group(vd, Eew::Double);
-    let signs = widen_signs(op);
-    read_doubled(registers, setup, vs2, signs.vs2, a, x);
-    read_second_doubled(registers, scalar, setup, b, signs.b, a, y);
-    int_results(widen_lanes(op), x, y);
-    write_results(registers, setup, &destination, masked, x);
+    let VArith::Widen {
+        op,
+        vd,
+        vs2,
+        b,
+        masked,
+    } = insn
+    else {
+        unreachable!()
+    };
+    let destination = setup.group(*vd, Eew::Double);
+    let signs = widen_signs(*op);
+    read_doubled(registers, setup, *vs2, signs.vs2, a, x);
+    read_second_doubled(registers, scalar, setup, *b, signs.b, a, y);
+    int_results(widen_lanes(*op), x, y);
+    write_results(registers, setup, &destination, *masked, x);
 }
 
 /// vd is an operation on vs2, of 2*SEW, and b, of SEW.
-#[tactic(auto, unfolding(rv_decode::specs::Needs::needs_of_arith, crate::specs::Widening::wide_of))]
+#[tactic(auto, unfolding(rv_decode::specs::Needs::needs_of_arith, crate::specs::Widening::wide_of, crate::specs::Arithmetic::arith_of))]
 pub fn wide<N: HalfOf<W>, W: VectorElement, const VLENB: usize>(
     registers: &mut VregFile<VLENB>,
     scalar: &Scalar,
     setup: &Setup,
-    op: WideOp,
-    vd: Reg,
-    vs2: Reg,
-    b: Source,
-    masked: bool,
+    insn: &VArith,
     a: &mut [N],
     x: &mut [W],
     y: &mut [W],
 )
+    requires shape { shape_of insn.now ≡ WideShape }
     requires a_len { length a.old ≡ setup.now.vl }
     requires x_len { length x.old ≡ setup.now.vl }
     requires y_len { length y.old ≡ setup.now.vl }
     requires width { N.sew ≡ setup.now.vtype.sew }
-    requires ready { IsReady VLENB setup.now (needs_of_arith (VArith.Wide op vd vs2 b masked)) }
-    ensures { registers.new ≡ wide_of VLENB setup.now scalar.now op vd vs2 b masked registers.old }
+    requires ready { IsReady VLENB setup.now (needs_of_arith insn.now) }
+    ensures { arith_of VLENB setup.now scalar.now insn.now registers.old ≡ exact registers.new }
 {
-    let destination = setup.group(vd, Eew::Double);
-    let source = setup.group::<VLENB>(vs2, Eew::Double);
+    let VArith::Wide {
+        op,
+        vd,
+        vs2,
+        b,
+        masked,
+    } = insn
+    else {
+        unreachable!()
+    };
+    let destination = setup.group(*vd, Eew::Double);
+    let source = setup.group::<VLENB>(*vs2, Eew::Double);
     source.read(registers, x);
-    read_second_doubled(registers, scalar, setup, b, is_wide_signed(op), a, y);
-    int_results(wide_lanes(op), x, y);
-    write_results(registers, setup, &destination, masked, x);
+    read_second_doubled(registers, scalar, setup, *b, is_wide_signed(*op), a, y);
+    int_results(wide_lanes(*op), x, y);
+    write_results(registers, setup, &destination, *masked, x);
 }
 
 /// vd is the product of b and vs2, both of SEW, and the old vd together, whose body there is room for in `d`.
-#[tactic(auto, unfolding(rv_decode::specs::Needs::needs_of_arith, crate::specs::Widening::widen_multiply_add_of))]
+#[tactic(auto, unfolding(rv_decode::specs::Needs::needs_of_arith, crate::specs::Widening::widen_multiply_add_of, crate::specs::Arithmetic::arith_of))]
 pub fn widen_multiply_add<N: HalfOf<W>, W: VectorElement, const VLENB: usize>(
     registers: &mut VregFile<VLENB>,
     scalar: &Scalar,
     setup: &Setup,
-    op: WidenMultiplyAddOp,
-    vd: Reg,
-    vs2: Reg,
-    b: Source,
-    masked: bool,
+    insn: &VArith,
     a: &mut [N],
     x: &mut [W],
     y: &mut [W],
     d: &mut [W],
 )
+    requires shape { shape_of insn.now ≡ WidenMultiplyAddShape }
     requires a_len { length a.old ≡ setup.now.vl }
     requires x_len { length x.old ≡ setup.now.vl }
     requires y_len { length y.old ≡ setup.now.vl }
     requires d_len { length d.old ≡ setup.now.vl }
     requires width { N.sew ≡ setup.now.vtype.sew }
-    requires ready { IsReady VLENB setup.now (needs_of_arith
-        (VArith.WidenMultiplyAdd op vd vs2 b masked)) }
-    ensures { registers.new ≡ widen_multiply_add_of VLENB setup.now scalar.now op vd vs2 b masked
-        registers.old }
+    requires ready { IsReady VLENB setup.now (needs_of_arith insn.now) }
+    ensures { arith_of VLENB setup.now scalar.now insn.now registers.old ≡ exact registers.new }
 {
-    let destination = setup.group(vd, Eew::Double);
-    let signs = widen_multiply_add_signs(op);
-    read_doubled(registers, setup, vs2, signs.vs2, a, x);
-    read_second_doubled(registers, scalar, setup, b, signs.b, a, y);
+    let VArith::WidenMultiplyAdd {
+        op,
+        vd,
+        vs2,
+        b,
+        masked,
+    } = insn
+    else {
+        unreachable!()
+    };
+    let destination = setup.group(*vd, Eew::Double);
+    let signs = widen_multiply_add_signs(*op);
+    read_doubled(registers, setup, *vs2, signs.vs2, a, x);
+    read_second_doubled(registers, scalar, setup, *b, signs.b, a, y);
     destination.read(registers, d);
     multiply_add_results(MultiplyAddOp::Macc, x, y, d);
-    write_results(registers, setup, &destination, masked, d);
+    write_results(registers, setup, &destination, *masked, d);
 }
 
 /// vd is vs2, of a fraction of SEW, with zeros or its sign above.

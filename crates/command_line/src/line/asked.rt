@@ -22,7 +22,7 @@ pub enum Line<'a> {
     /// Checks the image of the job at `job`, and answers commands on its run if it is accepted.
     Mon { job: &'a str, explain: bool },
     /// Makes the certificate of an image for a job, and writes the image with it.
-    Make(MakePaths<'a>),
+    Make { paths: MakePaths<'a>, explain: bool },
 }
 
 /// Why a command line asks for nothing that can be done.

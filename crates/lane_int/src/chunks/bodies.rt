@@ -7,17 +7,17 @@ macro_rules! chunk_cases {
         match $op {
             Op::Add => $values + $b,
             Op::Sub => $values - $b,
-            Op::ReverseSub => $b - $values,
-            Op::MinU => $values.simd_min($b),
+            Op::Rsub => $b - $values,
+            Op::Minu => $values.simd_min($b),
             Op::Min => turned($b).simd_lt(turned($values)).select($b, $values),
-            Op::MaxU => $values.simd_max($b),
+            Op::Maxu => $values.simd_max($b),
             Op::Max => turned($b).simd_lt(turned($values)).select($values, $b),
             Op::And => $values & $b,
             Op::Or => $values | $b,
             Op::Xor => $values ^ $b,
-            Op::ShiftLeft => $values << amounts($b),
-            Op::ShiftRight => $values >> amounts($b),
-            Op::ShiftRightSigned => shift_right_signed($values, $b),
+            Op::Sll => $values << amounts($b),
+            Op::Srl => $values >> amounts($b),
+            Op::Sra => shift_right_signed($values, $b),
             Op::Mul => $values * $b,
             Op::Compare(op) => compare(op, $values, $b),
             Op::MultiplyAdd(op) => multiply_add(op, $values, $b, $old),
@@ -29,14 +29,14 @@ macro_rules! chunk_cases {
 macro_rules! compare_cases {
     ($op:ident, $values:ident, $b:ident) => {
         match $op {
-            CompareOp::Equal => $values.simd_eq($b),
-            CompareOp::NotEqual => $values.simd_ne($b),
-            CompareOp::LessU => $values.simd_lt($b),
-            CompareOp::Less => turned($values).simd_lt(turned($b)),
-            CompareOp::LessEqualU => $values.simd_le($b),
-            CompareOp::LessEqual => turned($values).simd_le(turned($b)),
-            CompareOp::GreaterU => $values.simd_gt($b),
-            CompareOp::Greater => turned($values).simd_gt(turned($b)),
+            CompareOp::Eq => $values.simd_eq($b),
+            CompareOp::Ne => $values.simd_ne($b),
+            CompareOp::Ltu => $values.simd_lt($b),
+            CompareOp::Lt => turned($values).simd_lt(turned($b)),
+            CompareOp::Leu => $values.simd_le($b),
+            CompareOp::Le => turned($values).simd_le(turned($b)),
+            CompareOp::Gtu => $values.simd_gt($b),
+            CompareOp::Gt => turned($values).simd_gt(turned($b)),
         }
     };
 }

@@ -7,7 +7,8 @@ ghost use Rattle.lane_int.specs.Integer.{element, compares, multiply_added, shif
 ghost use Rattle.lane_int.specs.Lists.{zip3};
 
 use crate::chunks::bodies::{chunk_cases, compare_cases, multiply_add_cases};
-use crate::operations::{CompareOp, IntOp, MultiplyAddOp, Op};
+use crate::operations::Op;
+use rv_decode::{CompareOp, IntOp, MultiplyAddOp};
 use std::simd::prelude::*;
 
 /// What `op` makes of each lane of `values`, which are vs2's, of `b`'s lane and of vd's old one: 16 elements of 8 bits
@@ -48,7 +49,7 @@ fn amounts(b: u8x16) -> u8x16
 /// vsra: a turned lane is 2^7 more than its number, so that its shift is more by the shifted 2^7.
 #[inline(always)]
 fn shift_right_signed(values: u8x16, b: u8x16) -> u8x16
-    ensures { result ≡ zip2 (element IntOp.ShiftRightSigned w8) values b }
+    ensures { result ≡ zip2 (element IntOp.Sra w8) values b }
 {
     let tops = u8x16::splat(1 << 7);
     let amounts = amounts(b);

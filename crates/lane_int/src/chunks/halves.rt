@@ -7,7 +7,8 @@ ghost use Rattle.lane_int.specs.Integer.{element, compares, multiply_added, shif
 ghost use Rattle.lane_int.specs.Lists.{zip3};
 
 use crate::chunks::bodies::{chunk_cases, compare_cases, multiply_add_cases};
-use crate::operations::{CompareOp, IntOp, MultiplyAddOp, Op};
+use crate::operations::Op;
+use rv_decode::{CompareOp, IntOp, MultiplyAddOp};
 use std::simd::prelude::*;
 
 /// What `op` makes of each lane of `values`, which are vs2's, of `b`'s lane and of vd's old one: 8 elements of 16 bits
@@ -48,7 +49,7 @@ fn amounts(b: u16x8) -> u16x8
 /// vsra: a turned lane is 2^15 more than its number, so that its shift is more by the shifted 2^15.
 #[inline(always)]
 fn shift_right_signed(values: u16x8, b: u16x8) -> u16x8
-    ensures { result ≡ zip2 (element IntOp.ShiftRightSigned w16) values b }
+    ensures { result ≡ zip2 (element IntOp.Sra w16) values b }
 {
     let tops = u16x8::splat(1 << 15);
     let amounts = amounts(b);

@@ -7,7 +7,8 @@ ghost use Rattle.lane_int.specs.Integer.{element, compares, multiply_added, shif
 ghost use Rattle.lane_int.specs.Lists.{zip3};
 
 use crate::chunks::bodies::{chunk_cases, compare_cases, multiply_add_cases};
-use crate::operations::{CompareOp, IntOp, MultiplyAddOp, Op};
+use crate::operations::Op;
+use rv_decode::{CompareOp, IntOp, MultiplyAddOp};
 use std::simd::prelude::*;
 
 /// What `op` makes of each lane of `values`, which are vs2's, of `b`'s lane and of vd's old one: 4 elements of 32 bits
@@ -48,7 +49,7 @@ fn amounts(b: u32x4) -> u32x4
 /// vsra: a turned lane is 2^31 more than its number, so that its shift is more by the shifted 2^31.
 #[inline(always)]
 fn shift_right_signed(values: u32x4, b: u32x4) -> u32x4
-    ensures { result ≡ zip2 (element IntOp.ShiftRightSigned w32) values b }
+    ensures { result ≡ zip2 (element IntOp.Sra w32) values b }
 {
     let tops = u32x4::splat(1 << 31);
     let amounts = amounts(b);

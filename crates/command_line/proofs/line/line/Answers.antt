@@ -1,7 +1,7 @@
 use Rattle.std.proofs.Common.{rules, ◌≡◌, map, ℕ, List}
 use Rattle.clap.specs.Words.{app_of, subcommand_rows_of}
 use Rattle.command_line.specs.Line.{app}
-use Rattle.command_line.proofs.LineLemmas.{are_make_paths, is_explained, is_path, no_fault, no_make_paths, no_path, no_path_of, path_named, same_entered}
+use Rattle.command_line.proofs.LineLemmas.{are_make_paths, has_kind, is_explained, is_path, no_fault, no_make_paths, no_path, no_path_of, path_named, same_entered}
 use Rattle.command_line.proofs.line.line.Goals as goal
 
 pub returns-in-Some-clause-line : goal.returns-in-Some-clause-line
@@ -37,7 +37,7 @@ returns-in-Some-make_paths-clause-line c =
     let words : List (List ℕ) = map (λ w. w.now) c.args.words.now in
     let is : app_of c.in_ok-command.command ≡ app = search rules in
     let same = same_entered _ words _ (subcommand_rows_of c.in-Ok.matches) is c.in-Ok.ensures.matches in
-    are_make_paths words c.in-Some-make_paths.paths _ (no_fault _ words is c.in-Ok.ensures.kinds) same c.in-Some-make_paths.ensures
+    (are_make_paths words c.in-Some-make_paths.paths _ (no_fault _ words is c.in-Ok.ensures.kinds) same c.in-Some-make_paths.ensures, is_explained words _ _ _ same c.is_asked-explain-in-Some-make_paths.ensures)
 
 pub unreachable-requires : goal.unreachable-requires
 unreachable-requires c =
@@ -50,3 +50,10 @@ unreachable-requires c =
     let no_try = no_path_of words _ _ _ same (c.in_default-path-2.ensures) in
     let no_mon = no_path_of words _ _ _ same (c.in_default-path-3.ensures) in
     no_path _ (named no_image no_job no_try no_mon) (no_make_paths words _ same (c.in_default-make_paths.ensures))
+
+pub returns : goal.returns
+returns c =
+    let words : List (List ℕ) = map (λ w. w.now) c.args.words.now in
+    let is : app_of c.in_ok-command.command ≡ app = search rules in
+    let kind = has_kind _ words c.in-Err.error is c.in-Err.ensures.kinds in
+    search (rules, kind)

@@ -7,4 +7,5 @@ pub returns-clause-shape : goal.returns-clause-shape
 returns-clause-shape c =
     let image : app_of c.in_ok-image.image ≡ with_rule (new_app (codes "make")) (path_rule (codes "image")) = search rules in
     let job : app_of c.in_ok-job.job ≡ with_rule (with_rule (new_app (codes "make")) (path_rule (codes "image"))) (path_rule (codes "job")) = search (rules, image) in
-    search (rules, job)
+    let out : app_of c.in_ok-out.out ≡ with_rule (with_rule (with_rule (new_app (codes "make")) (path_rule (codes "image"))) (path_rule (codes "job"))) (path_rule (codes "out")) = search (rules, job) in
+    search (rules, out)

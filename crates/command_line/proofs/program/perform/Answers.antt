@@ -28,7 +28,7 @@ returns-in-Ok-Try-clause-asked g c =
 
 pub returns-in-Ok-Make-clause-asked : goal.returns-in-Ok-Make-clause-asked
 returns-in-Ok-Make-clause-asked g c =
-    asked_for g.S.Store.files (map (λ w. w.now) c.args.words.now) (line.Make c.in-Ok-Make.paths) _ _ _ _ _ _ c.make_image.result (rw c.in-Ok-Make.field-0-is at c.in-Ok-Make.ensures.line) c.make_image.ensures
+    asked_for g.S.Store.files (map (λ w. w.now) c.args.words.now) (line.Make c.in-Ok-Make.paths c.in-Ok-Make.explain) _ _ _ _ _ _ c.make_image.result (rw c.in-Ok-Make.field-0-is at c.in-Ok-Make.ensures.line) c.make_image.ensures
 
 pub returns-in-Ok-Mon-clause-asked : goal.returns-in-Ok-Mon-clause-asked
 returns-in-Ok-Mon-clause-asked g c =

@@ -7,4 +7,4 @@ pub returns-in_ok-watch-in-Ok : goal.returns-in_ok-watch-in-Ok
 returns-in_ok-watch-in-Ok g c =
     let fault = open_fault g.row.VLENB c.args.accepted.now c.args.args.places c.args.max in
     stopped g.row.VLENB c.args.agnostic c.args.max c.args.accepted.now c.args.args.places fault c.in-Ok.session c.watch.new.session c.close.result.places
-    refl c.in-Ok.ensures.refused c.in-Ok.ensures.machine c.in-Ok.ensures.first c.in_ok-watch-in-Ok.ensures.first c.stands.ensures.stop c.close.ensures.places
+    refl c.in-Ok.ensures.refused c.in-Ok.ensures.opened.machine c.in-Ok.ensures.opened.first c.in_ok-watch-in-Ok.ensures.first c.stands.ensures.stop c.close.ensures.places

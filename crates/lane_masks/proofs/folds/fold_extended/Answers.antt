@@ -3,7 +3,7 @@ use Rattle.std.proofs.lemmas.List.{length-map}
 use Rattle.lane_masks.specs.Folds.{extended, fold_of, joined}
 use mir.Val.{bits}
 use Rattle.std.specs.Int.{Width}
-use Rattle.lane_masks.specs.declared.operations.FoldOp.TheVariants.{Sum}
+use Rattle.rv_decode.specs.declared.instructions.FoldOp.TheVariants.{Sum}
 use Rattle.lane_masks.proofs.FoldLemmas.{fold_taken, fold_left, kept-end}
 use Rattle.lane_masks.proofs.OverlayLemmas.{number_at}
 use Rattle.lane_masks.proofs.folds.fold_extended.Goals.{then-active-i, else-active-i}

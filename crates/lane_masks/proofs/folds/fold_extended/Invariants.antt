@@ -2,7 +2,7 @@
 use Rattle.std.proofs.Common.{◌≡◌, map, drop}
 use Rattle.std.specs.List.{fold}
 use Rattle.lane_masks.specs.Folds.{extended, fold_of, joined, kept}
-use Rattle.lane_masks.specs.declared.operations.FoldOp.TheVariants.{Sum}
+use Rattle.rv_decode.specs.declared.instructions.FoldOp.TheVariants.{Sum}
 use Rattle.lane_masks.proofs.folds.fold_extended.Given as goal
 
 abbrev pub invariant-loop-i : goal.invariant-loop-i

@@ -13,5 +13,5 @@ loop-k-preserved c = record {
   runs = search rules;
   ran = one_more _ _ _ _ _ c.loop-k.runs c.loop-k.k c.args.memory.now c.loop-k.memory c.run_one.new.memory c.run_one.result
       (omega arith) c.loop-k.invariant.ran
-      (λ none. record { done = rw (get_or_default c.args.sets.now c.loop-k.k none [] (omega arith)) c.run_one.ensures.ran; within = c.run_one.ensures.within; refused = c.run_one.ensures.refused });
+      (λ none. record { done = rw (get_or_default c.args.sets.now c.loop-k.k none [] (omega arith)) c.run_one.ensures.ran; within = c.run_one.ensures.within; refused = c.run_one.ensures.refused; answer = rw (get_or_default c.args.sets.now c.loop-k.k none [] (omega arith)) c.run_one.ensures.answer });
 }

@@ -9,8 +9,8 @@ pub returns-in-Ok-clause-ran : goal.returns-in-Ok-clause-ran
 returns-in-Ok-clause-ran g c = record {
   last = c.run-steps.new.self.machine;
   run = is_run g.row.VLENB c.args.agnostic c.args.accepted.now c.in_ok-args.args.places (arguments_of c.args.places.now c.args.memory.now) c.in-Ok.session
-      c.run-steps.result c.run-steps.new.self.machine c.run-steps.new.self.bound c.in_ok-args.ensures.named c.in-Ok.ensures.matching c.in-Ok.ensures.machine
-      c.in-Ok.ensures.steps c.in-Ok.ensures.bound c.run-steps.ensures.first c.run-steps.ensures.bound
+      c.run-steps.result c.run-steps.new.self.machine c.run-steps.new.self.bound c.in_ok-args.ensures.named c.in-Ok.ensures.opened.matching c.in-Ok.ensures.opened.machine
+      c.in-Ok.ensures.opened.steps c.in-Ok.ensures.opened.bound c.run-steps.ensures.first c.run-steps.ensures.bound
       (subst (λ (n : ℕ). n ≤ c.run-steps.new.self.bound) (sym c.run-steps.ensures.steps) c.run-steps.ensures.within);
   put = c.put_all_back.ensures.value ∙ ap (λ (l : List Argument). all_put l c.args.places.now c.args.memory.now) c.close.ensures.places;
 }

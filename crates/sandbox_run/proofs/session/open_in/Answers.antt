@@ -58,14 +58,24 @@ invariant_of-result g c =
     let parameters-are : c.of-in-Ok.result.value ≡ c.args.accepted.now.certificate.parameters = c.of-in-Ok.ensures ∙ c.parameters-parameters.ensures in
     (well.0, well.1, rw first-is (stop_at_start g.row.VLENB c.in-Ok.machine), rw (parameters-are, first-is) back)
 
-pub returns-in-Ok-clause-passed : goal.returns-in-Ok-clause-passed
-returns-in-Ok-clause-passed g c =
+pub returns-in-Ok-clause-opened : goal.returns-in-Ok-clause-opened
+returns-in-Ok-clause-opened g c =
     let matching : AreArguments c.args.accepted.now.certificate.parameters c.args.args.places = rw (← c.parameters-parameters.ensures) c.in_default.ensures.matching in
     let state-is : c.in-Ok.machine ≡ start g.row.VLENB c.args.agnostic c.args.accepted.now.image c.args.accepted.now.certificate.parameters c.args.args.places = rw (← c.image-2.ensures, ← c.parameters-parameters.ensures) c.in-Ok.ensures.start in
     let image-is : IsImage c.args.accepted.now.image = rw (← c.image.ensures) c.segments-segments.ensures.image in
     let stated : IsCertificate c.args.accepted.now.certificate = rw (← c.certificate.ensures) c.contents-contents.ensures.certificate in
     let first-is : c.of.result.value ≡ c.in-Ok.machine = c.of.ensures in
-    rw first-is (passed_back g.row.VLENB c.args.agnostic c.args.accepted.now.image c.args.accepted.now.certificate c.args.args.places c.in-Ok.machine image-is stated c.scalars.ensures.eight matching state-is)
+    let bound-is : c.bound-bound.result ≡ bound_of c.args.accepted.now (scalars_of c.args.args.places) = cc (c.bound-bound.ensures, c.scalars.ensures.made) in
+    record {
+      machine = state-is;
+      steps = refl;
+      bound = bound-is;
+      within = omega (arith, c.from-2.ensures, c.if-bound-from.false);
+      matching = matching;
+      first = first-is;
+      parameters = c.of-in-Ok.ensures ∙ c.parameters-parameters.ensures;
+      passed = rw first-is (passed_back g.row.VLENB c.args.agnostic c.args.accepted.now.image c.args.accepted.now.certificate c.args.args.places c.in-Ok.machine image-is stated c.scalars.ensures.eight matching state-is);
+    }
 
 pub returns-in-Ok-clause-refused : goal.returns-in-Ok-clause-refused
 returns-in-Ok-clause-refused g c =

@@ -1,6 +1,7 @@
-use Rattle.std.proofs.Common.{◌≡◌, drop}
-use Rattle.vector_core.specs.Start.{start_hart, with_arguments}
+-- The registers so far.
+use Rattle.vector_core.specs.Start.{passed_at}
+use Rattle.sandbox_run.proofs.StartLemmas.{IsBegun}
 use Rattle.sandbox_run.proofs.start.start_hart.Given as goal
 
-abbrev pub invariant-loop-place : goal.invariant-loop-place
-invariant-loop-place g l = with_arguments l.parameters l.place (drop l.place l.places) l.hart ≡ start_hart l.entry l.parameters l.places
+abbrev pub invariant-loop-register : goal.invariant-loop-register
+invariant-loop-register g l = IsBegun l.entry (passed_at l.parameters l.places) l.register l.hart

@@ -7,7 +7,7 @@ use Rattle.std.proofs.lemmas.Int.{fits_signed_mul, int_wrap_fits, of_z-to_z, to_
 use Rattle.std.proofs.Math.Nat.{mod-eq_of_lt, mod-lt}
 use Rattle.std.proofs.lemmas.Nat.{mul-lt}
 use Rattle.std.proofs.Math.Facts.{sfits_to_z}
-use Rattle.lane_int.specs.declared.operations.IntOp.TheVariants.{Add, Sub, ReverseSub, MinU, Min, MaxU, Max, And, Or, Xor, ShiftLeft, ShiftRight, ShiftRightSigned, Mul, MulHighU, MulHighSignedU, MulHigh, DivU, Div, RemU, Rem}
+use Rattle.rv_decode.specs.declared.instructions.IntOp.TheVariants.{Add, Sub, Rsub, Minu, Min, Maxu, Max, And, Or, Xor, Sll, Srl, Sra, Mul, Mulhu, Mulhsu, Mulh, Divu, Div, Remu, Rem}
 use Rattle.lane_int.specs.Integer.{element, high_half}
 use Rattle.scalar_core.specs.Arithmetic.{register_result, signed, upper_half}
 use Rattle.vector_core.specs.Laws.{ElementsAreRegisterResults}
@@ -58,26 +58,26 @@ registers_agree : ElementsAreRegisterResults
 unfolding element register_result
 registers_agree Add a b p q = refl
 registers_agree Sub a b p q = refl
-registers_agree ReverseSub a b p q = tt
-registers_agree MinU a b p q = tt
+registers_agree Rsub a b p q = tt
+registers_agree Minu a b p q = tt
 registers_agree Min a b p q = tt
-registers_agree MaxU a b p q = tt
+registers_agree Maxu a b p q = tt
 registers_agree Max a b p q = tt
 registers_agree And a b p q = refl
 registers_agree Or a b p q = refl
 registers_agree Xor a b p q = refl
-registers_agree ShiftLeft a b p q = refl
-registers_agree ShiftRight a b p q = refl
-registers_agree ShiftRightSigned a b p q = refl
+registers_agree Sll a b p q = refl
+registers_agree Srl a b p q = refl
+registers_agree Sra a b p q = refl
 registers_agree Mul a b p q = refl
-registers_agree MulHighU a b p q = let small : a * b < 2 ^ 64 = mul-lt a b (2 ^ 32) (2 ^ 32) p q in ap (λ m. m / 2 ^ 32) (mod-eq_of_lt small)
-registers_agree MulHighSignedU a b p q = half (signed a) (pos b) (read_fits a p) (pos_fits b q) (omega arith)
-registers_agree MulHigh a b p q =
+registers_agree Mulhu a b p q = let small : a * b < 2 ^ 64 = mul-lt a b (2 ^ 32) (2 ^ 32) p q in ap (λ m. m / 2 ^ 32) (mod-eq_of_lt small)
+registers_agree Mulhsu a b p q = half (signed a) (pos b) (read_fits a p) (pos_fits b q) (omega arith)
+registers_agree Mulh a b p q =
     let bound = abs_of_signed (signed b) (read_fits b q) in
     half (signed a) (signed b) (read_fits a p) (fits_64 (signed b) (read_fits b q)) (omega (arith, bound))
-registers_agree DivU a b p q = refl
+registers_agree Divu a b p q = refl
 registers_agree Div a b p q = refl
-registers_agree RemU a b p q = refl
+registers_agree Remu a b p q = refl
 registers_agree Rem a b p q = refl
 
 pub returns : goal.returns

@@ -1,0 +1,124 @@
+-- Why no certificate is made of an image for a job, and in which words it is told.
+use Rattle.std.specs.Prelude.{◌≡◌, ℕ, ◌+◌, ◌++◌, ◌==◌, not, nat_lt, Bool, List, [], codes, length}
+use Rattle.std.specs.Prelude.{position, Option, Some, None, string_bytes, if◌then◌else◌}
+use Rattle.std.specs.Fmt.{decimal}
+use Rattle.std.specs.List.{slice_get}
+use Rattle.std.specs.Str.Lossy.{utf8_lossy}
+use Rattle.elf_image.specs.Image.{ImageView, code_at}
+use Rattle.elf_image.specs.Words.{half_at}
+use Rattle.elf_image.specs.declared.error.ElfError.{ElfError}
+use Rattle.elf_image.specs.declared.error.ElfError.TheVariants as error
+use Rattle.region_mem.specs.Parameter.{is_valid}
+use Rattle.region_mem.specs.declared.parameter.Param.{Param}
+use Rattle.region_mem.specs.declared.parameter.Param.TheVariants as parameter
+use Rattle.rv_listing.specs.Listing.{listing_text}
+use Rattle.explanations.specs.Address.{address_text}
+use Rattle.explanations.specs.declared.make.LoopRow.{LoopRow}
+use Rattle.explanations.specs.declared.make.LoopRow.TheVariants as row
+use Rattle.explanations.specs.declared.make.MakeReason.{MakeReason}
+use Rattle.explanations.specs.declared.make.MakeReason.TheVariants as reason
+
+-- ---- a word that does not fit
+
+-- which row of a plain loop is wanted at an address, for a loop that begins at the entry
+abbrev pub row_of : ℕ → ℕ → LoopRow
+row_of entry pc =
+    if pc == entry then row.Count else (if pc == entry + 4 then row.Length else row.Later)
+
+-- what is told of the word at an address, if there is one, and how it is listed
+abbrev pub IsWordTold : ℕ → LoopRow → Option ℕ → MakeReason → Type 0
+IsWordTold pc wanted None told = told ≡ reason.NoWord pc wanted
+IsWordTold pc wanted (Some word) (reason.Word at is text of) =
+    (at ≡ pc) × (is ≡ word) × (string_bytes text ≡ utf8_lossy (listing_text pc word)) × (of ≡ wanted)
+IsWordTold pc wanted (Some word) (reason.NoWord at of) = ⊥
+IsWordTold pc wanted (Some word) reason.Untold = ⊥
+IsWordTold pc wanted (Some word) (reason.Empty place lo hi) = ⊥
+IsWordTold pc wanted (Some word) (reason.LargeBuffer place size) = ⊥
+IsWordTold pc wanted (Some word) (reason.Certified size) = ⊥
+IsWordTold pc wanted (Some word) (reason.LargeFile size headers certificate) = ⊥
+
+abbrev pub IsWordReason : ImageView → ℕ → MakeReason → Type 0
+IsWordReason image pc told = IsWordTold pc (row_of image.entry pc) (code_at pc image) told
+
+-- ---- a parameter that there can't be
+
+abbrev pub is_invalid : Param → Bool
+is_invalid param = not (is_valid param)
+
+abbrev pub told_parameter : ℕ → Option Param → MakeReason
+told_parameter place (Some (parameter.Scalar lo hi)) = reason.Empty place lo hi
+told_parameter place (Some (parameter.Buffer mode size)) = reason.LargeBuffer place size
+told_parameter place (Some parameter.None) = reason.Untold
+told_parameter place None = reason.Untold
+
+abbrev pub told_first : Option ℕ → List Param → MakeReason
+told_first None params = reason.Untold
+told_first (Some place) params = told_parameter place (slice_get params place)
+
+-- the first parameter that there can't be
+abbrev pub parameter_reason : List Param → MakeReason
+parameter_reason params = told_first (position is_invalid params) params
+
+-- ---- a file that takes no certificate
+
+abbrev pub certificate_size : Option (List ℕ) → ℕ
+certificate_size None = 0
+certificate_size (Some bytes) = length bytes
+
+abbrev pub told_large : List ℕ → ℕ → MakeReason
+told_large file size =
+    if nat_lt (length file) 52 then reason.Untold
+    else reason.LargeFile (length file) (half_at 44 file) size
+
+-- why a certificate of so many bytes is not attached to a file, whose image has this one
+abbrev pub attach_reason : List ℕ → Option (List ℕ) → ℕ → ElfError → MakeReason
+attach_reason file there size error.CertificateThere = reason.Certified (certificate_size there)
+attach_reason file there size error.TooLarge = told_large file size
+attach_reason file there size error.TooShort = reason.Untold
+attach_reason file there size error.BadMagic = reason.Untold
+attach_reason file there size error.BadClass = reason.Untold
+attach_reason file there size error.BadType = reason.Untold
+attach_reason file there size error.BadMachine = reason.Untold
+attach_reason file there size error.BadFlags = reason.Untold
+attach_reason file there size error.BadHeaderTable = reason.Untold
+attach_reason file there size error.NotStatic = reason.Untold
+attach_reason file there size error.SegmentOutOfFile = reason.Untold
+attach_reason file there size error.SegmentOutOfPlace = reason.Untold
+attach_reason file there size error.SegmentsOverlap = reason.Untold
+attach_reason file there size error.WriteAndExecute = reason.Untold
+attach_reason file there size error.EntryNotCode = reason.Untold
+attach_reason file there size error.TwoCertificates = reason.Untold
+attach_reason file there size error.NoMemory = reason.Untold
+
+-- ---- the words
+
+abbrev pub row_wanted : LoopRow → List ℕ
+row_wanted row.Count =
+    codes "  wanted: beqz n,end, where n is a scalar: row 1 of a plain loop (docs/MAKE.md)\n"
+row_wanted row.Length =
+    codes "  wanted: vsetvli t,n: row 2 of a plain loop (docs/MAKE.md)\n"
+row_wanted row.Later =
+    codes "  wanted: what goes on with these words: rows 3 to 8 of a plain loop (docs/MAKE.md)\n"
+
+abbrev pub room_wanted : List ℕ
+room_wanted =
+    codes "  wanted: at most 63, and at most 4194304 bytes with one more and the certificate\n"
+
+-- the lines of a reason
+abbrev pub make_text : MakeReason → List ℕ
+make_text reason.Untold = []
+make_text (reason.NoWord pc wanted) =
+    codes "  at " ++ (address_text pc ++ (codes ": no word\n" ++ row_wanted wanted))
+make_text (reason.Word pc word listing wanted) = codes "  at " ++ (address_text pc ++ (codes ": "
+    ++ (address_text word ++ (codes "\n  that is " ++ (string_bytes listing ++ (codes "\n"
+    ++ row_wanted wanted))))))
+make_text (reason.Empty place lo hi) = codes "  lo of the param at place " ++ (decimal place
+    ++ (codes ": " ++ (decimal lo ++ (codes "\n  wanted: at most its hi, "
+    ++ (decimal hi ++ codes "\n")))))
+make_text (reason.LargeBuffer place size) = codes "  size of the param at place " ++ (decimal place
+    ++ (codes ": " ++ (decimal size ++ codes "\n  wanted: at most 16777216\n")))
+make_text (reason.Certified size) = codes "  there: a certificate of "
+    ++ (decimal size ++ codes " bytes\n  wanted: an image with no certificate\n")
+make_text (reason.LargeFile size headers certificate) = codes "  size of the file: "
+    ++ (decimal size ++ (codes "\n  size of the certificate: " ++ (decimal certificate
+    ++ (codes "\n  program headers: " ++ (decimal headers ++ (codes "\n" ++ room_wanted))))))

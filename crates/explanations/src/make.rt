@@ -1,0 +1,259 @@
+//! Why no certificate is made of an image for a job: the word that does not fit, a parameter that there
+//! can't be, or why the file takes no certificate.
+ghost use Rattle.std.specs.Prelude.{◌≡◌, IfOk, position};
+ghost use Rattle.explanations.specs.Make.{IsWordReason, attach_reason, certificate_size};
+ghost use Rattle.explanations.specs.Make.{is_invalid, parameter_reason, room_wanted, row_of};
+ghost use Rattle.explanations.specs.Make.{row_wanted};
+
+use crate::address::Address;
+use crate::check::listed;
+use crate::headers::half;
+use elf_image::{ElfError, Image};
+use region_mem::{MAX_BUFFER_SIZE, Param};
+use std::alloc::{AllocError, Global};
+use std::fmt;
+
+/// The rows of a plain loop, as docs/MAKE.md has them, of which one is wanted at an address.
+#[derive(Clone, Copy, Debug, PartialEq, Eq)]
+pub enum LoopRow {
+    /// The first, at the entry.
+    Count,
+    /// The second, behind it.
+    Length,
+    /// One behind these.
+    Later,
+}
+
+/// Why no certificate is made.
+#[derive(Debug, Drop)]
+pub enum MakeReason {
+    /// There is nothing to tell.
+    Untold,
+    /// There is no word of code at an address.
+    NoWord {
+        pc: u32,
+        row: LoopRow,
+    },
+    /// The word at an address does not fit; it is listed as this text.
+    Word {
+        pc: u32,
+        word: u32,
+        listing: String,
+        row: LoopRow,
+    },
+    /// The `lo` of the scalar at a place is above its `hi`.
+    Empty {
+        place: usize,
+        lo: u32,
+        hi: u32,
+    },
+    /// The buffer at a place is too large.
+    LargeBuffer {
+        place: usize,
+        size: u32,
+    },
+    /// The file has a certificate already, of so many bytes.
+    Certified(usize),
+    /// The file has too many program headers, or is too large with a certificate of so many bytes.
+    LargeFile {
+        size: usize,
+        headers: u16,
+        certificate: usize,
+    },
+}
+
+/// Which row is wanted at an address, for a loop that begins at the entry.
+fn row_of(entry: u32, pc: u32) -> LoopRow
+    ensures { result ≡ row_of entry pc }
+{
+    if pc == entry {
+        LoopRow::Count
+    } else if u64::from(pc) == u64::from(entry) + 4 {
+        LoopRow::Length
+    } else {
+        LoopRow::Later
+    }
+}
+
+/// Why no certificate is made of an image of which the word at an address does not fit.
+///
+/// # Errors
+/// An allocation was refused.
+pub fn word_reason(alloc: Global, image: &Image, pc: u32) -> Result<MakeReason, AllocError>
+    ensures { IfOk result (IsWordReason image.now pc) }
+{
+    let row = row_of(image.entry(), pc);
+    let Some(word) = image.code_at(pc) else {
+        return Ok(MakeReason::NoWord { pc, row });
+    };
+    let listing = listed(alloc, word, pc)?;
+    Ok(MakeReason::Word {
+        pc,
+        word,
+        listing,
+        row,
+    })
+}
+
+/// Whether there can't be such a parameter.
+#[tactic(auto, unfolding(region_mem::specs::Parameter::is_valid))]
+fn is_invalid(param: &Param) -> bool
+    ensures { result ≡ is_invalid param.now }
+{
+    match *param {
+        Param::None => false,
+        Param::Scalar { lo, hi } => hi < lo,
+        Param::Buffer { mode: _, size } => MAX_BUFFER_SIZE < size,
+    }
+}
+
+fn first_invalid(params: &[Param]) -> Option<usize>
+    ensures { result ≡ position is_invalid params.now }
+{
+    params.iter().position(|param| is_invalid(param))
+}
+
+/// Why there are no such parameters: the first that there can't be.
+pub fn parameter_reason(params: &[Param; 8]) -> MakeReason
+    ensures { result ≡ parameter_reason params.now }
+{
+    let Some(place) = first_invalid(params.as_slice()) else {
+        return MakeReason::Untold;
+    };
+    match params.get(place) {
+        Some(Param::Scalar { lo, hi }) => MakeReason::Empty {
+            place,
+            lo: *lo,
+            hi: *hi,
+        },
+        Some(Param::Buffer { mode: _, size }) => MakeReason::LargeBuffer { place, size: *size },
+        Some(Param::None) | None => MakeReason::Untold,
+    }
+}
+
+/// How many bytes an image's certificate has.
+fn certificate_size(image: &Image) -> usize
+    ensures { result ≡ certificate_size image.now.certificate }
+{
+    match image.certificate() {
+        Some(bytes) => bytes.len(),
+        None => 0,
+    }
+}
+
+/// Why a certificate of so many bytes is not attached to the file of an image: `Untold` where there is
+/// nothing to tell.
+pub fn attach_reason(file: &[u8], image: &Image, certificate: usize, error: ElfError) -> MakeReason
+    ensures { result ≡ attach_reason file.now image.now.certificate certificate error }
+{
+    match error {
+        ElfError::CertificateThere => MakeReason::Certified(certificate_size(image)),
+        ElfError::TooLarge => {
+            if file.len() < 52 {
+                return MakeReason::Untold;
+            }
+            MakeReason::LargeFile {
+                size: file.len(),
+                headers: half(file, 44),
+                certificate,
+            }
+        }
+        ElfError::TooShort
+        | ElfError::BadMagic
+        | ElfError::BadClass
+        | ElfError::BadType
+        | ElfError::BadMachine
+        | ElfError::BadFlags
+        | ElfError::BadHeaderTable
+        | ElfError::NotStatic
+        | ElfError::SegmentOutOfFile
+        | ElfError::SegmentOutOfPlace
+        | ElfError::SegmentsOverlap
+        | ElfError::WriteAndExecute
+        | ElfError::EntryNotCode
+        | ElfError::TwoCertificates
+        | ElfError::NoMemory => MakeReason::Untold,
+    }
+}
+
+/// What is wanted of a row, as a line.
+fn row_wanted(row: LoopRow) -> &'static str
+    ensures { result.now ≡ row_wanted row }
+{
+    match row {
+        LoopRow::Count => {
+            "  wanted: beqz n,end, where n is a scalar: row 1 of a plain loop (docs/MAKE.md)\n"
+        }
+        LoopRow::Length => { "  wanted: vsetvli t,n: row 2 of a plain loop (docs/MAKE.md)\n" }
+        LoopRow::Later => {
+            "  wanted: what goes on with these words: rows 3 to 8 of a plain loop (docs/MAKE.md)\n"
+        }
+    }
+}
+
+/// What is wanted of a file that is to have a certificate.
+fn room_wanted() -> &'static str
+    ensures { result.now ≡ room_wanted }
+{
+    "  wanted: at most 63, and at most 4194304 bytes with one more and the certificate\n"
+}
+
+impl fmt::Display for MakeReason {
+    ghost use Rattle.std.specs.Prelude.{Some};
+    ghost use Rattle.explanations.specs.Make.{make_text};
+
+    ghost output = { λ reason. Some (make_text reason) };
+
+    fn fmt<W: fmt::Write>(&self, f: &mut fmt::Formatter<W>) -> fmt::Result {
+        match self {
+            MakeReason::Untold => Ok(()),
+            MakeReason::NoWord { pc, row } => {
+                let pc = Address(u64::from(*pc));
+                let wanted = row_wanted(*row);
+                write!(f, "  at {pc}: no word\n{wanted}")
+            }
+            MakeReason::Word {
+                pc,
+                word,
+                listing,
+                row,
+            } => {
+                let pc = Address(u64::from(*pc));
+                let word = Address(u64::from(*word));
+                let wanted = row_wanted(*row);
+                write!(f, "  at {pc}: {word}\n  that is {listing}\n{wanted}")
+            }
+            MakeReason::Empty { place, lo, hi } => {
+                write!(
+                    f,
+                    "  lo of the param at place {place}: {lo}\n  wanted: at most its hi, {hi}\n"
+                )
+            }
+            MakeReason::LargeBuffer { place, size } => {
+                write!(
+                    f,
+                    "  size of the param at place {place}: {size}\n  wanted: at most 16777216\n"
+                )
+            }
+            MakeReason::Certified(size) => {
+                write!(
+                    f,
+                    "  there: a certificate of {size} bytes\n  \
+                     wanted: an image with no certificate\n"
+                )
+            }
+            MakeReason::LargeFile {
+                size,
+                headers,
+                certificate,
+            } => {
+                let wanted = room_wanted();
+                write!(
+                    f,
+                    "  size of the file: {size}\n  size of the certificate: {certificate}\n  \
+                     program headers: {headers}\n{wanted}"
+                )
+            }
+        }
+    }
+}

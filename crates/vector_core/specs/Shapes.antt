@@ -1,0 +1,54 @@
+-- The shapes of the instructions that compute, and of those that move elements among places.
+use Rattle.rv_decode.specs.declared.instructions.VArith.TheVariants as arith
+use Rattle.rv_decode.specs.declared.instructions.VPerm.TheVariants as perm
+use Rattle.vector_core.specs.Words.{VArith, VPerm}
+
+pub data Shape : Type 0 where
+  IntShape : Shape
+  MultiplyAddShape : Shape
+  CarryShape : Shape
+  CarryOutShape : Shape
+  MergeShape : Shape
+  CopyShape : Shape
+  CompareShape : Shape
+  FixedShape : Shape
+  WidenShape : Shape
+  WideShape : Shape
+  WidenMultiplyAddShape : Shape
+  NarrowShape : Shape
+  ClipShape : Shape
+  ExtendShape : Shape
+
+abbrev pub shape_of : VArith → Shape
+shape_of (arith.Int op vd vs2 b masked) = IntShape
+shape_of (arith.MultiplyAdd op vd vs2 b masked) = MultiplyAddShape
+shape_of (arith.Carry op vd vs2 b) = CarryShape
+shape_of (arith.CarryOut op vd vs2 b with_carry) = CarryOutShape
+shape_of (arith.Merge vd vs2 b) = MergeShape
+shape_of (arith.Copy vd b) = CopyShape
+shape_of (arith.Compare op vd vs2 b masked) = CompareShape
+shape_of (arith.Fixed op vd vs2 b masked) = FixedShape
+shape_of (arith.Widen op vd vs2 b masked) = WidenShape
+shape_of (arith.Wide op vd vs2 b masked) = WideShape
+shape_of (arith.WidenMultiplyAdd op vd vs2 b masked) = WidenMultiplyAddShape
+shape_of (arith.Narrow op vd vs2 b masked) = NarrowShape
+shape_of (arith.Clip op vd vs2 b masked) = ClipShape
+shape_of (arith.Extend signed of vd vs2 masked) = ExtendShape
+
+pub data PermShape : Type 0 where
+  SlideUpShape : PermShape
+  SlideDownShape : PermShape
+  SlideOneUpShape : PermShape
+  SlideOneDownShape : PermShape
+  GatherShape : PermShape
+  Gather16Shape : PermShape
+  CompressShape : PermShape
+
+abbrev pub perm_shape_of : VPerm → PermShape
+perm_shape_of (perm.SlideUp vd vs2 offset masked) = SlideUpShape
+perm_shape_of (perm.SlideDown vd vs2 offset masked) = SlideDownShape
+perm_shape_of (perm.SlideOneUp vd vs2 rs1 masked) = SlideOneUpShape
+perm_shape_of (perm.SlideOneDown vd vs2 rs1 masked) = SlideOneDownShape
+perm_shape_of (perm.Gather vd vs2 b masked) = GatherShape
+perm_shape_of (perm.Gather16 vd vs2 vs1 masked) = Gather16Shape
+perm_shape_of (perm.Compress vd vs2 vs1) = CompressShape
