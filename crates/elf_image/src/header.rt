@@ -7,6 +7,7 @@ ghost use Rattle.elf_image.specs.File.{HasTable, program_header_at, program_head
 ghost use Rattle.elf_image.specs.File.{is_note, is_segment, is_executable, is_writable};
 ghost use Rattle.elf_image.specs.File.{is_readable, file_part};
 
+use arrayvec::ArrayVec;
 use byteorder::{ByteOrder, LittleEndian};
 use std::marker::Model;
 
@@ -95,7 +96,7 @@ pub fn part_of(bytes: &[u8], offset: usize, size: usize) -> &[u8]
 }
 
 /// A program header (`Elf32_Phdr`), without the fields that play no part.
-#[derive(Clone, Copy)]
+#[derive(Clone, Copy, Default)]
 pub struct ProgramHeader {
     pub p_type: u32,
     pub p_offset: u32,
@@ -106,15 +107,6 @@ pub struct ProgramHeader {
 }
 
 impl ProgramHeader {
-    const ZERO: ProgramHeader = ProgramHeader {
-        p_type: 0,
-        p_offset: 0,
-        p_vaddr: 0,
-        p_filesz: 0,
-        p_memsz: 0,
-        p_flags: 0,
-    };
-
     pub fn is_load(&self) -> bool
         ensures { result ≡ is_load self.now }
     {
@@ -182,23 +174,22 @@ fn program_header_at(offset: usize, file: &[u8]) -> ProgramHeader
     }
 }
 
-/// Program headers, in a table of fixed size.
+/// Program headers, as many as a file may have.
 #[derive(Drop)]
 pub struct HeaderTable {
-    entries: [ProgramHeader; MAX_PROGRAM_HEADERS],
-    count: usize,
+    entries: ArrayVec<ProgramHeader, MAX_PROGRAM_HEADERS>,
 }
 
 impl Model for HeaderTable {
-    ghost use Rattle.std.specs.Prelude.{List, take, ◌≤◌};
+    ghost use Rattle.std.specs.Prelude.{List, length, ◌≤◌};
     ghost use Rattle.elf_image.specs.declared.header.ProgramHeader.{ProgramHeader};
     ghost use Rattle.elf_image.specs.declared.header.TheConstants.{MAX_PROGRAM_HEADERS};
 
     ghost Value = { List ProgramHeader };
 
-    ghost view = { λ a. take a.count a.entries };
+    ghost view = { λ a. a.entries.items };
 
-    ghost invariant = { λ a. a.count ≤ MAX_PROGRAM_HEADERS };
+    ghost invariant = { λ a. length a.entries.items ≤ MAX_PROGRAM_HEADERS };
 }
 
 impl HeaderTable {
@@ -206,8 +197,7 @@ impl HeaderTable {
         ensures { result ≡ [] }
     {
         HeaderTable {
-            entries: [ProgramHeader::ZERO; MAX_PROGRAM_HEADERS],
-            count: 0,
+            entries: ArrayVec::new(),
         }
     }
 
@@ -215,15 +205,14 @@ impl HeaderTable {
         requires { length self.old < MAX_PROGRAM_HEADERS }
         ensures { self.new ≡ self.old ++ header ∷ [] }
     {
-        self.entries[self.count] = header;
-        self.count += 1;
+        self.entries.push(header);
     }
 
     pub fn as_slice(&self) -> &[ProgramHeader]
         ensures value { result.now ≡ self.now }
         ensures bound { length self.now ≤ MAX_PROGRAM_HEADERS }
     {
-        &self.entries[..self.count]
+        self.entries.as_slice()
     }
 
     /// The program headers of a file.

@@ -1,8 +1,9 @@
-//! The accesses of an instruction, in storage of a fixed size.
+//! The accesses of an instruction, in an array vector.
 
 ghost use Rattle.std.specs.Prelude.{◌≡◌, ◌<◌, ◌++◌, [], ◌∷◌, length};
 ghost use Rattle.vreg_groups.specs.declared.vector_type.TheConstants.{MOST_ELEMENTS};
 
+use arrayvec::ArrayVec;
 use region_mem::Right;
 use std::marker::Model;
 use vreg_groups::MOST_ELEMENTS;
@@ -16,23 +17,34 @@ pub struct Access {
     pub right: Right,
 }
 
+impl Default for Access {
+    /// The first byte of memory, to be read.
+    fn default() -> Access {
+        Access {
+            element: 0,
+            address: 0,
+            size: 1,
+            right: Right::Read,
+        }
+    }
+}
+
 /// The accesses of an instruction, the lowest-numbered element's first: at most `MOST_ELEMENTS` of them.
 #[derive(Drop)]
 pub struct AccessPlan {
-    accesses: [Access; MOST_ELEMENTS],
-    count: usize,
+    accesses: ArrayVec<Access, MOST_ELEMENTS>,
 }
 
 impl Model for AccessPlan {
-    ghost use Rattle.std.specs.Prelude.{◌≤◌, List, take};
+    ghost use Rattle.std.specs.Prelude.{◌≤◌, List, length};
     ghost use Rattle.vector_mem.specs.declared.plan.Access.{Access};
     ghost use Rattle.vreg_groups.specs.declared.vector_type.TheConstants.{MOST_ELEMENTS};
 
     ghost Value = { List Access };
 
-    ghost view = { λ p. take p.count p.accesses };
+    ghost view = { λ p. p.accesses.items };
 
-    ghost invariant = { λ p. p.count ≤ MOST_ELEMENTS };
+    ghost invariant = { λ p. length p.accesses.items ≤ MOST_ELEMENTS };
 }
 
 impl AccessPlan {
@@ -40,15 +52,8 @@ impl AccessPlan {
     pub(crate) fn new() -> AccessPlan
         ensures { result ≡ [] }
     {
-        let nothing = Access {
-            element: 0,
-            address: 0,
-            size: 1,
-            right: Right::Read,
-        };
         AccessPlan {
-            accesses: [nothing; MOST_ELEMENTS],
-            count: 0,
+            accesses: ArrayVec::new(),
         }
     }
 
@@ -57,15 +62,13 @@ impl AccessPlan {
         requires { length self.old < MOST_ELEMENTS }
         ensures { self.new ≡ self.old ++ access ∷ [] }
     {
-        self.accesses[self.count] = access;
-        self.count += 1;
+        self.accesses.push(access);
     }
 
     /// The accesses, the lowest-numbered element's first.
     pub fn as_slice(&self) -> &[Access]
         ensures { result.now ≡ self.now }
     {
-        let accesses = &self.accesses;
-        &accesses[..self.count]
+        self.accesses.as_slice()
     }
 }
