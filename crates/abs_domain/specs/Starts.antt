@@ -4,10 +4,10 @@ use Rattle.std.specs.Prelude.{ℕ, ◌<◌, ◌≤◌, ◌+◌, ◌==◌, if◌t
 use Rattle.std.specs.List.{slice_get, range_with_len, AllByRecursion}
 use Rattle.std.specs.Option.{option_and_then}
 use Rattle.abs_domain.specs.Words.{Range, Atom, Linear, IsForm, number_form, atom_form, range_of_form, Param, Equality, RegisterFact, OrderFact, Block}
-use Rattle.linear_facts.specs.declared.forms.Term.{Term as FormTerm}
+use Rattle.linear_facts.specs.declared.forms.Term.{Term}
 use Rattle.region_mem.specs.declared.parameter.Param.TheVariants as parameter
 use Rattle.region_mem.specs.Parameter.{address_of}
-use Rattle.cert_note.specs.declared.values.Term.{Term}
+use Rattle.cert_note.specs.declared.values.EqualityTerm.{EqualityTerm}
 use Rattle.scalar_core.specs.declared.entry.EntryValue.{EntryValue}
 use Rattle.scalar_core.specs.declared.entry.EntryValue.TheVariants.{Number, Passed}
 use Rattle.scalar_core.specs.Entry.{entry_value}
@@ -28,7 +28,7 @@ unfoldable pub stated_range : List RegisterFact → ℕ → Range
 stated_range facts i = if i == 0 then just 0 else interval_of (fact_for facts i)
 
 -- a term of an equality as one of a form
-abbrev pub form_term : Term → FormTerm
+abbrev pub form_term : EqualityTerm → Term
 form_term t = record { atom = t.atom; coefficient = t.coefficient }
 
 -- the sum of an equality as a form

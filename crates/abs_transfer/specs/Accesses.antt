@@ -4,8 +4,8 @@ use Rattle.abs_transfer.specs.Words.{Range, Linear, number_form, scaled, sum_of,
 use Rattle.rv_decode.specs.declared.extents.Eew.TheVariants.{Fixed}
 use Rattle.rv_decode.specs.declared.instructions.Direction.{Direction}
 use Rattle.rv_decode.specs.declared.instructions.Direction.TheVariants.{Load, Store}
-use Rattle.rv_decode.specs.declared.instructions.Place.{Place}
-use Rattle.rv_decode.specs.declared.instructions.Place.TheVariants as place
+use Rattle.rv_decode.specs.declared.instructions.Addressing.{Addressing}
+use Rattle.rv_decode.specs.declared.instructions.Addressing.TheVariants as place
 use Rattle.rv_decode.specs.declared.instructions.VMem.{VMem}
 use Rattle.vreg_groups.specs.VectorType.{bytes_of_width}
 use Rattle.vreg_groups.specs.Legality.{whole_count}
@@ -91,7 +91,7 @@ strided_reach s size (Some n) x vl =
 abbrev pub indexed_reach : ℕ → Range → Range → Reach
 indexed_reach size x i = record { first = x.lo + i.lo; end = x.hi + i.hi + size }
 
-unfoldable pub reach_at : ℕ → Vtype → NumbersView → List VectorFact → Place → ValueView
+unfoldable pub reach_at : ℕ → Vtype → NumbersView → List VectorFact → Addressing → ValueView
     → Option Reach
 reach_at vlenb t s facts (place.Unit width masked) x =
     Some (unit_reach s (bytes_of_width width) x (value_at s 32))
@@ -112,7 +112,7 @@ reach_at vlenb t s facts (place.Whole width count) x = Some record {
 -- ---- the test
 
 -- whole registers are moved whatever vl is
-unfoldable pub is_whole : Place → Bool
+unfoldable pub is_whole : Addressing → Bool
 is_whole (place.Unit width masked) = false
 is_whole (place.Strided width rs2 masked) = false
 is_whole (place.Indexed width vs2 ordered masked) = false

@@ -9,13 +9,13 @@ use Rattle.region_mem.specs.Parameter.{address_of}
 use Rattle.scalar_core.specs.Hart.{exit}
 use Rattle.cert_maker.specs.declared.loops.Loop.{Loop}
 use Rattle.cert_maker.specs.Words.{ImageView, Param, Vlen, CertificateView, Budget, Block}
-use Rattle.cert_maker.specs.Words.{Equality, RegisterFact, Term}
+use Rattle.cert_maker.specs.Words.{Equality, EqualityTerm, RegisterFact}
 use Rattle.cert_maker.specs.Loops.{size_of, is_flagged}
 
-abbrev pub term : ℕ → ℕ → Term
+abbrev pub term : ℕ → ℕ → EqualityTerm
 term atom coefficient = record { atom = atom; coefficient = coefficient }
 
-abbrev pub sum : ℕ → List Term → Option Equality
+abbrev pub sum : ℕ → List EqualityTerm → Option Equality
 sum constant terms = Some record { constant = constant; terms = record { items = terms } }
 
 abbrev pub fact : ℕ → ℕ → ℕ → Option Equality → RegisterFact

@@ -15,8 +15,8 @@ use Rattle.rv_decode.specs.declared.instructions.Condition.TheVariants.{Eq, Ne}
 use Rattle.rv_decode.specs.declared.instructions.Direction.{Direction}
 use Rattle.rv_decode.specs.declared.instructions.Direction.TheVariants as direction
 use Rattle.rv_decode.specs.declared.instructions.Insn.TheVariants as class
-use Rattle.rv_decode.specs.declared.instructions.Place.{Place}
-use Rattle.rv_decode.specs.declared.instructions.Place.TheVariants as place
+use Rattle.rv_decode.specs.declared.instructions.Addressing.{Addressing}
+use Rattle.rv_decode.specs.declared.instructions.Addressing.TheVariants as place
 use Rattle.rv_decode.specs.declared.instructions.RegisterOp.TheVariants.{Add, Sub}
 use Rattle.rv_decode.specs.declared.instructions.ScalarInsn.TheVariants.{Branch, Jalr, Register, ShiftImmediate}
 use Rattle.rv_decode.specs.declared.instructions.ShiftOp.TheVariants.{Slli}
@@ -149,7 +149,7 @@ unfoldable pub with_pointer : ℕ → Loop → Loop
 with_pointer pointer loop = record loop { pointers = slice_set loop.pointers (pointer - 10) true }
 
 -- elements of SEW one after another, not masked
-unfoldable pub is_plain : Width → Place → Bool
+unfoldable pub is_plain : Width → Addressing → Bool
 is_plain sew (place.Unit width masked) = (bytes_of_width width == bytes_of_width sew) && not masked
 is_plain sew other = false
 

@@ -4,7 +4,7 @@ use Rattle.std.specs.Prelude.{◌≡◌, ◌<◌, ◌≤◌, IsTrue}
 use Rattle.cert_note.specs.declared.values.Version.TheVariants.{V1, V2}
 use Rattle.std.specs.List.{list_all, list_any, slice_get, AllByRecursion}
 use Rattle.std.specs.Option.{option_map_or}
-use Rattle.cert_note.specs.Words.{Version, Param, Vlen, Term, Budget, VectorFact, OrderFact, Equality, RegisterFact, Block, Contents}
+use Rattle.cert_note.specs.Words.{Version, Param, Vlen, EqualityTerm, Budget, VectorFact, OrderFact, Equality, RegisterFact, Block, Contents}
 use Rattle.region_mem.specs.Parameter.{is_valid}
 use Rattle.region_mem.specs.declared.parameter.Param.TheVariants as parameter
 use Rattle.vreg_groups.specs.VectorLength.{vlenb_of}
@@ -107,7 +107,7 @@ AllFrom Valid next from (x ∷ xs) = Valid from x × AllFrom Valid next (next x)
 
 -- Terms rise by their atoms, facts on registers by their numbers, facts on groups by their registers, orders by their
 -- greater registers, blocks by their starts.
-abbrev pub after_term : Term → ℕ
+abbrev pub after_term : EqualityTerm → ℕ
 after_term term = term.atom + 1
 
 abbrev pub after_fact : RegisterFact → ℕ
@@ -122,7 +122,7 @@ after_order order = order.greater + 1
 abbrev pub after_block : Block → ℕ
 after_block block = block.start + 1
 
-pub record IsTerm (params : List Param) (from : ℕ) (term : Term) : Type 0 where
+pub record IsTerm (params : List Param) (from : ℕ) (term : EqualityTerm) : Type 0 where
   pub atom : IsTrue (nat_le from term.atom && is_atom params term.atom)
   pub coefficient : IsTrue (nat_lt 0 term.coefficient)
   pub fits : term.coefficient < 2 ^ 32

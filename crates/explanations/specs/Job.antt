@@ -9,8 +9,8 @@ use Rattle.toml.specs.Parse.{parse_document}
 use Rattle.job_file.specs.Job.{Text, job_of}
 use Rattle.job_file.specs.Needs.{make_job_in, run_job_in, try_job_in}
 use Rattle.job_file.specs.declared.values.Job.{Job}
-use Rattle.job_file.specs.declared.values.Param.{Param}
-use Rattle.job_file.specs.declared.values.Param.TheVariants as param
+use Rattle.job_file.specs.declared.values.JobParam.{JobParam}
+use Rattle.job_file.specs.declared.values.JobParam.TheVariants as param
 use Rattle.explanations.specs.Keys.{key_name, key_wanted}
 use Rattle.explanations.specs.Rules.{IsBreach}
 use Rattle.explanations.specs.declared.job.Command.{Command}
@@ -33,25 +33,25 @@ abbrev pub or_else : Option JobKey → Option JobKey → Option JobKey
 or_else (Some k) other = Some k
 or_else None other = other
 
-abbrev pub try_lacks : Param Text → Option JobKey
+abbrev pub try_lacks : JobParam Text → Option JobKey
 try_lacks param.None = None
 try_lacks (param.Scalar lo hi value) = lacked_of value key.Value
 try_lacks (param.Buffer mode size file out) =
     or_else (lacked_of mode key.Mode) (lacked_of file key.File)
 
-abbrev pub run_lacks : Param Text → Option JobKey
+abbrev pub run_lacks : JobParam Text → Option JobKey
 run_lacks param.None = None
 run_lacks (param.Scalar lo hi value) = lacked_of value key.Value
 run_lacks (param.Buffer mode size file out) = lacked_of file key.File
 
-abbrev pub make_lacks : Param Text → Option JobKey
+abbrev pub make_lacks : JobParam Text → Option JobKey
 make_lacks param.None = None
 make_lacks (param.Scalar lo hi value) = or_else (lacked_of lo key.Lo) (lacked_of hi key.Hi)
 make_lacks (param.Buffer mode size file out) =
     or_else (lacked_of mode key.Mode) (lacked_of size key.Size)
 
 -- the first key that a command lacks of a parameter
-abbrev pub param_lacks : Command → Param Text → Option JobKey
+abbrev pub param_lacks : Command → JobParam Text → Option JobKey
 param_lacks command.Run p = run_lacks p
 param_lacks command.Mon p = run_lacks p
 param_lacks command.Try p = try_lacks p

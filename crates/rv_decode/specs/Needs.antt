@@ -1,6 +1,6 @@
 -- What an instruction needs of the vector registers.
 use Rattle.std.specs.Prelude.{ℕ, Bool, true, false, Option, None, Some}
-use Rattle.rv_decode.specs.Words.{Eew, Extent, Operand, Operands, Sharing, Count, Direction, Fraction, Insn, Place, Source, VArith, VMask}
+use Rattle.rv_decode.specs.Words.{Eew, Extent, Operand, Operands, Sharing, Count, Direction, Fraction, Insn, Addressing, Source, VArith, VMask}
 use Rattle.rv_decode.specs.Words.{VMem, VMove, VPerm, VReduce, Logic, First, SetFirst, Iota, Index, SlideUp, SlideDown, SlideOneUp}
 use Rattle.rv_decode.specs.Words.{SlideOneDown, Gather, Gather16, Compress, Fold, WidenSum, W16}
 use Rattle.rv_decode.specs.declared.extents.Eew.TheVariants.{Quarter, Half, Same, Double, Fixed}
@@ -92,13 +92,13 @@ access_operands Direction.Load values vs2 is_masked = operands values vs2 None i
 access_operands Direction.Store values vs2 is_masked = operands None vs2 values is_masked Sharing.ByWidth
 
 -- the indices of an indexed access stand in vs2, and its data is of SEW
-unfoldable pub needs_of_place : Place → Direction → ℕ → Operands
-needs_of_place (Place.Unit width masked) direction values = access_operands direction (group (Fixed width) values) None masked
-needs_of_place (Place.Strided width rs2 masked) direction values = access_operands direction (group (Fixed width) values) None masked
-needs_of_place (Place.Indexed width vs2 ordered masked) direction values =
+unfoldable pub needs_of_place : Addressing → Direction → ℕ → Operands
+needs_of_place (Addressing.Unit width masked) direction values = access_operands direction (group (Fixed width) values) None masked
+needs_of_place (Addressing.Strided width rs2 masked) direction values = access_operands direction (group (Fixed width) values) None masked
+needs_of_place (Addressing.Indexed width vs2 ordered masked) direction values =
     access_operands direction (group Same values) (group (Fixed width) vs2) masked
-needs_of_place Place.Mask direction values = access_operands direction (mask values) None false
-needs_of_place (Place.Whole width count) direction values = access_operands direction (whole count values) None false
+needs_of_place Addressing.Mask direction values = access_operands direction (mask values) None false
+needs_of_place (Addressing.Whole width count) direction values = access_operands direction (whole count values) None false
 
 unfoldable pub needs_of_access : VMem → Operands
 needs_of_access access = needs_of_place access.place access.direction access.values

@@ -1,8 +1,8 @@
 -- What definitions here speak of that other crates define.
 pub use Rattle.rv_decode.specs.declared.instructions.Direction.{Direction}
 pub use Rattle.rv_decode.specs.declared.instructions.Direction.TheVariants.{Load, Store}
-pub use Rattle.rv_decode.specs.declared.instructions.Place.{Place}
-pub use Rattle.rv_decode.specs.declared.instructions.Place.TheVariants.{Unit, Strided, Indexed, Mask, Whole}
+pub use Rattle.rv_decode.specs.declared.instructions.Addressing.{Addressing}
+pub use Rattle.rv_decode.specs.declared.instructions.Addressing.TheVariants.{Unit, Strided, Indexed, Mask, Whole}
 pub use Rattle.rv_decode.specs.declared.instructions.VMem.{VMem}
 pub use Rattle.rv_decode.specs.declared.instructions.Width.{Width}
 pub use Rattle.rv_decode.specs.declared.instructions.Width.TheVariants.{W8}

@@ -8,8 +8,8 @@ use Rattle.rv_decode.specs.Needs.{needs_of}
 use Rattle.rv_decode.specs.declared.instructions.Count.TheVariants as count
 use Rattle.rv_decode.specs.declared.instructions.Insn.TheVariants.{VArith, VMem, VSet}
 use Rattle.rv_decode.specs.declared.instructions.VArith.TheVariants.{Int}
-use Rattle.rv_decode.specs.declared.instructions.Place.{Place}
-use Rattle.rv_decode.specs.declared.instructions.Place.TheVariants.{Unit}
+use Rattle.rv_decode.specs.declared.instructions.Addressing.{Addressing}
+use Rattle.rv_decode.specs.declared.instructions.Addressing.TheVariants.{Unit}
 use Rattle.rv_decode.specs.declared.extents.Eew.TheVariants.{Quarter, Half, Same, Double, Fixed}
 use Rattle.vreg_groups.specs.VectorType.{bits_of_width, eighths_of, vtype_of}
 
@@ -145,7 +145,7 @@ are_operands_legal vtype operands =
     && is_destination_legal vtype operands operands.destination
 
 -- the elements of an access lie one after another ("Vector Unit-Stride Instructions")
-unfoldable pub is_in_a_row : Place → Bool
+unfoldable pub is_in_a_row : Addressing → Bool
 is_in_a_row (Unit width masked) = true
 is_in_a_row place = false
 
