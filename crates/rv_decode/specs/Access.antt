@@ -2,7 +2,7 @@
 -- Modes"), but for segments and fault-only-first loads.
 use Rattle.std.specs.Prelude.{ℕ, Bool, true, false, List, [], ◌∷◌, ◌++◌}
 use Rattle.rv_decode.specs.Bits.{rd_of, rs1_of, rs2_of}
-use Rattle.rv_decode.specs.Rows.{Field, Row, Group, f3, field, row, group}
+use Rattle.rv_decode.specs.Rows.{Field, Row, RowGroup, f3, field, row, group}
 use Rattle.rv_decode.specs.Operations.{vm, is_masked}
 use Rattle.rv_decode.specs.Words.{Count, Direction, Insn, Addressing, Width, One, Two, Four, Eight, W8, W16, W32}
 
@@ -74,7 +74,7 @@ unfoldable pub wide_load_rows : Width → List Row
 wide_load_rows width = element_rows Direction.Load width ++ whole_rows Direction.Load width
 
 -- opcode 07
-unfoldable pub vector_load_groups : List Group
+unfoldable pub vector_load_groups : List RowGroup
 vector_load_groups =
     group (f3 0 ∷ []) (byte_rows Direction.Load) ∷
     group (f3 5 ∷ []) (wide_load_rows W16) ∷
@@ -82,7 +82,7 @@ vector_load_groups =
     []
 
 -- opcode 27
-unfoldable pub vector_store_groups : List Group
+unfoldable pub vector_store_groups : List RowGroup
 vector_store_groups =
     group (f3 0 ∷ []) (byte_rows Direction.Store) ∷
     group (f3 5 ∷ []) (element_rows Direction.Store W16) ∷
