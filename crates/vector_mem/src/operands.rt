@@ -81,7 +81,7 @@ pub fn policy(insn: &VMem, setup: &Setup) -> Policy
         Addressing::Unit { .. }
         | Addressing::Strided { .. }
         | Addressing::Indexed { .. }
-        | Addressing::Whole { .. } => { setup.policy() }
+        | Addressing::Whole { .. } => setup.policy(),
     }
 }
 
