@@ -1,5 +1,5 @@
--- What is known where a block begins, and where a run does. Atom i below 33 is the number of x0 to x31 or of vl there, and
--- atom 33 + j the number that was passed for the parameter at place j.
+-- What is known where a block begins, and where a run does. Atom i below 33 is the number of x0 to
+-- x31 or of vl there, and atom 33 + j the number that was passed for the parameter at place j.
 use Rattle.std.specs.Prelude.{ℕ, ◌<◌, ◌≤◌, ◌+◌, ◌==◌, if◌then◌else◌, List, [], ◌++◌, length, map, find, unwrap_or, Option, Some, None, IfSome}
 use Rattle.std.specs.List.{slice_get, range_with_len, AllByRecursion}
 use Rattle.std.specs.Option.{option_and_then}
@@ -88,7 +88,8 @@ start_numbers params facts orders =
     numbers_by (with_orders (start_atoms params facts) orders) (stated_form facts)
     (λ i. Some (stated_range facts i))
 
--- what is passed for a parameter: 0 for none, for a scalar what is passed at its place, or the buffer's address
+-- what is passed for a parameter: 0 for none, for a scalar what is passed at its place, or the
+-- buffer's address
 unfoldable pub passed_value : List Param → ℕ → Option Param → EntryValue
 passed_value params place None = Number 0
 passed_value params place (Some parameter.None) = Number 0

@@ -1,4 +1,5 @@
--- Where the bytes of a vector load or store may lie, and its test: they have to lie in one zone. Masks are ignored.
+-- Where the bytes of a vector load or store may lie, and its test: they have to lie in one zone.
+-- Masks are ignored.
 use Rattle.std.specs.Prelude.{ℕ, ◌+◌, ◌-◌, ◌*◌, ◌/◌, ◌^◌, ◌==◌, ◌%◌, nat_lt, nat_le, ◌&&◌, not, Bool, true, false, if◌then◌else◌, List, Option, Some, None, Result, Ok, Err}
 use Rattle.abs_transfer.specs.Words.{Range, Linear, number_form, scaled, sum_of, within, range_of_form, Vtype, VectorFact}
 use Rattle.rv_decode.specs.declared.extents.Eew.TheVariants.{Fixed}
@@ -27,7 +28,8 @@ met_with_form s interval None = interval
 met_with_form s interval (Some f) =
     computed_range (Some interval) (range_of_form (table_of s) f)
 
--- The upper end of a sum, by interval arithmetic where that does not stay within 32 bits, and else by the form too.
+-- The upper end of a sum, by interval arithmetic where that does not stay within 32 bits, and else
+-- by the form too.
 unfoldable pub sharpened_high : NumbersView → ℕ → Option Range → Linear → ℕ
 sharpened_high s hi None f = hi
 sharpened_high s hi (Some interval) f = (met_with_form s interval (within 8 f)).hi
@@ -57,7 +59,8 @@ unit_reach s size x vl =
       end = sharpened_high s hi (fitting 32 lo hi) (sum_form x.form size vl.form 0);
     }
 
--- elements a number of bytes apart that is not negative: the last one ends at `x + k * vl - k + size`
+-- elements a number of bytes apart that is not negative: the last one ends at
+-- `x + k * vl - k + size`
 unfoldable pub rising_reach : NumbersView → ℕ → ℕ → ValueView → ValueView → Reach
 rising_reach s size k x vl =
     let lo = x.range.lo + k * vl.range.lo + size in
@@ -68,7 +71,8 @@ rising_reach s size k x vl =
           (sum_form x.form k vl.form ((2 ^ 32 - k + size) % 2 ^ 32));
     }
 
--- elements k bytes apart downwards: the last one begins at `x - k * vl + k`, which may not be below 0
+-- elements k bytes apart downwards: the last one begins at `x - k * vl + k`, which
+-- may not be below 0
 unfoldable pub falling_reach : NumbersView → ℕ → ℕ → ValueView → ValueView → Option Reach
 falling_reach s size k x vl =
     if nat_le (k * vl.range.hi) (x.range.lo + k)

@@ -125,7 +125,8 @@ term_at params from bytes = do
   Ok (record { atom = atom.0; coefficient = coefficient.0 }, coefficient.1)
 
 -- terms by rising atom
-unfoldable pub terms_at : List Param → ℕ → ℕ → List ℕ → Result (List EqualityTerm × List ℕ) CertError
+unfoldable pub terms_at : List Param → ℕ → ℕ → List ℕ
+    → Result (List EqualityTerm × List ℕ) CertError
 terms_at params zero from bytes = Ok ([], bytes)
 terms_at params (suc n) from bytes = do
   first ← term_at params from bytes

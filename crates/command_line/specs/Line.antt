@@ -1,4 +1,5 @@
--- The command line: which words name which subcommand and paths, over `clap`'s own account of a command.
+-- The command line: which words name which subcommand and paths, over `clap`'s own
+-- account of a command.
 use Rattle.std.specs.Prelude.{◌≡◌, List, [], Option, Some, None, option_and_then, option_map, if◌then◌else◌, codes, Bool, true, false}
 use Rattle.std.specs.Str.{bytes_eq}
 use Rattle.command_line.specs.Words.{kind_of, Kinds}
@@ -70,7 +71,8 @@ abbrev pub is_true : Option Text → Bool
 is_true None = false
 is_true (Some text) = bytes_eq text (codes "true")
 
--- whether matches of a subcommand hold a flag that was used under an id, where the subcommand has this name
+-- whether matches of a subcommand hold a flag that was used under an id, where the
+-- subcommand has this name
 abbrev pub flag_of : Text → Text → Option (Text × List Row) → Bool
 flag_of name id entered = is_true (path_of name id entered)
 

@@ -67,9 +67,9 @@ explains (Try job explain) = explain
 explains (Mon job explain) = explain
 explains (Make paths explain) = explain
 
--- words in which `clap` finds no fault end as the subcommand does that they name, or memory runs out first.
--- `old` and `new` are what standard output has before and after, `was` and `has` the files that were
--- written, and `told` and `tells` what standard error has before and after
+-- words in which `clap` finds no fault end as the subcommand does that they name, or memory runs
+-- out first. `old` and `new` are what standard output has before and after, `was` and `has` the
+-- files that were written, and `told` and `tells` what standard error has before and after
 abbrev pub IsAsAsked : Files → List Text → Option (List ℕ) → Option (List ℕ) → Option Written
     → Option Written → Option (List ℕ) → Option (List ℕ) → Ending → Type 0
 IsAsAsked files words old new was has told tells ending = fault_of app words ≡ []

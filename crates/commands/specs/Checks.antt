@@ -27,8 +27,8 @@ abbrev pub bound_line : Budget → List ℕ
 bound_line budget =
     if budget.second_factor == 0 then single_line budget else double_line budget
 
--- ---- what is done: `old` and `new` are what standard output has before and after, and `was` and `has` the
--- files that were written
+-- ---- what is done: `old` and `new` are what standard output has before and after, and `was` and
+-- `has` the files that were written
 
 -- `check`: the image at a path is accepted, and its bound is printed; no file is written
 pub record Checks (files : Files) (path : Text) (old new : Option (List ℕ))

@@ -1,4 +1,5 @@
--- How the program ends: the reason to stop that each error is, the status of each reason, and each status as a number.
+-- How the program ends: the reason to stop that each error is, the status of each reason, and each
+-- status as a number.
 use Rattle.std.specs.Prelude.{◌≡◌, ◌++◌, Bool, false, ℕ, List, [], Option, Result, Ok, Err, MatchResult, OnOk}
 use Rattle.std.specs.Io.KnownBytes.{Appends}
 use Rattle.block_checker.specs.declared.errors.CheckError.{CheckError}
@@ -81,7 +82,8 @@ abbrev pub stop_at_file : StoreError → Bor (List ℕ) → Stop
 stop_at_file store_error.Failed path = stop.File path
 stop_at_file store_error.NoMemory path = stop.Memory
 
--- a reason to stop that a file at this path gives, where these are the errors with which it may fail
+-- a reason to stop that a file at this path gives, where these are the errors with
+-- which it may fail
 abbrev pub IsOfFile : (List ℕ → StoreError → Type 0) → List ℕ → Stop → Type 0
 IsOfFile fails path (stop.File at) = (at.now ≡ path) × fails path store_error.Failed
 IsOfFile fails path stop.Memory = fails path store_error.NoMemory
@@ -105,9 +107,9 @@ abbrev pub text_after : Result Status Stop → List ℕ
 text_after (Ok s) = []
 text_after (Err reason) = stop_text reason
 
--- a subcommand does what it does, or stops for one of its reasons: the status says which, and standard
--- error has grown by the reason's line, and, where it is to explain, by some more behind it, where it took
--- that. `old` and `new` are what it has before and after
+-- a subcommand does what it does, or stops for one of its reasons: the status says which, and
+-- standard error has grown by the reason's line, and, where it is to explain, by some more behind
+-- it, where it took that. `old` and `new` are what it has before and after
 pub record Ends (explains : Bool) (does : Status → Type 0) (stops : Stop → Type 0)
     (old new : Option (List ℕ)) (ending : Ending) : Type 0 where
   pub done : Result Status Stop

@@ -73,11 +73,12 @@ abbrev pub AnswersBytes : Result (List ℕ) Stop → Result (Vec ℕ) Stop → T
 AnswersBytes defined answer =
     IsOrWant defined (result_map_both (λ bytes. bytes.items) (λ reason. reason) answer)
 
--- ---- what is done: `old` and `new` are what standard output has before and after, and `was` and `has` the
--- files that were written
+-- ---- what is done: `old` and `new` are what standard output has before and after, and `was` and
+-- `has` the files that were written
 
--- `make` on a job's table, an image's path and the path of the file to write: the image's file with the
--- certificate that is made is accepted when it is read back, and written, and its bound is printed
+-- `make` on a job's table, an image's path and the path of the file to write: the image's file
+-- with the certificate that is made is accepted when it is read back, and written, and its
+-- bound is printed
 pub record Makes (files : Files) (path out : Text) (table : Members) (old new : Option (List ℕ))
     (was has : Option Written) (s : Status) : Type 0 where
   pub job : MakeJob
@@ -97,8 +98,8 @@ pub record Makes (files : Files) (path out : Text) (table : Members) (old new : 
 
 -- ---- why it stops: `wrote xs` says that the files `xs` were written
 
--- after the file was made: it is not accepted when it is read back, or not written, or standard output
--- takes no text
+-- after the file was made: it is not accepted when it is read back, or not written, or standard
+-- output takes no text
 abbrev pub StopsMade : Files → (Written → Type 0) → Text → MakeJob → List ℕ → Stop → Type 0
 StopsMade files wrote out job bytes reason =
     (IsOrWant (accepted_in job bytes) (Err reason) × wrote [])

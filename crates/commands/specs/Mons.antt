@@ -48,8 +48,8 @@ pub record IsStopped (vlenb : ℕ) (agnostic : Agnostic) (max : ℕ) (a : Accept
 
 -- ---- what is done: `was` and `has` are the files that were written before and after
 
--- `mon` on a job's table: the job's image is accepted, its run is left at a stop, and the out files of all
--- places were written with the buffers as they stand there
+-- `mon` on a job's table: the job's image is accepted, its run is left at a stop, and the out files
+-- of all places were written with the buffers as they stand there
 pub record Mons (files : Files) (table : Members) (was has : Option Written) (s : Status)
     : Type 0 where
   pub job : RunJob Text
@@ -67,7 +67,8 @@ pub record Mons (files : Files) (table : Members) (was has : Option Written) (s 
 
 -- ---- why it stops: `wrote xs` says that the files `xs` were written
 
--- why a line is not answered: memory ran out, standard output takes no text, or the input has no end
+-- why a line is not answered: memory ran out, standard output takes no text, or the
+-- input has no end
 abbrev pub IsUnanswered : Stop → Type 0
 IsUnanswered stop.Memory = Unit {0}
 IsUnanswered stop.Output = Unit {0}
@@ -83,7 +84,8 @@ abbrev pub StopsWatching : ℕ → ℕ → AcceptedView → List Argument → St
 StopsWatching vlenb max a args reason =
     IsUnopened (open_fault vlenb a args max) reason ⊎ IsUnanswered reason
 
--- after what is passed was read: no run is opened, a line is not answered, or an out file is not written
+-- after what is passed was read: no run is opened, a line is not answered, or an out
+-- file is not written
 abbrev pub StopsWatched : Files → (Written → Type 0) → RunJob Text → AcceptedView → List Argument
     → Stop → Type 0
 StopsWatched files wrote job accepted args reason =

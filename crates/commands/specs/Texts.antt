@@ -74,7 +74,8 @@ open_error_name open_error.NoMemory = codes "NoMemory"
 
 -- ---- the lines
 
--- how a refusal of the check or of the maker is told: the error's name, and its address where it has one
+-- how a refusal of the check or of the maker is told: the error's name, and its address
+-- where it has one
 abbrev pub with_address : List ℕ → Option ℕ → List ℕ
 with_address name None = name
 with_address name (Some address) = name ++ (codes " at " ++ hex_text address)

@@ -44,7 +44,8 @@ passed_size argument.None = 0
 passed_size (argument.Scalar value) = 0
 passed_size (argument.Buffer bytes) = min (length bytes) (2 ^ 32 - 1)
 
--- the parameter of a place: a scalar may have the job's one value, and a buffer has the size of what is passed
+-- the parameter of a place: a scalar may have the job's one value, and a buffer has the size
+-- of what is passed
 abbrev pub param_for : TryParam Text × Argument → Param
 param_for (taken.None, arg) = parameter.None
 param_for (taken.Scalar value, arg) = parameter.Scalar value value
@@ -73,11 +74,11 @@ passed_by taken.None = given.None
 passed_by (taken.Scalar value) = given.Scalar value
 passed_by (taken.Buffer mode file out) = given.Buffer file out
 
--- ---- what is done: `old` and `new` are what standard output has before and after, and `was` and `has` the
--- files that were written
+-- ---- what is done: `old` and `new` are what standard output has before and after, and `was` and
+-- `has` the files that were written
 
--- `try` on a job's table: what comes of the job on its image is printed, and the out files of all places
--- were written with the buffers as the run left them
+-- `try` on a job's table: what comes of the job on its image is printed, and the out files of all
+-- places were written with the buffers as the run left them
 pub record Tries (files : Files) (table : Members) (old new : Option (List ℕ))
     (was has : Option Written) (s : Status) : Type 0 where
   pub job : TryJob Text

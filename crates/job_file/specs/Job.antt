@@ -37,7 +37,9 @@ unfoldable pub max_of : Data → Option ℕ
 max_of d = option_and_then (number_below (2 ^ 63)) (as_integer d)
 
 abbrev pub vlen_of_bits : ℕ → Option Vlen
-vlen_of_bits n = if n == 128 then Some V128 else (if n == 256 then Some V256 else (if n == 512 then Some V512 else None))
+vlen_of_bits n =
+    if n == 128 then Some V128
+    else (if n == 256 then Some V256 else (if n == 512 then Some V512 else None))
 
 -- `vlen`: 128, 256 or 512
 unfoldable pub vlen_of : Data → Option Vlen
@@ -92,7 +94,8 @@ scalar_keys = codes "kind" ∷ codes "lo" ∷ codes "hi" ∷ codes "value" ∷ [
 abbrev pub scalar_fields : Members → Option (JobParam Text)
 scalar_fields ms = option_and_then (λ lo. option_and_then (λ hi. option_map (λ value.
     param.Scalar lo hi value)
-    (field word_of (codes "value") ms)) (field word_of (codes "hi") ms)) (field word_of (codes "lo") ms)
+    (field word_of (codes "value") ms)) (field word_of (codes "hi") ms))
+    (field word_of (codes "lo") ms)
 
 -- kind = "scalar"
 unfoldable pub scalar_of : Members → Option (JobParam Text)
@@ -119,7 +122,8 @@ param_of_kind ms kind = if bytes_eq kind (codes "none") then none_of ms
 -- one `[[param]]` table
 unfoldable pub param_of : Data → Option (JobParam Text)
 param_of d = option_and_then (λ ms.
-    option_and_then (param_of_kind ms) (option_and_then as_str (get_member (codes "kind") ms))) (as_table d)
+    option_and_then (param_of_kind ms) (option_and_then as_str (get_member (codes "kind") ms)))
+    (as_table d)
 
 -- the parameter at a place: none where there is no such table
 unfoldable pub param_at : Items → ℕ → Option (JobParam Text)
@@ -135,14 +139,17 @@ places = 0 ∷ 1 ∷ 2 ∷ 3 ∷ 4 ∷ 5 ∷ 6 ∷ 7 ∷ []
 
 -- the parameters at the eight places, where there is no ninth table
 unfoldable pub params_of : Items → Option (List (JobParam Text))
-params_of items = if is_some (get_item 8 items) then None else all_there (map (param_at items) places)
+params_of items =
+    if is_some (get_item 8 items) then None else all_there (map (param_at items) places)
 
 abbrev pub no_params : List (JobParam Text)
 no_params = map (λ _. param.None) places
 
 -- `param`: an array of tables
 unfoldable pub params_in : Members → Option (List (JobParam Text))
-params_in ms = option_map_or (λ d. option_and_then params_of (as_array d)) (get_member (codes "param") ms) (Some no_params)
+params_in ms =
+    option_map_or (λ d. option_and_then params_of (as_array d)) (get_member (codes "param") ms)
+    (Some no_params)
 
 -- ---- a job
 

@@ -16,7 +16,8 @@ use Rattle.job_file.specs.declared.values.TryParam.TheVariants as taken
 use Rattle.region_mem.specs.declared.parameter.Param.{Param}
 use Rattle.region_mem.specs.declared.parameter.Param.TheVariants as declared
 
--- ---- `try`: it needs `image`, `vlen`, `agnostic`, `max`, each scalar's `value` and each buffer's `mode` and `file`
+-- ---- `try`: it needs `image`, `vlen`, `agnostic`, `max`, each scalar's `value` and each buffer's
+-- `mode` and `file`
 
 abbrev pub try_param_of : JobParam Text → Option (TryParam Text)
 try_param_of param.None = Some taken.None
@@ -41,7 +42,8 @@ try_job_of j = option_and_then (λ image. option_and_then (λ vlen. option_and_t
 abbrev pub try_job_in : Members → Option (TryJob Text)
 try_job_in ms = option_and_then try_job_of (job_of ms)
 
--- ---- `run`: it needs `image`, `vlen`, `agnostic`, `max`, each scalar's `value` and each buffer's `file`
+-- ---- `run`: it needs `image`, `vlen`, `agnostic`, `max`, each scalar's `value` and each
+-- buffer's `file`
 
 abbrev pub run_param_of : JobParam Text → Option (RunParam Text)
 run_param_of param.None = Some given.None
@@ -92,7 +94,8 @@ make_job_in ms = option_and_then make_job_of (job_of ms)
 abbrev pub try_param_lent : TryParam (Bor Text) → TryParam Text
 try_param_lent taken.None = taken.None
 try_param_lent (taken.Scalar value) = taken.Scalar value
-try_param_lent (taken.Buffer mode file out) = taken.Buffer mode file.now (option_map (λ s. s.now) out)
+try_param_lent (taken.Buffer mode file out) =
+    taken.Buffer mode file.now (option_map (λ s. s.now) out)
 
 abbrev pub try_job_lent : TryJob (Bor Text) → TryJob Text
 try_job_lent j = record {

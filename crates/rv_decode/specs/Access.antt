@@ -1,5 +1,5 @@
--- The rows of the vector loads and stores ("Vector Load/Store Instruction Encoding", "Vector Load/Store Addressing
--- Modes"), but for segments and fault-only-first loads.
+-- The rows of the vector loads and stores ("Vector Load/Store Instruction Encoding", "Vector
+-- Load/Store Addressing Modes"), but for segments and fault-only-first loads.
 use Rattle.std.specs.Prelude.{ℕ, Bool, true, false, List, [], ◌∷◌, ◌++◌}
 use Rattle.rv_decode.specs.Bits.{rd_of, rs1_of, rs2_of}
 use Rattle.rv_decode.specs.Rows.{Field, Row, RowGroup, f3, field, row, group}
@@ -25,13 +25,15 @@ aligned width = field 7 width 0
 -- what an access means, by its place
 abbrev pub access : Direction → Addressing → ℕ → Insn
 access direction place word =
-    Insn.VMem (record { direction = direction; place = place; values = rd_of word; rs1 = rs1_of word })
+    Insn.VMem
+    (record { direction = direction; place = place; values = rd_of word; rs1 = rs1_of word })
 
 abbrev pub unit : Direction → Width → ℕ → Insn
 unit direction width word = access direction (Addressing.Unit width (is_masked word)) word
 
 abbrev pub strided : Direction → Width → ℕ → Insn
-strided direction width word = access direction (Addressing.Strided width (rs2_of word) (is_masked word)) word
+strided direction width word =
+    access direction (Addressing.Strided width (rs2_of word) (is_masked word)) word
 
 abbrev pub indexed : Bool → Direction → Width → ℕ → Insn
 indexed ordered direction width word =

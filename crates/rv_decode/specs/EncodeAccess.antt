@@ -41,8 +41,10 @@ encode_m nf mop vm kind width access =
 
 abbrev pub encode_place : Addressing → VMem → ℕ
 encode_place (Addressing.Unit width masked) access = encode_m 0 0 (vm_of masked) 0 width access
-encode_place (Addressing.Strided width rs2 masked) access = encode_m 0 2 (vm_of masked) rs2 width access
-encode_place (Addressing.Indexed width vs2 ordered masked) access = encode_m 0 (mop_of_order ordered) (vm_of masked) vs2 width access
+encode_place (Addressing.Strided width rs2 masked) access =
+    encode_m 0 2 (vm_of masked) rs2 width access
+encode_place (Addressing.Indexed width vs2 ordered masked) access =
+    encode_m 0 (mop_of_order ordered) (vm_of masked) vs2 width access
 encode_place Addressing.Mask access = encode_m 0 0 1 0x0b W8 access
 encode_place (Addressing.Whole width count) access = encode_m (nf_of_count count) 0 1 8 width access
 

@@ -1,4 +1,5 @@
--- Tables of words: a row fixes some fields, and a word that has these values means what the row says.
+-- Tables of words: a row fixes some fields, and a word that has these values means
+-- what the row says.
 use Rattle.std.specs.Prelude.{ℕ, Bool, true, List, [], ◌∷◌, ◌++◌, ◌==◌, ◌&&◌, Option, None, Some, if◌then◌else◌}
 use Rattle.rv_decode.specs.Bits.{bits}
 use Rattle.rv_decode.specs.Words.{Insn}
@@ -31,12 +32,14 @@ has_fields (f ∷ fs) word = bits f.low f.width word == f.value && has_fields fs
 -- the meanings that the rows give to a word, one for each row that it matches
 abbrev pub meanings_by_rows : List Row → ℕ → List Insn
 meanings_by_rows [] word = []
-meanings_by_rows (r ∷ rs) word = (if has_fields r.fixed word then r.meaning word ∷ [] else []) ++ meanings_by_rows rs word
+meanings_by_rows (r ∷ rs) word =
+    (if has_fields r.fixed word then r.meaning word ∷ [] else []) ++ meanings_by_rows rs word
 
 abbrev pub meanings_by_groups : List RowGroup → ℕ → List Insn
 meanings_by_groups [] word = []
 meanings_by_groups (g ∷ gs) word =
-    (if has_fields g.fixed word then meanings_by_rows g.rows word else []) ++ meanings_by_groups gs word
+    (if has_fields g.fixed word then meanings_by_rows g.rows word else [])
+    ++ meanings_by_groups gs word
 
 abbrev pub meanings : List Section → ℕ → List Insn
 meanings [] word = []

@@ -10,7 +10,8 @@ abbrev pub csr : ℕ → Field
 csr number = field 20 12 number
 
 abbrev pub csr_form : CsrAction → CsrName → CsrSource → ℕ → Insn
-csr_form action name source word = Csr (record { action = action; csr = name; source = source; rd = rd_of word })
+csr_form action name source word =
+    Csr (record { action = action; csr = name; source = source; rd = rd_of word })
 
 -- the CSRs that any form may name
 abbrev pub writable : CsrAction → (ℕ → CsrSource) → List Row

@@ -1,4 +1,5 @@
--- The rows of opcode 57: vector arithmetic, the operations of ElementWords.antt, and the forms that set vl and vtype.
+-- The rows of opcode 57: vector arithmetic, the operations of ElementWords.antt, and the forms that
+-- set vl and vtype.
 use Rattle.std.specs.Prelude.{ℕ, Bool, true, false, List, [], ◌∷◌, ◌++◌}
 use Rattle.rv_decode.specs.Bits.{bits, rd_of, rs1_of, rs2_of}
 use Rattle.rv_decode.specs.Rows.{Row, RowGroup, f3, field, row, group}
@@ -46,7 +47,8 @@ abbrev pub wide : WideOp → Source → ℕ → Insn
 wide op b word = Insn.VArith (Wide op (rd_of word) (rs2_of word) b (is_masked word))
 
 abbrev pub widen_multiply_add : WidenMultiplyAddOp → Source → ℕ → Insn
-widen_multiply_add op b word = Insn.VArith (WidenMultiplyAdd op (rd_of word) (rs2_of word) b (is_masked word))
+widen_multiply_add op b word =
+    Insn.VArith (WidenMultiplyAdd op (rd_of word) (rs2_of word) b (is_masked word))
 
 abbrev pub narrow : NarrowOp → Source → ℕ → Insn
 narrow op b word = Insn.VArith (Narrow op (rd_of word) (rs2_of word) b (is_masked word))

@@ -1,6 +1,7 @@
--- What a vector load or store moves, by where its elements lie ("Vector Unit-Stride Instructions", "Vector Strided
--- Instructions", "Vector Indexed Instructions", "Vector Load/Store Whole Register Instructions"): all of its accesses are
--- made, or the first that is not permitted is the fault and none is.
+-- What a vector load or store moves, by where its elements lie ("Vector Unit-Stride
+-- Instructions", "Vector Strided Instructions", "Vector Indexed Instructions", "Vector Load/Store
+-- Whole Register Instructions"): all of its accesses are made, or the first that is not permitted
+-- is the fault and none is.
 use Rattle.std.specs.Prelude.{ℕ, ◌==◌, Bool, true, false, not, List, Option, Some, None, Result, Ok, Err, if◌then◌else◌}
 use Rattle.vector_mem.specs.Words.{Addressing, Direction, Fault, Fixed, Indexed, Load, LoadFault, Mask, Memory, Policy, Read, Right}
 use Rattle.vector_mem.specs.Words.{Same, Setup, Span, Store, StoreFault, Strided, Unit, VMem, W8, Whole, Width, Write, active_of}
@@ -8,8 +9,8 @@ use Rattle.vector_mem.specs.Words.{body_of, bytes_of_width, group_at, mask_bytes
 use Rattle.vector_mem.specs.Accesses.{accesses, first_refused, indexed, loaded, stored, strided}
 use Rattle.vector_mem.specs.declared.plan.Access.{Access}
 
--- the registers of the data and the elements that are moved: those of the body; of a mask the bytes that hold its bits;
--- of whole registers all of them
+-- the registers of the data and the elements that are moved: those of the body; of a mask the bytes
+-- that hold its bits; of whole registers all of them
 unfoldable pub data_at : ℕ → Setup → Addressing → ℕ → Span
 data_at vlenb s (Unit width masked) first = group_at s first (Fixed width)
 data_at vlenb s (Strided width rs2 masked) first = group_at s first (Fixed width)
@@ -63,7 +64,8 @@ right_of Store = Write
 -- the accesses of an instruction
 unfoldable pub accesses_of : ℕ → Setup → VMem → ℕ → ℕ → List ℕ → List Access
 accesses_of vlenb s insn base stride file =
-    accesses (right_of insn.direction) (data_of vlenb s insn).bytes (place_at vlenb s insn.place base stride file)
+    accesses (right_of insn.direction) (data_of vlenb s insn).bytes
+    (place_at vlenb s insn.place base stride file)
     (moved_of vlenb s insn file)
 
 -- the tail of a mask, after its whole bytes, is always agnostic
@@ -74,11 +76,13 @@ load_policy s (Indexed width vs2 ordered masked) = policy_of s.agnostic s.vtype
 load_policy s Mask = mask_policy_of s.agnostic s.vtype
 load_policy s (Whole width count) = policy_of s.agnostic s.vtype
 
--- the registers after a load gave these elements. Where there are none nothing is written, the tail neither.
+-- the registers after a load gave these elements. Where there are none nothing is written,
+-- the tail neither.
 unfoldable pub loaded_to : ℕ → Setup → VMem → List ℕ → List ℕ → List ℕ
 loaded_to vlenb s insn values file =
     if (data_of vlenb s insn).vl == 0 then file
-    else written vlenb (data_of vlenb s insn) (load_policy s insn.place) values (moved_of vlenb s insn file) file
+    else written vlenb (data_of vlenb s insn) (load_policy s insn.place) values
+      (moved_of vlenb s insn file) file
 
 -- the fault of an access that is refused, or else what comes of them all
 abbrev pub unless_refused : {A : Type 0} → (ℕ → Fault) → Option Access → A → Result A Fault
