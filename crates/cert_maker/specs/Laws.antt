@@ -74,7 +74,7 @@ ReachesEnd =
     → slice_get params place ≡ Some (parameter.Buffer access size)
     → address_of place params ≡ Some base → end ≤ base + size
     → zone_right right
-      record { first = base; end = base + size; read = true; write = may_write access } ≡ true
+    record { first = base; end = base + size; read = true; write = may_write access } ≡ true
     → is_inside right base end (zones_of image params) ≡ true
 
 -- a fact at a place is one on the argument register there
@@ -201,7 +201,7 @@ PointersReturn = (edge : EdgeView) (base w n e v N p : ℕ) → IsSize w → bas
     → base ≤ (slice_index_or edge.ranges p (just 0)).lo
     → (slice_index_or edge.ranges p (just 0)).hi ≤ base + w * N
     → let f = fact p base (base + w * N)
-        (sum base (cert_term n (2 ^ 32 - w) ∷ cert_term e w ∷ [])) in
+    (sum base (cert_term n (2 ^ 32 - w) ∷ cert_term e w ∷ [])) in
     (is_interval_shown edge f ≡ true) × (is_equality_shown edge f ≡ true)
 
 -- ---- the length

@@ -161,7 +161,7 @@ unfoldable pub is_access : List Param → Loop → VMem → Bool
 is_access params loop insn =
     is_plain loop.sew insn.place && not (insn.rs1 == loop.length)
     && option_map_or (is_buffer_for insn.direction (loop.most * size_of loop))
-      (parameter_in params insn.rs1) false
+    (parameter_in params insn.rs1) false
 
 -- ---- reading
 

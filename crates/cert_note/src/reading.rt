@@ -262,7 +262,8 @@ fn orders_at<'a>(
     orders: &mut ArrayVec<OrderFact, 32>,
 ) -> Result<&'a [u8], CertError>
     requires { count ≤ 32 }
-    ensures { Gives (λ x. (orders.new.items, x.now)) result (orders_at facts.now count 1 bytes.now) }
+    ensures { Gives (λ x. (orders.new.items, x.now)) result
+        (orders_at facts.now count 1 bytes.now) }
 {
     orders.clear();
     let mut from = 1;

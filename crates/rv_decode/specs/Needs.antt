@@ -34,8 +34,13 @@ eew_of Fraction.Quarter = Quarter
 
 abbrev pub operands : Option Operand → Option Operand → Option Operand → Bool → Sharing → Operands
 operands destination vs2 vs1 is_masked sharing =
-    record { destination = destination; vs2 = vs2; vs1 = vs1;
-      is_masked = is_masked; sharing = sharing }
+    record {
+      destination = destination;
+      vs2 = vs2;
+      vs1 = vs1;
+      is_masked = is_masked;
+      sharing = sharing;
+    }
 
 -- an instruction that touches no vector register
 abbrev pub no_operands : Operands

@@ -90,7 +90,7 @@ abbrev pub rows_in : (Form → Bool) → List Form → Operation → List Row
 rows_in selects [] op = []
 rows_in selects (form ∷ forms) op =
     (if selects form then row (funct6 op.code ∷ op.fixed) (λ w. op.meaning (operand form w) w) ∷ []
-      else []) ++
+    else []) ++
     rows_in selects forms op
 
 abbrev pub rows_of : (Form → Bool) → List Operation → List Row

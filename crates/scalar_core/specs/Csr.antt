@@ -50,7 +50,7 @@ unfoldable pub csr_written : CsrInsn → ℕ → Vconfig → Hart → Hart
 csr_written insn vlenb config h =
     if does_write insn.action insn.source
     then with_csr insn.csr
-      (written insn.action (csr_value insn.csr vlenb config h) (operand_of insn.source h)) h
+    (written insn.action (csr_value insn.csr vlenb config h) (operand_of insn.source h)) h
     else h
 
 -- the whole step: rd gets the CSR's old number

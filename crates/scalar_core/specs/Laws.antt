@@ -64,7 +64,7 @@ DividesSigned =
     (a b : ℕ) → a < 2 ^ 32 → b < 2 ^ 32 →
     (b ≡ 0 → (register_result Div a b ≡ 2 ^ 32 - 1) × (register_result Rem a b ≡ a))
     × (a ≡ 2 ^ 31 → b ≡ 2 ^ 32 - 1
-      → (register_result Div a b ≡ 2 ^ 31) × (register_result Rem a b ≡ 0))
+    → (register_result Div a b ≡ 2 ^ 31) × (register_result Rem a b ≡ 0))
     × (0 < b → FitsSigned w32 (int_div (signed a) (signed b)) →
     (signed (register_result Div a b) *ℤ signed b) +ℤ signed (register_result Rem a b) ≡ signed a)
     × (0 < b → IsRemainder (signed a) (signed b) (signed (register_result Rem a b)))
@@ -75,4 +75,4 @@ DividesUnsigned =
     (a b : ℕ) → a < 2 ^ 32 → b < 2 ^ 32 →
     (b ≡ 0 → (register_result Divu a b ≡ 2 ^ 32 - 1) × (register_result Remu a b ≡ a))
     × (0 < b → (b * register_result Divu a b + register_result Remu a b ≡ a)
-      × (register_result Remu a b < b))
+    × (register_result Remu a b < b))

@@ -82,7 +82,7 @@ unfoldable pub loaded_to : ℕ → Setup → VMem → List ℕ → List ℕ → 
 loaded_to vlenb s insn values file =
     if (data_of vlenb s insn).vl == 0 then file
     else written vlenb (data_of vlenb s insn) (load_policy s insn.place) values
-      (moved_of vlenb s insn file) file
+    (moved_of vlenb s insn file) file
 
 -- the fault of an access that is refused, or else what comes of them all
 abbrev pub unless_refused : {A : Type 0} → (ℕ → Fault) → Option Access → A → Result A Fault

@@ -28,8 +28,12 @@ mask_bytes_of vl first = record { first = first; count = 1; bytes = 1; vl = (vl 
 -- whole registers as elements of this width, all of which are the body
 abbrev pub whole_of : ℕ → ℕ → Count → Width → Span
 whole_of vlenb first count width =
-    record { first = first; count = whole_count count; bytes = bytes_of_width width;
-      vl = whole_count count * vlenb / bytes_of_width width }
+    record {
+      first = first;
+      count = whole_count count;
+      bytes = bytes_of_width width;
+      vl = whole_count count * vlenb / bytes_of_width width;
+    }
 
 -- the registers of a group exist, and its elements have 8 to 32 bits
 abbrev pub IsGroupInside : Vtype → ℕ → Eew → Type 0

@@ -93,11 +93,11 @@ unfoldable pub may_overlap : Vtype → Operand → Operand → Bool
 may_overlap t destination source =
     (element_bits t destination.extent == element_bits t source.extent)
     || (nat_lt (element_bits t destination.extent) (element_bits t source.extent)
-      && (destination.first == source.first))
+    && (destination.first == source.first))
     || (nat_lt (element_bits t source.extent) (element_bits t destination.extent)
-      && is_emul_whole t source.extent
-      && (destination.first + count_of (Some t) destination.extent
-        == source.first + count_of (Some t) source.extent))
+    && is_emul_whole t source.extent
+    && (destination.first + count_of (Some t) destination.extent
+    == source.first + count_of (Some t) source.extent))
 
 -- whether a destination and a source may have their registers: single elements and whole
 -- registers may overlap

@@ -29,7 +29,7 @@ unfoldable pub new_element : {A : Type 0} → Policy → A → List A → List B
 new_element policy ones results active i old =
     if nat_lt i (length results)
     then (if slice_index_or active i false then slice_index_or results i old
-      else filled policy.inactive ones old)
+    else filled policy.inactive ones old)
     else filled policy.tail ones old
 
 -- the bytes after others were put over them, from place `at` on

@@ -55,7 +55,7 @@ vtype_of bits =
     option_and_then (λ sew. option_and_then (λ lmul.
     if is_supported sew lmul
     then Some
-      (record { sew = sew; lmul = lmul; vta = bits / 64 % 2 == 1; vma = bits / 128 % 2 == 1 })
+    (record { sew = sew; lmul = lmul; vta = bits / 64 % 2 == 1; vma = bits / 128 % 2 == 1 })
     else None)
     (lmul_of (bits % 8))) (sew_of (bits / 8 % 8))
 
