@@ -3,8 +3,7 @@ use Rattle.std.specs.Prelude.{ℕ, zero, suc, true, false, ◌≡◌, ◌+◌, �
 use Rattle.std.specs.List.{range_with_len}
 use Rattle.std.specs.Option.{option_and_then, option_map, option_map_or, option_or}
 use Rattle.std.specs.Result.{is_err}
-use Rattle.block_checker.specs.Words.{ImageView, Block, CertificateView, AbstractView}
-use Rattle.elf_image.specs.Image.{code_at}
+use Rattle.block_checker.specs.Words.{ImageView, Block, CertificateView, AbstractView, CheckError, code_at}
 use Rattle.rv_decode.specs.Decode.{meaning_of}
 use Rattle.rv_decode.specs.declared.instructions.Insn.{Insn}
 use Rattle.linear_facts.specs.declared.ranges.Range.{Range}
@@ -13,7 +12,6 @@ use Rattle.abs_domain.specs.declared.why.Why.{Why}
 use Rattle.abs_state.specs.After.{after_of}
 use Rattle.abs_state.specs.Blocks.{at_block_of, at_entry_of}
 use Rattle.abs_state.specs.Branches.{EdgeView, refined}
-use Rattle.block_checker.specs.declared.errors.CheckError.{CheckError}
 use Rattle.block_checker.specs.declared.explanation.Part.{Part}
 use Rattle.block_checker.specs.declared.explanation.Part.TheVariants as part
 use Rattle.block_checker.specs.declared.explanation.Stop.{Stop}

@@ -1,7 +1,6 @@
 -- The check of an image against its certificate, in the order in which it looks.
 use Rattle.std.specs.Prelude.{ℕ, zero, suc, ◌+◌, ◌==◌, Bool, true, false, ◌||◌, is_some, List, [], ◌∷◌, find, Option, Some, None, Result, Ok, Err, if◌then◌else◌}
-use Rattle.block_checker.specs.Words.{ImageView, vlenb_of, Vlen, Block, CertificateView, Why, AbstractView, jumps}
-use Rattle.elf_image.specs.Image.{code_at}
+use Rattle.block_checker.specs.Words.{ImageView, vlenb_of, Vlen, Block, CertificateView, Why, AbstractView, jumps, CheckError, code_at}
 use Rattle.rv_decode.specs.Decode.{meaning_of}
 use Rattle.rv_decode.specs.declared.instructions.Insn.{Insn}
 use Rattle.rv_decode.specs.declared.instructions.Insn.TheVariants.{Scalar, Csr, VSet, VArith, VMask, VPerm, VReduce, VMem, VMove}
@@ -13,7 +12,6 @@ use Rattle.abs_state.specs.After.{after_of}
 use Rattle.abs_state.specs.Blocks.{at_block_of, at_entry_of}
 use Rattle.abs_state.specs.Branches.{EdgeView, refined}
 use Rattle.abs_state.specs.Edges.{implied_by}
-use Rattle.block_checker.specs.declared.errors.CheckError.{CheckError}
 use Rattle.block_checker.specs.declared.errors.CheckError.TheVariants.{WrongVlen, NoEntryBlock, NotCode, IllegalWord, BlockTooLong}
 use Rattle.block_checker.specs.Refusals.{refusal}
 

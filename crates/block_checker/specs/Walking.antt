@@ -3,10 +3,7 @@
 use Rattle.std.specs.Prelude.{ℕ, ◌≡◌, ◌-◌, ◌/◌, nat_lt, true, false, List, Some, Result, Ok, Err}
 use Rattle.std.specs.Option.{option_map}
 use Rattle.std.specs.List.Sorted.{IsPartitionPoint}
-use Rattle.cert_note.specs.declared.values.Block.{Block}
-use Rattle.elf_image.specs.Image.{code_at}
-use Rattle.block_checker.specs.Words.{ImageView, CertificateView, AbstractView}
-use Rattle.block_checker.specs.declared.errors.CheckError.{CheckError}
+use Rattle.block_checker.specs.Words.{ImageView, CertificateView, AbstractView, Block, CheckError, code_at}
 use Rattle.block_checker.specs.declared.checks.Told.{Told}
 use Rattle.block_checker.specs.declared.checks.Told.TheVariants as told
 use Rattle.block_checker.specs.declared.explanation.Part.TheVariants as part

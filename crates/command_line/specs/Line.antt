@@ -2,14 +2,11 @@
 -- account of a command.
 use Rattle.std.specs.Prelude.{◌≡◌, List, [], Option, Some, None, option_and_then, option_map, if◌then◌else◌, codes, Bool, true, false}
 use Rattle.std.specs.Str.{bytes_eq}
-use Rattle.command_line.specs.Words.{kind_of, Kinds}
+use Rattle.command_line.specs.Words.{Check, kind_of, Kinds, Line, LineError, Make, Mon, Run, Try}
 use Rattle.clap.specs.Words.{App, Row, Rule, Shape, Text, fault_of, first_of, new_app, new_rule, subcommand_of, with_rule, with_subcommand, IsAmong}
 use Rattle.clap.specs.Simple.{new_shape}
 use Rattle.clap.specs.declared.builder.action.ArgAction.TheVariants.{Set, SetTrue}
 use Rattle.commands.specs.declared.makes.MakePaths.{MakePaths}
-use Rattle.command_line.specs.declared.line.asked.Line.{Line}
-use Rattle.command_line.specs.declared.line.asked.Line.TheVariants.{Check, Make, Mon, Run, Try}
-use Rattle.command_line.specs.declared.line.asked.LineError.{LineError}
 use Rattle.command_line.specs.declared.line.asked.LineError.TheVariants.{Usage, NoMemory}
 
 -- a path, an argument without a dash that has to be there

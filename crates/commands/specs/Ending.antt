@@ -2,19 +2,16 @@
 -- status as a number.
 use Rattle.std.specs.Prelude.{◌≡◌, ◌++◌, Bool, false, ℕ, List, [], Option, Result, Ok, Err, MatchResult, OnOk}
 use Rattle.std.specs.Io.KnownBytes.{Appends}
-use Rattle.block_checker.specs.declared.errors.CheckError.{CheckError}
 use Rattle.block_checker.specs.declared.errors.CheckError.TheVariants as check_error
 use Rattle.cert_maker.specs.declared.errors.MakeError.{MakeError}
 use Rattle.cert_maker.specs.declared.errors.MakeError.TheVariants as make_error
-use Rattle.commands.specs.Words.{CertError, OpenError, Status, Stop}
+use Rattle.commands.specs.Words.{CertError, CheckError, ElfError, JobError, OpenError, Status, Stop}
 use Rattle.cert_note.specs.declared.refusals.CertError.TheVariants as certificate_error
-use Rattle.elf_image.specs.declared.error.ElfError.{ElfError}
 use Rattle.elf_image.specs.declared.error.ElfError.TheVariants as image_error
 use Rattle.sandbox_run.specs.declared.outcome.OpenError.TheVariants as open_error
 use Rattle.std.specs.Borrow.{Bor}
 use Rattle.std.specs.declared.io.ErrorKind.{ErrorKind as IoErrorKind}
 use Rattle.std.specs.declared.io.ErrorKind.TheVariants.{OutOfMemory}
-use Rattle.job_file.specs.declared.values.JobError.{JobError}
 use Rattle.job_file.specs.declared.values.JobError.TheVariants as job_error
 use Rattle.commands.specs.declared.store.StoreError.{StoreError}
 use Rattle.commands.specs.declared.store.StoreError.TheVariants as store_error

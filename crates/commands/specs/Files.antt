@@ -4,7 +4,6 @@ use Rattle.std.specs.List.{filter_map, zip}
 use Rattle.std.specs.Str.{IsUtf8}
 use Rattle.elf_image.specs.Faults.{fault_of}
 use Rattle.elf_image.specs.File.{image_of}
-use Rattle.elf_image.specs.declared.error.ElfError.{ElfError}
 use Rattle.job_file.specs.declared.values.JobError.TheVariants.{NotToml, BadKey}
 use Rattle.job_file.specs.declared.values.RunParam.{RunParam}
 use Rattle.job_file.specs.declared.values.RunParam.TheVariants as given
@@ -12,8 +11,7 @@ use Rattle.region_mem.specs.declared.arguments.Arg.TheVariants as argument
 use Rattle.toml.specs.Parse.{parse_document}
 use Rattle.commands.specs.Accepted.{IsOrWant}
 use Rattle.commands.specs.Ending.{IsOfFile, stop_of_image}
-use Rattle.commands.specs.Words.{Argument, ImageView, Members, Status, Stop, Text}
-use Rattle.commands.specs.Written.{Gains, Written}
+use Rattle.commands.specs.Words.{Argument, ElfError, Gains, ImageView, Members, Status, Stop, Text, Written}
 use Rattle.commands.specs.declared.store.StoreError.{StoreError}
 use Rattle.commands.specs.declared.stop.Stop.TheVariants as stop
 

@@ -3,12 +3,10 @@ use Rattle.std.specs.Prelude.{◌≡◌, ◌⊎◌, ◌∷◌, [], ℕ, List, Op
 use Rattle.std.specs.Global.{Vec}
 use Rattle.std.specs.Io.KnownBytes.{Appends}
 use Rattle.std.specs.Result.{result_map_both}
-use Rattle.block_checker.specs.Passes.{block_at}
 use Rattle.cert_maker.specs.Certificates as maker
 use Rattle.cert_maker.specs.Loops.{loop_of}
 use Rattle.cert_maker.specs.declared.errors.MakeError.TheVariants.{NotALoopOfTheClass}
 use Rattle.cert_maker.specs.declared.loops.Loop.{Loop}
-use Rattle.cert_note.specs.Certificate.{CertificateView}
 use Rattle.cert_note.specs.Spelling.{spelling}
 use Rattle.cert_note.specs.declared.values.Budget.{Budget}
 use Rattle.elf_image.specs.Attached.{attach_fault, attached_of}
@@ -21,8 +19,7 @@ use Rattle.commands.specs.Accepted.{IsOrWant, accepted_of}
 use Rattle.commands.specs.Checks.{bound_line}
 use Rattle.commands.specs.Ending.{IsOfFile}
 use Rattle.commands.specs.Files.{Files, IsUnasked, image_in, unless_fault}
-use Rattle.commands.specs.Words.{AcceptedView, ImageView, Members, Status, Stop, Text}
-use Rattle.commands.specs.Written.{Gains, Written}
+use Rattle.commands.specs.Words.{AcceptedView, CertificateView, Gains, ImageView, Members, Status, Stop, Text, Written, block_at}
 use Rattle.commands.specs.declared.stop.Status.TheVariants as status
 use Rattle.commands.specs.declared.stop.Stop.TheVariants as stop
 

@@ -10,13 +10,11 @@ use Rattle.monitor.specs.declared.commands.MonError.{MonError}
 use Rattle.region_mem.specs.Memory.{args_of}
 use Rattle.sandbox_run.specs.Session.{SessionView, open_fault}
 use Rattle.sandbox_run.specs.Stops.{IsStop}
-use Rattle.vector_core.specs.Machine.{Machine}
 use Rattle.commands.specs.Accepted.{IsOrWant, accepted_of}
 use Rattle.commands.specs.Ending.{stop_of_open}
 use Rattle.commands.specs.Files.{ArePassed, Files, IsImageAt, IsNoImageAt, IsUnasked, IsUnpassed, IsUnwritten, outs_of}
 use Rattle.commands.specs.Texts.{monitor_error_name}
-use Rattle.commands.specs.Words.{AcceptedView, Agnostic, Argument, ImageView, Members, OpenError, start, Status, Stop, Text, vlenb_of}
-use Rattle.commands.specs.Written.{Gains, Written}
+use Rattle.commands.specs.Words.{AcceptedView, Agnostic, Argument, Gains, ImageView, Machine, Members, OpenError, start, Status, Stop, Text, vlenb_of, Written}
 use Rattle.commands.specs.declared.stop.Status.TheVariants as status
 use Rattle.commands.specs.declared.stop.Stop.TheVariants as stop
 

@@ -9,8 +9,7 @@ use Rattle.commands.specs.Accepted.{IsOrWant, accepted_of}
 use Rattle.commands.specs.Ending.{status_of_end, stop_of_open}
 use Rattle.commands.specs.Files.{ArePassed, Files, IsImageAt, IsNoImageAt, IsUnasked, IsUnfinished, IsUnpassed, outs_of}
 use Rattle.commands.specs.Trial.{OrMemory, line_of, trial_from}
-use Rattle.commands.specs.Words.{AcceptedView, Agnostic, Argument, ImageView, Members, OpenError, start, Status, Stop, Text, vlenb_of}
-use Rattle.commands.specs.Written.{Gains, Written}
+use Rattle.commands.specs.Words.{AcceptedView, Agnostic, Argument, Gains, ImageView, Members, OpenError, start, Status, Stop, Text, vlenb_of, Written}
 use Rattle.commands.specs.declared.trial.Trial.{Trial}
 
 -- ---- a job's run

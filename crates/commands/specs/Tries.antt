@@ -18,8 +18,7 @@ use Rattle.sandbox_run.specs.Errors.{open_error_of}
 use Rattle.commands.specs.Ending.{status_of_end}
 use Rattle.commands.specs.Files.{ArePassed, Files, IsImageAt, IsNoImageAt, IsUnasked, IsUnfinished, IsUnpassed, outs_of}
 use Rattle.commands.specs.Trial.{OrMemory, line_of, trial_from}
-use Rattle.commands.specs.Words.{Agnostic, Argument, ImageView, Members, start, Status, Stop, Text, vlenb_of}
-use Rattle.commands.specs.Written.{Gains, Written}
+use Rattle.commands.specs.Words.{Agnostic, Argument, Gains, ImageView, Members, start, Status, Stop, Text, vlenb_of, Written}
 use Rattle.commands.specs.declared.stop.Stop.TheVariants as stop
 use Rattle.commands.specs.declared.trial.Trial.{Trial}
 

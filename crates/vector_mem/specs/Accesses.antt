@@ -4,8 +4,7 @@
 use Rattle.std.specs.Prelude.{◌≡◌, ℕ, ◌<◌, ◌+◌, ◌*◌, ◌%◌, ◌^◌, Bool, false, true, not, List, length, map, filter, find, replicate, slice_index, slice_index_or, slice_set, Option, unwrap_or}
 use Rattle.std.specs.List.{fold, range_with_len}
 use Rattle.region_mem.specs.Memory.{is_permitted, load_of, store_of}
-use Rattle.vector_mem.specs.Words.{Memory, Right}
-use Rattle.vector_mem.specs.declared.plan.Access.{Access}
+use Rattle.vector_mem.specs.Words.{Access, Memory, Right}
 
 -- element i lies at place i, modulo 2^32
 abbrev pub access_at : Right → ℕ → (ℕ → ℕ) → ℕ → Access

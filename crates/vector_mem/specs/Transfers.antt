@@ -3,11 +3,10 @@
 -- Whole Register Instructions"): all of its accesses are made, or the first that is not permitted
 -- is the fault and none is.
 use Rattle.std.specs.Prelude.{ℕ, ◌==◌, Bool, true, false, not, List, Option, Some, None, Result, Ok, Err, if◌then◌else◌}
-use Rattle.vector_mem.specs.Words.{Addressing, Direction, Fault, Fixed, Indexed, Load, LoadFault, Mask, Memory, Policy, Read, Right}
+use Rattle.vector_mem.specs.Words.{Access, Addressing, Direction, Fault, Fixed, Indexed, Load, LoadFault, Mask, Memory, Policy, Read, Right}
 use Rattle.vector_mem.specs.Words.{Same, Setup, Span, Store, StoreFault, Strided, Unit, VMem, W8, Whole, Width, Write, active_of}
 use Rattle.vector_mem.specs.Words.{body_of, bytes_of_width, group_at, mask_bytes_of, mask_policy_of, policy_of, whole_of, written}
 use Rattle.vector_mem.specs.Accesses.{accesses, first_refused, indexed, loaded, stored, strided}
-use Rattle.vector_mem.specs.declared.plan.Access.{Access}
 
 -- the registers of the data and the elements that are moved: those of the body; of a mask the bytes
 -- that hold its bits; of whole registers all of them
