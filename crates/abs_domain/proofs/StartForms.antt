@@ -6,12 +6,12 @@ use Rattle.std.proofs.lemmas.Option.{get_or_from_slice_get}
 use Rattle.std.proofs.lemmas.List.FromFn.{map-range_with_len_more}
 use Rattle.std.proofs.lemmas.Bool.Decides.{nat_tests}
 use Rattle.std.proofs.lemmas.List.{map-append, length-map, get_or-map, take-map, take_more, take_more_set, length-take-le}
-use Rattle.linear_facts.specs.declared.forms.Term.{Term as FormTerm}
+use Rattle.linear_facts.specs.declared.forms.Term.{Term}
 use Rattle.linear_facts.specs.Forms.{IsForm, RisesFrom}
 use Rattle.linear_facts.specs.Laws.{AreBelow}
 use Rattle.region_mem.specs.declared.parameter.Param.{Param}
 use Rattle.vreg_groups.specs.declared.vector_length.Vlen.{Vlen}
-use Rattle.cert_note.specs.declared.values.Term.{Term}
+use Rattle.cert_note.specs.declared.values.EqualityTerm.{EqualityTerm}
 use Rattle.cert_note.specs.declared.values.Budget.{Budget}
 use Rattle.cert_note.specs.declared.values.Equality.{Equality}
 use Rattle.cert_note.specs.declared.values.RegisterFact.{RegisterFact}
@@ -100,25 +100,25 @@ greaters_below facts from (o ∷ os) is = (greater_below facts from o is.0, grea
 
 -- ---- equalities are forms
 
-term_from : (params : List Param) (from : ℕ) (t : Term) → IsTerm params from t → from ≤ t.atom
+term_from : (params : List Param) (from : ℕ) (t : EqualityTerm) → IsTerm params from t → from ≤ t.atom
 term_from params from t is =
     let test = both (nat_le from t.atom) (is_atom params t.atom) is.atom in
     grind (arith, nat_tests)
 
-coefficient_some : (params : List Param) (from : ℕ) (t : Term) → IsTerm params from t → 0 < t.coefficient
+coefficient_some : (params : List Param) (from : ℕ) (t : EqualityTerm) → IsTerm params from t → 0 < t.coefficient
 coefficient_some params from t is = (let test = is.coefficient in grind (arith, nat_tests))
 
-terms_rise : (params : List Param) (from : ℕ) (ts : List Term) → AllFrom (IsTerm params) after_term from ts → RisesFrom from (map form_term ts)
+terms_rise : (params : List Param) (from : ℕ) (ts : List EqualityTerm) → AllFrom (IsTerm params) after_term from ts → RisesFrom from (map form_term ts)
 terms_rise params from [] h = tt
 terms_rise params from (t ∷ ts) h =
     (term_from params from t h.0, coefficient_some params from t h.0, h.0.fits, terms_rise params (t.atom + 1) ts h.1)
 
-terms_below : (params : List Param) (from : ℕ) (ts : List Term) → AllFrom (IsTerm params) after_term from ts → AreBelow 41 (map form_term ts)
+terms_below : (params : List Param) (from : ℕ) (ts : List EqualityTerm) → AllFrom (IsTerm params) after_term from ts → AreBelow 41 (map form_term ts)
 terms_below params from [] h = tt
 terms_below params from (t ∷ ts) h =
     (atom_below params t.atom (both (nat_le from t.atom) (is_atom params t.atom) h.0.atom).1, terms_below params (t.atom + 1) ts h.1)
 
-rises_lower : (low : ℕ) (ts : List FormTerm) → RisesFrom (low + 1) ts → RisesFrom low ts
+rises_lower : (low : ℕ) (ts : List Term) → RisesFrom (low + 1) ts → RisesFrom low ts
 rises_lower low [] h = tt
 rises_lower low (t ∷ ts) h = (omega (arith, h.0), h.1, h.2, h.3)
 
@@ -134,48 +134,48 @@ equality_below params equality is = terms_below params 1 equality.terms.items is
 
 -- ---- terms one after another
 
-rises_on : (low : ℕ) (ts : List FormTerm) (k : ℕ) (d : FormTerm) → RisesFrom low ts → k < length ts → low ≤ (get_or ts k d).atom
+rises_on : (low : ℕ) (ts : List Term) (k : ℕ) (d : Term) → RisesFrom low ts → k < length ts → low ≤ (get_or ts k d).atom
 rises_on low [] k d h l = absurd (omega (arith, l))
 rises_on low (t ∷ ts) zero d h l = h.0
 rises_on low (t ∷ ts) (suc k) d h l = (let more = rises_on (t.atom + 1) ts k d h.3 (omega (arith, l)) in omega (arith, more, h.0))
 
-rises_past : (low : ℕ) (ts : List FormTerm) (k : ℕ) (d : FormTerm) → RisesFrom low ts → k < length ts
+rises_past : (low : ℕ) (ts : List Term) (k : ℕ) (d : Term) → RisesFrom low ts → k < length ts
     → AreBelow (get_or ts k d).atom (take k ts)
 rises_past low [] k d h l = absurd (omega (arith, l))
 rises_past low (t ∷ ts) zero d h l = tt
 rises_past low (t ∷ ts) (suc k) d h l =
     (let more = rises_on (t.atom + 1) ts k d h.3 (omega (arith, l)) in omega (arith, more), rises_past (t.atom + 1) ts k d h.3 (omega (arith, l)))
 
-rises_some : (low : ℕ) (ts : List FormTerm) (k : ℕ) (d : FormTerm) → RisesFrom low ts → k < length ts → 0 < (get_or ts k d).coefficient
+rises_some : (low : ℕ) (ts : List Term) (k : ℕ) (d : Term) → RisesFrom low ts → k < length ts → 0 < (get_or ts k d).coefficient
 rises_some low [] k d h l = absurd (omega (arith, l))
 rises_some low (t ∷ ts) zero d h l = h.1
 rises_some low (t ∷ ts) (suc k) d h l = rises_some (t.atom + 1) ts k d h.3 (omega (arith, l))
 
-mapped : (ts : List Term) (k : ℕ) (d : Term) → k < length ts → get_or (map form_term ts) k (form_term d) ≡ form_term (get_or ts k d)
+mapped : (ts : List EqualityTerm) (k : ℕ) (d : EqualityTerm) → k < length ts → get_or (map form_term ts) k (form_term d) ≡ form_term (get_or ts k d)
 mapped ts k d l = get_or-map form_term ts k d (form_term d) l
 
 -- the term at a place may follow those before it
-pub term_past : (constant : ℕ) (ts : List Term) (k : ℕ) (d : Term) → IsForm 8 record { constant = constant; terms = map form_term ts } → k < length ts
+pub term_past : (constant : ℕ) (ts : List EqualityTerm) (k : ℕ) (d : EqualityTerm) → IsForm 8 record { constant = constant; terms = map form_term ts } → k < length ts
     → AreBelow (get_or ts k d).atom (map form_term (take k ts))
 term_past constant ts k d is l =
     let long : k < length (map form_term ts) = omega (arith, length-map ts form_term, l) in
-    let at : (get_or (map form_term ts) k (form_term d)).atom ≡ (get_or ts k d).atom = ap (λ (t : FormTerm). t.atom) (mapped ts k d l) in
-    subst (λ (us : List FormTerm). AreBelow (get_or ts k d).atom us) (take-map form_term k ts)
+    let at : (get_or (map form_term ts) k (form_term d)).atom ≡ (get_or ts k d).atom = ap (λ (t : Term). t.atom) (mapped ts k d l) in
+    subst (λ (us : List Term). AreBelow (get_or ts k d).atom us) (take-map form_term k ts)
     (subst (λ (a : ℕ). AreBelow a (take k (map form_term ts))) at (rises_past 0 (map form_term ts) k (form_term d) is.rises long))
 
-pub term_some : (constant : ℕ) (ts : List Term) (k : ℕ) (d : Term) → IsForm 8 record { constant = constant; terms = map form_term ts } → k < length ts
+pub term_some : (constant : ℕ) (ts : List EqualityTerm) (k : ℕ) (d : EqualityTerm) → IsForm 8 record { constant = constant; terms = map form_term ts } → k < length ts
     → 0 < (get_or ts k d).coefficient
 term_some constant ts k d is l =
     let long : k < length (map form_term ts) = omega (arith, length-map ts form_term, l) in
-    subst (λ (t : FormTerm). 0 < t.coefficient) (mapped ts k d l) (rises_some 0 (map form_term ts) k (form_term d) is.rises long)
+    subst (λ (t : Term). 0 < t.coefficient) (mapped ts k d l) (rises_some 0 (map form_term ts) k (form_term d) is.rises long)
 
-pub terms_room : (constant : ℕ) (ts : List Term) (k : ℕ) → IsForm 8 record { constant = constant; terms = map form_term ts } → k < length ts
+pub terms_room : (constant : ℕ) (ts : List EqualityTerm) (k : ℕ) → IsForm 8 record { constant = constant; terms = map form_term ts } → k < length ts
     → length (map form_term (take k ts)) < 8
 terms_room constant ts k is l =
     omega (arith, length-map ts form_term, length-map (take k ts) form_term, is.has_room, l, length-take-le k ts (omega (arith, l)))
 
 -- one term more
-pub terms_more : (ts : List Term) (k : ℕ) (d : Term) → k < length ts
+pub terms_more : (ts : List EqualityTerm) (k : ℕ) (d : EqualityTerm) → k < length ts
     → map form_term (take (k + 1) ts) ≡ map form_term (take k ts) ++ form_term (get_or ts k d) ∷ []
 terms_more ts k d l = ap (map form_term) (take_more ts k d l) ∙ map-append form_term (take k ts) (get_or ts k d ∷ [])
 

@@ -9,7 +9,8 @@ use Rattle.abs_domain.specs.Holds.{Holds, number_of}
 use Rattle.abs_domain.specs.Numbers.{NumbersView}
 use Rattle.abs_domain.specs.Starts.{equality_form, start_numbers, entry_numbers}
 
--- what is passed for a parameter: 0 for none, a number in its interval for a scalar, the buffer's address for a buffer
+-- what is passed for a parameter: 0 for none, a number in its interval for a scalar, the buffer's
+-- address for a buffer
 abbrev pub IsPassed : List Param → ℕ → Option Param → ℕ → Type 0
 IsPassed params place None x = x ≡ 0
 IsPassed params place (Some parameter.None) x = x ≡ 0
@@ -36,15 +37,16 @@ pub record FactIsTrue (v : ℕ → ℕ) (fact : RegisterFact) : Type 0 where
 abbrev pub OrderIsTrue : (ℕ → ℕ) → OrderFact → Type 0
 OrderIsTrue v order = v order.lesser ≤ v order.greater
 
--- What is known is true of a hart and of vl, for numbers of the atoms that are those of v for the first 41: the registers,
--- vl and what was passed.
+-- What is known is true of a hart and of vl, for numbers of the atoms that are those of v for the
+-- first 41: the registers, vl and what was passed.
 pub record HoldsWith (s : NumbersView) (v : ℕ → ℕ) (h : Hart) (config : Vconfig) : Type 0 where
   pub numbers : ℕ → ℕ
   pub same : (a : ℕ) → a < 41 → numbers a ≡ v a
   pub grows : 41 ≤ length s.atoms
   pub holds : Holds s numbers h config
 
--- Where all facts and orders of a block are true of a hart and vl, what is known at the block's start is.
+-- Where all facts and orders of a block are true of a hart and vl, what is known at the
+-- block's start is.
 abbrev pub BlockNumbersHold : Type 0
 BlockNumbersHold =
     (certificate : CertificateView) (block : Block) (address : ℕ) (passed : ℕ → ℕ) (h : Hart)

@@ -18,7 +18,8 @@ pub record LiesIn (r : Range) (x : ℕ) : Type 0 where
   pub high : x ≤ r.hi
   pub fits : r.hi < 2 ^ 32
 
--- x is the value of a form with at most m terms over the first n atoms, where atom a is the number v a.
+-- x is the value of a form with at most m terms over the first n atoms, where atom a is
+-- the number v a.
 pub record Means (m n : ℕ) (v : ℕ → ℕ) (f : Linear) (x : ℕ) : Type 0 where
   pub form : IsForm m f
   pub below : AreBelow n f.terms
@@ -64,7 +65,8 @@ LoadEffects =
 abbrev pub ConstantEffects : Type 0
 ConstantEffects = (n : ℕ) (v : ℕ → ℕ) (x : ℕ) → x < 2 ^ 32 → Describes n v (constant_effect x) x
 
--- What is said of a read of a CSR holds of what the CSR reads as, where what is known of vl is right.
+-- What is said of a read of a CSR holds of what the CSR reads as, where what is known
+-- of vl is right.
 abbrev pub CsrEffects : Type 0
 CsrEffects =
     (n : ℕ) (v : ℕ → ℕ) (csr : CsrName) (vlenb : ℕ) (a : ValueView) (config : Vconfig) (h : Hart)

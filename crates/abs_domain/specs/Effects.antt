@@ -1,5 +1,5 @@
--- What the instructions of RV32I and M make of the numbers of their operands, as far as these are known. An effect holds a
--- form or a range, and its rule says what is known of the result.
+-- What the instructions of RV32I and M make of the numbers of their operands, as far as these are
+-- known. An effect holds a form or a range, and its rule says what is known of the result.
 use Rattle.std.specs.Prelude.{ℕ, ◌+◌, ◌-◌, ◌*◌, ◌/◌, ◌%◌, ◌^◌, ◌==◌, nat_lt, nat_le, ◌&&◌, min, if◌then◌else◌, Option, Some, None}
 use Rattle.abs_domain.specs.Words.{Range, Linear, number_form, scaled, sum_of, RegisterOp, ImmediateOp, ShiftOp, LoadKind, CsrName}
 use Rattle.rv_decode.specs.declared.instructions.RegisterOp.TheVariants.{Add, Sub, Sll, Slt, Sltu, Xor, Srl, Sra, Or, And, Mul, Mulh, Mulhsu, Mulhu, Div, Divu, Rem, Remu}

@@ -32,7 +32,8 @@ pub record Follows (old new : NumbersView) (v : ℕ → ℕ) (h : Hart) (config 
   pub grows : length old.atoms ≤ length new.atoms
   pub holds : Holds new numbers h config
 
--- A number that an effect describes may be put into its register, in what is known and in the hart; x0 stays.
+-- A number that an effect describes may be put into its register, in what is known and in the
+-- hart; x0 stays.
 abbrev pub ResultsHold : Type 0
 ResultsHold =
     (s : NumbersView) (v : ℕ → ℕ) (h : Hart) (config : Vconfig) (rd x : ℕ) (e : Effect) → IsHart h

@@ -4,8 +4,8 @@ use Rattle.abs_domain.specs.Words.{Atom, OrderFact}
 use Rattle.linear_facts.specs.Ranges.{range_at}
 use Rattle.abs_domain.specs.Numbers.{plain, table_with, with_split}
 
--- The greater one's atom is split into the lesser one's and a new one, which is what lies between them; not where its range
--- lies below the lesser one's, so that the order can't be true.
+-- The greater one's atom is split into the lesser one's and a new one, which is what lies between
+-- them; not where its range lies below the lesser one's, so that the order can't be true.
 unfoldable pub with_order : List Atom → OrderFact → List Atom
 with_order atoms order =
     let greater = range_at (table_with atoms) order.greater in

@@ -1,13 +1,13 @@
--- What is known where a block begins, and where a run does. Atom i below 33 is the number of x0 to x31 or of vl there, and
--- atom 33 + j the number that was passed for the parameter at place j.
+-- What is known where a block begins, and where a run does. Atom i below 33 is the number of x0 to
+-- x31 or of vl there, and atom 33 + j the number that was passed for the parameter at place j.
 use Rattle.std.specs.Prelude.{ℕ, ◌<◌, ◌≤◌, ◌+◌, ◌==◌, if◌then◌else◌, List, [], ◌++◌, length, map, find, unwrap_or, Option, Some, None, IfSome}
 use Rattle.std.specs.List.{slice_get, range_with_len, AllByRecursion}
 use Rattle.std.specs.Option.{option_and_then}
 use Rattle.abs_domain.specs.Words.{Range, Atom, Linear, IsForm, number_form, atom_form, range_of_form, Param, Equality, RegisterFact, OrderFact, Block}
-use Rattle.linear_facts.specs.declared.forms.Term.{Term as FormTerm}
+use Rattle.linear_facts.specs.declared.forms.Term.{Term}
 use Rattle.region_mem.specs.declared.parameter.Param.TheVariants as parameter
 use Rattle.region_mem.specs.Parameter.{address_of}
-use Rattle.cert_note.specs.declared.values.Term.{Term}
+use Rattle.cert_note.specs.declared.values.EqualityTerm.{EqualityTerm}
 use Rattle.scalar_core.specs.declared.entry.EntryValue.{EntryValue}
 use Rattle.scalar_core.specs.declared.entry.EntryValue.TheVariants.{Number, Passed}
 use Rattle.scalar_core.specs.Entry.{entry_value}
@@ -28,7 +28,7 @@ unfoldable pub stated_range : List RegisterFact → ℕ → Range
 stated_range facts i = if i == 0 then just 0 else interval_of (fact_for facts i)
 
 -- a term of an equality as one of a form
-abbrev pub form_term : Term → FormTerm
+abbrev pub form_term : EqualityTerm → Term
 form_term t = record { atom = t.atom; coefficient = t.coefficient }
 
 -- the sum of an equality as a form
@@ -88,7 +88,8 @@ start_numbers params facts orders =
     numbers_by (with_orders (start_atoms params facts) orders) (stated_form facts)
     (λ i. Some (stated_range facts i))
 
--- what is passed for a parameter: 0 for none, for a scalar what is passed at its place, or the buffer's address
+-- what is passed for a parameter: 0 for none, for a scalar what is passed at its place, or the
+-- buffer's address
 unfoldable pub passed_value : List Param → ℕ → Option Param → EntryValue
 passed_value params place None = Number 0
 passed_value params place (Some parameter.None) = Number 0

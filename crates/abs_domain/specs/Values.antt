@@ -33,8 +33,8 @@ abbrev pub or_own : Range → Option Range → Range
 or_own own None = own
 or_own own (Some r) = r
 
--- The range of a computed number, by interval arithmetic and by its form: what lies in both, the interval where nothing
--- does, and all numbers where there is neither.
+-- The range of a computed number, by interval arithmetic and by its form: what lies in both, the
+-- interval where nothing does, and all numbers where there is neither.
 unfoldable pub computed_range : Option Range → Option Range → Range
 computed_range None form_range = or_full form_range
 computed_range (Some interval) None = interval

@@ -14,7 +14,7 @@ use Rattle.linear_facts.proofs.FormLaws.{value-atom_form, value-substituted}
 use Rattle.linear_facts.proofs.DifferenceLaws.{difference-holds}
 use Rattle.linear_facts.proofs.LocalityLemmas.{agree-below}
 use Rattle.region_mem.specs.declared.parameter.Param.{Param}
-use Rattle.cert_note.specs.declared.values.Term.{Term as Part}
+use Rattle.cert_note.specs.declared.values.EqualityTerm.{EqualityTerm}
 use Rattle.cert_note.specs.declared.values.VectorFact.{VectorFact}
 use Rattle.cert_note.specs.Certificate.{is_atom, AllFrom, after_term, IsTerm}
 use Rattle.abs_domain.specs.Numbers.{NumbersView, value_at}
@@ -67,7 +67,7 @@ atom_below : (params : List Param) (from a : ℕ) → IsTrue (nat_le from a && i
 unfolding is_atom
 atom_below params from a h = grind (arith, nat_tests)
 
-pub parts_below : (params : List Param) (from : ℕ) (ts : List Part) → AllFrom (IsTerm params) after_term from ts
+pub parts_below : (params : List Param) (from : ℕ) (ts : List EqualityTerm) → AllFrom (IsTerm params) after_term from ts
     → AreBelow 41 (map form_term ts)
 parts_below params from [] h = tt
 parts_below params from (t ∷ ts) h = (atom_below params from t.atom h.0.atom, parts_below params (after_term t) ts h.1)

@@ -6,12 +6,12 @@ use Rattle.std.proofs.lemmas.List.{get_or-map, length-map}
 use Rattle.linear_facts.specs.declared.forms.Term.{Term}
 use Rattle.linear_facts.specs.Forms.{Linear, form_at, scaled, sum_of, with_replaced}
 use Rattle.linear_facts.proofs.FormLaws.{replaced-more, replaced-done}
-use Rattle.cert_note.specs.declared.values.Term.{Term as Part}
+use Rattle.cert_note.specs.declared.values.EqualityTerm.{EqualityTerm}
 use Rattle.abs_domain.specs.Starts.{form_term}
 use Rattle.abs_state.specs.Edges.{are_same_terms, is_same}
 
 -- one more term is replaced
-pub sums_more : (forms : List Linear) (start next part : Linear) (ts : List Part) (i : ℕ) (d : Part) (all : Linear) → i < length ts
+pub sums_more : (forms : List Linear) (start next part : Linear) (ts : List EqualityTerm) (i : ℕ) (d : EqualityTerm) (all : Linear) → i < length ts
     → with_replaced forms start (drop i (map form_term ts)) ≡ all
     → part ≡ scaled (get_or ts i d).coefficient (form_at forms (get_or ts i d).atom) → next ≡ sum_of start part
     → with_replaced forms next (drop (i + 1) (map form_term ts)) ≡ all
@@ -24,7 +24,7 @@ sums_more forms start next part ts i d all l e p n =
     here = ap (λ (t : Term). scaled t.coefficient (form_at forms t.atom)) (sym (get_or-map form_term ts i d (form_term d) l))
 
 -- once all are replaced, that is the sum
-pub sums_done : (forms : List Linear) (start : Linear) (ts : List Part) (i : ℕ) (all : Linear) → length ts ≤ i
+pub sums_done : (forms : List Linear) (start : Linear) (ts : List EqualityTerm) (i : ℕ) (all : Linear) → length ts ≤ i
     → with_replaced forms start (drop i (map form_term ts)) ≡ all → start ≡ all
 sums_done forms start ts i all l e =
     sym (replaced-done forms start (map form_term ts) i (omega (arith, length-map ts form_term, l))) ∙ e

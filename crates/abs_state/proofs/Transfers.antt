@@ -11,8 +11,8 @@ use Rattle.rv_decode.specs.declared.instructions.Count.{Count}
 use Rattle.rv_decode.specs.declared.instructions.Direction.{Direction}
 use Rattle.rv_decode.specs.declared.instructions.Direction.TheVariants.{Load, Store}
 use Rattle.rv_decode.specs.declared.instructions.Insn.TheVariants as class
-use Rattle.rv_decode.specs.declared.instructions.Place.{Place}
-use Rattle.rv_decode.specs.declared.instructions.Place.TheVariants.{Unit as InARow, Strided, Indexed, Mask, Whole}
+use Rattle.rv_decode.specs.declared.instructions.Addressing.{Addressing}
+use Rattle.rv_decode.specs.declared.instructions.Addressing.TheVariants.{Unit as InARow, Strided, Indexed, Mask, Whole}
 use Rattle.rv_decode.specs.declared.instructions.VMem as mem
 use Rattle.rv_decode.specs.declared.instructions.Width.{Width}
 use Rattle.rv_decode.specs.EncodeAccess.{PlaceFits}
@@ -139,12 +139,12 @@ allowed_is Load (Some reach) zones u e = record { reach = reach; is = refl; insi
 allowed_is Store (Some reach) zones u e = record { reach = reach; is = refl; inside = store_inside reach.first reach.end zones u e }
 
 -- the test of a place, and the accesses there
-abbrev check_at : ℕ → Vtype → NumbersView → List VectorFact → List Zone → Direction → Place → ℕ → Result (Unit {0}) Why
+abbrev check_at : ℕ → Vtype → NumbersView → List VectorFact → List Zone → Direction → Addressing → ℕ → Result (Unit {0}) Why
 check_at vlenb t s facts zones direction place rs1 =
     if not (is_whole place) && ((value_at s 32).range.hi == 0) then Ok tt
     else reach_allowed direction (reach_at vlenb t s facts place (value_at s rs1)) zones
 
-abbrev accesses_at : ℕ → Setup → Direction → Place → ℕ → ℕ → ℕ → List ℕ → List Access
+abbrev accesses_at : ℕ → Setup → Direction → Addressing → ℕ → ℕ → ℕ → List ℕ → List Access
 accesses_at vlenb setup direction place values base stride file =
     accesses (right_of direction) (data_at vlenb setup place values).bytes (place_at vlenb setup place base stride file)
     (active_of vlenb (is_masked place) (data_at vlenb setup place values).vl file)
@@ -152,7 +152,7 @@ accesses_at vlenb setup direction place values base stride file =
 -- ---- by place
 
 -- Where a place's bytes may lie, and vl is not 0, its elements lie there.
-abbrev Lie : NumbersView → ℕ → Vtype → List VectorFact → Setup → Place → ℕ → ℕ → ℕ → ℕ → List ℕ → Type 0
+abbrev Lie : NumbersView → ℕ → Vtype → List VectorFact → Setup → Addressing → ℕ → ℕ → ℕ → ℕ → List ℕ → Type 0
 Lie s vlenb t facts setup place values rs1 base stride file =
     (r : Reach) → reach_at vlenb t s facts place (value_at s rs1) ≡ Some r → r.end ≤ 2 ^ 32
     → 0 < (data_at vlenb setup place values).vl
@@ -171,7 +171,7 @@ module _ (vlenb : ℕ) (s : NumbersView) (v : ℕ → ℕ) (h : Hart) (config : 
   abbrev setup : Setup
   setup = record { vtype = u; vl = config.vl; agnostic = agnostic }
 
-  abbrev LieAt : Place → ℕ → Type 0
+  abbrev LieAt : Addressing → ℕ → Type 0
   LieAt place stride = Lie s vlenb t facts setup place values rs1 (reg_of rs1 h) stride file
 
   register : (i : ℕ) → i < 32 → IsNumber (length s.atoms) v (value_at s i) (reg_of i h)
@@ -289,7 +289,7 @@ module _ (vlenb : ℕ) (s : NumbersView) (v : ℕ → ℕ) (h : Hart) (config : 
       (indices_at width vs2 ordered masked within true_of bytes)
 
   -- where vl is 0 there are no elements but of whole registers
-  empty : (place : Place) → is_whole place ≡ false → config.vl ≡ 0 → (data_at vlenb setup place values).vl ≡ 0
+  empty : (place : Addressing) → is_whole place ≡ false → config.vl ≡ 0 → (data_at vlenb setup place values).vl ≡ 0
   unfolding is_whole data_at
   empty (InARow width masked) e none = none
   empty (Strided width rs2 masked) e none = none
@@ -298,7 +298,7 @@ module _ (vlenb : ℕ) (s : NumbersView) (v : ℕ → ℕ) (h : Hart) (config : 
   empty (Whole width count) e none = cc
 
   -- a place that passes, where its elements lie in its reach
-  place_passes : (direction : Direction) (place : Place) (stride : ℕ) (zones : List Zone) (m : Memory) → HasZones zones m
+  place_passes : (direction : Direction) (place : Addressing) (stride : ℕ) (zones : List Zone) (m : Memory) → HasZones zones m
       → LieAt place stride → check_at vlenb t s facts zones direction place rs1 ≡ Ok tt
       → first_refused (accesses_at vlenb setup direction place values (reg_of rs1 h) stride file) m ≡ None
   place_passes direction place stride zones m has lie e = by_count (data_at vlenb setup place values).vl refl
@@ -352,7 +352,7 @@ not_legal : (insn : mem.VMem) (width : Width) (vs2 : ℕ) (ordered masked : Bool
     → is_legal no_config (class.VMem insn) ≡ false
 unfolding is_legal needs_of needs_of_access
 not_legal insn width vs2 ordered masked e =
-    ap (λ (place : Place). are_operands_legal (vtype_of vill) (needs_of_place place insn.direction insn.values)) e
+    ap (λ (place : Addressing). are_operands_legal (vtype_of vill) (needs_of_place place insn.direction insn.values)) e
     ∙ not_operands insn.direction insn.values width vs2 ordered masked
 
 abbrev refuse : Why → Result (Unit {0}) Why
@@ -401,12 +401,12 @@ transfers_pass e n a s insn held fields legal passed =
     within : s.vectors.config.vl ≤ vlmax_of (vlenb_in e) (type_in (vtype_of s.vectors.config.vtype))
     within = length_fits (vlenb_in e) s.vectors.config (vtype_of s.vectors.config.vtype) known.proper.vectors.config
 
-    LieHere : Place → Type 0
+    LieHere : Addressing → Type 0
     LieHere place =
         Lie a.numbers vlenb t a.groups (setup_of u s.vectors) place insn.values insn.rs1 (reg_of insn.rs1 s.hart) (stride_of place s.hart)
         s.vectors.registers
 
-    by_place : (place : Place) → insn.place ≡ place → PlaceFits place insn → LieHere place
+    by_place : (place : Addressing) → insn.place ≡ place → PlaceFits place insn → LieHere place
     by_place (InARow width masked) is fit =
         unit_lies vlenb a.numbers v s.hart s.vectors.config a.groups s.vectors.agnostic t u insn.rs1 insn.values s.vectors.registers
         known.known fields.1 width masked

@@ -56,7 +56,8 @@ taken way a (Err why) = Err why
 
 -- ---- vector instructions
 
--- an instruction that sets vtype and vl; where vl may change, so may what is known of elements below it
+-- an instruction that sets vtype and vl; where vl may change, so may what is known of
+-- elements below it
 unfoldable pub vset_after : ℕ → vset.VSet → AbstractView → AbstractView
 vset_after pc insn a =
     let wanted = wanted_of insn a.numbers in

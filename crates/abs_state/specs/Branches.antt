@@ -54,7 +54,8 @@ without_end n a =
 unfoldable pub apart_from : Range → Range → Option Range
 apart_from b a = if b.lo == b.hi then without_end b.lo a else Some a
 
--- the ranges of two numbers that stand in this relation; none where no two numbers of these ranges do
+-- the ranges of two numbers that stand in this relation; none where no two numbers of
+-- these ranges do
 unfoldable pub related_ranges : Relation → Range → Range → Option (Range × Range)
 related_ranges is.Same a b = both_ranges (meet_of a b) (meet_of a b)
 related_ranges is.Different a b = both_ranges (apart_from b a) (apart_from a b)
@@ -67,8 +68,9 @@ related_ranges is.NotBelow a b =
 
 -- ---- edges
 
--- What is known on the way from one instruction to another: the state, and in place of two atoms' ranges and of those of
--- registers, which a branch tells more of, their new ones. The target, if it is known. The branch, if the edge is one of its two.
+-- What is known on the way from one instruction to another: the state, and in place of two atoms'
+-- ranges and of those of registers, which a branch tells more of, their new ones. The target, if it
+-- is known. The branch, if the edge is one of its two.
 pub record EdgeView : Type 0 where
   pub state : AbstractView
   pub ranges : List Range
@@ -151,8 +153,8 @@ edge_by taken a Unknown = Some (plain_edge a None)
 edge_by taken a (Fork condition rs1 rs2 there next) =
     branch_edge taken condition rs1 rs2 (if taken then there else next) a
 
--- The edge out of the last instruction that was taken, for a branch where it is taken or where it isn't; none where it can't
--- come to that.
+-- The edge out of the last instruction that was taken, for a branch where it is taken or where it
+-- isn't; none where it can't come to that.
 unfoldable pub refined : Bool → AbstractView → Option EdgeView
 refined taken a = edge_by taken a a.way
 
@@ -162,7 +164,8 @@ refined taken a = edge_by taken a a.way
 abbrev pub table_on : EdgeView → AtomTable
 table_on e = record { atoms = e.state.numbers.atoms; first = e.first; second = e.second }
 
--- what is known of a register or of vl (32); a range is met with that of its form, which the atoms' new ranges may change
+-- what is known of a register or of vl (32); a range is met with that of its form, which the atoms'
+-- new ranges may change
 unfoldable pub value_on : EdgeView → ℕ → ValueView
 value_on e i =
     let form = (value_at e.state.numbers i).form in

@@ -1,4 +1,5 @@
--- What is true where an edge leads, and what an edge that implies a block, or the end of the run, is good for.
+-- What is true where an edge leads, and what an edge that implies a block, or the end of the
+-- run, is good for.
 use Rattle.std.specs.Prelude.{ℕ, ◌≡◌, ◌≤◌, ◌+◌, ◌==◌, Bool, true, false, find, Option, Some, None, Ok, IfSome}
 use Rattle.abs_state.specs.Words.{exit, Machine, Block, IsCertificate}
 use Rattle.abs_state.specs.declared.state.Way.{Way}
@@ -15,7 +16,8 @@ pub record TakesEdge (e : Setting) (n : ℕ) (a : AbstractView) (m : Machine) : 
   pub is : refined taken a ≡ Some edge
   pub goes : Goes e n edge m
 
--- What is known is true on the edge that is taken; so where there is no edge, it can't come to that.
+-- What is known is true on the edge that is taken; so where there is no edge, it
+-- can't come to that.
 abbrev pub EdgesAreTaken : Type 0
 EdgesAreTaken =
     (e : Setting) (n : ℕ) (a : AbstractView) (m : Machine) → Held e n a m → TakesEdge e n a m
@@ -24,8 +26,8 @@ EdgesAreTaken =
 abbrev pub block_of : Setting → Machine → Option Block
 block_of e m = find (λ b. b.start == m.hart.pc) e.certificate.blocks
 
--- Where an edge implies the block that it leads to, all that the block states is true, and what the budget was pays for
--- the instructions taken and for the block's own budget.
+-- Where an edge implies the block that it leads to, all that the block states is true, and what the
+-- budget was pays for the instructions taken and for the block's own budget.
 abbrev pub ImpliedFits : Type 0
 ImpliedFits =
     (e : Setting) (n : ℕ) (edge : EdgeView) (block : Block) (m : Machine) → Goes e n edge m
@@ -33,7 +35,8 @@ ImpliedFits =
     → Fits e block m
     × IfSome edge.state.budget (λ own. budget_of block.budget m.hart + edge.state.words ≤ n)
 
--- Where an edge implies the end of the run, the run has ended, and what the budget was pays for the instructions taken.
+-- Where an edge implies the end of the run, the run has ended, and what the budget was pays for the
+-- instructions taken.
 abbrev pub ImpliedEnds : Type 0
 ImpliedEnds =
     (e : Setting) (n : ℕ) (edge : EdgeView) (m : Machine) → Goes e n edge m

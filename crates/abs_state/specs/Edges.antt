@@ -48,7 +48,8 @@ is_equality_shown e fact = option_map_or (is_sum_shown e fact.number) fact.equal
 abbrev pub are_these : ℕ → ℕ → ℕ → ℕ → Bool
 are_these rs1 rs2 lesser greater = (rs1 == lesser) && (rs2 == greater)
 
--- a branch on rs1 and rs2, taken or not, says that the lesser register's number is at most the greater one's
+-- a branch on rs1 and rs2, taken or not, says that the lesser register's number is at most
+-- the greater one's
 unfoldable pub says_order : Condition → Bool → ℕ → ℕ → ℕ → ℕ → Bool
 says_order Eq true rs1 rs2 lesser greater =
     are_these rs1 rs2 lesser greater || are_these rs2 rs1 lesser greater
@@ -76,7 +77,8 @@ is_order_shown e order =
 
 -- ---- vector registers
 
--- a fact speaks of as many elements as another one, where vl lies in this range; a count of 0 stands for vl
+-- a fact speaks of as many elements as another one, where vl lies in this range; a count of
+-- 0 stands for vl
 unfoldable pub covers : Range → ℕ → ℕ → Bool
 covers vl known wanted =
     if known == 0 then (wanted == 0) || nat_le wanted vl.lo
@@ -114,7 +116,8 @@ products_of t =
     record { factor = t.factor; form = t.number.form }
     ∷ record { factor = t.second_factor; form = t.second_number.form } ∷ []
 
--- one total is at least the next one, by the ends of their ranges, or by the difference of their forms
+-- one total is at least the next one, by the ends of their ranges, or by the
+-- difference of their forms
 unfoldable pub is_paid : AtomTable → Total → Total → Bool
 is_paid table own next =
     nat_le (most_of next) (least_of own)

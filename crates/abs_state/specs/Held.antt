@@ -17,7 +17,8 @@ use Rattle.abs_domain.specs.Zones.{zones_of}
 use Rattle.abs_state.specs.State.{AbstractView}
 use Rattle.abs_state.specs.Branches.{EdgeView, table_on, value_on}
 
--- What stays the same throughout a run: the image, its certificate, and the numbers that were passed.
+-- What stays the same throughout a run: the image, its certificate, and the numbers
+-- that were passed.
 pub record Setting : Type 0 where
   pub image : ImageView
   pub certificate : CertificateView
@@ -93,7 +94,8 @@ budget_at budget number =
 abbrev pub budget_of : Budget → Hart → ℕ
 budget_of budget h = budget_at budget (λ r. reg_of r h)
 
--- The budget came to n where the block began: the numbers of its registers then are what is known of them.
+-- The budget came to n where the block began: the numbers of its registers then are what
+-- is known of them.
 abbrev pub IsPaid : (ℕ → ℕ) → ℕ → Option Budget → AbstractView → Type 0
 IsPaid v n None a = Unit {0}
 IsPaid v n (Some budget) a =
@@ -101,7 +103,8 @@ IsPaid v n (Some budget) a =
     × IsNumber (length a.numbers.atoms) v a.paid x
     × IsNumber (length a.numbers.atoms) v a.second_paid y
 
--- The numbers of the atoms are those that were passed from atom 33 on, and all that is known holds of the machine.
+-- The numbers of the atoms are those that were passed from atom 33 on, and all that is known holds
+-- of the machine.
 pub record IsKnown (e : Setting) (v : ℕ → ℕ) (n : ℕ) (a : AbstractView) (m : Machine) : Type 0 where
   pub vlenb : a.vlenb ≡ vlenb_in e
   pub count : 41 ≤ length a.numbers.atoms

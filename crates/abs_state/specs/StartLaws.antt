@@ -11,15 +11,15 @@ use Rattle.abs_state.specs.Blocks.{at_block_of, at_entry_of}
 use Rattle.abs_state.specs.Held.{Setting, Held, Fits, budget_of, vlenb_in}
 use Rattle.abs_state.specs.EdgeLaws.{block_of}
 
--- An image and a certificate are what they are by their definitions, and the numbers that were passed are what the parameters
--- ask for.
+-- An image and a certificate are what they are by their definitions, and the numbers that were
+-- passed are what the parameters ask for.
 pub record IsSetting (e : Setting) : Type 0 where
   pub image : IsImage e.image
   pub certificate : IsCertificate e.certificate
   pub passed : ArePassed e.certificate.parameters e.passed
 
--- Where a machine stands at a block's start, and all that the block states is true, what is known there is true of it. The
--- budget comes to what it is of the machine.
+-- Where a machine stands at a block's start, and all that the block states is true, what is known
+-- there is true of it. The budget comes to what it is of the machine.
 abbrev pub BlocksAreHeld : Type 0
 BlocksAreHeld =
     (e : Setting) (block : Block) (m : Machine) → IsSetting e → block_of e m ≡ Some block
@@ -32,8 +32,8 @@ pub record ArePassedBy (e : Setting) (args : List Argument) : Type 0 where
       → e.passed place ≡ passed_at e.certificate.parameters args place
   pub past : (place : ℕ) → 8 ≤ place → e.passed place < 2 ^ 32
 
--- What is known where a run begins is true of the machine that it starts with, on arguments that match; no budget is known
--- there, so that it may come to any number.
+-- What is known where a run begins is true of the machine that it starts with, on arguments that
+-- match; no budget is known there, so that it may come to any number.
 abbrev pub EntriesAreHeld : Type 0
 EntriesAreHeld =
     (e : Setting) (n : ℕ) (agnostic : Agnostic) (args : List Argument) → IsImage e.image

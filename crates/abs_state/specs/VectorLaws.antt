@@ -23,7 +23,8 @@ use Rattle.abs_state.specs.StepLaws.{MachineIsHeld}
 
 -- ---- vtype and vl
 
--- What is known after an instruction that sets vtype and vl is true of the machine that it leads to.
+-- What is known after an instruction that sets vtype and vl is true of the machine
+-- that it leads to.
 abbrev pub VsetsAreHeld : Type 0
 VsetsAreHeld =
     (e : Setting) (n : ℕ) (a : AbstractView) (s : Machine) (word : ℕ) (insn : vset.VSet)

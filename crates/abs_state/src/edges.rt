@@ -23,7 +23,7 @@ ghost use Rattle.abs_state.specs.Edges.{shown_or as shown_or_of};
 
 use crate::branches::{Edge, Said};
 use abs_domain::{Value, Why};
-use cert_note::{Block, Budget, Equality, OrderFact, RegisterFact, Term, VectorFact};
+use cert_note::{Block, Budget, Equality, EqualityTerm, OrderFact, RegisterFact, VectorFact};
 use linear_facts::{Atoms, Form, Multiple, Range, is_at_least, is_not_less};
 use rv_decode::Condition;
 use scalar_core::EXIT;
@@ -40,7 +40,7 @@ const NO_BUDGET: Budget = Budget {
 };
 
 /// The multiple of the form of a term's register, or of its atom where it is none of a register's.
-fn replaced(term: Term, forms: &[Form<8>]) -> Form<8>
+fn replaced(term: EqualityTerm, forms: &[Form<8>]) -> Form<8>
     ensures product { result ≡ scaled term.coefficient (form_at forms.now term.atom) }
     ensures room { length result.terms ≤ 8 }
 {
@@ -52,7 +52,7 @@ fn replaced(term: Term, forms: &[Form<8>]) -> Form<8>
 
 /// The constant and at most eight terms, with registers and vl replaced by their forms. Eight forms of eight terms have room.
 #[tactic(auto, unfolding(linear_facts::specs::Forms::substituted))]
-fn current_sum(constant: u32, terms: &[Term], forms: &[Form<8>]) -> Form<64>
+fn current_sum(constant: u32, terms: &[EqualityTerm], forms: &[Form<8>]) -> Form<64>
     requires { length terms.now ≤ 8 }
     ensures { result ≡ substituted forms.now record {
       constant = constant;

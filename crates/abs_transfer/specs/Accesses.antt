@@ -1,11 +1,12 @@
--- Where the bytes of a vector load or store may lie, and its test: they have to lie in one zone. Masks are ignored.
+-- Where the bytes of a vector load or store may lie, and its test: they have to lie in one zone.
+-- Masks are ignored.
 use Rattle.std.specs.Prelude.{ℕ, ◌+◌, ◌-◌, ◌*◌, ◌/◌, ◌^◌, ◌==◌, ◌%◌, nat_lt, nat_le, ◌&&◌, not, Bool, true, false, if◌then◌else◌, List, Option, Some, None, Result, Ok, Err}
 use Rattle.abs_transfer.specs.Words.{Range, Linear, number_form, scaled, sum_of, within, range_of_form, Vtype, VectorFact}
 use Rattle.rv_decode.specs.declared.extents.Eew.TheVariants.{Fixed}
 use Rattle.rv_decode.specs.declared.instructions.Direction.{Direction}
 use Rattle.rv_decode.specs.declared.instructions.Direction.TheVariants.{Load, Store}
-use Rattle.rv_decode.specs.declared.instructions.Place.{Place}
-use Rattle.rv_decode.specs.declared.instructions.Place.TheVariants as place
+use Rattle.rv_decode.specs.declared.instructions.Addressing.{Addressing}
+use Rattle.rv_decode.specs.declared.instructions.Addressing.TheVariants as place
 use Rattle.rv_decode.specs.declared.instructions.VMem.{VMem}
 use Rattle.vreg_groups.specs.VectorType.{bytes_of_width}
 use Rattle.vreg_groups.specs.Legality.{whole_count}
@@ -27,7 +28,8 @@ met_with_form s interval None = interval
 met_with_form s interval (Some f) =
     computed_range (Some interval) (range_of_form (table_of s) f)
 
--- The upper end of a sum, by interval arithmetic where that does not stay within 32 bits, and else by the form too.
+-- The upper end of a sum, by interval arithmetic where that does not stay within 32 bits, and else
+-- by the form too.
 unfoldable pub sharpened_high : NumbersView → ℕ → Option Range → Linear → ℕ
 sharpened_high s hi None f = hi
 sharpened_high s hi (Some interval) f = (met_with_form s interval (within 8 f)).hi
@@ -57,7 +59,8 @@ unit_reach s size x vl =
       end = sharpened_high s hi (fitting 32 lo hi) (sum_form x.form size vl.form 0);
     }
 
--- elements a number of bytes apart that is not negative: the last one ends at `x + k * vl - k + size`
+-- elements a number of bytes apart that is not negative: the last one ends at
+-- `x + k * vl - k + size`
 unfoldable pub rising_reach : NumbersView → ℕ → ℕ → ValueView → ValueView → Reach
 rising_reach s size k x vl =
     let lo = x.range.lo + k * vl.range.lo + size in
@@ -68,7 +71,8 @@ rising_reach s size k x vl =
           (sum_form x.form k vl.form ((2 ^ 32 - k + size) % 2 ^ 32));
     }
 
--- elements k bytes apart downwards: the last one begins at `x - k * vl + k`, which may not be below 0
+-- elements k bytes apart downwards: the last one begins at `x - k * vl + k`, which
+-- may not be below 0
 unfoldable pub falling_reach : NumbersView → ℕ → ℕ → ValueView → ValueView → Option Reach
 falling_reach s size k x vl =
     if nat_le (k * vl.range.hi) (x.range.lo + k)
@@ -91,7 +95,7 @@ strided_reach s size (Some n) x vl =
 abbrev pub indexed_reach : ℕ → Range → Range → Reach
 indexed_reach size x i = record { first = x.lo + i.lo; end = x.hi + i.hi + size }
 
-unfoldable pub reach_at : ℕ → Vtype → NumbersView → List VectorFact → Place → ValueView
+unfoldable pub reach_at : ℕ → Vtype → NumbersView → List VectorFact → Addressing → ValueView
     → Option Reach
 reach_at vlenb t s facts (place.Unit width masked) x =
     Some (unit_reach s (bytes_of_width width) x (value_at s 32))
@@ -112,7 +116,7 @@ reach_at vlenb t s facts (place.Whole width count) x = Some record {
 -- ---- the test
 
 -- whole registers are moved whatever vl is
-unfoldable pub is_whole : Place → Bool
+unfoldable pub is_whole : Addressing → Bool
 is_whole (place.Unit width masked) = false
 is_whole (place.Strided width rs2 masked) = false
 is_whole (place.Indexed width vs2 ordered masked) = false

@@ -1,5 +1,5 @@
--- What is known of the elements of groups of vector registers: what an instruction reads, what it states of its
--- destination, and which facts stay true where registers are written or vl changes.
+-- What is known of the elements of groups of vector registers: what an instruction reads, what it
+-- states of its destination, and which facts stay true where registers are written or vl changes.
 use Rattle.std.specs.Prelude.{ℕ, ◌+◌, ◌-◌, ◌*◌, ◌/◌, ◌%◌, ◌^◌, ◌==◌, nat_lt, nat_le, ◌&&◌, ◌||◌, not, min, max, Bool, if◌then◌else◌, List, [], ◌∷◌, ◌++◌, map, filter, find, Option, Some, None}
 use Rattle.std.specs.Option.{option_and_then, option_map_or}
 use Rattle.abs_transfer.specs.Words.{Range, Operand, Insn, Logic, Count, First, SetFirst, Iota, Index, needs_of, unsigned, Vtype, vlmax_of, vtype_of, VectorFact}
@@ -41,7 +41,8 @@ is_source vl first width registers fact =
 abbrev pub fact_range : VectorFact → Range
 fact_range fact = record { lo = fact.low; hi = fact.high }
 
--- the range of the elements below vl of the group that begins at a register; no legal EEW is above 32
+-- the range of the elements below vl of the group that begins at a register; no legal
+-- EEW is above 32
 unfoldable pub source_range : Vtype → Range → ℕ → Eew → List VectorFact → Range
 source_range t vl first eew facts =
     option_map_or fact_range
@@ -81,7 +82,8 @@ remainder_by (Vector vs1) a c = None
 remainder_by (Scalar rs1) a c = remainder_elements a c
 remainder_by (Immediate imm) a c = None
 
--- the range of what an operation gives for elements of vs2 and of the second operand that lie in these
+-- the range of what an operation gives for elements of vs2 and of the second operand
+-- that lie in these
 unfoldable pub int_range : ℕ → IntOp → Source → Range → Range → Option Range
 int_range bits int.Add b x y = fitting bits (x.lo + y.lo) (x.hi + y.hi)
 int_range bits int.Sub b x y = None
@@ -208,8 +210,8 @@ groups_after vlenb vtype s insn facts =
 abbrev pub elements_in : ℕ → VectorFact → ℕ
 elements_in vlenb fact = fact.registers * vlenb / (fact.width / 8)
 
--- Where vl changes, a fact for vl becomes one for as many elements as vl was at least, and says nothing where that may
--- have been 0.
+-- Where vl changes, a fact for vl becomes one for as many elements as vl was at least, and says
+-- nothing where that may have been 0.
 unfoldable pub is_lasting : ℕ → VectorFact → Bool
 is_lasting least fact = not (fact.count == 0) || nat_lt 0 least
 

@@ -23,7 +23,8 @@ needs_vtype insn =
     operand_needs_vtype (needs_of insn).destination || operand_needs_vtype (needs_of insn).vs2
     || operand_needs_vtype (needs_of insn).vs1
 
--- Where vtype is not known, an instruction has to be legal at any; one that is legal where vill is set is.
+-- Where vtype is not known, an instruction has to be legal at any; one that is legal where
+-- vill is set is.
 unfoldable pub legal_check : Option ℕ → Insn → Result (Unit {0}) Why
 legal_check (Some bits) insn =
     if is_legal record { vtype = bits; vl = 0 } insn then Ok tt else Err IllegalWord

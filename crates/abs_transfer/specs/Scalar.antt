@@ -1,5 +1,5 @@
--- What a scalar instruction makes of what is known, or why it is refused. An access has to lie in one zone, whatever its
--- address may be.
+-- What a scalar instruction makes of what is known, or why it is refused. An access has to lie in
+-- one zone, whatever its address may be.
 use Rattle.std.specs.Prelude.{ℕ, ◌+◌, ◌%◌, ◌^◌, ℤ, List, Result, Ok, Err}
 use Rattle.abs_transfer.specs.Words.{Range, range_of_form, ScalarInsn, Lui, Auipc, Jal, Jalr, Branch, ShiftImmediate, Register, Fence, Ecall, unsigned, size_of_load}
 use Rattle.rv_decode.specs.declared.instructions.ScalarInsn.TheVariants.{Load, Store, Immediate}

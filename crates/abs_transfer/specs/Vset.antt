@@ -1,4 +1,5 @@
--- What an instruction that sets vtype and vl makes of what is known ("Vector Configuration-Setting Instructions").
+-- What an instruction that sets vtype and vl makes of what is known ("Vector Configuration-Setting
+-- Instructions").
 use Rattle.std.specs.Prelude.{ℕ, ◌+◌, ◌-◌, ◌*◌, ◌==◌, min, Bool, true, false, if◌then◌else◌, List, [], ◌∷◌, ◌++◌, length, Option, Some, None}
 use Rattle.std.specs.Option.{option_and_then, option_map_or}
 use Rattle.abs_transfer.specs.Words.{Range, Atom, number_form, atom_form, Vtype, vtype_of, vlmax_of}
@@ -13,7 +14,8 @@ use Rattle.abs_domain.specs.Numbers.{NumbersView, plain, value_at, whole_atom, w
 
 -- ---- what is asked for
 
--- the application vector length: x[rs1]; with rs1 = x0 the greatest, or the present vl where rd is x0 too
+-- the application vector length: x[rs1]; with rs1 = x0 the greatest, or the present vl
+-- where rd is x0 too
 abbrev pub asked_of : ℕ → ℕ → Asked
 asked_of rd rs1 = if rs1 == 0 then (if rd == 0 then Keep else Greatest) else Register rs1
 
@@ -33,7 +35,8 @@ split_into a r t atoms =
     with_split a record { first = length atoms; second = length atoms + 1 }
     ((atoms ++ plain r ∷ []) ++ plain t ∷ [])
 
--- vl is a new atom; where the number that was asked for is an atom as a whole, that is the sum of vl and of the rest
+-- vl is a new atom; where the number that was asked for is an atom as a whole, that is the sum of
+-- vl and of the rest
 unfoldable pub limited_by : Option ℕ → Range → Range → NumbersView → NumbersView
 limited_by None r t s = with_fresh 32 r s
 limited_by (Some a) r t s =

@@ -22,7 +22,7 @@ use abs_domain::{
 };
 use cert_note::VectorFact;
 use linear_facts::{Form, Range};
-use rv_decode::{Direction, Eew, Place, VMem, Width};
+use rv_decode::{Addressing, Direction, Eew, VMem, Width};
 use std::alloc::Allocator;
 use vreg_groups::{Vtype, whole_count};
 
@@ -94,12 +94,15 @@ fn indexed_reach(size: u32, x: Range, i: Range) -> Reach
 
 /// Whether whole registers are moved, whatever vl is.
 #[tactic(auto, unfolding(crate::specs::Accesses::is_whole))]
-fn is_whole(place: Place) -> bool
+fn is_whole(place: Addressing) -> bool
     ensures { result ≡ is_whole_of place }
 {
     match place {
-        Place::Whole { .. } => true,
-        Place::Unit { .. } | Place::Strided { .. } | Place::Indexed { .. } | Place::Mask => false,
+        Addressing::Whole { .. } => true,
+        Addressing::Unit { .. }
+        | Addressing::Strided { .. }
+        | Addressing::Indexed { .. }
+        | Addressing::Mask => false,
     }
 }
 
@@ -256,27 +259,27 @@ pub fn reach_at<A: Allocator>(
     vlenb: u32,
     t: &Vtype,
     facts: &[VectorFact],
-    place: Place,
+    place: Addressing,
     x: &Value,
 ) -> Option<Reach>
     ensures { result ≡ reach_at_of vlenb t.now numbers.now facts.now place x.now }
 {
     let vl = numbers.value(VL);
     match place {
-        Place::Unit { width, .. } => Some(unit_reach(numbers, bytes_of(width), x, &vl)),
-        Place::Strided { width, rs2, .. } => {
+        Addressing::Unit { width, .. } => Some(unit_reach(numbers, bytes_of(width), x, &vl)),
+        Addressing::Strided { width, rs2, .. } => {
             let stride = known(numbers.range_at(usize::from(rs2.number())));
             strided_reach(numbers, bytes_of(width), stride, x, &vl)
         }
-        Place::Indexed { width, vs2, .. } => {
+        Addressing::Indexed { width, vs2, .. } => {
             let indices = source_range(t, vl.range, vs2, Eew::Fixed(width), facts);
             Some(indexed_reach(bytes_of(t.sew), x.range, indices))
         }
-        Place::Mask => Some(Reach {
+        Addressing::Mask => Some(Reach {
             first: u64::from(x.range.lo),
             end: u64::from(x.range.hi) + (u64::from(vl.range.hi) + 7) / 8,
         }),
-        Place::Whole { count, .. } => Some(Reach {
+        Addressing::Whole { count, .. } => Some(Reach {
             first: u64::from(x.range.lo),
             end: u64::from(x.range.hi) + whole_count(count) as u64 * u64::from(vlenb),
         }),

@@ -27,7 +27,8 @@ bound_in params scalars None = 0
 bound_in params scalars (Some block) =
     budget_at block.budget (start_number params scalars)
 
--- the budget of the block at the entry, with the registers as they are at the start of a run on these scalars
+-- the budget of the block at the entry, with the registers as they are at the start of a run
+-- on these scalars
 unfoldable pub bound_of : AcceptedView → List ℕ → ℕ
 bound_of a scalars =
     bound_in a.certificate.parameters scalars (block_at a.image.entry a.certificate.blocks)

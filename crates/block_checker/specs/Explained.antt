@@ -3,8 +3,7 @@ use Rattle.std.specs.Prelude.{ℕ, zero, suc, true, false, ◌≡◌, ◌+◌, �
 use Rattle.std.specs.List.{range_with_len}
 use Rattle.std.specs.Option.{option_and_then, option_map, option_map_or, option_or}
 use Rattle.std.specs.Result.{is_err}
-use Rattle.block_checker.specs.Words.{ImageView, Block, CertificateView, AbstractView}
-use Rattle.elf_image.specs.Image.{code_at}
+use Rattle.block_checker.specs.Words.{ImageView, Block, CertificateView, AbstractView, CheckError, code_at}
 use Rattle.rv_decode.specs.Decode.{meaning_of}
 use Rattle.rv_decode.specs.declared.instructions.Insn.{Insn}
 use Rattle.linear_facts.specs.declared.ranges.Range.{Range}
@@ -13,7 +12,6 @@ use Rattle.abs_domain.specs.declared.why.Why.{Why}
 use Rattle.abs_state.specs.After.{after_of}
 use Rattle.abs_state.specs.Blocks.{at_block_of, at_entry_of}
 use Rattle.abs_state.specs.Branches.{EdgeView, refined}
-use Rattle.block_checker.specs.declared.errors.CheckError.{CheckError}
 use Rattle.block_checker.specs.declared.explanation.Part.{Part}
 use Rattle.block_checker.specs.declared.explanation.Part.TheVariants as part
 use Rattle.block_checker.specs.declared.explanation.Stop.{Stop}
@@ -29,9 +27,10 @@ behind (Ok (On a)) = Some a
 behind (Ok Ended) = None
 behind (Err error) = None
 
--- What is known before word n of those from an address on, counted from 0: first a; then what each word makes of it, as long
--- as the words pass and go on.
-unfoldable pub known_before : ImageView → CertificateView → ℕ → AbstractView → ℕ → Option AbstractView
+-- What is known before word n of those from an address on, counted from 0: first a; then what each
+-- word makes of it, as long as the words pass and go on.
+unfoldable pub known_before : ImageView → CertificateView → ℕ → AbstractView → ℕ
+    → Option AbstractView
 known_before image certificate start a zero = Some a
 known_before image certificate start a (suc n) =
     option_and_then (λ b. behind (word_passes image certificate (start + 4 * n) b))
@@ -40,13 +39,16 @@ known_before image certificate start a (suc n) =
 -- The state that the walk from a block's start has reached at pc, if it comes there.
 abbrev pub state_at : ImageView → CertificateView → Block → ℕ → Option AbstractView
 state_at image certificate block pc =
-    known_before image certificate block.start (at_block_of image certificate block) ((pc - block.start) / 4)
+    known_before image certificate block.start (at_block_of image certificate block)
+    ((pc - block.start) / 4)
 
--- the same of any part of the check: on the way into the first block it is what is known where a run begins
+-- the same of any part of the check: on the way into the first block it is what is known
+-- where a run begins
 abbrev pub state_in : ImageView → CertificateView → Part → ℕ → Option AbstractView
 state_in image certificate part.Entry pc = Some (at_entry_of image certificate)
 state_in image certificate (part.Block start) pc =
-    option_and_then (λ block. state_at image certificate block pc) (block_at start certificate.blocks)
+    option_and_then (λ block. state_at image certificate block pc)
+    (block_at start certificate.blocks)
 
 -- the intervals of x0 to x31 and of vl in a state
 abbrev pub intervals_of : AbstractView → List Range
@@ -58,8 +60,10 @@ intervals_of a = map (λ i. (value_at a.numbers i).range) (range_with_len 0 33)
 unfoldable pub place_in : ℕ → List Block → Option ℕ
 place_in address blocks = position (λ block. block.start == address) blocks
 
--- What is known before the word at pc, if a walk from an address on comes there. A block has at most 4,096 words.
-unfoldable pub before_word : ImageView → CertificateView → ℕ → ℕ → AbstractView → Option AbstractView
+-- What is known before the word at pc, if a walk from an address on comes there. A block has at
+-- most 4,096 words.
+unfoldable pub before_word : ImageView → CertificateView → ℕ → ℕ → AbstractView
+    → Option AbstractView
 before_word image certificate start pc a =
     if nat_lt ((pc - start) / 4) 4096 then known_before image certificate start a ((pc - start) / 4)
     else None
@@ -68,7 +72,8 @@ abbrev pub before_in_block : ImageView → CertificateView → ℕ → Block →
 before_in_block image certificate pc block =
     before_word image certificate block.start pc (at_block_of image certificate block)
 
--- The same of any part of the check. On the way into the first block it is what is known where a run begins.
+-- The same of any part of the check. On the way into the first block it is what is known
+-- where a run begins.
 unfoldable pub before_in : ImageView → CertificateView → Part → ℕ → Option AbstractView
 before_in image certificate part.Entry pc = Some (at_entry_of image certificate)
 before_in image certificate (part.Block start) pc =
@@ -101,7 +106,8 @@ if_refused certificate pc (Some edge) =
 -- the way out that is refused, of a branch the one where it is taken first
 unfoldable pub refused_edge : CertificateView → ℕ → AbstractView → Option EdgeView
 refused_edge certificate pc a =
-    option_or (if_refused certificate pc (refined true a)) (if_refused certificate pc (refined false a))
+    option_or (if_refused certificate pc (refined true a))
+    (if_refused certificate pc (refined false a))
 
 -- The edge at which a part of the check stops at pc; none where the word itself is refused.
 abbrev pub edge_in : ImageView → CertificateView → Part → ℕ → Option EdgeView
@@ -110,15 +116,17 @@ edge_in image certificate part pc =
 
 -- ---- stops
 
--- what a part of the check answers: the way into the block at the entry, or the walk of the block that begins there
+-- what a part of the check answers: the way into the block at the entry, or the walk of the block
+-- that begins there
 abbrev pub part_passes : ImageView → CertificateView → Part → Checked
 part_passes image certificate part.Entry = entry_passes image certificate
 part_passes image certificate (part.Block start) =
     option_map_or (block_passes image certificate) (block_at start certificate.blocks) (Ok tt)
 
--- Here a check stops with this error: it is the part's answer, at the address that it carries, of the word there, with the
--- intervals of the state that the part has reached.
-pub record IsStop (image : ImageView) (certificate : CertificateView) (error : CheckError) (stop : Stop) : Type 0 where
+-- Here a check stops with this error: it is the part's answer, at the address that it carries, of
+-- the word there, with the intervals of the state that the part has reached.
+pub record IsStop (image : ImageView) (certificate : CertificateView) (error : CheckError)
+    (stop : Stop) : Type 0 where
   pub refused : part_passes image certificate stop.part ≡ Err error
   pub address : address_of error ≡ Some stop.pc
   pub word : stop.word ≡ code_at stop.pc image

@@ -1,7 +1,6 @@
 -- The check of an image against its certificate, in the order in which it looks.
 use Rattle.std.specs.Prelude.{ℕ, zero, suc, ◌+◌, ◌==◌, Bool, true, false, ◌||◌, is_some, List, [], ◌∷◌, find, Option, Some, None, Result, Ok, Err, if◌then◌else◌}
-use Rattle.block_checker.specs.Words.{ImageView, vlenb_of, Vlen, Block, CertificateView, Why, AbstractView, jumps}
-use Rattle.elf_image.specs.Image.{code_at}
+use Rattle.block_checker.specs.Words.{ImageView, vlenb_of, Vlen, Block, CertificateView, Why, AbstractView, jumps, CheckError, code_at}
 use Rattle.rv_decode.specs.Decode.{meaning_of}
 use Rattle.rv_decode.specs.declared.instructions.Insn.{Insn}
 use Rattle.rv_decode.specs.declared.instructions.Insn.TheVariants.{Scalar, Csr, VSet, VArith, VMask, VPerm, VReduce, VMem, VMove}
@@ -13,7 +12,6 @@ use Rattle.abs_state.specs.After.{after_of}
 use Rattle.abs_state.specs.Blocks.{at_block_of, at_entry_of}
 use Rattle.abs_state.specs.Branches.{EdgeView, refined}
 use Rattle.abs_state.specs.Edges.{implied_by}
-use Rattle.block_checker.specs.declared.errors.CheckError.{CheckError}
 use Rattle.block_checker.specs.declared.errors.CheckError.TheVariants.{WrongVlen, NoEntryBlock, NotCode, IllegalWord, BlockTooLong}
 use Rattle.block_checker.specs.Refusals.{refusal}
 
@@ -58,7 +56,8 @@ is_branch (VMove insn) = false
 
 -- ---- edges
 
--- the block to which an edge leads, if its target is known, the run goes on there, and a block begins there
+-- the block to which an edge leads, if its target is known, the run goes on there, and a
+-- block begins there
 unfoldable pub block_for : Option ℕ → List Block → Option Block
 block_for None blocks = None
 block_for (Some address) blocks = if address == exit then None else block_at address blocks
@@ -68,7 +67,8 @@ abbrev pub told_at : ℕ → Result (Unit {0}) Why → Checked
 told_at pc (Ok done) = Ok tt
 told_at pc (Err why) = Err (refusal why pc)
 
--- What is known on the edge has to give what the block to which it leads states, or else the end of the run.
+-- What is known on the edge has to give what the block to which it leads states, or else the
+-- end of the run.
 unfoldable pub edge_passes : CertificateView → ℕ → EdgeView → Checked
 edge_passes certificate pc edge =
     told_at pc (implied_by edge (block_for edge.target certificate.blocks))
@@ -115,7 +115,8 @@ unfoldable pub fetched : CertificateView → ℕ → AbstractView → Option ℕ
 fetched certificate pc a None = Err (NotCode pc)
 fetched certificate pc a (Some word) = decoded certificate pc a (meaning_of word)
 
--- The word at pc, with what is known there, has to be code, to mean an instruction, and to be allowed.
+-- The word at pc, with what is known there, has to be code, to mean an instruction,
+-- and to be allowed.
 unfoldable pub word_passes : ImageView → CertificateView → ℕ → AbstractView
     → Result Progress CheckError
 word_passes image certificate pc a = fetched certificate pc a (code_at pc image)
@@ -151,12 +152,14 @@ entry_passes_to image certificate None = Err NoEntryBlock
 entry_passes_to image certificate (Some block) =
     possible_passes certificate image.entry (refined false (at_entry_of image certificate))
 
--- A block has to begin at the entry, and what is known at the start of a run has to give what it states.
+-- A block has to begin at the entry, and what is known at the start of a run has to give
+-- what it states.
 unfoldable pub entry_passes : ImageView → CertificateView → Checked
 entry_passes image certificate =
     entry_passes_to image certificate (block_at image.entry certificate.blocks)
 
--- The certificate has to be for this vector length; then the entry, then each block, by rising start.
+-- The certificate has to be for this vector length; then the entry, then each block,
+-- by rising start.
 unfoldable pub checked : ImageView → CertificateView → Vlen → Checked
 checked image certificate vlen =
     if vlenb_of certificate.vlen == vlenb_of vlen

@@ -1,8 +1,7 @@
 -- The error of what could not be proved at a word, and the name and the address of each error.
 use Rattle.std.specs.Prelude.{ℕ, List, Option, Some, None, codes}
-use Rattle.block_checker.specs.Words.{Why}
+use Rattle.block_checker.specs.Words.{CheckError, Why}
 use Rattle.abs_domain.specs.declared.why.Why.TheVariants as why
-use Rattle.block_checker.specs.declared.errors.CheckError.{CheckError}
 use Rattle.block_checker.specs.declared.errors.CheckError.TheVariants as error
 
 abbrev pub refusal : Why → ℕ → CheckError

@@ -21,8 +21,8 @@ abbrev pub IsWellBehaved : ℕ → ℕ → Machine → Type 0
 IsWellBehaved vlenb n m =
     (k : ℕ) × (t : Machine) × (k ≤ n) × (after vlenb m k ≡ Ok t) × (has_ended t ≡ true)
 
--- On arguments that match, a run of what passes is well-behaved for the budget of the block at the entry, with its
--- register as it is at the start.
+-- On arguments that match, a run of what passes is well-behaved for the budget of the block at the
+-- entry, with its register as it is at the start.
 abbrev pub PassingRunsEnd : Type 0
 PassingRunsEnd =
     (image : ImageView) (certificate : CertificateView) (vlen : Vlen) (args : List Argument)

@@ -1,12 +1,9 @@
--- How the check of a word is told by code: whether the block goes on, and apart from that what is known at the next word;
--- which blocks a search passes over; and where a walk stops.
+-- How the check of a word is told by code: whether the block goes on, and apart from that what is
+-- known at the next word; which blocks a search passes over; and where a walk stops.
 use Rattle.std.specs.Prelude.{ℕ, ◌≡◌, ◌-◌, ◌/◌, nat_lt, true, false, List, Some, Result, Ok, Err}
 use Rattle.std.specs.Option.{option_map}
 use Rattle.std.specs.List.Sorted.{IsPartitionPoint}
-use Rattle.cert_note.specs.declared.values.Block.{Block}
-use Rattle.elf_image.specs.Image.{code_at}
-use Rattle.block_checker.specs.Words.{ImageView, CertificateView, AbstractView}
-use Rattle.block_checker.specs.declared.errors.CheckError.{CheckError}
+use Rattle.block_checker.specs.Words.{ImageView, CertificateView, AbstractView, Block, CheckError, code_at}
 use Rattle.block_checker.specs.declared.checks.Told.{Told}
 use Rattle.block_checker.specs.declared.checks.Told.TheVariants as told
 use Rattle.block_checker.specs.declared.explanation.Part.TheVariants as part
@@ -32,9 +29,11 @@ walk_answer (Ok done) = Ok tt
 walk_answer (Err e) = Err e.0
 
 -- The walk of a block, with this state at its start, stops there with this error.
-pub record StopsWalk (image : ImageView) (certificate : CertificateView) (start : ℕ) (a : AbstractView) (error : CheckError) (stop : Stop) : Type 0 where
+pub record StopsWalk (image : ImageView) (certificate : CertificateView) (start : ℕ)
+    (a : AbstractView) (error : CheckError) (stop : Stop) : Type 0 where
   pub part : stop.part ≡ part.Block start
   pub address : address_of error ≡ Some stop.pc
   pub word : stop.word ≡ code_at stop.pc image
   pub known :
-      option_map intervals_of (known_before image certificate start a ((stop.pc - start) / 4)) ≡ Some stop.known
+      option_map intervals_of (known_before image certificate start a ((stop.pc - start) / 4))
+      ≡ Some stop.known

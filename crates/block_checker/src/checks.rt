@@ -1,14 +1,21 @@
 //! The check, word by word and block by block.
-ghost use Rattle.std.specs.Prelude.{◌≡◌, ◌≤◌, ◌<◌, ◌+◌, ◌^◌, ◌||◌, is_some, length, option_copied, IsOk, Ok, Some};
+ghost use Rattle.std.specs.Prelude.{◌≡◌, ◌≤◌, ◌<◌, ◌+◌, ◌^◌, ◌||◌, is_some, length, option_copied};
+ghost use Rattle.std.specs.Prelude.{IsOk, Ok, Some};
 ghost use Rattle.std.specs.List.{slice_get};
 ghost use Rattle.std.specs.List.Sorted.{IsNonDecreasingBy};
 ghost use Rattle.cert_note.specs.declared.values.Block.{Block};
 ghost use Rattle.abs_state.specs.Branches.{refined};
 ghost use Rattle.abs_state.specs.StepLaws.{jumps};
-ghost use Rattle.block_checker.specs.Passes.{block_at as block_at_of, block_for as block_for_of, is_branch as is_branch_of};
-ghost use Rattle.block_checker.specs.Passes.{edge_passes as edge_passes_of, possible_passes as possible_passes_of, edges_pass as edges_pass_of, followed as followed_of};
-ghost use Rattle.block_checker.specs.Passes.{word_passes as word_passes_of, walk as walk_of, block_passes as block_passes_of, blocks_pass as blocks_pass_of};
-ghost use Rattle.block_checker.specs.Passes.{entry_passes as entry_passes_of, checked as checked_of};
+ghost use Rattle.block_checker.specs.Passes.{block_at as block_at_of, block_for as block_for_of};
+ghost use Rattle.block_checker.specs.Passes.{is_branch as is_branch_of};
+ghost use Rattle.block_checker.specs.Passes.{edge_passes as edge_passes_of};
+ghost use Rattle.block_checker.specs.Passes.{possible_passes as possible_passes_of};
+ghost use Rattle.block_checker.specs.Passes.{edges_pass as edges_pass_of, followed as followed_of};
+ghost use Rattle.block_checker.specs.Passes.{word_passes as word_passes_of, walk as walk_of};
+ghost use Rattle.block_checker.specs.Passes.{block_passes as block_passes_of};
+ghost use Rattle.block_checker.specs.Passes.{blocks_pass as blocks_pass_of};
+ghost use Rattle.block_checker.specs.Passes.{entry_passes as entry_passes_of};
+ghost use Rattle.block_checker.specs.Passes.{checked as checked_of};
 ghost use Rattle.block_checker.specs.Accepted.{IsAnswer};
 ghost use Rattle.block_checker.specs.Walking.{IsCountBelow, progress_of};
 

@@ -5,7 +5,7 @@ ghost use Rattle.vreg_groups.specs.VectorLength.{IsConfig};
 use crate::assertions::assert_same;
 use crate::fixture::memory;
 use region_mem::{Fault, Regions, Right};
-use rv_decode::{Count, Direction, Insn, Place, Reg, VMem, Width};
+use rv_decode::{Addressing, Count, Direction, Insn, Reg, VMem, Width};
 use std::process::Abort;
 use vector_mem::{Access, access, load, store};
 use vreg_groups::{Agnostic, Avl, Setup, Vconfig, VregFile, legal_type, vset};
@@ -14,7 +14,7 @@ use vreg_groups::{Agnostic, Avl, Setup, Vconfig, VregFile, legal_type, vset};
 #[tactic(auto, unfolding(rv_decode::specs::Needs::needs_of))]
 fn moved(
     direction: Direction,
-    place: Place,
+    place: Addressing,
     config: &Vconfig,
     registers: &mut VregFile<16>,
     base: u32,
@@ -54,7 +54,7 @@ fn assert_strided(
 )
     requires { IsConfig 16 config.now }
 {
-    let strided = Place::Strided {
+    let strided = Addressing::Strided {
         width: Width::W16,
         rs2: Reg::new(11),
         masked: false,
@@ -93,7 +93,7 @@ fn assert_past_the_end(
 )
     requires { IsConfig 16 config.now }
 {
-    let whole = Place::Whole {
+    let whole = Addressing::Whole {
         width: Width::W32,
         count: Count::One,
     };
@@ -121,7 +121,7 @@ fn assert_mask(
 {
     let came = moved(
         Direction::Load,
-        Place::Mask,
+        Addressing::Mask,
         config,
         registers,
         0x2001,
@@ -142,7 +142,7 @@ fn assert_indexed(
 )
     requires { IsConfig 16 config.now }
 {
-    let indexed = Place::Indexed {
+    let indexed = Addressing::Indexed {
         width: Width::W8,
         vs2: Reg::new(8),
         ordered: false,

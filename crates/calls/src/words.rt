@@ -46,7 +46,7 @@ fn a_word_of_each_class(rt: HostRuntime) {
     // vluxei16.v v8, (x10), v4, v0.t
     let insn = Insn::VMem(VMem {
         direction: Direction::Load,
-        place: Place::Indexed {
+        place: Addressing::Indexed {
             width: Width::W16,
             vs2: Reg::new(4),
             ordered: false,
@@ -99,7 +99,7 @@ fn a_word_of_each_class_on_elements(rt: HostRuntime) {
 fn whole_registers_begin_at_a_multiple(rt: HostRuntime) {
     let insn = Insn::VMem(VMem {
         direction: Direction::Load,
-        place: Place::Whole {
+        place: Addressing::Whole {
             width: Width::W16,
             count: Count::Two,
         },

@@ -15,8 +15,8 @@ use Rattle.rv_decode.specs.declared.instructions.Direction.{Direction}
 use Rattle.rv_decode.specs.declared.instructions.Direction.TheVariants as direction
 use Rattle.rv_decode.specs.declared.instructions.Insn.{Insn}
 use Rattle.rv_decode.specs.declared.instructions.Insn.TheVariants.{Scalar, VMem}
-use Rattle.rv_decode.specs.declared.instructions.Place.{Place}
-use Rattle.rv_decode.specs.declared.instructions.Place.TheVariants as place
+use Rattle.rv_decode.specs.declared.instructions.Addressing.{Addressing}
+use Rattle.rv_decode.specs.declared.instructions.Addressing.TheVariants as place
 use Rattle.rv_decode.specs.declared.instructions.ScalarInsn.TheVariants.{Branch, ShiftImmediate}
 use Rattle.rv_decode.specs.declared.instructions.ShiftOp.{ShiftOp}
 use Rattle.rv_decode.specs.declared.instructions.ShiftOp.TheVariants.{Slli}
@@ -156,7 +156,7 @@ module _ (k : Round) (is : IsRound k) (pc : ℕ) (a : AbstractView) (inside : Is
         ends le = least_end _ _ _ _ le
 
     -- whatever the test of vl says
-    by_place : (p : Place) (d : Direction) (q : ℕ) → is_plain k.loop.sew p ≡ true
+    by_place : (p : Addressing) (d : Direction) (q : ℕ) → is_plain k.loop.sew p ≡ true
         → reach_allowed d (Some (unit_reach a.numbers w (value_at a.numbers (q + 10)) (value_at a.numbers 32))) a.zones ≡ Ok tt
         → (if not (is_whole p) && ((value_at a.numbers 32).range.hi == 0) then Ok tt
         else reach_allowed d (reach_at a.vlenb (type_in (known_type a.vtype)) a.numbers a.groups p (value_at a.numbers (q + 10))) a.zones) ≡ Ok tt

@@ -1,5 +1,5 @@
--- The certificate of a loop, of version 1: a block for the branch at the entry, one for the loop, unless it is never
--- entered, and one for the return.
+-- The certificate of a loop, of version 1: a block for the branch at the entry, one for the loop,
+-- unless it is never entered, and one for the return.
 use Rattle.std.specs.Prelude.{ℕ, ◌+◌, ◌*◌, ◌-◌, ◌^◌, ◌==◌, if◌then◌else◌, List, [], ◌∷◌, ◌++◌}
 use Rattle.std.specs.Prelude.{unwrap_or, Option, Some, None}
 use Rattle.std.specs.List.{flat_map, range_with_len}
@@ -9,13 +9,13 @@ use Rattle.region_mem.specs.Parameter.{address_of}
 use Rattle.scalar_core.specs.Hart.{exit}
 use Rattle.cert_maker.specs.declared.loops.Loop.{Loop}
 use Rattle.cert_maker.specs.Words.{ImageView, Param, Vlen, CertificateView, Budget, Block}
-use Rattle.cert_maker.specs.Words.{Equality, RegisterFact, Term}
+use Rattle.cert_maker.specs.Words.{Equality, EqualityTerm, RegisterFact}
 use Rattle.cert_maker.specs.Loops.{size_of, is_flagged}
 
-abbrev pub term : ℕ → ℕ → Term
+abbrev pub term : ℕ → ℕ → EqualityTerm
 term atom coefficient = record { atom = atom; coefficient = coefficient }
 
-abbrev pub sum : ℕ → List Term → Option Equality
+abbrev pub sum : ℕ → List EqualityTerm → Option Equality
 sum constant terms = Some record { constant = constant; terms = record { items = terms } }
 
 abbrev pub fact : ℕ → ℕ → ℕ → Option Equality → RegisterFact
@@ -37,8 +37,8 @@ stated_by loop of_count of_pointer place =
 abbrev pub base_of : List Param → ℕ → ℕ
 base_of params place = unwrap_or (address_of place params) 0
 
--- At the entry the count is the argument at its place, whose atom is 33 and the place, and each pointer stands at its
--- buffer's start.
+-- At the entry the count is the argument at its place, whose atom is 33 and the place, and each
+-- pointer stands at its buffer's start.
 abbrev pub entry_count : Loop → RegisterFact
 entry_count loop = fact loop.count 0 loop.most (sum 0 (term (loop.count + 23) 1 ∷ []))
 

@@ -19,8 +19,8 @@ use Rattle.cert_maker.specs.Words.{ImageView, Param, CertificateView}
 use Rattle.cert_maker.specs.Loops.{size_of, is_flagged}
 use Rattle.cert_maker.specs.Certificates.{base_of, budget, block, facts_by, loop_facts}
 
--- A loop that was read through, with what its image and its parameters are; `least` of the count's declared interval,
--- and `limit`, which is VLMAX.
+-- A loop that was read through, with what its image and its parameters are; `least` of the count's
+-- declared interval, and `limit`, which is VLMAX.
 pub record Round : Type 0 where
   pub image : ImageView
   pub params : List Param
@@ -37,7 +37,8 @@ known form lo hi = record { form = form; range = record { lo = lo; hi = hi } }
 abbrev pub bytes_of : Loop → ℕ
 bytes_of loop = size_of loop * loop.most
 
--- The buffer at a place has room for the most elements, and so do the numbers below and above its address.
+-- The buffer at a place has room for the most elements, and so do the numbers below and
+-- above its address.
 pub record HasRoom (params : List Param) (loop : Loop) (place : ℕ) : Type 0 where
   pub access : Mode
   pub size : ℕ
@@ -71,7 +72,8 @@ pub record IsRound (k : Round) : Type 0 where
       → HasRoom k.params k.loop place
   pub apart : (place : ℕ) → place < 8 → is_pointer k.loop place ≡ true → place + 10 ≢ k.loop.length
 
--- In the certificate are the blocks of its loop and of its return, and none of them begins where a run ends.
+-- In the certificate are the blocks of its loop and of its return, and none of them begins
+-- where a run ends.
 pub record IsCertified (certificate : CertificateView) (k : Round) : Type 0 where
   pub loop_at : block_at k.start certificate.blocks
       ≡ Some (block k.start (budget 1 k.words k.loop.count) (loop_facts k.params k.loop))

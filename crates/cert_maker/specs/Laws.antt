@@ -44,7 +44,8 @@ use Rattle.cert_maker.specs.Make.{AreParameters}
 use Rattle.cert_maker.specs.Known.{LeadsTo, Round, IsRound, IsCertified, Known}
 use Rattle.rv_decode.specs.Encodings.{FieldsFit}
 
--- What is known after a word that says nothing of registers: but for facts on elements it is what was known.
+-- What is known after a word that says nothing of registers: but for facts on elements it is
+-- what was known.
 pub record Keeps (pc : ℕ) (a b : AbstractView) : Type 0 where
   pub vlenb : b.vlenb ≡ a.vlenb
   pub numbers : b.numbers ≡ a.numbers
@@ -67,10 +68,13 @@ BodyKeeps = (pc bits : ℕ) (insn : Insn) (a : AbstractView) → is_arithmetic i
 
 -- A buffer's bytes lie in its zone.
 abbrev pub ReachesEnd : Type 0
-ReachesEnd = (image : ImageView) (params : List Param) (right : Right) (place base end size : ℕ) (access : Mode)
+ReachesEnd =
+    (image : ImageView) (params : List Param) (right : Right) (place base end size : ℕ)
+    (access : Mode)
     → slice_get params place ≡ Some (parameter.Buffer access size)
     → address_of place params ≡ Some base → end ≤ base + size
-    → zone_right right record { first = base; end = base + size; read = true; write = may_write access } ≡ true
+    → zone_right right
+    record { first = base; end = base + size; read = true; write = may_write access } ≡ true
     → is_inside right base end (zones_of image params) ≡ true
 
 -- a fact at a place is one on the argument register there
@@ -106,15 +110,16 @@ SplitsAre = (atoms : List Atom) (n : ℕ) (r t : Range) → n < length atoms →
 
 -- ---- the walk of a checker through the loop
 
--- Where a word is read and the reading goes on, on the way to a loop, what is known goes on with it, past a word that is
--- no jump.
+-- Where a word is read and the reading goes on, on the way to a loop, what is known goes on with
+-- it, past a word that is no jump.
 abbrev pub WordsGoOn : List Param → ℕ → Loop → (Reading → ℕ → AbstractView → Type 0) → Type 0
 WordsGoOn params start loop Known =
     (pc : ℕ) (r next : Reading) (insn : Insn) (a : AbstractView) → FieldsFit insn
     → next_of params start pc r insn ≡ Some next → is_through next ≡ false → LeadsTo r loop
     → LeadsTo next loop
     → Known r pc a
-    → (b : AbstractView) × (after_of pc insn a ≡ Ok b) × (jumps insn ≡ false) × Known next (pc + 4) b
+    → (b : AbstractView) × (after_of pc insn a ≡ Ok b) × (jumps insn ≡ false)
+    × Known next (pc + 4) b
 
 -- Where the loop is read through, its edges pass.
 abbrev pub WordsEnd : CertificateView → List Param → ℕ → Loop → ℕ
@@ -123,30 +128,36 @@ WordsEnd certificate params start loop words Known =
     (pc : ℕ) (r : Reading) (insn : Insn) (a : AbstractView) → FieldsFit insn
     → next_of params start pc r insn ≡ Some (Through loop) → words ≡ (pc - start) / 4 + 1
     → LeadsTo r loop → Known r pc a
-    → (b : AbstractView) × (after_of pc insn a ≡ Ok b) × (jumps insn ≡ true) × (edges_pass certificate pc insn b ≡ Ok tt)
+    → (b : AbstractView) × (after_of pc insn a ≡ Ok b) × (jumps insn ≡ true)
+    × (edges_pass certificate pc insn b ≡ Ok tt)
 
 -- In a round of a loop that was read through what is known goes on.
 abbrev pub LoopsGoOn : Type 0
 LoopsGoOn = (k : Round) → IsRound k → WordsGoOn k.params k.start k.loop (Known k)
 
--- Where a certificate has the loop's block and that of its return, the edges at the round's end pass.
+-- Where a certificate has the loop's block and that of its return, the edges at the
+-- round's end pass.
 abbrev pub RoundsEnd : Type 0
 RoundsEnd = (certificate : CertificateView) (k : Round) → IsRound k → IsCertified certificate k
     → WordsEnd certificate k.params k.start k.loop k.words (Known k)
 
 -- A loop that is read through ends behind each of its words.
 abbrev pub LoopsEnd : Type 0
-LoopsEnd = (image : ImageView) (params : List Param) (start more pc : ℕ) (r : Reading) (through : Loop × ℕ) → start ≤ pc
+LoopsEnd =
+    (image : ImageView) (params : List Param) (start more pc : ℕ) (r : Reading) (through : Loop × ℕ)
+    → start ≤ pc
     → loop_from image params start more pc r ≡ Ok through → pc < start + 4 * through.1
 
 -- Each reading on the way to a loop is of that loop, but for pointers that are still to come.
 abbrev pub LoopsLead : Type 0
-LoopsLead = (image : ImageView) (params : List Param) (start more pc : ℕ) (r : Reading) (through : Loop × ℕ)
+LoopsLead =
+    (image : ImageView) (params : List Param) (start more pc : ℕ) (r : Reading) (through : Loop × ℕ)
     → loop_from image params start more pc r ≡ Ok through → LeadsTo r through.0
 
 -- ---- a pointer
 
--- What is known of a pointer and of the atoms before it is moved: `q` is the least that the moved form may be.
+-- What is known of a pointer and of the atoms before it is moved: `q` is the least that the
+-- moved form may be.
 pub record IsPointer (s : NumbersView) (base w n e v N m q p : ℕ) : Type 0 where
   pub register : 0 < p
   pub first : n < e
@@ -180,7 +191,8 @@ PointersMove = (s : NumbersView) (base w n e v N m q p step lo hi : ℕ)
     → IsPointer s base w n e v N m q p → IsStep s w v m step lo hi
     → Moved s base w n e v N p step
 
--- On an edge where a pointer has its moved form and the count is what is left, the loop's fact on the pointer is shown.
+-- On an edge where a pointer has its moved form and the count is what is left, the loop's fact on
+-- the pointer is shown.
 abbrev pub PointersReturn : Type 0
 PointersReturn = (edge : EdgeView) (base w n e v N p : ℕ) → IsSize w → base < 2 ^ 32 → n < e → e < v
     → (value_at edge.state.numbers p).form ≡ moved_form base w n e v
@@ -188,7 +200,8 @@ PointersReturn = (edge : EdgeView) (base w n e v N p : ℕ) → IsSize w → bas
     → form_at edge.state.numbers.forms e ≡ atom_form e
     → base ≤ (slice_index_or edge.ranges p (just 0)).lo
     → (slice_index_or edge.ranges p (just 0)).hi ≤ base + w * N
-    → let f = fact p base (base + w * N) (sum base (cert_term n (2 ^ 32 - w) ∷ cert_term e w ∷ [])) in
+    → let f = fact p base (base + w * N)
+    (sum base (cert_term n (2 ^ 32 - w) ∷ cert_term e w ∷ [])) in
     (is_interval_shown edge f ≡ true) × (is_equality_shown edge f ≡ true)
 
 -- ---- the length
@@ -209,13 +222,16 @@ pub record IsCount (s : NumbersView) (n t e L N M : ℕ) : Type 0 where
   pub least : L ≤ N
   pub progress : 1 ≤ M
 
--- Behind the word that sets vl: vl and its register are a new atom, of which the count is made; all else stays.
+-- Behind the word that sets vl: vl and its register are a new atom, of which the count is made;
+-- all else stays.
 pub record IsSet (s new : NumbersView) (n t e L N M : ℕ) : Type 0 where
   pub forms : length new.forms ≡ 33
   pub ranges : length new.ranges ≡ 33
   pub loop : IsLoop (table_of new) n e (length s.atoms) (length s.atoms + 1) L N M
-  pub vl : value_at new 32 ≡ record { form = atom_form (length s.atoms); range = record { lo = min 1 M; hi = min N M } }
-  pub length : value_at new t ≡ record { form = atom_form (length s.atoms); range = record { lo = min 1 M; hi = min N M } }
+  pub vl : value_at new 32
+      ≡ record { form = atom_form (length s.atoms); range = record { lo = min 1 M; hi = min N M } }
+  pub length : value_at new t
+      ≡ record { form = atom_form (length s.atoms); range = record { lo = min 1 M; hi = min N M } }
   pub others : (i : ℕ) → i ≢ 32 → i ≢ t → value_at new i ≡ value_at s i
 
 abbrev pub LengthsAreSet : Type 0
@@ -234,7 +250,8 @@ BackEquality = (forms : List Linear) (base w n e v : ℕ) → IsSize w → base 
 abbrev pub ReturnsPass : Type 0
 ReturnsPass = (image : ImageView) (certificate : CertificateView) (start : ℕ) (insn : Insn)
     → insn_at start image ≡ Some insn
-    → is_return insn ≡ true → block_passes image certificate (block start (budget 1 0 0) (facts_by (λ place. None))) ≡ Ok tt
+    → is_return insn ≡ true
+    → block_passes image certificate (block start (budget 1 0 0) (facts_by (λ place. None))) ≡ Ok tt
 
 -- ---- all of it
 

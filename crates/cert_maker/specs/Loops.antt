@@ -1,6 +1,7 @@
--- The loops for which a certificate is made: the count `n` of elements that are left is an argument, and each round sets vl
--- from it, works on that many elements of the buffers, moves the pointers on and takes vl from the count. Words are read
--- from the entry on, and the first that breaks a condition together with those before it does not fit.
+-- The loops for which a certificate is made: the count `n` of elements that are left is an
+-- argument, and each round sets vl from it, works on that many elements of the buffers, moves the
+-- pointers on and takes vl from the count. Words are read from the entry on, and the first that
+-- breaks a condition together with those before it does not fit.
 use Rattle.std.specs.Prelude.{ℕ, zero, suc, ◌+◌, ◌*◌, ◌/◌, ◌-◌, ◌==◌, ◌&&◌, not, nat_le, nat_lt, Bool, true, false, if◌then◌else◌, List, replicate, slice_set, slice_index_or, Option, Some, None, Result, Ok, Err, ok_or}
 use Rattle.std.specs.List.{list_any, slice_get}
 use Rattle.std.specs.Option.{option_map, option_and_then, option_map_or}
@@ -15,8 +16,8 @@ use Rattle.rv_decode.specs.declared.instructions.Condition.TheVariants.{Eq, Ne}
 use Rattle.rv_decode.specs.declared.instructions.Direction.{Direction}
 use Rattle.rv_decode.specs.declared.instructions.Direction.TheVariants as direction
 use Rattle.rv_decode.specs.declared.instructions.Insn.TheVariants as class
-use Rattle.rv_decode.specs.declared.instructions.Place.{Place}
-use Rattle.rv_decode.specs.declared.instructions.Place.TheVariants as place
+use Rattle.rv_decode.specs.declared.instructions.Addressing.{Addressing}
+use Rattle.rv_decode.specs.declared.instructions.Addressing.TheVariants as place
 use Rattle.rv_decode.specs.declared.instructions.RegisterOp.TheVariants.{Add, Sub}
 use Rattle.rv_decode.specs.declared.instructions.ScalarInsn.TheVariants.{Branch, Jalr, Register, ShiftImmediate}
 use Rattle.rv_decode.specs.declared.instructions.ShiftOp.TheVariants.{Slli}
@@ -73,7 +74,8 @@ is_buffer_for d bytes (parameter.Buffer access size) = nat_le bytes size && may_
 -- the argument register is one of the flagged ones, by place
 unfoldable pub is_flagged : ℕ → List Bool → Bool
 is_flagged register flags =
-    if nat_le 10 register && nat_lt register 18 then slice_index_or flags (register - 10) false else false
+    if nat_le 10 register && nat_lt register 18 then slice_index_or flags (register - 10) false
+    else false
 
 -- a register for a number of the loop's own: neither x0 nor ra
 abbrev pub is_free : ℕ → Loop → Bool
@@ -141,7 +143,8 @@ is_vector_class (class.VMove insn) = true
 -- arithmetic that is not masked, writes elements, and neither widens nor narrows
 unfoldable pub is_arithmetic : Insn → Bool
 is_arithmetic insn =
-    is_vector_class insn && not (needs_of insn).is_masked && writes_elements (needs_of insn).destination
+    is_vector_class insn && not (needs_of insn).is_masked
+    && writes_elements (needs_of insn).destination
     && not (reads_double (needs_of insn).vs2)
 
 -- the loop with one pointer more
@@ -149,7 +152,7 @@ unfoldable pub with_pointer : ℕ → Loop → Loop
 with_pointer pointer loop = record loop { pointers = slice_set loop.pointers (pointer - 10) true }
 
 -- elements of SEW one after another, not masked
-unfoldable pub is_plain : Width → Place → Bool
+unfoldable pub is_plain : Width → Addressing → Bool
 is_plain sew (place.Unit width masked) = (bytes_of_width width == bytes_of_width sew) && not masked
 is_plain sew other = false
 
@@ -157,7 +160,8 @@ is_plain sew other = false
 unfoldable pub is_access : List Param → Loop → VMem → Bool
 is_access params loop insn =
     is_plain loop.sew insn.place && not (insn.rs1 == loop.length)
-    && option_map_or (is_buffer_for insn.direction (loop.most * size_of loop)) (parameter_in params insn.rs1) false
+    && option_map_or (is_buffer_for insn.direction (loop.most * size_of loop))
+    (parameter_in params insn.rs1) false
 
 -- ---- reading
 
@@ -167,7 +171,8 @@ moved_by loop step left (class.Scalar (Register Add rd rs1 rs2)) =
     if is_flagged rd left && (rs1 == rd) && (rs2 == step)
     then Some (Moves loop step (slice_set left (rd - 10) false)) else None
 moved_by loop step left (class.Scalar (Register Sub rd rs1 rs2)) =
-    if not (list_any (λ is_left. is_left) left) && (rd == loop.count) && (rs1 == loop.count) && (rs2 == loop.length)
+    if not (list_any (λ is_left. is_left) left) && (rd == loop.count) && (rs1 == loop.count)
+    && (rs2 == loop.length)
     then Some (Back loop) else None
 moved_by loop step left other = None
 
@@ -187,7 +192,8 @@ step_by loop (Some wanted) other = None
 
 unfoldable pub works_on : List Param → Loop → Insn → Option Reading
 works_on params loop (class.VMem insn) =
-    if is_access params loop insn && is_legal record { vtype = loop.vtype; vl = 0 } (class.VMem insn)
+    if is_access params loop insn
+    && is_legal record { vtype = loop.vtype; vl = 0 } (class.VMem insn)
     then Some (Works (with_pointer insn.rs1 loop)) else None
 works_on params loop other =
     if is_arithmetic other
@@ -221,15 +227,18 @@ is_through (Moves loop step left) = false
 is_through (Back loop) = false
 is_through (Through loop) = true
 
--- what follows the word at an address: the loop and how many words it has, once it is read through, or the words behind
-abbrev pub then_read : ℕ → ℕ → Option Reading → (Reading → Result (Loop × ℕ) ℕ) → Result (Loop × ℕ) ℕ
+-- what follows the word at an address: the loop and how many words it has, once it is read through,
+-- or the words behind
+abbrev pub then_read : ℕ → ℕ → Option Reading → (Reading → Result (Loop × ℕ) ℕ)
+    → Result (Loop × ℕ) ℕ
 then_read start pc None more = Err pc
 then_read start pc (Some (Works loop)) more = more (Works loop)
 then_read start pc (Some (Moves loop step left)) more = more (Moves loop step left)
 then_read start pc (Some (Back loop)) more = more (Back loop)
 then_read start pc (Some (Through loop)) more = Ok (loop, (pc - start) / 4 + 1)
 
--- No word of code lies at 0xC000_0000 or above, so that so many words from the entry on are never read.
+-- No word of code lies at 0xC000_0000 or above, so that so many words from the entry on
+-- are never read.
 unfoldable pub loop_from : ImageView → List Param → ℕ → ℕ → ℕ → Reading → Result (Loop × ℕ) ℕ
 loop_from image params start zero pc reading = Err pc
 loop_from image params start (suc more) pc reading =
@@ -244,7 +253,8 @@ is_return other = false
 abbrev pub return_by : Insn → Option Insn
 return_by insn = if is_return insn then Some insn else None
 
--- the loop from the entry on, and how many instructions it has; or the address of the first word that does not fit
+-- the loop from the entry on, and how many instructions it has; or the address of the first word
+-- that does not fit
 unfoldable pub loop_of : ImageView → List Param → Result (Loop × ℕ) ℕ
 loop_of image params = do
   head ← read_at image.entry (count_by params image.entry) image

@@ -10,4 +10,4 @@ pub use Rattle.cert_note.specs.declared.values.Budget.{Budget}
 pub use Rattle.cert_note.specs.declared.values.Block.{Block}
 pub use Rattle.cert_note.specs.declared.values.Equality.{Equality}
 pub use Rattle.cert_note.specs.declared.values.RegisterFact.{RegisterFact}
-pub use Rattle.cert_note.specs.declared.values.Term.{Term}
+pub use Rattle.cert_note.specs.declared.values.EqualityTerm.{EqualityTerm}

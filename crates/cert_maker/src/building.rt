@@ -15,7 +15,7 @@ ghost use Rattle.scalar_core.specs.Hart.{exit};
 use crate::instructions::{bytes_of, is_flagged};
 use crate::loops::Loop;
 use arrayvec::ArrayVec;
-use cert_note::{Block, Budget, Equality, RegisterFact, Term};
+use cert_note::{Block, Budget, Equality, EqualityTerm, RegisterFact};
 use region_mem::Parameters;
 use rv_decode::Reg;
 use scalar_core::EXIT;
@@ -45,7 +45,7 @@ fn return_fact() -> RegisterFact
 }
 
 /// A sum of one term.
-fn one_term(term: Term) -> ArrayVec<Term, 8>
+fn one_term(term: EqualityTerm) -> ArrayVec<EqualityTerm, 8>
     ensures { result.items ≡ term ∷ [] }
 {
     let mut terms = ArrayVec::new();
@@ -54,7 +54,7 @@ fn one_term(term: Term) -> ArrayVec<Term, 8>
 }
 
 /// A sum of two terms.
-fn two_terms(first: Term, second: Term) -> ArrayVec<Term, 8>
+fn two_terms(first: EqualityTerm, second: EqualityTerm) -> ArrayVec<EqualityTerm, 8>
     ensures { result.items ≡ first ∷ second ∷ [] }
 {
     let mut terms = ArrayVec::new();
@@ -69,7 +69,7 @@ fn entry_count(of: &Loop) -> RegisterFact
     ensures { result ≡ entry_count_of of.now }
 {
     let count = of.count.number();
-    let argument = Term {
+    let argument = EqualityTerm {
         atom: count + 23,
         coefficient: 1,
     };
@@ -123,11 +123,11 @@ fn loop_pointer(parameters: &Parameters, of: &Loop, place: u8) -> RegisterFact
     let base = parameters.address(usize::from(place)).unwrap_or(0);
     let size = bytes_of(of.sew);
     let count = of.count.number();
-    let left = Term {
+    let left = EqualityTerm {
         atom: count,
         coefficient: size.wrapping_neg(),
     };
-    let argument = Term {
+    let argument = EqualityTerm {
         atom: count + 23,
         coefficient: size,
     };

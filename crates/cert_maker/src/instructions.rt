@@ -22,8 +22,8 @@ ghost use Rattle.cert_maker.specs.Loops.{writes_elements as writes_elements_of};
 use crate::loops::{Head, Loop, Reading};
 use region_mem::{Mode, Param, Parameters};
 use rv_decode::{
-    Condition, Direction, Eew, Extent, Insn, Operand, Place, Reg, RegisterOp, ScalarInsn, ShiftOp,
-    VMem, VSet, Width, needs,
+    Addressing, Condition, Direction, Eew, Extent, Insn, Operand, Reg, RegisterOp, ScalarInsn,
+    ShiftOp, VMem, VSet, Width, needs,
 };
 use vreg_groups::{Vconfig, Vtype, legal};
 
@@ -341,12 +341,15 @@ pub(crate) fn bytes_of(width: Width) -> u32
 
 /// Elements of SEW one after another, not masked.
 #[tactic(auto, unfolding(crate::specs::Loops::is_plain))]
-fn is_plain(sew: Width, place: &Place) -> bool
+fn is_plain(sew: Width, place: &Addressing) -> bool
     ensures { result ≡ is_plain_of sew place.now }
 {
     match place {
-        Place::Unit { width, masked } => bytes_of(*width) == bytes_of(sew) && !*masked,
-        Place::Strided { .. } | Place::Indexed { .. } | Place::Mask | Place::Whole { .. } => false,
+        Addressing::Unit { width, masked } => bytes_of(*width) == bytes_of(sew) && !*masked,
+        Addressing::Strided { .. }
+        | Addressing::Indexed { .. }
+        | Addressing::Mask
+        | Addressing::Whole { .. } => false,
     }
 }
 

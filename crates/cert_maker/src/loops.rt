@@ -80,7 +80,8 @@ fn read_word<A: Allocator>(
     pc: u32,
     reading: &Reading,
 ) -> Option<Reading>
-    ensures value { result ≡ option_and_then (next_of_of parameters.now start pc reading.now) (insn_at_of pc image.now) }
+    ensures value { result ≡ option_and_then (next_of_of parameters.now start pc reading.now)
+        (insn_at_of pc image.now) }
     ensures low { IsSome result → pc + 4 ≤ 0xC000_0000 }
 {
     let insn = insn_at(image, pc)?;
@@ -96,7 +97,8 @@ fn read_loop<A: Allocator>(
     of: Loop,
 ) -> Result<(Loop, u32), u32>
     requires { start + 4 ≤ 0xC000_0000 }
-    ensures value { result ≡ loop_from_of image.now parameters.now start 0x3000_0000 (start + 4) (Works of) }
+    ensures value { result ≡ loop_from_of image.now parameters.now start 0x3000_0000 (start + 4)
+        (Works of) }
     ensures low { IfOk result (λ x. start + 4 * x.1 ≤ 0xC000_0000) }
 {
     let mut pc = start + 4;
@@ -116,7 +118,8 @@ fn read_loop<A: Allocator>(
 
 /// The first word.
 fn head_at<A: Allocator>(image: &Image<A>, parameters: &Parameters, pc: u32) -> Result<Head, u32>
-    ensures value { result ≡ ok_or (option_and_then (count_by_of parameters.now pc) (insn_at_of pc image.now)) pc }
+    ensures value { result ≡ ok_or
+        (option_and_then (count_by_of parameters.now pc) (insn_at_of pc image.now)) pc }
     ensures low { IsOk result → pc + 4 ≤ 0xC000_0000 }
 {
     let Some(insn) = insn_at(image, pc) else {
@@ -127,7 +130,8 @@ fn head_at<A: Allocator>(image: &Image<A>, parameters: &Parameters, pc: u32) -> 
 
 /// The second word.
 fn length_at<A: Allocator>(image: &Image<A>, head: &Head, pc: u32) -> Result<Loop, u32>
-    ensures value { result ≡ ok_or (option_and_then (length_by_of head.now) (insn_at_of pc image.now)) pc }
+    ensures value { result ≡ ok_or
+        (option_and_then (length_by_of head.now) (insn_at_of pc image.now)) pc }
     ensures low { IsOk result → pc + 4 ≤ 0xC000_0000 }
 {
     let Some(insn) = insn_at(image, pc) else {

@@ -4,7 +4,7 @@ use Rattle.std.proofs.Common.{◌≡◌, ℕ, zero, suc, ◌≤◌, ◌⊎◌, �
 use Rattle.std.specs.List.{flat_map}
 use Rattle.std.proofs.lemmas.Bool.{eqb-true}
 use Rattle.std.proofs.lemmas.Bool.Decides.{nat_tests}
-use Rattle.cert_note.specs.Words.{Version, Param, Vlen, Term, Budget, VectorFact, OrderFact, Counts, Group, Equality, RegisterFact, Block}
+use Rattle.cert_note.specs.Words.{Version, Param, Vlen, EqualityTerm, Budget, VectorFact, OrderFact, Counts, FactGroup, Equality, RegisterFact, Block}
 use Rattle.cert_note.specs.declared.refusals.CertError.TheVariants as error
 use Rattle.cert_note.specs.declared.values.Version.TheVariants.{V1, V2}
 use Rattle.std.proofs.lemmas.List.{nil_from_length}
@@ -22,7 +22,7 @@ chosen false x y z e = inr (refl, e)
 
 -- ---- terms
 
-pub term_takes : (params : List Param) (from : ℕ) (bytes : List ℕ) (x : Term) (rest : List ℕ) → IsBytes bytes → term_at params from bytes ≡ Ok (x, rest) → Takes bytes (spelled_term x) rest × IsTerm params from x
+pub term_takes : (params : List Param) (from : ℕ) (bytes : List ℕ) (x : EqualityTerm) (rest : List ℕ) → IsBytes bytes → term_at params from bytes ≡ Ok (x, rest) → Takes bytes (spelled_term x) rest × IsTerm params from x
 unfolding term_at spelled_term
 term_takes params from bytes x rest fits e =
     let a = bind_ok (byte_at bytes) _ (x, rest) e in
@@ -31,11 +31,11 @@ term_takes params from bytes x rest fits e =
     let q = expected _ _ _ (x, rest) b.2 in
     let t0 = byte_takes bytes a.0.0 a.0.1 fits a.1 in
     let t1 = word_takes a.0.1 b.0.0 b.0.1 t0.0.rest_fits b.1 in
-    let made : Term × List ℕ = (record { atom = a.0.0; coefficient = b.0.0 }, b.0.1) in
-    subst (λ (y : Term × List ℕ). Takes bytes ((y.0.atom ∷ []) ++ word y.0.coefficient) y.1 × IsTerm params from y.0) (ok_is made (x, rest) q.1)
+    let made : EqualityTerm × List ℕ = (record { atom = a.0.0; coefficient = b.0.0 }, b.0.1) in
+    subst (λ (y : EqualityTerm × List ℕ). Takes bytes ((y.0.atom ∷ []) ++ word y.0.coefficient) y.1 × IsTerm params from y.0) (ok_is made (x, rest) q.1)
     (Takes-then bytes (a.0.0 ∷ []) a.0.1 (word b.0.0) b.0.1 t0.0 t1.0, record { atom = p.0; coefficient = q.0; fits = t1.1 })
 
-pub term_again : (params : List Param) (from : ℕ) (x : Term) (rest : List ℕ) → IsTerm params from x → term_at params from (spelled_term x ++ rest) ≡ Ok (x, rest)
+pub term_again : (params : List Param) (from : ℕ) (x : EqualityTerm) (rest : List ℕ) → IsTerm params from x → term_at params from (spelled_term x ++ rest) ≡ Ok (x, rest)
 unfolding term_at spelled_term byte_at
 term_again params from x rest is = rw (is.atom, word_again x.coefficient rest is.fits, is.coefficient) refl
 
@@ -130,13 +130,13 @@ fact_again params from x rest is =
 
 -- ---- facts on groups
 
-abbrev IsGroupFrom : ℕ → Group → Type 0
+abbrev IsGroupFrom : ℕ → FactGroup → Type 0
 IsGroupFrom from g = ((leb from g.register && leb g.register 31) ≡ true) × (is_width g.width ≡ true) × (is_group g.register g.registers ≡ true)
 
-abbrev spelled_group : Group → List ℕ
+abbrev spelled_group : FactGroup → List ℕ
 spelled_group g = g.register ∷ g.width ∷ g.registers ∷ 0 ∷ []
 
-group_takes : (from : ℕ) (bytes : List ℕ) (x : Group) (rest : List ℕ) → IsBytes bytes → group_at from bytes ≡ Ok (x, rest) → Takes bytes (spelled_group x) rest × IsGroupFrom from x
+group_takes : (from : ℕ) (bytes : List ℕ) (x : FactGroup) (rest : List ℕ) → IsBytes bytes → group_at from bytes ≡ Ok (x, rest) → Takes bytes (spelled_group x) rest × IsGroupFrom from x
 unfolding group_at
 group_takes from bytes x rest fits e =
     let a = bind_ok (byte_at bytes) _ (x, rest) e in
@@ -153,10 +153,10 @@ group_takes from bytes x rest fits e =
     let e1 = Takes-then bytes (a.0.0 ∷ []) a.0.1 (b.0.0 ∷ []) b.0.1 t0.0 t1.0 in
     let e2 = Takes-then bytes (a.0.0 ∷ b.0.0 ∷ []) b.0.1 (c.0.0 ∷ []) c.0.1 e1 t2.0 in
     let e3 = Takes-then bytes (a.0.0 ∷ b.0.0 ∷ c.0.0 ∷ []) c.0.1 (0 ∷ []) d.0 e2 t3 in
-    let made : Group × List ℕ = (record { register = a.0.0; width = b.0.0; registers = c.0.0 }, d.0) in
-    subst (λ (y : Group × List ℕ). Takes bytes (spelled_group y.0) y.1 × IsGroupFrom from y.0) (ok_is made (x, rest) d.2) (e3, (p.0, q.0, r.0))
+    let made : FactGroup × List ℕ = (record { register = a.0.0; width = b.0.0; registers = c.0.0 }, d.0) in
+    subst (λ (y : FactGroup × List ℕ). Takes bytes (spelled_group y.0) y.1 × IsGroupFrom from y.0) (ok_is made (x, rest) d.2) (e3, (p.0, q.0, r.0))
 
-group_again : (from : ℕ) (x : Group) (rest : List ℕ) → IsGroupFrom from x → group_at from (spelled_group x ++ rest) ≡ Ok (x, rest)
+group_again : (from : ℕ) (x : FactGroup) (rest : List ℕ) → IsGroupFrom from x → group_at from (spelled_group x ++ rest) ≡ Ok (x, rest)
 unfolding group_at byte_at zero_at
 group_again from x rest is = rw (is.0, is.1, is.2) refl
 
@@ -187,7 +187,7 @@ vector_takes vlen from bytes x rest fits e =
 pub vector_again : (vlen : Vlen) (from : ℕ) (x : VectorFact) (rest : List ℕ) → IsVectorFact vlen from x → vector_at vlen from (spelled_vector x ++ rest) ≡ Ok (x, rest)
 unfolding vector_at spelled_vector
 vector_again vlen from x rest is =
-    let g : Group = record { register = x.register; width = x.width; registers = x.registers } in
+    let g : FactGroup = record { register = x.register; width = x.width; registers = x.registers } in
     let front : group_at from (spelled_group g ++ (half x.count ++ (half 0 ++ (word x.low ++ (word x.high ++ rest))))) ≡ Ok (g, half x.count ++ (half 0 ++ (word x.low ++ (word x.high ++ rest)))) =
     group_again from g (half x.count ++ (half 0 ++ (word x.low ++ (word x.high ++ rest)))) (is.register, is.width, is.group) in
     ap (λ (t : List ℕ). vector_at vlen from (x.register ∷ x.width ∷ x.registers ∷ 0 ∷ t)) (regroup4 (half x.count) (half 0) (word x.low) (word x.high) rest)

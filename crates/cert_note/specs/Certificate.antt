@@ -4,7 +4,7 @@ use Rattle.std.specs.Prelude.{◌≡◌, ◌<◌, ◌≤◌, IsTrue}
 use Rattle.cert_note.specs.declared.values.Version.TheVariants.{V1, V2}
 use Rattle.std.specs.List.{list_all, list_any, slice_get, AllByRecursion}
 use Rattle.std.specs.Option.{option_map_or}
-use Rattle.cert_note.specs.Words.{Version, Param, Vlen, Term, Budget, VectorFact, OrderFact, Equality, RegisterFact, Block, Contents}
+use Rattle.cert_note.specs.Words.{Version, Param, Vlen, EqualityTerm, Budget, VectorFact, OrderFact, Equality, RegisterFact, Block, Contents}
 use Rattle.region_mem.specs.Parameter.{is_valid}
 use Rattle.region_mem.specs.declared.parameter.Param.TheVariants as parameter
 use Rattle.vreg_groups.specs.VectorLength.{vlenb_of}
@@ -46,7 +46,8 @@ unfoldable pub is_budget : ℕ → ℕ → Bool
 is_budget factor register =
     if factor == 0 then register == 0 else (nat_le 1 register && nat_le register 31)
 
--- There is a second factor only beside a first one; it has a register above the first, and else none is named.
+-- There is a second factor only beside a first one; it has a register above the first, and
+-- else none is named.
 unfoldable pub is_second : ℕ → ℕ → ℕ → ℕ → Bool
 is_second factor register second second_register =
     if second == 0 then second_register == 0
@@ -105,9 +106,9 @@ abbrev pub AllFrom : {A : Type 0} → (ℕ → A → Type 0) → (A → ℕ) →
 AllFrom Valid next from [] = Unit {0}
 AllFrom Valid next from (x ∷ xs) = Valid from x × AllFrom Valid next (next x) xs
 
--- Terms rise by their atoms, facts on registers by their numbers, facts on groups by their registers, orders by their
--- greater registers, blocks by their starts.
-abbrev pub after_term : Term → ℕ
+-- Terms rise by their atoms, facts on registers by their numbers, facts on groups by their
+-- registers, orders by their greater registers, blocks by their starts.
+abbrev pub after_term : EqualityTerm → ℕ
 after_term term = term.atom + 1
 
 abbrev pub after_fact : RegisterFact → ℕ
@@ -122,7 +123,7 @@ after_order order = order.greater + 1
 abbrev pub after_block : Block → ℕ
 after_block block = block.start + 1
 
-pub record IsTerm (params : List Param) (from : ℕ) (term : Term) : Type 0 where
+pub record IsTerm (params : List Param) (from : ℕ) (term : EqualityTerm) : Type 0 where
   pub atom : IsTrue (nat_le from term.atom && is_atom params term.atom)
   pub coefficient : IsTrue (nat_lt 0 term.coefficient)
   pub fits : term.coefficient < 2 ^ 32
@@ -176,7 +177,8 @@ IsOf V1 block = (block.budget.second_factor ≡ 0) × (block.orders.items ≡ []
 IsOf V2 block = Unit {0}
 
 pub record IsBlock
-    (version : Version) (vlen : Vlen) (params : List Param) (from : ℕ) (block : Block) : Type 0 where
+    (version : Version) (vlen : Vlen) (params : List Param) (from : ℕ)
+    (block : Block) : Type 0 where
   pub start : IsTrue (nat_le from block.start && (block.start % 4 == 0))
   pub start_fits : block.start < 2 ^ 32
   pub budget : IsBudgetOf block.budget

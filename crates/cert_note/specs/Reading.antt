@@ -3,7 +3,7 @@ use Rattle.std.specs.Prelude.{◌≡◌, ◌⊎◌, ℕ, zero, suc, ◌+◌, ◌
 use Rattle.std.specs.Int.{Width, w16, w32, byte_len, from_le_bytes}
 use Rattle.region_mem.specs.Parameter.{parameters_of}
 use Rattle.region_mem.specs.declared.layout.TheConstants.{MAX_BUFFER_SIZE}
-use Rattle.cert_note.specs.Words.{Version, Mode, Param, Vlen, Term, Budget, VectorFact, OrderFact, Counts, Group, Equality, RegisterFact, Block}
+use Rattle.cert_note.specs.Words.{Version, Mode, Param, Vlen, EqualityTerm, Budget, VectorFact, OrderFact, Counts, FactGroup, Equality, RegisterFact, Block}
 use Rattle.region_mem.specs.declared.parameter.Mode.TheVariants.{Read, ReadWrite}
 use Rattle.region_mem.specs.declared.parameter.Param.TheVariants as parameter
 use Rattle.cert_note.specs.declared.refusals.CertError.{CertError}
@@ -116,7 +116,7 @@ parameters_at (suc n) bytes = do
   Ok (first.0 ∷ others.0, others.1)
 
 -- a term whose atom is not below a number
-unfoldable pub term_at : List Param → ℕ → List ℕ → Result (Term × List ℕ) CertError
+unfoldable pub term_at : List Param → ℕ → List ℕ → Result (EqualityTerm × List ℕ) CertError
 term_at params from bytes = do
   atom ← byte_at bytes
   _ ← expect (nat_le from atom.0 && is_atom params atom.0) error.Equality
@@ -125,7 +125,8 @@ term_at params from bytes = do
   Ok (record { atom = atom.0; coefficient = coefficient.0 }, coefficient.1)
 
 -- terms by rising atom
-unfoldable pub terms_at : List Param → ℕ → ℕ → List ℕ → Result (List Term × List ℕ) CertError
+unfoldable pub terms_at : List Param → ℕ → ℕ → List ℕ
+    → Result (List EqualityTerm × List ℕ) CertError
 terms_at params zero from bytes = Ok ([], bytes)
 terms_at params (suc n) from bytes = do
   first ← term_at params from bytes
@@ -178,7 +179,7 @@ facts_at params (suc n) from bytes = do
   Ok (first.0 ∷ others.0, others.1)
 
 -- a group whose first register is not below one
-unfoldable pub group_at : ℕ → List ℕ → Result (Group × List ℕ) CertError
+unfoldable pub group_at : ℕ → List ℕ → Result (FactGroup × List ℕ) CertError
 group_at from bytes = do
   register ← byte_at bytes
   _ ← expect (nat_le from register.0 && nat_le register.0 31) error.Fact

@@ -1,7 +1,7 @@
 -- The one spelling of a certificate: fields of 8, 16 and 32 bits, the lowest byte first.
 use Rattle.std.specs.Prelude.{ℕ, List, [], ◌∷◌, ◌++◌, length, Option, Some, None}
 use Rattle.std.specs.List.{flat_map}
-use Rattle.cert_note.specs.Words.{Version, Block, Equality, RegisterFact, Mode, Param, Vlen, Term, Budget, VectorFact, OrderFact}
+use Rattle.cert_note.specs.Words.{Version, Block, Equality, RegisterFact, Mode, Param, Vlen, EqualityTerm, Budget, VectorFact, OrderFact}
 use Rattle.std.specs.Int.{w16, w32, to_le_bytes}
 use Rattle.region_mem.specs.declared.parameter.Mode.TheVariants.{Read, ReadWrite}
 use Rattle.region_mem.specs.declared.parameter.Param.TheVariants as parameter
@@ -41,7 +41,7 @@ spelled_parameter parameter.None = parameter_of 0 0 0 0
 spelled_parameter (parameter.Scalar lo hi) = parameter_of 1 0 lo hi
 spelled_parameter (parameter.Buffer mode size) = parameter_of 2 (mode_code mode) size 0
 
-unfoldable pub spelled_term : Term → List ℕ
+unfoldable pub spelled_term : EqualityTerm → List ℕ
 spelled_term term = (term.atom ∷ []) ++ word term.coefficient
 
 -- 255 where no equality is stated, else the number of terms, the constant and the terms

@@ -3,7 +3,7 @@ pub use Rattle.region_mem.specs.declared.parameter.Mode.{Mode}
 pub use Rattle.region_mem.specs.declared.parameter.Param.{Param}
 pub use Rattle.vreg_groups.specs.declared.vector_length.Vlen.{Vlen}
 pub use Rattle.cert_note.specs.declared.values.Version.{Version}
-pub use Rattle.cert_note.specs.declared.values.Term.{Term}
+pub use Rattle.cert_note.specs.declared.values.EqualityTerm.{EqualityTerm}
 pub use Rattle.cert_note.specs.declared.values.Budget.{Budget}
 pub use Rattle.cert_note.specs.declared.values.VectorFact.{VectorFact}
 pub use Rattle.cert_note.specs.declared.values.Equality.{Equality}
@@ -12,4 +12,4 @@ pub use Rattle.cert_note.specs.declared.values.OrderFact.{OrderFact}
 pub use Rattle.cert_note.specs.declared.values.Block.{Block}
 pub use Rattle.cert_note.specs.declared.values.Contents.{Contents}
 pub use Rattle.cert_note.specs.declared.values.Counts.{Counts}
-pub use Rattle.cert_note.specs.declared.values.Group.{Group}
+pub use Rattle.cert_note.specs.declared.values.FactGroup.{FactGroup}

@@ -14,7 +14,7 @@ ghost use Rattle.cert_note.specs.Reading.{budget_at, known_vtype, vtype_at, few_
 ghost use Rattle.cert_note.specs.Reading.{counts_at, count_at};
 
 use crate::refusals::CertError;
-use crate::values::{Budget, Counts, Group, Term, VectorFact, Version};
+use crate::values::{Budget, Counts, EqualityTerm, FactGroup, VectorFact, Version};
 use region_mem::{MAX_BUFFER_SIZE, Mode, Param, Parameters};
 use vreg_groups::{Vlen, Vtype};
 
@@ -234,7 +234,7 @@ pub(crate) fn term_at<'a>(
     parameters: &Parameters,
     from: u16,
     bytes: &'a [u8],
-) -> Result<(Term, &'a [u8]), CertError>
+) -> Result<(EqualityTerm, &'a [u8]), CertError>
     ensures { Gives (λ x. (x.0, x.1.now)) result (term_at parameters.now from bytes.now) }
 {
     let (atom, rest) = byte_at(bytes)?;
@@ -244,7 +244,7 @@ pub(crate) fn term_at<'a>(
     )?;
     let (coefficient, rest) = word_at(rest)?;
     expect(0 < coefficient, CertError::Equality)?;
-    Ok((Term { atom, coefficient }, rest))
+    Ok((EqualityTerm { atom, coefficient }, rest))
 }
 
 #[tactic(auto, unfolding(crate::specs::Certificate::is_full))]
@@ -301,7 +301,7 @@ fn is_interval(width: u8, low: u32, high: u32) -> bool
 }
 
 #[tactic(auto, unfolding(crate::specs::Reading::group_at))]
-fn group_at(from: u16, bytes: &[u8]) -> Result<(Group, &[u8]), CertError>
+fn group_at(from: u16, bytes: &[u8]) -> Result<(FactGroup, &[u8]), CertError>
     ensures value { Gives (λ x. (x.0, x.1.now)) result (group_at from bytes.now) }
     ensures width { IfOk result (λ x. IsTrue (is_width x.0.width)) }
 {
@@ -316,7 +316,7 @@ fn group_at(from: u16, bytes: &[u8]) -> Result<(Group, &[u8]), CertError>
     expect(is_group(register, registers), CertError::Fact)?;
     let rest = zero_at(CertError::Fact, rest)?;
     Ok((
-        Group {
+        FactGroup {
             register,
             width,
             registers,
@@ -334,7 +334,7 @@ pub(crate) fn vector_at(
     ensures { Gives (λ x. (x.0, x.1.now)) result (vector_at vlen from bytes.now) }
 {
     let (group, rest) = group_at(from, bytes)?;
-    let Group {
+    let FactGroup {
         register,
         width,
         registers,

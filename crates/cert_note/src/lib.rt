@@ -12,8 +12,8 @@ mod writing;
 pub use reading::{one_spelling, read};
 pub use refusals::CertError;
 pub use values::{
-    Block, Budget, Certificate, Contents, Equality, OrderFact, RegisterFact, Term, VectorFact,
-    Version,
+    Block, Budget, Certificate, Contents, Equality, EqualityTerm, OrderFact, RegisterFact,
+    VectorFact, Version,
 };
 pub use vreg_groups::Vlen;
 pub use writing::write;

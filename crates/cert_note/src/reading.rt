@@ -13,8 +13,8 @@ use crate::fields;
 use crate::fields::{byte_at, expect, word_at};
 use crate::refusals::CertError;
 use crate::values::{
-    Block, Budget, Certificate, Contents, Equality, OrderFact, RegisterFact, Term, VectorFact,
-    Version,
+    Block, Budget, Certificate, Contents, Equality, EqualityTerm, OrderFact, RegisterFact,
+    VectorFact, Version,
 };
 use arrayvec::ArrayVec;
 use region_mem::Parameters;
@@ -26,7 +26,7 @@ fn terms_at<'a>(
     parameters: &Parameters,
     count: u8,
     bytes: &'a [u8],
-    terms: &mut ArrayVec<Term, 8>,
+    terms: &mut ArrayVec<EqualityTerm, 8>,
 ) -> Result<&'a [u8], CertError>
     requires { count ≤ 8 }
     ensures { Gives (λ x. (terms.new.items, x.now)) result
@@ -203,7 +203,7 @@ fn has_no_atom(found: &[bool; 256], equality: &Option<Equality>) -> bool
     }
 }
 
-fn all_outside(found: &[bool; 256], terms: &[Term]) -> bool
+fn all_outside(found: &[bool; 256], terms: &[EqualityTerm]) -> bool
     ensures { result
         ≡ list_all (λ term. not (slice_index_or found.now term.atom false)) terms.now }
 {
@@ -262,7 +262,8 @@ fn orders_at<'a>(
     orders: &mut ArrayVec<OrderFact, 32>,
 ) -> Result<&'a [u8], CertError>
     requires { count ≤ 32 }
-    ensures { Gives (λ x. (orders.new.items, x.now)) result (orders_at facts.now count 1 bytes.now) }
+    ensures { Gives (λ x. (orders.new.items, x.now)) result
+        (orders_at facts.now count 1 bytes.now) }
 {
     orders.clear();
     let mut from = 1;

@@ -7,7 +7,7 @@ use vreg_groups::Vlen;
 
 /// A multiple of an atom, which is a value that an equality may speak of.
 #[derive(Clone, Copy, Debug, Default, PartialEq, Eq)]
-pub struct Term {
+pub struct EqualityTerm {
     /// Where the block begins, the value of a register (1 to 31: x1 to x31) or of vl (32); or the value at the start of
     /// the run of the parameter at place j, counted from 0 (33 + j, so 33 to 40), which has to be a scalar.
     pub atom: u8,
@@ -21,7 +21,7 @@ pub struct Equality {
     /// What the sum is where there are no terms.
     pub constant: u32,
     /// In a certificate by rising atom, and of no register and no vl that has an equality in the same block.
-    pub terms: ArrayVec<Term, 8>,
+    pub terms: ArrayVec<EqualityTerm, 8>,
 }
 
 /// A register, or vl, lies between two numbers where a block begins, and is equal to a sum, if one is stated.
@@ -142,7 +142,7 @@ pub struct Counts {
 
 /// A group of vector registers, and the width of its elements in bits.
 #[derive(Clone, Copy)]
-pub struct Group {
+pub struct FactGroup {
     pub register: u8,
     pub width: u8,
     pub registers: u8,

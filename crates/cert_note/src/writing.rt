@@ -9,7 +9,7 @@ ghost use Rattle.cert_note.specs.Spelling.{spelled_order, spelled_budget, spelle
 ghost use Rattle.cert_note.specs.Spelling.{spelled_block, spelling};
 
 use crate::values::{
-    Block, Budget, Certificate, Contents, Counts, Equality, OrderFact, RegisterFact, Term,
+    Block, Budget, Certificate, Contents, Counts, Equality, EqualityTerm, OrderFact, RegisterFact,
     VectorFact, Version,
 };
 use region_mem::{Mode, Param};
@@ -59,7 +59,7 @@ fn put_header<A: Allocator>(
 }
 
 #[tactic(auto, unfolding(crate::specs::Spelling::spelled_term))]
-fn put_term<A: Allocator>(out: &mut Vec<u8, A>, term: Term) -> Result<(), AllocError>
+fn put_term<A: Allocator>(out: &mut Vec<u8, A>, term: EqualityTerm) -> Result<(), AllocError>
     ensures { OnOk result (out.new.items ≡ out.old.items ++ spelled_term term) }
 {
     out.push(term.atom)?;
@@ -124,7 +124,7 @@ fn put_parameter<A: Allocator>(out: &mut Vec<u8, A>, param: Param) -> Result<(),
     }
 }
 
-fn put_terms<A: Allocator>(out: &mut Vec<u8, A>, terms: &[Term]) -> Result<(), AllocError>
+fn put_terms<A: Allocator>(out: &mut Vec<u8, A>, terms: &[EqualityTerm]) -> Result<(), AllocError>
     ensures { OnOk result (out.new.items ≡ out.old.items ++ flat_map spelled_term terms.now) }
 {
     for term in terms {

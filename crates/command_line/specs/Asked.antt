@@ -4,8 +4,7 @@ use Rattle.clap.specs.declared.error.kind.ErrorKind.{ErrorKind}
 use Rattle.clap.specs.declared.error.kind.ErrorKind.TheVariants.{DisplayHelp, DisplayVersion}
 use Rattle.commands.specs.declared.stop.Status.{Status}
 use Rattle.commands.specs.declared.stop.Status.TheVariants as status
-use Rattle.command_line.specs.Words.{kind_of}
-use Rattle.command_line.specs.declared.line.asked.LineError.{LineError}
+use Rattle.command_line.specs.Words.{LineError, kind_of}
 use Rattle.command_line.specs.declared.line.asked.LineError.TheVariants as line_error
 
 -- help or the version

@@ -1,14 +1,12 @@
--- The command line: which words name which subcommand and paths, over `clap`'s own account of a command.
+-- The command line: which words name which subcommand and paths, over `clap`'s own
+-- account of a command.
 use Rattle.std.specs.Prelude.{◌≡◌, List, [], Option, Some, None, option_and_then, option_map, if◌then◌else◌, codes, Bool, true, false}
 use Rattle.std.specs.Str.{bytes_eq}
-use Rattle.command_line.specs.Words.{kind_of, Kinds}
+use Rattle.command_line.specs.Words.{Check, kind_of, Kinds, Line, LineError, Make, Mon, Run, Try}
 use Rattle.clap.specs.Words.{App, Row, Rule, Shape, Text, fault_of, first_of, new_app, new_rule, subcommand_of, with_rule, with_subcommand, IsAmong}
 use Rattle.clap.specs.Simple.{new_shape}
 use Rattle.clap.specs.declared.builder.action.ArgAction.TheVariants.{Set, SetTrue}
 use Rattle.commands.specs.declared.makes.MakePaths.{MakePaths}
-use Rattle.command_line.specs.declared.line.asked.Line.{Line}
-use Rattle.command_line.specs.declared.line.asked.Line.TheVariants.{Check, Make, Mon, Run, Try}
-use Rattle.command_line.specs.declared.line.asked.LineError.{LineError}
 use Rattle.command_line.specs.declared.line.asked.LineError.TheVariants.{Usage, NoMemory}
 
 -- a path, an argument without a dash that has to be there
@@ -70,7 +68,8 @@ abbrev pub is_true : Option Text → Bool
 is_true None = false
 is_true (Some text) = bytes_eq text (codes "true")
 
--- whether matches of a subcommand hold a flag that was used under an id, where the subcommand has this name
+-- whether matches of a subcommand hold a flag that was used under an id, where the
+-- subcommand has this name
 abbrev pub flag_of : Text → Text → Option (Text × List Row) → Bool
 flag_of name id entered = is_true (path_of name id entered)
 

@@ -3,9 +3,8 @@ use Rattle.std.specs.Prelude.{◌≡◌, ◌⊎◌, Bool, ℕ, List, Option, not
 use Rattle.std.specs.List.{list_any}
 use Rattle.std.specs.declared.io.ErrorKind.{ErrorKind as IoErrorKind}
 use Rattle.std.specs.declared.io.ErrorKind.TheVariants.{OutOfMemory}
-use Rattle.command_line.specs.Words.{Kinds}
-use Rattle.clap.specs.Words.{fault_of}
-use Rattle.clap.specs.Words.{Text}
+use Rattle.command_line.specs.Words.{Check, Kinds, Line, Make, Mon, Run, Try}
+use Rattle.clap.specs.Words.{Text, fault_of}
 use Rattle.commands.specs.Checks.{Checks, StopsCheck}
 use Rattle.commands.specs.Ending.{Ends}
 use Rattle.commands.specs.Files.{Files, OfTable, StopsOfTable}
@@ -13,15 +12,11 @@ use Rattle.commands.specs.Makes.{Makes, StopsMake}
 use Rattle.commands.specs.Mons.{Mons, StopsMon}
 use Rattle.commands.specs.Runs.{Runs, StopsRun}
 use Rattle.commands.specs.Tries.{StopsTry, Tries}
-use Rattle.commands.specs.Written.{Gains, Written}
+use Rattle.commands.specs.Words.{Gains, Status, Stop, Written}
 use Rattle.commands.specs.declared.stop.Ending.{Ending}
-use Rattle.commands.specs.declared.stop.Stop.{Stop}
 use Rattle.commands.specs.declared.stop.Stop.TheVariants as stop
 use Rattle.command_line.specs.Asked.{is_help}
 use Rattle.command_line.specs.Line.{IsLineOf, app}
-use Rattle.command_line.specs.declared.line.asked.Line.{Line}
-use Rattle.command_line.specs.declared.line.asked.Line.TheVariants.{Check, Make, Mon, Run, Try}
-use Rattle.commands.specs.declared.stop.Status.{Status}
 use Rattle.commands.specs.declared.stop.Status.TheVariants as status
 
 -- a status, where `clap` finds these faults in the words, one at least
@@ -67,9 +62,9 @@ explains (Try job explain) = explain
 explains (Mon job explain) = explain
 explains (Make paths explain) = explain
 
--- words in which `clap` finds no fault end as the subcommand does that they name, or memory runs out first.
--- `old` and `new` are what standard output has before and after, `was` and `has` the files that were
--- written, and `told` and `tells` what standard error has before and after
+-- words in which `clap` finds no fault end as the subcommand does that they name, or memory runs
+-- out first. `old` and `new` are what standard output has before and after, `was` and `has` the
+-- files that were written, and `told` and `tells` what standard error has before and after
 abbrev pub IsAsAsked : Files → List Text → Option (List ℕ) → Option (List ℕ) → Option Written
     → Option Written → Option (List ℕ) → Option (List ℕ) → Ending → Type 0
 IsAsAsked files words old new was has told tells ending = fault_of app words ≡ []

@@ -1,11 +1,9 @@
 -- What comes of an image with a certificate: whether it is accepted.
 use Rattle.std.specs.Prelude.{◌≡◌, ◌⊎◌, ℕ, List, Option, Some, None, Result, Ok, Err, unwrap_or}
-use Rattle.block_checker.specs.Passes.{Checked, checked}
-use Rattle.cert_note.specs.Certificate.{CertificateView}
 use Rattle.cert_note.specs.Reading.{certificate_of}
 use Rattle.vreg_groups.specs.declared.vector_length.Vlen.{Vlen}
 use Rattle.commands.specs.Ending.{stop_of_certificate, stop_of_check}
-use Rattle.commands.specs.Words.{AcceptedView, CertError, ImageView, Stop}
+use Rattle.commands.specs.Words.{AcceptedView, CertError, CertificateView, Checked, ImageView, Stop, checked}
 use Rattle.commands.specs.declared.stop.Stop.TheVariants as stop
 
 -- ---- the certificate

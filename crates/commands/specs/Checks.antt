@@ -2,12 +2,10 @@
 use Rattle.std.specs.Prelude.{◌≡◌, ◌⊎◌, ◌++◌, codes, ℕ, List, [], Option, Some, None, Ok, Err, option_map, ◌==◌, if◌then◌else◌}
 use Rattle.std.specs.Fmt.{decimal}
 use Rattle.std.specs.Io.KnownBytes.{Appends}
-use Rattle.block_checker.specs.Passes.{block_at}
 use Rattle.cert_note.specs.declared.values.Budget.{Budget}
 use Rattle.commands.specs.Accepted.{IsOrWant, accepted_of}
 use Rattle.commands.specs.Files.{Files, IsImageAt, IsNoImageAt}
-use Rattle.commands.specs.Words.{AcceptedView, ImageView, Status, Stop, Text}
-use Rattle.commands.specs.Written.{Gains, Written}
+use Rattle.commands.specs.Words.{AcceptedView, Gains, ImageView, Status, Stop, Text, Written, block_at}
 use Rattle.commands.specs.declared.stop.Status.TheVariants as status
 use Rattle.commands.specs.declared.stop.Stop.TheVariants as stop
 
@@ -27,8 +25,8 @@ abbrev pub bound_line : Budget → List ℕ
 bound_line budget =
     if budget.second_factor == 0 then single_line budget else double_line budget
 
--- ---- what is done: `old` and `new` are what standard output has before and after, and `was` and `has` the
--- files that were written
+-- ---- what is done: `old` and `new` are what standard output has before and after, and `was` and
+-- `has` the files that were written
 
 -- `check`: the image at a path is accepted, and its bound is printed; no file is written
 pub record Checks (files : Files) (path : Text) (old new : Option (List ℕ))

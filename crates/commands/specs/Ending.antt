@@ -1,19 +1,17 @@
--- How the program ends: the reason to stop that each error is, the status of each reason, and each status as a number.
+-- How the program ends: the reason to stop that each error is, the status of each reason, and each
+-- status as a number.
 use Rattle.std.specs.Prelude.{◌≡◌, ◌++◌, Bool, false, ℕ, List, [], Option, Result, Ok, Err, MatchResult, OnOk}
 use Rattle.std.specs.Io.KnownBytes.{Appends}
-use Rattle.block_checker.specs.declared.errors.CheckError.{CheckError}
 use Rattle.block_checker.specs.declared.errors.CheckError.TheVariants as check_error
 use Rattle.cert_maker.specs.declared.errors.MakeError.{MakeError}
 use Rattle.cert_maker.specs.declared.errors.MakeError.TheVariants as make_error
-use Rattle.commands.specs.Words.{CertError, OpenError, Status, Stop}
+use Rattle.commands.specs.Words.{CertError, CheckError, ElfError, JobError, OpenError, Status, Stop}
 use Rattle.cert_note.specs.declared.refusals.CertError.TheVariants as certificate_error
-use Rattle.elf_image.specs.declared.error.ElfError.{ElfError}
 use Rattle.elf_image.specs.declared.error.ElfError.TheVariants as image_error
 use Rattle.sandbox_run.specs.declared.outcome.OpenError.TheVariants as open_error
 use Rattle.std.specs.Borrow.{Bor}
 use Rattle.std.specs.declared.io.ErrorKind.{ErrorKind as IoErrorKind}
 use Rattle.std.specs.declared.io.ErrorKind.TheVariants.{OutOfMemory}
-use Rattle.job_file.specs.declared.values.JobError.{JobError}
 use Rattle.job_file.specs.declared.values.JobError.TheVariants as job_error
 use Rattle.commands.specs.declared.store.StoreError.{StoreError}
 use Rattle.commands.specs.declared.store.StoreError.TheVariants as store_error
@@ -81,7 +79,8 @@ abbrev pub stop_at_file : StoreError → Bor (List ℕ) → Stop
 stop_at_file store_error.Failed path = stop.File path
 stop_at_file store_error.NoMemory path = stop.Memory
 
--- a reason to stop that a file at this path gives, where these are the errors with which it may fail
+-- a reason to stop that a file at this path gives, where these are the errors with
+-- which it may fail
 abbrev pub IsOfFile : (List ℕ → StoreError → Type 0) → List ℕ → Stop → Type 0
 IsOfFile fails path (stop.File at) = (at.now ≡ path) × fails path store_error.Failed
 IsOfFile fails path stop.Memory = fails path store_error.NoMemory
@@ -105,9 +104,9 @@ abbrev pub text_after : Result Status Stop → List ℕ
 text_after (Ok s) = []
 text_after (Err reason) = stop_text reason
 
--- a subcommand does what it does, or stops for one of its reasons: the status says which, and standard
--- error has grown by the reason's line, and, where it is to explain, by some more behind it, where it took
--- that. `old` and `new` are what it has before and after
+-- a subcommand does what it does, or stops for one of its reasons: the status says which, and
+-- standard error has grown by the reason's line, and, where it is to explain, by some more behind
+-- it, where it took that. `old` and `new` are what it has before and after
 pub record Ends (explains : Bool) (does : Status → Type 0) (stops : Stop → Type 0)
     (old new : Option (List ℕ)) (ending : Ending) : Type 0 where
   pub done : Result Status Stop

@@ -4,7 +4,6 @@ use Rattle.std.specs.List.{filter_map, zip}
 use Rattle.std.specs.Str.{IsUtf8}
 use Rattle.elf_image.specs.Faults.{fault_of}
 use Rattle.elf_image.specs.File.{image_of}
-use Rattle.elf_image.specs.declared.error.ElfError.{ElfError}
 use Rattle.job_file.specs.declared.values.JobError.TheVariants.{NotToml, BadKey}
 use Rattle.job_file.specs.declared.values.RunParam.{RunParam}
 use Rattle.job_file.specs.declared.values.RunParam.TheVariants as given
@@ -12,15 +11,14 @@ use Rattle.region_mem.specs.declared.arguments.Arg.TheVariants as argument
 use Rattle.toml.specs.Parse.{parse_document}
 use Rattle.commands.specs.Accepted.{IsOrWant}
 use Rattle.commands.specs.Ending.{IsOfFile, stop_of_image}
-use Rattle.commands.specs.Words.{Argument, ImageView, Members, Status, Stop, Text}
-use Rattle.commands.specs.Written.{Gains, Written}
+use Rattle.commands.specs.Words.{Argument, ElfError, Gains, ImageView, Members, Status, Stop, Text, Written}
 use Rattle.commands.specs.declared.store.StoreError.{StoreError}
 use Rattle.commands.specs.declared.stop.Stop.TheVariants as stop
 
 -- ---- what may come of the files at paths
 
--- the bytes that the file at a path may be read as, the errors with which it may not be read, and those with
--- which it may not be written
+-- the bytes that the file at a path may be read as, the errors with which it may not be read, and
+-- those with which it may not be written
 pub record Files : Type 1 where
   pub holds : Text → List ℕ → Type 0
   pub unread : Text → StoreError → Type 0
@@ -96,8 +94,8 @@ IsNoTableAt files path reason = IsOfFile files.unread path reason
 abbrev pub OfTable : Files → Text → (Members → Status → Type 0) → Status → Type 0
 OfTable files path does s = (table : Members) × IsTableAt files path table × does table s
 
--- why a subcommand on a job stops: its file spells no table, or for a reason of the table's. `wrote xs` says
--- that the files `xs` were written
+-- why a subcommand on a job stops: its file spells no table, or for a reason of the table's.
+-- `wrote xs` says that the files `xs` were written
 abbrev pub StopsOfTable : Files → (Written → Type 0) → Text → (Members → Stop → Type 0) → Stop
     → Type 0
 StopsOfTable files wrote path stops reason = (IsNoTableAt files path reason × wrote [])
@@ -109,7 +107,8 @@ IsUnasked asked reason = (asked ≡ None) × (reason ≡ stop.Job BadKey)
 
 -- ---- what is written
 
--- the file that a place has after the run, where the job names one: its path, and the buffer's bytes
+-- the file that a place has after the run, where the job names one: its path, and
+-- the buffer's bytes
 abbrev pub out_file : RunParam Text × Argument → Option (Text × List ℕ)
 out_file (given.Buffer file (Some path), argument.Buffer bytes) = Some (path, bytes)
 out_file other = None
@@ -150,7 +149,8 @@ AreWritten files old new params args (Ok done) = Gains old new (outs_of params a
 AreWritten files old new params args (Err reason) =
     IsUnwritten files (Gains old new) params args reason
 
--- why a run that ended is not told: an out file is not written, or, after all were, standard output takes no text
+-- why a run that ended is not told: an out file is not written, or, after all were, standard
+-- output takes no text
 abbrev pub IsUnfinished : Files → (Written → Type 0) → List (RunParam Text) → List Argument → Stop
     → Type 0
 IsUnfinished files wrote params args reason = IsUnwritten files wrote params args reason

@@ -3,12 +3,10 @@ use Rattle.std.specs.Prelude.{◌≡◌, ◌⊎◌, ◌∷◌, [], ℕ, List, Op
 use Rattle.std.specs.Global.{Vec}
 use Rattle.std.specs.Io.KnownBytes.{Appends}
 use Rattle.std.specs.Result.{result_map_both}
-use Rattle.block_checker.specs.Passes.{block_at}
 use Rattle.cert_maker.specs.Certificates as maker
 use Rattle.cert_maker.specs.Loops.{loop_of}
 use Rattle.cert_maker.specs.declared.errors.MakeError.TheVariants.{NotALoopOfTheClass}
 use Rattle.cert_maker.specs.declared.loops.Loop.{Loop}
-use Rattle.cert_note.specs.Certificate.{CertificateView}
 use Rattle.cert_note.specs.Spelling.{spelling}
 use Rattle.cert_note.specs.declared.values.Budget.{Budget}
 use Rattle.elf_image.specs.Attached.{attach_fault, attached_of}
@@ -21,8 +19,7 @@ use Rattle.commands.specs.Accepted.{IsOrWant, accepted_of}
 use Rattle.commands.specs.Checks.{bound_line}
 use Rattle.commands.specs.Ending.{IsOfFile}
 use Rattle.commands.specs.Files.{Files, IsUnasked, image_in, unless_fault}
-use Rattle.commands.specs.Words.{AcceptedView, ImageView, Members, Status, Stop, Text}
-use Rattle.commands.specs.Written.{Gains, Written}
+use Rattle.commands.specs.Words.{AcceptedView, CertificateView, Gains, ImageView, Members, Status, Stop, Text, Written, block_at}
 use Rattle.commands.specs.declared.stop.Status.TheVariants as status
 use Rattle.commands.specs.declared.stop.Stop.TheVariants as stop
 
@@ -73,11 +70,12 @@ abbrev pub AnswersBytes : Result (List ℕ) Stop → Result (Vec ℕ) Stop → T
 AnswersBytes defined answer =
     IsOrWant defined (result_map_both (λ bytes. bytes.items) (λ reason. reason) answer)
 
--- ---- what is done: `old` and `new` are what standard output has before and after, and `was` and `has` the
--- files that were written
+-- ---- what is done: `old` and `new` are what standard output has before and after, and `was` and
+-- `has` the files that were written
 
--- `make` on a job's table, an image's path and the path of the file to write: the image's file with the
--- certificate that is made is accepted when it is read back, and written, and its bound is printed
+-- `make` on a job's table, an image's path and the path of the file to write: the image's file
+-- with the certificate that is made is accepted when it is read back, and written, and its
+-- bound is printed
 pub record Makes (files : Files) (path out : Text) (table : Members) (old new : Option (List ℕ))
     (was has : Option Written) (s : Status) : Type 0 where
   pub job : MakeJob
@@ -97,8 +95,8 @@ pub record Makes (files : Files) (path out : Text) (table : Members) (old new : 
 
 -- ---- why it stops: `wrote xs` says that the files `xs` were written
 
--- after the file was made: it is not accepted when it is read back, or not written, or standard output
--- takes no text
+-- after the file was made: it is not accepted when it is read back, or not written, or standard
+-- output takes no text
 abbrev pub StopsMade : Files → (Written → Type 0) → Text → MakeJob → List ℕ → Stop → Type 0
 StopsMade files wrote out job bytes reason =
     (IsOrWant (accepted_in job bytes) (Err reason) × wrote [])

@@ -10,13 +10,11 @@ use Rattle.monitor.specs.declared.commands.MonError.{MonError}
 use Rattle.region_mem.specs.Memory.{args_of}
 use Rattle.sandbox_run.specs.Session.{SessionView, open_fault}
 use Rattle.sandbox_run.specs.Stops.{IsStop}
-use Rattle.vector_core.specs.Machine.{Machine}
 use Rattle.commands.specs.Accepted.{IsOrWant, accepted_of}
 use Rattle.commands.specs.Ending.{stop_of_open}
 use Rattle.commands.specs.Files.{ArePassed, Files, IsImageAt, IsNoImageAt, IsUnasked, IsUnpassed, IsUnwritten, outs_of}
 use Rattle.commands.specs.Texts.{monitor_error_name}
-use Rattle.commands.specs.Words.{AcceptedView, Agnostic, Argument, ImageView, Members, OpenError, start, Status, Stop, Text, vlenb_of}
-use Rattle.commands.specs.Written.{Gains, Written}
+use Rattle.commands.specs.Words.{AcceptedView, Agnostic, Argument, Gains, ImageView, Machine, Members, OpenError, start, Status, Stop, Text, vlenb_of, Written}
 use Rattle.commands.specs.declared.stop.Status.TheVariants as status
 use Rattle.commands.specs.declared.stop.Stop.TheVariants as stop
 
@@ -48,8 +46,8 @@ pub record IsStopped (vlenb : ℕ) (agnostic : Agnostic) (max : ℕ) (a : Accept
 
 -- ---- what is done: `was` and `has` are the files that were written before and after
 
--- `mon` on a job's table: the job's image is accepted, its run is left at a stop, and the out files of all
--- places were written with the buffers as they stand there
+-- `mon` on a job's table: the job's image is accepted, its run is left at a stop, and the out files
+-- of all places were written with the buffers as they stand there
 pub record Mons (files : Files) (table : Members) (was has : Option Written) (s : Status)
     : Type 0 where
   pub job : RunJob Text
@@ -67,7 +65,8 @@ pub record Mons (files : Files) (table : Members) (was has : Option Written) (s 
 
 -- ---- why it stops: `wrote xs` says that the files `xs` were written
 
--- why a line is not answered: memory ran out, standard output takes no text, or the input has no end
+-- why a line is not answered: memory ran out, standard output takes no text, or the
+-- input has no end
 abbrev pub IsUnanswered : Stop → Type 0
 IsUnanswered stop.Memory = Unit {0}
 IsUnanswered stop.Output = Unit {0}
@@ -83,7 +82,8 @@ abbrev pub StopsWatching : ℕ → ℕ → AcceptedView → List Argument → St
 StopsWatching vlenb max a args reason =
     IsUnopened (open_fault vlenb a args max) reason ⊎ IsUnanswered reason
 
--- after what is passed was read: no run is opened, a line is not answered, or an out file is not written
+-- after what is passed was read: no run is opened, a line is not answered, or an out
+-- file is not written
 abbrev pub StopsWatched : Files → (Written → Type 0) → RunJob Text → AcceptedView → List Argument
     → Stop → Type 0
 StopsWatched files wrote job accepted args reason =

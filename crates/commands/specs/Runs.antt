@@ -9,13 +9,13 @@ use Rattle.commands.specs.Accepted.{IsOrWant, accepted_of}
 use Rattle.commands.specs.Ending.{status_of_end, stop_of_open}
 use Rattle.commands.specs.Files.{ArePassed, Files, IsImageAt, IsNoImageAt, IsUnasked, IsUnfinished, IsUnpassed, outs_of}
 use Rattle.commands.specs.Trial.{OrMemory, line_of, trial_from}
-use Rattle.commands.specs.Words.{AcceptedView, Agnostic, Argument, ImageView, Members, OpenError, start, Status, Stop, Text, vlenb_of}
-use Rattle.commands.specs.Written.{Gains, Written}
+use Rattle.commands.specs.Words.{AcceptedView, Agnostic, Argument, Gains, ImageView, Members, OpenError, start, Status, Stop, Text, vlenb_of, Written}
 use Rattle.commands.specs.declared.trial.Trial.{Trial}
 
 -- ---- a job's run
 
--- what comes of a run that is opened, or the reason why it is not: the run for at most its bound's steps
+-- what comes of a run that is opened, or the reason why it is not: the run for at most
+-- its bound's steps
 abbrev pub if_opened : ℕ → Agnostic → AcceptedView → List Argument → Option OpenError
     → Result Trial Stop
 if_opened vlenb agnostic a args (Some error) = Err (stop_of_open error)
@@ -30,11 +30,11 @@ session_of vlenb agnostic max a args = if_opened vlenb agnostic a args (open_fau
 abbrev pub run_of_job : RunJob Text → AcceptedView → List Argument → Result Trial Stop
 run_of_job job a args = session_of (vlenb_of job.vlen) job.agnostic job.max a args
 
--- ---- what is done: `old` and `new` are what standard output has before and after, and `was` and `has` the
--- files that were written
+-- ---- what is done: `old` and `new` are what standard output has before and after, and `was` and
+-- `has` the files that were written
 
--- `run` on a job's table: the job's image is accepted, what comes of the job on it is printed, and the out
--- files of all places were written with the buffers as the run left them
+-- `run` on a job's table: the job's image is accepted, what comes of the job on it is printed, and
+-- the out files of all places were written with the buffers as the run left them
 pub record Runs (files : Files) (table : Members) (old new : Option (List ℕ))
     (was has : Option Written) (s : Status) : Type 0 where
   pub job : RunJob Text

@@ -1,19 +1,16 @@
 -- How a reason to stop is told.
 use Rattle.std.specs.Prelude.{ℕ, List, [], ◌++◌, codes, Option, Some, None}
-use Rattle.block_checker.specs.declared.errors.CheckError.{CheckError}
 use Rattle.block_checker.specs.Refusals.{address_of, name_of}
 use Rattle.cert_maker.specs.Make as maker
 use Rattle.cert_maker.specs.declared.errors.MakeError.{MakeError}
 use Rattle.cert_note.specs.declared.refusals.CertError.TheVariants as certificate_error
-use Rattle.elf_image.specs.declared.error.ElfError.{ElfError}
 use Rattle.elf_image.specs.declared.error.ElfError.TheVariants as image_error
-use Rattle.job_file.specs.declared.values.JobError.{JobError}
 use Rattle.job_file.specs.declared.values.JobError.TheVariants as job_error
 use Rattle.monitor.specs.declared.commands.MonError.{MonError}
 use Rattle.monitor.specs.declared.commands.MonError.TheVariants as monitor_error
 use Rattle.sandbox_run.specs.declared.outcome.OpenError.TheVariants as open_error
 use Rattle.commands.specs.Hex.{hex_text}
-use Rattle.commands.specs.Words.{CertError, OpenError, Stop}
+use Rattle.commands.specs.Words.{CertError, CheckError, ElfError, JobError, OpenError, Stop}
 use Rattle.commands.specs.declared.stop.Stop.TheVariants as stop
 
 -- ---- the names of errors
@@ -74,7 +71,8 @@ open_error_name open_error.NoMemory = codes "NoMemory"
 
 -- ---- the lines
 
--- how a refusal of the check or of the maker is told: the error's name, and its address where it has one
+-- how a refusal of the check or of the maker is told: the error's name, and its address
+-- where it has one
 abbrev pub with_address : List ℕ → Option ℕ → List ℕ
 with_address name None = name
 with_address name (Some address) = name ++ (codes " at " ++ hex_text address)

@@ -5,10 +5,9 @@ use Rattle.region_mem.specs.Faults.{name_of, number_of}
 use Rattle.sandbox_run.specs.Answer.{answer_of}
 use Rattle.sandbox_run.specs.declared.outcome.Outcome.{Outcome}
 use Rattle.sandbox_run.specs.declared.outcome.Outcome.TheVariants as stopped
-use Rattle.vector_core.specs.Machine.{Machine}
 use Rattle.vector_core.specs.Run.{outcome}
 use Rattle.commands.specs.Hex.{hex_text}
-use Rattle.commands.specs.Words.{Stop}
+use Rattle.commands.specs.Words.{Machine, Stop}
 use Rattle.commands.specs.declared.stop.Stop.TheVariants as stop
 use Rattle.commands.specs.declared.trial.End.{End}
 use Rattle.commands.specs.declared.trial.End.TheVariants as end

@@ -18,8 +18,7 @@ use Rattle.sandbox_run.specs.Errors.{open_error_of}
 use Rattle.commands.specs.Ending.{status_of_end}
 use Rattle.commands.specs.Files.{ArePassed, Files, IsImageAt, IsNoImageAt, IsUnasked, IsUnfinished, IsUnpassed, outs_of}
 use Rattle.commands.specs.Trial.{OrMemory, line_of, trial_from}
-use Rattle.commands.specs.Words.{Agnostic, Argument, ImageView, Members, start, Status, Stop, Text, vlenb_of}
-use Rattle.commands.specs.Written.{Gains, Written}
+use Rattle.commands.specs.Words.{Agnostic, Argument, Gains, ImageView, Members, start, Status, Stop, Text, vlenb_of, Written}
 use Rattle.commands.specs.declared.stop.Stop.TheVariants as stop
 use Rattle.commands.specs.declared.trial.Trial.{Trial}
 
@@ -44,7 +43,8 @@ passed_size argument.None = 0
 passed_size (argument.Scalar value) = 0
 passed_size (argument.Buffer bytes) = min (length bytes) (2 ^ 32 - 1)
 
--- the parameter of a place: a scalar may have the job's one value, and a buffer has the size of what is passed
+-- the parameter of a place: a scalar may have the job's one value, and a buffer has the size
+-- of what is passed
 abbrev pub param_for : TryParam Text × Argument → Param
 param_for (taken.None, arg) = parameter.None
 param_for (taken.Scalar value, arg) = parameter.Scalar value value
@@ -73,11 +73,11 @@ passed_by taken.None = given.None
 passed_by (taken.Scalar value) = given.Scalar value
 passed_by (taken.Buffer mode file out) = given.Buffer file out
 
--- ---- what is done: `old` and `new` are what standard output has before and after, and `was` and `has` the
--- files that were written
+-- ---- what is done: `old` and `new` are what standard output has before and after, and `was` and
+-- `has` the files that were written
 
--- `try` on a job's table: what comes of the job on its image is printed, and the out files of all places
--- were written with the buffers as the run left them
+-- `try` on a job's table: what comes of the job on its image is printed, and the out files of all
+-- places were written with the buffers as the run left them
 pub record Tries (files : Files) (table : Members) (old new : Option (List ℕ))
     (was has : Option Written) (s : Status) : Type 0 where
   pub job : TryJob Text

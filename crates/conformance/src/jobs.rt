@@ -2,7 +2,7 @@
 
 use crate::fields::{RowError, bytes};
 use crate::table::Table;
-use job_file::{Job, JobError, Param, job_in, parse, run_job_in, try_job_in};
+use job_file::{Job, JobError, JobParam, job_in, parse, run_job_in, try_job_in};
 use region_mem::Mode;
 use std::alloc::Global;
 use std::fmt;
@@ -22,7 +22,7 @@ struct Text<'a>(Option<&'a str>);
 
 /// A parameter as a row has it.
 #[derive(Drop)]
-struct Place<'a>(Param<&'a str>);
+struct ParamText<'a>(JobParam<&'a str>);
 
 impl<T: fmt::Display> fmt::Display for Number<T> {
     fn fmt<W: fmt::Write>(&self, f: &mut fmt::Formatter<W>) -> fmt::Result {
@@ -54,15 +54,15 @@ fn mode_name(mode: Option<Mode>) -> &'static str {
     }
 }
 
-impl fmt::Display for Place<'_> {
+impl fmt::Display for ParamText<'_> {
     fn fmt<W: fmt::Write>(&self, f: &mut fmt::Formatter<W>) -> fmt::Result {
         match &self.0 {
-            Param::None => write!(f, " none"),
-            Param::Scalar { lo, hi, value } => {
+            JobParam::None => write!(f, " none"),
+            JobParam::Scalar { lo, hi, value } => {
                 let (lo, hi, value) = (Number(*lo), Number(*hi), Number(*value));
                 write!(f, " scalar,{lo},{hi},{value}")
             }
-            Param::Buffer {
+            JobParam::Buffer {
                 mode,
                 size,
                 file,
@@ -100,8 +100,8 @@ impl fmt::Display for Shown<'_> {
         let (image, max) = (Text(job.image), Number(job.max));
         write!(f, "job {image} {vlen} {agnostic} {max}")?;
         for param in &job.params {
-            let place = Place(*param);
-            write!(f, "{place}")?;
+            let text = ParamText(*param);
+            write!(f, "{text}")?;
         }
         Ok(())
     }

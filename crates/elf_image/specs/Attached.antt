@@ -1,5 +1,6 @@
--- The file that a certificate is attached to: a copy with one more note segment, and the reasons why there is none. Names
--- are those of the ELF standard, "ELF Header", "Program Header" and "Note Section", at 32 bits.
+-- The file that a certificate is attached to: a copy with one more note segment, and the reasons
+-- why there is none. Names are those of the ELF standard, "ELF Header", "Program Header" and "Note
+-- Section", at 32 bits.
 use Rattle.std.specs.Prelude.{ℕ, ◌+◌, ◌-◌, ◌*◌, ◌≤◌, ◌||◌, nat_lt, nat_le, Bool, List, [], ◌∷◌, ◌++◌, length, take, drop, Option, Some, None, if◌then◌else◌}
 use Rattle.std.specs.Option.{option_or}
 use Rattle.elf_image.specs.declared.error.ElfError.{ElfError}
@@ -17,13 +18,15 @@ use Rattle.elf_image.specs.Faults.{holds, header_faults, place_faults, first_of}
 unfoldable pub padding : ℕ → List ℕ
 padding n = take (padded n - n) ZEROS
 
--- the note of a certificate: namesz, descsz, type, the name and the descriptor, each of these two padded
+-- the note of a certificate: namesz, descsz, type, the name and the descriptor, each of
+-- these two padded
 unfoldable pub note_with : List ℕ → List ℕ
 note_with cert =
     word (length NAME) ++ word (length cert) ++ word CERTIFICATE
     ++ NAME ++ padding (length NAME) ++ cert ++ padding (length cert)
 
--- the program header of a note segment: p_type, p_offset, p_vaddr, p_paddr, p_filesz, p_memsz, p_flags, p_align
+-- the program header of a note segment: p_type, p_offset, p_vaddr, p_paddr, p_filesz, p_memsz,
+-- p_flags, p_align
 unfoldable pub note_header : ℕ → ℕ → List ℕ
 note_header offset size =
     word PT_NOTE ++ word offset ++ word 0 ++ word 0 ++ word size ++ word size ++ word PF_R ++ word 4
@@ -41,7 +44,8 @@ patched offset count file =
     part 0 E_PHOFF file ++ word offset ++ part (E_PHOFF + 4) (E_PHNUM - (E_PHOFF + 4)) file
     ++ half count ++ rest_from (E_PHNUM + 2) file
 
--- the file as it stands in the one with a certificate: its table has one more header, and lies behind it
+-- the file as it stands in the one with a certificate: its table has one more header,
+-- and lies behind it
 abbrev pub patched_of : List ℕ → List ℕ
 patched_of file = patched (padded (length file)) (e_phnum file + 1) file
 
@@ -63,14 +67,15 @@ attached_of file cert =
 -- it would have too many program headers or too many bytes
 unfoldable pub outgrows : List ℕ → List ℕ → Bool
 outgrows file cert =
-    nat_le MAX_PROGRAM_HEADERS (e_phnum file) || nat_lt MAX_FILE_SIZE (length (attached_of file cert))
+    nat_le MAX_PROGRAM_HEADERS (e_phnum file)
+    || nat_lt MAX_FILE_SIZE (length (attached_of file cert))
 
 -- what of these is told, where it is so
 abbrev pub told_if : ElfError → Bool → Option ElfError
 told_if fault wrong = if wrong then Some fault else None
 
--- What a certificate isn't attached for: the first fault of the file, among which it may be too large with the certificate,
--- and last that it has one.
+-- What a certificate isn't attached for: the first fault of the file, among which it may be too
+-- large with the certificate, and last that it has one.
 unfoldable pub attach_fault : List ℕ → List ℕ → Option ElfError
 attach_fault file cert =
     option_or (first_of (header_faults ++ place_faults) file)

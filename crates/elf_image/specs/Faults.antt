@@ -35,8 +35,8 @@ has_bad_machine file = not (e_machine file == EM_RISCV)
 unfoldable pub has_bad_flags : List ℕ → Bool
 has_bad_flags file = not (bit_and (e_flags file) EXTENSION_FLAGS == 0)
 
--- the sizes of the headers aren't the standard's for 32 bits, there is no program header or there are too
--- many, or their table doesn't lie inside the file
+-- the sizes of the headers aren't the standard's for 32 bits, there is no program header or there
+-- are too many, or their table doesn't lie inside the file
 unfoldable pub has_bad_header_table : List ℕ → Bool
 has_bad_header_table file =
     not (e_ehsize file == ELF_HEADER_SIZE) || not (e_phentsize file == PROGRAM_HEADER_SIZE)
@@ -51,8 +51,8 @@ is_dynamic h = h.p_type == PT_DYNAMIC || h.p_type == PT_INTERP || h.p_type == PT
 unfoldable pub is_not_static : List ProgramHeader → Bool
 is_not_static headers = list_any is_dynamic headers
 
--- bytes of a loadable or note segment that are not in a file of this size, or more in the file than in
--- memory
+-- bytes of a loadable or note segment that are not in a file of this size, or more in the
+-- file than in memory
 abbrev pub is_out_of_file : ℕ → ProgramHeader → Bool
 is_out_of_file size h =
     (is_load h || is_note h) && nat_lt 0 h.p_filesz && nat_lt size (h.p_offset + h.p_filesz)

@@ -1,5 +1,5 @@
--- A file of the ELF standard, 32 bits and little-endian: the fields of its header, its table of program
--- headers, and the image that it has. Names are the standard's.
+-- A file of the ELF standard, 32 bits and little-endian: the fields of its header, its table of
+-- program headers, and the image that it has. Names are the standard's.
 use Rattle.std.specs.Prelude.{◌≡◌, ℕ, ◌+◌, ◌*◌, ◌≤◌, ◌==◌, ◌&&◌, not, nat_lt, Bool, true, List, [], length, All, ◌<◌, take, drop, map, filter, bit_and, if◌then◌else◌}
 use Rattle.std.specs.List.{range_with_len, flat_map, slice_get}
 use Rattle.elf_image.specs.Words.{half_at, word_at}
@@ -124,8 +124,8 @@ pub record IsLoadable (file : List ℕ) (h : ProgramHeader) : Type 0 where
   pub segment : IsSegment (segment_of file h)
   pub inside : IsInside file h
 
--- What is true of each image is true of the file's; each of its segments can be loaded, and the bytes of
--- each of its note segments lie in the file.
+-- What is true of each image is true of the file's; each of its segments can be loaded, and the
+-- bytes of each of its note segments lie in the file.
 pub record HasImage (file : List ℕ) : Type 0 where
   pub segments : All (IsLoadable file) (segment_headers file)
   pub notes : All (λ h. is_note h ≡ true → IsInside file h) (program_headers file)

@@ -5,8 +5,8 @@ use Rattle.std.specs.Option.{option_map}
 use Rattle.byteorder.specs.Endian.{little_from}
 use Rattle.elf_image.specs.declared.layout.TheConstants.{LOW_SEGMENTS, LOW_SEGMENTS_END, HIGH_SEGMENTS, HIGH_SEGMENTS_END, MAX_SEGMENTS, MAX_MEMORY_SIZE}
 
--- A segment: the address of its first byte, the bytes that come from the file, and how many bytes it
--- has in memory. Those past the file's bytes are 0.
+-- A segment: the address of its first byte, the bytes that come from the file, and how many bytes
+-- it has in memory. Those past the file's bytes are 0.
 pub record SegmentView : Type 0 where
   pub address : ℕ
   pub bytes : List ℕ
@@ -66,7 +66,8 @@ pub record IsImage (image : ImageView) : Type 0 where
   pub entry_aligned : image.entry % 4 ≡ 0
   pub entry_is_code : list_any (holds_code image.entry) image.segments ≡ true
 
--- the word in the four bytes from an address of a segment on, the lowest byte first: a byte past those of the file is 0
+-- the word in the four bytes from an address of a segment on, the lowest byte first: a byte past
+-- those of the file is 0
 unfoldable pub word_in : ℕ → SegmentView → ℕ
 word_in address s = little_from (address - s.address) 4 s.bytes
 

@@ -1,5 +1,5 @@
--- The notes of a note segment, as the ELF standard's note section lays them out, and the certificates
--- among them.
+-- The notes of a note segment, as the ELF standard's note section lays them out, and the
+-- certificates among them.
 use Rattle.std.specs.Prelude.{ℕ, zero, suc, ◌+◌, ◌*◌, ◌/◌, ◌==◌, ◌&&◌, nat_le, if◌then◌else◌, Bool, List, [], ◌∷◌, length, take, drop, map, filter, Option, option_to_list, option_copied}
 use denote.Ref.{Bor}
 use Rattle.std.specs.Str.{bytes_eq}
@@ -25,8 +25,8 @@ n_type bytes = word_at N_TYPE bytes
 abbrev pub padded : ℕ → ℕ
 padded n = (n + 3) / 4 * 4
 
--- how many bytes there have to be for the note at the front: its header, its name and its descriptor.
--- The padding after the last of these that isn't empty may be missing.
+-- how many bytes there have to be for the note at the front: its header, its name and its
+-- descriptor. The padding after the last of these that isn't empty may be missing.
 abbrev pub note_size_of : ℕ → ℕ → ℕ
 note_size_of name_size descriptor_size =
     if descriptor_size == 0 then NOTE_HEADER_SIZE + name_size
@@ -51,8 +51,8 @@ unfoldable pub after_note : List ℕ → List ℕ
 after_note bytes =
     drop (NOTE_HEADER_SIZE + padded (n_namesz bytes) + padded (n_descsz bytes)) bytes
 
--- the notes at the front, one after the other, but at most so many; nothing that follows bytes that are
--- no whole note is one
+-- the notes at the front, one after the other, but at most so many; nothing that follows bytes that
+-- are no whole note is one
 unfoldable pub notes_within : ℕ → List ℕ → List NoteView
 notes_within zero bytes = []
 notes_within (suc most) bytes =

@@ -11,7 +11,8 @@ use Rattle.elf_image.specs.Attached.{attach_fault, attached_of, patched_of}
 -- some of so many bytes of the file from an offset on are the segment's
 abbrev pub covers : ℕ → ℕ → ProgramHeader → Bool
 covers offset size h =
-    nat_lt 0 h.p_filesz && nat_lt h.p_offset (offset + size) && nat_lt offset (h.p_offset + h.p_filesz)
+    nat_lt 0 h.p_filesz && nat_lt h.p_offset (offset + size)
+    && nat_lt offset (h.p_offset + h.p_filesz)
 
 -- some bytes of e_phoff (Elf32_Off) or of e_phnum (Elf32_Half) are, which a certificate changes
 unfoldable pub is_changed : ProgramHeader → Bool
@@ -29,11 +30,13 @@ image_with file cert = record {
   certificate = Some cert;
 }
 
--- A file to which a certificate is attached has no fault, and is read as the image of the file with the certificate.
+-- A file to which a certificate is attached has no fault, and is read as the image of the file with
+-- the certificate.
 abbrev pub AttachedIsRead : Type 0
 AttachedIsRead =
     (file cert : List ℕ) → attach_fault file cert ≡ None → NotesAreKept file
-    → (fault_of (attached_of file cert) ≡ None) × (image_of (attached_of file cert) ≡ image_with file cert)
+    → (fault_of (attached_of file cert) ≡ None)
+    × (image_of (attached_of file cert) ≡ image_with file cert)
 
 -- A segment that shows neither e_phoff nor e_phnum stays as it is.
 abbrev pub SegmentsAreKept : Type 0

@@ -40,7 +40,8 @@ impl<'a> Model for Note<'a> {
 
     ghost Value = { NoteView };
 
-    ghost view = { λ a. record { name = a.name.now; descriptor = a.descriptor.now; kind = a.kind } };
+    ghost view = { λ a.
+        record { name = a.name.now; descriptor = a.descriptor.now; kind = a.kind } };
 }
 
 impl<'a> Note<'a> {

@@ -25,7 +25,8 @@ abbrev pub operand : Bool → ℕ → ℤ → ℕ → Option Operand
 operand is_store base offset size =
     Some record { is_store = is_store; base = base; offset = offset; size = size }
 
--- of a load or store: whether it is a store, its base register, its offset, and how many bytes it accesses
+-- of a load or store: whether it is a store, its base register, its offset, and how many
+-- bytes it accesses
 abbrev pub scalar_operand : ScalarInsn → Option Operand
 scalar_operand (scalar.Load kind rd rs1 offset) = operand false rs1 offset (size_of_load kind)
 scalar_operand (scalar.Store size rs1 rs2 offset) = operand true rs1 offset (size_of_store size)

@@ -17,8 +17,8 @@ IsUntold bytes e = ¬ (IsTold bytes e)
 abbrev pub IsOfBytes : CertError → Type 0
 IsOfBytes e = e ≢ error.NoMemory
 
--- So many bytes are read when the error is told: they tell it, and with one less it is not told. The bytes that end before
--- a field is whole tell it there.
+-- So many bytes are read when the error is told: they tell it, and with one less it is not told.
+-- The bytes that end before a field is whole tell it there.
 abbrev pub IsPlace : List ℕ → CertError → ℕ → Type 0
 IsPlace bytes e place = (place ≤ length bytes) × (IsTold (take place bytes) e)
     × ((IsTold [] e) ⊎ (IsUntold (take (place - 1) bytes) e))

@@ -45,10 +45,12 @@ access_operand stop = option_and_then operand_of (option_and_then meaning_of sto
 -- where its bytes may lie, with what is known before it
 abbrev pub access_reach : ImageView → CertificateView → Stop → Option Reach
 access_reach image certificate stop =
-    option_and_then (λ insn. option_and_then (reach_in insn) (before_in image certificate stop.part stop.pc))
+    option_and_then
+    (λ insn. option_and_then (reach_in insn) (before_in image certificate stop.part stop.pc))
     (option_and_then meaning_of stop.word)
 
--- What is told of a load or store: what is known of its base register, where its bytes may lie, and all zones.
+-- What is told of a load or store: what is known of its base register, where its bytes may
+-- lie, and all zones.
 abbrev pub IsAccessOf : ImageView → CertificateView → Stop → Option Operand → Wanted → Type 0
 IsAccessOf image certificate stop None told = told ≡ wanted.Plain
 IsAccessOf image certificate stop (Some o) (wanted.Access a) =
@@ -69,15 +71,16 @@ abbrev pub if_edge : Option Edge → Wanted
 if_edge None = wanted.Plain
 if_edge (Some edge) = wanted.Edge edge
 
--- What is told of a way out: the one that is refused where the check stops, exactly. `Plain` stands where the word itself is
--- refused.
+-- What is told of a way out: the one that is refused where the check stops, exactly. `Plain` stands
+-- where the word itself is refused.
 abbrev pub IsEdgeWanted : ImageView → CertificateView → CheckError → Option Stop → Wanted → Type 0
 IsEdgeWanted image certificate e None told = told ≡ wanted.Plain
 IsEdgeWanted image certificate e (Some stop) told =
     told ≡ if_edge (edge_at image certificate e stop.part stop.pc)
 
 -- what is wanted where a check stops with an error
-abbrev pub IsWantedBy : ImageView → CertificateView → Vlen → CheckError → Option Stop → Wanted → Type 0
+abbrev pub IsWantedBy : ImageView → CertificateView → Vlen → CheckError → Option Stop → Wanted
+    → Type 0
 IsWantedBy image certificate bits error.WrongVlen stop told =
     told ≡ wanted.Length certificate.vlen bits
 IsWantedBy image certificate bits error.NoEntryBlock stop told = told ≡ wanted.Entry image.entry

@@ -28,7 +28,8 @@ offset_of file number = e_phoff file + 32 * number
 unfoldable pub header_at : List ℕ → ℕ → ProgramHeader
 header_at file number = program_header_at (offset_of file number) file
 
--- What is told is the header with this number: where it begins, and the numbers that stand in the file there.
+-- What is told is the header with this number: where it begins, and the numbers that stand in
+-- the file there.
 pub record IsHeader (file : List ℕ) (n : ℕ) (h : Header) : Type 0 where
   pub there : n < e_phnum file
   pub number : h.number ≡ n
@@ -59,7 +60,8 @@ pub record IsFirst (rule : SegmentRule) (file : List ℕ) (h : Header) : Type 0 
 abbrev pub are_overlapping : ℕ → ProgramHeader → ℕ → ProgramHeader → Bool
 are_overlapping n g m h = nat_lt n m && is_segment h && overlap g h
 
--- no segment behind number n shares an address with the header g that has it, of those below a number
+-- no segment behind number n shares an address with the header g that has it, of
+-- those below a number
 abbrev pub NoneOverlaps : List ℕ → ℕ → ProgramHeader → ℕ → Type 0
 NoneOverlaps file n g count = (m : ℕ) → m < count → are_overlapping n g m (header_at file m) ≡ false
 

@@ -154,7 +154,8 @@ wanted field.Order value = codes "  wanted: 1, little-endian\n"
 wanted field.IdentVersion value = codes "  wanted: 1\n"
 wanted field.Type value =
     codes "  wanted: 2, an executable file\n  remedy: link with -static\n"
-wanted field.Machine value = codes "  wanted: 243, RISC-V\n  remedy: compile with --target=riscv32\n"
+wanted field.Machine value =
+    codes "  wanted: 243, RISC-V\n  remedy: compile with --target=riscv32\n"
 wanted field.Version value = codes "  wanted: 1\n"
 wanted field.Entry value = codes "  wanted: a multiple of 4 in a segment that can be executed\n"
 wanted field.TableOffset value = codes "  wanted: the table of program headers within the file\n"

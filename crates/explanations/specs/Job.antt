@@ -9,8 +9,8 @@ use Rattle.toml.specs.Parse.{parse_document}
 use Rattle.job_file.specs.Job.{Text, job_of}
 use Rattle.job_file.specs.Needs.{make_job_in, run_job_in, try_job_in}
 use Rattle.job_file.specs.declared.values.Job.{Job}
-use Rattle.job_file.specs.declared.values.Param.{Param}
-use Rattle.job_file.specs.declared.values.Param.TheVariants as param
+use Rattle.job_file.specs.declared.values.JobParam.{JobParam}
+use Rattle.job_file.specs.declared.values.JobParam.TheVariants as param
 use Rattle.explanations.specs.Keys.{key_name, key_wanted}
 use Rattle.explanations.specs.Rules.{IsBreach}
 use Rattle.explanations.specs.declared.job.Command.{Command}
@@ -33,25 +33,25 @@ abbrev pub or_else : Option JobKey → Option JobKey → Option JobKey
 or_else (Some k) other = Some k
 or_else None other = other
 
-abbrev pub try_lacks : Param Text → Option JobKey
+abbrev pub try_lacks : JobParam Text → Option JobKey
 try_lacks param.None = None
 try_lacks (param.Scalar lo hi value) = lacked_of value key.Value
 try_lacks (param.Buffer mode size file out) =
     or_else (lacked_of mode key.Mode) (lacked_of file key.File)
 
-abbrev pub run_lacks : Param Text → Option JobKey
+abbrev pub run_lacks : JobParam Text → Option JobKey
 run_lacks param.None = None
 run_lacks (param.Scalar lo hi value) = lacked_of value key.Value
 run_lacks (param.Buffer mode size file out) = lacked_of file key.File
 
-abbrev pub make_lacks : Param Text → Option JobKey
+abbrev pub make_lacks : JobParam Text → Option JobKey
 make_lacks param.None = None
 make_lacks (param.Scalar lo hi value) = or_else (lacked_of lo key.Lo) (lacked_of hi key.Hi)
 make_lacks (param.Buffer mode size file out) =
     or_else (lacked_of mode key.Mode) (lacked_of size key.Size)
 
 -- the first key that a command lacks of a parameter
-abbrev pub param_lacks : Command → Param Text → Option JobKey
+abbrev pub param_lacks : Command → JobParam Text → Option JobKey
 param_lacks command.Run p = run_lacks p
 param_lacks command.Mon p = run_lacks p
 param_lacks command.Try p = try_lacks p
@@ -121,7 +121,8 @@ abbrev pub IfTable : (Members → Type 0) → Option Members → Type 0
 IfTable True None = ⊥
 IfTable True (Some ms) = True ms
 
--- What is told of a job's text: where it is no UTF-8, where it is no TOML, or what is told of its table.
+-- What is told of a job's text: where it is no UTF-8, where it is no TOML, or what is
+-- told of its table.
 abbrev pub IsJobReason : Command → List ℕ → Option JobReason → Type 0
 IsJobReason c text (Some (reason.NotUtf8 byte)) =
     (byte ≡ utf8_valid_len text) × (¬ (IsUtf8 text))
@@ -162,7 +163,8 @@ in_text t k = codes " in " ++ (table_text t ++ (codes ": " ++ (key_wanted k ++ c
 abbrev pub job_text : JobReason → List ℕ
 job_text (reason.NotUtf8 byte) = codes "  not UTF-8 from byte " ++ (decimal byte ++ codes " on\n")
 job_text (reason.NotToml line column byte) = codes "  not TOML from byte " ++ (decimal byte
-    ++ (codes " on: line " ++ (decimal line ++ (codes ", column " ++ (decimal column ++ codes "\n")))))
+    ++ (codes " on: line "
+    ++ (decimal line ++ (codes ", column " ++ (decimal column ++ codes "\n")))))
 job_text reason.Broken =
     codes "  wanted: no other keys, and each value of its type and range\n"
 job_text (reason.Missing t k c) = needs_text k c ++ in_text t k

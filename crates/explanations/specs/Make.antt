@@ -29,7 +29,8 @@ row_of entry pc =
 abbrev pub IsWordTold : ℕ → LoopRow → Option ℕ → MakeReason → Type 0
 IsWordTold pc wanted None told = told ≡ reason.NoWord pc wanted
 IsWordTold pc wanted (Some word) (reason.Word at is text of) =
-    (at ≡ pc) × (is ≡ word) × (string_bytes text ≡ utf8_lossy (listing_text pc word)) × (of ≡ wanted)
+    (at ≡ pc) × (is ≡ word) × (string_bytes text ≡ utf8_lossy (listing_text pc word))
+    × (of ≡ wanted)
 IsWordTold pc wanted (Some word) (reason.NoWord at of) = ⊥
 IsWordTold pc wanted (Some word) reason.Untold = ⊥
 IsWordTold pc wanted (Some word) (reason.Empty place lo hi) = ⊥

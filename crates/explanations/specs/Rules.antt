@@ -38,7 +38,8 @@ is_value key.Out d = is_some (as_str d)
 unfoldable pub is_wrong : JobKey → Members → Bool
 is_wrong k ms = option_map_or (λ d. not (is_value k d)) (get_member (key_name k) ms) false
 
--- What is told of a table that breaks a rule: of a key of the job's own table, its value is not of its type and range.
+-- What is told of a table that breaks a rule: of a key of the job's own table, its value is not of
+-- its type and range.
 abbrev pub IsBreach : Members → JobReason → Type 0
 IsBreach ms (reason.Wrong table.Job k) = is_wrong k ms ≡ true
 IsBreach ms (reason.Wrong (table.Param place) k) = Unit {0}

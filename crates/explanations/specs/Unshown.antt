@@ -76,7 +76,8 @@ told_vector e (Some fact) =
 unfoldable pub unshown_vector : EdgeView → List VectorFact → Unshown
 unshown_vector e facts = told_vector e (find (λ fact. not (is_vector_shown e fact)) facts)
 
--- what the budget of the block left comes to at least, and what was taken and the budget of the block entered at most
+-- what the budget of the block left comes to at least, and what was taken and the budget of the
+-- block entered at most
 unfoldable pub unshown_budget : Option Budget → EdgeView → Budget → Unshown
 unshown_budget None e next = unshown.Untold
 unshown_budget (Some own) e next =
@@ -133,7 +134,8 @@ unfoldable pub count_text : ℕ → List ℕ
 count_text count = if count == 0 then codes "vl" else decimal count
 
 abbrev pub group_text : VectorFact → List ℕ
-group_text fact = codes "v" ++ (decimal fact.register ++ (codes ", registers " ++ (decimal fact.registers
+group_text fact =
+    codes "v" ++ (decimal fact.register ++ (codes ", registers " ++ (decimal fact.registers
     ++ (codes ", SEW " ++ decimal fact.width))))
 
 abbrev pub vector_range : VectorFact → Range
@@ -141,7 +143,8 @@ vector_range fact = record { lo = fact.low; hi = fact.high }
 
 abbrev pub elements_text : VectorFact → List ℕ
 elements_text fact =
-    codes ": " ++ (count_text fact.count ++ (codes " elements in " ++ span_text (vector_range fact)))
+    codes ": " ++ (count_text fact.count
+    ++ (codes " elements in " ++ span_text (vector_range fact)))
 
 unfoldable pub vector_text : VectorFact → List ℕ
 vector_text fact = group_text fact ++ elements_text fact
@@ -158,7 +161,8 @@ left_line number = codes "  known: the budget left is at least " ++ (decimal num
 
 abbrev pub asked_line : ℕ → List ℕ
 asked_line number =
-    codes "  known: these words and the budget entered are at most " ++ (decimal number ++ codes "\n")
+    codes "  known: these words and the budget entered are at most "
+    ++ (decimal number ++ codes "\n")
 
 -- the lines of what is not shown
 unfoldable pub unshown_text : Unshown → List ℕ

@@ -2,7 +2,8 @@
 ghost use Rattle.std.specs.Prelude.{◌≡◌};
 ghost use Rattle.scalar_core.specs.Step.{size_of_load, size_of_store};
 ghost use Rattle.abs_transfer.specs.Scalar.{address_range as address_range_of};
-ghost use Rattle.explanations.specs.Access.{access_wanted, is_store, operand_of, reach_from as reach_from_of};
+ghost use Rattle.explanations.specs.Access.{access_wanted, is_store, operand_of};
+ghost use Rattle.explanations.specs.Access.{reach_from as reach_from_of};
 ghost use Rattle.explanations.specs.Access.{reach_in as reach_in_of, rights_text, scalar_operand};
 ghost use Rattle.explanations.specs.Access.{scalar_reach as scalar_reach_of};
 

@@ -1,6 +1,7 @@
 //! Why bytes are no certificate: where reading stopped, and what is wanted there.
 ghost use Rattle.std.specs.Prelude.{◌≡◌, ◌≤◌, IfOk, IfSome, IfNone, length, true, false, Err};
-ghost use Rattle.explanations.specs.Certificate.{IsBlock, IsOfBytes, IsPlace, IsReason, IsTold, IsUntold, wanted, with_count};
+ghost use Rattle.explanations.specs.Certificate.{IsBlock, IsOfBytes, IsPlace, IsReason, IsTold};
+ghost use Rattle.explanations.specs.Certificate.{IsUntold, wanted, with_count};
 
 use cert_note::CertError;
 use std::alloc::{AllocError, Allocator};

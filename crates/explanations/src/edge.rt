@@ -1,7 +1,8 @@
 //! The way out of a word that the check refused: the block that it enters, and what is not shown of it.
 ghost use Rattle.std.specs.Prelude.{◌≡◌, IfOk};
 ghost use Rattle.explanations.specs.Edge.{budget_of};
-ghost use Rattle.explanations.specs.Edge.{edge_at as edge_at_of, edge_told, entered_at as entered_at_of};
+ghost use Rattle.explanations.specs.Edge.{edge_at as edge_at_of, edge_told};
+ghost use Rattle.explanations.specs.Edge.{entered_at as entered_at_of};
 ghost use Rattle.explanations.specs.Edge.{entered_by as entered_by_of, entered_of, left_of};
 
 use crate::address::Address;

@@ -1,9 +1,12 @@
 //! Program headers of a file, as they are told.
-ghost use Rattle.std.specs.Prelude.{◌≡◌, ◌≤◌, ◌<◌, ◌+◌, ◌*◌, ◌&&◌, IfSome, IfNone, length, true, false};
+ghost use Rattle.std.specs.Prelude.{◌≡◌, ◌≤◌, ◌<◌, ◌+◌, ◌*◌, ◌&&◌, IfSome, IfNone, length, true};
+ghost use Rattle.std.specs.Prelude.{false};
 ghost use Rattle.elf_image.specs.Words.{half_at, word_at};
 ghost use Rattle.elf_image.specs.File.{HasTable, e_phnum, e_phoff, is_segment};
 ghost use Rattle.elf_image.specs.Faults.{is_between, is_out_of_file, is_out_of_place, overlap};
-ghost use Rattle.explanations.specs.Headers.{AreApart, AreOverlapping, IsFirst, IsHeader, NoneBreaks, NoneOverlaps, are_overlapping, breaks, fields_of};
+ghost use Rattle.explanations.specs.Headers.{AreApart, AreOverlapping, IsFirst, IsHeader};
+ghost use Rattle.explanations.specs.Headers.{NoneBreaks, NoneOverlaps, are_overlapping, breaks};
+ghost use Rattle.explanations.specs.Headers.{fields_of};
 
 use crate::address::Address;
 use byteorder::{ByteOrder, LittleEndian};

@@ -1,6 +1,8 @@
 //! Why a file is no image that runs: which number of it, where, and what is wanted there.
 ghost use Rattle.std.specs.Prelude.{◌≡◌, ◌≤◌, length};
-ghost use Rattle.explanations.specs.Image.{Tells, TellsOverlap, TellsSegment, flags_wanted, ident_field, number_in, offset_of, table_field, told_field, type_field, wanted, large_wanted};
+ghost use Rattle.explanations.specs.Image.{Tells, TellsOverlap, TellsSegment, flags_wanted};
+ghost use Rattle.explanations.specs.Image.{ident_field, number_in, offset_of, table_field};
+ghost use Rattle.explanations.specs.Image.{told_field, type_field, wanted, large_wanted};
 
 use crate::address::Address;
 use crate::headers;

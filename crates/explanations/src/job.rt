@@ -1,16 +1,18 @@
 //! Why a job is refused: where its text is no TOML, or which key the command lacks.
-ghost use Rattle.std.specs.Prelude.{◌≡◌, ◌<◌, ◌≤◌, ◌+◌, ◌^◌, IfOk, IfSome, Some, length, slice_index_or, take};
+ghost use Rattle.std.specs.Prelude.{◌≡◌, ◌<◌, ◌≤◌, ◌+◌, ◌^◌, IfOk, IfSome, Some, length};
+ghost use Rattle.std.specs.Prelude.{slice_index_or, take};
 ghost use Rattle.job_file.specs.Job.{job_lent, param_lent};
-ghost use Rattle.job_file.specs.declared.values.Param.TheVariants as param_kind;
+ghost use Rattle.job_file.specs.declared.values.JobParam.TheVariants as param_kind;
 ghost use Rattle.toml.specs.View.{table_view};
 ghost use Rattle.explanations.specs.Keys.{key_name, key_wanted};
-ghost use Rattle.explanations.specs.Job.{IsJobReason, IsTableReason, is_taken, job_lacks, lacked_of, make_lacks, param_lacks, run_lacks, try_lacks};
+ghost use Rattle.explanations.specs.Job.{IsJobReason, IsTableReason, is_taken, job_lacks};
+ghost use Rattle.explanations.specs.Job.{lacked_of, make_lacks, param_lacks, run_lacks, try_lacks};
 ghost use Rattle.explanations.specs.Job.{begins_character, column_behind, line_behind, lines_in};
 ghost use Rattle.explanations.specs.Job.{next_column as next_column_of};
 ghost use Rattle.explanations.specs.declared.job.JobReason.TheVariants as reason;
 
 use crate::rules::breach;
-use job_file::{Job, Param};
+use job_file::{Job, JobParam};
 use std::alloc::{AllocError, Global};
 use std::fmt;
 use toml::Table;
@@ -97,13 +99,13 @@ where
 }
 
 /// The first key that `try` lacks of a parameter.
-fn try_lacks(param: Param<&str>) -> Option<JobKey>
+fn try_lacks(param: JobParam<&str>) -> Option<JobKey>
     ensures { result ≡ try_lacks (param_lent param.entry) }
 {
     match param {
-        Param::None => None,
-        Param::Scalar { value, .. } => lacked(value, JobKey::Value),
-        Param::Buffer { mode, file, .. } => {
+        JobParam::None => None,
+        JobParam::Scalar { value, .. } => lacked(value, JobKey::Value),
+        JobParam::Buffer { mode, file, .. } => {
             if mode.is_none() {
                 return Some(JobKey::Mode);
             }
@@ -113,29 +115,29 @@ fn try_lacks(param: Param<&str>) -> Option<JobKey>
 }
 
 /// The first key that `run` lacks of a parameter.
-fn run_lacks(param: Param<&str>) -> Option<JobKey>
+fn run_lacks(param: JobParam<&str>) -> Option<JobKey>
     ensures { result ≡ run_lacks (param_lent param.entry) }
 {
     match param {
-        Param::None => None,
-        Param::Scalar { value, .. } => lacked(value, JobKey::Value),
-        Param::Buffer { file, .. } => lacked(file, JobKey::File),
+        JobParam::None => None,
+        JobParam::Scalar { value, .. } => lacked(value, JobKey::Value),
+        JobParam::Buffer { file, .. } => lacked(file, JobKey::File),
     }
 }
 
 /// The first key that `make` lacks of a parameter.
-fn make_lacks(param: Param<&str>) -> Option<JobKey>
+fn make_lacks(param: JobParam<&str>) -> Option<JobKey>
     ensures { result ≡ make_lacks (param_lent param.entry) }
 {
     match param {
-        Param::None => None,
-        Param::Scalar { lo, hi, .. } => {
+        JobParam::None => None,
+        JobParam::Scalar { lo, hi, .. } => {
             if lo.is_none() {
                 return Some(JobKey::Lo);
             }
             lacked(hi, JobKey::Hi)
         }
-        Param::Buffer { mode, size, .. } => {
+        JobParam::Buffer { mode, size, .. } => {
             if mode.is_none() {
                 return Some(JobKey::Mode);
             }
@@ -145,7 +147,7 @@ fn make_lacks(param: Param<&str>) -> Option<JobKey>
 }
 
 /// The first key that a command lacks of a parameter.
-fn param_lacks(command: Command, param: Param<&str>) -> Option<JobKey>
+fn param_lacks(command: Command, param: JobParam<&str>) -> Option<JobKey>
     ensures { result ≡ param_lacks command (param_lent param.entry) }
 {
     match command {
@@ -156,7 +158,7 @@ fn param_lacks(command: Command, param: Param<&str>) -> Option<JobKey>
 }
 
 /// The first parameter of which a command lacks a key, and that key.
-fn params_lack(command: Command, params: [Param<&str>; 8]) -> Option<(usize, JobKey)>
+fn params_lack(command: Command, params: [JobParam<&str>; 8]) -> Option<(usize, JobKey)>
     ensures found { IfSome result (λ m. (m.0 < 8)
         × (param_lacks command (param_lent (slice_index_or params.entry m.0 param_kind.None))
         ≡ Some m.1)) }

@@ -1,6 +1,7 @@
 //! The rules of job files: which key of a table breaks one.
 ghost use Rattle.std.specs.Prelude.{◌≡◌, IfOk, IfSome, true, option_map};
-ghost use Rattle.job_file.specs.Job.{agnostic_named, agnostic_of, max_of, mode_named, mode_of, vlen_of, vlen_of_bits, word_of};
+ghost use Rattle.job_file.specs.Job.{agnostic_named, agnostic_of, max_of, mode_named, mode_of};
+ghost use Rattle.job_file.specs.Job.{vlen_of, vlen_of_bits, word_of};
 ghost use Rattle.toml.specs.Data.{Members, get_member};
 ghost use Rattle.toml.specs.View.{table_view, view};
 ghost use Rattle.explanations.specs.Rules.{IsBreach, is_kind, is_value, is_wrong};

@@ -13,8 +13,8 @@ use Rattle.job_file.specs.declared.values.JobError.{JobError}
 use Rattle.job_file.specs.declared.values.JobError.TheVariants.{NotToml, BadKey, NoMemory}
 use Rattle.region_mem.specs.declared.parameter.Mode.{Mode}
 use Rattle.region_mem.specs.declared.parameter.Mode.TheVariants.{Read, ReadWrite}
-use Rattle.job_file.specs.declared.values.Param.{Param}
-use Rattle.job_file.specs.declared.values.Param.TheVariants as param
+use Rattle.job_file.specs.declared.values.JobParam.{JobParam}
+use Rattle.job_file.specs.declared.values.JobParam.TheVariants as param
 use Rattle.vreg_groups.specs.declared.vector_length.Vlen.{Vlen}
 use Rattle.vreg_groups.specs.declared.vector_length.Vlen.TheVariants.{V128, V256, V512}
 
@@ -37,7 +37,9 @@ unfoldable pub max_of : Data → Option ℕ
 max_of d = option_and_then (number_below (2 ^ 63)) (as_integer d)
 
 abbrev pub vlen_of_bits : ℕ → Option Vlen
-vlen_of_bits n = if n == 128 then Some V128 else (if n == 256 then Some V256 else (if n == 512 then Some V512 else None))
+vlen_of_bits n =
+    if n == 128 then Some V128
+    else (if n == 256 then Some V256 else (if n == 512 then Some V512 else None))
 
 -- `vlen`: 128, 256 or 512
 unfoldable pub vlen_of : Data → Option Vlen
@@ -83,46 +85,48 @@ has_only known ms = list_all (is_one_of known) (keys_in ms)
 -- ---- parameters
 
 -- kind = "none"
-unfoldable pub none_of : Members → Option (Param Text)
+unfoldable pub none_of : Members → Option (JobParam Text)
 none_of ms = if has_only (codes "kind" ∷ []) ms then Some param.None else None
 
 abbrev pub scalar_keys : List Text
 scalar_keys = codes "kind" ∷ codes "lo" ∷ codes "hi" ∷ codes "value" ∷ []
 
-abbrev pub scalar_fields : Members → Option (Param Text)
+abbrev pub scalar_fields : Members → Option (JobParam Text)
 scalar_fields ms = option_and_then (λ lo. option_and_then (λ hi. option_map (λ value.
     param.Scalar lo hi value)
-    (field word_of (codes "value") ms)) (field word_of (codes "hi") ms)) (field word_of (codes "lo") ms)
+    (field word_of (codes "value") ms)) (field word_of (codes "hi") ms))
+    (field word_of (codes "lo") ms)
 
 -- kind = "scalar"
-unfoldable pub scalar_of : Members → Option (Param Text)
+unfoldable pub scalar_of : Members → Option (JobParam Text)
 scalar_of ms = if has_only scalar_keys ms then scalar_fields ms else None
 
 abbrev pub buffer_keys : List Text
 buffer_keys = codes "kind" ∷ codes "mode" ∷ codes "size" ∷ codes "file" ∷ codes "out" ∷ []
 
-abbrev pub buffer_fields : Members → Option (Param Text)
+abbrev pub buffer_fields : Members → Option (JobParam Text)
 buffer_fields ms = option_and_then (λ mode. option_and_then (λ size. option_and_then (λ file.
     option_map (λ out. param.Buffer mode size file out)
     (field as_str (codes "out") ms)) (field as_str (codes "file") ms))
     (field word_of (codes "size") ms)) (field mode_of (codes "mode") ms)
 
 -- kind = "buffer"
-unfoldable pub buffer_of : Members → Option (Param Text)
+unfoldable pub buffer_of : Members → Option (JobParam Text)
 buffer_of ms = if has_only buffer_keys ms then buffer_fields ms else None
 
-abbrev pub param_of_kind : Members → Text → Option (Param Text)
+abbrev pub param_of_kind : Members → Text → Option (JobParam Text)
 param_of_kind ms kind = if bytes_eq kind (codes "none") then none_of ms
     else (if bytes_eq kind (codes "scalar") then scalar_of ms
     else (if bytes_eq kind (codes "buffer") then buffer_of ms else None))
 
 -- one `[[param]]` table
-unfoldable pub param_of : Data → Option (Param Text)
+unfoldable pub param_of : Data → Option (JobParam Text)
 param_of d = option_and_then (λ ms.
-    option_and_then (param_of_kind ms) (option_and_then as_str (get_member (codes "kind") ms))) (as_table d)
+    option_and_then (param_of_kind ms) (option_and_then as_str (get_member (codes "kind") ms)))
+    (as_table d)
 
 -- the parameter at a place: none where there is no such table
-unfoldable pub param_at : Items → ℕ → Option (Param Text)
+unfoldable pub param_at : Items → ℕ → Option (JobParam Text)
 param_at items place = option_map_or param_of (get_item place items) (Some param.None)
 
 -- the values, where each is there
@@ -134,15 +138,18 @@ abbrev pub places : List ℕ
 places = 0 ∷ 1 ∷ 2 ∷ 3 ∷ 4 ∷ 5 ∷ 6 ∷ 7 ∷ []
 
 -- the parameters at the eight places, where there is no ninth table
-unfoldable pub params_of : Items → Option (List (Param Text))
-params_of items = if is_some (get_item 8 items) then None else all_there (map (param_at items) places)
+unfoldable pub params_of : Items → Option (List (JobParam Text))
+params_of items =
+    if is_some (get_item 8 items) then None else all_there (map (param_at items) places)
 
-abbrev pub no_params : List (Param Text)
+abbrev pub no_params : List (JobParam Text)
 no_params = map (λ _. param.None) places
 
 -- `param`: an array of tables
-unfoldable pub params_in : Members → Option (List (Param Text))
-params_in ms = option_map_or (λ d. option_and_then params_of (as_array d)) (get_member (codes "param") ms) (Some no_params)
+unfoldable pub params_in : Members → Option (List (JobParam Text))
+params_in ms =
+    option_map_or (λ d. option_and_then params_of (as_array d)) (get_member (codes "param") ms)
+    (Some no_params)
 
 -- ---- a job
 
@@ -166,7 +173,7 @@ job_of ms = if has_only job_keys ms then job_fields ms else None
 
 -- ---- the same with texts that are lent
 
-abbrev pub param_lent : Param (Bor Text) → Param Text
+abbrev pub param_lent : JobParam (Bor Text) → JobParam Text
 param_lent param.None = param.None
 param_lent (param.Scalar lo hi value) = param.Scalar lo hi value
 param_lent (param.Buffer mode size file out) =

@@ -5,26 +5,27 @@ use Rattle.toml.specs.Data.{Members}
 use Rattle.job_file.specs.Job.{Text, all_there, job_of}
 use Rattle.job_file.specs.declared.values.Job.{Job}
 use Rattle.job_file.specs.declared.values.MakeJob.{MakeJob}
-use Rattle.job_file.specs.declared.values.Param.{Param}
-use Rattle.job_file.specs.declared.values.Param.TheVariants as param
+use Rattle.job_file.specs.declared.values.JobParam.{JobParam}
+use Rattle.job_file.specs.declared.values.JobParam.TheVariants as param
 use Rattle.job_file.specs.declared.values.RunJob.{RunJob}
 use Rattle.job_file.specs.declared.values.RunParam.{RunParam}
 use Rattle.job_file.specs.declared.values.RunParam.TheVariants as given
 use Rattle.job_file.specs.declared.values.TryJob.{TryJob}
 use Rattle.job_file.specs.declared.values.TryParam.{TryParam}
 use Rattle.job_file.specs.declared.values.TryParam.TheVariants as taken
-use Rattle.region_mem.specs.declared.parameter.Param.{Param as Declared}
+use Rattle.region_mem.specs.declared.parameter.Param.{Param}
 use Rattle.region_mem.specs.declared.parameter.Param.TheVariants as declared
 
--- ---- `try`: it needs `image`, `vlen`, `agnostic`, `max`, each scalar's `value` and each buffer's `mode` and `file`
+-- ---- `try`: it needs `image`, `vlen`, `agnostic`, `max`, each scalar's `value` and each buffer's
+-- `mode` and `file`
 
-abbrev pub try_param_of : Param Text → Option (TryParam Text)
+abbrev pub try_param_of : JobParam Text → Option (TryParam Text)
 try_param_of param.None = Some taken.None
 try_param_of (param.Scalar lo hi value) = option_map taken.Scalar value
 try_param_of (param.Buffer mode size file out) =
     option_and_then (λ mode. option_map (λ file. taken.Buffer mode file out) file) mode
 
-unfoldable pub try_params_of : List (Param Text) → Option (List (TryParam Text))
+unfoldable pub try_params_of : List (JobParam Text) → Option (List (TryParam Text))
 try_params_of params = all_there (map try_param_of params)
 
 abbrev pub try_job_of : Job Text → Option (TryJob Text)
@@ -41,14 +42,15 @@ try_job_of j = option_and_then (λ image. option_and_then (λ vlen. option_and_t
 abbrev pub try_job_in : Members → Option (TryJob Text)
 try_job_in ms = option_and_then try_job_of (job_of ms)
 
--- ---- `run`: it needs `image`, `vlen`, `agnostic`, `max`, each scalar's `value` and each buffer's `file`
+-- ---- `run`: it needs `image`, `vlen`, `agnostic`, `max`, each scalar's `value` and each
+-- buffer's `file`
 
-abbrev pub run_param_of : Param Text → Option (RunParam Text)
+abbrev pub run_param_of : JobParam Text → Option (RunParam Text)
 run_param_of param.None = Some given.None
 run_param_of (param.Scalar lo hi value) = option_map given.Scalar value
 run_param_of (param.Buffer mode size file out) = option_map (λ file. given.Buffer file out) file
 
-unfoldable pub run_params_of : List (Param Text) → Option (List (RunParam Text))
+unfoldable pub run_params_of : List (JobParam Text) → Option (List (RunParam Text))
 run_params_of params = all_there (map run_param_of params)
 
 abbrev pub run_job_of : Job Text → Option (RunJob Text)
@@ -67,14 +69,14 @@ run_job_in ms = option_and_then run_job_of (job_of ms)
 
 -- ---- `make`: it needs `vlen`, each scalar's `lo` and `hi` and each buffer's `mode` and `size`
 
-abbrev pub make_param_of : Param Text → Option Declared
+abbrev pub make_param_of : JobParam Text → Option Param
 make_param_of param.None = Some declared.None
 make_param_of (param.Scalar lo hi value) =
     option_and_then (λ lo. option_map (λ hi. declared.Scalar lo hi) hi) lo
 make_param_of (param.Buffer mode size file out) =
     option_and_then (λ mode. option_map (λ size. declared.Buffer mode size) size) mode
 
-unfoldable pub make_params_of : List (Param Text) → Option (List Declared)
+unfoldable pub make_params_of : List (JobParam Text) → Option (List Param)
 make_params_of params = all_there (map make_param_of params)
 
 abbrev pub make_job_of : Job Text → Option MakeJob
@@ -92,7 +94,8 @@ make_job_in ms = option_and_then make_job_of (job_of ms)
 abbrev pub try_param_lent : TryParam (Bor Text) → TryParam Text
 try_param_lent taken.None = taken.None
 try_param_lent (taken.Scalar value) = taken.Scalar value
-try_param_lent (taken.Buffer mode file out) = taken.Buffer mode file.now (option_map (λ s. s.now) out)
+try_param_lent (taken.Buffer mode file out) =
+    taken.Buffer mode file.now (option_map (λ s. s.now) out)
 
 abbrev pub try_job_lent : TryJob (Bor Text) → TryJob Text
 try_job_lent j = record {

@@ -18,7 +18,7 @@ mod values;
 
 use std::alloc::Global;
 use toml::Table;
-pub use values::{Job, JobError, MakeJob, Param, RunJob, RunParam, TryJob, TryParam};
+pub use values::{Job, JobError, JobParam, MakeJob, RunJob, RunParam, TryJob, TryParam};
 
 /// The table of a job file.
 ///

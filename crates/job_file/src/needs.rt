@@ -6,16 +6,16 @@ ghost use Rattle.job_file.specs.Needs.{run_job_lent, run_job_of, run_param_lent,
 ghost use Rattle.job_file.specs.Needs.{run_params_of, try_params_of};
 ghost use Rattle.job_file.specs.Needs.{try_job_lent, try_job_of, try_param_lent, try_param_of};
 
-use crate::values::{Job, MakeJob, Param, Places, RunJob, RunParam, TryJob, TryParam};
+use crate::values::{Job, JobParam, MakeJob, Places, RunJob, RunParam, TryJob, TryParam};
 
 /// What `try` takes of a parameter: a scalar's `value`, a buffer's `mode` and `file`.
-fn try_param<'a>(param: Param<&'a str>) -> Option<TryParam<&'a str>>
+fn try_param<'a>(param: JobParam<&'a str>) -> Option<TryParam<&'a str>>
     ensures { option_map try_param_lent result ≡ try_param_of (param_lent param.entry) }
 {
     match param {
-        Param::None => Some(TryParam::None),
-        Param::Scalar { value, .. } => Some(TryParam::Scalar(value?)),
-        Param::Buffer {
+        JobParam::None => Some(TryParam::None),
+        JobParam::Scalar { value, .. } => Some(TryParam::Scalar(value?)),
+        JobParam::Buffer {
             mode,
             file,
             out,
@@ -29,7 +29,7 @@ fn try_param<'a>(param: Param<&'a str>) -> Option<TryParam<&'a str>>
 }
 
 /// What `try` takes of the parameters, by place.
-fn try_params<'a>(params: [Param<&'a str>; 8]) -> Option<Places<TryParam<&'a str>>>
+fn try_params<'a>(params: [JobParam<&'a str>; 8]) -> Option<Places<TryParam<&'a str>>>
     ensures { option_map (λ taken. map try_param_lent taken.at) result
         ≡ try_params_of (map param_lent params.entry) }
 {
@@ -54,18 +54,18 @@ pub fn try_job<'a>(job: Job<&'a str>) -> Option<TryJob<&'a str>>
 }
 
 /// What `run` takes of a parameter: a scalar's `value`, a buffer's `file`.
-fn run_param<'a>(param: Param<&'a str>) -> Option<RunParam<&'a str>>
+fn run_param<'a>(param: JobParam<&'a str>) -> Option<RunParam<&'a str>>
     ensures { option_map run_param_lent result ≡ run_param_of (param_lent param.entry) }
 {
     match param {
-        Param::None => Some(RunParam::None),
-        Param::Scalar { value, .. } => Some(RunParam::Scalar(value?)),
-        Param::Buffer { file, out, .. } => Some(RunParam::Buffer { file: file?, out }),
+        JobParam::None => Some(RunParam::None),
+        JobParam::Scalar { value, .. } => Some(RunParam::Scalar(value?)),
+        JobParam::Buffer { file, out, .. } => Some(RunParam::Buffer { file: file?, out }),
     }
 }
 
 /// What `run` takes of the parameters, by place.
-fn run_params<'a>(params: [Param<&'a str>; 8]) -> Option<Places<RunParam<&'a str>>>
+fn run_params<'a>(params: [JobParam<&'a str>; 8]) -> Option<Places<RunParam<&'a str>>>
     ensures { option_map (λ given. map run_param_lent given.at) result
         ≡ run_params_of (map param_lent params.entry) }
 {
@@ -90,13 +90,13 @@ pub fn run_job<'a>(job: Job<&'a str>) -> Option<RunJob<&'a str>>
 }
 
 /// What `make` takes of a parameter: a scalar's `lo` and `hi`, a buffer's `mode` and `size`.
-fn make_param(param: Param<&str>) -> Option<region_mem::Param>
+fn make_param(param: JobParam<&str>) -> Option<region_mem::Param>
     ensures { result ≡ make_param_of (param_lent param.entry) }
 {
     match param {
-        Param::None => Some(region_mem::Param::None),
-        Param::Scalar { lo, hi, .. } => Some(region_mem::Param::Scalar { lo: lo?, hi: hi? }),
-        Param::Buffer { mode, size, .. } => Some(region_mem::Param::Buffer {
+        JobParam::None => Some(region_mem::Param::None),
+        JobParam::Scalar { lo, hi, .. } => Some(region_mem::Param::Scalar { lo: lo?, hi: hi? }),
+        JobParam::Buffer { mode, size, .. } => Some(region_mem::Param::Buffer {
             mode: mode?,
             size: size?,
         }),
@@ -104,7 +104,7 @@ fn make_param(param: Param<&str>) -> Option<region_mem::Param>
 }
 
 /// What `make` takes of the parameters, by place.
-fn make_params(params: [Param<&str>; 8]) -> Option<Places<region_mem::Param>>
+fn make_params(params: [JobParam<&str>; 8]) -> Option<Places<region_mem::Param>>
     ensures { option_map (λ made. made.at) result
         ≡ make_params_of (map param_lent params.entry) }
 {

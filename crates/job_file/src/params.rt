@@ -6,17 +6,17 @@ ghost use Rattle.job_file.specs.Job.{buffer_of, no_params, none_of, param_at, pa
 ghost use Rattle.job_file.specs.Job.{param_of_kind, params_in, params_of, scalar_of};
 
 use crate::fields;
-use crate::values::{Param, Places};
+use crate::values::{JobParam, Places};
 use toml::value::Array;
 use toml::{Table, Value};
 
 /// A table of kind "none".
 #[tactic(auto, unfolding(crate::specs::Job::none_of))]
-fn none<'a>(table: &'a Table) -> Option<Param<&'a str>>
+fn none<'a>(table: &'a Table) -> Option<JobParam<&'a str>>
     ensures { option_map param_lent result ≡ none_of (table_view table.now) }
 {
     if fields::has_only(table, ["kind"].as_slice()) {
-        Some(Param::None)
+        Some(JobParam::None)
     } else {
         None
     }
@@ -24,7 +24,7 @@ fn none<'a>(table: &'a Table) -> Option<Param<&'a str>>
 
 /// A table of kind "scalar".
 #[tactic(auto, unfolding(crate::specs::Job::scalar_of))]
-fn scalar<'a>(table: &'a Table) -> Option<Param<&'a str>>
+fn scalar<'a>(table: &'a Table) -> Option<JobParam<&'a str>>
     ensures { option_map param_lent result ≡ scalar_of (table_view table.now) }
 {
     if !fields::has_only(table, ["kind", "lo", "hi", "value"].as_slice()) {
@@ -33,12 +33,12 @@ fn scalar<'a>(table: &'a Table) -> Option<Param<&'a str>>
     let lo = fields::word(table, "lo")?;
     let hi = fields::word(table, "hi")?;
     let value = fields::word(table, "value")?;
-    Some(Param::Scalar { lo, hi, value })
+    Some(JobParam::Scalar { lo, hi, value })
 }
 
 /// A table of kind "buffer".
 #[tactic(auto, unfolding(crate::specs::Job::buffer_of))]
-fn buffer<'a>(table: &'a Table) -> Option<Param<&'a str>>
+fn buffer<'a>(table: &'a Table) -> Option<JobParam<&'a str>>
     ensures { option_map param_lent result ≡ buffer_of (table_view table.now) }
 {
     if !fields::has_only(table, ["kind", "mode", "size", "file", "out"].as_slice()) {
@@ -48,7 +48,7 @@ fn buffer<'a>(table: &'a Table) -> Option<Param<&'a str>>
     let size = fields::word(table, "size")?;
     let file = fields::text(table, "file")?;
     let out = fields::text(table, "out")?;
-    Some(Param::Buffer {
+    Some(JobParam::Buffer {
         mode,
         size,
         file,
@@ -56,7 +56,7 @@ fn buffer<'a>(table: &'a Table) -> Option<Param<&'a str>>
     })
 }
 
-fn param_of_kind<'a>(table: &'a Table, kind: &str) -> Option<Param<&'a str>>
+fn param_of_kind<'a>(table: &'a Table, kind: &str) -> Option<JobParam<&'a str>>
     ensures { option_map param_lent result ≡ param_of_kind (table_view table.now) kind.now }
 {
     if kind == "none" {
@@ -72,7 +72,7 @@ fn param_of_kind<'a>(table: &'a Table, kind: &str) -> Option<Param<&'a str>>
 
 /// One `[[param]]` table.
 #[tactic(auto, unfolding(crate::specs::Job::param_of))]
-fn param_of<'a>(value: &'a Value) -> Option<Param<&'a str>>
+fn param_of<'a>(value: &'a Value) -> Option<JobParam<&'a str>>
     ensures { option_map param_lent result ≡ param_of (view value.now) }
 {
     let table = value.as_table()?;
@@ -88,25 +88,25 @@ fn item<'a>(items: &'a Array, place: usize) -> Option<&'a Value>
 
 /// The parameter at a place.
 #[tactic(auto, unfolding(crate::specs::Job::param_at))]
-fn param_at<'a>(items: &'a Array, place: usize) -> Option<Param<&'a str>>
+fn param_at<'a>(items: &'a Array, place: usize) -> Option<JobParam<&'a str>>
     ensures { option_map param_lent result ≡ param_at (array_view items.now) place }
 {
     match item(items, place) {
         Some(value) => param_of(value),
-        None => Some(Param::None),
+        None => Some(JobParam::None),
     }
 }
 
 /// Eight places that are not used.
-fn no_params<'a>() -> [Param<&'a str>; 8]
+fn no_params<'a>() -> [JobParam<&'a str>; 8]
     ensures { map param_lent result ≡ no_params }
 {
-    [Param::None; 8]
+    [JobParam::None; 8]
 }
 
 /// The parameters at the eight places.
 #[tactic(auto, unfolding(crate::specs::Job::params_of))]
-fn params_of<'a>(items: &'a Array) -> Option<Places<Param<&'a str>>>
+fn params_of<'a>(items: &'a Array) -> Option<Places<JobParam<&'a str>>>
     ensures { option_map (λ params. map param_lent params.at) result
         ≡ params_of (array_view items.now) }
 {
@@ -122,7 +122,7 @@ fn params_of<'a>(items: &'a Array) -> Option<Places<Param<&'a str>>>
 
 /// The parameters of a job's table.
 #[tactic(auto, unfolding(crate::specs::Job::params_in))]
-pub fn params_in<'a>(table: &'a Table) -> Option<Places<Param<&'a str>>>
+pub fn params_in<'a>(table: &'a Table) -> Option<Places<JobParam<&'a str>>>
     ensures { option_map (λ params. map param_lent params.at) result
         ≡ params_in (table_view table.now) }
 {

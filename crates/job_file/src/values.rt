@@ -11,7 +11,7 @@ pub(crate) struct Places<P> {
 
 /// One parameter of a kernel, with its keys.
 #[derive(Clone, Copy)]
-pub enum Param<T> {
+pub enum JobParam<T> {
     /// The place is not used.
     None,
     /// A number, given in an argument register.
@@ -36,7 +36,7 @@ pub struct Job<T> {
     pub vlen: Option<Vlen>,
     pub agnostic: Option<Agnostic>,
     pub max: Option<u64>,
-    pub params: [Param<T>; 8],
+    pub params: [JobParam<T>; 8],
 }
 
 /// What `try` takes of a parameter.

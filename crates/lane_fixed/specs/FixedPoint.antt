@@ -1,6 +1,7 @@
--- What each fixed-point operation makes of one element ("Vector Fixed-Point Arithmetic Instructions"): a is the element of
--- vs2, and b that of vs1, the scalar or the immediate. A result is an exact whole number, from which the lowest bits are
--- rounded off, and which is then clipped to the width where the instruction saturates.
+-- What each fixed-point operation makes of one element ("Vector Fixed-Point Arithmetic
+-- Instructions"): a is the element of vs2, and b that of vs1, the scalar or the immediate. A result
+-- is an exact whole number, from which the lowest bits are rounded off, and which is then clipped
+-- to the width where the instruction saturates.
 use Rattle.std.specs.Prelude.{ℕ, ◌-◌, ◌%◌, Bool, not, ◌&&◌, ℤ, pos, ◌+ℤ◌, ◌-ℤ◌, ◌*ℤ◌, List}
 use Rattle.std.specs.Int.{Width, cast_signed, saturate_signed, saturate_unsigned}
 use Rattle.std.specs.Ordering.{int_eq}
@@ -68,7 +69,8 @@ unfoldable pub saturates : FixedOp → RoundingMode → Width → ℕ → ℕ �
 saturates op mode w a b =
     not (int_eq (clipped op w (unclipped op mode w a b)) (unclipped op mode w a b))
 
--- vnclipu and vnclip: a has the wide width, the result the narrow one, and the shift reads the low log2 bits of the wide width
+-- vnclipu and vnclip: a has the wide width, the result the narrow one, and the shift reads the low
+-- log2 bits of the wide width
 unfoldable pub clip_exact : ClipOp → Width → ℕ → ℤ
 clip_exact Clipu wide a = pos a
 clip_exact Clip wide a = cast_signed wide a

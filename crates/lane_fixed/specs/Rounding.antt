@@ -1,5 +1,5 @@
--- Rounding off the lowest d bits of a number ("Vector Fixed-Point Rounding Mode Register vxrm"): what is left without
--- them, and 1 more where the mode rounds up.
+-- Rounding off the lowest d bits of a number ("Vector Fixed-Point Rounding Mode Register vxrm"):
+-- what is left without them, and 1 more where the mode rounds up.
 use Rattle.std.specs.Prelude.{ℕ, ◌*◌, ◌^◌, ◌==◌, nat_lt, nat_le, Bool, false, not, ◌&&◌, ◌||◌, ℤ, pos, ◌+ℤ◌, unsigned_abs}
 use Rattle.std.specs.Int.{int_div_euclid, int_rem_euclid, from_bool}
 use Rattle.lane_fixed.specs.declared.operations.RoundingMode.{RoundingMode}

@@ -1,5 +1,5 @@
--- What an operation of the chunk calls makes of one lane: a is the lane of vs2, b that of vs1, the scalar or the
--- immediate, d the old one of vd.
+-- What an operation of the chunk calls makes of one lane: a is the lane of vs2, b that of vs1, the
+-- scalar or the immediate, d the old one of vd.
 use Rattle.std.specs.Prelude.{ℕ, ◌+◌, ◌-◌, ◌%◌, ◌^◌, Bool, if◌then◌else◌}
 use Rattle.std.specs.Int.{Width}
 use mir.Val.{bits, hbits}

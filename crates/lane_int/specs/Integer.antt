@@ -1,6 +1,6 @@
--- What each single-width integer operation of the vector extension makes of one element: a is the element of vs2, and b
--- that of vs1, the scalar or the immediate. All are numbers below 2^SEW, and so is the result; a signed operand is read
--- by two's complement.
+-- What each single-width integer operation of the vector extension makes of one element: a is the
+-- element of vs2, and b that of vs1, the scalar or the immediate. All are numbers below 2^SEW, and
+-- so is the result; a signed operand is read by two's complement.
 use Rattle.std.specs.Prelude.{ℕ, ◌+◌, ◌-◌, ◌*◌, ◌/◌, ◌%◌, ◌^◌, min, max, Bool, true, false, not, ◌==◌, nat_lt, nat_le, int_lt, int_le, int_div, int_rem, if◌then◌else◌}
 use Rattle.std.specs.Int.{Width, w8, w16, w32, w64, w128, cast_signed, cast_unsigned, int_min, int_max, int_shr}
 use Rattle.std.specs.Int.RustNames.{bit_and, bit_or, bit_xor}
@@ -38,8 +38,8 @@ difference w a b = (a + (2 ^ bits w - b)) % 2 ^ bits w
 abbrev pub shift_amount : Width → ℕ → ℕ
 shift_amount w b = b % bits w
 
--- vadd .. vrem. Division by zero gives all ones and the dividend as its remainder; the quotient of the most negative
--- number by -1 is that number, with the remainder 0.
+-- vadd .. vrem. Division by zero gives all ones and the dividend as its remainder; the quotient of
+-- the most negative number by -1 is that number, with the remainder 0.
 unfoldable pub element : IntOp → Width → ℕ → ℕ → ℕ
 element Add w a b = (a + b) % 2 ^ bits w
 element Sub w a b = difference w a b
@@ -91,7 +91,8 @@ unfoldable pub carries : CarryOp → Width → ℕ → ℕ → Bool → Bool
 carries Adc w a b c = nat_le (2 ^ bits w) (a + b + bit c)
 carries Sbc w a b c = nat_lt a (b + bit c)
 
--- vmacc, vnmsac, vmadd, vnmsub: a is vs2's element, b that of vs1 or the scalar, d the old one of vd
+-- vmacc, vnmsac, vmadd, vnmsub: a is vs2's element, b that of vs1 or the scalar, d
+-- the old one of vd
 unfoldable pub multiply_added : MultiplyAddOp → Width → ℕ → ℕ → ℕ → ℕ
 multiply_added Macc w a b d = (b * a + d) % 2 ^ bits w
 multiply_added Nmsac w a b d = difference w d (b * a % 2 ^ bits w)

@@ -1,5 +1,5 @@
--- Elements that are extended to a wider width ("Vector Integer Extension"; sources of widening instructions), and cut to a
--- narrower one (results of narrowing instructions).
+-- Elements that are extended to a wider width ("Vector Integer Extension"; sources of widening
+-- instructions), and cut to a narrower one (results of narrowing instructions).
 use Rattle.std.specs.Prelude.{ℕ, ◌%◌, ◌^◌, Bool, if◌then◌else◌}
 use Rattle.std.specs.Int.{Width, cast_signed, cast_unsigned}
 use mir.Val.{bits}

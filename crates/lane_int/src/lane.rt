@@ -53,15 +53,20 @@ pub trait Lane: Copy {
         ensures { result ≡ added_of op a b d };
 
     // each answer is the instruction's number, as `specs/Integer.antt` has it
-    ghost result_is: { (op : IntOp) (a b : Self) → number (result_of op a b) ≡ element op width (number a) (number b) };
+    ghost result_is: { (op : IntOp) (a b : Self)
+        → number (result_of op a b) ≡ element op width (number a) (number b) };
 
-    ghost test_is: { (op : CompareOp) (a b : Self) → test_of op a b ≡ compares op width (number a) (number b) };
+    ghost test_is: { (op : CompareOp) (a b : Self)
+        → test_of op a b ≡ compares op width (number a) (number b) };
 
-    ghost carried_is: { (op : CarryOp) (a b : Self) (c : Bool) → number (carried_of op a b c) ≡ carried op width (number a) (number b) c };
+    ghost carried_is: { (op : CarryOp) (a b : Self) (c : Bool)
+        → number (carried_of op a b c) ≡ carried op width (number a) (number b) c };
 
-    ghost carry_is: { (op : CarryOp) (a b : Self) (c : Bool) → carry_of op a b c ≡ carries op width (number a) (number b) c };
+    ghost carry_is: { (op : CarryOp) (a b : Self) (c : Bool)
+        → carry_of op a b c ≡ carries op width (number a) (number b) c };
 
-    ghost added_is: { (op : MultiplyAddOp) (a b d : Self) → number (added_of op a b d) ≡ multiply_added op width (number a) (number b) (number d) };
+    ghost added_is: { (op : MultiplyAddOp) (a b d : Self) → number (added_of op a b d)
+        ≡ multiply_added op width (number a) (number b) (number d) };
 }
 
 impl Lane for u8 {

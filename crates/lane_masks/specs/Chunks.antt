@@ -1,4 +1,5 @@
--- Mask logic on whole bytes: a byte of a mask register has the bits of eight elements, the lowest first.
+-- Mask logic on whole bytes: a byte of a mask register has the bits of eight elements,
+-- the lowest first.
 use Rattle.std.specs.Prelude.{ℕ, ◌==◌, Bool}
 use Rattle.std.specs.Int.{w8, bit_at, bit_not}
 use Rattle.std.specs.Int.RustNames.{bit_and, bit_or, bit_xor}

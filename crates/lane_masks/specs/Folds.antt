@@ -1,5 +1,5 @@
--- Reductions: a fold over the active elements ("Vector Reduction Operations"). Numbers are below 2^SEW; signed ones are read
--- by two's complement.
+-- Reductions: a fold over the active elements ("Vector Reduction Operations"). Numbers are below
+-- 2^SEW; signed ones are read by two's complement.
 use Rattle.std.specs.Prelude.{ℕ, ◌+◌, ◌%◌, ◌^◌, min, max, Bool, if◌then◌else◌, List, [], ◌∷◌}
 use Rattle.std.specs.List.{fold}
 use Rattle.std.specs.Int.{Width, w32, cast_signed, cast_unsigned, int_min, int_max}

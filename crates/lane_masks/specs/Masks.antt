@@ -1,4 +1,5 @@
--- What the mask instructions make of lists of bits ("Vector Mask Instructions"): bit i is that of element i of the body.
+-- What the mask instructions make of lists of bits ("Vector Mask Instructions"): bit i is that of
+-- element i of the body.
 use Rattle.std.specs.Prelude.{ℕ, ◌%◌, ◌^◌, ◌==◌, nat_lt, nat_le, Bool, true, false, not, ◌&&◌, ◌||◌, List, length, take, map, Option, Some, None}
 use Rattle.std.specs.List.{count_by, position, range_with_len}
 use Rattle.std.specs.Int.{Width}
@@ -30,7 +31,8 @@ set_count mask = count_by (λ bit. bit) mask
 abbrev pub first_set : List Bool → Option ℕ
 first_set mask = position (λ bit. bit) mask
 
--- bit i of a mask that is set before, up to and including, or only at the first set bit; with none, every bit is before it
+-- bit i of a mask that is set before, up to and including, or only at the first set bit; with none,
+-- every bit is before it
 unfoldable pub set_at : FirstOp → Option ℕ → ℕ → Bool
 set_at Before (Some first) i = nat_lt i first
 set_at Before None i = true

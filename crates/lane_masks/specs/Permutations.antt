@@ -1,5 +1,6 @@
--- Elements that are moved ("Vector Permutation Instructions"). Each result is a function of the elements before. A
--- `source` that is read past the body's end, by slides down and gathers, is all that vs2's group has, up to VLMAX.
+-- Elements that are moved ("Vector Permutation Instructions"). Each result is a function of the
+-- elements before. A `source` that is read past the body's end, by slides down and gathers, is all
+-- that vs2's group has, up to VLMAX.
 use Rattle.std.specs.Prelude.{ℕ, ◌+◌, ◌-◌, List, [], ◌∷◌, ◌++◌, length, take, drop, map, slice_index_or}
 use Rattle.std.specs.List.{range_with_len}
 

@@ -1,5 +1,5 @@
--- Differences of multiples of forms in whole numbers. Each form stands for its sum less the one multiple
--- of 2^32 by which its range was found.
+-- Differences of multiples of forms in whole numbers. Each form stands for its sum less the one
+-- multiple of 2^32 by which its range was found.
 use Rattle.std.specs.Prelude.{ℕ, ◌≡◌, ◌≤◌, true, ◌+◌, ◌-◌, ◌*◌, ◌/◌, ◌^◌, nat_le, ◌&&◌, Bool, List, [], ◌∷◌, map, is_some}
 use Rattle.std.specs.List.{list_all}
 use Rattle.linear_facts.specs.Words.{WholeTerm, Interval, Side, Lo, Hi, Added, Taken}
@@ -78,13 +78,15 @@ difference_of table more more_of less less_of =
     with_products table Taken
     (with_products table Added record { plus = more; minus = less; terms = [] } more_of) less_of
 
--- a number and products are at least another number and products, by the lower bound of their difference
+-- a number and products are at least another number and products, by the lower bound of
+-- their difference
 unfoldable pub is_at_least_of : AtomTable → ℕ → List Product → ℕ → List Product → Bool
 is_at_least_of table more more_of less less_of =
     have_ranges table more_of && have_ranges table less_of
     && is_positive table (difference_of table more more_of less less_of)
 
--- the interval of a sum, met with the one after each split atom is replaced by the sum of its two parts, all at once
+-- the interval of a sum, met with the one after each split atom is replaced by the sum of its two
+-- parts, all at once
 unfoldable pub sum_interval : AtomTable → WholeSum → Interval
 sum_interval table sum =
     met_or_own (interval_of table sum.plus sum.minus sum.terms)

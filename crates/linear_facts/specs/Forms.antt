@@ -42,7 +42,8 @@ merged_from x rest (y ∷ ys) =
     else (if nat_lt y.atom x.atom then y ∷ merged_from x rest ys
     else term_or_none x.atom ((x.coefficient + y.coefficient) % 2 ^ 32) ++ rest ys)
 
--- the terms of both, by rising atom: the coefficients of one atom are added, and what is 0 is left out
+-- the terms of both, by rising atom: the coefficients of one atom are added, and what
+-- is 0 is left out
 unfoldable pub merged : List Term → List Term → List Term
 merged [] ys = ys
 merged (x ∷ xs) ys = merged_from x (merged xs) ys

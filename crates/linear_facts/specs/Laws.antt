@@ -1,5 +1,5 @@
--- What the rules that stand on forms and ranges ask of them: of which atoms a form speaks, and that ranges hold numbers
--- of 32 bits.
+-- What the rules that stand on forms and ranges ask of them: of which atoms a form speaks, and that
+-- ranges hold numbers of 32 bits.
 use Rattle.std.specs.Prelude.{ℕ, ◌≡◌, ◌+◌, ◌^◌, ◌<◌, List, [], ◌∷◌, Some}
 use Rattle.linear_facts.specs.Words.{Term, Range}
 use Rattle.linear_facts.specs.Forms.{Linear, value, sum_of, scaled, substituted, form_at}
@@ -38,4 +38,5 @@ AgreeBelow =
 
 -- A form's range ends below 2^32.
 abbrev pub RangesFit : Type 0
-RangesFit = (table : AtomTable) (f : Linear) (r : Range) → range_of_form table f ≡ Some r → r.hi < 2 ^ 32
+RangesFit =
+    (table : AtomTable) (f : Linear) (r : Range) → range_of_form table f ≡ Some r → r.hi < 2 ^ 32

@@ -14,7 +14,8 @@ end_of Hi r = r.hi
 -- the numbers in both ranges
 abbrev pub meet_of : Range → Range → Option Range
 meet_of r s =
-    if nat_le (max r.lo s.lo) (min r.hi s.hi) then Some record { lo = max r.lo s.lo; hi = min r.hi s.hi }
+    if nat_le (max r.lo s.lo) (min r.hi s.hi)
+    then Some record { lo = max r.lo s.lo; hi = min r.hi s.hi }
     else None
 
 -- atoms by their numbers, and up to two ranges in place of theirs
@@ -44,8 +45,8 @@ range_at table a = changed_or table.first a (changed_or table.second a (atom_at 
 unfoldable pub split_at : AtomTable → ℕ → Option Split
 split_at table a = (atom_at table a).split
 
--- the atoms' numbers are as the table says: each fits 32 bits and its range, and one that was split is
--- the sum of its parts
+-- the atoms' numbers are as the table says: each fits 32 bits and its range, and one that was split
+-- is the sum of its parts
 pub record AgreesWith (table : AtomTable) (v : ℕ → ℕ) : Type 0 where
   pub fits : (a : ℕ) → v a < 2 ^ 32
   pub in_range : (a : ℕ) → IsIn (range_at table a) (v a)

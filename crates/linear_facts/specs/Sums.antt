@@ -1,5 +1,5 @@
--- Sums in whole numbers, not reduced: a term is `plus - minus` times an atom. Natural numbers stand for
--- whole ones: both ends of an interval are given with 2^112 added.
+-- Sums in whole numbers, not reduced: a term is `plus - minus` times an atom. Natural numbers stand
+-- for whole ones: both ends of an interval are given with 2^112 added.
 use Rattle.std.specs.Prelude.{ℕ, ◌+◌, ◌-◌, ◌*◌, ◌/◌, ◌%◌, ◌^◌, ◌≤◌, ◌==◌, nat_lt, nat_le, min, max, not, if◌then◌else◌, List, [], ◌∷◌, ◌++◌, map, position, count_by, slice_set, slice_index_or, Option, Some, None}
 use Rattle.linear_facts.specs.Words.{Term, Range, Split, End, WholeTerm, Interval, Lo, Hi}
 use Rattle.linear_facts.specs.Forms.{Linear}
@@ -34,7 +34,8 @@ with_parts (Some s) ts t =
     with_term (with_term ts record { atom = s.first; plus = t.plus; minus = t.minus })
     record { atom = s.second; plus = t.plus; minus = t.minus }
 
--- the terms so far, and the others with each split atom replaced by the sum of its two parts, all at once
+-- the terms so far, and the others with each split atom replaced by the sum of its two
+-- parts, all at once
 unfoldable pub with_split : AtomTable → List WholeTerm → List WholeTerm → List WholeTerm
 with_split table so_far [] = so_far
 with_split table so_far (t ∷ ts) = with_split table (with_parts (split_at table t.atom) so_far t) ts

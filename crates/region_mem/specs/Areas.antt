@@ -1,5 +1,6 @@
--- Areas of memory, as a list in the order of their first addresses: the byte at an address, what an access may do, and
--- what a write leaves. An address is a number without limit here, so that none wraps.
+-- Areas of memory, as a list in the order of their first addresses: the byte at an address,
+-- what an access may do, and what a write leaves. An address is a number without limit here, so
+-- that none wraps.
 use Rattle.std.specs.Prelude.{◌≡◌, ℕ, true, false, ◌+◌, ◌-◌, ◌^◌, ◌≤◌, Bool, ◌&&◌, nat_le, nat_lt, List, [], ◌∷◌, ◌++◌, length, take, drop, map, find, Option, unwrap_or, slice_index, slice_set, if◌then◌else◌}
 use Rattle.std.specs.List.Sorted.{IsPartitionPoint}
 use Rattle.std.specs.List.{list_any, list_all, range_with_len}
@@ -19,8 +20,8 @@ pub record Area : Type 0 where
 unfoldable pub nothing : Area
 nothing = record { first = 0; bytes = []; read = false; write = false; fetch = false }
 
--- Each area begins where the one before it has ended, or later: they stand in the order of their first addresses, and no
--- address lies in two of them.
+-- Each area begins where the one before it has ended, or later: they stand in the order of their
+-- first addresses, and no address lies in two of them.
 unfoldable pub AreInOrder : ℕ → List Area → Type 0
 AreInOrder from [] = Unit {0}
 AreInOrder from (area ∷ areas) =
@@ -63,7 +64,8 @@ admits right address n area = spans address n area && has_right right area
 unfoldable pub is_open : Right → List Area → ℕ → Bool
 is_open right areas address = list_any (λ area. holds address area && has_right right area) areas
 
--- An access is permitted where each of its bytes lies in an area with the right, and none past the last address.
+-- An access is permitted where each of its bytes lies in an area with the right, and none past
+-- the last address.
 unfoldable pub is_open_from : Right → ℕ → ℕ → List Area → Bool
 is_open_from right address size areas =
     nat_le (address + size) (2 ^ 32) && list_all (is_open right areas) (range_with_len address size)
@@ -97,7 +99,8 @@ with_byte address byte (area ∷ areas) =
 -- the areas with these bytes from an address on, each in the area that holds its place
 unfoldable pub with_bytes : ℕ → List ℕ → List Area → List Area
 with_bytes address [] areas = areas
-with_bytes address (byte ∷ bytes) areas = with_bytes (address + 1) bytes (with_byte address byte areas)
+with_bytes address (byte ∷ bytes) areas =
+    with_bytes (address + 1) bytes (with_byte address byte areas)
 
 -- the areas with the n lowest bytes of a number from an address on
 unfoldable pub with_number : ℕ → ℕ → ℕ → List Area → List Area
@@ -123,7 +126,8 @@ part_into address bytes area =
     let at = address - area.first in
     record area { bytes = take at area.bytes ++ bytes ++ drop (at + length bytes) area.bytes }
 
--- the areas with these bytes from an address on, in the one area that has room for them all, and the right to write
+-- the areas with these bytes from an address on, in the one area that has room for them all, and
+-- the right to write
 unfoldable pub with_part : ℕ → List ℕ → List Area → List Area
 with_part address bytes [] = []
 with_part address bytes (area ∷ areas) =
@@ -133,7 +137,8 @@ with_part address bytes (area ∷ areas) =
 
 -- the area with these bytes over as many as it has from an address on, and none past its end
 unfoldable pub overlaid : ℕ → List ℕ → List ℕ → List ℕ
-overlaid at old bytes = take (length old) (take at old ++ (bytes ++ drop (length bytes) (drop at old)))
+overlaid at old bytes =
+    take (length old) (take at old ++ (bytes ++ drop (length bytes) (drop at old)))
 
 abbrev pub overlaid_area : ℕ → Area → List ℕ → Area
 overlaid_area address area bytes =

@@ -1,10 +1,11 @@
--- What a step answers, beside the definition that it follows; a fault's name, and the number that it carries.
+-- What a step answers, beside the definition that it follows; a fault's name, and the number
+-- that it carries.
 use Rattle.std.specs.Prelude.{◌≡◌, ℕ, List, codes, Result, Ok, Err}
 use Rattle.region_mem.specs.Words.{Fault}
 use Rattle.region_mem.specs.declared.faults.Fault.TheVariants.{Illegal, FetchFault, LoadFault, StoreFault, JumpMisaligned}
 
--- A step of a state is the defined one, both ways: on Ok the new state is the definition's; on Err the fault is the
--- definition's, and the state has not changed.
+-- A step of a state is the defined one, both ways: on Ok the new state is the definition's; on Err
+-- the fault is the definition's, and the state has not changed.
 abbrev pub Steps : {S : Type 0} → Result S Fault → S → S → Result (Unit {0}) Fault → Type 0
 Steps defined old new (Ok _) = defined ≡ Ok new
 Steps defined old new (Err fault) = (defined ≡ Err fault) × (new ≡ old)

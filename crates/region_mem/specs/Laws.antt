@@ -1,4 +1,5 @@
--- Laws of memory: what its definitions give, whatever the image, the parameters and the arguments that match them.
+-- Laws of memory: what its definitions give, whatever the image, the parameters and the arguments
+-- that match them.
 use Rattle.std.specs.Prelude.{◌≡◌, ℕ, ◌+◌, ◌*◌, ◌^◌, ◌<◌, ◌≤◌, Bool, true, false, List, length, take, drop, map, flat_map, slice_index, All, Some, None, unwrap_or}
 use Rattle.std.specs.List.{AllByRecursion, list_all, fold, range_with_len}
 use Rattle.region_mem.specs.Words.{Param, Arg, Read, Write, Fetch, HIGH_SEGMENTS_END}
@@ -61,10 +62,12 @@ StoresKeepExtents =
 -- It changes no byte that may not be written.
 abbrev pub StoresKeepUnwritable : Type 0
 StoresKeepUnwritable =
-    (address n value x : ℕ) (memory stored : Memory) → store_of address n value memory ≡ Some stored →
+    (address n value x : ℕ) (memory stored : Memory)
+    → store_of address n value memory ≡ Some stored →
     is_open Write memory.areas x ≡ false → byte_of x stored ≡ byte_of x memory
 
--- No word is fetched from the end of the segments' places on, at the start or after any stores: EXIT lies there.
+-- No word is fetched from the end of the segments' places on, at the start or after any stores:
+-- EXIT lies there.
 abbrev pub FetchesNothingAbove : Type 0
 FetchesNothingAbove =
     ForEachStart (λ image params args. (memory : Memory) →
@@ -89,7 +92,8 @@ StartsWithCode = ForEachStart (λ image params args. HasCode image (start_memory
 abbrev pub StartsCodeSafe : Type 0
 StartsCodeSafe = ForEachStart (λ image params args. IsCodeSafe (start_memory image params args))
 
--- Where no byte that may be fetched may be written a store keeps it so, and changes nothing of what is fetched.
+-- Where no byte that may be fetched may be written a store keeps it so, and changes nothing of
+-- what is fetched.
 abbrev pub StoresKeepCode : Type 0
 StoresKeepCode =
     (address n value : ℕ) (memory stored : Memory) → IsCodeSafe memory →
@@ -153,8 +157,8 @@ StoresInWindows memory =
     (address n i k : ℕ) → has_window address n memory ≡ true → i + k ≤ n →
     is_permitted Write (address + i) k memory ≡ true
 
--- Values of `size` bytes that are stored end to end, the first one first, fill it with their bytes. `place` says where
--- each is stored.
+-- Values of `size` bytes that are stored end to end, the first one first, fill it with their bytes.
+-- `place` says where each is stored.
 abbrev pub StoresFillWindows : Memory → Type 0
 StoresFillWindows memory =
     (place : ℕ → ℕ) (address size : ℕ) (values : List ℕ) →

@@ -46,12 +46,13 @@ window_of address n memory = window_in Read address n memory.areas
 unfoldable pub has_window : ℕ → ℕ → Memory → Bool
 has_window address n memory = is_some (window_in Write address n memory.areas)
 
--- the memory with these bytes from an address on, where one area has room for them all and they may be written
+-- the memory with these bytes from an address on, where one area has room for them all and
+-- they may be written
 unfoldable pub with_window : ℕ → List ℕ → Memory → Memory
 with_window address bytes memory = record memory { areas = with_part address bytes memory.areas }
 
--- the memory with these bytes over those from an address on, in the area that holds it, and none past its end; over a
--- window as long as they are this is `with_window`
+-- the memory with these bytes over those from an address on, in the area that holds it, and none
+-- past its end; over a window as long as they are this is `with_window`
 abbrev pub overlaid_window : ℕ → Memory → List ℕ → Memory
 overlaid_window address memory bytes =
     let place = position_or_len (holds address) memory.areas in

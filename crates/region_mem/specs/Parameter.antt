@@ -56,7 +56,8 @@ unfoldable pub is_wrong_size : Param × Argument → Bool
 is_wrong_size (Param.Buffer mode size, Arg.Buffer bytes) = not (length bytes == size)
 is_wrong_size other = false
 
--- what is wrong with the arguments: a kind before an interval before a size, and the lowest place of each
+-- what is wrong with the arguments: a kind before an interval before a size, and the
+-- lowest place of each
 unfoldable pub argument_error : List Param → List Argument → Option ArgError
 argument_error params args =
     let pairs = zip params args in

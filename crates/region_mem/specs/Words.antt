@@ -1,5 +1,6 @@
--- Types of this crate that definitions speak of, the variants of which the name alone says whose they are (another is named with its
--- type, as `Param.Buffer`), and the addresses and sizes that are fixed.
+-- Types of this crate that definitions speak of, the variants of which the name alone says
+-- whose they are (another is named with its type, as `Param.Buffer`), and the addresses and
+-- sizes that are fixed.
 pub use Rattle.region_mem.specs.declared.parameter.{Param.Param, ArgError.ArgError}
 pub use Rattle.region_mem.specs.declared.parameter.Mode.TheVariants.{ReadWrite}
 pub use Rattle.region_mem.specs.declared.parameter.ArgError.TheVariants.{WrongKind, ScalarOutOfInterval, WrongSize}

@@ -29,10 +29,11 @@ pub const BYTES: [u8; 261] = [
 /// The block of the loop: x10 is 0x40000000 - 4 * x11 + 4 * n, where n is parameter 1.
 const LOOP: &str = "Block { start: 65540, budget: Budget { constant: 1, factor: 8, register: 11, \
 second_factor: 0, second_register: 0 }, \
-vtype: None, registers: [RegisterFact { number: 1, low: 4294967280, high: 4294967280, equality: None }, \
+vtype: None, registers: [\
+RegisterFact { number: 1, low: 4294967280, high: 4294967280, equality: None }, \
 RegisterFact { number: 10, low: 1073741824, high: 1073745920, equality: Some(Equality { \
-constant: 1073741824, terms: [Term { atom: 11, coefficient: 4294967292 }, \
-Term { atom: 34, coefficient: 4 }] }) }, \
+constant: 1073741824, terms: [EqualityTerm { atom: 11, coefficient: 4294967292 }, \
+EqualityTerm { atom: 34, coefficient: 4 }] }) }, \
 RegisterFact { number: 11, low: 1, high: 1024, equality: None }], vectors: [], orders: [] }";
 
 /// Whether these are the example's bytes.

@@ -3,7 +3,7 @@ use Rattle.std.proofs.Common.{◌≡◌, ℕ, Bool, true, false, ◌&&◌, ◌==
 use Rattle.std.proofs.lemmas.Bool.{eqb-true}
 use Rattle.std.specs.Option.{IfSome}
 use Rattle.rv_decode.specs.Bits.{bits}
-use Rattle.rv_decode.specs.Rows.{Field, Row, Group, Section, has_fields, meanings_by_rows, meanings_by_groups, meanings, first}
+use Rattle.rv_decode.specs.Rows.{Field, Row, RowGroup, Section, has_fields, meanings_by_rows, meanings_by_groups, meanings, first}
 use Rattle.rv_decode.specs.Words.{Insn}
 
 abbrev pub HasFields : List Field → ℕ → Type 0
@@ -38,7 +38,7 @@ abbrev pub RowsHold : (Insn → Type 0) → ℕ → List Row → Type 0
 RowsHold P word [] = Unit {0}
 RowsHold P word (r ∷ rs) = (HasFields r.fixed word → P (r.meaning word)) × RowsHold P word rs
 
-abbrev pub GroupsHold : (Insn → Type 0) → ℕ → List Group → Type 0
+abbrev pub GroupsHold : (Insn → Type 0) → ℕ → List RowGroup → Type 0
 GroupsHold P word [] = Unit {0}
 GroupsHold P word (g ∷ gs) = (HasFields g.fixed word → RowsHold P word g.rows) × GroupsHold P word gs
 
@@ -57,7 +57,7 @@ by_rows P word (r ∷ rs) h =
     (where_true P (has_fields r.fixed word) (r.meaning word ∷ []) (λ e. (h.0 (fields_of r.fixed word e), tt)))
     (by_rows P word rs h.1)
 
-by_groups : (P : Insn → Type 0) (word : ℕ) (gs : List Group) → GroupsHold P word gs → Every P (meanings_by_groups gs word)
+by_groups : (P : Insn → Type 0) (word : ℕ) (gs : List RowGroup) → GroupsHold P word gs → Every P (meanings_by_groups gs word)
 by_groups P word [] h = tt
 by_groups P word (g ∷ gs) h =
     append_every P _ _

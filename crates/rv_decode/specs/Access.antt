@@ -1,10 +1,10 @@
--- The rows of the vector loads and stores ("Vector Load/Store Instruction Encoding", "Vector Load/Store Addressing
--- Modes"), but for segments and fault-only-first loads.
+-- The rows of the vector loads and stores ("Vector Load/Store Instruction Encoding", "Vector
+-- Load/Store Addressing Modes"), but for segments and fault-only-first loads.
 use Rattle.std.specs.Prelude.{ℕ, Bool, true, false, List, [], ◌∷◌, ◌++◌}
 use Rattle.rv_decode.specs.Bits.{rd_of, rs1_of, rs2_of}
-use Rattle.rv_decode.specs.Rows.{Field, Row, Group, f3, field, row, group}
+use Rattle.rv_decode.specs.Rows.{Field, Row, RowGroup, f3, field, row, group}
 use Rattle.rv_decode.specs.Operations.{vm, is_masked}
-use Rattle.rv_decode.specs.Words.{Count, Direction, Insn, Place, Width, One, Two, Four, Eight, W8, W16, W32}
+use Rattle.rv_decode.specs.Words.{Count, Direction, Insn, Addressing, Width, One, Two, Four, Eight, W8, W16, W32}
 
 -- one less than the number of fields of a segment, or of whole registers
 abbrev pub nf : ℕ → Field
@@ -23,25 +23,27 @@ abbrev pub aligned : ℕ → Field
 aligned width = field 7 width 0
 
 -- what an access means, by its place
-abbrev pub access : Direction → Place → ℕ → Insn
+abbrev pub access : Direction → Addressing → ℕ → Insn
 access direction place word =
-    Insn.VMem (record { direction = direction; place = place; values = rd_of word; rs1 = rs1_of word })
+    Insn.VMem
+    (record { direction = direction; place = place; values = rd_of word; rs1 = rs1_of word })
 
 abbrev pub unit : Direction → Width → ℕ → Insn
-unit direction width word = access direction (Place.Unit width (is_masked word)) word
+unit direction width word = access direction (Addressing.Unit width (is_masked word)) word
 
 abbrev pub strided : Direction → Width → ℕ → Insn
-strided direction width word = access direction (Place.Strided width (rs2_of word) (is_masked word)) word
+strided direction width word =
+    access direction (Addressing.Strided width (rs2_of word) (is_masked word)) word
 
 abbrev pub indexed : Bool → Direction → Width → ℕ → Insn
 indexed ordered direction width word =
-    access direction (Place.Indexed width (rs2_of word) ordered (is_masked word)) word
+    access direction (Addressing.Indexed width (rs2_of word) ordered (is_masked word)) word
 
 abbrev pub mask : Direction → ℕ → Insn
-mask direction word = access direction Place.Mask word
+mask direction word = access direction Addressing.Mask word
 
 abbrev pub whole : Count → Direction → Width → ℕ → Insn
-whole count direction width word = access direction (Place.Whole width count) word
+whole count direction width word = access direction (Addressing.Whole width count) word
 
 -- unit-stride, indexed in any order, strided, indexed in order
 unfoldable pub element_rows : Direction → Width → List Row
@@ -74,7 +76,7 @@ unfoldable pub wide_load_rows : Width → List Row
 wide_load_rows width = element_rows Direction.Load width ++ whole_rows Direction.Load width
 
 -- opcode 07
-unfoldable pub vector_load_groups : List Group
+unfoldable pub vector_load_groups : List RowGroup
 vector_load_groups =
     group (f3 0 ∷ []) (byte_rows Direction.Load) ∷
     group (f3 5 ∷ []) (wide_load_rows W16) ∷
@@ -82,7 +84,7 @@ vector_load_groups =
     []
 
 -- opcode 27
-unfoldable pub vector_store_groups : List Group
+unfoldable pub vector_store_groups : List RowGroup
 vector_store_groups =
     group (f3 0 ∷ []) (byte_rows Direction.Store) ∷
     group (f3 5 ∷ []) (element_rows Direction.Store W16) ∷

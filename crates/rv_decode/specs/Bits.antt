@@ -19,7 +19,8 @@ rs1_of word = bits 15 5 word
 abbrev pub rs2_of : ℕ → ℕ
 rs2_of word = bits 20 5 word
 
--- the immediates, as the standard's figure "Types of immediate produced by RISC-V instructions" shows them
+-- the immediates, as the standard's figure "Types of immediate produced by RISC-V
+-- instructions" shows them
 
 -- I: imm[11:0] in bits 31:20
 unfoldable pub immediate_i : ℕ → ℤ
@@ -31,7 +32,9 @@ immediate_s word = signed 2048 (bits 25 7 word * 32 + bits 7 5 word)
 
 -- B: imm[12] in bit 31, imm[11] in bit 7, imm[10:5] in bits 30:25, imm[4:1] in bits 11:8
 unfoldable pub immediate_b : ℕ → ℤ
-immediate_b word = signed 4096 (bits 31 1 word * 4096 + bits 7 1 word * 2048 + bits 25 6 word * 32 + bits 8 4 word * 2)
+immediate_b word =
+    signed 4096
+    (bits 31 1 word * 4096 + bits 7 1 word * 2048 + bits 25 6 word * 32 + bits 8 4 word * 2)
 
 -- U: imm[31:12] in bits 31:12, above twelve zeros
 unfoldable pub immediate_u : ℕ → ℕ
@@ -40,4 +43,5 @@ immediate_u word = bits 12 20 word * 4096
 -- J: imm[20] in bit 31, imm[19:12] in bits 19:12, imm[11] in bit 20, imm[10:1] in bits 30:21
 unfoldable pub immediate_j : ℕ → ℤ
 immediate_j word =
-    signed 1048576 (bits 31 1 word * 1048576 + bits 12 8 word * 4096 + bits 20 1 word * 2048 + bits 21 10 word * 2)
+    signed 1048576
+    (bits 31 1 word * 1048576 + bits 12 8 word * 4096 + bits 20 1 word * 2048 + bits 21 10 word * 2)

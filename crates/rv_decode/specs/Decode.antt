@@ -33,7 +33,8 @@ meaning_of word = first (meanings table word)
 -- the opcodes of RV32I and M but those of fence and SYSTEM
 unfoldable pub is_scalar_opcode : ℕ → Bool
 is_scalar_opcode n =
-    n == 0x03 || n == 0x13 || n == 0x17 || n == 0x23 || n == 0x33 || n == 0x37 || n == 0x63 || n == 0x67 || n == 0x6f
+    n == 0x03 || n == 0x13 || n == 0x17 || n == 0x23 || n == 0x33 || n == 0x37 || n == 0x63
+    || n == 0x67 || n == 0x6f
 
 -- the meanings of a word of these opcodes
 unfoldable pub scalar_meanings : ℕ → List Insn

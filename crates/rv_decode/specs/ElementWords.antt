@@ -1,5 +1,6 @@
--- The operations of opcode 57 on masks, on the places of elements, on all elements together, and on single elements and
--- whole registers ("Vector Mask Instructions", "Vector Permutation Instructions", "Vector Reduction Operations").
+-- The operations of opcode 57 on masks, on the places of elements, on all elements together, and on
+-- single elements and whole registers ("Vector Mask Instructions", "Vector Permutation
+-- Instructions", "Vector Reduction Operations").
 use Rattle.std.specs.Prelude.{ℕ, Bool, true, false, List, [], ◌∷◌, ◌++◌}
 use Rattle.rv_decode.specs.Bits.{bits, rd_of, rs1_of, rs2_of}
 use Rattle.rv_decode.specs.Rows.{Row, row}
@@ -44,10 +45,12 @@ abbrev pub by_immediate : (Offset → ℕ → Insn) → ℕ → Insn
 by_immediate slide word = slide (Offset.Immediate (bits 15 5 word)) word
 
 abbrev pub slide_one_up : ℕ → Insn
-slide_one_up word = Insn.VPerm (SlideOneUp (rd_of word) (rs2_of word) (rs1_of word) (is_masked word))
+slide_one_up word =
+    Insn.VPerm (SlideOneUp (rd_of word) (rs2_of word) (rs1_of word) (is_masked word))
 
 abbrev pub slide_one_down : ℕ → Insn
-slide_one_down word = Insn.VPerm (SlideOneDown (rd_of word) (rs2_of word) (rs1_of word) (is_masked word))
+slide_one_down word =
+    Insn.VPerm (SlideOneDown (rd_of word) (rs2_of word) (rs1_of word) (is_masked word))
 
 abbrev pub gather : Source → ℕ → Insn
 gather b word = Insn.VPerm (Gather (rd_of word) (rs2_of word) b (is_masked word))
@@ -64,7 +67,8 @@ abbrev pub fold : FoldOp → ℕ → Insn
 fold op word = Insn.VReduce (Fold op (rd_of word) (rs2_of word) (rs1_of word) (is_masked word))
 
 abbrev pub widen_sum : Bool → ℕ → Insn
-widen_sum signed word = Insn.VReduce (WidenSum signed (rd_of word) (rs2_of word) (rs1_of word) (is_masked word))
+widen_sum signed word =
+    Insn.VReduce (WidenSum signed (rd_of word) (rs2_of word) (rs1_of word) (is_masked word))
 
 -- moves
 

@@ -11,8 +11,8 @@ unfoldable pub modulo : ℕ → ℤ → ℕ
 modulo m (pos n) = n % m
 modulo m (negsuc n) = m - 1 - n % m
 
--- A word of each format from its immediate and its other fields, as numbers: those below the immediate, or, in S and
--- B, those between its two parts (f3, rs1, rs2) and the opcode.
+-- A word of each format from its immediate and its other fields, as numbers: those below the
+-- immediate, or, in S and B, those between its two parts (f3, rs1, rs2) and the opcode.
 
 unfoldable pub encode_i : ℤ → ℕ → ℕ
 encode_i imm low = modulo 4096 imm * 2 ^ 20 + low
@@ -24,7 +24,8 @@ encode_s imm middle opcode =
 unfoldable pub encode_b : ℤ → ℕ → ℕ → ℕ
 encode_b imm middle opcode =
     let n = modulo 8192 imm in
-    bits 12 1 n * 2 ^ 31 + bits 5 6 n * 2 ^ 25 + middle * 2 ^ 12 + bits 1 4 n * 2 ^ 8 + bits 11 1 n * 2 ^ 7 + opcode
+    bits 12 1 n * 2 ^ 31 + bits 5 6 n * 2 ^ 25 + middle * 2 ^ 12 + bits 1 4 n * 2 ^ 8
+    + bits 11 1 n * 2 ^ 7 + opcode
 
 unfoldable pub encode_u : ℕ → ℕ → ℕ
 encode_u imm low = bits 12 20 imm * 2 ^ 12 + low
@@ -106,12 +107,15 @@ encode (Lui rd imm) = encode_u imm (rd * 2 ^ 7 + 0x37)
 encode (Auipc rd imm) = encode_u imm (rd * 2 ^ 7 + 0x17)
 encode (Jal rd offset) = encode_j offset (rd * 2 ^ 7 + 0x6f)
 encode (Jalr rd rs1 offset) = encode_i offset (low_fields 0x67 rd 0 rs1)
-encode (Branch condition rs1 rs2 offset) = encode_b offset (middle_fields (f3_of_condition condition) rs1 rs2) 0x63
+encode (Branch condition rs1 rs2 offset) =
+    encode_b offset (middle_fields (f3_of_condition condition) rs1 rs2) 0x63
 encode (Load kind rd rs1 offset) = encode_i offset (low_fields 0x03 rd (f3_of_load kind) rs1)
 encode (Store size rs1 rs2 offset) = encode_s offset (middle_fields (f3_of_store size) rs1 rs2) 0x23
 encode (Immediate op rd rs1 imm) = encode_i imm (low_fields 0x13 rd (f3_of_immediate op) rs1)
-encode (ShiftImmediate op rd rs1 amount) = encode_r 0x13 rd (codes_of_shift op).0 rs1 amount (codes_of_shift op).1
-encode (Register op rd rs1 rs2) = encode_r 0x33 rd (codes_of_register op).0 rs1 rs2 (codes_of_register op).1
+encode (ShiftImmediate op rd rs1 amount) =
+    encode_r 0x13 rd (codes_of_shift op).0 rs1 amount (codes_of_shift op).1
+encode (Register op rd rs1 rs2) =
+    encode_r 0x33 rd (codes_of_register op).0 rs1 rs2 (codes_of_register op).1
 encode Fence = 0x0ff0000f
 encode Ecall = 0x00000073
 
@@ -136,7 +140,8 @@ IsEncodable (Lui rd imm) = IsRegister rd × IsUpper imm
 IsEncodable (Auipc rd imm) = IsRegister rd × IsUpper imm
 IsEncodable (Jal rd offset) = IsRegister rd × IsSigned 1048576 offset × IsEven offset
 IsEncodable (Jalr rd rs1 offset) = IsRegister rd × IsRegister rs1 × IsSigned 2048 offset
-IsEncodable (Branch condition rs1 rs2 offset) = IsRegister rs1 × IsRegister rs2 × IsSigned 4096 offset × IsEven offset
+IsEncodable (Branch condition rs1 rs2 offset) =
+    IsRegister rs1 × IsRegister rs2 × IsSigned 4096 offset × IsEven offset
 IsEncodable (Load kind rd rs1 offset) = IsRegister rd × IsRegister rs1 × IsSigned 2048 offset
 IsEncodable (Store size rs1 rs2 offset) = IsRegister rs1 × IsRegister rs2 × IsSigned 2048 offset
 IsEncodable (Immediate op rd rs1 imm) = IsRegister rd × IsRegister rs1 × IsSigned 2048 imm

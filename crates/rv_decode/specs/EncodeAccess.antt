@@ -2,7 +2,7 @@
 use Rattle.std.specs.Prelude.{◌≡◌, ℕ, ◌+◌, ◌*◌, ◌%◌, ◌^◌, Bool, false, true}
 use Rattle.rv_decode.specs.Encode.{low_fields, IsRegister}
 use Rattle.rv_decode.specs.EncodeVector.{vm_of}
-use Rattle.rv_decode.specs.Words.{Count, Direction, Place, VMem, Width, One, Two, Four, Eight, W8, W16, W32}
+use Rattle.rv_decode.specs.Words.{Count, Direction, Addressing, VMem, Width, One, Two, Four, Eight, W8, W16, W32}
 
 abbrev pub opcode_of_direction : Direction → ℕ
 opcode_of_direction Direction.Load = 0x07
@@ -39,12 +39,14 @@ encode_m nf mop vm kind width access =
     nf * 2 ^ 29 + mop * 2 ^ 26 + vm * 2 ^ 25 + kind * 2 ^ 20 +
     low_fields (opcode_of_direction access.direction) access.values (f3_of_width width) access.rs1
 
-abbrev pub encode_place : Place → VMem → ℕ
-encode_place (Place.Unit width masked) access = encode_m 0 0 (vm_of masked) 0 width access
-encode_place (Place.Strided width rs2 masked) access = encode_m 0 2 (vm_of masked) rs2 width access
-encode_place (Place.Indexed width vs2 ordered masked) access = encode_m 0 (mop_of_order ordered) (vm_of masked) vs2 width access
-encode_place Place.Mask access = encode_m 0 0 1 0x0b W8 access
-encode_place (Place.Whole width count) access = encode_m (nf_of_count count) 0 1 8 width access
+abbrev pub encode_place : Addressing → VMem → ℕ
+encode_place (Addressing.Unit width masked) access = encode_m 0 0 (vm_of masked) 0 width access
+encode_place (Addressing.Strided width rs2 masked) access =
+    encode_m 0 2 (vm_of masked) rs2 width access
+encode_place (Addressing.Indexed width vs2 ordered masked) access =
+    encode_m 0 (mop_of_order ordered) (vm_of masked) vs2 width access
+encode_place Addressing.Mask access = encode_m 0 0 1 0x0b W8 access
+encode_place (Addressing.Whole width count) access = encode_m (nf_of_count count) 0 1 8 width access
 
 unfoldable pub encode_access : VMem → ℕ
 encode_access access = encode_place access.place access
@@ -54,12 +56,12 @@ abbrev pub WholeFits : Direction → Width → Type 0
 WholeFits Direction.Load width = Unit {0}
 WholeFits Direction.Store width = width ≡ W8
 
-abbrev pub PlaceFits : Place → VMem → Type 0
-PlaceFits (Place.Unit width masked) access = Unit {0}
-PlaceFits (Place.Strided width rs2 masked) access = IsRegister rs2
-PlaceFits (Place.Indexed width vs2 ordered masked) access = IsRegister vs2
-PlaceFits Place.Mask access = Unit {0}
-PlaceFits (Place.Whole width count) access =
+abbrev pub PlaceFits : Addressing → VMem → Type 0
+PlaceFits (Addressing.Unit width masked) access = Unit {0}
+PlaceFits (Addressing.Strided width rs2 masked) access = IsRegister rs2
+PlaceFits (Addressing.Indexed width vs2 ordered masked) access = IsRegister vs2
+PlaceFits Addressing.Mask access = Unit {0}
+PlaceFits (Addressing.Whole width count) access =
     (access.values % number_of_count count ≡ 0) × WholeFits access.direction width
 
 abbrev pub AccessFits : VMem → Type 0

@@ -1,5 +1,6 @@
--- The words of the instructions on masks, of permutations, reductions and moves, as "Vector Instruction Formats" lays them
--- out, with the codes of the "V" extension's "Vector Instruction Listing".
+-- The words of the instructions on masks, of permutations, reductions and moves, as "Vector
+-- Instruction Formats" lays them out, with the codes of the "V" extension's "Vector
+-- Instruction Listing".
 use Rattle.std.specs.Prelude.{ℕ, ◌<◌, Bool, false, true, pos}
 use Rattle.rv_decode.specs.Encode.{IsRegister}
 use Rattle.rv_decode.specs.Operations.{VXU, XU, only_v, only_x, only_i}
@@ -37,10 +38,14 @@ selector_of_first Including = 3
 
 unfoldable pub encode_mask : VMask → ℕ
 encode_mask (Logic op vd vs2 vs1) = encode_v (code_of_logic op) vd 1 vs2 (Source.Vector vs1)
-encode_mask (VMask.Count rd vs2 masked) = encode_v code_of_to_scalar rd (vm_of masked) vs2 (Source.Vector 0x10)
-encode_mask (First rd vs2 masked) = encode_v code_of_to_scalar rd (vm_of masked) vs2 (Source.Vector 0x11)
-encode_mask (SetFirst op vd vs2 masked) = encode_v code_of_set_mask vd (vm_of masked) vs2 (Source.Vector (selector_of_first op))
-encode_mask (Iota vd vs2 masked) = encode_v code_of_set_mask vd (vm_of masked) vs2 (Source.Vector 0x10)
+encode_mask (VMask.Count rd vs2 masked) =
+    encode_v code_of_to_scalar rd (vm_of masked) vs2 (Source.Vector 0x10)
+encode_mask (First rd vs2 masked) =
+    encode_v code_of_to_scalar rd (vm_of masked) vs2 (Source.Vector 0x11)
+encode_mask (SetFirst op vd vs2 masked) =
+    encode_v code_of_set_mask vd (vm_of masked) vs2 (Source.Vector (selector_of_first op))
+encode_mask (Iota vd vs2 masked) =
+    encode_v code_of_set_mask vd (vm_of masked) vs2 (Source.Vector 0x10)
 encode_mask (Index vd masked) = encode_v code_of_set_mask vd (vm_of masked) 0 (Source.Vector 0x11)
 
 abbrev pub MaskFits : VMask → Type 0
@@ -82,12 +87,17 @@ OffsetFits (Offset.Scalar rs1) = IsRegister rs1
 OffsetFits (Offset.Immediate n) = n < 32
 
 unfoldable pub encode_perm : VPerm → ℕ
-encode_perm (SlideUp vd vs2 by masked) = encode_v code_of_slide_up vd (vm_of masked) vs2 (source_of by)
-encode_perm (SlideDown vd vs2 by masked) = encode_v code_of_slide_down vd (vm_of masked) vs2 (source_of by)
-encode_perm (SlideOneUp vd vs2 rs1 masked) = encode_v code_of_slide_one_up vd (vm_of masked) vs2 (Source.Scalar rs1)
-encode_perm (SlideOneDown vd vs2 rs1 masked) = encode_v code_of_slide_one_down vd (vm_of masked) vs2 (Source.Scalar rs1)
+encode_perm (SlideUp vd vs2 by masked) =
+    encode_v code_of_slide_up vd (vm_of masked) vs2 (source_of by)
+encode_perm (SlideDown vd vs2 by masked) =
+    encode_v code_of_slide_down vd (vm_of masked) vs2 (source_of by)
+encode_perm (SlideOneUp vd vs2 rs1 masked) =
+    encode_v code_of_slide_one_up vd (vm_of masked) vs2 (Source.Scalar rs1)
+encode_perm (SlideOneDown vd vs2 rs1 masked) =
+    encode_v code_of_slide_one_down vd (vm_of masked) vs2 (Source.Scalar rs1)
 encode_perm (Gather vd vs2 b masked) = encode_v code_of_gather vd (vm_of masked) vs2 b
-encode_perm (Gather16 vd vs2 vs1 masked) = encode_v code_of_gather16 vd (vm_of masked) vs2 (Source.Vector vs1)
+encode_perm (Gather16 vd vs2 vs1 masked) =
+    encode_v code_of_gather16 vd (vm_of masked) vs2 (Source.Vector vs1)
 encode_perm (Compress vd vs2 vs1) = encode_v code_of_compress vd 1 vs2 (Source.Vector vs1)
 
 abbrev pub PermFits : VPerm → Type 0
@@ -95,7 +105,8 @@ PermFits (SlideUp vd vs2 by masked) = IsRegister vd × IsRegister vs2 × OffsetF
 PermFits (SlideDown vd vs2 by masked) = IsRegister vd × IsRegister vs2 × OffsetFits by
 PermFits (SlideOneUp vd vs2 rs1 masked) = IsRegister vd × IsRegister vs2 × IsRegister rs1
 PermFits (SlideOneDown vd vs2 rs1 masked) = IsRegister vd × IsRegister vs2 × IsRegister rs1
-PermFits (Gather vd vs2 b masked) = IsRegister vd × IsRegister vs2 × OperandFits code_of_gather.forms b
+PermFits (Gather vd vs2 b masked) =
+    IsRegister vd × IsRegister vs2 × OperandFits code_of_gather.forms b
 PermFits (Gather16 vd vs2 vs1 masked) = IsRegister vd × IsRegister vs2 × IsRegister vs1
 PermFits (Compress vd vs2 vs1) = IsRegister vd × IsRegister vs2 × IsRegister vs1
 
@@ -114,8 +125,10 @@ code_of_widen_sum false = code OPI 0x30 only_v
 code_of_widen_sum true = code OPI 0x31 only_v
 
 unfoldable pub encode_reduce : VReduce → ℕ
-encode_reduce (Fold op vd vs2 vs1 masked) = encode_v (code_of_fold op) vd (vm_of masked) vs2 (Source.Vector vs1)
-encode_reduce (WidenSum signed vd vs2 vs1 masked) = encode_v (code_of_widen_sum signed) vd (vm_of masked) vs2 (Source.Vector vs1)
+encode_reduce (Fold op vd vs2 vs1 masked) =
+    encode_v (code_of_fold op) vd (vm_of masked) vs2 (Source.Vector vs1)
+encode_reduce (WidenSum signed vd vs2 vs1 masked) =
+    encode_v (code_of_widen_sum signed) vd (vm_of masked) vs2 (Source.Vector vs1)
 
 abbrev pub ReduceFits : VReduce → Type 0
 ReduceFits (Fold op vd vs2 vs1 masked) = IsRegister vd × IsRegister vs2 × IsRegister vs1
@@ -128,7 +141,8 @@ code_of_whole_move = code OPI 0x27 only_i
 unfoldable pub encode_move : VMove → ℕ
 encode_move (ToScalar rd vs2) = encode_v code_of_to_scalar rd 1 vs2 (Source.Vector 0)
 encode_move (FromScalar vd rs1) = encode_v code_of_from_scalar vd 1 0 (Source.Scalar rs1)
-encode_move (VMove.Whole count vd vs2) = encode_v code_of_whole_move vd 1 vs2 (Source.Immediate (pos (nf_of_count count)))
+encode_move (VMove.Whole count vd vs2) =
+    encode_v code_of_whole_move vd 1 vs2 (Source.Immediate (pos (nf_of_count count)))
 
 abbrev pub MoveFits : VMove → Type 0
 MoveFits (ToScalar rd vs2) = IsRegister rd × IsRegister vs2

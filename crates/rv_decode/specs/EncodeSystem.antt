@@ -1,4 +1,5 @@
--- The word of an instruction on CSRs, as the chapter "Zicsr" lays it out: csr, rs1 or an immediate, f3, rd, opcode.
+-- The word of an instruction on CSRs, as the chapter "Zicsr" lays it out: csr, rs1 or an immediate,
+-- f3, rd, opcode.
 use Rattle.std.specs.Prelude.{◌≡◌, ℕ, ◌+◌, ◌*◌, ◌/◌, ◌^◌, ◌<◌, ◌==◌, Bool, true, false, ◌&&◌, not}
 use Rattle.rv_decode.specs.Encode.{low_fields, IsRegister}
 use Rattle.rv_decode.specs.Words.{CsrAction, CsrInsn, CsrName, CsrSource, Write, Set, Clear, Vxsat, Vxrm, Vcsr, Vl, Vtype, Vlenb}
@@ -29,7 +30,8 @@ number_of_source (CsrSource.Immediate imm) = imm
 unfoldable pub encode_csr : CsrInsn → ℕ
 encode_csr insn =
     number_of_csr insn.csr * 2 ^ 20 +
-    low_fields 0x73 insn.rd (f3_of_action insn.action + f3_of_source insn.source) (number_of_source insn.source)
+    low_fields 0x73 insn.rd (f3_of_action insn.action + f3_of_source insn.source)
+    (number_of_source insn.source)
 
 -- the top two bits of the number of a read-only CSR are 11
 abbrev pub is_read_only : CsrName → Bool

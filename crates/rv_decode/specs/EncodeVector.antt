@@ -1,5 +1,5 @@
--- The word of a vector instruction, as "Vector Instruction Formats" lays it out, with the codes of the "V" extension's
--- "Vector Instruction Listing".
+-- The word of a vector instruction, as "Vector Instruction Formats" lays it out, with the codes of
+-- the "V" extension's "Vector Instruction Listing".
 use Rattle.std.specs.Prelude.{◌≡◌, ◌⊎◌, ℕ, ◌+◌, ◌*◌, ◌^◌, ◌<◌, pos, ◌≤ℤ◌, Bool, true, false, List}
 use Rattle.std.specs.List.{list_any}
 use Rattle.rv_decode.specs.Encode.{modulo, low_fields, encode_r, IsRegister, IsSigned}
@@ -150,20 +150,24 @@ vm_of true = 0
 
 unfoldable pub encode_v : Code → ℕ → ℕ → ℕ → Source → ℕ
 encode_v c vd vm vs2 b =
-    c.funct6 * 2 ^ 26 + vm * 2 ^ 25 + vs2 * 2 ^ 20 + low_fields 0x57 vd (f3_of c.category b) (number_of_operand b)
+    c.funct6 * 2 ^ 26 + vm * 2 ^ 25 + vs2 * 2 ^ 20
+    + low_fields 0x57 vd (f3_of c.category b) (number_of_operand b)
 
 unfoldable pub encode_arith : VArith → ℕ
 encode_arith (Int op vd vs2 b masked) = encode_v (code_of_int op) vd (vm_of masked) vs2 b
-encode_arith (MultiplyAdd op vd vs2 b masked) = encode_v (code_of_multiply_add op) vd (vm_of masked) vs2 b
+encode_arith (MultiplyAdd op vd vs2 b masked) =
+    encode_v (code_of_multiply_add op) vd (vm_of masked) vs2 b
 encode_arith (Carry op vd vs2 b) = encode_v (code_of_carry op) vd 0 vs2 b
-encode_arith (CarryOut op vd vs2 b with_carry) = encode_v (code_of_carry_out op) vd (vm_of with_carry) vs2 b
+encode_arith (CarryOut op vd vs2 b with_carry) =
+    encode_v (code_of_carry_out op) vd (vm_of with_carry) vs2 b
 encode_arith (Merge vd vs2 b) = encode_v code_of_merge vd 0 vs2 b
 encode_arith (Copy vd b) = encode_v code_of_merge vd 1 0 b
 encode_arith (Compare op vd vs2 b masked) = encode_v (code_of_compare op) vd (vm_of masked) vs2 b
 encode_arith (Fixed op vd vs2 b masked) = encode_v (code_of_fixed op) vd (vm_of masked) vs2 b
 encode_arith (Widen op vd vs2 b masked) = encode_v (code_of_widen op) vd (vm_of masked) vs2 b
 encode_arith (Wide op vd vs2 b masked) = encode_v (code_of_wide op) vd (vm_of masked) vs2 b
-encode_arith (WidenMultiplyAdd op vd vs2 b masked) = encode_v (code_of_widen_multiply_add op) vd (vm_of masked) vs2 b
+encode_arith (WidenMultiplyAdd op vd vs2 b masked) =
+    encode_v (code_of_widen_multiply_add op) vd (vm_of masked) vs2 b
 encode_arith (Narrow op vd vs2 b masked) = encode_v (code_of_narrow op) vd (vm_of masked) vs2 b
 encode_arith (Clip op vd vs2 b masked) = encode_v (code_of_clip op) vd (vm_of masked) vs2 b
 encode_arith (Extend signed of vd vs2 masked) =
@@ -196,22 +200,30 @@ OperandFits forms (Source.Immediate imm) =
     ((list_any takes_unsigned forms ≡ true) × (pos 0 ≤ℤ imm) × (imm ≤ℤ pos 31))
 
 abbrev pub ArithFits : VArith → Type 0
-ArithFits (Int op vd vs2 b masked) = IsRegister vd × IsRegister vs2 × OperandFits (code_of_int op).forms b
+ArithFits (Int op vd vs2 b masked) =
+    IsRegister vd × IsRegister vs2 × OperandFits (code_of_int op).forms b
 ArithFits (MultiplyAdd op vd vs2 b masked) =
     IsRegister vd × IsRegister vs2 × OperandFits (code_of_multiply_add op).forms b
-ArithFits (Carry op vd vs2 b) = IsRegister vd × IsRegister vs2 × OperandFits (code_of_carry op).forms b
+ArithFits (Carry op vd vs2 b) =
+    IsRegister vd × IsRegister vs2 × OperandFits (code_of_carry op).forms b
 ArithFits (CarryOut op vd vs2 b with_carry) =
     IsRegister vd × IsRegister vs2 × OperandFits (code_of_carry_out op).forms b
 ArithFits (Merge vd vs2 b) = IsRegister vd × IsRegister vs2 × OperandFits code_of_merge.forms b
 ArithFits (Copy vd b) = IsRegister vd × OperandFits code_of_merge.forms b
-ArithFits (Compare op vd vs2 b masked) = IsRegister vd × IsRegister vs2 × OperandFits (code_of_compare op).forms b
-ArithFits (Fixed op vd vs2 b masked) = IsRegister vd × IsRegister vs2 × OperandFits (code_of_fixed op).forms b
-ArithFits (Widen op vd vs2 b masked) = IsRegister vd × IsRegister vs2 × OperandFits (code_of_widen op).forms b
-ArithFits (Wide op vd vs2 b masked) = IsRegister vd × IsRegister vs2 × OperandFits (code_of_wide op).forms b
+ArithFits (Compare op vd vs2 b masked) =
+    IsRegister vd × IsRegister vs2 × OperandFits (code_of_compare op).forms b
+ArithFits (Fixed op vd vs2 b masked) =
+    IsRegister vd × IsRegister vs2 × OperandFits (code_of_fixed op).forms b
+ArithFits (Widen op vd vs2 b masked) =
+    IsRegister vd × IsRegister vs2 × OperandFits (code_of_widen op).forms b
+ArithFits (Wide op vd vs2 b masked) =
+    IsRegister vd × IsRegister vs2 × OperandFits (code_of_wide op).forms b
 ArithFits (WidenMultiplyAdd op vd vs2 b masked) =
     IsRegister vd × IsRegister vs2 × OperandFits (code_of_widen_multiply_add op).forms b
-ArithFits (Narrow op vd vs2 b masked) = IsRegister vd × IsRegister vs2 × OperandFits (code_of_narrow op).forms b
-ArithFits (Clip op vd vs2 b masked) = IsRegister vd × IsRegister vs2 × OperandFits (code_of_clip op).forms b
+ArithFits (Narrow op vd vs2 b masked) =
+    IsRegister vd × IsRegister vs2 × OperandFits (code_of_narrow op).forms b
+ArithFits (Clip op vd vs2 b masked) =
+    IsRegister vd × IsRegister vs2 × OperandFits (code_of_clip op).forms b
 ArithFits (Extend signed of vd vs2 masked) = IsRegister vd × IsRegister vs2
 
 abbrev pub VSetFits : VSet → Type 0

@@ -17,11 +17,13 @@ IsScalarWord (Lui rd imm) word = word ≡ encode (Lui rd imm)
 IsScalarWord (Auipc rd imm) word = word ≡ encode (Auipc rd imm)
 IsScalarWord (Jal rd offset) word = word ≡ encode (Jal rd offset)
 IsScalarWord (Jalr rd rs1 offset) word = word ≡ encode (Jalr rd rs1 offset)
-IsScalarWord (Branch condition rs1 rs2 offset) word = word ≡ encode (Branch condition rs1 rs2 offset)
+IsScalarWord (Branch condition rs1 rs2 offset) word =
+    word ≡ encode (Branch condition rs1 rs2 offset)
 IsScalarWord (Load kind rd rs1 offset) word = word ≡ encode (Load kind rd rs1 offset)
 IsScalarWord (Store size rs1 rs2 offset) word = word ≡ encode (Store size rs1 rs2 offset)
 IsScalarWord (Immediate op rd rs1 imm) word = word ≡ encode (Immediate op rd rs1 imm)
-IsScalarWord (ShiftImmediate op rd rs1 amount) word = word ≡ encode (ShiftImmediate op rd rs1 amount)
+IsScalarWord (ShiftImmediate op rd rs1 amount) word =
+    word ≡ encode (ShiftImmediate op rd rs1 amount)
 IsScalarWord (Register op rd rs1 rs2) word = word ≡ encode (Register op rd rs1 rs2)
 IsScalarWord Ecall word = word ≡ encode Ecall
 

@@ -1,5 +1,5 @@
--- How the rows of vector operations are written: a funct6, the forms of the second operand, and a meaning, as in the
--- "V" extension's "Vector Instruction Listing".
+-- How the rows of vector operations are written: a funct6, the forms of the second operand, and a
+-- meaning, as in the "V" extension's "Vector Instruction Listing".
 use Rattle.std.specs.Prelude.{ℕ, Bool, true, false, ◌==◌, List, [], ◌∷◌, ◌++◌, pos, if◌then◌else◌}
 use Rattle.rv_decode.specs.Bits.{bits, signed, rs1_of}
 use Rattle.rv_decode.specs.Rows.{Field, Row, field, row}
@@ -22,7 +22,8 @@ vs1 value = field 15 5 value
 abbrev pub vs2 : ℕ → Field
 vs2 value = field 20 5 value
 
--- The forms of an operation, by its second operand: vs1, x[rs1], a signed immediate, an unsigned one.
+-- The forms of an operation, by its second operand: vs1, x[rs1], a signed immediate,
+-- an unsigned one.
 pub data Form : Type 0 where
   V : Form
   X : Form
@@ -59,7 +60,8 @@ only_x = X ∷ []
 abbrev pub only_i : List Form
 only_i = I ∷ []
 
--- an operation: its funct6, its forms, the fields that it fixes besides, and what it means with an operand
+-- an operation: its funct6, its forms, the fields that it fixes besides, and what it means
+-- with an operand
 pub record Operation : Type 0 where
   pub code : ℕ
   pub forms : List Form
@@ -70,7 +72,8 @@ abbrev pub operation : ℕ → List Form → (Source → ℕ → Insn) → Opera
 operation code forms meaning = record { code = code; forms = forms; fixed = []; meaning = meaning }
 
 abbrev pub operation_where : ℕ → List Form → List Field → (Source → ℕ → Insn) → Operation
-operation_where code forms fixed meaning = record { code = code; forms = forms; fixed = fixed; meaning = meaning }
+operation_where code forms fixed meaning =
+    record { code = code; forms = forms; fixed = fixed; meaning = meaning }
 
 -- an operation of one form, whose word says all
 abbrev pub only_form : ℕ → Form → List Field → (ℕ → Insn) → Operation
@@ -86,7 +89,8 @@ select code form (r ∷ rs) = only_form code form r.fixed r.meaning ∷ select c
 abbrev pub rows_in : (Form → Bool) → List Form → Operation → List Row
 rows_in selects [] op = []
 rows_in selects (form ∷ forms) op =
-    (if selects form then row (funct6 op.code ∷ op.fixed) (λ w. op.meaning (operand form w) w) ∷ [] else []) ++
+    (if selects form then row (funct6 op.code ∷ op.fixed) (λ w. op.meaning (operand form w) w) ∷ []
+    else []) ++
     rows_in selects forms op
 
 abbrev pub rows_of : (Form → Bool) → List Operation → List Row

@@ -1,7 +1,7 @@
 -- The rows of the scalar words of RV32I and M, by opcode.
 use Rattle.std.specs.Prelude.{ℕ, List, [], ◌∷◌}
 use Rattle.rv_decode.specs.Bits.{bits, rd_of, rs1_of, rs2_of, immediate_i, immediate_s, immediate_b, immediate_u, immediate_j}
-use Rattle.rv_decode.specs.Rows.{Row, Group, f3, f7, row, group, only_f3, only}
+use Rattle.rv_decode.specs.Rows.{Row, RowGroup, f3, f7, row, group, only_f3, only}
 use Rattle.rv_decode.specs.Words.{Condition, ImmediateOp, Insn, LoadKind, RegisterOp, ShiftOp, Width, Scalar, Lui, Auipc, Jal, Jalr, Branch}
 use Rattle.rv_decode.specs.Words.{Load, Store, Immediate, ShiftImmediate, Register, Fence, Eq, Ne, Lt, Ge, Ltu, Geu, Byte, Half, Word}
 use Rattle.rv_decode.specs.Words.{ByteUnsigned, HalfUnsigned, W8, W16, W32, Addi, Slti, Sltiu, Xori, Ori, Andi, Slli, Srli, Srai, Add, Sub}
@@ -40,21 +40,21 @@ abbrev pub register : RegisterOp → ℕ → Insn
 register op word = Scalar (Register op (rd_of word) (rs1_of word) (rs2_of word))
 
 -- opcodes 37, 17, 6f
-unfoldable pub lui_groups : List Group
+unfoldable pub lui_groups : List RowGroup
 lui_groups = only lui ∷ []
 
-unfoldable pub auipc_groups : List Group
+unfoldable pub auipc_groups : List RowGroup
 auipc_groups = only auipc ∷ []
 
-unfoldable pub jal_groups : List Group
+unfoldable pub jal_groups : List RowGroup
 jal_groups = only jal ∷ []
 
 -- opcode 67
-unfoldable pub jalr_groups : List Group
+unfoldable pub jalr_groups : List RowGroup
 jalr_groups = only_f3 0 jalr ∷ []
 
 -- opcode 63
-unfoldable pub branch_groups : List Group
+unfoldable pub branch_groups : List RowGroup
 branch_groups =
     only_f3 0 (branch Eq) ∷
     only_f3 1 (branch Ne) ∷
@@ -65,7 +65,7 @@ branch_groups =
     []
 
 -- opcode 03
-unfoldable pub load_groups : List Group
+unfoldable pub load_groups : List RowGroup
 load_groups =
     only_f3 0 (load Byte) ∷
     only_f3 1 (load Half) ∷
@@ -75,7 +75,7 @@ load_groups =
     []
 
 -- opcode 23
-unfoldable pub store_groups : List Group
+unfoldable pub store_groups : List RowGroup
 store_groups =
     only_f3 0 (store W8) ∷
     only_f3 1 (store W16) ∷
@@ -83,7 +83,7 @@ store_groups =
     []
 
 -- opcode 13: a register and an immediate
-unfoldable pub immediate_groups : List Group
+unfoldable pub immediate_groups : List RowGroup
 immediate_groups =
     only_f3 0 (immediate Addi) ∷
     group (f3 1 ∷ []) (row (f7 0x00 ∷ []) (shift Slli) ∷ []) ∷
@@ -120,7 +120,7 @@ multiply_rows =
     row (f3 7 ∷ []) (register Remu) ∷
     []
 
-unfoldable pub register_groups : List Group
+unfoldable pub register_groups : List RowGroup
 register_groups =
     group (f7 0x00 ∷ []) base_rows ∷
     group (f7 0x20 ∷ []) (row (f3 0 ∷ []) (register Sub) ∷ row (f3 5 ∷ []) (register Sra) ∷ []) ∷
@@ -128,5 +128,5 @@ register_groups =
     []
 
 -- opcode 0f: fence, whatever its other fields say
-unfoldable pub fence_groups : List Group
+unfoldable pub fence_groups : List RowGroup
 fence_groups = only_f3 0 (λ word. Scalar Fence) ∷ []

@@ -1,7 +1,7 @@
 -- The rows of opcode 73: ecall, and the six forms on CSRs.
 use Rattle.std.specs.Prelude.{ℕ, List, [], ◌∷◌, ◌++◌}
 use Rattle.rv_decode.specs.Bits.{bits, rd_of, rs1_of}
-use Rattle.rv_decode.specs.Rows.{Field, Row, Group, f3, field, row, group}
+use Rattle.rv_decode.specs.Rows.{Field, Row, RowGroup, f3, field, row, group}
 use Rattle.rv_decode.specs.Words.{CsrAction, CsrName, CsrSource, Insn, Scalar, Csr, Ecall, Write, Set, Clear, Vxsat, Vxrm, Vcsr, Vl, Vtype}
 use Rattle.rv_decode.specs.Words.{Vlenb}
 
@@ -10,7 +10,8 @@ abbrev pub csr : ℕ → Field
 csr number = field 20 12 number
 
 abbrev pub csr_form : CsrAction → CsrName → CsrSource → ℕ → Insn
-csr_form action name source word = Csr (record { action = action; csr = name; source = source; rd = rd_of word })
+csr_form action name source word =
+    Csr (record { action = action; csr = name; source = source; rd = rd_of word })
 
 -- the CSRs that any form may name
 abbrev pub writable : CsrAction → (ℕ → CsrSource) → List Row
@@ -38,7 +39,7 @@ abbrev pub by_immediate : ℕ → CsrSource
 by_immediate word = CsrSource.Immediate (bits 15 5 word)
 
 -- csrrw, csrrs, csrrc, csrrwi, csrrsi, csrrci; ecall is one word
-unfoldable pub system_groups : List Group
+unfoldable pub system_groups : List RowGroup
 system_groups =
     group (f3 0 ∷ []) (row (field 7 5 0 ∷ field 15 17 0 ∷ []) (λ word. Scalar Ecall) ∷ []) ∷
     group (f3 1 ∷ []) (writable Write by_register) ∷

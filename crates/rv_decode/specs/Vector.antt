@@ -1,7 +1,8 @@
--- The rows of opcode 57: vector arithmetic, the operations of ElementWords.antt, and the forms that set vl and vtype.
+-- The rows of opcode 57: vector arithmetic, the operations of ElementWords.antt, and the forms that
+-- set vl and vtype.
 use Rattle.std.specs.Prelude.{ℕ, Bool, true, false, List, [], ◌∷◌, ◌++◌}
 use Rattle.rv_decode.specs.Bits.{bits, rd_of, rs1_of, rs2_of}
-use Rattle.rv_decode.specs.Rows.{Row, Group, f3, field, row, group}
+use Rattle.rv_decode.specs.Rows.{Row, RowGroup, f3, field, row, group}
 use Rattle.rv_decode.specs.Operations.{V, VXI, VXU, VX, XI, only_x, Operation, operation, operation_where, select, rows_of, vectors, scalars, immediates, vm, vs1, vs2, is_masked}
 use Rattle.rv_decode.specs.ElementWords.{low_opi_elements, high_opi_elements, opm_elements}
 use Rattle.rv_decode.specs.Words.{CarryOp, CarryOutOp, ClipOp, CompareOp, FixedOp, Fraction, Insn, IntOp, MultiplyAddOp, NarrowOp, Source}
@@ -46,7 +47,8 @@ abbrev pub wide : WideOp → Source → ℕ → Insn
 wide op b word = Insn.VArith (Wide op (rd_of word) (rs2_of word) b (is_masked word))
 
 abbrev pub widen_multiply_add : WidenMultiplyAddOp → Source → ℕ → Insn
-widen_multiply_add op b word = Insn.VArith (WidenMultiplyAdd op (rd_of word) (rs2_of word) b (is_masked word))
+widen_multiply_add op b word =
+    Insn.VArith (WidenMultiplyAdd op (rd_of word) (rs2_of word) b (is_masked word))
 
 abbrev pub narrow : NarrowOp → Source → ℕ → Insn
 narrow op b word = Insn.VArith (Narrow op (rd_of word) (rs2_of word) b (is_masked word))
@@ -198,7 +200,7 @@ vset_rows =
     []
 
 -- opcode 57
-unfoldable pub vector_groups : List Group
+unfoldable pub vector_groups : List RowGroup
 vector_groups =
     group (f3 0 ∷ []) (rows_of vectors opi) ∷
     group (f3 2 ∷ []) (rows_of vectors opm) ∷

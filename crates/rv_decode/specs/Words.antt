@@ -1,5 +1,5 @@
--- The instructions' types and those of what they need, and the variants of which the name alone says whose they are; another is
--- named with its type, as `Place.Mask`.
+-- The instructions' types and those of what they need, and the variants of which the name alone
+-- says whose they are; another is named with its type, as `Addressing.Mask`.
 pub use Rattle.rv_decode.specs.declared.instructions.{Insn.Insn, ScalarInsn.ScalarInsn, CsrInsn.CsrInsn, VSet.VSet, VArith.VArith}
 pub use Rattle.rv_decode.specs.declared.instructions.{VMask.VMask, VPerm.VPerm, VReduce.VReduce, VMem.VMem, VMove.VMove}
 pub use Rattle.rv_decode.specs.declared.instructions.{Condition.Condition, LoadKind.LoadKind, ImmediateOp.ImmediateOp, ShiftOp.ShiftOp}
@@ -8,7 +8,7 @@ pub use Rattle.rv_decode.specs.declared.instructions.{Source.Source, IntOp.IntOp
 pub use Rattle.rv_decode.specs.declared.instructions.{CarryOutOp.CarryOutOp, CompareOp.CompareOp, FixedOp.FixedOp, WidenOp.WidenOp}
 pub use Rattle.rv_decode.specs.declared.instructions.{WideOp.WideOp, WidenMultiplyAddOp.WidenMultiplyAddOp, NarrowOp.NarrowOp}
 pub use Rattle.rv_decode.specs.declared.instructions.{ClipOp.ClipOp, Fraction.Fraction, LogicOp.LogicOp, FirstOp.FirstOp, Offset.Offset}
-pub use Rattle.rv_decode.specs.declared.instructions.{FoldOp.FoldOp, Count.Count, Direction.Direction, Place.Place, Width.Width}
+pub use Rattle.rv_decode.specs.declared.instructions.{FoldOp.FoldOp, Count.Count, Direction.Direction, Addressing.Addressing, Width.Width}
 pub use Rattle.rv_decode.specs.declared.extents.{Eew.Eew, Extent.Extent, Operand.Operand, Operands.Operands, Sharing.Sharing}
 pub use Rattle.rv_decode.specs.declared.instructions.Insn.TheVariants.{Scalar, Csr}
 pub use Rattle.rv_decode.specs.declared.instructions.ScalarInsn.TheVariants.{Lui, Auipc, Jal, Jalr, Branch, Load, Store, Immediate, ShiftImmediate, Register, Fence, Ecall}

@@ -9,7 +9,7 @@ ghost use Rattle.rv_decode.specs.Access.{wide_load_rows};
 ghost use Rattle.rv_decode.specs.Access.{vector_load_groups, vector_store_groups};
 
 use crate::word::{bits, register};
-use crate::{Count, Direction, Insn, Place, VMem, Width};
+use crate::{Addressing, Count, Direction, Insn, VMem, Width};
 
 #[inline(always)]
 fn unit(word: u32, direction: Direction, width: Width) -> Insn
@@ -18,7 +18,7 @@ fn unit(word: u32, direction: Direction, width: Width) -> Insn
     let masked = bits(word, 25, 1) == 0;
     Insn::VMem(VMem {
         direction,
-        place: Place::Unit { width, masked },
+        place: Addressing::Unit { width, masked },
         values: register(word, 7),
         rs1: register(word, 15),
     })
@@ -31,7 +31,7 @@ fn strided(word: u32, direction: Direction, width: Width) -> Insn
     let masked = bits(word, 25, 1) == 0;
     Insn::VMem(VMem {
         direction,
-        place: Place::Strided {
+        place: Addressing::Strided {
             width,
             rs2: register(word, 20),
             masked,
@@ -48,7 +48,7 @@ fn indexed(word: u32, ordered: bool, direction: Direction, width: Width) -> Insn
     let masked = bits(word, 25, 1) == 0;
     Insn::VMem(VMem {
         direction,
-        place: Place::Indexed {
+        place: Addressing::Indexed {
             width,
             vs2: register(word, 20),
             ordered,
@@ -65,7 +65,7 @@ fn whole(word: u32, count: Count, direction: Direction, width: Width) -> Insn
 {
     Insn::VMem(VMem {
         direction,
-        place: Place::Whole { width, count },
+        place: Addressing::Whole { width, count },
         values: register(word, 7),
         rs1: register(word, 15),
     })
@@ -122,7 +122,7 @@ fn decode_mask(word: u32, direction: Direction) -> Option<Insn>
     {
         Some(Insn::VMem(VMem {
             direction,
-            place: Place::Mask,
+            place: Addressing::Mask,
             values: register(word, 7),
             rs1: register(word, 15),
         }))

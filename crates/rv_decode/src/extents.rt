@@ -10,7 +10,7 @@ ghost use Rattle.rv_decode.specs.Needs.{access_operands as access_operands_of};
 ghost use Rattle.rv_decode.specs.declared.extents.Eew.TheVariants as eew;
 
 use crate::{
-    Count, Direction, Fraction, Insn, Place, Reg, Source, VArith, VMask, VMem, VMove, VPerm,
+    Addressing, Count, Direction, Fraction, Insn, Reg, Source, VArith, VMask, VMem, VMove, VPerm,
     VReduce, Width,
 };
 
@@ -427,19 +427,19 @@ fn needs_access(access: &VMem) -> Operands
     let direction = access.direction;
     let values = access.values;
     match access.place {
-        Place::Unit { width, masked } => access_operands(
+        Addressing::Unit { width, masked } => access_operands(
             direction,
             group(values, Eew::Fixed(width)),
             None,
             masked,
         ),
-        Place::Strided { width, masked, .. } => access_operands(
+        Addressing::Strided { width, masked, .. } => access_operands(
             direction,
             group(values, Eew::Fixed(width)),
             None,
             masked,
         ),
-        Place::Indexed {
+        Addressing::Indexed {
             width,
             vs2,
             masked,
@@ -450,8 +450,8 @@ fn needs_access(access: &VMem) -> Operands
             group(vs2, Eew::Fixed(width)),
             masked,
         ),
-        Place::Mask => access_operands(direction, mask(values), None, false),
-        Place::Whole { count, .. } => {
+        Addressing::Mask => access_operands(direction, mask(values), None, false),
+        Addressing::Whole { count, .. } => {
             access_operands(direction, whole(values, count), None, false)
         }
     }

@@ -655,7 +655,7 @@ pub enum Count {
 #[derive(Clone, Copy, PartialEq, Eq, Debug)]
 pub struct VMem {
     pub direction: Direction,
-    pub place: Place,
+    pub place: Addressing,
     pub values: Reg,
     pub rs1: Reg,
 }
@@ -666,9 +666,9 @@ pub enum Direction {
     Store,
 }
 
-/// Where the elements of a vector load or store lie.
+/// The addressing mode of a vector load or store: where its elements lie.
 #[derive(Clone, Copy, PartialEq, Eq, Debug)]
-pub enum Place {
+pub enum Addressing {
     /// One after another from the base on, as many as vl.
     Unit {
         width: Width,

@@ -21,10 +21,11 @@ mod word;
 use access_words::{decode_vector_load, decode_vector_store};
 pub use extents::{Eew, Extent, Operand, Operands, Sharing, needs};
 pub use instructions::{
-    CarryOp, CarryOutOp, ClipOp, CompareOp, Condition, Count, CsrAction, CsrInsn, CsrName,
-    CsrSource, Direction, FirstOp, FixedOp, FoldOp, Fraction, ImmediateOp, Insn, IntOp, LoadKind,
-    LogicOp, MultiplyAddOp, NarrowOp, Offset, Place, Reg, RegisterOp, ScalarInsn, ShiftOp, Source,
-    VArith, VMask, VMem, VMove, VPerm, VReduce, VSet, WideOp, WidenMultiplyAddOp, WidenOp, Width,
+    Addressing, CarryOp, CarryOutOp, ClipOp, CompareOp, Condition, Count, CsrAction, CsrInsn,
+    CsrName, CsrSource, Direction, FirstOp, FixedOp, FoldOp, Fraction, ImmediateOp, Insn, IntOp,
+    LoadKind, LogicOp, MultiplyAddOp, NarrowOp, Offset, Reg, RegisterOp, ScalarInsn, ShiftOp,
+    Source, VArith, VMask, VMem, VMove, VPerm, VReduce, VSet, WideOp, WidenMultiplyAddOp, WidenOp,
+    Width,
 };
 use scalar_words::{
     decode_auipc, decode_branch, decode_fence, decode_immediate, decode_jal, decode_jalr,

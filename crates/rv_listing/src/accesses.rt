@@ -7,39 +7,41 @@ ghost use Rattle.rv_listing.specs.Sinks.{Told};
 use crate::fields::{Field, put_fields};
 use crate::names::{whole_load_name, whole_store_name, width_form};
 use crate::sink::{Failed, Sink};
-use rv_decode::{Direction, Place, Reg, VMem};
+use rv_decode::{Addressing, Direction, Reg, VMem};
 
 /// The mnemonic, before the width of its elements.
-fn name(direction: Direction, place: &Place) -> &'static str
+fn name(direction: Direction, place: &Addressing) -> &'static str
     ensures { result.now ≡ access_name direction place.now }
 {
     match (direction, place) {
-        (Direction::Load, Place::Unit { .. }) => "vle",
-        (Direction::Load, Place::Strided { .. }) => "vlse",
-        (Direction::Load, Place::Indexed { ordered: true, .. }) => "vloxei",
-        (Direction::Load, Place::Indexed { ordered: false, .. }) => "vluxei",
-        (Direction::Load, Place::Mask) => "vlm",
-        (Direction::Load, Place::Whole { count, .. }) => whole_load_name(*count),
-        (Direction::Store, Place::Unit { .. }) => "vse",
-        (Direction::Store, Place::Strided { .. }) => "vsse",
-        (Direction::Store, Place::Indexed { ordered: true, .. }) => "vsoxei",
-        (Direction::Store, Place::Indexed { ordered: false, .. }) => "vsuxei",
-        (Direction::Store, Place::Mask) => "vsm",
-        (Direction::Store, Place::Whole { count, .. }) => whole_store_name(*count),
+        (Direction::Load, Addressing::Unit { .. }) => "vle",
+        (Direction::Load, Addressing::Strided { .. }) => "vlse",
+        (Direction::Load, Addressing::Indexed { ordered: true, .. }) => "vloxei",
+        (Direction::Load, Addressing::Indexed { ordered: false, .. }) => "vluxei",
+        (Direction::Load, Addressing::Mask) => "vlm",
+        (Direction::Load, Addressing::Whole { count, .. }) => whole_load_name(*count),
+        (Direction::Store, Addressing::Unit { .. }) => "vse",
+        (Direction::Store, Addressing::Strided { .. }) => "vsse",
+        (Direction::Store, Addressing::Indexed { ordered: true, .. }) => "vsoxei",
+        (Direction::Store, Addressing::Indexed { ordered: false, .. }) => "vsuxei",
+        (Direction::Store, Addressing::Mask) => "vsm",
+        (Direction::Store, Addressing::Whole { count, .. }) => whole_store_name(*count),
     }
 }
 
 /// What follows the mnemonic.
-fn form(direction: Direction, place: &Place) -> &'static str
+fn form(direction: Direction, place: &Addressing) -> &'static str
     ensures { result.now ≡ access_form direction place.now }
 {
     match (direction, place) {
         (
             _,
-            Place::Unit { width, .. } | Place::Strided { width, .. } | Place::Indexed { width, .. },
+            Addressing::Unit { width, .. }
+            | Addressing::Strided { width, .. }
+            | Addressing::Indexed { width, .. },
         ) => width_form(*width),
-        (Direction::Load, Place::Whole { width, .. }) => width_form(*width),
-        (_, Place::Mask) | (Direction::Store, Place::Whole { .. }) => ".v",
+        (Direction::Load, Addressing::Whole { width, .. }) => width_form(*width),
+        (_, Addressing::Mask) | (Direction::Store, Addressing::Whole { .. }) => ".v",
     }
 }
 
@@ -69,13 +71,13 @@ pub(crate) fn put_access<S: Sink>(out: &mut S, insn: &VMem) -> Result<(), Failed
     let form = form(*direction, place);
     let values = group(*direction, *values);
     match place {
-        Place::Unit { masked, .. } => put_fields(
+        Addressing::Unit { masked, .. } => put_fields(
             out,
             name,
             form,
             &[values, Field::Rs1(*rs1), Field::Vm(!*masked)],
         ),
-        Place::Strided { rs2, masked, .. } => put_fields(
+        Addressing::Strided { rs2, masked, .. } => put_fields(
             out,
             name,
             form,
@@ -86,7 +88,7 @@ pub(crate) fn put_access<S: Sink>(out: &mut S, insn: &VMem) -> Result<(), Failed
                 Field::Vm(!*masked),
             ],
         ),
-        Place::Indexed { vs2, masked, .. } => put_fields(
+        Addressing::Indexed { vs2, masked, .. } => put_fields(
             out,
             name,
             form,
@@ -97,7 +99,7 @@ pub(crate) fn put_access<S: Sink>(out: &mut S, insn: &VMem) -> Result<(), Failed
                 Field::Vm(!*masked),
             ],
         ),
-        Place::Mask | Place::Whole { .. } => put_fields(
+        Addressing::Mask | Addressing::Whole { .. } => put_fields(
             out,
             name,
             form,

@@ -10,10 +10,8 @@ use Rattle.elf_image.specs.Faults.{fault_of}
 use Rattle.elf_image.specs.File.{image_of}
 use Rattle.elf_image.specs.Image.{ImageView}
 use Rattle.elf_image.specs.declared.error.ElfError.{ElfError}
-use Rattle.vreg_groups.specs.declared.policies.Agnostic.{Agnostic}
-use Rattle.vreg_groups.specs.declared.policies.Agnostic.TheVariants.{Keep, Ones}
-use Rattle.vreg_groups.specs.declared.vector_length.Vlen.{Vlen}
-use Rattle.vreg_groups.specs.declared.vector_length.Vlen.TheVariants.{V128, V256, V512}
+use Rattle.vreg_groups.specs.declared.policies.Agnostic.{Agnostic, TheVariants.Keep, TheVariants.Ones}
+use Rattle.vreg_groups.specs.declared.vector_length.Vlen.{Vlen, TheVariants.V128, TheVariants.V256, TheVariants.V512}
 use Rattle.rvvbox_c.specs.Status.{code_of, plain, image_refusal, certificate_refusal, check_refusal}
 use Rattle.rvvbox_c.specs.declared.status.Refusal.{Refusal}
 use Rattle.rvvbox_c.specs.declared.status.Status.TheVariants as status

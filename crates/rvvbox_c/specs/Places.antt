@@ -2,8 +2,7 @@
 use Rattle.std.specs.Prelude.{ℕ, ◌≡◌, ◌⊎◌, ◌<◌, ◌≤◌, ◌+◌, ◌==◌, ◌||◌, All, List, [], ◌∷◌, length, nat_le, slice_index_or, Option, None, Some, if◌then◌else◌}
 use Rattle.std.specs.Option.{option_or}
 use Rattle.rvvbox_c.specs.declared.places.Place.{Place}
-use Rattle.rvvbox_c.specs.declared.status.Status.{Status}
-use Rattle.rvvbox_c.specs.declared.status.Status.TheVariants.{BadKind, BadRange}
+use Rattle.rvvbox_c.specs.declared.status.Status.{Status, TheVariants.BadKind, TheVariants.BadRange}
 
 -- The byte at i is none of those that are put back at this place.
 abbrev pub IsApart : Place → ℕ → Type 0

@@ -5,14 +5,13 @@ use Rattle.std.specs.Simd.{first_chunks}
 use Rattle.region_mem.specs.Memory.{args_of}
 use Rattle.region_mem.specs.Parameter.{Argument, AreArguments}
 use Rattle.region_mem.specs.declared.arguments.Arg.TheVariants as arg
-use Rattle.vreg_groups.specs.declared.policies.Agnostic.{Agnostic}
+use Rattle.vreg_groups.specs.declared.policies.Agnostic.{Agnostic, TheVariants.Keep, TheVariants.Ones}
 use Rattle.vector_core.specs.Machine.{Machine}
 use Rattle.vector_core.specs.Start.{start}
 use Rattle.vector_core.specs.Run.{outcome, Ended}
 use Rattle.block_checker.specs.Accepted.{AcceptedView}
 use Rattle.block_checker.specs.Bound.{bound_of, scalars_of}
 use Rattle.vreg_groups.specs.VectorLength.{vlenb_of}
-use Rattle.vreg_groups.specs.declared.policies.Agnostic.TheVariants.{Keep, Ones}
 use Rattle.sandbox_run.specs.Session.{open_fault}
 use Rattle.rvvbox_c.specs.Holds.{IsFailure, IsKeptOf}
 use Rattle.rvvbox_c.specs.Places.{places_fault}

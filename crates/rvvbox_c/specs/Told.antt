@@ -1,7 +1,6 @@
 -- What is told of a kernel's parameters.
 use Rattle.std.specs.Prelude.{ℕ, List, map}
-use Rattle.region_mem.specs.declared.parameter.Mode.{Mode}
-use Rattle.region_mem.specs.declared.parameter.Mode.TheVariants.{Read, ReadWrite}
+use Rattle.region_mem.specs.declared.parameter.Mode.{Mode, TheVariants.Read, TheVariants.ReadWrite}
 use Rattle.region_mem.specs.declared.parameter.Param.{Param}
 use Rattle.region_mem.specs.declared.parameter.Param.TheVariants as param
 use Rattle.rvvbox_c.specs.declared.calls.Parameter.{Parameter}

@@ -1,5 +1,6 @@
 //! Why a file is refused, in words that a host reads.
-ghost use Rattle.std.specs.Prelude.{◌≡◌, ◌++◌, IfErr, IfOk, IfSome, drop, length, min, string_bytes};
+ghost use Rattle.std.specs.Prelude.{◌≡◌, ◌++◌, IfErr, IfOk, IfSome, drop, length, min};
+ghost use Rattle.std.specs.Prelude.{string_bytes};
 ghost use Rattle.std.specs.Prelude.{take};
 ghost use Rattle.rvvbox_c.specs.Answers.{length_fault};
 ghost use Rattle.rvvbox_c.specs.Explain.{HasExplained, IsTextFor, IsTextOfCheck, IsTextOfFault};

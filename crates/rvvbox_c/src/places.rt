@@ -1,5 +1,6 @@
 //! The eight places of a run, in the host's memory.
-ghost use Rattle.std.specs.Prelude.{◌≡◌, ◌≢◌, ◌↔◌, ◌+◌, ℕ, false, None, IfOk, IfSome, IsNone, IsSome, drop};
+ghost use Rattle.std.specs.Prelude.{◌≡◌, ◌≢◌, ◌↔◌, ◌+◌, ℕ, false, None, IfOk, IfSome, IsNone};
+ghost use Rattle.std.specs.Prelude.{IsSome, drop};
 ghost use Rattle.std.specs.Prelude.{length, slice_index_or, take};
 ghost use Rattle.region_mem.specs.Parameter.{is_valid, parameters_of};
 ghost use Rattle.rvvbox_c.specs.Places.{IsApart, KeepsOutside, place_fault, places_fault};

@@ -1,7 +1,8 @@
 //! What a call answers, as `include/rvvbox.h` numbers it.
 ghost use Rattle.std.specs.Prelude.{◌≡◌, ◌≢◌, false};
 ghost use Rattle.rvvbox_c.specs.Holds.{IsFailure};
-ghost use Rattle.rvvbox_c.specs.Status.{certificate_refusal, certificate_rule as certificate_rule_of};
+ghost use Rattle.rvvbox_c.specs.Status.{certificate_refusal};
+ghost use Rattle.rvvbox_c.specs.Status.{certificate_rule as certificate_rule_of};
 ghost use Rattle.rvvbox_c.specs.Status.{check_refusal, check_rule as check_rule_of, code_of};
 ghost use Rattle.rvvbox_c.specs.Status.{image_refusal, image_rule as image_rule_of, plain};
 ghost use Rattle.rvvbox_c.specs.Status.{status_of_certificate, status_of_check, status_of_image};

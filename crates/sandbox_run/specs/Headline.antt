@@ -1,8 +1,7 @@
 -- The theorem on accepted images.
 use Rattle.std.specs.Prelude.{ℕ, ◌≡◌, ◌<◌, ◌≤◌, true, List, length, Ok}
-use Rattle.std.specs.List.{AllByRecursion}
 use Rattle.vector_core.specs.Touches.{ReadsInside, WritesInside}
-use Rattle.sandbox_run.specs.Words.{AcceptedView, Agnostic, AreArguments, Argument, BringsBytes, IsPermittedIn, IsPermittedStep, Keeps, Machine, after, bound_of, has_ended, scalars_of, start, vlenb_of}
+use Rattle.sandbox_run.specs.Words.{AcceptedView, Agnostic, AllByRecursion, AreArguments, Argument, BringsBytes, IsPermittedIn, IsPermittedStep, Keeps, Machine, after, bound_of, has_ended, scalars_of, start, vlenb_of}
 
 -- After at most n steps without a fault the run from here has ended, and each byte that one of them
 -- fetched, loaded or stored was permitted, also by the areas and rights of the start. A step

@@ -1,9 +1,8 @@
 -- Laws of runs for those who run kernels.
 use Rattle.std.specs.Prelude.{ℕ, ◌≡◌, ◌≤◌, true, List, length}
-use Rattle.std.specs.List.{AllByRecursion}
 use Rattle.sandbox_run.specs.Answer.{answer_of, final_of}
 use Rattle.sandbox_run.specs.Stops.{IsStop}
-use Rattle.sandbox_run.specs.Words.{AcceptedView, Agnostic, AreArguments, Argument, BringsBytes, Ended, ImageView, Machine, Param, bound_of, has_ended, outcome, scalars_of, start, vlenb_of}
+use Rattle.sandbox_run.specs.Words.{AcceptedView, Agnostic, AllByRecursion, AreArguments, Argument, BringsBytes, Ended, ImageView, Machine, Param, bound_of, has_ended, outcome, scalars_of, start, vlenb_of}
 use Rattle.sandbox_run.specs.declared.outcome.Outcome.TheVariants as answer
 
 -- A run that has ended with n steps allowed ends there with more.

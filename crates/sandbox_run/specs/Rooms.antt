@@ -1,7 +1,5 @@
 -- The room that the state of a run takes where it lies.
-use Rattle.std.specs.Borrow.{RattleType}
-use Rattle.std.specs.Mem.{FitsInMemory}
-use Rattle.std.specs.declared.alloc.Allocator.{Ghosts}
+use Rattle.std.specs.{Borrow.RattleType, Mem.FitsInMemory, declared.alloc.Allocator.Ghosts}
 use Rattle.sandbox_run.specs.contracts.machine.Machine.{the_row}
 
 -- The state of a run, apart from what its allocator handed out, takes fewer than 2^63 bytes.

@@ -1,7 +1,6 @@
 -- Where a run of an accepted image may be stopped, and what holds there.
 use Rattle.std.specs.Prelude.{ℕ, ◌≡◌, ◌<◌, ◌≤◌, List, length, Ok}
-use Rattle.std.specs.List.{AllByRecursion}
-use Rattle.sandbox_run.specs.Words.{AcceptedView, Agnostic, AreArguments, Argument, BringsBytes, GoesOnUntil, IsPermittedIn, Keeps, Machine, after, bound_of, scalars_of, start, vlenb_of}
+use Rattle.sandbox_run.specs.Words.{AcceptedView, Agnostic, AllByRecursion, AreArguments, Argument, BringsBytes, GoesOnUntil, IsPermittedIn, Keeps, Machine, after, bound_of, scalars_of, start, vlenb_of}
 
 -- After so many steps from the first state the run stands here, and in no state before had it
 -- ended.

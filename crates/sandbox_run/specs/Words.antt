@@ -1,4 +1,5 @@
 -- What definitions here speak of that other crates define.
+pub use Rattle.std.specs.List.{AllByRecursion}
 pub use Rattle.elf_image.specs.Image.{ImageView}
 pub use Rattle.vreg_groups.specs.{VectorLength.vlenb_of, declared.policies.Agnostic.Agnostic}
 pub use Rattle.region_mem.specs.{Laws.BringsBytes, Laws.ForEachStart, Laws.HasExtentsOf, Memory.Memory, Memory.args_of, Memory.fetch_of}

@@ -20,7 +20,8 @@ upper_half product = unsigned (int_shr product 32)
 abbrev pub all_ones : ℕ
 all_ones = 2 ^ 32 - 1
 
--- signed division rounds towards zero; by zero it gives all ones, and the most negative number by -1 gives itself
+-- signed division rounds towards zero; by zero it gives all ones, and the most negative number by
+-- -1 gives itself
 abbrev pub quotient : ℕ → ℕ → ℕ
 quotient a b = if b == 0 then all_ones else unsigned (int_div (signed a) (signed b))
 

@@ -12,7 +12,8 @@ csr_value Vl vlenb config h = config.vl
 csr_value Vtype vlenb config h = config.vtype
 csr_value Vlenb vlenb config h = vlenb
 
--- the hart once a number was written to a CSR: bits that the CSR doesn't have are ignored, and vl, vtype and vlenb are read-only
+-- the hart once a number was written to a CSR: bits that the CSR doesn't have are ignored, and vl,
+-- vtype and vlenb are read-only
 unfoldable pub with_csr : CsrName → ℕ → Hart → Hart
 with_csr Vxsat v h = record h { vxsat = v % 2 }
 with_csr Vxrm v h = record h { vxrm = v % 4 }
@@ -31,7 +32,8 @@ unfoldable pub is_zero_source : CsrSource → Bool
 is_zero_source (CsrSource.Register r) = r == 0
 is_zero_source (CsrSource.Immediate n) = n == 0
 
--- what the instruction makes of the CSR's old number: it is replaced, or the operand's bits are set or cleared in it
+-- what the instruction makes of the CSR's old number: it is replaced, or the operand's bits are set
+-- or cleared in it
 unfoldable pub written : CsrAction → ℕ → ℕ → ℕ
 written CsrAction.Write old operand = operand
 written CsrAction.Set old operand = bit_or old operand
@@ -47,7 +49,8 @@ does_write CsrAction.Clear s = not (is_zero_source s)
 unfoldable pub csr_written : CsrInsn → ℕ → Vconfig → Hart → Hart
 csr_written insn vlenb config h =
     if does_write insn.action insn.source
-    then with_csr insn.csr (written insn.action (csr_value insn.csr vlenb config h) (operand_of insn.source h)) h
+    then with_csr insn.csr
+    (written insn.action (csr_value insn.csr vlenb config h) (operand_of insn.source h)) h
     else h
 
 -- the whole step: rd gets the CSR's old number

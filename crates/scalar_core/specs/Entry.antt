@@ -6,7 +6,8 @@ use Rattle.scalar_core.specs.declared.entry.EntryValue.{EntryValue}
 use Rattle.scalar_core.specs.declared.entry.EntryValue.TheVariants.{Number, Passed}
 use Rattle.scalar_core.specs.Hart.{Hart, exit, new_hart}
 
--- ra (x1) holds EXIT, sp (x2) the stack's end, a0 to a7 (x10 to x17) what is passed at the eight places, all else 0
+-- ra (x1) holds EXIT, sp (x2) the stack's end, a0 to a7 (x10 to x17) what is passed at the eight
+-- places, all else 0
 unfoldable pub entry_value : ℕ → EntryValue
 entry_value r =
     if r == 1 then Number exit

@@ -1,4 +1,5 @@
--- The scalar half of a hart's state: pc, the 32 integer registers, and the two vector CSRs that scalar instructions reach.
+-- The scalar half of a hart's state: pc, the 32 integer registers, and the two vector CSRs that
+-- scalar instructions reach.
 use Rattle.std.specs.Prelude.{ℕ, ◌≡◌, ◌<◌, ◌+◌, ◌%◌, ◌^◌, ◌==◌, if◌then◌else◌, List, length, slice_index, slice_set}
 use Rattle.std.proofs.Math.ListN.{replicate}
 use Rattle.scalar_core.specs.declared.hart.TheConstants.{EXIT}

@@ -1,4 +1,5 @@
--- One step of the scalar half of a hart, by the instruction at pc: the new hart and memory, or the fault.
+-- One step of the scalar half of a hart, by the instruction at pc: the new hart and
+-- memory, or the fault.
 use Rattle.std.specs.Prelude.{ℕ, ◌+◌, ◌-◌, ◌%◌, ◌^◌, ◌==◌, Bool, true, false, if◌then◌else◌, ℤ, Option, Some, None, Result, Ok, Err}
 use Rattle.std.specs.Int.{w8, w16, cast_signed}
 use Rattle.scalar_core.specs.Words.{Insn, ScalarInsn, Condition, LoadKind, Width, Lui, Auipc, Jal, Jalr, Branch, Load, Store}
@@ -74,7 +75,8 @@ load_from kind rd address h (Some n) = Ok (advanced (with_reg rd (loaded kind n)
 
 unfoldable pub load_step : LoadKind → ℕ → ℕ → ℤ → Hart → Memory → Result Hart Fault
 load_step kind rd rs1 offset h m =
-    load_from kind rd (address_of rs1 offset h) h (load_of (address_of rs1 offset h) (size_of_load kind) m)
+    load_from kind rd (address_of rs1 offset h) h
+    (load_of (address_of rs1 offset h) (size_of_load kind) m)
 
 -- what a store does with what memory answers
 unfoldable pub store_from : ℕ → Hart → Option Memory → Result (Hart × Memory) Fault
@@ -98,12 +100,16 @@ rv32im_step (Lui rd imm) h m = Ok (put rd imm h, m)
 rv32im_step (Auipc rd imm) h m = Ok (put rd ((h.pc + imm) % 2 ^ 32) h, m)
 rv32im_step (Jal rd offset) h m = beside m (jal_step rd offset h)
 rv32im_step (Jalr rd rs1 offset) h m = beside m (jalr_step rd rs1 offset h)
-rv32im_step (Branch condition rs1 rs2 offset) h m = beside m (branch_step condition rs1 rs2 offset h)
+rv32im_step (Branch condition rs1 rs2 offset) h m =
+    beside m (branch_step condition rs1 rs2 offset h)
 rv32im_step (Load kind rd rs1 offset) h m = beside m (load_step kind rd rs1 offset h m)
 rv32im_step (Store size rs1 rs2 offset) h m = store_step size rs1 rs2 offset h m
-rv32im_step (Immediate op rd rs1 imm) h m = Ok (put rd (immediate_result op (reg_of rs1 h) imm) h, m)
-rv32im_step (ShiftImmediate op rd rs1 amount) h m = Ok (put rd (shift_result op (reg_of rs1 h) amount) h, m)
-rv32im_step (Register op rd rs1 rs2) h m = Ok (put rd (register_result op (reg_of rs1 h) (reg_of rs2 h)) h, m)
+rv32im_step (Immediate op rd rs1 imm) h m =
+    Ok (put rd (immediate_result op (reg_of rs1 h) imm) h, m)
+rv32im_step (ShiftImmediate op rd rs1 amount) h m =
+    Ok (put rd (shift_result op (reg_of rs1 h) amount) h, m)
+rv32im_step (Register op rd rs1 rs2) h m =
+    Ok (put rd (register_result op (reg_of rs1 h) (reg_of rs2 h)) h, m)
 rv32im_step Fence h m = Ok (advanced h, m)
 rv32im_step Ecall h m = Ok (at_pc exit h, m)
 

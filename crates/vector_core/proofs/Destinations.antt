@@ -10,8 +10,8 @@ use Rattle.rv_decode.specs.declared.extents.Extent.TheVariants.{Group, Single, M
 use Rattle.rv_decode.specs.declared.instructions.Count.{Count}
 use Rattle.rv_decode.specs.declared.instructions.Count.TheVariants as number
 use Rattle.rv_decode.specs.declared.instructions.Direction.TheVariants.{Load}
-use Rattle.rv_decode.specs.declared.instructions.Place.{Place}
-use Rattle.rv_decode.specs.declared.instructions.Place.TheVariants as place
+use Rattle.rv_decode.specs.declared.instructions.Addressing.{Addressing}
+use Rattle.rv_decode.specs.declared.instructions.Addressing.TheVariants as place
 use Rattle.vreg_groups.specs.Copies.{copied}
 use Rattle.vreg_groups.specs.Group.{mask_bytes_of, whole_of, written}
 use Rattle.vreg_groups.specs.Legality.{count_of, group_count, is_operand_legal, is_present_legal, whole_count}
@@ -140,7 +140,7 @@ module _ (vlenb : ℕ) (vtype : Option Vtype) (s : Setup) (file : List ℕ) (is 
       (copy_kept vlenb vd vs2 (whole_count count) file (omega arith) (omega arith) r)
 
   -- of a load
-  pub loaded_kept : (where_to : Place) (values : ℕ) (policy : Policy) (results : List ℕ) (active : List Bool) → values < 32
+  pub loaded_kept : (where_to : Addressing) (values : ℕ) (policy : Policy) (results : List ℕ) (active : List Bool) → values < 32
       → is_present_legal vtype (needs_of_place where_to Load values).destination ≡ true
       → IsKept vlenb (IsOutside vlenb vtype (needs_of_place where_to Load values).destination) file
       (written vlenb (data_at vlenb s where_to values) policy results active file)

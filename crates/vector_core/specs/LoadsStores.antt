@@ -1,15 +1,15 @@
 -- Vector loads and stores ("Vector Loads and Stores"): the registers or memory are what the load or store leaves.
 use Rattle.std.specs.Prelude.{ℕ, List, Result, Ok, Err}
-use Rattle.rv_decode.specs.declared.instructions.Place.TheVariants.{Unit, Strided, Indexed, Mask}
-use Rattle.rv_decode.specs.declared.instructions.Place.TheVariants.{Whole}
+use Rattle.rv_decode.specs.declared.instructions.Addressing.TheVariants.{Unit, Strided, Indexed, Mask}
+use Rattle.rv_decode.specs.declared.instructions.Addressing.TheVariants.{Whole}
 use Rattle.vector_mem.specs.Transfers.{vector_load, vector_store}
 use Rattle.rv_decode.specs.declared.instructions.VMem as mem
-use Rattle.vector_core.specs.Words.{Direction, Fault, Hart, Load, Memory, Place, Setup, Store}
+use Rattle.vector_core.specs.Words.{Addressing, Direction, Fault, Hart, Load, Memory, Setup, Store}
 use Rattle.vector_core.specs.Words.{advanced, reg_of}
 use Rattle.vector_core.specs.Vectors.{Stepped, Vectors, with_registers}
 
 -- x[rs2], of a strided access
-abbrev pub stride_of : Place → Hart → ℕ
+abbrev pub stride_of : Addressing → Hart → ℕ
 stride_of (Strided width rs2 masked) hart = reg_of rs2 hart
 stride_of (Unit width masked) hart = 0
 stride_of (Indexed width vs2 ordered masked) hart = 0

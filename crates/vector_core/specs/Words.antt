@@ -11,7 +11,7 @@ pub use Rattle.rv_decode.specs.declared.instructions.{NarrowOp.NarrowOp, ClipOp.
 pub use Rattle.rv_decode.specs.declared.instructions.{LogicOp.LogicOp, FirstOp.FirstOp}
 pub use Rattle.rv_decode.specs.declared.instructions.{FoldOp.FoldOp, Fraction.Fraction}
 pub use Rattle.rv_decode.specs.declared.instructions.{Offset.Offset, Direction.Direction}
-pub use Rattle.rv_decode.specs.declared.instructions.{Place.Place, Width.Width}
+pub use Rattle.rv_decode.specs.declared.instructions.{Addressing.Addressing, Width.Width}
 pub use Rattle.rv_decode.specs.declared.instructions.{RegisterOp.RegisterOp, ScalarInsn.ScalarInsn}
 pub use Rattle.rv_decode.specs.declared.instructions.{VMem.VMem}
 pub use Rattle.rv_decode.specs.declared.instructions.Direction.TheVariants.{Load, Store}

@@ -10,7 +10,7 @@ ghost use Rattle.vector_core.specs.Setup.{IsReady};
 use crate::setup::Setup;
 use crate::state::VectorState;
 use region_mem::{Fault, Regions};
-use rv_decode::{Direction, Place, VMem};
+use rv_decode::{Addressing, Direction, VMem};
 use scalar_core::Scalar;
 use std::alloc::Allocator;
 use vector_mem::{load, store};
@@ -21,8 +21,11 @@ fn stride(scalar: &Scalar, insn: &VMem) -> u32
 {
     let place = insn.place;
     match place {
-        Place::Strided { rs2, .. } => scalar.reg(rs2),
-        Place::Unit { .. } | Place::Indexed { .. } | Place::Mask | Place::Whole { .. } => 0,
+        Addressing::Strided { rs2, .. } => scalar.reg(rs2),
+        Addressing::Unit { .. }
+        | Addressing::Indexed { .. }
+        | Addressing::Mask
+        | Addressing::Whole { .. } => 0,
     }
 }
 

@@ -7,9 +7,9 @@ use Rattle.vreg_groups.specs.Elements.{active_of}
 use Rattle.vector_mem.specs.declared.plan.Access.{Access}
 use Rattle.vector_mem.specs.Accesses.{first_refused, loaded, stored}
 use Rattle.vector_mem.specs.Transfers.{accesses_of, data_of, is_in_a_row, is_masked, load_policy, loaded_to, moved_of, unless_refused, vector_load, vector_store}
-use Rattle.vector_mem.specs.Words.{Indexed, LoadFault, Mask, Place, Setup, Span, StoreFault, Strided, Unit, VMem, Whole, body_of, written}
+use Rattle.vector_mem.specs.Words.{Addressing, Indexed, LoadFault, Mask, Setup, Span, StoreFault, Strided, Unit, VMem, Whole, body_of, written}
 
-not_masked : (place : Place) → is_in_a_row place ≡ true → is_masked place ≡ false
+not_masked : (place : Addressing) → is_in_a_row place ≡ true → is_masked place ≡ false
 not_masked (Unit width false) h = refl
 not_masked (Unit width true) h = absurd cc
 not_masked (Strided width rs2 masked) h = absurd cc

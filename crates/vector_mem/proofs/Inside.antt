@@ -6,8 +6,8 @@ use Rattle.rv_decode.specs.declared.instructions.Count.{Count}
 use Rattle.rv_decode.specs.declared.instructions.VMem as mem
 use Rattle.rv_decode.specs.declared.instructions.Direction.{Direction}
 use Rattle.rv_decode.specs.declared.instructions.Direction.TheVariants.{Load, Store}
-use Rattle.rv_decode.specs.declared.instructions.Place.{Place}
-use Rattle.rv_decode.specs.declared.instructions.Place.TheVariants.{Unit, Strided, Indexed, Whole}
+use Rattle.rv_decode.specs.declared.instructions.Addressing.{Addressing}
+use Rattle.rv_decode.specs.declared.instructions.Addressing.TheVariants.{Unit, Strided, Indexed, Whole}
 use Rattle.rv_decode.specs.declared.instructions.Width.{Width}
 use Rattle.rv_decode.specs.Needs.{needs_of_access, needs_of_place, access_operands, group, whole}
 use Rattle.std.specs.Prelude.{Option}
@@ -35,10 +35,10 @@ unfolding access_operands count_of
 whole_ends t Load values count h = h.destination.registers
 whole_ends t Store values count h = h.vs1.registers
 
-at_place : (t : Vtype) (m : mem.VMem) (place : Place) → m.place ≡ place → AreAllInside t (needs_of_access m) →
+at_place : (t : Vtype) (m : mem.VMem) (place : Addressing) → m.place ≡ place → AreAllInside t (needs_of_access m) →
     AreAllInside t (needs_of_place place m.direction m.values)
 unfolding needs_of_access
-at_place t m place is h = subst (λ (p : Place). AreAllInside t (needs_of_place p m.direction m.values)) is h
+at_place t m place is h = subst (λ (p : Addressing). AreAllInside t (needs_of_place p m.direction m.values)) is h
 
 pub unit_inside : (t : Vtype) (m : mem.VMem) (width : Width) (masked : Bool) → m.place ≡ Unit width masked →
     AreAllInside t (needs_of_access m) → IsGroupInside t m.values (Fixed width)

@@ -20,7 +20,7 @@ use Rattle.vreg_groups.proofs.Writes.{number_at-lt}
 use Rattle.vector_mem.specs.declared.plan.Access.{Access}
 use Rattle.vector_mem.specs.Accesses.{access_at, accesses, first_refused, in_a_row, is_refused, loaded, low_bits, stored, strided, with_loaded, with_stored}
 use Rattle.vector_mem.specs.Transfers.{accesses_of, data_at, data_of, is_in_a_row, is_masked, place_at, right_of}
-use Rattle.vector_mem.specs.Words.{Direction, Indexed, Mask, Place, Setup, Span, Strided, Unit, VMem, Whole}
+use Rattle.vector_mem.specs.Words.{Addressing, Direction, Indexed, Mask, Setup, Span, Strided, Unit, VMem, Whole}
 
 -- a test that holds of all
 filter_true : {A : Type 0} (p : A → Bool) (xs : List A) → ((k : ℕ) (d : A) → k < length xs → p (get_or xs k d) ≡ true) → filter p xs ≡ xs
@@ -198,7 +198,7 @@ unfolding body_of elements_of
 length_body vlenb group file = length-map-range_with_len (element_at group.bytes (group.first * vlenb) file) 0 group.vl
 
 -- an instruction whose elements lie in a row
-pub row_accesses : (vlenb : ℕ) (s : Setup) (place : Place) (direction : Direction) (values base stride : ℕ) (file : List ℕ) →
+pub row_accesses : (vlenb : ℕ) (s : Setup) (place : Addressing) (direction : Direction) (values base stride : ℕ) (file : List ℕ) →
     is_in_a_row place ≡ true →
     accesses (right_of direction) (data_at vlenb s place values).bytes (place_at vlenb s place base stride file)
     (active_of vlenb (is_masked place) (data_at vlenb s place values).vl file)

@@ -1,24 +1,27 @@
--- The accesses of a vector load or store as one list, the lowest-numbered element's first, and what is done with memory
--- by that list, wherever it comes from ("Vector Loads and Stores"). Only active elements access memory.
+-- The accesses of a vector load or store as one list, the lowest-numbered element's first, and what
+-- is done with memory by that list, wherever it comes from ("Vector Loads and Stores"). Only active
+-- elements access memory.
 use Rattle.std.specs.Prelude.{◌≡◌, ℕ, ◌<◌, ◌+◌, ◌*◌, ◌%◌, ◌^◌, Bool, false, true, not, List, length, map, filter, find, replicate, slice_index, slice_index_or, slice_set, Option, unwrap_or}
 use Rattle.std.specs.List.{fold, range_with_len}
 use Rattle.region_mem.specs.Memory.{is_permitted, load_of, store_of}
-use Rattle.vector_mem.specs.Words.{Memory, Right}
-use Rattle.vector_mem.specs.declared.plan.Access.{Access}
+use Rattle.vector_mem.specs.Words.{Access, Memory, Right}
 
 -- element i lies at place i, modulo 2^32
 abbrev pub access_at : Right → ℕ → (ℕ → ℕ) → ℕ → Access
-access_at right size place i = record { element = i; address = place i % 2 ^ 32; size = size; right = right }
+access_at right size place i =
+    record { element = i; address = place i % 2 ^ 32; size = size; right = right }
 
 -- the accesses of n elements of the body from number i on, and of all
 abbrev pub accesses_from : Right → ℕ → (ℕ → ℕ) → List Bool → ℕ → ℕ → List Access
 accesses_from right size place active i n =
-    map (access_at right size place) (filter (λ k. slice_index_or active k false) (range_with_len i n))
+    map (access_at right size place)
+    (filter (λ k. slice_index_or active k false) (range_with_len i n))
 
 unfoldable pub accesses : Right → ℕ → (ℕ → ℕ) → List Bool → List Access
 accesses right size place active = accesses_from right size place active 0 (length active)
 
--- the elements lie `stride` bytes apart from `base` on; with unit stride, as far apart as an element is long
+-- the elements lie `stride` bytes apart from `base` on; with unit stride, as far apart as an
+-- element is long
 abbrev pub strided : ℕ → ℕ → ℕ → ℕ
 strided base stride i = base + stride * i
 
@@ -41,16 +44,19 @@ first_refused list memory = find (is_refused memory) list
 unfoldable pub low_bits : ℕ → ℕ → ℕ
 low_bits size n = n % 256 ^ size
 
--- what a load gives for the elements of the body; an inactive one has no result, and 0 stands in its place
+-- what a load gives for the elements of the body; an inactive one has no result, and 0
+-- stands in its place
 abbrev pub with_loaded : Memory → List ℕ → Access → List ℕ
-with_loaded memory values a = slice_set values a.element (low_bits a.size (unwrap_or (load_of a.address a.size memory) 0))
+with_loaded memory values a =
+    slice_set values a.element (low_bits a.size (unwrap_or (load_of a.address a.size memory) 0))
 
 unfoldable pub loaded : ℕ → List Access → Memory → List ℕ
 loaded vl list memory = fold (with_loaded memory) (replicate vl 0) list
 
 -- memory after a store of the elements, the lowest-numbered first
 abbrev pub with_stored : List ℕ → Memory → Access → Memory
-with_stored values memory a = unwrap_or (store_of a.address a.size (slice_index values a.element) memory) memory
+with_stored values memory a =
+    unwrap_or (store_of a.address a.size (slice_index values a.element) memory) memory
 
 unfoldable pub stored : List Access → List ℕ → Memory → Memory
 stored list values memory = fold (with_stored values) memory list

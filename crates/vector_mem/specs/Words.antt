@@ -1,10 +1,7 @@
--- What definitions here speak of that other crates define.
-pub use Rattle.rv_decode.specs.declared.instructions.Direction.{Direction}
+-- What several definitions here speak of.
+pub use Rattle.rv_decode.specs.declared.instructions.{Addressing.Addressing, Direction.Direction, VMem.VMem, Width.Width}
 pub use Rattle.rv_decode.specs.declared.instructions.Direction.TheVariants.{Load, Store}
-pub use Rattle.rv_decode.specs.declared.instructions.Place.{Place}
-pub use Rattle.rv_decode.specs.declared.instructions.Place.TheVariants.{Unit, Strided, Indexed, Mask, Whole}
-pub use Rattle.rv_decode.specs.declared.instructions.VMem.{VMem}
-pub use Rattle.rv_decode.specs.declared.instructions.Width.{Width}
+pub use Rattle.rv_decode.specs.declared.instructions.Addressing.TheVariants.{Unit, Strided, Indexed, Mask, Whole}
 pub use Rattle.rv_decode.specs.declared.instructions.Width.TheVariants.{W8}
 pub use Rattle.rv_decode.specs.declared.extents.Eew.TheVariants.{Same, Fixed}
 pub use Rattle.region_mem.specs.Memory.{Memory}
@@ -19,3 +16,4 @@ pub use Rattle.vreg_groups.specs.Setup.{group_at}
 pub use Rattle.vreg_groups.specs.VectorType.{bytes_of_width}
 pub use Rattle.vreg_groups.specs.declared.policies.Policy.{Policy}
 pub use Rattle.vreg_groups.specs.declared.setup.Setup.{Setup}
+pub use Rattle.vector_mem.specs.declared.plan.Access.{Access}

@@ -10,7 +10,7 @@ ghost use Rattle.vector_mem.specs.Transfers.{accesses_of, right_of};
 use crate::operands::{bytes, data_group, masked, read_indices, width};
 use crate::plan::{Access, AccessPlan};
 use region_mem::Right;
-use rv_decode::{Direction, Place, VMem};
+use rv_decode::{Addressing, Direction, VMem};
 use vreg_groups::{MOST_ELEMENTS, Setup, VregFile};
 
 // The address of element `i` of those that lie `stride` bytes apart.
@@ -98,11 +98,11 @@ pub fn access<const VLENB: usize>(
     let right = right(insn.direction);
     let size = bytes(width(insn, setup));
     match place {
-        Place::Unit { .. } => strided_plan(right, size, base, u32::from(size), active),
-        Place::Mask => strided_plan(right, size, base, u32::from(size), active),
-        Place::Whole { .. } => strided_plan(right, size, base, u32::from(size), active),
-        Place::Strided { .. } => strided_plan(right, size, base, stride, active),
-        Place::Indexed { width, vs2, .. } => {
+        Addressing::Unit { .. } => strided_plan(right, size, base, u32::from(size), active),
+        Addressing::Mask => strided_plan(right, size, base, u32::from(size), active),
+        Addressing::Whole { .. } => strided_plan(right, size, base, u32::from(size), active),
+        Addressing::Strided { .. } => strided_plan(right, size, base, stride, active),
+        Addressing::Indexed { width, vs2, .. } => {
             let mut indices = [0u32; MOST_ELEMENTS];
             let indices = &mut indices[..setup.vl];
             read_indices(registers, setup, vs2, width, indices);

@@ -11,7 +11,7 @@ ghost use Rattle.vector_mem.specs.Transfers.{data_of, is_in_a_row, is_masked, lo
 ghost use Rattle.vector_mem.specs.Transfers.{width_at};
 
 use crate::elements::Datum;
-use rv_decode::{Eew, Place, Reg, VMem, Width};
+use rv_decode::{Addressing, Eew, Reg, VMem, Width};
 use vreg_groups::{Group, MOST_ELEMENTS, Policy, Setup, VregFile};
 
 /// The registers of the data and the elements that are moved.
@@ -24,11 +24,11 @@ pub fn data_group<const VLENB: usize>(insn: &VMem, setup: &Setup) -> Group<VLENB
 {
     let place = insn.place;
     match place {
-        Place::Unit { width, .. } => setup.group(insn.values, Eew::Fixed(width)),
-        Place::Strided { width, .. } => setup.group(insn.values, Eew::Fixed(width)),
-        Place::Indexed { .. } => setup.group(insn.values, Eew::Same),
-        Place::Mask => Group::mask_bytes(setup.vl, insn.values),
-        Place::Whole { width, count } => Group::whole(insn.values, count, width),
+        Addressing::Unit { width, .. } => setup.group(insn.values, Eew::Fixed(width)),
+        Addressing::Strided { width, .. } => setup.group(insn.values, Eew::Fixed(width)),
+        Addressing::Indexed { .. } => setup.group(insn.values, Eew::Same),
+        Addressing::Mask => Group::mask_bytes(setup.vl, insn.values),
+        Addressing::Whole { width, count } => Group::whole(insn.values, count, width),
     }
 }
 
@@ -38,10 +38,11 @@ pub fn width(insn: &VMem, setup: &Setup) -> Width
 {
     let place = insn.place;
     match place {
-        Place::Unit { width, .. } | Place::Strided { width, .. } | Place::Whole { width, .. } =>
-            width,
-        Place::Indexed { .. } => setup.vtype.sew,
-        Place::Mask => Width::W8,
+        Addressing::Unit { width, .. }
+        | Addressing::Strided { width, .. }
+        | Addressing::Whole { width, .. } => width,
+        Addressing::Indexed { .. } => setup.vtype.sew,
+        Addressing::Mask => Width::W8,
     }
 }
 
@@ -51,10 +52,10 @@ pub fn masked(insn: &VMem) -> bool
 {
     let place = insn.place;
     match place {
-        Place::Unit { masked, .. }
-        | Place::Strided { masked, .. }
-        | Place::Indexed { masked, .. } => masked,
-        Place::Mask | Place::Whole { .. } => false,
+        Addressing::Unit { masked, .. }
+        | Addressing::Strided { masked, .. }
+        | Addressing::Indexed { masked, .. } => masked,
+        Addressing::Mask | Addressing::Whole { .. } => false,
     }
 }
 
@@ -64,9 +65,9 @@ pub fn in_a_row(insn: &VMem) -> bool
 {
     let place = insn.place;
     match place {
-        Place::Unit { masked, .. } => !masked,
-        Place::Strided { .. } | Place::Indexed { .. } => false,
-        Place::Mask | Place::Whole { .. } => true,
+        Addressing::Unit { masked, .. } => !masked,
+        Addressing::Strided { .. } | Addressing::Indexed { .. } => false,
+        Addressing::Mask | Addressing::Whole { .. } => true,
     }
 }
 
@@ -76,9 +77,11 @@ pub fn policy(insn: &VMem, setup: &Setup) -> Policy
 {
     let place = insn.place;
     match place {
-        Place::Mask => setup.mask_policy(),
-        Place::Unit { .. } | Place::Strided { .. } | Place::Indexed { .. } | Place::Whole { .. } =>
-            { setup.policy() }
+        Addressing::Mask => setup.mask_policy(),
+        Addressing::Unit { .. }
+        | Addressing::Strided { .. }
+        | Addressing::Indexed { .. }
+        | Addressing::Whole { .. } => setup.policy(),
     }
 }
 

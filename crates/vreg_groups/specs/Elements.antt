@@ -1,5 +1,5 @@
--- Elements and mask bits of the vector registers ("Mapping of Vector Elements to Vector Register State"). A `file` is
--- the bytes of the 32 registers end to end, `vlenb` of them for each register.
+-- Elements and mask bits of the vector registers ("Mapping of Vector Elements to Vector Register
+-- State"). A `file` is the bytes of the 32 registers end to end, `vlenb` of them for each register.
 use Rattle.std.specs.Prelude.{Bool, true, ℕ, zero, suc, ◌+◌, ◌*◌, ◌/◌, ◌%◌, ◌^◌, ◌==◌, if◌then◌else◌, List, map, replicate, slice_index, take, drop}
 use Rattle.std.specs.List.{range_with_len}
 use Rattle.byteorder.specs.Endian.{little_from, little_bytes}
@@ -18,7 +18,8 @@ element_at size at bytes i = number_at size (at + size * i) bytes
 
 -- the first `count` elements, of `size` bytes, of the group that begins at register `first`
 unfoldable pub elements_of : ℕ → ℕ → ℕ → ℕ → List ℕ → List ℕ
-elements_of vlenb size first count file = map (element_at size (first * vlenb) file) (range_with_len 0 count)
+elements_of vlenb size first count file =
+    map (element_at size (first * vlenb) file) (range_with_len 0 count)
 
 -- the first `count` numbers, of `size` bytes each, of bytes end to end
 unfoldable pub numbers_of : ℕ → ℕ → List ℕ → List ℕ
@@ -48,6 +49,8 @@ mask_bit vlenb register file i = bit_at (register * vlenb) file i
 unfoldable pub mask_bits : ℕ → ℕ → ℕ → List ℕ → List Bool
 mask_bits vlenb register count file = map (bit_at (register * vlenb) file) (range_with_len 0 count)
 
--- which of the first `count` elements are active: the bits of v0 where the instruction is masked, else all
+-- which of the first `count` elements are active: the bits of v0 where the instruction is
+-- masked, else all
 unfoldable pub active_of : ℕ → Bool → ℕ → List ℕ → List Bool
-active_of vlenb masked count file = if masked then mask_bits vlenb 0 count file else replicate count true
+active_of vlenb masked count file =
+    if masked then mask_bits vlenb 0 count file else replicate count true

@@ -1,5 +1,5 @@
--- The group of registers that an operand stands for, and the elements of the body that lie in it ("Vector Register
--- Grouping", "Mapping of Vector Elements to Vector Register State").
+-- The group of registers that an operand stands for, and the elements of the body that lie in it
+-- ("Vector Register Grouping", "Mapping of Vector Elements to Vector Register State").
 use Rattle.std.specs.Prelude.{◌≡◌, ◌⊎◌, ℕ, ◌+◌, ◌*◌, ◌/◌, Bool, List}
 use Rattle.vreg_groups.specs.Words.{Count, Eew, Policy, Vtype, Width}
 use Rattle.rv_decode.specs.declared.extents.Extent.TheVariants as extent
@@ -8,7 +8,8 @@ use Rattle.vreg_groups.specs.Legality.{eew_bits, group_count, whole_count, IsIns
 use Rattle.vreg_groups.specs.NewElements.{write_of}
 use Rattle.vreg_groups.specs.VectorType.{bytes_of_width}
 
--- the first register and how many there are, the bytes of an element, and how many elements the body has
+-- the first register and how many there are, the bytes of an element, and how many
+-- elements the body has
 pub record Span : Type 0 where
   pub first : ℕ
   pub count : ℕ
@@ -17,7 +18,8 @@ pub record Span : Type 0 where
 
 -- the group from `first` on whose elements have this width
 abbrev pub group_of : Vtype → ℕ → ℕ → Eew → Span
-group_of t vl first eew = record { first = first; count = group_count t eew; bytes = eew_bits t.sew eew / 8; vl = vl }
+group_of t vl first eew =
+    record { first = first; count = group_count t eew; bytes = eew_bits t.sew eew / 8; vl = vl }
 
 -- the register of a mask, as bytes: those that hold the bits of vl elements are the body
 abbrev pub mask_bytes_of : ℕ → ℕ → Span
@@ -26,7 +28,12 @@ mask_bytes_of vl first = record { first = first; count = 1; bytes = 1; vl = (vl 
 -- whole registers as elements of this width, all of which are the body
 abbrev pub whole_of : ℕ → ℕ → Count → Width → Span
 whole_of vlenb first count width =
-    record { first = first; count = whole_count count; bytes = bytes_of_width width; vl = whole_count count * vlenb / bytes_of_width width }
+    record {
+      first = first;
+      count = whole_count count;
+      bytes = bytes_of_width width;
+      vl = whole_count count * vlenb / bytes_of_width width;
+    }
 
 -- the registers of a group exist, and its elements have 8 to 32 bits
 abbrev pub IsGroupInside : Vtype → ℕ → Eew → Type 0
@@ -46,4 +53,5 @@ IsSize size = (size ≡ 1) ⊎ (size ≡ 2) ⊎ (size ≡ 4)
 
 -- the registers after results were written to it
 unfoldable pub written : ℕ → Span → Policy → List ℕ → List Bool → List ℕ → List ℕ
-written vlenb group policy results active file = write_of vlenb group.bytes group.first group.count policy results active file
+written vlenb group policy results active file =
+    write_of vlenb group.bytes group.first group.count policy results active file

@@ -1,5 +1,6 @@
--- Which vector instructions are legal: the rules on EEW, EMUL, alignment and overlap ("Vector Operands", "Vector
--- Masking"), over lists of register numbers. LMUL and EMUL are counted in eighths.
+-- Which vector instructions are legal: the rules on EEW, EMUL, alignment and overlap
+-- ("Vector Operands", "Vector Masking"), over lists of register numbers. LMUL and EMUL are
+-- counted in eighths.
 use Rattle.std.specs.Prelude.{Bool, true, false, not, ◌&&◌, ◌||◌, ℕ, ◌+◌, ◌*◌, ◌/◌, ◌%◌, ◌≤◌, ◌==◌, nat_lt, nat_le, max, List, Option, Some, None, IfSome}
 use Rattle.std.specs.List.{range_with_len, list_any, list_all}
 use Rattle.vreg_groups.specs.Words.{ByWidth, Count, Eew, Extent, Group, Insn, Mask, Nothing, Operand, Operands}
@@ -8,8 +9,8 @@ use Rattle.rv_decode.specs.Needs.{needs_of}
 use Rattle.rv_decode.specs.declared.instructions.Count.TheVariants as count
 use Rattle.rv_decode.specs.declared.instructions.Insn.TheVariants.{VArith, VMem, VSet}
 use Rattle.rv_decode.specs.declared.instructions.VArith.TheVariants.{Int}
-use Rattle.rv_decode.specs.declared.instructions.Place.{Place}
-use Rattle.rv_decode.specs.declared.instructions.Place.TheVariants.{Unit}
+use Rattle.rv_decode.specs.declared.instructions.Addressing.{Addressing}
+use Rattle.rv_decode.specs.declared.instructions.Addressing.TheVariants.{Unit}
 use Rattle.rv_decode.specs.declared.extents.Eew.TheVariants.{Quarter, Half, Same, Double, Fixed}
 use Rattle.vreg_groups.specs.VectorType.{bits_of_width, eighths_of, vtype_of}
 
@@ -35,7 +36,8 @@ whole_count count.Two = 2
 whole_count count.Four = 4
 whole_count count.Eight = 8
 
--- how many registers an operand covers, and which. With vill set only whole-register operands have more than one.
+-- how many registers an operand covers, and which. With vill set only whole-register operands
+-- have more than one.
 unfoldable pub count_of : Option Vtype → Extent → ℕ
 count_of (Some t) (Group eew) = group_count t eew
 count_of None (Group eew) = 1
@@ -53,10 +55,12 @@ is_width bits = nat_le 8 bits && nat_le bits 32
 -- a group has EEW and EMUL in range, and stands at a multiple of its size
 abbrev pub is_group_legal : Vtype → Eew → ℕ → Bool
 is_group_legal t eew first =
-    is_width (eew_bits t.sew eew) && nat_le (emul_eighths t eew) 64 && (first % group_count t eew == 0)
+    is_width (eew_bits t.sew eew) && nat_le (emul_eighths t eew) 64
+    && (first % group_count t eew == 0)
 
--- whether an operand is well formed: its EEW and EMUL in range, its group at a multiple of its size. A single element
--- and a mask may stand in any register. With vill set, only whole-register operands are.
+-- whether an operand is well formed: its EEW and EMUL in range, its group at a multiple of its
+-- size. A single element and a mask may stand in any register. With vill set, only
+-- whole-register operands are.
 unfoldable pub is_operand_legal : Option Vtype → Extent → ℕ → Bool
 is_operand_legal (Some t) (Group eew) first = is_group_legal t eew first
 is_operand_legal (Some t) (Single eew) first = is_width (eew_bits t.sew eew)
@@ -83,16 +87,20 @@ unfoldable pub is_emul_whole : Vtype → Extent → Bool
 is_emul_whole t (Group eew) = nat_le 8 (emul_eighths t eew)
 is_emul_whole t extent = true
 
--- a destination may overlap a source of the same EEW; one of a greater EEW from its first register on; one of a
--- smaller EEW, where the source's EMUL is at least 1, up to its last register
+-- a destination may overlap a source of the same EEW; one of a greater EEW from its first register
+-- on; one of a smaller EEW, where the source's EMUL is at least 1, up to its last register
 unfoldable pub may_overlap : Vtype → Operand → Operand → Bool
 may_overlap t destination source =
     (element_bits t destination.extent == element_bits t source.extent)
-    || (nat_lt (element_bits t destination.extent) (element_bits t source.extent) && (destination.first == source.first))
-    || (nat_lt (element_bits t source.extent) (element_bits t destination.extent) && is_emul_whole t source.extent
-    && (destination.first + count_of (Some t) destination.extent == source.first + count_of (Some t) source.extent))
+    || (nat_lt (element_bits t destination.extent) (element_bits t source.extent)
+    && (destination.first == source.first))
+    || (nat_lt (element_bits t source.extent) (element_bits t destination.extent)
+    && is_emul_whole t source.extent
+    && (destination.first + count_of (Some t) destination.extent
+    == source.first + count_of (Some t) source.extent))
 
--- whether a destination and a source may have their registers: single elements and whole registers may overlap
+-- whether a destination and a source may have their registers: single elements and whole
+-- registers may overlap
 unfoldable pub is_overlap_legal : Option Vtype → Sharing → Operand → Operand → Bool
 is_overlap_legal None sharing destination source = true
 is_overlap_legal (Some t) ByWidth destination source = may_overlap t destination source
@@ -110,8 +118,8 @@ is_pair_legal vtype sharing destination source =
     || are_apart (registers_of vtype destination) (registers_of vtype source)
     || is_overlap_legal vtype sharing destination source
 
--- whether a masked instruction keeps off its mask: its destination does not contain v0, unless it is a mask or a
--- single element. What shares no register with a source does not share v0 either.
+-- whether a masked instruction keeps off its mask: its destination does not contain v0, unless it
+-- is a mask or a single element. What shares no register with a source does not share v0 either.
 unfoldable pub keeps_mask : Sharing → Extent → Bool
 keeps_mask ByWidth (Group eew) = true
 keeps_mask ByWidth extent = false
@@ -119,7 +127,8 @@ keeps_mask Nothing extent = true
 
 unfoldable pub is_mask_legal : Option Vtype → Bool → Sharing → Operand → Bool
 is_mask_legal vtype masked sharing destination =
-    not masked || not (keeps_mask sharing destination.extent) || not (is_among 0 (registers_of vtype destination))
+    not masked || not (keeps_mask sharing destination.extent)
+    || not (is_among 0 (registers_of vtype destination))
 
 -- the same where an operand is absent
 abbrev pub is_present_legal : Option Vtype → Option Operand → Bool
@@ -128,7 +137,8 @@ is_present_legal vtype (Some operand) = is_operand_legal vtype operand.extent op
 
 unfoldable pub is_source_legal : Option Vtype → Sharing → Operand → Option Operand → Bool
 is_source_legal vtype sharing destination None = true
-is_source_legal vtype sharing destination (Some source) = is_pair_legal vtype sharing destination source
+is_source_legal vtype sharing destination (Some source) =
+    is_pair_legal vtype sharing destination source
 
 unfoldable pub is_destination_legal : Option Vtype → Operands → Option Operand → Bool
 is_destination_legal vtype operands None = true
@@ -145,7 +155,7 @@ are_operands_legal vtype operands =
     && is_destination_legal vtype operands operands.destination
 
 -- the elements of an access lie one after another ("Vector Unit-Stride Instructions")
-unfoldable pub is_in_a_row : Place → Bool
+unfoldable pub is_in_a_row : Addressing → Bool
 is_in_a_row (Unit width masked) = true
 is_in_a_row place = false
 
@@ -167,7 +177,8 @@ least_bits (Single eew) = 8
 least_bits Mask = 1
 least_bits (Whole count) = 8
 
--- the registers of an operand exist, at most eight of them, and its elements have 8 to 32 bits, those of a mask one
+-- the registers of an operand exist, at most eight of them, and its elements have 8 to 32 bits,
+-- those of a mask one
 pub record IsInside (t : Vtype) (operand : Operand) : Type 0 where
   pub registers : operand.first + count_of (Some t) operand.extent ≤ 32
   pub size : count_of (Some t) operand.extent ≤ 8

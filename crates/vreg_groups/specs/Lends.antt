@@ -1,4 +1,5 @@
--- What registers end as, where a group of them is lent to be written: the borrow ends with the bytes that were written.
+-- What registers end as, where a group of them is lent to be written: the borrow ends with the
+-- bytes that were written.
 use Rattle.std.specs.Prelude.{ℕ, List}
 use Rattle.std.specs.Borrow.{Lends, Fml, RattleType, MutBor, Array, u8}
 use Rattle.vreg_groups.specs.NewElements.{overlaid_within}
@@ -6,10 +7,13 @@ use Rattle.vreg_groups.specs.contracts.block.Block as block
 use Rattle.vreg_groups.specs.contracts.registers.VregFile as file
 
 -- r is the part of a block from a place on
-abbrev pub lends_part : (T N : RattleType) → MutBor (block.the_row T N).Denot → ℕ → MutBor (List T.Denot) → Fml
+abbrev pub lends_part : (T N : RattleType) → MutBor (block.the_row T N).Denot → ℕ
+    → MutBor (List T.Denot) → Fml
 lends_part T N lender at r =
-    Lends (block.the_row T N) (Array T 0) lender r (λ w. record { items = overlaid_within at lender.now.items w })
+    Lends (block.the_row T N) (Array T 0) lender r
+    (λ w. record { items = overlaid_within at lender.now.items w })
 
 -- r is the part of the registers from a place on
 abbrev pub lends_group : (vlenb : RattleType) → MutBor (List ℕ) → ℕ → MutBor (List ℕ) → Fml
-lends_group vlenb lender at r = Lends (file.the_row vlenb) (Array u8 0) lender r (overlaid_within at lender.now)
+lends_group vlenb lender at r =
+    Lends (file.the_row vlenb) (Array u8 0) lender r (overlaid_within at lender.now)

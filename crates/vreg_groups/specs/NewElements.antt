@@ -1,5 +1,5 @@
--- What the elements of a destination become ("Prestart, Active, Inactive, Body, and Tail Element Definitions",
--- "Vector Tail Agnostic and Vector Mask Agnostic").
+-- What the elements of a destination become ("Prestart, Active, Inactive, Body, and Tail Element
+-- Definitions", "Vector Tail Agnostic and Vector Mask Agnostic").
 use Rattle.std.specs.Prelude.{Bool, true, false, ℕ, ◌+◌, ◌-◌, ◌*◌, ◌/◌, ◌^◌, nat_lt, if◌then◌else◌, List, [], ◌∷◌, ◌++◌, length, take, drop, replicate, slice_index, slice_index_or}
 use Rattle.std.specs.List.{range_with_len, flat_map}
 use Rattle.vreg_groups.specs.Words.{Agnostic, Keep, Ones, Policy, Vtype}
@@ -10,23 +10,26 @@ abbrev pub filled : {A : Type 0} → Agnostic → A → A → A
 filled Keep ones old = old
 filled Ones ones old = ones
 
--- the policy of an instruction: agnostic elements by the run's setting, the others keep their values
+-- the policy of an instruction: agnostic elements by the run's setting, the others
+-- keep their values
 abbrev pub agnostic_if : Bool → Agnostic → Agnostic
 agnostic_if b agnostic = if b then agnostic else Keep
 
 unfoldable pub policy_of : Agnostic → Vtype → Policy
-policy_of agnostic t = record { tail = agnostic_if t.vta agnostic; inactive = agnostic_if t.vma agnostic }
+policy_of agnostic t =
+    record { tail = agnostic_if t.vta agnostic; inactive = agnostic_if t.vma agnostic }
 
 -- the policy of a mask destination, whose tail is always agnostic
 unfoldable pub mask_policy_of : Agnostic → Vtype → Policy
 mask_policy_of agnostic t = record { tail = agnostic; inactive = agnostic_if t.vma agnostic }
 
--- what element i becomes. The body has as many elements as there are results: an active one becomes its result, the
--- others are inactive. All later elements are the tail.
+-- what element i becomes. The body has as many elements as there are results: an active one becomes
+-- its result, the others are inactive. All later elements are the tail.
 unfoldable pub new_element : {A : Type 0} → Policy → A → List A → List Bool → ℕ → A → A
 new_element policy ones results active i old =
     if nat_lt i (length results)
-    then (if slice_index_or active i false then slice_index_or results i old else filled policy.inactive ones old)
+    then (if slice_index_or active i false then slice_index_or results i old
+    else filled policy.inactive ones old)
     else filled policy.tail ones old
 
 -- the bytes after others were put over them, from place `at` on
@@ -45,16 +48,18 @@ replaced size at count piece bytes =
 -- the bytes of the new element i, of `size` bytes, of the group that begins at place `at`
 unfoldable pub new_bytes : ℕ → ℕ → Policy → List ℕ → List Bool → List ℕ → ℕ → List ℕ
 new_bytes size at policy results active bytes i =
-    bytes_of size (new_element policy (256 ^ size - 1) results active i (element_at size at bytes i))
+    bytes_of size
+    (new_element policy (256 ^ size - 1) results active i (element_at size at bytes i))
 
--- the registers after results of `size` bytes were written to the group of `count` registers from `first` on; its tail
--- goes to the end of its last register
+-- the registers after results of `size` bytes were written to the group of `count` registers from
+-- `first` on; its tail goes to the end of its last register
 unfoldable pub write_of : ℕ → ℕ → ℕ → ℕ → Policy → List ℕ → List Bool → List ℕ → List ℕ
 write_of vlenb size first count policy results active file =
-    replaced size (first * vlenb) (count * vlenb / size) (new_bytes size (first * vlenb) policy results active file) file
+    replaced size (first * vlenb) (count * vlenb / size)
+    (new_bytes size (first * vlenb) policy results active file) file
 
--- the same where the results are all active, by their bytes: these stand from place `at` on, and what follows them, up to
--- place `end`, is the tail
+-- the same where the results are all active, by their bytes: these stand from place `at` on, and
+-- what follows them, up to place `end`, is the tail
 unfoldable pub bytes_written : ℕ → ℕ → Agnostic → List ℕ → List ℕ → List ℕ
 bytes_written at end tail results bytes =
     let put = overlaid at results bytes in
@@ -73,4 +78,5 @@ new_mask_bytes at policy results active bytes j =
 -- the registers after a mask was written to a register; its tail goes to bit VLEN-1
 unfoldable pub mask_write_of : ℕ → ℕ → Policy → List Bool → List Bool → List ℕ → List ℕ
 mask_write_of vlenb register policy results active file =
-    replaced 1 (register * vlenb) vlenb (new_mask_bytes (register * vlenb) policy results active file) file
+    replaced 1 (register * vlenb) vlenb
+    (new_mask_bytes (register * vlenb) policy results active file) file

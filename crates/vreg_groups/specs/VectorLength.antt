@@ -21,8 +21,9 @@ vlenb_of V512 = 64
 abbrev pub no_config : Vconfig
 no_config = record { vtype = vill; vl = 0 }
 
--- the new vtype and vl for a supported request: `bits` are the requested ones, `before` what the old bits stand for,
--- and `vlmax` is the requested VLMAX. The length is kept only where VLMAX stays the same.
+-- the new vtype and vl for a supported request: `bits` are the requested ones, `before` what the
+-- old bits stand for, and `vlmax` is the requested VLMAX. The length is kept only where VLMAX
+-- stays the same.
 unfoldable pub supported_vset : ℕ → Vconfig → Option Vtype → Avl → ℕ → ℕ → Vconfig
 supported_vset vlenb config (Some before) Keep bits vlmax =
     if vlmax_of vlenb before == vlmax then record { vtype = bits; vl = config.vl } else no_config
@@ -44,8 +45,9 @@ unfoldable pub IsConfig : ℕ → Vconfig → Type 0
 IsConfig vlenb config =
     MatchOption (vtype_of config.vtype) (config ≡ no_config) (λ t. config.vl ≤ vlmax_of vlenb t)
 
--- what that says of vl under the type that an instruction works under: a mask register has a bit for each element of the
--- body, and the elements of SEW take no more than a group of eight registers
+-- what that says of vl under the type that an instruction works under: a mask register has a
+-- bit for each element of the body, and the elements of SEW take no more than a group of
+-- eight registers
 pub record IsLength (vlenb : ℕ) (t : Vtype) (vl : ℕ) : Type 0 where
   pub within : vl ≤ vlmax_of vlenb t
   pub bits : vl ≤ 8 * vlenb

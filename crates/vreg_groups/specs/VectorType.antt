@@ -29,30 +29,38 @@ eighths_of Eight = 64
 -- the field vsew: SEW 64 and the reserved values are not supported
 unfoldable pub sew_of : ℕ → Option Width
 sew_of vsew =
-    if vsew == 0 then Some W8 else (if vsew == 1 then Some W16 else (if vsew == 2 then Some W32 else None))
+    if vsew == 0 then Some W8
+    else (if vsew == 1 then Some W16
+    else (if vsew == 2 then Some W32 else None))
 
 -- the field vlmul, a signed power of two: LMUL 1/8 and the reserved value are not supported
 unfoldable pub lmul_of : ℕ → Option Lmul
 lmul_of vlmul =
-    if vlmul == 0 then Some One else (if vlmul == 1 then Some Two else (if vlmul == 2 then Some Four else (if vlmul == 3 then Some Eight
-    else (if vlmul == 6 then Some Quarter else (if vlmul == 7 then Some Half else None)))))
+    if vlmul == 0 then Some One
+    else (if vlmul == 1 then Some Two
+    else (if vlmul == 2 then Some Four
+    else (if vlmul == 3 then Some Eight
+    else (if vlmul == 6 then Some Quarter
+    else (if vlmul == 7 then Some Half else None)))))
 
 -- SEW is at most LMUL * ELEN, where ELEN is 32
 unfoldable pub is_supported : Width → Lmul → Bool
 is_supported sew lmul = nat_le (8 * bits_of_width sew) (32 * eighths_of lmul)
 
--- the supported type that the bits of vtype stand for: vma is bit 7, vta bit 6, vsew bits 5:3, vlmul bits 2:0
+-- the supported type that the bits of vtype stand for: vma is bit 7, vta bit 6, vsew bits
+-- 5:3, vlmul bits 2:0
 unfoldable pub vtype_of : ℕ → Option Vtype
 vtype_of bits =
     if nat_le 256 bits then None else
     option_and_then (λ sew. option_and_then (λ lmul.
     if is_supported sew lmul
-    then Some (record { sew = sew; lmul = lmul; vta = bits / 64 % 2 == 1; vma = bits / 128 % 2 == 1 })
+    then Some
+    (record { sew = sew; lmul = lmul; vta = bits / 64 % 2 == 1; vma = bits / 128 % 2 == 1 })
     else None)
     (lmul_of (bits % 8))) (sew_of (bits / 8 % 8))
 
--- the type that an instruction works under. With vill set there is none, and any will do: only whole-register forms are
--- legal then.
+-- the type that an instruction works under. With vill set there is none, and any will do: only
+-- whole-register forms are legal then.
 abbrev pub type_in : Option Vtype → Vtype
 type_in (Some t) = t
 type_in None = record { sew = W8; lmul = One; vta = false; vma = false }

@@ -37,7 +37,8 @@ impl<const VLENB: usize> Model for Group<VLENB> {
 
     ghost view = { λ g. record { first = g.first; count = g.count; bytes = g.bytes; vl = g.vl } };
 
-    ghost invariant = { λ g. IsVlenb VLENB × (g.first + g.count ≤ 32) × (g.count ≤ 8) × (g.bytes * g.vl ≤ g.count * VLENB) };
+    ghost invariant = { λ g. IsVlenb VLENB × (g.first + g.count ≤ 32) × (g.count ≤ 8)
+        × (g.bytes * g.vl ≤ g.count * VLENB) };
 }
 
 impl<const VLENB: usize> Group<VLENB> {

@@ -20,8 +20,8 @@ ghost use Rattle.vreg_groups.specs.Legality.{AreAllInside, IsInside};
 use crate::vector_length::Vconfig;
 use crate::vector_type::{Vtype, eew_bits, emul_eighths, type_in};
 use rv_decode::{
-    Count, Direction, Eew, Extent, Insn, Operand, Operands, Place, Reg, Sharing, Source, VArith,
-    VMem, needs,
+    Addressing, Count, Direction, Eew, Extent, Insn, Operand, Operands, Reg, Sharing, Source,
+    VArith, VMem, needs,
 };
 
 /// Tells whether an instruction is legal under `config`.
@@ -153,7 +153,7 @@ fn is_plain_access(vtype: &Vtype, access: &VMem) -> bool
 {
     let place = access.place;
     match place {
-        Place::Unit { width, masked } => {
+        Addressing::Unit { width, masked } => {
             let values = Operand {
                 first: access.values,
                 extent: Extent::Group(Eew::Fixed(width)),
@@ -164,7 +164,10 @@ fn is_plain_access(vtype: &Vtype, access: &VMem) -> bool
                     Direction::Store => true,
                 }
         }
-        Place::Strided { .. } | Place::Indexed { .. } | Place::Mask | Place::Whole { .. } => false,
+        Addressing::Strided { .. }
+        | Addressing::Indexed { .. }
+        | Addressing::Mask
+        | Addressing::Whole { .. } => false,
     }
 }
 

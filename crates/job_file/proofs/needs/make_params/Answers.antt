@@ -1,7 +1,7 @@
 use Rattle.std.proofs.Common.{rules, ◌≡◌, ◌∙◌, sym, ap, get_or, None, Some}
 use Rattle.std.proofs.lemmas.List.{map-id}
 use Rattle.region_mem.specs.declared.parameter.Param.TheVariants as declared
-use Rattle.job_file.specs.declared.values.Param.TheVariants as param
+use Rattle.job_file.specs.declared.values.JobParam.TheVariants as param
 use Rattle.job_file.specs.Job.{param_lent}
 use Rattle.job_file.specs.Needs.{make_param_of, make_params_of}
 use Rattle.job_file.proofs.JobLemmas.{all_there-each, all_there-missing}

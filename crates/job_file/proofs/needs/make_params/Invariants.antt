@@ -1,6 +1,6 @@
 use Rattle.std.proofs.Common.{◌≡◌, ℕ, ◌<◌, length, get_or, Some}
 use Rattle.region_mem.specs.declared.parameter.Param.TheVariants as declared
-use Rattle.job_file.specs.declared.values.Param.TheVariants as param
+use Rattle.job_file.specs.declared.values.JobParam.TheVariants as param
 use Rattle.job_file.specs.Job.{param_lent}
 use Rattle.job_file.specs.Needs.{make_param_of}
 use Rattle.job_file.proofs.needs.make_params.Given as goal

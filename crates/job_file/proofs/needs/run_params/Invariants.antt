@@ -1,5 +1,5 @@
 use Rattle.std.proofs.Common.{◌≡◌, ℕ, ◌<◌, length, get_or, Some}
-use Rattle.job_file.specs.declared.values.Param.TheVariants as param
+use Rattle.job_file.specs.declared.values.JobParam.TheVariants as param
 use Rattle.job_file.specs.declared.values.RunParam.TheVariants as given
 use Rattle.job_file.specs.Job.{param_lent}
 use Rattle.job_file.specs.Needs.{run_param_lent, run_param_of}

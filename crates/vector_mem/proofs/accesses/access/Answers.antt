@@ -1,7 +1,7 @@
 -- The indices of a legal access are inside the registers, as many as there are elements.
 use Rattle.std.proofs.Common.{lit<, ◌≡◌, ◌∙◌, ap, arith, length, sym}
 use Rattle.std.proofs.lemmas.List.{length-take-le}
-use Rattle.rv_decode.specs.declared.instructions.Place.{Place}
+use Rattle.rv_decode.specs.declared.instructions.Addressing.{Addressing}
 use Rattle.vreg_groups.specs.Group.{Span}
 use Rattle.vector_mem.specs.Words.{Indexed}
 use Rattle.vector_mem.specs.Transfers.{data_at}
@@ -28,7 +28,7 @@ indexed_plan-requires-clause-len g c =
     let place : c.args.insn.now.place ≡ Indexed c.in-Indexed.width c.in-Indexed.vs2 c.in-Indexed.ordered c.in-Indexed.masked = cc in
     let vl : c.vl.result ≡ c.args.setup.now.vl =
     c.vl.ensures.meaning ∙ ap (λ (s : Span). s.vl) c.data_group-group.ensures.meaning
-    ∙ ap (λ (p : Place). (data_at g.row.VLENB c.args.setup.now p c.args.insn.now.values).vl) place in
+    ∙ ap (λ (p : Addressing). (data_at g.row.VLENB c.args.setup.now p c.args.insn.now.values).vl) place in
     let indices : length c.read_indices.new.indices ≡ c.args.setup.now.vl = ap length c.read_indices.ensures ∙ body_length _ _ _ in
     let active : length c.read_active.new.active ≡ c.vl.result =
     c.read_active.auto.active
