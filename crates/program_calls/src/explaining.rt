@@ -337,11 +337,7 @@ fn explains_an_input_that_fails(rt: HostRuntime) -> Result<(), Fail> {
             "file: -\n",
             "file: -\n  the system says: broken pipe\n",
         ),
-        (
-            ErrorKind::OutOfMemory,
-            "out of memory\n",
-            "out of memory\n",
-        ),
+        (ErrorKind::OutOfMemory, "out of memory\n", "out of memory\n"),
     ] {
         for (words, wanted) in [
             (["rvvbox", "mon", "job.toml"].as_slice(), plain),
