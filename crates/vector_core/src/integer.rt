@@ -1,28 +1,25 @@
 //! Integer instructions on elements of SEW: each resolves its operands, reads them, computes and writes. `a` is what is
 //! read from vs2, and `c` from the second operand; both have room for the body.
 
-ghost use Rattle.std.specs.Prelude.{◌≡◌, ◌≤◌, ◌*◌, length};
+ghost use Rattle.std.specs.Prelude.{◌≡◌, length};
 ghost use Rattle.rv_decode.specs.Needs.{needs_of_arith};
 ghost use Rattle.vector_core.specs.Arithmetic.{arith_of};
 ghost use Rattle.vector_core.specs.Computed.{exact};
 ghost use Rattle.vector_core.specs.Shapes.{CarryOutShape, CarryShape, CompareShape, IntShape};
 ghost use Rattle.vector_core.specs.Shapes.{MultiplyAddShape, shape_of};
 ghost use Rattle.vector_core.specs.Integer.{carry_in};
-ghost use Rattle.vector_core.specs.Setup.{IsReady};
+ghost use Rattle.vector_core.specs.Setup.{IsReady, IsSetup};
 
 use crate::elements::VectorElement;
 use crate::operands::{read_body, read_second, read_v0, write_bits, write_results};
 use crate::operations::carry_out_lanes;
-use crate::results::{
-    carry_out_results, carry_results, compare_results, int_results, multiply_add_results,
-};
 use crate::setup::Setup;
 use rv_decode::{Eew, VArith};
 use scalar_core::Scalar;
 use vreg_groups::{MOST_ELEMENTS, VregFile};
 
 /// vd is an operation on vs2 and b.
-#[tactic(auto, unfolding(rv_decode::specs::Needs::needs_of_arith, crate::specs::Integer::int_of, crate::specs::Arithmetic::arith_of))]
+#[tactic(auto, using(crate::proofs::Numbers::map_two), unfolding(rv_decode::specs::Needs::needs_of_arith, crate::specs::Integer::int_of, crate::specs::Arithmetic::arith_of))]
 pub fn int<E: VectorElement, const VLENB: usize>(
     registers: &mut VregFile<VLENB>,
     scalar: &Scalar,
@@ -51,12 +48,12 @@ pub fn int<E: VectorElement, const VLENB: usize>(
     let destination = setup.group(*vd, Eew::Same);
     read_body(registers, setup, *vs2, a);
     read_second(registers, scalar, setup, *b, c);
-    int_results(*op, a, c);
+    lane_int::compute(*op, a, c);
     write_results(registers, setup, &destination, *masked, a);
 }
 
 /// vd is a product and a sum of b, vs2 and the old vd, whose body there is room for in `d`.
-#[tactic(auto, unfolding(rv_decode::specs::Needs::needs_of_arith, crate::specs::Integer::multiply_add_of, crate::specs::Arithmetic::arith_of))]
+#[tactic(auto, using(crate::proofs::Numbers::map_three), unfolding(rv_decode::specs::Needs::needs_of_arith, crate::specs::Integer::multiply_add_of, crate::specs::Arithmetic::arith_of))]
 pub fn multiply_add<E: VectorElement, const VLENB: usize>(
     registers: &mut VregFile<VLENB>,
     scalar: &Scalar,
@@ -88,12 +85,12 @@ pub fn multiply_add<E: VectorElement, const VLENB: usize>(
     read_body(registers, setup, *vs2, a);
     read_second(registers, scalar, setup, *b, c);
     destination.read(registers, d);
-    multiply_add_results(*op, a, c, d);
+    lane_int::multiply_add(*op, a, c, d);
     write_results(registers, setup, &destination, *masked, d);
 }
 
 /// vd is a sum or difference of vs2, b and the bit of v0.
-#[tactic(auto, unfolding(rv_decode::specs::Needs::needs_of_arith, crate::specs::Integer::carry_of, crate::specs::Arithmetic::arith_of))]
+#[tactic(auto, using(crate::proofs::Numbers::map_by_bits), unfolding(rv_decode::specs::Needs::needs_of_arith, crate::specs::Integer::carry_of, crate::specs::Arithmetic::arith_of))]
 pub fn carry<E: VectorElement, const VLENB: usize>(
     registers: &mut VregFile<VLENB>,
     scalar: &Scalar,
@@ -117,13 +114,13 @@ pub fn carry<E: VectorElement, const VLENB: usize>(
     let carries = &mut bits[..setup.vl];
     read_body(registers, setup, *vs2, a);
     read_second(registers, scalar, setup, *b, c);
-    read_v0(registers, carries);
-    carry_results(*op, a, c, carries);
+    read_v0(registers, setup, carries);
+    lane_int::compute_carried(*op, a, c, carries);
     write_results(registers, setup, &destination, false, a);
 }
 
 /// The bits of vd are the carries or borrows of vs2 and b, with the bit of v0 where `with_carry` says so.
-#[tactic(auto, unfolding(rv_decode::specs::Needs::needs_of_arith, crate::specs::Integer::carry_out_of, crate::specs::Arithmetic::arith_of))]
+#[tactic(auto, using(crate::proofs::Numbers::test_by_bits), unfolding(rv_decode::specs::Needs::needs_of_arith, crate::specs::Integer::carry_out_of, crate::specs::Arithmetic::arith_of))]
 pub fn carry_out<E: VectorElement, const VLENB: usize>(
     registers: &mut VregFile<VLENB>,
     scalar: &Scalar,
@@ -153,13 +150,13 @@ pub fn carry_out<E: VectorElement, const VLENB: usize>(
     let carries = &mut bits[..setup.vl];
     read_body(registers, setup, *vs2, a);
     read_second(registers, scalar, setup, *b, c);
-    read_carries(registers, *with_carry, carries);
-    carry_out_results(carry_out_lanes(*op), a, c, carries);
+    read_carries(registers, setup, *with_carry, carries);
+    lane_int::compute_carries(carry_out_lanes(*op), a, c, carries);
     write_bits(registers, setup, *vd, false, carries);
 }
 
 /// The bits of vd say how vs2 compares with b.
-#[tactic(auto, unfolding(rv_decode::specs::Needs::needs_of_arith, crate::specs::Integer::compare_of, crate::specs::Arithmetic::arith_of))]
+#[tactic(auto, using(crate::proofs::Numbers::test_two), unfolding(rv_decode::specs::Needs::needs_of_arith, crate::specs::Integer::compare_of, crate::specs::Arithmetic::arith_of))]
 pub fn compare<E: VectorElement, const VLENB: usize>(
     registers: &mut VregFile<VLENB>,
     scalar: &Scalar,
@@ -189,21 +186,23 @@ pub fn compare<E: VectorElement, const VLENB: usize>(
     let results = &mut bits[..setup.vl];
     read_body(registers, setup, *vs2, a);
     read_second(registers, scalar, setup, *b, c);
-    compare_results(*op, a, c, results);
+    lane_int::compare(*op, a, c, results);
     write_bits(registers, setup, *vd, *masked, results);
 }
 
 /// Reads the carries or borrows that go in: the bits of v0, or none.
 fn read_carries<const VLENB: usize>(
     registers: &VregFile<VLENB>,
+    setup: &Setup,
     with_carry: bool,
     bits: &mut [bool],
 )
-    requires { length bits.old ≤ 8 * VLENB }
-    ensures { bits.new ≡ carry_in VLENB with_carry (length bits.old) registers.now }
+    requires len { length bits.old ≡ setup.now.vl }
+    requires setup { IsSetup VLENB setup.now }
+    ensures { bits.new ≡ carry_in VLENB with_carry setup.now.vl registers.now }
 {
     if with_carry {
-        read_v0(registers, bits);
+        read_v0(registers, setup, bits);
     } else {
         bits.fill(false);
     }

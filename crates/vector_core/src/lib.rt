@@ -22,7 +22,6 @@ mod operations;
 mod permutations;
 mod reductions;
 mod resizing;
-mod results;
 mod rooms;
 mod setup;
 mod singles;

@@ -1,19 +1,18 @@
 //! Instructions that put elements of SEW, or whole registers, somewhere as they are.
 
 ghost use Rattle.std.specs.Prelude.{◌≡◌, Ok, length};
+ghost use Rattle.lane_int.specs.Lists.{zip3};
 ghost use Rattle.region_mem.specs.Memory.{Memory};
 ghost use Rattle.rv_decode.specs.Needs.{needs_of_arith, needs_of_move};
 ghost use Rattle.vector_core.specs.Arithmetic.{arith_of};
 ghost use Rattle.vector_core.specs.Computed.{exact};
 ghost use Rattle.vector_core.specs.Shapes.{CopyShape, MergeShape, shape_of};
-ghost use Rattle.vector_core.specs.Moves.{from_scalar_of, move_step};
-ghost use Rattle.vector_core.specs.Moves.{to_scalar_of};
+ghost use Rattle.vector_core.specs.Moves.{chosen, from_scalar_of, move_step, to_scalar_of};
 ghost use Rattle.vector_core.specs.Setup.{IsReady};
 
 use crate::elements::VectorElement;
 use crate::fold_elements::sign_extended;
 use crate::operands::{read_body, read_second, read_v0, write_results};
-use crate::results::merge_results;
 use crate::setup::Setup;
 use crate::singles::write_first;
 use crate::state::VectorState;
@@ -22,7 +21,7 @@ use scalar_core::Scalar;
 use vreg_groups::{MOST_ELEMENTS, VregFile, whole_count};
 
 /// vd is b where the bit of v0 is 1, and vs2 elsewhere.
-#[tactic(auto, unfolding(rv_decode::specs::Needs::needs_of_arith, crate::specs::Moves::merge_of, crate::specs::Arithmetic::arith_of))]
+#[tactic(auto, using(crate::proofs::Numbers::choose_numbers), unfolding(rv_decode::specs::Needs::needs_of_arith, crate::specs::Moves::merge_of, crate::specs::Arithmetic::arith_of))]
 pub fn merge<E: VectorElement, const VLENB: usize>(
     registers: &mut VregFile<VLENB>,
     scalar: &Scalar,
@@ -46,9 +45,26 @@ pub fn merge<E: VectorElement, const VLENB: usize>(
     let mask = &mut bits[..setup.vl];
     read_body(registers, setup, *vs2, a);
     read_second(registers, scalar, setup, *b, c);
-    read_v0(registers, mask);
-    merge_results(a, c, mask);
+    read_v0(registers, setup, mask);
+    choose_each(a, c, mask);
     write_results(registers, setup, &destination, false, a);
+}
+
+/// `b`'s element where the bit is 1, over `values`.
+fn choose_each<E: VectorElement>(values: &mut [E], b: &[E], bits: &[bool])
+    requires b_len { length b.now ≡ length values.old }
+    requires bits_len { length bits.now ≡ length values.old }
+    ensures { values.new ≡ zip3 chosen values.old b.now bits.now }
+{
+    for i in 0..values.len() {
+        values[i] = choose(values[i], b[i], bits[i]);
+    }
+}
+
+fn choose<E: VectorElement>(a: E, b: E, bit: bool) -> E
+    ensures { result ≡ chosen a b bit }
+{
+    if bit { b } else { a }
 }
 
 /// vd is b.

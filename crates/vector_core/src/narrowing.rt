@@ -13,14 +13,13 @@ use crate::fixed_point::rounding_mode;
 use crate::operands::{read_second, write_results};
 use crate::operations::narrow_lanes;
 use crate::resizing::{HalfOf, read_second_doubled};
-use crate::results::int_results;
 use crate::setup::Setup;
 use rv_decode::{Eew, VArith};
 use scalar_core::Scalar;
 use vreg_groups::{MOST_ELEMENTS, VregFile};
 
 /// vd is the low half of vs2 shifted right by b, which there is room for at 2*SEW in `y`.
-#[tactic(auto, unfolding(rv_decode::specs::Needs::needs_of_arith, crate::specs::Narrowing::narrow_of, crate::specs::Arithmetic::arith_of))]
+#[tactic(auto, using(crate::proofs::Numbers::map_two), unfolding(rv_decode::specs::Needs::needs_of_arith, crate::specs::Narrowing::narrow_of, crate::specs::Arithmetic::arith_of))]
 pub fn narrow<N: HalfOf<W>, W: VectorElement, const VLENB: usize>(
     registers: &mut VregFile<VLENB>,
     scalar: &Scalar,
@@ -52,7 +51,7 @@ pub fn narrow<N: HalfOf<W>, W: VectorElement, const VLENB: usize>(
     let source = setup.group::<VLENB>(*vs2, Eew::Double);
     source.read(registers, x);
     read_second_doubled(registers, scalar, setup, *b, false, a, y);
-    int_results(narrow_lanes(*op), x, y);
+    lane_int::compute(narrow_lanes(*op), x, y);
     N::cut(x, a);
     write_results(registers, setup, &destination, *masked, a);
 }

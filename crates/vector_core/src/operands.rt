@@ -1,6 +1,6 @@
 //! The operands of vector instructions: what is read from registers, and what is written to them.
 
-ghost use Rattle.std.specs.Prelude.{◌≡◌, ◌≤◌, ◌*◌, false, IfSome, length, map, replicate};
+ghost use Rattle.std.specs.Prelude.{◌≡◌, false, IfSome, length, map, replicate};
 ghost use Rattle.rv_decode.specs.Needs.{second as second_group};
 ghost use Rattle.rv_decode.specs.declared.extents.Eew.TheVariants.{Same};
 ghost use Rattle.vreg_groups.specs.Elements.{active_of, mask_bits};
@@ -75,10 +75,11 @@ pub fn splat<E: VectorElement>(value: E, out: &mut [E])
     }
 }
 
-/// Reads the bits of v0.
-pub fn read_v0<const VLENB: usize>(registers: &VregFile<VLENB>, bits: &mut [bool])
-    requires { length bits.old ≤ 8 * VLENB }
-    ensures { bits.new ≡ mask_bits VLENB 0 (length bits.old) registers.now }
+/// Reads the body's bits of v0.
+pub fn read_v0<const VLENB: usize>(registers: &VregFile<VLENB>, setup: &Setup, bits: &mut [bool])
+    requires len { length bits.old ≡ setup.now.vl }
+    requires setup { IsSetup VLENB setup.now }
+    ensures { bits.new ≡ mask_bits VLENB 0 setup.now.vl registers.now }
 {
     registers.read_mask(Reg::new(0), bits);
 }

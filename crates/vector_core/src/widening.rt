@@ -18,14 +18,13 @@ use crate::operations::{
     is_wide_signed, wide_lanes, widen_lanes, widen_multiply_add_signs, widen_signs,
 };
 use crate::resizing::{HalfOf, Narrow, read_doubled, read_second_doubled};
-use crate::results::{int_results, multiply_add_results};
 use crate::setup::Setup;
 use rv_decode::{Eew, Fraction, MultiplyAddOp, Reg, VArith, Width};
 use scalar_core::Scalar;
 use vreg_groups::{MOST_ELEMENTS, VregFile};
 
 /// vd is an operation on vs2 and b, both of SEW.
-#[tactic(auto, unfolding(rv_decode::specs::Needs::needs_of_arith, crate::specs::Widening::widen_of, crate::specs::Arithmetic::arith_of))]
+#[tactic(auto, using(crate::proofs::Numbers::map_two), unfolding(rv_decode::specs::Needs::needs_of_arith, crate::specs::Widening::widen_of, crate::specs::Arithmetic::arith_of))]
 pub fn widen<N: HalfOf<W>, W: VectorElement, const VLENB: usize>(
     registers: &mut VregFile<VLENB>,
     scalar: &Scalar,
@@ -57,12 +56,12 @@ pub fn widen<N: HalfOf<W>, W: VectorElement, const VLENB: usize>(
     let signs = widen_signs(*op);
     read_doubled(registers, setup, *vs2, signs.vs2, a, x);
     read_second_doubled(registers, scalar, setup, *b, signs.b, a, y);
-    int_results(widen_lanes(*op), x, y);
+    lane_int::compute(widen_lanes(*op), x, y);
     write_results(registers, setup, &destination, *masked, x);
 }
 
 /// vd is an operation on vs2, of 2*SEW, and b, of SEW.
-#[tactic(auto, unfolding(rv_decode::specs::Needs::needs_of_arith, crate::specs::Widening::wide_of, crate::specs::Arithmetic::arith_of))]
+#[tactic(auto, using(crate::proofs::Numbers::map_two), unfolding(rv_decode::specs::Needs::needs_of_arith, crate::specs::Widening::wide_of, crate::specs::Arithmetic::arith_of))]
 pub fn wide<N: HalfOf<W>, W: VectorElement, const VLENB: usize>(
     registers: &mut VregFile<VLENB>,
     scalar: &Scalar,
@@ -94,12 +93,12 @@ pub fn wide<N: HalfOf<W>, W: VectorElement, const VLENB: usize>(
     let source = setup.group::<VLENB>(*vs2, Eew::Double);
     source.read(registers, x);
     read_second_doubled(registers, scalar, setup, *b, is_wide_signed(*op), a, y);
-    int_results(wide_lanes(*op), x, y);
+    lane_int::compute(wide_lanes(*op), x, y);
     write_results(registers, setup, &destination, *masked, x);
 }
 
 /// vd is the product of b and vs2, both of SEW, and the old vd together, whose body there is room for in `d`.
-#[tactic(auto, unfolding(rv_decode::specs::Needs::needs_of_arith, crate::specs::Widening::widen_multiply_add_of, crate::specs::Arithmetic::arith_of))]
+#[tactic(auto, using(crate::proofs::Numbers::map_three), unfolding(rv_decode::specs::Needs::needs_of_arith, crate::specs::Widening::widen_multiply_add_of, crate::specs::Arithmetic::arith_of))]
 pub fn widen_multiply_add<N: HalfOf<W>, W: VectorElement, const VLENB: usize>(
     registers: &mut VregFile<VLENB>,
     scalar: &Scalar,
@@ -134,7 +133,7 @@ pub fn widen_multiply_add<N: HalfOf<W>, W: VectorElement, const VLENB: usize>(
     read_doubled(registers, setup, *vs2, signs.vs2, a, x);
     read_second_doubled(registers, scalar, setup, *b, signs.b, a, y);
     destination.read(registers, d);
-    multiply_add_results(MultiplyAddOp::Macc, x, y, d);
+    lane_int::multiply_add(MultiplyAddOp::Macc, x, y, d);
     write_results(registers, setup, &destination, *masked, d);
 }
 

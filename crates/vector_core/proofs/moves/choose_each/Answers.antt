@@ -2,7 +2,7 @@ use Rattle.std.proofs.Common.{arith, get_or, false, ◌∙◌, sym}
 use Rattle.std.proofs.lemmas.List.{get_or_default}
 use Rattle.vector_core.specs.Moves.{chosen}
 use Rattle.vector_core.proofs.Numbers.{zip3_more, zip3_end}
-use Rattle.vector_core.proofs.results.merge.Goals as goal
+use Rattle.vector_core.proofs.moves.choose_each.Goals as goal
 
 pub loop-i-preserved : goal.loop-i-preserved
 loop-i-preserved g c =

@@ -2,7 +2,7 @@
 use Rattle.std.proofs.Common.{◌≡◌, ◌++◌, take, drop}
 use Rattle.lane_int.specs.Lists.{zip3}
 use Rattle.vector_core.specs.Moves.{chosen}
-use Rattle.vector_core.proofs.results.merge.Given as goal
+use Rattle.vector_core.proofs.moves.choose_each.Given as goal
 
 abbrev pub invariant-loop-i : goal.invariant-loop-i
 invariant-loop-i g l =
