@@ -1,2 +1,1 @@
 pub mod AddressLemmas
-pub mod RuleLemmas

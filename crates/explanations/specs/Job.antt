@@ -1,26 +1,27 @@
 -- Why a job is refused, and in which words it is told.
-use Rattle.std.specs.Prelude.{◌≡◌, ◌<◌, ◌≤◌, ℕ, ◌+◌, ◌++◌, ◌==◌, nat_lt, nat_le, ◌||◌, if◌then◌else◌, Bool, true, false, List, codes, length, filter, fold, take, Option, Some, None, is_some, string_bytes}
+use Rattle.std.specs.Prelude.{◌≡◌, ◌<◌, ◌≤◌, ℕ, ◌+◌, ◌++◌, ◌==◌, nat_lt, nat_le, ◌||◌, if◌then◌else◌, Bool, true, false, List, codes, length, filter, fold, take, Option, Some, None, is_some, Err, String, Global, string_bytes}
 use Rattle.std.specs.Fmt.{decimal}
 use Rattle.std.specs.Prelude.{slice_index_or}
 use Rattle.std.specs.Str.{IsUtf8}
 use Rattle.std.specs.Str.Lossy.{utf8_valid_len}
 use Rattle.toml.specs.Data.{Members}
 use Rattle.toml.specs.Parse.{parse_document}
-use Rattle.job_file.specs.Job.{Text, job_of}
+use Rattle.job_file.specs.Job.{Breach, Text, job_of, kept_job_of}
+use Rattle.job_file.specs.Keys.{key_name, key_wanted, table_text}
 use Rattle.job_file.specs.Needs.{make_job_in, run_job_in, try_job_in}
+use Rattle.job_file.specs.declared.keys.JobBreach.{JobBreach}
+use Rattle.job_file.specs.declared.keys.JobBreach.TheVariants as breach
+use Rattle.job_file.specs.declared.keys.JobKey.{JobKey}
+use Rattle.job_file.specs.declared.keys.JobKey.TheVariants as key
+use Rattle.job_file.specs.declared.keys.JobTable.{JobTable}
+use Rattle.job_file.specs.declared.keys.JobTable.TheVariants as table
 use Rattle.job_file.specs.declared.values.Job.{Job}
 use Rattle.job_file.specs.declared.values.JobParam.{JobParam}
 use Rattle.job_file.specs.declared.values.JobParam.TheVariants as param
-use Rattle.explanations.specs.Keys.{key_name, key_wanted}
-use Rattle.explanations.specs.Rules.{IsBreach}
 use Rattle.explanations.specs.declared.job.Command.{Command}
 use Rattle.explanations.specs.declared.job.Command.TheVariants as command
-use Rattle.explanations.specs.declared.job.JobKey.{JobKey}
-use Rattle.explanations.specs.declared.job.JobKey.TheVariants as key
 use Rattle.explanations.specs.declared.job.JobReason.{JobReason}
 use Rattle.explanations.specs.declared.job.JobReason.TheVariants as reason
-use Rattle.explanations.specs.declared.job.JobTable.{JobTable}
-use Rattle.explanations.specs.declared.job.JobTable.TheVariants as table
 
 -- ---- the keys that a command lacks
 
@@ -83,16 +84,20 @@ IsLacked c table.Job k (Some j) = job_lacks c j ≡ Some k
 IsLacked c (table.Param place) k (Some j) =
     (place < 8) × (param_lacks c (slice_index_or j.params place param.None) ≡ Some k)
 
+-- a breach with a text of its own
+abbrev pub breach_kept : JobBreach (String Global) → Breach
+breach_kept (breach.Wrong t k) = breach.Wrong t k
+breach_kept (breach.Unknown t name) = breach.Unknown t (string_bytes name)
+breach_kept breach.TooMany = breach.TooMany
+
 -- what is told of a table: nothing exactly where the command takes it
 abbrev pub IsTableReason : Command → Members → Option JobReason → Type 0
 IsTableReason c ms None = is_taken c ms ≡ true
 IsTableReason c ms (Some reason.Broken) = is_taken c ms ≡ false
 IsTableReason c ms (Some (reason.Missing t k d)) =
     (d ≡ c) × (is_taken c ms ≡ false) × IsLacked c t k (job_of ms)
-IsTableReason c ms (Some (reason.Wrong t k)) =
-    (is_taken c ms ≡ false) × IsBreach ms (reason.Wrong t k)
-IsTableReason c ms (Some (reason.Unknown t name)) = is_taken c ms ≡ false
-IsTableReason c ms (Some reason.TooMany) = is_taken c ms ≡ false
+IsTableReason c ms (Some (reason.Breach b)) =
+    (is_taken c ms ≡ false) × (kept_job_of ms ≡ Err (breach_kept b))
 IsTableReason c ms (Some (reason.NotUtf8 byte)) = ⊥
 IsTableReason c ms (Some (reason.NotToml line column byte)) = ⊥
 
@@ -121,8 +126,7 @@ abbrev pub IfTable : (Members → Type 0) → Option Members → Type 0
 IfTable True None = ⊥
 IfTable True (Some ms) = True ms
 
--- What is told of a job's text: where it is no UTF-8, where it is no TOML, or what is
--- told of its table.
+-- What is told of a job's text: where it is no UTF-8, where it is no TOML, or what is told of its table.
 abbrev pub IsJobReason : Command → List ℕ → Option JobReason → Type 0
 IsJobReason c text (Some (reason.NotUtf8 byte)) =
     (byte ≡ utf8_valid_len text) × (¬ (IsUtf8 text))
@@ -133,12 +137,8 @@ IsJobReason c text (Some reason.Broken) =
     IfTable (λ ms. IsTableReason c ms (Some reason.Broken)) (parse_document text)
 IsJobReason c text (Some (reason.Missing t k d)) =
     IfTable (λ ms. IsTableReason c ms (Some (reason.Missing t k d))) (parse_document text)
-IsJobReason c text (Some (reason.Wrong t k)) =
-    IfTable (λ ms. IsTableReason c ms (Some (reason.Wrong t k))) (parse_document text)
-IsJobReason c text (Some (reason.Unknown t name)) =
-    IfTable (λ ms. IsTableReason c ms (Some (reason.Unknown t name))) (parse_document text)
-IsJobReason c text (Some reason.TooMany) =
-    IfTable (λ ms. IsTableReason c ms (Some reason.TooMany)) (parse_document text)
+IsJobReason c text (Some (reason.Breach b)) =
+    IfTable (λ ms. IsTableReason c ms (Some (reason.Breach b))) (parse_document text)
 IsJobReason c text None = IfTable (λ ms. IsTableReason c ms None) (parse_document text)
 
 -- ---- the words
@@ -148,10 +148,6 @@ command_name command.Run = codes "run"
 command_name command.Mon = codes "mon"
 command_name command.Try = codes "try"
 command_name command.Make = codes "make"
-
-abbrev pub table_text : JobTable → List ℕ
-table_text table.Job = codes "the job"
-table_text (table.Param place) = codes "the param at place " ++ decimal place
 
 abbrev pub needs_text : JobKey → Command → List ℕ
 needs_text k c = codes "  " ++ (command_name c ++ (codes " needs " ++ key_name k))
@@ -163,12 +159,11 @@ in_text t k = codes " in " ++ (table_text t ++ (codes ": " ++ (key_wanted k ++ c
 abbrev pub job_text : JobReason → List ℕ
 job_text (reason.NotUtf8 byte) = codes "  not UTF-8 from byte " ++ (decimal byte ++ codes " on\n")
 job_text (reason.NotToml line column byte) = codes "  not TOML from byte " ++ (decimal byte
-    ++ (codes " on: line "
-    ++ (decimal line ++ (codes ", column " ++ (decimal column ++ codes "\n")))))
+    ++ (codes " on: line " ++ (decimal line ++ (codes ", column " ++ (decimal column ++ codes "\n")))))
 job_text reason.Broken =
     codes "  wanted: no other keys, and each value of its type and range\n"
 job_text (reason.Missing t k c) = needs_text k c ++ in_text t k
-job_text (reason.Wrong t k) = codes "  not as wanted: " ++ (key_name k ++ in_text t k)
-job_text (reason.Unknown t name) = codes "  no key of " ++ (table_text t ++ (codes ": "
+job_text (reason.Breach (breach.Wrong t k)) = codes "  not as wanted: " ++ (key_name k ++ in_text t k)
+job_text (reason.Breach (breach.Unknown t name)) = codes "  no key of " ++ (table_text t ++ (codes ": "
     ++ (string_bytes name ++ codes "\n")))
-job_text reason.TooMany = codes "  wanted: at most eight param tables\n"
+job_text (reason.Breach breach.TooMany) = codes "  wanted: at most eight param tables\n"

@@ -7,8 +7,6 @@ pub mod Access
 pub mod Check
 pub mod Job
 pub mod Edge
-pub mod Keys
-pub mod Rules
 pub mod Sums
 pub mod Unshown
 pub mod Make

@@ -1,18 +1,14 @@
 //! Why a job is refused: where its text is no TOML, or which key the command lacks.
-ghost use Rattle.std.specs.Prelude.{◌≡◌, ◌<◌, ◌≤◌, ◌+◌, ◌^◌, IfOk, IfSome, Some, length};
-ghost use Rattle.std.specs.Prelude.{slice_index_or, take};
-ghost use Rattle.job_file.specs.Job.{job_lent, param_lent};
+ghost use Rattle.std.specs.Prelude.{◌≡◌, ◌<◌, ◌≤◌, ◌+◌, ◌^◌, IfOk, IfSome, Some, length, slice_index_or, take};
+ghost use Rattle.job_file.specs.Job.{breach_lent, job_lent, param_lent};
 ghost use Rattle.job_file.specs.declared.values.JobParam.TheVariants as param_kind;
 ghost use Rattle.toml.specs.View.{table_view};
-ghost use Rattle.explanations.specs.Keys.{key_name, key_wanted};
-ghost use Rattle.explanations.specs.Job.{IsJobReason, IsTableReason, is_taken, job_lacks};
-ghost use Rattle.explanations.specs.Job.{lacked_of, make_lacks, param_lacks, run_lacks, try_lacks};
+ghost use Rattle.explanations.specs.Job.{IsJobReason, IsTableReason, breach_kept, is_taken, job_lacks, lacked_of, make_lacks, param_lacks, run_lacks, try_lacks};
 ghost use Rattle.explanations.specs.Job.{begins_character, column_behind, line_behind, lines_in};
 ghost use Rattle.explanations.specs.Job.{next_column as next_column_of};
 ghost use Rattle.explanations.specs.declared.job.JobReason.TheVariants as reason;
 
-use crate::rules::breach;
-use job_file::{Job, JobParam};
+use job_file::{Job, JobBreach, JobKey, JobTable, JobParam, kept_job_in};
 use std::alloc::{AllocError, Global};
 use std::fmt;
 use toml::Table;
@@ -24,32 +20,6 @@ pub enum Command {
     Mon,
     Try,
     Make,
-}
-
-/// A table of a job.
-#[derive(Clone, Copy, Debug, PartialEq, Eq)]
-pub enum JobTable {
-    Job,
-    /// The `[[param]]` table of a place.
-    Param(usize),
-}
-
-/// A key of a job.
-#[derive(Clone, Copy, Debug, PartialEq, Eq)]
-pub enum JobKey {
-    Image,
-    Vlen,
-    Agnostic,
-    Max,
-    Param,
-    Kind,
-    Lo,
-    Hi,
-    Value,
-    Mode,
-    Size,
-    File,
-    Out,
 }
 
 /// Why a job is refused.
@@ -64,7 +34,7 @@ pub enum JobReason {
         column: usize,
         byte: usize,
     },
-    /// There is a key that no such table has, or a value that is not of its type and range.
+    /// The command does not take the job.
     Broken,
     /// A key that the command needs is not there.
     Missing {
@@ -72,18 +42,8 @@ pub enum JobReason {
         key: JobKey,
         command: Command,
     },
-    /// The value of a key is not of its type and range.
-    Wrong {
-        table: JobTable,
-        key: JobKey,
-    },
-    /// A key that the table can't have.
-    Unknown {
-        table: JobTable,
-        key: String,
-    },
-    /// There are more than eight `[[param]]` tables.
-    TooMany,
+    /// The table breaks a rule of job files.
+    Breach(JobBreach<String>),
 }
 
 /// The key, where its value is not there.
@@ -204,6 +164,20 @@ fn is_taken(command: Command, table: &Table) -> bool
     }
 }
 
+/// A breach with a text of its own.
+fn kept_breach(alloc: Global, breach: JobBreach<&str>) -> Result<JobBreach<String>, AllocError>
+    ensures { IfOk result (λ kept. breach_kept kept ≡ breach_lent breach.entry) }
+{
+    Ok(match breach {
+        JobBreach::Wrong { table, key } => JobBreach::Wrong { table, key },
+        JobBreach::Unknown { table, key } => JobBreach::Unknown {
+            table,
+            key: String::from_str(alloc, key)?,
+        },
+        JobBreach::TooMany => JobBreach::TooMany,
+    })
+}
+
 /// Why a job's table is refused.
 fn table_reason(
     alloc: Global,
@@ -215,11 +189,12 @@ fn table_reason(
     if is_taken(command, table) {
         return Ok(None);
     }
-    let Some(job) = job_file::job_in(table) else {
-        return match breach(alloc, table)? {
-            Some(reason) => Ok(Some(reason)),
-            None => Ok(Some(JobReason::Broken)),
-        };
+    let job = match kept_job_in(table) {
+        Ok(job) => job,
+        Err(breach) => {
+            let breach = kept_breach(alloc, breach)?;
+            return Ok(Some(JobReason::Breach(breach)));
+        }
     };
     if let Some(key) = job_lacks(command, &job) {
         return Ok(Some(JobReason::Missing {
@@ -326,44 +301,6 @@ pub fn job_reason(
     }
 }
 
-impl JobKey {
-    pub(crate) fn name(self) -> &'static str
-        ensures { result.now ≡ key_name self }
-    {
-        match self {
-            JobKey::Image => "image",
-            JobKey::Vlen => "vlen",
-            JobKey::Agnostic => "agnostic",
-            JobKey::Max => "max",
-            JobKey::Param => "param",
-            JobKey::Kind => "kind",
-            JobKey::Lo => "lo",
-            JobKey::Hi => "hi",
-            JobKey::Value => "value",
-            JobKey::Mode => "mode",
-            JobKey::Size => "size",
-            JobKey::File => "file",
-            JobKey::Out => "out",
-        }
-    }
-
-    /// The values that the key may have.
-    fn wanted(self) -> &'static str
-        ensures { result.now ≡ key_wanted self }
-    {
-        match self {
-            JobKey::Image | JobKey::File | JobKey::Out => "a path",
-            JobKey::Param => "at most eight tables",
-            JobKey::Kind => "\"none\", \"scalar\" or \"buffer\"",
-            JobKey::Vlen => "128, 256 or 512",
-            JobKey::Agnostic => "\"keep\" or \"ones\"",
-            JobKey::Max => "a number in 0..=9223372036854775807",
-            JobKey::Lo | JobKey::Hi | JobKey::Value | JobKey::Size => "a number in 0..=4294967295",
-            JobKey::Mode => "\"r\" or \"rw\"",
-        }
-    }
-}
-
 impl fmt::Display for Command {
     ghost use Rattle.std.specs.Prelude.{Some};
     ghost use Rattle.explanations.specs.Job.{command_name};
@@ -377,20 +314,6 @@ impl fmt::Display for Command {
             Command::Try => "try",
             Command::Make => "make",
         })
-    }
-}
-
-impl fmt::Display for JobTable {
-    ghost use Rattle.std.specs.Prelude.{Some};
-    ghost use Rattle.explanations.specs.Job.{table_text};
-
-    ghost output = { λ table. Some (table_text table) };
-
-    fn fmt<W: fmt::Write>(&self, f: &mut fmt::Formatter<W>) -> fmt::Result {
-        match *self {
-            JobTable::Job => write!(f, "the job"),
-            JobTable::Param(place) => write!(f, "the param at place {place}"),
-        }
     }
 }
 
@@ -470,7 +393,7 @@ impl fmt::Display for JobReason {
                 };
                 write!(f, "{needs}{place}")
             }
-            JobReason::Wrong { table, key } => {
+            JobReason::Breach(JobBreach::Wrong { table, key }) => {
                 let name = key.name();
                 let place = In {
                     table: *table,
@@ -478,8 +401,14 @@ impl fmt::Display for JobReason {
                 };
                 write!(f, "  not as wanted: {name}{place}")
             }
-            JobReason::Unknown { table, key } => writeln!(f, "  no key of {table}: {key}"),
-            JobReason::TooMany => writeln!(f, "  wanted: at most eight param tables"),
+            JobReason::Breach(JobBreach::Unknown { table, key }) => writeln!(
+                f,
+                "  no key of {table}: {key}"
+            ),
+            JobReason::Breach(JobBreach::TooMany) => writeln!(
+                f,
+                "  wanted: at most eight param tables"
+            ),
         }
     }
 }

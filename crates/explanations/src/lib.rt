@@ -13,7 +13,6 @@ mod image;
 mod job;
 mod make;
 mod open;
-mod rules;
 mod sums;
 mod unshown;
 
@@ -24,7 +23,7 @@ pub use check::{CheckReason, Wanted, check_reason};
 pub use edge::{Edge, Entered, Left};
 pub use headers::{Header, SegmentRule};
 pub use image::{ElfField, ImageReason, image_reason};
-pub use job::{Command, JobKey, JobReason, JobTable, job_reason};
+pub use job::{Command, JobReason, job_reason};
 pub use make::{LoopRow, MakeReason, attach_reason, parameter_reason, word_reason};
 pub use open::{Given, OpenReason, open_reason};
 pub use sums::Sum;

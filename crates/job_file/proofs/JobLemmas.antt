@@ -1,31 +1,26 @@
 -- What the proofs about job files share.
-use Rattle.std.proofs.Common.{◌≡◌, ◌∙◌, ◌<◌, ap, refl, sym, Bool, true, false, ◌&&◌, ◌||◌, ℕ, zero, suc, List, [], ◌∷◌, map, length, get_or, Option, Some, None, is_some, IfSome, option_map, option_and_then, nat_lt, String, Global, string_bytes, Bor, inl, inr, arith, lt-ltb, ltb-true}
-use Rattle.std.specs.Prelude.{slice_get}
+use Rattle.std.proofs.Common.{◌≡◌, ◌∙◌, ◌<◌, ap, refl, sym, ℕ, zero, suc, List, [], ◌∷◌, map, length, get_or, Option, Some, None, is_some, IfSome, option_map, option_and_then, if◌then◌else◌, nat_lt, String, Global, string_bytes, Bor, Result, Ok, Err, inl, inr, arith, lt-ltb, ltb-true}
 use Rattle.std.proofs.lemmas.Bool.{cases_lt, false≢true}
-use Rattle.std.specs.List.{list_all, list_any}
 use Rattle.std.specs.Map.{keys_of}
-use Rattle.std.specs.Str.{bytes_eq}
-use Rattle.toml.specs.Data.{Members, get_item}
+use Rattle.toml.specs.Data.{get_item}
 use Rattle.toml.specs.View.{items_view, members_view, view}
 use Rattle.toml.specs.declared.value.Value.{Value}
 use Rattle.toml.proofs.Views.{Entry, get_item_past, get_item_within}
-use Rattle.job_file.specs.Job.{Text, all_there, has_only, is_one_of, job_fields, job_keys, job_of, places}
+use Rattle.job_file.specs.Job.{Breach, Text, all_kept, all_there, first_unknown, is_one_of, places}
+use Rattle.job_file.specs.declared.keys.JobKey.{JobKey}
 
-any_lent : (known : List (Bor Text)) (key : Text) → list_any (λ k. bytes_eq k.now key) known ≡ is_one_of (map (λ k. k.now) known) key
-any_lent [] key = refl
-any_lent (k ∷ ks) key = ap (λ b. bytes_eq k.now key || b) (any_lent ks key)
+-- the first key of a map that is none of these
+abbrev pub unknown_of : List JobKey → List (String Global) → Option Text
+unknown_of known [] = None
+unknown_of known (k ∷ ks) = if is_one_of known (string_bytes k) then unknown_of known ks else Some (string_bytes k)
 
-abbrev pub keys_known : List (Bor Text) → List (String Global) → Bool
-keys_known known keys = list_all (λ key. list_any (λ k. bytes_eq k.now (string_bytes key)) known) keys
-
--- a test of each key of a map, and of its table's members
-pub keys_pass : (known : List (Bor Text)) (es : List Entry)
-    → keys_known known (keys_of es) ≡ has_only (map (λ k. k.now) known) (members_view es)
-unfolding has_only
-keys_pass known [] = refl
-keys_pass known (e ∷ es) =
-    ap (λ b. b && keys_known known (keys_of es)) (any_lent known (string_bytes e.0))
-    ∙ ap (λ b. is_one_of (map (λ k. k.now) known) (string_bytes e.0) && b) (keys_pass known es)
+-- the same of its table's members
+pub unknown_of-keys_of : (known : List JobKey) (es : List Entry)
+    → unknown_of known (keys_of es) ≡ first_unknown known (members_view es)
+unfolding first_unknown
+unknown_of-keys_of known [] = refl
+unknown_of-keys_of known (e ∷ es) =
+    ap (λ (r : Option Text). if is_one_of known (string_bytes e.0) then r else Some (string_bytes e.0)) (unknown_of-keys_of known es)
 
 -- an item of an array, as a look-up by its place finds it
 pub item_found : (r : Option (Bor Value)) (vs : List Value) (i : ℕ) → is_some r ≡ nat_lt i (length vs)
@@ -41,11 +36,28 @@ item_found (Some x) vs i found at =
 -- ---- the eight places
 
 -- eight parameters, place by place
-pub eight_there : {A B : Type 0} (view : B → A) (f : ℕ → Option A) (params : List B) → length params ≡ 8
-    → ((k : ℕ) → k < 8 → f k ≡ option_map view (slice_get params k)) → all_there (map f places) ≡ Some (map view params)
-eight_there view f (a ∷ b ∷ c ∷ d ∷ e ∷ g ∷ h ∷ i ∷ []) len at =
+pub eight_there : {A B : Type 0} (view : B → A) (f : ℕ → Result A Breach) (b : B) (params : List B) → length params ≡ 8
+    → ((k : ℕ) → k < 8 → f k ≡ Ok (view (get_or params k b))) → all_kept (map f places) ≡ Ok (map view params)
+eight_there view f z (a ∷ b ∷ c ∷ d ∷ e ∷ g ∷ h ∷ i ∷ []) len at =
     rw (at 0 (omega arith), at 1 (omega arith), at 2 (omega arith), at 3 (omega arith), at 4 (omega arith), at 5 (omega arith), at 6 (omega arith), at 7 (omega arith))
-eight_there view f params len at = absurd (omega arith)
+eight_there view f z params len at = absurd (omega arith)
+
+-- the first of eight that breaks a rule
+pub eight_stopped : {A : Type 0} (g : ℕ → A) (f : ℕ → Result A Breach) (e : Breach) (k : ℕ) → k < 8
+    → ((j : ℕ) → j < k → f j ≡ Ok (g j)) → f k ≡ Err e → all_kept (map f places) ≡ Err e
+eight_stopped g f e zero below at here = rw here
+eight_stopped g f e (suc zero) below at here = rw (at 0 (omega arith), here)
+eight_stopped g f e (suc (suc zero)) below at here = rw (at 0 (omega arith), at 1 (omega arith), here)
+eight_stopped g f e (suc (suc (suc zero))) below at here = rw (at 0 (omega arith), at 1 (omega arith), at 2 (omega arith), here)
+eight_stopped g f e (suc (suc (suc (suc zero)))) below at here =
+    rw (at 0 (omega arith), at 1 (omega arith), at 2 (omega arith), at 3 (omega arith), here)
+eight_stopped g f e (suc (suc (suc (suc (suc zero))))) below at here =
+    rw (at 0 (omega arith), at 1 (omega arith), at 2 (omega arith), at 3 (omega arith), at 4 (omega arith), here)
+eight_stopped g f e (suc (suc (suc (suc (suc (suc zero)))))) below at here =
+    rw (at 0 (omega arith), at 1 (omega arith), at 2 (omega arith), at 3 (omega arith), at 4 (omega arith), at 5 (omega arith), here)
+eight_stopped g f e (suc (suc (suc (suc (suc (suc (suc zero))))))) below at here =
+    rw (at 0 (omega arith), at 1 (omega arith), at 2 (omega arith), at 3 (omega arith), at 4 (omega arith), at 5 (omega arith), at 6 (omega arith), here)
+eight_stopped g f e (suc (suc (suc (suc (suc (suc (suc (suc k)))))))) below at here = absurd (omega arith)
 
 module _ {A B C D : Type 0} (f : B → Option C) (h : A → B) (g : D → C) (a : A) (d : D) where
   -- each value is there
@@ -70,13 +82,3 @@ module _ {A B C D : Type 0} (f : B → Option C) (h : A → B) (g : D → C) (a 
           → option_and_then (λ y. option_map (λ rest. y ∷ rest) (all_there (map f (map h xs)))) o ≡ None
       before None e = refl
       before (Some y) e = rw e refl
-
--- ---- a job
-
-pub job_of-other_key : (ms : Members) → has_only job_keys ms ≡ false → job_of ms ≡ None
-unfolding job_of
-job_of-other_key ms other = rw other
-
-pub job_of-only : (ms : Members) → has_only job_keys ms ≡ true → job_of ms ≡ job_fields ms
-unfolding job_of
-job_of-only ms only = rw only

@@ -1,13 +1,23 @@
--- Job files: the values that a TOML table gives, or none where it breaks a rule of job files.
-use Rattle.std.specs.Prelude.{◌≡◌, ◌==◌, ◌^◌, ℕ, ℤ, pos, negsuc, Bool, nat_lt, List, [], ◌∷◌, map, Option, Some, None, is_some, option_map, option_and_then, if◌then◌else◌, codes}
+-- Job files: the values that a TOML table gives, or what of it breaks a rule of job files.
+use Rattle.std.specs.Prelude.{◌≡◌, ◌==◌, ◌^◌, ℕ, ℤ, pos, negsuc, Bool, nat_lt, List, [], ◌∷◌, map, Option, Some, None, is_some, option_map, option_and_then, if◌then◌else◌, codes, Result, Ok, Err}
 use Rattle.std.specs.Borrow.{Bor}
-use Rattle.std.specs.List.{list_all, list_any}
+use Rattle.std.specs.List.{list_any}
 use Rattle.std.specs.Option.{option_map_or}
+use Rattle.std.specs.Result.{result_ok}
 use Rattle.std.specs.Str.{bytes_eq}
 use Rattle.toml.specs.Data.{Data, Items, Members, no_members, member, as_array, as_integer, as_str, as_table, get_item, get_member}
 use Rattle.toml.specs.Parse.{parse_document}
 use Rattle.vreg_groups.specs.declared.policies.Agnostic.{Agnostic}
 use Rattle.vreg_groups.specs.declared.policies.Agnostic.TheVariants as setting
+use Rattle.job_file.specs.Keys.{key_name}
+use Rattle.job_file.specs.declared.keys.JobBreach.{JobBreach}
+use Rattle.job_file.specs.declared.keys.JobBreach.TheVariants as breach
+use Rattle.job_file.specs.declared.keys.JobKey.{JobKey}
+use Rattle.job_file.specs.declared.keys.JobKey.TheVariants as key
+use Rattle.job_file.specs.declared.keys.JobTable.{JobTable}
+use Rattle.job_file.specs.declared.keys.JobTable.TheVariants as table
+use Rattle.job_file.specs.declared.params.Kind.{Kind}
+use Rattle.job_file.specs.declared.params.Kind.TheVariants as kind
 use Rattle.job_file.specs.declared.values.Job.{Job}
 use Rattle.job_file.specs.declared.values.JobError.{JobError}
 use Rattle.job_file.specs.declared.values.JobError.TheVariants.{NotToml, BadKey, NoMemory}
@@ -37,9 +47,7 @@ unfoldable pub max_of : Data → Option ℕ
 max_of d = option_and_then (number_below (2 ^ 63)) (as_integer d)
 
 abbrev pub vlen_of_bits : ℕ → Option Vlen
-vlen_of_bits n =
-    if n == 128 then Some V128
-    else (if n == 256 then Some V256 else (if n == 512 then Some V512 else None))
+vlen_of_bits n = if n == 128 then Some V128 else (if n == 256 then Some V256 else (if n == 512 then Some V512 else None))
 
 -- `vlen`: 128, 256 or 512
 unfoldable pub vlen_of : Data → Option Vlen
@@ -61,115 +69,145 @@ mode_named t = if bytes_eq t (codes "r") then Some Read
 unfoldable pub mode_of : Data → Option Mode
 mode_of d = option_and_then mode_named (as_str d)
 
+abbrev pub kind_named : Text → Option Kind
+kind_named t = if bytes_eq t (codes "none") then Some kind.None
+    else (if bytes_eq t (codes "scalar") then Some kind.Scalar
+    else (if bytes_eq t (codes "buffer") then Some kind.Buffer else None))
+
+-- `kind`: "none", "scalar" or "buffer"
+unfoldable pub kind_of : Data → Option Kind
+kind_of d = option_and_then kind_named (as_str d)
+
+-- ---- what breaks a rule
+
+abbrev pub Breach : Type 0
+Breach = JobBreach Text
+
+-- what comes next of a value, where nothing broke a rule before
+abbrev pub and_then : {A B : Type 0} → (A → Result B Breach) → Result A Breach → Result B Breach
+and_then next (Ok a) = next a
+and_then next (Err b) = Err b
+
+-- the value of a key, where it is of its type and range
+abbrev pub wanted : {A : Type 0} → JobTable → JobKey → Option A → Result A Breach
+wanted t k (Some a) = Ok a
+wanted t k None = Err (breach.Wrong t k)
+
 -- ---- keys
 
-abbrev pub field_of : {A : Type 0} → (Data → Option A) → Option Data → Option (Option A)
-field_of read None = Some None
-field_of read (Some d) = option_map (λ a. Some a) (read d)
+abbrev pub field_of : {A : Type 0} → (Data → Option A) → JobTable → JobKey → Option Data → Result (Option A) Breach
+field_of read t k None = Ok None
+field_of read t k (Some d) = wanted t k (option_map (λ a. Some a) (read d))
 
 -- a key that may be missing, and where it is there has a value that `read` takes
-abbrev pub field : {A : Type 0} → (Data → Option A) → Text → Members → Option (Option A)
-field read key ms = field_of read (get_member key ms)
+abbrev pub field : {A : Type 0} → (Data → Option A) → JobTable → JobKey → Members → Result (Option A) Breach
+field read t k ms = field_of read t k (get_member (key_name k) ms)
 
-abbrev pub keys_in : Members → List Text
-keys_in no_members = []
-keys_in (member k d ms) = k ∷ keys_in ms
+abbrev pub is_one_of : List JobKey → Text → Bool
+is_one_of known name = list_any (λ k. bytes_eq (key_name k) name) known
 
-abbrev pub is_one_of : List Text → Text → Bool
-is_one_of known key = list_any (λ k. bytes_eq k key) known
+-- the table's first key that is none of these
+unfoldable pub first_unknown : List JobKey → Members → Option Text
+first_unknown known no_members = None
+first_unknown known (member name d ms) = if is_one_of known name then first_unknown known ms else Some name
 
--- the table has no key beside these
-unfoldable pub has_only : List Text → Members → Bool
-has_only known ms = list_all (is_one_of known) (keys_in ms)
+-- what is read of a table, where it has no unknown key
+abbrev pub if_known : {A : Type 0} → JobTable → Option Text → Result A Breach → Result A Breach
+if_known t None read = read
+if_known t (Some name) read = Err (breach.Unknown t name)
 
 -- ---- parameters
 
--- kind = "none"
-unfoldable pub none_of : Members → Option (JobParam Text)
-none_of ms = if has_only (codes "kind" ∷ []) ms then Some param.None else None
+-- the keys that a table of a kind may have
+abbrev pub kind_keys : Kind → List JobKey
+kind_keys kind.None = key.Kind ∷ []
+kind_keys kind.Scalar = key.Kind ∷ key.Lo ∷ key.Hi ∷ key.Value ∷ []
+kind_keys kind.Buffer = key.Kind ∷ key.Mode ∷ key.Size ∷ key.File ∷ key.Out ∷ []
 
-abbrev pub scalar_keys : List Text
-scalar_keys = codes "kind" ∷ codes "lo" ∷ codes "hi" ∷ codes "value" ∷ []
+abbrev pub scalar_fields : JobTable → Members → Result (JobParam Text) Breach
+scalar_fields t ms = and_then (λ lo. and_then (λ hi. and_then (λ value. Ok (param.Scalar lo hi value))
+    (field word_of t key.Value ms)) (field word_of t key.Hi ms)) (field word_of t key.Lo ms)
 
-abbrev pub scalar_fields : Members → Option (JobParam Text)
-scalar_fields ms = option_and_then (λ lo. option_and_then (λ hi. option_map (λ value.
-    param.Scalar lo hi value)
-    (field word_of (codes "value") ms)) (field word_of (codes "hi") ms))
-    (field word_of (codes "lo") ms)
+abbrev pub buffer_fields : JobTable → Members → Result (JobParam Text) Breach
+buffer_fields t ms = and_then (λ mode. and_then (λ size. and_then (λ file.
+    and_then (λ out. Ok (param.Buffer mode size file out))
+    (field as_str t key.Out ms)) (field as_str t key.File ms))
+    (field word_of t key.Size ms)) (field mode_of t key.Mode ms)
 
--- kind = "scalar"
-unfoldable pub scalar_of : Members → Option (JobParam Text)
-scalar_of ms = if has_only scalar_keys ms then scalar_fields ms else None
+unfoldable pub param_fields : JobTable → Members → Kind → Result (JobParam Text) Breach
+param_fields t ms kind.None = Ok param.None
+param_fields t ms kind.Scalar = scalar_fields t ms
+param_fields t ms kind.Buffer = buffer_fields t ms
 
-abbrev pub buffer_keys : List Text
-buffer_keys = codes "kind" ∷ codes "mode" ∷ codes "size" ∷ codes "file" ∷ codes "out" ∷ []
+-- a table of a kind
+unfoldable pub param_of_kind : JobTable → Members → Kind → Result (JobParam Text) Breach
+param_of_kind t ms k = if_known t (first_unknown (kind_keys k) ms) (param_fields t ms k)
 
-abbrev pub buffer_fields : Members → Option (JobParam Text)
-buffer_fields ms = option_and_then (λ mode. option_and_then (λ size. option_and_then (λ file.
-    option_map (λ out. param.Buffer mode size file out)
-    (field as_str (codes "out") ms)) (field as_str (codes "file") ms))
-    (field word_of (codes "size") ms)) (field mode_of (codes "mode") ms)
-
--- kind = "buffer"
-unfoldable pub buffer_of : Members → Option (JobParam Text)
-buffer_of ms = if has_only buffer_keys ms then buffer_fields ms else None
-
-abbrev pub param_of_kind : Members → Text → Option (JobParam Text)
-param_of_kind ms kind = if bytes_eq kind (codes "none") then none_of ms
-    else (if bytes_eq kind (codes "scalar") then scalar_of ms
-    else (if bytes_eq kind (codes "buffer") then buffer_of ms else None))
+-- the kind of a table, where it has one
+abbrev pub kind_in : Members → Option Kind
+kind_in ms = option_and_then kind_of (get_member (key_name key.Kind) ms)
 
 -- one `[[param]]` table
-unfoldable pub param_of : Data → Option (JobParam Text)
-param_of d = option_and_then (λ ms.
-    option_and_then (param_of_kind ms) (option_and_then as_str (get_member (codes "kind") ms)))
-    (as_table d)
+unfoldable pub param_of : JobTable → Data → Result (JobParam Text) Breach
+param_of t d = and_then (λ ms. and_then (param_of_kind t ms) (wanted t key.Kind (kind_in ms)))
+    (wanted t key.Kind (as_table d))
 
 -- the parameter at a place: none where there is no such table
-unfoldable pub param_at : Items → ℕ → Option (JobParam Text)
-param_at items place = option_map_or param_of (get_item place items) (Some param.None)
+unfoldable pub param_at : Items → ℕ → Result (JobParam Text) Breach
+param_at items place = option_map_or (param_of (table.Param place)) (get_item place items) (Ok param.None)
 
 -- the values, where each is there
 abbrev pub all_there : {A : Type 0} → List (Option A) → Option (List A)
 all_there [] = Some []
 all_there (o ∷ os) = option_and_then (λ a. option_map (λ rest. a ∷ rest) (all_there os)) o
 
+-- the values, where none breaks a rule, or the first breach
+abbrev pub all_kept : {A : Type 0} → List (Result A Breach) → Result (List A) Breach
+all_kept [] = Ok []
+all_kept (r ∷ rs) = and_then (λ a. and_then (λ rest. Ok (a ∷ rest)) (all_kept rs)) r
+
 abbrev pub places : List ℕ
 places = 0 ∷ 1 ∷ 2 ∷ 3 ∷ 4 ∷ 5 ∷ 6 ∷ 7 ∷ []
 
 -- the parameters at the eight places, where there is no ninth table
-unfoldable pub params_of : Items → Option (List (JobParam Text))
-params_of items =
-    if is_some (get_item 8 items) then None else all_there (map (param_at items) places)
+unfoldable pub params_of : Items → Result (List (JobParam Text)) Breach
+params_of items = if is_some (get_item 8 items) then Err breach.TooMany else all_kept (map (param_at items) places)
 
 abbrev pub no_params : List (JobParam Text)
 no_params = map (λ _. param.None) places
 
+abbrev pub params_at : Option Data → Result (List (JobParam Text)) Breach
+params_at None = Ok no_params
+params_at (Some d) = and_then params_of (wanted table.Job key.Param (as_array d))
+
 -- `param`: an array of tables
-unfoldable pub params_in : Members → Option (List (JobParam Text))
-params_in ms =
-    option_map_or (λ d. option_and_then params_of (as_array d)) (get_member (codes "param") ms)
-    (Some no_params)
+unfoldable pub params_in : Members → Result (List (JobParam Text)) Breach
+params_in ms = params_at (get_member (key_name key.Param) ms)
 
 -- ---- a job
 
-abbrev pub job_keys : List Text
-job_keys = codes "image" ∷ codes "vlen" ∷ codes "agnostic" ∷ codes "max" ∷ codes "param" ∷ []
+abbrev pub job_keys : List JobKey
+job_keys = key.Image ∷ key.Vlen ∷ key.Agnostic ∷ key.Max ∷ key.Param ∷ []
 
-abbrev pub job_fields : Members → Option (Job Text)
-job_fields ms = option_and_then (λ image. option_and_then (λ vlen. option_and_then (λ agnostic.
-    option_and_then (λ max. option_map (λ params. record {
+unfoldable pub job_fields : Members → Result (Job Text) Breach
+job_fields ms = and_then (λ image. and_then (λ vlen. and_then (λ agnostic.
+    and_then (λ max. and_then (λ params. Ok (record {
       image = image;
       vlen = vlen;
       agnostic = agnostic;
       max = max;
       params = params;
-    }) (params_in ms)) (field max_of (codes "max") ms)) (field agnostic_of (codes "agnostic") ms))
-    (field vlen_of (codes "vlen") ms)) (field as_str (codes "image") ms)
+    })) (params_in ms)) (field max_of table.Job key.Max ms)) (field agnostic_of table.Job key.Agnostic ms))
+    (field vlen_of table.Job key.Vlen ms)) (field as_str table.Job key.Image ms)
 
--- the values of a table's keys, where it has no other key and each value is of its type and range
-unfoldable pub job_of : Members → Option (Job Text)
-job_of ms = if has_only job_keys ms then job_fields ms else None
+-- the values of a table's keys, where it has no other key and each value is of its type and range, or the first
+-- breach of these
+unfoldable pub kept_job_of : Members → Result (Job Text) Breach
+kept_job_of ms = if_known table.Job (first_unknown job_keys ms) (job_fields ms)
+
+-- the values of a table's keys, or none where it breaks a rule
+abbrev pub job_of : Members → Option (Job Text)
+job_of ms = result_ok (kept_job_of ms)
 
 -- ---- the same with texts that are lent
 
@@ -187,6 +225,16 @@ job_lent j = record {
   max = j.max;
   params = map param_lent j.params;
 }
+
+abbrev pub breach_lent : JobBreach (Bor Text) → Breach
+breach_lent (breach.Wrong t k) = breach.Wrong t k
+breach_lent (breach.Unknown t name) = breach.Unknown t name.now
+breach_lent breach.TooMany = breach.TooMany
+
+-- what is read with texts that are lent, each value as `lent` sees it
+abbrev pub read_lent : {A B : Type 0} → (A → B) → Result A (JobBreach (Bor Text)) → Result B Breach
+read_lent lent (Ok a) = Ok (lent a)
+read_lent lent (Err b) = Err (breach_lent b)
 
 -- ---- why a text has no table
 

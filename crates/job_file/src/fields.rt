@@ -1,12 +1,14 @@
 //! Reads the values of a table's keys.
-ghost use Rattle.std.specs.Prelude.{◌≡◌, ◌^◌, List, ℕ, Some, map, option_map};
-ghost use Rattle.std.specs.List.{list_any};
-ghost use Rattle.std.specs.Str.{bytes_eq};
+ghost use Rattle.std.specs.Prelude.{◌≡◌, IfErr, IfOk, None, Some, option_map};
 ghost use Rattle.toml.specs.Data.{as_str, get_member};
 ghost use Rattle.toml.specs.View.{table_view, view};
-ghost use Rattle.job_file.specs.Job.{agnostic_named, agnostic_of, field, has_only, max_of};
-ghost use Rattle.job_file.specs.Job.{mode_named, mode_of, vlen_of, vlen_of_bits, word_of};
+ghost use Rattle.job_file.specs.Job.{agnostic_named, agnostic_of, field, first_unknown, is_one_of};
+ghost use Rattle.job_file.specs.Job.{max_of, mode_named, mode_of, read_lent, vlen_of, vlen_of_bits};
+ghost use Rattle.job_file.specs.Job.{word_of};
+ghost use Rattle.job_file.specs.Keys.{key_name};
+ghost use Rattle.job_file.specs.declared.keys.JobBreach.TheVariants as breach;
 
+use crate::keys::{JobBreach, JobKey, JobTable};
 use region_mem::Mode;
 use toml::{Table, Value};
 use vreg_groups::{Agnostic, Vlen};
@@ -89,87 +91,128 @@ fn mode_of(value: &Value) -> Option<Mode>
 }
 
 /// The value at a key.
-pub fn at<'a>(table: &'a Table, key: &str) -> Option<&'a Value>
-    ensures { option_map (λ v. view v.now) result ≡ get_member key.now (table_view table.now) }
+pub fn at<'a>(table: &'a Table, key: JobKey) -> Option<&'a Value>
+    ensures { option_map (λ v. view v.now) result
+        ≡ get_member (key_name key) (table_view table.now) }
 {
-    table.get(key)
+    table.get(key.name())
 }
 
-/// A number of 32 bits, where the key is there. `None` where its value is none.
-pub fn word(table: &Table, key: &str) -> Option<Option<u32>>
-    ensures { result ≡ field word_of key.now (table_view table.now) }
+/// The value, where it is there: that of this key is wrong where it is not.
+pub fn wanted<'a, T>(
+    value: Option<T>,
+    table: JobTable,
+    key: JobKey,
+) -> Result<T, JobBreach<&'a str>>
+where
+    T: Drop,
+    ensures there { IfOk result (λ v. value ≡ Some v) }
+    ensures wrong { IfErr result (λ b. (value ≡ None) × (b ≡ breach.Wrong table key)) }
 {
-    match at(table, key) {
-        Some(value) => Some(Some(word_of(value)?)),
-        None => Some(None),
+    match value {
+        Some(value) => Ok(value),
+        None => Err(JobBreach::Wrong { table, key }),
     }
 }
 
-/// `max`, where the key is there. `None` where its value is none.
-pub fn max(table: &Table, key: &str) -> Option<Option<u64>>
-    ensures { result ≡ field max_of key.now (table_view table.now) }
+/// A number of 32 bits, where the key is there.
+pub fn word<'a>(
+    table: &'a Table,
+    place: JobTable,
+    key: JobKey,
+) -> Result<Option<u32>, JobBreach<&'a str>>
+    ensures { read_lent (λ v. v) result ≡ field word_of place key (table_view table.now) }
 {
     match at(table, key) {
-        Some(value) => Some(Some(max_of(value)?)),
-        None => Some(None),
+        Some(value) => Ok(Some(wanted(word_of(value), place, key)?)),
+        None => Ok(None),
     }
 }
 
-/// `vlen`, where the key is there. `None` where its value is none.
-pub fn vlen(table: &Table, key: &str) -> Option<Option<Vlen>>
-    ensures { result ≡ field vlen_of key.now (table_view table.now) }
+/// `max`, where the key is there.
+pub fn max<'a>(
+    table: &'a Table,
+    place: JobTable,
+    key: JobKey,
+) -> Result<Option<u64>, JobBreach<&'a str>>
+    ensures { read_lent (λ v. v) result ≡ field max_of place key (table_view table.now) }
 {
     match at(table, key) {
-        Some(value) => Some(Some(vlen_of(value)?)),
-        None => Some(None),
+        Some(value) => Ok(Some(wanted(max_of(value), place, key)?)),
+        None => Ok(None),
     }
 }
 
-/// `agnostic`, where the key is there. `None` where its value is none.
-pub fn agnostic(table: &Table, key: &str) -> Option<Option<Agnostic>>
-    ensures { result ≡ field agnostic_of key.now (table_view table.now) }
+/// `vlen`, where the key is there.
+pub fn vlen<'a>(
+    table: &'a Table,
+    place: JobTable,
+    key: JobKey,
+) -> Result<Option<Vlen>, JobBreach<&'a str>>
+    ensures { read_lent (λ v. v) result ≡ field vlen_of place key (table_view table.now) }
 {
     match at(table, key) {
-        Some(value) => Some(Some(agnostic_of(value)?)),
-        None => Some(None),
+        Some(value) => Ok(Some(wanted(vlen_of(value), place, key)?)),
+        None => Ok(None),
     }
 }
 
-/// `mode`, where the key is there. `None` where its value is none.
-pub fn mode(table: &Table, key: &str) -> Option<Option<Mode>>
-    ensures { result ≡ field mode_of key.now (table_view table.now) }
+/// `agnostic`, where the key is there.
+pub fn agnostic<'a>(
+    table: &'a Table,
+    place: JobTable,
+    key: JobKey,
+) -> Result<Option<Agnostic>, JobBreach<&'a str>>
+    ensures { read_lent (λ v. v) result ≡ field agnostic_of place key (table_view table.now) }
 {
     match at(table, key) {
-        Some(value) => Some(Some(mode_of(value)?)),
-        None => Some(None),
+        Some(value) => Ok(Some(wanted(agnostic_of(value), place, key)?)),
+        None => Ok(None),
     }
 }
 
-/// A text, where the key is there. `None` where its value is none.
-pub fn text<'a>(table: &'a Table, key: &str) -> Option<Option<&'a str>>
-    ensures { option_map (option_map (λ s. s.now)) result
-        ≡ field as_str key.now (table_view table.now) }
+/// `mode`, where the key is there.
+pub fn mode<'a>(
+    table: &'a Table,
+    place: JobTable,
+    key: JobKey,
+) -> Result<Option<Mode>, JobBreach<&'a str>>
+    ensures { read_lent (λ v. v) result ≡ field mode_of place key (table_view table.now) }
 {
     match at(table, key) {
-        Some(value) => Some(Some(value.as_str()?)),
-        None => Some(None),
+        Some(value) => Ok(Some(wanted(mode_of(value), place, key)?)),
+        None => Ok(None),
     }
 }
 
-fn is_one_of(known: &[&str], key: &str) -> bool
-    ensures { result ≡ list_any (λ k. bytes_eq k.now key.now) known.now }
+/// A text, where the key is there.
+pub fn text<'a>(
+    table: &'a Table,
+    place: JobTable,
+    key: JobKey,
+) -> Result<Option<&'a str>, JobBreach<&'a str>>
+    ensures { read_lent (option_map (λ s. s.now)) result ≡ field as_str place key (table_view table.now) }
 {
-    known.iter().any(|name| *name == key)
+    match at(table, key) {
+        Some(value) => Ok(Some(wanted(value.as_str(), place, key)?)),
+        None => Ok(None),
+    }
 }
 
-/// Whether the table has no key beside `known`.
-pub fn has_only(table: &Table, known: &[&str]) -> bool
-    ensures { result ≡ has_only (map (λ k. k.now) known.now) (table_view table.now) }
+fn is_one_of(known: &[JobKey], name: &str) -> bool
+    ensures { result ≡ is_one_of known.now name.now }
+{
+    known.iter().any(|key| key.name() == name)
+}
+
+/// The table's first key that is none of these.
+pub fn first_unknown<'a>(table: &'a Table, known: &[JobKey]) -> Option<&'a str>
+    ensures { option_map (λ name. name.now) result ≡ first_unknown known.now (table_view table.now) }
 {
     for key in table.keys() {
         if !is_one_of(known, key.as_str()) {
-            return false;
+            return Some(key.as_str());
         }
     }
-    true
+    None
 }

@@ -1,21 +1,25 @@
 //! Job files: the values of a TOML table, and what a subcommand takes of them.
 //!
-//! A text is parsed to a table (`parse`). The table's values are those of its keys, each of which may be missing (`job_in`).
+//! A text is parsed to a table (`parse`). The table's values are those of its keys, each of which may be missing (`job_in`);
+//! of a table that breaks a rule of job files, the key that does is told (`kept_job_in`).
 //! A subcommand has a struct of what it needs, in which nothing is missing (`try_job_in`, `run_job_in`, `make_job_in`).
 #![tactic(auto)]
 
 ghost use Rattle.std.specs.Prelude.{◌≡◌, IfErr, IfOk, Some, option_map};
 ghost use Rattle.toml.specs.Parse.{parse_document};
 ghost use Rattle.toml.specs.View.{table_view};
-ghost use Rattle.job_file.specs.Job.{IsTableFault, job_fields, job_lent, job_of};
+ghost use Rattle.job_file.specs.Job.{IsTableFault, job_fields, job_lent, job_of, kept_job_of};
+ghost use Rattle.job_file.specs.Job.{read_lent};
 ghost use Rattle.job_file.specs.Needs.{make_job_in, run_job_in, run_job_lent, try_job_in};
 ghost use Rattle.job_file.specs.Needs.{try_job_lent};
 
 mod fields;
+mod keys;
 mod needs;
 mod params;
 mod values;
 
+pub use keys::{JobBreach, JobKey, JobTable};
 use std::alloc::Global;
 use toml::Table;
 pub use values::{Job, JobError, JobParam, MakeJob, RunJob, RunParam, TryJob, TryParam};
@@ -35,16 +39,17 @@ pub fn parse(alloc: Global, text: &str) -> Result<Table, JobError>
     }
 }
 
-/// The values of a table's keys, or `None` where one is of a wrong type or range.
-fn fields_of<'a>(table: &'a Table) -> Option<Job<&'a str>>
-    ensures { option_map job_lent result ≡ job_fields (table_view table.now) }
+/// The values of a table's keys.
+#[tactic(auto, unfolding(crate::specs::Job::job_fields))]
+fn job_fields<'a>(table: &'a Table) -> Result<Job<&'a str>, JobBreach<&'a str>>
+    ensures { read_lent job_lent result ≡ job_fields (table_view table.now) }
 {
-    let image = fields::text(table, "image")?;
-    let vlen = fields::vlen(table, "vlen")?;
-    let agnostic = fields::agnostic(table, "agnostic")?;
-    let max = fields::max(table, "max")?;
+    let image = fields::text(table, JobTable::Job, JobKey::Image)?;
+    let vlen = fields::vlen(table, JobTable::Job, JobKey::Vlen)?;
+    let agnostic = fields::agnostic(table, JobTable::Job, JobKey::Agnostic)?;
+    let max = fields::max(table, JobTable::Job, JobKey::Max)?;
     let params = params::params_in(table)?.at;
-    Some(Job {
+    Ok(Job {
         image,
         vlen,
         agnostic,
@@ -53,24 +58,38 @@ fn fields_of<'a>(table: &'a Table) -> Option<Job<&'a str>>
     })
 }
 
-/// The values of a job's table, or `None` where it has another key, or a value of a wrong type or
-/// range.
+/// The values of a job's table, or the first key that breaks a rule of job files: one that the table can't have, then
+/// one with a value of a wrong type or range.
 ///
 /// A job may have `image` (a path), `vlen` (128, 256 or 512), `agnostic` ("keep" or "ones"), `max` (0 to
 /// 2^63 - 1) and at most eight `[[param]]` tables, each with a `kind`: "none"; "scalar", with `lo`,
 /// `hi` and `value` (0 to 2^32 - 1 each); or "buffer", with `mode` ("r" or "rw"), `size` (0 to
 /// 2^32 - 1), `file` and `out`. A place without a table is not used.
-#[tactic(auto, unfolding(crate::specs::Job::job_of))]
+#[tactic(auto, unfolding(crate::specs::Job::kept_job_of))]
+pub fn kept_job_in<'a>(table: &'a Table) -> Result<Job<&'a str>, JobBreach<&'a str>>
+    ensures { read_lent job_lent result ≡ kept_job_of (table_view table.now) }
+{
+    let known = [
+        JobKey::Image,
+        JobKey::Vlen,
+        JobKey::Agnostic,
+        JobKey::Max,
+        JobKey::Param,
+    ];
+    match fields::first_unknown(table, known.as_slice()) {
+        Some(key) => Err(JobBreach::Unknown {
+            table: JobTable::Job,
+            key,
+        }),
+        None => job_fields(table),
+    }
+}
+
+/// The values of a job's table, or `None` where it breaks a rule of job files.
 pub fn job_in<'a>(table: &'a Table) -> Option<Job<&'a str>>
     ensures { option_map job_lent result ≡ job_of (table_view table.now) }
 {
-    if !fields::has_only(
-        table,
-        ["image", "vlen", "agnostic", "max", "param"].as_slice(),
-    ) {
-        return None;
-    }
-    fields_of(table)
+    kept_job_in(table).ok()
 }
 
 /// What `try` takes of a job's table, or `None` where the table breaks a rule of job files or lacks

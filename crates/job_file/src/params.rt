@@ -1,54 +1,90 @@
 //! Reads the `[[param]]` tables of a job.
 ghost use Rattle.std.specs.Prelude.{◌≡◌, map, option_map};
-ghost use Rattle.toml.specs.Data.{get_item};
+ghost use Rattle.toml.specs.Data.{as_str, get_item};
 ghost use Rattle.toml.specs.View.{array_view, table_view, view};
-ghost use Rattle.job_file.specs.Job.{buffer_of, no_params, none_of, param_at, param_lent, param_of};
-ghost use Rattle.job_file.specs.Job.{param_of_kind, params_in, params_of, scalar_of};
+ghost use Rattle.job_file.specs.Job.{buffer_fields, kind_in, kind_keys, kind_named, kind_of};
+ghost use Rattle.job_file.specs.Job.{no_params, param_at, param_fields, param_lent, param_of};
+ghost use Rattle.job_file.specs.Job.{param_of_kind, params_in, params_of, read_lent, scalar_fields};
 
 use crate::fields;
+use crate::keys::{JobBreach, JobKey, JobTable};
 use crate::values::{JobParam, Places};
 use toml::value::Array;
 use toml::{Table, Value};
 
-/// A table of kind "none".
-#[tactic(auto, unfolding(crate::specs::Job::none_of))]
-fn none<'a>(table: &'a Table) -> Option<JobParam<&'a str>>
-    ensures { option_map param_lent result ≡ none_of (table_view table.now) }
+/// What `kind` says of a parameter.
+#[derive(Clone, Copy)]
+pub enum Kind {
+    None,
+    Scalar,
+    Buffer,
+}
+
+fn kind_named(name: &str) -> Option<Kind>
+    ensures { result ≡ kind_named name.now }
 {
-    if fields::has_only(table, ["kind"].as_slice()) {
-        Some(JobParam::None)
+    if name == "none" {
+        Some(Kind::None)
+    } else if name == "scalar" {
+        Some(Kind::Scalar)
+    } else if name == "buffer" {
+        Some(Kind::Buffer)
     } else {
         None
     }
 }
 
-/// A table of kind "scalar".
-#[tactic(auto, unfolding(crate::specs::Job::scalar_of))]
-fn scalar<'a>(table: &'a Table) -> Option<JobParam<&'a str>>
-    ensures { option_map param_lent result ≡ scalar_of (table_view table.now) }
+/// `kind`.
+#[tactic(auto, unfolding(crate::specs::Job::kind_of))]
+fn kind_of(value: &Value) -> Option<Kind>
+    ensures { result ≡ kind_of (view value.now) }
 {
-    if !fields::has_only(table, ["kind", "lo", "hi", "value"].as_slice()) {
-        return None;
-    }
-    let lo = fields::word(table, "lo")?;
-    let hi = fields::word(table, "hi")?;
-    let value = fields::word(table, "value")?;
-    Some(JobParam::Scalar { lo, hi, value })
+    kind_named(value.as_str()?)
 }
 
-/// A table of kind "buffer".
-#[tactic(auto, unfolding(crate::specs::Job::buffer_of))]
-fn buffer<'a>(table: &'a Table) -> Option<JobParam<&'a str>>
-    ensures { option_map param_lent result ≡ buffer_of (table_view table.now) }
+/// The kind of a table, where it has one.
+fn kind_in(table: &Table) -> Option<Kind>
+    ensures { result ≡ kind_in (table_view table.now) }
 {
-    if !fields::has_only(table, ["kind", "mode", "size", "file", "out"].as_slice()) {
-        return None;
+    kind_of(fields::at(table, JobKey::Kind)?)
+}
+
+/// The keys that a table of a kind may have.
+fn kind_keys(kind: Kind) -> &'static [JobKey]
+    ensures { result.now ≡ kind_keys kind }
+{
+    match kind {
+        Kind::None => &[JobKey::Kind],
+        Kind::Scalar => &[JobKey::Kind, JobKey::Lo, JobKey::Hi, JobKey::Value],
+        Kind::Buffer => &[
+            JobKey::Kind,
+            JobKey::Mode,
+            JobKey::Size,
+            JobKey::File,
+            JobKey::Out,
+        ],
     }
-    let mode = fields::mode(table, "mode")?;
-    let size = fields::word(table, "size")?;
-    let file = fields::text(table, "file")?;
-    let out = fields::text(table, "out")?;
-    Some(JobParam::Buffer {
+}
+
+/// The values of a table of kind "scalar".
+fn scalar<'a>(table: &'a Table, place: JobTable) -> Result<JobParam<&'a str>, JobBreach<&'a str>>
+    ensures { read_lent param_lent result ≡ scalar_fields place (table_view table.now) }
+{
+    let lo = fields::word(table, place, JobKey::Lo)?;
+    let hi = fields::word(table, place, JobKey::Hi)?;
+    let value = fields::word(table, place, JobKey::Value)?;
+    Ok(JobParam::Scalar { lo, hi, value })
+}
+
+/// The values of a table of kind "buffer".
+fn buffer<'a>(table: &'a Table, place: JobTable) -> Result<JobParam<&'a str>, JobBreach<&'a str>>
+    ensures { read_lent param_lent result ≡ buffer_fields place (table_view table.now) }
+{
+    let mode = fields::mode(table, place, JobKey::Mode)?;
+    let size = fields::word(table, place, JobKey::Size)?;
+    let file = fields::text(table, place, JobKey::File)?;
+    let out = fields::text(table, place, JobKey::Out)?;
+    Ok(JobParam::Buffer {
         mode,
         size,
         file,
@@ -56,28 +92,45 @@ fn buffer<'a>(table: &'a Table) -> Option<JobParam<&'a str>>
     })
 }
 
-fn param_of_kind<'a>(table: &'a Table, kind: &str) -> Option<JobParam<&'a str>>
-    ensures { option_map param_lent result ≡ param_of_kind (table_view table.now) kind.now }
+/// The values of a table of a kind.
+#[tactic(auto, unfolding(crate::specs::Job::param_fields))]
+fn param_fields<'a>(
+    table: &'a Table,
+    place: JobTable,
+    kind: Kind,
+) -> Result<JobParam<&'a str>, JobBreach<&'a str>>
+    ensures { read_lent param_lent result ≡ param_fields place (table_view table.now) kind }
 {
-    if kind == "none" {
-        none(table)
-    } else if kind == "scalar" {
-        scalar(table)
-    } else if kind == "buffer" {
-        buffer(table)
-    } else {
-        None
+    match kind {
+        Kind::None => Ok(JobParam::None),
+        Kind::Scalar => scalar(table, place),
+        Kind::Buffer => buffer(table, place),
+    }
+}
+
+/// A table of a kind.
+#[tactic(auto, unfolding(crate::specs::Job::param_of_kind))]
+fn param_of_kind<'a>(
+    table: &'a Table,
+    place: JobTable,
+    kind: Kind,
+) -> Result<JobParam<&'a str>, JobBreach<&'a str>>
+    ensures { read_lent param_lent result ≡ param_of_kind place (table_view table.now) kind }
+{
+    match fields::first_unknown(table, kind_keys(kind)) {
+        Some(key) => Err(JobBreach::Unknown { table: place, key }),
+        None => param_fields(table, place, kind),
     }
 }
 
 /// One `[[param]]` table.
 #[tactic(auto, unfolding(crate::specs::Job::param_of))]
-fn param_of<'a>(value: &'a Value) -> Option<JobParam<&'a str>>
-    ensures { option_map param_lent result ≡ param_of (view value.now) }
+fn param_of<'a>(value: &'a Value, place: JobTable) -> Result<JobParam<&'a str>, JobBreach<&'a str>>
+    ensures { read_lent param_lent result ≡ param_of place (view value.now) }
 {
-    let table = value.as_table()?;
-    let kind = fields::at(table, "kind")?.as_str()?;
-    param_of_kind(table, kind)
+    let table = fields::wanted(value.as_table(), place, JobKey::Kind)?;
+    let kind = fields::wanted(kind_in(table), place, JobKey::Kind)?;
+    param_of_kind(table, place, kind)
 }
 
 fn item<'a>(items: &'a Array, place: usize) -> Option<&'a Value>
@@ -88,12 +141,12 @@ fn item<'a>(items: &'a Array, place: usize) -> Option<&'a Value>
 
 /// The parameter at a place.
 #[tactic(auto, unfolding(crate::specs::Job::param_at))]
-fn param_at<'a>(items: &'a Array, place: usize) -> Option<JobParam<&'a str>>
-    ensures { option_map param_lent result ≡ param_at (array_view items.now) place }
+fn param_at<'a>(items: &'a Array, place: usize) -> Result<JobParam<&'a str>, JobBreach<&'a str>>
+    ensures { read_lent param_lent result ≡ param_at (array_view items.now) place }
 {
     match item(items, place) {
-        Some(value) => param_of(value),
-        None => Some(JobParam::None),
+        Some(value) => param_of(value, JobTable::Param(place)),
+        None => Ok(JobParam::None),
     }
 }
 
@@ -106,28 +159,31 @@ fn no_params<'a>() -> [JobParam<&'a str>; 8]
 
 /// The parameters at the eight places.
 #[tactic(auto, unfolding(crate::specs::Job::params_of))]
-fn params_of<'a>(items: &'a Array) -> Option<Places<JobParam<&'a str>>>
-    ensures { option_map (λ params. map param_lent params.at) result
+fn params_of<'a>(items: &'a Array) -> Result<Places<JobParam<&'a str>>, JobBreach<&'a str>>
+    ensures { read_lent (λ params. map param_lent params.at) result
         ≡ params_of (array_view items.now) }
 {
     if item(items, 8).is_some() {
-        return None;
+        return Err(JobBreach::TooMany);
     }
     let mut params = no_params();
     for place in 0..8 {
         params[place] = param_at(items, place)?;
     }
-    Some(Places { at: params })
+    Ok(Places { at: params })
 }
 
 /// The parameters of a job's table.
 #[tactic(auto, unfolding(crate::specs::Job::params_in))]
-pub fn params_in<'a>(table: &'a Table) -> Option<Places<JobParam<&'a str>>>
-    ensures { option_map (λ params. map param_lent params.at) result
+pub fn params_in<'a>(table: &'a Table) -> Result<Places<JobParam<&'a str>>, JobBreach<&'a str>>
+    ensures { read_lent (λ params. map param_lent params.at) result
         ≡ params_in (table_view table.now) }
 {
-    match fields::at(table, "param") {
-        Some(value) => params_of(value.as_array()?),
-        None => Some(Places { at: no_params() }),
+    match fields::at(table, JobKey::Param) {
+        Some(value) => {
+            let items = fields::wanted(value.as_array(), JobTable::Job, JobKey::Param)?;
+            params_of(items)
+        }
+        None => Ok(Places { at: no_params() }),
     }
 }

@@ -1,7 +1,14 @@
--- The keys of a job, and the values that they may have, in words.
-use Rattle.std.specs.Prelude.{ℕ, List, codes}
-use Rattle.explanations.specs.declared.job.JobKey.{JobKey}
-use Rattle.explanations.specs.declared.job.JobKey.TheVariants as key
+-- The tables and keys of a job, and the values that the keys may have, in words.
+use Rattle.std.specs.Prelude.{ℕ, ◌++◌, List, codes}
+use Rattle.std.specs.Fmt.{decimal}
+use Rattle.job_file.specs.declared.keys.JobKey.{JobKey}
+use Rattle.job_file.specs.declared.keys.JobKey.TheVariants as key
+use Rattle.job_file.specs.declared.keys.JobTable.{JobTable}
+use Rattle.job_file.specs.declared.keys.JobTable.TheVariants as table
+
+abbrev pub table_text : JobTable → List ℕ
+table_text table.Job = codes "the job"
+table_text (table.Param place) = codes "the param at place " ++ decimal place
 
 abbrev pub key_name : JobKey → List ℕ
 key_name key.Image = codes "image"
