@@ -126,7 +126,8 @@ abbrev pub IfTable : (Members → Type 0) → Option Members → Type 0
 IfTable True None = ⊥
 IfTable True (Some ms) = True ms
 
--- What is told of a job's text: where it is no UTF-8, where it is no TOML, or what is told of its table.
+-- What is told of a job's text: where it is no UTF-8, where it is no TOML, or what is told of its
+-- table.
 abbrev pub IsJobReason : Command → List ℕ → Option JobReason → Type 0
 IsJobReason c text (Some (reason.NotUtf8 byte)) =
     (byte ≡ utf8_valid_len text) × (¬ (IsUtf8 text))
@@ -159,11 +160,13 @@ in_text t k = codes " in " ++ (table_text t ++ (codes ": " ++ (key_wanted k ++ c
 abbrev pub job_text : JobReason → List ℕ
 job_text (reason.NotUtf8 byte) = codes "  not UTF-8 from byte " ++ (decimal byte ++ codes " on\n")
 job_text (reason.NotToml line column byte) = codes "  not TOML from byte " ++ (decimal byte
-    ++ (codes " on: line " ++ (decimal line ++ (codes ", column " ++ (decimal column ++ codes "\n")))))
+    ++ (codes " on: line " ++ (decimal line
+    ++ (codes ", column " ++ (decimal column ++ codes "\n")))))
 job_text reason.Broken =
     codes "  wanted: no other keys, and each value of its type and range\n"
 job_text (reason.Missing t k c) = needs_text k c ++ in_text t k
-job_text (reason.Breach (breach.Wrong t k)) = codes "  not as wanted: " ++ (key_name k ++ in_text t k)
-job_text (reason.Breach (breach.Unknown t name)) = codes "  no key of " ++ (table_text t ++ (codes ": "
-    ++ (string_bytes name ++ codes "\n")))
+job_text (reason.Breach (breach.Wrong t k)) =
+    codes "  not as wanted: " ++ (key_name k ++ in_text t k)
+job_text (reason.Breach (breach.Unknown t name)) =
+    codes "  no key of " ++ (table_text t ++ (codes ": " ++ (string_bytes name ++ codes "\n")))
 job_text (reason.Breach breach.TooMany) = codes "  wanted: at most eight param tables\n"

@@ -8,7 +8,7 @@ ghost use Rattle.explanations.specs.Job.{begins_character, column_behind, line_b
 ghost use Rattle.explanations.specs.Job.{next_column as next_column_of};
 ghost use Rattle.explanations.specs.declared.job.JobReason.TheVariants as reason;
 
-use job_file::{Job, JobBreach, JobKey, JobTable, JobParam, kept_job_in};
+use job_file::{Job, JobBreach, JobKey, JobParam, JobTable, kept_job_in};
 use std::alloc::{AllocError, Global};
 use std::fmt;
 use toml::Table;

@@ -47,7 +47,8 @@ unfoldable pub max_of : Data → Option ℕ
 max_of d = option_and_then (number_below (2 ^ 63)) (as_integer d)
 
 abbrev pub vlen_of_bits : ℕ → Option Vlen
-vlen_of_bits n = if n == 128 then Some V128 else (if n == 256 then Some V256 else (if n == 512 then Some V512 else None))
+vlen_of_bits n = if n == 128 then Some V128
+    else (if n == 256 then Some V256 else (if n == 512 then Some V512 else None))
 
 -- `vlen`: 128, 256 or 512
 unfoldable pub vlen_of : Data → Option Vlen
@@ -95,12 +96,14 @@ wanted t k None = Err (breach.Wrong t k)
 
 -- ---- keys
 
-abbrev pub field_of : {A : Type 0} → (Data → Option A) → JobTable → JobKey → Option Data → Result (Option A) Breach
+abbrev pub field_of : {A : Type 0} → (Data → Option A) → JobTable → JobKey → Option Data
+    → Result (Option A) Breach
 field_of read t k None = Ok None
 field_of read t k (Some d) = wanted t k (option_map (λ a. Some a) (read d))
 
 -- a key that may be missing, and where it is there has a value that `read` takes
-abbrev pub field : {A : Type 0} → (Data → Option A) → JobTable → JobKey → Members → Result (Option A) Breach
+abbrev pub field : {A : Type 0} → (Data → Option A) → JobTable → JobKey → Members
+    → Result (Option A) Breach
 field read t k ms = field_of read t k (get_member (key_name k) ms)
 
 abbrev pub is_one_of : List JobKey → Text → Bool
@@ -109,7 +112,8 @@ is_one_of known name = list_any (λ k. bytes_eq (key_name k) name) known
 -- the table's first key that is none of these
 unfoldable pub first_unknown : List JobKey → Members → Option Text
 first_unknown known no_members = None
-first_unknown known (member name d ms) = if is_one_of known name then first_unknown known ms else Some name
+first_unknown known (member name d ms) =
+    if is_one_of known name then first_unknown known ms else Some name
 
 -- what is read of a table, where it has no unknown key
 abbrev pub if_known : {A : Type 0} → JobTable → Option Text → Result A Breach → Result A Breach
@@ -125,7 +129,8 @@ kind_keys kind.Scalar = key.Kind ∷ key.Lo ∷ key.Hi ∷ key.Value ∷ []
 kind_keys kind.Buffer = key.Kind ∷ key.Mode ∷ key.Size ∷ key.File ∷ key.Out ∷ []
 
 abbrev pub scalar_fields : JobTable → Members → Result (JobParam Text) Breach
-scalar_fields t ms = and_then (λ lo. and_then (λ hi. and_then (λ value. Ok (param.Scalar lo hi value))
+scalar_fields t ms = and_then (λ lo. and_then (λ hi. and_then (λ value.
+    Ok (param.Scalar lo hi value))
     (field word_of t key.Value ms)) (field word_of t key.Hi ms)) (field word_of t key.Lo ms)
 
 abbrev pub buffer_fields : JobTable → Members → Result (JobParam Text) Breach
@@ -154,7 +159,8 @@ param_of t d = and_then (λ ms. and_then (param_of_kind t ms) (wanted t key.Kind
 
 -- the parameter at a place: none where there is no such table
 unfoldable pub param_at : Items → ℕ → Result (JobParam Text) Breach
-param_at items place = option_map_or (param_of (table.Param place)) (get_item place items) (Ok param.None)
+param_at items place =
+    option_map_or (param_of (table.Param place)) (get_item place items) (Ok param.None)
 
 -- the values, where each is there
 abbrev pub all_there : {A : Type 0} → List (Option A) → Option (List A)
@@ -171,7 +177,8 @@ places = 0 ∷ 1 ∷ 2 ∷ 3 ∷ 4 ∷ 5 ∷ 6 ∷ 7 ∷ []
 
 -- the parameters at the eight places, where there is no ninth table
 unfoldable pub params_of : Items → Result (List (JobParam Text)) Breach
-params_of items = if is_some (get_item 8 items) then Err breach.TooMany else all_kept (map (param_at items) places)
+params_of items = if is_some (get_item 8 items) then Err breach.TooMany
+    else all_kept (map (param_at items) places)
 
 abbrev pub no_params : List (JobParam Text)
 no_params = map (λ _. param.None) places
@@ -197,11 +204,12 @@ job_fields ms = and_then (λ image. and_then (λ vlen. and_then (λ agnostic.
       agnostic = agnostic;
       max = max;
       params = params;
-    })) (params_in ms)) (field max_of table.Job key.Max ms)) (field agnostic_of table.Job key.Agnostic ms))
+    })) (params_in ms)) (field max_of table.Job key.Max ms))
+    (field agnostic_of table.Job key.Agnostic ms))
     (field vlen_of table.Job key.Vlen ms)) (field as_str table.Job key.Image ms)
 
--- the values of a table's keys, where it has no other key and each value is of its type and range, or the first
--- breach of these
+-- the values of a table's keys, where it has no other key and each value is of its type and range,
+-- or the first breach of these
 unfoldable pub kept_job_of : Members → Result (Job Text) Breach
 kept_job_of ms = if_known table.Job (first_unknown job_keys ms) (job_fields ms)
 

@@ -7,7 +7,8 @@ use Rattle.vector_core.specs.Words.{Avl, Hart, Memory, VSet, Vconfig, advanced, 
 use Rattle.vector_core.specs.Vectors.{Stepped, Vectors}
 use Rattle.vector_core.specs.declared.configuration.Request.{Request}
 
--- the application vector length: x[rs1]; with rs1 = x0 the greatest, or the present vl where rd is x0 too
+-- the application vector length: x[rs1]; with rs1 = x0 the greatest, or the present vl where rd is
+-- x0 too
 abbrev pub avl_of : ℕ → ℕ → Hart → Avl
 avl_of rd rs1 hart = if rs1 == 0 then (if rd == 0 then Keep else Greatest) else Of (reg_of rs1 hart)
 

@@ -1,5 +1,6 @@
--- What the fixed-point instructions on elements of SEW make of the registers, and whether an active element saturates
--- ("Vector Fixed-Point Arithmetic Instructions"). Each rounds by the vxrm of the hart.
+-- What the fixed-point instructions on elements of SEW make of the registers, and whether an active
+-- element saturates ("Vector Fixed-Point Arithmetic Instructions"). Each rounds by the vxrm of the
+-- hart.
 use Rattle.std.specs.Prelude.{ℕ, ◌==◌, Bool, List, if◌then◌else◌}
 use lib.Lanes.{zip2}
 use Rattle.lane_fixed.specs.FixedPoint.{any_active, element, saturates}

@@ -1,5 +1,6 @@
--- What the integer instructions on elements of SEW make of the registers, a definition for each shape ("Vector Integer
--- Arithmetic Instructions"): the elements of vs2 and of the second operand, and what is computed of each pair.
+-- What the integer instructions on elements of SEW make of the registers, a definition for each
+-- shape ("Vector Integer Arithmetic Instructions"): the elements of vs2 and of the second operand,
+-- and what is computed of each pair.
 use Rattle.std.specs.Prelude.{ℕ, Bool, false, List, replicate, if◌then◌else◌}
 use lib.Lanes.{zip2}
 use Rattle.std.specs.Int.{w8, w16, w32}

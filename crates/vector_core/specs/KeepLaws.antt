@@ -1,5 +1,5 @@
--- What a step of a vector instruction keeps: the number of bytes of the registers, that they are bytes, and those of all
--- registers but its destination's.
+-- What a step of a vector instruction keeps: the number of bytes of the registers, that they are
+-- bytes, and those of all registers but its destination's.
 use Rattle.std.specs.Prelude.{ℕ, ◌≡◌, ◌⊎◌, ◌<◌, ◌≤◌, ◌+◌, ◌*◌, Bool, true, false, List, length}
 use Rattle.std.specs.Prelude.{get_or, Option, Some, None, Ok}
 use Rattle.rv_decode.specs.declared.extents.Operand.{Operand}

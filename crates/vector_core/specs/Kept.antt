@@ -1,4 +1,5 @@
--- What a run keeps of memory: where its areas lie, their rights, what was passed, and each byte that may not be written.
+-- What a run keeps of memory: where its areas lie, their rights, what was passed, and each byte
+-- that may not be written.
 use Rattle.std.specs.Prelude.{ℕ, ◌≡◌, false, Ok}
 use Rattle.region_mem.specs.{Areas.is_open, Laws.HasExtentsOf, Memory.byte_of}
 use Rattle.vector_core.specs.Words.{Write, Memory}

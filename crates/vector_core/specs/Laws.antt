@@ -1,4 +1,5 @@
--- What an element of 32 bits becomes is what the scalar instruction of the same name makes of two registers.
+-- What an element of 32 bits becomes is what the scalar instruction of the same name makes of two
+-- registers.
 use Rattle.std.specs.Prelude.{◌≡◌, ℕ, ◌<◌, ◌^◌, Option, Some, None}
 use Rattle.std.specs.{Int.w32, Option.IfSome}
 use Rattle.rv_decode.specs.declared.instructions.IntOp.TheVariants as vector

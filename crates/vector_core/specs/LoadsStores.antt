@@ -1,4 +1,5 @@
--- Vector loads and stores ("Vector Loads and Stores"): the registers or memory are what the load or store leaves.
+-- Vector loads and stores ("Vector Loads and Stores"): the registers or memory are what the load or
+-- store leaves.
 use Rattle.std.specs.Prelude.{ℕ, List, Result, Ok, Err}
 use Rattle.rv_decode.specs.declared.instructions.Addressing.TheVariants.{Unit, Strided, Indexed, Mask}
 use Rattle.rv_decode.specs.declared.instructions.Addressing.TheVariants.{Whole}

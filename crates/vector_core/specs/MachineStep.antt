@@ -54,6 +54,7 @@ fetched vlenb m (Some word) = decoded vlenb word m (meaning_of word)
 unfoldable pub step : ℕ → Machine → Result Machine Fault
 step vlenb m = fetched vlenb m (fetch_of m.hart.pc m.memory)
 
--- A step that leads to an address that is not a multiple of four is a fault; `m` is where it would lead.
+-- A step that leads to an address that is not a multiple of four is a fault; `m` is where it would
+-- lead.
 unfoldable pub unless_misaligned : Machine → Result Machine Fault
 unless_misaligned m = if m.hart.pc % 4 == 0 then Ok m else Err (JumpMisaligned m.hart.pc)

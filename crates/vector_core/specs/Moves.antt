@@ -1,6 +1,6 @@
--- Instructions that put elements of SEW, or whole registers, somewhere as they are ("Vector Integer Merge Instructions",
--- "Vector Integer Move Instructions", "Integer Scalar Move Instructions", "Whole Vector Register Move"). Each element of
--- the body is active.
+-- Instructions that put elements of SEW, or whole registers, somewhere as they are ("Vector Integer
+-- Merge Instructions", "Vector Integer Move Instructions", "Integer Scalar Move Instructions",
+-- "Whole Vector Register Move"). Each element of the body is active.
 use Rattle.std.specs.Prelude.{ℕ, Bool, false, List, if◌then◌else◌}
 use Rattle.std.specs.Int.{w32, cast_signed, cast_unsigned}
 use Rattle.rv_decode.specs.declared.instructions.VMove.TheVariants.{ToScalar, FromScalar, Whole}

@@ -1,6 +1,6 @@
--- What the instructions that read vs2 at 2*SEW and give results of SEW make of the registers ("Vector Narrowing Integer
--- Right Shift Instructions", "Vector Narrowing Fixed-Point Clip Instructions"). A shift by b reads one bit more of it than
--- at SEW.
+-- What the instructions that read vs2 at 2*SEW and give results of SEW make of the registers
+-- ("Vector Narrowing Integer Right Shift Instructions", "Vector Narrowing Fixed-Point Clip
+-- Instructions"). A shift by b reads one bit more of it than at SEW.
 use Rattle.std.specs.Prelude.{ℕ, Bool, false, List, map}
 use lib.Lanes.{zip2}
 use Rattle.lane_fixed.specs.FixedPoint.{any_active, clip_element, clip_saturates}

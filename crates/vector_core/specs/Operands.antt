@@ -1,5 +1,6 @@
--- What vector instructions read from the registers and write to them ("Vector Instruction Formats"). `file` is the
--- registers' bytes; the body's elements, and the results for them, are a list.
+-- What vector instructions read from the registers and write to them ("Vector Instruction
+-- Formats"). `file` is the registers' bytes; the body's elements, and the results for them, are a
+-- list.
 use Rattle.std.specs.Prelude.{ℕ, ◌%◌, ◌^◌, ◌==◌, Bool, List, replicate, if◌then◌else◌}
 use Rattle.std.specs.Int.{w32, cast_unsigned}
 use Rattle.rv_decode.specs.declared.instructions.Source.TheVariants.{Vector, Scalar, Immediate}
@@ -13,8 +14,8 @@ use Rattle.vector_core.specs.Setup.{group_at}
 unfoldable pub low_bits : ℕ → ℕ → ℕ
 low_bits size n = n % 256 ^ size
 
--- the elements of the second operand: of a group, or each of them a scalar's or an immediate's low SEW bits. An
--- immediate is sign-extended.
+-- the elements of the second operand: of a group, or each of them a scalar's or an immediate's low
+-- SEW bits. An immediate is sign-extended.
 unfoldable pub second_of : ℕ → Setup → Hart → Source → List ℕ → List ℕ
 second_of vlenb s hart (Vector vs1) file = body_of vlenb (group_at s vs1 Same) file
 second_of vlenb s hart (Scalar rs1) file =
@@ -22,7 +23,8 @@ second_of vlenb s hart (Scalar rs1) file =
 second_of vlenb s hart (Immediate imm) file =
     replicate s.vl (low_bits (bytes_of_width s.vtype.sew) (cast_unsigned w32 imm))
 
--- the registers after the body's results were written to a group. Where vl is 0 nothing is, the tail neither.
+-- the registers after the body's results were written to a group. Where vl is 0 nothing is, the
+-- tail neither.
 unfoldable pub results_written : ℕ → Setup → Span → Bool → List ℕ → List ℕ → List ℕ
 results_written vlenb s group masked results file =
     if s.vl == 0 then file

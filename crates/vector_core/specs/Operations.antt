@@ -1,5 +1,5 @@
--- How an instruction of another width than its lanes' is one of their operations: which one, and how its sources of SEW are
--- extended where it works at 2*SEW.
+-- How an instruction of another width than its lanes' is one of their operations: which one, and
+-- how its sources of SEW are extended where it works at 2*SEW.
 use Rattle.std.specs.Prelude.{Bool, true, false}
 use Rattle.rv_decode.specs.declared.instructions.CarryOutOp.TheVariants.{Madc, Msbc}
 use Rattle.rv_decode.specs.declared.instructions.CarryOp.TheVariants.{Adc, Sbc}

@@ -1,5 +1,5 @@
--- Every byte that a run fetches, loads or stores is permitted: what an instruction accesses, and the law on one step and on
--- each step of a run.
+-- Every byte that a run fetches, loads or stores is permitted: what an instruction accesses, and
+-- the law on one step and on each step of a run.
 use Rattle.std.specs.Prelude.{ℕ, ◌≡◌, ◌<◌, true, List, [], ◌∷◌, Some, Ok}
 use Rattle.std.specs.List.{AllByRecursion}
 use Rattle.rv_decode.specs.Decode.{meaning_of}
@@ -38,7 +38,8 @@ accesses_of_scalar (Register op rd rs1 rs2) h = []
 accesses_of_scalar Fence h = []
 accesses_of_scalar Ecall h = []
 
--- The accesses of an instruction, beside the fetch of its word. A vector load or store has one for each active element.
+-- The accesses of an instruction, beside the fetch of its word. A vector load or store has one for
+-- each active element.
 unfoldable pub accesses_of_insn : ℕ → Insn → Machine → List Access
 accesses_of_insn vlenb (Scalar insn) m = accesses_of_scalar insn m.hart
 accesses_of_insn vlenb (Csr insn) m = []
@@ -52,20 +53,23 @@ accesses_of_insn vlenb (VMem insn) m =
     accesses_of vlenb (setup_of (type_in (vtype_of m.vectors.config.vtype)) m.vectors) insn
     (reg_of insn.rs1 m.hart) (stride_of insn.place m.hart) m.vectors.registers
 
--- Each byte of each access lies in an area with the right, and none past the last address: that is what `is_permitted`
--- says. Areas do not overlap (`AreInOrder`), so that it is one area for each byte.
+-- Each byte of each access lies in an area with the right, and none past the last address: that is
+-- what `is_permitted` says. Areas do not overlap (`AreInOrder`), so that it is one area for each
+-- byte.
 abbrev pub ArePermitted : Memory → List Access → Type 0
 ArePermitted memory list =
     AllByRecursion (λ a. is_permitted a.right a.address a.size memory ≡ true) list
 
--- The four bytes at pc may be fetched, and the instruction that they mean accesses nothing but what it may.
+-- The four bytes at pc may be fetched, and the instruction that they mean accesses nothing but what
+-- it may.
 abbrev pub IsPermittedStep : ℕ → Machine → Type 0
 IsPermittedStep vlenb m =
     (is_permitted Fetch m.hart.pc 4 m.memory ≡ true) ×
     ((word : ℕ) (insn : Insn) → fetch_of m.hart.pc m.memory ≡ Some word →
     meaning_of word ≡ Some insn → ArePermitted m.memory (accesses_of_insn vlenb insn m))
 
--- The same by the areas of a memory that need not be the machine's own: those that a run started with.
+-- The same by the areas of a memory that need not be the machine's own: those that a run started
+-- with.
 abbrev pub IsPermittedIn : Memory → ℕ → Machine → Type 0
 IsPermittedIn memory vlenb m =
     (is_permitted Fetch m.hart.pc 4 memory ≡ true) ×

@@ -1,4 +1,5 @@
--- Instructions that move elements among places, a definition for each shape ("Vector Permutation Instructions").
+-- Instructions that move elements among places, a definition for each shape ("Vector Permutation
+-- Instructions").
 use Rattle.std.specs.Prelude.{ℕ, ◌==◌, Bool, true, false, List, ◌++◌, drop, length, min, replicate}
 use Rattle.std.specs.Prelude.{if◌then◌else◌}
 use Rattle.std.specs.Int.{w32, cast_unsigned}
@@ -23,8 +24,8 @@ abbrev pub distance_of : Offset → Hart → ℕ
 distance_of (offset.Scalar rs1) hart = reg_of rs1 hart
 distance_of (offset.Immediate imm) hart = imm
 
--- elements of the body below the offset stay as they are, wherever they are inactive too: they count as active, and
--- their results are their old values
+-- elements of the body below the offset stay as they are, wherever they are inactive too: they
+-- count as active, and their results are their old values
 abbrev pub active_from : ℕ → List Bool → List Bool
 active_from distance active =
     replicate (min distance (length active)) true ++ drop (min distance (length active)) active

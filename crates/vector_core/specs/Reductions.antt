@@ -1,5 +1,5 @@
--- Reductions, a definition for each shape ("Vector Reduction Operations"): element 0 of vd is element 0 of vs1 together
--- with the active elements of vs2.
+-- Reductions, a definition for each shape ("Vector Reduction Operations"): element 0 of vd is
+-- element 0 of vs1 together with the active elements of vs2.
 use Rattle.std.specs.Prelude.{ℕ, ◌*◌, Bool, List, map}
 use Rattle.std.specs.Int.{w16, w32, w64}
 use Rattle.rv_decode.specs.declared.instructions.FoldOp.TheVariants.{Sum}

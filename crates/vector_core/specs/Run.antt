@@ -41,7 +41,8 @@ abbrev pub GoesOnUntil : ℕ → Machine → ℕ → Type 0
 GoesOnUntil vlenb s k =
     (j : ℕ) → j < k → (t : Machine) × (after vlenb s j ≡ Ok t) × (has_ended t ≡ false)
 
--- The run from s stops so: at the least k at which it has ended, or k is `max`, or the next step is a fault, in this order.
+-- The run from s stops so: at the least k at which it has ended, or k is `max`, or the next step is
+-- a fault, in this order.
 abbrev pub IsOutcome : ℕ → ℕ → Machine → Stop → Type 0
 IsOutcome vlenb max s (Ended k t) =
     (k ≤ max) × (after vlenb s k ≡ Ok t) × (has_ended t ≡ true) × GoesOnUntil vlenb s k

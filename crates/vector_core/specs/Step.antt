@@ -1,4 +1,5 @@
--- One step of a vector instruction: the state after it, or its fault. An instruction that faults has no new state.
+-- One step of a vector instruction: the state after it, or its fault. An instruction that faults
+-- has no new state.
 use Rattle.std.specs.Prelude.{ℕ, Bool, true, false, if◌then◌else◌, Ok, Err}
 use Rattle.rv_decode.specs.declared.instructions.Insn.TheVariants as class
 use Rattle.vreg_groups.specs.{VectorType.type_in, VectorType.vtype_of, Legality.is_legal}

@@ -1,5 +1,5 @@
--- What a step touches: it changes no byte but those that its list of accesses writes, and what it does depends on no byte but
--- those of its word and those that the list reads.
+-- What a step touches: it changes no byte but those that its list of accesses writes, and what it
+-- does depends on no byte but those of its word and those that the list reads.
 use Rattle.std.specs.Prelude.{ℕ, ◌≡◌, ◌⊎◌, ◌<◌, ◌≤◌, ◌+◌, map, Some, Result, Ok, Err}
 use Rattle.std.specs.List.{AllByRecursion}
 use Rattle.rv_decode.specs.Decode.{meaning_of}
@@ -27,7 +27,8 @@ IsReadAlike other memory a =
     a.right ≡ Read → (x : ℕ) → a.address ≤ x → x < a.address + a.size
     → byte_of x other ≡ byte_of x memory
 
--- The other machine differs from m in no more than bytes that the step of m neither fetches nor loads.
+-- The other machine differs from m in no more than bytes that the step of m neither fetches nor
+-- loads.
 pub record IsAlike (vlenb : ℕ) (other m : Machine) : Type 0 where
   pub hart : other.hart ≡ m.hart
   pub vectors : other.vectors ≡ m.vectors

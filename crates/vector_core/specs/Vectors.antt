@@ -3,7 +3,8 @@ use Rattle.std.specs.Prelude.{ℕ, ◌*◌, List, replicate, Result, Ok}
 use Rattle.vreg_groups.specs.VectorLength.{no_config, IsConfig, IsVlenb}
 use Rattle.vector_core.specs.Words.{Agnostic, Fault, Hart, Memory, Vconfig, advanced, with_reg}
 
--- the bytes of the 32 registers end to end, vtype and vl, and what becomes of agnostic elements throughout the run
+-- the bytes of the 32 registers end to end, vtype and vl, and what becomes of agnostic elements
+-- throughout the run
 pub record Vectors : Type 0 where
   pub registers : List ℕ
   pub config : Vconfig
@@ -29,7 +30,8 @@ in_registers registers hart v memory = Ok (advanced hart, with_registers registe
 abbrev pub in_scalar : ℕ → ℕ → Hart → Vectors → Memory → Stepped
 in_scalar rd value hart v memory = Ok (advanced (with_reg rd value hart), v, memory)
 
--- what holds of every state: VLEN is 128, 256 or 512, and vl is at most VLMAX, or 0 where vill is set
+-- what holds of every state: VLEN is 128, 256 or 512, and vl is at most VLMAX, or 0 where vill is
+-- set
 pub record IsVectors (vlenb : ℕ) (v : Vectors) : Type 0 where
   pub vlenb_is : IsVlenb vlenb
   pub config : IsConfig vlenb v.config

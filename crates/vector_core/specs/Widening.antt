@@ -1,7 +1,8 @@
--- What the instructions with results wider than what they read make of the registers. A widening one extends what it
--- reads at SEW to 2*SEW, and its operation is one on elements of 2*SEW ("Vector Widening Integer Add/Subtract", "Vector
--- Widening Integer Multiply Instructions", "Vector Widening Integer Multiply-Add Instructions"); an extension reads a
--- fraction of SEW ("Vector Integer Extension").
+-- What the instructions with results wider than what they read make of the registers. A widening
+-- one extends what it reads at SEW to 2*SEW, and its operation is one on elements of 2*SEW ("Vector
+-- Widening Integer Add/Subtract", "Vector Widening Integer Multiply Instructions", "Vector Widening
+-- Integer Multiply-Add Instructions"); an extension reads a fraction of SEW ("Vector Integer
+-- Extension").
 use Rattle.std.specs.Prelude.{ℕ, Bool, List, map}
 use lib.Lanes.{zip2}
 use Rattle.std.specs.Int.{w16, w8}
