@@ -1,7 +1,8 @@
--- The shapes of the instructions that compute, and of those that move elements among places.
+-- The shapes of the instructions that compute, of those that move elements among places, and of reductions.
 use Rattle.rv_decode.specs.declared.instructions.VArith.TheVariants as arith
 use Rattle.rv_decode.specs.declared.instructions.VPerm.TheVariants as perm
-use Rattle.vector_core.specs.Words.{VArith, VPerm}
+use Rattle.rv_decode.specs.declared.instructions.VReduce.TheVariants as reduce
+use Rattle.vector_core.specs.Words.{Fraction, VArith, VPerm, VReduce}
 
 pub data Shape : Type 0 where
   IntShape : Shape
@@ -17,7 +18,7 @@ pub data Shape : Type 0 where
   WidenMultiplyAddShape : Shape
   NarrowShape : Shape
   ClipShape : Shape
-  ExtendShape : Shape
+  ExtendShape : Fraction → Shape
 
 abbrev pub shape_of : VArith → Shape
 shape_of (arith.Int op vd vs2 b masked) = IntShape
@@ -33,7 +34,7 @@ shape_of (arith.Wide op vd vs2 b masked) = WideShape
 shape_of (arith.WidenMultiplyAdd op vd vs2 b masked) = WidenMultiplyAddShape
 shape_of (arith.Narrow op vd vs2 b masked) = NarrowShape
 shape_of (arith.Clip op vd vs2 b masked) = ClipShape
-shape_of (arith.Extend signed of vd vs2 masked) = ExtendShape
+shape_of (arith.Extend signed of vd vs2 masked) = ExtendShape of
 
 pub data PermShape : Type 0 where
   SlideUpShape : PermShape
@@ -52,3 +53,11 @@ perm_shape_of (perm.SlideOneDown vd vs2 rs1 masked) = SlideOneDownShape
 perm_shape_of (perm.Gather vd vs2 b masked) = GatherShape
 perm_shape_of (perm.Gather16 vd vs2 vs1 masked) = Gather16Shape
 perm_shape_of (perm.Compress vd vs2 vs1) = CompressShape
+
+pub data ReduceShape : Type 0 where
+  FoldShape : ReduceShape
+  WidenSumShape : ReduceShape
+
+abbrev pub reduce_shape_of : VReduce → ReduceShape
+reduce_shape_of (reduce.Fold op vd vs2 vs1 masked) = FoldShape
+reduce_shape_of (reduce.WidenSum signed vd vs2 vs1 masked) = WidenSumShape

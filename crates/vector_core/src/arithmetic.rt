@@ -141,13 +141,7 @@ fn arith_elements<E: VectorElement, const VLENB: usize>(
         VArith::Copy { .. } => copy(registers, scalar, setup, insn, c),
         VArith::Compare { .. } => compare(registers, scalar, setup, insn, a, c),
         VArith::Fixed { .. } => return fixed(registers, scalar, setup, insn, a, c),
-        VArith::Extend {
-            signed,
-            of,
-            vd,
-            vs2,
-            masked,
-        } => extend(registers, setup, *signed, *of, *vd, *vs2, *masked),
+        VArith::Extend { of, .. } => extend(registers, scalar, setup, insn, *of),
         VArith::Widen { .. }
         | VArith::Wide { .. }
         | VArith::WidenMultiplyAdd { .. }

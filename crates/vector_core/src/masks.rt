@@ -3,6 +3,8 @@
 ghost use Rattle.std.specs.Prelude.{◌≡◌, Ok, length};
 ghost use Rattle.region_mem.specs.Memory.{Memory};
 ghost use Rattle.rv_decode.specs.Needs.{needs_of_mask};
+ghost use Rattle.rv_decode.specs.declared.extents.Eew.TheVariants.{Same};
+ghost use Rattle.vreg_groups.specs.Group.{IsGroupInside};
 ghost use Rattle.vector_core.specs.Masks.{count_of, first_of, index_of, iota_of, logic_of};
 ghost use Rattle.vector_core.specs.Masks.{mask_step, set_and_active, set_first_of};
 ghost use Rattle.vector_core.specs.Setup.{IsReady, IsSetup};
@@ -119,7 +121,7 @@ fn set_around_first<const VLENB: usize>(
 }
 
 /// Each element of vd is how many bits of vs2 below it are set and active; `a` has room for the body.
-#[tactic(auto, unfolding(rv_decode::specs::Needs::needs_of_mask, crate::specs::Masks::iota_of))]
+#[tactic(auto, unfolding(crate::specs::Masks::iota_of))]
 fn iota_elements<E: VectorElement, const VLENB: usize>(
     registers: &mut VregFile<VLENB>,
     setup: &Setup,
@@ -130,7 +132,8 @@ fn iota_elements<E: VectorElement, const VLENB: usize>(
 )
     requires a_len { length a.old ≡ setup.now.vl }
     requires width { E.sew ≡ setup.now.vtype.sew }
-    requires ready { IsReady VLENB setup.now (needs_of_mask (VMask.Iota vd vs2 masked)) }
+    requires setup { IsSetup VLENB setup.now }
+    requires inside { IsGroupInside setup.now.vtype vd Same }
     ensures { registers.new ≡ iota_of VLENB setup.now vd vs2 masked registers.old }
 {
     let destination = setup.group(vd, Eew::Same);
@@ -149,7 +152,8 @@ fn iota<const VLENB: usize>(
     vs2: Reg,
     masked: bool,
 )
-    requires { IsReady VLENB setup.now (needs_of_mask (VMask.Iota vd vs2 masked)) }
+    requires setup { IsSetup VLENB setup.now }
+    requires inside { IsGroupInside setup.now.vtype vd Same }
     ensures { registers.new ≡ iota_of VLENB setup.now vd vs2 masked registers.old }
 {
     let vl = setup.vl;
@@ -161,7 +165,7 @@ fn iota<const VLENB: usize>(
 }
 
 /// Each element of vd is its own number; `a` has room for the body.
-#[tactic(auto, unfolding(rv_decode::specs::Needs::needs_of_mask, crate::specs::Masks::index_of))]
+#[tactic(auto, unfolding(crate::specs::Masks::index_of))]
 fn index_elements<E: VectorElement, const VLENB: usize>(
     registers: &mut VregFile<VLENB>,
     setup: &Setup,
@@ -171,7 +175,8 @@ fn index_elements<E: VectorElement, const VLENB: usize>(
 )
     requires a_len { length a.old ≡ setup.now.vl }
     requires width { E.sew ≡ setup.now.vtype.sew }
-    requires ready { IsReady VLENB setup.now (needs_of_mask (VMask.Index vd masked)) }
+    requires setup { IsSetup VLENB setup.now }
+    requires inside { IsGroupInside setup.now.vtype vd Same }
     ensures { registers.new ≡ index_of VLENB setup.now vd masked registers.old }
 {
     let destination = setup.group(vd, Eew::Same);
@@ -181,7 +186,8 @@ fn index_elements<E: VectorElement, const VLENB: usize>(
 
 /// The same, by the width of elements.
 fn index<const VLENB: usize>(registers: &mut VregFile<VLENB>, setup: &Setup, vd: Reg, masked: bool)
-    requires { IsReady VLENB setup.now (needs_of_mask (VMask.Index vd masked)) }
+    requires setup { IsSetup VLENB setup.now }
+    requires inside { IsGroupInside setup.now.vtype vd Same }
     ensures { registers.new ≡ index_of VLENB setup.now vd masked registers.old }
 {
     let vl = setup.vl;
@@ -189,7 +195,7 @@ fn index<const VLENB: usize>(registers: &mut VregFile<VLENB>, setup: &Setup, vd:
 }
 
 /// The step of an instruction on masks.
-#[tactic(auto, unfolding(crate::specs::Masks::mask_step))]
+#[tactic(auto, unfolding(rv_decode::specs::Needs::needs_of_mask, crate::specs::Masks::mask_step))]
 pub fn step_mask<const VLENB: usize>(
     vectors: &mut VectorState<VLENB>,
     scalar: &mut Scalar,

@@ -6,9 +6,9 @@ ghost use Rattle.region_mem.specs.Memory.{Memory};
 ghost use Rattle.rv_decode.specs.Needs.{needs_of_reduce};
 ghost use Rattle.vreg_groups.specs.VectorType.{bytes_of_width};
 ghost use Rattle.vector_core.specs.Integer.{lane_width};
-ghost use Rattle.vector_core.specs.Reductions.{fold_of, reduce_of, reduce_step, sum_width};
-ghost use Rattle.vector_core.specs.Reductions.{widen_sum_of};
+ghost use Rattle.vector_core.specs.Reductions.{reduce_of, reduce_step, sum_width};
 ghost use Rattle.vector_core.specs.Setup.{IsReady};
+ghost use Rattle.vector_core.specs.Shapes.{FoldShape, WidenSumShape, reduce_shape_of};
 
 use crate::elements::VectorElement;
 use crate::fold_elements::{extended_sum, fold_result};
@@ -17,158 +17,123 @@ use crate::rooms::with_rooms;
 use crate::setup::Setup;
 use crate::singles::write_first;
 use crate::state::VectorState;
-use rv_decode::{FoldOp, Reg, VReduce, Width};
+use rv_decode::{VReduce, Width};
 use scalar_core::Scalar;
 use vreg_groups::{MOST_ELEMENTS, VregFile};
 
 /// Element 0 of vd is the fold of element 0 of vs1 with the active elements of vs2, whose body there is room for in `a`.
-#[tactic(auto, unfolding(rv_decode::specs::Needs::needs_of_reduce, crate::specs::Reductions::fold_of))]
+#[tactic(auto, unfolding(rv_decode::specs::Needs::needs_of_reduce, crate::specs::Reductions::fold_of, crate::specs::Reductions::reduce_of))]
 fn fold_elements<E: VectorElement, const VLENB: usize>(
     registers: &mut VregFile<VLENB>,
     setup: &Setup,
-    op: FoldOp,
-    vd: Reg,
-    vs2: Reg,
-    vs1: Reg,
-    masked: bool,
+    insn: &VReduce,
     a: &mut [E],
 )
+    requires shape { reduce_shape_of insn.now ≡ FoldShape }
     requires a_len { length a.old ≡ setup.now.vl }
     requires fits { FitsInMemory E.row }
     requires width { E.sew ≡ setup.now.vtype.sew }
-    requires ready { IsReady VLENB setup.now (needs_of_reduce
-        (VReduce.Fold op vd vs2 vs1 masked)) }
-    ensures { registers.new ≡ fold_of VLENB setup.now op vd vs2 vs1 masked registers.old }
+    requires ready { IsReady VLENB setup.now (needs_of_reduce insn.now) }
+    ensures { registers.new ≡ reduce_of VLENB setup.now insn.now registers.old }
 {
+    let VReduce::Fold {
+        op,
+        vd,
+        vs2,
+        vs1,
+        masked,
+    } = insn
+    else {
+        unreachable!()
+    };
     let mut bits = [false; MOST_ELEMENTS];
     let active = &mut bits[..setup.vl];
-    registers.read_active(masked, active);
-    let start = registers.first_element::<E>(vs1);
-    read_body(registers, setup, vs2, a);
-    let value = fold_result(op, start, a, active);
-    write_first(registers, setup, vd, value);
+    registers.read_active(*masked, active);
+    let start = registers.first_element::<E>(*vs1);
+    read_body(registers, setup, *vs2, a);
+    let value = fold_result(*op, start, a, active);
+    write_first(registers, setup, *vd, value);
 }
 
 /// The same, by the width of elements.
-fn fold<const VLENB: usize>(
-    registers: &mut VregFile<VLENB>,
-    setup: &Setup,
-    op: FoldOp,
-    vd: Reg,
-    vs2: Reg,
-    vs1: Reg,
-    masked: bool,
-)
-    requires { IsReady VLENB setup.now (needs_of_reduce (VReduce.Fold op vd vs2 vs1 masked)) }
-    ensures { registers.new ≡ fold_of VLENB setup.now op vd vs2 vs1 masked registers.old }
+fn fold<const VLENB: usize>(registers: &mut VregFile<VLENB>, setup: &Setup, insn: &VReduce)
+    requires shape { reduce_shape_of insn.now ≡ FoldShape }
+    requires ready { IsReady VLENB setup.now (needs_of_reduce insn.now) }
+    ensures { registers.new ≡ reduce_of VLENB setup.now insn.now registers.old }
 {
     let vl = setup.vl;
-    with_rooms!(
-        setup,
-        [a: vl],
-        fold_elements(registers, setup, op, vd, vs2, vs1, masked, a)
-    );
+    with_rooms!(setup, [a: vl], fold_elements(registers, setup, insn, a));
 }
 
 /// Element 0 of vd, of 2*SEW, is the sum of element 0 of vs1, of 2*SEW, with the active elements of vs2, which are extended
 /// and whose body there is room for in `a`.
-#[tactic(auto, unfolding(rv_decode::specs::Needs::needs_of_reduce, crate::specs::Reductions::widen_sum_of))]
+#[tactic(auto, unfolding(rv_decode::specs::Needs::needs_of_reduce, crate::specs::Reductions::widen_sum_of, crate::specs::Reductions::reduce_of))]
 fn widen_sum_elements<W: VectorElement, N: VectorElement, const VLENB: usize>(
     registers: &mut VregFile<VLENB>,
     setup: &Setup,
-    signed: bool,
-    vd: Reg,
-    vs2: Reg,
-    vs1: Reg,
-    masked: bool,
+    insn: &VReduce,
     a: &mut [N],
 )
+    requires shape { reduce_shape_of insn.now ≡ WidenSumShape }
     requires a_len { length a.old ≡ setup.now.vl }
     requires fits { FitsInMemory W.row }
     requires width { N.sew ≡ setup.now.vtype.sew }
     requires wide_size { W.SIZE ≡ 2 * bytes_of_width setup.now.vtype.sew }
     requires wide_width { lane_width W.sew ≡ sum_width setup.now.vtype.sew }
-    requires ready { IsReady VLENB setup.now (needs_of_reduce
-        (VReduce.WidenSum signed vd vs2 vs1 masked)) }
-    ensures { registers.new ≡ widen_sum_of VLENB setup.now signed vd vs2 vs1 masked registers.old }
+    requires ready { IsReady VLENB setup.now (needs_of_reduce insn.now) }
+    ensures { registers.new ≡ reduce_of VLENB setup.now insn.now registers.old }
 {
+    let VReduce::WidenSum {
+        signed,
+        vd,
+        vs2,
+        vs1,
+        masked,
+    } = insn
+    else {
+        unreachable!()
+    };
     let mut bits = [false; MOST_ELEMENTS];
     let active = &mut bits[..setup.vl];
-    registers.read_active(masked, active);
-    let start = registers.first_element::<W>(vs1);
-    read_body(registers, setup, vs2, a);
-    let value = extended_sum(signed, start, a, active);
-    write_first(registers, setup, vd, value);
+    registers.read_active(*masked, active);
+    let start = registers.first_element::<W>(*vs1);
+    read_body(registers, setup, *vs2, a);
+    let value = extended_sum(*signed, start, a, active);
+    write_first(registers, setup, *vd, value);
 }
 
 /// The same, by the width of elements: at SEW 32 it is not legal.
 #[tactic(auto, unfolding(rv_decode::specs::Needs::needs_of_reduce, vreg_groups::specs::Legality::element_bits))]
-fn widen_sum<const VLENB: usize>(
-    registers: &mut VregFile<VLENB>,
-    setup: &Setup,
-    signed: bool,
-    vd: Reg,
-    vs2: Reg,
-    vs1: Reg,
-    masked: bool,
-)
-    requires { IsReady VLENB setup.now (needs_of_reduce
-        (VReduce.WidenSum signed vd vs2 vs1 masked)) }
-    ensures { registers.new ≡ widen_sum_of VLENB setup.now signed vd vs2 vs1 masked registers.old }
+fn widen_sum<const VLENB: usize>(registers: &mut VregFile<VLENB>, setup: &Setup, insn: &VReduce)
+    requires shape { reduce_shape_of insn.now ≡ WidenSumShape }
+    requires ready { IsReady VLENB setup.now (needs_of_reduce insn.now) }
+    ensures { registers.new ≡ reduce_of VLENB setup.now insn.now registers.old }
 {
+    let VReduce::WidenSum { .. } = insn else {
+        unreachable!()
+    };
     let vl = setup.vl;
     let sew = setup.vtype.sew;
     match sew {
         Width::W8 => {
             let mut a = [0u8; MOST_ELEMENTS];
-            widen_sum_elements::<u16, u8, VLENB>(
-                registers,
-                setup,
-                signed,
-                vd,
-                vs2,
-                vs1,
-                masked,
-                &mut a[..vl],
-            );
+            widen_sum_elements::<u16, u8, VLENB>(registers, setup, insn, &mut a[..vl]);
         }
         Width::W16 => {
             let mut a = [0u16; MOST_ELEMENTS / 2];
-            widen_sum_elements::<u32, u16, VLENB>(
-                registers,
-                setup,
-                signed,
-                vd,
-                vs2,
-                vs1,
-                masked,
-                &mut a[..vl],
-            );
+            widen_sum_elements::<u32, u16, VLENB>(registers, setup, insn, &mut a[..vl]);
         }
         Width::W32 => unreachable!(),
     }
 }
 
-#[tactic(auto, unfolding(crate::specs::Reductions::reduce_of))]
 fn reduce<const VLENB: usize>(registers: &mut VregFile<VLENB>, setup: &Setup, insn: &VReduce)
     requires { IsReady VLENB setup.now (needs_of_reduce insn.now) }
     ensures { registers.new ≡ reduce_of VLENB setup.now insn.now registers.old }
 {
     match insn {
-        VReduce::Fold {
-            op,
-            vd,
-            vs2,
-            vs1,
-            masked,
-        } => fold(registers, setup, *op, *vd, *vs2, *vs1, *masked),
-        VReduce::WidenSum {
-            signed,
-            vd,
-            vs2,
-            vs1,
-            masked,
-        } => widen_sum(registers, setup, *signed, *vd, *vs2, *vs1, *masked),
+        VReduce::Fold { .. } => fold(registers, setup, insn),
+        VReduce::WidenSum { .. } => widen_sum(registers, setup, insn),
     }
 }
 

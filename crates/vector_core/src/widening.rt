@@ -7,10 +7,11 @@ ghost use Rattle.rv_decode.specs.declared.instructions.Fraction.TheVariants.{Hal
 ghost use Rattle.vreg_groups.specs.Legality.{eew_bits};
 ghost use Rattle.vector_core.specs.Arithmetic.{arith_of};
 ghost use Rattle.vector_core.specs.Computed.{exact};
-ghost use Rattle.vector_core.specs.Shapes.{WideShape, WidenMultiplyAddShape, WidenShape, shape_of};
+ghost use Rattle.vector_core.specs.Shapes.{ExtendShape, WideShape, WidenMultiplyAddShape};
+ghost use Rattle.vector_core.specs.Shapes.{WidenShape, shape_of};
 ghost use Rattle.vector_core.specs.Integer.{lane_width};
 ghost use Rattle.vector_core.specs.Setup.{IsReady};
-ghost use Rattle.vector_core.specs.Widening.{extend_of, fraction_width};
+ghost use Rattle.vector_core.specs.Widening.{fraction_width};
 
 use crate::elements::VectorElement;
 use crate::operands::write_results;
@@ -19,7 +20,7 @@ use crate::operations::{
 };
 use crate::resizing::{HalfOf, Narrow, read_doubled, read_second_doubled};
 use crate::setup::Setup;
-use rv_decode::{Eew, Fraction, MultiplyAddOp, Reg, VArith, Width};
+use rv_decode::{Eew, Fraction, MultiplyAddOp, VArith, Width};
 use scalar_core::Scalar;
 use vreg_groups::{MOST_ELEMENTS, VregFile};
 
@@ -137,72 +138,54 @@ pub fn widen_multiply_add<N: HalfOf<W>, W: VectorElement, const VLENB: usize>(
     write_results(registers, setup, &destination, *masked, d);
 }
 
-/// vd is vs2, of a fraction of SEW, with zeros or its sign above.
+/// vd is vs2, of this fraction of SEW, with zeros or its sign above.
 pub fn extend<const VLENB: usize>(
     registers: &mut VregFile<VLENB>,
+    scalar: &Scalar,
     setup: &Setup,
-    signed: bool,
+    insn: &VArith,
     of: Fraction,
-    vd: Reg,
-    vs2: Reg,
-    masked: bool,
 )
-    requires { IsReady VLENB setup.now (needs_of_arith (VArith.Extend signed of vd vs2 masked)) }
-    ensures { registers.new ≡ extend_of VLENB setup.now signed of vd vs2 masked registers.old }
+    requires shape { shape_of insn.now ≡ ExtendShape of }
+    requires ready { IsReady VLENB setup.now (needs_of_arith insn.now) }
+    ensures { arith_of VLENB setup.now scalar.now insn.now registers.old ≡ exact registers.new }
 {
     match of {
-        Fraction::Half => extend_half(registers, setup, signed, vd, vs2, masked),
-        Fraction::Quarter => extend_quarter(registers, setup, signed, vd, vs2, masked),
+        Fraction::Half => extend_half(registers, scalar, setup, insn),
+        Fraction::Quarter => extend_quarter(registers, scalar, setup, insn),
     }
 }
 
 #[tactic(auto, unfolding(rv_decode::specs::Needs::needs_of_arith, vreg_groups::specs::Legality::element_bits))]
 fn extend_half<const VLENB: usize>(
     registers: &mut VregFile<VLENB>,
+    scalar: &Scalar,
     setup: &Setup,
-    signed: bool,
-    vd: Reg,
-    vs2: Reg,
-    masked: bool,
+    insn: &VArith,
 )
-    requires { IsReady VLENB setup.now (needs_of_arith (VArith.Extend signed Half vd vs2 masked)) }
-    ensures { registers.new ≡ extend_of VLENB setup.now signed Half vd vs2 masked registers.old }
+    requires shape { shape_of insn.now ≡ ExtendShape Half }
+    requires ready { IsReady VLENB setup.now (needs_of_arith insn.now) }
+    ensures { arith_of VLENB setup.now scalar.now insn.now registers.old ≡ exact registers.new }
 {
+    let VArith::Extend { .. } = insn else {
+        unreachable!()
+    };
     let vl = setup.vl;
     let sew = setup.vtype.sew;
+    let of = Fraction::Half;
     match sew {
         Width::W8 => unreachable!(),
         Width::W16 => {
             let mut a = [0u8; MOST_ELEMENTS / 2];
             let mut x = [0u16; MOST_ELEMENTS / 2];
-            let of = Fraction::Half;
-            extend_elements(
-                registers,
-                setup,
-                signed,
-                of,
-                vd,
-                vs2,
-                masked,
-                &mut a[..vl],
-                &mut x[..vl],
-            );
+            let (a, x) = (&mut a[..vl], &mut x[..vl]);
+            extend_elements(registers, scalar, setup, insn, of, a, x);
         }
         Width::W32 => {
             let mut a = [0u16; MOST_ELEMENTS / 4];
             let mut x = [0u32; MOST_ELEMENTS / 4];
-            let of = Fraction::Half;
-            extend_elements(
-                registers,
-                setup,
-                signed,
-                of,
-                vd,
-                vs2,
-                masked,
-                &mut a[..vl],
-                &mut x[..vl],
-            );
+            let (a, x) = (&mut a[..vl], &mut x[..vl]);
+            extend_elements(registers, scalar, setup, insn, of, a, x);
         }
     }
 }
@@ -210,66 +193,66 @@ fn extend_half<const VLENB: usize>(
 #[tactic(auto, unfolding(rv_decode::specs::Needs::needs_of_arith, vreg_groups::specs::Legality::element_bits))]
 fn extend_quarter<const VLENB: usize>(
     registers: &mut VregFile<VLENB>,
+    scalar: &Scalar,
     setup: &Setup,
-    signed: bool,
-    vd: Reg,
-    vs2: Reg,
-    masked: bool,
+    insn: &VArith,
 )
-    requires { IsReady VLENB setup.now
-        (needs_of_arith (VArith.Extend signed Quarter vd vs2 masked)) }
-    ensures { registers.new ≡ extend_of VLENB setup.now signed Quarter vd vs2 masked registers.old }
+    requires shape { shape_of insn.now ≡ ExtendShape Quarter }
+    requires ready { IsReady VLENB setup.now (needs_of_arith insn.now) }
+    ensures { arith_of VLENB setup.now scalar.now insn.now registers.old ≡ exact registers.new }
 {
+    let VArith::Extend { .. } = insn else {
+        unreachable!()
+    };
     let vl = setup.vl;
     let sew = setup.vtype.sew;
+    let of = Fraction::Quarter;
     match sew {
         Width::W8 | Width::W16 => unreachable!(),
         Width::W32 => {
             let mut a = [0u8; MOST_ELEMENTS / 4];
             let mut x = [0u32; MOST_ELEMENTS / 4];
-            let of = Fraction::Quarter;
-            extend_elements(
-                registers,
-                setup,
-                signed,
-                of,
-                vd,
-                vs2,
-                masked,
-                &mut a[..vl],
-                &mut x[..vl],
-            );
+            let (a, x) = (&mut a[..vl], &mut x[..vl]);
+            extend_elements(registers, scalar, setup, insn, of, a, x);
         }
     }
 }
 
 /// The same on elements of these widths: `a` has room for vs2's body, and `x` for the result.
-#[tactic(auto, unfolding(rv_decode::specs::Needs::needs_of_arith, crate::specs::Widening::extend_of))]
+#[tactic(auto, unfolding(rv_decode::specs::Needs::needs_of_arith, crate::specs::Widening::extend_of, crate::specs::Arithmetic::arith_of))]
 fn extend_elements<N: Narrow<W>, W: VectorElement, const VLENB: usize>(
     registers: &mut VregFile<VLENB>,
+    scalar: &Scalar,
     setup: &Setup,
-    signed: bool,
+    insn: &VArith,
     of: Fraction,
-    vd: Reg,
-    vs2: Reg,
-    masked: bool,
     a: &mut [N],
     x: &mut [W],
 )
+    requires shape { shape_of insn.now ≡ ExtendShape of }
     requires a_len { length a.old ≡ setup.now.vl }
     requires x_len { length x.old ≡ setup.now.vl }
     requires width { W.sew ≡ setup.now.vtype.sew }
     requires size { N.SIZE ≡ eew_bits setup.now.vtype.sew (eew_of of) / 8 }
     requires lanes { lane_width N.sew ≡ fraction_width setup.now.vtype.sew of }
-    requires ready { IsReady VLENB setup.now (needs_of_arith
-        (VArith.Extend signed of vd vs2 masked)) }
-    ensures { registers.new ≡ extend_of VLENB setup.now signed of vd vs2 masked registers.old }
+    requires ready { IsReady VLENB setup.now (needs_of_arith insn.now) }
+    ensures { arith_of VLENB setup.now scalar.now insn.now registers.old ≡ exact registers.new }
 {
-    let destination = setup.group(vd, Eew::Same);
-    let source = setup.group::<VLENB>(vs2, width_of(of));
+    let VArith::Extend {
+        signed,
+        vd,
+        vs2,
+        masked,
+        ..
+    } = insn
+    else {
+        unreachable!()
+    };
+    let destination = setup.group(*vd, Eew::Same);
+    let source = setup.group::<VLENB>(*vs2, width_of(of));
     source.read(registers, a);
-    N::extend(signed, a, x);
-    write_results(registers, setup, &destination, masked, x);
+    N::extend(*signed, a, x);
+    write_results(registers, setup, &destination, *masked, x);
 }
 
 fn width_of(of: Fraction) -> Eew
