@@ -1,17 +1,15 @@
 -- The ranges of the forms of a loop.
-use Rattle.std.proofs.Common.{◌≡◌, ℕ, ◌+◌, ◌-◌, ◌*◌, ◌/◌, ◌%◌, ◌^◌, ◌<◌, ◌≤◌, ◌⊎◌, ◌==◌, inl, inr, List, [], ◌∷◌, ◌++◌, map, min, max, length, refl, sym, ap, ◌∙◌, subst, arith, Bool, true, false, Some, None}
-use Rattle.std.specs.Prelude.{nat_le, count_by, not, ◌&&◌, is_some}
-use Rattle.std.proofs.lemmas.Bool.{cases_lt}
+use Rattle.std.proofs.Common.{◌≡◌, ℕ, ◌+◌, ◌-◌, ◌*◌, ◌/◌, ◌%◌, ◌^◌, ◌<◌, ◌≤◌, ◌==◌, inl, inr, List, [], ◌∷◌, map, min, max, length, refl, sym, ap, ◌∙◌, subst, arith, true, false, Some, None}
+use Rattle.std.specs.Prelude.{nat_le, count_by, not}
 use Rattle.std.proofs.lemmas.Bool.Decides.{nat_tests}
-use Rattle.std.proofs.lemmas.Grind.{common_steps}
 use Rattle.std.proofs.lemmas.List.Sums.{count_by-le-length}
-use Rattle.linear_facts.specs.Words.{Term, Range, Split, WholeTerm, Interval, Lo, Hi, Side, Added, Taken}
+use Rattle.linear_facts.specs.Words.{Range, WholeTerm, Interval, Side, Added, Taken}
 use Rattle.linear_facts.specs.Forms.{Linear, number_form, atom_form}
-use Rattle.linear_facts.specs.Differences.{Product, WholeSum, base_of, with_product, with_products, with_multiples, have_ranges, is_positive, difference_of, is_at_least_of}
+use Rattle.linear_facts.specs.Differences.{WholeSum, base_of, with_product, with_products, with_multiples, is_positive, difference_of, is_at_least_of}
 use Rattle.linear_facts.specs.Ranges.{AtomTable, range_at, split_at}
-use Rattle.linear_facts.specs.Sums.{signed_term, with_term, with_parts, with_split, nonzero_count, gains, losses, ends, interval_of, met_or_own, interval_by_both, form_interval, range_within, range_of_form}
+use Rattle.linear_facts.specs.Sums.{signed_term, with_term, with_parts, with_split, nonzero_count, gains, losses, interval_of, met_or_own, interval_by_both, form_interval, range_within, range_of_form}
 use Rattle.linear_facts.proofs.RangeLaws.{by_both-few, met-there, within-one}
-use Rattle.linear_facts.specs.LoopForms.{term, IsSize, pointer_form, moved_form, left_form, times, IsLoop, MovedRange, LeftRange, RoundPaid, AtomRange, PointerRange, SamePaid, NumberRange}
+use Rattle.linear_facts.specs.LoopForms.{IsSize, pointer_form, moved_form, left_form, times, IsLoop, MovedRange, LeftRange, RoundPaid, AtomRange, PointerRange, SamePaid, NumberRange}
 
 pub by_size : (P : ℕ → Type 0) (w : ℕ) → IsSize w → P 1 → P 2 → P 4 → P w
 by_size P w (inl e) one two four = subst P (sym e) one

@@ -1,7 +1,7 @@
 -- The forms of the numbers of a loop that goes through buffers a part at a time, and their ranges.
 use Rattle.std.specs.Prelude.{ℕ, ◌≡◌, ◌+◌, ◌-◌, ◌*◌, ◌^◌, ◌<◌, ◌≤◌, ◌⊎◌, min, List, [], ◌∷◌, Some, None, true}
-use Rattle.linear_facts.specs.Words.{Term, Range, Split}
-use Rattle.linear_facts.specs.Forms.{Linear, number_form, atom_form, form_at, substituted}
+use Rattle.linear_facts.specs.Words.{Term}
+use Rattle.linear_facts.specs.Forms.{Linear, number_form, atom_form}
 use Rattle.linear_facts.specs.Ranges.{AtomTable, range_at, split_at}
 use Rattle.linear_facts.specs.Sums.{range_of_form}
 use Rattle.linear_facts.specs.Differences.{Product, is_at_least_of}
