@@ -1,9 +1,12 @@
--- Extended elements, by the lanes' words and by those of the elements.
-use Rattle.std.proofs.Common.{◌≡◌, ℕ, Bool, List, [], ◌∷◌, refl, map}
+-- Elements of another width, by the lanes' words and by those of the elements.
+use Rattle.std.proofs.Common.{◌≡◌, ℕ, List, [], ◌∷◌, refl, map}
 use Rattle.std.specs.Int.{Width}
-use Rattle.lane_masks.specs.Folds.{extended}
 
-pub extend_numbers : {A : Type 0} (lane number : A → ℕ) (signed : Bool) (n narrow w wide : Width) (xs : List A) → n ≡ narrow → w ≡ wide → ((a : A) → lane a ≡ number a) → map (λ a. extended signed n w (lane a)) xs ≡ map (extended signed narrow wide) (map number xs)
-extend_numbers lane number signed n narrow w wide [] en ew law = refl
-extend_numbers lane number signed n narrow w wide (x ∷ xs) en ew law =
-    let head = law x in let tail = extend_numbers lane number signed n narrow w wide xs en ew law in cc
+pub same_numbers : {A : Type 0} (lane number : A → ℕ) (xs : List A) → ((a : A) → lane a ≡ number a) → map lane xs ≡ map number xs
+same_numbers lane number [] law = refl
+same_numbers lane number (x ∷ xs) law = let head = law x in let tail = same_numbers lane number xs law in cc
+
+pub resized_numbers : {A : Type 0} (lane number : A → ℕ) (resized : Width → Width → ℕ → ℕ) (n narrow w wide : Width) (xs : List A) → n ≡ narrow → w ≡ wide → ((a : A) → lane a ≡ number a) → map (λ a. resized n w (lane a)) xs ≡ map (resized narrow wide) (map number xs)
+resized_numbers lane number resized n narrow w wide [] en ew law = refl
+resized_numbers lane number resized n narrow w wide (x ∷ xs) en ew law =
+    let head = law x in let tail = resized_numbers lane number resized n narrow w wide xs en ew law in cc

@@ -63,8 +63,3 @@ zip3_more f xs ys zs i x y z new hx hy hz ex ey ez is =
 pub zip3_end : {A B C : Type 0} (f : A → B → C → A) (xs : List A) (ys : List B) (zs : List C) (i : ℕ) → length xs ≤ i →
     take i xs ++ zip3 f (drop i xs) (drop i ys) (drop i zs) ≡ xs
 zip3_end f xs ys zs i h = rw (drop_all i xs h, append-nil) (take_all i xs h)
-
--- what is made of each number, where the elements are numbers
-pub each_number : (f : ℕ → ℕ) (xs : List ℕ) → map f xs ≡ map f (map (λ n. n) xs)
-each_number f [] = refl
-each_number f (x ∷ xs) = ap (λ ys. f x ∷ ys) (each_number f xs)

@@ -12,7 +12,7 @@ use crate::elements::VectorElement;
 use crate::fixed_point::rounding_mode;
 use crate::operands::{read_second, write_results};
 use crate::operations::narrow_lanes;
-use crate::resizing::{HalfOf, read_second_doubled};
+use crate::resizing::{HalfOf, cut_results, read_second_doubled};
 use crate::setup::Setup;
 use rv_decode::{Eew, VArith};
 use scalar_core::Scalar;
@@ -52,7 +52,7 @@ pub fn narrow<N: HalfOf<W>, W: VectorElement, const VLENB: usize>(
     source.read(registers, x);
     read_second_doubled(registers, scalar, setup, *b, false, a, y);
     lane_int::compute(narrow_lanes(*op), x, y);
-    N::cut(x, a);
+    cut_results(x, a);
     write_results(registers, setup, &destination, *masked, a);
 }
 

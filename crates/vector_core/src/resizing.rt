@@ -1,10 +1,12 @@
 //! Elements of one width as elements of another.
 
 ghost use Rattle.std.specs.Prelude.{◌≡◌, IfSome, length, map};
+ghost use Rattle.lane_int.specs.Resizing.{cut_to, extended_to};
 ghost use Rattle.rv_decode.specs.Needs.{second as second_group};
 ghost use Rattle.rv_decode.specs.declared.extents.Eew.TheVariants.{Same};
 ghost use Rattle.vreg_groups.specs.Group.{IsGroupInside, body_of};
 ghost use Rattle.vreg_groups.specs.Legality.{IsInside};
+ghost use Rattle.vector_core.specs.Integer.{lane_width};
 ghost use Rattle.vector_core.specs.Operands.{second_of};
 ghost use Rattle.vector_core.specs.Setup.{IsSetup, group_at};
 ghost use Rattle.vector_core.specs.Widening.{doubled};
@@ -13,40 +15,20 @@ use crate::elements::VectorElement;
 use crate::operands::{read_body, read_second};
 use crate::setup::Setup;
 use lane_fixed::RoundingMode;
+use lane_int::Narrow;
 use rv_decode::{ClipOp, Reg, Source};
 use scalar_core::Scalar;
 use vreg_groups::VregFile;
 
-/// An element that can be extended to the wider `W`.
-pub trait Narrow<W: VectorElement>: VectorElement {
-    ghost use Rattle.std.specs.Prelude.{◌≡◌, length, map};
-    ghost use Rattle.lane_int.specs.Resizing.{extended_to};
-    ghost use Rattle.vector_core.specs.Integer.{lane_width};
-
-    /// Writes each element of `values`, extended by its sign or by zeros.
-    fn extend(is_signed: bool, values: &[Self], out: &mut [W])
-        requires { length values.now ≡ length out.old }
-        ensures { map W.Element.number out.new
-            ≡ map (extended_to is_signed (lane_width Self.sew) (lane_width W.sew))
-            (map Self.Element.number values.now) };
-}
-
 /// An element of half as many bits as `W`.
-pub trait HalfOf<W: VectorElement>: Narrow<W> {
+pub trait HalfOf<W: VectorElement>: VectorElement + Narrow<W> {
     ghost use Rattle.std.specs.Prelude.{◌≡◌, ◌/◌, length, map};
     ghost use lib.Lanes.{zip2};
     ghost use Rattle.lane_fixed.specs.FixedPoint.{any_active, clip_element, clip_saturates};
     ghost use Rattle.lane_int.specs.Integer.{double};
-    ghost use Rattle.lane_int.specs.Resizing.{cut_to};
     ghost use Rattle.rv_decode.specs.declared.extents.Eew.TheVariants.{Double};
     ghost use Rattle.vreg_groups.specs.Legality.{eew_bits};
     ghost use Rattle.vector_core.specs.Integer.{lane_width};
-
-    /// Writes the low half of each element of `values`.
-    fn cut(values: &[W], out: &mut [Self])
-        requires { length values.now ≡ length out.old }
-        ensures { map Self.Element.number out.new
-            ≡ map (cut_to (lane_width Self.sew)) (map W.Element.number values.now) };
 
     /// Writes each element of `a` as `op` clips it by `b`'s. Tells whether an active one saturated.
     fn clip_results(
@@ -72,34 +54,8 @@ pub trait HalfOf<W: VectorElement>: Narrow<W> {
     ghost double_lanes: { lane_width W.sew ≡ double (lane_width Self.sew) };
 }
 
-impl Narrow<u16> for u8 {
-    #[tactic(auto, using(crate::proofs::Numbers::each_number))]
-    fn extend(is_signed: bool, values: &[u8], out: &mut [u16]) {
-        lane_int::extend(is_signed, values, out);
-    }
-}
-
-impl Narrow<u32> for u16 {
-    #[tactic(auto, using(crate::proofs::Numbers::each_number))]
-    fn extend(is_signed: bool, values: &[u16], out: &mut [u32]) {
-        lane_int::extend(is_signed, values, out);
-    }
-}
-
-impl Narrow<u32> for u8 {
-    #[tactic(auto, using(crate::proofs::Numbers::each_number))]
-    fn extend(is_signed: bool, values: &[u8], out: &mut [u32]) {
-        lane_int::extend(is_signed, values, out);
-    }
-}
-
 impl HalfOf<u16> for u8 {
     ghost use Rattle.std.specs.Prelude.{refl};
-
-    #[tactic(auto, using(crate::proofs::Numbers::each_number))]
-    fn cut(values: &[u16], out: &mut [u8]) {
-        lane_int::cut(values, out);
-    }
 
     fn clip_results(
         op: ClipOp,
@@ -120,11 +76,6 @@ impl HalfOf<u16> for u8 {
 impl HalfOf<u32> for u16 {
     ghost use Rattle.std.specs.Prelude.{refl};
 
-    #[tactic(auto, using(crate::proofs::Numbers::each_number))]
-    fn cut(values: &[u32], out: &mut [u16]) {
-        lane_int::cut(values, out);
-    }
-
     fn clip_results(
         op: ClipOp,
         mode: RoundingMode,
@@ -139,6 +90,29 @@ impl HalfOf<u32> for u16 {
     ghost double_size = { refl };
 
     ghost double_lanes = { refl };
+}
+
+/// Writes each element of `values`, extended by its sign or by zeros.
+pub fn extend_results<N: VectorElement + Narrow<W>, W: VectorElement>(
+    is_signed: bool,
+    values: &[N],
+    out: &mut [W],
+)
+    requires { length values.now ≡ length out.old }
+    ensures { map W.Element.number out.new
+        ≡ map (extended_to is_signed (lane_width N.sew) (lane_width W.sew))
+        (map N.Element.number values.now) }
+{
+    lane_int::extend(is_signed, values, out);
+}
+
+/// Writes the low half of each element of `values`.
+pub fn cut_results<N: HalfOf<W>, W: VectorElement>(values: &[W], out: &mut [N])
+    requires { length values.now ≡ length out.old }
+    ensures { map N.Element.number out.new
+        ≡ map (cut_to (lane_width N.sew)) (map W.Element.number values.now) }
+{
+    lane_int::cut(values, out);
 }
 
 /// Reads the body of a group of SEW as elements of 2*SEW. `narrow` has room for it before it is extended.
@@ -159,7 +133,7 @@ pub fn read_doubled<N: HalfOf<W>, W: VectorElement, const VLENB: usize>(
         (body_of VLENB (group_at setup.now first Same) registers.now) }
 {
     read_body(registers, setup, first, narrow);
-    N::extend(is_signed, narrow, out);
+    extend_results(is_signed, narrow, out);
 }
 
 /// Reads the elements of the second operand, of SEW, as elements of 2*SEW.
@@ -181,5 +155,5 @@ pub fn read_second_doubled<N: HalfOf<W>, W: VectorElement, const VLENB: usize>(
         (second_of VLENB setup.now scalar.now b registers.now) }
 {
     read_second(registers, scalar, setup, b, narrow);
-    N::extend(is_signed, narrow, out);
+    extend_results(is_signed, narrow, out);
 }

@@ -18,8 +18,9 @@ use crate::operands::write_results;
 use crate::operations::{
     is_wide_signed, wide_lanes, widen_lanes, widen_multiply_add_signs, widen_signs,
 };
-use crate::resizing::{HalfOf, Narrow, read_doubled, read_second_doubled};
+use crate::resizing::{HalfOf, extend_results, read_doubled, read_second_doubled};
 use crate::setup::Setup;
+use lane_int::Narrow;
 use rv_decode::{Eew, Fraction, MultiplyAddOp, VArith, Width};
 use scalar_core::Scalar;
 use vreg_groups::{MOST_ELEMENTS, VregFile};
@@ -220,7 +221,7 @@ fn extend_quarter<const VLENB: usize>(
 
 /// The same on elements of these widths: `a` has room for vs2's body, and `x` for the result.
 #[tactic(auto, unfolding(rv_decode::specs::Needs::needs_of_arith, crate::specs::Widening::extend_of, crate::specs::Arithmetic::arith_of))]
-fn extend_elements<N: Narrow<W>, W: VectorElement, const VLENB: usize>(
+fn extend_elements<N: VectorElement + Narrow<W>, W: VectorElement, const VLENB: usize>(
     registers: &mut VregFile<VLENB>,
     scalar: &Scalar,
     setup: &Setup,
@@ -251,7 +252,7 @@ fn extend_elements<N: Narrow<W>, W: VectorElement, const VLENB: usize>(
     let destination = setup.group(*vd, Eew::Same);
     let source = setup.group::<VLENB>(*vs2, width_of(of));
     source.read(registers, a);
-    N::extend(*signed, a, x);
+    extend_results(*signed, a, x);
     write_results(registers, setup, &destination, *masked, x);
 }
 
