@@ -294,7 +294,8 @@ class NewUser(Case):
         super().setUp()
         block = re.search(r'^## Your own kernel.*?^```text\n(.*?)^```', (ROOT / 'README.md').read_text(), re.S | re.M)[1]
         self.source, *self.job = block[:block.index('$ clang-16')].splitlines()[1:]
-        self.commands = re.findall(r'^\$ (.*)\n((?:[^$\n].*\n)*)', block[block.index('$ clang-16'):], re.M)
+        # a command goes on behind a backslash at the end of its line
+        self.commands = re.findall(r'^\$ ((?:.*\\\n)*.*)\n((?:[^$\n].*\n)*)', block[block.index('$ clang-16'):], re.M)
 
     def test_three_commands(self):
         self.file('halve.c', self.source)

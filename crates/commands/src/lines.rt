@@ -3,11 +3,13 @@ ghost use Rattle.std.specs.Prelude.{◌≡◌, IfErr, IfOk, OnOk};
 ghost use Rattle.std.specs.Io.KnownBytes.{Appends};
 ghost use Rattle.monitor.specs.Commands.{order_of};
 ghost use Rattle.commands.specs.Mons.{IsUnanswered, answer_of, error_line, flow_after};
+ghost use Rattle.commands.specs.Why.{Notes};
 ghost use Rattle.commands.specs.declared.stop.Stop.TheVariants.{Memory};
 
 use crate::stop::Stop;
 use crate::store::StoreError;
 use crate::texts::monitor_error_name;
+use crate::why::{FileReason, Why};
 use monitor::{Flow, MonError, Monitor, Over};
 use rv_listing::{Piece, put_all};
 use std::alloc::Global;
@@ -105,13 +107,30 @@ fn answer_bytes<'a, const VLENB: usize, O: Write>(
     Ok(Flow::Go)
 }
 
+/// Why no line is read where the input fails, of which the system's reason is noted unless memory ran out.
+fn unread<'a>(error: io::Error, why: &mut Why) -> Stop<'a>
+    ensures unanswered { IsUnanswered result }
+    ensures notes { Notes why.old why.new }
+{
+    let kind = error.kind();
+    match StoreError::from(error) {
+        StoreError::Failed => {
+            why.note(&FileReason(kind));
+            Stop::File("-")
+        }
+        StoreError::NoMemory => Stop::Memory,
+    }
+}
+
 /// Answers the lines of the input, up to the command `q` or the end, in at most `reads` reads. The last line needs no end.
+/// Where the input fails, what the system says of it is noted.
 pub fn answer_lines<'a, const VLENB: usize, I: Read, O: Write>(
     alloc: Global,
     monitor: &mut Monitor<'_, VLENB>,
     input: &mut I,
     output: &mut O,
     reads: u64,
+    why: &mut Why,
 ) -> Result<(), Stop<'a>>
     ensures same_reference { monitor.new.session.ghost_name ≡ monitor.old.session.ghost_name }
     ensures first { monitor.new.session.now.first ≡ monitor.old.session.now.first }
@@ -131,8 +150,8 @@ pub fn answer_lines<'a, const VLENB: usize, I: Read, O: Write>(
                 Flow::Quit => return Ok(()),
             },
             Err(error) if error.kind() == ErrorKind::Interrupted => {}
-            Err(error) => return Err(Stop::at_file(StoreError::from(error), "-")),
+            Err(error) => return Err(unread(error, why)),
         }
     }
-    Err(Stop::File("-"))
+    Err(unread(io::Error::from(ErrorKind::FileTooLarge), why))
 }

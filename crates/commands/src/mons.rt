@@ -152,12 +152,13 @@ fn watch<'a, const VLENB: usize, I: Read, O: Write>(
     input: &mut I,
     output: &mut O,
     reads: u64,
+    why: &mut Why,
 ) -> Result<(), Stop<'a>>
     ensures first { session.new.first ≡ session.old.first }
     ensures unanswered { IfErr result IsUnanswered }
 {
     let mut monitor = Monitor::new(session);
-    answer_lines(alloc, &mut monitor, input, output, reads)
+    answer_lines(alloc, &mut monitor, input, output, reads, why)
 }
 
 fn mon_session<'a, const VLENB: usize, I: Read, O: Write>(
@@ -178,7 +179,7 @@ fn mon_session<'a, const VLENB: usize, I: Read, O: Write>(
 {
     match Session::<VLENB>::open(alloc, accepted, args, agnostic, max) {
         Ok(mut session) => {
-            watch(alloc, &mut session, input, output, reads)?;
+            watch(alloc, &mut session, input, output, reads, why)?;
             session.stands();
             Ok(session.close())
         }

@@ -1,20 +1,30 @@
 //! `--explain`: what more is told of why a subcommand stops.
 use crate::accepted::{image_with, image_within};
-use crate::making::{MAKE, PARAMS, RAISE_WORDS, files, made};
+use crate::making::{MAKE, PARAMS, RAISE_WORDS, files, image_over_its_header, made};
 use crate::shelf::{Shelf, image};
 use command_line::perform;
 use commands::{Disk, Store, StoreError};
 use std::alloc::{AllocError, Global};
-use std::io::ErrorKind;
+use std::io;
+use std::io::{ErrorKind, Read};
 use std::process::Abort;
 use std::test::Fail;
 
-/// What standard output and standard error have after these words, where the input has no line.
-fn told_of<S: Store>(alloc: Global, words: &[&str], store: &mut S) -> (Vec<u8>, Vec<u8>) {
+/// What standard output and standard error have after these words, on an input.
+fn told_on<S: Store, I: Read>(
+    alloc: Global,
+    words: &[&str],
+    store: &mut S,
+    input: &mut I,
+) -> (Vec<u8>, Vec<u8>) {
     let (mut output, mut errors) = (Vec::new(alloc), Vec::new(alloc));
-    let mut input = b"".as_slice();
-    let _ending = perform(alloc, words, store, &mut input, &mut output, &mut errors);
+    let _ending = perform(alloc, words, store, input, &mut output, &mut errors);
     (output, errors)
+}
+
+/// The same, where the input has no line.
+fn told_of<S: Store>(alloc: Global, words: &[&str], store: &mut S) -> (Vec<u8>, Vec<u8>) {
+    told_on(alloc, words, store, &mut b"".as_slice())
 }
 
 /// Asserts that the second words tell these lines behind those that are told of the first, and print what is printed of these.
@@ -303,6 +313,44 @@ fn explains_out_files(rt: HostRuntime) -> Result<(), Fail> {
     Ok(())
 }
 
+/// Gives no byte, for a reason of the system.
+#[derive(Drop)]
+struct Failing(ErrorKind);
+
+impl Read for Failing {
+    fn read(&mut self, _buf: &mut [u8]) -> io::Result<usize> {
+        Err(io::Error::from(self.0))
+    }
+}
+
+#[test]
+fn explains_an_input_that_fails(rt: HostRuntime) -> Result<(), Fail> {
+    let alloc = rt.alloc();
+    let mut shelf = Shelf::new(alloc);
+    shelf.put("kernel.elf", image_within(alloc, 5)?.as_slice())?;
+    shelf.put("eight", [7; 8].as_slice())?;
+    let keys = format!(in alloc; "{KEYS}{PASSED}")?;
+    job(alloc, &mut shelf, keys.as_str())?;
+    for (kind, plain, more) in [
+        (
+            ErrorKind::BrokenPipe,
+            "file: -\n",
+            "file: -\n  the system says: broken pipe\n",
+        ),
+        (ErrorKind::OutOfMemory, "out of memory\n", "out of memory\n"),
+    ] {
+        for (words, wanted) in [
+            (["rvvbox", "mon", "job.toml"].as_slice(), plain),
+            (["rvvbox", "mon", "--explain", "job.toml"].as_slice(), more),
+        ] {
+            let (output, errors) = told_on(alloc, words, &mut shelf, &mut Failing(kind));
+            assert!(rt; output.is_empty());
+            assert_eq!(rt; std::str::from_utf8(errors.as_slice()), Ok(wanted));
+        }
+    }
+    Ok(())
+}
+
 /// Asserts that `make` tells these lines more of code.
 fn explains_code<R: Abort + AllocGlobal>(rt: &R, code: &[u32], wanted: &str) -> Result<(), Fail> {
     let mut shelf = files(rt.alloc(), 128, PARAMS, code)?;
@@ -392,6 +440,17 @@ fn explains_images_of_make(rt: HostRuntime) -> Result<(), Fail> {
         shelf.put("kernel.elf", image.as_slice())?;
         make_explains(&rt, &mut shelf, wanted);
     }
+    Ok(())
+}
+
+#[test]
+fn explains_what_is_refused_when_read_back(rt: HostRuntime) -> Result<(), Fail> {
+    let alloc = rt.alloc();
+    let mut shelf = files(alloc, 128, PARAMS, RAISE_WORDS.as_slice())?;
+    shelf.put("kernel.elf", image_over_its_header(alloc)?.as_slice())?;
+    let wanted = "  stopped in the block at 0x00010004\n  at 0x00010014: 0x00229374\n  \
+        that is illegal\n  wanted: an instruction that is legal there\n";
+    make_explains(&rt, &mut shelf, wanted);
     Ok(())
 }
 

@@ -90,6 +90,29 @@ pub(crate) fn made(alloc: Global, vlen: u8) -> Result<Vec<u8>, AllocError> {
     Ok(file)
 }
 
+/// An image of three segments, one behind the other, of which the second is the word of the file's header that tells where the
+/// program headers lie. They lie where this word is the sixth of the loop. In a copy with a certificate they lie behind this file,
+/// so that the word means nothing.
+pub(crate) fn image_over_its_header(alloc: Global) -> Result<Vec<u8>, AllocError> {
+    let headers = RAISE_WORDS[5];
+    let mut file = Vec::from_slice(alloc, b"\x7fELF\x01\x01\x01\0\0\0\0\0\0\0\0\0".as_slice())?;
+    push_words(
+        &mut file,
+        [0x00f3_0002, 1, 0x1_0000, headers, 0, 0, 0x0020_0034, 3, 0].as_slice(),
+    )?;
+    push_words(&mut file, &RAISE_WORDS[..5])?;
+    push_words(&mut file, &RAISE_WORDS[6..])?;
+    file.resize(2_265_875, 0)?;
+    for segment in [
+        [1, 52, 0x1_0000, 0x1_0000, 20, 20, 5, 4],
+        [1, 28, 0x1_0014, 0x1_0014, 4, 4, 5, 4],
+        [1, 72, 0x1_0018, 0x1_0018, 16, 16, 5, 4],
+    ] {
+        push_words(&mut file, segment.as_slice())?;
+    }
+    Ok(file)
+}
+
 /// The calls of a job that is done.
 fn calls(alloc: Global, file: &[u8]) -> Result<String, AllocError> {
     let mut calls = format!(in alloc; "{READS}write made.elf")?;
@@ -159,6 +182,12 @@ fn refuses_images(rt: HostRuntime) -> Result<(), Fail> {
     let mut large = image(alloc, RAISE_WORDS.as_slice())?;
     large.resize(4 << 20, 0)?;
     expect_refused(&rt, &large, "refused: TooLarge\n")
+}
+
+#[test]
+fn refuses_what_does_not_pass_when_it_is_read_back(rt: HostRuntime) -> Result<(), Fail> {
+    let image = image_over_its_header(rt.alloc())?;
+    expect_refused(&rt, &image, "refused: IllegalWord at 00010014\n")
 }
 
 #[test]
