@@ -33,6 +33,17 @@ pub enum AnySession {
     V512(Session<64>),
 }
 
+/// A call on the run, whatever its length of vector registers.
+macro_rules! on_run {
+    ($any:expr, $session:ident, $call:expr) => {
+        match $any {
+            AnySession::V128($session) => $call,
+            AnySession::V256($session) => $call,
+            AnySession::V512($session) => $call,
+        }
+    };
+}
+
 impl AnySession {
     /// Opens a run of an accepted image on arguments, which are moved in, as [`Session::open`] does
     /// at the image's own length of vector registers.
@@ -100,11 +111,7 @@ impl AnySession {
         ensures first { (run_in self.new).first ≡ (run_in self.old).first }
         ensures parameters { (run_in self.new).parameters ≡ (run_in self.old).parameters }
     {
-        match self {
-            AnySession::V128(session) => session.step(),
-            AnySession::V256(session) => session.step(),
-            AnySession::V512(session) => session.step(),
-        }
+        on_run!(self, session, session.step())
     }
 
     /// Goes on to the end of the run, and answers how many steps have been done since it was
@@ -124,22 +131,14 @@ impl AnySession {
         ensures opened { (run_in self.new).first ≡ (run_in self.old).first }
         ensures parameters { (run_in self.new).parameters ≡ (run_in self.old).parameters }
     {
-        match self {
-            AnySession::V128(session) => session.run(),
-            AnySession::V256(session) => session.run(),
-            AnySession::V512(session) => session.run(),
-        }
+        on_run!(self, session, session.run())
     }
 
     /// How many steps have been done.
     pub fn steps(&self) -> u64
         ensures { result ≡ (run_in self.now).steps }
     {
-        match self {
-            AnySession::V128(session) => session.steps(),
-            AnySession::V256(session) => session.steps(),
-            AnySession::V512(session) => session.steps(),
-        }
+        on_run!(self, session, session.steps())
     }
 
     /// A law, which does nothing when it runs: the steps that have been done, at most the bound,
@@ -149,44 +148,28 @@ impl AnySession {
             (run_in self.now).machine }
         ensures within { (run_in self.now).steps ≤ (run_in self.now).bound }
     {
-        match self {
-            AnySession::V128(session) => session.stands(),
-            AnySession::V256(session) => session.stands(),
-            AnySession::V512(session) => session.stands(),
-        }
+        on_run!(self, session, session.stands())
     }
 
     /// The program counter.
     pub fn pc(&self) -> u32
         ensures { result ≡ (run_in self.now).machine.hart.pc }
     {
-        match self {
-            AnySession::V128(session) => session.pc(),
-            AnySession::V256(session) => session.pc(),
-            AnySession::V512(session) => session.pc(),
-        }
+        on_run!(self, session, session.pc())
     }
 
     /// Whether the run has ended.
     pub fn is_ended(&self) -> bool
         ensures { result ≡ has_ended (run_in self.now).machine }
     {
-        match self {
-            AnySession::V128(session) => session.is_ended(),
-            AnySession::V256(session) => session.is_ended(),
-            AnySession::V512(session) => session.is_ended(),
-        }
+        on_run!(self, session, session.is_ended())
     }
 
     /// pc, x0 to x31, vl, vtype, vxrm and vxsat.
     pub fn registers(&self) -> Registers
         ensures { result ≡ registers_of (run_in self.now).machine }
     {
-        match self {
-            AnySession::V128(session) => session.registers(),
-            AnySession::V256(session) => session.registers(),
-            AnySession::V512(session) => session.registers(),
-        }
+        on_run!(self, session, session.registers())
     }
 
     /// The bytes of a vector register, the lowest element's first: 16, 32 or 64 of them.
@@ -194,22 +177,14 @@ impl AnySession {
         ensures { result.now ≡ bytes_from (register * vlenb_in self.now) (vlenb_in self.now)
             (run_in self.now).machine.vectors.registers }
     {
-        match self {
-            AnySession::V128(session) => session.vector(register),
-            AnySession::V256(session) => session.vector(register),
-            AnySession::V512(session) => session.vector(register),
-        }
+        on_run!(self, session, session.vector(register))
     }
 
     /// The byte at an address, whatever the rights; `None` where no region of memory holds it.
     pub fn peek(&self, address: u32) -> Option<u8>
         ensures { result ≡ byte_of address (run_in self.now).machine.memory }
     {
-        match self {
-            AnySession::V128(session) => session.peek(address),
-            AnySession::V256(session) => session.peek(address),
-            AnySession::V512(session) => session.peek(address),
-        }
+        on_run!(self, session, session.peek(address))
     }
 
     /// The word at an address, the lowest byte first; `None` where one of its bytes may not be
@@ -217,11 +192,7 @@ impl AnySession {
     pub fn fetch(&self, address: u32) -> Option<u32>
         ensures { result ≡ fetch_of address (run_in self.now).machine.memory }
     {
-        match self {
-            AnySession::V128(session) => session.fetch(address),
-            AnySession::V256(session) => session.fetch(address),
-            AnySession::V512(session) => session.fetch(address),
-        }
+        on_run!(self, session, session.fetch(address))
     }
 
     /// Ends the session, wherever the run stands. The arguments come out: buffers as they stand,
@@ -235,10 +206,6 @@ impl AnySession {
             ≡ scalars_of (args_of (run_in self).first.memory) }
         ensures matching { AreArguments (run_in self).parameters result.places }
     {
-        match self {
-            AnySession::V128(session) => session.close(),
-            AnySession::V256(session) => session.close(),
-            AnySession::V512(session) => session.close(),
-        }
+        on_run!(self, session, session.close())
     }
 }
