@@ -1,6 +1,7 @@
 -- Why a job is refused, and in which words it is told.
-use Rattle.std.specs.Prelude.{◌≡◌, ◌<◌, ◌≤◌, ℕ, ◌+◌, ◌++◌, ◌==◌, nat_lt, nat_le, ◌||◌, if◌then◌else◌, Bool, true, false, List, codes, length, filter, fold, take, Option, Some, None, is_some, Err, String, Global, string_bytes}
+use Rattle.std.specs.Prelude.{◌≡◌, ◌<◌, ◌≤◌, ℕ, ◌+◌, ◌++◌, ◌==◌, nat_lt, nat_le, ◌||◌, if◌then◌else◌, Bool, true, false, List, codes, length, filter, fold, take, Option, Some, None, is_some, Err, String, string_bytes}
 use Rattle.std.specs.Fmt.{decimal}
+use Rattle.std.specs.Global.{Global}
 use Rattle.std.specs.Prelude.{slice_index_or}
 use Rattle.std.specs.Str.{IsUtf8}
 use Rattle.std.specs.Str.Lossy.{utf8_valid_len}
