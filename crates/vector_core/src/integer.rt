@@ -11,10 +11,10 @@ ghost use Rattle.vector_core.specs.Integer.{carry_in};
 ghost use Rattle.vector_core.specs.Setup.{IsReady, IsSetup};
 
 use crate::elements::VectorElement;
-use crate::operands::{read_body, read_second, read_v0, write_bits, write_results};
+use crate::operands::{read_bits, read_body, read_second, write_bits, write_results};
 use crate::operations::carry_out_lanes;
 use crate::setup::Setup;
-use rv_decode::{Eew, VArith};
+use rv_decode::{Eew, Reg, VArith};
 use scalar_core::Scalar;
 use vreg_groups::{MOST_ELEMENTS, VregFile};
 
@@ -114,7 +114,7 @@ pub fn carry<E: VectorElement, const VLENB: usize>(
     let carries = &mut bits[..setup.vl];
     read_body(registers, setup, *vs2, a);
     read_second(registers, scalar, setup, *b, c);
-    read_v0(registers, setup, carries);
+    read_bits(registers, setup, Reg::new(0), carries);
     lane_int::compute_carried(*op, a, c, carries);
     write_results(registers, setup, &destination, false, a);
 }
@@ -202,7 +202,7 @@ fn read_carries<const VLENB: usize>(
     ensures { bits.new ≡ carry_in VLENB with_carry setup.now.vl registers.now }
 {
     if with_carry {
-        read_v0(registers, setup, bits);
+        read_bits(registers, setup, Reg::new(0), bits);
     } else {
         bits.fill(false);
     }

@@ -12,7 +12,7 @@ ghost use Rattle.vector_core.specs.Setup.{IsReady};
 
 use crate::elements::VectorElement;
 use crate::fold_elements::sign_extended;
-use crate::operands::{read_body, read_second, read_v0, write_results};
+use crate::operands::{read_bits, read_body, read_second, write_results};
 use crate::setup::Setup;
 use crate::singles::write_first;
 use crate::state::VectorState;
@@ -45,7 +45,7 @@ pub fn merge<E: VectorElement, const VLENB: usize>(
     let mask = &mut bits[..setup.vl];
     read_body(registers, setup, *vs2, a);
     read_second(registers, scalar, setup, *b, c);
-    read_v0(registers, setup, mask);
+    read_bits(registers, setup, Reg::new(0), mask);
     choose_each(a, c, mask);
     write_results(registers, setup, &destination, false, a);
 }
