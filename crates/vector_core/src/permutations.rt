@@ -12,8 +12,8 @@ ghost use Rattle.vreg_groups.specs.declared.vector_type.TheConstants.{MOST_ELEME
 ghost use Rattle.vector_core.specs.Permutations.{active_from, all_at, distance_of, indices_of};
 ghost use Rattle.vector_core.specs.Permutations.{perm_of, perm_step, results_written_from};
 ghost use Rattle.vector_core.specs.Shapes.{CompressShape, Gather16Shape, GatherShape};
-ghost use Rattle.vector_core.specs.Shapes.{SlideDownShape, SlideOneDownShape, SlideOneUpShape};
-ghost use Rattle.vector_core.specs.Shapes.{SlideUpShape, perm_shape_of};
+ghost use Rattle.vector_core.specs.Shapes.{IsPermShaped, SlideDownShape, SlideOneDownShape};
+ghost use Rattle.vector_core.specs.Shapes.{SlideOneUpShape, SlideUpShape};
 ghost use Rattle.vector_core.specs.Setup.{IsReady, IsSetup};
 
 use crate::elements::{VectorElement, numbers_of, zero};
@@ -104,11 +104,9 @@ fn slide_up<E: VectorElement, const VLENB: usize>(
     a: &mut [E],
     c: &mut [E],
 )
-    requires shape { perm_shape_of insn.now ≡ SlideUpShape }
+    requires shape { IsPermShaped VLENB setup.now E.sew insn.now SlideUpShape }
     requires a_len { length a.old ≡ setup.now.vl }
     requires c_len { length c.old ≡ setup.now.vl }
-    requires width { E.sew ≡ setup.now.vtype.sew }
-    requires ready { IsReady VLENB setup.now (needs_of_perm insn.now) }
     ensures { registers.new ≡ perm_of VLENB setup.now scalar.now insn.now registers.old }
 {
     let VPerm::SlideUp {
@@ -138,11 +136,9 @@ fn slide_down<E: VectorElement, const VLENB: usize>(
     a: &mut [E],
     all: &mut [E],
 )
-    requires shape { perm_shape_of insn.now ≡ SlideDownShape }
+    requires shape { IsPermShaped VLENB setup.now E.sew insn.now SlideDownShape }
     requires a_len { length a.old ≡ setup.now.vl }
     requires all_len { length all.old ≡ vlmax_of VLENB setup.now.vtype }
-    requires width { E.sew ≡ setup.now.vtype.sew }
-    requires ready { IsReady VLENB setup.now (needs_of_perm insn.now) }
     ensures { registers.new ≡ perm_of VLENB setup.now scalar.now insn.now registers.old }
 {
     let VPerm::SlideDown {
@@ -169,10 +165,8 @@ fn slide_one_up<E: VectorElement, const VLENB: usize>(
     insn: &VPerm,
     a: &mut [E],
 )
-    requires shape { perm_shape_of insn.now ≡ SlideOneUpShape }
+    requires shape { IsPermShaped VLENB setup.now E.sew insn.now SlideOneUpShape }
     requires a_len { length a.old ≡ setup.now.vl }
-    requires width { E.sew ≡ setup.now.vtype.sew }
-    requires ready { IsReady VLENB setup.now (needs_of_perm insn.now) }
     ensures { registers.new ≡ perm_of VLENB setup.now scalar.now insn.now registers.old }
 {
     let VPerm::SlideOneUp {
@@ -199,10 +193,8 @@ fn slide_one_down<E: VectorElement, const VLENB: usize>(
     insn: &VPerm,
     a: &mut [E],
 )
-    requires shape { perm_shape_of insn.now ≡ SlideOneDownShape }
+    requires shape { IsPermShaped VLENB setup.now E.sew insn.now SlideOneDownShape }
     requires a_len { length a.old ≡ setup.now.vl }
-    requires width { E.sew ≡ setup.now.vtype.sew }
-    requires ready { IsReady VLENB setup.now (needs_of_perm insn.now) }
     ensures { registers.new ≡ perm_of VLENB setup.now scalar.now insn.now registers.old }
 {
     let VPerm::SlideOneDown {
@@ -257,11 +249,9 @@ fn gather<E: VectorElement, const VLENB: usize>(
     a: &mut [E],
     all: &mut [E],
 )
-    requires shape { perm_shape_of insn.now ≡ GatherShape }
+    requires shape { IsPermShaped VLENB setup.now E.sew insn.now GatherShape }
     requires a_len { length a.old ≡ setup.now.vl }
     requires all_len { length all.old ≡ vlmax_of VLENB setup.now.vtype }
-    requires width { E.sew ≡ setup.now.vtype.sew }
-    requires ready { IsReady VLENB setup.now (needs_of_perm insn.now) }
     ensures { registers.new ≡ perm_of VLENB setup.now scalar.now insn.now registers.old }
 {
     let VPerm::Gather { vd, vs2, b, masked } = insn else {
@@ -286,11 +276,9 @@ fn gather16<E: VectorElement, const VLENB: usize>(
     a: &mut [E],
     all: &mut [E],
 )
-    requires shape { perm_shape_of insn.now ≡ Gather16Shape }
+    requires shape { IsPermShaped VLENB setup.now E.sew insn.now Gather16Shape }
     requires a_len { length a.old ≡ setup.now.vl }
     requires all_len { length all.old ≡ vlmax_of VLENB setup.now.vtype }
-    requires width { E.sew ≡ setup.now.vtype.sew }
-    requires ready { IsReady VLENB setup.now (needs_of_perm insn.now) }
     ensures { registers.new ≡ perm_of VLENB setup.now scalar.now insn.now registers.old }
 {
     let VPerm::Gather16 {
@@ -324,10 +312,8 @@ fn compress<E: VectorElement, const VLENB: usize>(
     insn: &VPerm,
     a: &mut [E],
 )
-    requires shape { perm_shape_of insn.now ≡ CompressShape }
+    requires shape { IsPermShaped VLENB setup.now E.sew insn.now CompressShape }
     requires a_len { length a.old ≡ setup.now.vl }
-    requires width { E.sew ≡ setup.now.vtype.sew }
-    requires ready { IsReady VLENB setup.now (needs_of_perm insn.now) }
     ensures { registers.new ≡ perm_of VLENB setup.now scalar.now insn.now registers.old }
 {
     let VPerm::Compress { vd, vs2, vs1 } = insn else {
