@@ -2,11 +2,7 @@
 use Rattle.std.proofs.Common.{◌≡◌, ℕ, List, [], ◌∷◌, refl, map}
 use Rattle.std.specs.Int.{Width}
 
-pub same_numbers : {A : Type 0} (lane number : A → ℕ) (xs : List A) → ((a : A) → lane a ≡ number a) → map lane xs ≡ map number xs
-same_numbers lane number [] law = refl
-same_numbers lane number (x ∷ xs) law = let head = law x in let tail = same_numbers lane number xs law in cc
-
-pub resized_numbers : {A : Type 0} (lane number : A → ℕ) (resized : Width → Width → ℕ → ℕ) (n narrow w wide : Width) (xs : List A) → n ≡ narrow → w ≡ wide → ((a : A) → lane a ≡ number a) → map (λ a. resized n w (lane a)) xs ≡ map (resized narrow wide) (map number xs)
+pub resized_numbers : {A : Type 0} (lane number : A → ℕ) (resized : Width → Width → ℕ → ℕ) (n narrow w wide : Width) (xs : List A) → n ≡ narrow → w ≡ wide → lane ≡ number → map (λ a. resized n w (lane a)) xs ≡ map (resized narrow wide) (map number xs)
 resized_numbers lane number resized n narrow w wide [] en ew law = refl
 resized_numbers lane number resized n narrow w wide (x ∷ xs) en ew law =
-    let head = law x in let tail = resized_numbers lane number resized n narrow w wide xs en ew law in cc
+    let tail = resized_numbers lane number resized n narrow w wide xs en ew law in cc

@@ -1,8 +1,11 @@
 -- The shapes of the instructions that compute, of those that move elements among places, and of reductions.
+use Rattle.std.specs.Prelude.{ℕ, ◌≡◌}
 use Rattle.rv_decode.specs.declared.instructions.VArith.TheVariants as arith
 use Rattle.rv_decode.specs.declared.instructions.VPerm.TheVariants as perm
 use Rattle.rv_decode.specs.declared.instructions.VReduce.TheVariants as reduce
-use Rattle.vector_core.specs.Words.{Fraction, VArith, VPerm, VReduce}
+use Rattle.rv_decode.specs.Needs.{needs_of_arith, needs_of_perm}
+use Rattle.vector_core.specs.Words.{Fraction, Setup, VArith, VPerm, VReduce, Width}
+use Rattle.vector_core.specs.Setup.{IsReady}
 
 pub data Shape : Type 0 where
   IntShape : Shape
@@ -36,6 +39,13 @@ shape_of (arith.Narrow op vd vs2 b masked) = NarrowShape
 shape_of (arith.Clip op vd vs2 b masked) = ClipShape
 shape_of (arith.Extend signed of vd vs2 masked) = ExtendShape of
 
+-- an instruction of this shape whose operands are ready, under a setup of this SEW
+pub record IsShaped (vlenb : ℕ) (s : Setup) (sew : Width) (insn : VArith) (shape : Shape)
+    : Type 0 where
+  pub is : shape_of insn ≡ shape
+  pub width : sew ≡ s.vtype.sew
+  pub ready : IsReady vlenb s (needs_of_arith insn)
+
 pub data PermShape : Type 0 where
   SlideUpShape : PermShape
   SlideDownShape : PermShape
@@ -53,6 +63,13 @@ perm_shape_of (perm.SlideOneDown vd vs2 rs1 masked) = SlideOneDownShape
 perm_shape_of (perm.Gather vd vs2 b masked) = GatherShape
 perm_shape_of (perm.Gather16 vd vs2 vs1 masked) = Gather16Shape
 perm_shape_of (perm.Compress vd vs2 vs1) = CompressShape
+
+-- the same of one that moves elements among places
+pub record IsPermShaped (vlenb : ℕ) (s : Setup) (sew : Width) (insn : VPerm) (shape : PermShape)
+    : Type 0 where
+  pub is : perm_shape_of insn ≡ shape
+  pub width : sew ≡ s.vtype.sew
+  pub ready : IsReady vlenb s (needs_of_perm insn)
 
 pub data ReduceShape : Type 0 where
   FoldShape : ReduceShape

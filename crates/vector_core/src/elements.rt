@@ -1,6 +1,6 @@
 //! Elements that lie in registers and that the lanes work on.
 
-ghost use Rattle.std.specs.Prelude.{◌≡◌, ◌%◌, ◌^◌};
+ghost use Rattle.std.specs.Prelude.{◌≡◌, ◌%◌, ◌^◌, length, map};
 
 use lane_fixed::RoundingMode;
 use lane_int::Lane;
@@ -10,14 +10,9 @@ use vreg_groups::Element;
 
 /// An element of a register group on which the lanes work.
 pub trait VectorElement: Element + Lane + FoldLane {
-    ghost use Rattle.std.specs.Prelude.{◌≡◌, Bool, length, map};
+    ghost use Rattle.std.specs.Prelude.{◌≡◌, length, map};
     ghost use lib.Lanes.{zip2};
     ghost use Rattle.lane_fixed.specs.FixedPoint.{any_active, element, saturates};
-    ghost use Rattle.lane_int.specs.Integer as lanes;
-    ghost use Rattle.rv_decode.specs.declared.instructions.CarryOp.{CarryOp};
-    ghost use Rattle.rv_decode.specs.declared.instructions.CompareOp.{CompareOp};
-    ghost use Rattle.rv_decode.specs.declared.instructions.IntOp.{IntOp};
-    ghost use Rattle.rv_decode.specs.declared.instructions.MultiplyAddOp.{MultiplyAddOp};
     ghost use Rattle.rv_decode.specs.declared.instructions.Width.{Width};
     ghost use Rattle.vreg_groups.specs.VectorType.{bytes_of_width};
     ghost use Rattle.vector_core.specs.Integer.{lane_width};
@@ -55,30 +50,11 @@ pub trait VectorElement: Element + Lane + FoldLane {
 
     ghost width_is: { Self.Lane.width ≡ lane_width sew };
 
-    ghost number_is: { (a : Self) → Self.Lane.number a ≡ Self.Element.number a };
+    ghost number_is: { Self.Lane.number ≡ Self.Element.number };
 
     ghost fold_width_is: { Self.FoldLane.width ≡ lane_width sew };
 
-    ghost fold_number_is: { (a : Self) → Self.FoldLane.number a ≡ Self.Element.number a };
-
-    // what lane_int makes of elements, as numbers
-    ghost computed: { (op : IntOp) (a b : Self) → Self.Element.number (Self.Lane.result_of op a b)
-        ≡ lanes.element op (lane_width sew) (Self.Element.number a) (Self.Element.number b) };
-
-    ghost compared: { (op : CompareOp) (a b : Self) → Self.Lane.test_of op a b
-        ≡ lanes.compares op (lane_width sew) (Self.Element.number a) (Self.Element.number b) };
-
-    ghost carried: { (op : CarryOp) (a b : Self) (bit : Bool)
-        → Self.Element.number (Self.Lane.carried_of op a b bit)
-        ≡ lanes.carried op (lane_width sew) (Self.Element.number a) (Self.Element.number b) bit };
-
-    ghost carried_out: { (op : CarryOp) (a b : Self) (bit : Bool) → Self.Lane.carry_of op a b bit
-        ≡ lanes.carries op (lane_width sew) (Self.Element.number a) (Self.Element.number b) bit };
-
-    ghost multiply_added: { (op : MultiplyAddOp) (a b d : Self)
-        → Self.Element.number (Self.Lane.added_of op a b d)
-        ≡ lanes.multiply_added op (lane_width sew) (Self.Element.number a)
-        (Self.Element.number b) (Self.Element.number d) };
+    ghost fold_number_is: { Self.FoldLane.number ≡ Self.Element.number };
 }
 
 impl VectorElement for u8 {
@@ -110,21 +86,11 @@ impl VectorElement for u8 {
 
     ghost width_is = { refl };
 
-    ghost number_is = { λ a. refl };
+    ghost number_is = { refl };
 
     ghost fold_width_is = { refl };
 
-    ghost fold_number_is = { λ a. refl };
-
-    ghost computed = { λ op a b. refl };
-
-    ghost compared = { λ op a b. refl };
-
-    ghost carried = { λ op a b bit. refl };
-
-    ghost carried_out = { λ op a b bit. refl };
-
-    ghost multiply_added = { λ op a b d. refl };
+    ghost fold_number_is = { refl };
 }
 
 impl VectorElement for u16 {
@@ -156,21 +122,11 @@ impl VectorElement for u16 {
 
     ghost width_is = { refl };
 
-    ghost number_is = { λ a. refl };
+    ghost number_is = { refl };
 
     ghost fold_width_is = { refl };
 
-    ghost fold_number_is = { λ a. refl };
-
-    ghost computed = { λ op a b. refl };
-
-    ghost compared = { λ op a b. refl };
-
-    ghost carried = { λ op a b bit. refl };
-
-    ghost carried_out = { λ op a b bit. refl };
-
-    ghost multiply_added = { λ op a b d. refl };
+    ghost fold_number_is = { refl };
 }
 
 impl VectorElement for u32 {
@@ -202,19 +158,27 @@ impl VectorElement for u32 {
 
     ghost width_is = { refl };
 
-    ghost number_is = { λ a. refl };
+    ghost number_is = { refl };
 
     ghost fold_width_is = { refl };
 
-    ghost fold_number_is = { λ a. refl };
+    ghost fold_number_is = { refl };
+}
 
-    ghost computed = { λ op a b. refl };
+/// The element 0.
+#[tactic(auto, using(crate::proofs::Moved::zero_low))]
+pub fn zero<E: VectorElement>() -> E
+    ensures { E.Element.number result ≡ 0 }
+{
+    E::low_bits(0)
+}
 
-    ghost compared = { λ op a b. refl };
-
-    ghost carried = { λ op a b bit. refl };
-
-    ghost carried_out = { λ op a b bit. refl };
-
-    ghost multiply_added = { λ op a b d. refl };
+/// The elements as numbers.
+pub fn numbers_of<E: VectorElement>(elements: &[E], out: &mut [u32])
+    requires { length elements.now ≡ length out.old }
+    ensures { out.new ≡ map E.Element.number elements.now }
+{
+    for i in 0..out.len() {
+        out[i] = elements[i].to_number();
+    }
 }

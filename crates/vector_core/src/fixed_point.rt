@@ -2,11 +2,9 @@
 //! whether an active element saturated.
 
 ghost use Rattle.std.specs.Prelude.{◌≡◌, length};
-ghost use Rattle.rv_decode.specs.Needs.{needs_of_arith};
 ghost use Rattle.vector_core.specs.Arithmetic.{arith_of};
-ghost use Rattle.vector_core.specs.Shapes.{FixedShape, shape_of};
+ghost use Rattle.vector_core.specs.Shapes.{FixedShape, IsShaped};
 ghost use Rattle.vector_core.specs.FixedPoint.{rounding_of};
-ghost use Rattle.vector_core.specs.Setup.{IsReady};
 
 use crate::elements::VectorElement;
 use crate::operands::{read_body, read_second, write_results};
@@ -39,11 +37,9 @@ pub fn fixed<E: VectorElement, const VLENB: usize>(
     a: &mut [E],
     c: &mut [E],
 ) -> bool
-    requires shape { shape_of insn.now ≡ FixedShape }
+    requires shape { IsShaped VLENB setup.now E.sew insn.now FixedShape }
     requires a_len { length a.old ≡ setup.now.vl }
     requires c_len { length c.old ≡ setup.now.vl }
-    requires width { E.sew ≡ setup.now.vtype.sew }
-    requires ready { IsReady VLENB setup.now (needs_of_arith insn.now) }
     ensures { arith_of VLENB setup.now scalar.now insn.now registers.old
         ≡ record { registers = registers.new; saturated = result } }
 {

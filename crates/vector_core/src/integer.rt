@@ -2,19 +2,18 @@
 //! read from vs2, and `c` from the second operand; both have room for the body.
 
 ghost use Rattle.std.specs.Prelude.{◌≡◌, length};
-ghost use Rattle.rv_decode.specs.Needs.{needs_of_arith};
 ghost use Rattle.vector_core.specs.Arithmetic.{arith_of};
 ghost use Rattle.vector_core.specs.Computed.{exact};
 ghost use Rattle.vector_core.specs.Shapes.{CarryOutShape, CarryShape, CompareShape, IntShape};
-ghost use Rattle.vector_core.specs.Shapes.{MultiplyAddShape, shape_of};
+ghost use Rattle.vector_core.specs.Shapes.{IsShaped, MultiplyAddShape};
 ghost use Rattle.vector_core.specs.Integer.{carry_in};
-ghost use Rattle.vector_core.specs.Setup.{IsReady, IsSetup};
+ghost use Rattle.vector_core.specs.Setup.{IsSetup};
 
 use crate::elements::VectorElement;
-use crate::operands::{read_body, read_second, read_v0, write_bits, write_results};
+use crate::operands::{read_bits, read_body, read_second, write_bits, write_results};
 use crate::operations::carry_out_lanes;
 use crate::setup::Setup;
-use rv_decode::{Eew, VArith};
+use rv_decode::{Eew, Reg, VArith};
 use scalar_core::Scalar;
 use vreg_groups::{MOST_ELEMENTS, VregFile};
 
@@ -28,11 +27,9 @@ pub fn int<E: VectorElement, const VLENB: usize>(
     a: &mut [E],
     c: &mut [E],
 )
-    requires shape { shape_of insn.now ≡ IntShape }
+    requires shape { IsShaped VLENB setup.now E.sew insn.now IntShape }
     requires a_len { length a.old ≡ setup.now.vl }
     requires c_len { length c.old ≡ setup.now.vl }
-    requires width { E.sew ≡ setup.now.vtype.sew }
-    requires ready { IsReady VLENB setup.now (needs_of_arith insn.now) }
     ensures { arith_of VLENB setup.now scalar.now insn.now registers.old ≡ exact registers.new }
 {
     let VArith::Int {
@@ -63,12 +60,10 @@ pub fn multiply_add<E: VectorElement, const VLENB: usize>(
     c: &mut [E],
     d: &mut [E],
 )
-    requires shape { shape_of insn.now ≡ MultiplyAddShape }
+    requires shape { IsShaped VLENB setup.now E.sew insn.now MultiplyAddShape }
     requires a_len { length a.old ≡ setup.now.vl }
     requires c_len { length c.old ≡ setup.now.vl }
     requires d_len { length d.old ≡ setup.now.vl }
-    requires width { E.sew ≡ setup.now.vtype.sew }
-    requires ready { IsReady VLENB setup.now (needs_of_arith insn.now) }
     ensures { arith_of VLENB setup.now scalar.now insn.now registers.old ≡ exact registers.new }
 {
     let VArith::MultiplyAdd {
@@ -99,11 +94,9 @@ pub fn carry<E: VectorElement, const VLENB: usize>(
     a: &mut [E],
     c: &mut [E],
 )
-    requires shape { shape_of insn.now ≡ CarryShape }
+    requires shape { IsShaped VLENB setup.now E.sew insn.now CarryShape }
     requires a_len { length a.old ≡ setup.now.vl }
     requires c_len { length c.old ≡ setup.now.vl }
-    requires width { E.sew ≡ setup.now.vtype.sew }
-    requires ready { IsReady VLENB setup.now (needs_of_arith insn.now) }
     ensures { arith_of VLENB setup.now scalar.now insn.now registers.old ≡ exact registers.new }
 {
     let VArith::Carry { op, vd, vs2, b } = insn else {
@@ -114,7 +107,7 @@ pub fn carry<E: VectorElement, const VLENB: usize>(
     let carries = &mut bits[..setup.vl];
     read_body(registers, setup, *vs2, a);
     read_second(registers, scalar, setup, *b, c);
-    read_v0(registers, setup, carries);
+    read_bits(registers, setup, Reg::new(0), carries);
     lane_int::compute_carried(*op, a, c, carries);
     write_results(registers, setup, &destination, false, a);
 }
@@ -129,11 +122,9 @@ pub fn carry_out<E: VectorElement, const VLENB: usize>(
     a: &mut [E],
     c: &mut [E],
 )
-    requires shape { shape_of insn.now ≡ CarryOutShape }
+    requires shape { IsShaped VLENB setup.now E.sew insn.now CarryOutShape }
     requires a_len { length a.old ≡ setup.now.vl }
     requires c_len { length c.old ≡ setup.now.vl }
-    requires width { E.sew ≡ setup.now.vtype.sew }
-    requires ready { IsReady VLENB setup.now (needs_of_arith insn.now) }
     ensures { arith_of VLENB setup.now scalar.now insn.now registers.old ≡ exact registers.new }
 {
     let VArith::CarryOut {
@@ -165,11 +156,9 @@ pub fn compare<E: VectorElement, const VLENB: usize>(
     a: &mut [E],
     c: &mut [E],
 )
-    requires shape { shape_of insn.now ≡ CompareShape }
+    requires shape { IsShaped VLENB setup.now E.sew insn.now CompareShape }
     requires a_len { length a.old ≡ setup.now.vl }
     requires c_len { length c.old ≡ setup.now.vl }
-    requires width { E.sew ≡ setup.now.vtype.sew }
-    requires ready { IsReady VLENB setup.now (needs_of_arith insn.now) }
     ensures { arith_of VLENB setup.now scalar.now insn.now registers.old ≡ exact registers.new }
 {
     let VArith::Compare {
@@ -202,7 +191,7 @@ fn read_carries<const VLENB: usize>(
     ensures { bits.new ≡ carry_in VLENB with_carry setup.now.vl registers.now }
 {
     if with_carry {
-        read_v0(registers, setup, bits);
+        read_bits(registers, setup, Reg::new(0), bits);
     } else {
         bits.fill(false);
     }

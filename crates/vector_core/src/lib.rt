@@ -14,7 +14,6 @@ mod integer;
 pub mod laws;
 mod loads_stores;
 mod masks;
-mod movements;
 mod moves;
 mod narrowing;
 mod operands;

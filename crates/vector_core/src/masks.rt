@@ -10,7 +10,6 @@ ghost use Rattle.vector_core.specs.Masks.{mask_step, set_and_active, set_first_o
 ghost use Rattle.vector_core.specs.Setup.{IsReady, IsSetup};
 
 use crate::elements::VectorElement;
-use crate::fold_elements::{index_results, iota_results};
 use crate::operands::{write_bits, write_results};
 use crate::rooms::with_rooms;
 use crate::setup::Setup;
@@ -140,7 +139,7 @@ fn iota_elements<E: VectorElement, const VLENB: usize>(
     let mut bits = [false; MOST_ELEMENTS];
     let bits = &mut bits[..setup.vl];
     read_set_and_active(registers, setup, vs2, masked, bits);
-    iota_results(bits, a);
+    lane_masks::iota(bits, a);
     write_results(registers, setup, &destination, masked, a);
 }
 
@@ -180,7 +179,7 @@ fn index_elements<E: VectorElement, const VLENB: usize>(
     ensures { registers.new ≡ index_of VLENB setup.now vd masked registers.old }
 {
     let destination = setup.group(vd, Eew::Same);
-    index_results(a);
+    lane_masks::index(a);
     write_results(registers, setup, &destination, masked, a);
 }
 

@@ -3,16 +3,16 @@
 ghost use Rattle.std.specs.Prelude.{◌≡◌, Ok, length};
 ghost use Rattle.lane_int.specs.Lists.{zip3};
 ghost use Rattle.region_mem.specs.Memory.{Memory};
-ghost use Rattle.rv_decode.specs.Needs.{needs_of_arith, needs_of_move};
+ghost use Rattle.rv_decode.specs.Needs.{needs_of_move};
 ghost use Rattle.vector_core.specs.Arithmetic.{arith_of};
 ghost use Rattle.vector_core.specs.Computed.{exact};
-ghost use Rattle.vector_core.specs.Shapes.{CopyShape, MergeShape, shape_of};
+ghost use Rattle.vector_core.specs.Shapes.{CopyShape, IsShaped, MergeShape};
 ghost use Rattle.vector_core.specs.Moves.{chosen, from_scalar_of, move_step, to_scalar_of};
 ghost use Rattle.vector_core.specs.Setup.{IsReady};
 
 use crate::elements::VectorElement;
 use crate::fold_elements::sign_extended;
-use crate::operands::{read_body, read_second, read_v0, write_results};
+use crate::operands::{read_bits, read_body, read_second, write_results};
 use crate::setup::Setup;
 use crate::singles::write_first;
 use crate::state::VectorState;
@@ -30,11 +30,9 @@ pub fn merge<E: VectorElement, const VLENB: usize>(
     a: &mut [E],
     c: &mut [E],
 )
-    requires shape { shape_of insn.now ≡ MergeShape }
+    requires shape { IsShaped VLENB setup.now E.sew insn.now MergeShape }
     requires a_len { length a.old ≡ setup.now.vl }
     requires c_len { length c.old ≡ setup.now.vl }
-    requires width { E.sew ≡ setup.now.vtype.sew }
-    requires ready { IsReady VLENB setup.now (needs_of_arith insn.now) }
     ensures { arith_of VLENB setup.now scalar.now insn.now registers.old ≡ exact registers.new }
 {
     let VArith::Merge { vd, vs2, b } = insn else {
@@ -45,7 +43,7 @@ pub fn merge<E: VectorElement, const VLENB: usize>(
     let mask = &mut bits[..setup.vl];
     read_body(registers, setup, *vs2, a);
     read_second(registers, scalar, setup, *b, c);
-    read_v0(registers, setup, mask);
+    read_bits(registers, setup, Reg::new(0), mask);
     choose_each(a, c, mask);
     write_results(registers, setup, &destination, false, a);
 }
@@ -76,10 +74,8 @@ pub fn copy<E: VectorElement, const VLENB: usize>(
     insn: &VArith,
     c: &mut [E],
 )
-    requires shape { shape_of insn.now ≡ CopyShape }
+    requires shape { IsShaped VLENB setup.now E.sew insn.now CopyShape }
     requires c_len { length c.old ≡ setup.now.vl }
-    requires width { E.sew ≡ setup.now.vtype.sew }
-    requires ready { IsReady VLENB setup.now (needs_of_arith insn.now) }
     ensures { arith_of VLENB setup.now scalar.now insn.now registers.old ≡ exact registers.new }
 {
     let VArith::Copy { vd, b } = insn else {

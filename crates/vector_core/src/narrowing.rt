@@ -2,11 +2,9 @@
 //! `a` is what is read from the second operand, and then the result; `x` is vs2.
 
 ghost use Rattle.std.specs.Prelude.{◌≡◌, length};
-ghost use Rattle.rv_decode.specs.Needs.{needs_of_arith};
 ghost use Rattle.vector_core.specs.Arithmetic.{arith_of};
 ghost use Rattle.vector_core.specs.Computed.{exact};
-ghost use Rattle.vector_core.specs.Shapes.{ClipShape, NarrowShape, shape_of};
-ghost use Rattle.vector_core.specs.Setup.{IsReady};
+ghost use Rattle.vector_core.specs.Shapes.{ClipShape, IsShaped, NarrowShape};
 
 use crate::elements::VectorElement;
 use crate::fixed_point::rounding_mode;
@@ -29,12 +27,10 @@ pub fn narrow<N: HalfOf<W>, W: VectorElement, const VLENB: usize>(
     x: &mut [W],
     y: &mut [W],
 )
-    requires shape { shape_of insn.now ≡ NarrowShape }
+    requires shape { IsShaped VLENB setup.now N.sew insn.now NarrowShape }
     requires a_len { length a.old ≡ setup.now.vl }
     requires x_len { length x.old ≡ setup.now.vl }
     requires y_len { length y.old ≡ setup.now.vl }
-    requires width { N.sew ≡ setup.now.vtype.sew }
-    requires ready { IsReady VLENB setup.now (needs_of_arith insn.now) }
     ensures { arith_of VLENB setup.now scalar.now insn.now registers.old ≡ exact registers.new }
 {
     let VArith::Narrow {
@@ -68,12 +64,10 @@ pub fn clip<N: HalfOf<W>, W: VectorElement, const VLENB: usize>(
     c: &mut [N],
     x: &mut [W],
 ) -> bool
-    requires shape { shape_of insn.now ≡ ClipShape }
+    requires shape { IsShaped VLENB setup.now N.sew insn.now ClipShape }
     requires a_len { length a.old ≡ setup.now.vl }
     requires c_len { length c.old ≡ setup.now.vl }
     requires x_len { length x.old ≡ setup.now.vl }
-    requires width { N.sew ≡ setup.now.vtype.sew }
-    requires ready { IsReady VLENB setup.now (needs_of_arith insn.now) }
     ensures { arith_of VLENB setup.now scalar.now insn.now registers.old
         ≡ record { registers = registers.new; saturated = result } }
 {

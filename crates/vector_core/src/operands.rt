@@ -75,13 +75,18 @@ pub fn splat<E: VectorElement>(value: E, out: &mut [E])
     }
 }
 
-/// Reads the body's bits of v0.
-pub fn read_v0<const VLENB: usize>(registers: &VregFile<VLENB>, setup: &Setup, bits: &mut [bool])
+/// Reads the body's bits of a mask.
+pub fn read_bits<const VLENB: usize>(
+    registers: &VregFile<VLENB>,
+    setup: &Setup,
+    mask: Reg,
+    bits: &mut [bool],
+)
     requires len { length bits.old ≡ setup.now.vl }
     requires setup { IsSetup VLENB setup.now }
-    ensures { bits.new ≡ mask_bits VLENB 0 setup.now.vl registers.now }
+    ensures { bits.new ≡ mask_bits VLENB mask setup.now.vl registers.now }
 {
-    registers.read_mask(Reg::new(0), bits);
+    registers.read_mask(mask, bits);
 }
 
 /// Writes the body's results to the group of a destination: nothing where vl is 0.

@@ -12,16 +12,12 @@ ghost use Rattle.vreg_groups.specs.declared.vector_type.TheConstants.{MOST_ELEME
 ghost use Rattle.vector_core.specs.Permutations.{active_from, all_at, distance_of, indices_of};
 ghost use Rattle.vector_core.specs.Permutations.{perm_of, perm_step, results_written_from};
 ghost use Rattle.vector_core.specs.Shapes.{CompressShape, Gather16Shape, GatherShape};
-ghost use Rattle.vector_core.specs.Shapes.{SlideDownShape, SlideOneDownShape, SlideOneUpShape};
-ghost use Rattle.vector_core.specs.Shapes.{SlideUpShape, perm_shape_of};
+ghost use Rattle.vector_core.specs.Shapes.{IsPermShaped, SlideDownShape, SlideOneDownShape};
+ghost use Rattle.vector_core.specs.Shapes.{SlideOneUpShape, SlideUpShape};
 ghost use Rattle.vector_core.specs.Setup.{IsReady, IsSetup};
 
-use crate::elements::VectorElement;
-use crate::movements::{
-    compress_results, gather_results, numbers_of, slide_down_results, slide_one_down_results,
-    slide_one_up_results, slide_up_results,
-};
-use crate::operands::{read_body, write_results};
+use crate::elements::{VectorElement, numbers_of, zero};
+use crate::operands::{read_bits, read_body, write_results};
 use crate::setup::Setup;
 use crate::state::VectorState;
 use rv_decode::{Eew, Offset, Reg, Source, VPerm, Width};
@@ -99,7 +95,7 @@ fn write_results_from<E: VectorElement, const VLENB: usize>(
 }
 
 /// Element i of vd is element i - offset of vs2, from the offset on.
-#[tactic(auto, unfolding(rv_decode::specs::Needs::needs_of_perm, crate::specs::Permutations::slide_up_of, crate::specs::Permutations::perm_of))]
+#[tactic(auto, using(crate::proofs::Moved::slid_up_numbers), unfolding(rv_decode::specs::Needs::needs_of_perm, crate::specs::Permutations::slide_up_of, crate::specs::Permutations::perm_of))]
 fn slide_up<E: VectorElement, const VLENB: usize>(
     registers: &mut VregFile<VLENB>,
     scalar: &Scalar,
@@ -108,11 +104,9 @@ fn slide_up<E: VectorElement, const VLENB: usize>(
     a: &mut [E],
     c: &mut [E],
 )
-    requires shape { perm_shape_of insn.now ≡ SlideUpShape }
+    requires shape { IsPermShaped VLENB setup.now E.sew insn.now SlideUpShape }
     requires a_len { length a.old ≡ setup.now.vl }
     requires c_len { length c.old ≡ setup.now.vl }
-    requires width { E.sew ≡ setup.now.vtype.sew }
-    requires ready { IsReady VLENB setup.now (needs_of_perm insn.now) }
     ensures { registers.new ≡ perm_of VLENB setup.now scalar.now insn.now registers.old }
 {
     let VPerm::SlideUp {
@@ -128,12 +122,12 @@ fn slide_up<E: VectorElement, const VLENB: usize>(
     let distance = distance(*offset, scalar);
     read_body(registers, setup, *vs2, a);
     destination.read(registers, c);
-    slide_up_results(distance, a, c);
+    lane_masks::slide_up(distance, a, c);
     write_results_from(registers, setup, &destination, distance, *masked, c);
 }
 
 /// Element i of vd is element i + offset of vs2, and 0 where that is at or past VLMAX.
-#[tactic(auto, unfolding(rv_decode::specs::Needs::needs_of_perm, crate::specs::Permutations::slide_down_of, crate::specs::Permutations::perm_of))]
+#[tactic(auto, using(crate::proofs::Moved::slid_down_numbers), unfolding(rv_decode::specs::Needs::needs_of_perm, crate::specs::Permutations::slide_down_of, crate::specs::Permutations::perm_of))]
 fn slide_down<E: VectorElement, const VLENB: usize>(
     registers: &mut VregFile<VLENB>,
     scalar: &Scalar,
@@ -142,11 +136,9 @@ fn slide_down<E: VectorElement, const VLENB: usize>(
     a: &mut [E],
     all: &mut [E],
 )
-    requires shape { perm_shape_of insn.now ≡ SlideDownShape }
+    requires shape { IsPermShaped VLENB setup.now E.sew insn.now SlideDownShape }
     requires a_len { length a.old ≡ setup.now.vl }
     requires all_len { length all.old ≡ vlmax_of VLENB setup.now.vtype }
-    requires width { E.sew ≡ setup.now.vtype.sew }
-    requires ready { IsReady VLENB setup.now (needs_of_perm insn.now) }
     ensures { registers.new ≡ perm_of VLENB setup.now scalar.now insn.now registers.old }
 {
     let VPerm::SlideDown {
@@ -160,12 +152,12 @@ fn slide_down<E: VectorElement, const VLENB: usize>(
     };
     let destination = setup.group(*vd, Eew::Same);
     read_all(registers, setup, *vs2, all);
-    slide_down_results(distance(*offset, scalar), all, a);
+    lane_masks::slide_down(distance(*offset, scalar), all, zero(), a);
     write_results(registers, setup, &destination, *masked, a);
 }
 
 /// x[rs1] comes in at element 0, and the others move up by one place.
-#[tactic(auto, unfolding(rv_decode::specs::Needs::needs_of_perm, crate::specs::Permutations::slide_one_up_of, crate::specs::Permutations::perm_of))]
+#[tactic(auto, using(crate::proofs::Moved::slid_one_up_numbers), unfolding(rv_decode::specs::Needs::needs_of_perm, crate::specs::Permutations::slide_one_up_of, crate::specs::Permutations::perm_of))]
 fn slide_one_up<E: VectorElement, const VLENB: usize>(
     registers: &mut VregFile<VLENB>,
     scalar: &Scalar,
@@ -173,10 +165,8 @@ fn slide_one_up<E: VectorElement, const VLENB: usize>(
     insn: &VPerm,
     a: &mut [E],
 )
-    requires shape { perm_shape_of insn.now ≡ SlideOneUpShape }
+    requires shape { IsPermShaped VLENB setup.now E.sew insn.now SlideOneUpShape }
     requires a_len { length a.old ≡ setup.now.vl }
-    requires width { E.sew ≡ setup.now.vtype.sew }
-    requires ready { IsReady VLENB setup.now (needs_of_perm insn.now) }
     ensures { registers.new ≡ perm_of VLENB setup.now scalar.now insn.now registers.old }
 {
     let VPerm::SlideOneUp {
@@ -190,12 +180,12 @@ fn slide_one_up<E: VectorElement, const VLENB: usize>(
     };
     let destination = setup.group(*vd, Eew::Same);
     read_body(registers, setup, *vs2, a);
-    slide_one_up_results(E::low_bits(scalar.reg(*rs1)), a);
+    lane_masks::slide_one_up(E::low_bits(scalar.reg(*rs1)), a);
     write_results(registers, setup, &destination, *masked, a);
 }
 
 /// x[rs1] comes in at element vl - 1, and the others move down by one place.
-#[tactic(auto, unfolding(rv_decode::specs::Needs::needs_of_perm, crate::specs::Permutations::slide_one_down_of, crate::specs::Permutations::perm_of))]
+#[tactic(auto, using(crate::proofs::Moved::slid_one_down_numbers), unfolding(rv_decode::specs::Needs::needs_of_perm, crate::specs::Permutations::slide_one_down_of, crate::specs::Permutations::perm_of))]
 fn slide_one_down<E: VectorElement, const VLENB: usize>(
     registers: &mut VregFile<VLENB>,
     scalar: &Scalar,
@@ -203,10 +193,8 @@ fn slide_one_down<E: VectorElement, const VLENB: usize>(
     insn: &VPerm,
     a: &mut [E],
 )
-    requires shape { perm_shape_of insn.now ≡ SlideOneDownShape }
+    requires shape { IsPermShaped VLENB setup.now E.sew insn.now SlideOneDownShape }
     requires a_len { length a.old ≡ setup.now.vl }
-    requires width { E.sew ≡ setup.now.vtype.sew }
-    requires ready { IsReady VLENB setup.now (needs_of_perm insn.now) }
     ensures { registers.new ≡ perm_of VLENB setup.now scalar.now insn.now registers.old }
 {
     let VPerm::SlideOneDown {
@@ -220,7 +208,7 @@ fn slide_one_down<E: VectorElement, const VLENB: usize>(
     };
     let destination = setup.group(*vd, Eew::Same);
     read_body(registers, setup, *vs2, a);
-    slide_one_down_results(E::low_bits(scalar.reg(*rs1)), a);
+    lane_masks::slide_one_down(E::low_bits(scalar.reg(*rs1)), a);
     write_results(registers, setup, &destination, *masked, a);
 }
 
@@ -252,7 +240,7 @@ fn read_indices<E: VectorElement, const VLENB: usize>(
 }
 
 /// Each element of vd is that of vs2 at its index, and 0 where that is at or past VLMAX.
-#[tactic(auto, unfolding(rv_decode::specs::Needs::needs_of_perm, crate::specs::Permutations::gather_of, crate::specs::Permutations::perm_of))]
+#[tactic(auto, using(crate::proofs::Moved::gathered_numbers), unfolding(rv_decode::specs::Needs::needs_of_perm, crate::specs::Permutations::gather_of, crate::specs::Permutations::perm_of))]
 fn gather<E: VectorElement, const VLENB: usize>(
     registers: &mut VregFile<VLENB>,
     scalar: &Scalar,
@@ -261,11 +249,9 @@ fn gather<E: VectorElement, const VLENB: usize>(
     a: &mut [E],
     all: &mut [E],
 )
-    requires shape { perm_shape_of insn.now ≡ GatherShape }
+    requires shape { IsPermShaped VLENB setup.now E.sew insn.now GatherShape }
     requires a_len { length a.old ≡ setup.now.vl }
     requires all_len { length all.old ≡ vlmax_of VLENB setup.now.vtype }
-    requires width { E.sew ≡ setup.now.vtype.sew }
-    requires ready { IsReady VLENB setup.now (needs_of_perm insn.now) }
     ensures { registers.new ≡ perm_of VLENB setup.now scalar.now insn.now registers.old }
 {
     let VPerm::Gather { vd, vs2, b, masked } = insn else {
@@ -276,12 +262,12 @@ fn gather<E: VectorElement, const VLENB: usize>(
     let indices = &mut numbers[..setup.vl];
     read_indices(registers, scalar, setup, *b, a, indices);
     read_all(registers, setup, *vs2, all);
-    gather_results(all, indices, a);
+    lane_masks::gather(all, indices, zero(), a);
     write_results(registers, setup, &destination, *masked, a);
 }
 
 /// The same with indices of 16 bits.
-#[tactic(auto, unfolding(rv_decode::specs::Needs::needs_of_perm, crate::specs::Permutations::gather16_of, crate::specs::Permutations::perm_of))]
+#[tactic(auto, using(crate::proofs::Moved::gathered_numbers), unfolding(rv_decode::specs::Needs::needs_of_perm, crate::specs::Permutations::gather16_of, crate::specs::Permutations::perm_of))]
 fn gather16<E: VectorElement, const VLENB: usize>(
     registers: &mut VregFile<VLENB>,
     scalar: &Scalar,
@@ -290,11 +276,9 @@ fn gather16<E: VectorElement, const VLENB: usize>(
     a: &mut [E],
     all: &mut [E],
 )
-    requires shape { perm_shape_of insn.now ≡ Gather16Shape }
+    requires shape { IsPermShaped VLENB setup.now E.sew insn.now Gather16Shape }
     requires a_len { length a.old ≡ setup.now.vl }
     requires all_len { length all.old ≡ vlmax_of VLENB setup.now.vtype }
-    requires width { E.sew ≡ setup.now.vtype.sew }
-    requires ready { IsReady VLENB setup.now (needs_of_perm insn.now) }
     ensures { registers.new ≡ perm_of VLENB setup.now scalar.now insn.now registers.old }
 {
     let VPerm::Gather16 {
@@ -311,16 +295,16 @@ fn gather16<E: VectorElement, const VLENB: usize>(
     let mut halves = [0u16; MOST_ELEMENTS];
     let halves = &mut halves[..setup.vl];
     let mut numbers = [0u32; MOST_ELEMENTS];
-    let indices = &mut numbers[..setup.vl];
+    let numbers = &mut numbers[..setup.vl];
     others.read(registers, halves);
-    numbers_of(halves, indices);
+    numbers_of(halves, numbers);
     read_all(registers, setup, *vs2, all);
-    gather_results(all, indices, a);
+    lane_masks::gather(all, numbers, zero(), a);
     write_results(registers, setup, &destination, *masked, a);
 }
 
 /// The elements of vs2 whose bit of vs1 is set, packed; past them is the tail.
-#[tactic(auto, unfolding(rv_decode::specs::Needs::needs_of_perm, crate::specs::Permutations::compress_of, crate::specs::Permutations::perm_of))]
+#[tactic(auto, using(crate::proofs::Moved::kept_numbers), unfolding(rv_decode::specs::Needs::needs_of_perm, crate::specs::Permutations::compress_of, crate::specs::Permutations::perm_of))]
 fn compress<E: VectorElement, const VLENB: usize>(
     registers: &mut VregFile<VLENB>,
     scalar: &Scalar,
@@ -328,10 +312,8 @@ fn compress<E: VectorElement, const VLENB: usize>(
     insn: &VPerm,
     a: &mut [E],
 )
-    requires shape { perm_shape_of insn.now ≡ CompressShape }
+    requires shape { IsPermShaped VLENB setup.now E.sew insn.now CompressShape }
     requires a_len { length a.old ≡ setup.now.vl }
-    requires width { E.sew ≡ setup.now.vtype.sew }
-    requires ready { IsReady VLENB setup.now (needs_of_perm insn.now) }
     ensures { registers.new ≡ perm_of VLENB setup.now scalar.now insn.now registers.old }
 {
     let VPerm::Compress { vd, vs2, vs1 } = insn else {
@@ -340,9 +322,9 @@ fn compress<E: VectorElement, const VLENB: usize>(
     let destination = setup.group(*vd, Eew::Same);
     let mut bits = [false; MOST_ELEMENTS];
     let bits = &mut bits[..setup.vl];
-    registers.read_mask(*vs1, bits);
+    read_bits(registers, setup, *vs1, bits);
     read_body(registers, setup, *vs2, a);
-    let count = compress_results(bits, a);
+    let count = lane_masks::compress(bits, a);
     write_results(registers, setup, &destination, false, &a[..count]);
 }
 

@@ -11,7 +11,7 @@ ghost use Rattle.vector_core.specs.Setup.{IsReady};
 ghost use Rattle.vector_core.specs.Shapes.{FoldShape, WidenSumShape, reduce_shape_of};
 
 use crate::elements::VectorElement;
-use crate::fold_elements::{extended_sum, fold_result};
+use crate::fold_elements::extended_sum;
 use crate::operands::read_body;
 use crate::rooms::with_rooms;
 use crate::setup::Setup;
@@ -51,7 +51,7 @@ fn fold_elements<E: VectorElement, const VLENB: usize>(
     registers.read_active(*masked, active);
     let start = registers.first_element::<E>(*vs1);
     read_body(registers, setup, *vs2, a);
-    let value = fold_result(*op, start, a, active);
+    let value = lane_masks::fold(*op, start, a, active);
     write_first(registers, setup, *vd, value);
 }
 

@@ -7,8 +7,8 @@ ghost use Rattle.rv_decode.specs.declared.instructions.Fraction.TheVariants.{Hal
 ghost use Rattle.vreg_groups.specs.Legality.{eew_bits};
 ghost use Rattle.vector_core.specs.Arithmetic.{arith_of};
 ghost use Rattle.vector_core.specs.Computed.{exact};
-ghost use Rattle.vector_core.specs.Shapes.{ExtendShape, WideShape, WidenMultiplyAddShape};
-ghost use Rattle.vector_core.specs.Shapes.{WidenShape, shape_of};
+ghost use Rattle.vector_core.specs.Shapes.{ExtendShape, IsShaped, WideShape};
+ghost use Rattle.vector_core.specs.Shapes.{WidenMultiplyAddShape, WidenShape, shape_of};
 ghost use Rattle.vector_core.specs.Integer.{lane_width};
 ghost use Rattle.vector_core.specs.Setup.{IsReady};
 ghost use Rattle.vector_core.specs.Widening.{fraction_width};
@@ -36,12 +36,10 @@ pub fn widen<N: HalfOf<W>, W: VectorElement, const VLENB: usize>(
     x: &mut [W],
     y: &mut [W],
 )
-    requires shape { shape_of insn.now ≡ WidenShape }
+    requires shape { IsShaped VLENB setup.now N.sew insn.now WidenShape }
     requires a_len { length a.old ≡ setup.now.vl }
     requires x_len { length x.old ≡ setup.now.vl }
     requires y_len { length y.old ≡ setup.now.vl }
-    requires width { N.sew ≡ setup.now.vtype.sew }
-    requires ready { IsReady VLENB setup.now (needs_of_arith insn.now) }
     ensures { arith_of VLENB setup.now scalar.now insn.now registers.old ≡ exact registers.new }
 {
     let VArith::Widen {
@@ -73,12 +71,10 @@ pub fn wide<N: HalfOf<W>, W: VectorElement, const VLENB: usize>(
     x: &mut [W],
     y: &mut [W],
 )
-    requires shape { shape_of insn.now ≡ WideShape }
+    requires shape { IsShaped VLENB setup.now N.sew insn.now WideShape }
     requires a_len { length a.old ≡ setup.now.vl }
     requires x_len { length x.old ≡ setup.now.vl }
     requires y_len { length y.old ≡ setup.now.vl }
-    requires width { N.sew ≡ setup.now.vtype.sew }
-    requires ready { IsReady VLENB setup.now (needs_of_arith insn.now) }
     ensures { arith_of VLENB setup.now scalar.now insn.now registers.old ≡ exact registers.new }
 {
     let VArith::Wide {
@@ -111,13 +107,11 @@ pub fn widen_multiply_add<N: HalfOf<W>, W: VectorElement, const VLENB: usize>(
     y: &mut [W],
     d: &mut [W],
 )
-    requires shape { shape_of insn.now ≡ WidenMultiplyAddShape }
+    requires shape { IsShaped VLENB setup.now N.sew insn.now WidenMultiplyAddShape }
     requires a_len { length a.old ≡ setup.now.vl }
     requires x_len { length x.old ≡ setup.now.vl }
     requires y_len { length y.old ≡ setup.now.vl }
     requires d_len { length d.old ≡ setup.now.vl }
-    requires width { N.sew ≡ setup.now.vtype.sew }
-    requires ready { IsReady VLENB setup.now (needs_of_arith insn.now) }
     ensures { arith_of VLENB setup.now scalar.now insn.now registers.old ≡ exact registers.new }
 {
     let VArith::WidenMultiplyAdd {
@@ -230,13 +224,11 @@ fn extend_elements<N: VectorElement + Narrow<W>, W: VectorElement, const VLENB: 
     a: &mut [N],
     x: &mut [W],
 )
-    requires shape { shape_of insn.now ≡ ExtendShape of }
+    requires shape { IsShaped VLENB setup.now W.sew insn.now (ExtendShape of) }
     requires a_len { length a.old ≡ setup.now.vl }
     requires x_len { length x.old ≡ setup.now.vl }
-    requires width { W.sew ≡ setup.now.vtype.sew }
     requires size { N.SIZE ≡ eew_bits setup.now.vtype.sew (eew_of of) / 8 }
     requires lanes { lane_width N.sew ≡ fraction_width setup.now.vtype.sew of }
-    requires ready { IsReady VLENB setup.now (needs_of_arith insn.now) }
     ensures { arith_of VLENB setup.now scalar.now insn.now registers.old ≡ exact registers.new }
 {
     let VArith::Extend {
