@@ -3,7 +3,7 @@
 ghost use Rattle.vreg_groups.specs.VectorLength.{IsVlenb};
 
 use crate::fields::{RowError, bytes};
-use crate::runs::{Case, read_case};
+use crate::runs::{Case, at_length, read_case};
 use crate::sessions::{Opening, open};
 use crate::table::Table;
 use hex::encode;
@@ -18,12 +18,7 @@ pub struct Monitors;
 
 impl Table for Monitors {
     fn difference(&mut self, alloc: Global, row: &str) -> Result<Option<String>, RowError> {
-        let case = read_case(row)?;
-        match case.vlen {
-            Vlen::V128 => watch::<16>(alloc, &case),
-            Vlen::V256 => watch::<32>(alloc, &case),
-            Vlen::V512 => watch::<64>(alloc, &case),
-        }
+        at_length!(alloc, row, watch)
     }
 }
 

@@ -40,14 +40,23 @@ pub struct Last {
     pub args: Args,
 }
 
+/// What comes of the case of a row, at the row's length of vector registers.
+macro_rules! at_length {
+    ($alloc:expr, $row:expr, $run:ident) => {{
+        let case = read_case($row)?;
+        match case.vlen {
+            Vlen::V128 => $run::<16>($alloc, &case),
+            Vlen::V256 => $run::<32>($alloc, &case),
+            Vlen::V512 => $run::<64>($alloc, &case),
+        }
+    }};
+}
+
+pub(crate) use at_length;
+
 impl Table for Runs {
     fn difference(&mut self, alloc: Global, row: &str) -> Result<Option<String>, RowError> {
-        let case = read_case(row)?;
-        match case.vlen {
-            Vlen::V128 => run::<16>(alloc, &case),
-            Vlen::V256 => run::<32>(alloc, &case),
-            Vlen::V512 => run::<64>(alloc, &case),
-        }
+        at_length!(alloc, row, run)
     }
 }
 

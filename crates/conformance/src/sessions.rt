@@ -5,7 +5,7 @@ ghost use Rattle.vreg_groups.specs.VectorLength.{IsVlenb};
 use crate::arguments::Given;
 use crate::checks::accept;
 use crate::fields::{RowError, bytes, hex};
-use crate::runs::{Case, Last, last_state, read_case, start};
+use crate::runs::{Case, Last, at_length, last_state, read_case, start};
 use crate::state::{Difference, Part, State, VECTOR_BYTES, differ};
 use crate::table::Table;
 use rv_decode::Reg;
@@ -19,12 +19,7 @@ pub struct Sessions;
 
 impl Table for Sessions {
     fn difference(&mut self, alloc: Global, row: &str) -> Result<Option<String>, RowError> {
-        let case = read_case(row)?;
-        match case.vlen {
-            Vlen::V128 => run::<16>(alloc, &case),
-            Vlen::V256 => run::<32>(alloc, &case),
-            Vlen::V512 => run::<64>(alloc, &case),
-        }
+        at_length!(alloc, row, run)
     }
 }
 

@@ -95,26 +95,15 @@ impl State {
             "vtype" => self.config.vtype = hex(value)?,
             "vxrm" => self.vxrm = decimal(value)?,
             "vxsat" => self.vxsat = decimal(value)?,
-            _ => return self.set_register(alloc, vlenb, name, value),
-        }
-        Ok(true)
-    }
-
-    fn set_register(
-        &mut self,
-        alloc: Global,
-        vlenb: usize,
-        name: &str,
-        value: &str,
-    ) -> Result<bool, RowError>
-        requires { vlenb < 65 }
-    {
-        if let Some(number) = name.strip_prefix("x") {
-            self.x[usize::from(register(number)?.number())] = hex(value)?;
-        } else if let Some(number) = name.strip_prefix("v") {
-            self.set_vector(register(number)?, vlenb, bytes(alloc, value)?.as_slice())?;
-        } else {
-            return Ok(false);
+            _ => {
+                if let Some(number) = name.strip_prefix("x") {
+                    self.x[usize::from(register(number)?.number())] = hex(value)?;
+                } else if let Some(number) = name.strip_prefix("v") {
+                    self.set_vector(register(number)?, vlenb, bytes(alloc, value)?.as_slice())?;
+                } else {
+                    return Ok(false);
+                }
+            }
         }
         Ok(true)
     }

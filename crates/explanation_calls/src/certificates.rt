@@ -1,8 +1,9 @@
 //! Why bytes are no certificate: the kernel's certificate with a byte changed, or cut off.
 use crate::assertions::assert_same;
-use crate::samples::{CERTIFICATE, ORDERED};
+use crate::samples::ORDERED;
 use cert_note::CertError;
 use explanations::certificate_reason;
+use kernels::SUM_CERTIFICATE;
 use std::alloc::Global;
 use std::process::Abort;
 use std::test::Fail;
@@ -26,7 +27,7 @@ fn assert_told(
 /// The start of the second block is below that of the first.
 #[test]
 fn tells_the_place_and_the_block(rt: HostRuntime) -> Result<(), Fail> {
-    let mut bytes = CERTIFICATE;
+    let mut bytes = SUM_CERTIFICATE;
     bytes[169] = 0;
     let expected = "  reading stopped behind byte 171 of 261
   in block 1, counted from 0
@@ -37,7 +38,7 @@ fn tells_the_place_and_the_block(rt: HostRuntime) -> Result<(), Fail> {
 
 #[test]
 fn tells_the_version(rt: HostRuntime) -> Result<(), Fail> {
-    let mut bytes = CERTIFICATE;
+    let mut bytes = SUM_CERTIFICATE;
     bytes[0] = 9;
     let expected = "  reading stopped behind byte 2 of 261
   wanted: version 1 or 2, and a vector length of 1, 2 or 3
@@ -54,7 +55,7 @@ fn assert_told_of_byte(
     error: CertError,
     expected: &str,
 ) -> Result<(), Fail> {
-    let mut bytes = CERTIFICATE;
+    let mut bytes = SUM_CERTIFICATE;
     if place < bytes.len() {
         bytes[place] = byte;
     }
@@ -124,7 +125,7 @@ fn tells_an_order(rt: HostRuntime) -> Result<(), Fail> {
 #[test]
 fn tells_bytes_behind_the_last_block(rt: HostRuntime) -> Result<(), Fail> {
     let alloc = rt.alloc();
-    let mut bytes = Vec::from_slice(alloc, &CERTIFICATE)?;
+    let mut bytes = Vec::from_slice(alloc, &SUM_CERTIFICATE)?;
     bytes.push(0)?;
     let expected = "  reading stopped behind byte 262 of 262
   wanted: no bytes behind the last block
@@ -141,7 +142,7 @@ fn tells_where_bytes_end(rt: HostRuntime) -> Result<(), Fail> {
     assert_told(
         &rt,
         rt.alloc(),
-        &CERTIFICATE[..200],
+        &SUM_CERTIFICATE[..200],
         CertError::Short,
         expected,
     )

@@ -1,15 +1,16 @@
 //! Why images are refused: the kernel with a word or a number of its certificate changed.
 use crate::assertions::assert_same;
-use crate::samples::{CERTIFICATE, ORDERED, SUM, file_of};
+use crate::samples::{ORDERED, file_of};
 use cert_note::Vlen;
 use explanations::{CheckReason, check_reason};
+use kernels::{SUM, SUM_CERTIFICATE};
 use std::alloc::Global;
 use std::process::Abort;
 use std::test::Fail;
 
 /// What is told of these words at a length of vector registers.
 fn told(alloc: Global, words: &[u32], vlen: Vlen) -> Result<Option<CheckReason>, Fail> {
-    let certificate = cert_note::read(alloc, &CERTIFICATE)?;
+    let certificate = cert_note::read(alloc, &SUM_CERTIFICATE)?;
     let image = elf_image::read(alloc, &file_of(alloc, words)?)?;
     Ok(check_reason(alloc, &image, &certificate, vlen)?)
 }
@@ -133,7 +134,7 @@ fn assert_told_of_byte(
     byte: u8,
     expected: &str,
 ) -> Result<(), Fail> {
-    let mut bytes = Vec::from_slice(alloc, &CERTIFICATE)?;
+    let mut bytes = Vec::from_slice(alloc, &SUM_CERTIFICATE)?;
     if place < bytes.len() {
         bytes[place] = byte;
     }
@@ -183,7 +184,7 @@ fn tells_the_entry(rt: HostRuntime) -> Result<(), Fail> {
     let expected = "  wanted: a block at the entry, 0x00010000
 ";
     let alloc = rt.alloc();
-    let mut bytes = Vec::from_slice(alloc, &CERTIFICATE)?;
+    let mut bytes = Vec::from_slice(alloc, &SUM_CERTIFICATE)?;
     if bytes.len() > 106 {
         bytes[106] = 0;
     }
@@ -295,7 +296,7 @@ fn tells_an_order(rt: HostRuntime) -> Result<(), Fail> {
 #[test]
 fn tells_a_vector_fact(rt: HostRuntime) -> Result<(), Fail> {
     let alloc = rt.alloc();
-    let mut bytes = Vec::from_slice(alloc, &CERTIFICATE)?;
+    let mut bytes = Vec::from_slice(alloc, &SUM_CERTIFICATE)?;
     bytes.extend_from_slice(&[8, 8, 1, 0, 16, 0, 0, 0, 0, 0, 0, 0, 127, 0, 0, 0])?;
     if bytes.len() > 247 {
         bytes[247] = 1;
@@ -335,7 +336,7 @@ fn tells_where_no_code_is(rt: HostRuntime) -> Result<(), Fail> {
   at 0x00010018: no word
   wanted: a word in one segment that can be executed
 ";
-    assert_told_with(&rt, rt.alloc(), &CERTIFICATE, &SUM[..6], expected)
+    assert_told_with(&rt, rt.alloc(), &SUM_CERTIFICATE, &SUM[..6], expected)
 }
 
 /// 4,097 times addi x0,x0,0 in one block, at 0x10000.
@@ -346,7 +347,7 @@ fn tells_a_long_block(rt: HostRuntime) -> Result<(), Fail> {
     for _word in 0..4097 {
         words.push(0x0000_0013)?;
     }
-    let mut bytes = Vec::from_slice(alloc, &CERTIFICATE[..100])?;
+    let mut bytes = Vec::from_slice(alloc, &SUM_CERTIFICATE[..100])?;
     bytes.extend_from_slice(&[1, 0, 0, 0, 0, 0, 1, 0, 0, 0, 0, 0])?;
     bytes.extend_from_slice(&[0, 0, 0, 0, 0, 0, 0, 0, 0, 0, 0, 0])?;
     let expected = "  stopped in the block at 0x00010000

@@ -1,8 +1,9 @@
 //! Why files are refused: the kernel's file with some bytes changed.
 use crate::assertions::assert_same;
-use crate::samples::{SUM, file_of};
+use crate::samples::file_of;
 use elf_image::ElfError;
 use explanations::image_reason;
+use kernels::SUM;
 use std::alloc::Global;
 use std::process::Abort;
 use std::test::Fail;

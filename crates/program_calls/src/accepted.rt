@@ -1,5 +1,5 @@
 //! `check` and `run`, on a kernel whose certificate is made here, field by field.
-use crate::shelf::{Shelf, expect, expect_silence, image};
+use crate::shelf::{Broken, Shelf, expect, expect_failing, expect_silence, image};
 use commands::Status;
 use std::alloc::{AllocError, Global};
 use std::process::Abort;
@@ -321,15 +321,11 @@ fn ends_at_the_first_file_that_fails(rt: HostRuntime) -> Result<(), Fail> {
         ),
     ] {
         let mut shelf = files(alloc, FOUR, HEAD, 4, PARAMS)?;
-        shelf.failing = path;
-        let told = format!(in alloc; "file: {path}\n")?;
-        let told = (Status::File, "", told.as_str());
-        expect(&rt, RUN.as_slice(), &mut shelf, told, calls);
+        expect_failing(&rt, RUN.as_slice(), &mut shelf, &mut Broken, path, calls)?;
     }
     let mut shelf = files(alloc, FOUR, HEAD, 4, PARAMS)?;
-    shelf.failing = "kernel.elf";
-    let told = (Status::File, "", "file: kernel.elf\n");
-    expect(&rt, CHECK.as_slice(), &mut shelf, told, "read kernel.elf\n");
+    let (path, calls) = ("kernel.elf", "read kernel.elf\n");
+    expect_failing(&rt, CHECK.as_slice(), &mut shelf, &mut Broken, path, calls)?;
     Ok(())
 }
 

@@ -1,38 +1,11 @@
-//! `make`, on the loop of the example `raise_words`, whose certificate by hand stands here.
-use crate::shelf::{Shelf, expect, expect_silence, image};
+//! `make`, on the loop of the example `raise_words`, against its certificate by hand.
+use crate::shelf::{Broken, Shelf, expect, expect_failing, expect_silence, image};
 use commands::Status;
+use kernels::RAISE_CERTIFICATE;
+pub(crate) use kernels::RAISE_WORDS;
 use std::alloc::{AllocError, Global};
 use std::process::Abort;
 use std::test::Fail;
-
-/// beqz a1,36; vsetvli t0,a1,e32,m1,ta,ma; vle32.v v8,(a0); vadd.vi v8,v8,1; vse32.v v8,(a0); slli t1,t0,2;
-/// add a0,a0,t1; sub a1,a1,t0; bnez a1,-28; ret.
-pub(crate) const RAISE_WORDS: [u32; 10] = [
-    0x0205_8263,
-    0x0d05_f2d7,
-    0x0205_6407,
-    0x0280_b457,
-    0x0205_6427,
-    0x0022_9313,
-    0x0065_0533,
-    0x4055_85b3,
-    0xfe05_92e3,
-    0x0000_8067,
-];
-
-/// The certificate at 128 bits, as `examples/raise_words/certificate.toml` states it.
-const CERTIFICATE: [u8; 261] = [
-    1, 0, 1, 0, 2, 3, 0, 0, 0, 0x10, 0, 0, 0, 0, 0, 0, 1, 0, 0, 0, 0, 0, 0, 0, 0, 4, 0, 0, 0, 0, 0,
-    0, 0, 0, 0, 0, 0, 0, 0, 0, 0, 0, 0, 0, 0, 0, 0, 0, 0, 0, 0, 0, 0, 0, 0, 0, 0, 0, 0, 0, 0, 0, 0,
-    0, 0, 0, 0, 0, 0, 0, 0, 0, 0, 0, 0, 0, 0, 0, 0, 0, 0, 0, 0, 0, 0, 0, 0, 0, 0, 0, 0, 0, 0, 0, 0,
-    0, 0, 0, 0, 0, 3, 0, 0, 0, 0, 0, 1, 0, 2, 0, 0, 0, 8, 0, 0, 0, 0x0b, 0, 0, 3, 0, 0, 0, 0, 1,
-    0xf0, 0xff, 0xff, 0xff, 0xf0, 0xff, 0xff, 0xff, 0xff, 0x0a, 0, 0, 0, 0x40, 0, 0, 0, 0x40, 0, 0,
-    0, 0, 0x40, 0x0b, 0, 0, 0, 0, 0, 4, 0, 0, 1, 0, 0, 0, 0, 0x22, 1, 0, 0, 0, 4, 0, 1, 0, 1, 0, 0,
-    0, 8, 0, 0, 0, 0x0b, 0, 0, 3, 0, 0, 0, 0, 1, 0xf0, 0xff, 0xff, 0xff, 0xf0, 0xff, 0xff, 0xff,
-    0xff, 0x0a, 0, 0, 0, 0x40, 0, 0x10, 0, 0x40, 2, 0, 0, 0, 0x40, 0x0b, 0xfc, 0xff, 0xff, 0xff,
-    0x22, 4, 0, 0, 0, 0x0b, 1, 0, 0, 0, 0, 4, 0, 0, 0xff, 0x24, 0, 1, 0, 1, 0, 0, 0, 0, 0, 0, 0, 0,
-    0, 0, 1, 0, 0, 0, 0, 1, 0xf0, 0xff, 0xff, 0xff, 0xf0, 0xff, 0xff, 0xff, 0xff,
-];
 
 /// The parameters: 4096 bytes, and a number up to 1024.
 pub(crate) const PARAMS: &str =
@@ -83,9 +56,9 @@ pub(crate) fn made(alloc: Global, vlen: u8) -> Result<Vec<u8>, AllocError> {
     push_words(&mut file, [4, 188, 0, 0, 284, 284, 4, 4].as_slice())?;
     push_words(&mut file, [7, 261, 1].as_slice())?;
     file.extend_from_slice(b"RVVBOX\0\0".as_slice())?;
-    file.extend_from_slice(&CERTIFICATE[..2])?;
+    file.extend_from_slice(&RAISE_CERTIFICATE[..2])?;
     file.push(vlen)?;
-    file.extend_from_slice(&CERTIFICATE[3..])?;
+    file.extend_from_slice(&RAISE_CERTIFICATE[3..])?;
     file.extend_from_slice([0; 3].as_slice())?;
     Ok(file)
 }
@@ -248,10 +221,7 @@ fn ends_at_the_first_file_that_fails(rt: HostRuntime) -> Result<(), Fail> {
         ("made.elf", written.as_str()),
     ] {
         let mut shelf = files(alloc, 128, PARAMS, RAISE_WORDS.as_slice())?;
-        shelf.failing = path;
-        let told = format!(in alloc; "file: {path}\n")?;
-        let told = (Status::File, "", told.as_str());
-        expect(&rt, MAKE.as_slice(), &mut shelf, told, calls);
+        expect_failing(&rt, MAKE.as_slice(), &mut shelf, &mut Broken, path, calls)?;
     }
     Ok(())
 }

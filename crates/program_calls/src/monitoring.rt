@@ -1,6 +1,6 @@
 //! `mon`, on the loop of the example `raise_words`: what is answered, what is written, and how it ends.
 use crate::making::{RAISE_WORDS, files, made};
-use crate::shelf::{Broken, Shelf, Stuck, expect_on, expect_silence_on};
+use crate::shelf::{Broken, Shelf, Stuck, expect_failing, expect_on, expect_silence_on};
 use commands::{Status, mon_job_within};
 use std::alloc::{AllocError, Global};
 use std::io;
@@ -254,27 +254,15 @@ fn ends_where_output_fails(rt: HostRuntime) -> Result<(), Fail> {
 fn ends_at_the_first_file_that_fails(rt: HostRuntime) -> Result<(), Fail> {
     let alloc = rt.alloc();
     let written = calls(alloc, numbers(alloc, 0)?.as_slice())?;
-    for (failing, told, calls) in [
-        ("job.toml", "file: job.toml\n", "read job.toml\n"),
-        (
-            "made.elf",
-            "file: made.elf\n",
-            "read job.toml\nread made.elf\n",
-        ),
-        ("words", "file: words\n", READS),
-        ("raised", "file: raised\n", written.as_str()),
+    for (path, calls) in [
+        ("job.toml", "read job.toml\n"),
+        ("made.elf", "read job.toml\nread made.elf\n"),
+        ("words", READS),
+        ("raised", written.as_str()),
     ] {
         let mut files = shelf(alloc)?;
-        files.failing = failing;
         let mut input = b"q\n".as_slice();
-        expect_on(
-            &rt,
-            MON.as_slice(),
-            &mut files,
-            &mut input,
-            (Status::File, "", told),
-            calls,
-        );
+        expect_failing(&rt, MON.as_slice(), &mut files, &mut input, path, calls)?;
     }
     Ok(())
 }

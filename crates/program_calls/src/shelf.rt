@@ -158,6 +158,22 @@ pub(crate) fn expect_on<R: Abort + AllocGlobal, I: Read>(
     assert_eq!(rt; shelf.calls.as_str(), calls);
 }
 
+/// The same where the file at a path fails, which is told.
+pub(crate) fn expect_failing<R: Abort + AllocGlobal, I: Read>(
+    rt: &R,
+    words: &[&str],
+    shelf: &mut Shelf,
+    input: &mut I,
+    path: &'static str,
+    calls: &str,
+) -> Result<(), AllocError> {
+    shelf.failing = path;
+    let told = format!(in rt.alloc(); "file: {path}\n")?;
+    let told = (Status::File, "", told.as_str());
+    expect_on(rt, words, shelf, input, told, calls);
+    Ok(())
+}
+
 /// Performs `rvvbox` where standard output takes no text, and asserts that nothing is told.
 pub(crate) fn expect_silence<R: Abort + AllocGlobal>(rt: &R, words: &[&str], shelf: &mut Shelf) {
     expect_silence_on(rt, words, shelf, &mut Broken);

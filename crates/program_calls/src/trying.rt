@@ -1,20 +1,10 @@
 //! `try`, and words that ask for no job.
-use crate::shelf::{Shelf, expect, expect_silence, image};
+use crate::shelf::{Broken, Shelf, expect, expect_failing, expect_silence, image};
 use commands::Status;
+use kernels::ADD_BYTES;
 use std::alloc::{AllocError, Global};
 use std::process::Abort;
 use std::test::Fail;
-
-/// vsetvli t0,a2,e8,m1,ta,ma; vle8.v v8,(a0); vle8.v v16,(a1); vadd.vv v8,v8,v16; vse8.v v8,(a0);
-/// ecall.
-const ADD_BYTES: [u32; 6] = [
-    0x0c06_72d7,
-    0x0205_0407,
-    0x0205_8807,
-    0x0288_0457,
-    0x0205_0427,
-    0x0000_0073,
-];
 
 /// The start of a job, before its number of steps.
 const HEAD: &str = "image = \"kernel.elf\"\nvlen = 128\nagnostic = \"keep\"\n";
@@ -172,10 +162,7 @@ fn ends_at_the_first_file_that_fails(rt: HostRuntime) -> Result<(), Fail> {
         ),
     ] {
         let mut files = job_files(alloc, ADD_BYTES.as_slice(), 6)?;
-        files.failing = path;
-        let told = format!(in alloc; "file: {path}\n")?;
-        let told = (Status::File, "", told.as_str());
-        expect(&rt, TRY.as_slice(), &mut files, told, calls);
+        expect_failing(&rt, TRY.as_slice(), &mut files, &mut Broken, path, calls)?;
     }
     Ok(())
 }

@@ -1,9 +1,10 @@
 //! Why images are refused: the kernel of [`checks`](crate::checks) with a word or a number of its certificate changed, and what
 //! is told of it.
 use crate::assertions::{assert_same, found, given};
-use crate::checks::{CERTIFICATE, SUM, image_of, sum};
+use crate::checks::{image_of, sum};
 use block_checker::{CheckError, Explanation, Part, explain};
 use cert_note::Vlen;
+use kernels::{SUM, SUM_CERTIFICATE};
 use std::alloc::Global;
 use std::process::Abort;
 
@@ -21,7 +22,7 @@ fn told(
     place: usize,
     byte: u8,
 ) -> Option<Explanation> {
-    let mut bytes = CERTIFICATE;
+    let mut bytes = SUM_CERTIFICATE;
     if place < bytes.len() {
         bytes[place] = byte;
     }
@@ -36,7 +37,7 @@ fn told_of_word(rt: impl Abort + Copy, alloc: Global, place: usize, word: u32) -
     if place < words.len() {
         words[place] = word;
     }
-    found!(rt; told(rt, alloc, &words, 0, CERTIFICATE[0]))
+    found!(rt; told(rt, alloc, &words, 0, SUM_CERTIFICATE[0]))
 }
 
 /// Asserts what is told: the error, the part of the check and the word.
@@ -55,7 +56,7 @@ fn assert_told(
 
 #[test]
 fn tells_nothing_of_what_passes(rt: HostRuntime) {
-    assert_same!(rt; told(rt, rt.alloc(), &SUM, 0, CERTIFICATE[0]), None);
+    assert_same!(rt; told(rt, rt.alloc(), &SUM, 0, SUM_CERTIFICATE[0]), None);
 }
 
 /// lbu t0,4(a0): the last bytes lie behind the buffer.
@@ -132,7 +133,7 @@ the others are 0";
 #[test]
 fn explains_that_there_is_no_code(rt: HostRuntime) {
     let alloc = rt.alloc();
-    let explanation = found!(rt; told(rt, alloc, &SUM[..6], 0, CERTIFICATE[0]));
+    let explanation = found!(rt; told(rt, alloc, &SUM[..6], 0, SUM_CERTIFICATE[0]));
     let error = CheckError::NotCode(0x1_0018);
     assert_told(rt, &explanation, error, Part::Block(0x1_0018), None);
     let text = given!(rt; format!(in alloc; "{explanation}"));

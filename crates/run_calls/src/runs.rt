@@ -6,21 +6,12 @@ ghost use Rattle.vreg_groups.specs.VectorLength.{IsVlenb};
 use crate::assertions::{assert_same, found, given};
 use crate::checks::image_of;
 use elf_image::Image;
+use kernels::ADD_BYTES;
 use region_mem::{Arg, Args, Bytes, Mode, Param, Parameters};
 use sandbox_run::{Final, OpenError, Outcome, try_run};
 use std::alloc::Global;
 use std::process::Abort;
 use vreg_groups::Agnostic;
-
-/// vsetvli t0,a2,e8,m1,ta,ma; vle8.v v8,(a0); vle8.v v16,(a1); vadd.vv v8,v8,v16; vse8.v v8,(a0); ecall
-const ADD_BYTES: [u32; 6] = [
-    0x0c06_72d7,
-    0x0205_0407,
-    0x0205_8807,
-    0x0288_0457,
-    0x0205_0427,
-    0x0000_0073,
-];
 
 fn buffer(rt: impl Abort + Copy, alloc: Global, bytes: &[u8]) -> Arg {
     Arg::Buffer(Bytes::new(given!(rt; Vec::from_slice(alloc, bytes))))

@@ -1,43 +1,27 @@
-//! A vector kernel that is accepted: a loop over strips, which raises each word of a buffer by one. Its words come from the LLVM
-//! assembler, its certificate is the one that was laid out by hand.
+//! A vector kernel that is accepted: a loop over strips, which raises each word of a buffer by one.
 ghost use Rattle.vreg_groups.specs.VectorLength.{IsVlenb};
 
 use crate::assertions::{assert_same, given};
-use crate::certificates::BYTES;
 use crate::checks::image_of;
 use crate::sessions::{args, assert_refused, first_byte};
 use block_checker::{Accepted, check};
 use cert_note::Vlen;
+use kernels::{RAISE_CERTIFICATE, RAISE_WORDS};
 use sandbox_run::{OpenError, Session};
 use std::alloc::Global;
 use std::process::Abort;
 use vreg_groups::Agnostic;
 
-/// beqz a1,end; loop: vsetvli t0,a1,e32,m1,ta,ma; vle32.v v8,(a0); vadd.vi v8,v8,1; vse32.v v8,(a0); slli t1,t0,2;
-/// add a0,a0,t1; sub a1,a1,t0; bnez a1,loop; end: ret
-const RAISE: [u32; 10] = [
-    0x0205_8263,
-    0x0d05_f2d7,
-    0x0205_6407,
-    0x0280_b457,
-    0x0205_6427,
-    0x0022_9313,
-    0x0065_0533,
-    0x4055_85b3,
-    0xfe05_92e3,
-    0x0000_8067,
-];
-
 /// The kernel, accepted with its certificate for a length of vector registers.
 pub(crate) fn accepted_raise(rt: impl Abort + Copy, alloc: Global, vlen: Vlen) -> Accepted {
-    let mut bytes = BYTES;
+    let mut bytes = RAISE_CERTIFICATE;
     bytes[2] = match vlen {
         Vlen::V128 => 1,
         Vlen::V256 => 2,
         Vlen::V512 => 3,
     };
     let certificate = given!(rt; cert_note::read(alloc, &bytes));
-    let image = image_of(rt, alloc, &RAISE);
+    let image = image_of(rt, alloc, &RAISE_WORDS);
     given!(rt; check(alloc, image, certificate, vlen))
 }
 

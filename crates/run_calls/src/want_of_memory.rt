@@ -1,13 +1,14 @@
 //! Calls on files and certificates of which each allocation fails in turn: the answer is want of memory there, and what is
 //! wrong with the bytes is told all the same.
 use crate::assertions::{assert_same, found, given};
-use crate::checks::{SUM, file_of};
+use crate::checks::file_of;
 use crate::readme::RAISE;
 use crate::refusing::Refusing;
 use cert_maker::{MakeError, make_in};
 use cert_note::{CertError, Certificate, Vlen};
 use elf_image::{ElfError, Image, attach};
 use hex::decode;
+use kernels::SUM;
 use region_mem::{Mode, Param, Parameters};
 use std::alloc::Global;
 use std::process::Abort;
