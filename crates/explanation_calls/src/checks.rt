@@ -1,48 +1,71 @@
 //! Why images are refused: the kernel with a word or a number of its certificate changed.
-use crate::assertions::assert_same;
-use crate::samples::{ORDERED, file_of};
+use crate::assertions::{assert_same, assert_shows, found, given};
+use crate::samples::{SUM, certificate, file_of, ordered, put};
 use cert_note::Vlen;
 use explanations::{CheckReason, check_reason};
-use kernels::{SUM, SUM_CERTIFICATE};
 use std::alloc::Global;
 use std::process::Abort;
-use std::test::Fail;
 
-/// What is told of these words at a length of vector registers.
-fn told(alloc: Global, words: &[u32], vlen: Vlen) -> Result<Option<CheckReason>, Fail> {
-    let certificate = cert_note::read(alloc, &SUM_CERTIFICATE)?;
-    let image = elf_image::read(alloc, &file_of(alloc, words)?)?;
-    Ok(check_reason(alloc, &image, &certificate, vlen)?)
+/// What is told of these words with this certificate at a length of vector registers.
+fn told(
+    rt: impl Abort + Copy,
+    alloc: Global,
+    words: &[u32],
+    certificate: &[u8],
+    vlen: Vlen,
+) -> Option<CheckReason> {
+    let certificate = given!(rt; cert_note::read(alloc, certificate));
+    let file = file_of(rt, alloc, words);
+    let image = given!(rt; elf_image::read(alloc, &file));
+    given!(rt; check_reason(alloc, &image, &certificate, vlen))
+}
+
+/// Asserts what is told of the kernel with another certificate.
+fn assert_told_with(
+    rt: impl Abort + Copy,
+    alloc: Global,
+    certificate: &[u8],
+    words: &[u32],
+    expected: &str,
+) {
+    let reason = found!(rt; told(rt, alloc, words, certificate, Vlen::V128));
+    assert_shows(rt, alloc, reason, expected);
 }
 
 /// Asserts what is told where one word of the kernel is another.
-fn assert_told(
-    rt: &impl Abort,
+fn assert_told(rt: impl Abort + Copy, alloc: Global, place: usize, word: u32, expected: &str) {
+    let mut words = SUM;
+    match words.get_mut(place) {
+        Some(old) => *old = word,
+        None => panic!(rt; "there is no word {place}"),
+    }
+    let certificate = certificate(rt, alloc);
+    assert_told_with(rt, alloc, &certificate, &words, expected);
+}
+
+/// Asserts what is told where one byte of the certificate is another.
+fn assert_told_of_byte(
+    rt: impl Abort + Copy,
     alloc: Global,
     place: usize,
-    word: u32,
+    byte: u8,
     expected: &str,
-) -> Result<(), Fail> {
-    let mut words = SUM;
-    if place < words.len() {
-        words[place] = word;
-    }
-    let reason = told(alloc, &words, Vlen::V128)?.ok_or("accepted")?;
-    let text = format!(in alloc; "{reason}")?;
-    assert_same!(*rt; text.as_str(), expected);
-    Ok(())
+) {
+    let mut certificate = certificate(rt, alloc);
+    put(rt, &mut certificate, place, byte);
+    assert_told_with(rt, alloc, &certificate, &SUM, expected);
 }
 
 #[test]
-fn tells_nothing_of_what_passes(rt: HostRuntime) -> Result<(), Fail> {
-    let told = told(rt.alloc(), &SUM, Vlen::V128)?;
+fn tells_nothing_of_what_passes(rt: HostRuntime) {
+    let certificate = certificate(rt, rt.alloc());
+    let told = told(rt, rt.alloc(), &SUM, &certificate, Vlen::V128);
     assert_same!(rt; told.is_none(), true);
-    Ok(())
 }
 
 /// lbu t0,4(a0): the last bytes lie behind the buffer.
 #[test]
-fn tells_an_access(rt: HostRuntime) -> Result<(), Fail> {
+fn tells_an_access(rt: HostRuntime) {
     let expected = "  stopped in the block at 0x00010004
   at 0x00010004: 0x00454283
   that is lbu rd=5 rs1=10 imm=4
@@ -55,12 +78,12 @@ fn tells_an_access(rt: HostRuntime) -> Result<(), Fail> {
     from 0x2fff0000 and below 0x30000000: read and write
     from 0x40000000 and below 0x40000400: read
 ";
-    assert_told(&rt, rt.alloc(), 1, 0x0045_4283, expected)
+    assert_told(rt, rt.alloc(), 1, 0x0045_4283, expected);
 }
 
 /// sb t0,0(a0): the buffer is to be read.
 #[test]
-fn tells_a_store(rt: HostRuntime) -> Result<(), Fail> {
+fn tells_a_store(rt: HostRuntime) {
     let expected = "  stopped in the block at 0x00010004
   at 0x00010004: 0x00550023
   that is sb rs1=10 rs2=5 imm=0
@@ -73,12 +96,12 @@ fn tells_a_store(rt: HostRuntime) -> Result<(), Fail> {
     from 0x2fff0000 and below 0x30000000: read and write
     from 0x40000000 and below 0x40000400: read
 ";
-    assert_told(&rt, rt.alloc(), 1, 0x0055_0023, expected)
+    assert_told(rt, rt.alloc(), 1, 0x0055_0023, expected);
 }
 
 /// vl1re8.v v8,(a0): the last of its 16 bytes lie behind the buffer.
 #[test]
-fn tells_a_vector_access(rt: HostRuntime) -> Result<(), Fail> {
+fn tells_a_vector_access(rt: HostRuntime) {
     let expected = "  stopped in the block at 0x00010004
   at 0x00010004: 0x02850407
   that is vl1re8.v vd=8 rs1=10 vm=1
@@ -89,33 +112,33 @@ fn tells_a_vector_access(rt: HostRuntime) -> Result<(), Fail> {
     from 0x2fff0000 and below 0x30000000: read and write
     from 0x40000000 and below 0x40000400: read
 ";
-    assert_told(&rt, rt.alloc(), 1, 0x0285_0407, expected)
+    assert_told(rt, rt.alloc(), 1, 0x0285_0407, expected);
 }
 
 /// vadd.vv v8,v8,v8: no vset stands before it.
 #[test]
-fn tells_a_vector_type(rt: HostRuntime) -> Result<(), Fail> {
+fn tells_a_vector_type(rt: HostRuntime) {
     let expected = "  stopped in the block at 0x00010004
   at 0x00010004: 0x02840457
   that is vadd.vv vd=8 vs2=8 vs1=8 vm=1
   wanted: a vector type that is known there
 ";
-    assert_told(&rt, rt.alloc(), 1, 0x0284_0457, expected)
+    assert_told(rt, rt.alloc(), 1, 0x0284_0457, expected);
 }
 
 #[test]
-fn tells_an_illegal_word(rt: HostRuntime) -> Result<(), Fail> {
+fn tells_an_illegal_word(rt: HostRuntime) {
     let expected = "  stopped in the block at 0x00010004
   at 0x0001000c: 0x00000000
   that is illegal
   wanted: an instruction that is legal there
 ";
-    assert_told(&rt, rt.alloc(), 3, 0, expected)
+    assert_told(rt, rt.alloc(), 3, 0, expected);
 }
 
 /// bne x11,x0 leads four bytes further: no block begins there.
 #[test]
-fn tells_a_target(rt: HostRuntime) -> Result<(), Fail> {
+fn tells_a_target(rt: HostRuntime) {
     let expected = "  stopped in the block at 0x00010004
   at 0x00010014: 0xfe059ae3
   that is bne rs1=11 rs2=0 to=00010008
@@ -123,32 +146,12 @@ fn tells_a_target(rt: HostRuntime) -> Result<(), Fail> {
   leads to 0x00010008, after 5 words of the block
   leaves block 1 of the certificate, with a budget of 1 + 5 * x11
 ";
-    assert_told(&rt, rt.alloc(), 5, 0xfe05_9ae3, expected)
-}
-
-/// Asserts what is told where one byte of the certificate is another.
-fn assert_told_of_byte(
-    rt: &impl Abort,
-    alloc: Global,
-    place: usize,
-    byte: u8,
-    expected: &str,
-) -> Result<(), Fail> {
-    let mut bytes = Vec::from_slice(alloc, &SUM_CERTIFICATE)?;
-    if place < bytes.len() {
-        bytes[place] = byte;
-    }
-    let certificate = cert_note::read(alloc, bytes.as_slice())?;
-    let image = elf_image::read(alloc, &file_of(alloc, &SUM)?)?;
-    let reason = check_reason(alloc, &image, &certificate, Vlen::V128)?.ok_or("accepted")?;
-    let text = format!(in alloc; "{reason}")?;
-    assert_same!(*rt; text.as_str(), expected);
-    Ok(())
+    assert_told(rt, rt.alloc(), 5, 0xfe05_9ae3, expected);
 }
 
 /// The way over the loop takes two instructions, and the first block has a budget of one for it.
 #[test]
-fn tells_a_budget(rt: HostRuntime) -> Result<(), Fail> {
+fn tells_a_budget(rt: HostRuntime) {
     let expected = "  stopped in the block at 0x00010000
   at 0x00010000: 0x00058c63
   that is beq rs1=11 rs2=0 to=00010018
@@ -159,12 +162,12 @@ fn tells_a_budget(rt: HostRuntime) -> Result<(), Fail> {
   known: the budget left is at least 1
   known: these words and the budget entered are at most 2
 ";
-    assert_told_of_byte(&rt, rt.alloc(), 108, 1, expected)
+    assert_told_of_byte(rt, rt.alloc(), 108, 1, expected);
 }
 
 /// The number that is passed may be above what the first block states of it.
 #[test]
-fn tells_the_way_into_the_first_block(rt: HostRuntime) -> Result<(), Fail> {
+fn tells_the_way_into_the_first_block(rt: HostRuntime) {
     let expected = "  stopped on the way into the first block
   at 0x00010000: 0x00058c63
   that is beq rs1=11 rs2=0 to=00010018
@@ -175,39 +178,31 @@ fn tells_the_way_into_the_first_block(rt: HostRuntime) -> Result<(), Fail> {
   known: x11 = 0x00000000 + 1 * param 1
   wanted on entering it: x11 in 0x00000000..=0x00000300
 ";
-    assert_told_of_byte(&rt, rt.alloc(), 154, 3, expected)
+    assert_told_of_byte(rt, rt.alloc(), 154, 3, expected);
 }
 
 /// No block begins at the entry: the first one begins behind it.
 #[test]
-fn tells_the_entry(rt: HostRuntime) -> Result<(), Fail> {
-    let expected = "  wanted: a block at the entry, 0x00010000
-";
-    let alloc = rt.alloc();
-    let mut bytes = Vec::from_slice(alloc, &SUM_CERTIFICATE)?;
-    if bytes.len() > 106 {
-        bytes[106] = 0;
-    }
-    let certificate = cert_note::read(alloc, bytes.as_slice())?;
-    let image = elf_image::read(alloc, &file_of(alloc, &SUM)?)?;
-    let reason = check_reason(alloc, &image, &certificate, Vlen::V128)?.ok_or("accepted")?;
-    let text = format!(in alloc; "{reason}")?;
-    assert_same!(rt; text.as_str(), expected);
-    Ok(())
+fn tells_the_entry(rt: HostRuntime) {
+    let expected = "  wanted: a block at the entry, 0x00010000\n";
+    assert_told_of_byte(rt, rt.alloc(), 106, 0, expected);
 }
 
 #[test]
-fn tells_the_lengths(rt: HostRuntime) -> Result<(), Fail> {
-    let alloc = rt.alloc();
-    let reason = told(alloc, &SUM, Vlen::V256)?.ok_or("accepted")?;
-    let text = format!(in alloc; "{reason}")?;
-    assert_same!(rt; text.as_str(), "  stated: VLEN 128\n  wanted: VLEN 256\n");
-    Ok(())
+fn tells_the_lengths(rt: HostRuntime) {
+    let certificate = certificate(rt, rt.alloc());
+    let reason = found!(rt; told(rt, rt.alloc(), &SUM, &certificate, Vlen::V256));
+    assert_shows(
+        rt,
+        rt.alloc(),
+        reason,
+        "  stated: VLEN 128\n  wanted: VLEN 256\n",
+    );
 }
 
 /// addi a0,a0,2: x10 may come to lie above its interval of the loop.
 #[test]
-fn tells_an_interval_on_a_way_out(rt: HostRuntime) -> Result<(), Fail> {
+fn tells_an_interval_on_a_way_out(rt: HostRuntime) {
     let expected = "  stopped in the block at 0x00010004
   at 0x00010014: 0xfe0598e3
   that is bne rs1=11 rs2=0 to=00010004
@@ -219,12 +214,12 @@ fn tells_an_interval_on_a_way_out(rt: HostRuntime) -> Result<(), Fail> {
   known: x10 = 0x40000002 - 1 * x11 + 1 * param 1
   wanted on entering it: x10 in 0x40000000..=0x40000400
 ";
-    assert_told(&rt, rt.alloc(), 2, 0x0025_0513, expected)
+    assert_told(rt, rt.alloc(), 2, 0x0025_0513, expected);
 }
 
 /// A branch tells that x11 is not 0 in the loop, where 2 is wanted.
 #[test]
-fn tells_what_a_branch_says(rt: HostRuntime) -> Result<(), Fail> {
+fn tells_what_a_branch_says(rt: HostRuntime) {
     let expected = "  stopped in the block at 0x00010000
   at 0x00010000: 0x00058c63
   that is beq rs1=11 rs2=0 to=00010018
@@ -236,12 +231,12 @@ fn tells_what_a_branch_says(rt: HostRuntime) -> Result<(), Fail> {
   known: x11 = 0x00000000 + 1 * param 1
   wanted on entering it: x11 in 0x00000002..=0x00000400
 ";
-    assert_told_of_byte(&rt, rt.alloc(), 222, 2, expected)
+    assert_told_of_byte(rt, rt.alloc(), 222, 2, expected);
 }
 
 /// addi a0,a0,0: x10 stays as it is, and x11 falls.
 #[test]
-fn tells_an_equality(rt: HostRuntime) -> Result<(), Fail> {
+fn tells_an_equality(rt: HostRuntime) {
     let expected = "  stopped in the block at 0x00010004
   at 0x00010014: 0xfe0598e3
   that is bne rs1=11 rs2=0 to=00010004
@@ -254,28 +249,12 @@ fn tells_an_equality(rt: HostRuntime) -> Result<(), Fail> {
   wanted on entering it: x10 = 0x40000000 - 1 * x11 + 1 * param 1
   that sum on this way: 0x40000001 - 1 * x11 + 1 * param 1
 ";
-    assert_told(&rt, rt.alloc(), 2, 0x0005_0513, expected)
-}
-
-/// Asserts what is told of the kernel with another certificate.
-fn assert_told_with(
-    rt: &impl Abort,
-    alloc: Global,
-    bytes: &[u8],
-    words: &[u32],
-    expected: &str,
-) -> Result<(), Fail> {
-    let certificate = cert_note::read(alloc, bytes)?;
-    let image = elf_image::read(alloc, &file_of(alloc, words)?)?;
-    let reason = check_reason(alloc, &image, &certificate, Vlen::V128)?.ok_or("accepted")?;
-    let text = format!(in alloc; "{reason}")?;
-    assert_same!(*rt; text.as_str(), expected);
-    Ok(())
+    assert_told(rt, rt.alloc(), 2, 0x0005_0513, expected);
 }
 
 /// The last block states that x10 is at most x11.
 #[test]
-fn tells_an_order(rt: HostRuntime) -> Result<(), Fail> {
+fn tells_an_order(rt: HostRuntime) {
     let expected = "  stopped in the block at 0x00010000
   at 0x00010000: 0x00058c63
   that is beq rs1=11 rs2=0 to=00010018
@@ -289,18 +268,16 @@ fn tells_an_order(rt: HostRuntime) -> Result<(), Fail> {
   known: x11 = 0x00000000 + 1 * param 1
   wanted on entering it: x10 <= x11
 ";
-    assert_told_with(&rt, rt.alloc(), &ORDERED, &SUM, expected)
+    let certificate = ordered(rt, rt.alloc());
+    assert_told_with(rt, rt.alloc(), &certificate, &SUM, expected);
 }
 
 /// The last block states that the 16 bytes of v8 are at most 127.
 #[test]
-fn tells_a_vector_fact(rt: HostRuntime) -> Result<(), Fail> {
-    let alloc = rt.alloc();
-    let mut bytes = Vec::from_slice(alloc, &SUM_CERTIFICATE)?;
-    bytes.extend_from_slice(&[8, 8, 1, 0, 16, 0, 0, 0, 0, 0, 0, 0, 127, 0, 0, 0])?;
-    if bytes.len() > 247 {
-        bytes[247] = 1;
-    }
+fn tells_a_vector_fact(rt: HostRuntime) {
+    let mut bytes = certificate(rt, rt.alloc());
+    given!(rt; bytes.extend_from_slice(&[8, 8, 1, 0, 16, 0, 0, 0, 0, 0, 0, 0, 127, 0, 0, 0]));
+    put(rt, &mut bytes, 247, 1);
     let expected = "  stopped in the block at 0x00010000
   at 0x00010000: 0x00058c63
   that is beq rs1=11 rs2=0 to=00010018
@@ -312,12 +289,12 @@ fn tells_a_vector_fact(rt: HostRuntime) -> Result<(), Fail> {
   known: nothing of this group
   wanted on entering it: v8, registers 1, SEW 8: 16 elements in 0x00000000..=0x0000007f
 ";
-    assert_told_with(&rt, alloc, bytes.as_slice(), &SUM, expected)
+    assert_told_with(rt, rt.alloc(), &bytes, &SUM, expected);
 }
 
 /// The last block states a vector type.
 #[test]
-fn tells_a_vector_type_of_a_block(rt: HostRuntime) -> Result<(), Fail> {
+fn tells_a_vector_type_of_a_block(rt: HostRuntime) {
     let expected = "  stopped in the block at 0x00010000
   at 0x00010000: 0x00058c63
   that is beq rs1=11 rs2=0 to=00010018
@@ -326,34 +303,43 @@ fn tells_a_vector_type_of_a_block(rt: HostRuntime) -> Result<(), Fail> {
   leaves block 0 of the certificate, with a budget of 2 + 5 * x11
   enters block 2 of the certificate, with a budget of 1
 ";
-    assert_told_of_byte(&rt, rt.alloc(), 244, 1, expected)
+    assert_told_of_byte(rt, rt.alloc(), 244, 1, expected);
 }
 
 /// The last word is not in the file.
 #[test]
-fn tells_where_no_code_is(rt: HostRuntime) -> Result<(), Fail> {
+fn tells_where_no_code_is(rt: HostRuntime) {
     let expected = "  stopped in the block at 0x00010018
   at 0x00010018: no word
   wanted: a word in one segment that can be executed
 ";
-    assert_told_with(&rt, rt.alloc(), &SUM_CERTIFICATE, &SUM[..6], expected)
+    let certificate = certificate(rt, rt.alloc());
+    assert_told_with(rt, rt.alloc(), &certificate, &SUM[..6], expected);
+}
+
+/// So many times addi x0,x0,0.
+fn idle(rt: impl Abort + Copy, alloc: Global, count: usize) -> Vec<u32> {
+    given!(rt; vec![in alloc; 0x0000_0013u32; count])
+}
+
+/// The certificate of the sum with one block, of which nothing is claimed but that it begins at 0x10000.
+fn one_block(rt: impl Abort + Copy, alloc: Global) -> Vec<u8> {
+    let mut bytes = certificate(rt, alloc);
+    bytes.truncate(100);
+    given!(rt; bytes.extend_from_slice(&[1, 0, 0, 0, 0, 0, 1, 0, 0, 0, 0, 0]));
+    given!(rt; bytes.extend_from_slice(&[0, 0, 0, 0, 0, 0, 0, 0, 0, 0, 0, 0]));
+    bytes
 }
 
 /// 4,097 times addi x0,x0,0 in one block, at 0x10000.
 #[test]
-fn tells_a_long_block(rt: HostRuntime) -> Result<(), Fail> {
-    let alloc = rt.alloc();
-    let mut words = Vec::new(alloc);
-    for _word in 0..4097 {
-        words.push(0x0000_0013)?;
-    }
-    let mut bytes = Vec::from_slice(alloc, &SUM_CERTIFICATE[..100])?;
-    bytes.extend_from_slice(&[1, 0, 0, 0, 0, 0, 1, 0, 0, 0, 0, 0])?;
-    bytes.extend_from_slice(&[0, 0, 0, 0, 0, 0, 0, 0, 0, 0, 0, 0])?;
+fn tells_a_long_block(rt: HostRuntime) {
     let expected = "  stopped in the block at 0x00010000
   at 0x00014000: 0x00000013
   that is addi rd=0 rs1=0 imm=0
   wanted: at most 4096 words in a block
 ";
-    assert_told_with(&rt, alloc, bytes.as_slice(), words.as_slice(), expected)
+    let words = idle(rt, rt.alloc(), 4097);
+    let bytes = one_block(rt, rt.alloc());
+    assert_told_with(rt, rt.alloc(), &bytes, &words, expected);
 }

@@ -2,7 +2,7 @@ use Rattle.std.proofs.Common.{rules, sym, ◌≡◌, false, get_or, map, is_some
 use Rattle.toml.specs.Data.{get_item}
 use Rattle.toml.specs.View.{array_view}
 use Rattle.job_file.specs.Job.{all_kept, breach_lent, param_at, param_lent, params_of, places}
-use Rattle.job_file.specs.declared.values.Param.TheVariants as param
+use Rattle.job_file.specs.declared.values.JobParam.TheVariants as param
 use Rattle.job_file.proofs.JobLemmas.{eight_stopped, eight_there}
 use Rattle.job_file.proofs.params.params_of.Goals as goal
 

@@ -1,7 +1,7 @@
 use Rattle.std.proofs.Common.{◌≡◌, ℕ, ◌<◌, length, get_or, Ok}
 use Rattle.toml.specs.View.{array_view}
 use Rattle.job_file.specs.Job.{param_at, param_lent}
-use Rattle.job_file.specs.declared.values.Param.TheVariants as param
+use Rattle.job_file.specs.declared.values.JobParam.TheVariants as param
 use Rattle.job_file.proofs.params.params_of.Given as goal
 
 -- the places so far have their parameters
