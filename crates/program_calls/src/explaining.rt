@@ -1,89 +1,106 @@
 //! `--explain`: what more is told of why a subcommand stops.
-use crate::accepted::{image_with, image_within};
-use crate::making::{MAKE, PARAMS, RAISE_WORDS, files, image_over_its_header, made};
-use crate::shelf::{Shelf, image};
+use crate::accepted::{CERTIFICATE, IMAGE, SHORT};
+use crate::assertions::{assert_same, given};
+use crate::making::{JOB as MAKE_JOB, KERNEL, LARGE, MADE, OVER_ITS_HEADER, PARAMS, WORDS};
+use crate::shelf::{Shelf, assert_text, shelf_of, words_of};
 use command_line::perform;
 use commands::{Disk, Store, StoreError};
-use std::alloc::{AllocError, Global};
+use std::alloc::Global;
 use std::io;
 use std::io::{ErrorKind, Read};
 use std::process::Abort;
-use std::test::Fail;
 
 /// What standard output and standard error have after these words, on an input.
 fn told_on<S: Store, I: Read>(
+    rt: impl Abort + Copy,
     alloc: Global,
-    words: &[&str],
+    words: &str,
     store: &mut S,
     input: &mut I,
 ) -> (Vec<u8>, Vec<u8>) {
+    let words = words_of(rt, alloc, words);
     let (mut output, mut errors) = (Vec::new(alloc), Vec::new(alloc));
-    let _ending = perform(alloc, words, store, input, &mut output, &mut errors);
+    let _ending = perform(alloc, &words, store, input, &mut output, &mut errors);
     (output, errors)
 }
 
-/// The same, where the input has no line.
-fn told_of<S: Store>(alloc: Global, words: &[&str], store: &mut S) -> (Vec<u8>, Vec<u8>) {
-    told_on(alloc, words, store, &mut b"".as_slice())
+/// Asserts that these words tell these lines, and print nothing.
+fn assert_told<S: Store, I: Read>(
+    rt: impl Abort + Copy,
+    alloc: Global,
+    words: &str,
+    store: &mut S,
+    input: &mut I,
+    lines: &str,
+) {
+    let (output, errors) = told_on(rt, alloc, words, store, input);
+    assert_text(rt, output, "");
+    assert_text(rt, errors, lines);
 }
 
-/// Asserts that the second words tell these lines behind those that are told of the first, and print what is printed of these.
-fn tells_more<R: Abort + AllocGlobal>(
-    rt: &R,
-    words: &[&str],
-    explaining: &[&str],
+/// Asserts that the second words tell these lines behind those that are told of the first, and print what is printed of
+/// these, where the input has no line.
+fn tells_more(
+    rt: impl Abort + Copy,
+    alloc: Global,
+    words: [&str; 2],
     shelf: &mut Shelf,
-    wanted: &str,
+    lines: &str,
 ) {
-    let alloc = rt.alloc();
-    let (printed, plain) = told_of(alloc, words, shelf);
-    let (same, more) = told_of(alloc, explaining, shelf);
-    assert!(rt; same.as_slice() == printed.as_slice());
-    assert!(rt; more.starts_with(plain.as_slice()));
-    let more = more.get(plain.len()..).unwrap_or(&[]);
-    assert_eq!(rt; std::str::from_utf8(more), Ok(wanted));
+    let [plain, explaining] = words;
+    let (printed, mut told) = told_on(rt, alloc, plain, shelf, &mut b"".as_slice());
+    given!(rt; told.extend_from_slice(lines.as_bytes()));
+    let came = told_on(rt, alloc, explaining, shelf, &mut b"".as_slice());
+    assert_same!(rt; came, (printed, told));
 }
 
-/// Asserts that `--explain`, before or behind the path, tells these lines more.
-fn explains<R: Abort + AllocGlobal>(
-    rt: &R,
-    (command, path): (&str, &str),
-    shelf: &mut Shelf,
-    wanted: &str,
-) {
-    let words = ["rvvbox", command, path];
-    for explaining in [
-        ["rvvbox", command, "--explain", path],
-        ["rvvbox", command, path, "--explain"],
-    ] {
-        tells_more(rt, words.as_slice(), explaining.as_slice(), shelf, wanted);
+/// The subcommands on the image, on the job, and on both.
+const CHECK: &str = "check kernel.elf\n";
+
+const RUN: &str = "run job.toml\n";
+
+const TRY: &str = "try job.toml\n";
+
+const RUN_MON: &str = "run job.toml\nmon job.toml\n";
+
+const RUN_TRY_MON: &str = "run job.toml\ntry job.toml\nmon job.toml\n";
+
+const CHECK_RUN_MON: &str = "check kernel.elf\nrun job.toml\nmon job.toml\n";
+
+const CHECK_RUN_TRY_MON: &str = "check kernel.elf\nrun job.toml\ntry job.toml\nmon job.toml\n";
+
+const MAKE: &str = "make kernel.elf job.toml made.elf\n";
+
+/// Asserts that `--explain`, before or behind the paths, tells these lines more.
+fn explains(rt: impl Abort + Copy, alloc: Global, line: &str, shelf: &mut Shelf, lines: &str) {
+    let (command, paths) = line.split_once(' ').unwrap_or((line, ""));
+    let plain = given!(rt; format!(in alloc; "rvvbox {line}"));
+    let before = given!(rt; format!(in alloc; "rvvbox {command} --explain {paths}"));
+    let behind = given!(rt; format!(in alloc; "rvvbox {line} --explain"));
+    for explaining in [before.as_str(), behind.as_str()] {
+        tells_more(rt, alloc, [plain.as_str(), explaining], shelf, lines);
     }
 }
 
-/// The words of `MAKE`, told to explain.
-const MAKE_EXPLAINED: [&str; 6] = [
-    "rvvbox",
-    "make",
-    "--explain",
-    "kernel.elf",
-    "job.toml",
-    "made.elf",
-];
-
-/// Asserts that `make` tells these lines more.
-fn make_explains<R: Abort + AllocGlobal>(rt: &R, shelf: &mut Shelf, wanted: &str) {
-    let explaining = MAKE_EXPLAINED.as_slice();
-    tells_more(rt, MAKE.as_slice(), explaining, shelf, wanted);
+/// Asserts that of each subcommand, over files that texts spell, `--explain` tells these lines more.
+fn explained(rt: impl Abort + Copy, alloc: Global, files: &[&str], commands: &str, lines: &str) {
+    for line in commands.lines() {
+        let mut shelf = shelf_of(rt, alloc, files);
+        explains(rt, alloc, line, &mut shelf, lines);
+    }
 }
 
-/// A job on `kernel.elf` with these lines behind its image.
-fn job(alloc: Global, shelf: &mut Shelf, lines: &str) -> Result<(), AllocError> {
-    let text = format!(in alloc; "image = \"kernel.elf\"\n{lines}")?;
-    shelf.put("job.toml", text.as_bytes())
-}
+/// The start of a job, and the keys of one that is run.
+const JOB: &str = "@file job.toml\nimage = \"kernel.elf\"\n";
 
-/// The keys of a job that is run.
 const KEYS: &str = "vlen = 128\nagnostic = \"keep\"\nmax = 5\n";
+
+/// Changes what the certificate states: the instructions that suffice, of which it takes four.
+const THREE: &str = "@at 260 03\n";
+
+const FIVE: &str = "@at 260 05\n";
+
+const SIX: &str = "@at 260 06\n";
 
 /// What is told of a budget that is one too small for the four words up to the exit.
 const BUDGET: &str = "  stopped in the block at 0x00010000
@@ -94,19 +111,17 @@ const BUDGET: &str = "  stopped in the block at 0x00010000
   leaves block 0 of the certificate, with a budget of 3
 ";
 
-/// What the store says of a file that it does not have.
+/// What the store says of a file that it does not have, and of one that it does not write.
 const NONE: &str = "  the system says: entity not found\n";
 
+const DENIED: &str = "  the system says: permission denied\n";
+
 #[test]
-fn says_what_the_system_says(rt: HostRuntime) -> Result<(), Fail> {
-    let alloc = rt.alloc();
+fn says_what_the_system_says(rt: HostRuntime) {
     let mut disk = Disk::new(&rt);
-    let words = ["rvvbox", "check", "--explain", "none.elf"];
-    let (output, errors) = told_of(alloc, words.as_slice(), &mut disk);
-    assert!(rt; output.is_empty());
-    let wanted = format!(in alloc; "file: none.elf\n{NONE}")?;
-    assert!(rt; errors.as_slice() == wanted.as_bytes());
-    Ok(())
+    let words = "rvvbox check --explain none.elf";
+    let lines = "file: none.elf\n  the system says: entity not found\n";
+    assert_told(rt, rt.alloc(), words, &mut disk, &mut b"".as_slice(), lines);
 }
 
 /// Has no memory for any file, whatever the system says.
@@ -134,113 +149,69 @@ impl Store for Poor {
 
 #[test]
 fn tells_no_more_where_memory_runs_out(rt: HostRuntime) {
-    let words = ["rvvbox", "check", "--explain", "any"];
-    let (_output, errors) = told_of(rt.alloc(), words.as_slice(), &mut Poor);
-    assert!(rt; errors.as_slice() == b"out of memory\n".as_slice());
+    let words = "rvvbox check --explain any";
+    let (_, errors) = told_on(rt, rt.alloc(), words, &mut Poor, &mut b"".as_slice());
+    assert_text(rt, errors, "out of memory\n");
 }
 
 #[test]
-fn explains_files_that_are_no_image(rt: HostRuntime) -> Result<(), Fail> {
-    let alloc = rt.alloc();
-    let mut shelf = Shelf::new(alloc);
-    explains(&rt, ("check", "kernel.elf"), &mut shelf, NONE);
-    job(alloc, &mut shelf, KEYS)?;
-    for command in ["run", "try", "mon"] {
-        explains(&rt, (command, "job.toml"), &mut shelf, NONE);
-    }
-    shelf.put("kernel.elf", b"\x7fELF".as_slice())?;
-    let wanted = "  size of the file: 4\n  wanted: at least 52, an ELF header\n";
-    explains(&rt, ("check", "kernel.elf"), &mut shelf, wanted);
-    for command in ["run", "try", "mon"] {
-        explains(&rt, (command, "job.toml"), &mut shelf, wanted);
-    }
-    Ok(())
-}
-
-#[test]
-fn explains_where_a_file_is_no_image(rt: HostRuntime) -> Result<(), Fail> {
-    let alloc = rt.alloc();
-    let mut shelf = Shelf::new(alloc);
-    let mut bytes = image(alloc, [0x0000_8067].as_slice())?;
-    for byte in bytes.iter_mut().skip(18).take(1) {
-        *byte = 62;
-    }
-    shelf.put("machine.elf", bytes.as_slice())?;
-    let wanted = "  e_machine at byte 18 of the file: 62 (0x0000003e)\n  wanted: 243, RISC-V\n  \
-        remedy: compile with --target=riscv32\n";
-    explains(&rt, ("check", "machine.elf"), &mut shelf, wanted);
-    Ok(())
-}
-
-#[test]
-fn explains_certificates(rt: HostRuntime) -> Result<(), Fail> {
-    let alloc = rt.alloc();
-    let mut shelf = Shelf::new(alloc);
-    job(alloc, &mut shelf, KEYS)?;
-    for (image, wanted) in [
-        (
-            image(alloc, [0x0000_8067].as_slice())?,
-            "  wanted: a certificate in a note of the image, as `make` writes it\n",
-        ),
-        (
-            image_with(alloc, [1, 0, 1].as_slice())?,
-            "  reading stopped behind byte 3 of 3\n  wanted: more bytes\n",
-        ),
-        (image_within(alloc, 3)?, BUDGET),
+fn explains_files_that_are_no_image(rt: HostRuntime) {
+    let short = "@file kernel.elf\n@hex 7f454c46\n";
+    let short_told = "  size of the file: 4\n  wanted: at least 52, an ELF header\n";
+    let machine = "@file kernel.elf\n@code 00008067\n@at 18 3e\n";
+    let machine_told = "  e_machine at byte 18 of the file: 62 (0x0000003e)\n  \
+        wanted: 243, RISC-V\n  remedy: compile with --target=riscv32\n";
+    for (image, commands, lines) in [
+        ("", CHECK_RUN_TRY_MON, NONE),
+        (short, CHECK_RUN_TRY_MON, short_told),
+        (machine, CHECK, machine_told),
     ] {
-        shelf.put("kernel.elf", image.as_slice())?;
-        explains(&rt, ("check", "kernel.elf"), &mut shelf, wanted);
-        explains(&rt, ("run", "job.toml"), &mut shelf, wanted);
-        explains(&rt, ("mon", "job.toml"), &mut shelf, wanted);
+        explained(rt, rt.alloc(), &[JOB, KEYS, image], commands, lines);
     }
-    Ok(())
 }
 
 #[test]
-fn explains_jobs(rt: HostRuntime) -> Result<(), Fail> {
-    let alloc = rt.alloc();
-    for command in ["run", "try", "mon"] {
-        let mut shelf = Shelf::new(alloc);
-        explains(&rt, (command, "job.toml"), &mut shelf, NONE);
-        job(alloc, &mut shelf, "vlen = \n")?;
-        let wanted = "  not TOML from byte 28 on: line 2, column 8\n";
-        explains(&rt, (command, "job.toml"), &mut shelf, wanted);
-        job(alloc, &mut shelf, "vlen = 64\n")?;
-        let wanted = "  not as wanted: vlen in the job: 128, 256 or 512\n";
-        explains(&rt, (command, "job.toml"), &mut shelf, wanted);
+fn explains_certificates(rt: HostRuntime) {
+    let bare = "@file kernel.elf\n@code 00008067\n";
+    let bare_told = "  wanted: a certificate in a note of the image, as `make` writes it\n";
+    let short_told = "  reading stopped behind byte 3 of 3\n  wanted: more bytes\n";
+    for (image, certificate, change, lines) in [
+        (bare, "", "", bare_told),
+        (IMAGE, "", SHORT, short_told),
+        (IMAGE, CERTIFICATE, THREE, BUDGET),
+    ] {
+        let files = [JOB, KEYS, image, certificate, change];
+        explained(rt, rt.alloc(), &files, CHECK_RUN_MON, lines);
     }
-    let mut shelf = Shelf::new(alloc);
-    job(alloc, &mut shelf, "vlen = 128\nmax = 5\n")?;
-    let wanted = "  try needs agnostic in the job: \"keep\" or \"ones\"\n";
-    explains(&rt, ("try", "job.toml"), &mut shelf, wanted);
-    Ok(())
 }
 
 #[test]
-fn explains_lengths(rt: HostRuntime) -> Result<(), Fail> {
-    let alloc = rt.alloc();
-    let mut shelf = Shelf::new(alloc);
-    shelf.put("kernel.elf", image_within(alloc, 4)?.as_slice())?;
-    job(
-        alloc,
-        &mut shelf,
-        "vlen = 256\nagnostic = \"keep\"\nmax = 5\n",
-    )?;
-    let wanted = "  stated: VLEN 128\n  wanted: VLEN 256\n";
-    for command in ["run", "mon"] {
-        explains(&rt, (command, "job.toml"), &mut shelf, wanted);
+fn explains_jobs(rt: HostRuntime) {
+    let no_toml = "  not TOML from byte 28 on: line 2, column 8\n";
+    let no_vlen = "  not as wanted: vlen in the job: 128, 256 or 512\n";
+    let needed = "  try needs agnostic in the job: \"keep\" or \"ones\"\n";
+    for (job, keys, commands, lines) in [
+        ("", "", RUN_TRY_MON, NONE),
+        (JOB, "vlen = \n", RUN_TRY_MON, no_toml),
+        (JOB, "vlen = 64\n", RUN_TRY_MON, no_vlen),
+        (JOB, "vlen = 128\nmax = 5\n", TRY, needed),
+    ] {
+        explained(rt, rt.alloc(), &[job, keys], commands, lines);
     }
-    Ok(())
 }
 
 #[test]
-fn explains_arguments(rt: HostRuntime) -> Result<(), Fail> {
-    let alloc = rt.alloc();
-    let mut shelf = Shelf::new(alloc);
-    shelf.put("kernel.elf", image_within(alloc, 6)?.as_slice())?;
-    shelf.put("seven", [7; 7].as_slice())?;
-    shelf.put("eight", [7; 8].as_slice())?;
-    for (params, wanted) in [
+fn explains_lengths(rt: HostRuntime) {
+    let keys = "vlen = 256\nagnostic = \"keep\"\nmax = 5\n";
+    let lines = "  stated: VLEN 128\n  wanted: VLEN 256\n";
+    let files = [JOB, keys, IMAGE, CERTIFICATE];
+    explained(rt, rt.alloc(), &files, RUN_MON, lines);
+}
+
+#[test]
+fn explains_arguments(rt: HostRuntime) {
+    let buffers = "@file seven\n@hex 07070707070707\n@file eight\n@hex 0707070707070707\n";
+    for (params, lines) in [
         ("[[param]]\nkind = \"buffer\"\nfile = \"none\"\n", NONE),
         (
             "[[param]]\nkind = \"buffer\"\nfile = \"eight\"\n",
@@ -263,54 +234,40 @@ fn explains_arguments(rt: HostRuntime) -> Result<(), Fail> {
             "  bound of the run: 6\n  wanted: at most 5\n",
         ),
     ] {
-        let keys = format!(in alloc; "{KEYS}{params}")?;
-        job(alloc, &mut shelf, keys.as_str())?;
-        for command in ["run", "mon"] {
-            explains(&rt, (command, "job.toml"), &mut shelf, wanted);
-        }
+        let files = [JOB, KEYS, params, buffers, IMAGE, CERTIFICATE, SIX];
+        explained(rt, rt.alloc(), &files, RUN_MON, lines);
     }
-    Ok(())
 }
 
 #[test]
-fn explains_traps(rt: HostRuntime) -> Result<(), Fail> {
-    let alloc = rt.alloc();
-    let mut shelf = Shelf::new(alloc);
-    job(alloc, &mut shelf, KEYS)?;
-    shelf.put("kernel.elf", image(alloc, [0].as_slice())?.as_slice())?;
-    let wanted = "  pc 00010000: illegal\n";
-    explains(&rt, ("try", "job.toml"), &mut shelf, wanted);
+fn explains_traps(rt: HostRuntime) {
+    let illegal = "@file kernel.elf\n@code 00000000\n";
     let buffer = "[[param]]\nkind = \"buffer\"\nmode = \"r\"\nfile = \"large\"\n";
-    let keys = format!(in alloc; "{KEYS}{buffer}")?;
-    job(alloc, &mut shelf, keys.as_str())?;
-    explains(&rt, ("try", "job.toml"), &mut shelf, NONE);
-    shelf.put("large", vec![in alloc; 0u8; 16_777_217]?.as_slice())?;
     let wanted = "  wanted: for each buffer a file of at most 16777216 bytes\n";
-    explains(&rt, ("try", "job.toml"), &mut shelf, wanted);
-    Ok(())
+    for (params, large, lines) in [
+        ("", "", "  pc 00010000: illegal\n"),
+        (buffer, "", NONE),
+        (buffer, "@file large\n@zeros 16777217\n", wanted),
+    ] {
+        let files = [JOB, KEYS, params, illegal, large];
+        explained(rt, rt.alloc(), &files, TRY, lines);
+    }
 }
 
-/// The parameters of the kernel of `image_within`, of which the buffer is written back.
+/// The parameters of the kernel, of which the buffer is written back.
 const PASSED: &str =
     "[[param]]\nkind = \"buffer\"\nmode = \"rw\"\nfile = \"eight\"\nout = \"told\"\n\
-    [[param]]\nkind = \"scalar\"\nvalue = 5\n";
+    [[param]]\nkind = \"scalar\"\nvalue = 5\n@file eight\n@hex 0707070707070707\n";
 
 #[test]
-fn explains_out_files(rt: HostRuntime) -> Result<(), Fail> {
-    let alloc = rt.alloc();
-    let mut shelf = Shelf::new(alloc);
-    shelf.put("kernel.elf", image_within(alloc, 5)?.as_slice())?;
-    shelf.put("eight", [7; 8].as_slice())?;
-    let keys = format!(in alloc; "{KEYS}{PASSED}")?;
-    job(alloc, &mut shelf, keys.as_str())?;
-    explains(&rt, ("check", "kernel.elf"), &mut shelf, "");
-    for (failing, wanted) in [("", ""), ("told", "  the system says: permission denied\n")] {
-        shelf.failing = failing;
-        for command in ["run", "try", "mon"] {
-            explains(&rt, (command, "job.toml"), &mut shelf, wanted);
-        }
+fn explains_out_files(rt: HostRuntime) {
+    for (fails, commands, lines) in [
+        ("", CHECK_RUN_TRY_MON, ""),
+        ("@fails told\n", RUN_TRY_MON, DENIED),
+    ] {
+        let files = [JOB, KEYS, PASSED, IMAGE, CERTIFICATE, FIVE, fails];
+        explained(rt, rt.alloc(), &files, commands, lines);
     }
-    Ok(())
 }
 
 /// Gives no byte, for a reason of the system.
@@ -324,70 +281,64 @@ impl Read for Failing {
 }
 
 #[test]
-fn explains_an_input_that_fails(rt: HostRuntime) -> Result<(), Fail> {
-    let alloc = rt.alloc();
-    let mut shelf = Shelf::new(alloc);
-    shelf.put("kernel.elf", image_within(alloc, 5)?.as_slice())?;
-    shelf.put("eight", [7; 8].as_slice())?;
-    let keys = format!(in alloc; "{KEYS}{PASSED}")?;
-    job(alloc, &mut shelf, keys.as_str())?;
-    for (kind, plain, more) in [
-        (
-            ErrorKind::BrokenPipe,
-            "file: -\n",
-            "file: -\n  the system says: broken pipe\n",
-        ),
-        (ErrorKind::OutOfMemory, "out of memory\n", "out of memory\n"),
+fn explains_an_input_that_fails(rt: HostRuntime) {
+    let plain = "rvvbox mon job.toml";
+    let explaining = "rvvbox mon --explain job.toml";
+    let more = "file: -\n  the system says: broken pipe\n";
+    for (kind, words, lines) in [
+        (ErrorKind::BrokenPipe, plain, "file: -\n"),
+        (ErrorKind::BrokenPipe, explaining, more),
+        (ErrorKind::OutOfMemory, plain, "out of memory\n"),
+        (ErrorKind::OutOfMemory, explaining, "out of memory\n"),
     ] {
-        for (words, wanted) in [
-            (["rvvbox", "mon", "job.toml"].as_slice(), plain),
-            (["rvvbox", "mon", "--explain", "job.toml"].as_slice(), more),
-        ] {
-            let (output, errors) = told_on(alloc, words, &mut shelf, &mut Failing(kind));
-            assert!(rt; output.is_empty());
-            assert_eq!(rt; std::str::from_utf8(errors.as_slice()), Ok(wanted));
-        }
+        let files = [JOB, KEYS, PASSED, IMAGE, CERTIFICATE, FIVE];
+        let mut shelf = shelf_of(rt, rt.alloc(), &files);
+        assert_told(rt, rt.alloc(), words, &mut shelf, &mut Failing(kind), lines);
     }
-    Ok(())
 }
 
-/// Asserts that `make` tells these lines more of code.
-fn explains_code<R: Abort + AllocGlobal>(rt: &R, code: &[u32], wanted: &str) -> Result<(), Fail> {
-    let mut shelf = files(rt.alloc(), 128, PARAMS, code)?;
-    make_explains(rt, &mut shelf, wanted);
-    Ok(())
-}
-
-#[test]
-fn explains_words_that_do_not_fit(rt: HostRuntime) -> Result<(), Fail> {
-    let mut code = RAISE_WORDS;
-    code[0] = 0x0000_0013;
-    let wanted = "  at 0x00010000: 0x00000013\n  that is addi rd=0 rs1=0 imm=0\n  \
-        wanted: beqz n,end, where n is a scalar: row 1 of a plain loop (docs/MAKE.md)\n";
-    explains_code(&rt, code.as_slice(), wanted)?;
-    let mut code = RAISE_WORDS;
-    code[1] = 0;
-    let wanted = "  at 0x00010004: 0x00000000\n  that is illegal\n  \
-        wanted: vsetvli t,n: row 2 of a plain loop (docs/MAKE.md)\n";
-    explains_code(&rt, code.as_slice(), wanted)
+/// Asserts that of a loop, of which a text changes the files, `make` tells these lines more.
+fn explains_make(rt: impl Abort + Copy, alloc: Global, change: &str, lines: &str) {
+    explained(
+        rt,
+        alloc,
+        &[MAKE_JOB, PARAMS, WORDS, KERNEL, change],
+        MAKE,
+        lines,
+    );
 }
 
 #[test]
-fn explains_words_that_do_not_go_on(rt: HostRuntime) -> Result<(), Fail> {
-    let mut code = RAISE_WORDS;
-    code[9] = 0x0000_0013;
-    let wanted = "  at 0x00010024: 0x00000013\n  that is addi rd=0 rs1=0 imm=0\n  wanted: \
-        what goes on with these words: rows 3 to 8 of a plain loop (docs/MAKE.md)\n";
-    explains_code(&rt, code.as_slice(), wanted)?;
-    let wanted = "  at 0x00010008: no word\n  wanted: \
-        what goes on with these words: rows 3 to 8 of a plain loop (docs/MAKE.md)\n";
-    explains_code(&rt, &RAISE_WORDS[..2], wanted)
+fn explains_words_that_do_not_fit(rt: HostRuntime) {
+    for (change, lines) in [
+        (
+            "@at 84 13000000\n",
+            "  at 0x00010000: 0x00000013\n  that is addi rd=0 rs1=0 imm=0\n  \
+             wanted: beqz n,end, where n is a scalar: row 1 of a plain loop (docs/MAKE.md)\n",
+        ),
+        (
+            "@at 88 00000000\n",
+            "  at 0x00010004: 0x00000000\n  that is illegal\n  \
+             wanted: vsetvli t,n: row 2 of a plain loop (docs/MAKE.md)\n",
+        ),
+        (
+            "@at 120 13000000\n",
+            "  at 0x00010024: 0x00000013\n  that is addi rd=0 rs1=0 imm=0\n  wanted: \
+             what goes on with these words: rows 3 to 8 of a plain loop (docs/MAKE.md)\n",
+        ),
+        (
+            "@file kernel.elf\n@code 02058263 0d05f2d7\n",
+            "  at 0x00010008: no word\n  wanted: \
+             what goes on with these words: rows 3 to 8 of a plain loop (docs/MAKE.md)\n",
+        ),
+    ] {
+        explains_make(rt, rt.alloc(), change, lines);
+    }
 }
 
 #[test]
-fn explains_jobs_of_make(rt: HostRuntime) -> Result<(), Fail> {
-    let alloc = rt.alloc();
-    for (params, wanted) in [
+fn explains_jobs_of_make(rt: HostRuntime) {
+    for (params, lines) in [
         (
             "[[param]]\nkind = \"buffer\"\nmode = \"rw\"\n",
             "  make needs size in the param at place 0: a number in 0..=4294967295\n",
@@ -408,64 +359,32 @@ fn explains_jobs_of_make(rt: HostRuntime) -> Result<(), Fail> {
              what goes on with these words: rows 3 to 8 of a plain loop (docs/MAKE.md)\n",
         ),
     ] {
-        let mut shelf = files(alloc, 128, params, RAISE_WORDS.as_slice())?;
-        make_explains(&rt, &mut shelf, wanted);
+        let files = [MAKE_JOB, params, WORDS, KERNEL];
+        explained(rt, rt.alloc(), &files, MAKE, lines);
     }
-    Ok(())
 }
 
 #[test]
-fn explains_images_of_make(rt: HostRuntime) -> Result<(), Fail> {
-    let alloc = rt.alloc();
-    let mut large = image(alloc, RAISE_WORDS.as_slice())?;
-    large.resize(4 << 20, 0)?;
-    for (image, wanted) in [
-        (
-            image(alloc, [].as_slice())?,
-            "  e_entry at byte 24 of the file: 65536 (0x00010000)\n  \
-             wanted: a multiple of 4 in a segment that can be executed\n",
-        ),
-        (
-            made(alloc, 1)?,
-            "  there: a certificate of 261 bytes\n  wanted: an image with no certificate\n",
-        ),
-        (
-            large,
-            "  size of the file: 4194304\n  size of the certificate: 261\n  \
-             program headers: 1\n  \
-             wanted: at most 63, and at most 4194304 bytes with one more and the certificate\n",
-        ),
-    ] {
-        let mut shelf = files(alloc, 128, PARAMS, RAISE_WORDS.as_slice())?;
-        shelf.put("kernel.elf", image.as_slice())?;
-        make_explains(&rt, &mut shelf, wanted);
-    }
-    Ok(())
-}
-
-#[test]
-fn explains_what_is_refused_when_read_back(rt: HostRuntime) -> Result<(), Fail> {
-    let alloc = rt.alloc();
-    let mut shelf = files(alloc, 128, PARAMS, RAISE_WORDS.as_slice())?;
-    shelf.put("kernel.elf", image_over_its_header(alloc)?.as_slice())?;
-    let wanted = "  stopped in the block at 0x00010004\n  at 0x00010014: 0x00229374\n  \
+fn explains_images_of_make(rt: HostRuntime) {
+    let none = "  e_entry at byte 24 of the file: 65536 (0x00010000)\n  \
+        wanted: a multiple of 4 in a segment that can be executed\n";
+    let there = "  there: a certificate of 261 bytes\n  wanted: an image with no certificate\n";
+    let large = "  size of the file: 4194304\n  size of the certificate: 261\n  \
+        program headers: 1\n  \
+        wanted: at most 63, and at most 4194304 bytes with one more and the certificate\n";
+    let illegal = "  stopped in the block at 0x00010004\n  at 0x00010014: 0x00229374\n  \
         that is illegal\n  wanted: an instruction that is legal there\n";
-    make_explains(&rt, &mut shelf, wanted);
-    Ok(())
-}
-
-#[test]
-fn explains_files_of_make(rt: HostRuntime) -> Result<(), Fail> {
-    let alloc = rt.alloc();
-    for (failing, wanted) in [
-        ("job.toml", NONE),
-        ("kernel.elf", NONE),
-        ("made.elf", "  the system says: permission denied\n"),
-        ("", ""),
+    for (image, change, lines) in [
+        ("@file kernel.elf\n@code\n", "", none),
+        (MADE, "@as kernel.elf\n", there),
+        (KERNEL, LARGE, large),
+        (OVER_ITS_HEADER, "", illegal),
+        (KERNEL, "@fails job.toml\n", NONE),
+        (KERNEL, "@fails kernel.elf\n", NONE),
+        (KERNEL, "@fails made.elf\n", DENIED),
+        (KERNEL, "", ""),
     ] {
-        let mut shelf = files(alloc, 128, PARAMS, RAISE_WORDS.as_slice())?;
-        shelf.failing = failing;
-        make_explains(&rt, &mut shelf, wanted);
+        let files = [MAKE_JOB, PARAMS, WORDS, image, change];
+        explained(rt, rt.alloc(), &files, MAKE, lines);
     }
-    Ok(())
 }

@@ -4,6 +4,8 @@
 #[cfg(test)]
 mod accepted;
 #[cfg(test)]
+mod assertions;
+#[cfg(test)]
 mod explaining;
 #[cfg(test)]
 mod limits;
@@ -15,5 +17,7 @@ mod monitoring;
 mod reading;
 #[cfg(test)]
 mod shelf;
+#[cfg(test)]
+mod spelling;
 #[cfg(test)]
 mod trying;

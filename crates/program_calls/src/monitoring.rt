@@ -1,22 +1,39 @@
 //! `mon`, on the loop of the example `raise_words`: what is answered, what is written, and how it ends.
-use crate::making::{RAISE_WORDS, files, made};
-use crate::shelf::{Broken, Shelf, Stuck, expect_failing, expect_on, expect_silence_on};
+use crate::assertions::{assert_same, given};
+use crate::making::{JOB, MADE};
+use crate::shelf::{
+    Broken, DONE, Outcome, Stuck, assert_asked, assert_text, expect_on, expect_silence, shelf_of,
+};
 use commands::{Status, mon_job_within};
-use std::alloc::{AllocError, Global};
+use std::alloc::Global;
 use std::io;
 use std::io::Read;
 use std::process::Abort;
-use std::test::Fail;
 
 /// The parameters: the words, which are written back, and how many of them are raised.
 const PARAMS: &str = "[[param]]\nkind = \"buffer\"\nfile = \"words\"\nout = \"raised\"\n\
     [[param]]\nkind = \"scalar\"\nvalue = 9\n";
 
-/// The words of `rvvbox mon job.toml`.
-const MON: [&str; 3] = ["rvvbox", "mon", "job.toml"];
+/// The buffer: the numbers from 0 to 8, and zeros behind.
+const NUMBERS: &str = "@file words\n\
+@hex 00000000 01000000 02000000 03000000 04000000 05000000 06000000 07000000 08000000\n@zeros 4060\n";
 
-/// What is read before the first line.
+/// What is written where no word is raised yet, and where all nine are.
+const KEPT: &str = "@file raised\n\
+@hex 00000000 01000000 02000000 03000000 04000000 05000000 06000000 07000000 08000000\n@zeros 4060\n";
+
+const RAISED: &str = "@file raised\n\
+@hex 01000000 02000000 03000000 04000000 05000000 06000000 07000000 08000000 09000000\n@zeros 4060\n";
+
+/// The files of the job.
+const FILES: [&str; 4] = [JOB, PARAMS, MADE, NUMBERS];
+
+const MON: &str = "rvvbox mon job.toml";
+
+/// What is read before the first line, and what is called where all is done.
 const READS: &str = "read job.toml\nread made.elf\nread words\n";
+
+const ALL: &str = "read job.toml\nread made.elf\nread words\nwrite raised\n";
 
 /// Steps, breakpoints and views, up to the end of the run and past it.
 const SCRIPT: &str = "b 10004\nc\nc\nc\nv 8\ns 0\nl 10004 2\nc\nc\nd 10008\nq\nx\n";
@@ -33,114 +50,71 @@ const ANSWERS: &str = "break 00010004\n\
     ended step 26\n\
     error: NotThere\n";
 
-/// A buffer with the numbers from `first` on in its first nine words, and zeros behind.
-fn numbers(alloc: Global, first: u32) -> Result<Vec<u8>, AllocError> {
-    let mut bytes = Vec::new(alloc);
-    for number in first..first.saturating_add(9) {
-        bytes.extend_from_slice(number.to_le_bytes().as_slice())?;
-    }
-    for _ in 0..4_060 {
-        bytes.extend_from_slice([0].as_slice())?;
-    }
-    Ok(bytes)
-}
+/// Each error of a line, of which none changes anything: there are sixteen breakpoints at most.
+const ERRORS: &str = "\
+b 20000\nb 20010\nb 20020\nb 20030\nb 20040\nb 20050\nb 20060\nb 20070\n\
+b 20080\nb 20090\nb 200a0\nb 200b0\nb 200c0\nb 200d0\nb 200e0\nb 200f0\n\
+b 10004\nb 20000\nhelp\ns -1\nd 10004\nm 0 1\nl 40000000 1\ns 0\nc\n";
 
-/// The files of a job on numbers from 0 on.
-fn shelf(alloc: Global) -> Result<Shelf, AllocError> {
-    let mut shelf = files(alloc, 128, PARAMS, RAISE_WORDS.as_slice())?;
-    shelf.put("made.elf", made(alloc, 1)?.as_slice())?;
-    shelf.put("words", numbers(alloc, 0)?.as_slice())?;
-    Ok(shelf)
-}
+const TOLD_OF_ERRORS: &str = "\
+break 00020000\nbreak 00020010\nbreak 00020020\nbreak 00020030\n\
+break 00020040\nbreak 00020050\nbreak 00020060\nbreak 00020070\n\
+break 00020080\nbreak 00020090\nbreak 000200a0\nbreak 000200b0\n\
+break 000200c0\nbreak 000200d0\nbreak 000200e0\nbreak 000200f0\n\
+error: TooManyBreakpoints\nbreak 00020000\nerror: Unknown\nerror: BadNumber\n\
+error: NotThere\nerror: NoBytes\nerror: NoBytes\nat 00010000 step 0\nended step 26\n";
 
-/// The calls where these bytes are written back.
-fn calls(alloc: Global, written: &[u8]) -> Result<String, AllocError> {
-    let mut calls = format!(in alloc; "{READS}write raised")?;
-    for byte in written {
-        let shown = format!(in alloc; " {byte:02x}")?;
-        calls.push_str(shown.as_str())?;
-    }
-    calls.push('\n')?;
-    Ok(calls)
-}
-
-/// Performs `mon` on an input, and asserts its status, what was printed, and the calls of the store.
-fn watch<R: Abort + AllocGlobal, I: Read>(
-    rt: &R,
-    input: &mut I,
-    told: (Status, &str, &str),
-    calls: &str,
-) -> Result<(), Fail> {
-    let mut shelf = shelf(rt.alloc())?;
-    expect_on(rt, MON.as_slice(), &mut shelf, input, told, calls);
-    Ok(())
+/// Performs `mon` on an input, and asserts what comes of it.
+fn watch<I: Read>(rt: impl Abort + Copy, alloc: Global, input: &mut I, wanted: Outcome<'_>) {
+    let mut shelf = shelf_of(rt, alloc, &FILES);
+    expect_on(rt, &mut shelf, MON, input, wanted);
 }
 
 #[test]
-fn answers_each_line(rt: HostRuntime) -> Result<(), Fail> {
-    let alloc = rt.alloc();
-    let mut input = SCRIPT.as_bytes();
-    let calls = calls(alloc, numbers(alloc, 1)?.as_slice())?;
-    let told = (Status::Done, ANSWERS, "");
-    watch(&rt, &mut input, told, calls.as_str())
-}
-
-#[test]
-fn writes_what_stands_where_lines_end(rt: HostRuntime) -> Result<(), Fail> {
-    let alloc = rt.alloc();
-    let before = calls(alloc, numbers(alloc, 0)?.as_slice())?;
-    for (script, answers) in [
-        ("", ""),
-        ("q", ""),
-        ("q\nc\n", ""),
-        ("s 4\n", "at 00010010 step 4\n"),
-        ("s 4", "at 00010010 step 4\n"),
-        ("s 4\n\n", "at 00010010 step 4\nerror: Unknown\n"),
-        ("s 4\r\n", "error: BadNumber\n"),
+fn answers_each_line(rt: HostRuntime) {
+    for (script, output, written) in [
+        (SCRIPT, ANSWERS, RAISED),
+        (ERRORS, TOLD_OF_ERRORS, RAISED),
+        ("", "", KEPT),
+        ("q", "", KEPT),
+        ("q\nc\n", "", KEPT),
+        ("s 4\n", "at 00010010 step 4\n", KEPT),
+        ("s 4", "at 00010010 step 4\n", KEPT),
+        ("s 4\n\n", "at 00010010 step 4\nerror: Unknown\n", KEPT),
+        ("s 4\r\n", "error: BadNumber\n", KEPT),
         (
             "x 1\nb 10002\nm 0 1\n",
             "error: Unknown\nerror: BadNumber\nerror: NoBytes\n",
+            KEPT,
         ),
     ] {
-        let mut input = script.as_bytes();
-        let told = (Status::Done, answers, "");
-        watch(&rt, &mut input, told, before.as_str())?;
+        let told = Outcome {
+            output,
+            calls: ALL,
+            written: [written, ""],
+            ..DONE
+        };
+        watch(rt, rt.alloc(), &mut script.as_bytes(), told);
     }
-    Ok(())
+}
+
+/// A line of 100,000 bytes, and lines that are not ASCII.
+fn long_lines(rt: impl Abort + Copy, alloc: Global) -> Vec<u8> {
+    let mut lines = given!(rt; vec![in alloc; b'a'; 100_000]);
+    given!(rt; lines.extend_from_slice(b"\nb \xff\ns \xe2\x82\xac\n".as_slice()));
+    lines
 }
 
 #[test]
-fn tells_each_error_and_changes_nothing(rt: HostRuntime) -> Result<(), Fail> {
-    let alloc = rt.alloc();
-    let mut script = String::new(alloc);
-    let mut answers = String::new(alloc);
-    for place in 0..16 {
-        let line = format!(in alloc; "b 200{place:x}0\n")?;
-        script.push_str(line.as_str())?;
-        let answer = format!(in alloc; "break 000200{place:x}0\n")?;
-        answers.push_str(answer.as_str())?;
-    }
-    script.push_str("b 10004\nb 20000\nhelp\ns -1\nd 10004\nm 0 1\nl 40000000 1\ns 0\nc\n")?;
-    answers.push_str(
-        "error: TooManyBreakpoints\nbreak 00020000\nerror: Unknown\nerror: BadNumber\n\
-        error: NotThere\nerror: NoBytes\nerror: NoBytes\nat 00010000 step 0\nended step 26\n",
-    )?;
-    let mut input = script.as_bytes();
-    let calls = calls(alloc, numbers(alloc, 1)?.as_slice())?;
-    let told = (Status::Done, answers.as_str(), "");
-    watch(&rt, &mut input, told, calls.as_str())
-}
-
-#[test]
-fn takes_any_bytes(rt: HostRuntime) -> Result<(), Fail> {
-    let alloc = rt.alloc();
-    let before = calls(alloc, numbers(alloc, 0)?.as_slice())?;
-    let mut long = vec![in alloc; b'a'; 100_000]?;
-    long.extend_from_slice(b"\nb \xff\ns \xe2\x82\xac\n".as_slice())?;
-    let mut input = long.as_slice();
-    let answers = "error: Unknown\nerror: Unknown\nerror: BadNumber\n";
-    let told = (Status::Done, answers, "");
-    watch(&rt, &mut input, told, before.as_str())
+fn takes_any_bytes(rt: HostRuntime) {
+    let told = Outcome {
+        output: "error: Unknown\nerror: Unknown\nerror: BadNumber\n",
+        calls: ALL,
+        written: [KEPT, ""],
+        ..DONE
+    };
+    let lines = long_lines(rt, rt.alloc());
+    watch(rt, rt.alloc(), &mut lines.as_slice(), told);
 }
 
 /// Gives its bytes one by one, is interrupted once before the last, and then ends, or fails.
@@ -172,97 +146,164 @@ impl Read for Drip<'_> {
     }
 }
 
-#[test]
-fn ends_where_the_input_fails(rt: HostRuntime) -> Result<(), Fail> {
-    let mut input = Drip {
-        bytes: b"s 1\ns 1".as_slice(),
+/// That input on the bytes of a text.
+fn dripping(text: &str, fails: bool) -> Drip<'_> {
+    Drip {
+        bytes: text.as_bytes(),
         interrupted: false,
-        fails: true,
+        fails,
+    }
+}
+
+/// What comes of an input that fails.
+const FAILED: Outcome<'static> = Outcome {
+    status: Status::File,
+    output: "",
+    errors: "file: -\n",
+    calls: READS,
+    written: ["", ""],
+};
+
+#[test]
+fn ends_where_the_input_fails(rt: HostRuntime) {
+    let told = Outcome {
+        output: "at 00010004 step 1\n",
+        ..FAILED
     };
-    let told = (Status::File, "at 00010004 step 1\n", "file: -\n");
-    watch(&rt, &mut input, told, READS)?;
-    let told = (Status::File, "", "file: -\n");
-    watch(&rt, &mut Broken, told, READS)
+    watch(rt, rt.alloc(), &mut dripping("s 1\ns 1", true), told);
+    watch(rt, rt.alloc(), &mut Broken, FAILED);
 }
 
 /// Performs `mon` with eight reads of these bytes, one by one, of which one is interrupted, and asserts how it ends.
-fn read_eight_times<R: Abort + AllocGlobal>(
-    rt: &R,
-    bytes: &str,
-    (status, output, errors): (Status, &str, &str),
-    calls: &str,
-) -> Result<(), Fail> {
-    let alloc = rt.alloc();
-    let mut shelf = shelf(alloc)?;
-    let mut input = Drip {
-        bytes: bytes.as_bytes(),
-        interrupted: false,
-        fails: false,
-    };
-    let (mut out, mut err) = (Vec::new(alloc), Vec::new(alloc));
-    let had = mon_job_within(
-        alloc, "job.toml", false, &mut shelf, &mut input, &mut out, &mut err, 8,
-    );
-    assert_eq!(rt; had.status, status);
-    assert_eq!(rt; std::str::from_utf8(out.as_slice()), Ok(output));
-    assert_eq!(rt; std::str::from_utf8(err.as_slice()), Ok(errors));
-    assert_eq!(rt; shelf.calls.as_str(), calls);
-    Ok(())
-}
-
-#[test]
-fn reads_as_often_as_it_may(rt: HostRuntime) -> Result<(), Fail> {
-    let alloc = rt.alloc();
-    let whole = calls(alloc, numbers(alloc, 0)?.as_slice())?;
-    let told = (Status::File, "at 00010004 step 1\n", "file: -\n");
-    read_eight_times(&rt, "s 1\ns 1", told, READS)?;
-    let answers = "at 00010004 step 1\nerror: BadNumber\n";
-    let told = (Status::Done, answers, "");
-    read_eight_times(&rt, "s 1\ns ", told, whole.as_str())?;
-    let told = (Status::Done, "at 00010004 step 1\n", "");
-    read_eight_times(&rt, "s 1\nq\nq", told, whole.as_str())
-}
-
-#[test]
-fn ends_where_output_fails(rt: HostRuntime) -> Result<(), Fail> {
-    let alloc = rt.alloc();
-    let mut files = shelf(alloc)?;
-    let mut input = b"s 1\n".as_slice();
-    expect_silence_on(&rt, MON.as_slice(), &mut files, &mut input);
-    assert_eq!(rt; files.calls.as_str(), READS);
-
-    let mut files = shelf(alloc)?;
-    let mut errors = Vec::new(alloc);
-    let mut input = b"s 1\n".as_slice();
-    let had = mon_job_within(
+fn read_eight_times(rt: impl Abort + Copy, alloc: Global, text: &str, wanted: Outcome<'_>) {
+    let mut shelf = shelf_of(rt, alloc, &FILES);
+    let mut input = dripping(text, false);
+    let (mut output, mut errors) = (Vec::new(alloc), Vec::new(alloc));
+    let ending = mon_job_within(
         alloc,
         "job.toml",
         false,
-        &mut files,
+        &mut shelf,
         &mut input,
+        &mut output,
+        &mut errors,
+        8,
+    );
+    assert_same!(rt; ending.status, wanted.status);
+    assert_text(rt, output, wanted.output);
+    assert_text(rt, errors, wanted.errors);
+    assert_asked(rt, &shelf, wanted);
+}
+
+#[test]
+fn reads_as_often_as_it_may(rt: HostRuntime) {
+    for (text, status, output, errors, calls, written) in [
+        (
+            "s 1\ns 1",
+            Status::File,
+            "at 00010004 step 1\n",
+            "file: -\n",
+            READS,
+            "",
+        ),
+        (
+            "s 1\ns ",
+            Status::Done,
+            "at 00010004 step 1\nerror: BadNumber\n",
+            "",
+            ALL,
+            KEPT,
+        ),
+        (
+            "s 1\nq\nq",
+            Status::Done,
+            "at 00010004 step 1\n",
+            "",
+            ALL,
+            KEPT,
+        ),
+    ] {
+        let told = Outcome {
+            status,
+            output,
+            errors,
+            calls,
+            written: [written, ""],
+        };
+        read_eight_times(rt, rt.alloc(), text, told);
+    }
+}
+
+/// The output takes no text.
+#[test]
+fn ends_where_output_fails(rt: HostRuntime) {
+    let mut shelf = shelf_of(rt, rt.alloc(), &FILES);
+    expect_silence(rt, &mut shelf, MON, &mut b"s 1\n".as_slice());
+    assert_asked(
+        rt,
+        &shelf,
+        Outcome {
+            calls: READS,
+            ..DONE
+        },
+    );
+}
+
+/// The output takes the text, and fails to pass it on.
+#[test]
+fn ends_where_output_is_stuck(rt: HostRuntime) {
+    let alloc = rt.alloc();
+    let mut shelf = shelf_of(rt, alloc, &FILES);
+    let mut errors = Vec::new(alloc);
+    let ending = mon_job_within(
+        alloc,
+        "job.toml",
+        false,
+        &mut shelf,
+        &mut b"s 1\n".as_slice(),
         &mut Stuck,
         &mut errors,
         8,
     );
-    assert_eq!(rt; had.status, Status::File);
-    assert!(rt; errors.is_empty());
-    assert_eq!(rt; files.calls.as_str(), READS);
-    Ok(())
+    assert_same!(rt; ending.status, Status::File);
+    assert_text(rt, errors, "");
+    assert_asked(
+        rt,
+        &shelf,
+        Outcome {
+            calls: READS,
+            ..DONE
+        },
+    );
 }
 
 #[test]
-fn ends_at_the_first_file_that_fails(rt: HostRuntime) -> Result<(), Fail> {
-    let alloc = rt.alloc();
-    let written = calls(alloc, numbers(alloc, 0)?.as_slice())?;
-    for (path, calls) in [
-        ("job.toml", "read job.toml\n"),
-        ("made.elf", "read job.toml\nread made.elf\n"),
-        ("words", READS),
-        ("raised", written.as_str()),
+fn ends_at_the_first_file_that_fails(rt: HostRuntime) {
+    for (fails, errors, calls, written) in [
+        (
+            "@fails job.toml\n",
+            "file: job.toml\n",
+            "read job.toml\n",
+            "",
+        ),
+        (
+            "@fails made.elf\n",
+            "file: made.elf\n",
+            "read job.toml\nread made.elf\n",
+            "",
+        ),
+        ("@fails words\n", "file: words\n", READS, ""),
+        ("@fails raised\n", "file: raised\n", ALL, KEPT),
     ] {
-        let mut files = shelf(alloc)?;
-        let mut input = b"q\n".as_slice();
-        expect_failing(&rt, MON.as_slice(), &mut files, &mut input, path, calls)?;
+        let told = Outcome {
+            status: Status::File,
+            output: "",
+            errors,
+            calls,
+            written: [written, ""],
+        };
+        let files = [JOB, PARAMS, MADE, NUMBERS, fails];
+        let mut shelf = shelf_of(rt, rt.alloc(), &files);
+        expect_on(rt, &mut shelf, MON, &mut b"q\n".as_slice(), told);
     }
-    Ok(())
 }

@@ -2,13 +2,14 @@
 ghost use Rattle.std.specs.Prelude.{◌≡◌, codes};
 ghost use Rattle.commands.specs.declared.store.StoreError.TheVariants as store_error;
 
-use crate::shelf::Broken as Silent;
+use crate::assertions::{assert_same, given};
+use crate::shelf::{Broken as Silent, assert_text, words_of};
 use command_line::perform;
 use commands::{Status, Store, StoreError, read_all};
 use std::alloc::Global;
 use std::io;
 use std::io::Read;
-use std::test::Fail;
+use std::process::Abort;
 
 /// Gives one byte at each read, `left` times. After that it is at its end.
 #[derive(Drop)]
@@ -47,40 +48,41 @@ impl Read for Broken {
     }
 }
 
-#[test]
-fn reads_to_the_end(rt: HostRuntime) -> Result<(), Fail> {
-    let bytes = read_all(rt.alloc(), &mut Drip { left: 7 }, 8)?;
-    assert_eq!(rt; bytes.len(), 7);
-    let empty = read_all(rt.alloc(), &mut Drip { left: 0 }, 8)?;
-    assert!(rt; empty.is_empty());
-    Ok(())
+/// How many bytes are read from a reader that gives so many, in at most eight reads, or why they are not.
+fn read_of(alloc: Global, left: u64) -> Result<usize, StoreError> {
+    Ok(read_all(alloc, &mut Drip { left }, 8)?.len())
 }
 
 #[test]
-fn gives_up_after_the_last_read(rt: HostRuntime) {
-    let endless = read_all(rt.alloc(), &mut Drip { left: u64::MAX }, 8);
-    assert_eq!(rt; endless.err(), Some(StoreError::Failed));
-    let one_too_many = read_all(rt.alloc(), &mut Drip { left: 8 }, 8);
-    assert_eq!(rt; one_too_many.err(), Some(StoreError::Failed));
+fn reads_to_the_end(rt: HostRuntime) {
+    for (left, answer) in [
+        (7, Ok(7)),
+        (0, Ok(0)),
+        (u64::MAX, Err(StoreError::Failed)),
+        (8, Err(StoreError::Failed)),
+    ] {
+        assert_same!(rt; read_of(rt.alloc(), left), answer);
+    }
 }
 
 #[test]
 fn fails_as_the_reader_does(rt: HostRuntime) {
-    let broken = read_all(rt.alloc(), &mut Broken { reads: 0 }, 8);
-    assert_eq!(rt; broken.err(), Some(StoreError::Failed));
+    let broken = read_all(rt.alloc(), &mut Broken { reads: 0 }, 8).err();
+    assert_same!(rt; broken, Some(StoreError::Failed));
+}
+
+/// Asserts what is told of an error.
+fn tells(rt: impl Abort + Copy, alloc: Global, error: StoreError, text: &str) {
+    let told = given!(rt; format!(in alloc; "{error}"));
+    assert_same!(rt; told.as_str(), text);
 }
 
 #[test]
-fn tells_why_a_file_was_not_read(rt: HostRuntime) -> Result<(), Fail> {
+fn tells_why_a_file_was_not_read(rt: HostRuntime) {
     let alloc = rt.alloc();
-    for (error, text) in [
-        (StoreError::Failed, "the file was not read or written"),
-        (StoreError::NoMemory, "out of memory"),
-    ] {
-        let told = format!(in alloc; "{error}")?;
-        assert_eq!(rt; told.as_str(), text);
-    }
-    Ok(())
+    let text = "the file was not read or written";
+    tells(rt, alloc, StoreError::Failed, text);
+    tells(rt, alloc, StoreError::NoMemory, "out of memory");
 }
 
 /// At every path the same text, which is read unless memory runs out. None can be written.
@@ -107,29 +109,26 @@ impl Store for Same {
     }
 }
 
+/// Performs these words over that store, and asserts what is told.
+fn expect_same(rt: impl Abort + Copy, alloc: Global, words: &str, status: Status, text: &str) {
+    let words = words_of(rt, alloc, words);
+    let (mut output, mut errors) = (Vec::new(alloc), Vec::new(alloc));
+    let ending = perform(
+        alloc,
+        &words,
+        &mut Same,
+        &mut Silent,
+        &mut output,
+        &mut errors,
+    );
+    assert_same!(rt; ending.status, status);
+    assert_text(rt, errors, text);
+}
+
 #[test]
 fn reads_files_that_never_fail(rt: HostRuntime) {
     let alloc = rt.alloc();
-    for (words, status, text) in [
-        (
-            ["rvvbox", "check", "any"],
-            Status::Refused,
-            "refused: TooShort\n",
-        ),
-        (["rvvbox", "try", "any"], Status::Usage, "job: BadKey\n"),
-    ] {
-        let mut errors = Vec::new(alloc);
-        let (mut store, mut output) = (Same, Vec::new(alloc));
-        let words = words.as_slice();
-        let ending = perform(
-            alloc,
-            words,
-            &mut store,
-            &mut Silent,
-            &mut output,
-            &mut errors,
-        );
-        assert_eq!(rt; ending.status, status);
-        assert_eq!(rt; std::str::from_utf8(errors.as_slice()), Ok(text));
-    }
+    let refused = "refused: TooShort\n";
+    expect_same(rt, alloc, "rvvbox check any", Status::Refused, refused);
+    expect_same(rt, alloc, "rvvbox try any", Status::Usage, "job: BadKey\n");
 }

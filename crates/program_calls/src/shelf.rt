@@ -1,4 +1,6 @@
 //! Files in memory, and what a performance of the program over them comes to.
+use crate::assertions::{assert_same, given};
+use crate::spelling::{File, file_of, files_of};
 use command_line::perform;
 use commands::{Status, Store, StoreError};
 use std::alloc::{AllocError, Global};
@@ -10,39 +12,48 @@ use std::process::Abort;
 #[derive(Drop)]
 pub struct Shelf {
     alloc: Global,
-    files: Vec<(String, Vec<u8>)>,
-    pub failing: &'static str,
+    files: Vec<File>,
+    written: Vec<File>,
     last: Option<io::ErrorKind>,
-    pub calls: String,
+    calls: String,
+}
+
+/// The newest file at a path.
+fn newest<'a>(files: &'a [File], path: &str) -> Option<&'a File> {
+    let mut found = None;
+    for file in files {
+        if file.path.as_str() == path {
+            found = Some(file);
+        }
+    }
+    found
 }
 
 impl Shelf {
-    pub(crate) fn new(alloc: Global) -> Shelf {
-        Shelf {
-            alloc,
-            files: Vec::new(alloc),
-            failing: "",
-            last: None,
-            calls: String::new(alloc),
+    fn get(&self, path: &str) -> Result<&[u8], StoreError> {
+        if self.fails(path) {
+            return Err(StoreError::Failed);
+        }
+        match newest(&self.written, path).or(newest(&self.files, path)) {
+            Some(file) => Ok(file.bytes.as_slice()),
+            None => Err(StoreError::Failed),
         }
     }
 
-    pub(crate) fn put(&mut self, path: &str, bytes: &[u8]) -> Result<(), AllocError> {
-        let path = String::from_str(self.alloc, path)?;
-        let bytes = Vec::from_slice(self.alloc, bytes)?;
-        self.files.push((path, bytes))?;
+    fn fails(&self, path: &str) -> bool {
+        newest(&self.files, path).is_some_and(|file| file.fails)
+    }
+
+    fn put(&mut self, path: &str, bytes: &[u8]) -> Result<(), AllocError> {
+        let file = file_of(self.alloc, path, bytes)?;
+        self.written.push(file)?;
         Ok(())
     }
 
-    /// The newest bytes at a path.
-    fn get(&self, path: &str) -> Result<&[u8], StoreError> {
-        let mut found = Err(StoreError::Failed);
-        for file in &self.files {
-            if file.0.as_str() == path && path != self.failing {
-                found = Ok(file.1.as_slice());
-            }
-        }
-        found
+    fn log(&mut self, call: &str, path: &str) -> Result<(), AllocError> {
+        self.calls.push_str(call)?;
+        self.calls.push_str(path)?;
+        self.calls.push('\n')
     }
 }
 
@@ -50,9 +61,7 @@ impl Store for Shelf {
     ghost failure = { λ shelf. shelf.last };
 
     fn read(&mut self, alloc: Global, path: &str) -> Result<Vec<u8>, StoreError> {
-        self.calls.push_str("read ")?;
-        self.calls.push_str(path)?;
-        self.calls.push('\n')?;
+        self.log("read ", path)?;
         self.last = Some(io::ErrorKind::NotFound);
         let bytes = Vec::from_slice(alloc, self.get(path)?)?;
         self.last = None;
@@ -60,24 +69,29 @@ impl Store for Shelf {
     }
 
     fn write(&mut self, path: &str, bytes: &[u8]) -> Result<(), StoreError> {
-        self.calls.push_str("write ")?;
-        self.calls.push_str(path)?;
-        for byte in bytes {
-            let shown = format!(in self.alloc; " {byte:02x}")?;
-            self.calls.push_str(shown.as_str())?;
-        }
-        self.calls.push('\n')?;
-        if path == self.failing {
+        self.log("write ", path)?;
+        self.put(path, bytes)?;
+        if self.fails(path) {
             self.last = Some(io::ErrorKind::PermissionDenied);
             return Err(StoreError::Failed);
         }
-        self.put(path, bytes)?;
         self.last = None;
         Ok(())
     }
 
     fn last_failure(&self) -> Option<io::ErrorKind> {
         self.last
+    }
+}
+
+/// The shelf whose files these texts spell.
+pub(crate) fn shelf_of(rt: impl Abort + Copy, alloc: Global, texts: &[&str]) -> Shelf {
+    Shelf {
+        alloc,
+        files: files_of(rt, alloc, texts),
+        written: Vec::new(alloc),
+        last: None,
+        calls: String::new(alloc),
     }
 }
 
@@ -115,80 +129,89 @@ impl Write for Stuck {
     }
 }
 
-/// A static image whose one segment is this code, at 0x10000.
-pub(crate) fn image(alloc: Global, code: &[u32]) -> Result<Vec<u8>, AllocError> {
-    let size = u32::try_from(code.len()).unwrap_or(0).wrapping_mul(4);
-    let mut file = Vec::from_slice(alloc, b"\x7fELF\x01\x01\x01\0\0\0\0\0\0\0\0\0".as_slice())?;
-    let header = [0x00f3_0002, 1, 0x1_0000, 52, 0, 0, 0x0020_0034, 1, 0];
-    let segment = [1, 84, 0x1_0000, 0x1_0000, size, size, 5, 4];
-    for word in header.iter().chain(segment.iter()).chain(code.iter()) {
-        file.extend_from_slice(word.to_le_bytes().as_slice())?;
+/// What comes of a performance: its status, what is printed to standard output and to standard error, a line for each
+/// call of the store, and texts that spell the files which it is told to write.
+#[derive(Clone, Copy)]
+pub(crate) struct Outcome<'a> {
+    pub status: Status,
+    pub output: &'a str,
+    pub errors: &'a str,
+    pub calls: &'a str,
+    pub written: [&'a str; 2],
+}
+
+/// All was done, and nothing printed, read or written.
+pub(crate) const DONE: Outcome<'static> = Outcome {
+    status: Status::Done,
+    output: "",
+    errors: "",
+    calls: "",
+    written: ["", ""],
+};
+
+/// Asserts that a stream took this text.
+pub(crate) fn assert_text(rt: impl Abort + Copy, stream: Vec<u8>, text: &str) {
+    assert_same!(rt; std::str::from_utf8(stream.as_slice()), Ok(text));
+}
+
+/// Asserts what a shelf was asked for.
+pub(crate) fn assert_asked(rt: impl Abort + Copy, shelf: &Shelf, wanted: Outcome<'_>) {
+    assert_same!(rt; shelf.calls.as_str(), wanted.calls);
+    let written = files_of(rt, shelf.alloc, &wanted.written);
+    assert_same!(rt; shelf.written.as_slice(), written.as_slice());
+}
+
+/// The words of a line.
+pub(crate) fn words_of<'a>(rt: impl Abort + Copy, alloc: Global, line: &'a str) -> Vec<&'a str> {
+    let mut words = Vec::new(alloc);
+    for word in line.split_whitespace() {
+        given!(rt; words.push(word));
     }
-    Ok(file)
+    words
 }
 
-/// Performs `rvvbox` with these words, where nothing can be read from the input, and asserts its status, what was printed, and
-/// the calls of the store.
-pub(crate) fn expect<R: Abort + AllocGlobal>(
-    rt: &R,
-    words: &[&str],
+/// Performs these words over a shelf and an input, and asserts what comes of it.
+pub(crate) fn expect_on<I: Read>(
+    rt: impl Abort + Copy,
     shelf: &mut Shelf,
-    told: (Status, &str, &str),
-    calls: &str,
-) {
-    expect_on(rt, words, shelf, &mut Broken, told, calls);
-}
-
-/// The same with an input.
-pub(crate) fn expect_on<R: Abort + AllocGlobal, I: Read>(
-    rt: &R,
-    words: &[&str],
-    shelf: &mut Shelf,
+    words: &str,
     input: &mut I,
-    (status, output, errors): (Status, &str, &str),
-    calls: &str,
+    wanted: Outcome<'_>,
 ) {
-    let alloc = rt.alloc();
-    let mut out = Vec::new(alloc);
-    let mut err = Vec::new(alloc);
-    let had = perform(alloc, words, shelf, input, &mut out, &mut err);
-    assert_eq!(rt; std::str::from_utf8(err.as_slice()), Ok(errors));
-    assert_eq!(rt; std::str::from_utf8(out.as_slice()), Ok(output));
-    assert_eq!(rt; had.status, status);
-    assert_eq!(rt; shelf.calls.as_str(), calls);
+    let alloc = shelf.alloc;
+    let words = words_of(rt, alloc, words);
+    let (mut output, mut errors) = (Vec::new(alloc), Vec::new(alloc));
+    let ending = perform(alloc, &words, shelf, input, &mut output, &mut errors);
+    assert_text(rt, errors, wanted.errors);
+    assert_text(rt, output, wanted.output);
+    assert_same!(rt; ending.status, wanted.status);
+    assert_asked(rt, shelf, wanted);
 }
 
-/// The same where the file at a path fails, which is told.
-pub(crate) fn expect_failing<R: Abort + AllocGlobal, I: Read>(
-    rt: &R,
-    words: &[&str],
+/// Performs these words over the files that texts spell, where nothing can be read from the input, and asserts what comes
+/// of it.
+pub(crate) fn expect(
+    rt: impl Abort + Copy,
+    alloc: Global,
+    files: &[&str],
+    words: &str,
+    wanted: Outcome<'_>,
+) {
+    let mut shelf = shelf_of(rt, alloc, files);
+    expect_on(rt, &mut shelf, words, &mut Broken, wanted);
+}
+
+/// The same where standard output takes no text: nothing is told.
+pub(crate) fn expect_silence<I: Read>(
+    rt: impl Abort + Copy,
     shelf: &mut Shelf,
-    input: &mut I,
-    path: &'static str,
-    calls: &str,
-) -> Result<(), AllocError> {
-    shelf.failing = path;
-    let told = format!(in rt.alloc(); "file: {path}\n")?;
-    let told = (Status::File, "", told.as_str());
-    expect_on(rt, words, shelf, input, told, calls);
-    Ok(())
-}
-
-/// Performs `rvvbox` where standard output takes no text, and asserts that nothing is told.
-pub(crate) fn expect_silence<R: Abort + AllocGlobal>(rt: &R, words: &[&str], shelf: &mut Shelf) {
-    expect_silence_on(rt, words, shelf, &mut Broken);
-}
-
-/// The same with an input.
-pub(crate) fn expect_silence_on<R: Abort + AllocGlobal, I: Read>(
-    rt: &R,
-    words: &[&str],
-    shelf: &mut Shelf,
+    words: &str,
     input: &mut I,
 ) {
-    let alloc = rt.alloc();
+    let alloc = shelf.alloc;
+    let words = words_of(rt, alloc, words);
     let mut errors = Vec::new(alloc);
-    let had = perform(alloc, words, shelf, input, &mut Broken, &mut errors);
-    assert_eq!(rt; had.status, Status::File);
-    assert!(rt; errors.is_empty());
+    let ending = perform(alloc, &words, shelf, input, &mut Broken, &mut errors);
+    assert_same!(rt; ending.status, Status::File);
+    assert_text(rt, errors, "");
 }

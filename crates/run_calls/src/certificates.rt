@@ -1,7 +1,7 @@
 //! How certificates are read, written and made.
 use crate::assertions::{assert_same, found, given};
+use crate::kernels::RAISE_CERTIFICATE;
 use cert_note::{CertError, Certificate, Contents, Version, Vlen, read, write};
-use kernels::RAISE_CERTIFICATE;
 use region_mem::{Param, Parameters};
 use std::alloc::Global;
 use std::process::Abort;

@@ -1,10 +1,10 @@
 //! What is accepted and what is refused. The kernel sums n bytes.
 use crate::assertions::{assert_same, given};
+use crate::kernels::{HEADERS, SUM, SUM_CERTIFICATE};
 use block_checker::{Accepted, CheckError, check};
 use cert_note::{Certificate, Vlen};
 use elf_image::Image;
 use hex::decode;
-use kernels::{HEADERS, SUM, SUM_CERTIFICATE};
 use std::alloc::Global;
 use std::process::Abort;
 

@@ -2,9 +2,9 @@
 //! is told of it.
 use crate::assertions::{assert_same, found, given};
 use crate::checks::{image_of, sum};
+use crate::kernels::{SUM, SUM_CERTIFICATE};
 use block_checker::{CheckError, Explanation, Part, explain};
 use cert_note::Vlen;
-use kernels::{SUM, SUM_CERTIFICATE};
 use std::alloc::Global;
 use std::process::Abort;
 

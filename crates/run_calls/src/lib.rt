@@ -11,6 +11,8 @@ mod checks;
 #[cfg(test)]
 mod explanations;
 #[cfg(test)]
+mod kernels;
+#[cfg(test)]
 mod monitoring;
 #[cfg(test)]
 mod orders;

@@ -5,8 +5,8 @@ ghost use Rattle.vreg_groups.specs.VectorLength.{IsVlenb};
 
 use crate::assertions::{assert_same, found, given};
 use crate::checks::image_of;
+use crate::kernels::ADD_BYTES;
 use elf_image::Image;
-use kernels::ADD_BYTES;
 use region_mem::{Arg, Args, Bytes, Mode, Param, Parameters};
 use sandbox_run::{Final, OpenError, Outcome, try_run};
 use std::alloc::Global;

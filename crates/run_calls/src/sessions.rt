@@ -4,8 +4,8 @@ ghost use Rattle.vreg_groups.specs.VectorLength.{IsVlenb};
 
 use crate::assertions::{assert_same, given};
 use crate::checks::accepted_sum;
+use crate::kernels::SUM;
 use block_checker::Accepted;
-use kernels::SUM;
 use region_mem::{Arg, Args, Bytes};
 use rv_decode::Reg;
 use sandbox_run::{OpenError, Session};

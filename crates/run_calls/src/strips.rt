@@ -3,10 +3,10 @@ ghost use Rattle.vreg_groups.specs.VectorLength.{IsVlenb};
 
 use crate::assertions::{assert_same, given};
 use crate::checks::image_of;
+use crate::kernels::{RAISE_CERTIFICATE, RAISE_WORDS};
 use crate::sessions::{args, assert_refused, first_byte};
 use block_checker::{Accepted, check};
 use cert_note::Vlen;
-use kernels::{RAISE_CERTIFICATE, RAISE_WORDS};
 use sandbox_run::{OpenError, Session};
 use std::alloc::Global;
 use std::process::Abort;

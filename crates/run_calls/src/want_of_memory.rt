@@ -2,13 +2,13 @@
 //! wrong with the bytes is told all the same.
 use crate::assertions::{assert_same, found, given};
 use crate::checks::file_of;
+use crate::kernels::SUM;
 use crate::readme::RAISE;
 use crate::refusing::Refusing;
 use cert_maker::{MakeError, make_in};
 use cert_note::{CertError, Certificate, Vlen};
 use elf_image::{ElfError, Image, attach};
 use hex::decode;
-use kernels::SUM;
 use region_mem::{Mode, Param, Parameters};
 use std::alloc::Global;
 use std::process::Abort;

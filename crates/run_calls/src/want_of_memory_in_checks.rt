@@ -4,13 +4,13 @@ ghost use Rattle.std.specs.Prelude.{◌<◌, length};
 
 use crate::assertions::{assert_same, found, given};
 use crate::checks::{STORE, certificate, file_of, image_of, sum};
+use crate::kernels::SUM;
 use crate::refusing::Refusing;
 use crate::want_of_memory::{Heap, MANY, assert_served, assert_wanting};
 use abs_state::{Abstract, MOST_WORDS, implies};
 use block_checker::{CheckError, check_in};
 use cert_note::{Certificate, Vlen};
 use elf_image::Image;
-use kernels::SUM;
 use rv_decode::decode;
 use std::alloc::Global;
 use std::process::Abort;

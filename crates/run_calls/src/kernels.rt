@@ -1,9 +1,8 @@
-//! Kernels that the tests of several crates run. Their words come from the LLVM assembler, and their certificates were made
+//! Kernels that several tests run. Their words come from the LLVM assembler, and their certificates were made
 //! by hand.
-#![tactic(auto)]
 
 /// Sums n bytes: beqz a1,end; loop: lbu t0,0(a0); addi a0,a0,1; add a2,a2,t0; addi a1,a1,-1; bnez a1,loop; end: ret
-pub const SUM: [u32; 7] = [
+pub(crate) const SUM: [u32; 7] = [
     0x0005_8c63,
     0x0005_4283,
     0x0015_0513,
@@ -16,7 +15,7 @@ pub const SUM: [u32; 7] = [
 /// The certificate of the sum: a0 is a buffer of 1024 bytes to read, a1 a number n up to 1024. From the blocks at 0x10000, 0x10004 and
 /// 0x10018 on there are at most 2 + 5 * x11, 1 + 5 * x11 and 1 instructions. ra is EXIT at each of them; x10 is 0x40000000
 /// at the first, and 0x40000000 - x11 + n at the second, where x11 is not 0.
-pub const SUM_CERTIFICATE: [u8; 261] = [
+pub(crate) const SUM_CERTIFICATE: [u8; 261] = [
     0x01, 0x00, 0x01, 0x00, 0x02, 0x01, 0x00, 0x00, 0x00, 0x04, 0x00, 0x00, 0x00, 0x00, 0x00, 0x00,
     0x01, 0x00, 0x00, 0x00, 0x00, 0x00, 0x00, 0x00, 0x00, 0x04, 0x00, 0x00, 0x00, 0x00, 0x00, 0x00,
     0x00, 0x00, 0x00, 0x00, 0x00, 0x00, 0x00, 0x00, 0x00, 0x00, 0x00, 0x00, 0x00, 0x00, 0x00, 0x00,
@@ -38,7 +37,7 @@ pub const SUM_CERTIFICATE: [u8; 261] = [
 
 /// Raises each word of a buffer by one: beqz a1,end; loop: vsetvli t0,a1,e32,m1,ta,ma; vle32.v v8,(a0); vadd.vi v8,v8,1;
 /// vse32.v v8,(a0); slli t1,t0,2; add a0,a0,t1; sub a1,a1,t0; bnez a1,loop; end: ret
-pub const RAISE_WORDS: [u32; 10] = [
+pub(crate) const RAISE_WORDS: [u32; 10] = [
     0x0205_8263,
     0x0d05_f2d7,
     0x0205_6407,
@@ -53,7 +52,7 @@ pub const RAISE_WORDS: [u32; 10] = [
 
 /// Its certificate at 128 bits, as `examples/raise_words/certificate.toml` states it: a0 is a buffer of 4096 bytes that may be
 /// written, a1 a number up to 1024.
-pub const RAISE_CERTIFICATE: [u8; 261] = [
+pub(crate) const RAISE_CERTIFICATE: [u8; 261] = [
     1, 0, 1, 0, 2, 3, 0, 0, 0, 0x10, 0, 0, 0, 0, 0, 0, 1, 0, 0, 0, 0, 0, 0, 0, 0, 4, 0, 0, 0, 0, 0,
     0, 0, 0, 0, 0, 0, 0, 0, 0, 0, 0, 0, 0, 0, 0, 0, 0, 0, 0, 0, 0, 0, 0, 0, 0, 0, 0, 0, 0, 0, 0, 0,
     0, 0, 0, 0, 0, 0, 0, 0, 0, 0, 0, 0, 0, 0, 0, 0, 0, 0, 0, 0, 0, 0, 0, 0, 0, 0, 0, 0, 0, 0, 0, 0,
@@ -67,7 +66,7 @@ pub const RAISE_CERTIFICATE: [u8; 261] = [
 ];
 
 /// Adds bytes: vsetvli t0,a2,e8,m1,ta,ma; vle8.v v8,(a0); vle8.v v16,(a1); vadd.vv v8,v8,v16; vse8.v v8,(a0); ecall
-pub const ADD_BYTES: [u32; 6] = [
+pub(crate) const ADD_BYTES: [u32; 6] = [
     0x0c06_72d7,
     0x0205_0407,
     0x0205_8807,
@@ -77,6 +76,6 @@ pub const ADD_BYTES: [u32; 6] = [
 ];
 
 /// The headers of an executable of one segment at 0x10000, which may be read and executed, up to the segment's sizes.
-pub const HEADERS: &str = "\
+pub(crate) const HEADERS: &str = "\
 7f454c460101010000000000000000000200f30001000000000001003400000000000000000000003400200001000000\
 0000000001000000540000000000010000000100";
