@@ -12,8 +12,10 @@ use Rattle.commands.specs.Makes.{Makes, StopsMake}
 use Rattle.commands.specs.Mons.{Mons, StopsMon}
 use Rattle.commands.specs.Runs.{Runs, StopsRun}
 use Rattle.commands.specs.Tries.{StopsTry, Tries}
-use Rattle.commands.specs.Words.{Gains, Status, Stop, Written}
+use Rattle.commands.specs.Written.{Gains, Written}
 use Rattle.commands.specs.declared.stop.Ending.{Ending}
+use Rattle.commands.specs.declared.stop.Status.{Status}
+use Rattle.commands.specs.declared.stop.Stop.{Stop}
 use Rattle.commands.specs.declared.stop.Stop.TheVariants as stop
 use Rattle.command_line.specs.Asked.{is_help}
 use Rattle.command_line.specs.Line.{IsLineOf, app}
