@@ -1,6 +1,7 @@
 //! Why jobs are refused.
 use crate::assertions::{assert_same, assert_shows, found, given};
 use explanations::{Command, job_reason};
+use job_file::kept_job_in;
 use std::alloc::Global;
 use std::process::Abort;
 
@@ -84,4 +85,35 @@ fn tells_a_value_of_a_parameter(rt: HostRuntime) {
     let expected = "  not as wanted: mode in the param at place 1: \"r\" or \"rw\"\n";
     let text = "param = [{ kind = \"none\" }, { kind = \"buffer\", mode = \"w\" }]\n";
     assert_told(rt, rt.alloc(), text, Command::Try, expected);
+}
+
+/// Asserts which rule of job files a text breaks first.
+fn assert_breach(rt: impl Abort + Copy, alloc: Global, text: &str, expected: &str) {
+    let table = given!(rt; job_file::parse(alloc, text));
+    match kept_job_in(&table) {
+        Ok(_) => panic!(rt; "no rule is broken by {text}"),
+        Err(breach) => assert_shows(rt, alloc, breach, expected),
+    }
+}
+
+#[test]
+fn reads_a_job_that_keeps_the_rules(rt: HostRuntime) {
+    let table = given!(rt; job_file::parse(rt.alloc(), "max = 7\nimage = \"a.elf\"\n"));
+    let job = given!(rt; kept_job_in(&table));
+    assert_same!(rt; job.image, Some("a.elf"));
+    assert_same!(rt; job.max, Some(7));
+    assert_same!(rt; job.vlen.is_none(), true);
+}
+
+/// A key that is none comes before a value that is wrong.
+#[test]
+fn tells_the_first_rule_that_is_broken(rt: HostRuntime) {
+    let alloc = rt.alloc();
+    let text = "param = [{ kind = \"scalar\", lo = 1, hi = -1 }]\n";
+    let expected = "not as wanted: hi in the param at place 0: a number in 0..=4294967295";
+    assert_breach(rt, alloc, text, expected);
+    let text = "vlen = 100\nvlne = 128\n";
+    assert_breach(rt, alloc, text, "no key of the job: vlne");
+    let text = "param = [{}, {}, {}, {}, {}, {}, {}, {}, {}]\n";
+    assert_breach(rt, alloc, text, "wanted: at most eight param tables");
 }

@@ -1,6 +1,8 @@
--- The tables and keys of a job, and the values that the keys may have, in words.
-use Rattle.std.specs.Prelude.{ℕ, ◌++◌, List, codes}
+-- The tables and keys of a job, the values that the keys may have, and a breach, in words.
+use Rattle.std.specs.Prelude.{ℕ, ◌++◌, List, codes, Option, Some, option_map}
 use Rattle.std.specs.Fmt.{decimal}
+use Rattle.job_file.specs.declared.keys.JobBreach.{JobBreach}
+use Rattle.job_file.specs.declared.keys.JobBreach.TheVariants as breach
 use Rattle.job_file.specs.declared.keys.JobKey.{JobKey}
 use Rattle.job_file.specs.declared.keys.JobKey.TheVariants as key
 use Rattle.job_file.specs.declared.keys.JobTable.{JobTable}
@@ -42,3 +44,21 @@ key_wanted key.Mode = codes "\"r\" or \"rw\""
 key_wanted key.Size = word_wanted
 key_wanted key.File = codes "a path"
 key_wanted key.Out = codes "a path"
+
+abbrev pub in_text : JobTable → JobKey → List ℕ
+in_text t k = codes " in " ++ (table_text t ++ (codes ": " ++ key_wanted k))
+
+abbrev pub wrong_text : JobTable → JobKey → List ℕ
+wrong_text t k = codes "not as wanted: " ++ (key_name k ++ in_text t k)
+
+abbrev pub unknown_text : JobTable → List ℕ → List ℕ
+unknown_text t name = codes "no key of " ++ (table_text t ++ (codes ": " ++ name))
+
+abbrev pub too_many_text : List ℕ
+too_many_text = codes "wanted: at most eight param tables"
+
+-- a breach, where the text of an unknown key is known
+abbrev pub breach_text : {A : Type 0} → (A → Option (List ℕ)) → JobBreach A → Option (List ℕ)
+breach_text text_of (breach.Wrong t k) = Some (wrong_text t k)
+breach_text text_of (breach.Unknown t name) = option_map (unknown_text t) (text_of name)
+breach_text text_of breach.TooMany = Some too_many_text

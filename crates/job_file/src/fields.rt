@@ -191,7 +191,8 @@ pub fn text<'a>(
     place: JobTable,
     key: JobKey,
 ) -> Result<Option<&'a str>, JobBreach<&'a str>>
-    ensures { read_lent (option_map (λ s. s.now)) result ≡ field as_str place key (table_view table.now) }
+    ensures { read_lent (option_map (λ s. s.now)) result
+        ≡ field as_str place key (table_view table.now) }
 {
     match at(table, key) {
         Some(value) => Ok(Some(wanted(value.as_str(), place, key)?)),
@@ -207,7 +208,8 @@ fn is_one_of(known: &[JobKey], name: &str) -> bool
 
 /// The table's first key that is none of these.
 pub fn first_unknown<'a>(table: &'a Table, known: &[JobKey]) -> Option<&'a str>
-    ensures { option_map (λ name. name.now) result ≡ first_unknown known.now (table_view table.now) }
+    ensures { option_map (λ name. name.now) result
+        ≡ first_unknown known.now (table_view table.now) }
 {
     for key in table.keys() {
         if !is_one_of(known, key.as_str()) {

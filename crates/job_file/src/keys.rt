@@ -2,6 +2,7 @@
 ghost use Rattle.std.specs.Prelude.{◌≡◌};
 ghost use Rattle.job_file.specs.Keys.{key_name, key_wanted};
 
+use std::error::Error;
 use std::fmt;
 
 /// A table of a job.
@@ -93,3 +94,23 @@ impl fmt::Display for JobTable {
         }
     }
 }
+
+impl<T: fmt::Display> fmt::Display for JobBreach<T> {
+    ghost use Rattle.job_file.specs.Keys.{breach_text};
+
+    ghost output = { breach_text T.output };
+
+    fn fmt<W: fmt::Write>(&self, f: &mut fmt::Formatter<W>) -> fmt::Result {
+        match self {
+            JobBreach::Wrong { table, key } => {
+                let name = key.name();
+                let wanted = key.wanted();
+                write!(f, "not as wanted: {name} in {table}: {wanted}")
+            }
+            JobBreach::Unknown { table, key } => write!(f, "no key of {table}: {key}"),
+            JobBreach::TooMany => f.write_str("wanted: at most eight param tables"),
+        }
+    }
+}
+
+impl<T: fmt::Debug + fmt::Display + Drop> Error for JobBreach<T> {}
