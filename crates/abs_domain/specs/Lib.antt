@@ -10,3 +10,4 @@ pub mod Starts
 pub mod Values
 pub mod Zones
 pub mod Words
+pub mod Why

@@ -1,6 +1,9 @@
--- The error of what could not be proved at a word, and the name and the address of each error.
-use Rattle.std.specs.Prelude.{ℕ, List, Option, Some, None, codes}
+-- The error of what could not be proved at a word; the name and the address of each error, and how
+-- it is told.
+use Rattle.std.specs.Prelude.{ℕ, ◌++◌, List, Option, Some, None, codes}
+use Rattle.region_mem.specs.Digits.{digits_text}
 use Rattle.block_checker.specs.Words.{CheckError, Why}
+use Rattle.abs_domain.specs.Why.{why_text}
 use Rattle.abs_domain.specs.declared.why.Why.TheVariants as why
 use Rattle.block_checker.specs.declared.errors.CheckError.TheVariants as error
 
@@ -51,3 +54,28 @@ address_of (error.VectorFactNotProved pc) = Some pc
 address_of (error.BudgetNotProved pc) = Some pc
 address_of (error.BlockTooLong pc) = Some pc
 address_of error.NoMemory = None
+
+-- what is wrong, in words
+abbrev pub words_of : CheckError → List ℕ
+words_of error.WrongVlen = codes "the certificate is for another vector length"
+words_of error.NoEntryBlock = codes "no block begins at the entry"
+words_of (error.NotCode pc) = codes "no code"
+words_of (error.IllegalWord pc) = why_text why.IllegalWord
+words_of (error.VtypeUnknown pc) = why_text why.VtypeUnknown
+words_of (error.AccessNotProved pc) = why_text why.AccessNotProved
+words_of (error.ReadOnly pc) = why_text why.ReadOnly
+words_of (error.TargetNotABlock pc) = why_text why.TargetNotABlock
+words_of (error.IntervalNotProved pc) = why_text why.IntervalNotProved
+words_of (error.EqualityNotProved pc) = why_text why.EqualityNotProved
+words_of (error.OrderNotProved pc) = why_text why.OrderNotProved
+words_of (error.VectorFactNotProved pc) = why_text why.VectorFactNotProved
+words_of (error.BudgetNotProved pc) = why_text why.BudgetNotProved
+words_of (error.BlockTooLong pc) = codes "a block is too long"
+words_of error.NoMemory = codes "out of memory"
+
+abbrev pub at_address : List ℕ → Option ℕ → List ℕ
+at_address words None = words
+at_address words (Some pc) = words ++ (codes " at " ++ digits_text pc)
+
+abbrev pub error_text : CheckError → List ℕ
+error_text e = at_address (words_of e) (address_of e)

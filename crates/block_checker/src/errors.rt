@@ -1,8 +1,9 @@
 //! Why an image is not accepted.
 ghost use Rattle.std.specs.Prelude.{◌≡◌};
-ghost use Rattle.block_checker.specs.Refusals.{address_of, name_of, refusal};
+ghost use Rattle.block_checker.specs.Refusals.{address_of, name_of, refusal, words_of};
 
 use abs_state::Why;
+use region_mem::Digits;
 use std::error::Error;
 use std::fmt;
 
@@ -87,6 +88,29 @@ impl CheckError {
             | CheckError::BlockTooLong(pc) => Some(pc),
         }
     }
+
+    /// What is wrong, in words, behind which the address is told.
+    fn words(self) -> &'static str
+        ensures { result.now ≡ words_of self }
+    {
+        match self {
+            CheckError::WrongVlen => "the certificate is for another vector length",
+            CheckError::NoEntryBlock => "no block begins at the entry",
+            CheckError::NotCode(_) => "no code",
+            CheckError::IllegalWord(_) => Why::IllegalWord.words(),
+            CheckError::VtypeUnknown(_) => Why::VtypeUnknown.words(),
+            CheckError::AccessNotProved(_) => Why::AccessNotProved.words(),
+            CheckError::ReadOnly(_) => Why::ReadOnly.words(),
+            CheckError::TargetNotABlock(_) => Why::TargetNotABlock.words(),
+            CheckError::IntervalNotProved(_) => Why::IntervalNotProved.words(),
+            CheckError::EqualityNotProved(_) => Why::EqualityNotProved.words(),
+            CheckError::OrderNotProved(_) => Why::OrderNotProved.words(),
+            CheckError::VectorFactNotProved(_) => Why::VectorFactNotProved.words(),
+            CheckError::BudgetNotProved(_) => Why::BudgetNotProved.words(),
+            CheckError::BlockTooLong(_) => "a block is too long",
+            CheckError::NoMemory => "out of memory",
+        }
+    }
 }
 
 /// What could not be proved, at the word at this address.
@@ -108,25 +132,16 @@ pub(crate) fn told(why: Why, pc: u32) -> CheckError
 }
 
 impl fmt::Display for CheckError {
+    ghost use Rattle.std.specs.Prelude.{Some};
+    ghost use Rattle.block_checker.specs.Refusals.{error_text};
+
+    ghost output = { λ error. Some (error_text error) };
+
     fn fmt<W: fmt::Write>(&self, f: &mut fmt::Formatter<W>) -> fmt::Result {
-        match self {
-            CheckError::WrongVlen => write!(f, "the certificate is for another vector length"),
-            CheckError::NoEntryBlock => write!(f, "no block begins at the entry"),
-            CheckError::NotCode(pc) => write!(f, "no code at {pc:08x}"),
-            CheckError::IllegalWord(pc) => write!(f, "no legal instruction at {pc:08x}"),
-            CheckError::VtypeUnknown(pc) => write!(f, "the vector type is not known at {pc:08x}"),
-            CheckError::AccessNotProved(pc) => write!(f, "an access is not proved at {pc:08x}"),
-            CheckError::ReadOnly(pc) => write!(f, "a store to read-only memory at {pc:08x}"),
-            CheckError::TargetNotABlock(pc) => write!(f, "a target is no block at {pc:08x}"),
-            CheckError::IntervalNotProved(pc) => write!(f, "an interval is not proved at {pc:08x}"),
-            CheckError::EqualityNotProved(pc) => write!(f, "an equality is not proved at {pc:08x}"),
-            CheckError::OrderNotProved(pc) => write!(f, "an order is not proved at {pc:08x}"),
-            CheckError::VectorFactNotProved(pc) => {
-                write!(f, "a vector fact is not proved at {pc:08x}")
-            }
-            CheckError::BudgetNotProved(pc) => write!(f, "a budget is not proved at {pc:08x}"),
-            CheckError::BlockTooLong(pc) => write!(f, "a block is too long at {pc:08x}"),
-            CheckError::NoMemory => write!(f, "out of memory"),
+        let words = self.words();
+        match self.address() {
+            Some(pc) => write!(f, "{words} at {}", Digits(u64::from(pc))),
+            None => f.write_str(words),
         }
     }
 }

@@ -3,6 +3,7 @@ use Rattle.std.specs.Prelude.{◌≡◌, ℕ, ◌+◌, ◌*◌, ◌-◌, ◌<◌
 use Rattle.std.specs.Prelude.{List, [], ◌∷◌, ◌++◌, length, Option, Some, None, IfSome, codes}
 use Rattle.std.specs.List.{slice_get, list_all, AllByRecursion}
 use Rattle.std.specs.Option.{option_map_or}
+use Rattle.region_mem.specs.Digits.{digits_text}
 use Rattle.region_mem.specs.Parameter.{is_valid}
 use Rattle.rv_decode.specs.declared.instructions.Direction.TheVariants.{Load}
 use Rattle.cert_note.specs.Certificate.{is_scalar, FitsWords}
@@ -64,3 +65,8 @@ name_of error.NoMemory = codes "NoMemory"
 abbrev pub address_of : MakeError → Option ℕ
 address_of (error.NotALoopOfTheClass address) = Some address
 address_of error.NoMemory = None
+
+abbrev pub error_text : MakeError → List ℕ
+error_text (error.NotALoopOfTheClass address) =
+    codes "no loop of the class at " ++ digits_text address
+error_text error.NoMemory = codes "out of memory"

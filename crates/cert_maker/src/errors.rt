@@ -3,6 +3,7 @@ ghost use Rattle.std.specs.Prelude.{◌≡◌};
 ghost use Rattle.cert_maker.specs.Make.{address_of, name_of};
 ghost use Rattle.cert_maker.specs.declared.errors.MakeError.TheVariants.{NoMemory};
 
+use region_mem::Digits;
 use std::alloc::{AllocError, AllocFailed};
 use std::error::Error;
 use std::fmt;
@@ -40,10 +41,15 @@ impl MakeError {
 }
 
 impl fmt::Display for MakeError {
+    ghost use Rattle.std.specs.Prelude.{Some};
+    ghost use Rattle.cert_maker.specs.Make.{error_text};
+
+    ghost output = { λ error. Some (error_text error) };
+
     fn fmt<W: fmt::Write>(&self, f: &mut fmt::Formatter<W>) -> fmt::Result {
         match self {
             MakeError::NotALoopOfTheClass(address) => {
-                write!(f, "no loop of the class at {address:08x}")
+                write!(f, "no loop of the class at {}", Digits(u64::from(*address)))
             }
             MakeError::NoMemory => write!(f, "out of memory"),
         }

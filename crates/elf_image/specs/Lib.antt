@@ -3,6 +3,7 @@ pub mod Notes
 pub mod Image
 pub mod File
 pub mod Faults
+pub mod Error
 pub mod Attached
 pub mod ReadBack
 pub use Rattle.byteorder.specs.Endian

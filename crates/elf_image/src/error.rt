@@ -1,6 +1,7 @@
 //! Why a file is refused.
 
 ghost use Rattle.std.specs.Prelude.{◌≡◌};
+ghost use Rattle.elf_image.specs.Error.{error_text};
 ghost use Rattle.elf_image.specs.declared.error.ElfError.TheVariants.{NoMemory};
 
 use std::alloc::{AllocError, AllocFailed};
@@ -50,9 +51,12 @@ pub enum ElfError {
     NoMemory,
 }
 
-impl fmt::Display for ElfError {
-    fn fmt<W: fmt::Write>(&self, f: &mut fmt::Formatter<W>) -> fmt::Result {
-        let text = match self {
+impl ElfError {
+    /// Why the file is refused, in words.
+    fn words(self) -> &'static str
+        ensures { result.now ≡ error_text self }
+    {
+        match self {
             ElfError::TooShort => "the file is shorter than an ELF header",
             ElfError::BadMagic => "the file is not an ELF file",
             ElfError::BadClass => "the file is not of 32 bits and little-endian",
@@ -70,8 +74,18 @@ impl fmt::Display for ElfError {
             ElfError::TwoCertificates => "the file has two certificates",
             ElfError::CertificateThere => "the file has a certificate already",
             ElfError::NoMemory => "out of memory",
-        };
-        f.write_str(text)
+        }
+    }
+}
+
+impl fmt::Display for ElfError {
+    ghost use Rattle.std.specs.Prelude.{Some};
+    ghost use Rattle.elf_image.specs.Error.{error_text};
+
+    ghost output = { λ error. Some (error_text error) };
+
+    fn fmt<W: fmt::Write>(&self, f: &mut fmt::Formatter<W>) -> fmt::Result {
+        f.write_str(self.words())
     }
 }
 

@@ -1,1 +1,1 @@
-pub mod AddressLemmas
+pub mod JobLemmas

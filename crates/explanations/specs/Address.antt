@@ -1,13 +1,6 @@
 -- How addresses and words are told.
-use Rattle.std.specs.Prelude.{ℕ, List, length, replicate, codes, ◌++◌, ◌-◌, false}
-use Rattle.std.specs.Fmt.{digits}
-
--- zeros before the digits, so that there are eight
-abbrev pub filled : List ℕ → List ℕ
-filled shown = replicate (8 - length shown) 48 ++ shown
-
-abbrev pub digits_text : ℕ → List ℕ
-digits_text number = filled (digits 16 false number)
+use Rattle.std.specs.Prelude.{ℕ, List, codes, ◌++◌}
+use Rattle.region_mem.specs.Digits.{digits_text}
 
 abbrev pub address_text : ℕ → List ℕ
 address_text number = codes "0x" ++ digits_text number

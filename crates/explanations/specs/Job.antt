@@ -8,7 +8,7 @@ use Rattle.std.specs.Str.Lossy.{utf8_valid_len}
 use Rattle.toml.specs.Data.{Members}
 use Rattle.toml.specs.Parse.{parse_document}
 use Rattle.job_file.specs.Job.{Breach, Text, job_of, kept_job_of}
-use Rattle.job_file.specs.Keys.{key_name, key_wanted, table_text}
+use Rattle.job_file.specs.Keys.{in_text, key_name, too_many_text, unknown_text, wrong_text}
 use Rattle.job_file.specs.Needs.{make_job_in, run_job_in, try_job_in}
 use Rattle.job_file.specs.declared.keys.JobBreach.{JobBreach}
 use Rattle.job_file.specs.declared.keys.JobBreach.TheVariants as breach
@@ -152,10 +152,13 @@ command_name command.Try = codes "try"
 command_name command.Make = codes "make"
 
 abbrev pub needs_text : JobKey → Command → List ℕ
-needs_text k c = codes "  " ++ (command_name c ++ (codes " needs " ++ key_name k))
+needs_text k c = command_name c ++ (codes " needs " ++ key_name k)
 
-abbrev pub in_text : JobTable → JobKey → List ℕ
-in_text t k = codes " in " ++ (table_text t ++ (codes ": " ++ (key_wanted k ++ codes "\n")))
+-- a breach with a text of its own
+abbrev pub kept_text : JobBreach (String Global) → List ℕ
+kept_text (breach.Wrong t k) = wrong_text t k
+kept_text (breach.Unknown t name) = unknown_text t (string_bytes name)
+kept_text breach.TooMany = too_many_text
 
 -- the lines of a reason
 abbrev pub job_text : JobReason → List ℕ
@@ -165,9 +168,6 @@ job_text (reason.NotToml line column byte) = codes "  not TOML from byte " ++ (d
     ++ (codes ", column " ++ (decimal column ++ codes "\n")))))
 job_text reason.Broken =
     codes "  wanted: no other keys, and each value of its type and range\n"
-job_text (reason.Missing t k c) = needs_text k c ++ in_text t k
-job_text (reason.Breach (breach.Wrong t k)) =
-    codes "  not as wanted: " ++ (key_name k ++ in_text t k)
-job_text (reason.Breach (breach.Unknown t name)) =
-    codes "  no key of " ++ (table_text t ++ (codes ": " ++ (string_bytes name ++ codes "\n")))
-job_text (reason.Breach breach.TooMany) = codes "  wanted: at most eight param tables\n"
+job_text (reason.Missing t k c) =
+    codes "  " ++ (needs_text k c ++ (in_text t k ++ codes "\n"))
+job_text (reason.Breach b) = codes "  " ++ (kept_text b ++ codes "\n")

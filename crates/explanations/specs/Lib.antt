@@ -10,3 +10,4 @@ pub mod Edge
 pub mod Sums
 pub mod Unshown
 pub mod Make
+pub mod Refusal

@@ -1,21 +1,6 @@
 //! Addresses and words, as they are told.
+use region_mem::Digits;
 use std::fmt;
-
-/// A number as eight digits of base 16.
-#[derive(Drop)]
-struct Digits(u64);
-
-impl fmt::Display for Digits {
-    ghost use Rattle.std.specs.Prelude.{Some};
-    ghost use Rattle.explanations.specs.Address.{digits_text};
-
-    ghost output = { λ digits. Some (digits_text digits.0) };
-
-    fn fmt<W: fmt::Write>(&self, f: &mut fmt::Formatter<W>) -> fmt::Result {
-        let number = self.0;
-        write!(f, "{number:08x}")
-    }
-}
 
 /// An address or a word, which is told as `0x` and eight digits of base 16. The end of an area may be 2^32.
 #[derive(Clone, Copy, Debug, PartialEq, Eq)]

@@ -333,7 +333,7 @@ impl fmt::Display for Needs {
     fn fmt<W: fmt::Write>(&self, f: &mut fmt::Formatter<W>) -> fmt::Result {
         let command = self.command;
         let name = self.key.name();
-        write!(f, "  {command} needs {name}")
+        write!(f, "{command} needs {name}")
     }
 }
 
@@ -346,14 +346,14 @@ struct In {
 
 impl fmt::Display for In {
     ghost use Rattle.std.specs.Prelude.{Some};
-    ghost use Rattle.explanations.specs.Job.{in_text};
+    ghost use Rattle.job_file.specs.Keys.{in_text};
 
     ghost output = { λ place. Some (in_text place.table place.key) };
 
     fn fmt<W: fmt::Write>(&self, f: &mut fmt::Formatter<W>) -> fmt::Result {
         let table = self.table;
         let wanted = self.key.wanted();
-        writeln!(f, " in {table}: {wanted}")
+        write!(f, " in {table}: {wanted}")
     }
 }
 
@@ -363,6 +363,7 @@ impl fmt::Display for JobReason {
 
     ghost output = { λ reason. Some (job_text reason) };
 
+    #[tactic(auto, using(crate::proofs::JobLemmas::breach_has_text))]
     fn fmt<W: fmt::Write>(&self, f: &mut fmt::Formatter<W>) -> fmt::Result {
         match self {
             JobReason::NotUtf8(byte) => writeln!(f, "  not UTF-8 from byte {byte} on"),
@@ -391,24 +392,9 @@ impl fmt::Display for JobReason {
                     table: *table,
                     key: *key,
                 };
-                write!(f, "{needs}{place}")
+                writeln!(f, "  {needs}{place}")
             }
-            JobReason::Breach(JobBreach::Wrong { table, key }) => {
-                let name = key.name();
-                let place = In {
-                    table: *table,
-                    key: *key,
-                };
-                write!(f, "  not as wanted: {name}{place}")
-            }
-            JobReason::Breach(JobBreach::Unknown { table, key }) => writeln!(
-                f,
-                "  no key of {table}: {key}"
-            ),
-            JobReason::Breach(JobBreach::TooMany) => writeln!(
-                f,
-                "  wanted: at most eight param tables"
-            ),
+            JobReason::Breach(breach) => writeln!(f, "  {breach}"),
         }
     }
 }

@@ -13,6 +13,7 @@ mod image;
 mod job;
 mod make;
 mod open;
+mod refusal;
 mod sums;
 mod unshown;
 
@@ -26,5 +27,6 @@ pub use image::{ElfField, ImageReason, image_reason};
 pub use job::{Command, JobReason, job_reason};
 pub use make::{LoopRow, MakeReason, attach_reason, parameter_reason, word_reason};
 pub use open::{Given, OpenReason, open_reason};
+pub use refusal::Refusal;
 pub use sums::Sum;
 pub use unshown::{Number, Unshown};

@@ -1,5 +1,5 @@
 -- What commands do and tell.
-use Rattle.std.specs.Prelude.{◌≡◌, ℕ, ◌*◌, List, [], Option, Some, None, Result, Ok, Err, MatchResult, if◌then◌else◌}
+use Rattle.std.specs.Prelude.{◌≡◌, ℕ, ◌*◌, List, [], codes, Option, Some, None, Result, Ok, Err, MatchResult, if◌then◌else◌}
 use Rattle.std.specs.Io.KnownBytes.{Appends}
 use Rattle.rv_listing.specs.Sinks.{AppendsSome, IsCounted}
 use Rattle.vreg_groups.specs.Elements.{bytes_from}
@@ -112,3 +112,12 @@ abbrev pub Answers :
 Answers vlenb result command s old new before now = MatchResult result
     (λ f. (f ≡ flow_of command) × Appends old new (text_of vlenb command s) × (now ≡ before))
     (λ e. (e ≡ error.Write) × AppendsSome old new (text_of vlenb command s) × IsCounted before now)
+
+-- why a line was not done, or not told, in words
+abbrev pub error_text : MonError → List ℕ
+error_text error.Unknown = codes "unknown command"
+error_text error.BadNumber = codes "no number that the command takes"
+error_text error.TooManyBreakpoints = codes "sixteen breakpoints are set"
+error_text error.NotThere = codes "no breakpoint there"
+error_text error.NoBytes = codes "no bytes there"
+error_text error.Write = codes "the text could not be written"

@@ -1,7 +1,7 @@
 //! Commands, and what comes of one.
 
 ghost use Rattle.std.specs.Prelude.{◌≡◌};
-ghost use Rattle.monitor.specs.Commands.{flow_of};
+ghost use Rattle.monitor.specs.Commands.{error_text, flow_of};
 
 use rv_decode::Reg;
 use std::error::Error;
@@ -88,16 +88,30 @@ impl Command {
     }
 }
 
-impl fmt::Display for MonError {
-    fn fmt<W: fmt::Write>(&self, f: &mut fmt::Formatter<W>) -> fmt::Result {
+impl MonError {
+    /// Why the line was not done, or not told, in words.
+    fn words(self) -> &'static str
+        ensures { result.now ≡ error_text self }
+    {
         match self {
-            MonError::Unknown => write!(f, "unknown command"),
-            MonError::BadNumber => write!(f, "no number that the command takes"),
-            MonError::TooManyBreakpoints => write!(f, "sixteen breakpoints are set"),
-            MonError::NotThere => write!(f, "no breakpoint there"),
-            MonError::NoBytes => write!(f, "no bytes there"),
-            MonError::Write => write!(f, "the text could not be written"),
+            MonError::Unknown => "unknown command",
+            MonError::BadNumber => "no number that the command takes",
+            MonError::TooManyBreakpoints => "sixteen breakpoints are set",
+            MonError::NotThere => "no breakpoint there",
+            MonError::NoBytes => "no bytes there",
+            MonError::Write => "the text could not be written",
         }
+    }
+}
+
+impl fmt::Display for MonError {
+    ghost use Rattle.std.specs.Prelude.{Some};
+    ghost use Rattle.monitor.specs.Commands.{error_text};
+
+    ghost output = { λ error. Some (error_text error) };
+
+    fn fmt<W: fmt::Write>(&self, f: &mut fmt::Formatter<W>) -> fmt::Result {
+        f.write_str(self.words())
     }
 }
 

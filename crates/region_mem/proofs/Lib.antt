@@ -18,3 +18,4 @@ pub mod LendLemmas
 pub mod KeptCode
 pub mod StartCode
 pub mod ByteLemmas
+pub mod DigitsLemmas

@@ -1,6 +1,7 @@
--- What a step answers, beside the definition that it follows; a fault's name, and the number
--- that it carries.
-use Rattle.std.specs.Prelude.{◌≡◌, ℕ, List, codes, Result, Ok, Err}
+-- What a step answers, beside the definition that it follows; a fault's name, the number that it
+-- carries, and how it is told.
+use Rattle.std.specs.Prelude.{◌≡◌, ◌++◌, ℕ, List, codes, Result, Ok, Err}
+use Rattle.region_mem.specs.Digits.{digits_text}
 use Rattle.region_mem.specs.Words.{Fault}
 use Rattle.region_mem.specs.declared.faults.Fault.TheVariants.{Illegal, FetchFault, LoadFault, StoreFault, JumpMisaligned}
 
@@ -25,3 +26,14 @@ number_of (FetchFault pc) = pc
 number_of (LoadFault address) = address
 number_of (StoreFault address) = address
 number_of (JumpMisaligned target) = target
+
+-- what went wrong, in words
+abbrev pub words_of : Fault → List ℕ
+words_of (Illegal word) = codes "illegal instruction"
+words_of (FetchFault pc) = codes "no instruction may be fetched at"
+words_of (LoadFault address) = codes "no load is permitted at"
+words_of (StoreFault address) = codes "no store is permitted at"
+words_of (JumpMisaligned target) = codes "no jump is permitted to"
+
+abbrev pub fault_text : Fault → List ℕ
+fault_text fault = words_of fault ++ (codes " " ++ digits_text (number_of fault))

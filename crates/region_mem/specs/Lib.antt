@@ -1,3 +1,4 @@
+pub mod Digits
 pub mod Faults
 pub mod Parameter
 pub mod Areas

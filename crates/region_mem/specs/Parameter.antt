@@ -1,7 +1,8 @@
 -- What a kernel's eight parameters say, where its buffers lie, and which arguments match them.
-use Rattle.std.specs.Prelude.{◌≡◌, ℕ, ◌+◌, ◌*◌, ◌-◌, ◌/◌, ◌==◌, Bool, true, false, ◌&&◌, not, nat_le, List, length, take, sum_by, position, Option, Some, None, Result, Ok, Err, if◌then◌else◌}
+use Rattle.std.specs.Prelude.{◌≡◌, ℕ, ◌+◌, ◌*◌, ◌-◌, ◌/◌, ◌==◌, ◌++◌, codes, Bool, true, false, ◌&&◌, not, nat_le, List, length, take, sum_by, position, Option, Some, None, Result, Ok, Err, if◌then◌else◌}
 use Rattle.std.specs.List.{list_all, zip, slice_get}
 use Rattle.std.specs.Option.{option_map, option_and_then, option_or}
+use Rattle.std.specs.Fmt.{decimal}
 use Rattle.region_mem.specs.Words.{Param, ArgError, Arg, WrongKind, ScalarOutOfInterval, WrongSize, BUFFERS, MAX_BUFFER_SIZE}
 use Rattle.region_mem.specs.Words.{PAGE_SIZE}
 
@@ -79,3 +80,12 @@ unfoldable pub size_of : Argument → ℕ
 size_of Arg.None = 0
 size_of (Arg.Scalar value) = 0
 size_of (Arg.Buffer bytes) = length bytes
+
+-- what is wrong with an argument, in words
+abbrev pub error_text : ArgError → List ℕ
+error_text (WrongKind place) =
+    codes "argument " ++ (decimal place ++ codes " is of the wrong kind")
+error_text (ScalarOutOfInterval place) =
+    codes "argument " ++ (decimal place ++ codes " is out of its interval")
+error_text (WrongSize place) =
+    codes "argument " ++ (decimal place ++ codes " is a buffer of the wrong size")

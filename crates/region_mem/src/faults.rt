@@ -1,7 +1,8 @@
 //! What stops a run, and the rights that an access asks for.
 ghost use Rattle.std.specs.Prelude.{◌≡◌};
-ghost use Rattle.region_mem.specs.Faults.{name_of, number_of};
+ghost use Rattle.region_mem.specs.Faults.{name_of, number_of, words_of};
 
+use crate::digits::Digits;
 use std::error::Error;
 use std::fmt;
 
@@ -53,17 +54,31 @@ impl Fault {
             Fault::JumpMisaligned(target) => target,
         }
     }
+
+    /// What went wrong, in words, behind which the number is told.
+    fn words(self) -> &'static str
+        ensures { result.now ≡ words_of self }
+    {
+        match self {
+            Fault::Illegal(_) => "illegal instruction",
+            Fault::FetchFault(_) => "no instruction may be fetched at",
+            Fault::LoadFault(_) => "no load is permitted at",
+            Fault::StoreFault(_) => "no store is permitted at",
+            Fault::JumpMisaligned(_) => "no jump is permitted to",
+        }
+    }
 }
 
 impl fmt::Display for Fault {
+    ghost use Rattle.std.specs.Prelude.{Some};
+    ghost use Rattle.region_mem.specs.Faults.{fault_text};
+
+    ghost output = { λ fault. Some (fault_text fault) };
+
     fn fmt<W: fmt::Write>(&self, f: &mut fmt::Formatter<W>) -> fmt::Result {
-        match self {
-            Fault::Illegal(word) => write!(f, "illegal instruction {word:08x}"),
-            Fault::FetchFault(pc) => write!(f, "no instruction may be fetched at {pc:08x}"),
-            Fault::LoadFault(address) => write!(f, "no load is permitted at {address:08x}"),
-            Fault::StoreFault(address) => write!(f, "no store is permitted at {address:08x}"),
-            Fault::JumpMisaligned(target) => write!(f, "no jump is permitted to {target:08x}"),
-        }
+        let words = self.words();
+        let number = Digits(u64::from(self.number()));
+        write!(f, "{words} {number}")
     }
 }
 

@@ -7,6 +7,7 @@
 
 mod areas;
 mod arguments;
+mod digits;
 mod faults;
 mod laws;
 mod layout;
@@ -17,6 +18,7 @@ mod start;
 mod walk;
 
 pub use arguments::{Arg, Args, Bytes, Passed};
+pub use digits::Digits;
 pub use faults::{Fault, Right};
 pub use laws::{
     args_bring_bytes, fetches_nothing_above, gives_arguments_back, lent_windows_are_written,

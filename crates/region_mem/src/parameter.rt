@@ -84,6 +84,11 @@ pub enum ArgError {
 }
 
 impl fmt::Display for ArgError {
+    ghost use Rattle.std.specs.Prelude.{Some};
+    ghost use Rattle.region_mem.specs.Parameter.{error_text};
+
+    ghost output = { λ error. Some (error_text error) };
+
     fn fmt<W: fmt::Write>(&self, f: &mut fmt::Formatter<W>) -> fmt::Result {
         match self {
             ArgError::WrongKind(place) => write!(f, "argument {place} is of the wrong kind"),

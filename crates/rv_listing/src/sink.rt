@@ -3,11 +3,26 @@ ghost use Rattle.std.specs.Io.KnownBytes.{Keeps, WriteAppends};
 ghost use Rattle.std.specs.Prelude.{◌≡◌, ◌≤◌, ◌<◌, ◌^◌, IfOk, length};
 ghost use Rattle.rv_listing.specs.Sinks.{Told, counted, has_failed};
 
+use std::error::Error;
+use std::fmt;
 use std::io::Write;
 
 /// A write failed.
 #[derive(Clone, Copy, Debug, PartialEq, Eq)]
 pub struct Failed;
+
+impl fmt::Display for Failed {
+    ghost use Rattle.std.specs.Prelude.{Some};
+    ghost use Rattle.rv_listing.specs.Sinks.{failed_text};
+
+    ghost output = { λ _. Some failed_text };
+
+    fn fmt<W: fmt::Write>(&self, f: &mut fmt::Formatter<W>) -> fmt::Result {
+        f.write_str("the text could not be written")
+    }
+}
+
+impl Error for Failed {}
 
 /// What takes bytes, and counts the writes that failed.
 pub trait Sink {

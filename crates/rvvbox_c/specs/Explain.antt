@@ -3,9 +3,12 @@ use Rattle.std.specs.Prelude.{ℕ, ◌≡◌, ◌⊎◌, ◌++◌, List, [], len
 use Rattle.std.specs.declared.alloc.Global.{Global}
 use Rattle.block_checker.specs.Explained.{Explains, answer_of}
 use Rattle.block_checker.specs.Passes.{checked}
+use Rattle.block_checker.specs.Refusals.{error_text as check_error_text}
 use Rattle.cert_note.specs.Certificate.{CertificateView}
 use Rattle.cert_note.specs.Reading.{certificate_of}
+use Rattle.cert_note.specs.Refusals.{refusal_text}
 use Rattle.cert_note.specs.declared.refusals.CertError.{CertError}
+use Rattle.elf_image.specs.Error.{error_text}
 use Rattle.elf_image.specs.Faults.{fault_of}
 use Rattle.elf_image.specs.File.{image_of}
 use Rattle.elf_image.specs.Image.{ImageView}
@@ -13,6 +16,7 @@ use Rattle.elf_image.specs.declared.error.ElfError.{ElfError}
 use Rattle.explanations.specs.Certificate.{IsReason, certificate_text}
 use Rattle.explanations.specs.Check.{IsListed, IsWanted, check_text}
 use Rattle.explanations.specs.Image.{Tells, image_text}
+use Rattle.explanations.specs.Refusal.{told}
 use Rattle.explanations.specs.declared.certificate.CertificateReason.{CertificateReason}
 use Rattle.explanations.specs.declared.check.CheckReason.{CheckReason}
 use Rattle.explanations.specs.declared.image.ImageReason.{ImageReason}
@@ -22,12 +26,14 @@ use Rattle.rvvbox_c.specs.Accept.{vlen_at}
 -- of a file that is no image
 abbrev pub IsTextOfFault : List ℕ → ElfError → List ℕ → Type 0
 IsTextOfFault file error text =
-    (reason : ImageReason) × Tells file error reason × (text ≡ image_text reason)
+    (reason : ImageReason) × Tells file error reason
+    × (text ≡ told (error_text error) (image_text reason))
 
 -- of a note that spells no certificate
 abbrev pub IsTextOfReading : List ℕ → CertError → List ℕ → Type 0
 IsTextOfReading note error text =
-    (reason : CertificateReason) × IsReason note error reason × (text ≡ certificate_text reason)
+    (reason : CertificateReason) × IsReason note error reason
+    × (text ≡ told (refusal_text error) (certificate_text reason))
 
 -- Why an image is refused with a certificate: where the check stops, and what was known and wanted
 -- there.
@@ -38,7 +44,7 @@ pub record IsTextOfStop (image : ImageView) (certificate : CertificateView) (vle
   pub stop : Explains image certificate reason.explanation
   pub listing : IsListed reason.explanation.stop reason.listing
   pub wanted : IsWanted image certificate vlen reason.explanation reason.wanted
-  pub told : text ≡ check_text reason
+  pub is_told : text ≡ told (check_error_text reason.explanation.error) (check_text reason)
 
 -- of an image with its certificate; there is no text where they pass the check
 abbrev pub IsTextOfCheck : ImageView → CertificateView → Vlen → List ℕ → Type 0

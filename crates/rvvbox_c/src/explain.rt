@@ -13,7 +13,7 @@ use crate::accept::vlen_of;
 use crate::status::Status;
 use cert_note::{CertError, Certificate};
 use elf_image::{ElfError, Image};
-use explanations::{certificate_reason, check_reason, image_reason};
+use explanations::{Refusal, certificate_reason, check_reason, image_reason};
 use std::alloc::Global;
 use vreg_groups::Vlen;
 
@@ -23,7 +23,8 @@ fn text_of_fault(alloc: Global, file: &[u8], error: ElfError) -> Result<String, 
     ensures want { IfErr result (λ status. status ≡ NoMemory) }
 {
     let reason = image_reason(file, error);
-    Ok(format!(in alloc; "{reason}")?)
+    let refusal = Refusal { error, reason };
+    Ok(format!(in alloc; "{refusal}")?)
 }
 
 /// Why a note spells no certificate.
@@ -32,7 +33,8 @@ fn text_of_reading(alloc: Global, note: &[u8], error: CertError) -> Result<Strin
     ensures want { IfErr result (λ status. status ≡ NoMemory) }
 {
     let reason = certificate_reason(alloc, note, error)?;
-    Ok(format!(in alloc; "{reason}")?)
+    let refusal = Refusal { error, reason };
+    Ok(format!(in alloc; "{refusal}")?)
 }
 
 /// Why an image is refused with a certificate, and no text where it is not.
@@ -48,7 +50,11 @@ fn text_of_check(
 {
     match check_reason(alloc, image, certificate, vlen)? {
         None => Ok(String::new(alloc)),
-        Some(reason) => Ok(format!(in alloc; "{reason}")?),
+        Some(reason) => {
+            let error = reason.explanation.error;
+            let refusal = Refusal { error, reason };
+            Ok(format!(in alloc; "{refusal}")?)
+        }
     }
 }
 

@@ -1,8 +1,8 @@
 use Rattle.std.proofs.Common.{◌≡◌, Option, Some, List, ℕ, refl, subst}
 use Rattle.std.specs.Fmt.{DisplaysOnOk, styled_digits_output}
-use Rattle.explanations.specs.Address.{digits_text}
-use Rattle.explanations.proofs.AddressLemmas.{digits_filled}
-use Rattle.explanations.proofs.address.DigitsDisplay.fmt.Goals as goal
+use Rattle.region_mem.specs.Digits.{digits_text}
+use Rattle.region_mem.proofs.DigitsLemmas.{digits_filled}
+use Rattle.region_mem.proofs.digits.DigitsDisplay.fmt.Goals as goal
 
 pub returns-clause-writes : goal.returns-clause-writes
 returns-clause-writes g c =

@@ -2,7 +2,7 @@
 use Rattle.std.proofs.Common.{◌≡◌, ◌∙◌, ◌-◌, ℕ, [], ◌++◌, false, ap, arith, length, replicate}
 use Rattle.std.proofs.lemmas.List.{append-nil}
 use Rattle.std.specs.Fmt.{char_count, digits, format_spec, padded_integral}
-use Rattle.explanations.specs.Address.{digits_text}
+use Rattle.region_mem.specs.Digits.{digits_text}
 
 pub digits_filled : (n : ℕ) → padded_integral (format_spec 32 0 4 8 18446744073709551615) false [] (digits 16 false n) ≡ digits_text n
 unfolding padded_integral char_count
