@@ -2,3 +2,4 @@ pub mod Words
 pub mod Certificate
 pub mod Spelling
 pub mod Reading
+pub mod Refusals

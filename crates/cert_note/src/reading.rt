@@ -1,5 +1,5 @@
 //! Reading a certificate from its bytes.
-ghost use Rattle.std.specs.Prelude.{◌≡◌, ◌≤◌, ◌==◌, ◌&&◌, ◌||◌, ℕ, false, not, is_some};
+ghost use Rattle.std.specs.Prelude.{◌≡◌, ◌⊎◌, ◌≤◌, ◌==◌, ◌&&◌, ◌||◌, ℕ, false, not, is_some};
 ghost use Rattle.std.specs.Prelude.{slice_index_or, IfOk, IfErr, IsOk, MatchResult, Err};
 ghost use Rattle.cert_note.specs.Spelling.{spelling};
 ghost use Rattle.std.specs.List.{list_all, list_any};
@@ -383,6 +383,21 @@ fn check(bytes: &[u8]) -> Result<(), CertError>
     expect(rest.is_empty(), CertError::TrailingBytes)
 }
 
+/// What is told where reading ended with an error: where memory ran out the first fault in the bytes, if there is one.
+fn told_of(bytes: &[u8], error: CertError) -> CertError
+    requires { (error ≡ CertError.NoMemory) ⊎ (certificate_of bytes.now ≡ Err error) }
+    ensures { MatchResult (certificate_of bytes.now) (λ c. result ≡ CertError.NoMemory)
+        (λ e. result ≡ e) }
+{
+    if error != CertError::NoMemory {
+        return error;
+    }
+    match check(bytes) {
+        Ok(()) => CertError::NoMemory,
+        Err(fault) => fault,
+    }
+}
+
 #[tactic(auto, unfolding(crate::specs::Reading::certificate_of))]
 fn contents_of<A: Allocator>(alloc: A, bytes: &[u8]) -> Result<Contents<A>, CertError>
     ensures { GivesOrNoMemory view result (certificate_of bytes.now) }
@@ -427,8 +442,8 @@ fn contents_of<A: Allocator>(alloc: A, bytes: &[u8]) -> Result<Contents<A>, Cert
 ///      itself in this block.
 /// 5. Bytes behind the last block: `TrailingBytes`.
 ///
-/// `NoMemory` comes only where an allocation was refused and the bytes spell a certificate: all of them are looked at
-/// before any memory is asked for.
+/// `NoMemory` comes only where an allocation was refused and the bytes spell a certificate: where memory runs out, all of
+/// them are looked at again. Else they are read once.
 pub fn read<A: Allocator>(alloc: A, bytes: &[u8]) -> Result<Certificate<A>, CertError>
     // What is read is a certificate, and is spelled so.
     ensures found { IfOk result (λ c. IsCertificate c × (bytes.now ≡ spelling c)) }
@@ -441,9 +456,10 @@ pub fn read<A: Allocator>(alloc: A, bytes: &[u8]) -> Result<Certificate<A>, Cert
     ensures read { IfOk (certificate_of bytes.now) (λ c.
         MatchResult result (λ r. r ≡ c) (λ e. e ≡ CertError.NoMemory)) }
 {
-    check(bytes)?;
-    let contents = contents_of(alloc, bytes)?;
-    Ok(Certificate::new(contents))
+    match contents_of(alloc, bytes) {
+        Ok(contents) => Ok(Certificate::new(contents)),
+        Err(error) => Err(told_of(bytes, error)),
+    }
 }
 
 /// A law, which does nothing when it runs: no bytes spell two certificates. (That no certificate has two spellings is

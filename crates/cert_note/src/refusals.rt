@@ -1,5 +1,6 @@
 //! Why bytes are no certificate.
 ghost use Rattle.std.specs.Prelude.{◌≡◌};
+ghost use Rattle.cert_note.specs.Refusals.{refusal_text};
 ghost use Rattle.cert_note.specs.declared.refusals.CertError.TheVariants.{NoMemory};
 
 use std::alloc::{AllocError, AllocFailed};
@@ -53,9 +54,12 @@ pub enum CertError {
     NoMemory,
 }
 
-impl fmt::Display for CertError {
-    fn fmt<W: fmt::Write>(&self, f: &mut fmt::Formatter<W>) -> fmt::Result {
-        let text = match self {
+impl CertError {
+    /// Why the bytes are refused, in words.
+    fn words(self) -> &'static str
+        ensures { result.now ≡ refusal_text self }
+    {
+        match self {
             CertError::Short => "the certificate is cut off",
             CertError::Version => "the certificate's version is not known",
             CertError::Parameter => "a parameter is wrong",
@@ -67,8 +71,18 @@ impl fmt::Display for CertError {
             CertError::TooMany => "there are too many blocks or facts",
             CertError::Order => "an order is wrong",
             CertError::NoMemory => "out of memory",
-        };
-        write!(f, "{text}")
+        }
+    }
+}
+
+impl fmt::Display for CertError {
+    ghost use Rattle.std.specs.Prelude.{Some};
+    ghost use Rattle.cert_note.specs.Refusals.{refusal_text};
+
+    ghost output = { λ error. Some (refusal_text error) };
+
+    fn fmt<W: fmt::Write>(&self, f: &mut fmt::Formatter<W>) -> fmt::Result {
+        f.write_str(self.words())
     }
 }
 
