@@ -6,13 +6,13 @@ ghost use mir.Val.{bits};
 ghost use Rattle.lane_fixed.specs.FixedPoint.{clip_element, clip_exact, clip_saturates, clip_to};
 ghost use Rattle.lane_fixed.specs.FixedPoint.{clipped, dropped, element, exact, saturates};
 
-use crate::lane::Lane;
+use crate::lane::FixedLane;
 use crate::operations::RoundingMode;
 use crate::rounding::rounded;
 use rv_decode::{ClipOp, FixedOp};
 
 #[inline(always)]
-fn unsigned_sum<T: Lane>(a: T, b: T) -> i64
+fn unsigned_sum<T: FixedLane>(a: T, b: T) -> i64
     ensures value { result ≡ pos (T.number a) +ℤ pos (T.number b) }
     ensures room { unsigned_abs result ≤ 2 ^ 62 }
 {
@@ -20,7 +20,7 @@ fn unsigned_sum<T: Lane>(a: T, b: T) -> i64
 }
 
 #[inline(always)]
-fn signed_sum<T: Lane>(a: T, b: T) -> i64
+fn signed_sum<T: FixedLane>(a: T, b: T) -> i64
     ensures value { result ≡ cast_signed T.width (T.number a) +ℤ cast_signed T.width (T.number b) }
     ensures room { unsigned_abs result ≤ 2 ^ 62 }
 {
@@ -28,7 +28,7 @@ fn signed_sum<T: Lane>(a: T, b: T) -> i64
 }
 
 #[inline(always)]
-fn unsigned_difference<T: Lane>(a: T, b: T) -> i64
+fn unsigned_difference<T: FixedLane>(a: T, b: T) -> i64
     ensures value { result ≡ pos (T.number a) -ℤ pos (T.number b) }
     ensures room { unsigned_abs result ≤ 2 ^ 62 }
 {
@@ -36,7 +36,7 @@ fn unsigned_difference<T: Lane>(a: T, b: T) -> i64
 }
 
 #[inline(always)]
-fn signed_difference<T: Lane>(a: T, b: T) -> i64
+fn signed_difference<T: FixedLane>(a: T, b: T) -> i64
     ensures value { result ≡ cast_signed T.width (T.number a) -ℤ cast_signed T.width (T.number b) }
     ensures room { unsigned_abs result ≤ 2 ^ 62 }
 {
@@ -44,7 +44,7 @@ fn signed_difference<T: Lane>(a: T, b: T) -> i64
 }
 
 #[inline(always)]
-fn signed_product<T: Lane>(a: T, b: T) -> i64
+fn signed_product<T: FixedLane>(a: T, b: T) -> i64
     ensures value { result ≡ cast_signed T.width (T.number a) *ℤ cast_signed T.width (T.number b) }
     ensures room { unsigned_abs result ≤ 2 ^ 62 }
 {
@@ -61,7 +61,7 @@ fn product(a: i32, b: i32) -> i64
 
 /// The element of an unsigned operation.
 #[inline(always)]
-fn unsigned_value<T: Lane>(a: T) -> i64
+fn unsigned_value<T: FixedLane>(a: T) -> i64
     ensures value { result ≡ pos (T.number a) }
     ensures room { unsigned_abs result ≤ 2 ^ 62 }
 {
@@ -69,7 +69,7 @@ fn unsigned_value<T: Lane>(a: T) -> i64
 }
 
 #[inline(always)]
-fn signed_value<T: Lane>(a: T) -> i64
+fn signed_value<T: FixedLane>(a: T) -> i64
     ensures value { result ≡ cast_signed T.width (T.number a) }
     ensures room { unsigned_abs result ≤ 2 ^ 62 }
 {
@@ -79,7 +79,7 @@ fn signed_value<T: Lane>(a: T) -> i64
 /// The exact number of an operation.
 #[inline(always)]
 #[tactic(auto, unfolding(crate::specs::FixedPoint::exact))]
-fn exact<T: Lane>(op: FixedOp, a: T, b: T) -> i64
+fn exact<T: FixedLane>(op: FixedOp, a: T, b: T) -> i64
     ensures value { result ≡ exact op T.width (T.number a) (T.number b) }
     ensures room { unsigned_abs result ≤ 2 ^ 62 }
 {
@@ -97,7 +97,7 @@ fn exact<T: Lane>(op: FixedOp, a: T, b: T) -> i64
 /// How many of its lowest bits are rounded off.
 #[inline(always)]
 #[tactic(auto, unfolding(crate::specs::FixedPoint::dropped))]
-fn dropped<T: Lane>(op: FixedOp, b: T) -> u32
+fn dropped<T: FixedLane>(op: FixedOp, b: T) -> u32
     ensures value { result ≡ dropped op T.width (T.number b) }
     ensures few { result ≤ 32 }
 {
@@ -112,7 +112,7 @@ fn dropped<T: Lane>(op: FixedOp, b: T) -> u32
 /// The number after it was clipped.
 #[inline(always)]
 #[tactic(auto, unfolding(crate::specs::FixedPoint::clipped))]
-fn clipped<T: Lane>(op: FixedOp, value: i64) -> i64
+fn clipped<T: FixedLane>(op: FixedOp, value: i64) -> i64
     ensures { result ≡ clipped op T.width value }
 {
     match op {
@@ -130,7 +130,7 @@ fn clipped<T: Lane>(op: FixedOp, value: i64) -> i64
 /// What `op` makes of vs2's element `a` and of `b`, and whether it saturates.
 #[inline(always)]
 #[tactic(auto, unfolding(crate::specs::FixedPoint::element, crate::specs::FixedPoint::saturates, crate::specs::FixedPoint::unclipped))]
-pub fn fixed<T: Lane>(op: FixedOp, mode: RoundingMode, a: T, b: T) -> (T, bool)
+pub fn fixed<T: FixedLane>(op: FixedOp, mode: RoundingMode, a: T, b: T) -> (T, bool)
     ensures value { T.number result.0 ≡ element op mode T.width (T.number a) (T.number b) }
     ensures saturated { result.1 ≡ saturates op mode T.width (T.number a) (T.number b) }
 {
@@ -142,7 +142,7 @@ pub fn fixed<T: Lane>(op: FixedOp, mode: RoundingMode, a: T, b: T) -> (T, bool)
 /// The number that is clipped.
 #[inline(always)]
 #[tactic(auto, unfolding(crate::specs::FixedPoint::clip_exact))]
-fn clip_exact<W: Lane>(op: ClipOp, a: W) -> i64
+fn clip_exact<W: FixedLane>(op: ClipOp, a: W) -> i64
     ensures value { result ≡ clip_exact op W.width (W.number a) }
     ensures room { unsigned_abs result ≤ 2 ^ 62 }
 {
@@ -154,7 +154,7 @@ fn clip_exact<W: Lane>(op: ClipOp, a: W) -> i64
 
 #[inline(always)]
 #[tactic(auto, unfolding(crate::specs::FixedPoint::clip_to))]
-fn clip_to<N: Lane>(op: ClipOp, value: i64) -> i64
+fn clip_to<N: FixedLane>(op: ClipOp, value: i64) -> i64
     ensures { result ≡ clip_to op N.width value }
 {
     match op {
@@ -166,7 +166,7 @@ fn clip_to<N: Lane>(op: ClipOp, value: i64) -> i64
 /// What `op` makes of vs2's wide element `a` and of `b`, and whether it saturates.
 #[inline(always)]
 #[tactic(auto, unfolding(crate::specs::FixedPoint::clip_element, crate::specs::FixedPoint::clip_saturates, crate::specs::FixedPoint::clip_unclipped))]
-pub fn narrowed<W: Lane, N: Lane>(op: ClipOp, mode: RoundingMode, a: W, b: N) -> (N, bool)
+pub fn narrowed<W: FixedLane, N: FixedLane>(op: ClipOp, mode: RoundingMode, a: W, b: N) -> (N, bool)
     ensures value { N.number result.0
         ≡ clip_element op mode W.width N.width (W.number a) (N.number b) }
     ensures saturated { result.1

@@ -8,7 +8,7 @@ ghost use Rattle.lane_fixed.specs.Chunks.{lane_result, lane_saturates, mode_of, 
 
 use crate::elements::{fixed, narrowed};
 use crate::flags::or_active;
-use crate::lane::Lane;
+use crate::lane::FixedLane;
 use crate::operations::{Op, RoundingMode};
 use rv_decode::{ClipOp, FixedOp};
 
@@ -16,7 +16,7 @@ use rv_decode::{ClipOp, FixedOp};
 /// active element saturated ("Vector Single-Width Saturating Add and Subtract", "Vector Single-Width Averaging Add and
 /// Subtract", "Vector Single-Width Fractional Multiply with Rounding and Saturation", "Vector Single-Width Scaling Shift
 /// Instructions").
-pub fn compute<T: Lane>(
+pub fn compute<T: FixedLane>(
     op: FixedOp,
     mode: RoundingMode,
     values: &mut [T],
@@ -83,7 +83,7 @@ fn mode_of(op: Op) -> RoundingMode
 
 /// The loop over chunks, and that over the elements after the last of them.
 #[inline(always)]
-fn compute_chunks<T: Lane>(op: Op, values: &mut [T], b: &[T], active: &[bool]) -> bool
+fn compute_chunks<T: FixedLane>(op: Op, values: &mut [T], b: &[T], active: &[bool]) -> bool
     requires b_len { length b.now ≡ length values.old }
     requires active_len { length active.now ≡ length values.old }
     ensures results { map T.number values.new
@@ -108,7 +108,7 @@ fn compute_chunks<T: Lane>(op: Op, values: &mut [T], b: &[T], active: &[bool]) -
 
 /// The loop over single elements.
 #[inline(always)]
-fn compute_each<T: Lane>(
+fn compute_each<T: FixedLane>(
     op: FixedOp,
     mode: RoundingMode,
     values: &mut [T],
@@ -134,7 +134,7 @@ fn compute_each<T: Lane>(
 
 /// Writes into `results` what `op` makes of each wide element of `a`, which are vs2's, and of `b`'s element, and answers
 /// whether an active element saturated ("Vector Narrowing Fixed-Point Clip Instructions").
-pub fn clip<W: Lane, N: Lane>(
+pub fn clip<W: FixedLane, N: FixedLane>(
     op: ClipOp,
     mode: RoundingMode,
     a: &[W],
@@ -159,7 +159,7 @@ pub fn clip<W: Lane, N: Lane>(
 
 /// The loop of `clip`.
 #[inline(always)]
-fn clip_each<W: Lane, N: Lane>(
+fn clip_each<W: FixedLane, N: FixedLane>(
     op: ClipOp,
     mode: RoundingMode,
     a: &[W],

@@ -10,7 +10,7 @@ use crate::rounding::low;
 use std::simd::prelude::*;
 
 /// An element of one width: `u8`, `u16` or `u32`.
-pub trait Lane: Copy {
+pub trait FixedLane: Copy {
     ghost use Rattle.std.specs.Prelude.{ℕ, ◌≡◌, ◌≤◌, ◌<◌, ◌+◌, ◌^◌, ◌||◌, length, map, pos};
     ghost use Rattle.std.specs.Int.{Width, cast_signed, saturate_signed, saturate_unsigned};
     ghost use mir.Val.{bits};
@@ -96,7 +96,7 @@ macro_rules! by_chunk {
     }};
 }
 
-impl Lane for u8 {
+impl FixedLane for u8 {
     ghost use Rattle.std.specs.Int.{w8};
 
     ghost width = { w8 };
@@ -153,7 +153,7 @@ impl Lane for u8 {
     }
 }
 
-impl Lane for u16 {
+impl FixedLane for u16 {
     ghost use Rattle.std.specs.Int.{w16};
 
     ghost width = { w16 };
@@ -210,7 +210,7 @@ impl Lane for u16 {
     }
 }
 
-impl Lane for u32 {
+impl FixedLane for u32 {
     ghost use Rattle.std.specs.Int.{w32};
 
     ghost width = { w32 };

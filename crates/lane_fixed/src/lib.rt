@@ -13,5 +13,5 @@ mod rounding;
 
 pub use chunks::{chunk_u8, chunk_u16, chunk_u32};
 pub use kernels::{clip, compute};
-pub use lane::Lane;
+pub use lane::FixedLane;
 pub use operations::{Op, RoundingMode};

@@ -10,6 +10,7 @@ use crate::elements::VectorElement;
 use crate::fixed_point::fixed;
 use crate::integer::{carry, carry_out, compare, int, multiply_add};
 use crate::moves::{copy, merge};
+use crate::rooms::with_rooms;
 use crate::setup::Setup;
 use crate::widening::extend;
 use rv_decode::{VArith, Width};
@@ -47,17 +48,10 @@ fn arith_bytes<const VLENB: usize>(
         ≡ record { registers = registers.new; saturated = result } }
 {
     let vl = setup.vl;
-    let mut a = [0u8; MOST_ELEMENTS];
-    let mut c = [0u8; MOST_ELEMENTS];
-    let mut d = [0u8; MOST_ELEMENTS];
-    arith_elements(
-        registers,
-        scalar,
-        setup,
-        insn,
-        &mut a[..vl],
-        &mut c[..vl],
-        &mut d[..vl],
+    with_rooms!(
+        MOST_ELEMENTS,
+        [a: [0u8; vl], c: [0u8; vl], d: [0u8; vl]],
+        arith_elements(registers, scalar, setup, insn, a, c, d)
     )
 }
 
@@ -73,17 +67,10 @@ fn arith_halves<const VLENB: usize>(
         ≡ record { registers = registers.new; saturated = result } }
 {
     let vl = setup.vl;
-    let mut a = [0u16; MOST_ELEMENTS / 2];
-    let mut c = [0u16; MOST_ELEMENTS / 2];
-    let mut d = [0u16; MOST_ELEMENTS / 2];
-    arith_elements(
-        registers,
-        scalar,
-        setup,
-        insn,
-        &mut a[..vl],
-        &mut c[..vl],
-        &mut d[..vl],
+    with_rooms!(
+        MOST_ELEMENTS / 2,
+        [a: [0u16; vl], c: [0u16; vl], d: [0u16; vl]],
+        arith_elements(registers, scalar, setup, insn, a, c, d)
     )
 }
 
@@ -99,17 +86,10 @@ fn arith_words<const VLENB: usize>(
         ≡ record { registers = registers.new; saturated = result } }
 {
     let vl = setup.vl;
-    let mut a = [0u32; MOST_ELEMENTS / 4];
-    let mut c = [0u32; MOST_ELEMENTS / 4];
-    let mut d = [0u32; MOST_ELEMENTS / 4];
-    arith_elements(
-        registers,
-        scalar,
-        setup,
-        insn,
-        &mut a[..vl],
-        &mut c[..vl],
-        &mut d[..vl],
+    with_rooms!(
+        MOST_ELEMENTS / 4,
+        [a: [0u32; vl], c: [0u32; vl], d: [0u32; vl]],
+        arith_elements(registers, scalar, setup, insn, a, c, d)
     )
 }
 

@@ -11,6 +11,7 @@ ghost use Rattle.vector_core.specs.Setup.{IsReady, IsSetup};
 use crate::elements::VectorElement;
 use crate::narrowing::{clip, narrow};
 use crate::resizing::HalfOf;
+use crate::rooms::with_rooms;
 use crate::setup::Setup;
 use crate::widening::{wide, widen, widen_multiply_add};
 use rv_decode::{Eew, Reg, VArith, Width};
@@ -64,21 +65,10 @@ fn doubles_of_bytes<const VLENB: usize>(
     ensures { arith_of VLENB setup.now scalar.now insn.now registers.old
         ≡ record { registers = registers.new; saturated = result } }
 {
-    let mut a = [0u8; MOST_ELEMENTS / 2];
-    let mut c = [0u8; MOST_ELEMENTS / 2];
-    let mut x = [0u16; MOST_ELEMENTS / 2];
-    let mut y = [0u16; MOST_ELEMENTS / 2];
-    let mut d = [0u16; MOST_ELEMENTS / 2];
-    doubles_of_elements(
-        registers,
-        scalar,
-        setup,
-        insn,
-        &mut a[..vl],
-        &mut c[..vl],
-        &mut x[..vl],
-        &mut y[..vl],
-        &mut d[..vl],
+    with_rooms!(
+        MOST_ELEMENTS / 2,
+        [a: [0u8; vl], c: [0u8; vl], x: [0u16; vl], y: [0u16; vl], d: [0u16; vl]],
+        doubles_of_elements(registers, scalar, setup, insn, a, c, x, y, d)
     )
 }
 
@@ -97,21 +87,10 @@ fn doubles_of_halves<const VLENB: usize>(
     ensures { arith_of VLENB setup.now scalar.now insn.now registers.old
         ≡ record { registers = registers.new; saturated = result } }
 {
-    let mut a = [0u16; MOST_ELEMENTS / 4];
-    let mut c = [0u16; MOST_ELEMENTS / 4];
-    let mut x = [0u32; MOST_ELEMENTS / 4];
-    let mut y = [0u32; MOST_ELEMENTS / 4];
-    let mut d = [0u32; MOST_ELEMENTS / 4];
-    doubles_of_elements(
-        registers,
-        scalar,
-        setup,
-        insn,
-        &mut a[..vl],
-        &mut c[..vl],
-        &mut x[..vl],
-        &mut y[..vl],
-        &mut d[..vl],
+    with_rooms!(
+        MOST_ELEMENTS / 4,
+        [a: [0u16; vl], c: [0u16; vl], x: [0u32; vl], y: [0u32; vl], d: [0u32; vl]],
+        doubles_of_elements(registers, scalar, setup, insn, a, c, x, y, d)
     )
 }
 

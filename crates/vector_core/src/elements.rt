@@ -2,17 +2,14 @@
 
 ghost use Rattle.std.specs.Prelude.{◌≡◌, ◌%◌, ◌^◌, length, map};
 
-use lane_fixed::RoundingMode;
+use lane_fixed::FixedLane;
 use lane_int::Lane;
 use lane_masks::FoldLane;
-use rv_decode::FixedOp;
 use vreg_groups::Element;
 
 /// An element of a register group on which the lanes work.
-pub trait VectorElement: Element + Lane + FoldLane {
-    ghost use Rattle.std.specs.Prelude.{◌≡◌, length, map};
-    ghost use lib.Lanes.{zip2};
-    ghost use Rattle.lane_fixed.specs.FixedPoint.{any_active, element, saturates};
+pub trait VectorElement: Element + Lane + FixedLane + FoldLane {
+    ghost use Rattle.std.specs.Prelude.{◌≡◌};
     ghost use Rattle.rv_decode.specs.declared.instructions.Width.{Width};
     ghost use Rattle.vreg_groups.specs.VectorType.{bytes_of_width};
     ghost use Rattle.vector_core.specs.Integer.{lane_width};
@@ -29,28 +26,15 @@ pub trait VectorElement: Element + Lane + FoldLane {
     fn to_number(self) -> u32
         ensures { result ≡ Self.Element.number self };
 
-    /// A fixed-point operation on each pair of elements, over the first of them. Tells whether an
-    /// active one saturated.
-    fn fixed_results(
-        op: FixedOp,
-        mode: RoundingMode,
-        values: &mut [Self],
-        b: &[Self],
-        active: &[bool],
-    ) -> bool
-        requires b_len { length b.now ≡ length values.old }
-        requires active_len { length active.now ≡ length values.old }
-        ensures results { map Self.Element.number values.new
-            ≡ zip2 (element op mode (lane_width sew)) (map Self.Element.number values.old)
-            (map Self.Element.number b.now) }
-        ensures saturated { result ≡ any_active (saturates op mode (lane_width sew))
-            (map Self.Element.number values.old) (map Self.Element.number b.now) active.now };
-
     ghost size_is: { Self.SIZE ≡ bytes_of_width sew };
 
     ghost width_is: { Self.Lane.width ≡ lane_width sew };
 
     ghost number_is: { Self.Lane.number ≡ Self.Element.number };
+
+    ghost fixed_width_is: { Self.FixedLane.width ≡ lane_width sew };
+
+    ghost fixed_number_is: { Self.FixedLane.number ≡ Self.Element.number };
 
     ghost fold_width_is: { Self.FoldLane.width ≡ lane_width sew };
 
@@ -72,21 +56,15 @@ impl VectorElement for u8 {
         u32::from(self)
     }
 
-    fn fixed_results(
-        op: FixedOp,
-        mode: RoundingMode,
-        values: &mut [u8],
-        b: &[u8],
-        active: &[bool],
-    ) -> bool {
-        lane_fixed::compute(op, mode, values, b, active)
-    }
-
     ghost size_is = { refl };
 
     ghost width_is = { refl };
 
     ghost number_is = { refl };
+
+    ghost fixed_width_is = { refl };
+
+    ghost fixed_number_is = { refl };
 
     ghost fold_width_is = { refl };
 
@@ -108,21 +86,15 @@ impl VectorElement for u16 {
         u32::from(self)
     }
 
-    fn fixed_results(
-        op: FixedOp,
-        mode: RoundingMode,
-        values: &mut [u16],
-        b: &[u16],
-        active: &[bool],
-    ) -> bool {
-        lane_fixed::compute(op, mode, values, b, active)
-    }
-
     ghost size_is = { refl };
 
     ghost width_is = { refl };
 
     ghost number_is = { refl };
+
+    ghost fixed_width_is = { refl };
+
+    ghost fixed_number_is = { refl };
 
     ghost fold_width_is = { refl };
 
@@ -144,21 +116,15 @@ impl VectorElement for u32 {
         self
     }
 
-    fn fixed_results(
-        op: FixedOp,
-        mode: RoundingMode,
-        values: &mut [u32],
-        b: &[u32],
-        active: &[bool],
-    ) -> bool {
-        lane_fixed::compute(op, mode, values, b, active)
-    }
-
     ghost size_is = { refl };
 
     ghost width_is = { refl };
 
     ghost number_is = { refl };
+
+    ghost fixed_width_is = { refl };
+
+    ghost fixed_number_is = { refl };
 
     ghost fold_width_is = { refl };
 

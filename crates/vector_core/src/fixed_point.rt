@@ -60,7 +60,7 @@ pub fn fixed<E: VectorElement, const VLENB: usize>(
     read_second(registers, scalar, setup, *b, c);
     registers.read_active(*masked, active);
     let mode = rounding_mode(scalar.vxrm());
-    let saturated = E::fixed_results(*op, mode, a, c, active);
+    let saturated = lane_fixed::compute(*op, mode, a, c, active);
     write_results(registers, setup, &destination, *masked, a);
     saturated
 }

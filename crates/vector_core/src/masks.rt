@@ -11,7 +11,7 @@ ghost use Rattle.vector_core.specs.Setup.{IsReady, IsSetup};
 
 use crate::elements::VectorElement;
 use crate::operands::{write_bits, write_results};
-use crate::rooms::with_rooms;
+use crate::rooms::{with_rooms, with_rooms_of_sew};
 use crate::setup::Setup;
 use crate::state::VectorState;
 use lane_masks::{combine, set_first};
@@ -156,7 +156,7 @@ fn iota<const VLENB: usize>(
     ensures { registers.new ≡ iota_of VLENB setup.now vd vs2 masked registers.old }
 {
     let vl = setup.vl;
-    with_rooms!(
+    with_rooms_of_sew!(
         setup,
         [a: vl],
         iota_elements(registers, setup, vd, vs2, masked, a)
@@ -190,7 +190,7 @@ fn index<const VLENB: usize>(registers: &mut VregFile<VLENB>, setup: &Setup, vd:
     ensures { registers.new ≡ index_of VLENB setup.now vd masked registers.old }
 {
     let vl = setup.vl;
-    with_rooms!(setup, [a: vl], index_elements(registers, setup, vd, masked, a));
+    with_rooms_of_sew!(setup, [a: vl], index_elements(registers, setup, vd, masked, a));
 }
 
 /// The step of an instruction on masks.

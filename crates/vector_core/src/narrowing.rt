@@ -89,7 +89,7 @@ pub fn clip<N: HalfOf<W>, W: VectorElement, const VLENB: usize>(
     read_second(registers, scalar, setup, *b, a);
     registers.read_active(*masked, active);
     let mode = rounding_mode(scalar.vxrm());
-    let saturated = N::clip_results(*op, mode, x, a, active, c);
+    let saturated = lane_fixed::clip(*op, mode, x, a, active, c);
     write_results(registers, setup, &destination, *masked, c);
     saturated
 }

@@ -18,6 +18,7 @@ ghost use Rattle.vector_core.specs.Setup.{IsReady, IsSetup};
 
 use crate::elements::{VectorElement, numbers_of, zero};
 use crate::operands::{read_bits, read_body, write_results};
+use crate::rooms::with_rooms;
 use crate::setup::Setup;
 use crate::state::VectorState;
 use rv_decode::{Eew, Offset, Reg, Source, VPerm, Width};
@@ -369,17 +370,10 @@ fn permute_bytes<const VLENB: usize>(
 {
     let vl = setup.vl;
     let vlmax = vlmax::<VLENB>(setup);
-    let mut a = [0u8; MOST_ELEMENTS];
-    let mut c = [0u8; MOST_ELEMENTS];
-    let mut all = [0u8; MOST_ELEMENTS];
-    permute_elements(
-        registers,
-        scalar,
-        setup,
-        insn,
-        &mut a[..vl],
-        &mut c[..vl],
-        &mut all[..vlmax],
+    with_rooms!(
+        MOST_ELEMENTS,
+        [a: [0u8; vl], c: [0u8; vl], all: [0u8; vlmax]],
+        permute_elements(registers, scalar, setup, insn, a, c, all)
     );
 }
 
@@ -395,17 +389,10 @@ fn permute_halves<const VLENB: usize>(
 {
     let vl = setup.vl;
     let vlmax = vlmax::<VLENB>(setup);
-    let mut a = [0u16; MOST_ELEMENTS / 2];
-    let mut c = [0u16; MOST_ELEMENTS / 2];
-    let mut all = [0u16; MOST_ELEMENTS / 2];
-    permute_elements(
-        registers,
-        scalar,
-        setup,
-        insn,
-        &mut a[..vl],
-        &mut c[..vl],
-        &mut all[..vlmax],
+    with_rooms!(
+        MOST_ELEMENTS / 2,
+        [a: [0u16; vl], c: [0u16; vl], all: [0u16; vlmax]],
+        permute_elements(registers, scalar, setup, insn, a, c, all)
     );
 }
 
@@ -421,17 +408,10 @@ fn permute_words<const VLENB: usize>(
 {
     let vl = setup.vl;
     let vlmax = vlmax::<VLENB>(setup);
-    let mut a = [0u32; MOST_ELEMENTS / 4];
-    let mut c = [0u32; MOST_ELEMENTS / 4];
-    let mut all = [0u32; MOST_ELEMENTS / 4];
-    permute_elements(
-        registers,
-        scalar,
-        setup,
-        insn,
-        &mut a[..vl],
-        &mut c[..vl],
-        &mut all[..vlmax],
+    with_rooms!(
+        MOST_ELEMENTS / 4,
+        [a: [0u32; vl], c: [0u32; vl], all: [0u32; vlmax]],
+        permute_elements(registers, scalar, setup, insn, a, c, all)
     );
 }
 

@@ -13,7 +13,7 @@ ghost use Rattle.vector_core.specs.Shapes.{FoldShape, WidenSumShape, reduce_shap
 use crate::elements::VectorElement;
 use crate::fold_elements::extended_sum;
 use crate::operands::read_body;
-use crate::rooms::with_rooms;
+use crate::rooms::{with_rooms, with_rooms_of_sew};
 use crate::setup::Setup;
 use crate::singles::write_first;
 use crate::state::VectorState;
@@ -62,7 +62,7 @@ fn fold<const VLENB: usize>(registers: &mut VregFile<VLENB>, setup: &Setup, insn
     ensures { registers.new ≡ reduce_of VLENB setup.now insn.now registers.old }
 {
     let vl = setup.vl;
-    with_rooms!(setup, [a: vl], fold_elements(registers, setup, insn, a));
+    with_rooms_of_sew!(setup, [a: vl], fold_elements(registers, setup, insn, a));
 }
 
 /// Element 0 of vd, of 2*SEW, is the sum of element 0 of vs1, of 2*SEW, with the active elements of vs2, which are extended

@@ -14,40 +14,18 @@ ghost use Rattle.vector_core.specs.Widening.{doubled};
 use crate::elements::VectorElement;
 use crate::operands::{read_body, read_second};
 use crate::setup::Setup;
-use lane_fixed::RoundingMode;
 use lane_int::Narrow;
-use rv_decode::{ClipOp, Reg, Source};
+use rv_decode::{Reg, Source};
 use scalar_core::Scalar;
 use vreg_groups::VregFile;
 
 /// An element of half as many bits as `W`.
 pub trait HalfOf<W: VectorElement>: VectorElement + Narrow<W> {
-    ghost use Rattle.std.specs.Prelude.{◌≡◌, ◌/◌, length, map};
-    ghost use lib.Lanes.{zip2};
-    ghost use Rattle.lane_fixed.specs.FixedPoint.{any_active, clip_element, clip_saturates};
+    ghost use Rattle.std.specs.Prelude.{◌≡◌, ◌/◌};
     ghost use Rattle.lane_int.specs.Integer.{double};
     ghost use Rattle.rv_decode.specs.declared.extents.Eew.TheVariants.{Double};
     ghost use Rattle.vreg_groups.specs.Legality.{eew_bits};
     ghost use Rattle.vector_core.specs.Integer.{lane_width};
-
-    /// Writes each element of `a` as `op` clips it by `b`'s. Tells whether an active one saturated.
-    fn clip_results(
-        op: ClipOp,
-        mode: RoundingMode,
-        a: &[W],
-        b: &[Self],
-        active: &[bool],
-        out: &mut [Self],
-    ) -> bool
-        requires a_len { length a.now ≡ length out.old }
-        requires b_len { length b.now ≡ length out.old }
-        requires active_len { length active.now ≡ length out.old }
-        ensures results { map Self.Element.number out.new
-            ≡ zip2 (clip_element op mode (lane_width W.sew) (lane_width Self.sew))
-            (map W.Element.number a.now) (map Self.Element.number b.now) }
-        ensures saturated { result
-            ≡ any_active (clip_saturates op mode (lane_width W.sew) (lane_width Self.sew))
-            (map W.Element.number a.now) (map Self.Element.number b.now) active.now };
 
     ghost double_size: { W.SIZE ≡ eew_bits Self.sew Double / 8 };
 
@@ -57,17 +35,6 @@ pub trait HalfOf<W: VectorElement>: VectorElement + Narrow<W> {
 impl HalfOf<u16> for u8 {
     ghost use Rattle.std.specs.Prelude.{refl};
 
-    fn clip_results(
-        op: ClipOp,
-        mode: RoundingMode,
-        a: &[u16],
-        b: &[u8],
-        active: &[bool],
-        out: &mut [u8],
-    ) -> bool {
-        lane_fixed::clip(op, mode, a, b, active, out)
-    }
-
     ghost double_size = { refl };
 
     ghost double_lanes = { refl };
@@ -75,17 +42,6 @@ impl HalfOf<u16> for u8 {
 
 impl HalfOf<u32> for u16 {
     ghost use Rattle.std.specs.Prelude.{refl};
-
-    fn clip_results(
-        op: ClipOp,
-        mode: RoundingMode,
-        a: &[u32],
-        b: &[u16],
-        active: &[bool],
-        out: &mut [u16],
-    ) -> bool {
-        lane_fixed::clip(op, mode, a, b, active, out)
-    }
 
     ghost double_size = { refl };
 

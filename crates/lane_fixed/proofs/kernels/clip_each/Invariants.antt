@@ -7,6 +7,6 @@ use Rattle.lane_fixed.proofs.kernels.clip_each.Given as goal
 
 abbrev pub invariant-loop-i : goal.invariant-loop-i
 invariant-loop-i g l =
-    let xs = map g.W.Lane.number l.a in let ys = map g.N.Lane.number l.b in
-    (map g.N.Lane.number l.results ≡ overlaid l.i (zip2 (clip_element l.op l.mode g.W.Lane.width g.N.Lane.width) xs ys) (map g.N.Lane.number l.initial.results))
-    × (l.is_saturated ≡ any_before l.i (clip_saturates l.op l.mode g.W.Lane.width g.N.Lane.width) xs ys l.active)
+    let xs = map g.W.FixedLane.number l.a in let ys = map g.N.FixedLane.number l.b in
+    (map g.N.FixedLane.number l.results ≡ overlaid l.i (zip2 (clip_element l.op l.mode g.W.FixedLane.width g.N.FixedLane.width) xs ys) (map g.N.FixedLane.number l.initial.results))
+    × (l.is_saturated ≡ any_before l.i (clip_saturates l.op l.mode g.W.FixedLane.width g.N.FixedLane.width) xs ys l.active)

@@ -10,12 +10,12 @@ use Rattle.lane_fixed.proofs.kernels.compute_chunks.Goals as goal
 
 pub loop-values-preserved : goal.loop-values-preserved
 loop-values-preserved g c =
-    let number = g.T.Lane.number in
+    let number = g.T.FixedLane.number in
     let xs = map number c.args.values.now in
     let ys = map number c.args.b.now in
     let now = map number c.loop-values.values in
     let new = map number c.chunk-is_saturated.new.values in
-    let f = lane_result c.args.op g.T.Lane.width in
+    let f = lane_result c.args.op g.T.FixedLane.width in
     let at = c.loop-values.at in
     let m = c.loop-values.at + c.count-at.result in
     let same_length = c.loop-values.invariant.1 in
@@ -23,20 +23,20 @@ loop-values-preserved g c =
     let long_y : length ys ≡ length c.args.b.now = length-map c.args.b.now number in
     let long : length c.chunk-is_saturated.new.values ≡ length c.loop-values.values =
     sym (length-map c.chunk-is_saturated.new.values number) ∙ ap length c.chunk-is_saturated.ensures.results ∙ length-put_chunk at now _ ∙ length-map c.loop-values.values number in
-    let is : m ≡ at + g.T.Lane.count = omega (arith, c.count-at.ensures.meaning) in
+    let is : m ≡ at + g.T.FixedLane.count = omega (arith, c.count-at.ensures.meaning) in
     let inside : m ≤ length c.loop-values.values = omega (arith, c.count-at.ensures.meaning, c.count.ensures.meaning, c.loop-values-test.true, c.loop-values.invariant.0) in
     let le : m ≤ length xs = omega (arith, inside, same_length, long_x) in
     let same : length ys ≡ length xs = omega (arith, long_x, long_y, c.requires.b_len) in (
       omega (arith, inside, long),
       long ∙ same_length,
-      chunk_written f at g.T.Lane.count m xs ys now new c.loop-values.invariant.2 is le same c.chunk-is_saturated.ensures.results,
-      chunk_any (lane_saturates c.args.op g.T.Lane.width) f at g.T.Lane.count m xs ys now c.args.active.now c.loop-values.is_saturated c.chunk-is_saturated.result c.loop-values.invariant.2 is le same c.loop-values.invariant.3 c.chunk-is_saturated.ensures.saturated,
+      chunk_written f at g.T.FixedLane.count m xs ys now new c.loop-values.invariant.2 is le same c.chunk-is_saturated.ensures.results,
+      chunk_any (lane_saturates c.args.op g.T.FixedLane.width) f at g.T.FixedLane.count m xs ys now c.args.active.now c.loop-values.is_saturated c.chunk-is_saturated.result c.loop-values.invariant.2 is le same c.loop-values.invariant.3 c.chunk-is_saturated.ensures.saturated,
     )
 
 pub loop-i-preserved : goal.loop-i-preserved
 loop-i-preserved g c =
-    let number = g.T.Lane.number in
-    let w = g.T.Lane.width in
+    let number = g.T.FixedLane.number in
+    let w = g.T.FixedLane.width in
     let xs = map number c.args.values.now in
     let ys = map number c.args.b.now in
     let f = lane_result c.args.op w in
@@ -58,8 +58,8 @@ loop-i-preserved g c =
 
 pub returns-clause-results : goal.returns-clause-results
 returns-clause-results g c =
-    all_done g.T.Lane.number g.T.Lane.number g.T.Lane.number (lane_result c.args.op g.T.Lane.width) c.args.values.now c.args.b.now c.args.values.now c.loop-i.values c.loop-i.i (omega (arith, c.loop-i.invariant.0)) refl c.requires.b_len c.loop-i.invariant.1
+    all_done g.T.FixedLane.number g.T.FixedLane.number g.T.FixedLane.number (lane_result c.args.op g.T.FixedLane.width) c.args.values.now c.args.b.now c.args.values.now c.loop-i.values c.loop-i.i (omega (arith, c.loop-i.invariant.0)) refl c.requires.b_len c.loop-i.invariant.1
 
 pub returns-clause-saturated : goal.returns-clause-saturated
 returns-clause-saturated g c =
-    flag_done g.T.Lane.number g.T.Lane.number (lane_saturates c.args.op g.T.Lane.width) c.args.values.now c.args.b.now c.args.active.now c.loop-i.i c.loop-i.is_saturated (omega (arith, c.loop-i.invariant.0)) c.requires.b_len c.requires.active_len c.loop-i.invariant.2
+    flag_done g.T.FixedLane.number g.T.FixedLane.number (lane_saturates c.args.op g.T.FixedLane.width) c.args.values.now c.args.b.now c.args.active.now c.loop-i.i c.loop-i.is_saturated (omega (arith, c.loop-i.invariant.0)) c.requires.b_len c.requires.active_len c.loop-i.invariant.2

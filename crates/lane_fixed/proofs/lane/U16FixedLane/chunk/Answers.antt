@@ -5,7 +5,7 @@ use Rattle.std.proofs.lemmas.Simd.{bitmask_splat}
 use Rattle.lane_fixed.specs.FixedPoint.{any_active}
 use Rattle.lane_fixed.specs.Chunks.{lane_saturates}
 use Rattle.lane_fixed.proofs.ChunkKernelLemmas.{flags_say}
-use Rattle.lane_fixed.proofs.lane.U16Lane.chunk.Goals as goal
+use Rattle.lane_fixed.proofs.lane.U16FixedLane.chunk.Goals as goal
 
 pub returns-clause-saturated : goal.returns-clause-saturated
 returns-clause-saturated c =
