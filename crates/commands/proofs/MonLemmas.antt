@@ -1,22 +1,15 @@
--- Where a run is left by `mon`, and what `mon` does.
-use Rattle.std.proofs.Common.{◌≡◌, ◌∙◌, ℕ, List, [], Option, Some, None, IfSome, subst}
+-- Where a run is left by `mon`.
+use Rattle.std.proofs.Common.{◌≡◌, ◌∙◌, ℕ, List, Option, Some, None, IfSome, subst}
 use Rattle.block_checker.specs.Accepted.{AcceptedView}
 use Rattle.region_mem.specs.Memory.{args_of}
 use Rattle.region_mem.specs.Parameter.{Argument}
 use Rattle.sandbox_run.specs.Session.{SessionView, open_fault}
 use Rattle.sandbox_run.specs.Stops.{IsStop}
 use Rattle.sandbox_run.specs.declared.outcome.OpenError.{OpenError}
-use Rattle.toml.specs.Data.{Members}
 use Rattle.vector_core.specs.Machine.{Machine}
 use Rattle.vector_core.specs.Start.{start}
 use Rattle.vreg_groups.specs.declared.policies.Agnostic.{Agnostic}
-use Rattle.commands.specs.Files.{Files}
-use Rattle.commands.specs.Mons.{IsStopped, Mons}
-use Rattle.commands.specs.Written.{Gains, Written}
-use Rattle.commands.specs.declared.stop.Status.{Status}
-use Rattle.commands.proofs.WrittenLemmas.{gains_more}
-
--- ---- a run that is left at a stop
+use Rattle.commands.specs.Mons.{IsStopped}
 
 pub stopped : (vlenb : ℕ) (agnostic : Agnostic) (max : ℕ) (a : AcceptedView) (args : List Argument) (fault : Option OpenError) (opened session : SessionView) (kept : List Argument)
     → open_fault vlenb a args max ≡ fault → IfSome fault (λ told. ⊥)
@@ -30,23 +23,4 @@ stopped vlenb agnostic max a args None opened session kept is none first same st
   last = session.machine;
   stop = subst (λ (m : Machine). IsStop vlenb m session.steps session.machine) (stays ∙ same ∙ first) stop;
   comes = comes;
-}
-
--- ---- what was done, where nothing was written before
-
-pub mons_before : (files : Files) (table : Members) (first was has : Option Written) (s : Status)
-    → Gains first was [] → Mons files table was has s → Mons files table first has s
-mons_before files table first was has s kept m = record {
-  job = m.job;
-  asked = m.asked;
-  image = m.image;
-  there = m.there;
-  accepted = m.accepted;
-  passes = m.passes;
-  args = m.args;
-  passed = m.passed;
-  kept = m.kept;
-  stopped = m.stopped;
-  wrote = gains_more first was has [] _ kept m.wrote;
-  done = m.done;
 }

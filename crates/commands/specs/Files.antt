@@ -4,13 +4,14 @@ use Rattle.std.specs.List.{filter_map, zip}
 use Rattle.std.specs.Str.{IsUtf8}
 use Rattle.elf_image.specs.Faults.{fault_of}
 use Rattle.elf_image.specs.File.{image_of}
-use Rattle.job_file.specs.declared.values.JobError.TheVariants.{NotToml, BadKey}
+use Rattle.job_file.specs.declared.values.JobError.TheVariants.{NotToml}
 use Rattle.job_file.specs.declared.values.RunParam.{RunParam}
 use Rattle.job_file.specs.declared.values.RunParam.TheVariants as given
 use Rattle.region_mem.specs.declared.arguments.Arg.TheVariants as argument
 use Rattle.toml.specs.Parse.{parse_document}
 use Rattle.commands.specs.Accepted.{IsOrWant}
 use Rattle.commands.specs.Ending.{IsOfFile, stop_of_image}
+use Rattle.commands.specs.Steps.{StopsAt}
 use Rattle.commands.specs.Words.{Argument, ElfError, Gains, ImageView, Members, Status, Stop, Text, Written}
 use Rattle.commands.specs.declared.store.StoreError.{StoreError}
 use Rattle.commands.specs.declared.stop.Stop.TheVariants as stop
@@ -98,12 +99,7 @@ OfTable files path does s = (table : Members) × IsTableAt files path table × d
 -- `wrote xs` says that the files `xs` were written
 abbrev pub StopsOfTable : Files → (Written → Type 0) → Text → (Members → Stop → Type 0) → Stop
     → Type 0
-StopsOfTable files wrote path stops reason = (IsNoTableAt files path reason × wrote [])
-    ⊎ ((table : Members) × IsTableAt files path table × stops table reason)
-
--- a table that does not ask for the job
-abbrev pub IsUnasked : {J : Type 0} → Option J → Stop → Type 0
-IsUnasked asked reason = (asked ≡ None) × (reason ≡ stop.Job BadKey)
+StopsOfTable files wrote path = StopsAt wrote (IsNoTableAt files path) (IsTableAt files path)
 
 -- ---- what is written
 

@@ -2,10 +2,11 @@ pub mod Accepted
 pub mod Checks
 pub mod Ending
 pub mod Files
-pub mod Hex
 pub mod Makes
 pub mod Mons
 pub mod Runs
+pub mod Starts
+pub mod Steps
 pub mod Texts
 pub mod Trial
 pub mod Tries

@@ -18,7 +18,8 @@ use Rattle.region_mem.specs.declared.parameter.Param.{Param}
 use Rattle.commands.specs.Accepted.{IsOrWant, accepted_of}
 use Rattle.commands.specs.Checks.{bound_line}
 use Rattle.commands.specs.Ending.{IsOfFile}
-use Rattle.commands.specs.Files.{Files, IsUnasked, image_in, unless_fault}
+use Rattle.commands.specs.Files.{Files, image_in, unless_fault}
+use Rattle.commands.specs.Steps.{StopsAt, StopsAtJob, StopsAtResult}
 use Rattle.commands.specs.Words.{AcceptedView, CertificateView, Gains, ImageView, Members, Status, Stop, Text, Written, block_at}
 use Rattle.commands.specs.declared.stop.Status.TheVariants as status
 use Rattle.commands.specs.declared.stop.Stop.TheVariants as stop
@@ -95,28 +96,15 @@ pub record Makes (files : Files) (path out : Text) (table : Members) (old new : 
 
 -- ---- why it stops: `wrote xs` says that the files `xs` were written
 
--- after the file was made: it is not accepted when it is read back, or not written, or standard
--- output takes no text
-abbrev pub StopsMade : Files → (Written → Type 0) → Text → MakeJob → List ℕ → Stop → Type 0
-StopsMade files wrote out job bytes reason =
-    (IsOrWant (accepted_in job bytes) (Err reason) × wrote [])
-    ⊎ ((accepted : AcceptedView) × (accepted_in job bytes ≡ Ok accepted)
-    × ((IsOfFile files.unwritten out reason × wrote [])
-    ⊎ ((reason ≡ stop.Output) × wrote ((out, bytes) ∷ []))))
+-- after the file was made and accepted: it is not written, or standard output takes no text
+abbrev pub StopsMade : Files → (Written → Type 0) → Text → List ℕ → Stop → Type 0
+StopsMade files wrote out bytes reason = (IsOfFile files.unwritten out reason × wrote [])
+    ⊎ ((reason ≡ stop.Output) × wrote ((out, bytes) ∷ []))
 
--- after the image's file was read: none is made of it, or afterwards
-abbrev pub StopsRead : Files → (Written → Type 0) → Text → MakeJob → List ℕ → Stop → Type 0
-StopsRead files wrote out job file reason = (IsOrWant (made_of job file) (Err reason) × wrote [])
-    ⊎ ((bytes : List ℕ) × (made_of job file ≡ Ok bytes)
-    × StopsMade files wrote out job bytes reason)
-
--- for a job: the image's file is not read, or afterwards
-abbrev pub StopsMakeJob : Files → (Written → Type 0) → Text → Text → MakeJob → Stop → Type 0
-StopsMakeJob files wrote path out job reason = (IsOfFile files.unread path reason × wrote [])
-    ⊎ ((file : List ℕ) × files.holds path file × StopsRead files wrote out job file reason)
-
--- `make` on a job's table: it asks for no job, or afterwards
+-- `make` on a job's table: it asks for no job, the image's file is not read, none is made of it,
+-- that is not accepted when it is read back, or afterwards
 abbrev pub StopsMake : Files → (Written → Type 0) → Text → Text → Members → Stop → Type 0
-StopsMake files wrote path out table reason = (IsUnasked (make_job_in table) reason × wrote [])
-    ⊎ ((job : MakeJob) × (make_job_in table ≡ Some job)
-    × StopsMakeJob files wrote path out job reason)
+StopsMake files wrote path out table = StopsAtJob wrote (make_job_in table) (λ job.
+    StopsAt wrote (IsOfFile files.unread path) (files.holds path) (λ file.
+    StopsAtResult wrote (made_of job file) (λ bytes.
+    StopsAtResult wrote (accepted_in job bytes) (λ accepted. StopsMade files wrote out bytes))))

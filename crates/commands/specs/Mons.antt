@@ -1,6 +1,5 @@
 -- What `mon` does.
-use Rattle.std.specs.Prelude.{◌≡◌, ◌⊎◌, ◌++◌, codes, ℕ, List, [], Option, Some, None, Result, Ok, Err}
-use Rattle.job_file.specs.Needs.{run_job_in}
+use Rattle.std.specs.Prelude.{◌≡◌, ◌⊎◌, ◌++◌, codes, ℕ, List, Option, Some, None, Result, Ok, Err}
 use Rattle.job_file.specs.declared.values.RunJob.{RunJob}
 use Rattle.monitor.specs.Commands.{flow_of, text_of}
 use Rattle.monitor.specs.declared.commands.Command.{Command}
@@ -10,11 +9,12 @@ use Rattle.monitor.specs.declared.commands.MonError.{MonError}
 use Rattle.region_mem.specs.Memory.{args_of}
 use Rattle.sandbox_run.specs.Session.{SessionView, open_fault}
 use Rattle.sandbox_run.specs.Stops.{IsStop}
-use Rattle.commands.specs.Accepted.{IsOrWant, accepted_of}
 use Rattle.commands.specs.Ending.{stop_of_open}
-use Rattle.commands.specs.Files.{ArePassed, Files, IsImageAt, IsNoImageAt, IsUnasked, IsUnpassed, IsUnwritten, outs_of}
+use Rattle.commands.specs.Files.{Files, IsUnwritten, outs_of}
+use Rattle.commands.specs.Starts.{IsStarted, StopsStarting}
+use Rattle.commands.specs.Steps.{StopsAt}
 use Rattle.commands.specs.Texts.{monitor_error_name}
-use Rattle.commands.specs.Words.{AcceptedView, Agnostic, Argument, Gains, ImageView, Machine, Members, OpenError, start, Status, Stop, Text, vlenb_of, Written}
+use Rattle.commands.specs.Words.{AcceptedView, Agnostic, Argument, Gains, Machine, Members, OpenError, start, Status, Stop, Text, vlenb_of, Written}
 use Rattle.commands.specs.declared.stop.Status.TheVariants as status
 use Rattle.commands.specs.declared.stop.Stop.TheVariants as stop
 
@@ -51,13 +51,9 @@ pub record IsStopped (vlenb : ℕ) (agnostic : Agnostic) (max : ℕ) (a : Accept
 pub record Mons (files : Files) (table : Members) (was has : Option Written) (s : Status)
     : Type 0 where
   pub job : RunJob Text
-  pub asked : run_job_in table ≡ Some job
-  pub image : ImageView
-  pub there : IsImageAt files job.image image
   pub accepted : AcceptedView
-  pub passes : accepted_of (Some job.vlen) image ≡ Ok accepted
   pub args : List Argument
-  pub passed : ArePassed files job.params args
+  pub started : IsStarted files table job accepted args
   pub kept : List Argument
   pub stopped : IsStopped (vlenb_of job.vlen) job.agnostic job.max accepted args kept
   pub wrote : Gains was has (outs_of job.params kept)
@@ -82,36 +78,14 @@ abbrev pub StopsWatching : ℕ → ℕ → AcceptedView → List Argument → St
 StopsWatching vlenb max a args reason =
     IsUnopened (open_fault vlenb a args max) reason ⊎ IsUnanswered reason
 
--- after what is passed was read: no run is opened, a line is not answered, or an out
--- file is not written
+-- after it was started: no run is opened, a line is not answered, or an out file is not written
 abbrev pub StopsWatched : Files → (Written → Type 0) → RunJob Text → AcceptedView → List Argument
     → Stop → Type 0
-StopsWatched files wrote job accepted args reason =
-    (StopsWatching (vlenb_of job.vlen) job.max accepted args reason × wrote [])
-    ⊎ ((kept : List Argument)
-    × IsStopped (vlenb_of job.vlen) job.agnostic job.max accepted args kept
-    × IsUnwritten files wrote job.params kept reason)
+StopsWatched files wrote job accepted args =
+    StopsAt wrote (StopsWatching (vlenb_of job.vlen) job.max accepted args)
+    (IsStopped (vlenb_of job.vlen) job.agnostic job.max accepted args)
+    (IsUnwritten files wrote job.params)
 
--- after the image was accepted: what is passed is not read, or afterwards
-abbrev pub StopsPassing : Files → (Written → Type 0) → RunJob Text → AcceptedView → Stop → Type 0
-StopsPassing files wrote job accepted reason = (IsUnpassed files job.params reason × wrote [])
-    ⊎ ((args : List Argument) × ArePassed files job.params args
-    × StopsWatched files wrote job accepted args reason)
-
--- after the image was read: it is not accepted, or afterwards
-abbrev pub StopsChecking : Files → (Written → Type 0) → RunJob Text → ImageView → Stop → Type 0
-StopsChecking files wrote job image reason =
-    (IsOrWant (accepted_of (Some job.vlen) image) (Err reason) × wrote [])
-    ⊎ ((accepted : AcceptedView) × (accepted_of (Some job.vlen) image ≡ Ok accepted)
-    × StopsPassing files wrote job accepted reason)
-
--- for a job: the image is not read, or afterwards
-abbrev pub StopsMonJob : Files → (Written → Type 0) → RunJob Text → Stop → Type 0
-StopsMonJob files wrote job reason = (IsNoImageAt files job.image reason × wrote [])
-    ⊎ ((image : ImageView) × IsImageAt files job.image image
-    × StopsChecking files wrote job image reason)
-
--- `mon` on a job's table: it asks for no job, or afterwards
+-- `mon` on a job's table: it is not started, or afterwards
 abbrev pub StopsMon : Files → (Written → Type 0) → Members → Stop → Type 0
-StopsMon files wrote table reason = (IsUnasked (run_job_in table) reason × wrote [])
-    ⊎ ((job : RunJob Text) × (run_job_in table ≡ Some job) × StopsMonJob files wrote job reason)
+StopsMon files wrote = StopsStarting files wrote (StopsWatched files wrote)

@@ -9,7 +9,7 @@ use Rattle.job_file.specs.declared.values.JobError.TheVariants as job_error
 use Rattle.monitor.specs.declared.commands.MonError.{MonError}
 use Rattle.monitor.specs.declared.commands.MonError.TheVariants as monitor_error
 use Rattle.sandbox_run.specs.declared.outcome.OpenError.TheVariants as open_error
-use Rattle.commands.specs.Hex.{hex_text}
+use Rattle.region_mem.specs.Digits.{digits_text}
 use Rattle.commands.specs.Words.{CertError, CheckError, ElfError, JobError, OpenError, Stop}
 use Rattle.commands.specs.declared.stop.Stop.TheVariants as stop
 
@@ -75,7 +75,7 @@ open_error_name open_error.NoMemory = codes "NoMemory"
 -- where it has one
 abbrev pub with_address : List ℕ → Option ℕ → List ℕ
 with_address name None = name
-with_address name (Some address) = name ++ (codes " at " ++ hex_text address)
+with_address name (Some address) = name ++ (codes " at " ++ digits_text address)
 
 abbrev pub reason_text : CheckError → List ℕ
 reason_text error = with_address (name_of error) (address_of error)

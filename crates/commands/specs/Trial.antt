@@ -1,13 +1,16 @@
 -- What comes of a run, and how it is told.
 use Rattle.std.specs.Prelude.{◌≡◌, ◌++◌, codes, ℕ, List, Result, Ok, Err, MatchResult}
 use Rattle.std.specs.Fmt.{decimal}
+use Rattle.job_file.specs.declared.values.RunParam.{RunParam}
 use Rattle.region_mem.specs.Faults.{name_of, number_of}
 use Rattle.sandbox_run.specs.Answer.{answer_of}
 use Rattle.sandbox_run.specs.declared.outcome.Outcome.{Outcome}
 use Rattle.sandbox_run.specs.declared.outcome.Outcome.TheVariants as stopped
 use Rattle.vector_core.specs.Run.{outcome}
-use Rattle.commands.specs.Hex.{hex_text}
-use Rattle.commands.specs.Words.{Machine, Stop}
+use Rattle.region_mem.specs.Digits.{digits_text}
+use Rattle.commands.specs.Files.{Files, IsUnfinished}
+use Rattle.commands.specs.Steps.{StopsAt}
+use Rattle.commands.specs.Words.{Machine, Stop, Text, Written}
 use Rattle.commands.specs.declared.stop.Stop.TheVariants as stop
 use Rattle.commands.specs.declared.trial.End.{End}
 use Rattle.commands.specs.declared.trial.End.TheVariants as end
@@ -30,12 +33,19 @@ abbrev pub OrMemory : {A : Type 0} → Result A Stop → Result A Stop → Type 
 OrMemory (Err reason) answer = answer ≡ Err reason
 OrMemory (Ok value) answer = MatchResult answer (λ a. a ≡ value) (λ reason. reason ≡ stop.Memory)
 
+-- why it stops, where this is what is defined of a run: it does not start, or its outcome is not
+-- written or told
+abbrev pub StopsAtTrial : Files → (Written → Type 0) → List (RunParam Text) → Result Trial Stop
+    → Stop → Type 0
+StopsAtTrial files wrote params defined = StopsAt wrote (λ reason. OrMemory defined (Err reason))
+    (λ trial. defined ≡ Ok trial) (λ trial. IsUnfinished files wrote params trial.args.places)
+
 -- ---- how it is told
 
 abbrev pub end_line : End → ℕ → List ℕ
 end_line end.Ended steps = codes "ended: " ++ (decimal steps ++ codes " steps\n")
 end_line (end.Trapped fault) steps = codes "trapped: " ++ (name_of fault ++ (codes " "
-    ++ (hex_text (number_of fault) ++ (codes " after " ++ (decimal steps ++ codes " steps\n")))))
+    ++ (digits_text (number_of fault) ++ (codes " after " ++ (decimal steps ++ codes " steps\n")))))
 end_line end.OutOfSteps steps = codes "out of steps: " ++ (decimal steps ++ codes "\n")
 
 -- the line that tells how a run ended

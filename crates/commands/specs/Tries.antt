@@ -1,5 +1,5 @@
 -- What `try` does.
-use Rattle.std.specs.Prelude.{◌≡◌, ◌⊎◌, ◌-◌, ◌^◌, ℕ, min, List, [], length, map, Option, Some, None, Result, Ok, Err}
+use Rattle.std.specs.Prelude.{◌≡◌, ◌-◌, ◌^◌, ℕ, min, List, length, map, Option, Some, None, Result, Ok, Err}
 use Rattle.std.specs.Io.KnownBytes.{Appends}
 use Rattle.std.specs.List.{zip}
 use Rattle.job_file.specs.Needs.{try_job_in}
@@ -16,8 +16,9 @@ use Rattle.region_mem.specs.declared.parameter.Param.{Param}
 use Rattle.region_mem.specs.declared.parameter.Param.TheVariants as parameter
 use Rattle.sandbox_run.specs.Errors.{open_error_of}
 use Rattle.commands.specs.Ending.{status_of_end}
-use Rattle.commands.specs.Files.{ArePassed, Files, IsImageAt, IsNoImageAt, IsUnasked, IsUnfinished, IsUnpassed, outs_of}
-use Rattle.commands.specs.Trial.{OrMemory, line_of, trial_from}
+use Rattle.commands.specs.Files.{ArePassed, Files, IsImageAt, IsNoImageAt, IsUnpassed, outs_of}
+use Rattle.commands.specs.Steps.{StopsAt, StopsAtJob}
+use Rattle.commands.specs.Trial.{StopsAtTrial, line_of, trial_from}
 use Rattle.commands.specs.Words.{Agnostic, Argument, Gains, ImageView, Members, start, Status, Stop, Text, vlenb_of, Written}
 use Rattle.commands.specs.declared.stop.Stop.TheVariants as stop
 use Rattle.commands.specs.declared.trial.Trial.{Trial}
@@ -94,28 +95,11 @@ pub record Tries (files : Files) (table : Members) (old new : Option (List ℕ))
 
 -- ---- why it stops: `wrote xs` says that the files `xs` were written
 
--- after what is passed was read: no run starts, or its outcome is not written or told
-abbrev pub StopsTried : Files → (Written → Type 0) → TryJob Text → ImageView → List Argument → Stop
-    → Type 0
-StopsTried files wrote job image args reason =
-    (OrMemory (trial_of job image args) (Err reason) × wrote [])
-    ⊎ ((trial : Trial) × (trial_of job image args ≡ Ok trial)
-    × IsUnfinished files wrote (map passed_by job.params) trial.args.places reason)
-
--- after the image was read: what is passed is not, or afterwards
-abbrev pub StopsTrying : Files → (Written → Type 0) → TryJob Text → ImageView → Stop → Type 0
-StopsTrying files wrote job image reason =
-    (IsUnpassed files (map passed_by job.params) reason × wrote [])
-    ⊎ ((args : List Argument) × ArePassed files (map passed_by job.params) args
-    × StopsTried files wrote job image args reason)
-
--- for a job: the image is not read, or afterwards
-abbrev pub StopsTryJob : Files → (Written → Type 0) → TryJob Text → Stop → Type 0
-StopsTryJob files wrote job reason = (IsNoImageAt files job.image reason × wrote [])
-    ⊎ ((image : ImageView) × IsImageAt files job.image image
-    × StopsTrying files wrote job image reason)
-
--- `try` on a job's table: it asks for no job, or afterwards
+-- `try` on a job's table: it asks for no job, the image or what is passed is not read, no run
+-- starts, or its outcome is not written or told
 abbrev pub StopsTry : Files → (Written → Type 0) → Members → Stop → Type 0
-StopsTry files wrote table reason = (IsUnasked (try_job_in table) reason × wrote [])
-    ⊎ ((job : TryJob Text) × (try_job_in table ≡ Some job) × StopsTryJob files wrote job reason)
+StopsTry files wrote table = StopsAtJob wrote (try_job_in table) (λ job.
+    let params = map passed_by job.params in
+    StopsAt wrote (IsNoImageAt files job.image) (IsImageAt files job.image) (λ image.
+    StopsAt wrote (IsUnpassed files params) (ArePassed files params) (λ args.
+    StopsAtTrial files wrote params (trial_of job image args))))

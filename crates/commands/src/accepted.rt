@@ -47,7 +47,7 @@ pub fn accept<'a>(
     match check(alloc, image, certificate, vlen) {
         Ok(accepted) => Ok(accepted),
         Err((error, image, certificate)) => {
-            note_check(alloc, &image, &certificate, vlen, why);
+            note_check(alloc, &image, &certificate, vlen, error, why);
             Err(Stop::from(error))
         }
     }

@@ -13,9 +13,9 @@ ghost use Rattle.commands.specs.Written.{Gains};
 
 use crate::stop::Stop;
 use crate::store::{Store, StoreError};
-use crate::why::{FileReason, Why, note_job};
+use crate::why::{FileReason, Why, note_image, note_job};
 use elf_image::Image;
-use explanations::{Command, image_reason};
+use explanations::Command;
 use job_file::{JobError, RunParam, parse};
 use region_mem::{Arg, Args, Bytes};
 use std::alloc::Global;
@@ -107,7 +107,7 @@ pub fn image_in<'a>(alloc: Global, file: &[u8], why: &mut Why) -> Result<Image, 
     match elf_image::read(alloc, file) {
         Ok(image) => Ok(image),
         Err(error) => {
-            why.note(&image_reason(file, error));
+            note_image(file, error, why);
             Err(Stop::from(error))
         }
     }

@@ -1,19 +1,20 @@
 //! The subcommands: what each reads, in order, what it does with it, and what it prints and writes.
 //!
-//! Each has a module: `checks`, `makes`, `mons`, `runs` and `tries`. What they share stands in the others: `files` (what is read, and
-//! the out files), `accepted` (an image with its certificate), `lines` (the input of `mon`), `trial` (what comes of a run), `stop`
-//! (statuses and reasons to stop), `texts` (how those are told), `why` (what more is told of them),
-//! `store` (where files are) and `hex`.
+//! Each has a module: `checks`, `makes`, `mons`, `runs` and `tries`. What they share stands in the
+//! others: `starts` (what those on a job begin with), `files` (what is read, and the out files),
+//! `accepted` (an image with its certificate), `lines` (the input of `mon`), `trial` (what comes of a
+//! run), `stop` (statuses and reasons to stop), `texts` (how those are told), `why` (what more is
+//! told of them) and `store` (where files are).
 #![tactic(auto)]
 
 mod accepted;
 mod checks;
 mod files;
-mod hex;
 mod lines;
 mod makes;
 mod mons;
 mod runs;
+mod starts;
 mod stop;
 mod store;
 mod texts;

@@ -1,5 +1,5 @@
 //! `make`: an image with the certificate that is made of its loop.
-ghost use Rattle.std.specs.Prelude.{IfOk, MatchResult};
+ghost use Rattle.std.specs.Prelude.{[], IfOk, MatchResult, Option};
 ghost use Rattle.block_checker.specs.Accepted.{Passes};
 ghost use Rattle.commands.specs.Accepted.{IsOrWant};
 ghost use Rattle.commands.specs.Ending.{Ends};
@@ -7,20 +7,21 @@ ghost use Rattle.commands.specs.Files.{OfTable, StopsOfTable};
 ghost use Rattle.commands.specs.Makes.{AnswersBytes, Makes, StopsMake, accepted_in};
 ghost use Rattle.commands.specs.Makes.{certificate_for, made_of, with_certificate};
 ghost use Rattle.commands.specs.Trial.{OrMemory};
-ghost use Rattle.commands.specs.Written.{Gains};
+ghost use Rattle.commands.specs.Written.{Gains, Written};
 ghost use Rattle.toml.specs.View.{table_view};
 
 use crate::accepted::accept;
 use crate::checks::print_bound;
-use crate::files::{image_in, read, read_table, write};
-use crate::stop::{Ending, Status, Stop, told};
+use crate::files::{image_in, read, write};
+use crate::starts::on_table;
+use crate::stop::{Ending, Status, Stop};
 use crate::store::Store;
-use crate::why::{Why, note_misfit};
+use crate::why::{Why, note_attach, note_misfit};
 use block_checker::Accepted;
 use cert_maker::make;
 use cert_note::Certificate;
 use elf_image::{Image, attach};
-use explanations::{Command, attach_reason, parameter_reason};
+use explanations::{Command, parameter_reason};
 use job_file::{JobError, MakeJob, make_job_in};
 use region_mem::Parameters;
 use std::alloc::Global;
@@ -65,17 +66,11 @@ pub fn make_image<'a, S: Store, O: Write, E: Write>(
         paths.entry.image.now paths.entry.out.now))
         (E.contents errors.old) (E.contents errors.new) result }
 {
-    let mut why = Why::new(alloc, explain);
-    match read_table(alloc, paths.job, Command::Make, store, &mut why) {
-        Ok(table) => {
-            let done = make_table(alloc, &table, paths, store, output, &mut why);
-            told(done, why.lines_if(explain), errors)
-        }
-        Err(stop) => told(Err(stop), why.lines_if(explain), errors),
-    }
+    on_table!(alloc, paths.job, Command::Make, explain, store, errors; table, why =>
+        make_table(alloc, table, paths, store, output, why))
 }
 
-/// `make` on a job's table.
+/// `make` on a job's table. No file was written since those of `first`.
 fn make_table<'a, S: Store, O: Write>(
     alloc: Global,
     table: &Table,
@@ -84,11 +79,10 @@ fn make_table<'a, S: Store, O: Write>(
     output: &mut O,
     why: &mut Why,
 ) -> Result<Status, Stop<'a>>
-    ensures { MatchResult result
+    ensures { (first : Option Written) → Gains first (S.written store.old) [] → MatchResult result
         (Makes S.files paths.entry.image.now paths.entry.out.now (table_view table.now)
-        (O.contents output.old) (O.contents output.new)
-        (S.written store.old) (S.written store.new))
-        (StopsMake S.files (Gains (S.written store.old) (S.written store.new))
+        (O.contents output.old) (O.contents output.new) first (S.written store.new))
+        (StopsMake S.files (Gains first (S.written store.new))
         paths.entry.image.now paths.entry.out.now (table_view table.now)) }
 {
     let job = make_job_in(table).ok_or(JobError::BadKey)?;
@@ -139,7 +133,7 @@ fn with_certificate<'a>(
     match attach(alloc, file, note.as_slice()) {
         Ok(bytes) => Ok(bytes),
         Err(error) => {
-            why.note(&attach_reason(file, image, note.len(), error));
+            note_attach(file, image, note.len(), error, why);
             Err(Stop::from(error))
         }
     }

@@ -1,21 +1,21 @@
 //! `mon`: commands on the run of an image that is accepted.
-ghost use Rattle.std.specs.Prelude.{◌≡◌, IfErr, IfOk, MatchResult};
+ghost use Rattle.std.specs.Prelude.{◌≡◌, [], IfErr, IfOk, MatchResult, Option};
 ghost use Rattle.toml.specs.View.{table_view};
 ghost use Rattle.vreg_groups.specs.VectorLength.{IsVlenb, vlenb_of};
 ghost use Rattle.commands.specs.Ending.{Ends};
 ghost use Rattle.commands.specs.Files.{OfTable, StopsOfTable};
 ghost use Rattle.commands.specs.Mons.{IsStopped, IsUnanswered, Mons, StopsMon, StopsWatching};
-ghost use Rattle.commands.specs.Written.{Gains};
+ghost use Rattle.commands.specs.Written.{Gains, Written};
 
-use crate::accepted::accept;
-use crate::files::{read_args, read_image, read_table, write_outs};
+use crate::files::write_outs;
 use crate::lines::answer_lines;
-use crate::stop::{Ending, Status, Stop, told};
+use crate::starts::{Start, on_table, started};
+use crate::stop::{Ending, Status, Stop};
 use crate::store::{MOST_READS, Store};
 use crate::why::{Why, note_open};
 use block_checker::Accepted;
 use explanations::Command;
-use job_file::{JobError, RunJob, run_job_in};
+use job_file::RunJob;
 use monitor::Monitor;
 use region_mem::Args;
 use sandbox_run::Session;
@@ -73,17 +73,11 @@ pub fn mon_job_within<S: Store, I: Read, O: Write, E: Write>(
         (StopsMon S.files (Gains (S.written store.old) (S.written store.new))))
         (E.contents errors.old) (E.contents errors.new) result }
 {
-    let mut why = Why::new(alloc, explain);
-    match read_table(alloc, path, Command::Mon, store, &mut why) {
-        Ok(table) => {
-            let done = mon_table(alloc, &table, store, input, output, reads, &mut why);
-            told(done, why.lines_if(explain), errors)
-        }
-        Err(stop) => told(Err(stop), why.lines_if(explain), errors),
-    }
+    on_table!(alloc, path, Command::Mon, explain, store, errors; table, why =>
+        mon_table(alloc, table, store, input, output, reads, why))
 }
 
-/// `mon` on a job's table.
+/// `mon` on a job's table. No file was written since those of `first`.
 fn mon_table<'a, S: Store, I: Read, O: Write>(
     alloc: Global,
     table: &'a Table,
@@ -93,16 +87,15 @@ fn mon_table<'a, S: Store, I: Read, O: Write>(
     reads: u64,
     why: &mut Why,
 ) -> Result<Status, Stop<'a>>
-    ensures { MatchResult result
-        (Mons S.files (table_view table.entry.now) (S.written store.old) (S.written store.new))
-        (StopsMon S.files (Gains (S.written store.old) (S.written store.new))
-        (table_view table.entry.now)) }
+    ensures { (first : Option Written) → Gains first (S.written store.old) [] → MatchResult result
+        (Mons S.files (table_view table.entry.now) first (S.written store.new))
+        (StopsMon S.files (Gains first (S.written store.new)) (table_view table.entry.now)) }
 {
-    let job = run_job_in(table).ok_or(JobError::BadKey)?;
-    why.forget();
-    let image = read_image(alloc, job.image, store, why)?;
-    let accepted = accept(alloc, image, Some(job.vlen), why)?;
-    let args = read_args(alloc, &job.params, store, why)?;
+    let Start {
+        job,
+        accepted,
+        args,
+    } = started(alloc, table, store, why)?;
     let kept = mon_accepted(alloc, &job, &accepted, args, input, output, reads, why)?;
     write_outs(&job.params, &kept.places, store, why)?;
     Ok(Status::Done)

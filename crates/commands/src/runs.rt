@@ -1,5 +1,5 @@
 //! `run`: a job on an image that is accepted.
-ghost use Rattle.std.specs.Prelude.{◌≡◌, IfOk, MatchResult};
+ghost use Rattle.std.specs.Prelude.{◌≡◌, [], IfOk, MatchResult, Option};
 ghost use Rattle.job_file.specs.Needs.{run_job_lent};
 ghost use Rattle.toml.specs.View.{table_view};
 ghost use Rattle.vreg_groups.specs.VectorLength.{IsVlenb};
@@ -7,18 +7,17 @@ ghost use Rattle.commands.specs.Ending.{Ends};
 ghost use Rattle.commands.specs.Files.{OfTable, StopsOfTable};
 ghost use Rattle.commands.specs.Runs.{Runs, StopsRun, run_of_job, session_of};
 ghost use Rattle.commands.specs.Trial.{OrMemory};
-ghost use Rattle.commands.specs.Written.{Gains};
+ghost use Rattle.commands.specs.Written.{Gains, Written};
 ghost use Rattle.commands.specs.declared.trial.End.TheVariants.{Ended};
 
-use crate::accepted::accept;
-use crate::files::{read_args, read_image, read_table};
-use crate::stop::{Ending, Status, Stop, told};
+use crate::starts::{Start, on_table, started};
+use crate::stop::{Ending, Status, Stop};
 use crate::store::Store;
 use crate::trial::{Trial, finish};
 use crate::why::{Why, note_open};
 use block_checker::Accepted;
 use explanations::Command;
-use job_file::{JobError, RunJob, run_job_in};
+use job_file::RunJob;
 use region_mem::Args;
 use sandbox_run::Session;
 use std::alloc::Global;
@@ -50,17 +49,11 @@ pub fn run_job<S: Store, O: Write, E: Write>(
         (StopsRun S.files (Gains (S.written store.old) (S.written store.new))))
         (E.contents errors.old) (E.contents errors.new) result }
 {
-    let mut why = Why::new(alloc, explain);
-    match read_table(alloc, path, Command::Run, store, &mut why) {
-        Ok(table) => {
-            let done = run_table(alloc, &table, store, output, &mut why);
-            told(done, why.lines_if(explain), errors)
-        }
-        Err(stop) => told(Err(stop), why.lines_if(explain), errors),
-    }
+    on_table!(alloc, path, Command::Run, explain, store, errors; table, why =>
+        run_table(alloc, table, store, output, why))
 }
 
-/// `run` on a job's table.
+/// `run` on a job's table. No file was written since those of `first`.
 fn run_table<'a, S: Store, O: Write>(
     alloc: Global,
     table: &'a Table,
@@ -68,18 +61,16 @@ fn run_table<'a, S: Store, O: Write>(
     output: &mut O,
     why: &mut Why,
 ) -> Result<Status, Stop<'a>>
-    ensures { MatchResult result
+    ensures { (first : Option Written) → Gains first (S.written store.old) [] → MatchResult result
         (Runs S.files (table_view table.entry.now)
-        (O.contents output.old) (O.contents output.new)
-        (S.written store.old) (S.written store.new))
-        (StopsRun S.files (Gains (S.written store.old) (S.written store.new))
-        (table_view table.entry.now)) }
+        (O.contents output.old) (O.contents output.new) first (S.written store.new))
+        (StopsRun S.files (Gains first (S.written store.new)) (table_view table.entry.now)) }
 {
-    let job = run_job_in(table).ok_or(JobError::BadKey)?;
-    why.forget();
-    let image = read_image(alloc, job.image, store, why)?;
-    let accepted = accept(alloc, image, Some(job.vlen), why)?;
-    let args = read_args(alloc, &job.params, store, why)?;
+    let Start {
+        job,
+        accepted,
+        args,
+    } = started(alloc, table, store, why)?;
     let trial = run_accepted(alloc, &job, &accepted, args, why)?;
     finish(&job.params, &trial, store, output, why)
 }

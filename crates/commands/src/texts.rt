@@ -3,13 +3,14 @@ ghost use Rattle.std.specs.Prelude.{◌≡◌};
 ghost use Rattle.commands.specs.Texts.{certificate_error_name, image_error_name};
 ghost use Rattle.commands.specs.Texts.{job_error_name, monitor_error_name, open_error_name};
 
-use crate::hex::Hex;
 use crate::stop::Stop;
 use cert_note::CertError;
 use elf_image::ElfError;
 use job_file::JobError;
 use monitor::MonError;
+use region_mem::Digits;
 use sandbox_run::OpenError;
+use std::error::Error;
 use std::fmt;
 
 fn job_error_name(error: JobError) -> &'static str
@@ -108,7 +109,7 @@ impl fmt::Display for Reason {
     fn fmt<W: fmt::Write>(&self, f: &mut fmt::Formatter<W>) -> fmt::Result {
         let name = self.name;
         match self.address {
-            Some(address) => write!(f, "{name} at {}", Hex(address)),
+            Some(address) => write!(f, "{name} at {}", Digits(u64::from(address))),
             None => write!(f, "{name}"),
         }
     }
@@ -147,3 +148,5 @@ impl fmt::Display for Stop<'_> {
         }
     }
 }
+
+impl Error for Stop<'_> {}

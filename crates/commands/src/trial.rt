@@ -8,12 +8,11 @@ ghost use Rattle.commands.specs.Trial.{line_of};
 ghost use Rattle.commands.specs.Written.{Gains};
 
 use crate::files::write_outs;
-use crate::hex::Hex;
 use crate::stop::{Status, Stop};
 use crate::store::Store;
 use crate::why::Why;
 use job_file::RunParam;
-use region_mem::{Args, Fault};
+use region_mem::{Args, Digits, Fault};
 use sandbox_run::Final;
 use std::io;
 use std::io::Write;
@@ -64,7 +63,7 @@ impl Trial {
             End::Ended => writeln!(output, "ended: {steps} steps")?,
             End::Trapped(fault) => {
                 let name = fault.name();
-                let at = Hex(fault.number());
+                let at = Digits(u64::from(fault.number()));
                 writeln!(output, "trapped: {name} {at} after {steps} steps")?;
             }
             End::OutOfSteps => writeln!(output, "out of steps: {steps}")?,

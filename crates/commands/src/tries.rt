@@ -1,5 +1,5 @@
 //! `try`: a job on any image, with every test at each step.
-ghost use Rattle.std.specs.Prelude.{◌≡◌, MatchResult, map};
+ghost use Rattle.std.specs.Prelude.{◌≡◌, [], MatchResult, Option, map};
 ghost use Rattle.job_file.specs.Needs.{run_param_lent, try_job_lent, try_param_lent};
 ghost use Rattle.toml.specs.View.{table_view};
 ghost use Rattle.vreg_groups.specs.VectorLength.{IsVlenb};
@@ -8,15 +8,16 @@ ghost use Rattle.commands.specs.Files.{OfTable, StopsOfTable};
 ghost use Rattle.commands.specs.Trial.{OrMemory};
 ghost use Rattle.commands.specs.Tries.{StopsTry, Tries, param_for, params_for, passed_by};
 ghost use Rattle.commands.specs.Tries.{passed_size, run_of, trial_of};
-ghost use Rattle.commands.specs.Written.{Gains};
+ghost use Rattle.commands.specs.Written.{Gains, Written};
 
-use crate::files::{read_args, read_image, read_table};
-use crate::stop::{Ending, Status, Stop, told};
+use crate::files::{read_args, read_image};
+use crate::starts::on_table;
+use crate::stop::{Ending, Status, Stop};
 use crate::store::Store;
 use crate::trial::{End, Trial, finish, trial_at};
-use crate::why::{Missing, Why, note_trap};
+use crate::why::{Missing, Why, note_argument, note_trap};
 use elf_image::Image;
-use explanations::{Command, open_reason};
+use explanations::Command;
 use job_file::{JobError, RunParam, TryJob, TryParam, try_job_in};
 use region_mem::{Arg, Args, Param, Parameters};
 use sandbox_run::{Outcome, try_run};
@@ -48,17 +49,11 @@ pub fn try_job<S: Store, O: Write, E: Write>(
         (StopsTry S.files (Gains (S.written store.old) (S.written store.new))))
         (E.contents errors.old) (E.contents errors.new) result }
 {
-    let mut why = Why::new(alloc, explain);
-    match read_table(alloc, path, Command::Try, store, &mut why) {
-        Ok(table) => {
-            let done = try_table(alloc, &table, store, output, &mut why);
-            told(done, why.lines_if(explain), errors)
-        }
-        Err(stop) => told(Err(stop), why.lines_if(explain), errors),
-    }
+    on_table!(alloc, path, Command::Try, explain, store, errors; table, why =>
+        try_table(alloc, table, store, output, why))
 }
 
-/// `try` on a job's table.
+/// `try` on a job's table. No file was written since those of `first`.
 fn try_table<'a, S: Store, O: Write>(
     alloc: Global,
     table: &'a Table,
@@ -66,12 +61,10 @@ fn try_table<'a, S: Store, O: Write>(
     output: &mut O,
     why: &mut Why,
 ) -> Result<Status, Stop<'a>>
-    ensures { MatchResult result
+    ensures { (first : Option Written) → Gains first (S.written store.old) [] → MatchResult result
         (Tries S.files (table_view table.entry.now)
-        (O.contents output.old) (O.contents output.new)
-        (S.written store.old) (S.written store.new))
-        (StopsTry S.files (Gains (S.written store.old) (S.written store.new))
-        (table_view table.entry.now)) }
+        (O.contents output.old) (O.contents output.new) first (S.written store.new))
+        (StopsTry S.files (Gains first (S.written store.new)) (table_view table.entry.now)) }
 {
     let job = try_job_in(table).ok_or(JobError::BadKey)?;
     why.forget();
@@ -159,12 +152,12 @@ fn run<'a, const VLENB: usize>(
     match try_run::<VLENB>(alloc, image, parameters, args, agnostic, max) {
         Ok(Outcome::Ended(last)) => Ok(trial_at(End::Ended, last)),
         Ok(Outcome::Trapped(fault, last)) => {
-            note_trap(alloc, image, last.registers.pc, why);
+            note_trap(alloc, image, fault, last.registers.pc, why);
             Ok(trial_at(End::Trapped(fault), last))
         }
         Ok(Outcome::OutOfSteps(last)) => Ok(trial_at(End::OutOfSteps, last)),
         Err((error, args)) => {
-            why.note(&open_reason(parameters, &args, 0, max, error));
+            note_argument(parameters, &args, 0, max, error, why);
             Err(Stop::from(error))
         }
     }

@@ -2,14 +2,15 @@
 ghost use Rattle.std.specs.Prelude.{◌≡◌, [], false};
 ghost use Rattle.commands.specs.Why.{Notes};
 
-use block_checker::Accepted;
+use block_checker::{Accepted, CheckError};
 use cert_maker::MakeError;
 use cert_note::{CertError, Certificate};
-use elf_image::Image;
+use elf_image::{ElfError, Image};
 use explanations::{
-    Command, certificate_reason, check_reason, job_reason, open_reason, word_reason,
+    Command, Refusal, attach_reason, certificate_reason, check_reason, image_reason, job_reason,
+    open_reason, word_reason,
 };
-use region_mem::{Arg, Args};
+use region_mem::{Arg, Args, Fault, Parameters};
 use rv_listing::{Over, put_listing};
 use sandbox_run::OpenError;
 use std::alloc::Global;
@@ -99,8 +100,8 @@ impl fmt::Display for Trap<'_> {
     }
 }
 
-/// Notes where a run of an image met a fault.
-pub fn note_trap(alloc: Global, image: &Image, pc: u32, why: &mut Why)
+/// Notes which fault a run of an image met, and where.
+pub fn note_trap(alloc: Global, image: &Image, fault: Fault, pc: u32, why: &mut Why)
     ensures { Notes why.old why.new }
 {
     let mut listing = Over::new(Vec::new(alloc));
@@ -109,7 +110,11 @@ pub fn note_trap(alloc: Global, image: &Image, pc: u32, why: &mut Why)
     }
     let listing = listing.into_inner();
     let listing = std::str::from_utf8(listing.as_slice()).unwrap_or("");
-    why.note(&Trap { pc, listing });
+    let reason = Trap { pc, listing };
+    why.note(&Refusal {
+        error: fault,
+        reason,
+    });
 }
 
 /// What is wanted and is not there.
@@ -140,13 +145,33 @@ impl fmt::Display for Missing {
     }
 }
 
-/// Notes why bytes are no certificate.
+/// Notes why a file is no image. Nothing is told where memory ran out.
+pub fn note_image(file: &[u8], error: ElfError, why: &mut Why)
+    ensures { Notes why.old why.new }
+{
+    if why.is_asked() && error != ElfError::NoMemory {
+        let reason = image_reason(file, error);
+        why.note(&Refusal { error, reason });
+    }
+}
+
+/// Notes why no certificate is attached to an image. Nothing is told where memory ran out.
+pub fn note_attach(file: &[u8], image: &Image, size: usize, error: ElfError, why: &mut Why)
+    ensures { Notes why.old why.new }
+{
+    if why.is_asked() && error != ElfError::NoMemory {
+        let reason = attach_reason(file, image, size, error);
+        why.note(&Refusal { error, reason });
+    }
+}
+
+/// Notes why bytes are no certificate. Nothing is told where memory ran out.
 pub fn note_certificate(alloc: Global, bytes: &[u8], error: CertError, why: &mut Why)
     ensures { Notes why.old why.new }
 {
-    if why.is_asked() {
+    if why.is_asked() && error != CertError::NoMemory {
         if let Ok(reason) = certificate_reason(alloc, bytes, error) {
-            why.note(&reason);
+            why.note(&Refusal { error, reason });
         }
     }
 }
@@ -157,13 +182,14 @@ pub fn note_check(
     image: &Image,
     certificate: &Certificate,
     vlen: Vlen,
+    error: CheckError,
     why: &mut Why,
 )
     ensures { Notes why.old why.new }
 {
     if why.is_asked() {
         if let Ok(Some(reason)) = check_reason(alloc, image, certificate, vlen) {
-            why.note(&reason);
+            why.note(&Refusal { error, reason });
         }
     }
 }
@@ -186,7 +212,7 @@ pub fn note_misfit(alloc: Global, image: &Image, error: MakeError, why: &mut Why
     if why.is_asked() {
         if let Some(pc) = error.address() {
             if let Ok(reason) = word_reason(alloc, image, pc) {
-                why.note(&reason);
+                why.note(&Refusal { error, reason });
             }
         }
     }
@@ -200,6 +226,23 @@ fn scalar_of(arg: &Arg) -> u32 {
     }
 }
 
+/// Notes why a run is not opened: of the arguments or of the bound. Nothing is told where memory ran out.
+pub fn note_argument(
+    parameters: &Parameters,
+    args: &Args,
+    bound: u128,
+    max: u64,
+    error: OpenError,
+    why: &mut Why,
+)
+    ensures { Notes why.old why.new }
+{
+    if why.is_asked() && error != OpenError::NoMemory {
+        let reason = open_reason(parameters, args, bound, max, error);
+        why.note(&Refusal { error, reason });
+    }
+}
+
 /// Notes why no run of an accepted image is opened.
 pub fn note_open(accepted: &Accepted, args: &Args, max: u64, error: OpenError, why: &mut Why)
     ensures { Notes why.old why.new }
@@ -210,6 +253,6 @@ pub fn note_open(accepted: &Accepted, args: &Args, max: u64, error: OpenError, w
             scalars[place] = scalar_of(&args.places[place]);
         }
         let bound = accepted.bound(&scalars);
-        why.note(&open_reason(accepted.parameters(), args, bound, max, error));
+        note_argument(accepted.parameters(), args, bound, max, error, why);
     }
 }

@@ -103,7 +103,8 @@ const FIVE: &str = "@at 260 05\n";
 const SIX: &str = "@at 260 06\n";
 
 /// What is told of a budget that is one too small for the four words up to the exit.
-const BUDGET: &str = "  stopped in the block at 0x00010000
+const BUDGET: &str = "  a budget is not proved at 0001000c
+  stopped in the block at 0x00010000
   at 0x0001000c: 0x00008067
   that is jalr rd=0 rs1=1 imm=0
   wanted: a budget for these words and the block entered
@@ -157,9 +158,11 @@ fn tells_no_more_where_memory_runs_out(rt: HostRuntime) {
 #[test]
 fn explains_files_that_are_no_image(rt: HostRuntime) {
     let short = "@file kernel.elf\n@hex 7f454c46\n";
-    let short_told = "  size of the file: 4\n  wanted: at least 52, an ELF header\n";
+    let short_told = "  the file is shorter than an ELF header\n  size of the file: 4\n  \
+        wanted: at least 52, an ELF header\n";
     let machine = "@file kernel.elf\n@code 00008067\n@at 18 3e\n";
-    let machine_told = "  e_machine at byte 18 of the file: 62 (0x0000003e)\n  \
+    let machine_told =
+        "  the file is not for RISC-V\n  e_machine at byte 18 of the file: 62 (0x0000003e)\n  \
         wanted: 243, RISC-V\n  remedy: compile with --target=riscv32\n";
     for (image, commands, lines) in [
         ("", CHECK_RUN_TRY_MON, NONE),
@@ -174,7 +177,8 @@ fn explains_files_that_are_no_image(rt: HostRuntime) {
 fn explains_certificates(rt: HostRuntime) {
     let bare = "@file kernel.elf\n@code 00008067\n";
     let bare_told = "  wanted: a certificate in a note of the image, as `make` writes it\n";
-    let short_told = "  reading stopped behind byte 3 of 3\n  wanted: more bytes\n";
+    let short_told = "  the certificate is cut off\n  reading stopped behind byte 3 of 3\n  \
+        wanted: more bytes\n";
     for (image, certificate, change, lines) in [
         (bare, "", "", bare_told),
         (IMAGE, "", SHORT, short_told),
@@ -203,7 +207,8 @@ fn explains_jobs(rt: HostRuntime) {
 #[test]
 fn explains_lengths(rt: HostRuntime) {
     let keys = "vlen = 256\nagnostic = \"keep\"\nmax = 5\n";
-    let lines = "  stated: VLEN 128\n  wanted: VLEN 256\n";
+    let lines = "  the certificate is for another vector length\n  stated: VLEN 128\n  \
+        wanted: VLEN 256\n";
     let files = [JOB, keys, IMAGE, CERTIFICATE];
     explained(rt, rt.alloc(), &files, RUN_MON, lines);
 }
@@ -215,23 +220,26 @@ fn explains_arguments(rt: HostRuntime) {
         ("[[param]]\nkind = \"buffer\"\nfile = \"none\"\n", NONE),
         (
             "[[param]]\nkind = \"buffer\"\nfile = \"eight\"\n",
-            "  wanted at place 1: a number in 0..=9\n  passed: nothing\n",
+            "  the argument at place 1 is of the wrong kind\n  \
+             wanted at place 1: a number in 0..=9\n  passed: nothing\n",
         ),
         (
             "[[param]]\nkind = \"buffer\"\nfile = \"seven\"\n\
              [[param]]\nkind = \"scalar\"\nvalue = 5\n",
-            "  wanted at place 0: a buffer of 8 bytes to read and write\n  \
+            "  the buffer at place 0 is of the wrong size\n  \
+             wanted at place 0: a buffer of 8 bytes to read and write\n  \
              passed: a buffer of 7 bytes\n",
         ),
         (
             "[[param]]\nkind = \"buffer\"\nfile = \"eight\"\n\
              [[param]]\nkind = \"scalar\"\nvalue = 10\n",
-            "  wanted at place 1: a number in 0..=9\n  passed: the number 10\n",
+            "  the scalar at place 1 is outside its interval\n  \
+             wanted at place 1: a number in 0..=9\n  passed: the number 10\n",
         ),
         (
             "[[param]]\nkind = \"buffer\"\nfile = \"eight\"\n\
              [[param]]\nkind = \"scalar\"\nvalue = 5\n",
-            "  bound of the run: 6\n  wanted: at most 5\n",
+            "  the run may take too many steps\n  bound of the run: 6\n  wanted: at most 5\n",
         ),
     ] {
         let files = [JOB, KEYS, params, buffers, IMAGE, CERTIFICATE, SIX];
@@ -245,7 +253,11 @@ fn explains_traps(rt: HostRuntime) {
     let buffer = "[[param]]\nkind = \"buffer\"\nmode = \"r\"\nfile = \"large\"\n";
     let wanted = "  wanted: for each buffer a file of at most 16777216 bytes\n";
     for (params, large, lines) in [
-        ("", "", "  pc 00010000: illegal\n"),
+        (
+            "",
+            "",
+            "  illegal instruction 00000000\n  pc 00010000: illegal\n",
+        ),
         (buffer, "", NONE),
         (buffer, "@file large\n@zeros 16777217\n", wanted),
     ] {
@@ -313,22 +325,24 @@ fn explains_words_that_do_not_fit(rt: HostRuntime) {
     for (change, lines) in [
         (
             "@at 84 13000000\n",
-            "  at 0x00010000: 0x00000013\n  that is addi rd=0 rs1=0 imm=0\n  \
+            "  no loop of the class at 00010000\n  \
+             at 0x00010000: 0x00000013\n  that is addi rd=0 rs1=0 imm=0\n  \
              wanted: beqz n,end, where n is a scalar: row 1 of a plain loop (docs/MAKE.md)\n",
         ),
         (
             "@at 88 00000000\n",
-            "  at 0x00010004: 0x00000000\n  that is illegal\n  \
+            "  no loop of the class at 00010004\n  at 0x00010004: 0x00000000\n  that is illegal\n  \
              wanted: vsetvli t,n: row 2 of a plain loop (docs/MAKE.md)\n",
         ),
         (
             "@at 120 13000000\n",
-            "  at 0x00010024: 0x00000013\n  that is addi rd=0 rs1=0 imm=0\n  wanted: \
+            "  no loop of the class at 00010024\n  \
+             at 0x00010024: 0x00000013\n  that is addi rd=0 rs1=0 imm=0\n  wanted: \
              what goes on with these words: rows 3 to 8 of a plain loop (docs/MAKE.md)\n",
         ),
         (
             "@file kernel.elf\n@code 02058263 0d05f2d7\n",
-            "  at 0x00010008: no word\n  wanted: \
+            "  no loop of the class at 00010008\n  at 0x00010008: no word\n  wanted: \
              what goes on with these words: rows 3 to 8 of a plain loop (docs/MAKE.md)\n",
         ),
     ] {
@@ -355,7 +369,8 @@ fn explains_jobs_of_make(rt: HostRuntime) {
         (
             "[[param]]\nkind = \"buffer\"\nmode = \"rw\"\nsize = 4095\n\
              [[param]]\nkind = \"scalar\"\nlo = 0\nhi = 1024\n",
-            "  at 0x00010008: 0x02056407\n  that is vle32.v vd=8 rs1=10 vm=1\n  wanted: \
+            "  no loop of the class at 00010008\n  \
+             at 0x00010008: 0x02056407\n  that is vle32.v vd=8 rs1=10 vm=1\n  wanted: \
              what goes on with these words: rows 3 to 8 of a plain loop (docs/MAKE.md)\n",
         ),
     ] {
@@ -366,13 +381,17 @@ fn explains_jobs_of_make(rt: HostRuntime) {
 
 #[test]
 fn explains_images_of_make(rt: HostRuntime) {
-    let none = "  e_entry at byte 24 of the file: 65536 (0x00010000)\n  \
+    let none =
+        "  the entry is not in code\n  e_entry at byte 24 of the file: 65536 (0x00010000)\n  \
         wanted: a multiple of 4 in a segment that can be executed\n";
-    let there = "  there: a certificate of 261 bytes\n  wanted: an image with no certificate\n";
-    let large = "  size of the file: 4194304\n  size of the certificate: 261\n  \
+    let there = "  the file has a certificate already\n  there: a certificate of 261 bytes\n  \
+        wanted: an image with no certificate\n";
+    let large = "  the file or its memory is too large\n  \
+         size of the file: 4194304\n  size of the certificate: 261\n  \
         program headers: 1\n  \
         wanted: at most 63, and at most 4194304 bytes with one more and the certificate\n";
-    let illegal = "  stopped in the block at 0x00010004\n  at 0x00010014: 0x00229374\n  \
+    let illegal = "  no legal instruction at 00010014\n  \
+         stopped in the block at 0x00010004\n  at 0x00010014: 0x00229374\n  \
         that is illegal\n  wanted: an instruction that is legal there\n";
     for (image, change, lines) in [
         ("@file kernel.elf\n@code\n", "", none),

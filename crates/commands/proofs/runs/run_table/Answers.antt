@@ -1,47 +1,40 @@
-use Rattle.std.proofs.Common.{rules, ◌≡◌, [], Some, inl, inr}
+use Rattle.std.proofs.Common.{[], inl, refl}
 use Rattle.std.proofs.lemmas.Result.{err_from_is_err_and}
-use Rattle.job_file.specs.Needs.{run_job_in, run_job_lent}
-use Rattle.toml.specs.View.{table_view}
-use Rattle.commands.specs.Accepted.{accepted_of}
-use Rattle.commands.proofs.CommandLemmas.{ran, unasked, want_ok}
-use Rattle.commands.proofs.WrittenLemmas.{gains_more, gains_none}
+use Rattle.job_file.specs.Needs.{run_job_lent}
+use Rattle.commands.specs.Runs.{StopsRan, run_of_job}
+use Rattle.commands.specs.Written.{Gains}
+use Rattle.commands.proofs.CommandLemmas.{finished, stops_started, unstarted}
+use Rattle.commands.proofs.WrittenLemmas.{gains_more}
 use Rattle.commands.proofs.runs.run_table.Goals as goal
 
 pub returns-in_err-job : goal.returns-in_err-job
-returns-in_err-job g c =
+returns-in_err-job g c first none =
+    let wrote = Gains first (g.S.Store.written c.started.new.store) in
     let p = err_from_is_err_and c.from_residual.result c.from_residual.ensures.1 in
-    rw p.1 (inl (unasked run_job_lent _ _ c.ok_or.result _ _ c.run_job_in.ensures c.ok_or.ensures.value (search rules) p.2, gains_none _))
-
-pub returns-in_err-image : goal.returns-in_err-image
-returns-in_err-image g c =
-    let asked : run_job_in (table_view c.args.table.now) ≡ Some (run_job_lent c.in_ok-job.job) = search rules in
-    let p = err_from_is_err_and c.from_residual-in_err-image.result c.from_residual-in_err-image.ensures.1 in
-    rw (p.1, p.2) (inr (run_job_lent c.in_ok-job.job, asked, inl (c.in_err-image.ensures.image, c.in_err-image.ensures.files)))
-
-pub returns-in_err-accepted : goal.returns-in_err-accepted
-returns-in_err-accepted g c =
-    let asked : run_job_in (table_view c.args.table.now) ≡ Some (run_job_lent c.in_ok-job.job) = search rules in
-    let p = err_from_is_err_and c.from_residual-in_err-accepted.result c.from_residual-in_err-accepted.ensures.1 in
-    rw (p.1, p.2) (inr (run_job_lent c.in_ok-job.job, asked, inr (c.in_ok-image.image, c.in_ok-image.ensures.image, inl (c.in_err-accepted.ensures.answer, c.in_ok-image.ensures.files))))
-
-pub returns-in_err-args : goal.returns-in_err-args
-returns-in_err-args g c =
-    let asked : run_job_in (table_view c.args.table.now) ≡ Some (run_job_lent c.in_ok-job.job) = search rules in
-    let passes = want_ok (accepted_of (Some c.in_ok-job.job.vlen) c.in_ok-image.image) c.in_ok-accepted.accepted c.in_ok-accepted.ensures.answer in
-    let p = err_from_is_err_and c.from_residual-in_err-args.result c.from_residual-in_err-args.ensures.1 in
-    rw (p.1, p.2) (inr (run_job_lent c.in_ok-job.job, asked, inr (c.in_ok-image.image, c.in_ok-image.ensures.image, inr (c.in_ok-accepted.accepted, passes, inl (c.in_err-args.ensures.passed, gains_more _ _ _ [] [] c.in_ok-image.ensures.files c.in_err-args.ensures.files)))))
+    rw (p.1, p.2) (unstarted g.S.Store.files wrote (StopsRan g.S.Store.files wrote) _ _ c.in_err-job.ensures.start (gains_more _ _ _ [] [] none c.in_err-job.ensures.files))
 
 pub returns-in_err-trial : goal.returns-in_err-trial
-returns-in_err-trial g c =
-    let asked : run_job_in (table_view c.args.table.now) ≡ Some (run_job_lent c.in_ok-job.job) = search rules in
-    let passes = want_ok (accepted_of (Some c.in_ok-job.job.vlen) c.in_ok-image.image) c.in_ok-accepted.accepted c.in_ok-accepted.ensures.answer in
+returns-in_err-trial g c first none =
+    let wrote = Gains first (g.S.Store.written c.started.new.store) in
     let p = err_from_is_err_and c.from_residual-in_err-trial.result c.from_residual-in_err-trial.ensures.1 in
-    rw (p.1, p.2) (inr (run_job_lent c.in_ok-job.job, asked, inr (c.in_ok-image.image, c.in_ok-image.ensures.image, inr (c.in_ok-accepted.accepted, passes, inr (c.in_ok-args.args.places, c.in_ok-args.ensures.passed, inl (c.in_err-trial.ensures.answer, gains_more _ _ _ [] [] c.in_ok-image.ensures.files c.in_ok-args.ensures.files))))))
+    rw (p.1, p.2) (stops_started g.S.Store.files wrote (StopsRan g.S.Store.files wrote) _ _ _ _ _ c.in_ok-job.ensures.start (inl (c.in_err-trial.ensures.answer, gains_more _ _ _ [] [] none c.in_ok-job.ensures.files)))
 
 pub returns : goal.returns
-returns g c =
-    let asked : run_job_in (table_view c.args.table.now) ≡ Some (run_job_lent c.in_ok-job.job) = search rules in
-    let kept = gains_more _ _ _ [] [] c.in_ok-image.ensures.files c.in_ok-args.ensures.files in
-    ran g.S.Store.files (table_view c.args.table.now) _ _ _ _ _ c.finish.result (run_job_lent c.in_ok-job.job) c.in_ok-image.image c.in_ok-accepted.accepted c.in_ok-args.args.places c.in_ok-trial.trial
-    asked c.in_ok-image.ensures.image c.in_ok-accepted.ensures.answer c.in_ok-args.ensures.passed c.in_ok-trial.ensures.answer kept
-    c.finish.ensures.done c.finish.ensures.told c.finish.ensures.wrote c.finish.ensures.unfinished
+returns g c first none =
+    let s = c.in_ok-job.field-0 in
+    let job = run_job_lent s.job in
+    let wrote = Gains first (g.S.Store.written c.finish.new.store) in
+    finished g.S.Store.files _ _ first _ _ _ job.params (run_of_job job s.accepted s.args.places) c.in_ok-trial.trial c.finish.result _ _ refl c.in_ok-trial.ensures.answer
+    (gains_more _ _ _ [] [] none c.in_ok-job.ensures.files) c.finish.ensures.done c.finish.ensures.told c.finish.ensures.wrote c.finish.ensures.unfinished
+    (λ status comes outs told done. record {
+      job = job;
+      accepted = s.accepted;
+      args = s.args.places;
+      started = c.in_ok-job.ensures.start;
+      trial = c.in_ok-trial.trial;
+      comes = comes;
+      wrote = outs;
+      told = told;
+      done = done;
+    })
+    (λ reason. stops_started g.S.Store.files wrote (StopsRan g.S.Store.files wrote) _ _ _ _ _ c.in_ok-job.ensures.start)

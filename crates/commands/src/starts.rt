@@ -1,0 +1,72 @@
+//! What subcommands on a job begin with: its table, and, for `run` and `mon`, its image, accepted.
+ghost use Rattle.std.specs.Prelude.{[], MatchResult};
+ghost use Rattle.job_file.specs.Needs.{run_job_lent};
+ghost use Rattle.toml.specs.View.{table_view};
+ghost use Rattle.commands.specs.Starts.{IsStarted, IsUnstarted};
+ghost use Rattle.commands.specs.Written.{Gains};
+
+use crate::accepted::accept;
+use crate::files::{read_args, read_image};
+use crate::stop::Stop;
+use crate::store::Store;
+use crate::why::Why;
+use block_checker::Accepted;
+use job_file::{JobError, RunJob, run_job_in};
+use region_mem::Args;
+use std::alloc::Global;
+use toml::Table;
+
+/// Reads the table of the job at `$path`, for a command, does `$work` on it, and tells how it ended.
+macro_rules! on_table {
+    (
+        $alloc:ident, $path:expr, $command:expr, $explain:ident, $store:ident, $errors:ident;
+        $table:ident, $why:ident => $work:expr
+    ) => {{
+        let mut why = $crate::why::Why::new($alloc, $explain);
+        let $why = &mut why;
+        match $crate::files::read_table($alloc, $path, $command, $store, $why) {
+            Ok(table) => {
+                let $table = &table;
+                let done = $work;
+                $crate::stop::told(done, why.lines_if($explain), $errors)
+            }
+            Err(stop) => $crate::stop::told(Err(stop), why.lines_if($explain), $errors),
+        }
+    }};
+}
+
+pub(crate) use on_table;
+
+/// A job on an image that is accepted, and what it passes.
+#[derive(Drop)]
+pub struct Start<'a> {
+    pub job: RunJob<&'a str>,
+    pub accepted: Accepted,
+    pub args: Args,
+}
+
+/// The job that a table asks for, its image, accepted at its length of vector registers, and what
+/// it passes.
+pub fn started<'a, S: Store>(
+    alloc: Global,
+    table: &'a Table,
+    store: &mut S,
+    why: &mut Why,
+) -> Result<Start<'a>, Stop<'a>>
+    ensures start { MatchResult result
+        (λ start. IsStarted S.files (table_view table.entry.now) (run_job_lent start.job)
+        start.accepted start.args.places)
+        (IsUnstarted S.files (table_view table.entry.now)) }
+    ensures files { Gains (S.written store.old) (S.written store.new) [] }
+{
+    let job = run_job_in(table).ok_or(JobError::BadKey)?;
+    why.forget();
+    let image = read_image(alloc, job.image, store, why)?;
+    let accepted = accept(alloc, image, Some(job.vlen), why)?;
+    let args = read_args(alloc, &job.params, store, why)?;
+    Ok(Start {
+        job,
+        accepted,
+        args,
+    })
+}
