@@ -1,6 +1,7 @@
-//! The assertions of the tests. They have no clause, so that no proof looks into what is compared: the run compares it.
-//! They take their values and not references to them, since a proof pays for each loan that a test makes. What a call gives
-//! is asserted to be there: behind each `?` a proof would let go of all that the test holds.
+//! The assertions of the tests. They have no clause, so that no proof looks into what is compared:
+//! the run compares it. They take their values and not references to them, since a proof pays for
+//! each loan that a test makes. What a call gives is asserted to be there: behind each `?` a proof
+//! would let go of all that the test holds.
 use std::fmt::Debug;
 use std::process::Abort;
 
@@ -35,6 +36,12 @@ pub(crate) fn some_of<T>(rt: impl Abort + Copy, call: &str, answer: Option<T>) -
         Some(value) => value,
         None => panic!(rt; "{call} gives nothing"),
     }
+}
+
+/// A value as it is, of which a proof knows nothing: what it would know of a call's answer it pays
+/// for at each arm of a `match`.
+pub(crate) fn opaque<T>(value: T) -> T {
+    value
 }
 
 /// What a call gives that may be refused.

@@ -1,94 +1,119 @@
-//! What is accepted and what is refused. The kernel sums n bytes.
-use crate::assertions::{assert_same, given};
-use crate::kernels::{HEADERS, SUM, SUM_CERTIFICATE};
-use block_checker::{Accepted, CheckError, check};
-use cert_note::{Certificate, Vlen};
-use elf_image::Image;
-use hex::decode;
+//! What is accepted and what is refused.
+use crate::assertions::{assert_same, given, opaque};
+use crate::kernels::{Kernel, ORDER, RAISE, RAISE_IF, STORE, SUM, accepted, changed, image_of};
+use block_checker::{CheckError, check};
+use cert_note::Vlen;
 use std::alloc::Global;
 use std::process::Abort;
 
-/// sb t0,0(a0)
-pub(crate) const STORE: u32 = 0x0055_0023;
-
-/// A file with these words at 0x10000, which is its entry.
-pub(crate) fn file_of(rt: impl Abort + Copy, alloc: Global, words: &[u32]) -> Vec<u8> {
-    let size = words.len().min(8000) as u32 * 4;
-    let mut file = given!(rt; decode(alloc, HEADERS));
-    for word in [size, size, 5, 4].iter().chain(words) {
-        given!(rt; file.extend_from_slice(&word.to_le_bytes()));
-    }
-    file
-}
-
-/// The image of that file.
-pub(crate) fn image_of(rt: impl Abort + Copy, alloc: Global, words: &[u32]) -> Image {
-    let file = file_of(rt, alloc, words);
-    given!(rt; elf_image::read(alloc, &file))
-}
-
-pub(crate) fn certificate(rt: impl Abort + Copy, alloc: Global) -> Certificate {
-    given!(rt; cert_note::read(alloc, &SUM_CERTIFICATE))
-}
-
-/// The kernel and its certificate.
-pub(crate) fn sum(rt: impl Abort + Copy, alloc: Global) -> (Image, Certificate) {
-    (image_of(rt, alloc, &SUM), certificate(rt, alloc))
-}
-
-/// The kernel, accepted with its certificate.
-pub(crate) fn accepted_sum(rt: impl Abort + Copy, alloc: Global) -> Accepted {
-    let (image, certificate) = sum(rt, alloc);
-    given!(rt; check(alloc, image, certificate, Vlen::V128))
-}
-
-#[test]
-fn accepts_the_sum(rt: HostRuntime) {
-    let accepted = accepted_sum(rt, rt.alloc());
-    assert_same!(rt; accepted.bound(&[0, 0, 0, 0, 0, 0, 0, 0]), 2);
-    assert_same!(rt; accepted.bound(&[7, 1024, 7, 7, 7, 7, 7, 7]), 5122);
-    assert_same!(rt; accepted.vlen(), Vlen::V128);
-    assert_same!(rt; accepted.image().entry(), 0x1_0000);
-    assert_same!(rt; accepted.certificate().contents().blocks.len(), 3);
-}
-
-/// Why the check refuses these, which it hands back.
-pub(crate) fn refused(
+/// Asserts the bound of a kernel that is accepted for a length of vector registers, where these
+/// numbers are passed.
+fn assert_bound(
     rt: impl Abort + Copy,
     alloc: Global,
-    kernel: (Image, Certificate),
+    kernel: Kernel,
     vlen: Vlen,
-) -> (CheckError, Image, Certificate) {
-    let (image, certificate) = kernel;
-    match check(alloc, image, certificate, vlen) {
-        Ok(_) => panic!(rt; "accepted"),
-        Err(refused) => refused,
+    numbers: [u32; 8],
+    bound: u128,
+) {
+    let accepted = accepted(rt, alloc, kernel, vlen);
+    assert_same!(rt; accepted.bound(&numbers), bound);
+    assert_same!(rt; accepted.vlen(), vlen);
+    assert_same!(rt; accepted.image().entry(), 0x1_0000);
+    assert_same!(rt; accepted.certificate().contents().blocks.len(), kernel.blocks);
+}
+
+/// The sum of bytes, the loop over strips at each length, and the loop that branches.
+#[test]
+fn accepts_kernels(rt: HostRuntime) {
+    let some = [7, 1024, 7, 7, 7, 7, 7, 7];
+    for (kernel, vlen, numbers, bound) in [
+        (SUM, Vlen::V128, [0; 8], 2),
+        (SUM, Vlen::V128, some, 5122),
+        (RAISE, Vlen::V128, [0; 8], 2),
+        (RAISE, Vlen::V128, some, 8194),
+        (RAISE, Vlen::V256, [0; 8], 2),
+        (RAISE, Vlen::V256, some, 8194),
+        (RAISE, Vlen::V512, [0; 8], 2),
+        (RAISE, Vlen::V512, some, 8194),
+        (RAISE_IF, Vlen::V128, [0, 17, 1, 0, 0, 0, 0, 0], 141),
+        (RAISE_IF, Vlen::V128, [0; 8], 5),
+    ] {
+        assert_bound(rt, rt.alloc(), kernel, vlen, numbers, bound);
     }
 }
 
-#[test]
-fn refuses_a_store_in_place_of_the_load(rt: HostRuntime) {
-    let alloc = rt.alloc();
-    let mut words = SUM;
-    words[1] = STORE;
-    let kernel = (image_of(rt, alloc, &words), certificate(rt, alloc));
-    let (error, _, _) = refused(rt, alloc, kernel, Vlen::V128);
-    assert_same!(rt; error, CheckError::ReadOnly(0x1_0004));
+/// What is told of an error.
+#[derive(Clone, Copy)]
+struct Told {
+    error: CheckError,
+    name: &'static str,
+    address: Option<u32>,
+    text: &'static str,
 }
 
+fn assert_told(rt: impl Abort + Copy, alloc: Global, error: CheckError, told: Told) {
+    assert_same!(rt; error, told.error);
+    assert_same!(rt; error.name(), told.name);
+    assert_same!(rt; error.address(), told.address);
+    let text = given!(rt; format!(in alloc; "{error}"));
+    assert_same!(rt; text.as_str(), told.text);
+}
+
+/// Asserts why the check refuses a kernel, whose certificate has these bytes at `ORDER` where it is
+/// so long, and whether it accepts what it hands back at 128 bits.
+fn assert_refused(
+    rt: impl Abort + Copy,
+    alloc: Global,
+    kernel: Kernel,
+    order: &[u8],
+    vlen: Vlen,
+    told: Told,
+    is_accepted: bool,
+) {
+    let bytes = changed(rt, alloc, kernel.certificate, ORDER, order);
+    let certificate = given!(rt; cert_note::read(alloc, &bytes));
+    let image = image_of(rt, alloc, kernel.code);
+    match opaque(check(alloc, image, certificate, vlen)) {
+        Ok(_) => panic!(rt; "accepted"),
+        Err((error, image, certificate)) => {
+            assert_told(rt, alloc, error, told);
+            let again = check(alloc, image, certificate, Vlen::V128);
+            assert_same!(rt; again.is_ok(), is_accepted);
+        }
+    }
+}
+
+/// A store in place of a load.
 #[test]
-fn tells_an_error(rt: HostRuntime) {
-    let text = given!(rt; format!(in rt.alloc(); "{}", CheckError::ReadOnly(0x1_0004)));
-    assert_same!(rt; text.as_str(), "a store to read-only memory at 00010004");
-    assert_same!(rt; CheckError::ReadOnly(0x1_0004).name(), "ReadOnly");
-    assert_same!(rt; CheckError::ReadOnly(0x1_0004).address(), Some(0x1_0004));
-    assert_same!(rt; CheckError::WrongVlen.address(), None);
+fn refuses_a_store(rt: HostRuntime) {
+    let told = Told {
+        error: CheckError::ReadOnly(0x1_0004),
+        name: "ReadOnly",
+        address: Some(0x1_0004),
+        text: "a store to read-only memory at 00010004",
+    };
+    assert_refused(rt, rt.alloc(), STORE, &[], Vlen::V128, told, false);
 }
 
 #[test]
 fn refuses_another_vector_length(rt: HostRuntime) {
-    let alloc = rt.alloc();
-    let (error, image, certificate) = refused(rt, alloc, sum(rt, alloc), Vlen::V256);
-    assert_same!(rt; error, CheckError::WrongVlen);
-    assert_same!(rt; check(alloc, image, certificate, Vlen::V128).is_ok(), true);
+    let told = Told {
+        error: CheckError::WrongVlen,
+        name: "WrongVlen",
+        address: None,
+        text: "the certificate is for another vector length",
+    };
+    assert_refused(rt, rt.alloc(), SUM, &[], Vlen::V256, told, true);
+}
+
+#[test]
+fn refuses_an_order_turned_round(rt: HostRuntime) {
+    let told = Told {
+        error: CheckError::OrderNotProved(0x1_000c),
+        name: "OrderNotProved",
+        address: Some(0x1_000c),
+        text: "an order is not proved at 0001000c",
+    };
+    assert_refused(rt, rt.alloc(), RAISE_IF, &[32, 11], Vlen::V128, told, false);
 }

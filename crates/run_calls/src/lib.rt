@@ -1,5 +1,5 @@
-//! How certificates, the check and runs are used: tests of the public calls of `cert_note`, `block_checker` and `sandbox_run`,
-//! and of calls that are refused memory.
+//! How certificates, the check and runs are used: tests of the public calls of `cert_note`,
+//! `block_checker` and `sandbox_run`, and of calls that are refused memory.
 #![tactic(auto)]
 
 #[cfg(test)]
@@ -15,8 +15,6 @@ mod kernels;
 #[cfg(test)]
 mod monitoring;
 #[cfg(test)]
-mod orders;
-#[cfg(test)]
 mod readme;
 #[cfg(test)]
 mod refusing;
@@ -26,8 +24,6 @@ mod runs;
 mod sessions;
 #[cfg(test)]
 mod states;
-#[cfg(test)]
-mod strips;
 #[cfg(test)]
 mod want_of_memory;
 #[cfg(test)]

@@ -1,10 +1,11 @@
-//! What a monitor and a listing tell over a sink that fails: a run of the loop over strips, whose texts are cut at each of their bytes.
+//! What a monitor and a listing tell over a sink that fails: a run of the loop over strips, whose
+//! texts are cut at each of their bytes.
 
 ghost use Rattle.std.specs.Prelude.{◌≡◌, ◌≤◌, length};
 
 use crate::assertions::{assert_same, given};
+use crate::kernels::{RAISE, accepted};
 use crate::sessions::args;
-use crate::strips::accepted_raise;
 use block_checker::Accepted;
 use cert_note::Vlen;
 use monitor::{Flow, MonError, Monitor};
@@ -100,7 +101,8 @@ const STRIPS: [(&str, &str); 11] = [
     ("c", "ended step 26\n"),
 ];
 
-/// Gives the commands over a sink with so much room. Each is carried out; it fails where its text has no room.
+/// Gives the commands over a sink with so much room. Each is carried out; it fails where its text
+/// has no room.
 fn assert_cut(
     rt: impl Abort + Copy,
     monitor: &mut Monitor<'_, 16>,
@@ -134,12 +136,12 @@ fn assert_told(
 
 /// A run of the loop over nine words.
 fn opened(rt: impl Abort + Copy, alloc: Global, accepted: &Accepted) -> Session<16> {
-    let args = args(rt, alloc, 4096, 9);
+    let args = args(rt, alloc, Some(4096), 9, None);
     given!(rt; Session::<16>::open(alloc, accepted, args, Agnostic::Keep, 8194))
 }
 
-/// Asserts that the run stands at its end, with its breakpoint, where the texts had so much room, and that what was written
-/// is the beginning of the whole.
+/// Asserts that the run stands at its end, with its breakpoint, where the texts had so much room,
+/// and that what was written is the beginning of the whole.
 fn assert_whole_run(
     rt: impl Abort + Copy,
     alloc: Global,
@@ -161,7 +163,7 @@ fn assert_whole_run(
 #[test]
 fn a_failure_cuts_the_text_alone(rt: HostRuntime) {
     let alloc = rt.alloc();
-    let accepted = accepted_raise(rt, alloc, Vlen::V128);
+    let accepted = accepted(rt, alloc, RAISE, Vlen::V128);
     let mut whole = Vec::new(alloc);
     for (_, text) in STRIPS {
         given!(rt; whole.extend_from_slice(text.as_bytes()));

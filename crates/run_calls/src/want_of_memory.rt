@@ -1,14 +1,12 @@
-//! Calls on files and certificates of which each allocation fails in turn: the answer is want of memory there, and what is
-//! wrong with the bytes is told all the same.
+//! Calls on files and certificates of which each allocation fails in turn: the answer is want of
+//! memory there, and what is wrong with the bytes is told all the same.
 use crate::assertions::{assert_same, found, given};
-use crate::checks::file_of;
-use crate::kernels::SUM;
+use crate::kernels::{SUM, bytes_of, file_of, put};
 use crate::readme::RAISE;
 use crate::refusing::Refusing;
 use cert_maker::{MakeError, make_in};
 use cert_note::{CertError, Certificate, Vlen};
 use elf_image::{ElfError, Image, attach};
-use hex::decode;
 use region_mem::{Mode, Param, Parameters};
 use std::alloc::Global;
 use std::process::Abort;
@@ -19,9 +17,9 @@ pub(crate) type Heap<'a> = &'a Refusing<Global>;
 /// More allocations than any of these calls asks for.
 pub(crate) const MANY: u64 = 40;
 
-/// An executable file of three program headers. Code at 0x10000: vsetvli t0,a2,e8,m1,ta,ma; vle8.v v8,(a0); vle8.v
-/// v16,(a1); vadd.vv v8,v8,v16; vse8.v v8,(a0); ecall. Four bytes of data and twelve of zeros at 0x20000. A note with
-/// the certificate, which ends the file.
+/// An executable file of three program headers. Code at 0x10000: vsetvli t0,a2,e8,m1,ta,ma;
+/// vle8.v v8,(a0); vle8.v v16,(a1); vadd.vv v8,v8,v16; vse8.v v8,(a0); ecall. Four bytes of data
+/// and twelve of zeros at 0x20000. A note with the certificate, which ends the file.
 const FILE: &str = "\
 7f454c460101010000000000000000000200f30001000000000001003400000000000000000000003400200003000000\
 00000000010000009400000000000100000000001800000018000000050000000400000001000000ac00000000000200\
@@ -29,8 +27,8 @@ const FILE: &str = "\
 04000000d772060c0704050207880502570488022704050273000000deadbeef07000000a90000000100000052565642\
 4f580000";
 
-/// A certificate of one block, with two facts on registers, of which one is equal to a scalar, and one on a vector
-/// register.
+/// A certificate of one block, with two facts on registers, of which one is equal to a scalar, and
+/// one on a vector register.
 const CERTIFICATE: &str = "\
 010001000203000003000000000000000201000003000000000000000100000003000000030000000000000000000000\
 000000000000000000000000000000000000000000000000000000000000000000000000000000000000000000000000\
@@ -39,7 +37,7 @@ const CERTIFICATE: &str = "\
 
 /// That file, with the certificate.
 pub(crate) fn file(rt: impl Abort + Copy, alloc: Global) -> Vec<u8> {
-    let mut file = given!(rt; decode(alloc, FILE));
+    let mut file = bytes_of(rt, alloc, FILE);
     let certificate = certificate(rt, alloc);
     given!(rt; file.extend_from_slice(&certificate));
     file
@@ -47,44 +45,59 @@ pub(crate) fn file(rt: impl Abort + Copy, alloc: Global) -> Vec<u8> {
 
 /// The bytes of the certificate.
 fn certificate(rt: impl Abort + Copy, alloc: Global) -> Vec<u8> {
-    given!(rt; decode(alloc, CERTIFICATE))
+    bytes_of(rt, alloc, CERTIFICATE)
 }
 
-/// Asserts, where a call was answered, that no memory was refused, and that it took some.
-pub(crate) fn assert_served(rt: impl Abort + Copy, heap: Heap<'_>, after: u64) {
-    assert_same!(rt; (heap.has_refused(), after > 0), (false, true));
+/// What a call answers, with an allocator that serves so many allocations and refuses the next.
+/// Asserts that it has refused one where the answer is an error, and else none, and that some was
+/// served.
+pub(crate) fn served<T, E>(
+    rt: impl Abort + Copy,
+    heap: Heap<'_>,
+    after: u64,
+    answer: Result<T, E>,
+) -> Result<T, E> {
+    assert_same!(rt; (after, heap.has_refused()), (after, answer.is_err()));
+    assert_same!(rt; after == 0 && answer.is_ok(), false);
+    answer
 }
 
-/// Asserts, where a call tells want of memory, that some was refused.
-pub(crate) fn assert_wanting(rt: impl Abort + Copy, heap: Heap<'_>, after: u64) {
-    assert_same!(rt; (heap.has_refused(), after), (true, after));
+/// Asserts that the fault of a file is told before any memory is asked for.
+fn expect_unread(rt: impl Abort + Copy, heap: Heap<'_>, file: &[u8]) {
+    let refused = elf_image::read(heap, file).err();
+    assert_same!(rt; refused, Some(ElfError::BadFlags));
+    assert_same!(rt; heap.has_refused(), false);
 }
 
-/// Asserts that the file is read with this certificate, or that memory is wanting, and tells whether it is read. The other
-/// file's fault is told before any memory is asked for.
+/// Asserts that the file is read with this certificate, or that memory is wanting, and tells
+/// whether it is read.
 fn is_image_read(
     rt: impl Abort + Copy,
     heap: Heap<'_>,
     after: u64,
-    files: [&[u8]; 2],
+    file: &[u8],
     certificate: &[u8],
 ) -> bool {
-    let [good, bad] = files;
-    let refused = elf_image::read(heap, bad).err();
-    assert_same!(rt; refused, Some(ElfError::BadFlags));
-    assert_same!(rt; heap.has_refused(), false);
-    match elf_image::read(heap, good) {
+    match served(rt, heap, after, elf_image::read(heap, file)) {
         Ok(image) => {
-            assert_served(rt, heap, after);
             assert_same!(rt; image.segments().len(), 2);
             assert_same!(rt; image.certificate(), Some(certificate));
             true
         }
         Err(error) => {
-            assert_wanting(rt, heap, after);
             assert_same!(rt; error, ElfError::NoMemory);
             false
         }
+    }
+}
+
+/// A file with wrong flags, whichever allocation would be refused.
+#[test]
+fn reading_no_image(rt: HostRuntime) {
+    let mut bad = file(rt, rt.alloc());
+    put(rt, &mut bad, 36, &[1]);
+    for after in 0..MANY {
+        expect_unread(rt, &Refusing::new(rt.alloc(), after), &bad);
     }
 }
 
@@ -92,22 +105,19 @@ fn is_image_read(
 #[test]
 fn reading_an_image(rt: HostRuntime) {
     let alloc = rt.alloc();
-    let good = file(rt, alloc);
-    let mut bad = file(rt, alloc);
-    if let Some(flags) = bad.get_mut(36) {
-        *flags = 1;
-    }
+    let file = file(rt, alloc);
     let certificate = certificate(rt, alloc);
     for after in 0..MANY {
         let heap = Refusing::new(alloc, after);
-        if is_image_read(rt, &heap, after, [&good, &bad], &certificate) {
+        if is_image_read(rt, &heap, after, &file, &certificate) {
             return;
         }
     }
     panic!(rt; "memory is never enough")
 }
 
-/// Asserts that a file is given no certificate, for a reason that is told before any memory is asked for.
+/// Asserts that a file is given no certificate, for a reason that is told before any memory is
+/// asked for.
 fn expect_unattached(rt: impl Abort + Copy, heap: Heap<'_>, file: &[u8], fault: ElfError) {
     let refused = attach(heap, file, b"any").err();
     assert_same!(rt; refused, Some(fault));
@@ -121,8 +131,8 @@ fn assert_attached(rt: impl Abort + Copy, alloc: Global, file: &[u8], certificat
     assert_same!(rt; image.certificate(), Some(certificate));
 }
 
-/// Asserts that the file of the sum is given the certificate, or that memory is wanting and the file as it was, and tells
-/// whether it is given it.
+/// Asserts that the file of the sum is given the certificate, or that memory is wanting and the
+/// file as it was, and tells whether it is given it.
 fn is_attached(
     rt: impl Abort + Copy,
     alloc: Global,
@@ -131,16 +141,14 @@ fn is_attached(
     certificate: &[u8],
 ) -> bool {
     let heap = Refusing::new(alloc, after);
-    match attach(&heap, bare, certificate) {
+    match served(rt, &heap, after, attach(&heap, bare, certificate)) {
         Ok(attached) => {
-            assert_served(rt, &heap, after);
             assert_attached(rt, alloc, attached.as_slice(), certificate);
             true
         }
         Err(error) => {
-            assert_wanting(rt, &heap, after);
             assert_same!(rt; error, ElfError::NoMemory);
-            assert_same!(rt; bare, file_of(rt, alloc, &SUM).as_slice());
+            assert_same!(rt; bare, file_of(rt, alloc, SUM.code).as_slice());
             false
         }
     }
@@ -151,7 +159,7 @@ fn is_attached(
 fn attaching_nothing(rt: HostRuntime) {
     let alloc = rt.alloc();
     let certified = file(rt, alloc);
-    let mut large = file_of(rt, alloc, &SUM);
+    let mut large = file_of(rt, alloc, SUM.code);
     given!(rt; large.resize(4 << 20, 0));
     for after in 0..MANY {
         let heap = Refusing::new(alloc, after);
@@ -165,7 +173,7 @@ fn attaching_nothing(rt: HostRuntime) {
 #[test]
 fn attaching(rt: HostRuntime) {
     let alloc = rt.alloc();
-    let bare = file_of(rt, alloc, &SUM);
+    let bare = file_of(rt, alloc, SUM.code);
     let certificate = certificate(rt, alloc);
     for after in 0..MANY {
         if is_attached(rt, alloc, after, &bare, &certificate) {
@@ -178,15 +186,13 @@ fn attaching(rt: HostRuntime) {
 /// Asserts that the certificate is read, or that memory is wanting, and tells whether it is read.
 fn is_certificate_read(rt: impl Abort + Copy, alloc: Global, after: u64, spelling: &[u8]) -> bool {
     let heap = Refusing::new(alloc, after);
-    match cert_note::read(&heap, spelling) {
+    match served(rt, &heap, after, cert_note::read(&heap, spelling)) {
         Ok(certificate) => {
-            assert_served(rt, &heap, after);
             let written = given!(rt; cert_note::write(alloc, &certificate));
             assert_same!(rt; written.as_slice(), spelling);
             true
         }
         Err(error) => {
-            assert_wanting(rt, &heap, after);
             assert_same!(rt; error, CertError::NoMemory);
             false
         }
@@ -206,7 +212,8 @@ fn reading_a_certificate(rt: HostRuntime) {
     panic!(rt; "memory is never enough")
 }
 
-/// Asserts that the certificate is written so, or that memory is wanting, and tells whether it is written.
+/// Asserts that the certificate is written so, or that memory is wanting, and tells whether it is
+/// written.
 fn is_written(
     rt: impl Abort + Copy,
     alloc: Global,
@@ -215,16 +222,12 @@ fn is_written(
     spelling: &[u8],
 ) -> bool {
     let heap = Refusing::new(alloc, after);
-    match cert_note::write(&heap, certificate) {
+    match served(rt, &heap, after, cert_note::write(&heap, certificate)) {
         Ok(written) => {
-            assert_served(rt, &heap, after);
             assert_same!(rt; written.as_slice(), spelling);
             true
         }
-        Err(_) => {
-            assert_wanting(rt, &heap, after);
-            false
-        }
+        Err(_) => false,
     }
 }
 
@@ -242,7 +245,8 @@ fn writing_a_certificate(rt: HostRuntime) {
     panic!(rt; "memory is never enough")
 }
 
-/// These parameters, of which the first is a buffer of one byte less than the loop of `RAISE` needs.
+/// These parameters, of which the first is a buffer of one byte less than the loop of `RAISE`
+/// needs.
 fn too_short(parameters: &Parameters) -> Option<Parameters> {
     let mut params = parameters.to_array();
     params[0] = Param::Buffer {
@@ -252,15 +256,16 @@ fn too_short(parameters: &Parameters) -> Option<Parameters> {
     Parameters::new(params)
 }
 
-/// Asserts that no certificate is made for parameters that are too short: the load's fault, which is told before any memory is
-/// asked for.
+/// Asserts that no certificate is made for parameters that are too short: the load's fault, which
+/// is told before any memory is asked for.
 fn expect_unmade(rt: impl Abort + Copy, heap: Heap<'_>, image: &Image, short: &Parameters) {
     let refused = make_in(heap, image, short, Vlen::V128).err();
     assert_same!(rt; refused, Some(MakeError::NotALoopOfTheClass(0x1_0008)));
     assert_same!(rt; heap.has_refused(), false);
 }
 
-/// Asserts that the certificate by hand is made, or that memory is wanting, and tells whether it is made.
+/// Asserts that the certificate by hand is made, or that memory is wanting, and tells whether it is
+/// made.
 fn is_made(
     rt: impl Abort + Copy,
     alloc: Global,
@@ -270,15 +275,18 @@ fn is_made(
     parameters: &Parameters,
     by_hand: &[u8],
 ) -> bool {
-    match make_in(heap, image, parameters, Vlen::V128) {
+    match served(
+        rt,
+        heap,
+        after,
+        make_in(heap, image, parameters, Vlen::V128),
+    ) {
         Ok(certificate) => {
-            assert_served(rt, heap, after);
             let written = given!(rt; cert_note::write(alloc, &certificate));
             assert_same!(rt; written.as_slice(), by_hand);
             true
         }
         Err(error) => {
-            assert_wanting(rt, heap, after);
             assert_same!(rt; error, MakeError::NoMemory);
             false
         }
@@ -289,7 +297,7 @@ fn is_made(
 #[test]
 fn making_a_certificate(rt: HostRuntime) {
     let alloc = rt.alloc();
-    let file = given!(rt; decode(alloc, RAISE));
+    let file = bytes_of(rt, alloc, RAISE);
     let image = given!(rt; elf_image::read(alloc, &file));
     let by_hand = found!(rt; image.certificate());
     let parameters = given!(rt; cert_note::read(alloc, by_hand))

@@ -1,12 +1,12 @@
-//! Checks of which each allocation fails in turn, and the states that they start blocks with: the answer is want of memory there,
-//! what is refused is refused all the same, and the image and the certificate come back as they were.
+//! Checks of which each allocation fails in turn, and the states that they start blocks with: the
+//! answer is want of memory there, what is refused is refused all the same, and the image and the
+//! certificate come back as they were.
 ghost use Rattle.std.specs.Prelude.{◌<◌, length};
 
-use crate::assertions::{assert_same, found, given};
-use crate::checks::{STORE, certificate, file_of, image_of, sum};
-use crate::kernels::SUM;
+use crate::assertions::{assert_same, found, given, opaque};
+use crate::kernels::{Kernel, STORE, SUM, file_of, parts_of, put};
 use crate::refusing::Refusing;
-use crate::want_of_memory::{Heap, MANY, assert_served, assert_wanting};
+use crate::want_of_memory::{Heap, MANY, served};
 use abs_state::{Abstract, MOST_WORDS, implies};
 use block_checker::{CheckError, check_in};
 use cert_note::{Certificate, Vlen};
@@ -43,8 +43,8 @@ fn expect_words(
     assert_same!(rt; state.refine(true).is_some(), true);
 }
 
-/// Asserts that what is known at a block is told or wants memory, and that the words of the block, as many as here, take none.
-/// Tells whether it is told.
+/// Asserts that what is known at a block is told or wants memory, and that the words of the block,
+/// as many as here, take none. Tells whether it is told.
 fn is_block_known(
     rt: impl Abort + Copy,
     heap: Heap<'_>,
@@ -57,18 +57,19 @@ fn is_block_known(
 {
     let (image, certificate) = kernel;
     let start = certificate.contents().blocks[index].start;
-    match Abstract::at_block(heap, certificate, image, index) {
+    match served(
+        rt,
+        heap,
+        after,
+        Abstract::at_block(heap, certificate, image, index),
+    ) {
         Ok(mut state) => {
-            assert_served(rt, heap, after);
             expect_words(rt, image, &mut state, start, words);
             // One more would have been refused.
             assert_same!(rt; heap.has_refused(), false);
             true
         }
-        Err(_) => {
-            assert_wanting(rt, heap, after);
-            false
-        }
+        Err(_) => false,
     }
 }
 
@@ -91,12 +92,12 @@ fn expect_block(
     panic!(rt; "memory is never enough")
 }
 
-/// What is known at a block takes the memory for all that is known behind each of its words: lists of atoms, of forms and of
-/// facts on vector registers.
+/// What is known at a block takes the memory for all that is known behind each of its words: lists
+/// of atoms, of forms and of facts on vector registers.
 #[test]
 fn knowing_a_block(rt: HostRuntime) {
     let alloc = rt.alloc();
-    let kernel = sum(rt, alloc);
+    let kernel = parts_of(rt, alloc, SUM, Vlen::V128);
     let words = [1, 5, 1];
     assert_same!(rt; kernel.1.contents().blocks.len(), words.len());
     for (index, words) in words.iter().enumerate() {
@@ -128,18 +129,19 @@ fn is_entry_known(
     image: &Image,
     certificate: &Certificate,
 ) -> bool {
-    match Abstract::at_entry(heap, certificate, image) {
+    match served(
+        rt,
+        heap,
+        after,
+        Abstract::at_entry(heap, certificate, image),
+    ) {
         Ok(state) => {
-            assert_served(rt, heap, after);
             expect_way(rt, &state, image, certificate);
             // One more would have been refused.
             assert_same!(rt; heap.has_refused(), false);
             true
         }
-        Err(_) => {
-            assert_wanting(rt, heap, after);
-            false
-        }
+        Err(_) => false,
     }
 }
 
@@ -147,7 +149,7 @@ fn is_entry_known(
 #[test]
 fn knowing_the_entry(rt: HostRuntime) {
     let alloc = rt.alloc();
-    let (image, certificate) = sum(rt, alloc);
+    let (image, certificate) = parts_of(rt, alloc, SUM, Vlen::V128);
     for after in 0..MANY {
         let heap = Refusing::new(alloc, after);
         if is_entry_known(rt, &heap, after, &image, &certificate) {
@@ -174,6 +176,23 @@ fn assert_said(
     assert_same!(rt; back.as_str(), before);
 }
 
+/// Whether the check answers at all, and wants no memory: with the fault, or by accepting where
+/// there is none.
+fn is_answered(
+    rt: impl Abort + Copy,
+    heap: Heap<'_>,
+    after: u64,
+    came: Option<CheckError>,
+    fault: Option<CheckError>,
+) -> bool {
+    if heap.has_refused() {
+        assert_same!(rt; came, Some(CheckError::NoMemory));
+        return false;
+    }
+    assert_same!(rt; (came, after > 0), (fault, true));
+    true
+}
+
 /// Checks the kernel, whose fault is this one. Gives it back where memory was refused.
 fn checked_again(
     rt: impl Abort + Copy,
@@ -185,29 +204,26 @@ fn checked_again(
 ) -> Option<(Image, Certificate)> {
     let heap = Refusing::new(alloc, after);
     let (image, certificate) = kernel;
-    match check_in(&heap, image, certificate, Vlen::V128) {
+    match opaque(check_in(&heap, image, certificate, Vlen::V128)) {
         Ok(accepted) => {
-            assert_served(rt, &heap, after);
-            assert_same!(rt; None, fault);
             assert_said(rt, alloc, accepted.image(), accepted.certificate(), before);
+            assert_same!(rt; is_answered(rt, &heap, after, None, fault), true);
             None
         }
         Err((error, image, certificate)) => {
             assert_said(rt, alloc, &image, &certificate, before);
-            if !heap.has_refused() {
-                assert_same!(rt; (Some(error), after > 0), (fault, true));
+            if is_answered(rt, &heap, after, Some(error), fault) {
                 return None;
             }
-            assert_same!(rt; error, CheckError::NoMemory);
             Some((image, certificate))
         }
     }
 }
 
-/// Asserts that the check of these words wants memory where it is refused, with the certificate of the sum, and accepts them
-/// or tells this fault where it isn't.
-fn expect_check(rt: impl Abort + Copy, alloc: Global, words: &[u32], fault: Option<CheckError>) {
-    let mut kernel = (image_of(rt, alloc, words), certificate(rt, alloc));
+/// Asserts that the check of a kernel wants memory where it is refused, and accepts it or tells
+/// this fault where it isn't.
+fn expect_check(rt: impl Abort + Copy, alloc: Global, kernel: Kernel, fault: Option<CheckError>) {
+    let mut kernel = parts_of(rt, alloc, kernel, Vlen::V128);
     let before = said(rt, alloc, &kernel.0, &kernel.1);
     for after in 0..MANY {
         match checked_again(rt, alloc, after, kernel, before.as_str(), fault) {
@@ -218,27 +234,19 @@ fn expect_check(rt: impl Abort + Copy, alloc: Global, words: &[u32], fault: Opti
     panic!(rt; "memory is never enough")
 }
 
-/// What is known at the entry and at a block, one block after the other.
+/// What is known at the entry and at a block, one block after the other. The fault of the second
+/// block stands behind what is known at the entry and at the first.
 #[test]
 fn checking(rt: HostRuntime) {
-    expect_check(rt, rt.alloc(), &SUM, None);
-}
-
-/// The fault of the second block stands behind what is known at the entry and at the first.
-#[test]
-fn checking_what_is_refused(rt: HostRuntime) {
-    let mut words = SUM;
-    words[1] = STORE;
+    expect_check(rt, rt.alloc(), SUM, None);
     let fault = CheckError::ReadOnly(0x1_0004);
-    expect_check(rt, rt.alloc(), &words, Some(fault));
+    expect_check(rt, rt.alloc(), STORE, Some(fault));
 }
 
 /// The file of the sum whose entry is its third word, where no block begins.
 fn moved_entry(rt: impl Abort + Copy, alloc: Global) -> Vec<u8> {
-    let mut file = file_of(rt, alloc, &SUM);
-    if let Some(entry) = file.get_mut(24) {
-        *entry = 8;
-    }
+    let mut file = file_of(rt, alloc, SUM.code);
+    put(rt, &mut file, 24, &[8]);
     file
 }
 
@@ -251,7 +259,7 @@ fn expect_fault(
     fault: CheckError,
 ) -> Certificate {
     let (image, certificate) = kernel;
-    match check_in(heap, image, certificate, vlen) {
+    match opaque(check_in(heap, image, certificate, vlen)) {
         Ok(_) => panic!(rt; "accepted"),
         Err((error, _, certificate)) => {
             assert_same!(rt; error, fault);
@@ -265,7 +273,7 @@ fn expect_fault(
 fn checking_no_block(rt: HostRuntime) {
     let alloc = rt.alloc();
     let heap = Refusing::new(alloc, 0);
-    let kernel = sum(rt, alloc);
+    let kernel = parts_of(rt, alloc, SUM, Vlen::V128);
     let certificate = expect_fault(rt, &heap, kernel, Vlen::V256, CheckError::WrongVlen);
     let file = moved_entry(rt, alloc);
     let elsewhere = given!(rt; elf_image::read(alloc, &file));

@@ -1,13 +1,13 @@
-//! Runs and sessions of which each allocation fails in turn: the answer is want of memory there, and the arguments come back as
-//! they were.
+//! Runs and sessions of which each allocation fails in turn: the answer is want of memory there,
+//! and the arguments come back as they were.
 use crate::assertions::{assert_same, found, given};
+use crate::kernels::{bytes_of, put};
 use crate::refusing::Refusing;
-use crate::want_of_memory::{Heap, MANY, assert_served, assert_wanting, file};
+use crate::want_of_memory::{Heap, MANY, file, served};
 use block_checker::{Accepted, check};
 use elf_image::Image;
-use hex::decode;
 use region_mem::{Arg, Args, Bytes, Mode, Param, Parameters, Regions};
-use sandbox_run::{OpenError, Outcome, Session, open_in, try_run_in};
+use sandbox_run::{OpenError, Outcome, open_in, try_run_in};
 use std::alloc::Global;
 use std::process::Abort;
 use vreg_groups::{Agnostic, Vlen};
@@ -78,6 +78,33 @@ fn image(rt: impl Abort + Copy, alloc: Global) -> Image {
     given!(rt; elf_image::read(alloc, &file))
 }
 
+/// Asserts that a memory is started with the arguments, or wanting and they come back, and tells
+/// whether it is started. The arguments take memory of another allocator.
+fn is_started(
+    rt: impl Abort + Copy,
+    heaps: [Heap<'_>; 2],
+    after: u64,
+    image: &Image,
+    parameters: &Parameters,
+) -> bool {
+    let [heap, ample] = heaps;
+    let args = args(rt, ample);
+    if parameters.matches(&args).is_err() {
+        panic!(rt; "no match");
+    }
+    match served(rt, heap, after, Regions::new(heap, image, parameters, args)) {
+        Ok(regions) => {
+            assert_same!(rt; regions.byte(0x2_0000), Some(0xde));
+            assert_back(rt, &regions.into_args());
+            true
+        }
+        Err((_, args)) => {
+            assert_back(rt, &args);
+            false
+        }
+    }
+}
+
 /// The list of regions, the bytes of two segments and those of the stack.
 #[test]
 fn starting_a_memory(rt: HostRuntime) {
@@ -87,21 +114,8 @@ fn starting_a_memory(rt: HostRuntime) {
     let ample = Refusing::new(alloc, MANY);
     for after in 0..MANY {
         let heap = Refusing::new(alloc, after);
-        let args = args(rt, &ample);
-        if parameters.matches(&args).is_err() {
-            panic!(rt; "no match");
-        }
-        match Regions::new(&heap, &image, &parameters, args) {
-            Ok(regions) => {
-                assert_served(rt, &heap, after);
-                assert_same!(rt; regions.byte(0x2_0000), Some(0xde));
-                assert_back(rt, &regions.into_args());
-                return;
-            }
-            Err((_, args)) => {
-                assert_wanting(rt, &heap, after);
-                assert_back(rt, &args);
-            }
+        if is_started(rt, [&heap, &ample], after, &image, &parameters) {
+            return;
         }
     }
     panic!(rt; "memory is never enough")
@@ -122,19 +136,36 @@ fn assert_sum<const VLENB: usize>(
 }
 
 /// Asserts that no run starts for want of memory, and that the arguments come back.
-fn assert_unopened(
-    rt: impl Abort + Copy,
-    heap: Heap<'_>,
-    after: u64,
-    refused: &(OpenError, Args<Bytes<Heap<'_>>>),
-) {
-    assert_wanting(rt, heap, after);
+fn assert_unopened(rt: impl Abort + Copy, refused: &(OpenError, Args<Bytes<Heap<'_>>>)) {
     assert_same!(rt; refused.0, OpenError::NoMemory);
     assert_back(rt, &refused.1);
 }
 
-/// A run takes the memory of its regions alone, a list of them, the bytes of two segments and those of the stack. No
-/// step takes any.
+/// Asserts that the image is run, or memory wanting, and tells whether it is run.
+fn is_run(
+    rt: impl Abort + Copy,
+    heaps: [Heap<'_>; 2],
+    after: u64,
+    image: &Image,
+    parameters: &Parameters,
+) -> bool {
+    let [heap, ample] = heaps;
+    let (args, keep) = (args(rt, ample), Agnostic::Keep);
+    let ran = try_run_in::<16, Heap<'_>, Global>(heap, image, parameters, args, keep, 9);
+    match served(rt, heap, after, ran) {
+        Ok(outcome) => {
+            assert_sum(rt, &outcome);
+            true
+        }
+        Err(refused) => {
+            assert_unopened(rt, &refused);
+            false
+        }
+    }
+}
+
+/// A run takes the memory of its regions alone, a list of them, the bytes of two segments and those
+/// of the stack. No step takes any.
 #[test]
 fn running(rt: HostRuntime) {
     let alloc = rt.alloc();
@@ -143,15 +174,8 @@ fn running(rt: HostRuntime) {
     let ample = Refusing::new(alloc, MANY);
     for after in 0..MANY {
         let heap = Refusing::new(alloc, after);
-        let args = args(rt, &ample);
-        let keep = Agnostic::Keep;
-        match try_run_in::<16, Heap<'_>, Global>(&heap, &image, &parameters, args, keep, 9) {
-            Ok(outcome) => {
-                assert_served(rt, &heap, after);
-                assert_sum(rt, &outcome);
-                return;
-            }
-            Err(refused) => assert_unopened(rt, &heap, after, &refused),
+        if is_run(rt, [&heap, &ample], after, &image, &parameters) {
+            return;
         }
     }
     panic!(rt; "memory is never enough")
@@ -166,21 +190,29 @@ const ONE_STEP: &str = "\
 /// The image of `file` with ecall as its first word, and a certificate for that.
 fn accepted(rt: impl Abort + Copy, alloc: Global) -> Accepted {
     let mut file = file(rt, alloc);
-    for (place, byte) in [(0x94, 0x73), (0x95, 0), (0x96, 0), (0x97, 0)] {
-        if let Some(code) = file.get_mut(place) {
-            *code = byte;
-        }
-    }
+    put(rt, &mut file, 0x94, &[0x73, 0, 0, 0]);
     let image = given!(rt; elf_image::read(alloc, &file));
-    let spelling = given!(rt; decode(alloc, ONE_STEP));
-    let certificate = given!(rt; cert_note::read(alloc, &spelling));
+    let certificate = given!(rt; cert_note::read(alloc, &bytes_of(rt, alloc, ONE_STEP)));
     given!(rt; check(alloc, image, certificate, Vlen::V128))
 }
 
-/// Runs a session of the accepted image to its end.
-fn expect_end(rt: impl Abort + Copy, mut session: Session<16, Heap<'_>>) {
-    assert_same!(rt; session.run(), 1);
-    assert_same!(rt; are_args(&session.close(), &[0xff, 1, 2]), true);
+/// Asserts that a session is opened, which runs to its end, or memory wanting, and tells whether it
+/// is opened.
+fn is_opened(rt: impl Abort + Copy, heaps: [Heap<'_>; 2], after: u64, accepted: &Accepted) -> bool {
+    let [heap, ample] = heaps;
+    let (args, keep) = (args(rt, ample), Agnostic::Keep);
+    let opened = open_in::<16, Heap<'_>, Global>(heap, accepted, args, keep, 1);
+    match served(rt, heap, after, opened) {
+        Ok(mut session) => {
+            assert_same!(rt; session.run(), 1);
+            assert_same!(rt; are_args(&session.close(), &[0xff, 1, 2]), true);
+            true
+        }
+        Err(refused) => {
+            assert_unopened(rt, &refused);
+            false
+        }
+    }
 }
 
 /// A session takes the memory of its regions alone, as a run does. No step takes any.
@@ -191,14 +223,8 @@ fn opening(rt: HostRuntime) {
     let ample = Refusing::new(alloc, MANY);
     for after in 0..MANY {
         let heap = Refusing::new(alloc, after);
-        let args = args(rt, &ample);
-        match open_in::<16, Heap<'_>, Global>(&heap, &accepted, args, Agnostic::Keep, 1) {
-            Ok(session) => {
-                assert_served(rt, &heap, after);
-                expect_end(rt, session);
-                return;
-            }
-            Err(refused) => assert_unopened(rt, &heap, after, &refused),
+        if is_opened(rt, [&heap, &ample], after, &accepted) {
+            return;
         }
     }
     panic!(rt; "memory is never enough")
