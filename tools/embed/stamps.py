@@ -3,8 +3,9 @@
 
 `rt ci` proves each library from nothing and leaves it in its crate's out/, but without the stamp by which `rt lib` knows it, so that
 the next `rt lib` would prove the whole chain again. This writes the stamp, the kit's sum of all that the library was made from, beside
-each library that was made at or after SINCE, in seconds since 1970. A library that is older, or that has a stamp, is left as it is.
-Prints how many it wrote.
+each library whose folders were made at or after SINCE, in seconds since 1970: of what an earlier run on the machine proved, `rt ci`
+links the files, which are older, into new folders. A library that is older, or that has a stamp, is left as it is. Prints how many it
+wrote.
 """
 import importlib.machinery
 import importlib.util
@@ -30,10 +31,10 @@ def kit_library():
 
 
 def is_new(library, since):
-    """Whether a library stands there, has no stamp, and all of it was written since."""
-    files = [library, *library.rglob('*')] if library.is_dir() else []
+    """Whether a library stands there, has no stamp, and all of its folders were made since."""
+    folders = [it for it in [library, *library.rglob('*')] if it.is_dir()]
     stamped = (library.parent / 'stamp').exists()
-    return bool(files) and not stamped and all(file.stat().st_mtime >= since for file in files)
+    return bool(folders) and not stamped and all(folder.stat().st_mtime >= since for folder in folders)
 
 
 def main(since):
