@@ -16,14 +16,17 @@ const PARAMS: &str = "[[param]]\nkind = \"buffer\"\nfile = \"words\"\nout = \"ra
 
 /// The buffer: the numbers from 0 to 8, and zeros behind.
 const NUMBERS: &str = "@file words\n\
-@hex 00000000 01000000 02000000 03000000 04000000 05000000 06000000 07000000 08000000\n@zeros 4060\n";
+@hex 00000000 01000000 02000000 03000000 04000000 05000000 06000000 07000000 08000000\n\
+@zeros 4060\n";
 
 /// What is written where no word is raised yet, and where all nine are.
 const KEPT: &str = "@file raised\n\
-@hex 00000000 01000000 02000000 03000000 04000000 05000000 06000000 07000000 08000000\n@zeros 4060\n";
+@hex 00000000 01000000 02000000 03000000 04000000 05000000 06000000 07000000 08000000\n\
+@zeros 4060\n";
 
 const RAISED: &str = "@file raised\n\
-@hex 01000000 02000000 03000000 04000000 05000000 06000000 07000000 08000000 09000000\n@zeros 4060\n";
+@hex 01000000 02000000 03000000 04000000 05000000 06000000 07000000 08000000 09000000\n\
+@zeros 4060\n";
 
 /// The files of the job.
 const FILES: [&str; 4] = [JOB, PARAMS, MADE, NUMBERS];

@@ -112,7 +112,7 @@ fn tells_how_a_run_stops(rt: HostRuntime) {
             "trapped: FetchFault 00010004 after 1 steps\n",
         ),
         (
-            "@file kernel.elf\n@code 0c0672d7 ffffffff -- the same, and a word that means nothing\n",
+            "@file kernel.elf\n@code 0c0672d7 ffffffff -- the same, and a word without meaning\n",
             "trapped: Illegal ffffffff after 1 steps\n",
         ),
         (

@@ -26,7 +26,13 @@ impl<A: Allocator> Model for Region<A> {
     ghost Value = { Area };
 
     ghost view = { λ r.
-        record { first = r.first; bytes = r.bytes; read = r.read; write = r.write; fetch = r.fetch } };
+        record {
+          first = r.first;
+          bytes = r.bytes;
+          read = r.read;
+          write = r.write;
+          fetch = r.fetch;
+        } };
 
     ghost invariant = { λ r. r.first + length r.bytes ≤ 2 ^ 32 };
 }

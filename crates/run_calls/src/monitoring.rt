@@ -90,7 +90,8 @@ const STRIPS: [(&str, &str); 11] = [
     ("s 0", "at 00010004 step 17\n"),
     (
         "l 10004 2",
-        "00010004 0d05f2d7 vsetvli rd=5 rs1=11 imm=208\n00010008 02056407 vle32.v vd=8 rs1=10 vm=1\n",
+        "00010004 0d05f2d7 vsetvli rd=5 rs1=11 imm=208\n\
+00010008 02056407 vle32.v vd=8 rs1=10 vm=1\n",
     ),
     (
         "csr",

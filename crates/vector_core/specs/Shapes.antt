@@ -1,4 +1,5 @@
--- The shapes of the instructions that compute, of those that move elements among places, and of reductions.
+-- The shapes of the instructions that compute, of those that move elements among places, and of
+-- reductions.
 use Rattle.std.specs.Prelude.{ℕ, ◌≡◌}
 use Rattle.rv_decode.specs.declared.instructions.VArith.TheVariants as arith
 use Rattle.rv_decode.specs.declared.instructions.VPerm.TheVariants as perm

@@ -25,7 +25,8 @@ impl<const VLENB: usize> Model for VectorState<VLENB> {
 
     ghost Value = { Vectors };
 
-    ghost view = { λ v. record { registers = v.registers; config = v.config; agnostic = v.agnostic } };
+    ghost view = { λ v.
+        record { registers = v.registers; config = v.config; agnostic = v.agnostic } };
 
     ghost invariant = { λ v. IsVlenb VLENB × IsConfig VLENB v.config };
 }

@@ -1,4 +1,4 @@
-use Rattle.std.proofs.Common.{rules, ◌≡◌, [], Some, inl, inr}
+use Rattle.std.proofs.Common.{rules, ◌≡◌, Some, inl, inr}
 use Rattle.std.proofs.lemmas.Result.{err_from_is_err_and}
 use Rattle.job_file.specs.Needs.{run_job_in, run_job_lent}
 use Rattle.toml.specs.View.{table_view}
