@@ -16,7 +16,7 @@ use Rattle.rv_decode.specs.declared.instructions.Source.{Source}
 use Rattle.rv_decode.specs.declared.instructions.Source.TheVariants.{Vector, Scalar, Immediate}
 use Rattle.rv_decode.specs.declared.instructions.Width as sew
 use Rattle.rv_decode.specs.declared.instructions.Width.TheVariants.{W8, W16, W32}
-use Rattle.vreg_groups.specs.VectorType.{bits_of_width}
+use Rattle.rv_decode.specs.Instructions.{bits_of_width}
 use Rattle.lane_int.specs.Integer.{double, element}
 use Rattle.lane_int.specs.Resizing.{cut_to}
 use Rattle.vector_core.specs.Integer.{lane_width}

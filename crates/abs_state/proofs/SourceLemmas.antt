@@ -14,7 +14,8 @@ use Rattle.vreg_groups.specs.declared.vector_type.Vtype.{Vtype}
 use Rattle.vreg_groups.specs.Elements.{element_at, elements_of}
 use Rattle.vreg_groups.specs.Group.{Span, body_of}
 use Rattle.vreg_groups.specs.Legality.{group_count}
-use Rattle.vreg_groups.specs.VectorType.{bits_of_width, bytes_of_width, vlmax_of}
+use Rattle.rv_decode.specs.Instructions.{bits_of_width, bytes_of_width}
+use Rattle.vreg_groups.specs.VectorType.{vlmax_of}
 use Rattle.vreg_groups.proofs.Sizes.{bytes_fit, group_room}
 use Rattle.vreg_groups.proofs.Writes.{number_at-lt}
 use Rattle.cert_note.specs.declared.values.VectorFact.{VectorFact}

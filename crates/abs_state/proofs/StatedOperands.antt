@@ -22,7 +22,8 @@ use Rattle.vreg_groups.specs.Group.{body_of}
 use Rattle.vreg_groups.specs.Legality.{eew_bits, group_count}
 use Rattle.vreg_groups.specs.Setup.{group_at}
 use Rattle.vreg_groups.specs.VectorLength.{IsVlenb}
-use Rattle.vreg_groups.specs.VectorType.{bits_of_width, bytes_of_width, vlmax_of}
+use Rattle.rv_decode.specs.Instructions.{bits_of_width, bytes_of_width}
+use Rattle.vreg_groups.specs.VectorType.{vlmax_of}
 use Rattle.vreg_groups.proofs.Rooms.{element_within}
 use Rattle.vreg_groups.proofs.Writes.{number_at-lt}
 use Rattle.scalar_core.specs.Arithmetic.{unsigned}

@@ -36,7 +36,8 @@ use Rattle.vreg_groups.specs.Elements.{active_of, bit_at, mask_bits}
 use Rattle.vreg_groups.specs.Legality.{are_operands_legal, eew_bits, is_legal, is_operand_legal, is_present_legal}
 use Rattle.vreg_groups.specs.Setup.{group_at}
 use Rattle.vreg_groups.specs.VectorLength.{IsConfig}
-use Rattle.vreg_groups.specs.VectorType.{bits_of_width, vlmax_of, vtype_of}
+use Rattle.rv_decode.specs.Instructions.{bits_of_width}
+use Rattle.vreg_groups.specs.VectorType.{vlmax_of, vtype_of}
 use Rattle.scalar_core.specs.Hart.{Hart}
 use Rattle.lane_int.specs.Integer.{element}
 use Rattle.lane_int.specs.Resizing.{cut_to, extended_to}

@@ -20,7 +20,8 @@ use Rattle.vreg_groups.specs.Legality.{eew_bits, group_count, is_group_legal, is
 use Rattle.vreg_groups.specs.NewElements.{new_element, policy_of, write_of}
 use Rattle.vreg_groups.specs.Setup.{group_at}
 use Rattle.vreg_groups.specs.VectorLength.{IsVlenb}
-use Rattle.vreg_groups.specs.VectorType.{bits_of_width, vlmax_of}
+use Rattle.rv_decode.specs.Instructions.{bits_of_width}
+use Rattle.vreg_groups.specs.VectorType.{vlmax_of}
 use Rattle.vreg_groups.proofs.Rooms.{element_within, group_within}
 use Rattle.vreg_groups.proofs.Sizes.{bytes_fit, group_ends, group_room}
 use Rattle.vreg_groups.proofs.Writes.{element_after}

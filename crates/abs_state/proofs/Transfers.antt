@@ -28,7 +28,8 @@ use Rattle.vreg_groups.specs.Group.{body_of}
 use Rattle.vreg_groups.specs.Legality.{are_operands_legal, is_legal, is_operand_legal, whole_count}
 use Rattle.vreg_groups.specs.Setup.{group_at}
 use Rattle.vreg_groups.specs.VectorLength.{no_config, IsConfig}
-use Rattle.vreg_groups.specs.VectorType.{bytes_of_width, type_in, vill, vlmax_of, vtype_of}
+use Rattle.rv_decode.specs.Instructions.{bytes_of_width}
+use Rattle.vreg_groups.specs.VectorType.{type_in, vill, vlmax_of, vtype_of}
 use Rattle.vector_mem.specs.declared.plan.Access.{Access}
 use Rattle.vector_mem.specs.Accesses.{access_at, accesses, first_refused, is_refused, stored, with_stored}
 use Rattle.vector_mem.specs.Transfers.{accesses_of, data_at, is_masked, place_at, right_of}

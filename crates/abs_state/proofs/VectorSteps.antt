@@ -10,7 +10,7 @@ use Rattle.std.proofs.lemmas.Simd.{length-zip2}
 use Rattle.std.proofs.Math.Facts.{sfits_to_z}
 use Rattle.std.specs.Int.RustNames.{FitsSigned}
 use Rattle.vreg_groups.proofs.Writes.{number_at-lt}
-use Rattle.vreg_groups.specs.VectorType.{bytes_of_width}
+use Rattle.rv_decode.specs.Instructions.{bytes_of_width}
 use Rattle.vreg_groups.specs.Elements.{element_at}
 use Rattle.rv_decode.specs.declared.instructions.Width.{Width}
 use Rattle.rv_decode.specs.declared.instructions.Width.TheVariants.{W8, W16, W32}

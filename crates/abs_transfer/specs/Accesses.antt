@@ -8,7 +8,7 @@ use Rattle.rv_decode.specs.declared.instructions.Direction.TheVariants.{Load, St
 use Rattle.rv_decode.specs.declared.instructions.Addressing.{Addressing}
 use Rattle.rv_decode.specs.declared.instructions.Addressing.TheVariants as place
 use Rattle.rv_decode.specs.declared.instructions.VMem.{VMem}
-use Rattle.vreg_groups.specs.VectorType.{bytes_of_width}
+use Rattle.rv_decode.specs.Instructions.{bytes_of_width}
 use Rattle.vreg_groups.specs.Legality.{whole_count}
 use Rattle.abs_transfer.specs.declared.accesses.Reach.{Reach}
 use Rattle.abs_domain.specs.declared.why.Why.{Why}

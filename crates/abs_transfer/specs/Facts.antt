@@ -16,7 +16,7 @@ use Rattle.rv_decode.specs.declared.instructions.NarrowOp.{NarrowOp}
 use Rattle.rv_decode.specs.declared.instructions.NarrowOp.TheVariants as narrow
 use Rattle.rv_decode.specs.declared.instructions.VMask.{VMask}
 use Rattle.rv_decode.specs.Needs.{eew_of}
-use Rattle.vreg_groups.specs.VectorType.{bits_of_width}
+use Rattle.rv_decode.specs.Instructions.{bits_of_width}
 use Rattle.vreg_groups.specs.Legality.{count_of, eew_bits, group_count}
 use Rattle.abs_domain.specs.Effects.{fitting, multiple_range}
 use Rattle.abs_domain.specs.Values.{just, known_of, up_to}

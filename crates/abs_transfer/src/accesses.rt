@@ -1,7 +1,7 @@
 //! Where the bytes of a vector load or store may lie, and the test that they lie in one zone. Masks are ignored.
 ghost use Rattle.std.specs.Prelude.{◌≡◌, ◌<◌, ◌≤◌, ◌+◌, ◌-◌, ◌*◌, ◌^◌};
 ghost use Rattle.linear_facts.specs.Forms.{within};
-ghost use Rattle.vreg_groups.specs.VectorType.{bytes_of_width};
+ghost use Rattle.rv_decode.specs.Instructions.{bytes_of_width};
 ghost use Rattle.abs_transfer.specs.Accesses.{fitting_less as fitting_less_of};
 ghost use Rattle.abs_transfer.specs.Accesses.{met_with_form as met_with_form_of};
 ghost use Rattle.abs_transfer.specs.Accesses.{sum_form as sum_form_of};
@@ -38,11 +38,7 @@ fn bytes_of(width: Width) -> u32
     ensures value { result ≡ bytes_of_width width }
     ensures few { result ≤ 4 }
 {
-    match width {
-        Width::W8 => 1,
-        Width::W16 => 2,
-        Width::W32 => 4,
-    }
+    u32::from(width.bytes())
 }
 
 /// A product in whole numbers.

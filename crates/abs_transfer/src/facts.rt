@@ -5,7 +5,7 @@ ghost use Rattle.std.specs.Option.{option_map};
 ghost use Rattle.rv_decode.specs.Needs.{eew_of as eew_of_of, needs_of};
 ghost use Rattle.vreg_groups.specs.Legality.{count_of as count_of_of, eew_bits as eew_bits_of};
 ghost use Rattle.vreg_groups.specs.VectorLength.{IsVlenb};
-ghost use Rattle.vreg_groups.specs.VectorType.{bits_of_width};
+ghost use Rattle.rv_decode.specs.Instructions.{bits_of_width};
 ghost use Rattle.abs_transfer.specs.Facts.{all_of_bits as all_of_bits_of};
 ghost use Rattle.abs_transfer.specs.Facts.{is_source as is_source_of};
 ghost use Rattle.abs_transfer.specs.Facts.{source_range as source_range_of};
@@ -43,11 +43,7 @@ fn bits_of(width: Width) -> u32
     ensures meaning { result ≡ bits_of_width width }
     ensures bound { result ≤ 32 }
 {
-    match width {
-        Width::W8 => 8,
-        Width::W16 => 16,
-        Width::W32 => 32,
-    }
+    u32::from(width.bits())
 }
 
 /// EEW in bits, under this SEW.

@@ -42,11 +42,7 @@ fn size_of_store(size: Width) -> u64
     ensures value { result ≡ size_of_store_of size }
     ensures few { result ≤ 4 }
 {
-    match size {
-        Width::W8 => 1,
-        Width::W16 => 2,
-        Width::W32 => 4,
-    }
+    u64::from(size.bytes())
 }
 
 /// What is known of a register.

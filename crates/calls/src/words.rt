@@ -10,6 +10,14 @@ fn assert_meaning(rt: &impl Abort, word: u32, expected: Option<Insn>) {
 }
 
 #[test]
+fn widths_in_bits_and_bytes(rt: HostRuntime) {
+    for (width, bits, bytes) in [(Width::W8, 8, 1), (Width::W16, 16, 2), (Width::W32, 32, 4)] {
+        assert_same!(rt; width.bits(), bits);
+        assert_same!(rt; width.bytes(), bytes);
+    }
+}
+
+#[test]
 fn a_word_of_each_class(rt: HostRuntime) {
     // lb x13, -2048(x14)
     let insn = Insn::Scalar(ScalarInsn::Load {

@@ -7,7 +7,7 @@ use Rattle.rv_decode.specs.declared.instructions.Width.{Width}
 use Rattle.rv_decode.specs.declared.instructions.Width.TheVariants.{W8, W16, W32}
 use Rattle.region_mem.specs.declared.parameter.Param.{Param}
 use Rattle.scalar_core.specs.Hart.{exit}
-use Rattle.vreg_groups.specs.VectorType.{bytes_of_width}
+use Rattle.rv_decode.specs.Instructions.{bytes_of_width}
 use Rattle.vreg_groups.specs.declared.vector_length.Vlen.{Vlen}
 use Rattle.cert_note.specs.Certificate.{AllFrom, after_block, is_atom, is_budget, is_full, is_second, is_equated, is_free, are_free, CertificateView, IsBlock, IsCertificate, IsRegisterFact}
 use Rattle.cert_note.specs.declared.values.Block.{Block}

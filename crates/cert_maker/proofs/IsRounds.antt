@@ -15,7 +15,8 @@ use Rattle.region_mem.specs.declared.parameter.Param.{Param}
 use Rattle.region_mem.specs.declared.parameter.Param.TheVariants as parameter
 use Rattle.scalar_core.specs.Step.{offset_by}
 use Rattle.vreg_groups.specs.VectorLength.{IsVlenb, vlenb_of}
-use Rattle.vreg_groups.specs.VectorType.{bits_of_width, bytes_of_width, eighths_of, vlmax_of}
+use Rattle.rv_decode.specs.Instructions.{bits_of_width, bytes_of_width}
+use Rattle.vreg_groups.specs.VectorType.{eighths_of, vlmax_of}
 use Rattle.vreg_groups.specs.declared.vector_length.Vlen.{Vlen}
 use Rattle.vreg_groups.specs.declared.vector_length.Vlen.TheVariants.{V128, V256, V512}
 use Rattle.vreg_groups.specs.declared.vector_type.Lmul.{Lmul}

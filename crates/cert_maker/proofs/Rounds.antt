@@ -23,7 +23,7 @@ use Rattle.region_mem.specs.declared.parameter.Mode.{Mode}
 use Rattle.region_mem.specs.declared.parameter.Param.{Param}
 use Rattle.region_mem.specs.declared.parameter.Param.TheVariants as parameter
 use Rattle.vreg_groups.specs.Legality.{is_legal}
-use Rattle.vreg_groups.specs.VectorType.{bytes_of_width}
+use Rattle.rv_decode.specs.Instructions.{bytes_of_width}
 use Rattle.cert_maker.specs.declared.loops.Loop.{Loop}
 use Rattle.cert_maker.specs.declared.loops.Reading.{Reading}
 use Rattle.cert_maker.specs.declared.loops.Reading.TheVariants.{Works, Moves, Back, Through}

@@ -7,7 +7,8 @@ use Rattle.rv_decode.specs.declared.instructions.Width.TheVariants.{W8, W16, W32
 use Rattle.vreg_groups.specs.declared.vector_type.Lmul.{Lmul}
 use Rattle.vreg_groups.specs.declared.vector_type.Lmul.TheVariants.{Quarter, Half, One, Two, Four, Eight}
 use Rattle.vreg_groups.specs.declared.vector_type.Vtype.{Vtype}
-use Rattle.vreg_groups.specs.VectorType.{bits_of_width, eighths_of, vlmax_of}
+use Rattle.rv_decode.specs.Instructions.{bits_of_width}
+use Rattle.vreg_groups.specs.VectorType.{eighths_of, vlmax_of}
 use Rattle.vreg_groups.specs.VectorLength.{IsVlenb}
 use Rattle.std.proofs.lemmas.Bool.Decides.{nat_tests}
 use Rattle.std.proofs.Math.ListN.{length-set}

@@ -29,7 +29,8 @@ use Rattle.region_mem.specs.declared.parameter.Mode.TheVariants as mode
 use Rattle.region_mem.specs.declared.parameter.Param.{Param}
 use Rattle.region_mem.specs.declared.parameter.Param.TheVariants as parameter
 use Rattle.vreg_groups.specs.Legality.{is_legal}
-use Rattle.vreg_groups.specs.VectorType.{bytes_of_width, type_in}
+use Rattle.rv_decode.specs.Instructions.{bytes_of_width}
+use Rattle.vreg_groups.specs.VectorType.{type_in}
 use Rattle.abs_state.specs.declared.state.Way.TheVariants.{To}
 use Rattle.abs_domain.specs.declared.values.Effect.{Effect}
 use Rattle.abs_domain.specs.Values.{ValueView, computed_range, or_own}

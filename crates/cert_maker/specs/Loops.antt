@@ -28,7 +28,8 @@ use Rattle.region_mem.specs.declared.parameter.Mode.{Mode}
 use Rattle.region_mem.specs.declared.parameter.Mode.TheVariants as mode
 use Rattle.region_mem.specs.declared.parameter.Param.TheVariants as parameter
 use Rattle.vreg_groups.specs.Legality.{is_legal}
-use Rattle.vreg_groups.specs.VectorType.{bytes_of_width, vtype_of}
+use Rattle.rv_decode.specs.Instructions.{bytes_of_width}
+use Rattle.vreg_groups.specs.VectorType.{vtype_of}
 use Rattle.scalar_core.specs.Arithmetic.{unsigned}
 use Rattle.scalar_core.specs.Step.{offset_by}
 use Rattle.cert_maker.specs.declared.loops.Head.{Head}

@@ -2,7 +2,7 @@
 ghost use Rattle.std.specs.Prelude.{◌≡◌, ◌≤◌, ◌<◌, ◌+◌, ◌-◌, false, slice_set};
 ghost use Rattle.std.specs.List.{list_any};
 ghost use Rattle.rv_decode.specs.declared.instructions.Insn.{Insn};
-ghost use Rattle.vreg_groups.specs.VectorType.{bytes_of_width};
+ghost use Rattle.rv_decode.specs.Instructions.{bytes_of_width};
 ghost use Rattle.cert_maker.specs.Loops.{back_by as back_by_of, count_by as count_by_of};
 ghost use Rattle.cert_maker.specs.Loops.{is_access as is_access_of};
 ghost use Rattle.cert_maker.specs.Loops.{is_arithmetic as is_arithmetic_of};
@@ -332,11 +332,7 @@ pub(crate) fn bytes_of(width: Width) -> u32
     ensures value { result ≡ bytes_of_width width }
     ensures small { result < 5 }
 {
-    match width {
-        Width::W8 => 1,
-        Width::W16 => 2,
-        Width::W32 => 4,
-    }
+    u32::from(width.bytes())
 }
 
 /// Elements of SEW one after another, not masked.

@@ -1,7 +1,7 @@
 //! Rows `VLENB FILE = ANSWER`: what the check of an image against the certificate in its note answers.
 
 use crate::fields::{RowError, bytes, next, vlen};
-use crate::table::Table;
+use crate::table::{Table, unlike};
 use block_checker::{Accepted, CheckError, check};
 use cert_note::CertError;
 use elf_image::{ElfError, Image};
@@ -105,9 +105,6 @@ impl Table for Checks {
         let vlen = vlen(next(&mut fields))?;
         let file = bytes(alloc, next(&mut fields))?;
         let came = text_of(alloc, accept(alloc, file.as_slice(), Some(vlen)))?;
-        if came.as_str() == expected {
-            return Ok(None);
-        }
-        Ok(Some(format!(in alloc; "should be {expected}, came {came}")?))
+        unlike(alloc, expected, came.as_str())
     }
 }

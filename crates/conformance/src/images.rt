@@ -1,7 +1,7 @@
 //! Rows `FILE NAME` and `FILE read CERTIFICATE`: what an executable file is refused for, or its certificate.
 
 use crate::fields::{RowError, bytes};
-use crate::table::Table;
+use crate::table::{Table, unlike};
 use elf_image::{ElfError, Image};
 use std::alloc::{AllocError, Global};
 
@@ -14,10 +14,7 @@ impl Table for Images {
         let (file, expected) = row.split_once(' ').ok_or(RowError::NoRow)?;
         let file = bytes(alloc, file)?;
         let came = text_of(alloc, elf_image::read(alloc, file.as_slice()))?;
-        if came.as_str() == expected {
-            return Ok(None);
-        }
-        Ok(Some(format!(in alloc; "should be {expected}, came {came}")?))
+        unlike(alloc, expected, came.as_str())
     }
 }
 

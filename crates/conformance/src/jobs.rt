@@ -1,7 +1,7 @@
 //! Rows `TEXT = ANSWER`: what the text of a job file says.
 
 use crate::fields::{RowError, bytes};
-use crate::table::Table;
+use crate::table::{Table, unlike};
 use job_file::{Job, JobError, JobParam, job_in, parse, run_job_in, try_job_in};
 use region_mem::Mode;
 use std::alloc::Global;
@@ -133,9 +133,6 @@ impl Table for Jobs {
         let text = bytes(alloc, if text == "empty" { "" } else { text })?;
         let text = std::str::from_utf8(text.as_slice()).map_err(|_| RowError::NoRow)?;
         let came = answer(alloc, text)?;
-        if came.as_str() == expected {
-            return Ok(None);
-        }
-        Ok(Some(format!(in alloc; "should be {expected}, came {came}")?))
+        unlike(alloc, expected, came.as_str())
     }
 }

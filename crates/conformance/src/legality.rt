@@ -13,22 +13,28 @@ pub struct Legality;
 impl Table for Legality {
     fn difference(&mut self, alloc: Global, row: &str) -> Result<Option<String>, RowError> {
         let mut fields = row;
-        let config = Vconfig {
-            vtype: hex(next(&mut fields))?,
-            vl: 0,
-        };
+        let vtype = hex(next(&mut fields))?;
         let word = hex(next(&mut fields))?;
         let expected = flag(next(&mut fields))?;
-        let Some(insn) = decode(word) else {
-            return Ok(Some(format!(in alloc; "{word:08x} means nothing")?));
-        };
-        let came = legal(&config, &insn);
-        if came == expected {
+        if is_legal(vtype, word) == Some(expected) {
             return Ok(None);
         }
-        let vtype = config.vtype;
-        Ok(Some(format!(in alloc;
-            "{word:08x} under vtype {vtype:08x}: legal should be {expected}, came {came}"
-        )?))
+        unlike_legal(alloc, vtype, word, expected)
     }
+}
+
+/// Whether a word is legal under a vector type; None where it means nothing.
+fn is_legal(vtype: u32, word: u32) -> Option<bool> {
+    let config = Vconfig { vtype, vl: 0 };
+    Some(legal(&config, &decode(word)?))
+}
+
+/// What is told of a word that is not as legal as expected, or means nothing.
+fn unlike_legal(
+    alloc: Global,
+    vtype: u32,
+    word: u32,
+    expected: bool,
+) -> Result<Option<String>, RowError> {
+    Ok(Some(format!(in alloc; "{word:08x} under vtype {vtype:08x}: legal should be {expected}")?))
 }

@@ -4,7 +4,7 @@
 use crate::checks::{accept, text_of};
 use crate::fields::{RowError, bytes, decimal, hex, next, vlen};
 use crate::runs::buffer_text;
-use crate::table::Table;
+use crate::table::{Table, unlike};
 use cert_maker::{MakeError, make};
 use cert_note::{Certificate, write};
 use elf_image::attach;
@@ -86,9 +86,6 @@ impl Table for Makes {
         let parameters = parameters(&mut fields)?;
         let file = bytes(alloc, next(&mut fields))?;
         let came = answer(alloc, file.as_slice(), &parameters, vlen)?;
-        if came.as_str() == expected {
-            return Ok(None);
-        }
-        Ok(Some(format!(in alloc; "should be {expected}, came {came}")?))
+        unlike(alloc, expected, came.as_str())
     }
 }

@@ -6,7 +6,7 @@ use crate::arguments::Given;
 use crate::fields::{RowError, bytes, hex, next, setting, vlen};
 use crate::state::{Difference, Part, State, VECTOR_BYTES, differ, vector_bytes};
 use crate::step::Named;
-use crate::table::Table;
+use crate::table::{Table, unlike};
 use region_mem::{Arg, Args, Mode, Parameters};
 use sandbox_run::{Outcome, Registers, try_run};
 use scalar_core::EXIT;
@@ -158,11 +158,7 @@ impl Case<'_> {
 
     /// What is told where the row says another end than this one.
     pub(crate) fn other_end(&self, alloc: Global, end: &str) -> Result<Option<String>, RowError> {
-        let after = self.after;
-        if after == end {
-            return Ok(None);
-        }
-        Ok(Some(format!(in alloc; "should be {after}, came {end}")?))
+        unlike(alloc, self.after, end)
     }
 
     /// In what a run that started in the state `expected` is not as the row says.

@@ -14,6 +14,18 @@ pub trait Table {
     fn difference(&mut self, alloc: Global, row: &str) -> Result<Option<String>, RowError>;
 }
 
+/// What is told of a row's answer: None where it is the expected one.
+pub(crate) fn unlike(
+    alloc: Global,
+    expected: &str,
+    came: &str,
+) -> Result<Option<String>, RowError> {
+    if came == expected {
+        return Ok(None);
+    }
+    Ok(Some(format!(in alloc; "should be {expected}, came {came}")?))
+}
+
 /// Whether a line is a row: neither empty nor a comment.
 fn is_row(line: &str) -> bool {
     !matches!(line.as_bytes().first(), None | Some(b'#'))

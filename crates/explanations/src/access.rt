@@ -52,11 +52,7 @@ fn load_size(kind: LoadKind) -> u8
 fn store_size(width: Width) -> u8
     ensures { result ≡ size_of_store width }
 {
-    match width {
-        Width::W8 => 1,
-        Width::W16 => 2,
-        Width::W32 => 4,
-    }
+    width.bytes()
 }
 
 /// The operand of a scalar instruction, if it is a load or store.

@@ -1,4 +1,5 @@
 pub mod Words
+pub mod Instructions
 pub mod Bits
 pub mod Rows
 pub mod Scalar

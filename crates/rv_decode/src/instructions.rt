@@ -1,6 +1,6 @@
 //! The instructions, one enum per class, with their operands as named fields.
 
-ghost use Rattle.std.specs.Prelude.{◌≡◌, ◌<◌};
+ghost use Rattle.std.specs.Prelude.{◌≡◌, ◌<◌, ◌≤◌, ◌⊎◌};
 
 use std::marker::Model;
 
@@ -46,6 +46,38 @@ pub enum Width {
     W8,
     W16,
     W32,
+}
+
+impl Width {
+    ghost use Rattle.rv_decode.specs.Instructions.{bits_of_width, bytes_of_width};
+
+    /// How many bits an element of this width has: 8, 16 or 32.
+    #[inline(always)]
+    pub fn bits(self) -> u8
+        ensures value { result ≡ bits_of_width self }
+        ensures bound { (result ≡ 8) ⊎ (result ≡ 16) ⊎ (result ≡ 32) }
+        ensures few { result ≤ 32 }
+    {
+        match self {
+            Width::W8 => 8,
+            Width::W16 => 16,
+            Width::W32 => 32,
+        }
+    }
+
+    /// How many bytes an element of this width has: 1, 2 or 4.
+    #[inline(always)]
+    pub fn bytes(self) -> u8
+        ensures value { result ≡ bytes_of_width self }
+        ensures bound { (result ≡ 1) ⊎ (result ≡ 2) ⊎ (result ≡ 4) }
+        ensures few { result ≤ 4 }
+    {
+        match self {
+            Width::W8 => 1,
+            Width::W16 => 2,
+            Width::W32 => 4,
+        }
+    }
 }
 
 /// An instruction, by its class.

@@ -2,6 +2,7 @@
 -- memory, or the fault.
 use Rattle.std.specs.Prelude.{ℕ, ◌+◌, ◌-◌, ◌%◌, ◌^◌, ◌==◌, Bool, true, false, if◌then◌else◌, ℤ, Option, Some, None, Result, Ok, Err}
 use Rattle.std.specs.Int.{w8, w16, cast_signed}
+use Rattle.rv_decode.specs.Instructions.{bytes_of_width}
 use Rattle.scalar_core.specs.Words.{Insn, ScalarInsn, Condition, LoadKind, Width, Lui, Auipc, Jal, Jalr, Branch, Load, Store}
 use Rattle.scalar_core.specs.Words.{Immediate, ShiftImmediate, Register, Fence, Ecall, Fault, JumpMisaligned, LoadFault}
 use Rattle.scalar_core.specs.Words.{StoreFault, Memory, load_of, store_of, Vconfig}
@@ -56,9 +57,7 @@ size_of_load LoadKind.ByteUnsigned = 1
 size_of_load LoadKind.HalfUnsigned = 2
 
 unfoldable pub size_of_store : Width → ℕ
-size_of_store Width.W8 = 1
-size_of_store Width.W16 = 2
-size_of_store Width.W32 = 4
+size_of_store width = bytes_of_width width
 
 -- lb and lh extend their number by its sign, the others by zeros
 unfoldable pub loaded : LoadKind → ℕ → ℕ

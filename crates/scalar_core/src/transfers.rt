@@ -95,9 +95,5 @@ fn size_of_store(size: Width) -> usize
     ensures value { result ≡ size_of_store_of size }
     ensures size { IsAccessSize result }
 {
-    match size {
-        Width::W8 => 1,
-        Width::W16 => 2,
-        Width::W32 => 4,
-    }
+    usize::from(size.bytes())
 }

@@ -24,7 +24,8 @@ pub use Rattle.region_mem.specs.declared.faults.Fault.TheVariants.{Illegal, Load
 pub use Rattle.region_mem.specs.declared.faults.Right.TheVariants.{Read, Write}
 pub use Rattle.scalar_core.specs.Hart.{Hart, advanced, reg_of, with_reg}
 pub use Rattle.vreg_groups.specs.{Elements.active_of, Elements.mask_bits, Group.Span}
-pub use Rattle.vreg_groups.specs.{Group.body_of, VectorType.bytes_of_width}
+pub use Rattle.rv_decode.specs.Instructions.{bytes_of_width}
+pub use Rattle.vreg_groups.specs.Group.{body_of}
 pub use Rattle.vreg_groups.specs.declared.vector_length.{Avl.Avl, Vconfig.Vconfig}
 pub use Rattle.vreg_groups.specs.declared.policies.Agnostic.{Agnostic}
 pub use Rattle.vreg_groups.specs.declared.vector_type.Vtype.{Vtype}

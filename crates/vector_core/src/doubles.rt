@@ -4,7 +4,7 @@ ghost use Rattle.std.specs.Prelude.{◌≡◌, ◌≤◌, ◌*◌, length, true}
 ghost use Rattle.rv_decode.specs.Needs.{needs_of_arith};
 ghost use Rattle.rv_decode.specs.declared.extents.Eew.TheVariants.{Double};
 ghost use Rattle.vreg_groups.specs.Group.{IsGroupInside};
-ghost use Rattle.vreg_groups.specs.VectorType.{bytes_of_width};
+ghost use Rattle.rv_decode.specs.Instructions.{bytes_of_width};
 ghost use Rattle.vector_core.specs.Arithmetic.{arith_of, has_doubles};
 ghost use Rattle.vector_core.specs.Setup.{IsReady, IsSetup};
 

@@ -11,7 +11,7 @@ use vreg_groups::Element;
 pub trait VectorElement: Element + Lane + FixedLane + FoldLane {
     ghost use Rattle.std.specs.Prelude.{◌≡◌};
     ghost use Rattle.rv_decode.specs.declared.instructions.Width.{Width};
-    ghost use Rattle.vreg_groups.specs.VectorType.{bytes_of_width};
+    ghost use Rattle.rv_decode.specs.Instructions.{bytes_of_width};
     ghost use Rattle.vector_core.specs.Integer.{lane_width};
     ghost use Rattle.vector_core.specs.Operands.{low_bits};
 

@@ -7,7 +7,7 @@ ghost use Rattle.vreg_groups.specs.Elements.{active_of, mask_bits};
 ghost use Rattle.vreg_groups.specs.Group.{IsGroupInside, body_of, written};
 ghost use Rattle.vreg_groups.specs.Legality.{IsInside};
 ghost use Rattle.vreg_groups.specs.NewElements.{policy_of};
-ghost use Rattle.vreg_groups.specs.VectorType.{bytes_of_width};
+ghost use Rattle.rv_decode.specs.Instructions.{bytes_of_width};
 ghost use Rattle.vector_core.specs.Operands.{bits_written, low_bits, results_written, second_of};
 ghost use Rattle.vector_core.specs.Setup.{IsSetup, group_at};
 

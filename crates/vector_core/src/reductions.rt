@@ -4,7 +4,7 @@ ghost use Rattle.std.specs.Prelude.{◌≡◌, ◌*◌, Ok, length};
 ghost use Rattle.std.specs.Mem.{FitsInMemory};
 ghost use Rattle.region_mem.specs.Memory.{Memory};
 ghost use Rattle.rv_decode.specs.Needs.{needs_of_reduce};
-ghost use Rattle.vreg_groups.specs.VectorType.{bytes_of_width};
+ghost use Rattle.rv_decode.specs.Instructions.{bytes_of_width};
 ghost use Rattle.vector_core.specs.Integer.{lane_width};
 ghost use Rattle.vector_core.specs.Reductions.{reduce_of, reduce_step, sum_width};
 ghost use Rattle.vector_core.specs.Setup.{IsReady};

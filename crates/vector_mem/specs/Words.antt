@@ -13,7 +13,7 @@ pub use Rattle.vreg_groups.specs.Elements.{active_of}
 pub use Rattle.vreg_groups.specs.Group.{Span, body_of, mask_bytes_of, whole_of, written}
 pub use Rattle.vreg_groups.specs.NewElements.{mask_policy_of, policy_of}
 pub use Rattle.vreg_groups.specs.Setup.{group_at}
-pub use Rattle.vreg_groups.specs.VectorType.{bytes_of_width}
+pub use Rattle.rv_decode.specs.Instructions.{bytes_of_width}
 pub use Rattle.vreg_groups.specs.declared.policies.Policy.{Policy}
 pub use Rattle.vreg_groups.specs.declared.setup.Setup.{Setup}
 pub use Rattle.vector_mem.specs.declared.plan.Access.{Access}

@@ -7,7 +7,7 @@ ghost use Rattle.vreg_groups.specs.declared.vector_type.TheConstants.{MOST_ELEME
 ghost use Rattle.vector_mem.specs.Accesses.{accesses, indexed, strided};
 ghost use Rattle.vector_mem.specs.Transfers.{accesses_of, right_of};
 
-use crate::operands::{bytes, data_group, masked, read_indices, width};
+use crate::operands::{data_group, masked, read_indices, width};
 use crate::plan::{Access, AccessPlan};
 use region_mem::Right;
 use rv_decode::{Addressing, Direction, VMem};
@@ -96,7 +96,7 @@ pub fn access<const VLENB: usize>(
     let active = &mut bits[..group.vl()];
     registers.read_active(masked(insn), active);
     let right = right(insn.direction);
-    let size = bytes(width(insn, setup));
+    let size = width(insn, setup).bytes();
     match place {
         Addressing::Unit { .. } => strided_plan(right, size, base, u32::from(size), active),
         Addressing::Mask => strided_plan(right, size, base, u32::from(size), active),

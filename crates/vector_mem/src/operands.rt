@@ -5,7 +5,7 @@ ghost use Rattle.rv_decode.specs.Needs.{needs_of_access};
 ghost use Rattle.rv_decode.specs.declared.extents.Eew.TheVariants.{Fixed};
 ghost use Rattle.vreg_groups.specs.Group.{IsGroupInside, body_of};
 ghost use Rattle.vreg_groups.specs.Setup.{IsReady, IsSetup, group_at};
-ghost use Rattle.vreg_groups.specs.VectorType.{bytes_of_width};
+ghost use Rattle.rv_decode.specs.Instructions.{bytes_of_width};
 ghost use Rattle.vreg_groups.specs.declared.vector_type.TheConstants.{MOST_ELEMENTS};
 ghost use Rattle.vector_mem.specs.Transfers.{data_of, is_in_a_row, is_masked, load_policy};
 ghost use Rattle.vector_mem.specs.Transfers.{width_at};
@@ -82,17 +82,6 @@ pub fn policy(insn: &VMem, setup: &Setup) -> Policy
         | Addressing::Strided { .. }
         | Addressing::Indexed { .. }
         | Addressing::Whole { .. } => setup.policy(),
-    }
-}
-
-/// How many bytes an element of this width has.
-pub fn bytes(width: Width) -> u8
-    ensures { result ≡ bytes_of_width width }
-{
-    match width {
-        Width::W8 => 1,
-        Width::W16 => 2,
-        Width::W32 => 4,
     }
 }
 

@@ -12,7 +12,7 @@ ghost use Rattle.rv_decode.specs.declared.instructions.Direction.TheVariants.{Lo
 ghost use Rattle.vreg_groups.specs.Elements.{active_of};
 ghost use Rattle.vreg_groups.specs.Group.{written};
 ghost use Rattle.vreg_groups.specs.Setup.{IsReady};
-ghost use Rattle.vreg_groups.specs.VectorType.{bytes_of_width};
+ghost use Rattle.rv_decode.specs.Instructions.{bytes_of_width};
 ghost use Rattle.vreg_groups.specs.declared.vector_type.TheConstants.{MOST_ELEMENTS};
 ghost use Rattle.vector_mem.specs.Accesses.{IsAccessOf, first_refused, loaded, stored};
 ghost use Rattle.vector_mem.specs.Transfers.{accesses_of, data_of, loaded_to, vector_load};

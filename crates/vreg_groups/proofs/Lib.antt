@@ -6,6 +6,6 @@ pub mod Rooms
 pub mod Parts
 pub mod Spans
 pub mod Plain
-mod BlockMemory
+mod LendableMemory
 mod LoanLemmas
 mod ChunkLemmas

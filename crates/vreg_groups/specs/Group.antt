@@ -6,7 +6,7 @@ use Rattle.rv_decode.specs.declared.extents.Extent.TheVariants as extent
 use Rattle.vreg_groups.specs.Elements.{bytes_from, elements_of}
 use Rattle.vreg_groups.specs.Legality.{eew_bits, group_count, whole_count, IsInside}
 use Rattle.vreg_groups.specs.NewElements.{write_of}
-use Rattle.vreg_groups.specs.VectorType.{bytes_of_width}
+use Rattle.rv_decode.specs.Instructions.{bytes_of_width}
 
 -- the first register and how many there are, the bytes of an element, and how many
 -- elements the body has

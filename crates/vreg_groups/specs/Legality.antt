@@ -12,7 +12,8 @@ use Rattle.rv_decode.specs.declared.instructions.VArith.TheVariants.{Int}
 use Rattle.rv_decode.specs.declared.instructions.Addressing.{Addressing}
 use Rattle.rv_decode.specs.declared.instructions.Addressing.TheVariants.{Unit}
 use Rattle.rv_decode.specs.declared.extents.Eew.TheVariants.{Quarter, Half, Same, Double, Fixed}
-use Rattle.vreg_groups.specs.VectorType.{bits_of_width, eighths_of, vtype_of}
+use Rattle.rv_decode.specs.Instructions.{bits_of_width}
+use Rattle.vreg_groups.specs.VectorType.{eighths_of, vtype_of}
 
 -- EEW in bits, under this SEW
 abbrev pub eew_bits : Width → Eew → ℕ

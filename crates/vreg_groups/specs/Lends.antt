@@ -3,14 +3,14 @@
 use Rattle.std.specs.Prelude.{ℕ, List}
 use Rattle.std.specs.Borrow.{Lends, Fml, RattleType, MutBor, Array, u8}
 use Rattle.vreg_groups.specs.NewElements.{overlaid_within}
-use Rattle.vreg_groups.specs.contracts.block.Block as block
+use Rattle.vreg_groups.specs.contracts.lendable.Lendable as lendable
 use Rattle.vreg_groups.specs.contracts.registers.VregFile as file
 
--- r is the part of a block from a place on
-abbrev pub lends_part : (T N : RattleType) → MutBor (block.the_row T N).Denot → ℕ
+-- r is the part of a lendable array from a place on
+abbrev pub lends_part : (T N : RattleType) → MutBor (lendable.the_row T N).Denot → ℕ
     → MutBor (List T.Denot) → Fml
 lends_part T N lender at r =
-    Lends (block.the_row T N) (Array T 0) lender r
+    Lends (lendable.the_row T N) (Array T 0) lender r
     (λ w. record { items = overlaid_within at lender.now.items w })
 
 -- r is the part of the registers from a place on

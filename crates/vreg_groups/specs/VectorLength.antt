@@ -1,7 +1,8 @@
 -- The vector length that the vset instructions give ("AVL encoding", "Constraints on Setting vl").
 use Rattle.std.specs.Prelude.{◌≡◌, ◌⊎◌, ℕ, ◌*◌, ◌≤◌, ◌==◌, min, if◌then◌else◌, Option, Some, None, MatchOption}
 use Rattle.vreg_groups.specs.Words.{Vconfig, Vtype}
-use Rattle.vreg_groups.specs.VectorType.{bytes_of_width, vill, vtype_of, vlmax_of}
+use Rattle.rv_decode.specs.Instructions.{bytes_of_width}
+use Rattle.vreg_groups.specs.VectorType.{vill, vtype_of, vlmax_of}
 use Rattle.vreg_groups.specs.declared.vector_type.TheConstants.{MOST_ELEMENTS}
 use Rattle.vreg_groups.specs.declared.vector_length.Avl.{Avl}
 use Rattle.vreg_groups.specs.declared.vector_length.Avl.TheVariants.{Keep, Greatest, Of}

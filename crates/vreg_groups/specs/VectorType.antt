@@ -1,21 +1,13 @@
 -- The fields of vtype ("Vector Type Register, vtype"), and VLMAX.
 use Rattle.std.specs.Prelude.{Bool, false, ℕ, ◌*◌, ◌/◌, ◌%◌, ◌==◌, nat_le, if◌then◌else◌, Option, Some, None}
 use Rattle.std.specs.Option.{option_and_then}
+use Rattle.rv_decode.specs.Instructions.{bits_of_width}
 use Rattle.vreg_groups.specs.Words.{Lmul, Vtype, W16, W32, W8, Width}
 use Rattle.vreg_groups.specs.declared.vector_type.Lmul.TheVariants.{Quarter, Half, One, Two, Four, Eight}
 
 -- vtype with vill set and every other bit clear
 abbrev pub vill : ℕ
 vill = 0x8000_0000
-
--- the number of bits, and of bytes, of an element
-abbrev pub bits_of_width : Width → ℕ
-bits_of_width W8 = 8
-bits_of_width W16 = 16
-bits_of_width W32 = 32
-
-abbrev pub bytes_of_width : Width → ℕ
-bytes_of_width width = bits_of_width width / 8
 
 -- LMUL in eighths
 abbrev pub eighths_of : Lmul → ℕ

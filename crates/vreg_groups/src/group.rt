@@ -15,7 +15,7 @@ use crate::elements::Element;
 use crate::legality::whole_count;
 use crate::policies::Policy;
 use crate::registers::VregFile;
-use crate::vector_type::{Vtype, bits_of, eew_bits};
+use crate::vector_type::{Vtype, eew_bits};
 use rv_decode::{Count, Eew, Reg, Width};
 use std::marker::Model;
 
@@ -80,7 +80,7 @@ impl<const VLENB: usize> Group<VLENB> {
         ensures { result ≡ whole_of VLENB first count width }
     {
         let count = whole_count(count);
-        let bytes = bits_of(width) / 8;
+        let bytes = usize::from(width.bytes());
         Group {
             first,
             count,

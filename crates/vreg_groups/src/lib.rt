@@ -2,13 +2,13 @@
 //! are legal.
 #![tactic(auto)]
 
-mod block;
 mod bytes;
 mod chunks;
 mod elements;
 mod group;
 pub mod laws;
 mod legality;
+mod lendable;
 mod policies;
 mod registers;
 mod setup;

@@ -9,12 +9,12 @@ ghost use Rattle.vreg_groups.specs.Elements.{mask_bits, active_of};
 ghost use Rattle.vreg_groups.specs.VectorLength.{IsVlenb};
 ghost use Rattle.vreg_groups.specs.NewElements.{bytes_written, overlaid, write_of, mask_write_of};
 
-use crate::block::Block;
 use crate::bytes::{
     are_bytes, bit_at, overlay, read_bits, read_elements, write_all_bytes, write_all_elements,
     write_bits, write_elements,
 };
 use crate::elements::Element;
+use crate::lendable::Lendable;
 use crate::policies::{Agnostic, Policy};
 use rv_decode::Reg;
 use std::marker::Model;
@@ -22,7 +22,7 @@ use std::marker::Model;
 /// The 32 vector registers, of `VLENB` bytes each: 16, 32 or 64. Register n begins at byte n * VLENB.
 #[derive(Drop)]
 pub struct VregFile<const VLENB: usize> {
-    bytes: Block<u8, 2048>,
+    bytes: Lendable<u8, 2048>,
 }
 
 impl<const VLENB: usize> Model for VregFile<VLENB> {
@@ -45,7 +45,7 @@ impl<const VLENB: usize> VregFile<VLENB> {
         ensures { result ≡ replicate (32 * VLENB) 0 }
     {
         VregFile {
-            bytes: Block { items: [0; 2048] },
+            bytes: Lendable { items: [0; 2048] },
         }
     }
 

@@ -4,7 +4,8 @@
 ghost use Rattle.std.specs.Prelude.{◌≡◌, ℕ, ◌*◌, ◌/◌, ◌<◌, ◌≤◌, ◌⊎◌};
 ghost use Rattle.vreg_groups.specs.Legality.{eew_bits, emul_eighths, group_count};
 ghost use Rattle.vreg_groups.specs.VectorLength.{IsVlenb};
-ghost use Rattle.vreg_groups.specs.VectorType.{bits_of_width, bytes_of_width, eighths_of, sew_of};
+ghost use Rattle.rv_decode.specs.Instructions.{bits_of_width, bytes_of_width};
+ghost use Rattle.vreg_groups.specs.VectorType.{eighths_of, sew_of};
 ghost use Rattle.vreg_groups.specs.VectorType.{lmul_of, is_supported, type_in, vtype_of, vlmax_of};
 ghost use Rattle.vreg_groups.specs.declared.vector_type.TheConstants.{MOST_ELEMENTS};
 
@@ -159,15 +160,11 @@ fn over_bits(n: usize, width: Width) -> usize
 
 // How many bits an element of this width has.
 #[inline(always)]
-pub(crate) fn bits_of(width: Width) -> usize
+fn bits_of(width: Width) -> usize
     ensures meaning { result ≡ bits_of_width width }
     ensures bound { (result ≡ 8) ⊎ (result ≡ 16) ⊎ (result ≡ 32) }
 {
-    match width {
-        Width::W8 => 8,
-        Width::W16 => 16,
-        Width::W32 => 32,
-    }
+    usize::from(width.bits())
 }
 
 #[inline(always)]

@@ -51,11 +51,11 @@ use denote.Slice.{MutSlice, Room, slice_val}
 use borrow.Table.Elements.{at, at_mul, cut_app, join_app, length-take-le}
 use Rattle.std.proofs.lemmas.List.{append_assoc, drop-drop}
 use Rattle.vreg_groups.specs.NewElements.{overlaid, overlaid_within}
-use Rattle.vreg_groups.proofs.BlockMemory.{args, R, S, start, Left, elements_out, elements_in}
-use Rattle.vreg_groups.specs.contracts.block.Block.part_mut as F
-use Rattle.vreg_groups.specs.contracts.block.Block.part_mut.Key.{name as #self}
-use Rattle.vreg_groups.proofs.block.Block.part_mut.Statement as stated
-use Rattle.vreg_groups.proofs.block.Block.part_mut.Code as code
+use Rattle.vreg_groups.proofs.LendableMemory.{args, R, S, start, Left, elements_out, elements_in}
+use Rattle.vreg_groups.specs.contracts.lendable.Lendable.part_mut as F
+use Rattle.vreg_groups.specs.contracts.lendable.Lendable.part_mut.Key.{name as #self}
+use Rattle.vreg_groups.proofs.lendable.Lendable.part_mut.Statement as stated
+use Rattle.vreg_groups.proofs.lendable.Lendable.part_mut.Code as code
 
 -- where the product fits a word, the count is zero or the size fits too
 uncapped : (i k : ℕ) → i * k < 2 ^ 64 → i * capped k ≡ i * k

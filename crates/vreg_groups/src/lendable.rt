@@ -5,11 +5,11 @@ ghost use Rattle.std.specs.Borrow.{sem};
 
 /// An array in a struct of its own, so that a contract can say what a loan of a part of it leaves.
 #[derive(Drop)]
-pub(crate) struct Block<T, const N: usize> {
+pub(crate) struct Lendable<T, const N: usize> {
     pub(crate) items: [T; N],
 }
 
-impl<T, const N: usize> Block<T, N> {
+impl<T, const N: usize> Lendable<T, N> {
     ghost use Rattle.vreg_groups.specs.Lends.{lends_part};
 
     /// The n items from place `at` on, to be written.

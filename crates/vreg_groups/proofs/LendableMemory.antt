@@ -1,4 +1,4 @@
--- A block in memory is its items side by side, and back.
+-- A lendable array in memory is its items side by side, and back.
 use mathlib.Core.Path.{◌≡◌, refl, sym}
 use Prim.Native.Nat.{ℕ, zero, ◌+◌}
 use mathlib.Core.List.{List, [], ◌∷◌}
@@ -25,7 +25,7 @@ use denote.Struct.Members.{Member, raw_tys}
 use denote.Struct.Parts.{shape_of, Struct-left, left_Struct}
 use denote.Struct.Recorded.{Recorded-part}
 use denote.Struct.Struct.{Struct}
-use Rattle.vreg_groups.specs.contracts.block.Block.{the_row, the_type}
+use Rattle.vreg_groups.specs.contracts.lendable.Lendable.{the_row, the_type}
 
 module _ (X : RattleType) (n : ℕ) where
   abbrev pub args : Args
