@@ -26,7 +26,10 @@ impl Table for Legality {
 /// Whether a word is legal under a vector type; None where it means nothing.
 fn is_legal(vtype: u32, word: u32) -> Option<bool> {
     let config = Vconfig { vtype, vl: 0 };
-    Some(legal(&config, &decode(word)?))
+    let Some(insn) = decode(word) else {
+        return None;
+    };
+    Some(legal(&config, &insn))
 }
 
 /// What is told of a word that is not as legal as expected, or means nothing.
