@@ -3,7 +3,7 @@ ghost use Rattle.std.specs.Prelude.{◌≡◌, ◌+◌, ◌*◌, ◌%◌, ◌^�
 ghost use Rattle.std.specs.Prelude.{map, option_to_list, vec_capacity};
 ghost use Rattle.std.specs.Option.{option_map};
 ghost use Rattle.rv_decode.specs.Needs.{eew_of as eew_of_of, needs_of};
-ghost use Rattle.vreg_groups.specs.Legality.{count_of as count_of_of, eew_bits as eew_bits_of};
+ghost use Rattle.vreg_groups.specs.Legality.{count_of as count_of_of};
 ghost use Rattle.vreg_groups.specs.VectorLength.{IsVlenb};
 ghost use Rattle.rv_decode.specs.Instructions.{bits_of_width};
 ghost use Rattle.abs_transfer.specs.Facts.{all_of_bits as all_of_bits_of};
@@ -44,20 +44,6 @@ fn bits_of(width: Width) -> u32
     ensures bound { result ≤ 32 }
 {
     u32::from(width.bits())
-}
-
-/// EEW in bits, under this SEW.
-fn eew_bits(sew: Width, eew: Eew) -> u32
-    ensures meaning { result ≡ eew_bits_of sew eew }
-    ensures bound { result ≤ 64 }
-{
-    match eew {
-        Eew::Quarter => bits_of(sew) / 4,
-        Eew::Half => bits_of(sew) / 2,
-        Eew::Same => bits_of(sew),
-        Eew::Double => 2 * bits_of(sew),
-        Eew::Fixed(width) => bits_of(width),
-    }
 }
 
 /// All numbers of at most 32 bits.
@@ -109,7 +95,7 @@ pub(crate) fn source_range(
 ) -> Range
     ensures { result ≡ source_range_of t.now vl first eew facts.now }
 {
-    let width = eew_bits(t.sew, eew);
+    let width = u32::from(t.eew_bits(eew));
     match source_fact(vl, first, width, t.group_count(eew), facts) {
         Some(fact) => Range {
             lo: fact.low,

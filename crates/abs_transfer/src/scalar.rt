@@ -29,11 +29,7 @@ fn size_of_load(kind: LoadKind) -> u64
     ensures value { result ≡ size_of_load_of kind }
     ensures few { result ≤ 4 }
 {
-    match kind {
-        LoadKind::Byte | LoadKind::ByteUnsigned => 1,
-        LoadKind::Half | LoadKind::HalfUnsigned => 2,
-        LoadKind::Word => 4,
-    }
+    u64::from(kind.width().bytes())
 }
 
 /// How many bytes a store writes.

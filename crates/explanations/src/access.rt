@@ -41,11 +41,7 @@ pub struct Access {
 fn load_size(kind: LoadKind) -> u8
     ensures { result ≡ size_of_load kind }
 {
-    match kind {
-        LoadKind::Byte | LoadKind::ByteUnsigned => 1,
-        LoadKind::Half | LoadKind::HalfUnsigned => 2,
-        LoadKind::Word => 4,
-    }
+    kind.width().bytes()
 }
 
 #[tactic(auto, unfolding(scalar_core::specs::Step::size_of_store))]

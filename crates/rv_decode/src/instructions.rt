@@ -178,6 +178,22 @@ pub enum LoadKind {
     HalfUnsigned,
 }
 
+impl LoadKind {
+    ghost use Rattle.rv_decode.specs.Instructions.{width_of_load};
+
+    /// How wide what it reads is: 8, 16 or 32 bits.
+    #[inline(always)]
+    pub fn width(self) -> Width
+        ensures { result ≡ width_of_load self }
+    {
+        match self {
+            LoadKind::Byte | LoadKind::ByteUnsigned => Width::W8,
+            LoadKind::Half | LoadKind::HalfUnsigned => Width::W16,
+            LoadKind::Word => Width::W32,
+        }
+    }
+}
+
 /// The operations on a register and a signed immediate.
 #[derive(Clone, Copy, PartialEq, Eq, Debug)]
 pub enum ImmediateOp {

@@ -2,7 +2,7 @@
 -- memory, or the fault.
 use Rattle.std.specs.Prelude.{ℕ, ◌+◌, ◌-◌, ◌%◌, ◌^◌, ◌==◌, Bool, true, false, if◌then◌else◌, ℤ, Option, Some, None, Result, Ok, Err}
 use Rattle.std.specs.Int.{w8, w16, cast_signed}
-use Rattle.rv_decode.specs.Instructions.{bytes_of_width}
+use Rattle.rv_decode.specs.Instructions.{bytes_of_width, width_of_load}
 use Rattle.scalar_core.specs.Words.{Insn, ScalarInsn, Condition, LoadKind, Width, Lui, Auipc, Jal, Jalr, Branch, Load, Store}
 use Rattle.scalar_core.specs.Words.{Immediate, ShiftImmediate, Register, Fence, Ecall, Fault, JumpMisaligned, LoadFault}
 use Rattle.scalar_core.specs.Words.{StoreFault, Memory, load_of, store_of, Vconfig}
@@ -50,11 +50,7 @@ address_of rs1 offset h = offset_by (reg_of rs1 h) offset
 
 -- how many bytes a load reads and a store writes
 unfoldable pub size_of_load : LoadKind → ℕ
-size_of_load LoadKind.Byte = 1
-size_of_load LoadKind.Half = 2
-size_of_load LoadKind.Word = 4
-size_of_load LoadKind.ByteUnsigned = 1
-size_of_load LoadKind.HalfUnsigned = 2
+size_of_load kind = bytes_of_width (width_of_load kind)
 
 unfoldable pub size_of_store : Width → ℕ
 size_of_store width = bytes_of_width width

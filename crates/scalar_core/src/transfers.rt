@@ -45,11 +45,7 @@ fn size_of_load(kind: LoadKind) -> usize
     ensures value { result ≡ size_of_load_of kind }
     ensures size { IsAccessSize result }
 {
-    match kind {
-        LoadKind::Byte | LoadKind::ByteUnsigned => 1,
-        LoadKind::Half | LoadKind::HalfUnsigned => 2,
-        LoadKind::Word => 4,
-    }
+    usize::from(kind.width().bytes())
 }
 
 /// What a load puts into its register: the number, extended to 32 bits by its sign or by zeros.

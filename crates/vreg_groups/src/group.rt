@@ -15,7 +15,7 @@ use crate::elements::Element;
 use crate::legality::whole_count;
 use crate::policies::Policy;
 use crate::registers::VregFile;
-use crate::vector_type::{Vtype, eew_bits};
+use crate::vector_type::Vtype;
 use rv_decode::{Count, Eew, Reg, Width};
 use std::marker::Model;
 
@@ -54,7 +54,7 @@ impl<const VLENB: usize> Group<VLENB> {
         Group {
             first,
             count: vtype.group_count(eew),
-            bytes: eew_bits(vtype.sew, eew) / 8,
+            bytes: usize::from(vtype.eew_bits(eew)) / 8,
             vl,
         }
     }

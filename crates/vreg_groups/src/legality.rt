@@ -18,7 +18,7 @@ ghost use Rattle.vreg_groups.specs.Legality.{is_destination_legal, are_operands_
 ghost use Rattle.vreg_groups.specs.Legality.{AreAllInside, IsInside};
 
 use crate::vector_length::Vconfig;
-use crate::vector_type::{Vtype, eew_bits, emul_eighths, type_in};
+use crate::vector_type::{Vtype, emul_eighths, type_in};
 use rv_decode::{
     Addressing, Count, Direction, Eew, Extent, Insn, Operand, Operands, Reg, Sharing, Source,
     VArith, VMem, needs,
@@ -210,7 +210,7 @@ fn is_operand_legal(vtype: Option<Vtype>, operand: &Operand) -> bool
         },
         Extent::Single(eew) => match vtype {
             None => false,
-            Some(vtype) => is_width(eew_bits(vtype.sew, eew)),
+            Some(vtype) => is_width(usize::from(vtype.eew_bits(eew))),
         },
         Extent::Mask => vtype.is_some(),
     }
@@ -226,7 +226,7 @@ fn is_group_legal(vtype: &Vtype, eew: Eew, first: usize) -> bool
         × (8 ≤ eew_bits vtype.now.sew eew) × (eew_bits vtype.now.sew eew ≤ 32)
         × (group_count vtype.now eew ≤ 8) }
 {
-    is_width(eew_bits(vtype.sew, eew))
+    is_width(usize::from(vtype.eew_bits(eew)))
         && emul_eighths(vtype, eew) <= 64
         && is_multiple(first, vtype.group_count(eew))
 }
@@ -454,7 +454,7 @@ fn element_bits(vtype: &Vtype, extent: Extent) -> usize
     ensures { result ≡ element_bits vtype.now extent }
 {
     match extent {
-        Extent::Group(eew) | Extent::Single(eew) => eew_bits(vtype.sew, eew),
+        Extent::Group(eew) | Extent::Single(eew) => usize::from(vtype.eew_bits(eew)),
         Extent::Mask => 1,
         Extent::Whole(_) => 8,
     }

@@ -87,6 +87,21 @@ impl Vtype {
     {
         (emul_eighths(self, eew) / 8).max(1)
     }
+
+    /// How many bits an element of this width has under this type's SEW: EEW, at most 64.
+    #[inline(always)]
+    pub fn eew_bits(&self, eew: Eew) -> u8
+        ensures meaning { result ≡ eew_bits self.now.sew eew }
+        ensures bound { result ≤ 64 }
+    {
+        match eew {
+            Eew::Quarter => self.sew.bits() / 4,
+            Eew::Half => self.sew.bits() / 2,
+            Eew::Same => self.sew.bits(),
+            Eew::Double => 2 * self.sew.bits(),
+            Eew::Fixed(width) => width.bits(),
+        }
+    }
 }
 
 /// The type that an instruction works under; where there is none, any will do.
@@ -112,22 +127,10 @@ pub(crate) fn emul_eighths(vtype: &Vtype, eew: Eew) -> usize
     ensures meaning { result ≡ emul_eighths vtype.now eew }
     ensures bound { result ≤ 512 }
 {
-    over_bits(eew_bits(vtype.sew, eew) * eighths(vtype.lmul), vtype.sew)
-}
-
-// EEW, in bits.
-#[inline(always)]
-pub(crate) fn eew_bits(sew: Width, eew: Eew) -> usize
-    ensures meaning { result ≡ eew_bits sew eew }
-    ensures bound { result ≤ 64 }
-{
-    match eew {
-        Eew::Quarter => bits_of(sew) / 4,
-        Eew::Half => bits_of(sew) / 2,
-        Eew::Same => bits_of(sew),
-        Eew::Double => 2 * bits_of(sew),
-        Eew::Fixed(width) => bits_of(width),
-    }
+    over_bits(
+        usize::from(vtype.eew_bits(eew)) * eighths(vtype.lmul),
+        vtype.sew,
+    )
 }
 
 // LMUL, counted in eighths.

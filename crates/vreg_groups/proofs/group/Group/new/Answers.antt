@@ -1,4 +1,4 @@
-use Rattle.std.proofs.Common.{◌≤◌, ◌*◌, ℕ, arith, subst, sym}
+use Rattle.std.proofs.Common.{◌≤◌, ◌*◌, ℕ, arith, subst, sym, ◌∙◌}
 use Rattle.vreg_groups.specs.Legality.{count_of}
 use Rattle.vreg_groups.proofs.Sizes.{bytes_fit}
 use Rattle.vreg_groups.proofs.group.Group.new.Goals as goal
@@ -12,6 +12,7 @@ invariant_of-result g c =
       c.requires.vlenb,
       omega (arith, c.requires.inside.registers, c.group_count.ensures.meaning),
       omega (arith, c.requires.inside.size, c.group_count.ensures.meaning),
-      bytes_fit c.eew_bits.result c.args.vl (c.group_count.result * g.row.VLENB)
-          (subst (λ (bits : ℕ). bits * c.args.vl ≤ 8 * (c.group_count.result * g.row.VLENB)) (sym c.eew_bits.ensures.meaning) room),
+      bytes_fit c.from.result c.args.vl (c.group_count.result * g.row.VLENB)
+          (subst (λ (bits : ℕ). bits * c.args.vl ≤ 8 * (c.group_count.result * g.row.VLENB))
+          (sym (c.from.ensures ∙ c.eew_bits.ensures.meaning)) room),
     )
