@@ -18,6 +18,14 @@ fn sum() -> Insn {
     })
 }
 
+/// e16, m1, ta, mu
+const E16: Vtype = Vtype {
+    sew: Width::W16,
+    lmul: Lmul::One,
+    vta: true,
+    vma: false,
+};
+
 #[test]
 fn legality_answers_the_vector_type(rt: HostRuntime) -> Result<(), Fail> {
     assert_same!(rt; legal_type(&Vconfig::none(), &sum()), None);
@@ -33,15 +41,9 @@ fn legality_answers_the_vector_type(rt: HostRuntime) -> Result<(), Fail> {
 #[tactic(auto, unfolding(vreg_groups::specs::VectorType::vlmax_of, vreg_groups::specs::Legality::count_of, vreg_groups::specs::Legality::element_bits, vreg_groups::specs::Legality::group_count, vreg_groups::specs::Legality::emul_eighths))]
 #[test]
 fn a_group_is_written_and_read(rt: HostRuntime) -> Result<(), Fail> {
-    let vtype = Vtype {
-        sew: Width::W16,
-        lmul: Lmul::One,
-        vta: true,
-        vma: false,
-    };
     let mut registers = VregFile::<16>::new();
-    let group = Group::<16>::new(&vtype, 3, Reg::new(4), Eew::Same);
-    let policy = Policy::of(Agnostic::Ones, &vtype);
+    let group = Group::<16>::new(&E16, 3, Reg::new(4), Eew::Same);
+    let policy = Policy::of(Agnostic::Ones, &E16);
     group.write(
         &mut registers,
         &[1u16, 2, 0x304],
@@ -60,15 +62,9 @@ fn a_group_is_written_and_read(rt: HostRuntime) -> Result<(), Fail> {
 #[tactic(auto, unfolding(vreg_groups::specs::VectorType::vlmax_of, vreg_groups::specs::Legality::count_of, vreg_groups::specs::Legality::element_bits, vreg_groups::specs::Legality::group_count, vreg_groups::specs::Legality::emul_eighths))]
 #[test]
 fn a_body_is_written_and_read_by_its_bytes(rt: HostRuntime) -> Result<(), Fail> {
-    let vtype = Vtype {
-        sew: Width::W16,
-        lmul: Lmul::One,
-        vta: true,
-        vma: false,
-    };
-    let policy = Policy::of(Agnostic::Ones, &vtype);
+    let policy = Policy::of(Agnostic::Ones, &E16);
     let mut registers = VregFile::<16>::new();
-    let group = Group::<16>::new(&vtype, 3, Reg::new(4), Eew::Same);
+    let group = Group::<16>::new(&E16, 3, Reg::new(4), Eew::Same);
     group.write_all(&mut registers, &[1u16, 2, 0x304], policy);
     assert_same!(rt; group.body_bytes(&registers), [1, 0, 2, 0, 4, 3].as_slice());
     group.write_bytes(&mut registers, &[5, 6, 7, 8, 9, 10], policy);

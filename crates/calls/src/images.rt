@@ -1,19 +1,16 @@
 //! How a file is read.
 use crate::assertions::{assert_same, found, given};
+use crate::fixture::{elf_header, file_of};
 use elf_image::*;
 use std::alloc::Global;
 use std::process::Abort;
 
-/// An executable as the standard lays it out: a header, three program headers, code, data, a note.
+/// What stands behind the ELF header of an executable as the standard lays it out: three program
+/// headers, code, data, a note.
 ///
 /// The code is vsetvli t0,a2,e8,m1,ta,ma; vle8.v v8,(a0); vle8.v v16,(a1); vadd.vv v8,v8,v16;
 /// vse8.v v8,(a0); ecall.
-const FILE: [u8; 200] = [
-    // ELF header: an executable for RISC-V, entry 0x10000, program headers at 52.
-    0x7f, 0x45, 0x4c, 0x46, 1, 1, 1, 0, 0, 0, 0, 0, 0, 0, 0, 0, // e_ident
-    2, 0, 243, 0, 1, 0, 0, 0, // e_type, e_machine, e_version
-    0x00, 0x00, 0x01, 0x00, 52, 0, 0, 0, 0, 0, 0, 0, // e_entry, e_phoff, e_shoff
-    0, 0, 0, 0, 52, 0, 32, 0, 3, 0, 0, 0, 0, 0, 0, 0, // e_flags, e_ehsize, e_phentsize, e_phnum
+const BEHIND: [u8; 148] = [
     // LOAD: 24 bytes at 0x10000, read and execute.
     1, 0, 0, 0, 148, 0, 0, 0, 0x00, 0x00, 0x01, 0x00, 0x00, 0x00, 0x01, 0x00, //
     24, 0, 0, 0, 24, 0, 0, 0, 5, 0, 0, 0, 4, 0, 0, 0, //
@@ -33,8 +30,14 @@ const FILE: [u8; 200] = [
     1, 2, 3, 4,
 ];
 
+/// That executable, whose header says that it has so many program headers.
+fn file(rt: impl Abort + Copy, alloc: Global, headers: u8) -> Vec<u8> {
+    file_of(rt, alloc, elf_header(0x1_0000, 52, headers), &BEHIND)
+}
+
 fn image(rt: impl Abort + Copy, alloc: Global) -> Image {
-    given!(rt; read(alloc, &FILE))
+    let file = file(rt, alloc, 3);
+    given!(rt; read(alloc, &file))
 }
 
 #[test]
@@ -77,16 +80,16 @@ fn assert_code(rt: impl Abort + Copy, image: &Image) {
 }
 
 /// The file of another machine, with a faulty table besides.
-fn faulty() -> [u8; 200] {
-    let mut file = FILE;
-    file[18] = 62;
-    file[44] = 0;
+fn faulty(rt: impl Abort + Copy, alloc: Global) -> Vec<u8> {
+    let mut file = file(rt, alloc, 0);
+    *found!(rt; file.get_mut(18)) = 62;
     file
 }
 
 #[test]
 fn tells_why_a_file_is_refused(rt: HostRuntime) {
-    let error = found!(rt; read(rt.alloc(), &faulty()).err());
+    let file = faulty(rt, rt.alloc());
+    let error = found!(rt; read(rt.alloc(), &file).err());
     assert_same!(rt; error, ElfError::BadMachine);
     let text = given!(rt; format!(in rt.alloc(); "{error}"));
     assert_same!(rt; text.as_str(), "the file is not for RISC-V");

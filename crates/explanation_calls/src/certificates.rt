@@ -1,6 +1,6 @@
 //! Why bytes are no certificate: the kernel's certificate with a byte changed, or cut off.
 use crate::assertions::{assert_same, assert_shows, given};
-use crate::samples::{certificate, ordered, put};
+use crate::samples::{certificate, ordered, with_byte};
 use cert_note::CertError;
 use explanations::certificate_reason;
 use std::alloc::Global;
@@ -29,8 +29,7 @@ fn assert_told_of_byte(
     error: CertError,
     expected: &str,
 ) {
-    let mut bytes = certificate(rt, alloc);
-    put(rt, &mut bytes, place, byte);
+    let bytes = with_byte(rt, certificate(rt, alloc), place, byte);
     assert_told(rt, alloc, &bytes, error, expected);
 }
 
@@ -107,8 +106,7 @@ fn tells_an_order(rt: HostRuntime) {
   in block 2, counted from 0
   wanted: two registers without an equality, the greater one rising
 ";
-    let mut bytes = ordered(rt, rt.alloc());
-    put(rt, &mut bytes, 273, 0);
+    let bytes = with_byte(rt, ordered(rt, rt.alloc()), 273, 0);
     assert_told(rt, rt.alloc(), &bytes, CertError::Order, expected);
 }
 

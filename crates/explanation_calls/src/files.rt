@@ -1,6 +1,6 @@
 //! Why files are refused: the kernel's file with some bytes changed.
-use crate::assertions::{assert_same, assert_shows};
-use crate::samples::{SUM, file_of, put};
+use crate::assertions::{assert_same, assert_shows, given};
+use crate::samples::{SUM, file_of, with_byte};
 use elf_image::ElfError;
 use explanations::image_reason;
 use std::alloc::Global;
@@ -15,8 +15,7 @@ fn assert_told(
     error: ElfError,
     expected: &str,
 ) {
-    let mut file = file_of(rt, alloc, &SUM);
-    put(rt, &mut file, place, byte);
+    let file = with_byte(rt, file_of(rt, alloc, &SUM), place, byte);
     assert_refused(rt, alloc, &file, error, expected);
 }
 
@@ -142,19 +141,29 @@ fn tells_a_large_segment(rt: HostRuntime) {
     assert_told(rt, rt.alloc(), 75, 1, ElfError::TooLarge, expected);
 }
 
-/// A file with so many program headers, of which these words spell the ones behind the first.
-fn file_with(rt: impl Abort + Copy, alloc: Global, headers: u8, words: &[u32]) -> Vec<u8> {
-    let mut file = file_of(rt, alloc, words);
-    put(rt, &mut file, 44, headers);
-    file
+/// A file with so many program headers, of which these words spell the ones behind the first, and then a note.
+fn file_with(
+    rt: impl Abort + Copy,
+    alloc: Global,
+    headers: u8,
+    words: &[u32],
+    note: &[u32],
+) -> Vec<u8> {
+    let mut all = Vec::new(alloc);
+    given!(rt; all.extend_from_slice(words));
+    given!(rt; all.extend_from_slice(note));
+    with_byte(rt, file_of(rt, alloc, &all), 44, headers)
 }
+
+/// The note: its name is `RVVBOX`, its type 1, and it has four bytes.
+const NOTE: [u32; 6] = [7, 4, 1, 0x4256_5652, 0x0000_584f, 0];
 
 /// The second segment begins four bytes before the end of the first one.
 #[test]
 fn tells_two_segments_that_overlap(rt: HostRuntime) {
     let alloc = rt.alloc();
     let second = [1, 84, 0x0001_001c, 0x0001_001c, 4, 4, 4, 4];
-    let file = file_with(rt, alloc, 2, &second);
+    let file = file_with(rt, alloc, 2, &second, &[]);
     let expected = "  program header 0 at byte 52 of the file:
   p_type 1, p_offset 84, p_vaddr 0x00010000
   p_filesz 32, p_memsz 32, p_flags 5
@@ -166,35 +175,12 @@ fn tells_two_segments_that_overlap(rt: HostRuntime) {
     assert_refused(rt, alloc, &file, ElfError::SegmentsOverlap, expected);
 }
 
-/// Two program headers name one note: its name is `RVVBOX`, its type 1, and it has four bytes.
+/// Two program headers name one note.
 #[test]
 fn tells_two_certificates(rt: HostRuntime) {
     let alloc = rt.alloc();
-    let words = [
-        4,
-        148,
-        0,
-        0,
-        24,
-        24,
-        4,
-        4,
-        4,
-        148,
-        0,
-        0,
-        24,
-        24,
-        4,
-        4,
-        7,
-        4,
-        1,
-        0x4256_5652,
-        0x0000_584f,
-        0,
-    ];
-    let file = file_with(rt, alloc, 3, &words);
+    let headers = [4, 148, 0, 0, 24, 24, 4, 4, 4, 148, 0, 0, 24, 24, 4, 4];
+    let file = file_with(rt, alloc, 3, &headers, &NOTE);
     let expected = "  wanted: one note with a certificate\n";
     assert_refused(rt, alloc, &file, ElfError::TwoCertificates, expected);
 }
@@ -203,23 +189,8 @@ fn tells_two_certificates(rt: HostRuntime) {
 #[test]
 fn tells_a_certificate_that_is_there(rt: HostRuntime) {
     let alloc = rt.alloc();
-    let words = [
-        4,
-        116,
-        0,
-        0,
-        24,
-        24,
-        4,
-        4,
-        7,
-        4,
-        1,
-        0x4256_5652,
-        0x0000_584f,
-        0,
-    ];
-    let file = file_with(rt, alloc, 2, &words);
+    let header = [4, 116, 0, 0, 24, 24, 4, 4];
+    let file = file_with(rt, alloc, 2, &header, &NOTE);
     let refused = elf_image::attach(alloc, &file, "another".as_bytes()).err();
     assert_same!(rt; refused, Some(ElfError::CertificateThere));
     let reason = image_reason(&file, ElfError::CertificateThere);

@@ -65,10 +65,16 @@ pub(crate) fn ordered(rt: impl Abort + Copy, alloc: Global) -> Vec<u8> {
     given!(rt; decode(alloc, ORDERED))
 }
 
-/// Changes the byte at a place.
-pub(crate) fn put(rt: impl Abort + Copy, bytes: &mut [u8], place: usize, byte: u8) {
+/// These bytes, with the one at a place changed.
+pub(crate) fn with_byte(
+    rt: impl Abort + Copy,
+    mut bytes: Vec<u8>,
+    place: usize,
+    byte: u8,
+) -> Vec<u8> {
     match bytes.get_mut(place) {
         Some(old) => *old = byte,
         None => panic!(rt; "there is no byte {place}"),
     }
+    bytes
 }

@@ -1,5 +1,5 @@
 //! `check` and `run`, on a kernel whose certificate is spelled here, field by field.
-use crate::shelf::{Broken, DONE, Outcome, expect, expect_silence, shelf_of};
+use crate::shelf::{Broken, done, expect, expect_silence, failed, shelf_of, unfinished};
 use commands::Status;
 
 /// A static image of one segment, up to the certificate in its note.
@@ -99,11 +99,7 @@ fn tells_the_bound_of_an_image(rt: HostRuntime) {
         (IMAGE, OF_TWO, "accepted: bound 4 + 2 * x11 + 3 * x12\n"),
         (OF_THREE_SEGMENTS, "", "accepted: bound 4 + 0 * x0\n"),
     ] {
-        let told = Outcome {
-            output,
-            calls: IMAGE_READ,
-            ..DONE
-        };
+        let told = done(output, IMAGE_READ, "");
         expect(rt, rt.alloc(), &[image, CERTIFICATE, change], CHECK, told);
     }
 }
@@ -128,12 +124,7 @@ fn refuses_images_that_do_not_pass(rt: HostRuntime) {
     ] {
         let files = [JOB, SETTINGS, PARAMS, BUFFERS, image, certificate, change];
         for (words, calls) in [(CHECK, IMAGE_READ), (RUN, JOB_READ)] {
-            let told = Outcome {
-                status: Status::Refused,
-                errors,
-                calls,
-                ..DONE
-            };
+            let told = unfinished(Status::Refused, errors, calls);
             expect(rt, rt.alloc(), &files, words, told);
         }
     }
@@ -149,12 +140,7 @@ fn runs_what_is_accepted(rt: HostRuntime) {
         (LONGEST, longest, "@file told\n@hex 40000000 05000000\n"),
     ] {
         let files = [JOB, settings, PARAMS, BUFFERS, IMAGE, CERTIFICATE, change];
-        let told = Outcome {
-            output: "ended: 4 steps\n",
-            calls: WRITES,
-            written: [written, ""],
-            ..DONE
-        };
+        let told = done("ended: 4 steps\n", WRITES, written);
         expect(rt, rt.alloc(), &files, RUN, told);
     }
 }
@@ -186,25 +172,15 @@ fn refuses_runs_of_accepted_images(rt: HostRuntime) {
         (FEW, PARAMS, "refused: BoundTooLarge\n", ALL_READ),
     ] {
         let files = [JOB, settings, params, BUFFERS, IMAGE, CERTIFICATE];
-        let told = Outcome {
-            status: Status::Refused,
-            errors,
-            calls,
-            ..DONE
-        };
+        let told = unfinished(Status::Refused, errors, calls);
         expect(rt, rt.alloc(), &files, RUN, told);
     }
 }
 
 #[test]
 fn refuses_jobs(rt: HostRuntime) {
-    let told = Outcome {
-        status: Status::Usage,
-        errors: "job: BadKey\n",
-        calls: "read job.toml\n",
-        ..DONE
-    };
     let files = [JOB, SETTINGS, UNKNOWN, BUFFERS, IMAGE, CERTIFICATE];
+    let told = unfinished(Status::Usage, "job: BadKey\n", "read job.toml\n");
     expect(rt, rt.alloc(), &files, RUN, told);
 }
 
@@ -236,13 +212,7 @@ fn ends_at_the_first_file_that_fails(rt: HostRuntime) {
         ),
     ] {
         let files = [JOB, SETTINGS, PARAMS, BUFFERS, IMAGE, CERTIFICATE, fails];
-        let told = Outcome {
-            status: Status::File,
-            output: "",
-            errors,
-            calls,
-            written: [written, ""],
-        };
+        let told = failed(errors, calls, written);
         expect(rt, rt.alloc(), &files, words, told);
     }
 }

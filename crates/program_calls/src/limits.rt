@@ -1,6 +1,6 @@
 //! Calls at the limits: streams that fail late, large files, long jobs, many segments, the most steps.
 use crate::assertions::{assert_same, given};
-use crate::shelf::{DONE, Outcome, Stuck, assert_text, expect, shelf_of, words_of};
+use crate::shelf::{Stuck, assert_text, done, expect, shelf_of, words_of};
 use command_line::{end_without_words, perform};
 use commands::{Disk, Status, Store};
 use std::alloc::{AllocError, Global};
@@ -69,11 +69,7 @@ fn comment(rt: impl Abort + Copy, alloc: Global, letters: usize) -> String {
 /// Asserts that a job with such a comment and this number of steps is done.
 fn runs_long(rt: impl Abort + Copy, alloc: Global, letters: usize, max: &str) {
     let comment = comment(rt, alloc, letters);
-    let told = Outcome {
-        output: "ended: 1 steps\n",
-        calls: "read job.toml\nread kernel.elf\n",
-        ..DONE
-    };
+    let told = done("ended: 1 steps\n", "read job.toml\nread kernel.elf\n", "");
     expect(rt, alloc, &[comment.as_str(), JOB, max, KERNEL], TRY, told);
 }
 

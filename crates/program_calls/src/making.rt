@@ -1,5 +1,7 @@
 //! `make`, on the loop of the example `raise_words`, whose certificate by hand stands here.
-use crate::shelf::{Broken, DONE, Outcome, Shelf, expect, expect_on, expect_silence, shelf_of};
+use crate::shelf::{
+    Broken, DONE, Outcome, Shelf, expect, expect_on, expect_silence, failed, shelf_of, unfinished,
+};
 use commands::Status;
 use std::alloc::Global;
 use std::process::Abort;
@@ -145,16 +147,15 @@ fn makes_what_is_accepted_and_runs(rt: HostRuntime) {
     );
 }
 
-/// Asserts that `make` refuses what a text changes, and writes nothing.
+/// Asserts that of these files `make` reads two and writes none, since it refuses the image.
+fn refuses_files(rt: impl Abort + Copy, alloc: Global, files: &[&str], errors: &str) {
+    let told = unfinished(Status::Refused, errors, READS);
+    expect(rt, alloc, files, MAKE, told);
+}
+
+/// The same of a loop, of which a text changes the files.
 fn refuses(rt: impl Abort + Copy, alloc: Global, change: &str, errors: &str) {
-    let told = Outcome {
-        status: Status::Refused,
-        errors,
-        calls: READS,
-        ..DONE
-    };
-    let files = [JOB, PARAMS, WORDS, KERNEL, change];
-    expect(rt, alloc, &files, MAKE, told);
+    refuses_files(rt, alloc, &[JOB, PARAMS, WORDS, KERNEL, change], errors);
 }
 
 #[test]
@@ -166,14 +167,8 @@ fn refuses_images(rt: HostRuntime) {
     ] {
         refuses(rt, rt.alloc(), change, errors);
     }
-    let told = Outcome {
-        status: Status::Refused,
-        errors: "refused: CertificateThere\n",
-        calls: READS,
-        ..DONE
-    };
     let files = [JOB, PARAMS, WORDS, MADE, "@as kernel.elf\n"];
-    expect(rt, rt.alloc(), &files, MAKE, told);
+    refuses_files(rt, rt.alloc(), &files, "refused: CertificateThere\n");
 }
 
 /// Each word of the loop in turn, up to the return, and where it stands.
@@ -255,13 +250,8 @@ fn refuses_jobs(rt: HostRuntime) {
         (AT_128, LARGER, READS),
         ("vlen = 64\n", PARAMS, JOB_READ),
     ] {
-        let told = Outcome {
-            status: Status::Usage,
-            errors: "job: BadKey\n",
-            calls,
-            ..DONE
-        };
         let files = [START, vlen, params, WORDS, KERNEL];
+        let told = unfinished(Status::Usage, "job: BadKey\n", calls);
         expect(rt, rt.alloc(), &files, MAKE, told);
     }
 }
@@ -279,14 +269,8 @@ fn refuses_buffers_that_do_not_fit(rt: HostRuntime) {
         (SHORT, "refused: NotALoopOfTheClass at 00010008\n"),
         (READ_ONLY, "refused: NotALoopOfTheClass at 00010010\n"),
     ] {
-        let told = Outcome {
-            status: Status::Refused,
-            errors,
-            calls: READS,
-            ..DONE
-        };
         let files = [START, AT_128, params, WORDS, KERNEL];
-        expect(rt, rt.alloc(), &files, MAKE, told);
+        refuses_files(rt, rt.alloc(), &files, errors);
     }
 }
 
@@ -297,15 +281,8 @@ fn ends_at_the_first_file_that_fails(rt: HostRuntime) {
         ("@fails kernel.elf\n", "file: kernel.elf\n", READS, ""),
         ("@fails made.elf\n", "file: made.elf\n", ALL, MADE),
     ] {
-        let told = Outcome {
-            status: Status::File,
-            output: "",
-            errors,
-            calls,
-            written: [written, ""],
-        };
         let files = [JOB, PARAMS, WORDS, KERNEL, fails];
-        expect(rt, rt.alloc(), &files, MAKE, told);
+        expect(rt, rt.alloc(), &files, MAKE, failed(errors, calls, written));
     }
 }
 
@@ -320,10 +297,6 @@ fn ends_where_output_fails(rt: HostRuntime) {
 fn needs_three_paths(rt: HostRuntime) {
     let errors = "error: the following required arguments were not provided:\n  <OUT>\n\n\
         Usage: rvvbox make <IMAGE> <JOB> <OUT>\n\nFor more information, try '--help'.\n";
-    let told = Outcome {
-        status: Status::Usage,
-        errors,
-        ..DONE
-    };
+    let told = unfinished(Status::Usage, errors, "");
     expect(rt, rt.alloc(), &[], "rvvbox make kernel.elf job.toml", told);
 }

@@ -2,12 +2,13 @@
 use crate::assertions::{assert_same, given};
 use crate::making::{JOB, MADE};
 use crate::shelf::{
-    Broken, DONE, Outcome, Stuck, assert_asked, assert_text, expect_on, expect_silence, shelf_of,
+    Broken, DONE, Outcome, Shelf, Stuck, assert_asked, assert_text, done, expect_on,
+    expect_silence, failed, shelf_of,
 };
 use commands::{Status, mon_job_within};
 use std::alloc::Global;
 use std::io;
-use std::io::Read;
+use std::io::{Read, Write};
 use std::process::Abort;
 
 /// The parameters: the words, which are written back, and how many of them are raised.
@@ -91,12 +92,7 @@ fn answers_each_line(rt: HostRuntime) {
             KEPT,
         ),
     ] {
-        let told = Outcome {
-            output,
-            calls: ALL,
-            written: [written, ""],
-            ..DONE
-        };
+        let told = done(output, ALL, written);
         watch(rt, rt.alloc(), &mut script.as_bytes(), told);
     }
 }
@@ -110,12 +106,11 @@ fn long_lines(rt: impl Abort + Copy, alloc: Global) -> Vec<u8> {
 
 #[test]
 fn takes_any_bytes(rt: HostRuntime) {
-    let told = Outcome {
-        output: "error: Unknown\nerror: Unknown\nerror: BadNumber\n",
-        calls: ALL,
-        written: [KEPT, ""],
-        ..DONE
-    };
+    let told = done(
+        "error: Unknown\nerror: Unknown\nerror: BadNumber\n",
+        ALL,
+        KEPT,
+    );
     let lines = long_lines(rt, rt.alloc());
     watch(rt, rt.alloc(), &mut lines.as_slice(), told);
 }
@@ -177,22 +172,26 @@ fn ends_where_the_input_fails(rt: HostRuntime) {
     watch(rt, rt.alloc(), &mut Broken, FAILED);
 }
 
-/// Performs `mon` with eight reads of these bytes, one by one, of which one is interrupted, and asserts how it ends.
+/// Performs `mon` with eight reads of an input at most: how it ends, and what standard error has.
+fn mon_within<I: Read, W: Write>(
+    alloc: Global,
+    shelf: &mut Shelf,
+    input: &mut I,
+    output: &mut W,
+) -> (Status, Vec<u8>) {
+    let mut errors = Vec::new(alloc);
+    let job = "job.toml";
+    let ending = mon_job_within(alloc, job, false, shelf, input, output, &mut errors, 8);
+    (ending.status, errors)
+}
+
+/// Performs it on these bytes, one by one, of which one is interrupted, and asserts how it ends.
 fn read_eight_times(rt: impl Abort + Copy, alloc: Global, text: &str, wanted: Outcome<'_>) {
     let mut shelf = shelf_of(rt, alloc, &FILES);
+    let mut output = Vec::new(alloc);
     let mut input = dripping(text, false);
-    let (mut output, mut errors) = (Vec::new(alloc), Vec::new(alloc));
-    let ending = mon_job_within(
-        alloc,
-        "job.toml",
-        false,
-        &mut shelf,
-        &mut input,
-        &mut output,
-        &mut errors,
-        8,
-    );
-    assert_same!(rt; ending.status, wanted.status);
+    let (status, errors) = mon_within(alloc, &mut shelf, &mut input, &mut output);
+    assert_same!(rt; status, wanted.status);
     assert_text(rt, output, wanted.output);
     assert_text(rt, errors, wanted.errors);
     assert_asked(rt, &shelf, wanted);
@@ -237,19 +236,18 @@ fn reads_as_often_as_it_may(rt: HostRuntime) {
     }
 }
 
+/// What is asked for where the output fails: what is read before the first line, and nothing is written.
+const NO_ANSWER: Outcome<'static> = Outcome {
+    calls: READS,
+    ..DONE
+};
+
 /// The output takes no text.
 #[test]
 fn ends_where_output_fails(rt: HostRuntime) {
     let mut shelf = shelf_of(rt, rt.alloc(), &FILES);
     expect_silence(rt, &mut shelf, MON, &mut b"s 1\n".as_slice());
-    assert_asked(
-        rt,
-        &shelf,
-        Outcome {
-            calls: READS,
-            ..DONE
-        },
-    );
+    assert_asked(rt, &shelf, NO_ANSWER);
 }
 
 /// The output takes the text, and fails to pass it on.
@@ -257,27 +255,11 @@ fn ends_where_output_fails(rt: HostRuntime) {
 fn ends_where_output_is_stuck(rt: HostRuntime) {
     let alloc = rt.alloc();
     let mut shelf = shelf_of(rt, alloc, &FILES);
-    let mut errors = Vec::new(alloc);
-    let ending = mon_job_within(
-        alloc,
-        "job.toml",
-        false,
-        &mut shelf,
-        &mut b"s 1\n".as_slice(),
-        &mut Stuck,
-        &mut errors,
-        8,
-    );
-    assert_same!(rt; ending.status, Status::File);
+    let mut input = b"s 1\n".as_slice();
+    let (status, errors) = mon_within(alloc, &mut shelf, &mut input, &mut Stuck);
+    assert_same!(rt; status, Status::File);
     assert_text(rt, errors, "");
-    assert_asked(
-        rt,
-        &shelf,
-        Outcome {
-            calls: READS,
-            ..DONE
-        },
-    );
+    assert_asked(rt, &shelf, NO_ANSWER);
 }
 
 #[test]
@@ -298,15 +280,9 @@ fn ends_at_the_first_file_that_fails(rt: HostRuntime) {
         ("@fails words\n", "file: words\n", READS, ""),
         ("@fails raised\n", "file: raised\n", ALL, KEPT),
     ] {
-        let told = Outcome {
-            status: Status::File,
-            output: "",
-            errors,
-            calls,
-            written: [written, ""],
-        };
         let files = [JOB, PARAMS, MADE, NUMBERS, fails];
         let mut shelf = shelf_of(rt, rt.alloc(), &files);
+        let told = failed(errors, calls, written);
         expect_on(rt, &mut shelf, MON, &mut b"q\n".as_slice(), told);
     }
 }

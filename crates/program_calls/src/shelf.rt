@@ -149,6 +149,37 @@ pub(crate) const DONE: Outcome<'static> = Outcome {
     written: ["", ""],
 };
 
+/// What comes where nothing is printed to standard output or written: how it ends, and what is told of why.
+pub(crate) fn unfinished<'a>(status: Status, errors: &'a str, calls: &'a str) -> Outcome<'a> {
+    Outcome {
+        status,
+        errors,
+        calls,
+        ..DONE
+    }
+}
+
+/// What comes of a file that is not read or written: it tells which, and has written this by then.
+pub(crate) fn failed<'a>(errors: &'a str, calls: &'a str, written: &'a str) -> Outcome<'a> {
+    Outcome {
+        status: Status::File,
+        output: "",
+        errors,
+        calls,
+        written: [written, ""],
+    }
+}
+
+/// What comes of a run that is done: it prints this, and writes this.
+pub(crate) fn done<'a>(output: &'a str, calls: &'a str, written: &'a str) -> Outcome<'a> {
+    Outcome {
+        output,
+        calls,
+        written: [written, ""],
+        ..DONE
+    }
+}
+
 /// Asserts that a stream took this text.
 pub(crate) fn assert_text(rt: impl Abort + Copy, stream: Vec<u8>, text: &str) {
     assert_same!(rt; std::str::from_utf8(stream.as_slice()), Ok(text));

@@ -1,5 +1,7 @@
 //! `try`, and words that ask for no job.
-use crate::shelf::{Broken, DONE, Outcome, expect, expect_silence, shelf_of};
+use crate::shelf::{
+    Broken, DONE, Outcome, done, expect, expect_silence, failed, shelf_of, unfinished,
+};
 use commands::Status;
 use std::alloc::Global;
 use std::process::Abort;
@@ -69,19 +71,9 @@ fn runs_at_each_length_and_setting(rt: HostRuntime) {
         ("vlen = 128\nagnostic = \"keep\"\n", KEPT),
         ("vlen = 256\nagnostic = \"ones\"\n", SET),
     ] {
-        let told = Outcome {
-            output: "ended: 13 steps\n",
-            calls,
-            written: [written, ""],
-            ..DONE
-        };
-        expect(
-            rt,
-            rt.alloc(),
-            &[TELL_JOB, settings, EIGHT, TELL_ALL],
-            TRY,
-            told,
-        );
+        let files = [TELL_JOB, settings, EIGHT, TELL_ALL];
+        let told = done("ended: 13 steps\n", calls, written);
+        expect(rt, rt.alloc(), &files, TRY, told);
     }
 }
 
@@ -156,15 +148,8 @@ fn ends_at_the_first_file_that_fails(rt: HostRuntime) {
         ),
         ("@fails b.out\n", "file: b.out\n", ALL, SUM),
     ] {
-        let told = Outcome {
-            status: Status::File,
-            output: "",
-            errors,
-            calls,
-            written: [written, ""],
-        };
         let files = [JOB, "max = 6\n", PARAMS, BUFFERS, ADD_BYTES, fails];
-        expect(rt, rt.alloc(), &files, TRY, told);
+        expect(rt, rt.alloc(), &files, TRY, failed(errors, calls, written));
     }
 }
 
@@ -194,13 +179,8 @@ fn refuses_jobs_and_images(rt: HostRuntime) {
         ),
         (LARGE, Status::Usage, "job: BadKey\n", READS),
     ] {
-        let told = Outcome {
-            status,
-            errors,
-            calls,
-            ..DONE
-        };
         let files = [JOB, "max = 6\n", PARAMS, BUFFERS, ADD_BYTES, change];
+        let told = unfinished(status, errors, calls);
         expect(rt, rt.alloc(), &files, TRY, told);
     }
 }

@@ -9,6 +9,7 @@ use cert_note::{CertError, Certificate, Vlen};
 use elf_image::{ElfError, Image, attach};
 use region_mem::{Mode, Param, Parameters};
 use std::alloc::Global;
+use std::fmt::Debug;
 use std::process::Abort;
 
 /// An allocator that refuses one allocation.
@@ -62,6 +63,41 @@ pub(crate) fn served<T, E>(
     answer
 }
 
+/// What a call gives that is served, as `served` asserts. Nothing where memory was wanting, and asserts that this is told.
+pub(crate) fn given_or_wanting<T, E: PartialEq + Debug + Drop>(
+    rt: impl Abort + Copy,
+    heap: Heap<'_>,
+    after: u64,
+    answer: Result<T, E>,
+    no_memory: E,
+) -> Option<T> {
+    match served(rt, heap, after, answer) {
+        Ok(value) => Some(value),
+        Err(error) => {
+            assert_same!(rt; error, no_memory);
+            None
+        }
+    }
+}
+
+/// Makes a call with allocators of which each serves one allocation more than the one before, until the call tells that it
+/// is served.
+pub(crate) fn until_served<F: Fn(Heap<'_>, u64) -> bool>(
+    rt: impl Abort + Copy,
+    alloc: Global,
+    is_served: F,
+)
+    requires { F.IsAlwaysCallable is_served }
+{
+    for after in 0..MANY {
+        let heap = Refusing::new(alloc, after);
+        if is_served(&heap, after) {
+            return;
+        }
+    }
+    panic!(rt; "memory is never enough")
+}
+
 /// Asserts that the fault of a file is told before any memory is asked for.
 fn expect_unread(rt: impl Abort + Copy, heap: Heap<'_>, file: &[u8]) {
     let refused = elf_image::read(heap, file).err();
@@ -78,17 +114,13 @@ fn is_image_read(
     file: &[u8],
     certificate: &[u8],
 ) -> bool {
-    match served(rt, heap, after, elf_image::read(heap, file)) {
-        Ok(image) => {
-            assert_same!(rt; image.segments().len(), 2);
-            assert_same!(rt; image.certificate(), Some(certificate));
-            true
-        }
-        Err(error) => {
-            assert_same!(rt; error, ElfError::NoMemory);
-            false
-        }
-    }
+    let answer = elf_image::read(heap, file);
+    let Some(image) = given_or_wanting(rt, heap, after, answer, ElfError::NoMemory) else {
+        return false;
+    };
+    assert_same!(rt; image.segments().len(), 2);
+    assert_same!(rt; image.certificate(), Some(certificate));
+    true
 }
 
 /// A file with wrong flags, whichever allocation would be refused.
@@ -107,13 +139,9 @@ fn reading_an_image(rt: HostRuntime) {
     let alloc = rt.alloc();
     let file = file(rt, alloc);
     let certificate = certificate(rt, alloc);
-    for after in 0..MANY {
-        let heap = Refusing::new(alloc, after);
-        if is_image_read(rt, &heap, after, &file, &certificate) {
-            return;
-        }
-    }
-    panic!(rt; "memory is never enough")
+    until_served(rt, alloc, |heap, after| {
+        is_image_read(rt, heap, after, &file, &certificate)
+    });
 }
 
 /// Asserts that a file is given no certificate, for a reason that is told before any memory is
@@ -136,22 +164,18 @@ fn assert_attached(rt: impl Abort + Copy, alloc: Global, file: &[u8], certificat
 fn is_attached(
     rt: impl Abort + Copy,
     alloc: Global,
+    heap: Heap<'_>,
     after: u64,
     bare: &[u8],
     certificate: &[u8],
 ) -> bool {
-    let heap = Refusing::new(alloc, after);
-    match served(rt, &heap, after, attach(&heap, bare, certificate)) {
-        Ok(attached) => {
-            assert_attached(rt, alloc, attached.as_slice(), certificate);
-            true
-        }
-        Err(error) => {
-            assert_same!(rt; error, ElfError::NoMemory);
-            assert_same!(rt; bare, file_of(rt, alloc, SUM.code).as_slice());
-            false
-        }
-    }
+    let answer = attach(heap, bare, certificate);
+    let Some(attached) = given_or_wanting(rt, heap, after, answer, ElfError::NoMemory) else {
+        assert_same!(rt; bare, file_of(rt, alloc, SUM.code).as_slice());
+        return false;
+    };
+    assert_attached(rt, alloc, attached.as_slice(), certificate);
+    true
 }
 
 /// Files that are given no certificate, whichever allocation would be refused.
@@ -175,28 +199,36 @@ fn attaching(rt: HostRuntime) {
     let alloc = rt.alloc();
     let bare = file_of(rt, alloc, SUM.code);
     let certificate = certificate(rt, alloc);
-    for after in 0..MANY {
-        if is_attached(rt, alloc, after, &bare, &certificate) {
-            return;
-        }
-    }
-    panic!(rt; "memory is never enough")
+    until_served(rt, alloc, |heap, after| {
+        is_attached(rt, alloc, heap, after, &bare, &certificate)
+    });
+}
+
+/// Asserts that a certificate is spelled so.
+fn assert_spelled(
+    rt: impl Abort + Copy,
+    alloc: Global,
+    certificate: &Certificate<Heap<'_>>,
+    spelling: &[u8],
+) {
+    let written = given!(rt; cert_note::write(alloc, certificate));
+    assert_same!(rt; written.as_slice(), spelling);
 }
 
 /// Asserts that the certificate is read, or that memory is wanting, and tells whether it is read.
-fn is_certificate_read(rt: impl Abort + Copy, alloc: Global, after: u64, spelling: &[u8]) -> bool {
-    let heap = Refusing::new(alloc, after);
-    match served(rt, &heap, after, cert_note::read(&heap, spelling)) {
-        Ok(certificate) => {
-            let written = given!(rt; cert_note::write(alloc, &certificate));
-            assert_same!(rt; written.as_slice(), spelling);
-            true
-        }
-        Err(error) => {
-            assert_same!(rt; error, CertError::NoMemory);
-            false
-        }
-    }
+fn is_certificate_read(
+    rt: impl Abort + Copy,
+    alloc: Global,
+    heap: Heap<'_>,
+    after: u64,
+    spelling: &[u8],
+) -> bool {
+    let answer = cert_note::read(heap, spelling);
+    let Some(certificate) = given_or_wanting(rt, heap, after, answer, CertError::NoMemory) else {
+        return false;
+    };
+    assert_spelled(rt, alloc, &certificate, spelling);
+    true
 }
 
 /// Lists of blocks, of facts on registers, of terms and of facts on vector registers.
@@ -204,25 +236,21 @@ fn is_certificate_read(rt: impl Abort + Copy, alloc: Global, after: u64, spellin
 fn reading_a_certificate(rt: HostRuntime) {
     let alloc = rt.alloc();
     let spelling = certificate(rt, alloc);
-    for after in 0..MANY {
-        if is_certificate_read(rt, alloc, after, &spelling) {
-            return;
-        }
-    }
-    panic!(rt; "memory is never enough")
+    until_served(rt, alloc, |heap, after| {
+        is_certificate_read(rt, alloc, heap, after, &spelling)
+    });
 }
 
 /// Asserts that the certificate is written so, or that memory is wanting, and tells whether it is
 /// written.
 fn is_written(
     rt: impl Abort + Copy,
-    alloc: Global,
+    heap: Heap<'_>,
     after: u64,
     certificate: &Certificate,
     spelling: &[u8],
 ) -> bool {
-    let heap = Refusing::new(alloc, after);
-    match served(rt, &heap, after, cert_note::write(&heap, certificate)) {
+    match served(rt, heap, after, cert_note::write(heap, certificate)) {
         Ok(written) => {
             assert_same!(rt; written.as_slice(), spelling);
             true
@@ -237,12 +265,9 @@ fn writing_a_certificate(rt: HostRuntime) {
     let alloc = rt.alloc();
     let spelling = certificate(rt, alloc);
     let certificate = given!(rt; cert_note::read(alloc, &spelling));
-    for after in 0..MANY {
-        if is_written(rt, alloc, after, &certificate, &spelling) {
-            return;
-        }
-    }
-    panic!(rt; "memory is never enough")
+    until_served(rt, alloc, |heap, after| {
+        is_written(rt, heap, after, &certificate, &spelling)
+    });
 }
 
 /// These parameters, of which the first is a buffer of one byte less than the loop of `RAISE`
@@ -275,22 +300,12 @@ fn is_made(
     parameters: &Parameters,
     by_hand: &[u8],
 ) -> bool {
-    match served(
-        rt,
-        heap,
-        after,
-        make_in(heap, image, parameters, Vlen::V128),
-    ) {
-        Ok(certificate) => {
-            let written = given!(rt; cert_note::write(alloc, &certificate));
-            assert_same!(rt; written.as_slice(), by_hand);
-            true
-        }
-        Err(error) => {
-            assert_same!(rt; error, MakeError::NoMemory);
-            false
-        }
-    }
+    let answer = make_in(heap, image, parameters, Vlen::V128);
+    let Some(certificate) = given_or_wanting(rt, heap, after, answer, MakeError::NoMemory) else {
+        return false;
+    };
+    assert_spelled(rt, alloc, &certificate, by_hand);
+    true
 }
 
 /// The list of blocks.
@@ -304,12 +319,8 @@ fn making_a_certificate(rt: HostRuntime) {
         .contents()
         .parameters;
     let short = found!(rt; too_short(&parameters));
-    for after in 0..MANY {
-        let heap = Refusing::new(alloc, after);
-        expect_unmade(rt, &heap, &image, &short);
-        if is_made(rt, alloc, &heap, after, &image, &parameters, by_hand) {
-            return;
-        }
-    }
-    panic!(rt; "memory is never enough")
+    until_served(rt, alloc, |heap, after| {
+        expect_unmade(rt, heap, &image, &short);
+        is_made(rt, alloc, heap, after, &image, &parameters, by_hand)
+    });
 }

@@ -6,7 +6,7 @@ ghost use Rattle.std.specs.Prelude.{◌<◌, length};
 use crate::assertions::{assert_same, found, given, opaque};
 use crate::kernels::{Kernel, STORE, SUM, file_of, parts_of, put};
 use crate::refusing::Refusing;
-use crate::want_of_memory::{Heap, MANY, served};
+use crate::want_of_memory::{Heap, MANY, served, until_served};
 use abs_state::{Abstract, MOST_WORDS, implies};
 use block_checker::{CheckError, check_in};
 use cert_note::{Certificate, Vlen};
@@ -150,13 +150,9 @@ fn is_entry_known(
 fn knowing_the_entry(rt: HostRuntime) {
     let alloc = rt.alloc();
     let (image, certificate) = parts_of(rt, alloc, SUM, Vlen::V128);
-    for after in 0..MANY {
-        let heap = Refusing::new(alloc, after);
-        if is_entry_known(rt, &heap, after, &image, &certificate) {
-            return;
-        }
-    }
-    panic!(rt; "memory is never enough")
+    until_served(rt, alloc, |heap, after| {
+        is_entry_known(rt, heap, after, &image, &certificate)
+    });
 }
 
 /// What an image and a certificate say.

@@ -3,7 +3,7 @@
 use crate::assertions::{assert_same, found, given};
 use crate::kernels::{bytes_of, put};
 use crate::refusing::Refusing;
-use crate::want_of_memory::{Heap, MANY, file, served};
+use crate::want_of_memory::{Heap, MANY, file, served, until_served};
 use block_checker::{Accepted, check};
 use elf_image::Image;
 use region_mem::{Arg, Args, Bytes, Mode, Param, Parameters, Regions};
@@ -72,27 +72,37 @@ fn assert_back(rt: impl Abort + Copy, args: &Args<Bytes<Heap<'_>>>) {
     assert_same!(rt; are_args(args, &[0xff, 1, 2]), true);
 }
 
-/// The image of `file`.
-fn image(rt: impl Abort + Copy, alloc: Global) -> Image {
+/// What each run of these tests is started with: the image of `file`, its parameters, and memory that
+/// is enough for arguments.
+#[derive(Drop)]
+struct Start {
+    image: Image,
+    parameters: Parameters,
+    ample: Refusing<Global>,
+}
+
+fn start(rt: impl Abort + Copy, alloc: Global) -> Start {
     let file = file(rt, alloc);
-    given!(rt; elf_image::read(alloc, &file))
+    Start {
+        image: given!(rt; elf_image::read(alloc, &file)),
+        parameters: found!(rt; parameters()),
+        ample: Refusing::new(alloc, MANY),
+    }
 }
 
 /// Asserts that a memory is started with the arguments, or wanting and they come back, and tells
 /// whether it is started. The arguments take memory of another allocator.
-fn is_started(
-    rt: impl Abort + Copy,
-    heaps: [Heap<'_>; 2],
-    after: u64,
-    image: &Image,
-    parameters: &Parameters,
-) -> bool {
-    let [heap, ample] = heaps;
-    let args = args(rt, ample);
-    if parameters.matches(&args).is_err() {
+fn is_started<'a>(rt: impl Abort + Copy, heap: Heap<'a>, after: u64, start: &'a Start) -> bool {
+    let args = args(rt, &start.ample);
+    if start.parameters.matches(&args).is_err() {
         panic!(rt; "no match");
     }
-    match served(rt, heap, after, Regions::new(heap, image, parameters, args)) {
+    match served(
+        rt,
+        heap,
+        after,
+        Regions::new(heap, &start.image, &start.parameters, args),
+    ) {
         Ok(regions) => {
             assert_same!(rt; regions.byte(0x2_0000), Some(0xde));
             assert_back(rt, &regions.into_args());
@@ -108,17 +118,10 @@ fn is_started(
 /// The list of regions, the bytes of two segments and those of the stack.
 #[test]
 fn starting_a_memory(rt: HostRuntime) {
-    let alloc = rt.alloc();
-    let image = image(rt, alloc);
-    let parameters = found!(rt; parameters());
-    let ample = Refusing::new(alloc, MANY);
-    for after in 0..MANY {
-        let heap = Refusing::new(alloc, after);
-        if is_started(rt, [&heap, &ample], after, &image, &parameters) {
-            return;
-        }
-    }
-    panic!(rt; "memory is never enough")
+    let start = start(rt, rt.alloc());
+    until_served(rt, rt.alloc(), |heap, after| {
+        is_started(rt, heap, after, &start)
+    });
 }
 
 /// Asserts that the run has ended after six steps, and what it left.
@@ -135,50 +138,44 @@ fn assert_sum<const VLENB: usize>(
     }
 }
 
-/// Asserts that no run starts for want of memory, and that the arguments come back.
-fn assert_unopened(rt: impl Abort + Copy, refused: &(OpenError, Args<Bytes<Heap<'_>>>)) {
-    assert_same!(rt; refused.0, OpenError::NoMemory);
-    assert_back(rt, &refused.1);
+/// What a call gives that is served. Nothing where memory was wanting, and asserts that this is told
+/// and that the arguments come back.
+fn opened_or_wanting<T>(
+    rt: impl Abort + Copy,
+    heap: Heap<'_>,
+    after: u64,
+    answer: Result<T, (OpenError, Args<Bytes<Heap<'_>>>)>,
+) -> Option<T> {
+    match served(rt, heap, after, answer) {
+        Ok(value) => Some(value),
+        Err((error, args)) => {
+            assert_same!(rt; error, OpenError::NoMemory);
+            assert_back(rt, &args);
+            None
+        }
+    }
 }
 
 /// Asserts that the image is run, or memory wanting, and tells whether it is run.
-fn is_run(
-    rt: impl Abort + Copy,
-    heaps: [Heap<'_>; 2],
-    after: u64,
-    image: &Image,
-    parameters: &Parameters,
-) -> bool {
-    let [heap, ample] = heaps;
-    let (args, keep) = (args(rt, ample), Agnostic::Keep);
+fn is_run<'a>(rt: impl Abort + Copy, heap: Heap<'a>, after: u64, start: &'a Start) -> bool {
+    let (args, keep) = (args(rt, &start.ample), Agnostic::Keep);
+    let (image, parameters) = (&start.image, &start.parameters);
     let ran = try_run_in::<16, Heap<'_>, Global>(heap, image, parameters, args, keep, 9);
-    match served(rt, heap, after, ran) {
-        Ok(outcome) => {
-            assert_sum(rt, &outcome);
-            true
-        }
-        Err(refused) => {
-            assert_unopened(rt, &refused);
-            false
-        }
-    }
+    let Some(outcome) = opened_or_wanting(rt, heap, after, ran) else {
+        return false;
+    };
+    assert_sum(rt, &outcome);
+    true
 }
 
 /// A run takes the memory of its regions alone, a list of them, the bytes of two segments and those
 /// of the stack. No step takes any.
 #[test]
 fn running(rt: HostRuntime) {
-    let alloc = rt.alloc();
-    let image = image(rt, alloc);
-    let parameters = found!(rt; parameters());
-    let ample = Refusing::new(alloc, MANY);
-    for after in 0..MANY {
-        let heap = Refusing::new(alloc, after);
-        if is_run(rt, [&heap, &ample], after, &image, &parameters) {
-            return;
-        }
-    }
-    panic!(rt; "memory is never enough")
+    let start = start(rt, rt.alloc());
+    until_served(rt, rt.alloc(), |heap, after| {
+        is_run(rt, heap, after, &start)
+    });
 }
 
 /// As the certificate of `file`, but its block has no fact and takes one step.
@@ -202,17 +199,12 @@ fn is_opened(rt: impl Abort + Copy, heaps: [Heap<'_>; 2], after: u64, accepted: 
     let [heap, ample] = heaps;
     let (args, keep) = (args(rt, ample), Agnostic::Keep);
     let opened = open_in::<16, Heap<'_>, Global>(heap, accepted, args, keep, 1);
-    match served(rt, heap, after, opened) {
-        Ok(mut session) => {
-            assert_same!(rt; session.run(), 1);
-            assert_same!(rt; are_args(&session.close(), &[0xff, 1, 2]), true);
-            true
-        }
-        Err(refused) => {
-            assert_unopened(rt, &refused);
-            false
-        }
-    }
+    let Some(mut session) = opened_or_wanting(rt, heap, after, opened) else {
+        return false;
+    };
+    assert_same!(rt; session.run(), 1);
+    assert_same!(rt; are_args(&session.close(), &[0xff, 1, 2]), true);
+    true
 }
 
 /// A session takes the memory of its regions alone, as a run does. No step takes any.
@@ -221,11 +213,7 @@ fn opening(rt: HostRuntime) {
     let alloc = rt.alloc();
     let accepted = accepted(rt, alloc);
     let ample = Refusing::new(alloc, MANY);
-    for after in 0..MANY {
-        let heap = Refusing::new(alloc, after);
-        if is_opened(rt, [&heap, &ample], after, &accepted) {
-            return;
-        }
-    }
-    panic!(rt; "memory is never enough")
+    until_served(rt, alloc, |heap, after| {
+        is_opened(rt, [heap, &ample], after, &accepted)
+    });
 }
