@@ -27,6 +27,14 @@ const E16: Vtype = Vtype {
 };
 
 #[test]
+fn elements_in_bits(rt: HostRuntime) {
+    for (eew, bits) in [(Eew::Quarter, 4), (Eew::Half, 8), (Eew::Double, 32)] {
+        assert_same!(rt; E16.eew_bits(eew), bits);
+    }
+    assert_same!(rt; E16.eew_bits(Eew::Fixed(Width::W8)), 8);
+}
+
+#[test]
 fn legality_answers_the_vector_type(rt: HostRuntime) -> Result<(), Fail> {
     assert_same!(rt; legal_type(&Vconfig::none(), &sum()), None);
     // vl is 3 of the 8 that e16, m1 has at VLEN 128, with the tail agnostic

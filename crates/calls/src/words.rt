@@ -15,6 +15,12 @@ fn widths_in_bits_and_bytes(rt: HostRuntime) {
         assert_same!(rt; width.bits(), bits);
         assert_same!(rt; width.bytes(), bytes);
     }
+    for (kind, width) in [
+        (LoadKind::ByteUnsigned, Width::W8),
+        (LoadKind::Half, Width::W16),
+    ] {
+        assert_same!(rt; kind.width(), width);
+    }
 }
 
 #[test]
