@@ -67,6 +67,7 @@ fn compare(op: CompareOp, values: u8x16, b: u8x16) -> u8x16
 
 /// vmacc, vnmsac, vmadd and vnmsub
 #[inline(always)]
+#[tactic(auto, using(crate::proofs::VectorLemmas::multiply_adds))]
 fn multiply_add(op: MultiplyAddOp, values: u8x16, b: u8x16, old: u8x16) -> u8x16
     ensures { result ≡ zip3 (multiply_added op w8) values b old }
 {

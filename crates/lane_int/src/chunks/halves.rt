@@ -67,6 +67,7 @@ fn compare(op: CompareOp, values: u16x8, b: u16x8) -> u16x8
 
 /// vmacc, vnmsac, vmadd and vnmsub
 #[inline(always)]
+#[tactic(auto, using(crate::proofs::VectorLemmas::multiply_adds))]
 fn multiply_add(op: MultiplyAddOp, values: u16x8, b: u16x8, old: u16x8) -> u16x8
     ensures { result ≡ zip3 (multiply_added op w16) values b old }
 {

@@ -67,6 +67,7 @@ fn compare(op: CompareOp, values: u32x4, b: u32x4) -> u32x4
 
 /// vmacc, vnmsac, vmadd and vnmsub
 #[inline(always)]
+#[tactic(auto, using(crate::proofs::VectorLemmas::multiply_adds))]
 fn multiply_add(op: MultiplyAddOp, values: u32x4, b: u32x4, old: u32x4) -> u32x4
     ensures { result ≡ zip3 (multiply_added op w32) values b old }
 {
