@@ -6,8 +6,5 @@ use Rattle.lane_fixed.proofs.chunks.chunk_u16.Goals as goal
 pub computed-requires : goal.computed-requires
 computed-requires c = record { a_fits = lane_below w16 8 c.args.values c.fits-values; b_fits = lane_below w16 8 c.args.b c.fits-b }
 
-pub returns-clause-results : goal.returns-clause-results
-returns-clause-results c = from_lanes (lane_result c.args.op w16) 8 c.args.values c.args.b c.computed.result.0 c.fits-values.0 c.fits-b.0 (search rules) c.computed.ensures.results
-
-pub returns-clause-flags : goal.returns-clause-flags
-returns-clause-flags c = from_lanes (lane_flag c.args.op w16) 8 c.args.values c.args.b c.computed.result.1 c.fits-values.0 c.fits-b.0 (search rules) c.computed.ensures.flags
+pub returns : goal.returns
+returns c = record { results = from_lanes (lane_result c.args.op w16) 8 c.args.values c.args.b c.computed.result.0 c.fits-values.0 c.fits-b.0 (search rules) c.computed.ensures.results; flags = from_lanes (lane_flag c.args.op w16) 8 c.args.values c.args.b c.computed.result.1 c.fits-values.0 c.fits-b.0 (search rules) c.computed.ensures.flags }
