@@ -171,19 +171,20 @@ negated w b le =
     let e : 0 + (2 ^ bits w - b) ≡ 2 ^ bits w - b = omega arith in
     ap (λ n. n % 2 ^ bits w) e ∙ mod-eq_of_lt (omega (arith, le, t, some))
 
+turned_fits : (w : Width) (a : ℕ) → (a + 2 ^ hbits w) % 2 ^ bits w < 2 ^ bits w
+turned_fits w a = mod_below (a + 2 ^ hbits w) (2 ^ bits w) (pow_pos (bits w))
+
 pub signed_sum_is : (w : Width) (a b : ℕ) → a < 2 ^ bits w → b < 2 ^ bits w → (cond (nat_lt b (2 ^ hbits w)) (min ((a + 2 ^ hbits w) % 2 ^ bits w + b) (2 ^ bits w - 1)) ((a + 2 ^ hbits w) % 2 ^ bits w - (0 + (2 ^ bits w - b)) % 2 ^ bits w) + 2 ^ hbits w) % 2 ^ bits w ≡ low_bits (bits w) (saturate_signed w (cast_signed w a +ℤ cast_signed w b))
 signed_sum_is w a b la lb =
     let t = twice w in
     let x = (a + 2 ^ hbits w) % 2 ^ bits w in
     let y = (b + 2 ^ hbits w) % 2 ^ bits w in
-    let lx : (a + 2 ^ hbits w) % 2 ^ bits w < 2 ^ bits w = mod_below (a + 2 ^ hbits w) (2 ^ bits w) (pow_pos (bits w)) in
-    let ly : (b + 2 ^ hbits w) % 2 ^ bits w < 2 ^ bits w = mod_below (b + 2 ^ hbits w) (2 ^ bits w) (pow_pos (bits w)) in
     let v : (cast_signed w a +ℤ cast_signed w b) +ℤ pos (2 ^ bits w) ≡ pos (x + y) = omega (arith, ints, signed_is w a la, signed_is w b lb, t) in
-    let clip = signed_clip w (cast_signed w a +ℤ cast_signed w b) (x + y) (2 ^ bits w) v (omega arith) (omega (arith, lx, ly)) in
+    let clip = signed_clip w (cast_signed w a +ℤ cast_signed w b) (x + y) (2 ^ bits w) v (omega arith) (omega (arith, turned_fits w a, turned_fits w b)) in
     let same : cond (nat_lt b (2 ^ hbits w)) (min (x + b) (2 ^ bits w - 1)) (x - (0 + (2 ^ bits w - b)) % 2 ^ bits w) ≡ min ((x + y + 2 ^ hbits w) - 2 ^ bits w) (2 ^ bits w - 1) =
     by_ltb b (2 ^ hbits w) (λ k. cond k (min (x + b) (2 ^ bits w - 1)) (x - (0 + (2 ^ bits w - b)) % 2 ^ bits w) ≡ min ((x + y + 2 ^ hbits w) - 2 ^ bits w) (2 ^ bits w - 1))
     (λ below. omega (arith, raised_low w b below, t))
-    (λ above. omega (arith, raised_high w b above lb, negated w b above, above, lb, lx, t)) in
+    (λ above. omega (arith, raised_high w b above lb, negated w b above, above, lb, turned_fits w a, t)) in
     ap (λ n. (n + 2 ^ hbits w) % 2 ^ bits w) same ∙ sym clip.0
 
 pub signed_difference_is : (w : Width) (a b : ℕ) → a < 2 ^ bits w → b < 2 ^ bits w → (cond (nat_lt b (2 ^ hbits w)) ((a + 2 ^ hbits w) % 2 ^ bits w - b) (min ((a + 2 ^ hbits w) % 2 ^ bits w + (0 + (2 ^ bits w - b)) % 2 ^ bits w) (2 ^ bits w - 1)) + 2 ^ hbits w) % 2 ^ bits w ≡ low_bits (bits w) (saturate_signed w (cast_signed w a -ℤ cast_signed w b))
@@ -191,14 +192,12 @@ signed_difference_is w a b la lb =
     let t = twice w in
     let x = (a + 2 ^ hbits w) % 2 ^ bits w in
     let y = (b + 2 ^ hbits w) % 2 ^ bits w in
-    let lx : (a + 2 ^ hbits w) % 2 ^ bits w < 2 ^ bits w = mod_below (a + 2 ^ hbits w) (2 ^ bits w) (pow_pos (bits w)) in
-    let ly : (b + 2 ^ hbits w) % 2 ^ bits w < 2 ^ bits w = mod_below (b + 2 ^ hbits w) (2 ^ bits w) (pow_pos (bits w)) in
     let v : (cast_signed w a -ℤ cast_signed w b) +ℤ pos y ≡ pos x = omega (arith, ints, signed_is w a la, signed_is w b lb, t) in
-    let clip = signed_clip w (cast_signed w a -ℤ cast_signed w b) x y v (omega (arith, ly)) (omega (arith, lx)) in
+    let clip = signed_clip w (cast_signed w a -ℤ cast_signed w b) x y v (omega (arith, turned_fits w b)) (omega (arith, turned_fits w a)) in
     let same : cond (nat_lt b (2 ^ hbits w)) (x - b) (min (x + (0 + (2 ^ bits w - b)) % 2 ^ bits w) (2 ^ bits w - 1)) ≡ min ((x + 2 ^ hbits w) - y) (2 ^ bits w - 1) =
     by_ltb b (2 ^ hbits w) (λ k. cond k (x - b) (min (x + (0 + (2 ^ bits w - b)) % 2 ^ bits w) (2 ^ bits w - 1)) ≡ min ((x + 2 ^ hbits w) - y) (2 ^ bits w - 1))
-    (λ below. omega (arith, raised_low w b below, lx, t))
-    (λ above. omega (arith, raised_high w b above lb, negated w b above, above, lb, lx, t)) in
+    (λ below. omega (arith, raised_low w b below, turned_fits w a, t))
+    (λ above. omega (arith, raised_high w b above lb, negated w b above, above, lb, turned_fits w a, t)) in
     ap (λ n. (n + 2 ^ hbits w) % 2 ^ bits w) same ∙ sym clip.0
 
 flag_of : (w : Width) (c v : ℤ) (r s : ℕ) → r ≡ low_bits (bits w) c → s ≡ low_bits (bits w) v → (low_bits (bits w) c == low_bits (bits w) v) ≡ int_eq c v → cond (r == s) 0 (2 ^ bits w - 1) ≡ cond (not (int_eq c v)) (2 ^ bits w - 1) 0

@@ -1,10 +1,11 @@
 -- Numbers that are overwritten from the front, and whether an active one of them saturates.
-use Rattle.std.proofs.Common.{◌≡◌, ℕ, ◌+◌, ◌<◌, ◌≤◌, Bool, true, false, ◌&&◌, ◌||◌, List, [], ◌∷◌, ◌++◌, zero, suc, length, get_or, set, take, drop, map, refl, ap, sym, ◌∙◌, arith, add-one, append-nil}
+use Rattle.std.proofs.Common.{◌≡◌, ℕ, ◌+◌, ◌<◌, ◌≤◌, Bool, true, false, ◌&&◌, ◌||◌, List, [], ◌∷◌, ◌++◌, zero, suc, length, get_or, set, take, drop, map, refl, ap, sym, ◌∙◌, arith, append-nil}
 use lib.Lanes.{zip2}
 use Rattle.std.specs.List.{list_any}
+use Rattle.std.proofs.Math.Nat.{sub_self}
 use Rattle.std.proofs.lemmas.Simd.{length-zip2, get_or-zip2}
 use Rattle.std.proofs.lemmas.List.Folds.{list_any-append}
-use Rattle.std.proofs.lemmas.List.{take_more, take_all, drop_all, get_or-map, length-map, map-set}
+use Rattle.std.proofs.lemmas.List.{append_assoc, length-take-le, take_more, take_all, drop_more, drop_all, get_or-append_right, get_or-map, length-map, map-set, set-append_right}
 use Rattle.lane_fixed.specs.FixedPoint.{any_active}
 
 or_false : (b : Bool) → (b || false) ≡ b
@@ -14,20 +15,6 @@ or_false false = refl
 -- the first i are those of `new`, the rest those of `old`
 abbrev pub overlaid : {X : Type 0} → ℕ → List X → List X → List X
 overlaid i new old = take i new ++ drop i old
-
-overlaid-suc : {X : Type 0} (i : ℕ) (new old : List X) (y : X) → i < length old → length new ≡ length old → get_or new i y ≡ y → set (overlaid i new old) i y ≡ overlaid (suc i) new old
-overlaid-suc i [] [] y lt same is = absurd (omega arith)
-overlaid-suc i [] (o ∷ os) y lt same is = absurd (omega arith)
-overlaid-suc i (n ∷ ns) [] y lt same is = absurd (omega arith)
-overlaid-suc zero (n ∷ ns) (o ∷ os) y lt same is = ap (λ z. z ∷ os) (sym is)
-overlaid-suc (suc i) (n ∷ ns) (o ∷ os) y lt same is = ap (λ zs. n ∷ zs) (overlaid-suc i ns os y (omega arith) (omega arith) is)
-
-get_or-overlaid : {X : Type 0} (i : ℕ) (new old : List X) (d : X) → i < length old → length new ≡ length old → get_or (overlaid i new old) i d ≡ get_or old i d
-get_or-overlaid i [] [] d lt same = absurd (omega arith)
-get_or-overlaid i [] (o ∷ os) d lt same = absurd (omega arith)
-get_or-overlaid i (n ∷ ns) [] d lt same = absurd (omega arith)
-get_or-overlaid zero (n ∷ ns) (o ∷ os) d lt same = refl
-get_or-overlaid (suc i) (n ∷ ns) (o ∷ os) d lt same = get_or-overlaid i ns os d (omega arith) (omega arith)
 
 pub overlaid_all : {X : Type 0} (i : ℕ) (new old now : List X) → now ≡ overlaid i new old → length old ≤ i → length new ≡ length old → now ≡ new
 overlaid_all i new old now e end same = rw (e, take_all i new (omega arith), drop_all i old (omega arith), append-nil)
@@ -42,7 +29,7 @@ written_into number f xs ys old now i x y z e lt same_x same_y is_x is_y is_z =
     let long = length-zip2 f xs ys (same_x ∙ sym same_y) in
     let at : get_or (zip2 f xs ys) i (number z) ≡ f (get_or xs i x) (get_or ys i y) = get_or-zip2 f xs ys i x y (number z) (omega arith) (omega arith) in
     let is : get_or (zip2 f xs ys) i (number z) ≡ number z = cc in
-    rw (map-set number now i z, e, add-one) (overlaid-suc i (zip2 f xs ys) old (number z) lt (long ∙ same_x) is)
+    rw (map-set number now i z, e, set-append_right (take i (zip2 f xs ys)) (drop i old) i i (number z) (length-take-le i (zip2 f xs ys) (omega arith)) (omega arith), sub_self, drop_more old i (number z) lt, take_more (zip2 f xs ys) i (number z) (omega arith), is, append_assoc) refl
 
 pub written_over : {X : Type 0} (number : X → ℕ) (f : ℕ → ℕ → ℕ) (xs ys : List ℕ) (now : List X) (i x y : ℕ) (z : X) → map number now ≡ overlaid i (zip2 f xs ys) xs → i < length xs → length ys ≡ length xs → x ≡ get_or xs i x → y ≡ get_or ys i y → number z ≡ f x y → map number (set now i z) ≡ overlaid (i + 1) (zip2 f xs ys) xs
 written_over number f xs ys now i x y z e lt same is_x is_y is_z = written_into number f xs ys xs now i x y z e lt refl same is_x is_y is_z
@@ -50,7 +37,8 @@ written_over number f xs ys now i x y z e lt same is_x is_y is_z = written_into 
 -- an element that is not written yet
 pub still_old : {X : Type 0} (number : X → ℕ) (new old : List ℕ) (now : List X) (i : ℕ) (r : X) → map number now ≡ overlaid i new old → i < length old → length new ≡ length old → i < length now → r ≡ get_or now i r → number r ≡ get_or old i (number r)
 still_old number new old now i r e lt same inside is =
-    number_at number now i r inside is ∙ ap (λ zs. get_or zs i (number r)) e ∙ get_or-overlaid i new old (number r) lt same
+    let later : get_or (overlaid i new old) i (number r) ≡ get_or old i (number r) = rw (get_or-append_right (take i new) (drop i old) i i (number r) (length-take-le i new (omega arith)) (omega arith), sub_self, drop_more old i (number r) lt) refl in
+    number_at number now i r inside is ∙ ap (λ zs. get_or zs i (number r)) e ∙ later
 
 abbrev flags_of : (ℕ → ℕ → Bool) → List ℕ → List ℕ → List Bool → List Bool
 flags_of test xs ys active = zip2 (λ is_active saturates. is_active && saturates) active (zip2 test xs ys)

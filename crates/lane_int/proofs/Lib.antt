@@ -1,3 +1,4 @@
+pub mod ChunkLemmas
 pub mod Overlay
 pub mod ResizingLemmas
 pub mod TurnedLemmas

@@ -1,31 +1,21 @@
 -- A list that is overwritten from the front: the first i elements are those of `new`, the rest those of `old`.
-use Rattle.std.proofs.Common.{◌≡◌, ℕ, ◌+◌, ◌<◌, ◌≤◌, List, [], ◌∷◌, ◌++◌, zero, suc, length, get_or, set, take, drop, refl, ap, sym, ◌∙◌, arith, add-one, append-nil}
+use Rattle.std.proofs.Common.{◌≡◌, ℕ, ◌+◌, ◌<◌, ◌≤◌, List, [], ◌∷◌, ◌++◌, zero, suc, length, get_or, set, take, drop, refl, ap, sym, ◌∙◌, arith, append-nil}
 use lib.Lanes.{zip2}
+use Rattle.std.proofs.Math.Nat.{sub_self}
 use Rattle.std.proofs.lemmas.Simd.{length-zip2, get_or-zip2}
-use Rattle.std.proofs.lemmas.List.{take_all, drop_all}
+use Rattle.std.proofs.lemmas.List.{append_assoc, length-take-le, take_all, take_more, drop_all, drop_more, get_or-append_right, set-append_right}
 use Rattle.lane_int.specs.Lists.{zip3}
 
 abbrev pub overlaid : {X : Type 0} → ℕ → List X → List X → List X
 overlaid i new old = take i new ++ drop i old
 
-overlaid-suc : {X : Type 0} (i : ℕ) (new old : List X) (y : X) → i < length old → length new ≡ length old → get_or new i y ≡ y → set (overlaid i new old) i y ≡ overlaid (suc i) new old
-overlaid-suc i [] [] y lt same is = absurd (omega arith)
-overlaid-suc i [] (o ∷ os) y lt same is = absurd (omega arith)
-overlaid-suc i (n ∷ ns) [] y lt same is = absurd (omega arith)
-overlaid-suc zero (n ∷ ns) (o ∷ os) y lt same is = ap (λ z. z ∷ os) (sym is)
-overlaid-suc (suc i) (n ∷ ns) (o ∷ os) y lt same is = ap (λ zs. n ∷ zs) (overlaid-suc i ns os y (omega arith) (omega arith) is)
-
 -- one more element is written
 pub overlaid_more : {X : Type 0} (i : ℕ) (new old now : List X) (y : X) → now ≡ overlaid i new old → i < length old → length new ≡ length old → get_or new i y ≡ y → set now i y ≡ overlaid (i + 1) new old
-overlaid_more i new old now y e lt same is = rw (e, add-one) (overlaid-suc i new old y lt same is)
+overlaid_more i new old now y e lt same is = rw (e, set-append_right (take i new) (drop i old) i i y (length-take-le i new (omega arith)) (omega arith), sub_self, drop_more old i y lt, take_more new i y (omega arith), is, append_assoc) refl
 
 -- what is not written yet is old
 pub get_or-overlaid : {X : Type 0} (i : ℕ) (new old : List X) (d : X) → i < length old → length new ≡ length old → get_or (overlaid i new old) i d ≡ get_or old i d
-get_or-overlaid i [] [] d lt same = absurd (omega arith)
-get_or-overlaid i [] (o ∷ os) d lt same = absurd (omega arith)
-get_or-overlaid i (n ∷ ns) [] d lt same = absurd (omega arith)
-get_or-overlaid zero (n ∷ ns) (o ∷ os) d lt same = refl
-get_or-overlaid (suc i) (n ∷ ns) (o ∷ os) d lt same = get_or-overlaid i ns os d (omega arith) (omega arith)
+get_or-overlaid i new old d lt same = rw (get_or-append_right (take i new) (drop i old) i i d (length-take-le i new (omega arith)) (omega arith), sub_self, drop_more old i d lt) refl
 
 pub overlaid_all : {X : Type 0} (i : ℕ) (new old now : List X) → now ≡ overlaid i new old → length old ≤ i → length new ≡ length old → now ≡ new
 overlaid_all i new old now e end same = rw (e, take_all i new (omega arith), drop_all i old (omega arith), append-nil)

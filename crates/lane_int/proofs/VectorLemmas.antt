@@ -1,12 +1,14 @@
 -- Vectors that are computed lane by lane from the lanes of two or three others.
-use Rattle.std.proofs.Common.{◌≡◌, ℕ, ◌-◌, ◌^◌, ◌<◌, List, [], ◌∷◌, Bool, cond, zero, suc, length, get_or, map, replicate, refl, ap, ap₂, ◌∙◌, arith, min, max, ltb, inl, inr, Fits, lit<, mod-lt, w8, w16, w32, w64}
+use Rattle.std.proofs.Common.{◌≡◌, ℕ, ◌+◌, ◌-◌, ◌*◌, ◌%◌, ◌^◌, ◌<◌, List, [], ◌∷◌, Bool, cond, zero, suc, length, get_or, map, replicate, refl, sym, ap, ap₂, ◌∙◌, arith, min, max, ltb, inl, inr, Fits, lit<, mod-lt, w8, w16, w32, w64}
 use Rattle.std.specs.Int.{Width, w128}
 use Rattle.std.specs.Simd.Lanes.{zip2, sel_l, top}
 use lib.Lanes.{Each1, Each2}
 use mir.Val.{bits, hbits}
 use Rattle.std.proofs.lemmas.Bool.{cases_lt, lt-ltb, le-ltb}
 use Rattle.std.proofs.lemmas.Simd.{tops_compared}
-use Rattle.lane_int.specs.Integer.{shift_amount}
+use Rattle.lane_int.specs.Integer.{multiply_added, shift_amount}
+use Rattle.std.proofs.Math.Nat.{mod-add-mod}
+use Rattle.rv_decode.specs.declared.instructions.MultiplyAddOp.TheVariants.{Macc, Nmsac, Madd, Nmsub}
 use Rattle.lane_int.specs.Lists.{zip3}
 use Rattle.lane_int.specs.Chunks.{all_ones}
 use Rattle.lane_int.proofs.Overlay.{get_or-zip3}
@@ -87,6 +89,25 @@ zip3_yz_x f g (x ∷ xs) (y ∷ ys) (z ∷ zs) = ap (λ rs. f (g y z) x ∷ rs) 
 
 pub zip3_x_yz : (f g : ℕ → ℕ → ℕ) (xs ys zs : List ℕ) → zip2 f xs (zip2 g ys zs) ≡ zip3 (λ a b d. f a (g b d)) xs ys zs
 zip3_x_yz f g xs ys zs = zip2_swapped f (zip2 g ys zs) xs ∙ zip3_yz_x (λ p q. f q p) g xs ys zs
+
+-- vmacc, vnmsac, vmadd and vnmsub by sums, differences and products of vectors
+pub macc_lanes : (w : Width) (xs ys zs : List ℕ) → zip3 (multiply_added Macc w) xs ys zs ≡ zip2 (λ a b. (a + b) % 2 ^ bits w) (zip2 (λ a b. a * b % 2 ^ bits w) ys xs) zs
+unfolding multiply_added
+macc_lanes w xs ys zs = sym (zip3_yx_z (λ a b. (a + b) % 2 ^ bits w) (λ a b. a * b % 2 ^ bits w) xs ys zs ∙ zip3_same xs ys zs (λ a b d. mod-add-mod (b * a) (2 ^ bits w) d))
+
+pub nmsac_lanes : (w : Width) (xs ys zs : List ℕ) → zip3 (multiply_added Nmsac w) xs ys zs ≡ zip2 (λ a b. (a + (2 ^ bits w - b)) % 2 ^ bits w) zs (zip2 (λ a b. a * b % 2 ^ bits w) ys xs)
+unfolding multiply_added
+nmsac_lanes w xs ys zs = sym (zip3_z_yx (λ a b. (a + (2 ^ bits w - b)) % 2 ^ bits w) (λ a b. a * b % 2 ^ bits w) xs ys zs)
+
+pub madd_lanes : (w : Width) (xs ys zs : List ℕ) → zip3 (multiply_added Madd w) xs ys zs ≡ zip2 (λ a b. (a + b) % 2 ^ bits w) (zip2 (λ a b. a * b % 2 ^ bits w) ys zs) xs
+unfolding multiply_added
+madd_lanes w xs ys zs = sym (zip3_yz_x (λ a b. (a + b) % 2 ^ bits w) (λ a b. a * b % 2 ^ bits w) xs ys zs ∙ zip3_same xs ys zs (λ a b d. mod-add-mod (b * d) (2 ^ bits w) a))
+
+pub nmsub_lanes : (w : Width) (xs ys zs : List ℕ) → zip3 (multiply_added Nmsub w) xs ys zs ≡ zip2 (λ a b. (a + (2 ^ bits w - b)) % 2 ^ bits w) xs (zip2 (λ a b. a * b % 2 ^ bits w) ys zs)
+unfolding multiply_added
+nmsub_lanes w xs ys zs = sym (zip3_x_yz (λ a b. (a + (2 ^ bits w - b)) % 2 ^ bits w) (λ a b. a * b % 2 ^ bits w) xs ys zs)
+
+pub ruleset multiply_adds = (macc_lanes, nmsac_lanes, madd_lanes, nmsub_lanes)
 
 -- a choice of two splats by a comparison
 select_splats : (t : ℕ → ℕ → Bool) (n y z : ℕ) (us vs : List ℕ) → length us ≡ n → sel_l (zip2 t us vs) (replicate n y) (replicate n z) ≡ zip2 (λ a b. cond (t a b) y z) us vs

@@ -1,31 +1,18 @@
 -- A list that is overwritten from the front: the first i elements are those of `new`, the rest those of `old`.
-use Rattle.std.proofs.Common.{◌≡◌, ℕ, ◌+◌, ◌<◌, ◌≤◌, List, [], ◌∷◌, ◌++◌, zero, suc, length, get_or, set, take, drop, map, refl, ap, sym, ◌∙◌, arith, add-one, append-nil}
+use Rattle.std.proofs.Common.{◌≡◌, ℕ, ◌+◌, ◌<◌, ◌≤◌, List, [], ◌∷◌, ◌++◌, length, get_or, set, take, drop, map, refl, ap, sym, ◌∙◌, arith, append-nil}
 use lib.Lanes.{zip2}
 use Rattle.std.specs.List.{range_with_len}
+use Rattle.std.proofs.Math.Nat.{sub_self}
 use Rattle.std.proofs.lemmas.Simd.{length-zip2, get_or-zip2}
-use Rattle.std.proofs.lemmas.List.{take_all, drop_all, get_or-map, length-map, map-set}
+use Rattle.std.proofs.lemmas.List.{append_assoc, take_all, take_more, drop_all, drop_more, get_or-append_right, get_or-map, length-map, length-take-le, map-set, set-append_right}
 use Rattle.std.proofs.lemmas.List.FromFn.{get_or-map-range_with_len, length-map-range_with_len}
 
 abbrev pub overlaid : {X : Type 0} → ℕ → List X → List X → List X
 overlaid i new old = take i new ++ drop i old
 
-overlaid-suc : {X : Type 0} (i : ℕ) (new old : List X) (y : X) → i < length old → length new ≡ length old → get_or new i y ≡ y → set (overlaid i new old) i y ≡ overlaid (suc i) new old
-overlaid-suc i [] [] y lt same is = absurd (omega arith)
-overlaid-suc i [] (o ∷ os) y lt same is = absurd (omega arith)
-overlaid-suc i (n ∷ ns) [] y lt same is = absurd (omega arith)
-overlaid-suc zero (n ∷ ns) (o ∷ os) y lt same is = ap (λ z. z ∷ os) (sym is)
-overlaid-suc (suc i) (n ∷ ns) (o ∷ os) y lt same is = ap (λ zs. n ∷ zs) (overlaid-suc i ns os y (omega arith) (omega arith) is)
-
 -- one more element is written
 pub overlaid_more : {X : Type 0} (i : ℕ) (new old now : List X) (y : X) → now ≡ overlaid i new old → i < length old → length new ≡ length old → get_or new i y ≡ y → set now i y ≡ overlaid (i + 1) new old
-overlaid_more i new old now y e lt same is = rw (e, add-one) (overlaid-suc i new old y lt same is)
-
-get_or-overlaid : {X : Type 0} (i : ℕ) (new old : List X) (d : X) → i < length old → length new ≡ length old → get_or (overlaid i new old) i d ≡ get_or old i d
-get_or-overlaid i [] [] d lt same = absurd (omega arith)
-get_or-overlaid i [] (o ∷ os) d lt same = absurd (omega arith)
-get_or-overlaid i (n ∷ ns) [] d lt same = absurd (omega arith)
-get_or-overlaid zero (n ∷ ns) (o ∷ os) d lt same = refl
-get_or-overlaid (suc i) (n ∷ ns) (o ∷ os) d lt same = get_or-overlaid i ns os d (omega arith) (omega arith)
+overlaid_more i new old now y e lt same is = rw (e, set-append_right (take i new) (drop i old) i i y (length-take-le i new (omega arith)) (omega arith), sub_self, drop_more old i y lt, take_more new i y (omega arith), is, append_assoc) refl
 
 pub overlaid_all : {X : Type 0} (i : ℕ) (new old now : List X) → now ≡ overlaid i new old → length old ≤ i → length new ≡ length old → now ≡ new
 overlaid_all i new old now e end same = rw (e, take_all i new (omega arith), drop_all i old (omega arith), append-nil)
@@ -35,7 +22,7 @@ pub pair_more : {A B : Type 0} (f : A → B → A) (xs now : List A) (ys : List 
 pair_more f xs now ys i x y z e lt same is_x is_y is_z =
     let long = length-zip2 f xs ys (sym same) in
     let at : get_or (zip2 f xs ys) i z ≡ f (get_or xs i x) (get_or ys i y) = get_or-zip2 f xs ys i x y z lt (omega arith) in
-    let old : get_or now i x ≡ get_or xs i x = rw e (get_or-overlaid i (zip2 f xs ys) xs x lt long) in
+    let old : get_or now i x ≡ get_or xs i x = rw (e, get_or-append_right (take i (zip2 f xs ys)) (drop i xs) i i x (length-take-le i (zip2 f xs ys) (omega arith)) (omega arith), sub_self, drop_more xs i x lt) refl in
     overlaid_more i (zip2 f xs ys) xs now z e lt long cc
 
 -- a kernel that writes a function of each index

@@ -1,5 +1,6 @@
 //! The chunk call on lanes of 16 bits.
-ghost use Rattle.std.specs.Prelude.{◌≡◌, ◌<◌, map, slice_index};
+ghost use Rattle.std.specs.Prelude.{◌≡◌, ◌<◌, ℕ, List, map, slice_index};
+ghost use lib.Lanes.{Each2};
 ghost use Rattle.std.specs.Int.{w16};
 ghost use Rattle.std.specs.Simd.Lanes.{zip2};
 ghost use Rattle.lane_int.specs.Chunks.{lane_of, all_ones, turned};
@@ -14,6 +15,7 @@ use std::simd::prelude::*;
 /// What `op` makes of each lane of `values`, which are vs2's, of `b`'s lane and of vd's old one: 8 elements of 16 bits
 /// ("Vector Integer Arithmetic Instructions"). A compare gives all ones where it holds, else 0.
 #[inline(always)]
+#[tactic(auto, using(crate::proofs::ChunkLemmas::lanes_of_each))]
 pub fn chunk_u16(op: Op, values: u16x8, b: u16x8, old: u16x8) -> u16x8
     ensures { result ≡ zip3 (lane_of op w16) values b old }
 {
@@ -41,7 +43,8 @@ fn turned(lanes: u16x8) -> u16x8
 /// By how many bits `b` shifts.
 #[inline(always)]
 fn amounts(b: u16x8) -> u16x8
-    ensures { result ≡ map (shift_amount w16) b }
+    ensures meaning { result ≡ map (shift_amount w16) b }
+    ensures fits { (lanes : List ℕ) → Each2 (λ a s. s < 16) lanes result }
 {
     b % u16x8::splat(16)
 }
@@ -67,6 +70,7 @@ fn compare(op: CompareOp, values: u16x8, b: u16x8) -> u16x8
 
 /// vmacc, vnmsac, vmadd and vnmsub
 #[inline(always)]
+#[tactic(auto, using(crate::proofs::VectorLemmas::multiply_adds))]
 fn multiply_add(op: MultiplyAddOp, values: u16x8, b: u16x8, old: u16x8) -> u16x8
     ensures { result ≡ zip3 (multiply_added op w16) values b old }
 {

@@ -1,5 +1,6 @@
 //! The chunk call on lanes of 32 bits.
-ghost use Rattle.std.specs.Prelude.{◌≡◌, ◌<◌, map, slice_index};
+ghost use Rattle.std.specs.Prelude.{◌≡◌, ◌<◌, ℕ, List, map, slice_index};
+ghost use lib.Lanes.{Each2};
 ghost use Rattle.std.specs.Int.{w32};
 ghost use Rattle.std.specs.Simd.Lanes.{zip2};
 ghost use Rattle.lane_int.specs.Chunks.{lane_of, all_ones, turned};
@@ -14,6 +15,7 @@ use std::simd::prelude::*;
 /// What `op` makes of each lane of `values`, which are vs2's, of `b`'s lane and of vd's old one: 4 elements of 32 bits
 /// ("Vector Integer Arithmetic Instructions"). A compare gives all ones where it holds, else 0.
 #[inline(always)]
+#[tactic(auto, using(crate::proofs::ChunkLemmas::lanes_of_each))]
 pub fn chunk_u32(op: Op, values: u32x4, b: u32x4, old: u32x4) -> u32x4
     ensures { result ≡ zip3 (lane_of op w32) values b old }
 {
@@ -41,7 +43,8 @@ fn turned(lanes: u32x4) -> u32x4
 /// By how many bits `b` shifts.
 #[inline(always)]
 fn amounts(b: u32x4) -> u32x4
-    ensures { result ≡ map (shift_amount w32) b }
+    ensures meaning { result ≡ map (shift_amount w32) b }
+    ensures fits { (lanes : List ℕ) → Each2 (λ a s. s < 32) lanes result }
 {
     b % u32x4::splat(32)
 }
@@ -67,6 +70,7 @@ fn compare(op: CompareOp, values: u32x4, b: u32x4) -> u32x4
 
 /// vmacc, vnmsac, vmadd and vnmsub
 #[inline(always)]
+#[tactic(auto, using(crate::proofs::VectorLemmas::multiply_adds))]
 fn multiply_add(op: MultiplyAddOp, values: u32x4, b: u32x4, old: u32x4) -> u32x4
     ensures { result ≡ zip3 (multiply_added op w32) values b old }
 {

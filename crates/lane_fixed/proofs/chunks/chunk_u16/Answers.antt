@@ -1,20 +1,10 @@
-use Rattle.std.proofs.Common.{rules, ◌≡◌, length, w16}
+use Rattle.std.proofs.Common.{rules, w16}
 use Rattle.lane_fixed.specs.Chunks.{lane_flag, lane_result}
 use Rattle.lane_fixed.proofs.ChunkLaneLemmas.{lane_below, from_lanes}
 use Rattle.lane_fixed.proofs.chunks.chunk_u16.Goals as goal
 
-pub computed-requires-clause-a_fits : goal.computed-requires-clause-a_fits
-computed-requires-clause-a_fits c = lane_below w16 8 c.args.values c.fits-values
+pub computed-requires : goal.computed-requires
+computed-requires c = record { a_fits = lane_below w16 8 c.args.values c.fits-values; b_fits = lane_below w16 8 c.args.b c.fits-b }
 
-pub computed-requires-clause-b_fits : goal.computed-requires-clause-b_fits
-computed-requires-clause-b_fits c = lane_below w16 8 c.args.b c.fits-b
-
-pub returns-clause-results : goal.returns-clause-results
-returns-clause-results c =
-    let long : length c.computed.result.0 ≡ 8 = search rules in
-    from_lanes (lane_result c.args.op w16) 8 c.args.values c.args.b c.computed.result.0 c.fits-values.0 c.fits-b.0 long c.computed.ensures.results
-
-pub returns-clause-flags : goal.returns-clause-flags
-returns-clause-flags c =
-    let long : length c.computed.result.1 ≡ 8 = search rules in
-    from_lanes (lane_flag c.args.op w16) 8 c.args.values c.args.b c.computed.result.1 c.fits-values.0 c.fits-b.0 long c.computed.ensures.flags
+pub returns : goal.returns
+returns c = record { results = from_lanes (lane_result c.args.op w16) 8 c.args.values c.args.b c.computed.result.0 c.fits-values.0 c.fits-b.0 (search rules) c.computed.ensures.results; flags = from_lanes (lane_flag c.args.op w16) 8 c.args.values c.args.b c.computed.result.1 c.fits-values.0 c.fits-b.0 (search rules) c.computed.ensures.flags }

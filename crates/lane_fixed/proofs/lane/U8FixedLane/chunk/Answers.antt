@@ -1,19 +1,9 @@
-use Rattle.std.proofs.Common.{rules, ◌≡◌, ◌∙◌, ◌==◌, ◌||◌, ◌+◌, ◌-◌, ap, arith, drop, length, not, take, w8}
-use lib.Lanes.{chunk}
-use Rattle.std.proofs.lemmas.List.{map-id}
+use Rattle.std.proofs.Common.{rules, ◌==◌, arith, not, w8}
 use Rattle.std.proofs.lemmas.Simd.{bitmask_splat}
-use Rattle.lane_fixed.specs.FixedPoint.{any_active}
-use Rattle.lane_fixed.specs.Chunks.{lane_saturates}
-use Rattle.lane_fixed.proofs.ChunkKernelLemmas.{flags_say}
+use Rattle.lane_fixed.proofs.ChunkKernelLemmas.{chunk_flags_say}
 use Rattle.lane_fixed.proofs.lane.U8FixedLane.chunk.Goals as goal
 
 pub returns-clause-saturated : goal.returns-clause-saturated
 returns-clause-saturated c =
-    let fs = c.chunk_u8.result.1 in
-    let xs = chunk c.args.at 16 c.args.values.now in
-    let ys = chunk c.args.at 16 c.args.b.now in
-    let from = drop c.args.at c.args.active.now in
-    let long : length fs ≡ 16 = search rules in
-    let few : c.args.at + 16 - c.args.at ≡ 16 = omega arith in
-    rw (map-id c.args.values.now, map-id c.args.b.now)
-    (flags_say w8 c.args.op xs ys fs _ (take (c.args.at + 16 - c.args.at) from) _ c.args.so_far c.or_flagged.result c.chunk_u8.ensures.flags (map-id fs) (bitmask_splat w8 (λ a b. not (a == b)) fs 16 0 long (omega arith)) c.or_flagged.ensures ∙ ap (λ k. c.args.so_far || any_active (lane_saturates c.args.op w8) xs ys (take k from)) few)
+    let flags = c.chunk_u8.result.1 in
+    chunk_flags_say w8 c.args.op 16 c.args.at c.args.values.now c.args.b.now flags c.args.active.now c.args.so_far c.or_flagged.result c.chunk_u8.ensures.flags (bitmask_splat w8 (λ a b. not (a == b)) flags 16 0 (search rules) (omega arith)) c.or_flagged.ensures
