@@ -116,7 +116,6 @@ pub fn write_results<E: VectorElement, const VLENB: usize>(
 }
 
 /// The same where all of the body has results, each of them active.
-#[tactic(auto, unfolding(vreg_groups::specs::Elements::active_of))]
 fn write_whole<E: VectorElement, const VLENB: usize>(
     registers: &mut VregFile<VLENB>,
     setup: &Setup,

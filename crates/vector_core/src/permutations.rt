@@ -243,7 +243,7 @@ fn read_indices<E: VectorElement, const VLENB: usize>(
 }
 
 /// Each element of vd is that of vs2 at its index, and 0 where that is at or past VLMAX.
-#[tactic(auto, using(crate::proofs::Moved::gathered_numbers), unfolding(rv_decode::specs::Needs::needs_of_perm, crate::specs::Permutations::gather_of, crate::specs::Permutations::perm_of))]
+#[tactic(auto, unfolding(rv_decode::specs::Needs::needs_of_perm))]
 fn gather<E: VectorElement, const VLENB: usize>(
     registers: &mut VregFile<VLENB>,
     scalar: &Scalar,

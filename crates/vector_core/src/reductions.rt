@@ -23,7 +23,7 @@ use scalar_core::Scalar;
 use vreg_groups::{MOST_ELEMENTS, VregFile};
 
 /// Element 0 of vd is the fold of element 0 of vs1 with the active elements of vs2, of which a body has at most MOST.
-#[tactic(auto, unfolding(rv_decode::specs::Needs::needs_of_reduce, crate::specs::Reductions::fold_of, crate::specs::Reductions::reduce_of))]
+#[tactic(auto, unfolding(rv_decode::specs::Needs::needs_of_reduce))]
 fn fold_elements<E: VectorElement, const MOST: usize, const VLENB: usize>(
     registers: &mut VregFile<VLENB>,
     setup: &Setup,
