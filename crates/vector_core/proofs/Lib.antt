@@ -9,4 +9,5 @@ pub mod Numbers
 pub mod Permits
 pub mod RunLemmas
 pub mod ReadsInside
+pub mod StoreLemmas
 pub mod WritesInside

@@ -1,11 +1,23 @@
 -- The numbers of elements that were moved are the numbers of the elements, moved.
-use Rattle.std.proofs.Common.{◌≡◌, ℕ, ◌+◌, ◌-◌, ◌^◌, Bool, true, false, List, [], ◌∷◌, ◌++◌, take, get_or, length, map, ap, zero, suc, refl}
+use Rattle.std.proofs.Common.{◌≡◌, ℕ, ◌+◌, ◌-◌, ◌%◌, ◌^◌, Bool, true, false, List, [], ◌∷◌, ◌++◌, take, get_or, length, map, ap, zero, suc, refl}
 use Rattle.std.proofs.Math.Nat.{zero-mod}
 use Rattle.std.proofs.lemmas.List.{drop-map, length-map, map-append, take-map}
 use Rattle.std.specs.List.{range_with_len}
 use Rattle.lane_masks.specs.Folds.{kept}
 use Rattle.lane_masks.specs.Permutations.{gathered, slid_down, slid_one_down, slid_one_up, slid_up}
+use mir.Val.{bits}
+use Rattle.rv_decode.specs.Instructions.{bytes_of_width}
+use Rattle.rv_decode.specs.declared.instructions.Width.{Width}
+use Rattle.rv_decode.specs.declared.instructions.Width.TheVariants.{W8, W16, W32}
+use Rattle.vector_core.specs.Integer.{lane_width}
 use Rattle.vector_core.specs.Operands.{low_bits}
+
+-- a lane's width and an element's size are those of one SEW
+pub low_is : (sew : Width) (n : ℕ) → n % 2 ^ bits (lane_width sew) ≡ low_bits (bytes_of_width sew) n
+unfolding low_bits
+low_is W8 n = refl
+low_is W16 n = refl
+low_is W32 n = refl
 
 pub zero_low : (size : ℕ) → low_bits size 0 ≡ 0
 unfolding low_bits

@@ -17,6 +17,7 @@ pub mod Operations
 pub mod Permitted
 pub mod Permutations
 pub mod Reductions
+pub mod Rooms
 pub mod Run
 pub mod Setup
 pub mod Shapes

@@ -1,16 +1,17 @@
 //! Instructions that compute, by their shapes.
 
-ghost use Rattle.std.specs.Prelude.{◌≡◌, length};
+ghost use Rattle.std.specs.Prelude.{◌≡◌};
 ghost use Rattle.rv_decode.specs.Needs.{needs_of_arith};
 ghost use Rattle.vector_core.specs.Arithmetic.{arith_of};
+ghost use Rattle.vector_core.specs.Rooms.{IsRoom};
 ghost use Rattle.vector_core.specs.Setup.{IsReady};
 
 use crate::doubles::doubles;
-use crate::elements::VectorElement;
+use crate::elements::{VectorElement, zero};
 use crate::fixed_point::fixed;
 use crate::integer::{carry, carry_out, compare, int, multiply_add};
 use crate::moves::{copy, merge};
-use crate::rooms::with_rooms;
+use crate::rooms::{MOST_HALVES, MOST_WORDS};
 use crate::setup::Setup;
 use crate::widening::extend;
 use rv_decode::{VArith, Width};
@@ -30,88 +31,31 @@ pub fn arith<const VLENB: usize>(
 {
     let sew = setup.vtype.sew;
     match sew {
-        Width::W8 => arith_bytes(registers, scalar, setup, insn),
-        Width::W16 => arith_halves(registers, scalar, setup, insn),
-        Width::W32 => arith_words(registers, scalar, setup, insn),
+        Width::W8 => arith_elements::<u8, MOST_ELEMENTS, VLENB>(registers, scalar, setup, insn),
+        Width::W16 => arith_elements::<u16, MOST_HALVES, VLENB>(registers, scalar, setup, insn),
+        Width::W32 => arith_elements::<u32, MOST_WORDS, VLENB>(registers, scalar, setup, insn),
     }
 }
 
-fn arith_bytes<const VLENB: usize>(
-    registers: &mut VregFile<VLENB>,
-    scalar: &Scalar,
-    setup: &Setup,
-    insn: &VArith,
-) -> bool
-    requires sew { setup.now.vtype.sew ≡ Width.W8 }
-    requires ready { IsReady VLENB setup.now (needs_of_arith insn.now) }
-    ensures { arith_of VLENB setup.now scalar.now insn.now registers.old
-        ≡ record { registers = registers.new; saturated = result } }
-{
-    let vl = setup.vl;
-    with_rooms!(
-        MOST_ELEMENTS,
-        [a: [0u8; vl], c: [0u8; vl], d: [0u8; vl]],
-        arith_elements(registers, scalar, setup, insn, a, c, d)
-    )
-}
-
-fn arith_halves<const VLENB: usize>(
-    registers: &mut VregFile<VLENB>,
-    scalar: &Scalar,
-    setup: &Setup,
-    insn: &VArith,
-) -> bool
-    requires sew { setup.now.vtype.sew ≡ Width.W16 }
-    requires ready { IsReady VLENB setup.now (needs_of_arith insn.now) }
-    ensures { arith_of VLENB setup.now scalar.now insn.now registers.old
-        ≡ record { registers = registers.new; saturated = result } }
-{
-    let vl = setup.vl;
-    with_rooms!(
-        MOST_ELEMENTS / 2,
-        [a: [0u16; vl], c: [0u16; vl], d: [0u16; vl]],
-        arith_elements(registers, scalar, setup, insn, a, c, d)
-    )
-}
-
-fn arith_words<const VLENB: usize>(
-    registers: &mut VregFile<VLENB>,
-    scalar: &Scalar,
-    setup: &Setup,
-    insn: &VArith,
-) -> bool
-    requires sew { setup.now.vtype.sew ≡ Width.W32 }
-    requires ready { IsReady VLENB setup.now (needs_of_arith insn.now) }
-    ensures { arith_of VLENB setup.now scalar.now insn.now registers.old
-        ≡ record { registers = registers.new; saturated = result } }
-{
-    let vl = setup.vl;
-    with_rooms!(
-        MOST_ELEMENTS / 4,
-        [a: [0u32; vl], c: [0u32; vl], d: [0u32; vl]],
-        arith_elements(registers, scalar, setup, insn, a, c, d)
-    )
-}
-
-/// The same on elements of one width, with room for the body of three operands.
+/// The same on elements of one width, of which a body has at most MOST.
 #[tactic(auto, unfolding(crate::specs::Arithmetic::arith_of, crate::specs::Arithmetic::has_doubles))]
-fn arith_elements<E: VectorElement, const VLENB: usize>(
+fn arith_elements<E: VectorElement, const MOST: usize, const VLENB: usize>(
     registers: &mut VregFile<VLENB>,
     scalar: &Scalar,
     setup: &Setup,
     insn: &VArith,
-    a: &mut [E],
-    c: &mut [E],
-    d: &mut [E],
 ) -> bool
-    requires a_len { length a.old ≡ setup.now.vl }
-    requires c_len { length c.old ≡ setup.now.vl }
-    requires d_len { length d.old ≡ setup.now.vl }
+    requires room { IsRoom E.row E.SIZE MOST }
     requires width { E.sew ≡ setup.now.vtype.sew }
     requires ready { IsReady VLENB setup.now (needs_of_arith insn.now) }
     ensures { arith_of VLENB setup.now scalar.now insn.now registers.old
         ≡ record { registers = registers.new; saturated = result } }
 {
+    let vl = setup.vl;
+    let mut a = [zero::<E>(); MOST];
+    let mut c = [zero::<E>(); MOST];
+    let mut d = [zero::<E>(); MOST];
+    let (a, c, d) = (&mut a[..vl], &mut c[..vl], &mut d[..vl]);
     match insn {
         VArith::Int { .. } => int(registers, scalar, setup, insn, a, c),
         VArith::MultiplyAdd { .. } => multiply_add(registers, scalar, setup, insn, a, c, d),

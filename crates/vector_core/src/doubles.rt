@@ -1,17 +1,18 @@
 //! Instructions with a group of 2*SEW, by their shapes.
 
-ghost use Rattle.std.specs.Prelude.{◌≡◌, ◌≤◌, ◌*◌, length, true};
+ghost use Rattle.std.specs.Prelude.{◌≡◌, ◌≤◌, ◌*◌, true};
 ghost use Rattle.rv_decode.specs.Needs.{needs_of_arith};
 ghost use Rattle.rv_decode.specs.declared.extents.Eew.TheVariants.{Double};
 ghost use Rattle.vreg_groups.specs.Group.{IsGroupInside};
 ghost use Rattle.rv_decode.specs.Instructions.{bytes_of_width};
 ghost use Rattle.vector_core.specs.Arithmetic.{arith_of, has_doubles};
+ghost use Rattle.vector_core.specs.Rooms.{IsRoom};
 ghost use Rattle.vector_core.specs.Setup.{IsReady, IsSetup};
 
-use crate::elements::VectorElement;
+use crate::elements::{VectorElement, zero};
 use crate::narrowing::{clip, narrow};
 use crate::resizing::HalfOf;
-use crate::rooms::with_rooms;
+use crate::rooms::{MOST_HALVES, MOST_WORDS};
 use crate::setup::Setup;
 use crate::widening::{wide, widen, widen_multiply_add};
 use rv_decode::{Eew, Reg, VArith, Width};
@@ -34,8 +35,12 @@ pub fn doubles<const VLENB: usize>(
     let vl = double_vl::<VLENB>(setup);
     let sew = setup.vtype.sew;
     match sew {
-        Width::W8 => doubles_of_bytes(registers, scalar, setup, insn, vl),
-        Width::W16 => doubles_of_halves(registers, scalar, setup, insn, vl),
+        Width::W8 => {
+            doubles_of::<u8, u16, MOST_HALVES, VLENB>(registers, scalar, setup, insn, vl)
+        }
+        Width::W16 => {
+            doubles_of::<u16, u32, MOST_WORDS, VLENB>(registers, scalar, setup, insn, vl)
+        }
         Width::W32 => unreachable!(),
     }
 }
@@ -50,74 +55,32 @@ fn double_vl<const VLENB: usize>(setup: &Setup) -> usize
     setup.group::<VLENB>(Reg::new(0), Eew::Double).vl()
 }
 
-fn doubles_of_bytes<const VLENB: usize>(
-    registers: &mut VregFile<VLENB>,
-    scalar: &Scalar,
-    setup: &Setup,
-    insn: &VArith,
-    vl: usize,
-) -> bool
-    requires sew { setup.now.vtype.sew ≡ Width.W8 }
-    requires vl { vl ≡ setup.now.vl }
-    requires room { 2 * vl ≤ MOST_ELEMENTS }
-    requires doubles { has_doubles insn.now ≡ true }
-    requires ready { IsReady VLENB setup.now (needs_of_arith insn.now) }
-    ensures { arith_of VLENB setup.now scalar.now insn.now registers.old
-        ≡ record { registers = registers.new; saturated = result } }
-{
-    with_rooms!(
-        MOST_ELEMENTS / 2,
-        [a: [0u8; vl], c: [0u8; vl], x: [0u16; vl], y: [0u16; vl], d: [0u16; vl]],
-        doubles_of_elements(registers, scalar, setup, insn, a, c, x, y, d)
-    )
-}
-
-fn doubles_of_halves<const VLENB: usize>(
-    registers: &mut VregFile<VLENB>,
-    scalar: &Scalar,
-    setup: &Setup,
-    insn: &VArith,
-    vl: usize,
-) -> bool
-    requires sew { setup.now.vtype.sew ≡ Width.W16 }
-    requires vl { vl ≡ setup.now.vl }
-    requires room { 4 * vl ≤ MOST_ELEMENTS }
-    requires doubles { has_doubles insn.now ≡ true }
-    requires ready { IsReady VLENB setup.now (needs_of_arith insn.now) }
-    ensures { arith_of VLENB setup.now scalar.now insn.now registers.old
-        ≡ record { registers = registers.new; saturated = result } }
-{
-    with_rooms!(
-        MOST_ELEMENTS / 4,
-        [a: [0u16; vl], c: [0u16; vl], x: [0u32; vl], y: [0u32; vl], d: [0u32; vl]],
-        doubles_of_elements(registers, scalar, setup, insn, a, c, x, y, d)
-    )
-}
-
-/// The same on elements of one width and its double, with room for the body of two operands of SEW and three of 2*SEW.
+/// The same on elements of one width and its double, of which a body has at most MOST.
 #[tactic(auto, unfolding(crate::specs::Arithmetic::arith_of, crate::specs::Arithmetic::has_doubles))]
-fn doubles_of_elements<N: HalfOf<W>, W: VectorElement, const VLENB: usize>(
+fn doubles_of<N: HalfOf<W>, W: VectorElement, const MOST: usize, const VLENB: usize>(
     registers: &mut VregFile<VLENB>,
     scalar: &Scalar,
     setup: &Setup,
     insn: &VArith,
-    a: &mut [N],
-    c: &mut [N],
-    x: &mut [W],
-    y: &mut [W],
-    d: &mut [W],
+    vl: usize,
 ) -> bool
-    requires a_len { length a.old ≡ setup.now.vl }
-    requires c_len { length c.old ≡ setup.now.vl }
-    requires x_len { length x.old ≡ setup.now.vl }
-    requires y_len { length y.old ≡ setup.now.vl }
-    requires d_len { length d.old ≡ setup.now.vl }
+    requires narrow_room { IsRoom N.row W.SIZE MOST }
+    requires room { IsRoom W.row W.SIZE MOST }
+    requires vl { vl ≡ setup.now.vl }
+    requires body { W.SIZE * vl ≤ MOST_ELEMENTS }
     requires width { N.sew ≡ setup.now.vtype.sew }
     requires doubles { has_doubles insn.now ≡ true }
     requires ready { IsReady VLENB setup.now (needs_of_arith insn.now) }
     ensures { arith_of VLENB setup.now scalar.now insn.now registers.old
         ≡ record { registers = registers.new; saturated = result } }
 {
+    let mut a = [zero::<N>(); MOST];
+    let mut c = [zero::<N>(); MOST];
+    let mut x = [zero::<W>(); MOST];
+    let mut y = [zero::<W>(); MOST];
+    let mut d = [zero::<W>(); MOST];
+    let (a, c) = (&mut a[..vl], &mut c[..vl]);
+    let (x, y, d) = (&mut x[..vl], &mut y[..vl], &mut d[..vl]);
     match insn {
         VArith::Widen { .. } => widen(registers, scalar, setup, insn, a, x, y),
         VArith::Wide { .. } => wide(registers, scalar, setup, insn, a, x, y),

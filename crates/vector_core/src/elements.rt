@@ -1,6 +1,8 @@
 //! Elements that lie in registers and that the lanes work on.
 
-ghost use Rattle.std.specs.Prelude.{◌≡◌, ◌%◌, ◌^◌, length, map};
+ghost use Rattle.std.specs.Prelude.{◌≡◌, length, map};
+ghost use Rattle.rv_decode.specs.Instructions.{bytes_of_width};
+ghost use Rattle.vector_core.specs.Operands.{low_bits};
 
 use lane_fixed::FixedLane;
 use lane_int::Lane;
@@ -13,18 +15,9 @@ pub trait VectorElement: Element + Lane + FixedLane + FoldLane {
     ghost use Rattle.rv_decode.specs.declared.instructions.Width.{Width};
     ghost use Rattle.rv_decode.specs.Instructions.{bytes_of_width};
     ghost use Rattle.vector_core.specs.Integer.{lane_width};
-    ghost use Rattle.vector_core.specs.Operands.{low_bits};
 
     // SEW
     ghost sew: { Width };
-
-    /// The element in the low bits of a number.
-    fn low_bits(n: u32) -> Self
-        ensures { Self.Element.number result ≡ low_bits (bytes_of_width sew) n };
-
-    /// The element as a number.
-    fn to_number(self) -> u32
-        ensures { result ≡ Self.Element.number self };
 
     ghost size_is: { Self.SIZE ≡ bytes_of_width sew };
 
@@ -47,15 +40,6 @@ impl VectorElement for u8 {
 
     ghost sew = { W8 };
 
-    #[tactic(auto, unfolding(crate::specs::Operands::low_bits))]
-    fn low_bits(n: u32) -> u8 {
-        (n % 256) as u8
-    }
-
-    fn to_number(self) -> u32 {
-        u32::from(self)
-    }
-
     ghost size_is = { refl };
 
     ghost width_is = { refl };
@@ -76,15 +60,6 @@ impl VectorElement for u16 {
     ghost use Rattle.rv_decode.specs.declared.instructions.Width.TheVariants.{W16};
 
     ghost sew = { W16 };
-
-    #[tactic(auto, unfolding(crate::specs::Operands::low_bits))]
-    fn low_bits(n: u32) -> u16 {
-        (n % 65536) as u16
-    }
-
-    fn to_number(self) -> u32 {
-        u32::from(self)
-    }
 
     ghost size_is = { refl };
 
@@ -107,15 +82,6 @@ impl VectorElement for u32 {
 
     ghost sew = { W32 };
 
-    #[tactic(auto, unfolding(crate::specs::Operands::low_bits))]
-    fn low_bits(n: u32) -> u32 {
-        n
-    }
-
-    fn to_number(self) -> u32 {
-        self
-    }
-
     ghost size_is = { refl };
 
     ghost width_is = { refl };
@@ -131,12 +97,20 @@ impl VectorElement for u32 {
     ghost fold_number_is = { refl };
 }
 
+/// The element in the low bits of a number.
+#[tactic(auto, using(crate::proofs::Moved::low_is))]
+pub fn low_bits<E: VectorElement>(n: u32) -> E
+    ensures { E.Element.number result ≡ low_bits (bytes_of_width E.sew) n }
+{
+    <E as FoldLane>::low(n)
+}
+
 /// The element 0.
 #[tactic(auto, using(crate::proofs::Moved::zero_low))]
 pub fn zero<E: VectorElement>() -> E
     ensures { E.Element.number result ≡ 0 }
 {
-    E::low_bits(0)
+    low_bits(0)
 }
 
 /// The elements as numbers.
@@ -145,6 +119,6 @@ pub fn numbers_of<E: VectorElement>(elements: &[E], out: &mut [u32])
     ensures { out.new ≡ map E.Element.number elements.now }
 {
     for i in 0..out.len() {
-        out[i] = elements[i].to_number();
+        out[i] = elements[i].extended(false);
     }
 }

@@ -18,7 +18,7 @@ use scalar_core::Scalar;
 use vreg_groups::{MOST_ELEMENTS, VregFile};
 
 /// vd is an operation on vs2 and b.
-#[tactic(auto, using(crate::proofs::Numbers::map_two), unfolding(rv_decode::specs::Needs::needs_of_arith, crate::specs::Integer::int_of, crate::specs::Arithmetic::arith_of))]
+#[tactic(auto, unfolding(rv_decode::specs::Needs::needs_of_arith))]
 pub fn int<E: VectorElement, const VLENB: usize>(
     registers: &mut VregFile<VLENB>,
     scalar: &Scalar,
@@ -50,7 +50,7 @@ pub fn int<E: VectorElement, const VLENB: usize>(
 }
 
 /// vd is a product and a sum of b, vs2 and the old vd, whose body there is room for in `d`.
-#[tactic(auto, using(crate::proofs::Numbers::map_three), unfolding(rv_decode::specs::Needs::needs_of_arith, crate::specs::Integer::multiply_add_of, crate::specs::Arithmetic::arith_of))]
+#[tactic(auto, unfolding(rv_decode::specs::Needs::needs_of_arith))]
 pub fn multiply_add<E: VectorElement, const VLENB: usize>(
     registers: &mut VregFile<VLENB>,
     scalar: &Scalar,
@@ -85,7 +85,7 @@ pub fn multiply_add<E: VectorElement, const VLENB: usize>(
 }
 
 /// vd is a sum or difference of vs2, b and the bit of v0.
-#[tactic(auto, using(crate::proofs::Numbers::map_by_bits), unfolding(rv_decode::specs::Needs::needs_of_arith, crate::specs::Integer::carry_of, crate::specs::Arithmetic::arith_of))]
+#[tactic(auto, unfolding(rv_decode::specs::Needs::needs_of_arith))]
 pub fn carry<E: VectorElement, const VLENB: usize>(
     registers: &mut VregFile<VLENB>,
     scalar: &Scalar,
@@ -113,7 +113,7 @@ pub fn carry<E: VectorElement, const VLENB: usize>(
 }
 
 /// The bits of vd are the carries or borrows of vs2 and b, with the bit of v0 where `with_carry` says so.
-#[tactic(auto, using(crate::proofs::Numbers::test_by_bits), unfolding(rv_decode::specs::Needs::needs_of_arith, crate::specs::Integer::carry_out_of, crate::specs::Arithmetic::arith_of))]
+#[tactic(auto, unfolding(rv_decode::specs::Needs::needs_of_arith))]
 pub fn carry_out<E: VectorElement, const VLENB: usize>(
     registers: &mut VregFile<VLENB>,
     scalar: &Scalar,
@@ -147,7 +147,7 @@ pub fn carry_out<E: VectorElement, const VLENB: usize>(
 }
 
 /// The bits of vd say how vs2 compares with b.
-#[tactic(auto, using(crate::proofs::Numbers::test_two), unfolding(rv_decode::specs::Needs::needs_of_arith, crate::specs::Integer::compare_of, crate::specs::Arithmetic::arith_of))]
+#[tactic(auto, unfolding(rv_decode::specs::Needs::needs_of_arith))]
 pub fn compare<E: VectorElement, const VLENB: usize>(
     registers: &mut VregFile<VLENB>,
     scalar: &Scalar,

@@ -7,11 +7,12 @@ ghost use Rattle.rv_decode.specs.declared.extents.Eew.TheVariants.{Same};
 ghost use Rattle.vreg_groups.specs.Group.{IsGroupInside};
 ghost use Rattle.vector_core.specs.Masks.{count_of, first_of, index_of, iota_of, logic_of};
 ghost use Rattle.vector_core.specs.Masks.{mask_step, set_and_active, set_first_of};
+ghost use Rattle.vector_core.specs.Rooms.{IsRoom};
 ghost use Rattle.vector_core.specs.Setup.{IsReady, IsSetup};
 
-use crate::elements::VectorElement;
+use crate::elements::{VectorElement, zero};
 use crate::operands::{write_bits, write_results};
-use crate::rooms::{with_rooms, with_rooms_of_sew};
+use crate::rooms::{MOST_HALVES, MOST_WORDS};
 use crate::setup::Setup;
 use crate::state::VectorState;
 use lane_masks::{combine, set_first};
@@ -119,23 +120,24 @@ fn set_around_first<const VLENB: usize>(
     write_bits(registers, setup, vd, masked, bits);
 }
 
-/// Each element of vd is how many bits of vs2 below it are set and active; `a` has room for the body.
+/// Each element of vd, of which a body has at most MOST, is how many bits of vs2 below it are set and active.
 #[tactic(auto, unfolding(crate::specs::Masks::iota_of))]
-fn iota_elements<E: VectorElement, const VLENB: usize>(
+fn iota_elements<E: VectorElement, const MOST: usize, const VLENB: usize>(
     registers: &mut VregFile<VLENB>,
     setup: &Setup,
     vd: Reg,
     vs2: Reg,
     masked: bool,
-    a: &mut [E],
 )
-    requires a_len { length a.old ≡ setup.now.vl }
+    requires room { IsRoom E.row E.SIZE MOST }
     requires width { E.sew ≡ setup.now.vtype.sew }
     requires setup { IsSetup VLENB setup.now }
     requires inside { IsGroupInside setup.now.vtype vd Same }
     ensures { registers.new ≡ iota_of VLENB setup.now vd vs2 masked registers.old }
 {
     let destination = setup.group(vd, Eew::Same);
+    let mut a = [zero::<E>(); MOST];
+    let a = &mut a[..setup.vl];
     let mut bits = [false; MOST_ELEMENTS];
     let bits = &mut bits[..setup.vl];
     read_set_and_active(registers, setup, vs2, masked, bits);
@@ -155,30 +157,31 @@ fn iota<const VLENB: usize>(
     requires inside { IsGroupInside setup.now.vtype vd Same }
     ensures { registers.new ≡ iota_of VLENB setup.now vd vs2 masked registers.old }
 {
-    let vl = setup.vl;
-    with_rooms_of_sew!(
-        setup,
-        [a: vl],
-        iota_elements(registers, setup, vd, vs2, masked, a)
-    );
+    let sew = setup.vtype.sew;
+    match sew {
+        Width::W8 => iota_elements::<u8, MOST_ELEMENTS, VLENB>(registers, setup, vd, vs2, masked),
+        Width::W16 => iota_elements::<u16, MOST_HALVES, VLENB>(registers, setup, vd, vs2, masked),
+        Width::W32 => iota_elements::<u32, MOST_WORDS, VLENB>(registers, setup, vd, vs2, masked),
+    }
 }
 
-/// Each element of vd is its own number; `a` has room for the body.
+/// Each element of vd, of which a body has at most MOST, is its own number.
 #[tactic(auto, unfolding(crate::specs::Masks::index_of))]
-fn index_elements<E: VectorElement, const VLENB: usize>(
+fn index_elements<E: VectorElement, const MOST: usize, const VLENB: usize>(
     registers: &mut VregFile<VLENB>,
     setup: &Setup,
     vd: Reg,
     masked: bool,
-    a: &mut [E],
 )
-    requires a_len { length a.old ≡ setup.now.vl }
+    requires room { IsRoom E.row E.SIZE MOST }
     requires width { E.sew ≡ setup.now.vtype.sew }
     requires setup { IsSetup VLENB setup.now }
     requires inside { IsGroupInside setup.now.vtype vd Same }
     ensures { registers.new ≡ index_of VLENB setup.now vd masked registers.old }
 {
     let destination = setup.group(vd, Eew::Same);
+    let mut a = [zero::<E>(); MOST];
+    let a = &mut a[..setup.vl];
     lane_masks::index(a);
     write_results(registers, setup, &destination, masked, a);
 }
@@ -189,8 +192,12 @@ fn index<const VLENB: usize>(registers: &mut VregFile<VLENB>, setup: &Setup, vd:
     requires inside { IsGroupInside setup.now.vtype vd Same }
     ensures { registers.new ≡ index_of VLENB setup.now vd masked registers.old }
 {
-    let vl = setup.vl;
-    with_rooms_of_sew!(setup, [a: vl], index_elements(registers, setup, vd, masked, a));
+    let sew = setup.vtype.sew;
+    match sew {
+        Width::W8 => index_elements::<u8, MOST_ELEMENTS, VLENB>(registers, setup, vd, masked),
+        Width::W16 => index_elements::<u16, MOST_HALVES, VLENB>(registers, setup, vd, masked),
+        Width::W32 => index_elements::<u32, MOST_WORDS, VLENB>(registers, setup, vd, masked),
+    }
 }
 
 /// The step of an instruction on masks.

@@ -10,7 +10,7 @@ ghost use Rattle.vector_core.specs.Shapes.{CopyShape, IsShaped, MergeShape};
 ghost use Rattle.vector_core.specs.Moves.{chosen, from_scalar_of, move_step, to_scalar_of};
 ghost use Rattle.vector_core.specs.Setup.{IsReady};
 
-use crate::elements::VectorElement;
+use crate::elements::{VectorElement, low_bits};
 use crate::fold_elements::sign_extended;
 use crate::operands::{read_bits, read_body, read_second, write_results};
 use crate::setup::Setup;
@@ -113,9 +113,9 @@ fn from_scalar<const VLENB: usize>(
     let x = scalar.reg(rs1);
     let sew = setup.vtype.sew;
     match sew {
-        Width::W8 => write_first(registers, setup, vd, u8::low_bits(x)),
-        Width::W16 => write_first(registers, setup, vd, u16::low_bits(x)),
-        Width::W32 => write_first(registers, setup, vd, u32::low_bits(x)),
+        Width::W8 => write_first(registers, setup, vd, low_bits::<u8>(x)),
+        Width::W16 => write_first(registers, setup, vd, low_bits::<u16>(x)),
+        Width::W32 => write_first(registers, setup, vd, low_bits::<u32>(x)),
     }
 }
 

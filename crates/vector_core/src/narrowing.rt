@@ -10,7 +10,7 @@ use crate::elements::VectorElement;
 use crate::fixed_point::rounding_mode;
 use crate::operands::{read_second, write_results};
 use crate::operations::narrow_lanes;
-use crate::resizing::{HalfOf, cut_results, read_second_doubled};
+use crate::resizing::{HalfOf, cut_results, read_doubled};
 use crate::setup::Setup;
 use rv_decode::{Eew, VArith};
 use scalar_core::Scalar;
@@ -46,7 +46,7 @@ pub fn narrow<N: HalfOf<W>, W: VectorElement, const VLENB: usize>(
     let destination = setup.group(*vd, Eew::Same);
     let source = setup.group::<VLENB>(*vs2, Eew::Double);
     source.read(registers, x);
-    read_second_doubled(registers, scalar, setup, *b, false, a, y);
+    read_doubled(registers, scalar, setup, *b, false, a, y);
     lane_int::compute(narrow_lanes(*op), x, y);
     cut_results(x, a);
     write_results(registers, setup, &destination, *masked, a);

@@ -11,7 +11,7 @@ ghost use Rattle.rv_decode.specs.Instructions.{bytes_of_width};
 ghost use Rattle.vector_core.specs.Operands.{bits_written, low_bits, results_written, second_of};
 ghost use Rattle.vector_core.specs.Setup.{IsSetup, group_at};
 
-use crate::elements::VectorElement;
+use crate::elements::{VectorElement, low_bits};
 use crate::setup::Setup;
 use rv_decode::{Eew, Reg, Source};
 use scalar_core::Scalar;
@@ -63,7 +63,7 @@ fn splat_low<E: VectorElement>(n: u32, out: &mut [E])
     ensures { map E.Element.number out.new ≡ replicate (length out.old)
         (low_bits (bytes_of_width E.sew) n) }
 {
-    splat(E::low_bits(n), out);
+    splat(low_bits(n), out);
 }
 
 #[tactic(auto, using(std::proofs::lemmas::List::take_more_set, std::proofs::lemmas::List::replicate_more, std::proofs::lemmas::List::take_all))]
@@ -116,7 +116,6 @@ pub fn write_results<E: VectorElement, const VLENB: usize>(
 }
 
 /// The same where all of the body has results, each of them active.
-#[tactic(auto, unfolding(vreg_groups::specs::Elements::active_of))]
 fn write_whole<E: VectorElement, const VLENB: usize>(
     registers: &mut VregFile<VLENB>,
     setup: &Setup,

@@ -12,14 +12,15 @@ ghost use Rattle.vreg_groups.specs.VectorType.{vlmax_of};
 ghost use Rattle.vreg_groups.specs.declared.vector_type.TheConstants.{MOST_ELEMENTS};
 ghost use Rattle.vector_core.specs.Permutations.{active_from, all_at, distance_of, indices_of};
 ghost use Rattle.vector_core.specs.Permutations.{perm_of, perm_step, results_written_from};
+ghost use Rattle.vector_core.specs.Rooms.{IsRoom};
 ghost use Rattle.vector_core.specs.Shapes.{CompressShape, Gather16Shape, GatherShape};
 ghost use Rattle.vector_core.specs.Shapes.{IsPermShaped, SlideDownShape, SlideOneDownShape};
 ghost use Rattle.vector_core.specs.Shapes.{SlideOneUpShape, SlideUpShape};
 ghost use Rattle.vector_core.specs.Setup.{IsReady, IsSetup};
 
-use crate::elements::{VectorElement, numbers_of, zero};
+use crate::elements::{VectorElement, low_bits, numbers_of, zero};
 use crate::operands::{read_bits, read_body, write_results};
-use crate::rooms::with_rooms;
+use crate::rooms::{MOST_HALVES, MOST_WORDS};
 use crate::setup::Setup;
 use crate::state::VectorState;
 use rv_decode::{Eew, Offset, Reg, Source, VPerm, Width};
@@ -182,7 +183,7 @@ fn slide_one_up<E: VectorElement, const VLENB: usize>(
     };
     let destination = setup.group(*vd, Eew::Same);
     read_body(registers, setup, *vs2, a);
-    lane_masks::slide_one_up(E::low_bits(scalar.reg(*rs1)), a);
+    lane_masks::slide_one_up(low_bits(scalar.reg(*rs1)), a);
     write_results(registers, setup, &destination, *masked, a);
 }
 
@@ -210,7 +211,7 @@ fn slide_one_down<E: VectorElement, const VLENB: usize>(
     };
     let destination = setup.group(*vd, Eew::Same);
     read_body(registers, setup, *vs2, a);
-    lane_masks::slide_one_down(E::low_bits(scalar.reg(*rs1)), a);
+    lane_masks::slide_one_down(low_bits(scalar.reg(*rs1)), a);
     write_results(registers, setup, &destination, *masked, a);
 }
 
@@ -242,7 +243,7 @@ fn read_indices<E: VectorElement, const VLENB: usize>(
 }
 
 /// Each element of vd is that of vs2 at its index, and 0 where that is at or past VLMAX.
-#[tactic(auto, using(crate::proofs::Moved::gathered_numbers), unfolding(rv_decode::specs::Needs::needs_of_perm, crate::specs::Permutations::gather_of, crate::specs::Permutations::perm_of))]
+#[tactic(auto, unfolding(rv_decode::specs::Needs::needs_of_perm))]
 fn gather<E: VectorElement, const VLENB: usize>(
     registers: &mut VregFile<VLENB>,
     scalar: &Scalar,
@@ -330,24 +331,25 @@ fn compress<E: VectorElement, const VLENB: usize>(
     write_results(registers, setup, &destination, false, &a[..count]);
 }
 
-/// What an instruction does to the registers, on elements of one width.
+/// What an instruction does to the registers, on elements of one width, of which a group has at most MOST.
 #[tactic(auto, unfolding(crate::specs::Permutations::perm_of))]
-fn permute_elements<E: VectorElement, const VLENB: usize>(
+fn permute_elements<E: VectorElement, const MOST: usize, const VLENB: usize>(
     registers: &mut VregFile<VLENB>,
     scalar: &Scalar,
     setup: &Setup,
     insn: &VPerm,
-    a: &mut [E],
-    c: &mut [E],
-    all: &mut [E],
 )
-    requires a_len { length a.old ≡ setup.now.vl }
-    requires c_len { length c.old ≡ setup.now.vl }
-    requires all_len { length all.old ≡ vlmax_of VLENB setup.now.vtype }
+    requires room { IsRoom E.row E.SIZE MOST }
     requires width { E.sew ≡ setup.now.vtype.sew }
     requires ready { IsReady VLENB setup.now (needs_of_perm insn.now) }
     ensures { registers.new ≡ perm_of VLENB setup.now scalar.now insn.now registers.old }
 {
+    let vl = setup.vl;
+    let vlmax = vlmax::<VLENB>(setup);
+    let mut a = [zero::<E>(); MOST];
+    let mut c = [zero::<E>(); MOST];
+    let mut all = [zero::<E>(); MOST];
+    let (a, c, all) = (&mut a[..vl], &mut c[..vl], &mut all[..vlmax]);
     match insn {
         VPerm::SlideUp { .. } => slide_up(registers, scalar, setup, insn, a, c),
         VPerm::SlideDown { .. } => slide_down(registers, scalar, setup, insn, a, all),
@@ -357,63 +359,6 @@ fn permute_elements<E: VectorElement, const VLENB: usize>(
         VPerm::Gather16 { .. } => gather16(registers, scalar, setup, insn, a, all),
         VPerm::Compress { .. } => compress(registers, scalar, setup, insn, a),
     }
-}
-
-fn permute_bytes<const VLENB: usize>(
-    registers: &mut VregFile<VLENB>,
-    scalar: &Scalar,
-    setup: &Setup,
-    insn: &VPerm,
-)
-    requires sew { setup.now.vtype.sew ≡ Width.W8 }
-    requires ready { IsReady VLENB setup.now (needs_of_perm insn.now) }
-    ensures { registers.new ≡ perm_of VLENB setup.now scalar.now insn.now registers.old }
-{
-    let vl = setup.vl;
-    let vlmax = vlmax::<VLENB>(setup);
-    with_rooms!(
-        MOST_ELEMENTS,
-        [a: [0u8; vl], c: [0u8; vl], all: [0u8; vlmax]],
-        permute_elements(registers, scalar, setup, insn, a, c, all)
-    );
-}
-
-fn permute_halves<const VLENB: usize>(
-    registers: &mut VregFile<VLENB>,
-    scalar: &Scalar,
-    setup: &Setup,
-    insn: &VPerm,
-)
-    requires sew { setup.now.vtype.sew ≡ Width.W16 }
-    requires ready { IsReady VLENB setup.now (needs_of_perm insn.now) }
-    ensures { registers.new ≡ perm_of VLENB setup.now scalar.now insn.now registers.old }
-{
-    let vl = setup.vl;
-    let vlmax = vlmax::<VLENB>(setup);
-    with_rooms!(
-        MOST_ELEMENTS / 2,
-        [a: [0u16; vl], c: [0u16; vl], all: [0u16; vlmax]],
-        permute_elements(registers, scalar, setup, insn, a, c, all)
-    );
-}
-
-fn permute_words<const VLENB: usize>(
-    registers: &mut VregFile<VLENB>,
-    scalar: &Scalar,
-    setup: &Setup,
-    insn: &VPerm,
-)
-    requires sew { setup.now.vtype.sew ≡ Width.W32 }
-    requires ready { IsReady VLENB setup.now (needs_of_perm insn.now) }
-    ensures { registers.new ≡ perm_of VLENB setup.now scalar.now insn.now registers.old }
-{
-    let vl = setup.vl;
-    let vlmax = vlmax::<VLENB>(setup);
-    with_rooms!(
-        MOST_ELEMENTS / 4,
-        [a: [0u32; vl], c: [0u32; vl], all: [0u32; vlmax]],
-        permute_elements(registers, scalar, setup, insn, a, c, all)
-    );
 }
 
 /// The same, by the width of elements.
@@ -428,9 +373,9 @@ fn permute<const VLENB: usize>(
 {
     let sew = setup.vtype.sew;
     match sew {
-        Width::W8 => permute_bytes(registers, scalar, setup, insn),
-        Width::W16 => permute_halves(registers, scalar, setup, insn),
-        Width::W32 => permute_words(registers, scalar, setup, insn),
+        Width::W8 => permute_elements::<u8, MOST_ELEMENTS, VLENB>(registers, scalar, setup, insn),
+        Width::W16 => permute_elements::<u16, MOST_HALVES, VLENB>(registers, scalar, setup, insn),
+        Width::W32 => permute_elements::<u32, MOST_WORDS, VLENB>(registers, scalar, setup, insn),
     }
 }
 

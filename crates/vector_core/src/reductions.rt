@@ -1,19 +1,20 @@
 //! Reductions: each reads element 0 of vs1 and the active elements of vs2, folds them, and writes element 0 of vd.
 
-ghost use Rattle.std.specs.Prelude.{◌≡◌, ◌*◌, Ok, length};
+ghost use Rattle.std.specs.Prelude.{◌≡◌, ◌*◌, Ok};
 ghost use Rattle.std.specs.Mem.{FitsInMemory};
 ghost use Rattle.region_mem.specs.Memory.{Memory};
 ghost use Rattle.rv_decode.specs.Needs.{needs_of_reduce};
 ghost use Rattle.rv_decode.specs.Instructions.{bytes_of_width};
 ghost use Rattle.vector_core.specs.Integer.{lane_width};
 ghost use Rattle.vector_core.specs.Reductions.{reduce_of, reduce_step, sum_width};
+ghost use Rattle.vector_core.specs.Rooms.{IsRoom};
 ghost use Rattle.vector_core.specs.Setup.{IsReady};
 ghost use Rattle.vector_core.specs.Shapes.{FoldShape, WidenSumShape, reduce_shape_of};
 
-use crate::elements::VectorElement;
+use crate::elements::{VectorElement, zero};
 use crate::fold_elements::extended_sum;
 use crate::operands::read_body;
-use crate::rooms::{with_rooms, with_rooms_of_sew};
+use crate::rooms::{MOST_HALVES, MOST_WORDS};
 use crate::setup::Setup;
 use crate::singles::write_first;
 use crate::state::VectorState;
@@ -21,16 +22,15 @@ use rv_decode::{VReduce, Width};
 use scalar_core::Scalar;
 use vreg_groups::{MOST_ELEMENTS, VregFile};
 
-/// Element 0 of vd is the fold of element 0 of vs1 with the active elements of vs2, whose body there is room for in `a`.
-#[tactic(auto, unfolding(rv_decode::specs::Needs::needs_of_reduce, crate::specs::Reductions::fold_of, crate::specs::Reductions::reduce_of))]
-fn fold_elements<E: VectorElement, const VLENB: usize>(
+/// Element 0 of vd is the fold of element 0 of vs1 with the active elements of vs2, of which a body has at most MOST.
+#[tactic(auto, unfolding(rv_decode::specs::Needs::needs_of_reduce))]
+fn fold_elements<E: VectorElement, const MOST: usize, const VLENB: usize>(
     registers: &mut VregFile<VLENB>,
     setup: &Setup,
     insn: &VReduce,
-    a: &mut [E],
 )
     requires shape { reduce_shape_of insn.now ≡ FoldShape }
-    requires a_len { length a.old ≡ setup.now.vl }
+    requires room { IsRoom E.row E.SIZE MOST }
     requires fits { FitsInMemory E.row }
     requires width { E.sew ≡ setup.now.vtype.sew }
     requires ready { IsReady VLENB setup.now (needs_of_reduce insn.now) }
@@ -49,6 +49,8 @@ fn fold_elements<E: VectorElement, const VLENB: usize>(
     let mut bits = [false; MOST_ELEMENTS];
     let active = &mut bits[..setup.vl];
     registers.read_active(*masked, active);
+    let mut a = [zero::<E>(); MOST];
+    let a = &mut a[..setup.vl];
     let start = registers.first_element::<E>(*vs1);
     read_body(registers, setup, *vs2, a);
     let value = lane_masks::fold(*op, start, a, active);
@@ -61,21 +63,24 @@ fn fold<const VLENB: usize>(registers: &mut VregFile<VLENB>, setup: &Setup, insn
     requires ready { IsReady VLENB setup.now (needs_of_reduce insn.now) }
     ensures { registers.new ≡ reduce_of VLENB setup.now insn.now registers.old }
 {
-    let vl = setup.vl;
-    with_rooms_of_sew!(setup, [a: vl], fold_elements(registers, setup, insn, a));
+    let sew = setup.vtype.sew;
+    match sew {
+        Width::W8 => fold_elements::<u8, MOST_ELEMENTS, VLENB>(registers, setup, insn),
+        Width::W16 => fold_elements::<u16, MOST_HALVES, VLENB>(registers, setup, insn),
+        Width::W32 => fold_elements::<u32, MOST_WORDS, VLENB>(registers, setup, insn),
+    }
 }
 
-/// Element 0 of vd, of 2*SEW, is the sum of element 0 of vs1, of 2*SEW, with the active elements of vs2, which are extended
-/// and whose body there is room for in `a`.
+/// Element 0 of vd, of 2*SEW, is the sum of element 0 of vs1, of 2*SEW, with the active elements of vs2, which are
+/// extended and of which a body has at most MOST.
 #[tactic(auto, unfolding(rv_decode::specs::Needs::needs_of_reduce, crate::specs::Reductions::widen_sum_of, crate::specs::Reductions::reduce_of))]
-fn widen_sum_elements<W: VectorElement, N: VectorElement, const VLENB: usize>(
+fn widen_sum_of<W: VectorElement, N: VectorElement, const MOST: usize, const VLENB: usize>(
     registers: &mut VregFile<VLENB>,
     setup: &Setup,
     insn: &VReduce,
-    a: &mut [N],
 )
     requires shape { reduce_shape_of insn.now ≡ WidenSumShape }
-    requires a_len { length a.old ≡ setup.now.vl }
+    requires room { IsRoom N.row N.SIZE MOST }
     requires fits { FitsInMemory W.row }
     requires width { N.sew ≡ setup.now.vtype.sew }
     requires wide_size { W.SIZE ≡ 2 * bytes_of_width setup.now.vtype.sew }
@@ -96,6 +101,8 @@ fn widen_sum_elements<W: VectorElement, N: VectorElement, const VLENB: usize>(
     let mut bits = [false; MOST_ELEMENTS];
     let active = &mut bits[..setup.vl];
     registers.read_active(*masked, active);
+    let mut a = [zero::<N>(); MOST];
+    let a = &mut a[..setup.vl];
     let start = registers.first_element::<W>(*vs1);
     read_body(registers, setup, *vs2, a);
     let value = extended_sum(*signed, start, a, active);
@@ -112,17 +119,10 @@ fn widen_sum<const VLENB: usize>(registers: &mut VregFile<VLENB>, setup: &Setup,
     let VReduce::WidenSum { .. } = insn else {
         unreachable!()
     };
-    let vl = setup.vl;
     let sew = setup.vtype.sew;
     match sew {
-        Width::W8 => {
-            let mut a = [0u8; MOST_ELEMENTS];
-            widen_sum_elements::<u16, u8, VLENB>(registers, setup, insn, &mut a[..vl]);
-        }
-        Width::W16 => {
-            let mut a = [0u16; MOST_ELEMENTS / 2];
-            widen_sum_elements::<u32, u16, VLENB>(registers, setup, insn, &mut a[..vl]);
-        }
+        Width::W8 => widen_sum_of::<u16, u8, MOST_ELEMENTS, VLENB>(registers, setup, insn),
+        Width::W16 => widen_sum_of::<u32, u16, MOST_HALVES, VLENB>(registers, setup, insn),
         Width::W32 => unreachable!(),
     }
 }

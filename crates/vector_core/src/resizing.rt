@@ -3,19 +3,17 @@
 ghost use Rattle.std.specs.Prelude.{◌≡◌, IfSome, length, map};
 ghost use Rattle.lane_int.specs.Resizing.{cut_to, extended_to};
 ghost use Rattle.rv_decode.specs.Needs.{second as second_group};
-ghost use Rattle.rv_decode.specs.declared.extents.Eew.TheVariants.{Same};
-ghost use Rattle.vreg_groups.specs.Group.{IsGroupInside, body_of};
 ghost use Rattle.vreg_groups.specs.Legality.{IsInside};
 ghost use Rattle.vector_core.specs.Integer.{lane_width};
 ghost use Rattle.vector_core.specs.Operands.{second_of};
-ghost use Rattle.vector_core.specs.Setup.{IsSetup, group_at};
+ghost use Rattle.vector_core.specs.Setup.{IsSetup};
 ghost use Rattle.vector_core.specs.Widening.{doubled};
 
 use crate::elements::VectorElement;
-use crate::operands::{read_body, read_second};
+use crate::operands::read_second;
 use crate::setup::Setup;
 use lane_int::Narrow;
-use rv_decode::{Reg, Source};
+use rv_decode::Source;
 use scalar_core::Scalar;
 use vreg_groups::VregFile;
 
@@ -71,33 +69,12 @@ pub fn cut_results<N: HalfOf<W>, W: VectorElement>(values: &[W], out: &mut [N])
     lane_int::cut(values, out);
 }
 
-/// Reads the body of a group of SEW as elements of 2*SEW. `narrow` has room for it before it is extended.
+/// Reads the elements of an operand of SEW as elements of 2*SEW. `narrow` has room for them before they are extended.
 pub fn read_doubled<N: HalfOf<W>, W: VectorElement, const VLENB: usize>(
-    registers: &VregFile<VLENB>,
-    setup: &Setup,
-    first: Reg,
-    is_signed: bool,
-    narrow: &mut [N],
-    out: &mut [W],
-)
-    requires narrow_len { length narrow.old ≡ setup.now.vl }
-    requires len { length out.old ≡ setup.now.vl }
-    requires width { N.sew ≡ setup.now.vtype.sew }
-    requires setup { IsSetup VLENB setup.now }
-    requires inside { IsGroupInside setup.now.vtype first Same }
-    ensures { map W.Element.number out.new ≡ doubled setup.now is_signed
-        (body_of VLENB (group_at setup.now first Same) registers.now) }
-{
-    read_body(registers, setup, first, narrow);
-    extend_results(is_signed, narrow, out);
-}
-
-/// Reads the elements of the second operand, of SEW, as elements of 2*SEW.
-pub fn read_second_doubled<N: HalfOf<W>, W: VectorElement, const VLENB: usize>(
     registers: &VregFile<VLENB>,
     scalar: &Scalar,
     setup: &Setup,
-    b: Source,
+    source: Source,
     is_signed: bool,
     narrow: &mut [N],
     out: &mut [W],
@@ -106,10 +83,10 @@ pub fn read_second_doubled<N: HalfOf<W>, W: VectorElement, const VLENB: usize>(
     requires len { length out.old ≡ setup.now.vl }
     requires width { N.sew ≡ setup.now.vtype.sew }
     requires setup { IsSetup VLENB setup.now }
-    requires inside { IfSome (second_group b) (IsInside setup.now.vtype) }
+    requires inside { IfSome (second_group source) (IsInside setup.now.vtype) }
     ensures { map W.Element.number out.new ≡ doubled setup.now is_signed
-        (second_of VLENB setup.now scalar.now b registers.now) }
+        (second_of VLENB setup.now scalar.now source registers.now) }
 {
-    read_second(registers, scalar, setup, b, narrow);
+    read_second(registers, scalar, setup, source, narrow);
     extend_results(is_signed, narrow, out);
 }

@@ -23,7 +23,6 @@ use std::alloc::Allocator;
 use vreg_groups::{legal_access_type, legal_type};
 
 /// An instruction that computes. vxsat becomes 1 where an active element saturated.
-#[tactic(auto, unfolding(crate::specs::Step::arith_step))]
 fn step_arith<const VLENB: usize>(
     vectors: &mut VectorState<VLENB>,
     scalar: &mut Scalar,

@@ -3,30 +3,31 @@
 
 ghost use Rattle.std.specs.Prelude.{◌≡◌, ◌/◌, length};
 ghost use Rattle.rv_decode.specs.Needs.{eew_of, needs_of_arith};
-ghost use Rattle.rv_decode.specs.declared.instructions.Fraction.TheVariants.{Half, Quarter};
 ghost use Rattle.vreg_groups.specs.Legality.{eew_bits};
 ghost use Rattle.vector_core.specs.Arithmetic.{arith_of};
 ghost use Rattle.vector_core.specs.Computed.{exact};
+ghost use Rattle.vector_core.specs.Rooms.{IsRoom};
 ghost use Rattle.vector_core.specs.Shapes.{ExtendShape, IsShaped, WideShape};
 ghost use Rattle.vector_core.specs.Shapes.{WidenMultiplyAddShape, WidenShape, shape_of};
 ghost use Rattle.vector_core.specs.Integer.{lane_width};
 ghost use Rattle.vector_core.specs.Setup.{IsReady};
 ghost use Rattle.vector_core.specs.Widening.{fraction_width};
 
-use crate::elements::VectorElement;
+use crate::elements::{VectorElement, zero};
 use crate::operands::write_results;
 use crate::operations::{
     is_wide_signed, wide_lanes, widen_lanes, widen_multiply_add_signs, widen_signs,
 };
-use crate::resizing::{HalfOf, extend_results, read_doubled, read_second_doubled};
+use crate::resizing::{HalfOf, extend_results, read_doubled};
+use crate::rooms::{MOST_HALVES, MOST_WORDS};
 use crate::setup::Setup;
 use lane_int::Narrow;
-use rv_decode::{Eew, Fraction, MultiplyAddOp, VArith, Width};
+use rv_decode::{Eew, Fraction, MultiplyAddOp, Source, VArith, Width};
 use scalar_core::Scalar;
-use vreg_groups::{MOST_ELEMENTS, VregFile};
+use vreg_groups::VregFile;
 
 /// vd is an operation on vs2 and b, both of SEW.
-#[tactic(auto, using(crate::proofs::Numbers::map_two), unfolding(rv_decode::specs::Needs::needs_of_arith, crate::specs::Widening::widen_of, crate::specs::Arithmetic::arith_of))]
+#[tactic(auto, using(crate::proofs::Numbers::map_two), unfolding(rv_decode::specs::Needs::needs_of_arith, crate::specs::Widening::widen_of, crate::specs::Operands::second_of, crate::specs::Arithmetic::arith_of))]
 pub fn widen<N: HalfOf<W>, W: VectorElement, const VLENB: usize>(
     registers: &mut VregFile<VLENB>,
     scalar: &Scalar,
@@ -54,8 +55,9 @@ pub fn widen<N: HalfOf<W>, W: VectorElement, const VLENB: usize>(
     };
     let destination = setup.group(*vd, Eew::Double);
     let signs = widen_signs(*op);
-    read_doubled(registers, setup, *vs2, signs.vs2, a, x);
-    read_second_doubled(registers, scalar, setup, *b, signs.b, a, y);
+    let vs2 = Source::Vector(*vs2);
+    read_doubled(registers, scalar, setup, vs2, signs.vs2, a, x);
+    read_doubled(registers, scalar, setup, *b, signs.b, a, y);
     lane_int::compute(widen_lanes(*op), x, y);
     write_results(registers, setup, &destination, *masked, x);
 }
@@ -90,13 +92,13 @@ pub fn wide<N: HalfOf<W>, W: VectorElement, const VLENB: usize>(
     let destination = setup.group(*vd, Eew::Double);
     let source = setup.group::<VLENB>(*vs2, Eew::Double);
     source.read(registers, x);
-    read_second_doubled(registers, scalar, setup, *b, is_wide_signed(*op), a, y);
+    read_doubled(registers, scalar, setup, *b, is_wide_signed(*op), a, y);
     lane_int::compute(wide_lanes(*op), x, y);
     write_results(registers, setup, &destination, *masked, x);
 }
 
 /// vd is the product of b and vs2, both of SEW, and the old vd together, whose body there is room for in `d`.
-#[tactic(auto, using(crate::proofs::Numbers::map_three), unfolding(rv_decode::specs::Needs::needs_of_arith, crate::specs::Widening::widen_multiply_add_of, crate::specs::Arithmetic::arith_of))]
+#[tactic(auto, using(crate::proofs::Numbers::map_three), unfolding(rv_decode::specs::Needs::needs_of_arith, crate::specs::Widening::widen_multiply_add_of, crate::specs::Operands::second_of, crate::specs::Arithmetic::arith_of))]
 pub fn widen_multiply_add<N: HalfOf<W>, W: VectorElement, const VLENB: usize>(
     registers: &mut VregFile<VLENB>,
     scalar: &Scalar,
@@ -126,14 +128,16 @@ pub fn widen_multiply_add<N: HalfOf<W>, W: VectorElement, const VLENB: usize>(
     };
     let destination = setup.group(*vd, Eew::Double);
     let signs = widen_multiply_add_signs(*op);
-    read_doubled(registers, setup, *vs2, signs.vs2, a, x);
-    read_second_doubled(registers, scalar, setup, *b, signs.b, a, y);
+    let vs2 = Source::Vector(*vs2);
+    read_doubled(registers, scalar, setup, vs2, signs.vs2, a, x);
+    read_doubled(registers, scalar, setup, *b, signs.b, a, y);
     destination.read(registers, d);
     lane_int::multiply_add(MultiplyAddOp::Macc, x, y, d);
     write_results(registers, setup, &destination, *masked, d);
 }
 
 /// vd is vs2, of this fraction of SEW, with zeros or its sign above.
+#[tactic(auto, unfolding(rv_decode::specs::Needs::needs_of_arith, vreg_groups::specs::Legality::element_bits))]
 pub fn extend<const VLENB: usize>(
     registers: &mut VregFile<VLENB>,
     scalar: &Scalar,
@@ -145,88 +149,35 @@ pub fn extend<const VLENB: usize>(
     requires ready { IsReady VLENB setup.now (needs_of_arith insn.now) }
     ensures { arith_of VLENB setup.now scalar.now insn.now registers.old ≡ exact registers.new }
 {
-    match of {
-        Fraction::Half => extend_half(registers, scalar, setup, insn),
-        Fraction::Quarter => extend_quarter(registers, scalar, setup, insn),
-    }
-}
-
-#[tactic(auto, unfolding(rv_decode::specs::Needs::needs_of_arith, vreg_groups::specs::Legality::element_bits))]
-fn extend_half<const VLENB: usize>(
-    registers: &mut VregFile<VLENB>,
-    scalar: &Scalar,
-    setup: &Setup,
-    insn: &VArith,
-)
-    requires shape { shape_of insn.now ≡ ExtendShape Half }
-    requires ready { IsReady VLENB setup.now (needs_of_arith insn.now) }
-    ensures { arith_of VLENB setup.now scalar.now insn.now registers.old ≡ exact registers.new }
-{
     let VArith::Extend { .. } = insn else {
         unreachable!()
     };
-    let vl = setup.vl;
     let sew = setup.vtype.sew;
-    let of = Fraction::Half;
-    match sew {
-        Width::W8 => unreachable!(),
-        Width::W16 => {
-            let mut a = [0u8; MOST_ELEMENTS / 2];
-            let mut x = [0u16; MOST_ELEMENTS / 2];
-            let (a, x) = (&mut a[..vl], &mut x[..vl]);
-            extend_elements(registers, scalar, setup, insn, of, a, x);
+    match (of, sew) {
+        (Fraction::Half, Width::W16) => {
+            extend_elements::<u8, u16, MOST_HALVES, VLENB>(registers, scalar, setup, insn, of);
         }
-        Width::W32 => {
-            let mut a = [0u16; MOST_ELEMENTS / 4];
-            let mut x = [0u32; MOST_ELEMENTS / 4];
-            let (a, x) = (&mut a[..vl], &mut x[..vl]);
-            extend_elements(registers, scalar, setup, insn, of, a, x);
+        (Fraction::Half, Width::W32) => {
+            extend_elements::<u16, u32, MOST_WORDS, VLENB>(registers, scalar, setup, insn, of);
         }
+        (Fraction::Quarter, Width::W32) => {
+            extend_elements::<u8, u32, MOST_WORDS, VLENB>(registers, scalar, setup, insn, of);
+        }
+        (Fraction::Half, Width::W8) | (Fraction::Quarter, Width::W8 | Width::W16) => unreachable!(),
     }
 }
 
-#[tactic(auto, unfolding(rv_decode::specs::Needs::needs_of_arith, vreg_groups::specs::Legality::element_bits))]
-fn extend_quarter<const VLENB: usize>(
-    registers: &mut VregFile<VLENB>,
-    scalar: &Scalar,
-    setup: &Setup,
-    insn: &VArith,
-)
-    requires shape { shape_of insn.now ≡ ExtendShape Quarter }
-    requires ready { IsReady VLENB setup.now (needs_of_arith insn.now) }
-    ensures { arith_of VLENB setup.now scalar.now insn.now registers.old ≡ exact registers.new }
-{
-    let VArith::Extend { .. } = insn else {
-        unreachable!()
-    };
-    let vl = setup.vl;
-    let sew = setup.vtype.sew;
-    let of = Fraction::Quarter;
-    match sew {
-        Width::W8 | Width::W16 => unreachable!(),
-        Width::W32 => {
-            let mut a = [0u8; MOST_ELEMENTS / 4];
-            let mut x = [0u32; MOST_ELEMENTS / 4];
-            let (a, x) = (&mut a[..vl], &mut x[..vl]);
-            extend_elements(registers, scalar, setup, insn, of, a, x);
-        }
-    }
-}
-
-/// The same on elements of these widths: `a` has room for vs2's body, and `x` for the result.
+/// The same on elements of these widths, of which a body has at most MOST.
 #[tactic(auto, unfolding(rv_decode::specs::Needs::needs_of_arith, crate::specs::Widening::extend_of, crate::specs::Arithmetic::arith_of))]
-fn extend_elements<N: VectorElement + Narrow<W>, W: VectorElement, const VLENB: usize>(
-    registers: &mut VregFile<VLENB>,
-    scalar: &Scalar,
-    setup: &Setup,
-    insn: &VArith,
-    of: Fraction,
-    a: &mut [N],
-    x: &mut [W],
-)
+fn extend_elements<
+    N: VectorElement + Narrow<W>,
+    W: VectorElement,
+    const MOST: usize,
+    const VLENB: usize,
+>(registers: &mut VregFile<VLENB>, scalar: &Scalar, setup: &Setup, insn: &VArith, of: Fraction)
     requires shape { IsShaped VLENB setup.now W.sew insn.now (ExtendShape of) }
-    requires a_len { length a.old ≡ setup.now.vl }
-    requires x_len { length x.old ≡ setup.now.vl }
+    requires narrow_room { IsRoom N.row W.SIZE MOST }
+    requires room { IsRoom W.row W.SIZE MOST }
     requires size { N.SIZE ≡ eew_bits setup.now.vtype.sew (eew_of of) / 8 }
     requires lanes { lane_width N.sew ≡ fraction_width setup.now.vtype.sew of }
     ensures { arith_of VLENB setup.now scalar.now insn.now registers.old ≡ exact registers.new }
@@ -243,6 +194,10 @@ fn extend_elements<N: VectorElement + Narrow<W>, W: VectorElement, const VLENB: 
     };
     let destination = setup.group(*vd, Eew::Same);
     let source = setup.group::<VLENB>(*vs2, width_of(of));
+    let vl = setup.vl;
+    let mut a = [zero::<N>(); MOST];
+    let mut x = [zero::<W>(); MOST];
+    let (a, x) = (&mut a[..vl], &mut x[..vl]);
     source.read(registers, a);
     extend_results(*signed, a, x);
     write_results(registers, setup, &destination, *masked, x);

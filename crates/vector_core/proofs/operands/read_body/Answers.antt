@@ -1,0 +1,7 @@
+-- The elements of the group are those of the body.
+use Rattle.std.proofs.Common.{arith}
+use Rattle.std.proofs.lemmas.Grind.{common_steps}
+use Rattle.vector_core.proofs.operands.read_body.Goals as goal
+
+pub returns : goal.returns
+returns g c = grind (arith, common_steps)
