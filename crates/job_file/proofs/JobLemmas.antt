@@ -1,5 +1,5 @@
 -- What the proofs about job files share.
-use Rattle.std.proofs.Common.{◌≡◌, ◌∙◌, ◌<◌, ap, refl, sym, ℕ, zero, suc, List, [], ◌∷◌, map, length, get_or, Option, Some, None, is_some, IfSome, option_map, option_and_then, if◌then◌else◌, nat_lt, String, Global, string_bytes, Bor, Result, Ok, Err, inl, inr, arith, lt-ltb, ltb-true}
+use Rattle.std.proofs.Common.{◌≡◌, ◌∙◌, ◌<◌, ap, refl, sym, ℕ, zero, suc, List, [], ◌∷◌, map, length, get_or, Option, Some, None, is_some, IfSome, IfNone, option_map, option_and_then, if◌then◌else◌, nat_lt, String, Global, string_bytes, Bor, Result, Ok, Err, inl, inr, arith, lt-ltb, ltb-true}
 use Rattle.std.proofs.lemmas.Bool.{cases_lt, false≢true}
 use Rattle.std.specs.Map.{keys_of}
 use Rattle.toml.specs.Data.{get_item}
@@ -8,6 +8,7 @@ use Rattle.toml.specs.declared.value.Value.{Value}
 use Rattle.toml.proofs.Views.{Entry, get_item_past, get_item_within}
 use Rattle.job_file.specs.Job.{Breach, Text, all_kept, all_there, first_unknown, is_one_of, places}
 use Rattle.job_file.specs.declared.keys.JobKey.{JobKey}
+use Rattle.job_file.specs.declared.values.Places.{Places}
 
 -- the first key of a map that is none of these
 abbrev pub unknown_of : List JobKey → List (String Global) → Option Text
@@ -82,3 +83,11 @@ module _ {A B C D : Type 0} (f : B → Option C) (h : A → B) (g : D → C) (a 
           → option_and_then (λ y. option_map (λ rest. y ∷ rest) (all_there (map f (map h xs)))) o ≡ None
       before None e = refl
       before (Some y) e = rw e refl
+
+  -- what is taken of each of eight, or of one of them nothing: a call has its argument beside what it gives
+  pub all_there-each_place : (seen : Places D → List C) → ((p : Places D) → seen p ≡ map g p.at) → (xs : List A) (r : Option (Places D)) → length xs ≡ 8
+      → IfSome r (λ p. (length p.at ≡ 8) × ((k : ℕ) → k < 8 → A × (Some (g (get_or p.at k d)) ≡ f (h (get_or xs k a)))))
+      → IfNone r ((k : ℕ) × (k < 8) × (A × (None ≡ f (h (get_or xs k a))))) → option_map seen r ≡ all_there (map f (map h xs))
+  all_there-each_place seen same xs None len taken (k, below, (arg, none)) = sym (all_there-missing xs k (omega (arith, len, below)) (sym none))
+  all_there-each_place seen same xs (Some p) len (eight, each) missing =
+      ap Some (same p) ∙ sym (all_there-each xs p.at (len ∙ sym eight) (λ k below. sym (each k (omega (arith, eight, below))).1))

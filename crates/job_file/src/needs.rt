@@ -1,12 +1,34 @@
 //! What a subcommand takes of a job: each value that it needs.
-ghost use Rattle.std.specs.Prelude.{◌≡◌, map, option_map};
+ghost use Rattle.std.specs.Prelude.{◌≡◌, ℕ, ◌<◌, IfNone, IfSome, None, Some, length, map};
+ghost use Rattle.std.specs.Prelude.{option_map, slice_index_or};
 ghost use Rattle.job_file.specs.Job.{job_lent, param_lent};
 ghost use Rattle.job_file.specs.Needs.{make_job_of, make_param_of, make_params_of};
 ghost use Rattle.job_file.specs.Needs.{run_job_lent, run_job_of, run_param_lent, run_param_of};
 ghost use Rattle.job_file.specs.Needs.{run_params_of, try_params_of};
 ghost use Rattle.job_file.specs.Needs.{try_job_lent, try_job_of, try_param_lent, try_param_of};
+ghost use Rattle.job_file.specs.declared.values.JobParam.TheVariants as param;
 
 use crate::values::{Job, JobParam, MakeJob, Places, RunJob, RunParam, TryJob, TryParam};
+
+/// What is taken of the parameter at each place: `None` where there is nothing to take of one.
+fn each_place<'a, P: Copy, F: Fn(JobParam<&'a str>) -> Option<P>>(
+    params: [JobParam<&'a str>; 8],
+    none: P,
+    take: F,
+) -> Option<Places<P>>
+    requires { F.IsAlwaysCallable take }
+    ensures taken { IfSome result (λ places. (length places.at ≡ 8)
+        × ((k : ℕ) → k < 8 → F.post take (slice_index_or params.entry k param.None)
+        (Some (slice_index_or places.at k none)))) }
+    ensures missing { IfNone result ((k : ℕ) × (k < 8)
+        × F.post take (slice_index_or params.entry k param.None) None) }
+{
+    let mut taken = [none; 8];
+    for place in 0..8 {
+        taken[place] = take(params[place])?;
+    }
+    Some(Places { at: taken })
+}
 
 /// What `try` takes of a parameter: a scalar's `value`, a buffer's `mode` and `file`.
 fn try_param<'a>(param: JobParam<&'a str>) -> Option<TryParam<&'a str>>
@@ -33,11 +55,7 @@ fn try_params<'a>(params: [JobParam<&'a str>; 8]) -> Option<Places<TryParam<&'a 
     ensures { option_map (λ taken. map try_param_lent taken.at) result
         ≡ try_params_of (map param_lent params.entry) }
 {
-    let mut taken = [TryParam::None; 8];
-    for place in 0..8 {
-        taken[place] = try_param(params[place])?;
-    }
-    Some(Places { at: taken })
+    each_place(params, TryParam::None, try_param)
 }
 
 /// What `try` takes of a job: `image`, `vlen`, `agnostic`, `max` and the parameters.
@@ -69,11 +87,7 @@ fn run_params<'a>(params: [JobParam<&'a str>; 8]) -> Option<Places<RunParam<&'a 
     ensures { option_map (λ given. map run_param_lent given.at) result
         ≡ run_params_of (map param_lent params.entry) }
 {
-    let mut given = [RunParam::None; 8];
-    for place in 0..8 {
-        given[place] = run_param(params[place])?;
-    }
-    Some(Places { at: given })
+    each_place(params, RunParam::None, run_param)
 }
 
 /// What `run` takes of a job: `image`, `vlen`, `agnostic`, `max` and the parameters.
@@ -108,11 +122,7 @@ fn make_params(params: [JobParam<&str>; 8]) -> Option<Places<region_mem::Param>>
     ensures { option_map (λ made. made.at) result
         ≡ make_params_of (map param_lent params.entry) }
 {
-    let mut made = [region_mem::Param::None; 8];
-    for place in 0..8 {
-        made[place] = make_param(params[place])?;
-    }
-    Some(Places { at: made })
+    each_place(params, region_mem::Param::None, make_param)
 }
 
 /// What `make` takes of a job: `vlen` and the parameters.
