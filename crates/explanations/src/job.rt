@@ -1,9 +1,12 @@
 //! Why a job is refused: where its text is no TOML, or which key the command lacks.
-ghost use Rattle.std.specs.Prelude.{◌≡◌, ◌<◌, ◌≤◌, ◌+◌, ◌^◌, IfOk, IfSome, Some, length, slice_index_or, take};
+ghost use Rattle.std.specs.Prelude.{◌≡◌, ◌<◌, ◌≤◌, ◌+◌, ◌^◌, IfOk, IfSome, Some};
+ghost use Rattle.std.specs.Prelude.{length, slice_index_or, take};
 ghost use Rattle.job_file.specs.Job.{breach_lent, job_lent, param_lent};
 ghost use Rattle.job_file.specs.declared.values.JobParam.TheVariants as param_kind;
 ghost use Rattle.toml.specs.View.{table_view};
-ghost use Rattle.explanations.specs.Job.{IsJobReason, IsTableReason, breach_kept, is_taken, job_lacks, lacked_of, make_lacks, param_lacks, run_lacks, try_lacks};
+ghost use Rattle.explanations.specs.Job.{IsJobReason, IsTableReason, breach_kept, is_taken};
+ghost use Rattle.explanations.specs.Job.{job_lacks, lacked_of, make_lacks, param_lacks, run_lacks};
+ghost use Rattle.explanations.specs.Job.{try_lacks};
 ghost use Rattle.explanations.specs.Job.{begins_character, column_behind, line_behind, lines_in};
 ghost use Rattle.explanations.specs.Job.{next_column as next_column_of};
 ghost use Rattle.explanations.specs.declared.job.JobReason.TheVariants as reason;

@@ -10,7 +10,7 @@ use Rattle.linear_facts.specs.Ranges.{AtomTable, AgreesWith}
 use Rattle.linear_facts.specs.Sums.{with_term, signed_term, joined, ends, gains, losses, interval_of, with_split, form_interval, range_within, range_of_form}
 use Rattle.linear_facts.specs.Differences.{Product, WholeSum, multiple_term, with_number, with_multiples, base_of, with_product, with_products, AreForms, have_ranges, total_of, is_positive, difference_of, sum_interval, once, is_not_less_of, OrdersHold}
 use Rattle.linear_facts.proofs.SumLaws.{signed_at_most}
-use Rattle.linear_facts.proofs.RangeLaws.{sum_at, sum_over, sum_over-nil, sum_over-with_term, gain_part, loss_part, gain_joins, loss_joins, net-sums, gains-le, losses-le, losses-bound, at_least, at_most, form-encloses, sum_at-value, within-none, Encloses, gain-with_split, loss-with_split, met-encloses}
+use Rattle.linear_facts.proofs.RangeLaws.{sum_at, sum_over, sum_over-nil, sum_over-with_term, gain_part, loss_part, gain_joins, loss_joins, net-sums, shares-le, shares-bound, at_least, at_most, form-encloses, sum_at-value, within-none, Encloses, gain-with_split, loss-with_split, met-encloses}
 
 pub multiples-more : (side : Side) (k : ℕ) (so_far ts : List WholeTerm) (i : ℕ) (d : WholeTerm) → i < length ts
     → with_multiples side k so_far (drop i ts)
@@ -149,7 +149,7 @@ module _ (table : AtomTable) (v : ℕ → ℕ) (agrees : AgreesWith table v) whe
         whole,
         sum_at-value v f agrees.fits is_form.rises is_form.has_room,
         net-sums v ts,
-        losses-bound v ts agrees.fits (signed_at_most f.terms),
+        shares-bound Taken v ts agrees.fits (signed_at_most f.terms),
         length-map f.terms signed_term,
         is_form.has_room,
       )
@@ -197,8 +197,8 @@ module _ (table : AtomTable) (v : ℕ → ℕ) (agrees : AgreesWith table v) whe
         arith,
         leb-true _ _ e,
         net-sums v sum.terms,
-        gains-le (ends table Lo) v (at_least table v agrees) sum.terms,
-        losses-le v (ends table Hi) (at_most table v agrees) sum.terms,
+        shares-le Added (ends table Lo) v (at_least table v agrees) sum.terms,
+        shares-le Taken v (ends table Hi) (at_most table v agrees) sum.terms,
       )
 
   -- a difference whose lower bound is at least 0 is not negative
@@ -226,8 +226,8 @@ module _ (table : AtomTable) (v : ℕ → ℕ) (agrees : AgreesWith table v) whe
   ends-enclose : (p m : ℕ) (ts : List WholeTerm) → Encloses (interval_of table p m ts) (whole_at p m ts)
   unfolding interval_of whole_at
   ends-enclose p m ts = (
-    omega (arith, gains-le (ends table Lo) v (at_least table v agrees) ts, losses-le v (ends table Hi) (at_most table v agrees) ts),
-    omega (arith, gains-le v (ends table Hi) (at_most table v agrees) ts, losses-le (ends table Lo) v (at_least table v agrees) ts),
+    omega (arith, shares-le Added (ends table Lo) v (at_least table v agrees) ts, shares-le Taken v (ends table Hi) (at_most table v agrees) ts),
+    omega (arith, shares-le Added v (ends table Hi) (at_most table v agrees) ts, shares-le Taken (ends table Lo) v (at_least table v agrees) ts),
   )
 
   same_whole : (p m : ℕ) (ts : List WholeTerm) → whole_at p m (with_split table [] ts) ≡ whole_at p m ts

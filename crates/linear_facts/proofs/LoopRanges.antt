@@ -1,13 +1,13 @@
 -- The ranges of the forms of a loop.
 use Rattle.std.proofs.Common.{◌≡◌, ℕ, ◌+◌, ◌-◌, ◌*◌, ◌/◌, ◌%◌, ◌^◌, ◌<◌, ◌≤◌, ◌==◌, inl, inr, List, [], ◌∷◌, map, min, max, length, refl, sym, ap, ◌∙◌, subst, arith, true, false, Some, None}
-use Rattle.std.specs.Prelude.{nat_le, count_by, not}
+use Rattle.std.specs.Prelude.{nat_le, not}
 use Rattle.std.proofs.lemmas.Bool.Decides.{nat_tests}
 use Rattle.std.proofs.lemmas.List.Sums.{count_by-le-length}
 use Rattle.linear_facts.specs.Words.{Range, WholeTerm, Interval, Side, Added, Taken}
 use Rattle.linear_facts.specs.Forms.{Linear, number_form, atom_form}
 use Rattle.linear_facts.specs.Differences.{WholeSum, base_of, with_product, with_products, with_multiples, is_positive, difference_of, is_at_least_of}
 use Rattle.linear_facts.specs.Ranges.{AtomTable, range_at, split_at}
-use Rattle.linear_facts.specs.Sums.{signed_term, with_term, with_parts, with_split, nonzero_count, gains, losses, interval_of, met_or_own, interval_by_both, form_interval, range_within, range_of_form}
+use Rattle.linear_facts.specs.Sums.{signed_term, with_term, with_parts, with_split, nonzero_count, shares, interval_of, met_or_own, interval_by_both, form_interval, range_within, range_of_form}
 use Rattle.linear_facts.proofs.RangeLaws.{by_both-few, met-there, within-one}
 use Rattle.linear_facts.specs.LoopForms.{IsSize, pointer_form, moved_form, left_form, times, IsLoop, MovedRange, LeftRange, RoundPaid, AtomRange, PointerRange, SamePaid, NumberRange}
 
@@ -145,21 +145,21 @@ module _ (table : AtomTable) (n e v u L N M : ℕ) (is : IsLoop table n e v u L 
       by_size (λ (k : ℕ). map signed_term (moved_form base k n e v).terms ≡ whole n 0 k ∷ whole e k 0 ∷ whole v k 0 ∷ []) w size refl refl refl
 
   own_lo : (w base : ℕ) → (interval_of table base 0 (whole n 0 w ∷ whole e w 0 ∷ whole v w 0 ∷ [])).lo ≡ 2 ^ 112 + base + (w * L + w * min 1 M) - w * N
-  unfolding interval_of gains losses
+  unfolding interval_of shares
   own_lo w base =
       let a : 0 - w ≡ 0 = omega arith in
       let b : w - 0 ≡ w = omega arith in
       rw (is.n_range, is.e_range, is.v_range, a, b) (omega arith)
 
   own_hi : (w base : ℕ) → (interval_of table base 0 (whole n 0 w ∷ whole e w 0 ∷ whole v w 0 ∷ [])).hi ≡ 2 ^ 112 + base + (w * N + w * min N M) - w
-  unfolding interval_of gains losses
+  unfolding interval_of shares
   own_hi w base =
       let a : 0 - w ≡ 0 = omega arith in
       let b : w - 0 ≡ w = omega arith in
       rw (is.n_range, is.e_range, is.v_range, a, b) (omega arith)
 
   split_lo : (w base : ℕ) → (interval_of table base 0 (whole v (0 + w) (w + 0) ∷ whole u 0 w ∷ whole e w 0 ∷ [])).lo ≡ 2 ^ 112 + base + w * L - w * (N - M)
-  unfolding interval_of gains losses
+  unfolding interval_of shares
   split_lo w base =
       let a : 0 - w ≡ 0 = omega arith in
       let b : w - 0 ≡ w = omega arith in
@@ -168,7 +168,7 @@ module _ (table : AtomTable) (n e v u L N M : ℕ) (is : IsLoop table n e v u L 
       rw (is.e_range, is.u_range, a, b, c, d) (omega arith)
 
   split_hi : (w base : ℕ) → (interval_of table base 0 (whole v (0 + w) (w + 0) ∷ whole u 0 w ∷ whole e w 0 ∷ [])).hi ≡ 2 ^ 112 + base + w * N - w * (1 - M)
-  unfolding interval_of gains losses
+  unfolding interval_of shares
   split_hi w base =
       let a : 0 - w ≡ 0 = omega arith in
       let b : w - 0 ≡ w = omega arith in
@@ -215,11 +215,11 @@ module _ (table : AtomTable) (n e v u L N M : ℕ) (is : IsLoop table n e v u L 
       ∙ split_end table _)
 
   left_own : interval_of table 0 0 (whole n 1 0 ∷ whole v 0 1 ∷ []) ≡ record { lo = 2 ^ 112 + 1 - min N M; hi = 2 ^ 112 + N - min 1 M }
-  unfolding interval_of gains losses
+  unfolding interval_of shares
   left_own = rw (is.n_range, is.v_range) (ends_are _ _ _ _ (omega arith) (omega arith))
 
   left_parts : interval_of table 0 0 (whole v 1 1 ∷ whole u 1 0 ∷ []) ≡ record { lo = 2 ^ 112 + (1 - M); hi = 2 ^ 112 + (N - M) }
-  unfolding interval_of gains losses
+  unfolding interval_of shares
   left_parts = rw (is.v_range, is.u_range) (ends_are _ _ _ _ (omega arith) (omega arith))
 
 pub moved-range : MovedRange
@@ -237,25 +237,26 @@ left-range table n e v u L N M is fits =
 -- ---- numbers
 
 pub number-range : NumberRange
-unfolding interval_of gains losses
+unfolding interval_of shares
 number-range table c fits =
     few_range table (number_form c) [] [] c c refl (split_end table []) (omega arith) (omega arith) (omega arith) (omega arith) fits
 
--- no times anything changes nothing
 abbrev sum_by : ℕ → ℕ → List WholeTerm → WholeSum
 sum_by p m ts = record { plus = p; minus = m; terms = ts }
 
-no_product : (table : AtomTable) (side : Side) (p m : ℕ) (ts : List WholeTerm)
-    → with_product table side (sum_by p m ts) record { factor = 0; form = number_form 0 } ≡ sum_by p m ts
+sums_are : (a b c d : ℕ) (us : List WholeTerm) → a ≡ c → b ≡ d → sum_by a b us ≡ sum_by c d us
+sums_are a b c d us e f = rw (e, f) refl
+
+-- no times anything changes nothing
+no_product : (table : AtomTable) (side : Side) (sum : WholeSum)
+    → with_product table side sum record { factor = 0; form = number_form 0 } ≡ sum
 unfolding with_product with_multiples
-no_product table Added p m ts = sums_are _ _ _ _ _ (omega arith) (omega arith)
-  where
-    sums_are : (a b c d : ℕ) (us : List WholeTerm) → a ≡ c → b ≡ d → sum_by a b us ≡ sum_by c d us
-    sums_are a b c d us e f = rw (e, f) refl
-no_product table Taken p m ts = sums_are _ _ _ _ _ (omega arith) (omega arith)
-  where
-    sums_are : (a b c d : ℕ) (us : List WholeTerm) → a ≡ c → b ≡ d → sum_by a b us ≡ sum_by c d us
-    sums_are a b c d us e f = rw (e, f) refl
+no_product table Added sum = sums_are _ _ _ _ _ (omega arith) (omega arith)
+no_product table Taken sum = sums_are _ _ _ _ _ (omega arith) (omega arith)
+
+-- the coefficient of an atom that is added k times and taken away k times is 0
+level : (k : ℕ) → (k * 1 + k * 0 - (k * 0 + k * 1) ≡ 0) × (k * 0 + k * 1 - (k * 1 + k * 0) ≡ 0)
+level k = (omega arith, omega arith)
 
 -- ---- the count
 
@@ -269,11 +270,11 @@ module _ (table : AtomTable) (n e v u L N M : ℕ) (is : IsLoop table n e v u L 
       split_step table [] [] (whole n 1 0) (whole v 1 0 ∷ whole u 1 0 ∷ []) (parts_two table n v u 1 0 is.n_split is.third) ∙ split_end table _
 
   count_own : interval_of table 0 0 (whole n 1 0 ∷ []) ≡ at_ends (2 ^ 112 + 1) (2 ^ 112 + N)
-  unfolding interval_of gains losses
+  unfolding interval_of shares
   count_own = rw is.n_range (ends_are _ _ _ _ (omega arith) (omega arith))
 
   count_parts : interval_of table 0 0 (whole v 1 0 ∷ whole u 1 0 ∷ []) ≡ at_ends (2 ^ 112 + min 1 M + (1 - M)) (2 ^ 112 + min N M + (N - M))
-  unfolding interval_of gains losses
+  unfolding interval_of shares
   count_parts = rw (is.v_range, is.u_range) (ends_are _ _ _ _ (omega arith) (omega arith))
 
   pub count_range : N < 2 ^ 32 → range_of_form table (atom_form n) ≡ Some record { lo = 1; hi = N }
@@ -310,16 +311,14 @@ module _ (table : AtomTable) (n e v u L N M : ℕ) (is : IsLoop table n e v u L 
 
     difference_is : difference_of table 1 (times k (atom_form n)) (k + 1) (times k (left_form n v)) ≡ paid
     unfolding difference_of with_products added paid
-    difference_is = rw (add_count, no_product table Added added.plus added.minus added.terms, take_left, no_product table Taken paid.plus paid.minus paid.terms) refl
+    difference_is = rw (add_count, no_product table Added added, take_left, no_product table Taken paid) refl
 
     positive : is_positive table paid ≡ true
-    unfolding is_positive paid gains losses
+    unfolding is_positive paid shares
     positive =
-        let a : k * 1 + k * 0 - (k * 0 + k * 1) ≡ 0 = omega arith in
-        let b : k * 0 + k * 1 - (k * 1 + k * 0) ≡ 0 = omega arith in
         let c : k * 1 - k * 0 ≡ k = omega arith in
         let d : k * 0 - k * 1 ≡ 0 = omega arith in
-        rw (a, b, c, d, is.v_range) (le_true _ _ (omega (arith, one)))
+        rw ((level k).0, (level k).1, c, d, is.v_range) (le_true _ _ (omega (arith, one)))
       where
         one_is : min 1 M ≡ 1
         one_is = omega (arith, is.progress)
@@ -349,7 +348,7 @@ module _ (table : AtomTable) (a lo hi : ℕ) (is_range : range_at table a ≡ re
   alone_split = split_step table [] [] (whole a 1 0) (whole a 1 0 ∷ []) alone_parts ∙ split_end table _
 
   alone_ends : interval_of table 0 0 (whole a 1 0 ∷ []) ≡ at_ends (2 ^ 112 + lo) (2 ^ 112 + hi)
-  unfolding interval_of gains losses
+  unfolding interval_of shares
   alone_ends = rw is_range (ends_are _ _ _ _ (omega arith) (omega arith))
 
   pub alone_range : range_of_form table (atom_form a) ≡ Some record { lo = lo; hi = hi }
@@ -380,14 +379,11 @@ module _ (table : AtomTable) (a lo hi : ℕ) (is_range : range_at table a ≡ re
 
     both_are : difference_of table c (times k (atom_form a)) c (times k (atom_form a)) ≡ second_sum
     unfolding difference_of with_products first_sum second_sum
-    both_are = rw (add_first, no_product table Added first_sum.plus first_sum.minus first_sum.terms, take_second, no_product table Taken second_sum.plus second_sum.minus second_sum.terms) refl
+    both_are = rw (add_first, no_product table Added first_sum, take_second, no_product table Taken second_sum) refl
 
     not_less : is_positive table second_sum ≡ true
-    unfolding is_positive second_sum gains losses
-    not_less =
-        let x : k * 1 + k * 0 - (k * 0 + k * 1) ≡ 0 = omega arith in
-        let y : k * 0 + k * 1 - (k * 1 + k * 0) ≡ 0 = omega arith in
-        rw (x, y) (le_true _ _ (omega arith))
+    unfolding is_positive second_sum shares
+    not_less = rw ((level k).0, (level k).1) (le_true _ _ (omega arith))
 
 pub atom-range : AtomRange
 atom-range table a lo hi is_range none le fits = alone_range table a lo hi is_range none le fits
@@ -420,7 +416,7 @@ module _ (table : AtomTable) (n e L N : ℕ) (l : n < e) (n_range : range_at tab
       ∙ (split_step table (whole n 0 w ∷ []) [] (whole e w 0) (whole n 0 w ∷ whole e w 0 ∷ []) (second_parts w) ∙ split_end table _)
 
   two_ends : (w base : ℕ) → interval_of table base 0 (whole n 0 w ∷ whole e w 0 ∷ []) ≡ at_ends (2 ^ 112 + base + w * L - w * N) (2 ^ 112 + base + w * N - w)
-  unfolding interval_of gains losses
+  unfolding interval_of shares
   two_ends w base =
       let a : 0 - w ≡ 0 = omega arith in
       let b : w - 0 ≡ w = omega arith in

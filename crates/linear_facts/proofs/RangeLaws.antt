@@ -8,12 +8,12 @@ use Rattle.std.proofs.lemmas.List.Sums.{count_by-le-length}
 use Rattle.std.proofs.lemmas.List.Quantifiers.{position-Some}
 use Rattle.std.proofs.lemmas.Grind.{common_steps}
 use Rattle.std.proofs.lemmas.Nat.{mul-le}
-use Rattle.linear_facts.specs.Words.{Term, Range, Split, WholeTerm, Interval, Lo, Hi}
+use Rattle.linear_facts.specs.Words.{Term, Range, Split, WholeTerm, Interval, Side, Lo, Hi, Added, Taken}
 use Rattle.linear_facts.specs.Forms.{Linear, weight, value, RisesFrom}
 use Rattle.linear_facts.specs.Ranges.{AtomTable, IsIn, AgreesWith, split_at}
-use Rattle.linear_facts.specs.Sums.{AllAtMost, signed_term, joined, with_term, with_term_at, with_parts, with_split, nonzero_count, gains, losses, ends, interval_of, met_or_own, interval_by_both, form_interval, range_within, range_of_form}
+use Rattle.linear_facts.specs.Sums.{AllAtMost, signed_term, joined, with_term, with_term_at, with_parts, with_split, nonzero_count, share, shares, gains, losses, ends, interval_of, met_or_own, interval_by_both, form_interval, range_within, range_of_form}
 use Rattle.linear_facts.proofs.Congruent.{Congruent, mod-Congruent, congruent_equal, congruent_trans, congruent_add}
-use Rattle.linear_facts.proofs.SumLaws.{signed-low, signed-high, signed_at_most, signed_atom, with_term-new}
+use Rattle.linear_facts.proofs.SumLaws.{signed-low, signed-high, share-le, signed_at_most, signed_atom, with_term-new}
 
 pub by_both-few : (table : AtomTable) (c : ℕ) (own split : List WholeTerm) → nonzero_count split ≤ 8
     → interval_by_both table c own split ≡ met_or_own (interval_of table c 0 own) (interval_of table c 0 split)
@@ -210,27 +210,27 @@ net p m x = omega (arith, ap (λ n. n * x) (twice p m))
 
 pub net-sums : (v : ℕ → ℕ) (ts : List WholeTerm)
     → gains v ts + sum_over (loss_part v) ts ≡ losses v ts + sum_over (gain_part v) ts
-unfolding gains losses sum_over
+unfolding shares sum_over
 net-sums v [] = refl
 net-sums v (t ∷ ts) = omega (arith, net t.plus t.minus (v t.atom), net-sums v ts)
 
--- gains and losses rise with the atoms
-pub gains-le : (r s : ℕ → ℕ) → ((a : ℕ) → r a ≤ s a) → (ts : List WholeTerm) → gains r ts ≤ gains s ts
-unfolding gains
-gains-le r s le [] = omega arith
-gains-le r s le (t ∷ ts) = omega (arith, gains-le r s le ts, mul-le (t.plus - t.minus) (r t.atom) (t.plus - t.minus) (s t.atom) (omega arith) (le t.atom))
+-- shares rise with the atoms
+pub shares-le : (side : Side) (r s : ℕ → ℕ) → ((a : ℕ) → r a ≤ s a) → (ts : List WholeTerm) → shares side r ts ≤ shares side s ts
+unfolding shares
+shares-le side r s le [] = omega arith
+shares-le side r s le (t ∷ ts) = omega (arith, shares-le side r s le ts, mul-le (share side t) (r t.atom) (share side t) (s t.atom) (omega arith) (le t.atom))
 
-pub losses-le : (r s : ℕ → ℕ) → ((a : ℕ) → r a ≤ s a) → (ts : List WholeTerm) → losses r ts ≤ losses s ts
-unfolding losses
-losses-le r s le [] = omega arith
-losses-le r s le (t ∷ ts) = omega (arith, losses-le r s le ts, mul-le (t.minus - t.plus) (r t.atom) (t.minus - t.plus) (s t.atom) (omega arith) (le t.atom))
-
--- losses are bounded
-pub losses-bound : (v : ℕ → ℕ) (ts : List WholeTerm) → ((a : ℕ) → v a < 2 ^ 32) → AllAtMost (2 ^ 32) ts → losses v ts ≤ length ts * 2 ^ 64
-unfolding losses
-losses-bound v [] fits small = omega arith
-losses-bound v (t ∷ ts) fits small =
-    omega (arith, losses-bound v ts fits small.2, mul-le (t.minus - t.plus) (v t.atom) (2 ^ 32) (2 ^ 32) (omega arith) (omega (arith, fits t.atom)))
+-- shares are bounded
+pub shares-bound : (side : Side) (v : ℕ → ℕ) (ts : List WholeTerm) → ((a : ℕ) → v a < 2 ^ 32) → AllAtMost (2 ^ 32) ts
+    → shares side v ts ≤ length ts * 2 ^ 64
+unfolding shares
+shares-bound side v [] fits small = omega arith
+shares-bound side v (t ∷ ts) fits small =
+    omega (
+      arith,
+      shares-bound side v ts fits small.2,
+      mul-le (share side t) (v t.atom) (2 ^ 32) (2 ^ 32) (share-le side (2 ^ 32) t small.0 small.1) (omega (arith, fits t.atom)),
+    )
 
 -- the number that a sum comes to, with 2^112 added
 abbrev pub sum_at : (ℕ → ℕ) → ℕ → List WholeTerm → ℕ
@@ -256,8 +256,8 @@ module _ (table : AtomTable) (v : ℕ → ℕ) (agrees : AgreesWith table v) whe
   interval-encloses : (c : ℕ) (ts : List WholeTerm) → Encloses (interval_of table c 0 ts) (sum_at v c ts)
   unfolding interval_of
   interval-encloses c ts = (
-    omega (arith, gains-le (ends table Lo) v at_least ts, losses-le v (ends table Hi) at_most ts),
-    omega (arith, gains-le v (ends table Hi) at_most ts, losses-le (ends table Lo) v at_least ts),
+    omega (arith, shares-le Added (ends table Lo) v at_least ts, shares-le Taken v (ends table Hi) at_most ts),
+    omega (arith, shares-le Added v (ends table Hi) at_most ts, shares-le Taken (ends table Lo) v at_least ts),
   )
 
   -- both sums come to one number
@@ -337,7 +337,7 @@ unfolding value
 sum_at-value v f fits rises few =
     let ts = map signed_term f.terms in
     let signed = signed_sums v 0 f.terms rises in
-    let bound = losses-bound v ts fits (signed_at_most f.terms) in
+    let bound = shares-bound Taken v ts fits (signed_at_most f.terms) in
     let count = length-map f.terms signed_term in
     mod-Congruent _ _ (record {
       over_a = signed.over_a;

@@ -7,9 +7,9 @@ use Rattle.std.proofs.lemmas.Grind.{common_steps}
 use Rattle.std.proofs.lemmas.Nat.{mul-le}
 use Rattle.std.specs.List.{refill}
 use Rattle.arrayvec.proofs.ArrayVecLemmas.{items-with_items}
-use Rattle.linear_facts.specs.Words.{Term, Split, WholeTerm, Lo, Hi}
+use Rattle.linear_facts.specs.Words.{Term, Split, WholeTerm, Side, Lo, Hi, Added, Taken}
 use Rattle.linear_facts.specs.Ranges.{AtomTable, split_at}
-use Rattle.linear_facts.specs.Sums.{AllAtMost, signed_term, joined, with_term, with_term_at, with_parts, with_split, gains, losses, ends, interval_of}
+use Rattle.linear_facts.specs.Sums.{AllAtMost, signed_term, joined, with_term, with_term_at, with_parts, with_split, share, shares, gains, losses, ends, interval_of}
 
 -- one term's parts
 pub at_most_at : (n : ℕ) (ts : List WholeTerm) (i : ℕ) (d : WholeTerm) → AllAtMost n ts → i < length ts
@@ -18,27 +18,26 @@ at_most_at n [] i d h inside = absurd (omega arith)
 at_most_at n (t ∷ ts) zero d h inside = (h.0, h.1)
 at_most_at n (t ∷ ts) (suc i) d h inside = at_most_at n ts i d h.2 (omega arith)
 
-pub gains-more : (r : ℕ → ℕ) (ts : List WholeTerm) (i : ℕ) (d : WholeTerm) → i < length ts
-    → gains r (drop i ts) ≡ ((get_or ts i d).plus - (get_or ts i d).minus) * r (get_or ts i d).atom + gains r (drop (i + 1) ts)
-unfolding gains
-gains-more r ts i d inside = ap (λ l. gains r l) (drop_more ts i d inside)
+pub shares-more : (side : Side) (r : ℕ → ℕ) (ts : List WholeTerm) (i : ℕ) (d : WholeTerm) → i < length ts
+    → shares side r (drop i ts) ≡ share side (get_or ts i d) * r (get_or ts i d).atom + shares side r (drop (i + 1) ts)
+unfolding shares
+shares-more side r ts i d inside = ap (λ l. shares side r l) (drop_more ts i d inside)
 
-pub gains-done : (r : ℕ → ℕ) (ts : List WholeTerm) (i : ℕ) → length ts ≤ i → gains r (drop i ts) ≡ 0
-unfolding gains
-gains-done r ts i done = ap (λ l. gains r l) (drop_all i ts done)
+pub shares-done : (side : Side) (r : ℕ → ℕ) (ts : List WholeTerm) (i : ℕ) → length ts ≤ i → shares side r (drop i ts) ≡ 0
+unfolding shares
+shares-done side r ts i done = ap (λ l. shares side r l) (drop_all i ts done)
 
-pub losses-more : (r : ℕ → ℕ) (ts : List WholeTerm) (i : ℕ) (d : WholeTerm) → i < length ts
-    → losses r (drop i ts) ≡ ((get_or ts i d).minus - (get_or ts i d).plus) * r (get_or ts i d).atom + losses r (drop (i + 1) ts)
-unfolding losses
-losses-more r ts i d inside = ap (λ l. losses r l) (drop_more ts i d inside)
+-- a share is at most a part of the coefficient
+pub share-le : (side : Side) (n : ℕ) (t : WholeTerm) → t.plus ≤ n → t.minus ≤ n → share side t ≤ n
+share-le Added n t plus minus = omega arith
+share-le Taken n t plus minus = omega arith
 
-pub losses-done : (r : ℕ → ℕ) (ts : List WholeTerm) (i : ℕ) → length ts ≤ i → losses r (drop i ts) ≡ 0
-unfolding losses
-losses-done r ts i done = ap (λ l. losses r l) (drop_all i ts done)
-
--- a term's share of a sum
-pub share_bound : (n p m k x : ℕ) → p ≤ n → k ≡ p - m → x < 2 ^ 32 → k * x ≤ n * 2 ^ 32
-share_bound n p m k x le is lt = mul-le k x n (2 ^ 32) (omega arith) (omega arith)
+-- what a term comes to
+pub share_bound : (side : Side) (n : ℕ) (ts : List WholeTerm) (i : ℕ) (d : WholeTerm) (k x : ℕ) → AllAtMost n ts → i < length ts
+    → k ≡ share side (get_or ts i d) → x < 2 ^ 32 → k * x ≤ n * 2 ^ 32
+share_bound side n ts i d k x small inside is lt =
+    let parts = at_most_at n ts i d small inside in
+    mul-le k x n (2 ^ 32) (omega (arith, is, share-le side n (get_or ts i d) parts.0 parts.1)) (omega arith)
 
 -- one more share is added
 pub next_share : (sum k k' x x' rest front whole : ℕ) → k ≡ k' → x ≡ x' → front ≡ k' * x' + rest → sum + front ≡ whole
@@ -147,25 +146,15 @@ unfolding signed_term
 signed-high t high = grind (arith, common_steps)
 
 -- what is left of a form's terms
-pub signed_gains-more : (r : ℕ → ℕ) (ts : List Term) (i : ℕ) (d : Term) → i < length ts
-    → gains r (map signed_term (drop i ts))
-    ≡ ((signed_term (get_or ts i d)).plus - (signed_term (get_or ts i d)).minus) * r (signed_term (get_or ts i d)).atom + gains r (map signed_term (drop (i + 1) ts))
-unfolding gains
-signed_gains-more r ts i d inside = ap (λ l. gains r (map signed_term l)) (drop_more ts i d inside)
+pub signed_shares-more : (side : Side) (r : ℕ → ℕ) (ts : List Term) (i : ℕ) (d : Term) → i < length ts
+    → shares side r (map signed_term (drop i ts))
+    ≡ share side (signed_term (get_or ts i d)) * r (signed_term (get_or ts i d)).atom + shares side r (map signed_term (drop (i + 1) ts))
+unfolding shares
+signed_shares-more side r ts i d inside = ap (λ l. shares side r (map signed_term l)) (drop_more ts i d inside)
 
-pub signed_gains-done : (r : ℕ → ℕ) (ts : List Term) (i : ℕ) → length ts ≤ i → gains r (map signed_term (drop i ts)) ≡ 0
-unfolding gains
-signed_gains-done r ts i done = ap (λ l. gains r (map signed_term l)) (drop_all i ts done)
-
-pub signed_losses-more : (r : ℕ → ℕ) (ts : List Term) (i : ℕ) (d : Term) → i < length ts
-    → losses r (map signed_term (drop i ts))
-    ≡ ((signed_term (get_or ts i d)).minus - (signed_term (get_or ts i d)).plus) * r (signed_term (get_or ts i d)).atom + losses r (map signed_term (drop (i + 1) ts))
-unfolding losses
-signed_losses-more r ts i d inside = ap (λ l. losses r (map signed_term l)) (drop_more ts i d inside)
-
-pub signed_losses-done : (r : ℕ → ℕ) (ts : List Term) (i : ℕ) → length ts ≤ i → losses r (map signed_term (drop i ts)) ≡ 0
-unfolding losses
-signed_losses-done r ts i done = ap (λ l. losses r (map signed_term l)) (drop_all i ts done)
+pub signed_shares-done : (side : Side) (r : ℕ → ℕ) (ts : List Term) (i : ℕ) → length ts ≤ i → shares side r (map signed_term (drop i ts)) ≡ 0
+unfolding shares
+signed_shares-done side r ts i done = ap (λ l. shares side r (map signed_term l)) (drop_all i ts done)
 
 no_share : (c y : ℕ) → (0 - c) * y ≡ 0
 no_share c y = omega (arith, ap (λ n. n * y) (nothing c))

@@ -1,7 +1,7 @@
 -- Sums in whole numbers, not reduced: a term is `plus - minus` times an atom. Natural numbers stand
 -- for whole ones: both ends of an interval are given with 2^112 added.
 use Rattle.std.specs.Prelude.{ℕ, ◌+◌, ◌-◌, ◌*◌, ◌/◌, ◌%◌, ◌^◌, ◌≤◌, ◌==◌, nat_lt, nat_le, min, max, not, if◌then◌else◌, List, [], ◌∷◌, ◌++◌, map, position, count_by, slice_set, slice_index_or, Option, Some, None}
-use Rattle.linear_facts.specs.Words.{Term, Range, Split, End, WholeTerm, Interval, Lo, Hi}
+use Rattle.linear_facts.specs.Words.{Term, Range, Split, End, WholeTerm, Interval, Side, Lo, Hi, Added, Taken}
 use Rattle.linear_facts.specs.Forms.{Linear}
 use Rattle.linear_facts.specs.Ranges.{AtomTable, range_at, split_at, end_of}
 
@@ -44,15 +44,23 @@ with_split table so_far (t ∷ ts) = with_split table (with_parts (split_at tabl
 abbrev pub nonzero_count : List WholeTerm → ℕ
 nonzero_count ts = count_by (λ t. not (t.plus == t.minus)) ts
 
--- what the terms with positive coefficients come to where atom a is r a
-unfoldable pub gains : (ℕ → ℕ) → List WholeTerm → ℕ
-gains r [] = 0
-gains r (t ∷ ts) = (t.plus - t.minus) * r t.atom + gains r ts
+-- how far a coefficient lies on this side of 0
+abbrev pub share : Side → WholeTerm → ℕ
+share Added t = t.plus - t.minus
+share Taken t = t.minus - t.plus
+
+-- what the terms with coefficients on this side of 0 come to, without their sign, where atom a is r a
+unfoldable pub shares : Side → (ℕ → ℕ) → List WholeTerm → ℕ
+shares side r [] = 0
+shares side r (t ∷ ts) = share side t * r t.atom + shares side r ts
+
+-- what the terms with positive coefficients come to
+abbrev pub gains : (ℕ → ℕ) → List WholeTerm → ℕ
+gains r ts = shares Added r ts
 
 -- what the terms with negative coefficients take away
-unfoldable pub losses : (ℕ → ℕ) → List WholeTerm → ℕ
-losses r [] = 0
-losses r (t ∷ ts) = (t.minus - t.plus) * r t.atom + losses r ts
+abbrev pub losses : (ℕ → ℕ) → List WholeTerm → ℕ
+losses r ts = shares Taken r ts
 
 -- the atoms' lower or upper ends
 abbrev pub ends : AtomTable → End → ℕ → ℕ

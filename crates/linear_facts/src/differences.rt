@@ -13,8 +13,8 @@ ghost use Rattle.linear_facts.specs.Differences.{sum_interval as sum_interval_of
 use crate::forms::Form;
 use crate::ranges::{Atoms, End};
 use crate::sums::{
-    Interval, OFFSET, WholeTerm, add_term, interval_by_ends, interval_of_terms, met, signed_terms,
-    split_terms, sum_of_gains, sum_of_losses,
+    Interval, OFFSET, Side, WholeTerm, add_term, interval_by_ends, interval_of_terms, met,
+    signed_terms, split_terms, sum_of_shares,
 };
 use arrayvec::ArrayVec;
 use std::marker::Model;
@@ -48,13 +48,6 @@ impl Model for Sum {
     ghost Value = { WholeSum };
 
     ghost view = { λ s. record { plus = s.plus; minus = s.minus; terms = s.terms.items } };
-}
-
-/// Whether something is added or taken away.
-#[derive(Clone, Copy, Debug, PartialEq, Eq)]
-enum Side {
-    Added,
-    Taken,
 }
 
 /// `k` times a term, added or taken away.
@@ -198,8 +191,8 @@ fn is_positive(sum: &Sum, atoms: &Atoms) -> bool
     requires minus { sum.now.minus ≤ 2 ^ 120 }
     ensures { result ≡ is_positive atoms.now sum.now }
 {
-    let gains = sum_of_gains(sum.terms.as_slice(), atoms, End::Lo);
-    let losses = sum_of_losses(sum.terms.as_slice(), atoms, End::Hi);
+    let gains = sum_of_shares(Side::Added, sum.terms.as_slice(), atoms, End::Lo);
+    let losses = sum_of_shares(Side::Taken, sum.terms.as_slice(), atoms, End::Hi);
     sum.minus + losses <= sum.plus + gains
 }
 

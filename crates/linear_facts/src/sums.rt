@@ -8,13 +8,20 @@ ghost use Rattle.std.specs.List.{list_any};
 ghost use Rattle.linear_facts.specs.Forms.{value, RisesFrom};
 ghost use Rattle.linear_facts.specs.Ranges.{AgreesWith, IsIn, split_at};
 ghost use Rattle.linear_facts.specs.Sums.{AllAtMost, IsClose, signed_term, joined, with_term};
-ghost use Rattle.linear_facts.specs.Sums.{with_parts, with_split, nonzero_count, gains, losses};
+ghost use Rattle.linear_facts.specs.Sums.{with_parts, with_split, nonzero_count, share, shares};
 ghost use Rattle.linear_facts.specs.Sums.{ends, interval_of, met_or_own, form_interval};
 ghost use Rattle.linear_facts.specs.Sums.{range_within, range_of_form};
 
 use crate::forms::{Form, Term};
 use crate::ranges::{Atoms, End, Range};
 use arrayvec::ArrayVec;
+
+/// A side of 0: what is added to a sum, or taken away from it.
+#[derive(Clone, Copy, Debug, PartialEq, Eq)]
+pub(crate) enum Side {
+    Added,
+    Taken,
+}
 
 /// A coefficient, `plus - minus`, times an atom.
 #[derive(Clone, Copy, Debug, Default, PartialEq, Eq)]
@@ -53,6 +60,18 @@ impl From<Term> for WholeTerm {
                 plus: 0,
                 minus: (1 << 32) - coefficient,
             }
+        }
+    }
+}
+
+impl WholeTerm {
+    /// How far the coefficient lies on this side of 0.
+    fn share(self, side: Side) -> u128
+        ensures { result ≡ share side self }
+    {
+        match side {
+            Side::Added => self.plus.saturating_sub(self.minus),
+            Side::Taken => self.minus.saturating_sub(self.plus),
         }
     }
 }
@@ -113,34 +132,18 @@ fn end_of_range(atoms: &Atoms, atom: u16, end: End) -> u128
     u128::from(atoms.range(atom).end(end))
 }
 
-/// What the terms with positive coefficients come to where each atom is at this end of its range.
-pub(crate) fn sum_of_gains(terms: &[WholeTerm], atoms: &Atoms, end: End) -> u128
+/// What the terms with coefficients on this side of 0 come to, without their sign, where each atom is at
+/// this end of its range.
+pub(crate) fn sum_of_shares(side: Side, terms: &[WholeTerm], atoms: &Atoms, end: End) -> u128
     requires few { length terms.now ≤ 32 }
     requires small { AllAtMost (2 ^ 73) terms.now }
-    ensures sum { result ≡ gains (ends atoms.now end) terms.now }
+    ensures sum { result ≡ shares side (ends atoms.now end) terms.now }
     ensures bound { result ≤ 2 ^ 110 }
     ensures close { AllAtMost (2 ^ 40) terms.now → result ≤ 2 ^ 78 }
 {
     let mut sum = 0;
     for term in terms {
-        let coefficient = term.plus.saturating_sub(term.minus);
-        sum += coefficient * end_of_range(atoms, term.atom, end);
-    }
-    sum
-}
-
-/// What the terms with negative coefficients take away where each atom is at this end of its range.
-pub(crate) fn sum_of_losses(terms: &[WholeTerm], atoms: &Atoms, end: End) -> u128
-    requires few { length terms.now ≤ 32 }
-    requires small { AllAtMost (2 ^ 73) terms.now }
-    ensures sum { result ≡ losses (ends atoms.now end) terms.now }
-    ensures bound { result ≤ 2 ^ 110 }
-    ensures close { AllAtMost (2 ^ 40) terms.now → result ≤ 2 ^ 78 }
-{
-    let mut sum = 0;
-    for term in terms {
-        let coefficient = term.minus.saturating_sub(term.plus);
-        sum += coefficient * end_of_range(atoms, term.atom, end);
+        sum += term.share(side) * end_of_range(atoms, term.atom, end);
     }
     sum
 }
@@ -160,10 +163,10 @@ pub(crate) fn interval_by_ends(
     ensures interval { result ≡ interval_of atoms.now plus minus terms.now }
     ensures close { AllAtMost (2 ^ 40) terms.now → plus ≤ 2 ^ 40 → minus ≡ 0 → IsClose result }
 {
-    let low_gains = sum_of_gains(terms, atoms, End::Lo);
-    let high_gains = sum_of_gains(terms, atoms, End::Hi);
-    let low_losses = sum_of_losses(terms, atoms, End::Lo);
-    let high_losses = sum_of_losses(terms, atoms, End::Hi);
+    let low_gains = sum_of_shares(Side::Added, terms, atoms, End::Lo);
+    let high_gains = sum_of_shares(Side::Added, terms, atoms, End::Hi);
+    let low_losses = sum_of_shares(Side::Taken, terms, atoms, End::Lo);
+    let high_losses = sum_of_shares(Side::Taken, terms, atoms, End::Hi);
     Interval {
         lo: OFFSET + plus + low_gains - (minus + high_losses),
         hi: OFFSET + plus + high_gains - (minus + low_losses),
