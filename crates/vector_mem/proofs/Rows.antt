@@ -100,11 +100,6 @@ row_loads memory size base n i bytes bounds loads is h =
     let long = (bounds base (size * n) bytes is).0 in
     (loads base (size * n) (size * i) size bytes is fits).1 ∙ ap Some (number_there size (size * i) bytes (omega (arith, fits, long)))
 
--- the window that was found over the bytes of a body
-pub window_found : (memory : Memory) (base size n : ℕ) (found : Option (List ℕ)) (bytes : List ℕ) → n ≡ size →
-    found ≡ window_of base n memory → found ≡ Some bytes → window_of base size memory ≡ Some bytes
-window_found memory base size n found bytes same is some = ap (λ (k : ℕ). window_of base k memory) (sym same) ∙ sym is ∙ some
-
 -- no access in a window is refused
 pub row_granted : (memory : Memory) (size base n : ℕ) (bytes : List ℕ) → WindowsToRead memory → LoadsInWindows memory →
     window_of base (size * n) memory ≡ Some bytes → 0 < size → first_refused (in_a_row Read size base n) memory ≡ None
@@ -216,11 +211,12 @@ row_accesses vlenb s (Indexed width vs2 ordered masked) direction values base st
 row_accesses vlenb s Mask direction values base stride file h = refl
 row_accesses vlenb s (Whole width count) direction values base stride file h = refl
 
-pub is_row : (vlenb : ℕ) (s : Setup) (insn : VMem) (base stride : ℕ) (file : List ℕ) (right : Right) (group : Span) → is_in_a_row insn.place ≡ true →
-    right_of insn.direction ≡ right → group ≡ data_of vlenb s insn →
-    accesses_of vlenb s insn base stride file ≡ in_a_row right group.bytes base group.vl
+pub is_row : (vlenb : ℕ) (s : Setup) (insn : VMem) (base stride : ℕ) (file : List ℕ) (right : Right) (size n : ℕ) → is_in_a_row insn.place ≡ true →
+    right_of insn.direction ≡ right → size ≡ (data_of vlenb s insn).bytes → n ≡ (data_of vlenb s insn).vl →
+    accesses_of vlenb s insn base stride file ≡ in_a_row right size base n
 unfolding accesses_of
-is_row vlenb s insn base stride file right group row direction meaning =
+is_row vlenb s insn base stride file right size n row direction bytes vl =
     row_accesses vlenb s insn.place insn.direction insn.values base stride file row
     ∙ ap (λ (r : Right). in_a_row r (data_of vlenb s insn).bytes base (data_of vlenb s insn).vl) direction
-    ∙ sym (ap (λ (span : Span). in_a_row right span.bytes base span.vl) meaning)
+    ∙ sym (ap (λ (k : ℕ). in_a_row right k base (data_of vlenb s insn).vl) bytes)
+    ∙ sym (ap (in_a_row right size base) vl)

@@ -1,6 +1,6 @@
 //! Loads and stores: all of an instruction's accesses are made, or none.
 
-ghost use Rattle.std.specs.Prelude.{◌≡◌, ◌≤◌, ◌*◌, false, true, None, length, map};
+ghost use Rattle.std.specs.Prelude.{◌≡◌, ◌≤◌, ◌*◌, false, true, None, IfSome, length, map};
 ghost use Rattle.std.specs.Prelude.{replicate, unwrap_or};
 ghost use Rattle.std.specs.List.{All};
 ghost use Rattle.std.specs.Option.{option_map};
@@ -20,7 +20,7 @@ ghost use Rattle.vector_mem.specs.Transfers.{vector_store, width_at};
 
 use crate::accesses::access;
 use crate::elements::{Datum, splat};
-use crate::operands::{data_group, in_a_row, masked, policy, read_numbers, width};
+use crate::operands::{data_group, in_a_row, masked, policy, width};
 use crate::plan::AccessPlan;
 use crate::windows::{load_window, store_window};
 use region_mem::{Fault, Regions};
@@ -63,18 +63,17 @@ fn refused<A: Allocator>(plan: &AccessPlan, memory: &Regions<A>) -> Option<u32>
 
 /// Stores the elements.
 #[tactic(auto, unfolding(crate::specs::Accesses::stored))]
-fn store_elements<A: Allocator>(
-    plan: &AccessPlan,
-    memory: &mut Regions<A>,
-    width: Width,
-    values: &[u32],
-)
-    requires { All (IsAccessOf Write (bytes_of_width width) (length values.now)) plan.now }
-    ensures { memory.new ≡ stored plan.now values.now memory.old }
+fn store_elements<E: Datum, A: Allocator>(plan: &AccessPlan, memory: &mut Regions<A>, values: &[E])
+    requires { All (IsAccessOf Write E.Element.SIZE (length values.now)) plan.now }
+    ensures { memory.new ≡ stored plan.now (map E.Element.number values.now) memory.old }
 {
-    let size = usize::from(width.bytes());
     for access in plan.as_slice() {
-        store_element(memory, access.address, size, values[access.element]);
+        store_element(
+            memory,
+            access.address,
+            E::SIZE,
+            values[access.element].to_number(),
+        );
     }
 }
 
@@ -250,9 +249,63 @@ pub fn load<const VLENB: usize, A: Allocator>(
     load_each(insn, registers, setup, base, stride, memory)
 }
 
+/// Stores the elements of an instruction, or answers the address of the first access that is not permitted.
+fn store_values<E: Datum, const VLENB: usize, A: Allocator>(
+    insn: &VMem,
+    registers: &VregFile<VLENB>,
+    setup: &Setup,
+    base: u32,
+    stride: u32,
+    memory: &mut Regions<A>,
+    values: &[E],
+) -> Option<u32>
+    requires ready { IsReady VLENB setup.now (needs_of_access insn.now) }
+    requires direction { insn.now.direction ≡ Store }
+    requires size { E.Element.SIZE ≡ (data_of VLENB setup.now insn.now).bytes }
+    requires length { length values.now ≡ (data_of VLENB setup.now insn.now).vl }
+    ensures refused { result ≡ option_map (λ a. a.address) (first_refused (accesses_of VLENB
+        setup.now insn.now base stride registers.now) memory.old) }
+    ensures stored { result ≡ None → memory.new ≡ stored (accesses_of VLENB setup.now insn.now base
+        stride registers.now) (map E.Element.number values.now) memory.old }
+    ensures kept { IfSome result (λ _. memory.new ≡ memory.old) }
+{
+    let plan = access(insn, registers, setup, base, stride);
+    let refused = refused(&plan, memory);
+    if refused.is_none() {
+        store_elements(&plan, memory, values);
+    }
+    refused
+}
+
+/// A store of elements of one width, with room for them in `values`.
+#[tactic(auto, unfolding(crate::specs::Transfers::vector_store))]
+fn store_as<E: Datum, const VLENB: usize, A: Allocator>(
+    insn: &VMem,
+    registers: &VregFile<VLENB>,
+    setup: &Setup,
+    base: u32,
+    stride: u32,
+    memory: &mut Regions<A>,
+    values: &mut [E],
+) -> Result<(), Fault>
+    requires ready { IsReady VLENB setup.now (needs_of_access insn.now) }
+    requires direction { insn.now.direction ≡ Store }
+    requires size { E.Element.SIZE ≡ bytes_of_width (width_at setup.now insn.now.place) }
+    requires room { MOST_ELEMENTS ≤ E.Element.SIZE * length values.old }
+    ensures { Steps (vector_store VLENB setup.now insn.now base stride registers.now memory.old)
+        memory.old memory.new result }
+{
+    let group = data_group(insn, setup);
+    let values = &mut values[..group.vl()];
+    group.read(registers, values);
+    match store_values(insn, registers, setup, base, stride, memory, values) {
+        Some(address) => Err(Fault::StoreFault(address)),
+        None => Ok(()),
+    }
+}
+
 /// A vector store whose elements are stored one by one.
 #[inline(never)]
-#[tactic(auto, unfolding(crate::specs::Transfers::vector_store))]
 fn store_each<const VLENB: usize, A: Allocator>(
     insn: &VMem,
     registers: &VregFile<VLENB>,
@@ -266,17 +319,20 @@ fn store_each<const VLENB: usize, A: Allocator>(
     ensures { Steps (vector_store VLENB setup.now insn.now base stride registers.now memory.old)
         memory.old memory.new result }
 {
-    let group = data_group(insn, setup);
-    let width = width(insn, setup);
-    let mut room = [0u32; MOST_ELEMENTS];
-    let values = &mut room[..group.vl()];
-    read_numbers(&group, width, registers, values);
-    let plan = access(insn, registers, setup, base, stride);
-    if let Some(address) = refused(&plan, memory) {
-        return Err(Fault::StoreFault(address));
+    match width(insn, setup) {
+        Width::W8 => {
+            let mut bytes = [0u8; MOST_ELEMENTS];
+            store_as(insn, registers, setup, base, stride, memory, &mut bytes)
+        }
+        Width::W16 => {
+            let mut halves = [0u16; MOST_ELEMENTS / 2];
+            store_as(insn, registers, setup, base, stride, memory, &mut halves)
+        }
+        Width::W32 => {
+            let mut words = [0u32; MOST_ELEMENTS / 4];
+            store_as(insn, registers, setup, base, stride, memory, &mut words)
+        }
     }
-    store_elements(&plan, memory, width, values);
-    Ok(())
 }
 
 /// A vector store: all of its elements are stored, or the fault is that of the lowest-numbered element that may not be

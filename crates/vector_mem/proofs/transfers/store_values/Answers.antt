@@ -1,0 +1,11 @@
+use Rattle.std.proofs.Common.{ap, length, sym}
+use Rattle.region_mem.specs.declared.faults.Right.TheVariants.{Write}
+use Rattle.vector_mem.specs.Transfers.{right_of}
+use Rattle.vector_mem.proofs.Plans.{plan_within}
+use Rattle.vector_mem.proofs.transfers.store_values.Goals as goal
+
+pub store_elements-requires : goal.store_elements-requires
+store_elements-requires g c =
+    plan_within g.row.VLENB c.args.setup.now c.args.insn.now c.args.base c.args.stride c.args.registers.now c.access-plan.result Write
+    g.E.Element.SIZE (length c.args.values.now) c.access-plan.ensures (ap right_of c.requires.direction) (sym c.requires.size)
+    (sym c.requires.length)
