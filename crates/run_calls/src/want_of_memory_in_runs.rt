@@ -81,7 +81,7 @@ struct Start {
     ample: Refusing<Global>,
 }
 
-fn start(rt: impl Abort + Copy, alloc: Global) -> Start {
+fn prepared(rt: impl Abort + Copy, alloc: Global) -> Start {
     let file = file(rt, alloc);
     Start {
         image: given!(rt; elf_image::read(alloc, &file)),
@@ -118,7 +118,7 @@ fn is_started<'a>(rt: impl Abort + Copy, heap: Heap<'a>, after: u64, start: &'a 
 /// The list of regions, the bytes of two segments and those of the stack.
 #[test]
 fn starting_a_memory(rt: HostRuntime) {
-    let start = start(rt, rt.alloc());
+    let start = prepared(rt, rt.alloc());
     until_served(rt, rt.alloc(), |heap, after| {
         is_started(rt, heap, after, &start)
     });
@@ -172,7 +172,7 @@ fn is_run<'a>(rt: impl Abort + Copy, heap: Heap<'a>, after: u64, start: &'a Star
 /// of the stack. No step takes any.
 #[test]
 fn running(rt: HostRuntime) {
-    let start = start(rt, rt.alloc());
+    let start = prepared(rt, rt.alloc());
     until_served(rt, rt.alloc(), |heap, after| {
         is_run(rt, heap, after, &start)
     });
