@@ -50,12 +50,12 @@ fn assert_told(rt: impl Abort + Copy, alloc: Global, place: usize, word: u32, pa
 /// Asserts that where one word of the loop is another the check stops at that word, and what is told of it.
 fn assert_stops_at(rt: impl Abort + Copy, alloc: Global, place: usize, word: u32, parts: &[&str]) {
     let address = 0x1_0000 + 4 * place.min(6);
-    let head = given!(rt; format!(in alloc;
+    let mut expected = given!(rt; format!(in alloc;
         "  stopped in the block at 0x00010004\n  at 0x{address:08x}: 0x{word:08x}\n"));
-    let mut expected = Vec::new(alloc);
-    given!(rt; expected.push(head.as_str()));
-    given!(rt; expected.extend_from_slice(parts));
-    assert_told(rt, alloc, place, word, &expected);
+    for part in parts {
+        given!(rt; expected.push_str(part));
+    }
+    assert_told(rt, alloc, place, word, &[expected.as_str()]);
 }
 
 /// Asserts what is told where one byte of the certificate is another.
