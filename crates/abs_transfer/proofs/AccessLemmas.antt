@@ -13,7 +13,8 @@ use Rattle.abs_domain.specs.Values.{ValueView}
 use Rattle.abs_domain.specs.Numbers.{NumbersView, table_of}
 use Rattle.abs_domain.specs.Effects.{fitting}
 use Rattle.abs_domain.specs.Described.{LiesIn, IsNumber}
-use Rattle.abs_transfer.specs.Accesses.{met_with_form, sharpened_high, sharpened_low, sum_form, fitting_less, unit_reach, rising_reach, falling_reach}
+use Rattle.linear_facts.specs.declared.ranges.End.TheVariants.{Lo, Hi}
+use Rattle.abs_transfer.specs.Accesses.{met_with_form, sharpened, sum_form, fitting_less, unit_reach, rising_reach, falling_reach}
 use Rattle.abs_domain.proofs.Operations.{value_number}
 use Rattle.abs_domain.proofs.States.{computed_lies, form_range_lies}
 
@@ -145,14 +146,14 @@ module _ (s : NumbersView) (v : ℕ → ℕ) (agrees : AgreesWith (table_of s) v
       own = (let fits : z % 2 ^ 32 ≡ z = omega (arith, lies.high, lies.fits) in sym fits ∙ sum.number)
 
   high_holds : (hi : ℕ) (interval : Option Range) (f : Linear) (z : ℕ) → z ≤ hi → IfSome interval (λ r. LiesIn r z) → IsSum v f z
-      → z ≤ sharpened_high s hi interval f
-  unfolding sharpened_high
+      → z ≤ sharpened Hi s hi interval f
+  unfolding sharpened
   high_holds hi None f z l lies sum = l
   high_holds hi (Some interval) f z l lies sum = (sharp_lies interval f z lies sum).high
 
   low_holds : (lo : ℕ) (interval : Option Range) (f : Linear) (z : ℕ) → lo ≤ z → IfSome interval (λ r. LiesIn r z) → IsSum v f z
-      → sharpened_low s lo interval f ≤ z
-  unfolding sharpened_low
+      → sharpened Lo s lo interval f ≤ z
+  unfolding sharpened
   low_holds lo None f z l lies sum = l
   low_holds lo (Some interval) f z l lies sum = (sharp_lies interval f z lies sum).low
 
@@ -222,7 +223,7 @@ module _ (s : NumbersView) (v : ℕ → ℕ) (agrees : AgreesWith (table_of s) v
         lo = a.range.lo + k - k * b.range.hi
 
         first : ℕ
-        first = sharpened_low s lo (fitting 32 lo (a.range.hi + k - k * b.range.lo)) (sum_form a.form (2 ^ 32 - k) b.form k)
+        first = sharpened Lo s lo (fitting 32 lo (a.range.hi + k - k * b.range.lo)) (sum_form a.form (2 ^ 32 - k) b.form k)
 
         by_test : (t : Bool) → nat_le (k * b.range.hi) (a.range.lo + k) ≡ t
             → (if t then Some record { first = first; end = a.range.hi + size } else None) ≡ Some r

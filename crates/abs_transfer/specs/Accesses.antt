@@ -2,6 +2,9 @@
 -- Masks are ignored.
 use Rattle.std.specs.Prelude.{ℕ, ◌+◌, ◌-◌, ◌*◌, ◌/◌, ◌^◌, ◌==◌, ◌%◌, nat_lt, nat_le, ◌&&◌, not, Bool, true, false, if◌then◌else◌, List, Option, Some, None, Result, Ok, Err}
 use Rattle.abs_transfer.specs.Words.{Range, Linear, number_form, scaled, sum_of, within, range_of_form, Vtype, VectorFact}
+use Rattle.linear_facts.specs.declared.ranges.End.{End}
+use Rattle.linear_facts.specs.declared.ranges.End.TheVariants.{Lo, Hi}
+use Rattle.linear_facts.specs.Ranges.{end_of}
 use Rattle.rv_decode.specs.declared.extents.Eew.TheVariants.{Fixed}
 use Rattle.rv_decode.specs.declared.instructions.Direction.{Direction}
 use Rattle.rv_decode.specs.declared.instructions.Direction.TheVariants.{Load, Store}
@@ -28,16 +31,11 @@ met_with_form s interval None = interval
 met_with_form s interval (Some f) =
     computed_range (Some interval) (range_of_form (table_of s) f)
 
--- The upper end of a sum, by interval arithmetic where that does not stay within 32 bits, and else
--- by the form too.
-unfoldable pub sharpened_high : NumbersView → ℕ → Option Range → Linear → ℕ
-sharpened_high s hi None f = hi
-sharpened_high s hi (Some interval) f = (met_with_form s interval (within 8 f)).hi
-
--- the lower end
-unfoldable pub sharpened_low : NumbersView → ℕ → Option Range → Linear → ℕ
-sharpened_low s lo None f = lo
-sharpened_low s lo (Some interval) f = (met_with_form s interval (within 8 f)).lo
+-- An end of a sum, by interval arithmetic where that does not stay within 32 bits, and else by the
+-- form too.
+unfoldable pub sharpened : End → NumbersView → ℕ → Option Range → Linear → ℕ
+sharpened end s whole None f = whole
+sharpened end s whole (Some interval) f = end_of end (met_with_form s interval (within 8 f))
 
 -- the form of `a + k * b + n`, with k and n as numbers modulo 2^32
 unfoldable pub sum_form : Linear → ℕ → Linear → ℕ → Linear
@@ -56,7 +54,7 @@ unit_reach s size x vl =
     let hi = x.range.hi + size * vl.range.hi in
     record {
       first = x.range.lo;
-      end = sharpened_high s hi (fitting 32 lo hi) (sum_form x.form size vl.form 0);
+      end = sharpened Hi s hi (fitting 32 lo hi) (sum_form x.form size vl.form 0);
     }
 
 -- elements a number of bytes apart that is not negative: the last one ends at
@@ -67,7 +65,7 @@ rising_reach s size k x vl =
     let hi = x.range.hi + k * vl.range.hi + size in
     record {
       first = x.range.lo;
-      end = sharpened_high s (hi - k) (fitting_less lo hi k)
+      end = sharpened Hi s (hi - k) (fitting_less lo hi k)
           (sum_form x.form k vl.form ((2 ^ 32 - k + size) % 2 ^ 32));
     }
 
@@ -77,7 +75,7 @@ unfoldable pub falling_reach : NumbersView → ℕ → ℕ → ValueView → Val
 falling_reach s size k x vl =
     if nat_le (k * vl.range.hi) (x.range.lo + k)
     then Some record {
-      first = sharpened_low s (x.range.lo + k - k * vl.range.hi)
+      first = sharpened Lo s (x.range.lo + k - k * vl.range.hi)
           (fitting 32 (x.range.lo + k - k * vl.range.hi) (x.range.hi + k - k * vl.range.lo))
           (sum_form x.form (2 ^ 32 - k) vl.form k);
       end = x.range.hi + size;

@@ -5,8 +5,7 @@ ghost use Rattle.rv_decode.specs.Instructions.{bytes_of_width};
 ghost use Rattle.abs_transfer.specs.Accesses.{fitting_less as fitting_less_of};
 ghost use Rattle.abs_transfer.specs.Accesses.{met_with_form as met_with_form_of};
 ghost use Rattle.abs_transfer.specs.Accesses.{sum_form as sum_form_of};
-ghost use Rattle.abs_transfer.specs.Accesses.{sharpened_high as sharpened_high_of};
-ghost use Rattle.abs_transfer.specs.Accesses.{sharpened_low as sharpened_low_of};
+ghost use Rattle.abs_transfer.specs.Accesses.{sharpened as sharpened_of};
 ghost use Rattle.abs_transfer.specs.Accesses.{unit_reach as unit_reach_of};
 ghost use Rattle.abs_transfer.specs.Accesses.{rising_reach as rising_reach_of};
 ghost use Rattle.abs_transfer.specs.Accesses.{falling_reach as falling_reach_of};
@@ -21,7 +20,7 @@ use abs_domain::{
     Numbers, VL, Value, Why, Zone, computed_range, fitting, known, load_allowed, store_allowed,
 };
 use cert_note::VectorFact;
-use linear_facts::{Form, Range};
+use linear_facts::{End, Form, Range};
 use rv_decode::{Addressing, Direction, Eew, VMem, Width};
 use std::alloc::Allocator;
 use vreg_groups::{Vtype, whole_count};
@@ -126,35 +125,20 @@ fn met_with_form<A: Allocator>(numbers: &Numbers<A>, interval: Range, form: &For
     }
 }
 
-/// The upper end of a sum: that of the interval and the form, where there is an interval.
-#[tactic(auto, unfolding(crate::specs::Accesses::sharpened_high))]
-fn sharpened_high<A: Allocator>(
+/// An end of a sum: that of the interval and the form, where there is an interval, and else the one by whole numbers.
+#[tactic(auto, unfolding(crate::specs::Accesses::sharpened))]
+fn sharpened<A: Allocator>(
+    end: End,
     numbers: &Numbers<A>,
-    hi: u64,
+    whole: u64,
     interval: Option<Range>,
     form: &Form<16>,
 ) -> u64
-    ensures { result ≡ sharpened_high_of numbers.now hi interval form.now }
+    ensures { result ≡ sharpened_of end numbers.now whole interval form.now }
 {
     match interval {
-        Some(interval) => u64::from(met_with_form(numbers, interval, form).hi),
-        None => hi,
-    }
-}
-
-/// The lower end of a sum: that of the interval and the form, where there is an interval.
-#[tactic(auto, unfolding(crate::specs::Accesses::sharpened_low))]
-fn sharpened_low<A: Allocator>(
-    numbers: &Numbers<A>,
-    lo: u64,
-    interval: Option<Range>,
-    form: &Form<16>,
-) -> u64
-    ensures { result ≡ sharpened_low_of numbers.now lo interval form.now }
-{
-    match interval {
-        Some(interval) => u64::from(met_with_form(numbers, interval, form).lo),
-        None => lo,
+        Some(interval) => u64::from(met_with_form(numbers, interval, form).end(end)),
+        None => whole,
     }
 }
 
@@ -168,7 +152,7 @@ fn unit_reach<A: Allocator>(numbers: &Numbers<A>, size: u32, x: &Value, vl: &Val
     let form = sum_form(x.form, size, vl.form, 0);
     Reach {
         first: u64::from(x.range.lo),
-        end: sharpened_high(numbers, hi, fitting(32, lo, hi), &form),
+        end: sharpened(End::Hi, numbers, hi, fitting(32, lo, hi), &form),
     }
 }
 
@@ -191,7 +175,8 @@ fn rising_reach<A: Allocator>(
     let form = sum_form(x.form, k, vl.form, past as u32);
     Reach {
         first: u64::from(x.range.lo),
-        end: sharpened_high(
+        end: sharpened(
+            End::Hi,
             numbers,
             hi.saturating_sub(step),
             fitting_less(lo, hi, k),
@@ -221,7 +206,7 @@ fn falling_reach<A: Allocator>(
     let hi = sum(x.range.hi, k, 1).saturating_sub(product(k, vl.range.lo));
     let form = sum_form(x.form, u32::MAX - k + 1, vl.form, k);
     Some(Reach {
-        first: sharpened_low(numbers, lo, fitting(32, lo, hi), &form),
+        first: sharpened(End::Lo, numbers, lo, fitting(32, lo, hi), &form),
         end: u64::from(x.range.hi) + u64::from(size),
     })
 }

@@ -59,22 +59,6 @@ pub fn address_range<A: Allocator>(numbers: &Numbers<A>, rs1: Reg, offset: i32) 
     computed_range(offset_range(n, base.range), form.range_of(&numbers.table()))
 }
 
-/// The answer on a load of this many bytes.
-#[tactic(auto, unfolding(crate::specs::Scalar::load_check))]
-fn load_check<A: Allocator>(
-    numbers: &Numbers<A>,
-    rs1: Reg,
-    offset: i32,
-    size: u64,
-    zones: &[Zone],
-) -> Result<(), Why>
-    requires { size ≤ 4 }
-    ensures { result ≡ load_check_of rs1 offset size zones.now numbers.now }
-{
-    let range = address_range(numbers, rs1, offset);
-    load_allowed(u64::from(range.lo), u64::from(range.hi) + size, zones)
-}
-
 /// The answer on a store of this many bytes.
 #[tactic(auto, unfolding(crate::specs::Scalar::store_check))]
 fn store_check<A: Allocator>(
@@ -130,7 +114,7 @@ fn registers<A: Allocator>(numbers: &mut Numbers<A>, op: RegisterOp, rd: Reg, rs
 }
 
 /// A load, where it is allowed.
-#[tactic(auto, unfolding(crate::specs::Scalar::if_allowed))]
+#[tactic(auto, unfolding(crate::specs::Scalar::if_allowed, crate::specs::Scalar::load_check))]
 fn load<A: Allocator>(
     numbers: &mut Numbers<A>,
     kind: LoadKind,
@@ -148,7 +132,9 @@ fn load<A: Allocator>(
         (with_result rd (load_effect_of kind) numbers.old) ≡ Err why) }
     ensures kept { OnErr result (numbers.new ≡ numbers.old) }
 {
-    load_check(numbers, rs1, offset, size_of_load(kind), zones)?;
+    let range = address_range(numbers, rs1, offset);
+    let end = u64::from(range.hi) + size_of_load(kind);
+    load_allowed(u64::from(range.lo), end, zones)?;
     numbers.set_result(rd, load_effect(kind));
     Ok(())
 }

@@ -21,7 +21,7 @@ use Rattle.abs_domain.specs.Effects.{fitting}
 use Rattle.abs_domain.specs.Numbers.{NumbersView, table_of}
 use Rattle.abs_domain.specs.Zones.{zones_of, is_inside, spans, zone_right, buffer_zone, buffer_zones, segment_zone, stack_zone, may_write}
 use Rattle.elf_image.specs.Image.{ImageView}
-use Rattle.abs_transfer.specs.Accesses.{unit_reach, sum_form, sharpened_high, met_with_form}
+use Rattle.abs_transfer.specs.Accesses.{unit_reach, sum_form, sharpened, met_with_form}
 use Rattle.linear_facts.specs.LoopForms.{term, IsSize, pointer_form, moved_form}
 use Rattle.cert_maker.specs.Laws.{ReachesEnd}
 use Rattle.cert_maker.proofs.Equalities.{sum_parts, scaled_atom, merged_empty}
@@ -97,7 +97,7 @@ module _ (s : NumbersView) (base w n e v N m p : ℕ) (x vl : ValueView) (is : I
 
   -- the elements of an access end within the buffer
   pub reach_is : unit_reach s w x vl ≡ record { first = base; end = min (base + w * N - w + w * m) (base + w * N) }
-  unfolding unit_reach sharpened_high
+  unfolding unit_reach sharpened
   reach_is =
       rw (is.form, is.range, is.vl_form, is.vl_range, reach_form base w n e v is.size (omega (arith, is.fits)) is.first is.second, fitted)
       (ap (λ (r : Range). record { first = base; end = r.hi }) met)
