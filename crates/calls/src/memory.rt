@@ -85,12 +85,15 @@ fn regions(rt: impl Abort + Copy, alloc: Global) -> Regions {
     }
 }
 
-fn expect_reads(rt: impl Abort + Copy, regions: &Regions) {
+fn expect_numbers(rt: impl Abort + Copy, regions: &Regions) {
     assert_same!(rt; regions.fetch(0x1_0004), Some(0x0807_0605));
     assert_same!(rt; regions.fetch(0x4000_2000), None);
     assert_same!(rt; regions.load(0x4000_2000, 2), Some(0x3231));
     assert_same!(rt; regions.load(0x4000_2002, 2), None);
     assert_same!(rt; regions.byte(0x2fff_ffff), Some(0));
+}
+
+fn expect_windows(rt: impl Abort + Copy, regions: &Regions) {
     assert_same!(rt; regions.permits(Right::Write, 0x2fff_0000, 0x1_0000), true);
     assert_same!(rt; regions.window(0x1_0006, 2), Some([7, 8].as_slice()));
     assert_same!(rt; regions.window(0x1_0006, 3), None);
@@ -100,7 +103,8 @@ fn expect_reads(rt: impl Abort + Copy, regions: &Regions) {
 #[test]
 fn runs_memory(rt: HostRuntime) {
     let mut regions = regions(rt, rt.alloc());
-    expect_reads(rt, &regions);
+    expect_numbers(rt, &regions);
+    expect_windows(rt, &regions);
     assert!(rt; regions.has_window(0x4000_2001, 2));
     regions.set_window(0x4000_2001, &[0x41, 0x42]);
     assert_same!(rt; regions.store(0x4000_2001, 1, 0xffff_ff77), true);

@@ -191,21 +191,32 @@ fn elements_of_two_widths(rt: HostRuntime) {
     }
 }
 
+/// Asserts what the extension of v8's halves gives, with their signs or with zeros.
+fn assert_half_extended(
+    rt: impl Abort + Copy,
+    vectors: &mut VectorState<16>,
+    scalar: &mut Scalar,
+    memory: &mut Regions,
+    signed: bool,
+    expected: u32,
+) {
+    let insn = VArith::Extend {
+        signed,
+        of: Fraction::Half,
+        vd: Reg::new(10),
+        vs2: Reg::new(8),
+        masked: false,
+    };
+    let result = computed(vectors, scalar, memory, insn);
+    assert_same!(rt; result, Ok(expected));
+}
+
 #[test]
 fn a_half_is_extended(rt: HostRuntime) {
     let mut memory = memory(rt, rt.alloc());
     let mut scalar = Scalar::new(0x1000);
     // vsetivli x7,3,e16,m1,ta,ma
     let mut vectors = ready(rt, &mut scalar, &mut memory, 0xcc81_f3d7);
-    for (signed, expected) in [(true, 0xff80), (false, 0x80)] {
-        let insn = VArith::Extend {
-            signed,
-            of: Fraction::Half,
-            vd: Reg::new(10),
-            vs2: Reg::new(8),
-            masked: false,
-        };
-        let result = computed(&mut vectors, &mut scalar, &mut memory, insn);
-        assert_same!(rt; result, Ok(expected));
-    }
+    assert_half_extended(rt, &mut vectors, &mut scalar, &mut memory, true, 0xff80);
+    assert_half_extended(rt, &mut vectors, &mut scalar, &mut memory, false, 0x80);
 }
