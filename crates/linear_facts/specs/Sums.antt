@@ -49,7 +49,8 @@ abbrev pub share : Side → WholeTerm → ℕ
 share Added t = t.plus - t.minus
 share Taken t = t.minus - t.plus
 
--- what the terms with coefficients on this side of 0 come to, without their sign, where atom a is r a
+-- what the terms with coefficients on this side of 0 come to, without their sign, where atom a is
+-- r a
 unfoldable pub shares : Side → (ℕ → ℕ) → List WholeTerm → ℕ
 shares side r [] = 0
 shares side r (t ∷ ts) = share side t * r t.atom + shares side r ts
