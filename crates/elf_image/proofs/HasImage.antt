@@ -1,5 +1,5 @@
 -- A file of which no fault of the segments holds has an image.
-use Rattle.std.proofs.Common.{◌≡◌, ℕ, ◌+◌, ◌%◌, ◌<◌, ◌≤◌, inl, inr, Bool, true, false, cond, not, ◌&&◌, ◌||◌, ltb, leb, eqb, List, [], ◌∷◌, length, drop, map, filter, Option, None, Some, refl, sym, ap, ◌∙◌, arith}
+use Rattle.std.proofs.Common.{◌≡◌, ℕ, ◌+◌, ◌%◌, ◌<◌, ◌≤◌, inl, inr, Bool, true, false, cond, not, ◌&&◌, ◌||◌, ltb, leb, eqb, List, [], ◌∷◌, length, drop, map, filter, None, refl, sym, ap, ◌∙◌, arith}
 use Rattle.std.specs.List.{All, AllByRecursion, list_any, sum_by}
 use Rattle.std.proofs.lemmas.Bool.{and_parts, and_from, and_cases, or_cases, ltb-true, ltb-false, leb-true, eqb-true, lt-ltb, not-false}
 use Rattle.std.proofs.lemmas.List.{length-take, length-map}
@@ -7,9 +7,11 @@ use Rattle.std.proofs.lemmas.List.Elements.{All-from_recursion, All-take, All-dr
 use Rattle.std.proofs.lemmas.List.Sums.{sum_by-cons}
 use Rattle.elf_image.specs.declared.header.ProgramHeader.{ProgramHeader}
 use Rattle.elf_image.specs.declared.layout.TheConstants.{LOW_SEGMENTS, LOW_SEGMENTS_END, HIGH_SEGMENTS, HIGH_SEGMENTS_END, MAX_FILE_SIZE, MAX_SEGMENTS, MAX_MEMORY_SIZE}
+use Rattle.elf_image.specs.declared.error.ElfError.TheVariants.{TooLarge, EntryNotCode}
 use Rattle.elf_image.specs.Image.{SegmentView, IsSegment, IsInPlace, IsApart, AreApart, IsImage, holds_code}
 use Rattle.elf_image.specs.File.{e_entry, is_load, is_note, is_segment, is_writable, is_executable, program_headers, segment_headers, segment_of, image_of, IsInside, IsLoadable, HasImage}
 use Rattle.elf_image.specs.Faults.{is_out_of_file, has_out_of_file, is_between, is_out_of_place, has_out_of_place, overlap, has_overlap, is_write_and_execute, has_write_and_execute, is_too_large, has_word, is_not_code, first_of, place_faults, segment_faults}
+use Rattle.elf_image.proofs.FaultLemmas.{not_told, has_places}
 
 pub neither : (x y : Bool) → (x || y) ≡ false → (x ≡ false) × (y ≡ false)
 neither true y e = absurd cc
@@ -142,29 +144,20 @@ is_image file each apart large code =
       entry_is_code = same_code file (e_entry file) hs ∙ not-false _ c.1;
     }
 
--- a search that found nothing did not pass at its first place
-pub goes_on : {X : Type 0} (b : Bool) (x : X) (rest : Option X) → None ≡ cond b (Some x) rest → (b ≡ false) × (None ≡ rest)
-goes_on true x rest e = absurd cc
-goes_on false x rest e = (refl, e)
-
 -- the bytes of each note segment of a file of which no fault of the headers by themselves holds lie in it
 pub notes_in_place : (file : List ℕ) → None ≡ first_of place_faults file → All (λ h. is_note h ≡ true → IsInside file h) (program_headers file)
 unfolding has_out_of_file
 notes_in_place file e =
-    let a = goes_on _ _ _ e in
-    let b = goes_on _ _ _ a.1 in
-    All-from_recursion _ _ (notes_inside file (program_headers file) b.0)
+    let places = (has_places file [] e).0 in
+    All-from_recursion _ _ (notes_inside file (program_headers file) places.inside)
 
 -- A file of which no fault of the segments holds has an image.
 pub has_image : (file : List ℕ) → AreBytes file → None ≡ first_of segment_faults file → HasImage file
 unfolding has_out_of_file has_out_of_place has_write_and_execute
 has_image file bytes e =
-    let a = goes_on _ _ _ e in
-    let b = goes_on _ _ _ a.1 in
-    let c = goes_on _ _ _ b.1 in
-    let d = goes_on _ _ _ c.1 in
-    let f = goes_on _ _ _ d.1 in
-    let g = goes_on _ _ _ f.1 in
-    let k = goes_on _ _ _ g.1 in
-    let each = each_loadable file (program_headers file) bytes b.0 c.0 f.0 in
-    record { segments = All-from_recursion (IsLoadable file) _ each; notes = All-from_recursion _ _ (notes_inside file (program_headers file) b.0); image = is_image file each d.0 g.0 k.0 }
+    let places = has_places file (TooLarge ∷ EntryNotCode ∷ []) e in
+    let large = not_told _ _ _ places.1 in
+    let code = not_told _ _ _ large.1 in
+    let p = places.0 in
+    let each = each_loadable file (program_headers file) bytes p.inside p.place p.exclusive in
+    record { segments = All-from_recursion (IsLoadable file) _ each; notes = All-from_recursion _ _ (notes_inside file (program_headers file) p.inside); image = is_image file each p.apart large.0 code.0 }

@@ -1,3 +1,4 @@
+pub mod FaultLemmas
 pub mod HasImage
 pub mod Certificates
 pub mod AttachedSize

@@ -21,7 +21,8 @@ use Rattle.elf_image.proofs.HasImage.{neither, inside_file, either_left, either_
 use Rattle.elf_image.proofs.PartLemmas.{same_byte, same_half, same_word}
 use Rattle.elf_image.proofs.NoteLemmas.{read_back}
 use Rattle.elf_image.proofs.PatchedLemmas.{are_beside, kept}
-use Rattle.elf_image.proofs.SoundLemmas.{HasHeader, HasPlaces, IsSound, IsAttached, IsTable, no_fault, is_attached, is_table, room_for}
+use Rattle.elf_image.proofs.FaultLemmas.{HasHeader, HasPlaces}
+use Rattle.elf_image.proofs.SoundLemmas.{IsSound, IsAttached, IsTable, no_fault, is_attached, is_table, room_for}
 use Rattle.elf_image.proofs.AttachedLemmas.{note_header_of, part_of_file, part_kept, offset_is, count_is, headers_are, segments_are, note_is, end}
 
 -- a larger file has no more bytes outside of it

@@ -3,6 +3,7 @@ use Rattle.std.specs.Prelude.{◌≡◌, ℕ, ◌+◌, ◌-◌, ◌%◌, ◌<◌
 use Rattle.std.specs.List.{AllByRecursion, sum_by, list_any}
 use Rattle.std.specs.Option.{option_map}
 use Rattle.byteorder.specs.Endian.{little_from}
+use Rattle.elf_image.specs.declared.segment.Rights.{Rights}
 use Rattle.elf_image.specs.declared.layout.TheConstants.{LOW_SEGMENTS, LOW_SEGMENTS_END, HIGH_SEGMENTS, HIGH_SEGMENTS_END, MAX_SEGMENTS, MAX_MEMORY_SIZE}
 
 -- A segment: the address of its first byte, the bytes that come from the file, and how many bytes
@@ -14,6 +15,17 @@ pub record SegmentView : Type 0 where
   pub read : Bool
   pub write : Bool
   pub execute : Bool
+
+-- the segment with these bytes, this size in memory and these rights at an address
+abbrev pub segment_with : ℕ → List ℕ → ℕ → Rights → SegmentView
+segment_with address bytes memory_size rights = record {
+  address = address;
+  bytes = bytes;
+  memory_size = memory_size;
+  read = rights.read;
+  write = rights.write;
+  execute = rights.execute;
+}
 
 -- What a file becomes in memory.
 pub record ImageView : Type 0 where

@@ -28,27 +28,14 @@ pub struct Segment<A: Allocator = Global> {
 }
 
 impl<A: Allocator> Model for Segment<A> {
-    ghost use Rattle.elf_image.specs.Image.{SegmentView, IsSegment};
+    ghost use Rattle.elf_image.specs.Image.{SegmentView, IsSegment, segment_with};
 
     ghost Value = { SegmentView };
 
-    ghost view = { λ a. record {
-      address = a.address;
-      bytes = a.bytes.items;
-      memory_size = a.memory_size;
-      read = a.rights.read;
-      write = a.rights.write;
-      execute = a.rights.execute;
-    } };
+    ghost view = { λ a. segment_with a.address a.bytes.items a.memory_size a.rights };
 
-    ghost invariant = { λ a. IsSegment (record {
-      address = a.address;
-      bytes = a.bytes.items;
-      memory_size = a.memory_size;
-      read = a.rights.read;
-      write = a.rights.write;
-      execute = a.rights.execute;
-    }) };
+    ghost invariant = { λ a.
+        IsSegment (segment_with a.address a.bytes.items a.memory_size a.rights) };
 }
 
 impl<A: Allocator> Segment<A> {
