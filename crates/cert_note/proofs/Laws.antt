@@ -13,7 +13,6 @@ use Rattle.vreg_groups.specs.VectorType.{vtype_of}
 use Rattle.std.specs.Prelude.{is_some}
 use Rattle.cert_note.specs.Spelling.{half, word, spelled_term, spelled_equality, spelled_fact, spelled_vector, spelled_order, spelled_budget, spelled_vtype, counts, spelled_block}
 use Rattle.cert_note.specs.Reading.{byte_at, number_at, zero_at, zeros_at, term_at, terms_at, sum_at, none_at, some_at, equality_at, fact_at, facts_at, group_at, vector_at, vectors_at, single_at, double_at, budget_at, known_vtype, vtype_at, few_at, order_count_at, counts_at, order_at, orders_at, block_at}
-use Rattle.cert_note.proofs.Lists.{terms_many, facts_many, vectors_many, orders_many}
 use Rattle.cert_note.proofs.Numbers.{IsBytes, bind_ok, expected, found, ok_is, Takes, Takes-then, byte_takes, byte_again, half_takes, half_again, word_takes, word_again, zero_takes, zeros_takes, zeros_again, many_takes, many_again}
 
 pub chosen : {A : Type 0} (b : Bool) (x y z : A) → cond b x y ≡ z → ((b ≡ true) × (x ≡ z)) ⊎ ((b ≡ false) × (y ≡ z))
@@ -51,7 +50,7 @@ sum_takes params count bytes x rest fits e =
     let held : leb count 8 ≡ true = p.0 in
     let few : count ≤ 8 = grind (arith, nat_tests, held) in
     let t0 = word_takes bytes a.0.0 a.0.1 fits a.1 in
-    let t1 = many_takes (terms_at params) (term_at params) after_term spelled_term (IsTerm params) (terms_many params) (term_takes params) count 1 a.0.1 b.0.0 b.0.1 t0.0.rest_fits b.1 in
+    let t1 = many_takes (term_at params) after_term spelled_term (IsTerm params) (term_takes params) count 1 a.0.1 b.0.0 b.0.1 t0.0.rest_fits b.1 in
     let made : Equality × List ℕ = (record { constant = a.0.0; terms = record { items = b.0.0 } }, b.0.1) in
     subst (λ (y : Equality × List ℕ). Takes bytes (word y.0.constant ++ flat_map spelled_term y.0.terms.items) y.1 × (length y.0.terms.items ≡ count) × IsEquality params y.0) (ok_is made (x, rest) b.2)
     (Takes-then bytes (word a.0.0) a.0.1 (flat_map spelled_term b.0.0) b.0.1 t0.0 t1.0, t1.1, record { few = omega (arith, t1.1); constant = t0.1; terms = t1.2 })
@@ -62,7 +61,7 @@ sum_again params x rest is =
     let few : leb (length x.terms.items) 8 ≡ true = grind (arith, nat_tests, is.few) in
     let regrouped : (word x.constant ++ flat_map spelled_term x.terms.items) ++ rest ≡ word x.constant ++ (flat_map spelled_term x.terms.items ++ rest) = append_assoc (word x.constant) (flat_map spelled_term x.terms.items) rest in
     ap (sum_at params (length x.terms.items)) regrouped
-    ∙ rw (few, word_again x.constant (flat_map spelled_term x.terms.items ++ rest) is.constant, many_again (terms_at params) (term_at params) after_term spelled_term (IsTerm params) (terms_many params) (term_again params) 1 x.terms.items rest is.terms) refl
+    ∙ rw (few, word_again x.constant (flat_map spelled_term x.terms.items ++ rest) is.constant, many_again (term_at params) after_term spelled_term (IsTerm params) (term_again params) 1 x.terms.items rest is.terms) refl
 
 pub equality_takes : (params : List Param) (low high : ℕ) (bytes : List ℕ) (x : Option Equality) (rest : List ℕ) → IsBytes bytes → equality_at params low high bytes ≡ Ok (x, rest) →
     Takes bytes (spelled_equality x) rest × SaysMore params low high x
@@ -466,9 +465,9 @@ block_takes version vlen params from bytes x rest fits e =
     let t1 = budget_takes version a.0.1 b.0.0 b.0.1 t0.0.rest_fits b.1 in
     let t2 = vtype_takes b.0.1 c.0.0 c.0.1 t1.0.rest_fits c.1 in
     let t3 = counts_takes version c.0.1 d.0.0 d.0.1 t2.0.rest_fits d.1 in
-    let t4 = many_takes (facts_at params) (fact_at params) after_fact spelled_fact (IsRegisterFact params) (facts_many params) (fact_takes params) d.0.0.registers 1 d.0.1 f.0.0 f.0.1 t3.0.rest_fits f.1 in
-    let t5 = many_takes (vectors_at vlen) (vector_at vlen) after_vector spelled_vector (IsVectorFact vlen) (vectors_many vlen) (vector_takes vlen) d.0.0.vectors 0 f.0.1 g.0.0 g.0.1 t4.0.rest_fits g.1 in
-    let t6 = many_takes (orders_at f.0.0) (order_at f.0.0) after_order spelled_order (IsOrderFact f.0.0) (orders_many f.0.0) (order_takes f.0.0) d.0.0.orders 1 g.0.1 h.0.0 h.0.1 t5.0.rest_fits h.1 in
+    let t4 = many_takes (fact_at params) after_fact spelled_fact (IsRegisterFact params) (fact_takes params) d.0.0.registers 1 d.0.1 f.0.0 f.0.1 t3.0.rest_fits f.1 in
+    let t5 = many_takes (vector_at vlen) after_vector spelled_vector (IsVectorFact vlen) (vector_takes vlen) d.0.0.vectors 0 f.0.1 g.0.0 g.0.1 t4.0.rest_fits g.1 in
+    let t6 = many_takes (order_at f.0.0) after_order spelled_order (IsOrderFact f.0.0) (order_takes f.0.0) d.0.0.orders 1 g.0.1 h.0.0 h.0.1 t5.0.rest_fits h.1 in
     let number = counts version (length f.0.0) (length g.0.0) (length h.0.0) in
     let counted : Takes c.0.1 number d.0.1 = subst (λ (t : List ℕ). Takes c.0.1 t d.0.1) (same_counts version d.0.0.registers d.0.0.vectors d.0.0.orders (length f.0.0) (length g.0.0) (length h.0.0) t4.1 t5.1 t6.1) t3.0 in
     let w = word a.0.0 in
@@ -505,8 +504,8 @@ block_again version vlen params from x rest is =
       budget_again version x.budget typed is.budget (single_of version x is.of),
       vtype_again x.vtype counted is.vtype,
       counts_again version (length x.registers.items) (length x.vectors.items) (length x.orders.items) facts has,
-      many_again (facts_at params) (fact_at params) after_fact spelled_fact (IsRegisterFact params) (facts_many params) (fact_again params) 1 x.registers.items vectors is.registers,
-      many_again (vectors_at vlen) (vector_at vlen) after_vector spelled_vector (IsVectorFact vlen) (vectors_many vlen) (vector_again vlen) 0 x.vectors.items orders is.vectors,
-      many_again (orders_at x.registers.items) (order_at x.registers.items) after_order spelled_order (IsOrderFact x.registers.items) (orders_many x.registers.items) (order_again x.registers.items) 1 x.orders.items rest is.orders,
+      many_again (fact_at params) after_fact spelled_fact (IsRegisterFact params) (fact_again params) 1 x.registers.items vectors is.registers,
+      many_again (vector_at vlen) after_vector spelled_vector (IsVectorFact vlen) (vector_again vlen) 0 x.vectors.items orders is.vectors,
+      many_again (order_at x.registers.items) after_order spelled_order (IsOrderFact x.registers.items) (order_again x.registers.items) 1 x.orders.items rest is.orders,
       is.free,
     ) refl

@@ -1,5 +1,4 @@
 pub mod Loop
-pub mod Lists
 pub mod Equated
 pub mod Numbers
 pub mod Laws

@@ -12,8 +12,8 @@ use Rattle.cert_note.specs.declared.refusals.CertError.{CertError}
 use Rattle.cert_note.specs.declared.refusals.CertError.TheVariants as error
 use Rattle.cert_note.specs.Certificate.{AllFrom}
 use Rattle.cert_note.specs.Spelling.{half, word}
-use Rattle.cert_note.specs.Reading.{◌>>=◌, expect, byte_at, number_at, zero_at, zeros_at}
-use Rattle.cert_note.proofs.Loop.{Many, IsManyOf}
+use Rattle.cert_note.specs.Reading.{◌>>=◌, expect, One, byte_at, number_at, zero_at, zeros_at, many_at}
+use Rattle.cert_note.proofs.Loop.{none, more}
 
 abbrev pub IsBytes : List ℕ → Type 0
 IsBytes bytes = (i : ℕ) → get_or bytes i 0 < 256
@@ -164,24 +164,24 @@ zeros_again fault rest = rw (half_again 0 rest (omega arith)) refl
 
 -- ---- lists
 
-pub many_takes : {A : Type 0} (many : Many A) (one : ℕ → List ℕ → Result (A × List ℕ) CertError) (next : A → ℕ) (spelled : A → List ℕ) (Valid : ℕ → A → Type 0) → IsManyOf many one next →
+pub many_takes : {A : Type 0} (one : One A) (next : A → ℕ) (spelled : A → List ℕ) (Valid : ℕ → A → Type 0) →
     ((from : ℕ) (bytes : List ℕ) (x : A) (rest : List ℕ) → IsBytes bytes → one from bytes ≡ Ok (x, rest) → Takes bytes (spelled x) rest × Valid from x) →
-    (n from : ℕ) (bytes : List ℕ) (xs : List A) (rest : List ℕ) → IsBytes bytes → many n from bytes ≡ Ok (xs, rest) →
+    (n from : ℕ) (bytes : List ℕ) (xs : List A) (rest : List ℕ) → IsBytes bytes → many_at one next n from bytes ≡ Ok (xs, rest) →
     Takes bytes (flat_map spelled xs) rest × (length xs ≡ n) × AllFrom Valid next from xs
-many_takes {A} many one next spelled Valid is each zero from bytes xs rest fits e =
-    subst (λ (y : List A × List ℕ). Takes bytes (flat_map spelled y.0) y.1 × (length y.0 ≡ 0) × AllFrom Valid next from y.0) (ok_is ([], bytes) (xs, rest) (sym (is.none from bytes) ∙ e)) (record { parts = refl; rest_fits = fits }, refl, tt)
-many_takes {A} many one next spelled Valid is each (suc n) from bytes xs rest fits e =
-    let a = bind_ok (one from bytes) _ (xs, rest) (sym (is.more n from bytes) ∙ e) in
-    let b = bind_ok (many n (next a.0.0) a.0.1) (λ others. Ok (a.0.0 ∷ others.0, others.1)) (xs, rest) a.2 in
+many_takes {A} one next spelled Valid each zero from bytes xs rest fits e =
+    subst (λ (y : List A × List ℕ). Takes bytes (flat_map spelled y.0) y.1 × (length y.0 ≡ 0) × AllFrom Valid next from y.0) (ok_is ([], bytes) (xs, rest) (sym (none one next from bytes) ∙ e)) (record { parts = refl; rest_fits = fits }, refl, tt)
+many_takes {A} one next spelled Valid each (suc n) from bytes xs rest fits e =
+    let a = bind_ok (one from bytes) _ (xs, rest) (sym (more one next n from bytes) ∙ e) in
+    let b = bind_ok (many_at one next n (next a.0.0) a.0.1) (λ others. Ok (a.0.0 ∷ others.0, others.1)) (xs, rest) a.2 in
     let first = each from bytes a.0.0 a.0.1 fits a.1 in
-    let second = many_takes many one next spelled Valid is each n (next a.0.0) a.0.1 b.0.0 b.0.1 first.0.rest_fits b.1 in
+    let second = many_takes one next spelled Valid each n (next a.0.0) a.0.1 b.0.0 b.0.1 first.0.rest_fits b.1 in
     let both = Takes-then bytes (spelled a.0.0) a.0.1 (flat_map spelled b.0.0) b.0.1 first.0 second.0 in
     subst (λ (y : List A × List ℕ). Takes bytes (flat_map spelled y.0) y.1 × (length y.0 ≡ suc n) × AllFrom Valid next from y.0) (ok_is (a.0.0 ∷ b.0.0, b.0.1) (xs, rest) b.2) (rw flat_map-cons both, ap suc second.1, (first.1, second.2))
 
-pub many_again : {A : Type 0} (many : Many A) (one : ℕ → List ℕ → Result (A × List ℕ) CertError) (next : A → ℕ) (spelled : A → List ℕ) (Valid : ℕ → A → Type 0) → IsManyOf many one next →
+pub many_again : {A : Type 0} (one : One A) (next : A → ℕ) (spelled : A → List ℕ) (Valid : ℕ → A → Type 0) →
     ((from : ℕ) (x : A) (rest : List ℕ) → Valid from x → one from (spelled x ++ rest) ≡ Ok (x, rest)) →
-    (from : ℕ) (xs : List A) (rest : List ℕ) → AllFrom Valid next from xs → many (length xs) from (flat_map spelled xs ++ rest) ≡ Ok (xs, rest)
-many_again many one next spelled Valid is each from [] rest valid = is.none from rest
-many_again many one next spelled Valid is each from (x ∷ xs) rest valid =
+    (from : ℕ) (xs : List A) (rest : List ℕ) → AllFrom Valid next from xs → many_at one next (length xs) from (flat_map spelled xs ++ rest) ≡ Ok (xs, rest)
+many_again one next spelled Valid each from [] rest valid = none one next from rest
+many_again one next spelled Valid each from (x ∷ xs) rest valid =
     let regrouped : flat_map spelled (x ∷ xs) ++ rest ≡ spelled x ++ (flat_map spelled xs ++ rest) = ap (λ (t : List ℕ). t ++ rest) (flat_map-cons spelled x xs) ∙ append_assoc (spelled x) (flat_map spelled xs) rest in
-    ap (many (suc (length xs)) from) regrouped ∙ is.more (length xs) from (spelled x ++ (flat_map spelled xs ++ rest)) ∙ rw (each from x (flat_map spelled xs ++ rest) valid.0, many_again many one next spelled Valid is each (next x) xs rest valid.1) refl
+    ap (many_at one next (suc (length xs)) from) regrouped ∙ more one next (length xs) from (spelled x ++ (flat_map spelled xs ++ rest)) ∙ rw (each from x (flat_map spelled xs ++ rest) valid.0, many_again one next spelled Valid each (next x) xs rest valid.1) refl

@@ -13,8 +13,7 @@ use Rattle.cert_note.specs.declared.refusals.CertError.TheVariants as error
 use Rattle.vreg_groups.specs.declared.vector_length.Vlen.TheVariants.{V128, V256, V512}
 use Rattle.cert_note.specs.Certificate.{CertificateView, AllFrom, after_block, IsBlock, IsParameter, IsCertificate}
 use Rattle.cert_note.specs.Spelling.{half, word, version_code, vlen_code, header, parameter_of, spelled_parameter, spelled_block, spelling}
-use Rattle.cert_note.specs.Reading.{byte_at, number_at, zero_at, zeros_at, version_of, vlen_of, header_at, mode_of, is_first_number, is_second_number, param_of, parameter_at, parameters_at, block_at, blocks_at, count_at, certificate_of}
-use Rattle.cert_note.proofs.Lists.{blocks_many, parameters_many, parameters_from, parameter_from, after_parameter}
+use Rattle.cert_note.specs.Reading.{byte_at, number_at, zero_at, zeros_at, version_of, vlen_of, header_at, mode_of, is_first_number, is_second_number, param_of, parameter_at, parameters_at, block_at, blocks_at, count_at, certificate_of, parameter_from, after_parameter}
 use Rattle.cert_note.proofs.Numbers.{IsBytes, bind_ok, expected, found, ok_is, Takes, Takes-then, byte_takes, byte_again, half_takes, half_again, word_takes, word_again, zero_takes, zero_again, zeros_takes, zeros_again, many_takes, many_again}
 use Rattle.cert_note.proofs.Laws.{chosen, some_is, block_takes, block_again}
 
@@ -225,9 +224,9 @@ certificate_takes bytes x fits e =
     let p = expected (eqb (length f.0.1) 0) _ _ x f.2 in
     let same = same_params b.0.0 c.0 c.1 in
     let t0 = header_takes bytes a.0.0 a.0.1 fits a.1 in
-    let t1 = many_takes parameters_from parameter_from after_parameter spelled_parameter (λ from q. IsParameter q) parameters_many (λ from bs q r h k. parameter_takes bs q r h k) 8 0 a.0.1 b.0.0 b.0.1 t0.rest_fits b.1 in
+    let t1 = many_takes parameter_from after_parameter spelled_parameter (λ from q. IsParameter q) (λ from bs q r h k. parameter_takes bs q r h k) 8 0 a.0.1 b.0.0 b.0.1 t0.rest_fits b.1 in
     let t2 = count_takes b.0.1 d.0.0 d.0.1 t1.0.rest_fits d.1 in
-    let t3 = many_takes (blocks_at a.0.0.0 a.0.0.1 c.0) (block_at a.0.0.0 a.0.0.1 c.0) after_block (spelled_block a.0.0.0) (IsBlock a.0.0.0 a.0.0.1 c.0) (blocks_many a.0.0.0 a.0.0.1 c.0) (block_takes a.0.0.0 a.0.0.1 c.0) d.0.0 0 d.0.1 f.0.0 f.0.1 t2.0.rest_fits f.1 in
+    let t3 = many_takes (block_at a.0.0.0 a.0.0.1 c.0) after_block (spelled_block a.0.0.0) (IsBlock a.0.0.0 a.0.0.1 c.0) (block_takes a.0.0.0 a.0.0.1 c.0) d.0.0 0 d.0.1 f.0.0 f.0.1 t2.0.rest_fits f.1 in
     let nothing : f.0.1 ≡ [] = nil_from_length f.0.1 (eqb-true (length f.0.1) 0 p.0) in
     let named : Takes a.0.1 (flat_map spelled_parameter c.0) b.0.1 = subst (λ (ps : List Param). Takes a.0.1 (flat_map spelled_parameter ps) b.0.1) same t1.0 in
     let counted : Takes b.0.1 (half (length f.0.0) ++ half 0) d.0.1 = subst (λ (n : ℕ). Takes b.0.1 (half n ++ half 0) d.0.1) (sym t3.1) t2.0 in
@@ -251,9 +250,9 @@ certificate_again x is =
     let counted = half (length x.blocks) ++ (half 0 ++ blocks) in
     let read : parameters_at 8 (flat_map spelled_parameter x.parameters ++ counted) ≡ Ok (x.parameters, counted) =
     subst (λ (n : ℕ). parameters_at n (flat_map spelled_parameter x.parameters ++ counted) ≡ Ok (x.parameters, counted)) is.eight
-    (many_again parameters_from parameter_from after_parameter spelled_parameter (λ from q. IsParameter q) parameters_many (λ from q r h. parameter_again q r h) 0 x.parameters counted (from_all x.parameters is.parameters)) in
+    (many_again parameter_from after_parameter spelled_parameter (λ from q. IsParameter q) (λ from q r h. parameter_again q r h) 0 x.parameters counted (from_all x.parameters is.parameters)) in
     let last : blocks_at x.version x.vlen x.parameters (length x.blocks) 0 blocks ≡ Ok (x.blocks, []) =
-    ap (blocks_at x.version x.vlen x.parameters (length x.blocks) 0) (sym (append-nil blocks)) ∙ many_again (blocks_at x.version x.vlen x.parameters) (block_at x.version x.vlen x.parameters) after_block (spelled_block x.version) (IsBlock x.version x.vlen x.parameters) (blocks_many x.version x.vlen x.parameters) (block_again x.version x.vlen x.parameters) 0 x.blocks [] is.blocks in
+    ap (blocks_at x.version x.vlen x.parameters (length x.blocks) 0) (sym (append-nil blocks)) ∙ many_again (block_at x.version x.vlen x.parameters) after_block (spelled_block x.version) (IsBlock x.version x.vlen x.parameters) (block_again x.version x.vlen x.parameters) 0 x.blocks [] is.blocks in
     ap certificate_of (regroup5 (header x.version x.vlen) (flat_map spelled_parameter x.parameters) (half (length x.blocks)) (half 0) blocks)
     ∙ rw (header_again x.version x.vlen (flat_map spelled_parameter x.parameters ++ counted), read, valid_all x.parameters is.parameters, count_again (length x.blocks) blocks is.few, last) refl
 

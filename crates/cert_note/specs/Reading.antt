@@ -1,5 +1,5 @@
 -- Reading from the first byte to the last, with the first fault that is met.
-use Rattle.std.specs.Prelude.{◌≡◌, ◌⊎◌, ℕ, zero, suc, ◌+◌, ◌%◌, ◌==◌, Bool, true, false, ◌&&◌, ◌||◌, not, nat_le, nat_lt, List, [], ◌∷◌, length, take, drop, Option, Some, None, is_some, Result, Ok, Err, if◌then◌else◌, ok_or}
+use Rattle.std.specs.Prelude.{◌≡◌, ◌⊎◌, ℕ, zero, suc, ◌%◌, ◌==◌, Bool, true, false, ◌&&◌, ◌||◌, not, nat_le, nat_lt, List, [], ◌∷◌, length, take, drop, Option, Some, None, is_some, Result, Ok, Err, if◌then◌else◌, ok_or}
 use Rattle.std.specs.Int.{Width, w16, w32, byte_len, from_le_bytes}
 use Rattle.region_mem.specs.Parameter.{parameters_of}
 use Rattle.region_mem.specs.declared.layout.TheConstants.{MAX_BUFFER_SIZE}
@@ -11,7 +11,7 @@ use Rattle.cert_note.specs.declared.refusals.CertError.TheVariants as error
 use Rattle.cert_note.specs.declared.values.Version.TheVariants.{V1, V2}
 use Rattle.vreg_groups.specs.declared.vector_length.Vlen.TheVariants.{V128, V256, V512}
 use Rattle.vreg_groups.specs.VectorType.{vtype_of}
-use Rattle.cert_note.specs.Certificate.{CertificateView, is_atom, is_full, is_budget, is_second, is_width, is_group, is_count, is_interval, is_greater, is_lesser, are_free}
+use Rattle.cert_note.specs.Certificate.{CertificateView, is_atom, is_full, is_budget, is_second, is_width, is_group, is_count, is_interval, is_greater, is_lesser, are_free, after_term, after_fact, after_vector, after_order, after_block}
 
 infixl 10 ◌>>=◌
 abbrev pub ◌>>=◌ :
@@ -58,6 +58,21 @@ zeros_at fault bytes = do
   number ← number_at w16 bytes
   _ ← expect (number.0 == 0) fault
   Ok number.1
+
+-- Items are read one after the other: how many, from which number on, and the bytes. Each is read
+-- from the number that the one before it leaves.
+abbrev pub One : Type 0 → Type 0
+One A = ℕ → List ℕ → Result (A × List ℕ) CertError
+
+abbrev pub Many : Type 0 → Type 0
+Many A = ℕ → ℕ → List ℕ → Result (List A × List ℕ) CertError
+
+unfoldable pub many_at : {A : Type 0} → One A → (A → ℕ) → Many A
+many_at one next zero from bytes = Ok ([], bytes)
+many_at one next (suc n) from bytes = do
+  first ← one from bytes
+  others ← many_at one next n (next first.0) first.1
+  Ok (first.0 ∷ others.0, others.1)
 
 unfoldable pub version_of : ℕ → Option Version
 version_of number = if number == 1 then Some V1 else (if number == 2 then Some V2 else None)
@@ -107,13 +122,15 @@ parameter_at bytes = do
   _ ← expect (is_second_number kind.0 a.0 b.0) error.Parameter
   Ok (param_of kind.0 mode a.0 b.0, b.1)
 
--- this many parameters
-unfoldable pub parameters_at : ℕ → List ℕ → Result (List Param × List ℕ) CertError
-parameters_at zero bytes = Ok ([], bytes)
-parameters_at (suc n) bytes = do
-  first ← parameter_at bytes
-  others ← parameters_at n first.1
-  Ok (first.0 ∷ others.0, others.1)
+-- this many parameters, each from wherever the one before it ends
+abbrev pub parameter_from : ℕ → List ℕ → Result (Param × List ℕ) CertError
+parameter_from from bytes = parameter_at bytes
+
+abbrev pub after_parameter : Param → ℕ
+after_parameter param = 0
+
+abbrev pub parameters_at : ℕ → List ℕ → Result (List Param × List ℕ) CertError
+parameters_at n bytes = many_at parameter_from after_parameter n 0 bytes
 
 -- a term whose atom is not below a number
 unfoldable pub term_at : List Param → ℕ → List ℕ → Result (EqualityTerm × List ℕ) CertError
@@ -125,13 +142,8 @@ term_at params from bytes = do
   Ok (record { atom = atom.0; coefficient = coefficient.0 }, coefficient.1)
 
 -- terms by rising atom
-unfoldable pub terms_at : List Param → ℕ → ℕ → List ℕ
-    → Result (List EqualityTerm × List ℕ) CertError
-terms_at params zero from bytes = Ok ([], bytes)
-terms_at params (suc n) from bytes = do
-  first ← term_at params from bytes
-  others ← terms_at params n (first.0.atom + 1) first.1
-  Ok (first.0 ∷ others.0, others.1)
+abbrev pub terms_at : List Param → Many EqualityTerm
+terms_at params = many_at (term_at params) after_term
 
 -- an equality of this many terms
 unfoldable pub sum_at : List Param → ℕ → List ℕ → Result (Equality × List ℕ) CertError
@@ -170,13 +182,8 @@ fact_at params from bytes = do
   Ok (record { number = number.0; low = low.0; high = high.0; equality = equality.0 }, equality.1)
 
 -- facts by rising register
-unfoldable pub facts_at :
-    List Param → ℕ → ℕ → List ℕ → Result (List RegisterFact × List ℕ) CertError
-facts_at params zero from bytes = Ok ([], bytes)
-facts_at params (suc n) from bytes = do
-  first ← fact_at params from bytes
-  others ← facts_at params n (first.0.number + 1) first.1
-  Ok (first.0 ∷ others.0, others.1)
+abbrev pub facts_at : List Param → Many RegisterFact
+facts_at params = many_at (fact_at params) after_fact
 
 -- a group whose first register is not below one
 unfoldable pub group_at : ℕ → List ℕ → Result (FactGroup × List ℕ) CertError
@@ -212,12 +219,8 @@ vector_at vlen from bytes = do
   )
 
 -- facts on groups, each behind the one before it
-unfoldable pub vectors_at : Vlen → ℕ → ℕ → List ℕ → Result (List VectorFact × List ℕ) CertError
-vectors_at vlen zero from bytes = Ok ([], bytes)
-vectors_at vlen (suc n) from bytes = do
-  first ← vector_at vlen from bytes
-  others ← vectors_at vlen n (first.0.register + first.0.registers) first.1
-  Ok (first.0 ∷ others.0, others.1)
+abbrev pub vectors_at : Vlen → Many VectorFact
+vectors_at vlen = many_at (vector_at vlen) after_vector
 
 -- a budget of one register
 unfoldable pub single_at : List ℕ → Result (Budget × List ℕ) CertError
@@ -310,13 +313,8 @@ order_at facts from bytes = do
   Ok (record { greater = greater.0; lesser = lesser.0 }, lesser.1)
 
 -- orders by rising greater register
-unfoldable pub orders_at :
-    List RegisterFact → ℕ → ℕ → List ℕ → Result (List OrderFact × List ℕ) CertError
-orders_at facts zero from bytes = Ok ([], bytes)
-orders_at facts (suc n) from bytes = do
-  first ← order_at facts from bytes
-  others ← orders_at facts n (first.0.greater + 1) first.1
-  Ok (first.0 ∷ others.0, others.1)
+abbrev pub orders_at : List RegisterFact → Many OrderFact
+orders_at facts = many_at (order_at facts) after_order
 
 -- a block whose start is not below an address
 unfoldable pub block_at :
@@ -344,13 +342,8 @@ block_at version vlen params from bytes = do
   )
 
 -- blocks by rising start
-unfoldable pub blocks_at :
-    Version → Vlen → List Param → ℕ → ℕ → List ℕ → Result (List Block × List ℕ) CertError
-blocks_at version vlen params zero from bytes = Ok ([], bytes)
-blocks_at version vlen params (suc n) from bytes = do
-  first ← block_at version vlen params from bytes
-  others ← blocks_at version vlen params n (first.0.start + 1) first.1
-  Ok (first.0 ∷ others.0, others.1)
+abbrev pub blocks_at : Version → Vlen → List Param → Many Block
+blocks_at version vlen params = many_at (block_at version vlen params) after_block
 
 unfoldable pub count_at : List ℕ → Result (ℕ × List ℕ) CertError
 count_at bytes = do

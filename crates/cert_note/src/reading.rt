@@ -5,9 +5,9 @@ ghost use Rattle.cert_note.specs.Spelling.{spelling};
 ghost use Rattle.std.specs.List.{list_all, list_any};
 ghost use Rattle.cert_note.specs.Certificate.{view, CertificateView, IsCertificate, is_equated};
 ghost use Rattle.cert_note.specs.Certificate.{has_no_atom, is_greater, is_lesser, are_free};
-ghost use Rattle.cert_note.specs.Reading.{Gives, GivesOrNoMemory, rest_of, terms_at, none_at};
-ghost use Rattle.cert_note.specs.Reading.{some_at, equality_at, fact_at, facts_at, vectors_at};
-ghost use Rattle.cert_note.specs.Reading.{order_at, orders_at, block_at, blocks_at, certificate_of};
+ghost use Rattle.cert_note.specs.Reading.{Gives, GivesOrNoMemory, One, rest_of, none_at};
+ghost use Rattle.cert_note.specs.Reading.{some_at, equality_at, fact_at, many_at};
+ghost use Rattle.cert_note.specs.Reading.{order_at, block_at, blocks_at, certificate_of};
 
 use crate::fields;
 use crate::fields::{byte_at, expect, word_at};
@@ -21,24 +21,119 @@ use region_mem::Parameters;
 use std::alloc::Allocator;
 use vreg_groups::Vlen;
 
-/// Reads so many terms into `terms`, in place of what stood there.
-fn terms_at<'a>(
-    parameters: &Parameters,
+/// What is listed in a certificate, and is read beside a context: each item from a number on, which the one before it leaves.
+trait Item<C>: Default + Drop {
+    ghost one: { C → One Self };
+
+    ghost next: { Self → ℕ };
+
+    fn read<'a>(context: &C, from: u16, bytes: &'a [u8]) -> Result<(Self, &'a [u8]), CertError>
+        ensures { Gives (λ x. (x.0, x.1.now)) result (one context.now from bytes.now) };
+
+    /// The number from which on the item behind this one is read.
+    fn next(&self) -> u16
+        ensures { result ≡ next self.now };
+}
+
+impl Item<Parameters> for EqualityTerm {
+    ghost use Rattle.cert_note.specs.Certificate.{after_term};
+    ghost use Rattle.cert_note.specs.Reading.{term_at};
+
+    ghost one = { term_at };
+
+    ghost next = { after_term };
+
+    fn read<'a>(
+        parameters: &Parameters,
+        from: u16,
+        bytes: &'a [u8],
+    ) -> Result<(Self, &'a [u8]), CertError> {
+        fields::term_at(parameters, from, bytes)
+    }
+
+    fn next(&self) -> u16 {
+        u16::from(self.atom) + 1
+    }
+}
+
+impl Item<Parameters> for RegisterFact {
+    ghost use Rattle.cert_note.specs.Certificate.{after_fact};
+    ghost use Rattle.cert_note.specs.Reading.{fact_at};
+
+    ghost one = { fact_at };
+
+    ghost next = { after_fact };
+
+    fn read<'a>(
+        parameters: &Parameters,
+        from: u16,
+        bytes: &'a [u8],
+    ) -> Result<(Self, &'a [u8]), CertError> {
+        fact_at(parameters, from, bytes)
+    }
+
+    fn next(&self) -> u16 {
+        u16::from(self.number) + 1
+    }
+}
+
+impl Item<Vlen> for VectorFact {
+    ghost use Rattle.cert_note.specs.Certificate.{after_vector};
+    ghost use Rattle.cert_note.specs.Reading.{vector_at};
+
+    ghost one = { vector_at };
+
+    ghost next = { after_vector };
+
+    fn read<'a>(vlen: &Vlen, from: u16, bytes: &'a [u8]) -> Result<(Self, &'a [u8]), CertError> {
+        fields::vector_at(*vlen, from, bytes)
+    }
+
+    fn next(&self) -> u16 {
+        u16::from(self.register) + u16::from(self.registers)
+    }
+}
+
+impl Item<ArrayVec<RegisterFact, 32>> for OrderFact {
+    ghost use Rattle.cert_note.specs.Certificate.{after_order};
+    ghost use Rattle.cert_note.specs.Reading.{order_at};
+
+    ghost one = { λ facts. order_at facts.items };
+
+    ghost next = { after_order };
+
+    fn read<'a>(
+        facts: &ArrayVec<RegisterFact, 32>,
+        from: u16,
+        bytes: &'a [u8],
+    ) -> Result<(Self, &'a [u8]), CertError> {
+        order_at(facts.as_slice(), from, bytes)
+    }
+
+    fn next(&self) -> u16 {
+        u16::from(self.greater) + 1
+    }
+}
+
+/// Reads so many items from a number on into `items`, in place of what stood there.
+fn many_at<'a, C, T: Item<C>, const MOST: usize>(
+    context: &C,
     count: u8,
+    first: u16,
     bytes: &'a [u8],
-    terms: &mut ArrayVec<EqualityTerm, 8>,
+    items: &mut ArrayVec<T, MOST>,
 ) -> Result<&'a [u8], CertError>
-    requires { count ≤ 8 }
-    ensures { Gives (λ x. (terms.new.items, x.now)) result
-        (terms_at parameters.now count 1 bytes.now) }
+    requires { count ≤ MOST }
+    ensures { Gives (λ x. (items.new.items, x.now)) result
+        (many_at (T.one context.now) T.next count first bytes.now) }
 {
-    terms.clear();
-    let mut from = 1;
+    items.clear();
+    let mut from = first;
     let mut rest = bytes;
     for _ in 0..count {
-        let (term, after) = fields::term_at(parameters, from, rest)?;
-        terms.push(term);
-        from = term.atom as u16 + 1;
+        let (item, after) = T::read(context, from, rest)?;
+        from = item.next();
+        items.push(item);
         rest = after;
     }
     Ok(rest)
@@ -72,7 +167,7 @@ fn some_at<'a>(
     expect(count <= 8, CertError::Equality)?;
     let (constant, rest) = word_at(bytes)?;
     let mut terms = ArrayVec::new();
-    let rest = terms_at(parameters, count, rest, &mut terms)?;
+    let rest = many_at(parameters, count, 1, rest, &mut terms)?;
     *equality = Some(Equality { constant, terms });
     Ok(rest)
 }
@@ -96,16 +191,15 @@ fn equality_at<'a>(
     }
 }
 
-/// Reads a fact on a register into `fact`, in place of what stood there.
 #[tactic(auto, unfolding(crate::specs::Reading::fact_at))]
 fn fact_at<'a>(
     parameters: &Parameters,
     from: u16,
     bytes: &'a [u8],
-    fact: &mut RegisterFact,
-) -> Result<&'a [u8], CertError>
-    ensures { Gives (λ x. (fact.new, x.now)) result (fact_at parameters.now from bytes.now) }
+) -> Result<(RegisterFact, &'a [u8]), CertError>
+    ensures { Gives (λ x. (x.0, x.1.now)) result (fact_at parameters.now from bytes.now) }
 {
+    let mut fact = RegisterFact::default();
     let (number, rest) = byte_at(bytes)?;
     expect(from <= number as u16 && number <= 32, CertError::Fact)?;
     fact.number = number;
@@ -114,52 +208,8 @@ fn fact_at<'a>(
     let (high, rest) = word_at(rest)?;
     expect(low <= high, CertError::Fact)?;
     fact.high = high;
-    equality_at(parameters, low, high, rest, &mut fact.equality)
-}
-
-/// Reads so many facts on registers into `facts`, in place of what stood there.
-fn facts_at<'a>(
-    parameters: &Parameters,
-    count: u8,
-    bytes: &'a [u8],
-    facts: &mut ArrayVec<RegisterFact, 32>,
-) -> Result<&'a [u8], CertError>
-    requires { count ≤ 32 }
-    ensures { Gives (λ x. (facts.new.items, x.now)) result
-        (facts_at parameters.now count 1 bytes.now) }
-{
-    facts.clear();
-    let mut from = 1;
-    let mut rest = bytes;
-    for _ in 0..count {
-        let mut fact = RegisterFact::default();
-        rest = fact_at(parameters, from, rest, &mut fact)?;
-        from = fact.number as u16 + 1;
-        facts.push(fact);
-    }
-    Ok(rest)
-}
-
-/// Reads so many facts on vector registers into `facts`, in place of what stood there.
-fn vectors_at<'a>(
-    vlen: Vlen,
-    count: u8,
-    bytes: &'a [u8],
-    facts: &mut ArrayVec<VectorFact, 32>,
-) -> Result<&'a [u8], CertError>
-    requires { count ≤ 32 }
-    ensures { Gives (λ x. (facts.new.items, x.now)) result (vectors_at vlen count 0 bytes.now) }
-{
-    facts.clear();
-    let mut from = 0;
-    let mut rest = bytes;
-    for _ in 0..count {
-        let (fact, after) = fields::vector_at(vlen, from, rest)?;
-        from = fact.register as u16 + fact.registers as u16;
-        facts.push(fact);
-        rest = after;
-    }
-    Ok(rest)
+    let rest = equality_at(parameters, low, high, rest, &mut fact.equality)?;
+    Ok((fact, rest))
 }
 
 #[tactic(auto, unfolding(crate::specs::Certificate::is_equated))]
@@ -254,29 +304,6 @@ fn order_at<'a>(
     Ok((OrderFact { greater, lesser }, rest))
 }
 
-/// Reads so many orders into `orders`, in place of what stood there.
-fn orders_at<'a>(
-    facts: &[RegisterFact],
-    count: u8,
-    bytes: &'a [u8],
-    orders: &mut ArrayVec<OrderFact, 32>,
-) -> Result<&'a [u8], CertError>
-    requires { count ≤ 32 }
-    ensures { Gives (λ x. (orders.new.items, x.now)) result
-        (orders_at facts.now count 1 bytes.now) }
-{
-    orders.clear();
-    let mut from = 1;
-    let mut rest = bytes;
-    for _ in 0..count {
-        let (order, after) = order_at(facts, from, rest)?;
-        from = order.greater as u16 + 1;
-        orders.push(order);
-        rest = after;
-    }
-    Ok(rest)
-}
-
 /// Reads a block into `block`, in place of what stood there.
 #[tactic(auto, unfolding(crate::specs::Reading::block_at))]
 fn block_at<'a>(
@@ -298,11 +325,10 @@ fn block_at<'a>(
     let (vtype, rest) = fields::vtype_at(rest)?;
     block.vtype = vtype;
     let (counts, rest) = fields::counts_at(version, rest)?;
-    let rest = facts_at(parameters, counts.registers, rest, &mut block.registers)?;
-    let rest = vectors_at(vlen, counts.vectors, rest, &mut block.vectors)?;
-    let facts = block.registers.as_slice();
-    let rest = orders_at(facts, counts.orders, rest, &mut block.orders)?;
-    expect(are_free(facts), CertError::Equality)?;
+    let rest = many_at(parameters, counts.registers, 1, rest, &mut block.registers)?;
+    let rest = many_at(&vlen, counts.vectors, 0, rest, &mut block.vectors)?;
+    let rest = many_at(&block.registers, counts.orders, 1, rest, &mut block.orders)?;
+    expect(are_free(block.registers.as_slice()), CertError::Equality)?;
     Ok(rest)
 }
 
