@@ -6,7 +6,7 @@ ghost use Rattle.std.specs.List.{list_all, list_any};
 ghost use Rattle.cert_note.specs.Certificate.{view, CertificateView, IsCertificate, is_equated};
 ghost use Rattle.cert_note.specs.Certificate.{has_no_atom, is_greater, is_lesser, are_free};
 ghost use Rattle.cert_note.specs.Reading.{Gives, GivesOrNoMemory, One, rest_of, none_at};
-ghost use Rattle.cert_note.specs.Reading.{some_at, equality_at, fact_at, many_at};
+ghost use Rattle.cert_note.specs.Reading.{some_at, equality_at, many_at};
 ghost use Rattle.cert_note.specs.Reading.{order_at, block_at, blocks_at, certificate_of};
 
 use crate::fields;
@@ -21,13 +21,16 @@ use region_mem::Parameters;
 use std::alloc::Allocator;
 use vreg_groups::Vlen;
 
+/// What is read, and the bytes behind it.
+type Read<'a, T> = Result<(T, &'a [u8]), CertError>;
+
 /// What is listed in a certificate, and is read beside a context: each item from a number on, which the one before it leaves.
 trait Item<C>: Default + Drop {
     ghost one: { C → One Self };
 
     ghost next: { Self → ℕ };
 
-    fn read<'a>(context: &C, from: u16, bytes: &'a [u8]) -> Result<(Self, &'a [u8]), CertError>
+    fn read<'a>(context: &C, from: u16, bytes: &'a [u8]) -> Read<'a, Self>
         ensures { Gives (λ x. (x.0, x.1.now)) result (one context.now from bytes.now) };
 
     /// The number from which on the item behind this one is read.
@@ -43,11 +46,7 @@ impl Item<Parameters> for EqualityTerm {
 
     ghost next = { after_term };
 
-    fn read<'a>(
-        parameters: &Parameters,
-        from: u16,
-        bytes: &'a [u8],
-    ) -> Result<(Self, &'a [u8]), CertError> {
+    fn read<'a>(parameters: &Parameters, from: u16, bytes: &'a [u8]) -> Read<'a, Self> {
         fields::term_at(parameters, from, bytes)
     }
 
@@ -64,12 +63,19 @@ impl Item<Parameters> for RegisterFact {
 
     ghost next = { after_fact };
 
-    fn read<'a>(
-        parameters: &Parameters,
-        from: u16,
-        bytes: &'a [u8],
-    ) -> Result<(Self, &'a [u8]), CertError> {
-        fact_at(parameters, from, bytes)
+    #[tactic(auto, unfolding(crate::specs::Reading::fact_at))]
+    fn read<'a>(parameters: &Parameters, from: u16, bytes: &'a [u8]) -> Read<'a, Self> {
+        let mut fact = RegisterFact::default();
+        let (number, rest) = byte_at(bytes)?;
+        expect(from <= number as u16 && number <= 32, CertError::Fact)?;
+        fact.number = number;
+        let (low, rest) = word_at(rest)?;
+        fact.low = low;
+        let (high, rest) = word_at(rest)?;
+        expect(low <= high, CertError::Fact)?;
+        fact.high = high;
+        let rest = equality_at(parameters, low, high, rest, &mut fact.equality)?;
+        Ok((fact, rest))
     }
 
     fn next(&self) -> u16 {
@@ -85,7 +91,7 @@ impl Item<Vlen> for VectorFact {
 
     ghost next = { after_vector };
 
-    fn read<'a>(vlen: &Vlen, from: u16, bytes: &'a [u8]) -> Result<(Self, &'a [u8]), CertError> {
+    fn read<'a>(vlen: &Vlen, from: u16, bytes: &'a [u8]) -> Read<'a, Self> {
         fields::vector_at(*vlen, from, bytes)
     }
 
@@ -102,11 +108,7 @@ impl Item<ArrayVec<RegisterFact, 32>> for OrderFact {
 
     ghost next = { after_order };
 
-    fn read<'a>(
-        facts: &ArrayVec<RegisterFact, 32>,
-        from: u16,
-        bytes: &'a [u8],
-    ) -> Result<(Self, &'a [u8]), CertError> {
+    fn read<'a>(facts: &ArrayVec<RegisterFact, 32>, from: u16, bytes: &'a [u8]) -> Read<'a, Self> {
         order_at(facts.as_slice(), from, bytes)
     }
 
@@ -189,27 +191,6 @@ fn equality_at<'a>(
     } else {
         some_at(parameters, count, rest, equality)
     }
-}
-
-#[tactic(auto, unfolding(crate::specs::Reading::fact_at))]
-fn fact_at<'a>(
-    parameters: &Parameters,
-    from: u16,
-    bytes: &'a [u8],
-) -> Result<(RegisterFact, &'a [u8]), CertError>
-    ensures { Gives (λ x. (x.0, x.1.now)) result (fact_at parameters.now from bytes.now) }
-{
-    let mut fact = RegisterFact::default();
-    let (number, rest) = byte_at(bytes)?;
-    expect(from <= number as u16 && number <= 32, CertError::Fact)?;
-    fact.number = number;
-    let (low, rest) = word_at(rest)?;
-    fact.low = low;
-    let (high, rest) = word_at(rest)?;
-    expect(low <= high, CertError::Fact)?;
-    fact.high = high;
-    let rest = equality_at(parameters, low, high, rest, &mut fact.equality)?;
-    Ok((fact, rest))
 }
 
 #[tactic(auto, unfolding(crate::specs::Certificate::is_equated))]
