@@ -2,6 +2,7 @@
 -- at its start.
 use Rattle.std.proofs.Common.{◌≡◌, ◌<◌, ◌≤◌, ◌+◌, ◌-◌, ◌*◌, ◌/◌, ◌==◌, ◌&&◌, ◌||◌, ℕ, zero, suc, Bool, true, false, arith, refl, sym, ap, ◌∙◌, subst, List, [], ◌∷◌, ◌++◌, length, map, take, drop, add-one, inl, Option, Some, None, Result, Ok, Err, find, is_some, if◌then◌else◌}
 use Rattle.std.specs.Prelude.{IfErr, IsTrue, nat_le, nat_lt, slice_set}
+use Rattle.std.specs.Bool.{then_some}
 use Rattle.std.specs.List.{position_or_len, slice_get, range_with_len}
 use Rattle.std.specs.Option.{option_map}
 use Rattle.std.proofs.lemmas.List.{take_more_set}
@@ -20,6 +21,7 @@ use Rattle.elf_image.specs.Image.{ImageView, code_at}
 use Rattle.rv_decode.specs.Decode.{meaning_of}
 use Rattle.abs_domain.specs.declared.why.Why.{Why}
 use Rattle.abs_domain.specs.declared.why.Why.TheVariants as why
+use Rattle.abs_state.specs.declared.state.TheConstants.{MOST_WORDS}
 use Rattle.abs_state.specs.State.{AbstractView}
 use Rattle.linear_facts.specs.declared.ranges.Range.{Range}
 use Rattle.abs_domain.specs.Numbers.{value_at}
@@ -227,6 +229,11 @@ pub before_unplaced : (image : ImageView) (certificate : CertificateView) (start
 unfolding before_in
 before_unplaced image certificate start pc none = rw (place_none start certificate.blocks none) refl
 
+-- what bool's then_some gives, as contracts here say it
+pub then_is : {A : Type 0} (b : Bool) (a : A) → then_some b a ≡ (if b then Some a else None)
+then_is true a = refl
+then_is false a = refl
+
 -- where no word comes before, none comes behind
 pub behind_none : (image : ImageView) (certificate : CertificateView) (start pc : ℕ) → before_in image certificate (part.Block start) pc ≡ None
     → behind_in image certificate (part.Block start) pc ≡ None
@@ -362,15 +369,15 @@ entry_stops image certificate error stop pc a known place address refused state 
 
 -- what the walk of a block answers, the block does
 pub block_answers : (image : ImageView) (certificate : CertificateView) (block : Block) (start : ℕ) (a : AbstractView) (answer : Checked)
-    → start ≡ block.start → a ≡ at_block_of image certificate block → answer ≡ walk image certificate 4096 start a
+    → start ≡ block.start → a ≡ at_block_of image certificate block → answer ≡ walk image certificate MOST_WORDS start a
     → answer ≡ block_passes image certificate block
 unfolding block_passes
 block_answers image certificate block start a answer same state is =
-    is ∙ (ap (λ (n : ℕ). walk image certificate 4096 n a) same ∙ ap (λ (b : AbstractView). walk image certificate 4096 block.start b) state)
+    is ∙ (ap (λ (n : ℕ). walk image certificate MOST_WORDS n a) same ∙ ap (λ (b : AbstractView). walk image certificate MOST_WORDS block.start b) state)
 
 pub block_told : (image : ImageView) (certificate : CertificateView) (n : ℕ) (block : Block) (start : ℕ) (a : AbstractView) (error : CheckError) (stop : Stop)
     → IsCertificate certificate → slice_get certificate.blocks n ≡ Some block → start ≡ block.start → a ≡ at_block_of image certificate block
-    → Err error ≡ walk image certificate 4096 start a → StopsWalk image certificate start a error stop → IsStop image certificate error stop
+    → Err error ≡ walk image certificate MOST_WORDS start a → StopsWalk image certificate start a error stop → IsStop image certificate error stop
 block_told image certificate n block start a error stop is there same state refused stops =
     block_stops image certificate n block error stop is there (sym (block_answers image certificate block start a (Err error) same state refused))
     (subst (λ (m : ℕ). StopsWalk image certificate m (at_block_of image certificate block) error stop) same

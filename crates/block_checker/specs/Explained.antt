@@ -9,6 +9,7 @@ use Rattle.rv_decode.specs.declared.instructions.Insn.{Insn}
 use Rattle.linear_facts.specs.declared.ranges.Range.{Range}
 use Rattle.abs_domain.specs.Numbers.{value_at}
 use Rattle.abs_domain.specs.declared.why.Why.{Why}
+use Rattle.abs_state.specs.declared.state.TheConstants.{MOST_WORDS}
 use Rattle.abs_state.specs.After.{after_of}
 use Rattle.abs_state.specs.Blocks.{at_block_of, at_entry_of}
 use Rattle.abs_state.specs.Branches.{EdgeView, refined}
@@ -65,7 +66,7 @@ place_in address blocks = position (λ block. block.start == address) blocks
 unfoldable pub before_word : ImageView → CertificateView → ℕ → ℕ → AbstractView
     → Option AbstractView
 before_word image certificate start pc a =
-    if nat_lt ((pc - start) / 4) 4096 then known_before image certificate start a ((pc - start) / 4)
+    if nat_lt ((pc - start) / 4) MOST_WORDS then known_before image certificate start a ((pc - start) / 4)
     else None
 
 abbrev pub before_in_block : ImageView → CertificateView → ℕ → Block → Option AbstractView

@@ -17,7 +17,7 @@ ghost use Rattle.block_checker.specs.Passes.{blocks_pass as blocks_pass_of};
 ghost use Rattle.block_checker.specs.Passes.{entry_passes as entry_passes_of};
 ghost use Rattle.block_checker.specs.Passes.{checked as checked_of};
 ghost use Rattle.block_checker.specs.Accepted.{IsAnswer};
-ghost use Rattle.block_checker.specs.Walking.{IsCountBelow, progress_of};
+ghost use Rattle.block_checker.specs.Walking.{IsCountBelow, is_exit, is_fork_exit, progress_of};
 
 use crate::errors::{CheckError, told};
 use abs_state::{Abstract, Edge, MOST_WORDS, implies};
@@ -79,25 +79,34 @@ fn block_for<C: Allocator>(certificate: &Certificate<C>, target: Option<u32>) ->
     }
 }
 
-/// Whether the word is a branch, which has two ways out.
-#[tactic(auto, unfolding(crate::specs::Passes::is_branch, crate::specs::Passes::is_branch_insn))]
-fn is_branch(insn: &Insn) -> bool
-    ensures { result ≡ is_branch_of insn.now }
+/// How a word leads on.
+#[derive(Clone, Copy, Debug, PartialEq, Eq)]
+pub(crate) enum Exits {
+    /// To the next word alone.
+    Next,
+    /// Elsewhere, one way: a jump or ecall.
+    Jump,
+    /// Two ways: a branch.
+    Fork,
+}
+
+#[tactic(auto, unfolding(crate::specs::Passes::is_branch, crate::specs::Passes::is_branch_insn, abs_state::specs::StepLaws::jumps))]
+fn exits_of(insn: &Insn) -> Exits
+    ensures branch { is_fork_exit result ≡ is_branch_of insn.now }
+    ensures jump { is_exit result ≡ jumps insn.now }
 {
     match *insn {
         Insn::Scalar(insn) => match insn {
-            ScalarInsn::Branch { .. } => true,
+            ScalarInsn::Branch { .. } => Exits::Fork,
+            ScalarInsn::Jal { .. } | ScalarInsn::Jalr { .. } | ScalarInsn::Ecall => Exits::Jump,
             ScalarInsn::Lui { .. }
             | ScalarInsn::Auipc { .. }
-            | ScalarInsn::Jal { .. }
-            | ScalarInsn::Jalr { .. }
             | ScalarInsn::Load { .. }
             | ScalarInsn::Store { .. }
             | ScalarInsn::Immediate { .. }
             | ScalarInsn::ShiftImmediate { .. }
             | ScalarInsn::Register { .. }
-            | ScalarInsn::Fence
-            | ScalarInsn::Ecall => false,
+            | ScalarInsn::Fence => Exits::Next,
         },
         Insn::Csr(_)
         | Insn::VSet(_)
@@ -106,38 +115,27 @@ fn is_branch(insn: &Insn) -> bool
         | Insn::VPerm(_)
         | Insn::VReduce(_)
         | Insn::VMem(_)
-        | Insn::VMove(_) => false,
+        | Insn::VMove(_) => Exits::Next,
+    }
+}
+
+/// Whether the word is a branch, which has two ways out.
+fn is_branch(insn: &Insn) -> bool
+    ensures { result ≡ is_branch_of insn.now }
+{
+    match exits_of(insn) {
+        Exits::Fork => true,
+        Exits::Next | Exits::Jump => false,
     }
 }
 
 /// Whether the word ends a block: a branch, a jump or ecall.
-#[tactic(auto, unfolding(abs_state::specs::StepLaws::jumps))]
 fn is_jump(insn: &Insn) -> bool
     ensures { result ≡ jumps insn.now }
 {
-    match *insn {
-        Insn::Scalar(insn) => match insn {
-            ScalarInsn::Branch { .. }
-            | ScalarInsn::Jal { .. }
-            | ScalarInsn::Jalr { .. }
-            | ScalarInsn::Ecall => true,
-            ScalarInsn::Lui { .. }
-            | ScalarInsn::Auipc { .. }
-            | ScalarInsn::Load { .. }
-            | ScalarInsn::Store { .. }
-            | ScalarInsn::Immediate { .. }
-            | ScalarInsn::ShiftImmediate { .. }
-            | ScalarInsn::Register { .. }
-            | ScalarInsn::Fence => false,
-        },
-        Insn::Csr(_)
-        | Insn::VSet(_)
-        | Insn::VArith(_)
-        | Insn::VMask(_)
-        | Insn::VPerm(_)
-        | Insn::VReduce(_)
-        | Insn::VMem(_)
-        | Insn::VMove(_) => false,
+    match exits_of(insn) {
+        Exits::Jump | Exits::Fork => true,
+        Exits::Next => false,
     }
 }
 

@@ -94,7 +94,7 @@ fn walk<A: Allocator, B: Allocator, C: Allocator>(
     state: &mut Abstract<A>,
 ) -> Result<(), (CheckError, Stop)>
     requires { state.old.words ≡ 0 }
-    ensures answer { walk_answer result ≡ walk_of image.now certificate.now 4096 start state.old }
+    ensures answer { walk_answer result ≡ walk_of image.now certificate.now MOST_WORDS start state.old }
     ensures stop { IfErr result (λ e. StopsWalk image.now certificate.now start state.old e.0 e.1) }
 {
     let mut pc = start;
@@ -231,7 +231,7 @@ fn take_words<A: Allocator, B: Allocator, C: Allocator>(
     state: &mut Abstract<A>,
 ) -> bool
     requires begins { state.old.words ≡ 0 }
-    requires few { count < 4096 }
+    requires few { count < MOST_WORDS }
     ensures known { (if result then Some state.new else None)
         ≡ known_before image.now certificate.now start state.old count }
     ensures counts { result ≡ true → state.new.words ≡ count }
@@ -259,7 +259,7 @@ fn take_before<A: Allocator, B: Allocator, C: Allocator>(
     requires { state.old.words ≡ 0 }
     ensures known { (if result then Some state.new else None)
         ≡ before_word_of image.now certificate.now start pc state.old }
-    ensures counts { result ≡ true → state.new.words < 4096 }
+    ensures counts { result ≡ true → state.new.words < MOST_WORDS }
 {
     let count = pc.saturating_sub(start) / 4;
     if count < MOST_WORDS {
@@ -279,17 +279,13 @@ fn before_in_block<A: Allocator + Copy, B: Allocator, C: Allocator>(
 ) -> Result<Option<Abstract<A>>, AllocError>
     ensures known { IfOk result (λ told.
         told ≡ before_in_of image.now certificate.now (part.Block start) pc) }
-    ensures counts { IfOk result (λ told. IfSome told (λ a. a.words < 4096)) }
+    ensures counts { IfOk result (λ told. IfSome told (λ a. a.words < MOST_WORDS)) }
 {
     let Some(index) = place_of(certificate, start) else {
         return Ok(None);
     };
     let mut state = Abstract::at_block(alloc, certificate, image, index)?;
-    if take_before(image, certificate, start, pc, &mut state) {
-        Ok(Some(state))
-    } else {
-        Ok(None)
-    }
+    Ok(take_before(image, certificate, start, pc, &mut state).then_some(state))
 }
 
 /// What is known before the word at which a check stopped, or where a run begins.
@@ -318,7 +314,7 @@ pub fn state_before<A: Allocator + Copy, B: Allocator, C: Allocator>(
 /// Takes the word at pc. The answer is whether it is code, means an instruction, and is allowed.
 #[tactic(auto, unfolding(crate::specs::Explained::behind_word))]
 fn take_word<A: Allocator, B: Allocator>(image: &Image<B>, pc: u32, state: &mut Abstract<A>) -> bool
-    requires { state.old.words < 4096 }
+    requires { state.old.words < MOST_WORDS }
     ensures { (if result then Some state.new else None)
         ≡ behind_word_of image.now pc state.old }
 {
@@ -331,27 +327,6 @@ fn take_word<A: Allocator, B: Allocator>(image: &Image<B>, pc: u32, state: &mut 
     match state.after(pc, &insn) {
         Ok(()) => true,
         Err(_) => false,
-    }
-}
-
-/// What is known behind the word at pc in the block that begins at an address, if the word is allowed.
-fn behind_in_block<A: Allocator + Copy, B: Allocator, C: Allocator>(
-    alloc: A,
-    image: &Image<B>,
-    certificate: &Certificate<C>,
-    start: u32,
-    pc: u32,
-) -> Result<Option<Abstract<A>>, AllocError>
-    ensures { IfOk result (λ told.
-        told ≡ behind_in_of image.now certificate.now (part.Block start) pc) }
-{
-    let Some(mut state) = before_in_block(alloc, image, certificate, start, pc)? else {
-        return Ok(None);
-    };
-    if take_word(image, pc, &mut state) {
-        Ok(Some(state))
-    } else {
-        Ok(None)
     }
 }
 
@@ -372,7 +347,12 @@ pub fn state_behind<A: Allocator + Copy, B: Allocator, C: Allocator>(
 {
     match part {
         Part::Entry => state_before(alloc, image, certificate, part, pc),
-        Part::Block(start) => behind_in_block(alloc, image, certificate, start, pc),
+        Part::Block(start) => {
+            let Some(mut state) = before_in_block(alloc, image, certificate, start, pc)? else {
+                return Ok(None);
+            };
+            Ok(take_word(image, pc, &mut state).then_some(state))
+        }
     }
 }
 

@@ -1,3 +1,4 @@
+use Rattle.abs_state.specs.declared.state.TheConstants.{MOST_WORDS}
 use Rattle.std.proofs.Common.{◌<◌, rules, arith, refl, sym, ◌∙◌}
 use Rattle.block_checker.proofs.Walks.{walk_more, walk_refused}
 use Rattle.block_checker.proofs.Explaining.{known_next, stops_at, word_there}
@@ -5,7 +6,7 @@ use Rattle.block_checker.proofs.explanation.walk.Goals as goal
 
 pub returns-in-Err-clause-answer : goal.returns-in-Err-clause-answer
 returns-in-Err-clause-answer g c =
-    let l : c.loop-steps._steps < 4096 = first_of (search rules, omega (arith, c.loop-steps-test.true)) in
+    let l : c.loop-steps._steps < MOST_WORDS = first_of (search rules, omega (arith, c.loop-steps-test.true)) in
     sym (walk_refused c.args.image.now c.args.certificate.now c.loop-steps._steps c.loop-steps.pc c.loop-steps.state c.in-Err.error l
     (sym c.in-Err.ensures.value))
     ∙ c.loop-steps.invariant.rest
@@ -19,7 +20,7 @@ returns-in-Err-clause-stop g c =
 
 pub loop-steps-preserved : goal.loop-steps-preserved
 loop-steps-preserved g c =
-    let l : c.loop-steps._steps < 4096 = first_of (search rules, omega (arith, c.loop-steps-test.true)) in
+    let l : c.loop-steps._steps < MOST_WORDS = first_of (search rules, omega (arith, c.loop-steps-test.true)) in
     let value = rw c.in-Ok-On.field-0-is at c.in-Ok-On.ensures.value in
     let counts = rw c.in-Ok-On.field-0-is at c.in-Ok-On.ensures.counts in
     record {
