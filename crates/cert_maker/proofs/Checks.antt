@@ -188,6 +188,34 @@ module _ (image : ImageView) (params : List Param) (vlen : Vlen) (through : Loop
   unfolding last_block_of
   returns blocks = returns-pass image (view_of vlen params blocks) (start + 4 * words) read.last read.last_at read.last_is
 
+  -- ---- of blocks of which the first leads to the loop, where it is entered, and to the last
+
+  there : (blocks : List Block) → block_at (start + 4 * words) blocks ≡ Some last_block_of → (1 ≤ through.0.most → block_at start blocks ≡ Some loop_block_of)
+      → AreThere (view_of vlen params blocks) k (offset_by image.entry read.first_is.offset) (next_word image.entry)
+  unfolding loop_block_of last_block_of
+  there blocks last loop = record {
+    end = end_there;
+    end_at = last;
+    end_other = λ e. (let small = low in omega (arith, e, small));
+    loop = next_there;
+    loop_at = loop;
+    loop_other = λ e. (let small = low in omega (arith, e, small));
+  }
+
+  first_goes : (blocks : List Block) → AreThere (view_of vlen params blocks) k (offset_by image.entry read.first_is.offset) (next_word image.entry)
+      → block_passes image (view_of vlen params blocks) first_block_of ≡ Ok tt
+  unfolding first_block_of
+  first_goes blocks are_there = first_passes k is_entered vlen blocks image.entry read.first_is.offset first_at are_there
+
+  enters : (blocks : List Block) → block_at image.entry blocks ≡ Some first_block_of → entry_passes image (view_of vlen params blocks) ≡ Ok tt
+  unfolding first_block_of
+  enters blocks first = entered_there k is_entered vlen blocks (λ e. (let small = low in omega (arith, e, small))) first
+
+  pass : (blocks : List Block) → certificate_of image params vlen through.0 words ≡ view_of vlen params blocks → block_at image.entry blocks ≡ Some first_block_of
+      → blocks_pass image (view_of vlen params blocks) blocks ≡ Ok tt → checked image (certificate_of image params vlen through.0 words) vlen ≡ Ok tt
+  pass blocks same first go =
+      subst (λ (c : CertificateView). checked image c vlen ≡ Ok tt) (sym same) (all_checked image vlen params blocks (enters blocks first) go)
+
   -- ---- where there is something to do
 
   module _ (some : 1 ≤ through.0.most) where
@@ -227,42 +255,24 @@ module _ (image : ImageView) (params : List Param) (vlen : Vlen) (through : Loop
       end_other = λ e. (let small = low in omega (arith, e, small));
     }
 
-    are_there : AreThere (view_of vlen params three) k (offset_by image.entry read.first_is.offset) (next_word image.entry)
-    unfolding loop_block_of last_block_of
-    are_there = record {
-      end = end_there;
-      end_at = last_found;
-      end_other = λ e. (let small = low in omega (arith, e, small));
-      loop = next_there;
-      loop_at = λ l. loop_found;
-      loop_other = λ e. (let small = low in omega (arith, e, small));
-    }
-
     loop_goes : block_passes image (view_of vlen params three) loop_block_of ≡ Ok tt
     unfolding loop_block_of
     loop_goes =
         loop_passes k (is_round image params through read are vlen some) vlen read.second_is.vector_type type_there refl three
         read.fuel read.of second_at certified read.rest enough few none_found
 
-    first_goes : block_passes image (view_of vlen params three) first_block_of ≡ Ok tt
-    unfolding first_block_of
-    first_goes = first_passes k is_entered vlen three image.entry read.first_is.offset first_at are_there
-
-    enters : entry_passes image (view_of vlen params three) ≡ Ok tt
-    unfolding first_block_of
-    enters = entered_there k is_entered vlen three (λ e. (let small = low in omega (arith, e, small))) first_found
-
     blocks_go : blocks_pass image (view_of vlen params three) three ≡ Ok tt
     unfolding three
-    blocks_go = three_pass image (view_of vlen params three) first_block_of loop_block_of last_block_of first_goes loop_goes (returns three)
+    blocks_go =
+        three_pass image (view_of vlen params three) first_block_of loop_block_of last_block_of
+        (first_goes three (there three last_found (λ l. loop_found))) loop_goes (returns three)
 
     three_are : certificate_of image params vlen through.0 words ≡ view_of vlen params three
     unfolding certificate_of three first_block_of loop_block_of last_block_of
     three_are = rw (not_same through.0.most 0 (λ e. omega (arith, e, some))) refl
 
     pub some_pass : checked image (certificate_of image params vlen through.0 words) vlen ≡ Ok tt
-    some_pass =
-        subst (λ (c : CertificateView). checked image c vlen ≡ Ok tt) (sym three_are) (all_checked image vlen params three enters blocks_go)
+    some_pass = pass three three_are first_found blocks_go
 
   -- ---- where there is nothing
 
@@ -283,36 +293,18 @@ module _ (image : ImageView) (params : List Param) (vlen : Vlen) (through : Loop
     never : {A : Type 0} → 1 ≤ through.0.most → A
     never l = absurd (omega (arith, l, none))
 
-    two_there : AreThere (view_of vlen params two) k (offset_by image.entry read.first_is.offset) (next_word image.entry)
-    unfolding last_block_of
-    two_there = record {
-      end = end_there;
-      end_at = last_of_two;
-      end_other = λ e. (let small = low in omega (arith, e, small));
-      loop = next_there;
-      loop_at = λ l. never l;
-      loop_other = λ e. (let small = low in omega (arith, e, small));
-    }
-
-    only_goes : block_passes image (view_of vlen params two) first_block_of ≡ Ok tt
-    unfolding first_block_of
-    only_goes = first_passes k is_entered vlen two image.entry read.first_is.offset first_at two_there
-
-    two_enter : entry_passes image (view_of vlen params two) ≡ Ok tt
-    unfolding first_block_of
-    two_enter = entered_there k is_entered vlen two (λ e. (let small = low in omega (arith, e, small))) first_of_two
-
     two_go : blocks_pass image (view_of vlen params two) two ≡ Ok tt
     unfolding two
-    two_go = two_pass image (view_of vlen params two) first_block_of last_block_of only_goes (returns two)
+    two_go =
+        two_pass image (view_of vlen params two) first_block_of last_block_of
+        (first_goes two (there two last_of_two (λ l. never l))) (returns two)
 
     two_are : certificate_of image params vlen through.0 words ≡ view_of vlen params two
     unfolding certificate_of two first_block_of last_block_of
     two_are = rw (is_same through.0.most 0 none) refl
 
     pub none_pass : checked image (certificate_of image params vlen through.0 words) vlen ≡ Ok tt
-    none_pass =
-        subst (λ (c : CertificateView). checked image c vlen ≡ Ok tt) (sym two_are) (all_checked image vlen params two two_enter two_go)
+    none_pass = pass two two_are first_of_two two_go
 
 pub certificates-pass : CertificatesPass
 certificates-pass image params vlen through is are e =

@@ -106,29 +106,26 @@ facts_rise params stated are (suc k) place from l g =
 -- ---- each fact
 
 module _ (stated : ℕ → Option RegisterFact) where
+  -- what holds of no facts, and with one in front where it holds of the others, holds of all
+  over_facts : (Holds : List RegisterFact → Type 0) (Each : RegisterFact → Type 0) → Holds [] → ((f : RegisterFact) (fs : List RegisterFact) → Each f → Holds fs → Holds (f ∷ fs))
+      → (k from : ℕ) → ((place : ℕ) → from ≤ place → place < from + k → IfSome (stated place) Each) → Holds (facts_from stated from k)
+  over_facts Holds Each none more zero from h = none
+  over_facts Holds Each none more (suc k) from h =
+      by_stated (stated from) (h from (omega arith) (omega arith))
+      (over_facts Holds Each none more k (from + 1) (λ place l g. h place (omega (arith, l)) (omega (arith, g))))
+    where
+      by_stated : (o : Option RegisterFact) → IfSome o Each → Holds (facts_from stated (from + 1) k)
+          → Holds (option_to_list o ++ facts_from stated (from + 1) k)
+      by_stated None q rest = rest
+      by_stated (Some f) q rest = more f (facts_from stated (from + 1) k) q rest
+
   pub all_facts : (p : RegisterFact → Bool) (k from : ℕ) → ((place : ℕ) → from ≤ place → place < from + k → IfSome (stated place) (λ f. p f ≡ true))
       → list_all p (facts_from stated from k) ≡ true
-  all_facts p zero from h = refl
-  all_facts p (suc k) from h =
-      by_stated (stated from) (h from (omega arith) (omega arith))
-      (all_facts p k (from + 1) (λ place l g. h place (omega (arith, l)) (omega (arith, g))))
-    where
-      by_stated : (o : Option RegisterFact) → IfSome o (λ f. p f ≡ true) → list_all p (facts_from stated (from + 1) k) ≡ true
-          → list_all p (option_to_list o ++ facts_from stated (from + 1) k) ≡ true
-      by_stated None q more = more
-      by_stated (Some f) q more = rw (q, more) refl
+  all_facts p = over_facts (λ fs. list_all p fs ≡ true) (λ f. p f ≡ true) refl (λ f fs q rest. rw (q, rest) refl)
 
   pub no_fact : (p : RegisterFact → Bool) (k from : ℕ) → ((place : ℕ) → from ≤ place → place < from + k → IfSome (stated place) (λ f. p f ≡ false))
       → list_any p (facts_from stated from k) ≡ false
-  no_fact p zero from h = refl
-  no_fact p (suc k) from h =
-      by_stated (stated from) (h from (omega arith) (omega arith))
-      (no_fact p k (from + 1) (λ place l g. h place (omega (arith, l)) (omega (arith, g))))
-    where
-      by_stated : (o : Option RegisterFact) → IfSome o (λ f. p f ≡ false) → list_any p (facts_from stated (from + 1) k) ≡ false
-          → list_any p (option_to_list o ++ facts_from stated (from + 1) k) ≡ false
-      by_stated None q more = more
-      by_stated (Some f) q more = rw (q, more) refl
+  no_fact p = over_facts (λ fs. list_any p fs ≡ false) (λ f. p f ≡ false) refl (λ f fs q rest. rw (q, rest) refl)
 
   pub few_facts : (k from : ℕ) → length (facts_from stated from k) ≤ k
   few_facts zero from = omega arith

@@ -1,5 +1,5 @@
 -- A loop that is read through is a round of which all is true that the check needs.
-use Rattle.std.proofs.Common.{◌≡◌, ◌≢◌, ℕ, ◌+◌, ◌-◌, ◌*◌, ◌/◌, ◌^◌, ◌<◌, ◌≤◌, inl, inr, zero, suc, Bool, true, false, refl, sym, ap, ◌∙◌, subst, arith, Some, None, List, [], ◌∷◌, length}
+use Rattle.std.proofs.Common.{◌≡◌, ◌≢◌, ℕ, ◌+◌, ◌-◌, ◌*◌, ◌^◌, ◌<◌, ◌≤◌, inl, inr, zero, suc, Bool, true, false, refl, sym, ap, ◌∙◌, subst, arith, Some, None, List, [], ◌∷◌, length}
 use Rattle.std.proofs.Math.Nat.{mul_comm}
 use Rattle.std.specs.Prelude.{Result, Ok, if◌then◌else◌, nat_le}
 use Rattle.std.specs.List.{slice_get, AllByRecursion}
@@ -15,12 +15,10 @@ use Rattle.region_mem.specs.declared.parameter.Param.{Param}
 use Rattle.region_mem.specs.declared.parameter.Param.TheVariants as parameter
 use Rattle.scalar_core.specs.Step.{offset_by}
 use Rattle.vreg_groups.specs.VectorLength.{IsVlenb, vlenb_of}
-use Rattle.rv_decode.specs.Instructions.{bits_of_width, bytes_of_width}
-use Rattle.vreg_groups.specs.VectorType.{eighths_of, vlmax_of}
+use Rattle.rv_decode.specs.Instructions.{bytes_of_width}
+use Rattle.vreg_groups.specs.VectorType.{vlmax_of}
 use Rattle.vreg_groups.specs.declared.vector_length.Vlen.{Vlen}
 use Rattle.vreg_groups.specs.declared.vector_length.Vlen.TheVariants.{V128, V256, V512}
-use Rattle.vreg_groups.specs.declared.vector_type.Lmul.{Lmul}
-use Rattle.vreg_groups.specs.declared.vector_type.Lmul.TheVariants.{Quarter, Half, One, Two, Four, Eight}
 use Rattle.vreg_groups.specs.declared.vector_type.Vtype.{Vtype}
 use Rattle.cert_note.specs.Certificate.{FitsWords}
 use Rattle.cert_maker.specs.declared.loops.Head.{Head}
@@ -33,6 +31,7 @@ use Rattle.cert_maker.proofs.Heads.{IsBranch, IsLength, branch_is, length_is}
 use Rattle.cert_maker.proofs.Readings.{followed, none_flagged, read_is, through_is}
 use Rattle.cert_maker.proofs.LoopWalks.{fits_at}
 use Rattle.cert_maker.proofs.Rounds.{HasBuffer, Keeps, room_there, through_keeps, valid_at}
+use Rattle.vreg_groups.proofs.Sizes.{vlmax_small}
 use Rattle.cert_maker.proofs.Starts.{vlmax_positive}
 use Rattle.cert_maker.proofs.Throughs.{IsWhole, whole_is}
 
@@ -114,28 +113,15 @@ is_vlenb V128 = inl refl
 is_vlenb V256 = inr (inl refl)
 is_vlenb V512 = inr (inr refl)
 
-eighths_few : (lmul : Lmul) → eighths_of lmul ≤ 64
-eighths_few Quarter = omega arith
-eighths_few Half = omega arith
-eighths_few One = omega arith
-eighths_few Two = omega arith
-eighths_few Four = omega arith
-eighths_few Eight = omega arith
-
-few_by : (eighths : ℕ) (vlen : Vlen) (w : Width) → eighths ≤ 64 → eighths * vlenb_of vlen / bits_of_width w < 2 ^ 30
-few_by eighths V128 W8 l = omega (arith, l)
-few_by eighths V128 W16 l = omega (arith, l)
-few_by eighths V128 W32 l = omega (arith, l)
-few_by eighths V256 W8 l = omega (arith, l)
-few_by eighths V256 W16 l = omega (arith, l)
-few_by eighths V256 W32 l = omega (arith, l)
-few_by eighths V512 W8 l = omega (arith, l)
-few_by eighths V512 W16 l = omega (arith, l)
-few_by eighths V512 W32 l = omega (arith, l)
+vlenb_few : (vlen : Vlen) → vlenb_of vlen ≤ 64
+vlenb_few V128 = omega arith
+vlenb_few V256 = omega arith
+vlenb_few V512 = omega arith
 
 vlmax_few : (vlen : Vlen) (t : Vtype) → vlmax_of (vlenb_of vlen) t < 2 ^ 30
-unfolding vlmax_of
-vlmax_few vlen t = few_by (eighths_of t.lmul) vlen t.sew (eighths_few t.lmul)
+vlmax_few vlen t =
+    let small = vlmax_small t (vlenb_of vlen) (vlmax_of (vlenb_of vlen) t) (omega arith) in
+    omega (arith, small, vlenb_few vlen)
 
 -- what a parameter says fits its words
 fits_there : (params : List Param) (place : ℕ) (p : Param) → AllByRecursion FitsWords params → slice_get params place ≡ Some p → FitsWords p

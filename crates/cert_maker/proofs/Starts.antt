@@ -11,6 +11,7 @@ use Rattle.rv_decode.specs.Instructions.{bits_of_width}
 use Rattle.vreg_groups.specs.VectorType.{eighths_of, vlmax_of}
 use Rattle.vreg_groups.specs.VectorLength.{IsVlenb}
 use Rattle.std.proofs.lemmas.Bool.Decides.{nat_tests}
+use Rattle.std.proofs.lemmas.Nat.{le-div, mul-le}
 use Rattle.std.proofs.Math.ListN.{length-set}
 use Rattle.linear_facts.specs.declared.ranges.Range.{Range}
 use Rattle.linear_facts.specs.Forms.{atom_form}
@@ -103,70 +104,30 @@ lengths-are_set s n t e L N M is = is_set s n t e L N M is
 
 -- ---- VLMAX
 
+-- there are at least 2 eighths of 16 bytes, and the widest element has 32 bits
+vlenb_least : (vlenb : ℕ) → IsVlenb vlenb → 16 ≤ vlenb
+vlenb_least vlenb (inl e) = omega (arith, e)
+vlenb_least vlenb (inr (inl e)) = omega (arith, e)
+vlenb_least vlenb (inr (inr e)) = omega (arith, e)
+
+eighths_least : (lmul : Lmul) → 2 ≤ eighths_of lmul
+eighths_least Quarter = omega arith
+eighths_least Half = omega arith
+eighths_least One = omega arith
+eighths_least Two = omega arith
+eighths_least Four = omega arith
+eighths_least Eight = omega arith
+
+bits_most : (sew : Width) → (0 < bits_of_width sew) × (bits_of_width sew ≤ 32)
+bits_most W8 = (omega arith, omega arith)
+bits_most W16 = (omega arith, omega arith)
+bits_most W32 = (omega arith, omega arith)
+
 vlmax_is : (vlenb : ℕ) (sew : Width) (lmul : Lmul) → IsVlenb vlenb → 1 ≤ eighths_of lmul * vlenb / bits_of_width sew
-vlmax_is vlenb sew lmul (inl e) = rw e (sixteen sew lmul)
-  where
-    sixteen : (sew : Width) (lmul : Lmul) → 1 ≤ eighths_of lmul * 16 / bits_of_width sew
-    sixteen W8 Quarter = omega arith
-    sixteen W8 Half = omega arith
-    sixteen W8 One = omega arith
-    sixteen W8 Two = omega arith
-    sixteen W8 Four = omega arith
-    sixteen W8 Eight = omega arith
-    sixteen W16 Quarter = omega arith
-    sixteen W16 Half = omega arith
-    sixteen W16 One = omega arith
-    sixteen W16 Two = omega arith
-    sixteen W16 Four = omega arith
-    sixteen W16 Eight = omega arith
-    sixteen W32 Quarter = omega arith
-    sixteen W32 Half = omega arith
-    sixteen W32 One = omega arith
-    sixteen W32 Two = omega arith
-    sixteen W32 Four = omega arith
-    sixteen W32 Eight = omega arith
-vlmax_is vlenb sew lmul (inr (inl e)) = rw e (double sew lmul)
-  where
-    double : (sew : Width) (lmul : Lmul) → 1 ≤ eighths_of lmul * 32 / bits_of_width sew
-    double W8 Quarter = omega arith
-    double W8 Half = omega arith
-    double W8 One = omega arith
-    double W8 Two = omega arith
-    double W8 Four = omega arith
-    double W8 Eight = omega arith
-    double W16 Quarter = omega arith
-    double W16 Half = omega arith
-    double W16 One = omega arith
-    double W16 Two = omega arith
-    double W16 Four = omega arith
-    double W16 Eight = omega arith
-    double W32 Quarter = omega arith
-    double W32 Half = omega arith
-    double W32 One = omega arith
-    double W32 Two = omega arith
-    double W32 Four = omega arith
-    double W32 Eight = omega arith
-vlmax_is vlenb sew lmul (inr (inr e)) = rw e (quadruple sew lmul)
-  where
-    quadruple : (sew : Width) (lmul : Lmul) → 1 ≤ eighths_of lmul * 64 / bits_of_width sew
-    quadruple W8 Quarter = omega arith
-    quadruple W8 Half = omega arith
-    quadruple W8 One = omega arith
-    quadruple W8 Two = omega arith
-    quadruple W8 Four = omega arith
-    quadruple W8 Eight = omega arith
-    quadruple W16 Quarter = omega arith
-    quadruple W16 Half = omega arith
-    quadruple W16 One = omega arith
-    quadruple W16 Two = omega arith
-    quadruple W16 Four = omega arith
-    quadruple W16 Eight = omega arith
-    quadruple W32 Quarter = omega arith
-    quadruple W32 Half = omega arith
-    quadruple W32 One = omega arith
-    quadruple W32 Two = omega arith
-    quadruple W32 Four = omega arith
-    quadruple W32 Eight = omega arith
+vlmax_is vlenb sew lmul is =
+    let bits = bits_most sew in
+    let room = mul-le 2 16 (eighths_of lmul) vlenb (eighths_least lmul) (vlenb_least vlenb is) in
+    le-div 1 (eighths_of lmul * vlenb) (bits_of_width sew) bits.0 (omega (arith, bits.1, room))
 
 -- vl is never limited to 0
 pub vlmax_positive : (vlenb : ℕ) (t : Vtype) → IsVlenb vlenb → 1 ≤ vlmax_of vlenb t
