@@ -89,45 +89,42 @@ unshown_of (error.IntervalNotProved pc) own e block = unshown_interval e block.r
 unshown_of (error.EqualityNotProved pc) own e block = unshown_equality e block.registers.items
 unshown_of (error.OrderNotProved pc) own e block = unshown_order e block.orders.items
 unshown_of (error.VectorFactNotProved pc) own e block = unshown_vector e block.vectors.items
-unshown_of error.WrongVlen own e block = unshown.Untold
-unshown_of error.NoEntryBlock own e block = unshown.Untold
-unshown_of (error.NotCode pc) own e block = unshown.Untold
-unshown_of (error.IllegalWord pc) own e block = unshown.Untold
-unshown_of (error.VtypeUnknown pc) own e block = unshown.Untold
-unshown_of (error.AccessNotProved pc) own e block = unshown.Untold
-unshown_of (error.ReadOnly pc) own e block = unshown.Untold
-unshown_of (error.TargetNotABlock pc) own e block = unshown.Untold
 unshown_of (error.BudgetNotProved pc) own e block = unshown_budget own e block.budget
-unshown_of (error.BlockTooLong pc) own e block = unshown.Untold
-unshown_of error.NoMemory own e block = unshown.Untold
+unshown_of other own e block = unshown.Untold
 
 -- ---- the words
 
+-- a line on a register: words before it, and what is told of it behind a relation
+abbrev pub register_line : List ℕ → ℕ → List ℕ → List ℕ → List ℕ
+register_line lead register relation told =
+    lead ++ (name_text register ++ (relation ++ (told ++ codes "\n")))
+
+abbrev pub known_words : List ℕ
+known_words = codes "  known: "
+
+abbrev pub wanted_words : List ℕ
+wanted_words = codes "  wanted on entering it: "
+
 abbrev pub range_line : ℕ → Range → List ℕ
-range_line register range = codes "  known: " ++ (name_text register
-    ++ (codes " in " ++ (span_text range ++ codes "\n")))
+range_line register range = register_line known_words register (codes " in ") (span_text range)
 
 abbrev pub sum_line : ℕ → Linear → List ℕ
-sum_line register sum = codes "  known: " ++ (name_text register
-    ++ (codes " = " ++ (sum_text sum ++ codes "\n")))
+sum_line register sum = register_line known_words register (codes " = ") (sum_text sum)
 
 unfoldable pub number_lines : Number → List ℕ
 number_lines n = range_line n.register n.range ++ sum_line n.register n.sum
 
 abbrev pub wanted_range : ℕ → Range → List ℕ
-wanted_range register range = codes "  wanted on entering it: " ++ (name_text register
-    ++ (codes " in " ++ (span_text range ++ codes "\n")))
+wanted_range register range = register_line wanted_words register (codes " in ") (span_text range)
 
 abbrev pub wanted_sum : ℕ → Linear → List ℕ
-wanted_sum register sum = codes "  wanted on entering it: " ++ (name_text register
-    ++ (codes " = " ++ (sum_text sum ++ codes "\n")))
+wanted_sum register sum = register_line wanted_words register (codes " = ") (sum_text sum)
 
 abbrev pub there_line : Linear → List ℕ
 there_line sum = codes "  that sum on this way: " ++ (sum_text sum ++ codes "\n")
 
 abbrev pub wanted_order : ℕ → ℕ → List ℕ
-wanted_order lesser greater = codes "  wanted on entering it: " ++ (name_text lesser
-    ++ (codes " <= " ++ (name_text greater ++ codes "\n")))
+wanted_order lesser greater = register_line wanted_words lesser (codes " <= ") (name_text greater)
 
 -- how many elements a fact speaks of; 0 stands for vl
 unfoldable pub count_text : ℕ → List ℕ
@@ -151,10 +148,10 @@ vector_text fact = group_text fact ++ elements_text fact
 
 abbrev pub known_group : Option VectorFact → List ℕ
 known_group None = codes "  known: nothing of this group\n"
-known_group (Some fact) = codes "  known: " ++ (vector_text fact ++ codes "\n")
+known_group (Some fact) = known_words ++ (vector_text fact ++ codes "\n")
 
 abbrev pub wanted_group : VectorFact → List ℕ
-wanted_group fact = codes "  wanted on entering it: " ++ (vector_text fact ++ codes "\n")
+wanted_group fact = wanted_words ++ (vector_text fact ++ codes "\n")
 
 abbrev pub left_line : ℕ → List ℕ
 left_line number = codes "  known: the budget left is at least " ++ (decimal number ++ codes "\n")

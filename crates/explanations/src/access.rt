@@ -78,16 +78,7 @@ fn scalar_operand(insn: ScalarInsn) -> Option<Operand>
             offset,
             size: store_size(size),
         }),
-        ScalarInsn::Lui { .. }
-        | ScalarInsn::Auipc { .. }
-        | ScalarInsn::Jal { .. }
-        | ScalarInsn::Jalr { .. }
-        | ScalarInsn::Branch { .. }
-        | ScalarInsn::Immediate { .. }
-        | ScalarInsn::ShiftImmediate { .. }
-        | ScalarInsn::Register { .. }
-        | ScalarInsn::Fence
-        | ScalarInsn::Ecall => None,
+        _ => None,
     }
 }
 
@@ -113,13 +104,7 @@ pub(crate) fn operand_of(insn: &Insn) -> Option<Operand>
             offset: 0,
             size: 0,
         }),
-        Insn::Csr(_)
-        | Insn::VSet(_)
-        | Insn::VArith(_)
-        | Insn::VMask(_)
-        | Insn::VPerm(_)
-        | Insn::VReduce(_)
-        | Insn::VMove(_) => None,
+        _ => None,
     }
 }
 
@@ -151,16 +136,7 @@ fn scalar_reach<A: Allocator>(numbers: &Numbers<A>, insn: ScalarInsn) -> Option<
             offset,
             ..
         } => reach_from(address_range(numbers, rs1, offset), store_size(size)),
-        ScalarInsn::Lui { .. }
-        | ScalarInsn::Auipc { .. }
-        | ScalarInsn::Jal { .. }
-        | ScalarInsn::Jalr { .. }
-        | ScalarInsn::Branch { .. }
-        | ScalarInsn::Immediate { .. }
-        | ScalarInsn::ShiftImmediate { .. }
-        | ScalarInsn::Register { .. }
-        | ScalarInsn::Fence
-        | ScalarInsn::Ecall => None,
+        _ => None,
     }
 }
 
@@ -172,13 +148,7 @@ pub(crate) fn reach_in<A: Allocator>(state: &Abstract<A>, insn: &Insn) -> Option
     match insn {
         Insn::Scalar(insn) => scalar_reach(state.numbers(), *insn),
         Insn::VMem(insn) => state.reach(insn),
-        Insn::Csr(_)
-        | Insn::VSet(_)
-        | Insn::VArith(_)
-        | Insn::VMask(_)
-        | Insn::VPerm(_)
-        | Insn::VReduce(_)
-        | Insn::VMove(_) => None,
+        _ => None,
     }
 }
 
@@ -249,93 +219,21 @@ impl fmt::Display for ZoneLines<'_> {
     }
 }
 
-/// What is known of the base register, as a line.
-#[derive(Clone, Copy)]
-struct BaseLine {
-    base: u8,
-    interval: Range,
-}
-
-impl fmt::Display for BaseLine {
-    ghost use Rattle.std.specs.Prelude.{Some};
-    ghost use Rattle.explanations.specs.Access.{base_line};
-
-    ghost output = { λ line. Some (base_line line.base line.interval) };
-
-    fn fmt<W: fmt::Write>(&self, f: &mut fmt::Formatter<W>) -> fmt::Result {
-        let base = self.base;
-        let interval = Span(self.interval);
-        writeln!(f, "  known: x{base} in {interval}")
-    }
-}
-
-/// An offset from a base.
-#[derive(Clone, Copy)]
-struct Offset(i32);
-
-impl fmt::Display for Offset {
-    ghost use Rattle.std.specs.Prelude.{Some};
-    ghost use Rattle.explanations.specs.Access.{offset_text};
-
-    ghost output = { λ offset. Some (offset_text offset.0) };
-
-    #[tactic(auto, unfolding(crate::specs::Access::offset_text))]
-    fn fmt<W: fmt::Write>(&self, f: &mut fmt::Formatter<W>) -> fmt::Result {
-        let offset = self.0;
-        write!(f, "{offset}")
-    }
-}
-
-/// How many bytes are accessed, as a line.
-#[derive(Clone, Copy)]
-struct BytesLine(u8);
-
-impl fmt::Display for BytesLine {
-    ghost use Rattle.std.specs.Prelude.{Some};
-    ghost use Rattle.explanations.specs.Access.{bytes_line};
-
-    ghost output = { λ line. Some (bytes_line line.0) };
-
-    fn fmt<W: fmt::Write>(&self, f: &mut fmt::Formatter<W>) -> fmt::Result {
-        let size = self.0;
-        writeln!(f, "  bytes of the access: {size}")
-    }
-}
-
-/// How far from the base on, as a line.
-#[derive(Clone, Copy)]
-struct OffsetLine(i32);
-
-impl fmt::Display for OffsetLine {
-    ghost use Rattle.std.specs.Prelude.{Some};
-    ghost use Rattle.explanations.specs.Access.{offset_line};
-
-    ghost output = { λ line. Some (offset_line line.0) };
-
-    fn fmt<W: fmt::Write>(&self, f: &mut fmt::Formatter<W>) -> fmt::Result {
-        let offset = Offset(self.0);
-        writeln!(f, "  offset from the base: {offset}")
-    }
-}
-
 /// How many bytes are accessed, and how far from the base on.
 #[derive(Clone, Copy)]
-struct SizeLines {
-    offset: i32,
-    size: u8,
-}
+struct SizeLines(Operand);
 
 impl fmt::Display for SizeLines {
     ghost use Rattle.std.specs.Prelude.{Some};
     ghost use Rattle.explanations.specs.Access.{size_lines};
 
-    ghost output = { λ lines. Some (size_lines lines.offset lines.size) };
+    ghost output = { λ lines. Some (size_lines lines.0.offset lines.0.size) };
 
-    #[tactic(auto, unfolding(crate::specs::Access::size_lines))]
+    #[tactic(auto, unfolding(crate::specs::Access::size_lines, crate::specs::Access::offset_text))]
     fn fmt<W: fmt::Write>(&self, f: &mut fmt::Formatter<W>) -> fmt::Result {
-        let bytes = BytesLine(self.size);
-        let offset = OffsetLine(self.offset);
-        write!(f, "{bytes}{offset}")
+        let Operand { offset, size, .. } = self.0;
+        writeln!(f, "  bytes of the access: {size}")?;
+        writeln!(f, "  offset from the base: {offset}")
     }
 }
 
@@ -372,47 +270,25 @@ fn access_wanted(operand: Operand) -> &'static str
     }
 }
 
-/// What is wanted of an access.
-#[derive(Clone, Copy)]
-struct WantedLines<'a>(&'a Access);
-
-impl fmt::Display for WantedLines<'_> {
-    ghost use Rattle.std.specs.Prelude.{Some};
-    ghost use Rattle.explanations.specs.Access.{wanted_lines};
-
-    ghost output = { λ lines. Some (wanted_lines lines.0.now) };
-
-    #[tactic(auto, unfolding(crate::specs::Access::wanted_lines))]
-    fn fmt<W: fmt::Write>(&self, f: &mut fmt::Formatter<W>) -> fmt::Result {
-        let access = self.0;
-        let reach = ReachLine(access.reach);
-        let wanted = access_wanted(access.operand);
-        let zones = ZoneLines(access.zones.as_slice());
-        write!(f, "{reach}{wanted}{zones}")
-    }
-}
-
 impl fmt::Display for Access {
     ghost use Rattle.std.specs.Prelude.{Some};
     ghost use Rattle.explanations.specs.Access.{access_text};
 
     ghost output = { λ access. Some (access_text access) };
 
-    #[tactic(auto, unfolding(crate::specs::Access::access_text))]
+    #[tactic(auto, unfolding(crate::specs::Access::access_text, crate::specs::Access::wanted_lines))]
     fn fmt<W: fmt::Write>(&self, f: &mut fmt::Formatter<W>) -> fmt::Result {
-        let base = BaseLine {
-            base: self.operand.base,
-            interval: self.interval,
-        };
-        let size = SizeLines {
-            offset: self.operand.offset,
-            size: self.operand.size,
-        };
-        let wanted = WantedLines(self);
+        let base = self.operand.base;
+        let interval = Span(self.interval);
+        let size = SizeLines(self.operand);
+        let reach = ReachLine(self.reach);
+        let wanted = access_wanted(self.operand);
+        let zones = ZoneLines(self.zones.as_slice());
+        writeln!(f, "  known: x{base} in {interval}")?;
         if self.operand.size == 0 {
-            write!(f, "{base}{wanted}")
+            write!(f, "{reach}{wanted}{zones}")
         } else {
-            write!(f, "{base}{size}{wanted}")
+            write!(f, "{size}{reach}{wanted}{zones}")
         }
     }
 }

@@ -231,29 +231,6 @@ impl fmt::Display for Sum {
     }
 }
 
-/// The block that a way out enters, as a line.
-#[derive(Clone, Copy)]
-struct BlockLine {
-    block: usize,
-    budget: Budget,
-}
-
-impl fmt::Display for BlockLine {
-    ghost use Rattle.std.specs.Prelude.{Some};
-    ghost use Rattle.explanations.specs.Edge.{block_line};
-
-    ghost output = { λ line. Some (block_line line.block line.budget) };
-
-    fn fmt<W: fmt::Write>(&self, f: &mut fmt::Formatter<W>) -> fmt::Result {
-        let block = self.block;
-        let budget = Sum(self.budget);
-        writeln!(
-            f,
-            "  enters block {block} of the certificate, with a budget of {budget}"
-        )
-    }
-}
-
 /// The block that a way out leaves, as a line.
 #[derive(Clone, Copy)]
 struct LeftLine(Option<Left>);
@@ -294,12 +271,14 @@ impl fmt::Display for EnteredLines<'_> {
         match self.0 {
             None => Ok(()),
             Some(entered) => {
-                let block = BlockLine {
-                    block: entered.block,
-                    budget: entered.budget,
-                };
+                let block = entered.block;
+                let budget = Sum(entered.budget);
                 let unshown = &entered.unshown;
-                write!(f, "{block}{unshown}")
+                writeln!(
+                    f,
+                    "  enters block {block} of the certificate, with a budget of {budget}"
+                )?;
+                write!(f, "{unshown}")
             }
         }
     }

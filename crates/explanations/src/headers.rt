@@ -196,22 +196,6 @@ pub(crate) fn first_overlap(file: &[u8]) -> Option<(Header, Header)>
     None
 }
 
-/// The line that tells which header it is.
-#[derive(Clone, Copy)]
-struct PlaceLine(Header);
-
-impl fmt::Display for PlaceLine {
-    ghost use Rattle.std.specs.Prelude.{Some};
-    ghost use Rattle.explanations.specs.Headers.{place_line};
-
-    ghost output = { λ line. Some (place_line line.0) };
-
-    fn fmt<W: fmt::Write>(&self, f: &mut fmt::Formatter<W>) -> fmt::Result {
-        let Header { number, offset, .. } = self.0;
-        writeln!(f, "  program header {number} at byte {offset} of the file:")
-    }
-}
-
 /// The line that tells its type, its offset and its address.
 #[derive(Clone, Copy)]
 struct AddressLine(Header);
@@ -268,10 +252,11 @@ impl fmt::Display for Header {
 
     #[tactic(auto, unfolding(crate::specs::Headers::header_text))]
     fn fmt<W: fmt::Write>(&self, f: &mut fmt::Formatter<W>) -> fmt::Result {
-        let place = PlaceLine(*self);
+        let Header { number, offset, .. } = *self;
         let address = AddressLine(*self);
         let size = SizeLine(*self);
-        write!(f, "{place}{address}{size}")
+        writeln!(f, "  program header {number} at byte {offset} of the file:")?;
+        write!(f, "{address}{size}")
     }
 }
 

@@ -320,26 +320,6 @@ impl fmt::Display for Command {
     }
 }
 
-/// A key that a command needs.
-#[derive(Clone, Copy)]
-struct Needs {
-    key: JobKey,
-    command: Command,
-}
-
-impl fmt::Display for Needs {
-    ghost use Rattle.std.specs.Prelude.{Some};
-    ghost use Rattle.explanations.specs.Job.{needs_text};
-
-    ghost output = { λ needs. Some (needs_text needs.key needs.command) };
-
-    fn fmt<W: fmt::Write>(&self, f: &mut fmt::Formatter<W>) -> fmt::Result {
-        let command = self.command;
-        let name = self.key.name();
-        write!(f, "{command} needs {name}")
-    }
-}
-
 /// Where a key stands, and what is wanted of it.
 #[derive(Clone, Copy)]
 struct In {
@@ -387,15 +367,13 @@ impl fmt::Display for JobReason {
                 key,
                 command,
             } => {
-                let needs = Needs {
-                    key: *key,
-                    command: *command,
-                };
+                let name = key.name();
                 let place = In {
                     table: *table,
                     key: *key,
                 };
-                writeln!(f, "  {needs}{place}")
+                write!(f, "  {command} needs {name}")?;
+                writeln!(f, "{place}")
             }
             JobReason::Breach(breach) => writeln!(f, "  {breach}"),
         }

@@ -158,21 +158,7 @@ pub fn attach_reason(file: &[u8], image: &Image, certificate: usize, error: ElfE
                 certificate,
             }
         }
-        ElfError::TooShort
-        | ElfError::BadMagic
-        | ElfError::BadClass
-        | ElfError::BadType
-        | ElfError::BadMachine
-        | ElfError::BadFlags
-        | ElfError::BadHeaderTable
-        | ElfError::NotStatic
-        | ElfError::SegmentOutOfFile
-        | ElfError::SegmentOutOfPlace
-        | ElfError::SegmentsOverlap
-        | ElfError::WriteAndExecute
-        | ElfError::EntryNotCode
-        | ElfError::TwoCertificates
-        | ElfError::NoMemory => MakeReason::Untold,
+        _ => MakeReason::Untold,
     }
 }
 

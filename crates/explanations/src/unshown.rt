@@ -243,56 +243,7 @@ pub(crate) fn unshown_in<A: Allocator>(
         CheckError::OrderNotProved(_) => unshown_order(way, block.orders.as_slice()),
         CheckError::VectorFactNotProved(_) => unshown_vector(way, block.vectors.as_slice()),
         CheckError::BudgetNotProved(_) => unshown_budget(own, way, block.budget),
-        CheckError::WrongVlen
-        | CheckError::NoEntryBlock
-        | CheckError::NotCode(_)
-        | CheckError::IllegalWord(_)
-        | CheckError::VtypeUnknown(_)
-        | CheckError::AccessNotProved(_)
-        | CheckError::ReadOnly(_)
-        | CheckError::TargetNotABlock(_)
-        | CheckError::BlockTooLong(_)
-        | CheckError::NoMemory => Unshown::Untold,
-    }
-}
-
-/// An interval that is known of a register, as a line.
-#[derive(Clone, Copy)]
-struct RangeLine {
-    register: u8,
-    range: Range,
-}
-
-impl fmt::Display for RangeLine {
-    ghost use Rattle.std.specs.Prelude.{Some};
-    ghost use Rattle.explanations.specs.Unshown.{range_line};
-
-    ghost output = { λ line. Some (range_line line.register line.range) };
-
-    fn fmt<W: fmt::Write>(&self, f: &mut fmt::Formatter<W>) -> fmt::Result {
-        let name = Name(self.register);
-        let range = Span(self.range);
-        writeln!(f, "  known: {name} in {range}")
-    }
-}
-
-/// A sum that a register is known to be, as a line.
-#[derive(Clone, Copy)]
-struct SumLine<'a> {
-    register: u8,
-    sum: &'a Sum<8>,
-}
-
-impl fmt::Display for SumLine<'_> {
-    ghost use Rattle.std.specs.Prelude.{Some};
-    ghost use Rattle.explanations.specs.Unshown.{sum_line};
-
-    ghost output = { λ line. Some (sum_line line.register line.sum.now) };
-
-    fn fmt<W: fmt::Write>(&self, f: &mut fmt::Formatter<W>) -> fmt::Result {
-        let name = Name(self.register);
-        let sum = self.sum;
-        writeln!(f, "  known: {name} = {sum}")
+        _ => Unshown::Untold,
     }
 }
 
@@ -304,154 +255,38 @@ impl fmt::Display for Number {
 
     #[tactic(auto, unfolding(crate::specs::Unshown::number_lines))]
     fn fmt<W: fmt::Write>(&self, f: &mut fmt::Formatter<W>) -> fmt::Result {
-        let range = RangeLine {
-            register: self.register,
-            range: self.range,
-        };
-        let sum = SumLine {
-            register: self.register,
-            sum: &self.sum,
-        };
-        write!(f, "{range}{sum}")
-    }
-}
-
-/// The interval that is wanted of a register, as a line.
-#[derive(Clone, Copy)]
-struct WantedRange {
-    register: u8,
-    range: Range,
-}
-
-impl fmt::Display for WantedRange {
-    ghost use Rattle.std.specs.Prelude.{Some};
-    ghost use Rattle.explanations.specs.Unshown.{wanted_range};
-
-    ghost output = { λ line. Some (wanted_range line.register line.range) };
-
-    fn fmt<W: fmt::Write>(&self, f: &mut fmt::Formatter<W>) -> fmt::Result {
         let name = Name(self.register);
         let range = Span(self.range);
-        writeln!(f, "  wanted on entering it: {name} in {range}")
+        let sum = &self.sum;
+        writeln!(f, "  known: {name} in {range}")?;
+        writeln!(f, "  known: {name} = {sum}")
     }
 }
 
-/// The sum that is wanted of a register, as a line.
+/// The sum that is wanted of a register, and again in numbers of the block that the way leaves.
 #[derive(Clone, Copy)]
-struct WantedSum<'a> {
+struct WantedSums<'a> {
     register: u8,
-    sum: &'a Sum<8>,
+    wanted: &'a Sum<8>,
+    there: &'a Sum<64>,
 }
 
-impl fmt::Display for WantedSum<'_> {
-    ghost use Rattle.std.specs.Prelude.{Some};
-    ghost use Rattle.explanations.specs.Unshown.{wanted_sum};
+impl fmt::Display for WantedSums<'_> {
+    ghost use Rattle.std.specs.Prelude.{◌++◌, Some};
+    ghost use Rattle.explanations.specs.Unshown.{there_line, wanted_sum};
 
-    ghost output = { λ line. Some (wanted_sum line.register line.sum.now) };
+    ghost output = { λ sums. Some (wanted_sum sums.register sums.wanted.now
+        ++ there_line sums.there.now) };
 
     fn fmt<W: fmt::Write>(&self, f: &mut fmt::Formatter<W>) -> fmt::Result {
         let name = Name(self.register);
-        let sum = self.sum;
-        writeln!(f, "  wanted on entering it: {name} = {sum}")
+        let WantedSums { wanted, there, .. } = *self;
+        writeln!(f, "  wanted on entering it: {name} = {wanted}")?;
+        writeln!(f, "  that sum on this way: {there}")
     }
 }
 
-/// The sum that is wanted, in numbers of the block that the way leaves, as a line.
-#[derive(Clone, Copy)]
-struct ThereLine<'a>(&'a Sum<64>);
-
-impl fmt::Display for ThereLine<'_> {
-    ghost use Rattle.std.specs.Prelude.{Some};
-    ghost use Rattle.explanations.specs.Unshown.{there_line};
-
-    ghost output = { λ line. Some (there_line line.0.now) };
-
-    fn fmt<W: fmt::Write>(&self, f: &mut fmt::Formatter<W>) -> fmt::Result {
-        let sum = self.0;
-        writeln!(f, "  that sum on this way: {sum}")
-    }
-}
-
-/// The order that is wanted of two registers, as a line.
-#[derive(Clone, Copy)]
-struct WantedOrder {
-    lesser: u8,
-    greater: u8,
-}
-
-impl fmt::Display for WantedOrder {
-    ghost use Rattle.std.specs.Prelude.{Some};
-    ghost use Rattle.explanations.specs.Unshown.{wanted_order};
-
-    ghost output = { λ line. Some (wanted_order line.lesser line.greater) };
-
-    fn fmt<W: fmt::Write>(&self, f: &mut fmt::Formatter<W>) -> fmt::Result {
-        let lesser = Name(self.lesser);
-        let greater = Name(self.greater);
-        writeln!(f, "  wanted on entering it: {lesser} <= {greater}")
-    }
-}
-
-/// How many elements a fact speaks of: 0 stands for vl of them.
-#[derive(Clone, Copy)]
-struct Count(u16);
-
-impl fmt::Display for Count {
-    ghost use Rattle.std.specs.Prelude.{Some};
-    ghost use Rattle.explanations.specs.Unshown.{count_text};
-
-    ghost output = { λ count. Some (count_text count.0) };
-
-    #[tactic(auto, unfolding(crate::specs::Unshown::count_text))]
-    fn fmt<W: fmt::Write>(&self, f: &mut fmt::Formatter<W>) -> fmt::Result {
-        let count = self.0;
-        if count == 0 {
-            write!(f, "vl")
-        } else {
-            write!(f, "{count}")
-        }
-    }
-}
-
-/// The group of a fact on vector registers.
-#[derive(Clone, Copy)]
-struct Group(VectorFact);
-
-impl fmt::Display for Group {
-    ghost use Rattle.std.specs.Prelude.{Some};
-    ghost use Rattle.explanations.specs.Unshown.{group_text};
-
-    ghost output = { λ group. Some (group_text group.0) };
-
-    fn fmt<W: fmt::Write>(&self, f: &mut fmt::Formatter<W>) -> fmt::Result {
-        let register = self.0.register;
-        let registers = self.0.registers;
-        let width = self.0.width;
-        write!(f, "v{register}, registers {registers}, SEW {width}")
-    }
-}
-
-/// What a fact states of its elements.
-#[derive(Clone, Copy)]
-struct Elements(VectorFact);
-
-impl fmt::Display for Elements {
-    ghost use Rattle.std.specs.Prelude.{Some};
-    ghost use Rattle.explanations.specs.Unshown.{elements_text};
-
-    ghost output = { λ elements. Some (elements_text elements.0) };
-
-    fn fmt<W: fmt::Write>(&self, f: &mut fmt::Formatter<W>) -> fmt::Result {
-        let count = Count(self.0.count);
-        let range = Span(Range {
-            lo: self.0.low,
-            hi: self.0.high,
-        });
-        write!(f, ": {count} elements in {range}")
-    }
-}
-
-/// A fact on vector registers.
+/// A fact on vector registers: its group, and what it states of the elements. A count of 0 stands for vl of them.
 #[derive(Clone, Copy)]
 struct Vector(VectorFact);
 
@@ -461,11 +296,24 @@ impl fmt::Display for Vector {
 
     ghost output = { λ vector. Some (vector_text vector.0) };
 
-    #[tactic(auto, unfolding(crate::specs::Unshown::vector_text))]
+    #[tactic(auto, unfolding(crate::specs::Unshown::vector_text, crate::specs::Unshown::count_text))]
     fn fmt<W: fmt::Write>(&self, f: &mut fmt::Formatter<W>) -> fmt::Result {
-        let group = Group(self.0);
-        let elements = Elements(self.0);
-        write!(f, "{group}{elements}")
+        let VectorFact {
+            register,
+            registers,
+            width,
+            count,
+            low,
+            high,
+            ..
+        } = self.0;
+        let range = Span(Range { lo: low, hi: high });
+        write!(f, "v{register}, registers {registers}, SEW {width}")?;
+        if count == 0 {
+            write!(f, ": vl elements in {range}")
+        } else {
+            write!(f, ": {count} elements in {range}")
+        }
     }
 }
 
@@ -490,57 +338,6 @@ impl fmt::Display for KnownGroup {
     }
 }
 
-/// What is wanted of a group, as a line.
-#[derive(Clone, Copy)]
-struct WantedGroup(VectorFact);
-
-impl fmt::Display for WantedGroup {
-    ghost use Rattle.std.specs.Prelude.{Some};
-    ghost use Rattle.explanations.specs.Unshown.{wanted_group};
-
-    ghost output = { λ group. Some (wanted_group group.0) };
-
-    fn fmt<W: fmt::Write>(&self, f: &mut fmt::Formatter<W>) -> fmt::Result {
-        let fact = Vector(self.0);
-        writeln!(f, "  wanted on entering it: {fact}")
-    }
-}
-
-/// What is left of a budget, as a line.
-#[derive(Clone, Copy)]
-struct LeftLine(u128);
-
-impl fmt::Display for LeftLine {
-    ghost use Rattle.std.specs.Prelude.{Some};
-    ghost use Rattle.explanations.specs.Unshown.{left_line};
-
-    ghost output = { λ line. Some (left_line line.0) };
-
-    fn fmt<W: fmt::Write>(&self, f: &mut fmt::Formatter<W>) -> fmt::Result {
-        let number = self.0;
-        writeln!(f, "  known: the budget left is at least {number}")
-    }
-}
-
-/// What is asked of a budget, as a line.
-#[derive(Clone, Copy)]
-struct AskedLine(u128);
-
-impl fmt::Display for AskedLine {
-    ghost use Rattle.std.specs.Prelude.{Some};
-    ghost use Rattle.explanations.specs.Unshown.{asked_line};
-
-    ghost output = { λ line. Some (asked_line line.0) };
-
-    fn fmt<W: fmt::Write>(&self, f: &mut fmt::Formatter<W>) -> fmt::Result {
-        let number = self.0;
-        writeln!(
-            f,
-            "  known: these words and the budget entered are at most {number}"
-        )
-    }
-}
-
 impl fmt::Display for Unshown {
     ghost use Rattle.std.specs.Prelude.{Some};
     ghost use Rattle.explanations.specs.Unshown.{unshown_text};
@@ -552,44 +349,44 @@ impl fmt::Display for Unshown {
         match self {
             Unshown::Untold => Ok(()),
             Unshown::Interval { known, wanted } => {
-                let wanted = WantedRange {
-                    register: known.register,
-                    range: *wanted,
-                };
-                write!(f, "{known}{wanted}")
+                let name = Name(known.register);
+                let range = Span(*wanted);
+                writeln!(f, "{known}  wanted on entering it: {name} in {range}")
             }
             Unshown::Equality {
                 known,
                 wanted,
                 there,
             } => {
-                let wanted = WantedSum {
+                let wanted = WantedSums {
                     register: known.register,
-                    sum: wanted,
+                    wanted,
+                    there,
                 };
-                let there = ThereLine(there);
-                write!(f, "{known}{wanted}{there}")
+                write!(f, "{known}{wanted}")
             }
             Unshown::Order { lesser, greater } => {
-                let wanted = WantedOrder {
-                    lesser: lesser.register,
-                    greater: greater.register,
-                };
-                write!(f, "{lesser}{greater}{wanted}")
+                let less = Name(lesser.register);
+                let more = Name(greater.register);
+                writeln!(
+                    f,
+                    "{lesser}{greater}  wanted on entering it: {less} <= {more}"
+                )
             }
             Unshown::Vector { wanted, known, vl } => {
-                let vl = RangeLine {
-                    register: 32,
-                    range: *vl,
-                };
+                let range = Span(*vl);
+                let vl = Name(32);
                 let known = KnownGroup(*known);
-                let wanted = WantedGroup(*wanted);
-                write!(f, "{vl}{known}{wanted}")
+                let wanted = Vector(*wanted);
+                writeln!(f, "  known: {vl} in {range}")?;
+                writeln!(f, "{known}  wanted on entering it: {wanted}")
             }
             Unshown::Budget { left, asked } => {
-                let left = LeftLine(*left);
-                let asked = AskedLine(*asked);
-                write!(f, "{left}{asked}")
+                writeln!(f, "  known: the budget left is at least {left}")?;
+                writeln!(
+                    f,
+                    "  known: these words and the budget entered are at most {asked}"
+                )
             }
         }
     }
