@@ -66,7 +66,8 @@ place_in address blocks = position (λ block. block.start == address) blocks
 unfoldable pub before_word : ImageView → CertificateView → ℕ → ℕ → AbstractView
     → Option AbstractView
 before_word image certificate start pc a =
-    if nat_lt ((pc - start) / 4) MOST_WORDS then known_before image certificate start a ((pc - start) / 4)
+    if nat_lt ((pc - start) / 4) MOST_WORDS
+    then known_before image certificate start a ((pc - start) / 4)
     else None
 
 abbrev pub before_in_block : ImageView → CertificateView → ℕ → Block → Option AbstractView

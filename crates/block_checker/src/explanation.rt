@@ -94,7 +94,8 @@ fn walk<A: Allocator, B: Allocator, C: Allocator>(
     state: &mut Abstract<A>,
 ) -> Result<(), (CheckError, Stop)>
     requires { state.old.words ≡ 0 }
-    ensures answer { walk_answer result ≡ walk_of image.now certificate.now MOST_WORDS start state.old }
+    ensures answer { walk_answer result
+        ≡ walk_of image.now certificate.now MOST_WORDS start state.old }
     ensures stop { IfErr result (λ e. StopsWalk image.now certificate.now start state.old e.0 e.1) }
 {
     let mut pc = start;

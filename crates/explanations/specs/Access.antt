@@ -30,7 +30,16 @@ operand is_store base offset size =
 abbrev pub scalar_operand : ScalarInsn → Option Operand
 scalar_operand (scalar.Load kind rd rs1 offset) = operand false rs1 offset (size_of_load kind)
 scalar_operand (scalar.Store size rs1 rs2 offset) = operand true rs1 offset (size_of_store size)
-scalar_operand i = None
+scalar_operand (scalar.Lui rd imm) = None
+scalar_operand (scalar.Auipc rd imm) = None
+scalar_operand (scalar.Jal rd offset) = None
+scalar_operand (scalar.Jalr rd rs1 offset) = None
+scalar_operand (scalar.Branch condition rs1 rs2 offset) = None
+scalar_operand (scalar.Immediate op rd rs1 imm) = None
+scalar_operand (scalar.ShiftImmediate op rd rs1 amount) = None
+scalar_operand (scalar.Register op rd rs1 rs2) = None
+scalar_operand scalar.Fence = None
+scalar_operand scalar.Ecall = None
 
 abbrev pub is_store : Direction → Bool
 is_store direction.Load = false
@@ -40,7 +49,13 @@ is_store direction.Store = true
 abbrev pub operand_of : Insn → Option Operand
 operand_of (insn.Scalar i) = scalar_operand i
 operand_of (insn.VMem i) = operand (is_store i.direction) i.rs1 (pos 0) 0
-operand_of i = None
+operand_of (insn.Csr i) = None
+operand_of (insn.VSet i) = None
+operand_of (insn.VArith i) = None
+operand_of (insn.VMask i) = None
+operand_of (insn.VPerm i) = None
+operand_of (insn.VReduce i) = None
+operand_of (insn.VMove i) = None
 
 -- so many bytes, the first of which has its address in a range
 abbrev pub reach_from : Range → ℕ → Option Reach
@@ -52,13 +67,28 @@ scalar_reach s (scalar.Load kind rd rs1 offset) =
     reach_from (address_range rs1 (unsigned offset) s) (size_of_load kind)
 scalar_reach s (scalar.Store size rs1 rs2 offset) =
     reach_from (address_range rs1 (unsigned offset) s) (size_of_store size)
-scalar_reach s i = None
+scalar_reach s (scalar.Lui rd imm) = None
+scalar_reach s (scalar.Auipc rd imm) = None
+scalar_reach s (scalar.Jal rd offset) = None
+scalar_reach s (scalar.Jalr rd rs1 offset) = None
+scalar_reach s (scalar.Branch condition rs1 rs2 offset) = None
+scalar_reach s (scalar.Immediate op rd rs1 imm) = None
+scalar_reach s (scalar.ShiftImmediate op rd rs1 amount) = None
+scalar_reach s (scalar.Register op rd rs1 rs2) = None
+scalar_reach s scalar.Fence = None
+scalar_reach s scalar.Ecall = None
 
 -- the same of any instruction, with what is known before it, if that says where
 unfoldable pub reach_in : Insn → AbstractView → Option Reach
 reach_in (insn.Scalar i) a = scalar_reach a.numbers i
 reach_in (insn.VMem i) a = reach_of a i
-reach_in i a = None
+reach_in (insn.Csr i) a = None
+reach_in (insn.VSet i) a = None
+reach_in (insn.VArith i) a = None
+reach_in (insn.VMask i) a = None
+reach_in (insn.VPerm i) a = None
+reach_in (insn.VReduce i) a = None
+reach_in (insn.VMove i) a = None
 
 -- ---- the words
 

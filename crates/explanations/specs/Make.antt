@@ -75,7 +75,21 @@ told_large file size =
 abbrev pub attach_reason : List ℕ → Option (List ℕ) → ℕ → ElfError → MakeReason
 attach_reason file there size error.CertificateThere = reason.Certified (certificate_size there)
 attach_reason file there size error.TooLarge = told_large file size
-attach_reason file there size other = reason.Untold
+attach_reason file there size error.TooShort = reason.Untold
+attach_reason file there size error.BadMagic = reason.Untold
+attach_reason file there size error.BadClass = reason.Untold
+attach_reason file there size error.BadType = reason.Untold
+attach_reason file there size error.BadMachine = reason.Untold
+attach_reason file there size error.BadFlags = reason.Untold
+attach_reason file there size error.BadHeaderTable = reason.Untold
+attach_reason file there size error.NotStatic = reason.Untold
+attach_reason file there size error.SegmentOutOfFile = reason.Untold
+attach_reason file there size error.SegmentOutOfPlace = reason.Untold
+attach_reason file there size error.SegmentsOverlap = reason.Untold
+attach_reason file there size error.WriteAndExecute = reason.Untold
+attach_reason file there size error.EntryNotCode = reason.Untold
+attach_reason file there size error.TwoCertificates = reason.Untold
+attach_reason file there size error.NoMemory = reason.Untold
 
 -- ---- the words
 

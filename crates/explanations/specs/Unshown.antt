@@ -89,8 +89,17 @@ unshown_of (error.IntervalNotProved pc) own e block = unshown_interval e block.r
 unshown_of (error.EqualityNotProved pc) own e block = unshown_equality e block.registers.items
 unshown_of (error.OrderNotProved pc) own e block = unshown_order e block.orders.items
 unshown_of (error.VectorFactNotProved pc) own e block = unshown_vector e block.vectors.items
+unshown_of error.WrongVlen own e block = unshown.Untold
+unshown_of error.NoEntryBlock own e block = unshown.Untold
+unshown_of (error.NotCode pc) own e block = unshown.Untold
+unshown_of (error.IllegalWord pc) own e block = unshown.Untold
+unshown_of (error.VtypeUnknown pc) own e block = unshown.Untold
+unshown_of (error.AccessNotProved pc) own e block = unshown.Untold
+unshown_of (error.ReadOnly pc) own e block = unshown.Untold
+unshown_of (error.TargetNotABlock pc) own e block = unshown.Untold
 unshown_of (error.BudgetNotProved pc) own e block = unshown_budget own e block.budget
-unshown_of other own e block = unshown.Untold
+unshown_of (error.BlockTooLong pc) own e block = unshown.Untold
+unshown_of error.NoMemory own e block = unshown.Untold
 
 -- ---- the words
 

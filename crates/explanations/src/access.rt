@@ -78,7 +78,16 @@ fn scalar_operand(insn: ScalarInsn) -> Option<Operand>
             offset,
             size: store_size(size),
         }),
-        _ => None,
+        ScalarInsn::Lui { .. }
+        | ScalarInsn::Auipc { .. }
+        | ScalarInsn::Jal { .. }
+        | ScalarInsn::Jalr { .. }
+        | ScalarInsn::Branch { .. }
+        | ScalarInsn::Immediate { .. }
+        | ScalarInsn::ShiftImmediate { .. }
+        | ScalarInsn::Register { .. }
+        | ScalarInsn::Fence
+        | ScalarInsn::Ecall => None,
     }
 }
 
@@ -104,7 +113,13 @@ pub(crate) fn operand_of(insn: &Insn) -> Option<Operand>
             offset: 0,
             size: 0,
         }),
-        _ => None,
+        Insn::Csr(_)
+        | Insn::VSet(_)
+        | Insn::VArith(_)
+        | Insn::VMask(_)
+        | Insn::VPerm(_)
+        | Insn::VReduce(_)
+        | Insn::VMove(_) => None,
     }
 }
 
@@ -136,7 +151,16 @@ fn scalar_reach<A: Allocator>(numbers: &Numbers<A>, insn: ScalarInsn) -> Option<
             offset,
             ..
         } => reach_from(address_range(numbers, rs1, offset), store_size(size)),
-        _ => None,
+        ScalarInsn::Lui { .. }
+        | ScalarInsn::Auipc { .. }
+        | ScalarInsn::Jal { .. }
+        | ScalarInsn::Jalr { .. }
+        | ScalarInsn::Branch { .. }
+        | ScalarInsn::Immediate { .. }
+        | ScalarInsn::ShiftImmediate { .. }
+        | ScalarInsn::Register { .. }
+        | ScalarInsn::Fence
+        | ScalarInsn::Ecall => None,
     }
 }
 
@@ -148,7 +172,13 @@ pub(crate) fn reach_in<A: Allocator>(state: &Abstract<A>, insn: &Insn) -> Option
     match insn {
         Insn::Scalar(insn) => scalar_reach(state.numbers(), *insn),
         Insn::VMem(insn) => state.reach(insn),
-        _ => None,
+        Insn::Csr(_)
+        | Insn::VSet(_)
+        | Insn::VArith(_)
+        | Insn::VMask(_)
+        | Insn::VPerm(_)
+        | Insn::VReduce(_)
+        | Insn::VMove(_) => None,
     }
 }
 

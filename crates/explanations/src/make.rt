@@ -158,7 +158,21 @@ pub fn attach_reason(file: &[u8], image: &Image, certificate: usize, error: ElfE
                 certificate,
             }
         }
-        _ => MakeReason::Untold,
+        ElfError::TooShort
+        | ElfError::BadMagic
+        | ElfError::BadClass
+        | ElfError::BadType
+        | ElfError::BadMachine
+        | ElfError::BadFlags
+        | ElfError::BadHeaderTable
+        | ElfError::NotStatic
+        | ElfError::SegmentOutOfFile
+        | ElfError::SegmentOutOfPlace
+        | ElfError::SegmentsOverlap
+        | ElfError::WriteAndExecute
+        | ElfError::EntryNotCode
+        | ElfError::TwoCertificates
+        | ElfError::NoMemory => MakeReason::Untold,
     }
 }
 

@@ -243,7 +243,16 @@ pub(crate) fn unshown_in<A: Allocator>(
         CheckError::OrderNotProved(_) => unshown_order(way, block.orders.as_slice()),
         CheckError::VectorFactNotProved(_) => unshown_vector(way, block.vectors.as_slice()),
         CheckError::BudgetNotProved(_) => unshown_budget(own, way, block.budget),
-        _ => Unshown::Untold,
+        CheckError::WrongVlen
+        | CheckError::NoEntryBlock
+        | CheckError::NotCode(_)
+        | CheckError::IllegalWord(_)
+        | CheckError::VtypeUnknown(_)
+        | CheckError::AccessNotProved(_)
+        | CheckError::ReadOnly(_)
+        | CheckError::TargetNotABlock(_)
+        | CheckError::BlockTooLong(_)
+        | CheckError::NoMemory => Unshown::Untold,
     }
 }
 
