@@ -2,6 +2,8 @@
 use Rattle.std.proofs.Common.{◌≡◌, ◌∙◌, ◌++◌, Bool, false, ℕ, List, [], Option, Some, None, option_map, Result, Ok, Err, IfOk, IfErr, OnOk, MatchResult, ap, sym, subst, inl, inr, refl}
 use Rattle.std.specs.Io.KnownBytes.{Appends}
 use Rattle.std.specs.Option.{ok_or}
+use Rattle.std.specs.Result.{IsErrAnd}
+use Rattle.std.proofs.lemmas.Result.{MatchResult-weaker}
 use Rattle.block_checker.specs.Accepted.{AcceptedView}
 use Rattle.job_file.specs.Job.{IsTableFault, Text}
 use Rattle.job_file.specs.declared.values.JobError.{JobError}
@@ -12,7 +14,7 @@ use Rattle.toml.specs.Data.{Members}
 use Rattle.toml.specs.Parse.{parse_document}
 use Rattle.commands.specs.Accepted.{IsOrWant}
 use Rattle.commands.specs.Ending.{Ends, status_after, status_of_end, stop_of_job, text_after}
-use Rattle.commands.specs.Files.{Files, IsImageAt, IsNoImageAt, IsNoTable, IsNoTableAt, IsTableAt, IsUnfinished, IsUnwritten, OfTable, StopsOfTable, image_in, outs_of}
+use Rattle.commands.specs.Files.{Files, IsImageAt, IsNoImageAt, IsNoTable, IsNoTableAt, IsTableAt, IsUnfinished, IsUnwritten, image_in, outs_of}
 use Rattle.commands.specs.Starts.{IsStarted, IsUnstarted, StopsStarting}
 use Rattle.commands.specs.Steps.{IsUnasked}
 use Rattle.commands.specs.Trial.{OrMemory, StopsAtTrial, line_of}
@@ -26,25 +28,40 @@ use Rattle.commands.proofs.WrittenLemmas.{gains_more}
 
 -- ---- how a subcommand ends
 
--- a subcommand on the table of a job
-pub ends_of_table : (explains : Bool) (more : List ℕ) (files : Files) (wrote : Written → Type 0) (path : Text) (does : Members → Status → Type 0)
-    (stops : Members → Stop → Type 0) (old new : Option (List ℕ)) (table : Members) (done : Result Status Stop) (ending : Ending)
-    → IsTableAt files path table → MatchResult done (does table) (stops table)
-    → ending.status ≡ status_after done → (explains ≡ false → more ≡ []) → OnOk ending.told (Appends old new (text_after done ++ more))
-    → Ends explains (OfTable files path does) (StopsOfTable files wrote path stops) old new ending
-ends_of_table explains more files wrote path does stops old new table (Ok s) ending there it status unasked told =
-    record { done = Ok s; comes = (table, there, it); status = status; more = more; unasked = unasked; told = told }
-ends_of_table explains more files wrote path does stops old new table (Err reason) ending there it status unasked told =
-    record { done = Err reason; comes = inr (table, there, it); status = status; more = more; unasked = unasked; told = told }
+-- an ending with what was done is one of a subcommand that does so, or stops so
+pub ends_as : {explains : Bool} {old new : Option (List ℕ)} {ending : Ending} {does : Status → Type 0} {stops : Stop → Type 0}
+    (done : Result Status Stop) → Ends explains (λ s. done ≡ Ok s) (λ reason. done ≡ Err reason) old new ending
+    → MatchResult done does stops → Ends explains does stops old new ending
+ends_as {explains} {old} {new} {ending} {does} {stops} done e comes = record {
+  done = done;
+  comes = comes;
+  status = e.status ∙ ap status_after (sym (same e.done e.comes));
+  more = e.more;
+  unasked = e.unasked;
+  told = subst (λ (r : Result Status Stop). OnOk ending.told (Appends old new (text_after r ++ e.more))) (sym (same e.done e.comes)) e.told;
+}
+  where
+    same : (r : Result Status Stop) → MatchResult r (λ s. done ≡ Ok s) (λ reason. done ≡ Err reason) → done ≡ r
+    same (Ok s) is = is
+    same (Err reason) is = is
 
--- where no table is read
-pub ends_untabled : (explains : Bool) (more : List ℕ) (files : Files) (wrote : Written → Type 0) (path : Text) (does : Members → Status → Type 0)
-    (stops : Members → Stop → Type 0) (old new : Option (List ℕ)) (reason : Stop) (ending : Ending)
-    → IsNoTableAt files path reason → wrote []
-    → ending.status ≡ status_after (Err reason) → (explains ≡ false → more ≡ []) → OnOk ending.told (Appends old new (text_after (Err reason) ++ more))
-    → Ends explains (OfTable files path does) (StopsOfTable files wrote path stops) old new ending
-ends_untabled explains more files wrote path does stops old new reason ending none kept status unasked told =
-    record { done = Err reason; comes = inl (none, kept); status = status; more = more; unasked = unasked; told = told }
+-- the same, where what was done is known in other words
+pub ends_by : {explains : Bool} {old new : Option (List ℕ)} {ending : Ending} {does : Status → Type 0} {stops : Stop → Type 0}
+    (done : Result Status Stop) (did : Status → Type 0) (stopped : Stop → Type 0)
+    → Ends explains (λ s. done ≡ Ok s) (λ reason. done ≡ Err reason) old new ending → MatchResult done did stopped
+    → ((s : Status) → did s → does s) → ((reason : Stop) → stopped reason → stops reason) → Ends explains does stops old new ending
+ends_by done did stopped e comes so why = ends_as done e (MatchResult-weaker done comes so why)
+
+pub itself : {A : Type 0} (r : Result A Stop) → MatchResult r (λ a. r ≡ Ok a) (λ reason. r ≡ Err reason)
+itself (Ok a) = refl
+itself (Err reason) = refl
+
+-- ---- a reason to stop that a `?` hands on
+
+pub handed_on : {A : Type 0} (does : A → Type 0) (stops : Stop → Type 0) (r : Result A Stop) (reason : Stop)
+    → IsErrAnd r (λ told. told ≡ reason) → stops reason → MatchResult r does stops
+handed_on does stops (Ok a) reason is why = absurd is
+handed_on does stops (Err told) reason is why = subst stops (sym is) why
 
 -- ---- what is defined, where the answer is no reason to stop
 
@@ -88,15 +105,14 @@ map_self : {J : Type 0} (o : Option J) → option_map (λ j. j) o ≡ o
 map_self None = refl
 map_self (Some j) = refl
 
-pub unasked : {J K : Type 0} (view : J → K) (o : Option J) (asked : Option K) (r : Result J JobError) (e : JobError) (reason : Stop)
-    → option_map view o ≡ asked → r ≡ ok_or o job_error.BadKey → r ≡ Err e → reason ≡ stop_of_job e → IsUnasked asked reason
-unasked view None asked r e reason is or_else err why =
-    (sym is, why ∙ ap stop_of_job (one_error r e job_error.BadKey err or_else))
-unasked view (Some j) asked r e reason is or_else err why = absurd (no_value r e j or_else err)
+pub unasked : {J K : Type 0} (view : J → K) (o : Option J) (asked : Option K) (r : Result J JobError) (e : JobError)
+    → option_map view o ≡ asked → r ≡ ok_or o job_error.BadKey → r ≡ Err e → IsUnasked asked (stop_of_job e)
+unasked view None asked r e is or_else err = (sym is, ap stop_of_job (one_error r e job_error.BadKey err or_else))
+unasked view (Some j) asked r e is or_else err = absurd (no_value r e j or_else err)
 
-pub unasked_self : {J : Type 0} (o asked : Option J) (r : Result J JobError) (e : JobError) (reason : Stop)
-    → o ≡ asked → r ≡ ok_or o job_error.BadKey → r ≡ Err e → reason ≡ stop_of_job e → IsUnasked asked reason
-unasked_self o asked r e reason is or_else err why = unasked (λ j. j) o asked r e reason (map_self o ∙ is) or_else err why
+pub unasked_self : {J : Type 0} (o asked : Option J) (r : Result J JobError) (e : JobError)
+    → o ≡ asked → r ≡ ok_or o job_error.BadKey → r ≡ Err e → IsUnasked asked (stop_of_job e)
+unasked_self o asked r e is or_else err = unasked (λ j. j) o asked r e (map_self o ∙ is) or_else err
 
 -- ---- why it stops, where nothing was written before: what was written since is all that was written
 
@@ -113,8 +129,8 @@ unfinished_more files some all params args reason more (inr (is, wrote)) = inr (
 -- ---- what `run` and `mon` begin with
 
 -- what is not started stops so, whatever would follow
-pub unstarted : (files : Files) (wrote : Written → Type 0) (later : RunJob Text → AcceptedView → List Argument → Stop → Type 0) (table : Members) (reason : Stop)
-    → IsUnstarted files table reason → wrote [] → StopsStarting files wrote later table reason
+pub unstarted : (files : Files) (wrote : Written → Type 0) (later : (Written → Type 0) → RunJob Text → AcceptedView → List Argument → Stop → Type 0) (table : Members) (reason : Stop)
+    → IsUnstarted files table reason → wrote [] → StopsStarting files wrote (later wrote) table reason
 unstarted files wrote later table reason (inl (why, _)) none = inl (why, none)
 unstarted files wrote later table reason (inr (job, asked, inl (why, _))) none = inr (job, asked, inl (why, none))
 unstarted files wrote later table reason (inr (job, asked, inr (image, there, inl (why, _)))) none =
@@ -124,9 +140,9 @@ unstarted files wrote later table reason (inr (job, asked, inr (image, there, in
 unstarted files wrote later table reason (inr (job, asked, inr (image, there, inr (accepted, passes, inr (args, passed, never))))) none = absurd never
 
 -- what is started stops for what follows
-pub stops_started : (files : Files) (wrote : Written → Type 0) (later : RunJob Text → AcceptedView → List Argument → Stop → Type 0) (table : Members)
+pub stops_started : (files : Files) (wrote : Written → Type 0) (later : (Written → Type 0) → RunJob Text → AcceptedView → List Argument → Stop → Type 0) (table : Members)
     (job : RunJob Text) (accepted : AcceptedView) (args : List Argument) (reason : Stop)
-    → IsStarted files table job accepted args → later job accepted args reason → StopsStarting files wrote later table reason
+    → IsStarted files table job accepted args → later wrote job accepted args reason → StopsStarting files wrote (later wrote) table reason
 stops_started files wrote later table job accepted args reason s is =
     inr (job, s.asked, inr (s.image, s.there, inr (accepted, s.passes, inr (args, s.passed, is))))
 

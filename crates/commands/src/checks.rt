@@ -7,7 +7,7 @@ ghost use Rattle.commands.specs.Written.{Gains};
 
 use crate::accepted::accept;
 use crate::files::read_image;
-use crate::stop::{Ending, Status, Stop, told};
+use crate::stop::{Ending, Status, Stop, ended};
 use crate::store::Store;
 use crate::why::Why;
 use cert_note::Budget;
@@ -36,7 +36,7 @@ pub fn check_image<S: Store, O: Write, E: Write>(
 {
     let mut why = Why::new(alloc, explain);
     let done = check_at(alloc, path, store, output, &mut why);
-    told(done, why.lines_if(explain), errors)
+    ended(done, &why, explain, errors)
 }
 
 fn check_at<'a, S: Store, O: Write>(

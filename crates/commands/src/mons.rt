@@ -9,7 +9,7 @@ ghost use Rattle.commands.specs.Written.{Gains, Written};
 
 use crate::files::write_outs;
 use crate::lines::answer_lines;
-use crate::starts::{Start, on_table, started};
+use crate::starts::{on_table, started};
 use crate::stop::{Ending, Status, Stop};
 use crate::store::{MOST_READS, Store};
 use crate::why::{Why, note_open};
@@ -22,7 +22,7 @@ use sandbox_run::Session;
 use std::alloc::Global;
 use std::io::{Read, Write};
 use toml::Table;
-use vreg_groups::{Agnostic, Vlen};
+use vreg_groups::Vlen;
 
 /// `mon`: checks the image of the job at `path` against its certificate, at the job's length of vector registers, opens its
 /// run if it is accepted, answers each line of the input on standard output, up to the command `q` or the end of the input,
@@ -91,13 +91,19 @@ fn mon_table<'a, S: Store, I: Read, O: Write>(
         (Mons S.files (table_view table.entry.now) first (S.written store.new))
         (StopsMon S.files (Gains first (S.written store.new)) (table_view table.entry.now)) }
 {
-    let Start {
-        job,
-        accepted,
+    let start = started(alloc, table, store, why)?;
+    let args = start.args;
+    let kept = mon_accepted(
+        alloc,
+        &start.job,
+        &start.accepted,
         args,
-    } = started(alloc, table, store, why)?;
-    let kept = mon_accepted(alloc, &job, &accepted, args, input, output, reads, why)?;
-    write_outs(&job.params, &kept.places, store, why)?;
+        input,
+        output,
+        reads,
+        why,
+    )?;
+    write_outs(&start.job.params, &kept.places, store, why)?;
     Ok(Status::Done)
 }
 
@@ -118,22 +124,15 @@ fn mon_accepted<'a, I: Read, O: Write>(
         args.places kept.places)
         (StopsWatching (vlenb_of job.now.vlen) job.now.max accepted.now args.places) }
 {
-    let (agnostic, max) = (job.agnostic, job.max);
     match job.vlen {
         Vlen::V128 => {
-            mon_session::<16, I, O>(
-                alloc, accepted, args, agnostic, max, input, output, reads, why,
-            )
+            mon_session::<16, I, O>(alloc, job, accepted, args, input, output, reads, why)
         }
         Vlen::V256 => {
-            mon_session::<32, I, O>(
-                alloc, accepted, args, agnostic, max, input, output, reads, why,
-            )
+            mon_session::<32, I, O>(alloc, job, accepted, args, input, output, reads, why)
         }
         Vlen::V512 => {
-            mon_session::<64, I, O>(
-                alloc, accepted, args, agnostic, max, input, output, reads, why,
-            )
+            mon_session::<64, I, O>(alloc, job, accepted, args, input, output, reads, why)
         }
     }
 }
@@ -156,10 +155,9 @@ fn watch<'a, const VLENB: usize, I: Read, O: Write>(
 
 fn mon_session<'a, const VLENB: usize, I: Read, O: Write>(
     alloc: Global,
+    job: &RunJob<&str>,
     accepted: &Accepted,
     args: Args,
-    agnostic: Agnostic,
-    max: u64,
     input: &mut I,
     output: &mut O,
     reads: u64,
@@ -167,17 +165,18 @@ fn mon_session<'a, const VLENB: usize, I: Read, O: Write>(
 ) -> Result<Args, Stop<'a>>
     requires { IsVlenb VLENB }
     ensures { MatchResult result
-        (λ kept. IsStopped VLENB agnostic max accepted.now args.places kept.places)
-        (StopsWatching VLENB max accepted.now args.places) }
+        (λ kept. IsStopped VLENB job.now.agnostic job.now.max accepted.now
+        args.places kept.places)
+        (StopsWatching VLENB job.now.max accepted.now args.places) }
 {
-    match Session::<VLENB>::open(alloc, accepted, args, agnostic, max) {
+    match Session::<VLENB>::open(alloc, accepted, args, job.agnostic, job.max) {
         Ok(mut session) => {
             watch(alloc, &mut session, input, output, reads, why)?;
             session.stands();
             Ok(session.close())
         }
         Err((error, args)) => {
-            note_open(accepted, &args, max, error, why);
+            note_open(accepted, &args, job.max, error, why);
             Err(Stop::from(error))
         }
     }

@@ -10,7 +10,7 @@ ghost use Rattle.commands.specs.Trial.{OrMemory};
 ghost use Rattle.commands.specs.Written.{Gains, Written};
 ghost use Rattle.commands.specs.declared.trial.End.TheVariants.{Ended};
 
-use crate::starts::{Start, on_table, started};
+use crate::starts::{on_table, started};
 use crate::stop::{Ending, Status, Stop};
 use crate::store::Store;
 use crate::trial::{Trial, finish};
@@ -23,7 +23,7 @@ use sandbox_run::Session;
 use std::alloc::Global;
 use std::io::Write;
 use toml::Table;
-use vreg_groups::{Agnostic, Vlen};
+use vreg_groups::Vlen;
 
 /// `run`: checks the image of the job at `path` against its certificate, at the job's length of vector registers, runs it if
 /// it is accepted, writes the job's out files and prints how many steps the run took.
@@ -66,13 +66,10 @@ fn run_table<'a, S: Store, O: Write>(
         (O.contents output.old) (O.contents output.new) first (S.written store.new))
         (StopsRun S.files (Gains first (S.written store.new)) (table_view table.entry.now)) }
 {
-    let Start {
-        job,
-        accepted,
-        args,
-    } = started(alloc, table, store, why)?;
-    let trial = run_accepted(alloc, &job, &accepted, args, why)?;
-    finish(&job.params, &trial, store, output, why)
+    let start = started(alloc, table, store, why)?;
+    let args = start.args;
+    let trial = run_accepted(alloc, &start.job, &start.accepted, args, why)?;
+    finish(&start.job.params, &trial, store, output, why)
 }
 
 /// Runs a job on an accepted image and arguments, at the job's length of vector registers and setting.
@@ -91,31 +88,31 @@ fn run_accepted<'a>(
     ensures ended { IfOk result (λ trial. trial.end ≡ Ended) }
 {
     match job.vlen {
-        Vlen::V128 => run_session::<16>(alloc, accepted, args, job.agnostic, job.max, why),
-        Vlen::V256 => run_session::<32>(alloc, accepted, args, job.agnostic, job.max, why),
-        Vlen::V512 => run_session::<64>(alloc, accepted, args, job.agnostic, job.max, why),
+        Vlen::V128 => run_session::<16>(alloc, job, accepted, args, why),
+        Vlen::V256 => run_session::<32>(alloc, job, accepted, args, why),
+        Vlen::V512 => run_session::<64>(alloc, job, accepted, args, why),
     }
 }
 
 fn run_session<'a, const VLENB: usize>(
     alloc: Global,
+    job: &RunJob<&str>,
     accepted: &Accepted,
     args: Args,
-    agnostic: Agnostic,
-    max: u64,
     why: &mut Why,
 ) -> Result<Trial, Stop<'a>>
     requires { IsVlenb VLENB }
-    ensures answer { OrMemory (session_of VLENB agnostic max accepted.now args.places) result }
+    ensures answer { OrMemory (session_of VLENB job.now.agnostic job.now.max
+        accepted.now args.places) result }
     ensures ended { IfOk result (λ trial. trial.end ≡ Ended) }
 {
-    match Session::<VLENB>::open(alloc, accepted, args, agnostic, max) {
+    match Session::<VLENB>::open(alloc, accepted, args, job.agnostic, job.max) {
         Ok(mut session) => {
             let steps = session.run();
             Ok(Trial::ended(steps, session.close()))
         }
         Err((error, args)) => {
-            note_open(accepted, &args, max, error, why);
+            note_open(accepted, &args, job.max, error, why);
             Err(Stop::from(error))
         }
     }

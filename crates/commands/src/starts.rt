@@ -28,9 +28,9 @@ macro_rules! on_table {
             Ok(table) => {
                 let $table = &table;
                 let done = $work;
-                $crate::stop::told(done, why.lines_if($explain), $errors)
+                $crate::stop::ended(done, $why, $explain, $errors)
             }
-            Err(stop) => $crate::stop::told(Err(stop), why.lines_if($explain), $errors),
+            Err(stop) => $crate::stop::ended(Err(stop), $why, $explain, $errors),
         }
     }};
 }

@@ -1,7 +1,7 @@
 //! How the program ends.
 ghost use Rattle.std.specs.Io.KnownBytes.{Appends};
-ghost use Rattle.std.specs.Prelude.{◌≡◌, ◌++◌, OnOk};
-ghost use Rattle.commands.specs.Ending.{code_of, status_after, status_of, stop_at_file};
+ghost use Rattle.std.specs.Prelude.{◌≡◌, ◌++◌, Err, Ok, OnOk};
+ghost use Rattle.commands.specs.Ending.{Ends, code_of, status_after, status_of, stop_at_file};
 ghost use Rattle.commands.specs.Ending.{stop_of_certificate, stop_of_check, stop_of_image};
 ghost use Rattle.commands.specs.Ending.{stop_of_job, stop_of_make, stop_of_open};
 ghost use Rattle.commands.specs.Ending.{text_after};
@@ -9,6 +9,7 @@ ghost use Rattle.commands.specs.Texts.{stop_text};
 ghost use Rattle.commands.specs.declared.stop.Stop.TheVariants.{Memory};
 
 use crate::store::StoreError;
+use crate::why::Why;
 use block_checker::CheckError;
 use cert_maker::MakeError;
 use cert_note::CertError;
@@ -231,6 +232,20 @@ pub fn told<E: Write>(done: Result<Status, Stop<'_>>, more: &[u8], errors: &mut 
         Err(stop) => (stop.status(), tell_all(&stop, more, errors)),
     };
     Ending { status, told }
+}
+
+/// How a subcommand ends after what was done, or after the reason to stop, which is told, and then, where it is to `explain`,
+/// more of why.
+pub fn ended<E: Write>(
+    done: Result<Status, Stop<'_>>,
+    why: &Why,
+    explain: bool,
+    errors: &mut E,
+) -> Ending
+    ensures { Ends explain (λ status. done.entry ≡ Ok status) (λ reason. done.entry ≡ Err reason)
+        (E.contents errors.old) (E.contents errors.new) result }
+{
+    told(done, why.lines_if(explain), errors)
 }
 
 /// Tells why, and then more.

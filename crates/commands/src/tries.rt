@@ -24,7 +24,7 @@ use sandbox_run::{Outcome, try_run};
 use std::alloc::Global;
 use std::io::Write;
 use toml::Table;
-use vreg_groups::{Agnostic, Vlen};
+use vreg_groups::Vlen;
 
 /// `try`: runs the image of the job at `path`, accepted or not, with every test at each step, writes the job's out files
 /// and prints how the run ended.
@@ -93,9 +93,9 @@ fn run_tried<'a>(
         return Err(Stop::Job(JobError::BadKey));
     };
     match job.vlen {
-        Vlen::V128 => run::<16>(alloc, image, &parameters, args, job.agnostic, job.max, why),
-        Vlen::V256 => run::<32>(alloc, image, &parameters, args, job.agnostic, job.max, why),
-        Vlen::V512 => run::<64>(alloc, image, &parameters, args, job.agnostic, job.max, why),
+        Vlen::V128 => run::<16>(alloc, job, image, &parameters, args, why),
+        Vlen::V256 => run::<32>(alloc, job, image, &parameters, args, why),
+        Vlen::V512 => run::<64>(alloc, job, image, &parameters, args, why),
     }
 }
 
@@ -139,17 +139,17 @@ fn params_for(params: &[TryParam<&str>; 8], args: &[Arg; 8]) -> [Param; 8]
 
 fn run<'a, const VLENB: usize>(
     alloc: Global,
+    job: &TryJob<&str>,
     image: &Image,
     parameters: &Parameters,
     args: Args,
-    agnostic: Agnostic,
-    max: u64,
     why: &mut Why,
 ) -> Result<Trial, Stop<'a>>
     requires { IsVlenb VLENB }
-    ensures { OrMemory (run_of VLENB agnostic max image.now args.places parameters.now) result }
+    ensures { OrMemory (run_of VLENB job.now.agnostic job.now.max
+        image.now args.places parameters.now) result }
 {
-    match try_run::<VLENB>(alloc, image, parameters, args, agnostic, max) {
+    match try_run::<VLENB>(alloc, image, parameters, args, job.agnostic, job.max) {
         Ok(Outcome::Ended(last)) => Ok(trial_at(End::Ended, last)),
         Ok(Outcome::Trapped(fault, last)) => {
             note_trap(alloc, image, fault, last.registers.pc, why);
@@ -157,7 +157,7 @@ fn run<'a, const VLENB: usize>(
         }
         Ok(Outcome::OutOfSteps(last)) => Ok(trial_at(End::OutOfSteps, last)),
         Err((error, args)) => {
-            note_argument(parameters, &args, 0, max, error, why);
+            note_argument(parameters, &args, 0, job.max, error, why);
             Err(Stop::from(error))
         }
     }

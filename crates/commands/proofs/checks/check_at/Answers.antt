@@ -1,18 +1,15 @@
 use Rattle.std.proofs.Common.{inl, inr, refl, None}
-use Rattle.std.proofs.lemmas.Result.{err_from_is_err_and}
 use Rattle.commands.specs.Accepted.{accepted_of}
-use Rattle.commands.proofs.CommandLemmas.{want_ok}
+use Rattle.commands.proofs.CommandLemmas.{handed_on, want_ok}
 use Rattle.commands.proofs.checks.check_at.Goals as goal
 
 pub returns-in_err-image : goal.returns-in_err-image
 returns-in_err-image g c =
-    let p = err_from_is_err_and c.from_residual.result c.from_residual.ensures.1 in
-    rw (p.1, p.2) (inl c.in_err-image.ensures.image, c.in_err-image.ensures.files)
+    handed_on _ _ _ _ c.from_residual.ensures.1 (inl c.in_err-image.ensures.image, c.in_err-image.ensures.files)
 
 pub returns-in_err-accepted : goal.returns-in_err-accepted
 returns-in_err-accepted g c =
-    let p = err_from_is_err_and c.from_residual-in_err-accepted.result c.from_residual-in_err-accepted.ensures.1 in
-    rw (p.1, p.2) (inr (c.in_ok-image.image, c.in_ok-image.ensures.image, inl c.in_err-accepted.ensures.answer), c.in_ok-image.ensures.files)
+    handed_on _ _ _ _ c.from_residual-in_err-accepted.ensures.1 (inr (c.in_ok-image.image, c.in_ok-image.ensures.image, inl c.in_err-accepted.ensures.answer), c.in_ok-image.ensures.files)
 
 pub returns : goal.returns
 returns g c =

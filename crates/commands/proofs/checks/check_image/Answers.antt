@@ -1,12 +1,5 @@
+use Rattle.commands.proofs.CommandLemmas.{ends_as}
 use Rattle.commands.proofs.checks.check_image.Goals as goal
 
 pub returns : goal.returns
-returns g c =
-    record {
-      done = c.check_at-done.result;
-      comes = c.check_at-done.ensures;
-      status = c.told.ensures.status;
-      more = c.lines_if.result.now;
-      unasked = c.lines_if.ensures;
-      told = c.told.ensures.told;
-    }
+returns g c = ends_as c.check_at-done.result c.ended.ensures c.check_at-done.ensures

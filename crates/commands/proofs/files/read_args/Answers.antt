@@ -1,5 +1,5 @@
 use Rattle.std.proofs.Common.{rules, [], arith}
-use Rattle.std.proofs.lemmas.Result.{err_from_is_err_and}
+use Rattle.commands.proofs.CommandLemmas.{handed_on}
 use Rattle.commands.proofs.WrittenLemmas.{gains_more, gains_none, unpassed}
 use Rattle.commands.proofs.files.read_args.Goals as goal
 
@@ -15,8 +15,7 @@ loop-place-preserved g c = record {
 
 pub returns-in_err-places-clause-passed : goal.returns-in_err-places-clause-passed
 returns-in_err-places-clause-passed g c =
-    let p = err_from_is_err_and c.from_residual.result c.from_residual.ensures.1 in
-    rw (p.1, p.2) (unpassed g.S.Store.files c.args.params.now c.loop-place.place _ c.in_err-places.ensures.passed)
+    handed_on _ _ _ _ c.from_residual.ensures.1 (unpassed g.S.Store.files c.args.params.now c.loop-place.place _ c.in_err-places.ensures.passed)
 
 pub returns-in_err-places-clause-files : goal.returns-in_err-places-clause-files
 returns-in_err-places-clause-files g c = gains_more _ _ _ [] [] c.loop-place.invariant.kept c.in_err-places.ensures.files

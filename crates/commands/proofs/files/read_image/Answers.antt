@@ -1,12 +1,10 @@
 use Rattle.std.proofs.Common.{rules, inl}
-use Rattle.std.proofs.lemmas.Result.{err_from_is_err_and}
-use Rattle.commands.proofs.CommandLemmas.{image_read}
+use Rattle.commands.proofs.CommandLemmas.{handed_on, image_read}
 use Rattle.commands.proofs.files.read_image.Goals as goal
 
 pub returns-in_err-bytes-clause-image : goal.returns-in_err-bytes-clause-image
 returns-in_err-bytes-clause-image g c =
-    let p = err_from_is_err_and c.from_residual.result c.from_residual.ensures.1 in
-    rw (p.1, p.2) (inl c.in_err-bytes.ensures.bytes)
+    handed_on _ _ _ _ c.from_residual.ensures.1 (inl c.in_err-bytes.ensures.bytes)
 
 pub returns-clause-image : goal.returns-clause-image
 returns-clause-image g c =

@@ -1,13 +1,11 @@
 use Rattle.std.proofs.Common.{rules, inl}
-use Rattle.std.proofs.lemmas.Result.{err_from_is_err_and}
 use Rattle.toml.specs.View.{table_view}
-use Rattle.commands.proofs.CommandLemmas.{table_read}
+use Rattle.commands.proofs.CommandLemmas.{handed_on, table_read}
 use Rattle.commands.proofs.files.read_table.Goals as goal
 
 pub returns-in_err-bytes-clause-table : goal.returns-in_err-bytes-clause-table
 returns-in_err-bytes-clause-table g c =
-    let p = err_from_is_err_and c.from_residual.result c.from_residual.ensures.1 in
-    rw (p.1, p.2) (inl c.in_err-bytes.ensures.bytes)
+    handed_on _ _ _ _ c.from_residual.ensures.1 (inl c.in_err-bytes.ensures.bytes)
 
 pub returns-clause-table : goal.returns-clause-table
 returns-clause-table g c =

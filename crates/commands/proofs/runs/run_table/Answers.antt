@@ -1,40 +1,35 @@
 use Rattle.std.proofs.Common.{[], inl, refl}
-use Rattle.std.proofs.lemmas.Result.{err_from_is_err_and}
 use Rattle.job_file.specs.Needs.{run_job_lent}
 use Rattle.commands.specs.Runs.{StopsRan, run_of_job}
 use Rattle.commands.specs.Written.{Gains}
-use Rattle.commands.proofs.CommandLemmas.{finished, stops_started, unstarted}
+use Rattle.commands.proofs.CommandLemmas.{finished, handed_on, stops_started, unstarted}
 use Rattle.commands.proofs.WrittenLemmas.{gains_more}
 use Rattle.commands.proofs.runs.run_table.Goals as goal
 
-pub returns-in_err-job : goal.returns-in_err-job
-returns-in_err-job g c first none =
-    let wrote = Gains first (g.S.Store.written c.started.new.store) in
-    let p = err_from_is_err_and c.from_residual.result c.from_residual.ensures.1 in
-    rw (p.1, p.2) (unstarted g.S.Store.files wrote (StopsRan g.S.Store.files wrote) _ _ c.in_err-job.ensures.start (gains_more _ _ _ [] [] none c.in_err-job.ensures.files))
+pub returns-in_err-start : goal.returns-in_err-start
+returns-in_err-start g c first none =
+    handed_on _ _ _ _ c.from_residual.ensures.1 (unstarted g.S.Store.files (Gains first (g.S.Store.written c.started.new.store)) (StopsRan g.S.Store.files) _ _ c.in_err-start.ensures.start (gains_more _ _ _ [] [] none c.in_err-start.ensures.files))
 
 pub returns-in_err-trial : goal.returns-in_err-trial
 returns-in_err-trial g c first none =
-    let wrote = Gains first (g.S.Store.written c.started.new.store) in
-    let p = err_from_is_err_and c.from_residual-in_err-trial.result c.from_residual-in_err-trial.ensures.1 in
-    rw (p.1, p.2) (stops_started g.S.Store.files wrote (StopsRan g.S.Store.files wrote) _ _ _ _ _ c.in_ok-job.ensures.start (inl (c.in_err-trial.ensures.answer, gains_more _ _ _ [] [] none c.in_ok-job.ensures.files)))
+    handed_on _ _ _ _ c.from_residual-in_err-trial.ensures.1 (stops_started g.S.Store.files (Gains first (g.S.Store.written c.started.new.store)) (StopsRan g.S.Store.files) _ _ _ _ _ c.in_ok-start.ensures.start (inl (c.in_err-trial.ensures.answer, gains_more _ _ _ [] [] none c.in_ok-start.ensures.files)))
 
 pub returns : goal.returns
 returns g c first none =
-    let s = c.in_ok-job.field-0 in
+    let s = c.in_ok-start.start in
     let job = run_job_lent s.job in
     let wrote = Gains first (g.S.Store.written c.finish.new.store) in
     finished g.S.Store.files _ _ first _ _ _ job.params (run_of_job job s.accepted s.args.places) c.in_ok-trial.trial c.finish.result _ _ refl c.in_ok-trial.ensures.answer
-    (gains_more _ _ _ [] [] none c.in_ok-job.ensures.files) c.finish.ensures.done c.finish.ensures.told c.finish.ensures.wrote c.finish.ensures.unfinished
+    (gains_more _ _ _ [] [] none c.in_ok-start.ensures.files) c.finish.ensures.done c.finish.ensures.told c.finish.ensures.wrote c.finish.ensures.unfinished
     (λ status comes outs told done. record {
       job = job;
       accepted = s.accepted;
       args = s.args.places;
-      started = c.in_ok-job.ensures.start;
+      started = c.in_ok-start.ensures.start;
       trial = c.in_ok-trial.trial;
       comes = comes;
       wrote = outs;
       told = told;
       done = done;
     })
-    (λ reason. stops_started g.S.Store.files wrote (StopsRan g.S.Store.files wrote) _ _ _ _ _ c.in_ok-job.ensures.start)
+    (λ reason. stops_started g.S.Store.files wrote (StopsRan g.S.Store.files) _ _ _ _ _ c.in_ok-start.ensures.start)

@@ -1,19 +1,16 @@
 use Rattle.std.proofs.Common.{rules, ◌≡◌, Some, inl, inr}
-use Rattle.std.proofs.lemmas.Result.{err_from_is_err_and}
 use Rattle.job_file.specs.Needs.{run_job_in, run_job_lent}
 use Rattle.toml.specs.View.{table_view}
 use Rattle.commands.specs.Accepted.{accepted_of}
-use Rattle.commands.proofs.CommandLemmas.{unasked, want_ok}
+use Rattle.commands.proofs.CommandLemmas.{handed_on, unasked, want_ok}
 use Rattle.commands.proofs.starts.started.Goals as goal
 
 pub returns-in_err-job-clause-start : goal.returns-in_err-job-clause-start
 returns-in_err-job-clause-start g c =
-    let p = err_from_is_err_and c.from_residual.result c.from_residual.ensures.1 in
-    rw p.1 (inl (unasked run_job_lent _ _ c.ok_or.result _ _ c.run_job_in.ensures c.ok_or.ensures.value (search rules) p.2, tt))
+    handed_on _ _ _ _ c.from_residual.ensures.1 (inl (unasked run_job_lent _ _ c.ok_or.result _ c.run_job_in.ensures c.ok_or.ensures.value (search rules), tt))
 
 pub returns-in_err-args-clause-start : goal.returns-in_err-args-clause-start
 returns-in_err-args-clause-start g c =
     let asked : run_job_in (table_view c.args.table.now) ≡ Some (run_job_lent c.in_ok-job.job) = search rules in
     let passes = want_ok (accepted_of (Some c.in_ok-job.job.vlen) c.in_ok-image.image) c.in_ok-accepted.accepted c.in_ok-accepted.ensures.answer in
-    let p = err_from_is_err_and c.from_residual-in_err-args.result c.from_residual-in_err-args.ensures.1 in
-    rw (p.1, p.2) (inr (run_job_lent c.in_ok-job.job, asked, inr (c.in_ok-image.image, c.in_ok-image.ensures.image, inr (c.in_ok-accepted.accepted, passes, inl (c.in_err-args.ensures.passed, tt)))))
+    handed_on _ _ _ _ c.from_residual-in_err-args.ensures.1 (inr (run_job_lent c.in_ok-job.job, asked, inr (c.in_ok-image.image, c.in_ok-image.ensures.image, inr (c.in_ok-accepted.accepted, passes, inl (c.in_err-args.ensures.passed, tt)))))
