@@ -1,5 +1,5 @@
 -- Places and arguments by their numbers.
-use Rattle.std.proofs.Common.{◌≡◌, ◌∙◌, ◌+◌, ◌<◌, ◌≤◌, ℕ, List, [], ◌∷◌, ap, sym, arith, length, drop, get_or, map, Bool, true, false, if◌then◌else◌, Some, None, IfSome}
+use Rattle.std.proofs.Common.{◌≡◌, ◌∙◌, ◌+◌, ◌<◌, ◌≤◌, ℕ, suc, List, [], ◌∷◌, ap, refl, sym, arith, length, drop, get_or, map, Bool, true, false, if◌then◌else◌, Some, None, IfSome}
 use Rattle.std.proofs.Math.Seq.{drop-cons}
 use Rattle.std.proofs.lemmas.List.{drop_all, drop_more}
 use Rattle.std.specs.List.{list_all}
@@ -39,6 +39,17 @@ pub eight_named : (l : List Place) (m : List ℕ) (d : Place) (a0 a1 a2 a3 a4 a5
     → (a0 ∷ (a1 ∷ (a2 ∷ (a3 ∷ (a4 ∷ (a5 ∷ (a6 ∷ (a7 ∷ [])))))))) ≡ arguments_of l m
 eight_named l m d a0 a1 a2 a3 a4 a5 a6 a7 len e0 e1 e2 e3 e4 e5 e6 e7 =
     eight_mapped (argument_of m) l d a0 a1 a2 a3 a4 a5 a6 a7 len e0 e1 e2 e3 e4 e5 e6 e7
+
+-- what is made of each, place by place
+pub each_mapped : {X Y : Type 0} (f : X → Y) (d : X) (e : Y) (l : List X) (made : List Y) → length made ≡ length l
+    → ((k : ℕ) → k < length l → get_or made k e ≡ f (get_or l k d)) → made ≡ map f l
+each_mapped f d e [] [] same at = refl
+each_mapped f d e (x ∷ xs) (y ∷ ys) same at =
+    let first : y ≡ f x = at 0 (omega arith) in
+    let more : ys ≡ map f xs = each_mapped f d e xs ys (omega (arith, same)) (λ k below. at (suc k) (omega (arith, below))) in
+    rw (first, more) refl
+each_mapped f d e [] (y ∷ ys) same at = absurd (omega (arith, same))
+each_mapped f d e (x ∷ xs) [] same at = absurd (omega (arith, same))
 
 -- parameters that are taken are those that were given
 kept_if : (taken : Bool) (l m : List Param) → l ≡ m → IfSome (if taken then Some l else None) (λ p. p ≡ m)

@@ -178,15 +178,9 @@ pub(crate) fn parameters(places: &[Place; 8]) -> Option<Parameters>
     ensures given { result ≡ parameters_of (params_of places.now) }
     ensures value { IfSome result (λ params. params ≡ params_of places.now) }
 {
-    let [a, b, c, d, e, f, g, h] = *places;
-    Parameters::new([
-        parameter(a)?,
-        parameter(b)?,
-        parameter(c)?,
-        parameter(d)?,
-        parameter(e)?,
-        parameter(f)?,
-        parameter(g)?,
-        parameter(h)?,
-    ])
+    let mut params = [Param::None; 8];
+    for number in 0..8 {
+        params[number] = parameter(places[number])?;
+    }
+    Parameters::new(params)
 }
