@@ -4,14 +4,15 @@ use Rattle.std.proofs.lemmas.List.{append-nil}
 use Rattle.std.specs.Io.KnownBytes.{Appends}
 use Rattle.std.specs.List.{list_any}
 use Rattle.clap.specs.Kinds.{Kinds, IsAmong}
-use Rattle.clap.specs.Words.{kind_of}
+use Rattle.clap.specs.Words.{fault_of, kind_of}
 use Rattle.clap.specs.declared.error.kind.ErrorKind.{ErrorKind}
 use Rattle.command_line.specs.Asked.{is_help, is_request, status_of_line}
 use Rattle.commands.specs.Ending.{Ends}
 use Rattle.command_line.specs.Program.{Does, IsAsAsked, explains, IsRefusal, IsStatusFor, Stops}
-use Rattle.command_line.specs.Line.{IsFaultIn, IsFaultOf, IsLineOf}
+use Rattle.command_line.specs.Line.{IsFaultIn, IsFaultOf, IsLineOf, app}
 use Rattle.commands.specs.Files.{Files}
 use Rattle.command_line.specs.declared.line.asked.Line.{Line}
+use Rattle.command_line.specs.declared.line.asked.Line.TheVariants as ask
 use Rattle.clap.specs.Words.{Text}
 use Rattle.command_line.specs.declared.line.asked.LineError.{LineError}
 use Rattle.command_line.specs.declared.line.asked.LineError.TheVariants as line_error
@@ -53,6 +54,18 @@ pub told_for : (kinds : Kinds) (error : LineError) (s : Status) → IsFaultIn ki
 told_for [] error s fits told answered = tt
 told_for (k ∷ ks) (line_error.Usage error) s among told answered = usage_for (kind_of error) (k ∷ ks) s among told answered
 told_for (k ∷ ks) line_error.NoMemory s fits told answered = subst (λ (t : Status). IsRefusal (k ∷ ks) t) (sym (told refl)) tt
+
+-- words that ask for something have no fault
+faultless : (words : List Text) (line : Line) → IsLineOf words line → fault_of app words ≡ []
+faultless words (ask.Check image explain) is = is.0.0
+faultless words (ask.Run job explain) is = is.0.0
+faultless words (ask.Try job explain) is = is.0.0
+faultless words (ask.Mon job explain) is = is.0.0
+faultless words (ask.Make paths explain) is = is.0.0
+
+-- so any status fits them
+pub fits_any : (words : List Text) (line : Line) (s : Status) → IsLineOf words line → IsStatusFor (fault_of app words) s
+fits_any words line s is = subst (λ (kinds : Kinds). IsStatusFor kinds s) (sym (faultless words line is)) tt
 
 -- what a subcommand that the words name does, or a fault of theirs
 pub asked_for : (files : Files) (words : List Text) (line : Line) (old new : Option (List ℕ)) (was has : Option Written)

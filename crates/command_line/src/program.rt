@@ -3,7 +3,10 @@ ghost use Rattle.std.specs.IoError.{error_kind};
 ghost use Rattle.std.specs.Prelude.{◌≡◌, map};
 ghost use Rattle.clap.specs.Words.{fault_of};
 ghost use Rattle.command_line.specs.Line.{app};
-ghost use Rattle.command_line.specs.Program.{IsAsAsked, IsStatusFor, status_without_words};
+ghost use Rattle.command_line.specs.Program.{Does, IsAsAsked, IsStatusFor, Stops, explains};
+ghost use Rattle.command_line.specs.Program.{status_without_words};
+ghost use Rattle.commands.specs.Ending.{Ends};
+ghost use Rattle.commands.specs.Written.{Gains};
 
 use crate::line::asked::Line;
 use crate::line::line;
@@ -33,18 +36,32 @@ pub fn perform<'a, S: Store, I: Read, O: Write, E: Write>(
         (E.contents errors.old) (E.contents errors.new) result }
 {
     match line(alloc, words) {
-        Ok(Line::Check { image, explain }) => check_image(
-            alloc, image, explain, store, output, errors,
-        ),
-        Ok(Line::Run { job, explain }) => run_job(alloc, job, explain, store, output, errors),
-        Ok(Line::Try { job, explain }) => try_job(alloc, job, explain, store, output, errors),
-        Ok(Line::Mon { job, explain }) => mon_job(
-            alloc, job, explain, store, input, output, errors,
-        ),
-        Ok(Line::Make { paths, explain }) => make_image(
-            alloc, paths, explain, store, output, errors,
-        ),
+        Ok(asked) => carry_out(alloc, asked, store, input, output, errors),
         Err(error) => error.tell(output, errors),
+    }
+}
+
+/// Does what a line asks for.
+fn carry_out<'a, S: Store, I: Read, O: Write, E: Write>(
+    alloc: Global,
+    asked: Line<'a>,
+    store: &mut S,
+    input: &mut I,
+    output: &mut O,
+    errors: &mut E,
+) -> Ending
+    ensures { Ends (explains asked.entry)
+        (Does S.files asked.entry (O.contents output.old) (O.contents output.new)
+        (S.written store.old) (S.written store.new))
+        (Stops S.files (Gains (S.written store.old) (S.written store.new)) asked.entry)
+        (E.contents errors.old) (E.contents errors.new) result }
+{
+    match asked {
+        Line::Check { image, explain } => check_image(alloc, image, explain, store, output, errors),
+        Line::Run { job, explain } => run_job(alloc, job, explain, store, output, errors),
+        Line::Try { job, explain } => try_job(alloc, job, explain, store, output, errors),
+        Line::Mon { job, explain } => mon_job(alloc, job, explain, store, input, output, errors),
+        Line::Make { paths, explain } => make_image(alloc, paths, explain, store, output, errors),
     }
 }
 
