@@ -11,7 +11,7 @@ use Rattle.clap.specs.Kinds.{HasKind, Kinds, check_kinds, or_else}
 use Rattle.clap.specs.Faults.{check_fault, defaults_fault, entered_fault, level_fault, settle_fault, walk_fault}
 use Rattle.clap.specs.Simple.{argument_words, built, entered, label_of, names_of, rows_at}
 use Rattle.clap.specs.Takes.{is_given}
-use Rattle.clap.specs.Walk.{answers_to, arg_by_id, arg_by_long, arg_by_short, finished, nothing_held, rows_after, settled, stop_after, used_by_id, walk, walk_from, without}
+use Rattle.clap.specs.Walk.{Names, answers_to, arg_by_id, arg_by_long, arg_by_short, nothing_held, rows_after, settled, stop_after, used_by_id, walk, walk_from, without}
 use Rattle.clap.proofs.OnLiterals.{clap_on_literals}
 use Rattle.clap.specs.declared.error.Error.{Error}
 use Rattle.clap.specs.declared.parser.matches.ArgMatches.{ArgMatches}
@@ -27,6 +27,11 @@ app_is_plain = refl
 
 app_is_simple : is_simple app ≡ true
 app_is_simple = refl
+
+-- a command with one more subcommand, where both are known in other words
+pub with_more : (before known : App) (sub shape : Shape) (a : App) → a ≡ with_subcommand before sub → before ≡ known → sub ≡ shape
+    → a ≡ with_subcommand known shape
+with_more before known sub shape a is first second = is ∙ ap (λ x. with_subcommand x sub) first ∙ ap (with_subcommand known) second
 
 -- ---- a path of the subcommand that was entered
 
@@ -65,6 +70,27 @@ row_found id rows given = go (find (λ r. bytes_eq r.id id) rows) given
     go None e = cc
     go (Some r) e = refl
 
+-- a level of a parse without a fault has none in what it enters, nor in what it asks for
+level_parts : (s : Shape) (names : Names) (words : List Text) (has_subcommand : Bool) (below : Kinds)
+    → level_fault s names nothing_held words has_subcommand below ≡ []
+    → (below ≡ []) × (check_fault s (rows_after s.rules names words) has_subcommand ≡ [])
+level_parts s names words has_subcommand below none =
+    let end = (walk s.rules names nothing_held words).held in
+    let after_walk = (or_else_parts (walk_fault s names (walk_from nothing_held) words) _ none).1 in
+    let (none_below, after_below) = or_else_parts below _ after_walk in
+    let after_settle = (or_else_parts (settle_fault s.rules s.args_override_self end) _ after_below).1 in
+    (none_below, (or_else_parts (defaults_fault (settled s.rules end).rows s.rules) _ after_settle).1)
+
+-- what a word with dashes names: `--explain`, `--help` or nothing
+letter_named : (help : Option Rule) → IsRequest help → (is_help : Bool) → IsRequest (cond (is_help || false) help None)
+letter_named help asks true = asks
+letter_named help asks false = tt
+
+flag_named : (explain help : Option Rule) → IsRequest explain → IsRequest help
+    → (is_explain is_help : Bool) → IsRequest (cond (is_explain || false) explain (cond (is_help || false) help None))
+flag_named explain help explains asks true is_help = explains
+flag_named explain help explains asks false is_help = letter_named help asks is_help
+
 -- the path is required
 path_given : (b : Bool) → check_kinds false false ((not b) || false) ≡ [] → b ≡ true
 path_given true none = refl
@@ -97,28 +123,18 @@ module _ (name id : Text) where
       go false false false (v ∷ vs) h = f
 
   long_is_request : (x : Text) → IsRequest (arg_by_long built_path.rules x)
-  long_is_request x = go (bytes_eq (codes "explain") x) (bytes_eq (codes "help") x)
-    where
-      go : (a b : Bool) → IsRequest (cond (a || false) (slice_get built_path.rules 1) (cond (b || false) (slice_get built_path.rules 2) None))
-      go true b = (refl, λ rows f. Filled-with_values explain_flag.id _ _ (codes "true" ∷ []) (without explain_flag.id rows) tt (Filled-without explain_flag.id rows f))
-      go false true = (refl, λ rows f. f)
-      go false false = tt
+  long_is_request x =
+      flag_named (slice_get built_path.rules 1) (slice_get built_path.rules 2)
+      (refl, λ rows f. Filled-with_values explain_flag.id _ _ (codes "true" ∷ []) (without explain_flag.id rows) tt (Filled-without explain_flag.id rows f))
+      (refl, λ rows f. f) (bytes_eq (codes "explain") x) (bytes_eq (codes "help") x)
 
   short_is_request : (x : ℕ) → IsRequest (arg_by_short built_path.rules x)
-  short_is_request x = go (104 == x)
-    where
-      go : (b : Bool) → IsRequest (cond (b || false) (slice_get built_path.rules 2) None)
-      go true = (refl, λ rows f. f)
-      go false = tt
+  short_is_request x = letter_named (slice_get built_path.rules 2) (refl, λ rows f. f) (104 == x)
 
   path_there : (words : List Text) → level_fault built_path [] nothing_held words false [] ≡ [] → IsSome (first_of id (rows_after built_path.rules [] words))
   path_there words none =
       let rows = rows_after built_path.rules [] words in
-      let end = (walk built_path.rules [] nothing_held words).held in
-      let after_walk = (or_else_parts (walk_fault built_path [] (walk_from nothing_held) words) _ none).1 in
-      let after_settle = (or_else_parts (settle_fault built_path.rules built_path.args_override_self end) _ after_walk).1 in
-      let after_defaults = (or_else_parts (defaults_fault (settled built_path.rules end).rows built_path.rules) _ after_settle).1 in
-      let given = path_given (is_given id rows) after_defaults in
+      let given = path_given (is_given id rows) (level_parts built_path [] words false [] none).1 in
       found_value _ rows (rows_filled built_path.rules rule_fills long_is_request short_is_request [] words) (row_found id rows given)
 
 -- ---- the subcommand with three paths
@@ -146,19 +162,13 @@ make_fills x values rows h f =
     go false false false false false (v ∷ vs) h = f
 
 make_long_is_request : (x : Text) → IsRequest (arg_by_long make_built.rules x)
-make_long_is_request x = go (bytes_eq (codes "explain") x) (bytes_eq (codes "help") x)
-  where
-    go : (a b : Bool) → IsRequest (cond (a || false) (slice_get make_built.rules 3) (cond (b || false) (slice_get make_built.rules 4) None))
-    go true b = (refl, λ rows f. Filled-with_values (make_rule 3).id _ _ (codes "true" ∷ []) (without (make_rule 3).id rows) tt (Filled-without (make_rule 3).id rows f))
-    go false true = (refl, λ rows f. f)
-    go false false = tt
+make_long_is_request x =
+    flag_named (slice_get make_built.rules 3) (slice_get make_built.rules 4)
+    (refl, λ rows f. Filled-with_values (make_rule 3).id _ _ (codes "true" ∷ []) (without (make_rule 3).id rows) tt (Filled-without (make_rule 3).id rows f))
+    (refl, λ rows f. f) (bytes_eq (codes "explain") x) (bytes_eq (codes "help") x)
 
 make_short_is_request : (x : ℕ) → IsRequest (arg_by_short make_built.rules x)
-make_short_is_request x = go (104 == x)
-  where
-    go : (b : Bool) → IsRequest (cond (b || false) (slice_get make_built.rules 4) None)
-    go true = (refl, λ rows f. f)
-    go false = tt
+make_short_is_request x = letter_named (slice_get make_built.rules 4) (refl, λ rows f. f) (104 == x)
 
 -- each path is required
 paths_given : (a b c : Bool) → check_kinds false false ((not a) || ((not b) || ((not c) || false))) ≡ []
@@ -179,11 +189,8 @@ paths_there : (words : List Text) → level_fault make_built [] nothing_held wor
     → IsSome (make_paths_of (Some (codes "make", rows_after make_built.rules [] words)))
 paths_there words none =
     let rows = rows_after make_built.rules [] words in
-    let end = (walk make_built.rules [] nothing_held words).held in
-    let after_walk = (or_else_parts (walk_fault make_built [] (walk_from nothing_held) words) _ none).1 in
-    let after_settle = (or_else_parts (settle_fault make_built.rules make_built.args_override_self end) _ after_walk).1 in
-    let after_defaults = (or_else_parts (defaults_fault (settled make_built.rules end).rows make_built.rules) _ after_settle).1 in
-    let (image, job, out) = paths_given (is_given (codes "image") rows) (is_given (codes "job") rows) (is_given (codes "out") rows) after_defaults in
+    let asked = (level_parts make_built [] words false [] none).1 in
+    let (image, job, out) = paths_given (is_given (codes "image") rows) (is_given (codes "job") rows) (is_given (codes "out") rows) asked in
     let filled = rows_filled make_built.rules make_fills make_long_is_request make_short_is_request [] words in
     three_there (first_of (codes "image") rows) (first_of (codes "job") rows) (first_of (codes "out") rows)
     (found_value _ rows filled (row_found (codes "image") rows image)) (found_value _ rows filled (row_found (codes "job") rows job))
@@ -241,12 +248,9 @@ path_named words none =
     let names = names_of program in
     let rest = argument_words app words in
     let stop = stop_after top.rules names rest in
-    let end = (walk top.rules names nothing_held rest).held in
-    let after_walk = (or_else_parts (walk_fault top names (walk_from nothing_held) rest) _ none).1 in
-    let (below, after_below) = or_else_parts (entered_fault program stop) _ after_walk in
-    let after_settle = (or_else_parts (settle_fault top.rules top.args_override_self end) _ after_below).1 in
-    let after_defaults = (or_else_parts (defaults_fault (settled top.rules end).rows top.rules) _ after_settle).1 in
-    entered_path stop (has_entered (finished top.rules end) (is_some (entered program stop)) after_defaults) below
+    let has = is_some (entered program stop) in
+    let (below, asked) = level_parts top names rest has (entered_fault program stop) none in
+    entered_path stop (has_entered (rows_after top.rules names rest) has asked) below
 
 -- ---- the program's command, in the words of a parse's clauses
 
@@ -266,7 +270,7 @@ same_entered a words X entered is same =
     (same simple).1 ∙ ap (λ x. subcommand_of x words) is
 
 -- a path of the subcommand that was entered
-pub is_path : (words : List Text) (name id path : Text) (entered : Option (Text × List Row)) → fault_of app words ≡ []
+is_path : (words : List Text) (name id path : Text) (entered : Option (Text × List Row)) → fault_of app words ≡ []
     → entered ≡ subcommand_of app words → Some path ≡ path_of name id entered → IsPathOf words name id path
 is_path words name id path entered none same at = (none, ap (path_of name id) (sym same) ∙ sym at)
 
@@ -274,6 +278,15 @@ is_path words name id path entered none same at = (none, ap (path_of name id) (s
 pub is_explained : (words : List Text) (name : Text) (explain : Bool) (entered : Option (Text × List Row))
     → entered ≡ subcommand_of app words → explain ≡ flag_of name (codes "explain") entered → IsExplained words name explain
 is_explained words name explain entered same at = at ∙ ap (flag_of name (codes "explain")) same
+
+-- a line of one path, as matches of the program's command give it
+pub path_line : (a : App) (words : List Text) (X : Type 0) (name id path : Text) (explain : Bool) (entered : Option (Text × List Row)) → a ≡ app
+    → (is_simple_and_free a ≡ true → fault_of a words ≡ []) → (is_simple a ≡ true → X × (entered ≡ subcommand_of a words))
+    → Some path ≡ path_of name id entered → explain ≡ flag_of name (codes "explain") entered
+    → IsPathOf words name id path × IsExplained words name explain
+path_line a words X name id path explain entered is none matches at asked =
+    let same = same_entered a words X entered is matches in
+    (is_path words name id path entered (no_fault a words is none) same at, is_explained words name explain entered same asked)
 
 -- a path that was not found
 pub no_path_of : (words : List Text) (name id : Text) (entered : Option (Text × List Row)) → entered ≡ subcommand_of app words

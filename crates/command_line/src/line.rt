@@ -4,9 +4,9 @@ ghost use Rattle.clap.specs.Words.{app_of, rule_of, shape_of, subcommand_rows_of
 ghost use Rattle.clap.specs.Words.{with_rule, with_subcommand};
 ghost use Rattle.clap.specs.declared.builder.command.Command.TheViews.{out-Command as fields_of};
 ghost use Rattle.command_line.specs.Line.{IsFaultOf, IsLineOf, app, explain_rule, flag_of};
-ghost use Rattle.command_line.specs.Line.{make_paths_of, path_of, path_rule};
-ghost use Rattle.command_line.specs.Line.{check_shape, make_shape, mon_shape, run_shape};
-ghost use Rattle.command_line.specs.Line.{texts_of, try_shape};
+ghost use Rattle.command_line.specs.Line.{make_paths_of, path_of, path_rule, path_shape};
+ghost use Rattle.command_line.specs.Line.{bare_app, check_shape, make_shape, mon_shape};
+ghost use Rattle.command_line.specs.Line.{texts_of};
 
 pub mod asked;
 
@@ -52,53 +52,56 @@ fn explain_flag<'a>(alloc: Global) -> Arg<'a>
         .action(ArgAction::SetTrue)
 }
 
+/// The subcommand `name` on a path, under `id`, shown as `shown`, with `--explain`.
+fn path_command<'a>(
+    alloc: Global,
+    name: &'a str,
+    about: &'a str,
+    id: &'a str,
+    shown: &'a str,
+    help: &'a str,
+) -> Result<Command<'a>, AllocError>
+    ensures shape { IfOk result (λ c. shape_of c ≡ path_shape name.entry.now id.entry.now) }
+    ensures local { IfOk result (λ c. (fields_of c).has_globals ≡ false) }
+{
+    let path = path_argument(alloc, id, shown, help);
+    Command::new(alloc, name)
+        .about(about)
+        .arg(path)?
+        .arg(explain_flag(alloc))
+}
+
 /// `check IMAGE`.
 fn check_command<'a>(alloc: Global) -> Result<Command<'a>, AllocError>
     ensures shape { IfOk result (λ c. shape_of c ≡ check_shape) }
     ensures local { IfOk result (λ c. (fields_of c).has_globals ≡ false) }
 {
-    let image = path_argument(alloc, "image", "IMAGE", "The image file");
-    Command::new(alloc, "check")
-        .about("Checks an image against its certificate")
-        .arg(image)?
-        .arg(explain_flag(alloc))
+    path_command(
+        alloc,
+        "check",
+        "Checks an image against its certificate",
+        "image",
+        "IMAGE",
+        "The image file",
+    )
 }
 
-/// `run JOB`.
-fn run_command<'a>(alloc: Global) -> Result<Command<'a>, AllocError>
-    ensures shape { IfOk result (λ c. shape_of c ≡ run_shape) }
+/// The subcommand `name` on a job: `run JOB`, `try JOB` or `mon JOB`.
+fn job_command<'a>(alloc: Global, name: &'a str, about: &'a str) -> Result<Command<'a>, AllocError>
+    ensures shape { IfOk result (λ c. shape_of c ≡ path_shape name.entry.now (codes "job")) }
     ensures local { IfOk result (λ c. (fields_of c).has_globals ≡ false) }
 {
-    let job = path_argument(alloc, "job", "JOB", "The job file");
-    Command::new(alloc, "run")
-        .about("Checks a job's image against its certificate, and runs it if it is accepted")
-        .arg(job)?
-        .arg(explain_flag(alloc))
+    path_command(alloc, name, about, "job", "JOB", "The job file")
 }
 
-/// `try JOB`.
-fn try_command<'a>(alloc: Global) -> Result<Command<'a>, AllocError>
-    ensures shape { IfOk result (λ c. shape_of c ≡ try_shape) }
-    ensures local { IfOk result (λ c. (fields_of c).has_globals ≡ false) }
-{
-    let job = path_argument(alloc, "job", "JOB", "The job file");
-    Command::new(alloc, "try")
-        .about("Runs a job's image, accepted or not, with every test at each step")
-        .arg(job)?
-        .arg(explain_flag(alloc))
-}
-
-/// `mon JOB`.
+/// `mon JOB`, whose help tells the commands.
 fn mon_command<'a>(alloc: Global) -> Result<Command<'a>, AllocError>
     ensures shape { IfOk result (λ c. shape_of c ≡ mon_shape) }
     ensures local { IfOk result (λ c. (fields_of c).has_globals ≡ false) }
 {
-    let job = path_argument(alloc, "job", "JOB", "The job file");
-    Command::new(alloc, "mon")
-        .about("Checks a job's image, and answers commands on its run from standard input")
-        .after_help(MON_COMMANDS)
-        .arg(job)?
-        .arg(explain_flag(alloc))
+    let about = "Checks a job's image, and answers commands on its run from standard input";
+    let mon = job_command(alloc, "mon", about)?;
+    Ok(mon.after_help(MON_COMMANDS))
 }
 
 /// `command` with one more path, under `id`, shown as `name`.
@@ -150,18 +153,38 @@ fn with<'a>(command: Command<'a>, sub: Command<'a>) -> Result<Command<'a>, Alloc
     command.subcommand(sub)
 }
 
+/// `rvvbox` with no subcommand yet.
+fn bare_command<'a>(alloc: Global) -> Command<'a>
+    ensures { app_of result ≡ bare_app }
+{
+    Command::new(alloc, "rvvbox")
+        .about("A sandbox for RISC-V vector kernels")
+        .version("0.1.0")
+        .subcommand_required(true)
+        .disable_help_subcommand(true)
+}
+
 /// The program's command, with all its subcommands.
 fn program<'a>(alloc: Global) -> Result<Command<'a>, AllocError>
     ensures { IfOk result (λ c. app_of c ≡ app) }
 {
-    let bare = Command::new(alloc, "rvvbox")
-        .about("A sandbox for RISC-V vector kernels")
-        .version("0.1.0")
-        .subcommand_required(true)
-        .disable_help_subcommand(true);
-    let checking = with(bare, check_command(alloc)?)?;
-    let running = with(checking, run_command(alloc)?)?;
-    let trying = with(running, try_command(alloc)?)?;
+    let checking = with(bare_command(alloc), check_command(alloc)?)?;
+    let running = with(
+        checking,
+        job_command(
+            alloc,
+            "run",
+            "Checks a job's image against its certificate, and runs it if it is accepted",
+        )?,
+    )?;
+    let trying = with(
+        running,
+        job_command(
+            alloc,
+            "try",
+            "Runs a job's image, accepted or not, with every test at each step",
+        )?,
+    )?;
     let watching = with(trying, mon_command(alloc)?)?;
     let making = make_command(alloc)?;
     with(watching, making)

@@ -1,36 +1,20 @@
 use Rattle.std.proofs.Common.{rules, ◌≡◌, map, ℕ, List}
 use Rattle.clap.specs.Words.{app_of, subcommand_rows_of}
 use Rattle.command_line.specs.Line.{app}
-use Rattle.command_line.proofs.LineLemmas.{are_make_paths, has_kind, is_explained, is_path, no_fault, no_make_paths, no_path, no_path_of, path_named, same_entered}
+use Rattle.command_line.proofs.LineLemmas.{are_make_paths, has_kind, is_explained, no_fault, no_make_paths, no_path, no_path_of, path_line, path_named, same_entered}
 use Rattle.command_line.proofs.line.line.Goals as goal
 
 pub returns-in-Some-clause-line : goal.returns-in-Some-clause-line
-returns-in-Some-clause-line c =
-    let words : List (List ℕ) = map (λ w. w.now) c.args.words.now in
-    let is : app_of c.in_ok-command.command ≡ app = search rules in
-    let same = same_entered _ words _ (subcommand_rows_of c.in-Ok.matches) is c.in-Ok.ensures.matches in
-    (is_path words _ _ _ _ (no_fault _ words is c.in-Ok.ensures.kinds) same c.in-Some.ensures, is_explained words _ _ _ same c.is_asked-explain.ensures)
+returns-in-Some-clause-line c = path_line _ _ _ _ _ _ _ (subcommand_rows_of c.in-Ok.matches) c.in_ok-command.ensures c.in-Ok.ensures.kinds c.in-Ok.ensures.matches c.in-Some.ensures c.is_asked-explain.ensures
 
 pub returns-in-Some-path-clause-line : goal.returns-in-Some-path-clause-line
-returns-in-Some-path-clause-line c =
-    let words : List (List ℕ) = map (λ w. w.now) c.args.words.now in
-    let is : app_of c.in_ok-command.command ≡ app = search rules in
-    let same = same_entered _ words _ (subcommand_rows_of c.in-Ok.matches) is c.in-Ok.ensures.matches in
-    (is_path words _ _ _ _ (no_fault _ words is c.in-Ok.ensures.kinds) same c.in-Some-path.ensures, is_explained words _ _ _ same c.is_asked-explain-in-Some-path.ensures)
+returns-in-Some-path-clause-line c = path_line _ _ _ _ _ _ _ (subcommand_rows_of c.in-Ok.matches) c.in_ok-command.ensures c.in-Ok.ensures.kinds c.in-Ok.ensures.matches c.in-Some-path.ensures c.is_asked-explain-in-Some-path.ensures
 
 pub returns-in-Some-path-2-clause-line : goal.returns-in-Some-path-2-clause-line
-returns-in-Some-path-2-clause-line c =
-    let words : List (List ℕ) = map (λ w. w.now) c.args.words.now in
-    let is : app_of c.in_ok-command.command ≡ app = search rules in
-    let same = same_entered _ words _ (subcommand_rows_of c.in-Ok.matches) is c.in-Ok.ensures.matches in
-    (is_path words _ _ _ _ (no_fault _ words is c.in-Ok.ensures.kinds) same c.in-Some-path-2.ensures, is_explained words _ _ _ same c.is_asked-explain-in-Some-path-2.ensures)
+returns-in-Some-path-2-clause-line c = path_line _ _ _ _ _ _ _ (subcommand_rows_of c.in-Ok.matches) c.in_ok-command.ensures c.in-Ok.ensures.kinds c.in-Ok.ensures.matches c.in-Some-path-2.ensures c.is_asked-explain-in-Some-path-2.ensures
 
 pub returns-in-Some-path-3-clause-line : goal.returns-in-Some-path-3-clause-line
-returns-in-Some-path-3-clause-line c =
-    let words : List (List ℕ) = map (λ w. w.now) c.args.words.now in
-    let is : app_of c.in_ok-command.command ≡ app = search rules in
-    let same = same_entered _ words _ (subcommand_rows_of c.in-Ok.matches) is c.in-Ok.ensures.matches in
-    (is_path words _ _ _ _ (no_fault _ words is c.in-Ok.ensures.kinds) same c.in-Some-path-3.ensures, is_explained words _ _ _ same c.is_asked-explain-in-Some-path-3.ensures)
+returns-in-Some-path-3-clause-line c = path_line _ _ _ _ _ _ _ (subcommand_rows_of c.in-Ok.matches) c.in_ok-command.ensures c.in-Ok.ensures.kinds c.in-Ok.ensures.matches c.in-Some-path-3.ensures c.is_asked-explain-in-Some-path-3.ensures
 
 pub returns-in-Some-make_paths-clause-line : goal.returns-in-Some-make_paths-clause-line
 returns-in-Some-make_paths-clause-line c =
