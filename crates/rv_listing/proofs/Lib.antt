@@ -1,3 +1,2 @@
 pub mod SinkLemmas
-pub mod PieceLemmas
-pub mod FieldLemmas
+pub mod TextLemmas

@@ -3,6 +3,7 @@ use Rattle.std.proofs.Common.{◌≡◌, ◌+◌, ◌-◌, ◌<◌, ◌∙◌, �
 use Rattle.std.proofs.lemmas.List.{append-nil, length-drop, take-append-drop, take_all}
 use Rattle.std.proofs.Math.Seq.{take-add}
 use Rattle.std.specs.Io.KnownBytes.{Appends, Keeps}
+use Rattle.std.specs.Result.{IsErr}
 use Rattle.rv_listing.specs.Sinks.{AppendsSome, IsCounted, Told, counted, has_failed}
 
 pub appends_both : (a b c : Option (List ℕ)) (xs ys : List ℕ) → Appends a b xs → Appends b c ys → Appends a c (xs ++ ys)
@@ -99,3 +100,9 @@ told_part a b k n xs ys part = (
   },
   part.1,
 )
+
+-- a failure that is handed on
+pub told_err : {E : Type 0} (r : Result (Unit {0}) E) (a b : Option (List ℕ)) (k n : ℕ) (xs : List ℕ)
+    → IsErr r → AppendsSome a b xs × IsCounted k n → Told r a b k n xs
+told_err (Ok done) a b k n xs is part = absurd (let f = is in cc)
+told_err (Err e) a b k n xs is part = part

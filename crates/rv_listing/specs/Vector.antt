@@ -7,6 +7,7 @@ use Rattle.rv_listing.specs.Arithmetic.{operation_text}
 use Rattle.rv_listing.specs.Fields.{line_text}
 use Rattle.rv_listing.specs.Names.{fold_name, logic_name, set_first_name, whole_move_name}
 use Rattle.rv_listing.specs.declared.arithmetic.Forms.TheVariants.{Single}
+use Rattle.rv_listing.specs.declared.fields.Field.{Field}
 use Rattle.rv_listing.specs.declared.fields.Field.TheVariants.{Rd, Vd, Rs1, Rs2, Vs2, Vs1, Avl, Amount, Vm}
 
 -- the requested vtype is the immediate
@@ -17,17 +18,22 @@ vset_text (VSet.Vsetivli rd avl vtype) =
     line_text (codes "vsetivli") [] (Rd rd ∷ Avl avl ∷ Amount vtype ∷ [])
 vset_text (VSet.Vsetvl rd rs1 rs2) = line_text (codes "vsetvl") [] (Rd rd ∷ Rs1 rs1 ∷ Rs2 rs2 ∷ [])
 
+-- an instruction on one mask, by its name and its destination
+abbrev pub one_mask_text : List ℕ → Field → ℕ → Bool → List ℕ
+one_mask_text name destination vs2 masked =
+    line_text name (codes ".m") (destination ∷ Vs2 vs2 ∷ Vm (not masked) ∷ [])
+
 unfoldable pub mask_text : VMask → List ℕ
 mask_text (VMask.Logic op vd vs2 vs1) =
     line_text (logic_name op) (codes ".mm") (Vd vd ∷ Vs2 vs2 ∷ Vs1 vs1 ∷ Vm true ∷ [])
 mask_text (VMask.Count rd vs2 masked) =
-    line_text (codes "vcpop") (codes ".m") (Rd rd ∷ Vs2 vs2 ∷ Vm (not masked) ∷ [])
+    one_mask_text (codes "vcpop") (Rd rd) vs2 masked
 mask_text (VMask.First rd vs2 masked) =
-    line_text (codes "vfirst") (codes ".m") (Rd rd ∷ Vs2 vs2 ∷ Vm (not masked) ∷ [])
+    one_mask_text (codes "vfirst") (Rd rd) vs2 masked
 mask_text (VMask.SetFirst op vd vs2 masked) =
-    line_text (set_first_name op) (codes ".m") (Vd vd ∷ Vs2 vs2 ∷ Vm (not masked) ∷ [])
+    one_mask_text (set_first_name op) (Vd vd) vs2 masked
 mask_text (VMask.Iota vd vs2 masked) =
-    line_text (codes "viota") (codes ".m") (Vd vd ∷ Vs2 vs2 ∷ Vm (not masked) ∷ [])
+    one_mask_text (codes "viota") (Vd vd) vs2 masked
 mask_text (VMask.Index vd masked) =
     line_text (codes "vid") (codes ".v") (Vd vd ∷ Vm (not masked) ∷ [])
 

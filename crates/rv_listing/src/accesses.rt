@@ -70,40 +70,16 @@ pub(crate) fn put_access<S: Sink>(out: &mut S, insn: &VMem) -> Result<(), Failed
     let name = name(*direction, place);
     let form = form(*direction, place);
     let values = group(*direction, *values);
-    match place {
-        Addressing::Unit { masked, .. } => put_fields(
-            out,
-            name,
-            form,
-            &[values, Field::Rs1(*rs1), Field::Vm(!*masked)],
-        ),
-        Addressing::Strided { rs2, masked, .. } => put_fields(
-            out,
-            name,
-            form,
-            &[
-                values,
-                Field::Rs1(*rs1),
-                Field::Rs2(*rs2),
-                Field::Vm(!*masked),
-            ],
-        ),
-        Addressing::Indexed { vs2, masked, .. } => put_fields(
-            out,
-            name,
-            form,
-            &[
-                values,
-                Field::Rs1(*rs1),
-                Field::Vs2(*vs2),
-                Field::Vm(!*masked),
-            ],
-        ),
-        Addressing::Mask | Addressing::Whole { .. } => put_fields(
-            out,
-            name,
-            form,
-            &[values, Field::Rs1(*rs1), Field::Vm(true)],
-        ),
+    let rs1 = Field::Rs1(*rs1);
+    let (offset, masked) = match place {
+        Addressing::Unit { masked, .. } => (None, *masked),
+        Addressing::Strided { rs2, masked, .. } => (Some(Field::Rs2(*rs2)), *masked),
+        Addressing::Indexed { vs2, masked, .. } => (Some(Field::Vs2(*vs2)), *masked),
+        Addressing::Mask | Addressing::Whole { .. } => (None, false),
+    };
+    let vm = Field::Vm(!masked);
+    match offset {
+        None => put_fields(out, name, form, &[values, rs1, vm]),
+        Some(offset) => put_fields(out, name, form, &[values, rs1, offset, vm]),
     }
 }

@@ -55,42 +55,13 @@ pub(crate) fn put_operation<S: Sink>(
         (S.failures out.old) (S.failures out.new)
         (operation_text name.now forms vd vs2 b.now masked) }
 {
-    let form = form(forms, b);
-    match b {
-        Source::Vector(vs1) => put_fields(
-            out,
-            name,
-            form,
-            &[
-                Field::Vd(vd),
-                Field::Vs2(vs2),
-                Field::Vs1(*vs1),
-                Field::Vm(!masked),
-            ],
-        ),
-        Source::Scalar(rs1) => put_fields(
-            out,
-            name,
-            form,
-            &[
-                Field::Vd(vd),
-                Field::Rs1(*rs1),
-                Field::Vs2(vs2),
-                Field::Vm(!masked),
-            ],
-        ),
-        Source::Immediate(imm) => put_fields(
-            out,
-            name,
-            form,
-            &[
-                Field::Vd(vd),
-                Field::Vs2(vs2),
-                Field::Imm(*imm),
-                Field::Vm(!masked),
-            ],
-        ),
-    }
+    let [second, third] = match b {
+        Source::Vector(vs1) => [Field::Vs2(vs2), Field::Vs1(*vs1)],
+        Source::Scalar(rs1) => [Field::Rs1(*rs1), Field::Vs2(vs2)],
+        Source::Immediate(imm) => [Field::Vs2(vs2), Field::Imm(*imm)],
+    };
+    let fields = [Field::Vd(vd), second, third, Field::Vm(!masked)];
+    put_fields(out, name, form(forms, b), &fields)
 }
 
 fn signed(imm: i32) -> Field

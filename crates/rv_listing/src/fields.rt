@@ -85,10 +85,8 @@ pub(crate) fn put_fields<S: Sink>(
     ensures { Told result (S.contents out.old) (S.contents out.new)
         (S.failures out.old) (S.failures out.new) (line_text name.now form.now fields.now) }
 {
-    match put_all(out, &[Piece::Text(name), Piece::Text(form)]) {
-        Ok(()) => put_rest(out, fields),
-        Err(error) => Err(error),
-    }
+    put_all(out, &[Piece::Text(name), Piece::Text(form)])?;
+    put_rest(out, fields)
 }
 
 fn put_rest<S: Sink>(out: &mut S, fields: &[Field]) -> Result<(), Failed>
@@ -96,10 +94,7 @@ fn put_rest<S: Sink>(out: &mut S, fields: &[Field]) -> Result<(), Failed>
         (S.failures out.old) (S.failures out.new) (fields_text fields.now) }
 {
     for field in fields {
-        match put_field(out, field) {
-            Ok(()) => {}
-            Err(error) => return Err(error),
-        }
+        put_field(out, field)?;
     }
     Ok(())
 }

@@ -9,7 +9,7 @@ use crate::sink::{Failed, Sink};
 use rv_decode::{Offset, Reg, Source, VPerm};
 
 /// vslideup and vslidedown.
-#[tactic(auto, unfolding(crate::specs::Vector::slide_text))]
+#[tactic(auto, unfolding(crate::specs::Vector::slide_text, crate::specs::Arithmetic::operation_text))]
 fn put_slide<S: Sink>(
     out: &mut S,
     name: &str,
@@ -22,28 +22,15 @@ fn put_slide<S: Sink>(
         (S.failures out.old) (S.failures out.new) (slide_text name.now vd vs2 offset.now masked) }
 {
     match offset {
-        Offset::Scalar(rs1) => put_fields(
-            out,
-            name,
-            ".vx",
-            &[
-                Field::Vd(vd),
-                Field::Rs1(*rs1),
-                Field::Vs2(vs2),
-                Field::Vm(!masked),
-            ],
-        ),
-        Offset::Immediate(amount) => put_fields(
-            out,
-            name,
-            ".vi",
-            &[
-                Field::Vd(vd),
-                Field::Vs2(vs2),
-                Field::Amount(*amount),
-                Field::Vm(!masked),
-            ],
-        ),
+        Offset::Scalar(rs1) => {
+            let b = Source::Scalar(*rs1);
+            put_operation(out, name, Forms::Single, vd, vs2, &b, masked)
+        }
+        Offset::Immediate(amount) => {
+            let amount = Field::Amount(*amount);
+            let fields = [Field::Vd(vd), Field::Vs2(vs2), amount, Field::Vm(!masked)];
+            put_fields(out, name, ".vi", &fields)
+        }
     }
 }
 

@@ -47,10 +47,7 @@ pub fn put_all<S: Sink>(out: &mut S, pieces: &[Piece<'_>]) -> Result<(), Failed>
         (S.failures out.old) (S.failures out.new) (pieces_text pieces.now) }
 {
     for piece in pieces {
-        match put_piece(out, piece) {
-            Ok(()) => {}
-            Err(error) => return Err(error),
-        }
+        put_piece(out, piece)?;
     }
     Ok(())
 }

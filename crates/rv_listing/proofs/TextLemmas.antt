@@ -1,8 +1,6 @@
 -- Texts of a list, one after the other.
 use Rattle.std.proofs.Common.{◌≡◌, ◌<◌, ◌∙◌, ℕ, zero, suc, List, [], ◌∷◌, ◌++◌, take, drop, get_or, length, refl, sym, ap, append_assoc, arith}
 use Rattle.std.proofs.lemmas.List.{append-nil}
-use Rattle.rv_listing.specs.Pieces.{piece_text, pieces_text}
-use Rattle.rv_listing.specs.declared.pieces.Piece.{Piece}
 
 -- the texts of all, from that of each, by the two equations of their definition
 module _ {X : Type 0} (text : X → List ℕ) (texts : List X → List ℕ) (none : texts [] ≡ [])
@@ -22,12 +20,6 @@ module _ {X : Type 0} (text : X → List ℕ) (texts : List X → List ℕ) (non
       rw (more p (take i ps), more p ps)
       (append_assoc (text p) (texts (take i ps)) _ ∙ ap (λ t. text p ++ t) (texts-rest ps i d (omega (arith, below))))
 
--- ---- pieces of a text
-
-pub pieces-next : (ps : List Piece) (i : ℕ) (d : Piece) → i < length ps
-    → pieces_text (take (suc i) ps) ≡ pieces_text (take i ps) ++ piece_text (get_or ps i d)
-pieces-next = texts-next piece_text pieces_text refl (λ p ps. refl)
-
-pub pieces-rest : (ps : List Piece) (i : ℕ) (d : Piece) → i < length ps
-    → pieces_text (take i ps) ++ (piece_text (get_or ps i d) ++ pieces_text (drop (suc i) ps)) ≡ pieces_text ps
-pieces-rest = texts-rest piece_text pieces_text refl (λ p ps. refl)
+-- a name and its suffix, as two pieces before the fields
+pub head_text : (a b c : List ℕ) → (a ++ (b ++ [])) ++ c ≡ a ++ (b ++ c)
+head_text a b c = rw (append-nil b) (append_assoc a b c)
