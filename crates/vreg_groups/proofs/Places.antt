@@ -5,7 +5,7 @@ use Rattle.std.proofs.lemmas.List.Concat.{flat_map-append}
 use Rattle.std.proofs.lemmas.List.FromFn.{map-range_with_len_more, fill_by_all}
 use Rattle.std.specs.Prelude.{nat_lt, true, false, if◌then◌else◌}
 use Rattle.std.specs.List.{range_with_len, flat_map}
-use Rattle.std.proofs.Math.Nat.{pow-succ', div-div-eq-div-mul, div-one}
+use Rattle.std.proofs.Math.Nat.{pow-succ', div-div-eq-div-mul, div-one, mul-le-mul_left}
 use Rattle.std.specs.Int.{byte_at, bytes_low_first}
 use Rattle.byteorder.specs.Numbers.{length-bytes_low_first}
 use Rattle.std.proofs.lemmas.Bool.{cases_lt}
@@ -126,6 +126,10 @@ replaced_more size at i piece bytes h room =
     ap (λ xs. xs ++ piece i ++ drop (at + size * i + size) now) taken
     ∙ ap (λ xs. front ++ piece i ++ xs) rest
     ∙ ap (λ xs. xs ++ drop (at + size * (i + 1)) bytes) more
+
+-- a piece of those that there is room for begins inside
+pub begins_inside : (size at i n len : ℕ) → i ≤ n → at + size * n ≤ len → at + size * i ≤ len
+begins_inside size at i n len le room = omega (arith, mul-le-mul_left size le)
 
 -- before the first piece nothing is replaced
 pub replaced_none : (size at : ℕ) (piece : ℕ → List ℕ) (bytes : List ℕ) → bytes ≡ replaced size at 0 piece bytes

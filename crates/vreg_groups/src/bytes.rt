@@ -145,7 +145,8 @@ pub(crate) fn are_bytes(bytes: &[u8])
     let _ = bytes;
 }
 
-/// Writes as many new elements as there are results, from place `at` on.
+/// Writes as many new elements as there are results, from place `at` on: all of them, or those that are active, where the
+/// others are inactive.
 fn write_body<E: Element>(
     bytes: &mut [u8],
     at: usize,
@@ -160,8 +161,14 @@ fn write_body<E: Element>(
 {
     if are_all(active) {
         put_elements(bytes, at, values);
-    } else {
-        select_elements(bytes, at, values, active, policy);
+        return;
+    }
+    let inactive = policy.inactive;
+    for i in 0..values.len() {
+        let place = at + E::SIZE * i;
+        let old = E::get(bytes, place);
+        let new = body_element(inactive, E::ones(), values[i], active[i], old);
+        new.put(bytes, place);
     }
 }
 
@@ -184,28 +191,6 @@ pub(crate) fn put_elements<E: Element>(bytes: &mut [u8], at: usize, values: &[E]
 {
     for (i, value) in values.iter().enumerate() {
         value.put(bytes, at + E::SIZE * i);
-    }
-}
-
-/// Writes the results that are active, from place `at` on; the other elements are inactive.
-fn select_elements<E: Element>(
-    bytes: &mut [u8],
-    at: usize,
-    values: &[E],
-    active: &[bool],
-    policy: Policy,
-)
-    requires room { at + E.SIZE * length values.now ≤ length bytes.old }
-    requires told { length active.now ≡ length values.now }
-    ensures { bytes.new ≡ replaced E.SIZE at (length values.now)
-        (new_bytes E.SIZE at policy (map E.number values.now) active.now bytes.old) bytes.old }
-{
-    let inactive = policy.inactive;
-    for i in 0..values.len() {
-        let place = at + E::SIZE * i;
-        let old = E::get(bytes, place);
-        let new = body_element(inactive, E::ones(), values[i], active[i], old);
-        new.put(bytes, place);
     }
 }
 

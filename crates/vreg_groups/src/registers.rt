@@ -49,15 +49,24 @@ impl<const VLENB: usize> VregFile<VLENB> {
         }
     }
 
+    /// The bytes of all registers.
+    #[inline(always)]
+    fn all(&self) -> &[u8]
+        ensures bytes { result.now ≡ self.now }
+        ensures shape { length self.now ≡ 32 * VLENB }
+        ensures vlenb { IsVlenb VLENB }
+    {
+        let bytes = &self.bytes.items;
+        &bytes[..32 * VLENB]
+    }
+
     /// Byte `i` of a register.
     pub fn byte(&self, register: Reg, i: usize) -> u8
         requires { i < VLENB }
         ensures meaning { result ≡ slice_index self.now (register * VLENB + i) }
         ensures shape { length self.now ≡ 32 * VLENB }
     {
-        let bytes = &self.bytes.items;
-        let bytes = &bytes[..32 * VLENB];
-        bytes[place_of(register, VLENB) + i]
+        self.all()[place_of(register, VLENB) + i]
     }
 
     /// Mask bit `i` of a register ("Mask Register Layout").
@@ -67,9 +76,7 @@ impl<const VLENB: usize> VregFile<VLENB> {
         ensures meaning { result ≡ mask_bit VLENB register self.now i }
         ensures shape { length self.now ≡ 32 * VLENB }
     {
-        let bytes = &self.bytes.items;
-        let bytes = &bytes[..32 * VLENB];
-        bit_at(bytes, place_of(register, VLENB), i)
+        bit_at(self.all(), place_of(register, VLENB), i)
     }
 
     /// Reads as many elements as `out` has room for, from the group that begins at `first`.
@@ -83,9 +90,7 @@ impl<const VLENB: usize> VregFile<VLENB> {
             self.now }
         ensures shape { length self.now ≡ 32 * VLENB }
     {
-        let bytes = &self.bytes.items;
-        let bytes = &bytes[..32 * VLENB];
-        read_elements(bytes, place_of(first, VLENB), out);
+        read_elements(self.all(), place_of(first, VLENB), out);
     }
 
     /// Reads as many mask bits as `out` has room for.
@@ -95,9 +100,7 @@ impl<const VLENB: usize> VregFile<VLENB> {
         ensures meaning { out.new ≡ mask_bits VLENB register (length out.old) self.now }
         ensures shape { length self.now ≡ 32 * VLENB }
     {
-        let bytes = &self.bytes.items;
-        let bytes = &bytes[..32 * VLENB];
-        read_bits(bytes, place_of(register, VLENB), out);
+        read_bits(self.all(), place_of(register, VLENB), out);
     }
 
     /// Tells which elements are active, as many as `active` has room for: those whose bit of v0 is set where the
@@ -108,8 +111,7 @@ impl<const VLENB: usize> VregFile<VLENB> {
         ensures meaning { active.new ≡ active_of VLENB masked (length active.old) self.now }
         ensures shape { length self.now ≡ 32 * VLENB }
     {
-        let bytes = &self.bytes.items;
-        let _ = &bytes[..32 * VLENB];
+        let _ = self.all();
         if masked {
             self.read_mask(Reg::new(0), active);
         } else {
@@ -201,8 +203,7 @@ impl<const VLENB: usize> VregFile<VLENB> {
         ensures meaning { result.now ≡ bytes_from (first * VLENB) (count * VLENB) self.now }
         ensures size { length result.now ≡ count * VLENB }
     {
-        let bytes = &self.bytes.items;
-        let bytes = &bytes[..32 * VLENB];
+        let bytes = self.all();
         let at = place_of(first, VLENB);
         &bytes[at..at + count * VLENB]
     }
@@ -267,9 +268,7 @@ impl<const VLENB: usize> VregFile<VLENB> {
         ensures meaning { E.number result ≡ element_at E.SIZE (register * VLENB) self.now 0 }
         ensures shape { length self.now ≡ 32 * VLENB }
     {
-        let bytes = &self.bytes.items;
-        let bytes = &bytes[..32 * VLENB];
-        E::get(bytes, place_of(register, VLENB))
+        E::get(self.all(), place_of(register, VLENB))
     }
 
     /// Copies `count` registers, from `source` on, to those from `first` on ("Whole Vector Register Move").

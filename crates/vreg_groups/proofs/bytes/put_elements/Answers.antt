@@ -1,6 +1,5 @@
-use Rattle.std.proofs.Common.{arith, ◌+◌, ◌*◌, ◌≤◌, length}
-use Rattle.std.proofs.Math.Nat.{mul-le-mul_left}
-use Rattle.vreg_groups.proofs.Places.{replaced_none}
+use Rattle.std.proofs.Common.{arith, length}
+use Rattle.vreg_groups.proofs.Places.{begins_inside, replaced_none}
 use Rattle.vreg_groups.proofs.Parts.{put_more, puts_are}
 use Rattle.vreg_groups.proofs.bytes.put_elements.Goals as goal
 
@@ -9,9 +8,7 @@ loop-i-init g c = replaced_none _ _ _ _
 
 pub loop-i-preserved : goal.loop-i-preserved
 loop-i-preserved g c =
-    let before : c.loop-i.i ≤ length c.args.values.now = omega arith in
-    let room : c.args.at + g.E.Element.SIZE * c.loop-i.i ≤ length c.args.bytes.now =
-    omega (arith, mul-le-mul_left g.E.Element.SIZE before) in
+    let room = begins_inside g.E.Element.SIZE c.args.at c.loop-i.i (length c.args.values.now) (length c.args.bytes.now) (omega arith) c.requires in
     put_more g.E.Element.number g.E.Element.SIZE c.args.at c.loop-i.i c.SIZE.result c.args.values.now c.args.bytes.now
     c.loop-i.bytes c.put.new.bytes c.index-values-i.result c.SIZE.ensures room (omega arith) c.index-values-i.is
     c.loop-i.invariant c.put.ensures

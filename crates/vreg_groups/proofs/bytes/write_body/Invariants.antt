@@ -1,6 +1,6 @@
 use Rattle.std.proofs.Common.{◌≡◌, map}
 use Rattle.vreg_groups.specs.NewElements.{replaced, new_bytes}
-use Rattle.vreg_groups.proofs.bytes.select_elements.Given as goal
+use Rattle.vreg_groups.proofs.bytes.write_body.Given as goal
 
 -- the elements so far are the new ones, and what follows is as it was
 abbrev pub invariant-loop-i : goal.invariant-loop-i
