@@ -7,8 +7,8 @@ use Rattle.elf_image.specs.declared.error.ElfError.TheVariants.{TooLarge}
 use Rattle.elf_image.specs.declared.header.TheConstants.{MAX_PROGRAM_HEADERS}
 use Rattle.elf_image.specs.declared.layout.TheConstants.{MAX_FILE_SIZE}
 use Rattle.elf_image.specs.File.{HasTable, e_entry, e_ehsize, e_phentsize, e_phnum, segment_headers}
-use Rattle.elf_image.specs.Faults.{has_bad_header_table, is_too_large, is_not_code, has_two_certificates, has_certificate, holds, first_of, header_faults, place_faults, fault_of}
-use Rattle.elf_image.specs.Attached.{told_if, attach_fault, attached_of, outgrows}
+use Rattle.elf_image.specs.Faults.{told_if, has_bad_header_table, is_too_large, is_not_code, has_two_certificates, has_certificate, holds, first_of, header_faults, place_faults, fault_of}
+use Rattle.elf_image.specs.Attached.{attach_fault, attached_of, outgrows}
 use Rattle.elf_image.proofs.HasImage.{neither}
 use Rattle.elf_image.proofs.FaultLemmas.{HasHeader, HasPlaces, not_told, has_header, has_places}
 

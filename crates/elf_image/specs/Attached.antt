@@ -1,7 +1,7 @@
 -- The file that a certificate is attached to: a copy with one more note segment, and the reasons
 -- why there is none. Names are those of the ELF standard, "ELF Header", "Program Header" and "Note
 -- Section", at 32 bits.
-use Rattle.std.specs.Prelude.{ℕ, ◌+◌, ◌-◌, ◌*◌, ◌≤◌, ◌||◌, nat_lt, nat_le, Bool, List, [], ◌∷◌, ◌++◌, length, take, drop, Option, Some, None, if◌then◌else◌}
+use Rattle.std.specs.Prelude.{ℕ, ◌+◌, ◌-◌, ◌*◌, ◌≤◌, ◌||◌, nat_lt, nat_le, Bool, List, [], ◌∷◌, ◌++◌, length, take, drop, Option}
 use Rattle.std.specs.Option.{option_or}
 use Rattle.elf_image.specs.declared.error.ElfError.{ElfError}
 use Rattle.elf_image.specs.declared.error.ElfError.TheVariants.{TooLarge, EntryNotCode, TwoCertificates, CertificateThere}
@@ -12,7 +12,7 @@ use Rattle.elf_image.specs.declared.attached.TheConstants.{ZEROS}
 use Rattle.elf_image.specs.Words.{half, word}
 use Rattle.elf_image.specs.Notes.{padded}
 use Rattle.elf_image.specs.File.{HasTable, e_phoff, e_phnum}
-use Rattle.elf_image.specs.Faults.{holds, header_faults, place_faults, first_of}
+use Rattle.elf_image.specs.Faults.{holds, header_faults, place_faults, told_if, first_of}
 
 -- the zeros that bring n bytes to a multiple of 4
 unfoldable pub padding : ℕ → List ℕ
@@ -69,10 +69,6 @@ unfoldable pub outgrows : List ℕ → List ℕ → Bool
 outgrows file cert =
     nat_le MAX_PROGRAM_HEADERS (e_phnum file)
     || nat_lt MAX_FILE_SIZE (length (attached_of file cert))
-
--- what of these is told, where it is so
-abbrev pub told_if : ElfError → Bool → Option ElfError
-told_if fault wrong = if wrong then Some fault else None
 
 -- What a certificate isn't attached for: the first fault of the file, among which it may be too
 -- large with the certificate, and last that it has one.

@@ -1,5 +1,5 @@
 -- What may be wrong with a file, and which of it is told.
-use Rattle.std.specs.Prelude.{ℕ, ◌+◌, ◌*◌, ◌%◌, ◌==◌, ◌&&◌, ◌||◌, not, nat_lt, nat_le, nat_eq, Bool, false, List, [], ◌∷◌, ◌++◌, length, bit_and, Option, find}
+use Rattle.std.specs.Prelude.{ℕ, ◌+◌, ◌*◌, ◌%◌, ◌==◌, ◌&&◌, ◌||◌, not, nat_lt, nat_le, nat_eq, Bool, false, List, [], ◌∷◌, ◌++◌, length, bit_and, Option, Some, None, find, if◌then◌else◌}
 use Rattle.std.specs.List.{list_any, sum_by, starts_with, slice_index}
 use Rattle.elf_image.specs.declared.error.ElfError.{ElfError}
 use Rattle.elf_image.specs.declared.error.ElfError.TheVariants.{TooShort, BadMagic, BadClass, BadType, BadMachine, BadFlags, BadHeaderTable, NotStatic, SegmentOutOfFile, SegmentOutOfPlace, SegmentsOverlap, WriteAndExecute, TooLarge, EntryNotCode, TwoCertificates, CertificateThere, NoMemory}
@@ -146,6 +146,10 @@ segment_faults = place_faults ++ TooLarge ∷ EntryNotCode ∷ []
 
 abbrev pub note_faults : List ElfError
 note_faults = TwoCertificates ∷ []
+
+-- what is told of a file that has this fault, or has not
+abbrev pub told_if : ElfError → Bool → Option ElfError
+told_if fault wrong = if wrong then Some fault else None
 
 -- the first of a list that is wrong with the file
 abbrev pub first_of : List ElfError → List ℕ → Option ElfError

@@ -3,6 +3,7 @@
 ghost use Rattle.std.specs.Prelude.{◌≡◌, ◌≤◌, ◌+◌, ◌*◌, ◌<◌, ◌^◌, ◌++◌, length, false};
 ghost use Rattle.std.specs.Prelude.{option_copied, slice_get, IfSome, IfNone, IfOk, OnOk};
 ghost use Rattle.std.specs.Prelude.{MatchResult};
+ghost use Rattle.std.specs.Result.{result_err};
 ghost use Rattle.elf_image.specs.Words.{half, word};
 ghost use Rattle.elf_image.specs.Notes.{padded};
 ghost use Rattle.elf_image.specs.File.{HasTable, certificates_of};
@@ -12,7 +13,7 @@ ghost use Rattle.elf_image.specs.Attached.{headers_of, note_header, note_with, o
 ghost use Rattle.elf_image.specs.Attached.{part, patched, rest_from};
 
 use crate::error::ElfError;
-use crate::faults::{header_fault, is_entry_no_code, is_too_large_file, place_fault};
+use crate::faults::{check_header, check_places, is_entry_no_code, is_too_large_file, refuse_if};
 use crate::header::{
     E_PHNUM, E_PHOFF, HeaderTable, MAX_PROGRAM_HEADERS, PF_R, PROGRAM_HEADER_SIZE, PT_NOTE,
     half_at, part_of, word_at,
@@ -183,35 +184,21 @@ fn has_certificate(file: &[u8], found: Option<&[u8]>) -> bool
     found.is_some()
 }
 
-/// The first reason why a certificate isn't attached.
+/// Refuses a file for the first reason why the certificate isn't attached.
 #[tactic(auto, unfolding(crate::specs::Attached::attach_fault))]
-fn attach_fault(file: &[u8], cert: &[u8]) -> Option<ElfError>
-    ensures value { result ≡ attach_fault file.now cert.now }
-    ensures room { IfNone result (HasRoom file.now cert.now) }
+fn check_attached(file: &[u8], cert: &[u8]) -> Result<(), ElfError>
+    ensures value { result_err result ≡ attach_fault file.now cert.now }
+    ensures room { OnOk result (HasRoom file.now cert.now) }
 {
-    if let Some(fault) = header_fault(file) {
-        return Some(fault);
-    }
+    check_header(file)?;
     let headers = HeaderTable::read(file);
     let segments = headers.segments();
-    if let Some(fault) = place_fault(file, &headers, &segments) {
-        return Some(fault);
-    }
-    if is_too_large_file(file, &segments) || outgrows(file, cert) {
-        return Some(ElfError::TooLarge);
-    }
-    if is_entry_no_code(file, &segments) {
-        return Some(ElfError::EntryNotCode);
-    }
-    match certificate(file, headers.as_slice()) {
-        Err(fault) => return Some(fault),
-        Ok(found) => {
-            if has_certificate(file, found) {
-                return Some(ElfError::CertificateThere);
-            }
-        }
-    }
-    None
+    check_places(file, &headers, &segments)?;
+    let too_large = is_too_large_file(file, &segments) || outgrows(file, cert);
+    refuse_if(too_large, ElfError::TooLarge)?;
+    refuse_if(is_entry_no_code(file, &segments), ElfError::EntryNotCode)?;
+    let found = certificate(file, headers.as_slice())?;
+    refuse_if(has_certificate(file, found), ElfError::CertificateThere)
 }
 
 /// Writes the file with a certificate.
@@ -259,8 +246,6 @@ pub fn attach<A: Allocator>(
         (MatchResult result (λ bytes. bytes.items ≡ attached_of file.now certificate.now)
         (λ e. e ≡ ElfError.NoMemory)) }
 {
-    if let Some(fault) = attach_fault(file, certificate) {
-        return Err(fault);
-    }
+    check_attached(file, certificate)?;
     Ok(write_attached(alloc, file, certificate)?)
 }

@@ -1,6 +1,7 @@
 //! What may be wrong with a file.
 
-ghost use Rattle.std.specs.Prelude.{◌≡◌, ◌≤◌, false, IfNone, length};
+ghost use Rattle.std.specs.Prelude.{◌≡◌, ◌≤◌, false, OnOk, length};
+ghost use Rattle.std.specs.Result.{result_err};
 ghost use Rattle.std.specs.List.{list_any};
 ghost use Rattle.elf_image.specs.File.{HasTable, e_entry, program_headers, segment_headers};
 ghost use Rattle.elf_image.specs.Faults.{has_bad_class, has_bad_flags, has_bad_header_table};
@@ -10,7 +11,7 @@ ghost use Rattle.elf_image.specs.Faults.{has_write_and_execute, is_not_code, is_
 ghost use Rattle.elf_image.specs.Faults.{is_out_of_file, is_out_of_place, is_too_large};
 ghost use Rattle.elf_image.specs.Faults.{is_too_short, overlap, is_between, is_dynamic};
 ghost use Rattle.elf_image.specs.Faults.{is_write_and_execute, has_word, first_of, header_faults};
-ghost use Rattle.elf_image.specs.Faults.{place_faults, segment_faults};
+ghost use Rattle.elf_image.specs.Faults.{place_faults, segment_faults, told_if};
 
 use crate::error::ElfError;
 use crate::header;
@@ -108,33 +109,25 @@ fn has_bad_header_table(file: &[u8]) -> bool
         || (file.len() as u64) < end
 }
 
-/// The first fault of the ELF header.
-pub fn header_fault(file: &[u8]) -> Option<ElfError>
-    ensures value { result ≡ first_of header_faults file.now }
-    ensures table { IfNone result (HasTable file.now) }
+/// Refuses a file that has this fault.
+pub fn refuse_if(found: bool, fault: ElfError) -> Result<(), ElfError>
+    ensures { result_err result ≡ told_if fault found }
 {
-    if is_too_short(file) {
-        return Some(ElfError::TooShort);
-    }
-    if has_bad_magic(file) {
-        return Some(ElfError::BadMagic);
-    }
-    if has_bad_class(file) {
-        return Some(ElfError::BadClass);
-    }
-    if has_bad_type(file) {
-        return Some(ElfError::BadType);
-    }
-    if has_bad_machine(file) {
-        return Some(ElfError::BadMachine);
-    }
-    if has_bad_flags(file) {
-        return Some(ElfError::BadFlags);
-    }
-    if has_bad_header_table(file) {
-        return Some(ElfError::BadHeaderTable);
-    }
-    None
+    if found { Err(fault) } else { Ok(()) }
+}
+
+/// Refuses a file for the first fault of its ELF header.
+pub fn check_header(file: &[u8]) -> Result<(), ElfError>
+    ensures value { result_err result ≡ first_of header_faults file.now }
+    ensures table { OnOk result (HasTable file.now) }
+{
+    refuse_if(is_too_short(file), ElfError::TooShort)?;
+    refuse_if(has_bad_magic(file), ElfError::BadMagic)?;
+    refuse_if(has_bad_class(file), ElfError::BadClass)?;
+    refuse_if(has_bad_type(file), ElfError::BadType)?;
+    refuse_if(has_bad_machine(file), ElfError::BadMachine)?;
+    refuse_if(has_bad_flags(file), ElfError::BadFlags)?;
+    refuse_if(has_bad_header_table(file), ElfError::BadHeaderTable)
 }
 
 fn is_dynamic(h: &ProgramHeader) -> bool
@@ -252,29 +245,26 @@ fn is_not_code(entry: u32, segments: &[ProgramHeader]) -> bool
     entry % 4 != 0 || !has_code_at(entry, segments)
 }
 
-/// The first fault of the program headers by themselves.
-pub fn place_fault(file: &[u8], headers: &HeaderTable, segments: &HeaderTable) -> Option<ElfError>
+/// Refuses a file for the first fault of its program headers by themselves.
+pub fn check_places(
+    file: &[u8],
+    headers: &HeaderTable,
+    segments: &HeaderTable,
+) -> Result<(), ElfError>
     requires headers { headers.now ≡ program_headers file.now }
     requires segments { segments.now ≡ segment_headers file.now }
-    ensures { result ≡ first_of place_faults file.now }
+    ensures { result_err result ≡ first_of place_faults file.now }
 {
-    if is_not_static(headers.as_slice()) {
-        return Some(ElfError::NotStatic);
-    }
-    if has_out_of_file(file.len() as u64, headers.as_slice()) {
-        return Some(ElfError::SegmentOutOfFile);
-    }
+    let headers = headers.as_slice();
     let segments = segments.as_slice();
-    if has_out_of_place(segments) {
-        return Some(ElfError::SegmentOutOfPlace);
-    }
-    if has_overlap(segments) {
-        return Some(ElfError::SegmentsOverlap);
-    }
-    if has_write_and_execute(segments) {
-        return Some(ElfError::WriteAndExecute);
-    }
-    None
+    refuse_if(is_not_static(headers), ElfError::NotStatic)?;
+    refuse_if(
+        has_out_of_file(file.len() as u64, headers),
+        ElfError::SegmentOutOfFile,
+    )?;
+    refuse_if(has_out_of_place(segments), ElfError::SegmentOutOfPlace)?;
+    refuse_if(has_overlap(segments), ElfError::SegmentsOverlap)?;
+    refuse_if(has_write_and_execute(segments), ElfError::WriteAndExecute)
 }
 
 /// Whether the file or its image is too large.
@@ -294,21 +284,18 @@ pub fn is_entry_no_code(file: &[u8], segments: &HeaderTable) -> bool
     is_not_code(word_at(header::E_ENTRY, file), segments.as_slice())
 }
 
-/// The first fault of the program headers.
-pub fn segment_fault(file: &[u8], headers: &HeaderTable, segments: &HeaderTable) -> Option<ElfError>
+/// Refuses a file for the first fault of its program headers.
+pub fn check_segments(
+    file: &[u8],
+    headers: &HeaderTable,
+    segments: &HeaderTable,
+) -> Result<(), ElfError>
     requires header { HasTable file.now }
     requires headers { headers.now ≡ program_headers file.now }
     requires segments { segments.now ≡ segment_headers file.now }
-    ensures { result ≡ first_of segment_faults file.now }
+    ensures { result_err result ≡ first_of segment_faults file.now }
 {
-    if let Some(fault) = place_fault(file, headers, segments) {
-        return Some(fault);
-    }
-    if is_too_large_file(file, segments) {
-        return Some(ElfError::TooLarge);
-    }
-    if is_entry_no_code(file, segments) {
-        return Some(ElfError::EntryNotCode);
-    }
-    None
+    check_places(file, headers, segments)?;
+    refuse_if(is_too_large_file(file, segments), ElfError::TooLarge)?;
+    refuse_if(is_entry_no_code(file, segments), ElfError::EntryNotCode)
 }

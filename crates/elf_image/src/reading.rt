@@ -5,7 +5,7 @@ ghost use Rattle.elf_image.specs.File.{image_of};
 ghost use Rattle.elf_image.specs.Faults.{fault_of};
 
 use crate::error::ElfError;
-use crate::faults::{header_fault, segment_fault};
+use crate::faults::{check_header, check_segments};
 use crate::header::HeaderTable;
 use crate::image::Image;
 use crate::note::certificate;
@@ -28,14 +28,10 @@ pub fn read<A: Allocator + Copy>(alloc: A, file: &[u8]) -> Result<Image<A>, ElfE
     ensures image { IfNone (fault_of file.now)
         (MatchResult result (λ image. image ≡ image_of file.now) (λ e. e ≡ ElfError.NoMemory)) }
 {
-    if let Some(fault) = header_fault(file) {
-        return Err(fault);
-    }
+    check_header(file)?;
     let headers = HeaderTable::read(file);
     let segments = headers.segments();
-    if let Some(fault) = segment_fault(file, &headers, &segments) {
-        return Err(fault);
-    }
+    check_segments(file, &headers, &segments)?;
     let certificate = certificate(file, headers.as_slice())?;
     Ok(Image::load(alloc, file, segments.as_slice(), certificate)?)
 }

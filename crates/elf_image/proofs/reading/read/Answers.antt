@@ -12,7 +12,7 @@ from_file file bytes e = has_image file (All-from_get_or (λ byte. byte < 256) f
 pub certificate-requires-clause-inside : goal.certificate-requires-clause-inside
 certificate-requires-clause-inside g c =
     rw (c.as_slice.ensures.value, c.read-headers.ensures)
-    ((from_file c.args.file.now (λ i. omega (arith, c.type_inv.file i)) c.in_default-segment_fault.ensures).notes)
+    ((from_file c.args.file.now (λ i. omega (arith, c.type_inv.file i)) c.in_ok-check_segments.ensures).notes)
 
 pub load-requires-clause-image : goal.load-requires-clause-image
-load-requires-clause-image g c = from_file c.args.file.now (λ i. omega (arith, c.type_inv.file i)) c.in_default-segment_fault.ensures
+load-requires-clause-image g c = from_file c.args.file.now (λ i. omega (arith, c.type_inv.file i)) c.in_ok-check_segments.ensures

@@ -1,6 +1,0 @@
-use Rattle.elf_image.proofs.HasImage.{notes_in_place}
-use Rattle.elf_image.proofs.attached.attach_fault.Goals as goal
-
-pub certificate-requires-clause-inside : goal.certificate-requires-clause-inside
-certificate-requires-clause-inside c =
-    rw (c.as_slice.ensures.value, c.read-headers.ensures) (notes_in_place c.args.file.now c.in_default-place_fault.ensures)

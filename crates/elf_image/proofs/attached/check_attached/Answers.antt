@@ -1,0 +1,6 @@
+use Rattle.elf_image.proofs.HasImage.{notes_in_place}
+use Rattle.elf_image.proofs.attached.check_attached.Goals as goal
+
+pub certificate-requires-clause-inside : goal.certificate-requires-clause-inside
+certificate-requires-clause-inside c =
+    rw (c.as_slice.ensures.value, c.read-headers.ensures) (notes_in_place c.args.file.now c.in_ok-check_places.ensures)
