@@ -11,7 +11,7 @@ use Rattle.elf_image.specs.Image.{SegmentView, IsSegment, IsApart, AreApart, IsI
 use Rattle.region_mem.specs.Areas.{Area, AreInOrder}
 use Rattle.region_mem.specs.Start.{zeros, segment_area, stack_area, buffer_area, buffer_areas, insert_area, insert_areas, start_areas, start_memory}
 use Rattle.region_mem.specs.Laws.{StartsInOrder}
-use Rattle.region_mem.specs.Parameter.{Argument, is_valid, room_of, is_buffer, address_of, is_wrong_kind, is_wrong_size}
+use Rattle.region_mem.specs.Parameter.{Argument, AreArguments, is_valid, room_of, is_buffer, address_of, is_wrong_kind, is_wrong_size}
 
 abbrev pub end_of : Area → ℕ
 end_of area = area.first + length area.bytes
@@ -165,7 +165,7 @@ rising_step param (Arg.Buffer bytes) args params place low high kind size first 
     let begins = first bytes room.0 in
     (omega (arith, begins), omega (arith, begins, room.1), rising_from _ _ _ _ (omega (arith, begins, room.1)) next)
 
-pub rising : (done todo : List Param) (args : List Argument) (params : List Param) (place low high : ℕ) → params ≡ done ++ todo → place ≡ length done →
+rising : (done todo : List Param) (args : List Argument) (params : List Param) (place low high : ℕ) → params ≡ done ++ todo → place ≡ length done →
     low ≡ BUFFERS + sum_by room_of done → high ≡ low + sum_by room_of todo → length args ≤ length todo →
     NonePasses is_wrong_kind (zip todo args) → NonePasses is_wrong_size (zip todo args) → IsRising low high (buffer_areas params place args)
 unfolding buffer_areas
@@ -181,10 +181,17 @@ rising done (param ∷ todo) (arg ∷ args) params place low high whole at lows 
     (λ bytes is. rw (whole, at, lows) (buffer_first done todo param bytes is))
     (omega (arith, highs, sum_by-cons room_of param todo)) next
 
-pub sum_by_all : (params : List Param) → list_all is_valid params ≡ true → sum_by room_of params ≤ length params * (MAX_BUFFER_SIZE + PAGE_SIZE)
+sum_by_all : (params : List Param) → list_all is_valid params ≡ true → sum_by room_of params ≤ length params * (MAX_BUFFER_SIZE + PAGE_SIZE)
 sum_by_all [] h = omega arith
 sum_by_all (param ∷ params) h =
     omega (arith, sum_by-cons room_of param params, room_of_valid param (and_first _ _ h), sum_by_all params (and_second _ _ h))
+
+-- The areas of the buffers rise, and end below the buffers' end.
+pub buffers_rise : (params : List Param) (args : List Argument) → list_all is_valid params ≡ true → length params ≡ 8 → length args ≡ 8 → AreArguments params args →
+    IsRising BUFFERS (BUFFERS + sum_by room_of params) (buffer_areas params 0 args) × (BUFFERS + sum_by room_of params < BUFFERS_END)
+buffers_rise params args valid eight places matching =
+    let wrong = nothing_wrong params args matching in
+    (rising [] params args params 0 BUFFERS (BUFFERS + sum_by room_of params) refl refl (omega arith) refl (omega arith) wrong.0 wrong.1, omega (arith, sum_by_all params valid))
 
 stack_between : IsBetweenSegments stack_area
 unfolding stack_area
@@ -220,15 +227,13 @@ pub starts_in_order : StartsInOrder
 unfolding start_memory start_areas AreInOrder
 starts_in_order image params args is valid eight places matching =
     let segments = map segment_area image.segments in
-    let wrong = nothing_wrong params args matching in
     let high : ℕ = BUFFERS + sum_by room_of params in
-    let buffers = rising [] params args params 0 BUFFERS high refl refl (omega arith) refl (omega arith) wrong.0 wrong.1 in
-    let bound : high < BUFFERS_END = omega (arith, sum_by_all params valid) in
-    let between = rising_between BUFFERS high (buffer_areas params 0 args) (omega arith) bound buffers in
+    let buffers = buffers_rise params args valid eight places matching in
+    let between = rising_between BUFFERS high (buffer_areas params 0 args) (omega arith) buffers.1 buffers.0 in
     let base = inserts_in_order segments [] tt (segments_beside image.segments is.each is.apart) (nothing_beside segments) in
     let with_stack = insert_in_order 0 stack_area (insert_areas segments []) (omega arith) base
     (all_inserts (IsBeside stack_area) segments [] (between_beside stack_area image.segments stack_between is.each) tt) in
     inserts_in_order (buffer_areas params 0 args) (insert_area stack_area (insert_areas segments [])) with_stack
-    (rising_beside BUFFERS high (buffer_areas params 0 args) buffers)
+    (rising_beside BUFFERS high (buffer_areas params 0 args) buffers.0)
     (beside_inserted (buffer_areas params 0 args) segments (all_between_beside (buffer_areas params 0 args) image.segments between is.each)
-    (stack_beside BUFFERS high (buffer_areas params 0 args) (omega arith) buffers))
+    (stack_beside BUFFERS high (buffer_areas params 0 args) (omega arith) buffers.0))

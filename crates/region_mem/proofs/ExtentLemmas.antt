@@ -3,8 +3,7 @@ use Rattle.std.proofs.Common.{◌≡◌, inl, inr, ℕ, ◌+◌, ◌-◌, ◌≤
 use Rattle.std.specs.List.{AllByRecursion, list_all}
 use Rattle.std.proofs.lemmas.Bool.Decides.{nat_tests}
 use Rattle.region_mem.specs.Words.{Param, Right, Write, Fetch, BUFFERS, STACK_SIZE, HIGH_SEGMENTS_END}
-use Rattle.region_mem.proofs.Matching.{nothing_wrong}
-use Rattle.region_mem.proofs.Apart.{IsRising, starts_in_order, end_of, all_insert, all_inserts, rising, sum_by_all, length_zeros, length_segment}
+use Rattle.region_mem.proofs.Apart.{IsRising, starts_in_order, end_of, all_insert, all_inserts, buffers_rise, length_zeros, length_segment}
 use Rattle.elf_image.specs.Image.{SegmentView, IsSegment, IsInPlace, ImageView, IsImage}
 use Rattle.region_mem.specs.Areas.{Area, AreInOrder, AreInside, ArePlaced, holds, is_open, is_open_from, with_byte, with_bytes, bytes_of, with_number}
 use Rattle.region_mem.specs.Memory.{Memory, is_permitted, store_of, fetch_of}
@@ -138,12 +137,11 @@ start_ends : (image : ImageView) (params : List Param) (args : List Argument) �
 unfolding start_memory start_areas
 start_ends image params args is valid few eight matching =
     let segments = map segment_area image.segments in
-    let wrong = nothing_wrong params args matching in
     let high : ℕ = BUFFERS + sum_by room_of params in
-    let buffers = rising [] params args params 0 BUFFERS high refl refl (omega arith) refl (omega arith) wrong.0 wrong.1 in
-    let bound : high ≤ HIGH_SEGMENTS_END = omega (arith, sum_by_all params valid) in
+    let buffers = buffers_rise params args valid few eight matching in
+    let bound : high ≤ HIGH_SEGMENTS_END = omega (arith, buffers.1) in
     let fixed = all_insert EndsBelow stack_area (insert_areas segments []) stack_ends (all_inserts EndsBelow segments [] (segments_end image.segments is.each) tt) in
-    all_inserts EndsBelow (buffer_areas params 0 args) (insert_area stack_area (insert_areas segments [])) (rising_end BUFFERS high (buffer_areas params 0 args) bound buffers) fixed
+    all_inserts EndsBelow (buffer_areas params 0 args) (insert_area stack_area (insert_areas segments [])) (rising_end BUFFERS high (buffer_areas params 0 args) bound buffers.0) fixed
 
 below_inside : (areas : List Area) → AllByRecursion EndsBelow areas → AreInside areas
 unfolding AreInside

@@ -33,11 +33,11 @@ rise areas order i j d le below =
       | inr other ↦ omega (arith, apart 0 areas i j d order (omega arith) below)
     ]
 
-not_past : (address : ℕ) (area : Area) → end_of area ≤ address → holds address area ≡ false
+pub not_past : (address : ℕ) (area : Area) → end_of area ≤ address → holds address area ≡ false
 unfolding holds
 not_past address area h = grind (arith, nat_tests)
 
-not_before : (address : ℕ) (area : Area) → address < area.first → holds address area ≡ false
+pub not_before : (address : ℕ) (area : Area) → address < area.first → holds address area ≡ false
 unfolding holds
 not_before address area h = grind (arith, nat_tests)
 

@@ -16,6 +16,7 @@ use Rattle.region_mem.specs.Laws.{StartsWithCode, StartsCodeSafe, StartsInside}
 use Rattle.region_mem.proofs.Apart.{end_of, starts_in_order, all_insert, all_inserts, length_segment, length_zeros}
 use Rattle.region_mem.proofs.AccessLemmas.{admits_spans, spans_from, spans_to, open_in_one, number_in_one, holds_from}
 use Rattle.region_mem.proofs.ExtentLemmas.{start_placed}
+use Rattle.region_mem.proofs.SearchLemmas.{not_before, not_past}
 
 -- The area is one of the list.
 abbrev pub IsOne : Area → List Area → Type 0
@@ -53,10 +54,6 @@ begins_from from area (other ∷ areas) order (inr one) =
 holds_low : (x : ℕ) (area : Area) → holds x area ≡ true → area.first ≤ x
 unfolding holds
 holds_low x area h = grind (arith, nat_tests)
-
-not_past : (x : ℕ) (area : Area) → end_of area ≤ x → holds x area ≡ false
-unfolding holds
-not_past x area le = grind (arith, nat_tests)
 
 one_found : (x from : ℕ) (area : Area) (areas : List Area) → AreInOrder from areas → IsOne area areas → holds x area ≡ true → find (holds x) areas ≡ Some area
 unfolding AreInOrder
@@ -186,10 +183,6 @@ starts_with_code image params args is valid few eight matching pc word e =
 -- No area may be both written and fetched from, and no address lies in two.
 abbrev IsSafe : Area → Type 0
 IsSafe area = area.write ≡ true → area.fetch ≡ false
-
-not_before : (x : ℕ) (area : Area) → x < area.first → holds x area ≡ false
-unfolding holds
-not_before x area lt = grind (arith, nat_tests)
 
 holds_high : (x : ℕ) (area : Area) → holds x area ≡ true → x < end_of area
 unfolding holds

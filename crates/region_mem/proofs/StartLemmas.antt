@@ -3,8 +3,7 @@ use Rattle.std.proofs.Common.{◌≡◌, inl, inr, ℕ, ◌+◌, ◌<◌, ◌≤
 use Rattle.std.specs.List.{AllByRecursion, list_all}
 use Rattle.std.proofs.lemmas.Bool.Decides.{nat_tests}
 use Rattle.region_mem.specs.Words.{Param, Arg, BUFFERS, BUFFERS_END}
-use Rattle.region_mem.proofs.Matching.{nothing_wrong}
-use Rattle.region_mem.proofs.Apart.{IsRising, end_of, all_insert, all_inserts, rising, sum_by_all}
+use Rattle.region_mem.proofs.Apart.{IsRising, end_of, all_insert, all_inserts, buffers_rise}
 use Rattle.elf_image.specs.Image.{SegmentView, IsSegment, IsInPlace, ImageView, IsImage}
 use Rattle.region_mem.specs.Areas.{Area}
 use Rattle.region_mem.specs.Memory.{is_buffer_area, arg_with, left_after, args_with, args_of}
@@ -139,13 +138,11 @@ pub buffers_of_start : (image : ImageView) (params : List Param) (args : List Ar
 unfolding start_memory start_areas
 buffers_of_start image params args is valid eight places matching =
     let segments = map segment_area image.segments in
-    let wrong = nothing_wrong params args matching in
     let high : ℕ = BUFFERS + sum_by room_of params in
-    let buffers = rising [] params args params 0 BUFFERS high refl refl (omega arith) refl (omega arith) wrong.0 wrong.1 in
-    let bound : high < BUFFERS_END = omega (arith, sum_by_all params valid) in
+    let buffers = buffers_rise params args valid eight places matching in
     let base = insert_area stack_area (insert_areas segments []) in
     let none = all_insert IsNone stack_area (insert_areas segments []) none_stack (all_inserts IsNone segments [] (none_segments image.segments is.each) tt) in
-    let found = inserts_last BUFFERS high (buffer_areas params 0 args) base (omega arith) bound buffers
+    let found = inserts_last BUFFERS high (buffer_areas params 0 args) base (omega arith) buffers.1 buffers.0
     (insert_sorted stack_area (insert_areas segments []) (inserts_sorted segments [] tt)) (none_below BUFFERS base none) in
     rw (found, none_filtered base none) refl
 

@@ -1,10 +1,11 @@
 -- What a write of a byte changes.
-use Rattle.std.proofs.Common.{◌≡◌, ℕ, suc, ◌+◌, ◌-◌, ◌<◌, ◌≤◌, Bool, true, false, not, cond, List, [], ◌∷◌, length, Some, set, get_or, arith, ap, refl}
+use Rattle.std.proofs.Common.{◌≡◌, ℕ, suc, ◌+◌, ◌-◌, ◌<◌, ◌≤◌, Bool, true, false, not, cond, List, [], ◌∷◌, length, Some, set, get_or, drop, arith, ap, sym, ◌∙◌, refl}
 use Rattle.std.specs.List.{position, position_or_len}
 use Rattle.std.proofs.lemmas.Grind.{common_steps}
 use Rattle.std.proofs.lemmas.List.Sums.{passes_at_first}
 use Rattle.std.specs.Prelude.{IsTrue}
-use Rattle.region_mem.specs.Areas.{Area, holds, with_byte}
+use Rattle.std.proofs.lemmas.List.{drop_all, drop_more}
+use Rattle.region_mem.specs.Areas.{Area, holds, with_byte, with_bytes}
 
 -- the area with this byte at an address
 abbrev pub written : ℕ → ℕ → Area → Area
@@ -47,3 +48,22 @@ with_byte_none address byte (area ∷ areas) past =
 -- The area at the first place that holds the address holds it.
 pub holds_first : (address : ℕ) (areas : List Area) (i : ℕ) (d : Area) → position (holds address) areas ≡ Some i → IsTrue (holds address (get_or areas i d))
 holds_first address areas i d found = grind (arith, common_steps, passes_at_first (holds address) areas d)
+
+-- Bytes are written one after the other.
+pub bytes_begin : (address : ℕ) (bytes : List ℕ) (areas : List Area) → with_bytes (address + 0) (drop 0 bytes) areas ≡ with_bytes address bytes areas
+bytes_begin address bytes areas =
+    let start : address + 0 ≡ address = omega arith in
+    ap (λ (at : ℕ). with_bytes at bytes areas) start
+
+pub bytes_more : (address i : ℕ) (bytes : List ℕ) (areas now : List Area) (d : ℕ) → i < length bytes → now ≡ with_byte (address + i) (get_or bytes i d) areas →
+    with_bytes (address + (i + 1)) (drop (i + 1) bytes) now ≡ with_bytes (address + i) (drop i bytes) areas
+unfolding with_bytes
+bytes_more address i bytes areas now d lt e =
+    let next : address + i + 1 ≡ address + (i + 1) = omega arith in
+    ap (λ (at : ℕ). with_bytes at (drop (i + 1) bytes) now) (sym next)
+    ∙ ap (with_bytes (address + i + 1) (drop (i + 1) bytes)) e
+    ∙ ap (λ (bs : List ℕ). with_bytes (address + i) bs areas) (sym (drop_more bytes i d lt))
+
+pub bytes_end : (address i : ℕ) (bytes : List ℕ) (areas : List Area) → length bytes ≤ i → with_bytes (address + i) (drop i bytes) areas ≡ areas
+unfolding with_bytes
+bytes_end address i bytes areas le = rw (drop_all i bytes le) refl

@@ -145,51 +145,25 @@ impl<A: Allocator> Region<A> {
             && self.has_right(right)
     }
 
-    #[inline(always)]
-    #[tactic(auto, unfolding(crate::specs::Areas::spans, crate::specs::Areas::holds, crate::specs::Areas::number_in, crate::specs::Areas::number_of))]
-    fn byte_number(&self, address: u64) -> u32
-        requires low { address < 2 ^ 33 }
-        requires inside { IsTrue (spans address 1 self.now) }
-        ensures { result ≡ number_in address 1 self.now }
-    {
-        u32::from(self.byte(address))
-    }
-
-    #[inline(always)]
-    #[tactic(auto, unfolding(crate::specs::Areas::spans, crate::specs::Areas::holds, crate::specs::Areas::number_in, crate::specs::Areas::number_of))]
-    fn half_number(&self, address: u64) -> u32
-        requires low { address < 2 ^ 33 }
-        requires inside { IsTrue (spans address 2 self.now) }
-        ensures { result ≡ number_in address 2 self.now }
-    {
-        u32::from(self.byte(address)) + 256 * u32::from(self.byte(address + 1))
-    }
-
-    #[inline(always)]
-    #[tactic(auto, unfolding(crate::specs::Areas::spans, crate::specs::Areas::holds, crate::specs::Areas::number_in, crate::specs::Areas::number_of))]
-    fn word_number(&self, address: u64) -> u32
-        requires low { address < 2 ^ 33 }
-        requires inside { IsTrue (spans address 4 self.now) }
-        ensures { result ≡ number_in address 4 self.now }
-    {
-        let second = address + 1;
-        let third = second + 1;
-        let high = u32::from(self.byte(third)) + 256 * u32::from(self.byte(third + 1));
-        u32::from(self.byte(address)) + 256 * (u32::from(self.byte(second)) + 256 * high)
-    }
-
     /// The number in the n bytes from an address on, the lowest first.
     #[inline(always)]
+    #[tactic(auto, unfolding(crate::specs::Areas::spans, crate::specs::Areas::holds, crate::specs::Areas::number_in, crate::specs::Areas::number_of))]
     fn number(&self, address: u64, n: usize) -> u32
         requires low { address < 2 ^ 32 }
         requires size { IsAccessSize n }
         requires inside { IsTrue (spans address n self.now) }
         ensures { result ≡ number_in address n self.now }
     {
+        let lowest = u32::from(self.byte(address));
         match n {
-            1 => self.byte_number(address),
-            2 => self.half_number(address),
-            _ => self.word_number(address),
+            1 => lowest,
+            2 => lowest + 256 * u32::from(self.byte(address + 1)),
+            _ => {
+                let second = address + 1;
+                let third = second + 1;
+                let high = u32::from(self.byte(third)) + 256 * u32::from(self.byte(third + 1));
+                lowest + 256 * (u32::from(self.byte(second)) + 256 * high)
+            }
         }
     }
 

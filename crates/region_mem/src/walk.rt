@@ -1,9 +1,9 @@
 //! Accesses byte by byte, over any list of regions: those over regions that adjoin, and those that are refused.
-ghost use Rattle.std.specs.Prelude.{unwrap_or, ◌≡◌, ◌+◌, ◌<◌, ◌^◌, IsTrue, find, position};
+ghost use Rattle.std.specs.Prelude.{unwrap_or, ◌≡◌, ◌+◌, ◌<◌, ◌^◌, IsTrue, find, length, position};
 ghost use Rattle.std.specs.List.{list_all, range_with_len};
 ghost use Rattle.region_mem.specs.Memory.{IsAccessSize};
 ghost use Rattle.region_mem.specs.Areas.{holds, is_open, is_open_from, byte_at, number_at};
-ghost use Rattle.region_mem.specs.Areas.{number_of, with_byte, with_number};
+ghost use Rattle.region_mem.specs.Areas.{number_of, with_byte, with_bytes, with_number};
 
 use crate::faults::Right;
 use crate::region::Region;
@@ -76,84 +76,38 @@ fn byte_or_zero<A: Allocator>(regions: &[Region<A>], address: u64) -> u32
     }
 }
 
-#[tactic(auto, unfolding(crate::specs::Areas::number_at, crate::specs::Areas::number_of))]
-fn byte_number<A: Allocator>(regions: &[Region<A>], address: u64) -> u32
-    ensures { result ≡ number_at address 1 regions.now }
-{
-    byte_or_zero(regions, address)
-}
-
-#[tactic(auto, unfolding(crate::specs::Areas::number_at, crate::specs::Areas::number_of))]
-fn half_number<A: Allocator>(regions: &[Region<A>], address: u64) -> u32
-    requires { address < 2 ^ 32 }
-    ensures { result ≡ number_at address 2 regions.now }
-{
-    let high = byte_or_zero(regions, address + 1);
-    byte_or_zero(regions, address) + 256 * high
-}
-
-/// The number in the four bytes from an address on, the lowest first.
-#[tactic(auto, unfolding(crate::specs::Areas::number_at, crate::specs::Areas::number_of))]
-fn word_number<A: Allocator>(regions: &[Region<A>], address: u64) -> u32
-    requires { address < 2 ^ 32 }
-    ensures { result ≡ number_at address 4 regions.now }
-{
-    let second = address + 1;
-    let third = second + 1;
-    let highest = byte_or_zero(regions, third + 1);
-    let high = byte_or_zero(regions, third) + 256 * highest;
-    let upper = byte_or_zero(regions, second) + 256 * high;
-    byte_or_zero(regions, address) + 256 * upper
-}
-
 /// The number in the n bytes from an address on, the lowest first.
+#[tactic(auto, unfolding(crate::specs::Areas::number_at, crate::specs::Areas::number_of))]
 pub(crate) fn number<A: Allocator>(regions: &[Region<A>], address: u64, n: usize) -> u32
     requires address { address < 2 ^ 32 }
     requires size { IsAccessSize n }
     ensures { result ≡ number_at address n regions.now }
 {
+    let lowest = byte_or_zero(regions, address);
     match n {
-        1 => byte_number(regions, address),
-        2 => half_number(regions, address),
-        _ => word_number(regions, address),
+        1 => lowest,
+        2 => lowest + 256 * byte_or_zero(regions, address + 1),
+        _ => {
+            let second = address + 1;
+            let third = second + 1;
+            let high = byte_or_zero(regions, third) + 256 * byte_or_zero(regions, third + 1);
+            lowest + 256 * (byte_or_zero(regions, second) + 256 * high)
+        }
     }
 }
 
-#[tactic(auto, unfolding(crate::specs::Areas::with_number, crate::specs::Areas::with_bytes, crate::specs::Areas::bytes_of))]
-fn set_lowest<A: Allocator>(regions: &mut [Region<A>], address: u64, value: u32)
-    ensures { regions.new ≡ with_number address 1 value regions.old }
+/// Writes bytes from an address on.
+fn set_bytes<A: Allocator>(regions: &mut [Region<A>], address: u64, bytes: &[u8])
+    requires { address + length bytes.now < 2 ^ 34 }
+    ensures { regions.new ≡ with_bytes address bytes.now regions.old }
 {
-    set_byte(regions, address, (value % 256) as u8);
-}
-
-#[tactic(auto, unfolding(crate::specs::Areas::with_number, crate::specs::Areas::with_bytes, crate::specs::Areas::bytes_of))]
-fn set_half<A: Allocator>(regions: &mut [Region<A>], address: u64, value: u32)
-    requires { address < 2 ^ 34 }
-    ensures { regions.new ≡ with_number address 2 value regions.old }
-{
-    set_byte(regions, address, (value % 256) as u8);
-    set_lowest(regions, address + 1, value / 256);
-}
-
-#[tactic(auto, unfolding(crate::specs::Areas::with_number, crate::specs::Areas::with_bytes, crate::specs::Areas::bytes_of))]
-fn set_three<A: Allocator>(regions: &mut [Region<A>], address: u64, value: u32)
-    requires { address < 2 ^ 33 }
-    ensures { regions.new ≡ with_number address 3 value regions.old }
-{
-    set_byte(regions, address, (value % 256) as u8);
-    set_half(regions, address + 1, value / 256);
-}
-
-#[tactic(auto, unfolding(crate::specs::Areas::with_number, crate::specs::Areas::with_bytes, crate::specs::Areas::bytes_of))]
-fn set_word<A: Allocator>(regions: &mut [Region<A>], address: u64, value: u32)
-    requires { address < 2 ^ 32 }
-    ensures { regions.new ≡ with_number address 4 value regions.old }
-{
-    set_byte(regions, address, (value % 256) as u8);
-    set_three(regions, address + 1, value / 256);
+    for i in 0..bytes.len() {
+        set_byte(regions, address + i as u64, bytes[i]);
+    }
 }
 
 /// Writes the n lowest bytes of a value from an address on.
+#[tactic(auto, using(crate::proofs::Parts::one_byte, crate::proofs::Parts::two_bytes, crate::proofs::Parts::four_bytes), unfolding(crate::specs::Areas::with_number))]
 pub(crate) fn set_number<A: Allocator>(
     regions: &mut [Region<A>],
     address: u64,
@@ -164,9 +118,10 @@ pub(crate) fn set_number<A: Allocator>(
     requires size { IsAccessSize n }
     ensures { regions.new ≡ with_number address n value regions.old }
 {
+    let bytes = value.to_le_bytes();
     match n {
-        1 => set_lowest(regions, address, value),
-        2 => set_half(regions, address, value),
-        _ => set_word(regions, address, value),
+        1 => set_bytes(regions, address, &bytes[..1]),
+        2 => set_bytes(regions, address, &bytes[..2]),
+        _ => set_bytes(regions, address, &bytes),
     }
 }
