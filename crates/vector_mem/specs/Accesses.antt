@@ -29,6 +29,10 @@ strided base stride i = base + stride * i
 abbrev pub indexed : ℕ → List ℕ → ℕ → ℕ
 indexed base indices i = base + slice_index indices i
 
+-- what a function answers of each of n elements, by its postcondition, is where the element lies
+abbrev pub AreAddresses : (ℕ → ℕ → Type 0) → (ℕ → ℕ) → ℕ → Type 0
+AreAddresses post place n = (i a : ℕ) → i < n → post i a → a ≡ place i % 2 ^ 32
+
 -- those of n elements, all of them active, one after another from `base` on
 abbrev pub in_a_row : Right → ℕ → ℕ → ℕ → List Access
 in_a_row right size base n = accesses right size (strided base size) (replicate n true)

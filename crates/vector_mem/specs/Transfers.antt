@@ -2,8 +2,11 @@
 -- Instructions", "Vector Strided Instructions", "Vector Indexed Instructions", "Vector Load/Store
 -- Whole Register Instructions"): all of its accesses are made, or the first that is not permitted
 -- is the fault and none is.
-use Rattle.std.specs.Prelude.{ℕ, ◌==◌, Bool, true, false, not, List, Option, Some, None, Result, Ok, Err, if◌then◌else◌}
+use Rattle.std.specs.Prelude.{ℕ, ◌≡◌, ◌==◌, Bool, true, false, not, List, Option, Some, None, Result, Ok, Err, if◌then◌else◌}
 use Rattle.vector_mem.specs.Words.{Access, Addressing, Direction, Fault, Fixed, Indexed, Load, LoadFault, Mask, Memory, Policy, Read, Right}
+use Rattle.rv_decode.specs.Needs.{needs_of_access}
+use Rattle.vreg_groups.specs.Setup.{IsReady}
+use Rattle.vector_mem.specs.declared.transfers.Transfer.{Transfer}
 use Rattle.vector_mem.specs.Words.{Same, Setup, Span, Store, StoreFault, Strided, Unit, VMem, W8, Whole, Width, Write, active_of}
 use Rattle.vector_mem.specs.Words.{body_of, bytes_of_width, group_at, mask_bytes_of, mask_policy_of, policy_of, whole_of, written}
 use Rattle.vector_mem.specs.Accesses.{accesses, first_refused, indexed, loaded, stored, strided}
@@ -101,3 +104,17 @@ vector_store vlenb s insn base stride file memory =
     let list = accesses_of vlenb s insn base stride file in
     unless_refused StoreFault (first_refused list memory)
     (stored list (body_of vlenb (data_of vlenb s insn) file) memory)
+
+-- a load or store in this direction whose operands are ready
+pub record IsTransfer (vlenb : ℕ) (t : Transfer) (direction : Direction) : Type 0 where
+  pub ready : IsReady vlenb t.setup (needs_of_access t.insn)
+  pub direction_is : t.insn.direction ≡ direction
+
+abbrev pub accesses_asked : ℕ → Transfer → List ℕ → List Access
+accesses_asked vlenb t file = accesses_of vlenb t.setup t.insn t.base t.stride file
+
+abbrev pub load_asked : ℕ → Transfer → List ℕ → Memory → Result (List ℕ) Fault
+load_asked vlenb t file memory = vector_load vlenb t.setup t.insn t.base t.stride file memory
+
+abbrev pub store_asked : ℕ → Transfer → List ℕ → Memory → Result Memory Fault
+store_asked vlenb t file memory = vector_store vlenb t.setup t.insn t.base t.stride file memory

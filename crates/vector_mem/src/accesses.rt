@@ -1,10 +1,10 @@
 //! The accesses of an instruction.
 
-ghost use Rattle.std.specs.Prelude.{◌≡◌, ◌≤◌, ◌+◌, ◌*◌, ◌%◌, ◌^◌, length, slice_index};
+ghost use Rattle.std.specs.Prelude.{◌≡◌, ℕ, ◌<◌, ◌≤◌, ◌+◌, ◌*◌, ◌%◌, ◌^◌, length, slice_index};
 ghost use Rattle.rv_decode.specs.Needs.{needs_of_access};
 ghost use Rattle.vreg_groups.specs.Setup.{IsReady};
 ghost use Rattle.vreg_groups.specs.declared.vector_type.TheConstants.{MOST_ELEMENTS};
-ghost use Rattle.vector_mem.specs.Accesses.{accesses, indexed, strided};
+ghost use Rattle.vector_mem.specs.Accesses.{AreAddresses, accesses, indexed, strided};
 ghost use Rattle.vector_mem.specs.Transfers.{accesses_of, right_of};
 
 use crate::operands::{data_group, masked, read_indices, width};
@@ -12,6 +12,27 @@ use crate::plan::{Access, AccessPlan};
 use region_mem::Right;
 use rv_decode::{Addressing, Direction, VMem};
 use vreg_groups::{MOST_ELEMENTS, Setup, VregFile};
+
+/// The accesses of the active elements, of which number i lies at `address(i)`.
+fn plan<F: Fn(usize) -> u32>(right: Right, size: u8, active: &[bool], address: F) -> AccessPlan
+    requires few { length active.now ≤ MOST_ELEMENTS }
+    requires callable { (i : ℕ) → i < length active.now → F.pre address i }
+    ensures { (place : ℕ → ℕ) → AreAddresses (F.post address) place (length active.now)
+        → result ≡ accesses right size place active.now }
+{
+    let mut plan = AccessPlan::new();
+    for element in 0..active.len() {
+        if active[element] {
+            plan.push(Access {
+                element,
+                address: address(element),
+                size,
+                right,
+            });
+        }
+    }
+    plan
+}
 
 // The address of element `i` of those that lie `stride` bytes apart.
 fn strided_address(base: u32, stride: u32, i: usize) -> u32
@@ -26,20 +47,7 @@ fn strided_plan(right: Right, size: u8, base: u32, stride: u32, active: &[bool])
     requires { length active.now ≤ MOST_ELEMENTS }
     ensures { result ≡ accesses right size (strided base stride) active.now }
 {
-    let mut plan = AccessPlan::new();
-    for i in 0..active.len() {
-        if !active[i] {
-            continue;
-        }
-        let address = strided_address(base, stride, i);
-        plan.push(Access {
-            element: i,
-            address,
-            size,
-            right,
-        });
-    }
-    plan
+    plan(right, size, active, |i| strided_address(base, stride, i))
 }
 
 /// The accesses of the active elements that lie as far from `base` as their indices say.
@@ -48,20 +56,7 @@ fn indexed_plan(right: Right, size: u8, base: u32, indices: &[u32], active: &[bo
     requires few { length active.now ≤ MOST_ELEMENTS }
     ensures { result ≡ accesses right size (indexed base indices.now) active.now }
 {
-    let mut plan = AccessPlan::new();
-    for i in 0..active.len() {
-        if !active[i] {
-            continue;
-        }
-        let address = base.wrapping_add(indices[i]);
-        plan.push(Access {
-            element: i,
-            address,
-            size,
-            right,
-        });
-    }
-    plan
+    plan(right, size, active, |i| base.wrapping_add(indices[i]))
 }
 
 fn right(direction: Direction) -> Right

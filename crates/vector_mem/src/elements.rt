@@ -51,6 +51,28 @@ impl Datum for u32 {
     }
 }
 
+/// `$then`, where `$room` is room for the elements of a group, of `$width`.
+macro_rules! with_room {
+    ($width:expr, $room:ident => $then:expr) => {
+        match $width {
+            Width::W8 => {
+                let mut $room = [0u8; MOST_ELEMENTS];
+                $then
+            }
+            Width::W16 => {
+                let mut $room = [0u16; MOST_ELEMENTS / 2];
+                $then
+            }
+            Width::W32 => {
+                let mut $room = [0u32; MOST_ELEMENTS / 4];
+                $then
+            }
+        }
+    };
+}
+
+pub(crate) use with_room;
+
 /// Writes the value to each place.
 #[tactic(auto, using(std::proofs::lemmas::List::take_more_set, std::proofs::lemmas::List::replicate_more, std::proofs::lemmas::List::take_all))]
 pub fn splat<E: Datum>(value: E, values: &mut [E])

@@ -10,7 +10,7 @@ ghost use Rattle.vreg_groups.specs.declared.vector_type.TheConstants.{MOST_ELEME
 ghost use Rattle.vector_mem.specs.Transfers.{data_of, is_in_a_row, is_masked, load_policy};
 ghost use Rattle.vector_mem.specs.Transfers.{width_at};
 
-use crate::elements::Datum;
+use crate::elements::{Datum, with_room};
 use rv_decode::{Addressing, Eew, Reg, VMem, Width};
 use vreg_groups::{Group, MOST_ELEMENTS, Policy, Setup, VregFile};
 
@@ -115,20 +115,7 @@ pub fn read_numbers<const VLENB: usize>(
     ensures { numbers.new ≡ body_of VLENB group.now registers.now }
 {
     let vl = group.vl();
-    match width {
-        Width::W8 => {
-            let mut bytes = [0u8; MOST_ELEMENTS];
-            read_elements(group, registers, &mut bytes[..vl], numbers);
-        }
-        Width::W16 => {
-            let mut halves = [0u16; MOST_ELEMENTS / 2];
-            read_elements(group, registers, &mut halves[..vl], numbers);
-        }
-        Width::W32 => {
-            let mut words = [0u32; MOST_ELEMENTS / 4];
-            read_elements(group, registers, &mut words[..vl], numbers);
-        }
-    }
+    with_room!(width, room => read_elements(group, registers, &mut room[..vl], numbers));
 }
 
 /// Reads the indices of an indexed access, of this width.

@@ -15,11 +15,12 @@ ghost use Rattle.vreg_groups.specs.Setup.{IsReady};
 ghost use Rattle.rv_decode.specs.Instructions.{bytes_of_width};
 ghost use Rattle.vreg_groups.specs.declared.vector_type.TheConstants.{MOST_ELEMENTS};
 ghost use Rattle.vector_mem.specs.Accesses.{IsAccessOf, first_refused, loaded, stored};
-ghost use Rattle.vector_mem.specs.Transfers.{accesses_of, data_of, loaded_to, vector_load};
-ghost use Rattle.vector_mem.specs.Transfers.{vector_store, width_at};
+ghost use Rattle.vector_mem.specs.Transfers.{IsTransfer, accesses_asked, data_of, load_asked};
+ghost use Rattle.vector_mem.specs.Transfers.{loaded_to, store_asked, vector_load, vector_store};
+ghost use Rattle.vector_mem.specs.Transfers.{width_at};
 
 use crate::accesses::access;
-use crate::elements::{Datum, splat};
+use crate::elements::{Datum, splat, with_room};
 use crate::operands::{data_group, in_a_row, masked, policy, width};
 use crate::plan::AccessPlan;
 use crate::windows::{load_window, store_window};
@@ -27,6 +28,40 @@ use region_mem::{Fault, Regions};
 use rv_decode::{VMem, Width};
 use std::alloc::Allocator;
 use vreg_groups::{Group, MOST_ELEMENTS, Policy, Setup, VregFile};
+
+/// A load or store that is to be made: `base` is x[rs1], and `stride` x[rs2] of a strided access.
+#[derive(Clone, Copy)]
+struct Transfer {
+    insn: VMem,
+    setup: Setup,
+    base: u32,
+    stride: u32,
+}
+
+impl Transfer {
+    fn new(insn: &VMem, setup: &Setup, base: u32, stride: u32) -> Transfer
+        ensures { result ≡ record {
+          insn = insn.now;
+          setup = setup.now;
+          base = base;
+          stride = stride;
+        } }
+    {
+        Transfer {
+            insn: *insn,
+            setup: *setup,
+            base,
+            stride,
+        }
+    }
+
+    fn plan<const VLENB: usize>(&self, registers: &VregFile<VLENB>) -> AccessPlan
+        requires { IsReady VLENB self.now.setup (needs_of_access self.now.insn) }
+        ensures { result ≡ accesses_asked VLENB self.now registers.now }
+    {
+        access(&self.insn, registers, &self.setup, self.base, self.stride)
+    }
+}
 
 /// Loads the elements, or answers the address of the first access that is not permitted.
 #[tactic(auto, unfolding(crate::specs::Accesses::first_refused, crate::specs::Accesses::loaded))]
@@ -86,24 +121,20 @@ fn store_element<A: Allocator>(memory: &mut Regions<A>, address: u32, size: usiz
 
 /// Loads the elements of an instruction, or answers the address of the first access that is not permitted.
 fn load_values<E: Datum, const VLENB: usize, A: Allocator>(
-    insn: &VMem,
+    asked: &Transfer,
     registers: &VregFile<VLENB>,
-    setup: &Setup,
-    base: u32,
-    stride: u32,
     memory: &Regions<A>,
     values: &mut [E],
 ) -> Option<u32>
-    requires ready { IsReady VLENB setup.now (needs_of_access insn.now) }
-    requires direction { insn.now.direction ≡ Load }
-    requires size { E.Element.SIZE ≡ (data_of VLENB setup.now insn.now).bytes }
-    requires length { length values.old ≡ (data_of VLENB setup.now insn.now).vl }
-    ensures refused { result ≡ option_map (λ a. a.address) (first_refused (accesses_of VLENB
-        setup.now insn.now base stride registers.now) memory.now) }
-    ensures loaded { result ≡ None → map E.Element.number values.new ≡ loaded (length values.old)
-        (accesses_of VLENB setup.now insn.now base stride registers.now) memory.now }
+    requires asked { IsTransfer VLENB asked.now Load }
+    requires size { E.Element.SIZE ≡ (data_of VLENB asked.now.setup asked.now.insn).bytes }
+    requires length { length values.old ≡ (data_of VLENB asked.now.setup asked.now.insn).vl }
+    ensures refused { result ≡ option_map (λ a. a.address)
+        (first_refused (accesses_asked VLENB asked.now registers.now) memory.now) }
+    ensures loaded { result ≡ None → map E.Element.number values.new
+        ≡ loaded (length values.old) (accesses_asked VLENB asked.now registers.now) memory.now }
 {
-    let plan = access(insn, registers, setup, base, stride);
+    let plan = asked.plan(registers);
     load_elements(&plan, memory, values)
 }
 
@@ -170,59 +201,40 @@ fn write_whole<E: Datum, const VLENB: usize>(
 /// A load of elements of one width, with room for them in `values`.
 #[tactic(auto, unfolding(crate::specs::Transfers::vector_load))]
 fn load_as<E: Datum, const VLENB: usize, A: Allocator>(
-    insn: &VMem,
+    asked: &Transfer,
     registers: &mut VregFile<VLENB>,
-    setup: &Setup,
-    base: u32,
-    stride: u32,
     memory: &Regions<A>,
     values: &mut [E],
 ) -> Result<(), Fault>
-    requires ready { IsReady VLENB setup.now (needs_of_access insn.now) }
-    requires direction { insn.now.direction ≡ Load }
-    requires size { E.Element.SIZE ≡ bytes_of_width (width_at setup.now insn.now.place) }
+    requires asked { IsTransfer VLENB asked.now Load }
+    requires size { E.Element.SIZE
+        ≡ bytes_of_width (width_at asked.now.setup asked.now.insn.place) }
     requires room { MOST_ELEMENTS ≤ E.Element.SIZE * length values.old }
-    ensures { Steps (vector_load VLENB setup.now insn.now base stride registers.old memory.now)
+    ensures { Steps (load_asked VLENB asked.now registers.old memory.now)
         registers.old registers.new result }
 {
-    let group = data_group(insn, setup);
+    let group = data_group(&asked.insn, &asked.setup);
     let values = &mut values[..group.vl()];
-    if let Some(address) = load_values(insn, registers, setup, base, stride, memory, values) {
+    if let Some(address) = load_values(asked, registers, memory, values) {
         return Err(Fault::LoadFault(address));
     }
-    write_loaded(insn, registers, setup, &group, values);
+    write_loaded(&asked.insn, registers, &asked.setup, &group, values);
     Ok(())
 }
 
 /// A vector load whose elements are loaded one by one. It is apart so that what needs no room for elements makes none.
 #[inline(never)]
 fn load_each<const VLENB: usize, A: Allocator>(
-    insn: &VMem,
+    asked: &Transfer,
     registers: &mut VregFile<VLENB>,
-    setup: &Setup,
-    base: u32,
-    stride: u32,
     memory: &Regions<A>,
 ) -> Result<(), Fault>
-    requires ready { IsReady VLENB setup.now (needs_of_access insn.now) }
-    requires direction { insn.now.direction ≡ Load }
-    ensures { Steps (vector_load VLENB setup.now insn.now base stride registers.old memory.now)
+    requires { IsTransfer VLENB asked.now Load }
+    ensures { Steps (load_asked VLENB asked.now registers.old memory.now)
         registers.old registers.new result }
 {
-    match width(insn, setup) {
-        Width::W8 => {
-            let mut bytes = [0u8; MOST_ELEMENTS];
-            load_as(insn, registers, setup, base, stride, memory, &mut bytes)
-        }
-        Width::W16 => {
-            let mut halves = [0u16; MOST_ELEMENTS / 2];
-            load_as(insn, registers, setup, base, stride, memory, &mut halves)
-        }
-        Width::W32 => {
-            let mut words = [0u32; MOST_ELEMENTS / 4];
-            load_as(insn, registers, setup, base, stride, memory, &mut words)
-        }
-    }
+    let width = width(&asked.insn, &asked.setup);
+    with_room!(width, room => load_as(asked, registers, memory, &mut room))
 }
 
 /// A vector load: all of its elements are loaded to their registers, or the fault is that of the lowest-numbered element
@@ -246,30 +258,28 @@ pub fn load<const VLENB: usize, A: Allocator>(
             return Ok(());
         }
     }
-    load_each(insn, registers, setup, base, stride, memory)
+    let asked = Transfer::new(insn, setup, base, stride);
+    load_each(&asked, registers, memory)
 }
 
 /// Stores the elements of an instruction, or answers the address of the first access that is not permitted.
 fn store_values<E: Datum, const VLENB: usize, A: Allocator>(
-    insn: &VMem,
+    asked: &Transfer,
     registers: &VregFile<VLENB>,
-    setup: &Setup,
-    base: u32,
-    stride: u32,
     memory: &mut Regions<A>,
     values: &[E],
 ) -> Option<u32>
-    requires ready { IsReady VLENB setup.now (needs_of_access insn.now) }
-    requires direction { insn.now.direction ≡ Store }
-    requires size { E.Element.SIZE ≡ (data_of VLENB setup.now insn.now).bytes }
-    requires length { length values.now ≡ (data_of VLENB setup.now insn.now).vl }
-    ensures refused { result ≡ option_map (λ a. a.address) (first_refused (accesses_of VLENB
-        setup.now insn.now base stride registers.now) memory.old) }
-    ensures stored { result ≡ None → memory.new ≡ stored (accesses_of VLENB setup.now insn.now base
-        stride registers.now) (map E.Element.number values.now) memory.old }
+    requires asked { IsTransfer VLENB asked.now Store }
+    requires size { E.Element.SIZE ≡ (data_of VLENB asked.now.setup asked.now.insn).bytes }
+    requires length { length values.now ≡ (data_of VLENB asked.now.setup asked.now.insn).vl }
+    ensures refused { result ≡ option_map (λ a. a.address)
+        (first_refused (accesses_asked VLENB asked.now registers.now) memory.old) }
+    ensures stored { result ≡ None
+        → memory.new ≡ stored (accesses_asked VLENB asked.now registers.now)
+        (map E.Element.number values.now) memory.old }
     ensures kept { IfSome result (λ _. memory.new ≡ memory.old) }
 {
-    let plan = access(insn, registers, setup, base, stride);
+    let plan = asked.plan(registers);
     let refused = refused(&plan, memory);
     if refused.is_none() {
         store_elements(&plan, memory, values);
@@ -280,25 +290,22 @@ fn store_values<E: Datum, const VLENB: usize, A: Allocator>(
 /// A store of elements of one width, with room for them in `values`.
 #[tactic(auto, unfolding(crate::specs::Transfers::vector_store))]
 fn store_as<E: Datum, const VLENB: usize, A: Allocator>(
-    insn: &VMem,
+    asked: &Transfer,
     registers: &VregFile<VLENB>,
-    setup: &Setup,
-    base: u32,
-    stride: u32,
     memory: &mut Regions<A>,
     values: &mut [E],
 ) -> Result<(), Fault>
-    requires ready { IsReady VLENB setup.now (needs_of_access insn.now) }
-    requires direction { insn.now.direction ≡ Store }
-    requires size { E.Element.SIZE ≡ bytes_of_width (width_at setup.now insn.now.place) }
+    requires asked { IsTransfer VLENB asked.now Store }
+    requires size { E.Element.SIZE
+        ≡ bytes_of_width (width_at asked.now.setup asked.now.insn.place) }
     requires room { MOST_ELEMENTS ≤ E.Element.SIZE * length values.old }
-    ensures { Steps (vector_store VLENB setup.now insn.now base stride registers.now memory.old)
+    ensures { Steps (store_asked VLENB asked.now registers.now memory.old)
         memory.old memory.new result }
 {
-    let group = data_group(insn, setup);
+    let group = data_group(&asked.insn, &asked.setup);
     let values = &mut values[..group.vl()];
     group.read(registers, values);
-    match store_values(insn, registers, setup, base, stride, memory, values) {
+    match store_values(asked, registers, memory, values) {
         Some(address) => Err(Fault::StoreFault(address)),
         None => Ok(()),
     }
@@ -307,32 +314,16 @@ fn store_as<E: Datum, const VLENB: usize, A: Allocator>(
 /// A vector store whose elements are stored one by one.
 #[inline(never)]
 fn store_each<const VLENB: usize, A: Allocator>(
-    insn: &VMem,
+    asked: &Transfer,
     registers: &VregFile<VLENB>,
-    setup: &Setup,
-    base: u32,
-    stride: u32,
     memory: &mut Regions<A>,
 ) -> Result<(), Fault>
-    requires ready { IsReady VLENB setup.now (needs_of_access insn.now) }
-    requires direction { insn.now.direction ≡ Store }
-    ensures { Steps (vector_store VLENB setup.now insn.now base stride registers.now memory.old)
+    requires { IsTransfer VLENB asked.now Store }
+    ensures { Steps (store_asked VLENB asked.now registers.now memory.old)
         memory.old memory.new result }
 {
-    match width(insn, setup) {
-        Width::W8 => {
-            let mut bytes = [0u8; MOST_ELEMENTS];
-            store_as(insn, registers, setup, base, stride, memory, &mut bytes)
-        }
-        Width::W16 => {
-            let mut halves = [0u16; MOST_ELEMENTS / 2];
-            store_as(insn, registers, setup, base, stride, memory, &mut halves)
-        }
-        Width::W32 => {
-            let mut words = [0u32; MOST_ELEMENTS / 4];
-            store_as(insn, registers, setup, base, stride, memory, &mut words)
-        }
-    }
+    let width = width(&asked.insn, &asked.setup);
+    with_room!(width, room => store_as(asked, registers, memory, &mut room))
 }
 
 /// A vector store: all of its elements are stored, or the fault is that of the lowest-numbered element that may not be
@@ -356,5 +347,6 @@ pub fn store<const VLENB: usize, A: Allocator>(
             return Ok(());
         }
     }
-    store_each(insn, registers, setup, base, stride, memory)
+    let asked = Transfer::new(insn, setup, base, stride);
+    store_each(&asked, registers, memory)
 }

@@ -6,6 +6,6 @@ use Rattle.vector_mem.proofs.transfers.store_values.Goals as goal
 
 pub store_elements-requires : goal.store_elements-requires
 store_elements-requires g c =
-    plan_within g.row.VLENB c.args.setup.now c.args.insn.now c.args.base c.args.stride c.args.registers.now c.access-plan.result Write
-    g.E.Element.SIZE (length c.args.values.now) c.access-plan.ensures (ap right_of c.requires.direction) (sym c.requires.size)
+    plan_within g.row.VLENB c.args.asked.now.setup c.args.asked.now.insn c.args.asked.now.base c.args.asked.now.stride c.args.registers.now c.plan-plan.result Write
+    g.E.Element.SIZE (length c.args.values.now) c.plan-plan.ensures (ap right_of c.requires.asked.direction_is) (sym c.requires.size)
     (sym c.requires.length)
