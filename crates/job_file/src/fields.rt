@@ -2,8 +2,8 @@
 ghost use Rattle.std.specs.Prelude.{◌≡◌, IfErr, IfOk, None, Some, option_map};
 ghost use Rattle.toml.specs.Data.{as_str, get_member};
 ghost use Rattle.toml.specs.View.{table_view, view};
-ghost use Rattle.job_file.specs.Job.{agnostic_named, agnostic_of, field, first_unknown, is_one_of};
-ghost use Rattle.job_file.specs.Job.{max_of, mode_named, mode_of, read_lent, vlen_of, vlen_of_bits};
+ghost use Rattle.job_file.specs.Job.{agnostic_of, field, first_unknown, is_one_of};
+ghost use Rattle.job_file.specs.Job.{max_of, mode_of, read_lent, vlen_of};
 ghost use Rattle.job_file.specs.Job.{word_of};
 ghost use Rattle.job_file.specs.Keys.{key_name};
 ghost use Rattle.job_file.specs.declared.keys.JobBreach.TheVariants as breach;
@@ -31,34 +31,16 @@ fn max_of(value: &Value) -> Option<u64>
     u64::try_from(number).ok()
 }
 
-fn vlen_of_bits(bits: u32) -> Option<Vlen>
-    ensures { result ≡ vlen_of_bits bits }
-{
-    match bits {
-        128 => Some(Vlen::V128),
-        256 => Some(Vlen::V256),
-        512 => Some(Vlen::V512),
-        _ => None,
-    }
-}
-
 /// `vlen`.
 #[tactic(auto, unfolding(crate::specs::Job::vlen_of))]
 fn vlen_of(value: &Value) -> Option<Vlen>
     ensures { result ≡ vlen_of (view value.now) }
 {
-    vlen_of_bits(word_of(value)?)
-}
-
-fn agnostic_named(name: &str) -> Option<Agnostic>
-    ensures { result ≡ agnostic_named name.now }
-{
-    if name == "keep" {
-        Some(Agnostic::Keep)
-    } else if name == "ones" {
-        Some(Agnostic::Ones)
-    } else {
-        None
+    match word_of(value)? {
+        128 => Some(Vlen::V128),
+        256 => Some(Vlen::V256),
+        512 => Some(Vlen::V512),
+        _ => None,
     }
 }
 
@@ -67,18 +49,10 @@ fn agnostic_named(name: &str) -> Option<Agnostic>
 fn agnostic_of(value: &Value) -> Option<Agnostic>
     ensures { result ≡ agnostic_of (view value.now) }
 {
-    agnostic_named(value.as_str()?)
-}
-
-fn mode_named(name: &str) -> Option<Mode>
-    ensures { result ≡ mode_named name.now }
-{
-    if name == "r" {
-        Some(Mode::Read)
-    } else if name == "rw" {
-        Some(Mode::ReadWrite)
-    } else {
-        None
+    match value.as_str()? {
+        "keep" => Some(Agnostic::Keep),
+        "ones" => Some(Agnostic::Ones),
+        _ => None,
     }
 }
 
@@ -87,7 +61,11 @@ fn mode_named(name: &str) -> Option<Mode>
 fn mode_of(value: &Value) -> Option<Mode>
     ensures { result ≡ mode_of (view value.now) }
 {
-    mode_named(value.as_str()?)
+    match value.as_str()? {
+        "r" => Some(Mode::Read),
+        "rw" => Some(Mode::ReadWrite),
+        _ => None,
+    }
 }
 
 /// The value at a key.

@@ -2,8 +2,8 @@
 ghost use Rattle.std.specs.Prelude.{◌≡◌, map, option_map};
 ghost use Rattle.toml.specs.Data.{as_str, get_item};
 ghost use Rattle.toml.specs.View.{array_view, table_view, view};
-ghost use Rattle.job_file.specs.Job.{buffer_fields, kind_in, kind_keys, kind_named, kind_of};
-ghost use Rattle.job_file.specs.Job.{no_params, param_at, param_fields, param_lent, param_of};
+ghost use Rattle.job_file.specs.Job.{buffer_fields, kind_in, kind_keys, kind_of};
+ghost use Rattle.job_file.specs.Job.{no_params, param_at, param_lent, param_of};
 ghost use Rattle.job_file.specs.Job.{param_of_kind, params_in, params_of, read_lent, scalar_fields};
 
 use crate::fields;
@@ -20,26 +20,17 @@ pub enum Kind {
     Buffer,
 }
 
-fn kind_named(name: &str) -> Option<Kind>
-    ensures { result ≡ kind_named name.now }
-{
-    if name == "none" {
-        Some(Kind::None)
-    } else if name == "scalar" {
-        Some(Kind::Scalar)
-    } else if name == "buffer" {
-        Some(Kind::Buffer)
-    } else {
-        None
-    }
-}
-
 /// `kind`.
 #[tactic(auto, unfolding(crate::specs::Job::kind_of))]
 fn kind_of(value: &Value) -> Option<Kind>
     ensures { result ≡ kind_of (view value.now) }
 {
-    kind_named(value.as_str()?)
+    match value.as_str()? {
+        "none" => Some(Kind::None),
+        "scalar" => Some(Kind::Scalar),
+        "buffer" => Some(Kind::Buffer),
+        _ => None,
+    }
 }
 
 /// The kind of a table, where it has one.
@@ -92,24 +83,8 @@ fn buffer<'a>(table: &'a Table, place: JobTable) -> Result<JobParam<&'a str>, Jo
     })
 }
 
-/// The values of a table of a kind.
-#[tactic(auto, unfolding(crate::specs::Job::param_fields))]
-fn param_fields<'a>(
-    table: &'a Table,
-    place: JobTable,
-    kind: Kind,
-) -> Result<JobParam<&'a str>, JobBreach<&'a str>>
-    ensures { read_lent param_lent result ≡ param_fields place (table_view table.now) kind }
-{
-    match kind {
-        Kind::None => Ok(JobParam::None),
-        Kind::Scalar => scalar(table, place),
-        Kind::Buffer => buffer(table, place),
-    }
-}
-
 /// A table of a kind.
-#[tactic(auto, unfolding(crate::specs::Job::param_of_kind))]
+#[tactic(auto, unfolding(crate::specs::Job::param_of_kind, crate::specs::Job::param_fields))]
 fn param_of_kind<'a>(
     table: &'a Table,
     place: JobTable,
@@ -119,7 +94,11 @@ fn param_of_kind<'a>(
 {
     match fields::first_unknown(table, kind_keys(kind)) {
         Some(key) => Err(JobBreach::Unknown { table: place, key }),
-        None => param_fields(table, place, kind),
+        None => match kind {
+            Kind::None => Ok(JobParam::None),
+            Kind::Scalar => scalar(table, place),
+            Kind::Buffer => buffer(table, place),
+        },
     }
 }
 

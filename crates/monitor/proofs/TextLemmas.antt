@@ -1,5 +1,5 @@
 -- Texts, one after the other.
-use Rattle.std.proofs.Common.{◌≡◌, ◌+◌, ◌<◌, ◌≤◌, ℕ, zero, suc, List, [], ◌∷◌, ◌++◌, take, drop, get_or, length, Option, Some, None, Err, refl, sym, append_assoc, add-one, arith, inl, inr}
+use Rattle.std.proofs.Common.{◌≡◌, ◌∙◌, ◌+◌, ◌<◌, ◌≤◌, ℕ, zero, suc, List, [], ◌∷◌, ◌++◌, take, drop, get_or, length, Option, Some, None, Err, refl, sym, append_assoc, add-one, arith, inl, inr}
 use Rattle.std.specs.Io.KnownBytes.{Appends}
 use Rattle.std.proofs.Math.Nat.{eq-or-lt_of_le}
 use Rattle.std.proofs.lemmas.List.{append-nil}
@@ -27,15 +27,17 @@ unfolding texts
 texts_none text None = tt
 texts_none text (Some p) = sym (append-nil p)
 
--- one more
-pub texts_more : (text : ℕ → List ℕ) (i : ℕ) (a b c : Option (List ℕ)) → Appends a b (texts text i) → Appends b c (text i)
-    → Appends a c (texts text (i + 1))
+-- one more, with the failures so far
+pub texts_more : (text : ℕ → List ℕ) (i : ℕ) (a b c : Option (List ℕ)) (k m l : ℕ) → Appends a b (texts text i) × (m ≡ k)
+    → Appends b c (text i) × (l ≡ m) → Appends a c (texts text (i + 1)) × (l ≡ k)
 unfolding texts
-texts_more text i a b c first more = rw (add-one i) (appends_both a b c (texts text i) (text i) first more)
+texts_more text i a b c k m l first more =
+    (rw (add-one i) (appends_both a b c (texts text i) (text i) first.0 more.0), more.1 ∙ first.1)
 
 -- all
-pub texts_all : (text : ℕ → List ℕ) (i n : ℕ) (a b : Option (List ℕ)) → i ≡ n → Appends a b (texts text i) → Appends a b (texts text n)
-texts_all text i n a b same told = rw (← same) told
+pub texts_all : (text : ℕ → List ℕ) (i n : ℕ) (a b : Option (List ℕ)) (k m : ℕ) → i ≡ n → Appends a b (texts text i) × (m ≡ k)
+    → Appends a b (texts text n) × (m ≡ k)
+texts_all text i n a b k m same told = rw (← same) told
 
 -- a failure in between
 pub texts_stop : {E : Type 0} (e : E) (text : ℕ → List ℕ) (i n : ℕ) (a b c : Option (List ℕ)) (k m l : ℕ) → i < n

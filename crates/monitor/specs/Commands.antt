@@ -104,6 +104,12 @@ admitted bs s (Err fault) = Err fault
 unfoldable pub order_of : List ℕ → List ℕ → SessionView → Result Command MonError
 order_of line bs s = admitted bs s (command_of line)
 
+-- what comes of a line that is not done, for a reason: all stays as it was
+abbrev pub IsRefused : {W : Type 0} → Result Flow MonError → SessionView → SessionView → List ℕ
+    → List ℕ → W → W → MonError → Type 0
+IsRefused result was is held holds told tells fault =
+    (result ≡ Err fault) × (is ≡ was) × (holds ≡ held) × (tells ≡ told)
+
 -- what a command that is carried out answers and tells: all, or, after a failure that was counted,
 -- the beginning
 abbrev pub Answers :

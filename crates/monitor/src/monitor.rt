@@ -1,6 +1,6 @@
 //! Commands on a run, carried out and told.
-ghost use Rattle.std.specs.Prelude.{◌≡◌, [], None, Some, Err, IfErr, IfOk, IfSome, OnOk};
-ghost use Rattle.monitor.specs.Commands.{Answers, Carries, fault_in, order_of, text_of};
+ghost use Rattle.std.specs.Prelude.{◌≡◌, [], None, Some, IfErr, IfOk, IfSome, OnOk};
+ghost use Rattle.monitor.specs.Commands.{Answers, Carries, IsRefused, fault_in, order_of, text_of};
 ghost use Rattle.rv_listing.specs.Sinks.{Told};
 ghost use Rattle.sandbox_run.specs.Stops.{IsStop};
 
@@ -8,7 +8,7 @@ use crate::breakpoints::{delete, set};
 use crate::commands::{Command, Flow, MonError};
 use crate::moves::{go_on, step_at_most};
 use crate::texts::{put_break, put_csrs, put_gone, put_registers, put_stop, put_vector};
-use crate::views::{has_bytes, has_words, put_lines, put_memory};
+use crate::views::View;
 use crate::words::parse;
 use arrayvec::ArrayVec;
 use rv_listing::{Failed, Sink, put_all};
@@ -58,14 +58,14 @@ impl<'a, const VLENB: usize> Monitor<'a, VLENB> {
                 Ok(())
             }
             Command::Memory { address, count } => {
-                if has_bytes(self.session, *address, *count) {
+                if View::new(self.session, *address, *count).has_bytes() {
                     Ok(())
                 } else {
                     Err(MonError::NoBytes)
                 }
             }
             Command::List { address, count } => {
-                if has_words(self.session, *address, *count) {
+                if View::new(self.session, *address, *count).has_words() {
                     Ok(())
                 } else {
                     Err(MonError::NoBytes)
@@ -94,8 +94,12 @@ impl<'a, const VLENB: usize> Monitor<'a, VLENB> {
                 put_vector(out, *register, self.session.vector(*register))
             }
             Command::Csrs => put_csrs(out, &self.session.registers(), VLENB),
-            Command::Memory { address, count } => put_memory(self.session, out, *address, *count),
-            Command::List { address, count } => put_lines(self.session, out, *address, *count),
+            Command::Memory { address, count } => {
+                View::new(self.session, *address, *count).put_memory(out)
+            }
+            Command::List { address, count } => {
+                View::new(self.session, *address, *count).put_lines(out)
+            }
             Command::Quit => put_all(out, &[]),
         }
     }
@@ -105,10 +109,8 @@ impl<'a, const VLENB: usize> Monitor<'a, VLENB> {
         ensures same_reference { self.new.session.ghost_name ≡ self.old.session.ghost_name }
         ensures refused { IfSome
             (fault_in command.now self.old.breakpoints.items self.old.session.now)
-            (λ e. (result ≡ Err e)
-            × (self.new.session.now ≡ self.old.session.now)
-            × (self.new.breakpoints.items ≡ self.old.breakpoints.items)
-            × (out.new ≡ out.old)) }
+            (IsRefused result self.old.session.now self.new.session.now
+            self.old.breakpoints.items self.new.breakpoints.items out.old out.new) }
         ensures carried { fault_in command.now self.old.breakpoints.items self.old.session.now
             ≡ None → Carries VLENB command.now self.old.breakpoints.items self.new.breakpoints.items
             self.old.session.now self.new.session.now }
@@ -143,10 +145,8 @@ impl<'a, const VLENB: usize> Monitor<'a, VLENB> {
         ensures same_reference { self.new.session.ghost_name ≡ self.old.session.ghost_name }
         ensures refused { IfErr
             (order_of line.now self.old.breakpoints.items self.old.session.now)
-            (λ e. (result ≡ Err e)
-            × (self.new.session.now ≡ self.old.session.now)
-            × (self.new.breakpoints.items ≡ self.old.breakpoints.items)
-            × (out.new ≡ out.old)) }
+            (IsRefused result self.old.session.now self.new.session.now
+            self.old.breakpoints.items self.new.breakpoints.items out.old out.new) }
         ensures carried { IfOk
             (order_of line.now self.old.breakpoints.items self.old.session.now)
             (λ command. Carries VLENB command self.old.breakpoints.items self.new.breakpoints.items

@@ -9,15 +9,12 @@ use crate::texts::{put_byte_if, put_line};
 use rv_listing::{Failed, Piece, Sink, put_all};
 use sandbox_run::Session;
 
-/// The byte so many after an address.
-#[tactic(auto, unfolding(crate::specs::Views::byte_at))]
-fn byte_after<const VLENB: usize>(session: &Session<VLENB>, address: u32, offset: u32) -> Option<u8>
-    ensures { result ≡ byte_at session.now.machine.memory (address + offset) }
-{
-    match address.checked_add(offset) {
-        Some(address) => session.peek(address),
-        None => None,
-    }
+/// So many bytes, or words, of a run's memory, from an address on.
+#[derive(Clone, Copy)]
+pub(crate) struct View<'a, const VLENB: usize> {
+    session: &'a Session<VLENB>,
+    address: u32,
+    count: u32,
 }
 
 /// The word at an address, which may be past the last.
@@ -29,107 +26,6 @@ fn word_from<const VLENB: usize>(session: &Session<VLENB>, address: u64) -> Opti
         session.fetch(address as u32)
     } else {
         None
-    }
-}
-
-/// Whether so many bytes from an address on are there.
-pub(crate) fn has_bytes<const VLENB: usize>(
-    session: &Session<VLENB>,
-    address: u32,
-    count: u32,
-) -> bool
-    ensures { result ≡ has_bytes session.now.machine.memory address count }
-{
-    for offset in 0..count {
-        match byte_after(session, address, offset) {
-            Some(_) => {}
-            None => return false,
-        }
-    }
-    true
-}
-
-/// Whether so many words from an address on can be fetched.
-pub(crate) fn has_words<const VLENB: usize>(
-    session: &Session<VLENB>,
-    address: u32,
-    count: u32,
-) -> bool
-    ensures { result ≡ has_words session.now.machine.memory address count }
-{
-    for place in 0..count {
-        match word_from(session, address as u64 + 4 * (place as u64)) {
-            Some(_) => {}
-            None => return false,
-        }
-    }
-    true
-}
-
-/// Tells the byte so many after an address.
-fn put_byte_after<const VLENB: usize, S: Sink>(
-    session: &Session<VLENB>,
-    out: &mut S,
-    address: u32,
-    offset: u32,
-) -> Result<(), Failed>
-    ensures { Told result (S.contents out.old) (S.contents out.new) (S.failures out.old)
-        (S.failures out.new) (byte_text (byte_at session.now.machine.memory (address + offset))) }
-{
-    put_byte_if(out, byte_after(session, address, offset))
-}
-
-/// Tells bytes.
-fn put_bytes_from<const VLENB: usize, S: Sink>(
-    session: &Session<VLENB>,
-    out: &mut S,
-    address: u32,
-    count: u32,
-) -> Result<(), Failed>
-    ensures { Told result (S.contents out.old) (S.contents out.new) (S.failures out.old)
-        (S.failures out.new)
-        (texts (λ i. byte_text (byte_at session.now.machine.memory (address + i))) count) }
-{
-    for offset in 0..count {
-        match put_byte_after(session, out, address, offset) {
-            Ok(()) => {}
-            Err(error) => return Err(error),
-        }
-    }
-    Ok(())
-}
-
-/// Tells bytes, and ends the line.
-fn put_bytes_line_from<const VLENB: usize, S: Sink>(
-    session: &Session<VLENB>,
-    out: &mut S,
-    address: u32,
-    count: u32,
-) -> Result<(), Failed>
-    ensures { Told result (S.contents out.old) (S.contents out.new) (S.failures out.old)
-        (S.failures out.new)
-        (texts (λ i. byte_text (byte_at session.now.machine.memory (address + i))) count
-        ++ codes "\n") }
-{
-    match put_bytes_from(session, out, address, count) {
-        Ok(()) => put_all(out, &[Piece::Text("\n")]),
-        Err(error) => Err(error),
-    }
-}
-
-/// Tells an address and the bytes from there on.
-pub(crate) fn put_memory<const VLENB: usize, S: Sink>(
-    session: &Session<VLENB>,
-    out: &mut S,
-    address: u32,
-    count: u32,
-) -> Result<(), Failed>
-    ensures { Told result (S.contents out.old) (S.contents out.new) (S.failures out.old)
-        (S.failures out.new) (memory_text session.now.machine.memory address count) }
-{
-    match put_all(out, &[Piece::Word(address), Piece::Text("=")]) {
-        Ok(()) => put_bytes_line_from(session, out, address, count),
-        Err(error) => Err(error),
     }
 }
 
@@ -150,21 +46,120 @@ fn put_line_from<const VLENB: usize, S: Sink>(
     }
 }
 
-/// Tells words, a line each.
-pub(crate) fn put_lines<const VLENB: usize, S: Sink>(
-    session: &Session<VLENB>,
-    out: &mut S,
-    address: u32,
-    count: u32,
-) -> Result<(), Failed>
-    ensures { Told result (S.contents out.old) (S.contents out.new) (S.failures out.old)
-        (S.failures out.new) (lines_text session.now.machine.memory address count) }
-{
-    for place in 0..count {
-        match put_line_from(session, out, address as u64 + 4 * (place as u64)) {
-            Ok(()) => {}
-            Err(error) => return Err(error),
+impl<'a, const VLENB: usize> View<'a, VLENB> {
+    /// So many bytes or words from an address on.
+    pub(crate) fn new(session: &'a Session<VLENB>, address: u32, count: u32) -> View<'a, VLENB>
+        ensures run { result.session.now ≡ session.now }
+        ensures address { result.address ≡ address }
+        ensures count { result.count ≡ count }
+    {
+        View {
+            session,
+            address,
+            count,
         }
     }
-    Ok(())
+
+    /// The byte so many after the first.
+    #[tactic(auto, unfolding(crate::specs::Views::byte_at))]
+    fn byte_after(&self, offset: u32) -> Option<u8>
+        ensures { result ≡ byte_at self.now.session.now.machine.memory (self.now.address + offset) }
+    {
+        match self.address.checked_add(offset) {
+            Some(address) => self.session.peek(address),
+            None => None,
+        }
+    }
+
+    /// Whether all its bytes are there.
+    pub(crate) fn has_bytes(&self) -> bool
+        ensures { result
+            ≡ has_bytes self.now.session.now.machine.memory self.now.address self.now.count }
+    {
+        for offset in 0..self.count {
+            match self.byte_after(offset) {
+                Some(_) => {}
+                None => return false,
+            }
+        }
+        true
+    }
+
+    /// Whether all its words can be fetched.
+    pub(crate) fn has_words(&self) -> bool
+        ensures { result
+            ≡ has_words self.now.session.now.machine.memory self.now.address self.now.count }
+    {
+        for place in 0..self.count {
+            match word_from(self.session, self.address as u64 + 4 * (place as u64)) {
+                Some(_) => {}
+                None => return false,
+            }
+        }
+        true
+    }
+
+    /// Tells the byte so many after the first.
+    fn put_byte_after<S: Sink>(&self, out: &mut S, offset: u32) -> Result<(), Failed>
+        ensures { Told result (S.contents out.old) (S.contents out.new) (S.failures out.old)
+            (S.failures out.new)
+            (byte_text (byte_at self.now.session.now.machine.memory (self.now.address + offset))) }
+    {
+        put_byte_if(out, self.byte_after(offset))
+    }
+
+    /// Tells its bytes.
+    fn put_bytes<S: Sink>(&self, out: &mut S) -> Result<(), Failed>
+        ensures { Told result (S.contents out.old) (S.contents out.new) (S.failures out.old)
+            (S.failures out.new) (texts (λ i. byte_text
+            (byte_at self.now.session.now.machine.memory (self.now.address + i))) self.now.count) }
+    {
+        for offset in 0..self.count {
+            match self.put_byte_after(out, offset) {
+                Ok(()) => {}
+                Err(error) => return Err(error),
+            }
+        }
+        Ok(())
+    }
+
+    /// Tells its bytes, and ends the line.
+    fn put_bytes_line<S: Sink>(&self, out: &mut S) -> Result<(), Failed>
+        ensures { Told result (S.contents out.old) (S.contents out.new) (S.failures out.old)
+            (S.failures out.new) (texts (λ i. byte_text
+            (byte_at self.now.session.now.machine.memory (self.now.address + i))) self.now.count
+            ++ codes "\n") }
+    {
+        match self.put_bytes(out) {
+            Ok(()) => put_all(out, &[Piece::Text("\n")]),
+            Err(error) => Err(error),
+        }
+    }
+
+    /// Tells its address and its bytes.
+    pub(crate) fn put_memory<S: Sink>(&self, out: &mut S) -> Result<(), Failed>
+        ensures { Told result (S.contents out.old) (S.contents out.new) (S.failures out.old)
+            (S.failures out.new)
+            (memory_text self.now.session.now.machine.memory self.now.address self.now.count) }
+    {
+        match put_all(out, &[Piece::Word(self.address), Piece::Text("=")]) {
+            Ok(()) => self.put_bytes_line(out),
+            Err(error) => Err(error),
+        }
+    }
+
+    /// Tells its words, a line each.
+    pub(crate) fn put_lines<S: Sink>(&self, out: &mut S) -> Result<(), Failed>
+        ensures { Told result (S.contents out.old) (S.contents out.new) (S.failures out.old)
+            (S.failures out.new)
+            (lines_text self.now.session.now.machine.memory self.now.address self.now.count) }
+    {
+        for place in 0..self.count {
+            match put_line_from(self.session, out, self.address as u64 + 4 * (place as u64)) {
+                Ok(()) => {}
+                Err(error) => return Err(error),
+            }
+        }
+        Ok(())
+    }
 }

@@ -46,16 +46,12 @@ pub fn parse(line: &str) -> Result<Command, MonError>
 fn alone(name: &str) -> Result<Command, MonError>
     ensures { result ≡ with_none name.now }
 {
-    if name == "c" {
-        Ok(Command::Continue)
-    } else if name == "x" {
-        Ok(Command::Registers)
-    } else if name == "csr" {
-        Ok(Command::Csrs)
-    } else if name == "q" {
-        Ok(Command::Quit)
-    } else {
-        Err(MonError::Unknown)
+    match name {
+        "c" => Ok(Command::Continue),
+        "x" => Ok(Command::Registers),
+        "csr" => Ok(Command::Csrs),
+        "q" => Ok(Command::Quit),
+        _ => Err(MonError::Unknown),
     }
 }
 
@@ -63,16 +59,12 @@ fn alone(name: &str) -> Result<Command, MonError>
 fn with_word(name: &str, word: &str) -> Result<Command, MonError>
     ensures { result ≡ with_one name.now word.now }
 {
-    if name == "b" {
-        Ok(Command::Break(aligned(word).ok_or(MonError::BadNumber)?))
-    } else if name == "d" {
-        Ok(Command::Delete(address(word).ok_or(MonError::BadNumber)?))
-    } else if name == "s" {
-        Ok(Command::Step(number(word).ok_or(MonError::BadNumber)?))
-    } else if name == "v" {
-        Ok(Command::Vector(register(word).ok_or(MonError::BadNumber)?))
-    } else {
-        Err(MonError::Unknown)
+    match name {
+        "b" => Ok(Command::Break(aligned(word).ok_or(MonError::BadNumber)?)),
+        "d" => Ok(Command::Delete(address(word).ok_or(MonError::BadNumber)?)),
+        "s" => Ok(Command::Step(number(word).ok_or(MonError::BadNumber)?)),
+        "v" => Ok(Command::Vector(register(word).ok_or(MonError::BadNumber)?)),
+        _ => Err(MonError::Unknown),
     }
 }
 
@@ -80,15 +72,17 @@ fn with_word(name: &str, word: &str) -> Result<Command, MonError>
 fn with_words(name: &str, first: &str, second: &str) -> Result<Command, MonError>
     ensures { result ≡ with_two name.now first.now second.now }
 {
-    if name == "m" {
-        let address = address(first).ok_or(MonError::BadNumber)?;
-        let count = count(second).ok_or(MonError::BadNumber)?;
-        Ok(Command::Memory { address, count })
-    } else if name == "l" {
-        let address = address(first).ok_or(MonError::BadNumber)?;
-        let count = count(second).ok_or(MonError::BadNumber)?;
-        Ok(Command::List { address, count })
-    } else {
-        Err(MonError::Unknown)
+    match name {
+        "m" => {
+            let address = address(first).ok_or(MonError::BadNumber)?;
+            let count = count(second).ok_or(MonError::BadNumber)?;
+            Ok(Command::Memory { address, count })
+        }
+        "l" => {
+            let address = address(first).ok_or(MonError::BadNumber)?;
+            let count = count(second).ok_or(MonError::BadNumber)?;
+            Ok(Command::List { address, count })
+        }
+        _ => Err(MonError::Unknown),
     }
 }

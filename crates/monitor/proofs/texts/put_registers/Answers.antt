@@ -1,27 +1,24 @@
-use Rattle.std.proofs.Common.{◌∙◌, ℕ, List, refl, slice_index, arith}
+use Rattle.std.proofs.Common.{ℕ, List, refl, slice_index, arith}
 use Rattle.monitor.specs.Texts.{register_text, registers_text}
 use Rattle.monitor.proofs.TextLemmas.{texts_all, texts_more, texts_none, texts_stop}
 use Rattle.monitor.proofs.texts.put_registers.Goals as goal
 
 pub loop-number-init : goal.loop-number-init
-loop-number-init g c = record { told = texts_none _ _; same = refl }
+loop-number-init g c = (texts_none _ _, refl)
 
 pub loop-number-preserved : goal.loop-number-preserved
 loop-number-preserved g c =
     let text : ℕ → List ℕ = λ number. register_text number (slice_index c.args.x.now number) in
-    record {
-      told = texts_more text c.loop-number.number _ _ _ c.loop-number.invariant.told c.in-Ok.ensures.0;
-      same = c.in-Ok.ensures.1 ∙ c.loop-number.invariant.same;
-    }
+    texts_more text c.loop-number.number _ _ _ _ _ _ c.loop-number.invariant c.in-Ok.ensures
 
 pub returns-in-Err : goal.returns-in-Err
 unfolding registers_text
 returns-in-Err g c =
     let text : ℕ → List ℕ = λ number. register_text number (slice_index c.args.x.now number) in
-    texts_stop c.in-Err.error text c.loop-number.number 32 _ _ _ _ _ _ (omega arith) (c.loop-number.invariant.told, c.loop-number.invariant.same) c.in-Err.ensures
+    texts_stop c.in-Err.error text c.loop-number.number 32 _ _ _ _ _ _ (omega arith) c.loop-number.invariant c.in-Err.ensures
 
 pub returns : goal.returns
 unfolding registers_text
 returns g c =
     let text : ℕ → List ℕ = λ number. register_text number (slice_index c.args.x.now number) in
-    (texts_all text c.loop-number.number 32 _ _ (omega arith) c.loop-number.invariant.told, c.loop-number.invariant.same)
+    texts_all text c.loop-number.number 32 _ _ _ _ (omega arith) c.loop-number.invariant

@@ -4,7 +4,5 @@ use Rattle.monitor.specs.Texts.{register_text, texts}
 use Rattle.monitor.proofs.texts.put_registers.Given as goal
 
 abbrev pub invariant-loop-number : goal.invariant-loop-number
-invariant-loop-number g l = record {
-  told : Appends (g.S.Sink.contents l.fn.out) (g.S.Sink.contents l.out) (texts (λ number. register_text number (slice_index l.x number)) l.number);
-  same : g.S.Sink.failures l.out ≡ g.S.Sink.failures l.fn.out;
-}
+invariant-loop-number g l = Appends (g.S.Sink.contents l.fn.out) (g.S.Sink.contents l.out) (texts (λ number. register_text number (slice_index l.x number)) l.number)
+    × (g.S.Sink.failures l.out ≡ g.S.Sink.failures l.fn.out)

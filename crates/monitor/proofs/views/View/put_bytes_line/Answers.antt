@@ -1,5 +1,5 @@
 use Rattle.rv_listing.proofs.SinkLemmas.{told_part, told_then}
-use Rattle.monitor.proofs.views.put_bytes_line_from.Goals as goal
+use Rattle.monitor.proofs.views.View.put_bytes_line.Goals as goal
 
 pub returns-in-Ok : goal.returns-in-Ok
 returns-in-Ok g c = told_then c.put_all.result _ _ _ _ _ _ _ _ c.in-Ok.ensures c.put_all.ensures

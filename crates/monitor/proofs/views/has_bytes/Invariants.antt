@@ -1,6 +1,0 @@
-use Rattle.std.proofs.Common.{◌≡◌, ◌+◌, true, is_some}
-use Rattle.monitor.specs.Views.{all_first, byte_at}
-use Rattle.monitor.proofs.views.has_bytes.Given as goal
-
-abbrev pub invariant-loop-offset : goal.invariant-loop-offset
-invariant-loop-offset g l = all_first (λ i. is_some (byte_at l.session.machine.memory (l.address + i))) l.offset ≡ true

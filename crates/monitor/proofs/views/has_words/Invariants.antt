@@ -1,6 +1,0 @@
-use Rattle.std.proofs.Common.{◌≡◌, ◌+◌, ◌*◌, true, is_some}
-use Rattle.monitor.specs.Views.{all_first, word_at}
-use Rattle.monitor.proofs.views.has_words.Given as goal
-
-abbrev pub invariant-loop-place : goal.invariant-loop-place
-invariant-loop-place g l = all_first (λ i. is_some (word_at l.session.machine.memory (l.address + 4 * i))) l.place ≡ true
