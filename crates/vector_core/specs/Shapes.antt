@@ -5,7 +5,7 @@ use Rattle.rv_decode.specs.declared.instructions.VArith.TheVariants as arith
 use Rattle.rv_decode.specs.declared.instructions.VPerm.TheVariants as perm
 use Rattle.rv_decode.specs.declared.instructions.VReduce.TheVariants as reduce
 use Rattle.rv_decode.specs.Needs.{needs_of_arith, needs_of_perm}
-use Rattle.vector_core.specs.Words.{Fraction, Setup, VArith, VPerm, VReduce, Width}
+use Rattle.vector_core.specs.Words.{Fraction, Operands, Setup, VArith, VPerm, VReduce, Width}
 use Rattle.vector_core.specs.Setup.{IsReady}
 
 pub data Shape : Type 0 where
@@ -40,12 +40,16 @@ shape_of (arith.Narrow op vd vs2 b masked) = NarrowShape
 shape_of (arith.Clip op vd vs2 b masked) = ClipShape
 shape_of (arith.Extend signed of vd vs2 masked) = ExtendShape of
 
--- an instruction of this shape whose operands are ready, under a setup of this SEW
-pub record IsShaped (vlenb : ℕ) (s : Setup) (sew : Width) (insn : VArith) (shape : Shape)
-    : Type 0 where
-  pub is : shape_of insn ≡ shape
+-- an instruction whose shape is this one and whose operands are ready, under a setup of this SEW
+pub record HasShape {Shape : Type 0} (vlenb : ℕ) (s : Setup) (sew : Width) (needs : Operands)
+    (own shape : Shape) : Type 0 where
+  pub is : own ≡ shape
   pub width : sew ≡ s.vtype.sew
-  pub ready : IsReady vlenb s (needs_of_arith insn)
+  pub ready : IsReady vlenb s needs
+
+abbrev pub IsShaped : ℕ → Setup → Width → VArith → Shape → Type 0
+IsShaped vlenb s sew insn shape =
+    HasShape vlenb s sew (needs_of_arith insn) (shape_of insn) shape
 
 pub data PermShape : Type 0 where
   SlideUpShape : PermShape
@@ -65,12 +69,9 @@ perm_shape_of (perm.Gather vd vs2 b masked) = GatherShape
 perm_shape_of (perm.Gather16 vd vs2 vs1 masked) = Gather16Shape
 perm_shape_of (perm.Compress vd vs2 vs1) = CompressShape
 
--- the same of one that moves elements among places
-pub record IsPermShaped (vlenb : ℕ) (s : Setup) (sew : Width) (insn : VPerm) (shape : PermShape)
-    : Type 0 where
-  pub is : perm_shape_of insn ≡ shape
-  pub width : sew ≡ s.vtype.sew
-  pub ready : IsReady vlenb s (needs_of_perm insn)
+abbrev pub IsPermShaped : ℕ → Setup → Width → VPerm → PermShape → Type 0
+IsPermShaped vlenb s sew insn shape =
+    HasShape vlenb s sew (needs_of_perm insn) (perm_shape_of insn) shape
 
 pub data ReduceShape : Type 0 where
   FoldShape : ReduceShape

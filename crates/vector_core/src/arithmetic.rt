@@ -11,7 +11,7 @@ use crate::elements::{VectorElement, zero};
 use crate::fixed_point::fixed;
 use crate::integer::{carry, carry_out, compare, int, multiply_add};
 use crate::moves::{copy, merge};
-use crate::rooms::{MOST_HALVES, MOST_WORDS};
+use crate::rooms::{MOST_HALVES, MOST_WORDS, on_sew};
 use crate::setup::Setup;
 use crate::widening::extend;
 use rv_decode::{VArith, Width};
@@ -29,12 +29,7 @@ pub fn arith<const VLENB: usize>(
     ensures { arith_of VLENB setup.now scalar.now insn.now registers.old
         ≡ record { registers = registers.new; saturated = result } }
 {
-    let sew = setup.vtype.sew;
-    match sew {
-        Width::W8 => arith_elements::<u8, MOST_ELEMENTS, VLENB>(registers, scalar, setup, insn),
-        Width::W16 => arith_elements::<u16, MOST_HALVES, VLENB>(registers, scalar, setup, insn),
-        Width::W32 => arith_elements::<u32, MOST_WORDS, VLENB>(registers, scalar, setup, insn),
-    }
+    on_sew!(setup, arith_elements(registers, scalar, setup, insn))
 }
 
 /// The same on elements of one width, of which a body has at most MOST.

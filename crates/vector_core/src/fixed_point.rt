@@ -9,6 +9,7 @@ ghost use Rattle.vector_core.specs.FixedPoint.{rounding_of};
 use crate::elements::VectorElement;
 use crate::operands::{read_body, read_second, write_results};
 use crate::setup::Setup;
+use crate::shapes::of_shape;
 use lane_fixed::RoundingMode;
 use rv_decode::{Eew, VArith};
 use scalar_core::Scalar;
@@ -43,16 +44,7 @@ pub fn fixed<E: VectorElement, const VLENB: usize>(
     ensures { arith_of VLENB setup.now scalar.now insn.now registers.old
         ≡ record { registers = registers.new; saturated = result } }
 {
-    let VArith::Fixed {
-        op,
-        vd,
-        vs2,
-        b,
-        masked,
-    } = insn
-    else {
-        unreachable!()
-    };
+    of_shape!(VArith::Fixed(op, vd, vs2, b, masked) = insn);
     let destination = setup.group(*vd, Eew::Same);
     let mut bits = [false; MOST_ELEMENTS];
     let active = &mut bits[..setup.vl];

@@ -13,6 +13,7 @@ use crate::elements::VectorElement;
 use crate::operands::{read_bits, read_body, read_second, write_bits, write_results};
 use crate::operations::carry_out_lanes;
 use crate::setup::Setup;
+use crate::shapes::of_shape;
 use rv_decode::{Eew, Reg, VArith};
 use scalar_core::Scalar;
 use vreg_groups::{MOST_ELEMENTS, VregFile};
@@ -32,16 +33,7 @@ pub fn int<E: VectorElement, const VLENB: usize>(
     requires c_len { length c.old ≡ setup.now.vl }
     ensures { arith_of VLENB setup.now scalar.now insn.now registers.old ≡ exact registers.new }
 {
-    let VArith::Int {
-        op,
-        vd,
-        vs2,
-        b,
-        masked,
-    } = insn
-    else {
-        unreachable!()
-    };
+    of_shape!(VArith::Int(op, vd, vs2, b, masked) = insn);
     let destination = setup.group(*vd, Eew::Same);
     read_body(registers, setup, *vs2, a);
     read_second(registers, scalar, setup, *b, c);
@@ -66,16 +58,7 @@ pub fn multiply_add<E: VectorElement, const VLENB: usize>(
     requires d_len { length d.old ≡ setup.now.vl }
     ensures { arith_of VLENB setup.now scalar.now insn.now registers.old ≡ exact registers.new }
 {
-    let VArith::MultiplyAdd {
-        op,
-        vd,
-        vs2,
-        b,
-        masked,
-    } = insn
-    else {
-        unreachable!()
-    };
+    of_shape!(VArith::MultiplyAdd(op, vd, vs2, b, masked) = insn);
     let destination = setup.group(*vd, Eew::Same);
     read_body(registers, setup, *vs2, a);
     read_second(registers, scalar, setup, *b, c);
@@ -99,9 +82,7 @@ pub fn carry<E: VectorElement, const VLENB: usize>(
     requires c_len { length c.old ≡ setup.now.vl }
     ensures { arith_of VLENB setup.now scalar.now insn.now registers.old ≡ exact registers.new }
 {
-    let VArith::Carry { op, vd, vs2, b } = insn else {
-        unreachable!()
-    };
+    of_shape!(VArith::Carry(op, vd, vs2, b) = insn);
     let destination = setup.group(*vd, Eew::Same);
     let mut bits = [false; MOST_ELEMENTS];
     let carries = &mut bits[..setup.vl];
@@ -127,16 +108,7 @@ pub fn carry_out<E: VectorElement, const VLENB: usize>(
     requires c_len { length c.old ≡ setup.now.vl }
     ensures { arith_of VLENB setup.now scalar.now insn.now registers.old ≡ exact registers.new }
 {
-    let VArith::CarryOut {
-        op,
-        vd,
-        vs2,
-        b,
-        with_carry,
-    } = insn
-    else {
-        unreachable!()
-    };
+    of_shape!(VArith::CarryOut(op, vd, vs2, b, with_carry) = insn);
     let mut bits = [false; MOST_ELEMENTS];
     let carries = &mut bits[..setup.vl];
     read_body(registers, setup, *vs2, a);
@@ -161,16 +133,7 @@ pub fn compare<E: VectorElement, const VLENB: usize>(
     requires c_len { length c.old ≡ setup.now.vl }
     ensures { arith_of VLENB setup.now scalar.now insn.now registers.old ≡ exact registers.new }
 {
-    let VArith::Compare {
-        op,
-        vd,
-        vs2,
-        b,
-        masked,
-    } = insn
-    else {
-        unreachable!()
-    };
+    of_shape!(VArith::Compare(op, vd, vs2, b, masked) = insn);
     let mut bits = [false; MOST_ELEMENTS];
     let results = &mut bits[..setup.vl];
     read_body(registers, setup, *vs2, a);

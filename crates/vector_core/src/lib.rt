@@ -23,6 +23,7 @@ mod reductions;
 mod resizing;
 mod rooms;
 mod setup;
+mod shapes;
 mod singles;
 mod state;
 mod step;

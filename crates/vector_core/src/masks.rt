@@ -12,7 +12,7 @@ ghost use Rattle.vector_core.specs.Setup.{IsReady, IsSetup};
 
 use crate::elements::{VectorElement, zero};
 use crate::operands::{write_bits, write_results};
-use crate::rooms::{MOST_HALVES, MOST_WORDS};
+use crate::rooms::{MOST_HALVES, MOST_WORDS, on_sew};
 use crate::setup::Setup;
 use crate::state::VectorState;
 use lane_masks::{combine, set_first};
@@ -157,12 +157,7 @@ fn iota<const VLENB: usize>(
     requires inside { IsGroupInside setup.now.vtype vd Same }
     ensures { registers.new ≡ iota_of VLENB setup.now vd vs2 masked registers.old }
 {
-    let sew = setup.vtype.sew;
-    match sew {
-        Width::W8 => iota_elements::<u8, MOST_ELEMENTS, VLENB>(registers, setup, vd, vs2, masked),
-        Width::W16 => iota_elements::<u16, MOST_HALVES, VLENB>(registers, setup, vd, vs2, masked),
-        Width::W32 => iota_elements::<u32, MOST_WORDS, VLENB>(registers, setup, vd, vs2, masked),
-    }
+    on_sew!(setup, iota_elements(registers, setup, vd, vs2, masked))
 }
 
 /// Each element of vd, of which a body has at most MOST, is its own number.
@@ -192,12 +187,7 @@ fn index<const VLENB: usize>(registers: &mut VregFile<VLENB>, setup: &Setup, vd:
     requires inside { IsGroupInside setup.now.vtype vd Same }
     ensures { registers.new ≡ index_of VLENB setup.now vd masked registers.old }
 {
-    let sew = setup.vtype.sew;
-    match sew {
-        Width::W8 => index_elements::<u8, MOST_ELEMENTS, VLENB>(registers, setup, vd, masked),
-        Width::W16 => index_elements::<u16, MOST_HALVES, VLENB>(registers, setup, vd, masked),
-        Width::W32 => index_elements::<u32, MOST_WORDS, VLENB>(registers, setup, vd, masked),
-    }
+    on_sew!(setup, index_elements(registers, setup, vd, masked))
 }
 
 /// The step of an instruction on masks.

@@ -14,6 +14,7 @@ use crate::elements::{VectorElement, low_bits};
 use crate::fold_elements::sign_extended;
 use crate::operands::{read_bits, read_body, read_second, write_results};
 use crate::setup::Setup;
+use crate::shapes::of_shape;
 use crate::singles::write_first;
 use crate::state::VectorState;
 use rv_decode::{Eew, Reg, VArith, VMove, Width};
@@ -35,9 +36,7 @@ pub fn merge<E: VectorElement, const VLENB: usize>(
     requires c_len { length c.old ≡ setup.now.vl }
     ensures { arith_of VLENB setup.now scalar.now insn.now registers.old ≡ exact registers.new }
 {
-    let VArith::Merge { vd, vs2, b } = insn else {
-        unreachable!()
-    };
+    of_shape!(VArith::Merge(vd, vs2, b) = insn);
     let destination = setup.group(*vd, Eew::Same);
     let mut bits = [false; MOST_ELEMENTS];
     let mask = &mut bits[..setup.vl];
@@ -78,9 +77,7 @@ pub fn copy<E: VectorElement, const VLENB: usize>(
     requires c_len { length c.old ≡ setup.now.vl }
     ensures { arith_of VLENB setup.now scalar.now insn.now registers.old ≡ exact registers.new }
 {
-    let VArith::Copy { vd, b } = insn else {
-        unreachable!()
-    };
+    of_shape!(VArith::Copy(vd, b) = insn);
     let destination = setup.group(*vd, Eew::Same);
     read_second(registers, scalar, setup, *b, c);
     write_results(registers, setup, &destination, false, c);

@@ -12,6 +12,7 @@ use crate::operands::{read_second, write_results};
 use crate::operations::narrow_lanes;
 use crate::resizing::{HalfOf, cut_results, read_doubled};
 use crate::setup::Setup;
+use crate::shapes::of_shape;
 use rv_decode::{Eew, VArith};
 use scalar_core::Scalar;
 use vreg_groups::{MOST_ELEMENTS, VregFile};
@@ -33,16 +34,7 @@ pub fn narrow<N: HalfOf<W>, W: VectorElement, const VLENB: usize>(
     requires y_len { length y.old ≡ setup.now.vl }
     ensures { arith_of VLENB setup.now scalar.now insn.now registers.old ≡ exact registers.new }
 {
-    let VArith::Narrow {
-        op,
-        vd,
-        vs2,
-        b,
-        masked,
-    } = insn
-    else {
-        unreachable!()
-    };
+    of_shape!(VArith::Narrow(op, vd, vs2, b, masked) = insn);
     let destination = setup.group(*vd, Eew::Same);
     let source = setup.group::<VLENB>(*vs2, Eew::Double);
     source.read(registers, x);
@@ -71,16 +63,7 @@ pub fn clip<N: HalfOf<W>, W: VectorElement, const VLENB: usize>(
     ensures { arith_of VLENB setup.now scalar.now insn.now registers.old
         ≡ record { registers = registers.new; saturated = result } }
 {
-    let VArith::Clip {
-        op,
-        vd,
-        vs2,
-        b,
-        masked,
-    } = insn
-    else {
-        unreachable!()
-    };
+    of_shape!(VArith::Clip(op, vd, vs2, b, masked) = insn);
     let destination = setup.group(*vd, Eew::Same);
     let source = setup.group::<VLENB>(*vs2, Eew::Double);
     let mut bits = [false; MOST_ELEMENTS];

@@ -106,13 +106,14 @@ pub fn write_results<E: VectorElement, const VLENB: usize>(
     if setup.vl == 0 {
         return;
     }
-    if masked {
-        write_active(registers, setup, group, true, results);
-    } else if results.len() == setup.vl {
+    if !masked && results.len() == setup.vl {
         write_whole(registers, setup, group, results);
-    } else {
-        write_active(registers, setup, group, false, results);
+        return;
     }
+    let mut bits = [false; MOST_ELEMENTS];
+    let active = &mut bits[..setup.vl];
+    registers.read_active(masked, active);
+    group.write(registers, results, active, setup.policy());
 }
 
 /// The same where all of the body has results, each of them active.
@@ -129,26 +130,6 @@ fn write_whole<E: VectorElement, const VLENB: usize>(
         registers.old }
 {
     group.write_all(registers, results, setup.policy());
-}
-
-/// The same where the bits of v0 may say which results are active.
-fn write_active<E: VectorElement, const VLENB: usize>(
-    registers: &mut VregFile<VLENB>,
-    setup: &Setup,
-    group: &Group<VLENB>,
-    masked: bool,
-    results: &[E],
-)
-    requires size { E.SIZE ≡ group.now.bytes }
-    requires setup { IsSetup VLENB setup.now }
-    ensures { registers.new ≡ written VLENB group.now (policy_of setup.now.agnostic setup.now.vtype)
-        (map E.Element.number results.now) (active_of VLENB masked setup.now.vl registers.old)
-        registers.old }
-{
-    let mut bits = [false; MOST_ELEMENTS];
-    let active = &mut bits[..setup.vl];
-    registers.read_active(masked, active);
-    group.write(registers, results, active, setup.policy());
 }
 
 /// Writes the body's bits to a destination that is a mask: nothing where vl is 0.

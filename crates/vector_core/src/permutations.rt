@@ -1,8 +1,7 @@
 //! Instructions that move elements among places: each resolves its operands, reads them, moves and writes. `a` and `c` have
 //! room for the body, and `all` for VLMAX elements.
 
-ghost use Rattle.std.specs.Prelude.{◌≡◌, ◌≤◌, ◌*◌, ◌<◌, ◌^◌, IfSome, Ok, length, map};
-ghost use Rattle.region_mem.specs.Memory.{Memory};
+ghost use Rattle.std.specs.Prelude.{◌≡◌, ◌≤◌, ◌*◌, ◌<◌, ◌^◌, IfSome, length, map};
 ghost use Rattle.rv_decode.specs.Needs.{needs_of_perm, second};
 ghost use Rattle.rv_decode.specs.declared.extents.Eew.TheVariants.{Same};
 ghost use Rattle.vreg_groups.specs.Group.{IsGroupInside, body_of};
@@ -11,7 +10,7 @@ ghost use Rattle.rv_decode.specs.Instructions.{bytes_of_width};
 ghost use Rattle.vreg_groups.specs.VectorType.{vlmax_of};
 ghost use Rattle.vreg_groups.specs.declared.vector_type.TheConstants.{MOST_ELEMENTS};
 ghost use Rattle.vector_core.specs.Permutations.{active_from, all_at, distance_of, indices_of};
-ghost use Rattle.vector_core.specs.Permutations.{perm_of, perm_step, results_written_from};
+ghost use Rattle.vector_core.specs.Permutations.{perm_of, results_written_from};
 ghost use Rattle.vector_core.specs.Rooms.{IsRoom};
 ghost use Rattle.vector_core.specs.Shapes.{CompressShape, Gather16Shape, GatherShape};
 ghost use Rattle.vector_core.specs.Shapes.{IsPermShaped, SlideDownShape, SlideOneDownShape};
@@ -20,9 +19,9 @@ ghost use Rattle.vector_core.specs.Setup.{IsReady, IsSetup};
 
 use crate::elements::{VectorElement, low_bits, numbers_of, zero};
 use crate::operands::{read_bits, read_body, write_results};
-use crate::rooms::{MOST_HALVES, MOST_WORDS};
+use crate::rooms::{MOST_HALVES, MOST_WORDS, on_sew};
 use crate::setup::Setup;
-use crate::state::VectorState;
+use crate::shapes::of_shape;
 use rv_decode::{Eew, Offset, Reg, Source, VPerm, Width};
 use scalar_core::Scalar;
 use vreg_groups::{Group, MOST_ELEMENTS, VregFile};
@@ -112,15 +111,7 @@ fn slide_up<E: VectorElement, const VLENB: usize>(
     requires c_len { length c.old ≡ setup.now.vl }
     ensures { registers.new ≡ perm_of VLENB setup.now scalar.now insn.now registers.old }
 {
-    let VPerm::SlideUp {
-        vd,
-        vs2,
-        offset,
-        masked,
-    } = insn
-    else {
-        unreachable!()
-    };
+    of_shape!(VPerm::SlideUp(vd, vs2, offset, masked) = insn);
     let destination = setup.group(*vd, Eew::Same);
     let distance = distance(*offset, scalar);
     read_body(registers, setup, *vs2, a);
@@ -144,15 +135,7 @@ fn slide_down<E: VectorElement, const VLENB: usize>(
     requires all_len { length all.old ≡ vlmax_of VLENB setup.now.vtype }
     ensures { registers.new ≡ perm_of VLENB setup.now scalar.now insn.now registers.old }
 {
-    let VPerm::SlideDown {
-        vd,
-        vs2,
-        offset,
-        masked,
-    } = insn
-    else {
-        unreachable!()
-    };
+    of_shape!(VPerm::SlideDown(vd, vs2, offset, masked) = insn);
     let destination = setup.group(*vd, Eew::Same);
     read_all(registers, setup, *vs2, all);
     lane_masks::slide_down(distance(*offset, scalar), all, zero(), a);
@@ -172,15 +155,7 @@ fn slide_one_up<E: VectorElement, const VLENB: usize>(
     requires a_len { length a.old ≡ setup.now.vl }
     ensures { registers.new ≡ perm_of VLENB setup.now scalar.now insn.now registers.old }
 {
-    let VPerm::SlideOneUp {
-        vd,
-        vs2,
-        rs1,
-        masked,
-    } = insn
-    else {
-        unreachable!()
-    };
+    of_shape!(VPerm::SlideOneUp(vd, vs2, rs1, masked) = insn);
     let destination = setup.group(*vd, Eew::Same);
     read_body(registers, setup, *vs2, a);
     lane_masks::slide_one_up(low_bits(scalar.reg(*rs1)), a);
@@ -200,15 +175,7 @@ fn slide_one_down<E: VectorElement, const VLENB: usize>(
     requires a_len { length a.old ≡ setup.now.vl }
     ensures { registers.new ≡ perm_of VLENB setup.now scalar.now insn.now registers.old }
 {
-    let VPerm::SlideOneDown {
-        vd,
-        vs2,
-        rs1,
-        masked,
-    } = insn
-    else {
-        unreachable!()
-    };
+    of_shape!(VPerm::SlideOneDown(vd, vs2, rs1, masked) = insn);
     let destination = setup.group(*vd, Eew::Same);
     read_body(registers, setup, *vs2, a);
     lane_masks::slide_one_down(low_bits(scalar.reg(*rs1)), a);
@@ -257,9 +224,7 @@ fn gather<E: VectorElement, const VLENB: usize>(
     requires all_len { length all.old ≡ vlmax_of VLENB setup.now.vtype }
     ensures { registers.new ≡ perm_of VLENB setup.now scalar.now insn.now registers.old }
 {
-    let VPerm::Gather { vd, vs2, b, masked } = insn else {
-        unreachable!()
-    };
+    of_shape!(VPerm::Gather(vd, vs2, b, masked) = insn);
     let destination = setup.group(*vd, Eew::Same);
     let mut numbers = [0u32; MOST_ELEMENTS];
     let indices = &mut numbers[..setup.vl];
@@ -284,15 +249,7 @@ fn gather16<E: VectorElement, const VLENB: usize>(
     requires all_len { length all.old ≡ vlmax_of VLENB setup.now.vtype }
     ensures { registers.new ≡ perm_of VLENB setup.now scalar.now insn.now registers.old }
 {
-    let VPerm::Gather16 {
-        vd,
-        vs2,
-        vs1,
-        masked,
-    } = insn
-    else {
-        unreachable!()
-    };
+    of_shape!(VPerm::Gather16(vd, vs2, vs1, masked) = insn);
     let destination = setup.group(*vd, Eew::Same);
     let others = setup.group::<VLENB>(*vs1, Eew::Fixed(Width::W16));
     let mut halves = [0u16; MOST_ELEMENTS];
@@ -319,9 +276,7 @@ fn compress<E: VectorElement, const VLENB: usize>(
     requires a_len { length a.old ≡ setup.now.vl }
     ensures { registers.new ≡ perm_of VLENB setup.now scalar.now insn.now registers.old }
 {
-    let VPerm::Compress { vd, vs2, vs1 } = insn else {
-        unreachable!()
-    };
+    of_shape!(VPerm::Compress(vd, vs2, vs1) = insn);
     let destination = setup.group(*vd, Eew::Same);
     let mut bits = [false; MOST_ELEMENTS];
     let bits = &mut bits[..setup.vl];
@@ -361,8 +316,8 @@ fn permute_elements<E: VectorElement, const MOST: usize, const VLENB: usize>(
     }
 }
 
-/// The same, by the width of elements.
-fn permute<const VLENB: usize>(
+/// What an instruction that moves elements does to the registers.
+pub fn permute<const VLENB: usize>(
     registers: &mut VregFile<VLENB>,
     scalar: &Scalar,
     setup: &Setup,
@@ -371,26 +326,5 @@ fn permute<const VLENB: usize>(
     requires { IsReady VLENB setup.now (needs_of_perm insn.now) }
     ensures { registers.new ≡ perm_of VLENB setup.now scalar.now insn.now registers.old }
 {
-    let sew = setup.vtype.sew;
-    match sew {
-        Width::W8 => permute_elements::<u8, MOST_ELEMENTS, VLENB>(registers, scalar, setup, insn),
-        Width::W16 => permute_elements::<u16, MOST_HALVES, VLENB>(registers, scalar, setup, insn),
-        Width::W32 => permute_elements::<u32, MOST_WORDS, VLENB>(registers, scalar, setup, insn),
-    }
-}
-
-/// The step of an instruction that moves elements.
-#[tactic(auto, unfolding(crate::specs::Permutations::perm_step))]
-pub fn step_perm<const VLENB: usize>(
-    vectors: &mut VectorState<VLENB>,
-    scalar: &mut Scalar,
-    setup: &Setup,
-    insn: &VPerm,
-)
-    requires { IsReady VLENB setup.now (needs_of_perm insn.now) }
-    ensures { (m : Memory) → perm_step VLENB setup.now insn.now scalar.old vectors.old m
-        ≡ Ok (scalar.new, vectors.new, m) }
-{
-    permute(&mut vectors.registers, scalar, setup, insn);
-    scalar.advance();
+    on_sew!(setup, permute_elements(registers, scalar, setup, insn))
 }

@@ -1,12 +1,11 @@
 //! Reductions: each reads element 0 of vs1 and the active elements of vs2, folds them, and writes element 0 of vd.
 
-ghost use Rattle.std.specs.Prelude.{◌≡◌, ◌*◌, Ok};
+ghost use Rattle.std.specs.Prelude.{◌≡◌, ◌*◌};
 ghost use Rattle.std.specs.Mem.{FitsInMemory};
-ghost use Rattle.region_mem.specs.Memory.{Memory};
 ghost use Rattle.rv_decode.specs.Needs.{needs_of_reduce};
 ghost use Rattle.rv_decode.specs.Instructions.{bytes_of_width};
 ghost use Rattle.vector_core.specs.Integer.{lane_width};
-ghost use Rattle.vector_core.specs.Reductions.{reduce_of, reduce_step, sum_width};
+ghost use Rattle.vector_core.specs.Reductions.{reduce_of, sum_width};
 ghost use Rattle.vector_core.specs.Rooms.{IsRoom};
 ghost use Rattle.vector_core.specs.Setup.{IsReady};
 ghost use Rattle.vector_core.specs.Shapes.{FoldShape, WidenSumShape, reduce_shape_of};
@@ -14,12 +13,11 @@ ghost use Rattle.vector_core.specs.Shapes.{FoldShape, WidenSumShape, reduce_shap
 use crate::elements::{VectorElement, zero};
 use crate::fold_elements::extended_sum;
 use crate::operands::read_body;
-use crate::rooms::{MOST_HALVES, MOST_WORDS};
+use crate::rooms::{MOST_HALVES, MOST_WORDS, on_sew};
 use crate::setup::Setup;
+use crate::shapes::of_shape;
 use crate::singles::write_first;
-use crate::state::VectorState;
 use rv_decode::{VReduce, Width};
-use scalar_core::Scalar;
 use vreg_groups::{MOST_ELEMENTS, VregFile};
 
 /// Element 0 of vd is the fold of element 0 of vs1 with the active elements of vs2, of which a body has at most MOST.
@@ -36,16 +34,7 @@ fn fold_elements<E: VectorElement, const MOST: usize, const VLENB: usize>(
     requires ready { IsReady VLENB setup.now (needs_of_reduce insn.now) }
     ensures { registers.new ≡ reduce_of VLENB setup.now insn.now registers.old }
 {
-    let VReduce::Fold {
-        op,
-        vd,
-        vs2,
-        vs1,
-        masked,
-    } = insn
-    else {
-        unreachable!()
-    };
+    of_shape!(VReduce::Fold(op, vd, vs2, vs1, masked) = insn);
     let mut bits = [false; MOST_ELEMENTS];
     let active = &mut bits[..setup.vl];
     registers.read_active(*masked, active);
@@ -63,12 +52,7 @@ fn fold<const VLENB: usize>(registers: &mut VregFile<VLENB>, setup: &Setup, insn
     requires ready { IsReady VLENB setup.now (needs_of_reduce insn.now) }
     ensures { registers.new ≡ reduce_of VLENB setup.now insn.now registers.old }
 {
-    let sew = setup.vtype.sew;
-    match sew {
-        Width::W8 => fold_elements::<u8, MOST_ELEMENTS, VLENB>(registers, setup, insn),
-        Width::W16 => fold_elements::<u16, MOST_HALVES, VLENB>(registers, setup, insn),
-        Width::W32 => fold_elements::<u32, MOST_WORDS, VLENB>(registers, setup, insn),
-    }
+    on_sew!(setup, fold_elements(registers, setup, insn))
 }
 
 /// Element 0 of vd, of 2*SEW, is the sum of element 0 of vs1, of 2*SEW, with the active elements of vs2, which are
@@ -88,16 +72,7 @@ fn widen_sum_of<W: VectorElement, N: VectorElement, const MOST: usize, const VLE
     requires ready { IsReady VLENB setup.now (needs_of_reduce insn.now) }
     ensures { registers.new ≡ reduce_of VLENB setup.now insn.now registers.old }
 {
-    let VReduce::WidenSum {
-        signed,
-        vd,
-        vs2,
-        vs1,
-        masked,
-    } = insn
-    else {
-        unreachable!()
-    };
+    of_shape!(VReduce::WidenSum(signed, vd, vs2, vs1, masked) = insn);
     let mut bits = [false; MOST_ELEMENTS];
     let active = &mut bits[..setup.vl];
     registers.read_active(*masked, active);
@@ -127,7 +102,8 @@ fn widen_sum<const VLENB: usize>(registers: &mut VregFile<VLENB>, setup: &Setup,
     }
 }
 
-fn reduce<const VLENB: usize>(registers: &mut VregFile<VLENB>, setup: &Setup, insn: &VReduce)
+/// What a reduction does to the registers.
+pub fn reduce<const VLENB: usize>(registers: &mut VregFile<VLENB>, setup: &Setup, insn: &VReduce)
     requires { IsReady VLENB setup.now (needs_of_reduce insn.now) }
     ensures { registers.new ≡ reduce_of VLENB setup.now insn.now registers.old }
 {
@@ -135,20 +111,4 @@ fn reduce<const VLENB: usize>(registers: &mut VregFile<VLENB>, setup: &Setup, in
         VReduce::Fold { .. } => fold(registers, setup, insn),
         VReduce::WidenSum { .. } => widen_sum(registers, setup, insn),
     }
-}
-
-/// The step of a reduction.
-#[tactic(auto, unfolding(crate::specs::Reductions::reduce_step))]
-pub fn step_reduce<const VLENB: usize>(
-    vectors: &mut VectorState<VLENB>,
-    scalar: &mut Scalar,
-    setup: &Setup,
-    insn: &VReduce,
-)
-    requires { IsReady VLENB setup.now (needs_of_reduce insn.now) }
-    ensures { (m : Memory) → reduce_step VLENB setup.now insn.now scalar.old vectors.old m
-        ≡ Ok (scalar.new, vectors.new, m) }
-{
-    reduce(&mut vectors.registers, setup, insn);
-    scalar.advance();
 }

@@ -12,8 +12,8 @@ use crate::configuration::step_vset;
 use crate::loads_stores::step_memory;
 use crate::masks::step_mask;
 use crate::moves::step_move;
-use crate::permutations::step_perm;
-use crate::reductions::step_reduce;
+use crate::permutations::permute;
+use crate::reductions::reduce;
 use crate::setup::Setup;
 use crate::state::VectorState;
 use region_mem::{Fault, Regions};
@@ -41,7 +41,7 @@ fn step_arith<const VLENB: usize>(
 }
 
 /// The step of an instruction that is legal.
-#[tactic(auto, unfolding(crate::specs::Step::legal_step, rv_decode::specs::Needs::needs_of))]
+#[tactic(auto, unfolding(crate::specs::Step::legal_step, crate::specs::Permutations::perm_step, crate::specs::Reductions::reduce_step, rv_decode::specs::Needs::needs_of))]
 fn step_legal<const VLENB: usize, A: Allocator>(
     vectors: &mut VectorState<VLENB>,
     scalar: &mut Scalar,
@@ -68,11 +68,13 @@ fn step_legal<const VLENB: usize, A: Allocator>(
             Ok(())
         }
         Insn::VPerm(insn) => {
-            step_perm(vectors, scalar, setup, insn);
+            permute(&mut vectors.registers, scalar, setup, insn);
+            scalar.advance();
             Ok(())
         }
         Insn::VReduce(insn) => {
-            step_reduce(vectors, scalar, setup, insn);
+            reduce(&mut vectors.registers, setup, insn);
+            scalar.advance();
             Ok(())
         }
         Insn::VMove(insn) => {

@@ -21,6 +21,7 @@ use crate::operations::{
 use crate::resizing::{HalfOf, extend_results, read_doubled};
 use crate::rooms::{MOST_HALVES, MOST_WORDS};
 use crate::setup::Setup;
+use crate::shapes::of_shape;
 use lane_int::Narrow;
 use rv_decode::{Eew, Fraction, MultiplyAddOp, Source, VArith, Width};
 use scalar_core::Scalar;
@@ -43,16 +44,7 @@ pub fn widen<N: HalfOf<W>, W: VectorElement, const VLENB: usize>(
     requires y_len { length y.old ≡ setup.now.vl }
     ensures { arith_of VLENB setup.now scalar.now insn.now registers.old ≡ exact registers.new }
 {
-    let VArith::Widen {
-        op,
-        vd,
-        vs2,
-        b,
-        masked,
-    } = insn
-    else {
-        unreachable!()
-    };
+    of_shape!(VArith::Widen(op, vd, vs2, b, masked) = insn);
     let destination = setup.group(*vd, Eew::Double);
     let signs = widen_signs(*op);
     let vs2 = Source::Vector(*vs2);
@@ -79,16 +71,7 @@ pub fn wide<N: HalfOf<W>, W: VectorElement, const VLENB: usize>(
     requires y_len { length y.old ≡ setup.now.vl }
     ensures { arith_of VLENB setup.now scalar.now insn.now registers.old ≡ exact registers.new }
 {
-    let VArith::Wide {
-        op,
-        vd,
-        vs2,
-        b,
-        masked,
-    } = insn
-    else {
-        unreachable!()
-    };
+    of_shape!(VArith::Wide(op, vd, vs2, b, masked) = insn);
     let destination = setup.group(*vd, Eew::Double);
     let source = setup.group::<VLENB>(*vs2, Eew::Double);
     source.read(registers, x);
@@ -116,16 +99,7 @@ pub fn widen_multiply_add<N: HalfOf<W>, W: VectorElement, const VLENB: usize>(
     requires d_len { length d.old ≡ setup.now.vl }
     ensures { arith_of VLENB setup.now scalar.now insn.now registers.old ≡ exact registers.new }
 {
-    let VArith::WidenMultiplyAdd {
-        op,
-        vd,
-        vs2,
-        b,
-        masked,
-    } = insn
-    else {
-        unreachable!()
-    };
+    of_shape!(VArith::WidenMultiplyAdd(op, vd, vs2, b, masked) = insn);
     let destination = setup.group(*vd, Eew::Double);
     let signs = widen_multiply_add_signs(*op);
     let vs2 = Source::Vector(*vs2);
