@@ -144,37 +144,23 @@ module _ (table : AtomTable) (n e v u L N M : ℕ) (is : IsLoop table n e v u L 
   moved_signed w size base =
       by_size (λ (k : ℕ). map signed_term (moved_form base k n e v).terms ≡ whole n 0 k ∷ whole e k 0 ∷ whole v k 0 ∷ []) w size refl refl refl
 
-  own_lo : (w base : ℕ) → (interval_of table base 0 (whole n 0 w ∷ whole e w 0 ∷ whole v w 0 ∷ [])).lo ≡ 2 ^ 112 + base + (w * L + w * min 1 M) - w * N
+  own_ends : (w base : ℕ) → ((interval_of table base 0 (whole n 0 w ∷ whole e w 0 ∷ whole v w 0 ∷ [])).lo ≡ 2 ^ 112 + base + (w * L + w * min 1 M) - w * N)
+      × ((interval_of table base 0 (whole n 0 w ∷ whole e w 0 ∷ whole v w 0 ∷ [])).hi ≡ 2 ^ 112 + base + (w * N + w * min N M) - w)
   unfolding interval_of shares
-  own_lo w base =
+  own_ends w base =
       let a : 0 - w ≡ 0 = omega arith in
       let b : w - 0 ≡ w = omega arith in
-      rw (is.n_range, is.e_range, is.v_range, a, b) (omega arith)
+      (rw (is.n_range, is.e_range, is.v_range, a, b) (omega arith), rw (is.n_range, is.e_range, is.v_range, a, b) (omega arith))
 
-  own_hi : (w base : ℕ) → (interval_of table base 0 (whole n 0 w ∷ whole e w 0 ∷ whole v w 0 ∷ [])).hi ≡ 2 ^ 112 + base + (w * N + w * min N M) - w
+  split_ends : (w base : ℕ) → ((interval_of table base 0 (whole v (0 + w) (w + 0) ∷ whole u 0 w ∷ whole e w 0 ∷ [])).lo ≡ 2 ^ 112 + base + w * L - w * (N - M))
+      × ((interval_of table base 0 (whole v (0 + w) (w + 0) ∷ whole u 0 w ∷ whole e w 0 ∷ [])).hi ≡ 2 ^ 112 + base + w * N - w * (1 - M))
   unfolding interval_of shares
-  own_hi w base =
-      let a : 0 - w ≡ 0 = omega arith in
-      let b : w - 0 ≡ w = omega arith in
-      rw (is.n_range, is.e_range, is.v_range, a, b) (omega arith)
-
-  split_lo : (w base : ℕ) → (interval_of table base 0 (whole v (0 + w) (w + 0) ∷ whole u 0 w ∷ whole e w 0 ∷ [])).lo ≡ 2 ^ 112 + base + w * L - w * (N - M)
-  unfolding interval_of shares
-  split_lo w base =
+  split_ends w base =
       let a : 0 - w ≡ 0 = omega arith in
       let b : w - 0 ≡ w = omega arith in
       let c : 0 + w - (w + 0) ≡ 0 = omega arith in
       let d : w + 0 - (0 + w) ≡ 0 = omega arith in
-      rw (is.e_range, is.u_range, a, b, c, d) (omega arith)
-
-  split_hi : (w base : ℕ) → (interval_of table base 0 (whole v (0 + w) (w + 0) ∷ whole u 0 w ∷ whole e w 0 ∷ [])).hi ≡ 2 ^ 112 + base + w * N - w * (1 - M)
-  unfolding interval_of shares
-  split_hi w base =
-      let a : 0 - w ≡ 0 = omega arith in
-      let b : w - 0 ≡ w = omega arith in
-      let c : 0 + w - (w + 0) ≡ 0 = omega arith in
-      let d : w + 0 - (0 + w) ≡ 0 = omega arith in
-      rw (is.e_range, is.u_range, a, b, c, d) (omega arith)
+      (rw (is.e_range, is.u_range, a, b, c, d) (omega arith), rw (is.e_range, is.u_range, a, b, c, d) (omega arith))
 
   moved_at : (k base : ℕ) → IsSize k → k * N ≤ base → base + k * N < 2 ^ 32
       → max (2 ^ 112 + base + (k * L + k * min 1 M) - k * N) (2 ^ 112 + base + k * L - k * (N - M)) ≡ 2 ^ 112 + (base + k * L - k * (N - M))
@@ -183,7 +169,7 @@ module _ (table : AtomTable) (n e v u L N M : ℕ) (is : IsLoop table n e v u L 
       → range_of_form table (moved_form base k n e v) ≡ Some record { lo = base + k * L - k * (N - M); hi = base + k * N }
   moved_at k base size low fits is_lo is_hi le =
       few_range table (moved_form base k n e v) _ _ (base + k * L - k * (N - M)) (base + k * N) (moved_signed k size base) (moved_split k) (omega arith)
-      (rw (own_lo k base, split_lo k base) is_lo) (rw (own_hi k base, split_hi k base) is_hi) le fits
+      (rw ((own_ends k base).0, (split_ends k base).0) is_lo) (rw ((own_ends k base).1, (split_ends k base).1) is_hi) le fits
 
   moved_lo : (k base : ℕ) → IsSize k → k * N ≤ base
       → max (2 ^ 112 + base + (k * L + k * min 1 M) - k * N) (2 ^ 112 + base + k * L - k * (N - M)) ≡ 2 ^ 112 + (base + k * L - k * (N - M))

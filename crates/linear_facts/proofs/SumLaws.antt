@@ -79,6 +79,10 @@ module _ (now read items : List WholeTerm) (i : ℕ) (t : WholeTerm) (is_now : n
       ∙ (ap (λ u. slice_set items i (joined u t)) (get_or_default items i record { atom = 0; plus = 0; minus = 0 } t place_inside)
       ∙ sym (with_term-there items t i (ap (position (λ (u : WholeTerm). u.atom == t.atom)) (sym is_now) ∙ found)))))
 
+-- no term at all
+pub none_small : (ts : List WholeTerm) → ts ≡ [] → AllAtMost 0 ts
+none_small ts e = subst (λ (l : List WholeTerm). AllAtMost 0 l) (sym e) tt
+
 -- bounds of coefficients
 pub at_most_more : (m n : ℕ) (ts : List WholeTerm) → m ≤ n → AllAtMost m ts → AllAtMost n ts
 at_most_more m n [] le h = tt

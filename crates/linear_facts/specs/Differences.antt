@@ -1,11 +1,11 @@
 -- Differences of multiples of forms in whole numbers. Each form stands for its sum less the one
 -- multiple of 2^32 by which its range was found.
-use Rattle.std.specs.Prelude.{ℕ, ◌≡◌, ◌≤◌, true, ◌+◌, ◌-◌, ◌*◌, ◌/◌, ◌^◌, nat_le, ◌&&◌, Bool, List, [], ◌∷◌, map, is_some}
+use Rattle.std.specs.Prelude.{ℕ, ◌≡◌, ◌≤◌, true, ◌+◌, ◌-◌, ◌*◌, ◌/◌, ◌^◌, nat_le, ◌&&◌, Bool, List, [], ◌∷◌, length, map, is_some}
 use Rattle.std.specs.List.{list_all}
 use Rattle.linear_facts.specs.Words.{WholeTerm, Interval, Side, Lo, Hi, Added, Taken}
 use Rattle.linear_facts.specs.Forms.{Linear, value, IsForm}
 use Rattle.linear_facts.specs.Ranges.{AtomTable, AgreesWith}
-use Rattle.linear_facts.specs.Sums.{signed_term, with_term, with_split, gains, losses, ends, interval_of, met_or_own, form_interval, range_of_form}
+use Rattle.linear_facts.specs.Sums.{AllAtMost, signed_term, with_term, with_split, gains, losses, ends, interval_of, met_or_own, form_interval, range_of_form}
 
 -- a number of times what a form stands for
 pub record Product : Type 0 where
@@ -22,6 +22,13 @@ pub record WholeSum : Type 0 where
   pub plus : ℕ
   pub minus : ℕ
   pub terms : List WholeTerm
+
+-- so many terms at most, and each coefficient and each number at most so large
+pub record IsBounded (count coefficient number : ℕ) (sum : WholeSum) : Type 0 where
+  pub few : length sum.terms ≤ count
+  pub small : AllAtMost coefficient sum.terms
+  pub plus : sum.plus ≤ number
+  pub minus : sum.minus ≤ number
 
 -- k times a term, added or taken away
 abbrev pub multiple_term : Side → ℕ → WholeTerm → WholeTerm

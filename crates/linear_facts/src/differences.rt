@@ -4,7 +4,7 @@ ghost use Rattle.std.specs.Prelude.{IsTrue, map, is_some};
 ghost use Rattle.linear_facts.specs.Forms.{IsForm, value};
 ghost use Rattle.linear_facts.specs.Ranges.{AtomTable, AgreesWith};
 ghost use Rattle.linear_facts.specs.Sums.{AllAtMost, signed_term, range_of_form};
-ghost use Rattle.linear_facts.specs.Differences.{total_of, multiple_term, with_number};
+ghost use Rattle.linear_facts.specs.Differences.{IsBounded, total_of, multiple_term, with_number};
 ghost use Rattle.linear_facts.specs.Differences.{with_multiples, base_of, with_product};
 ghost use Rattle.linear_facts.specs.Differences.{with_products, have_ranges, AreForms};
 ghost use Rattle.linear_facts.specs.Differences.{difference_of, is_positive, is_at_least_of, once};
@@ -185,10 +185,7 @@ fn have_ranges(products: &[Multiple], atoms: &Atoms) -> bool
 /// Whether the lower bound of the sum is at least 0.
 #[tactic(auto, unfolding(crate::specs::Differences::is_positive))]
 fn is_positive(sum: &Sum, atoms: &Atoms) -> bool
-    requires few { length sum.now.terms ≤ 32 }
-    requires small { AllAtMost (2 ^ 73) sum.now.terms }
-    requires plus { sum.now.plus ≤ 2 ^ 120 }
-    requires minus { sum.now.minus ≤ 2 ^ 120 }
+    requires { IsBounded 32 (2 ^ 73) (2 ^ 120) sum.now }
     ensures { result ≡ is_positive atoms.now sum.now }
 {
     let gains = sum_of_shares(Side::Added, sum.terms.as_slice(), atoms, End::Lo);
@@ -207,10 +204,7 @@ fn difference(
 ) -> Sum
     requires { length more_of.now + length less_of.now ≤ 4 }
     ensures sum { result ≡ difference_of atoms.now more more_of.now less less_of.now }
-    ensures few { length result.terms ≤ 32 }
-    ensures small { AllAtMost (2 ^ 73) result.terms }
-    ensures plus { result.plus ≤ 2 ^ 120 }
-    ensures minus { result.minus ≤ 2 ^ 120 }
+    ensures bounded { IsBounded 32 (2 ^ 73) (2 ^ 120) result }
     ensures more_forms { AreForms more_of.now }
     ensures less_forms { AreForms less_of.now }
 {
@@ -255,10 +249,7 @@ pub fn is_at_least(
 #[tactic(auto, unfolding(crate::specs::Differences::difference_of))]
 fn difference_of_two(form: &Form<8>, other: &Form<8>, atoms: &Atoms) -> Sum
     ensures sum { result ≡ difference_of atoms.now 0 (once form.now) 0 (once other.now) }
-    ensures few { length result.terms ≤ 16 }
-    ensures small { AllAtMost (2 ^ 68) result.terms }
-    ensures plus { result.plus ≤ 2 ^ 110 }
-    ensures minus { result.minus ≤ 2 ^ 110 }
+    ensures bounded { IsBounded 16 (2 ^ 68) (2 ^ 110) result }
     ensures form { IsForm 8 form.now }
     ensures other { IsForm 8 other.now }
 {
@@ -283,10 +274,7 @@ fn difference_of_two(form: &Form<8>, other: &Form<8>, atoms: &Atoms) -> Sum
 /// The interval of a sum, met with the one after each split atom is replaced by its two parts.
 #[tactic(auto, unfolding(crate::specs::Differences::sum_interval))]
 fn sum_interval(sum: &Sum, atoms: &Atoms) -> Interval
-    requires few { length sum.now.terms ≤ 16 }
-    requires small { AllAtMost (2 ^ 68) sum.now.terms }
-    requires plus { sum.now.plus ≤ 2 ^ 110 }
-    requires minus { sum.now.minus ≤ 2 ^ 110 }
+    requires { IsBounded 16 (2 ^ 68) (2 ^ 110) sum.now }
     ensures { result ≡ sum_interval_of atoms.now sum.now }
 {
     let split = split_terms(sum.terms.as_slice(), atoms);

@@ -1,15 +1,11 @@
 -- Two products leave the coefficients small.
-use Rattle.std.proofs.Common.{arith, ◌≡◌, ◌+◌, ◌^◌, ◌∙◌, List, [], refl, subst, sym}
+use Rattle.std.proofs.Common.{arith, ◌≡◌, ◌+◌, ◌^◌, ◌∙◌, List, [], ap, length, refl}
 use Rattle.linear_facts.specs.Words.{WholeTerm, Added, Taken}
 use Rattle.linear_facts.specs.Forms.{Linear}
 use Rattle.linear_facts.specs.Ranges.{AtomTable}
-use Rattle.linear_facts.specs.Sums.{AllAtMost}
 use Rattle.linear_facts.specs.Differences.{WholeSum, with_product, with_products, difference_of, once}
-use Rattle.linear_facts.proofs.SumLaws.{at_most_more}
+use Rattle.linear_facts.proofs.SumLaws.{at_most_more, none_small}
 use Rattle.linear_facts.proofs.differences.difference_of_two.Goals as goal
-
-none_small : (ts : List WholeTerm) → ts ≡ [] → AllAtMost 0 ts
-none_small ts e = subst (λ (l : List WholeTerm). AllAtMost 0 l) (sym e) tt
 
 two_products : (table : AtomTable) (f g : Linear) (items : List WholeTerm) (a b : WholeSum) → items ≡ []
     → a ≡ with_product table Added record { plus = 0; minus = 0; terms = items } record { factor = 1; form = f }
@@ -25,7 +21,11 @@ pub returns-clause-sum : goal.returns-clause-sum
 returns-clause-sum c =
     two_products c.args.atoms.now c.args.form.now c.args.other.now c.new.result.items _ _ c.new.ensures c.add_product.ensures.sum c.add_product-2.ensures.sum
 
-pub returns-clause-small : goal.returns-clause-small
-returns-clause-small c =
-    at_most_more (0 + 2 ^ 67 + 2 ^ 67) (2 ^ 68) _ (omega arith)
-    (c.add_product-2.ensures.bound (0 + 2 ^ 67) (c.add_product.ensures.bound 0 (none_small _ c.new.ensures)))
+pub returns-clause-bounded : goal.returns-clause-bounded
+returns-clause-bounded c = record {
+  few = omega (arith, ap length c.new.ensures);
+  small = at_most_more (0 + 2 ^ 67 + 2 ^ 67) (2 ^ 68) _ (omega arith)
+      (c.add_product-2.ensures.bound (0 + 2 ^ 67) (c.add_product.ensures.bound 0 (none_small _ c.new.ensures)));
+  plus = omega arith;
+  minus = omega arith;
+}
