@@ -24,6 +24,7 @@ use vreg_groups::Vconfig;
 /// what vlenb reads as, VLEN / 8 ("RV32I Base Integer Instruction Set", "M Extension for Integer
 /// Multiplication and Division", "Zicsr Extension for Control and Status Register Instructions").
 #[inline(always)]
+#[tactic(auto, unfolding(crate::specs::Step::scalar_step))]
 pub fn step_scalar<A: Allocator>(
     scalar: &mut Scalar,
     insn: Insn,
@@ -36,26 +37,7 @@ pub fn step_scalar<A: Allocator>(
         (scalar.old, memory.old) (scalar.new, memory.new) result }
     ensures state { IsHart scalar.new }
 {
-    let outcome = step_class(scalar, insn, memory, config, vlenb);
-    scalar.state_law();
-    outcome
-}
-
-/// The step of an instruction of either class.
-#[inline(always)]
-#[tactic(auto, unfolding(crate::specs::Step::scalar_step))]
-fn step_class<A: Allocator>(
-    scalar: &mut Scalar,
-    insn: Insn,
-    memory: &mut Regions<A>,
-    config: &Vconfig,
-    vlenb: usize,
-) -> Result<(), Fault>
-    requires { vlenb < 2 ^ 32 }
-    ensures { Steps (scalar_step vlenb insn config.now scalar.old memory.old)
-        (scalar.old, memory.old) (scalar.new, memory.new) result }
-{
-    match insn {
+    let outcome = match insn {
         Insn::Scalar(insn) => step_rv32im(scalar, insn, memory),
         Insn::Csr(insn) => {
             step_csr(scalar, insn, config, vlenb);
@@ -68,7 +50,9 @@ fn step_class<A: Allocator>(
         | Insn::VReduce(_)
         | Insn::VMem(_)
         | Insn::VMove(_) => Ok(()),
-    }
+    };
+    scalar.state_law();
+    outcome
 }
 
 /// The step of an instruction of RV32I or M.
