@@ -3,6 +3,22 @@ ghost use Rattle.std.specs.Prelude.{◌≡◌, ℕ};
 
 use rv_decode::FoldOp;
 
+/// The body of `join`, which is alike at the three widths: what `$op` makes of the value so far and of one more element.
+macro_rules! joined {
+    ($op:ident, $a:ident, $b:ident) => {
+        match $op {
+            FoldOp::Sum => $a.wrapping_add($b),
+            FoldOp::And => $a & $b,
+            FoldOp::Or => $a | $b,
+            FoldOp::Xor => $a ^ $b,
+            FoldOp::Minu => $a.min($b),
+            FoldOp::Min => $a.cast_signed().min($b.cast_signed()).cast_unsigned(),
+            FoldOp::Maxu => $a.max($b),
+            FoldOp::Max => $a.cast_signed().max($b.cast_signed()).cast_unsigned(),
+        }
+    };
+}
+
 /// An element of one width: `u8`, `u16` or `u32`.
 pub trait FoldLane: Copy {
     ghost use Rattle.std.specs.Prelude.{ℕ, ◌≡◌, ◌%◌, ◌^◌, if◌then◌else◌};
@@ -50,16 +66,7 @@ impl FoldLane for u8 {
 
     #[tactic(auto, unfolding(crate::specs::Folds::joined))]
     fn join(op: FoldOp, a: u8, b: u8) -> u8 {
-        match op {
-            FoldOp::Sum => a.wrapping_add(b),
-            FoldOp::And => a & b,
-            FoldOp::Or => a | b,
-            FoldOp::Xor => a ^ b,
-            FoldOp::Minu => a.min(b),
-            FoldOp::Min => a.cast_signed().min(b.cast_signed()).cast_unsigned(),
-            FoldOp::Maxu => a.max(b),
-            FoldOp::Max => a.cast_signed().max(b.cast_signed()).cast_unsigned(),
-        }
+        joined!(op, a, b)
     }
 }
 
@@ -84,16 +91,7 @@ impl FoldLane for u16 {
 
     #[tactic(auto, unfolding(crate::specs::Folds::joined))]
     fn join(op: FoldOp, a: u16, b: u16) -> u16 {
-        match op {
-            FoldOp::Sum => a.wrapping_add(b),
-            FoldOp::And => a & b,
-            FoldOp::Or => a | b,
-            FoldOp::Xor => a ^ b,
-            FoldOp::Minu => a.min(b),
-            FoldOp::Min => a.cast_signed().min(b.cast_signed()).cast_unsigned(),
-            FoldOp::Maxu => a.max(b),
-            FoldOp::Max => a.cast_signed().max(b.cast_signed()).cast_unsigned(),
-        }
+        joined!(op, a, b)
     }
 }
 
@@ -115,15 +113,6 @@ impl FoldLane for u32 {
 
     #[tactic(auto, unfolding(crate::specs::Folds::joined))]
     fn join(op: FoldOp, a: u32, b: u32) -> u32 {
-        match op {
-            FoldOp::Sum => a.wrapping_add(b),
-            FoldOp::And => a & b,
-            FoldOp::Or => a | b,
-            FoldOp::Xor => a ^ b,
-            FoldOp::Minu => a.min(b),
-            FoldOp::Min => a.cast_signed().min(b.cast_signed()).cast_unsigned(),
-            FoldOp::Maxu => a.max(b),
-            FoldOp::Max => a.cast_signed().max(b.cast_signed()).cast_unsigned(),
-        }
+        joined!(op, a, b)
     }
 }
