@@ -136,14 +136,18 @@ word_again n rest lt = number_again w32 (2 ^ 32) wide32 n rest lt
 
 -- ---- zeros
 
+-- a number that was read is zero
+blank_takes : (spelled : ℕ → List ℕ) (fault : CertError) (bytes rest : List ℕ) (read : Result (ℕ × List ℕ) CertError) →
+    ((n : ℕ) (after : List ℕ) → read ≡ Ok (n, after) → Takes bytes (spelled n) after) → (read >>= λ x. expect (eqb x.0 0) fault >>= λ _. Ok x.1) ≡ Ok rest → Takes bytes (spelled 0) rest
+blank_takes spelled fault bytes rest read takes e =
+    let b = bind_ok read _ rest e in
+    let x = expected (eqb b.0.0 0) fault _ rest b.2 in
+    let none : b.0.0 ≡ 0 = grind (arith, nat_tests, x.0) in
+    subst (λ (r : List ℕ). Takes bytes (spelled 0) r) (ok_is b.0.1 rest x.1) (subst (λ (n : ℕ). Takes bytes (spelled n) b.0.1) none (takes b.0.0 b.0.1 b.1))
+
 pub zero_takes : (fault : CertError) (bytes rest : List ℕ) → IsBytes bytes → zero_at fault bytes ≡ Ok rest → Takes bytes (0 ∷ []) rest
 unfolding zero_at
-zero_takes fault bytes rest fits e =
-    let b = bind_ok (byte_at bytes) _ rest e in
-    let x = expected (eqb b.0.0 0) fault _ rest b.2 in
-    let t = byte_takes bytes b.0.0 b.0.1 fits b.1 in
-    let none : b.0.0 ≡ 0 = grind (arith, nat_tests, x.0) in
-    subst (λ (r : List ℕ). Takes bytes (0 ∷ []) r) (ok_is b.0.1 rest x.1) (subst (λ (n : ℕ). Takes bytes (n ∷ []) b.0.1) none t.0)
+zero_takes fault bytes rest fits e = blank_takes (λ n. n ∷ []) fault bytes rest (byte_at bytes) (λ n after a. (byte_takes bytes n after fits a).0) e
 
 pub zero_again : (fault : CertError) (rest : List ℕ) → zero_at fault ((0 ∷ []) ++ rest) ≡ Ok rest
 unfolding zero_at byte_at
@@ -151,12 +155,7 @@ zero_again fault rest = refl
 
 pub zeros_takes : (fault : CertError) (bytes rest : List ℕ) → IsBytes bytes → zeros_at fault bytes ≡ Ok rest → Takes bytes (half 0) rest
 unfolding zeros_at
-zeros_takes fault bytes rest fits e =
-    let b = bind_ok (number_at w16 bytes) _ rest e in
-    let x = expected (eqb b.0.0 0) fault _ rest b.2 in
-    let t = half_takes bytes b.0.0 b.0.1 fits b.1 in
-    let none : b.0.0 ≡ 0 = grind (arith, nat_tests, x.0) in
-    subst (λ (r : List ℕ). Takes bytes (half 0) r) (ok_is b.0.1 rest x.1) (subst (λ (n : ℕ). Takes bytes (half n) b.0.1) none t.0)
+zeros_takes fault bytes rest fits e = blank_takes half fault bytes rest (number_at w16 bytes) (λ n after a. (half_takes bytes n after fits a).0) e
 
 pub zeros_again : (fault : CertError) (rest : List ℕ) → zeros_at fault (half 0 ++ rest) ≡ Ok rest
 unfolding zeros_at

@@ -19,21 +19,18 @@ use Rattle.cert_note.proofs.Laws.{chosen, some_is, block_takes, block_again}
 
 -- ---- the header
 
+-- the number of a value that was found as one of several
+one_of : {A : Type 0} (spelled : A → ℕ) (code n : ℕ) (x : A) (others : Option A) (y : A) → n ≡ spelled x → (others ≡ Some y → code ≡ spelled y) → cond (eqb code n) (Some x) others ≡ Some y → code ≡ spelled y
+one_of spelled code n x others y is other e =
+    elim (chosen (eqb code n) (Some x) others (Some y) e) [
+      | inl h ↦ eqb-true code n h.0 ∙ is ∙ ap spelled (some_is x y h.1)
+      | inr h ↦ other h.1
+    ]
+
 vlen_is : (code : ℕ) (vlen : Vlen) → vlen_of code ≡ Some vlen → code ≡ vlen_code vlen
 unfolding vlen_of
 vlen_is code vlen e =
-    elim (chosen (eqb code 1) (Some V128) (cond (eqb code 2) (Some V256) (cond (eqb code 3) (Some V512) None)) (Some vlen) e) [
-      | inl h ↦ subst (λ (v : Vlen). code ≡ vlen_code v) (some_is V128 vlen h.1) (eqb-true code 1 h.0)
-      | inr h ↦
-          elim (chosen (eqb code 2) (Some V256) (cond (eqb code 3) (Some V512) None) (Some vlen) h.1) [
-            | inl k ↦ subst (λ (v : Vlen). code ≡ vlen_code v) (some_is V256 vlen k.1) (eqb-true code 2 k.0)
-            | inr k ↦
-                elim (chosen (eqb code 3) (Some V512) None (Some vlen) k.1) [
-                  | inl j ↦ subst (λ (v : Vlen). code ≡ vlen_code v) (some_is V512 vlen j.1) (eqb-true code 3 j.0)
-                  | inr j ↦ absurd (let f = j.1 in cc)
-                ]
-          ]
-    ]
+    one_of vlen_code code 1 V128 _ vlen refl (one_of vlen_code code 2 V256 _ vlen refl (one_of vlen_code code 3 V512 None vlen refl (λ f. absurd (cc f)))) e
 
 vlen_back : (vlen : Vlen) → vlen_of (vlen_code vlen) ≡ Some vlen
 unfolding vlen_of
@@ -43,15 +40,7 @@ vlen_back V512 = refl
 
 version_is : (code : ℕ) (version : Version) → version_of code ≡ Some version → code ≡ version_code version
 unfolding version_of
-version_is code version e =
-    elim (chosen (eqb code 1) (Some V1) (cond (eqb code 2) (Some V2) None) (Some version) e) [
-      | inl h ↦ subst (λ (v : Version). code ≡ version_code v) (some_is V1 version h.1) (eqb-true code 1 h.0)
-      | inr h ↦
-          elim (chosen (eqb code 2) (Some V2) None (Some version) h.1) [
-            | inl k ↦ subst (λ (v : Version). code ≡ version_code v) (some_is V2 version k.1) (eqb-true code 2 k.0)
-            | inr k ↦ absurd (let f = k.1 in cc)
-          ]
-    ]
+version_is code version e = one_of version_code code 1 V1 _ version refl (one_of version_code code 2 V2 None version refl (λ f. absurd (cc f))) e
 
 version_back : (version : Version) → version_of (version_code version) ≡ Some version
 unfolding version_of

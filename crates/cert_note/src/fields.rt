@@ -80,12 +80,10 @@ fn zeros_at(fault: CertError, bytes: &[u8]) -> Result<&[u8], CertError>
 fn version_of(number: u16) -> Option<Version>
     ensures { result ≡ version_of number }
 {
-    if number == 1 {
-        Some(Version::V1)
-    } else if number == 2 {
-        Some(Version::V2)
-    } else {
-        None
+    match number {
+        1 => Some(Version::V1),
+        2 => Some(Version::V2),
+        _ => None,
     }
 }
 
@@ -93,14 +91,11 @@ fn version_of(number: u16) -> Option<Version>
 fn vlen_of(code: u8) -> Option<Vlen>
     ensures { result ≡ vlen_of code }
 {
-    if code == 1 {
-        Some(Vlen::V128)
-    } else if code == 2 {
-        Some(Vlen::V256)
-    } else if code == 3 {
-        Some(Vlen::V512)
-    } else {
-        None
+    match code {
+        1 => Some(Vlen::V128),
+        2 => Some(Vlen::V256),
+        3 => Some(Vlen::V512),
+        _ => None,
     }
 }
 

@@ -3,10 +3,8 @@ ghost use Rattle.std.specs.Prelude.{◌≡◌, ◌<◌, ◌≤◌, ◌^◌, ◌+
 ghost use Rattle.std.specs.List.{flat_map};
 ghost use Rattle.cert_note.specs.Certificate.{view};
 ghost use Rattle.cert_note.specs.Spelling.{half, word, counts, version_code, header, parameter_of};
-ghost use Rattle.cert_note.specs.Spelling.{mode_code, spelled_parameter, spelled_term};
-ghost use Rattle.cert_note.specs.Spelling.{spelled_equality, spelled_fact, spelled_vector};
-ghost use Rattle.cert_note.specs.Spelling.{spelled_order, spelled_budget, spelled_vtype};
-ghost use Rattle.cert_note.specs.Spelling.{spelled_block, spelling};
+ghost use Rattle.cert_note.specs.Spelling.{mode_code, spelled_equality, spelled_budget};
+ghost use Rattle.cert_note.specs.Spelling.{spelled_vtype, spelled_block, spelling};
 
 use crate::values::{
     Block, Budget, Certificate, Contents, Counts, Equality, EqualityTerm, OrderFact, RegisterFact,
@@ -29,6 +27,27 @@ fn put_word<A: Allocator>(out: &mut Vec<u8, A>, number: u32) -> Result<(), Alloc
     ensures { OnOk result (out.new.items ≡ out.old.items ++ word number) }
 {
     out.extend_from_slice(&number.to_le_bytes())?;
+    Ok(())
+}
+
+/// What a certificate lists: its items are spelled one after the other.
+trait Listed {
+    ghost use Rattle.std.specs.Prelude.{List, ℕ};
+
+    ghost spelled: { Self → List ℕ };
+
+    /// Writes the item.
+    fn put<A: Allocator>(&self, out: &mut Vec<u8, A>) -> Result<(), AllocError>
+        ensures { OnOk result (out.new.items ≡ out.old.items ++ spelled self.now) };
+}
+
+/// Writes items one after the other.
+fn put_each<T: Listed, A: Allocator>(out: &mut Vec<u8, A>, items: &[T]) -> Result<(), AllocError>
+    ensures { OnOk result (out.new.items ≡ out.old.items ++ flat_map T.spelled items.now) }
+{
+    for item in items {
+        item.put(out)?;
+    }
     Ok(())
 }
 
@@ -58,13 +77,16 @@ fn put_header<A: Allocator>(
     Ok(())
 }
 
-#[tactic(auto, unfolding(crate::specs::Spelling::spelled_term))]
-fn put_term<A: Allocator>(out: &mut Vec<u8, A>, term: EqualityTerm) -> Result<(), AllocError>
-    ensures { OnOk result (out.new.items ≡ out.old.items ++ spelled_term term) }
-{
-    out.push(term.atom)?;
-    put_word(out, term.coefficient)?;
-    Ok(())
+impl Listed for EqualityTerm {
+    ghost use Rattle.cert_note.specs.Spelling.{spelled_term};
+
+    ghost spelled = { spelled_term };
+
+    #[tactic(auto, unfolding(crate::specs::Spelling::spelled_term))]
+    fn put<A: Allocator>(&self, out: &mut Vec<u8, A>) -> Result<(), AllocError> {
+        out.push(self.atom)?;
+        put_word(out, self.coefficient)
+    }
 }
 
 #[tactic(auto, unfolding(crate::specs::Spelling::spelled_budget))]
@@ -113,24 +135,19 @@ fn mode_code(mode: Mode) -> u8
     }
 }
 
-#[tactic(auto, unfolding(crate::specs::Spelling::spelled_parameter))]
-fn put_parameter<A: Allocator>(out: &mut Vec<u8, A>, param: Param) -> Result<(), AllocError>
-    ensures { OnOk result (out.new.items ≡ out.old.items ++ spelled_parameter param) }
-{
-    match param {
-        Param::None => put_numbers(out, 0, 0, 0, 0),
-        Param::Scalar { lo, hi } => put_numbers(out, 1, 0, lo, hi),
-        Param::Buffer { mode, size } => put_numbers(out, 2, mode_code(mode), size, 0),
-    }
-}
+impl Listed for Param {
+    ghost use Rattle.cert_note.specs.Spelling.{spelled_parameter};
 
-fn put_terms<A: Allocator>(out: &mut Vec<u8, A>, terms: &[EqualityTerm]) -> Result<(), AllocError>
-    ensures { OnOk result (out.new.items ≡ out.old.items ++ flat_map spelled_term terms.now) }
-{
-    for term in terms {
-        put_term(out, *term)?;
+    ghost spelled = { spelled_parameter };
+
+    #[tactic(auto, unfolding(crate::specs::Spelling::spelled_parameter))]
+    fn put<A: Allocator>(&self, out: &mut Vec<u8, A>) -> Result<(), AllocError> {
+        match *self {
+            Param::None => put_numbers(out, 0, 0, 0, 0),
+            Param::Scalar { lo, hi } => put_numbers(out, 1, 0, lo, hi),
+            Param::Buffer { mode, size } => put_numbers(out, 2, mode_code(mode), size, 0),
+        }
     }
-    Ok(())
 }
 
 #[tactic(auto, unfolding(crate::specs::Spelling::spelled_equality))]
@@ -145,67 +162,50 @@ fn put_equality<A: Allocator>(
         Some(equality) => {
             out.push(equality.terms.len() as u8)?;
             put_word(out, equality.constant)?;
-            put_terms(out, equality.terms.as_slice())?;
+            put_each(out, equality.terms.as_slice())?;
         }
     }
     Ok(())
 }
 
-#[tactic(auto, unfolding(crate::specs::Spelling::spelled_fact))]
-fn put_fact<A: Allocator>(out: &mut Vec<u8, A>, fact: &RegisterFact) -> Result<(), AllocError>
-    ensures { OnOk result (out.new.items ≡ out.old.items ++ spelled_fact fact.now) }
-{
-    out.push(fact.number)?;
-    put_word(out, fact.low)?;
-    put_word(out, fact.high)?;
-    put_equality(out, &fact.equality)
-}
+impl Listed for RegisterFact {
+    ghost use Rattle.cert_note.specs.Spelling.{spelled_fact};
 
-fn put_facts<A: Allocator>(out: &mut Vec<u8, A>, facts: &[RegisterFact]) -> Result<(), AllocError>
-    ensures { OnOk result (out.new.items ≡ out.old.items ++ flat_map spelled_fact facts.now) }
-{
-    for fact in facts {
-        put_fact(out, fact)?;
+    ghost spelled = { spelled_fact };
+
+    #[tactic(auto, unfolding(crate::specs::Spelling::spelled_fact))]
+    fn put<A: Allocator>(&self, out: &mut Vec<u8, A>) -> Result<(), AllocError> {
+        out.push(self.number)?;
+        put_word(out, self.low)?;
+        put_word(out, self.high)?;
+        put_equality(out, &self.equality)
     }
-    Ok(())
 }
 
-#[tactic(auto, unfolding(crate::specs::Spelling::spelled_vector))]
-fn put_vector<A: Allocator>(out: &mut Vec<u8, A>, fact: VectorFact) -> Result<(), AllocError>
-    ensures { OnOk result (out.new.items ≡ out.old.items ++ spelled_vector fact) }
-{
-    out.extend_from_slice(&[fact.register, fact.width, fact.registers, 0])?;
-    put_half(out, fact.count)?;
-    put_half(out, 0)?;
-    put_word(out, fact.low)?;
-    put_word(out, fact.high)?;
-    Ok(())
-}
+impl Listed for VectorFact {
+    ghost use Rattle.cert_note.specs.Spelling.{spelled_vector};
 
-fn put_vectors<A: Allocator>(out: &mut Vec<u8, A>, facts: &[VectorFact]) -> Result<(), AllocError>
-    ensures { OnOk result (out.new.items ≡ out.old.items ++ flat_map spelled_vector facts.now) }
-{
-    for fact in facts {
-        put_vector(out, *fact)?;
+    ghost spelled = { spelled_vector };
+
+    #[tactic(auto, unfolding(crate::specs::Spelling::spelled_vector))]
+    fn put<A: Allocator>(&self, out: &mut Vec<u8, A>) -> Result<(), AllocError> {
+        out.extend_from_slice(&[self.register, self.width, self.registers, 0])?;
+        put_half(out, self.count)?;
+        put_half(out, 0)?;
+        put_word(out, self.low)?;
+        put_word(out, self.high)
     }
-    Ok(())
 }
 
-#[tactic(auto, unfolding(crate::specs::Spelling::spelled_order))]
-fn put_order<A: Allocator>(out: &mut Vec<u8, A>, order: OrderFact) -> Result<(), AllocError>
-    ensures { OnOk result (out.new.items ≡ out.old.items ++ spelled_order order) }
-{
-    out.extend_from_slice(&[order.greater, order.lesser])?;
-    Ok(())
-}
+impl Listed for OrderFact {
+    ghost use Rattle.cert_note.specs.Spelling.{spelled_order};
 
-fn put_orders<A: Allocator>(out: &mut Vec<u8, A>, orders: &[OrderFact]) -> Result<(), AllocError>
-    ensures { OnOk result (out.new.items ≡ out.old.items ++ flat_map spelled_order orders.now) }
-{
-    for order in orders {
-        put_order(out, *order)?;
+    ghost spelled = { spelled_order };
+
+    #[tactic(auto, unfolding(crate::specs::Spelling::spelled_order))]
+    fn put<A: Allocator>(&self, out: &mut Vec<u8, A>) -> Result<(), AllocError> {
+        out.extend_from_slice(&[self.greater, self.lesser])
     }
-    Ok(())
 }
 
 #[tactic(auto, unfolding(crate::specs::Spelling::spelled_vtype))]
@@ -254,9 +254,9 @@ fn put_block<A: Allocator>(
         orders: block.orders.len() as u8,
     };
     put_counts(out, version, number)?;
-    put_facts(out, block.registers.as_slice())?;
-    put_vectors(out, block.vectors.as_slice())?;
-    put_orders(out, block.orders.as_slice())
+    put_each(out, block.registers.as_slice())?;
+    put_each(out, block.vectors.as_slice())?;
+    put_each(out, block.orders.as_slice())
 }
 
 fn put_blocks<A: Allocator>(
@@ -273,15 +273,6 @@ fn put_blocks<A: Allocator>(
     Ok(())
 }
 
-fn put_parameters<A: Allocator>(out: &mut Vec<u8, A>, params: &[Param]) -> Result<(), AllocError>
-    ensures { OnOk result (out.new.items ≡ out.old.items ++ flat_map spelled_parameter params.now) }
-{
-    for param in params {
-        put_parameter(out, *param)?;
-    }
-    Ok(())
-}
-
 #[tactic(auto, unfolding(crate::specs::Spelling::spelling))]
 fn spelled<A: Allocator, B: Allocator>(
     alloc: A,
@@ -292,7 +283,7 @@ fn spelled<A: Allocator, B: Allocator>(
 {
     let mut out = Vec::new(alloc);
     put_header(&mut out, certificate.version, certificate.vlen)?;
-    put_parameters(&mut out, &certificate.parameters.to_array())?;
+    put_each(&mut out, &certificate.parameters.to_array())?;
     put_half(&mut out, certificate.blocks.len() as u16)?;
     put_half(&mut out, 0)?;
     put_blocks(&mut out, certificate.version, certificate.blocks.as_slice())?;
