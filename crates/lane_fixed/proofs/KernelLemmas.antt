@@ -1,5 +1,5 @@
 -- Numbers that are overwritten from the front, and whether an active one of them saturates.
-use Rattle.std.proofs.Common.{◌≡◌, ℕ, ◌+◌, ◌<◌, ◌≤◌, Bool, true, false, ◌&&◌, ◌||◌, List, [], ◌∷◌, ◌++◌, zero, suc, length, get_or, set, take, drop, map, refl, ap, sym, ◌∙◌, arith, append-nil}
+use Rattle.std.proofs.Common.{◌≡◌, ℕ, ◌+◌, ◌<◌, ◌≤◌, Bool, true, false, ◌&&◌, ◌||◌, List, [], ◌∷◌, ◌++◌, length, get_or, set, take, drop, map, refl, ap, sym, ◌∙◌, arith, append-nil}
 use lib.Lanes.{zip2}
 use Rattle.std.specs.List.{list_any}
 use Rattle.std.proofs.Math.Nat.{sub_self}
