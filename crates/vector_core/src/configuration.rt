@@ -1,6 +1,7 @@
 //! The instructions that set vtype and vl.
 
 ghost use Rattle.std.specs.Prelude.{◌≡◌, Ok};
+ghost use Rattle.scalar_core.specs.Hart.{advanced};
 ghost use Rattle.vector_core.specs.Configuration.{avl_of, request_of, vset_step};
 ghost use Rattle.region_mem.specs.Memory.{Memory};
 
@@ -55,17 +56,16 @@ fn requested(insn: &VSet, scalar: &Scalar) -> Request
 
 /// Sets vtype and vl, and gives rd the new vl.
 #[tactic(auto, unfolding(crate::specs::Configuration::vset_step))]
-pub fn step_vset<const VLENB: usize>(
+pub fn set_type<const VLENB: usize>(
     vectors: &mut VectorState<VLENB>,
     scalar: &mut Scalar,
     insn: &VSet,
 )
     ensures { (m : Memory) → vset_step VLENB insn.now scalar.old vectors.old m
-        ≡ Ok (scalar.new, vectors.new, m) }
+        ≡ Ok (advanced scalar.new, vectors.new, m) }
 {
     let request = requested(insn, scalar);
     let config = vset(VLENB, vectors.config, request.avl, request.vtype);
     vectors.config = config;
     scalar.set_reg(request.rd, config.vl);
-    scalar.advance();
 }

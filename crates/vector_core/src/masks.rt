@@ -5,6 +5,7 @@ ghost use Rattle.region_mem.specs.Memory.{Memory};
 ghost use Rattle.rv_decode.specs.Needs.{needs_of_mask};
 ghost use Rattle.rv_decode.specs.declared.extents.Eew.TheVariants.{Same};
 ghost use Rattle.vreg_groups.specs.Group.{IsGroupInside};
+ghost use Rattle.scalar_core.specs.Hart.{advanced};
 ghost use Rattle.vector_core.specs.Masks.{count_of, first_of, index_of, iota_of, logic_of};
 ghost use Rattle.vector_core.specs.Masks.{mask_step, set_and_active, set_first_of};
 ghost use Rattle.vector_core.specs.Rooms.{IsRoom};
@@ -190,9 +191,9 @@ fn index<const VLENB: usize>(registers: &mut VregFile<VLENB>, setup: &Setup, vd:
     on_sew!(setup, index_elements(registers, setup, vd, masked))
 }
 
-/// The step of an instruction on masks.
+/// The step of an instruction on masks, but for pc.
 #[tactic(auto, unfolding(rv_decode::specs::Needs::needs_of_mask, crate::specs::Masks::mask_step))]
-pub fn step_mask<const VLENB: usize>(
+pub fn apply_mask<const VLENB: usize>(
     vectors: &mut VectorState<VLENB>,
     scalar: &mut Scalar,
     setup: &Setup,
@@ -200,7 +201,7 @@ pub fn step_mask<const VLENB: usize>(
 )
     requires { IsReady VLENB setup.now (needs_of_mask insn.now) }
     ensures { (m : Memory) → mask_step VLENB setup.now insn.now scalar.old vectors.old m
-        ≡ Ok (scalar.new, vectors.new, m) }
+        ≡ Ok (advanced scalar.new, vectors.new, m) }
 {
     let registers = &mut vectors.registers;
     match insn {
@@ -220,5 +221,4 @@ pub fn step_mask<const VLENB: usize>(
         VMask::Iota { vd, vs2, masked } => iota(registers, setup, *vd, *vs2, *masked),
         VMask::Index { vd, masked } => index(registers, setup, *vd, *masked),
     }
-    scalar.advance();
 }

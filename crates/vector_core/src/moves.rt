@@ -4,6 +4,7 @@ ghost use Rattle.std.specs.Prelude.{◌≡◌, Ok, length};
 ghost use Rattle.lane_int.specs.Lists.{zip3};
 ghost use Rattle.region_mem.specs.Memory.{Memory};
 ghost use Rattle.rv_decode.specs.Needs.{needs_of_move};
+ghost use Rattle.scalar_core.specs.Hart.{advanced};
 ghost use Rattle.vector_core.specs.Arithmetic.{arith_of};
 ghost use Rattle.vector_core.specs.Computed.{exact};
 ghost use Rattle.vector_core.specs.Shapes.{CopyShape, IsShaped, MergeShape};
@@ -116,9 +117,9 @@ fn from_scalar<const VLENB: usize>(
     }
 }
 
-/// The step of a move between an element and an x register, or of whole registers.
+/// The step of a move between an element and an x register, or of whole registers, but for pc.
 #[tactic(auto, unfolding(rv_decode::specs::Needs::needs_of_move, vreg_groups::specs::Legality::count_of, crate::specs::Moves::move_step))]
-pub fn step_move<const VLENB: usize>(
+pub fn apply_move<const VLENB: usize>(
     vectors: &mut VectorState<VLENB>,
     scalar: &mut Scalar,
     setup: &Setup,
@@ -126,7 +127,7 @@ pub fn step_move<const VLENB: usize>(
 )
     requires { IsReady VLENB setup.now (needs_of_move insn.now) }
     ensures { (m : Memory) → move_step VLENB setup.now insn.now scalar.old vectors.old m
-        ≡ Ok (scalar.new, vectors.new, m) }
+        ≡ Ok (advanced scalar.new, vectors.new, m) }
 {
     let registers = &mut vectors.registers;
     match insn {
@@ -138,5 +139,4 @@ pub fn step_move<const VLENB: usize>(
             registers.copy_registers(*vd, *vs2, whole_count(*count));
         }
     }
-    scalar.advance();
 }

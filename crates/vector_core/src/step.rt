@@ -1,47 +1,27 @@
 //! One step of a vector instruction.
 
-ghost use Rattle.std.specs.Prelude.{◌≡◌, Ok};
 ghost use Rattle.region_mem.specs.Faults.{Steps};
-ghost use Rattle.region_mem.specs.Memory.{Memory};
-ghost use Rattle.rv_decode.specs.Needs.{needs_of, needs_of_arith};
+ghost use Rattle.rv_decode.specs.Needs.{needs_of};
 ghost use Rattle.vector_core.specs.Setup.{IsReady};
-ghost use Rattle.vector_core.specs.Step.{arith_step, legal_step, vector_step};
+ghost use Rattle.vector_core.specs.Step.{legal_step, vector_step};
 
 use crate::arithmetic::arith;
-use crate::configuration::step_vset;
+use crate::configuration::set_type;
 use crate::loads_stores::step_memory;
-use crate::masks::step_mask;
-use crate::moves::step_move;
+use crate::masks::apply_mask;
+use crate::moves::apply_move;
 use crate::permutations::permute;
 use crate::reductions::reduce;
 use crate::setup::Setup;
 use crate::state::VectorState;
 use region_mem::{Fault, Regions};
-use rv_decode::{Insn, VArith, VMem};
+use rv_decode::{Insn, VMem};
 use scalar_core::Scalar;
 use std::alloc::Allocator;
 use vreg_groups::{legal_access_type, legal_type};
 
-/// An instruction that computes. vxsat becomes 1 where an active element saturated.
-fn step_arith<const VLENB: usize>(
-    vectors: &mut VectorState<VLENB>,
-    scalar: &mut Scalar,
-    setup: &Setup,
-    insn: &VArith,
-)
-    requires { IsReady VLENB setup.now (needs_of_arith insn.now) }
-    ensures { (m : Memory) → arith_step VLENB setup.now insn.now scalar.old vectors.old m
-        ≡ Ok (scalar.new, vectors.new, m) }
-{
-    let saturated = arith(&mut vectors.registers, scalar, setup, insn);
-    if saturated {
-        scalar.set_vxsat(1);
-    }
-    scalar.advance();
-}
-
 /// The step of an instruction that is legal.
-#[tactic(auto, unfolding(crate::specs::Step::legal_step, crate::specs::Permutations::perm_step, crate::specs::Reductions::reduce_step, rv_decode::specs::Needs::needs_of))]
+#[tactic(auto, unfolding(crate::specs::Step::legal_step, crate::specs::Step::arith_step, crate::specs::Permutations::perm_step, crate::specs::Reductions::reduce_step, rv_decode::specs::Needs::needs_of))]
 fn step_legal<const VLENB: usize, A: Allocator>(
     vectors: &mut VectorState<VLENB>,
     scalar: &mut Scalar,
@@ -54,35 +34,22 @@ fn step_legal<const VLENB: usize, A: Allocator>(
         (scalar.old, vectors.old, memory.old) (scalar.new, vectors.new, memory.new) result }
 {
     match insn {
-        Insn::Scalar(_) | Insn::Csr(_) => Ok(()),
-        Insn::VSet(insn) => {
-            step_vset(vectors, scalar, insn);
-            Ok(())
-        }
+        Insn::Scalar(_) | Insn::Csr(_) => return Ok(()),
+        Insn::VMem(insn) => return step_memory(vectors, scalar, setup, insn, memory),
+        Insn::VSet(insn) => set_type(vectors, scalar, insn),
         Insn::VArith(insn) => {
-            step_arith(vectors, scalar, setup, insn);
-            Ok(())
+            let saturated = arith(&mut vectors.registers, scalar, setup, insn);
+            if saturated {
+                scalar.set_vxsat(1);
+            }
         }
-        Insn::VMask(insn) => {
-            step_mask(vectors, scalar, setup, insn);
-            Ok(())
-        }
-        Insn::VPerm(insn) => {
-            permute(&mut vectors.registers, scalar, setup, insn);
-            scalar.advance();
-            Ok(())
-        }
-        Insn::VReduce(insn) => {
-            reduce(&mut vectors.registers, setup, insn);
-            scalar.advance();
-            Ok(())
-        }
-        Insn::VMove(insn) => {
-            step_move(vectors, scalar, setup, insn);
-            Ok(())
-        }
-        Insn::VMem(insn) => step_memory(vectors, scalar, setup, insn, memory),
+        Insn::VMask(insn) => apply_mask(vectors, scalar, setup, insn),
+        Insn::VPerm(insn) => permute(&mut vectors.registers, scalar, setup, insn),
+        Insn::VReduce(insn) => reduce(&mut vectors.registers, setup, insn),
+        Insn::VMove(insn) => apply_move(vectors, scalar, setup, insn),
     }
+    scalar.advance();
+    Ok(())
 }
 
 /// One step by a vector instruction `insn`, as the meaning of the word at pc. One of a scalar class does nothing here.
