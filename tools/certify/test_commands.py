@@ -283,7 +283,7 @@ class NewHost(unittest.TestCase):
 
     def test_it_is_a_test_word_for_word(self):
         block = re.search(r'^## As a library\n```rust\n(.*?)^```', (ROOT / 'README.md').read_text(), re.S | re.M)[1]
-        self.assertIn(block, (ROOT / 'crates/run_calls/src/readme.rt').read_text())
+        self.assertIn(block, (ROOT / 'crates/run_calls/src/tests/readme.rt').read_text())
 
 
 @unittest.skipUnless(IS_THERE, 'clang-16 or ld.lld-16 is not installed')

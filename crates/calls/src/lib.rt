@@ -3,32 +3,4 @@
 #![tactic(auto)]
 
 #[cfg(test)]
-mod accesses;
-#[cfg(test)]
-mod assertions;
-#[cfg(test)]
-mod attached;
-#[cfg(test)]
-mod chunks;
-#[cfg(test)]
-mod fixed_point;
-#[cfg(test)]
-mod fixture;
-#[cfg(test)]
-mod forms;
-#[cfg(test)]
-mod groups;
-#[cfg(test)]
-mod images;
-#[cfg(test)]
-mod integers;
-#[cfg(test)]
-mod masks;
-#[cfg(test)]
-mod memory;
-#[cfg(test)]
-mod scalar_steps;
-#[cfg(test)]
-mod vector_steps;
-#[cfg(test)]
-mod words;
+mod tests;

@@ -1,0 +1,96 @@
+//! How a file is read.
+use crate::tests::assertions::{assert_same, found, given};
+use crate::tests::fixture::{elf_header, file_of};
+use elf_image::*;
+use std::alloc::Global;
+use std::process::Abort;
+
+/// What stands behind the ELF header of an executable as the standard lays it out: three program
+/// headers, code, data, a note.
+///
+/// The code is vsetvli t0,a2,e8,m1,ta,ma; vle8.v v8,(a0); vle8.v v16,(a1); vadd.vv v8,v8,v16;
+/// vse8.v v8,(a0); ecall.
+const BEHIND: [u8; 148] = [
+    // LOAD: 24 bytes at 0x10000, read and execute.
+    1, 0, 0, 0, 148, 0, 0, 0, 0x00, 0x00, 0x01, 0x00, 0x00, 0x00, 0x01, 0x00, //
+    24, 0, 0, 0, 24, 0, 0, 0, 5, 0, 0, 0, 4, 0, 0, 0, //
+    // LOAD: 4 bytes of file and 16 of memory at 0x20000, read and write.
+    1, 0, 0, 0, 172, 0, 0, 0, 0x00, 0x00, 0x02, 0x00, 0x00, 0x00, 0x02, 0x00, //
+    4, 0, 0, 0, 16, 0, 0, 0, 6, 0, 0, 0, 4, 0, 0, 0, //
+    // NOTE.
+    4, 0, 0, 0, 176, 0, 0, 0, 0, 0, 0, 0, 0, 0, 0, 0, //
+    24, 0, 0, 0, 24, 0, 0, 0, 4, 0, 0, 0, 4, 0, 0, 0, //
+    // The code.
+    0xd7, 0x72, 0x06, 0x0c, 0x07, 0x04, 0x05, 0x02, 0x07, 0x88, 0x05, 0x02, //
+    0x57, 0x04, 0x88, 0x02, 0x27, 0x04, 0x05, 0x02, 0x73, 0x00, 0x00, 0x00, //
+    // The data.
+    0xde, 0xad, 0xbe, 0xef, //
+    // The note: RVVBOX with its zero byte, type 1, a descriptor of four bytes.
+    7, 0, 0, 0, 4, 0, 0, 0, 1, 0, 0, 0, 0x52, 0x56, 0x56, 0x42, 0x4f, 0x58, 0, 0, //
+    1, 2, 3, 4,
+];
+
+/// That executable, whose header says that it has so many program headers.
+fn file(rt: impl Abort + Copy, alloc: Global, headers: u8) -> Vec<u8> {
+    file_of(rt, alloc, elf_header(0x1_0000, 52, headers), &BEHIND)
+}
+
+fn image(rt: impl Abort + Copy, alloc: Global) -> Image {
+    let file = file(rt, alloc, 3);
+    given!(rt; read(alloc, &file))
+}
+
+#[test]
+fn reads_a_file(rt: HostRuntime) {
+    let image = image(rt, rt.alloc());
+    assert_same!(rt; image.entry(), 0x10000);
+    assert_same!(rt; image.segments().len(), 2);
+    assert_data(rt, found!(rt; image.segments().get(1)));
+}
+
+/// The segment of data.
+fn assert_data(rt: impl Abort + Copy, data: &Segment) {
+    assert_same!(rt; data.address(), 0x20000);
+    assert_same!(rt; data.memory_size(), 16);
+    assert_same!(rt; data.bytes(), [0xde, 0xad, 0xbe, 0xef].as_slice());
+    let rights = Rights {
+        read: true,
+        write: true,
+        execute: false,
+    };
+    assert_same!(rt; data.rights(), rights);
+    assert_same!(rt; data.contains(0x2000f), true);
+}
+
+#[test]
+fn finds_code_and_the_certificate(rt: HostRuntime) {
+    let image = image(rt, rt.alloc());
+    assert_same!(rt; image.segment_at(0x10017), Some(0));
+    assert_same!(rt; image.segment_at(0x10018), None);
+    assert_code(rt, &image);
+    assert_same!(rt; found!(rt; image.certificate()), [1, 2, 3, 4].as_slice());
+}
+
+/// vsetvli, ecall, a word that passes the end of the code, and data.
+fn assert_code(rt: impl Abort + Copy, image: &Image) {
+    assert_same!(rt; image.code_at(0x10000), Some(0x0c06_72d7));
+    assert_same!(rt; image.code_at(0x10014), Some(0x0000_0073));
+    assert_same!(rt; image.code_at(0x10015), None);
+    assert_same!(rt; image.code_at(0x20000), None);
+}
+
+/// The file of another machine, with a faulty table besides.
+fn faulty(rt: impl Abort + Copy, alloc: Global) -> Vec<u8> {
+    let mut file = file(rt, alloc, 0);
+    *found!(rt; file.get_mut(18)) = 62;
+    file
+}
+
+#[test]
+fn tells_why_a_file_is_refused(rt: HostRuntime) {
+    let file = faulty(rt, rt.alloc());
+    let error = found!(rt; read(rt.alloc(), &file).err());
+    assert_same!(rt; error, ElfError::BadMachine);
+    let text = given!(rt; format!(in rt.alloc(); "{error}"));
+    assert_same!(rt; text.as_str(), "the file is not for RISC-V");
+}

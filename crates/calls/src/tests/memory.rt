@@ -1,0 +1,128 @@
+//! How a run's memory is made, used and given back.
+use crate::tests::assertions::{assert_same, found, given};
+use elf_image::Image;
+use region_mem::{
+    Arg, ArgError, Args, Bytes, Fault, Mode, Param, Parameters, Regions, Right, args_bring_bytes,
+};
+use std::alloc::Global;
+use std::process::Abort;
+
+/// An executable of one segment that may be read and fetched, 8 bytes at 0x1_0000.
+const FILE: [u8; 92] = [
+    0x7f, 0x45, 0x4c, 0x46, 1, 1, 1, 0, 0, 0, 0, 0, 0, 0, 0, 0, 2, 0, 243, 0, 1, 0, 0, 0, 0, 0, 1,
+    0, 52, 0, 0, 0, 0, 0, 0, 0, 0, 0, 0, 0, 52, 0, 32, 0, 1, 0, 0, 0, 0, 0, 0, 0, 1, 0, 0, 0, 84,
+    0, 0, 0, 0, 0, 1, 0, 0, 0, 1, 0, 8, 0, 0, 0, 8, 0, 0, 0, 5, 0, 0, 0, 4, 0, 0, 0, 1, 2, 3, 4, 5,
+    6, 7, 8,
+];
+
+/// A buffer of two bytes that may be read, a scalar from 1 to 9, and a buffer of three that may be written.
+fn parameters() -> Option<Parameters> {
+    Parameters::new([
+        Param::Buffer {
+            mode: Mode::Read,
+            size: 2,
+        },
+        Param::Scalar { lo: 1, hi: 9 },
+        Param::Buffer {
+            mode: Mode::ReadWrite,
+            size: 3,
+        },
+        Param::None,
+        Param::None,
+        Param::None,
+        Param::None,
+        Param::None,
+    ])
+}
+
+fn bytes(rt: impl Abort + Copy, alloc: Global, items: &[u8]) -> Arg {
+    Arg::Buffer(Bytes::new(given!(rt; Vec::from_slice(alloc, items))))
+}
+
+fn args(rt: impl Abort + Copy, alloc: Global, scalar: u32) -> Args {
+    let read = bytes(rt, alloc, &[0x21, 0x22]);
+    let written = bytes(rt, alloc, &[0x31, 0x32, 0x33]);
+    Args {
+        places: [
+            read,
+            Arg::Scalar(scalar),
+            written,
+            Arg::None,
+            Arg::None,
+            Arg::None,
+            Arg::None,
+            Arg::None,
+        ],
+    }
+}
+
+fn expect_args(rt: impl Abort + Copy, args: &Args, third: &[u8]) {
+    args_bring_bytes(args);
+    match &args.places {
+        [Arg::Buffer(first), Arg::Scalar(5), Arg::Buffer(last), ..] => {
+            assert_same!(rt; first.as_slice(), [0x21, 0x22].as_slice());
+            assert_same!(rt; last.as_slice(), third);
+        }
+        _ => panic!(rt; "other kinds"),
+    }
+}
+
+/// The memory of a run. Where memory is refused the arguments have come back as they were.
+fn regions(rt: impl Abort + Copy, alloc: Global) -> Regions {
+    let image: Image = given!(rt; elf_image::read(alloc, &FILE));
+    let parameters = found!(rt; parameters());
+    assert_same!(rt; parameters.address(2), Some(0x4000_2000));
+    let args = args(rt, alloc, 5);
+    if parameters.matches(&args).is_err() {
+        panic!(rt; "no match");
+    }
+    match Regions::new(alloc, &image, &parameters, args) {
+        Ok(regions) => regions,
+        Err((_, args)) => {
+            expect_args(rt, &args, &[0x31, 0x32, 0x33]);
+            panic!(rt; "no memory")
+        }
+    }
+}
+
+fn expect_numbers(rt: impl Abort + Copy, regions: &Regions) {
+    assert_same!(rt; regions.fetch(0x1_0004), Some(0x0807_0605));
+    assert_same!(rt; regions.fetch(0x4000_2000), None);
+    assert_same!(rt; regions.load(0x4000_2000, 2), Some(0x3231));
+    assert_same!(rt; regions.load(0x4000_2002, 2), None);
+    assert_same!(rt; regions.byte(0x2fff_ffff), Some(0));
+}
+
+fn expect_windows(rt: impl Abort + Copy, regions: &Regions) {
+    assert_same!(rt; regions.permits(Right::Write, 0x2fff_0000, 0x1_0000), true);
+    assert_same!(rt; regions.window(0x1_0006, 2), Some([7, 8].as_slice()));
+    assert_same!(rt; regions.window(0x1_0006, 3), None);
+    assert_same!(rt; regions.has_window(0x1_0006, 2), false);
+}
+
+#[test]
+fn runs_memory(rt: HostRuntime) {
+    let mut regions = regions(rt, rt.alloc());
+    expect_numbers(rt, &regions);
+    expect_windows(rt, &regions);
+    assert!(rt; regions.has_window(0x4000_2001, 2));
+    regions.set_window(0x4000_2001, &[0x41, 0x42]);
+    assert_same!(rt; regions.store(0x4000_2001, 1, 0xffff_ff77), true);
+    assert_same!(rt; regions.store(0x4000_0000, 1, 0), false);
+    assert_same!(rt; regions.store(0x4000_2002, 2, 0), false);
+    expect_args(rt, &regions.into_args(), &[0x31, 0x77, 0x42]);
+}
+
+#[test]
+fn tells_what_is_wrong(rt: HostRuntime) {
+    let alloc = rt.alloc();
+    let parameters = found!(rt; parameters());
+    let error = parameters.matches(&args(rt, alloc, 10));
+    assert_same!(rt; error, Err(ArgError::ScalarOutOfInterval(1)));
+    let text = given!(rt; format!(in alloc; "{}", ArgError::WrongSize(7)));
+    assert_same!(rt; text.as_str(), "argument 7 is a buffer of the wrong size");
+    let text = given!(rt; format!(in alloc; "{}", Fault::FetchFault(0x20)));
+    assert_same!(rt; text.as_str(), "no instruction may be fetched at 00000020");
+    assert_same!(rt; Fault::FetchFault(0x20).name(), "FetchFault");
+    assert_same!(rt; Fault::FetchFault(0x20).number(), 0x20);
+}

@@ -1,0 +1,16 @@
+//! The tests, by what they try.
+
+mod assertions;
+mod certificates;
+mod checks;
+mod explained;
+mod kernels;
+mod monitoring;
+mod readme;
+mod reasons;
+mod runs;
+mod sessions;
+mod states;
+mod want_of_memory;
+mod want_of_memory_in_checks;
+mod want_of_memory_in_runs;

@@ -1,0 +1,248 @@
+//! Sessions of accepted kernels: why none is opened, what a run comes to, and what one shows. The
+//! steps are counted by hand.
+
+ghost use Rattle.vreg_groups.specs.VectorLength.{IsVlenb};
+
+use crate::tests::assertions::{assert_same, given, opaque};
+use crate::tests::kernels::{Kernel, RAISE, RAISE_IF, SUM, accepted};
+use block_checker::Accepted;
+use cert_note::Vlen;
+use region_mem::{Arg, Args, Bytes};
+use rv_decode::Reg;
+use sandbox_run::{OpenError, Session};
+use std::alloc::Global;
+use std::process::Abort;
+use vreg_groups::Agnostic;
+
+/// A buffer of so many bytes, each 3, where there is one, a number, and another, where there is
+/// one.
+pub(crate) fn args(
+    rt: impl Abort + Copy,
+    alloc: Global,
+    size: Option<usize>,
+    number: u32,
+    other: Option<u32>,
+) -> Args {
+    let buffer = match size {
+        Some(size) => Arg::Buffer(Bytes::new(given!(rt; vec![in alloc; 3u8; size]))),
+        None => Arg::None,
+    };
+    let other = match other {
+        Some(other) => Arg::Scalar(other),
+        None => Arg::None,
+    };
+    Args {
+        places: [
+            buffer,
+            Arg::Scalar(number),
+            other,
+            Arg::None,
+            Arg::None,
+            Arg::None,
+            Arg::None,
+            Arg::None,
+        ],
+    }
+}
+
+/// The first byte of an argument, where it is a buffer and has one.
+fn first_byte(arg: &Arg) -> Option<u8> {
+    match arg {
+        Arg::Buffer(bytes) => bytes.as_slice().first().copied(),
+        Arg::None | Arg::Scalar(_) => None,
+    }
+}
+
+/// What is left where a run has ended: how many steps it took, also where it is asked to run again,
+/// x12, and the first byte of the buffer.
+type Left = (u64, u64, u32, Option<u8>);
+
+/// What comes of a run with this bound.
+fn run_of<const VLENB: usize>(
+    alloc: Global,
+    accepted: &Accepted,
+    args: Args,
+    max: u64,
+) -> Result<Left, OpenError>
+    requires { IsVlenb VLENB }
+{
+    let opened = Session::<VLENB>::open(alloc, accepted, args, Agnostic::Keep, max);
+    match opaque(opened) {
+        Ok(mut session) => {
+            let steps = session.run();
+            let again = session.run();
+            let sum = session.registers().x[12];
+            Ok((steps, again, sum, first_byte(&session.close().places[0])))
+        }
+        Err((error, _)) => Err(error),
+    }
+}
+
+/// Asserts what comes of a run at a length of vector registers, of a kernel that is accepted for
+/// one.
+fn assert_run(
+    rt: impl Abort + Copy,
+    alloc: Global,
+    kernel: (Kernel, Vlen),
+    vlen: Vlen,
+    args: Args,
+    max: u64,
+    left: Result<Left, OpenError>,
+) {
+    let accepted = accepted(rt, alloc, kernel.0, kernel.1);
+    let came = match vlen {
+        Vlen::V128 => run_of::<16>(alloc, &accepted, args, max),
+        Vlen::V256 => run_of::<32>(alloc, &accepted, args, max),
+        Vlen::V512 => run_of::<64>(alloc, &accepted, args, max),
+    };
+    assert_same!(rt; came, left);
+}
+
+#[test]
+fn opens_no_other_run(rt: HostRuntime) {
+    for (kernel, vlen, size, number, max, error) in [
+        (SUM, Vlen::V256, None, 1025, 1, OpenError::WrongKind(0)),
+        (
+            SUM,
+            Vlen::V256,
+            Some(1023),
+            1025,
+            1,
+            OpenError::ScalarOutOfInterval(1),
+        ),
+        (
+            SUM,
+            Vlen::V256,
+            Some(1023),
+            1024,
+            1,
+            OpenError::WrongSize(0),
+        ),
+        (
+            SUM,
+            Vlen::V256,
+            Some(1024),
+            1024,
+            5121,
+            OpenError::BoundTooLarge,
+        ),
+        (
+            SUM,
+            Vlen::V256,
+            Some(1024),
+            1024,
+            5122,
+            OpenError::WrongVlen,
+        ),
+        (
+            RAISE,
+            Vlen::V128,
+            Some(4096),
+            1024,
+            8193,
+            OpenError::BoundTooLarge,
+        ),
+        (
+            RAISE,
+            Vlen::V256,
+            Some(4096),
+            1024,
+            8194,
+            OpenError::WrongVlen,
+        ),
+    ] {
+        let args = args(rt, rt.alloc(), size, number, None);
+        let kernel = (kernel, Vlen::V128);
+        assert_run(rt, rt.alloc(), kernel, vlen, args, max, Err(error));
+    }
+}
+
+/// Each number of bytes takes exactly the bound's steps, and x12 is their sum.
+#[test]
+fn sums_bytes(rt: HostRuntime) {
+    for (number, steps, sum) in [(0, 2, 0), (1, 7, 3), (1024, 5122, 3072)] {
+        let args = args(rt, rt.alloc(), Some(1024), number, None);
+        let left = Ok((steps, steps, sum, Some(3)));
+        let kernel = (SUM, Vlen::V128);
+        assert_run(rt, rt.alloc(), kernel, Vlen::V128, args, steps, left);
+    }
+}
+
+/// Nine words are three strips at 128 bits and two at 256, seventeen are two at 512.
+#[test]
+fn runs_over_strips(rt: HostRuntime) {
+    for (vlen, number, steps, first) in [
+        (Vlen::V128, 0, 2, 3),
+        (Vlen::V128, 9, 26, 4),
+        (Vlen::V128, 1024, 2050, 4),
+        (Vlen::V256, 9, 18, 4),
+        (Vlen::V256, 1024, 1026, 4),
+        (Vlen::V512, 16, 10, 4),
+        (Vlen::V512, 17, 18, 4),
+        (Vlen::V512, 1023, 514, 4),
+        (Vlen::V512, 1024, 514, 4),
+    ] {
+        let args = args(rt, rt.alloc(), Some(4096), number, None);
+        let left = Ok((steps, steps, 0, Some(first)));
+        assert_run(rt, rt.alloc(), (RAISE, vlen), vlen, args, 8194, left);
+    }
+}
+
+#[test]
+fn runs_either_way(rt: HostRuntime) {
+    for (number, raised, steps, first) in [(17, 1, 18, 4), (17, 0, 16, 3), (0, 1, 2, 3)] {
+        let args = args(rt, rt.alloc(), Some(1024), number, Some(raised));
+        let left = Ok((steps, steps, raised, Some(first)));
+        let kernel = (RAISE_IF, Vlen::V128);
+        assert_run(rt, rt.alloc(), kernel, Vlen::V128, args, 8197, left);
+    }
+}
+
+/// The first word of the code, the last byte of the buffer, and the last register.
+fn assert_shown(rt: impl Abort + Copy, session: &Session<16>) {
+    assert_same!(rt; session.is_ended(), false);
+    assert_same!(rt; session.fetch(0x1_0000), Some(0x0005_8c63));
+    assert_same!(rt; session.fetch(0x4000_0000), None);
+    assert_same!(rt; session.peek(0x4000_03ff), Some(3));
+    assert_same!(rt; session.peek(0x4000_0400), None);
+    assert_same!(rt; session.vector(Reg::new(31)), [0; 16].as_slice());
+}
+
+/// Asserts that there is a next step, and how many have been made and where the run is then.
+fn assert_step(rt: impl Abort + Copy, session: &mut Session<16>, steps: u64, pc: u32) {
+    assert_same!(rt; session.step(), Some(()));
+    assert_same!(rt; session.steps(), steps);
+    assert_same!(rt; session.registers().pc, pc);
+    assert_same!(rt; session.pc(), pc);
+    session.stands();
+}
+
+/// Each step of a run over one byte.
+fn assert_steps(rt: impl Abort + Copy, session: &mut Session<16>) {
+    for (steps, pc) in [
+        (1, 0x1_0004),
+        (2, 0x1_0008),
+        (3, 0x1_000c),
+        (4, 0x1_0010),
+        (5, 0x1_0014),
+        (6, 0x1_0018),
+        (7, 0xffff_fff0),
+    ] {
+        assert_step(rt, session, steps, pc);
+    }
+    assert_same!(rt; session.is_ended(), true);
+    assert_same!(rt; session.step(), None);
+    assert_same!(rt; session.steps(), 7);
+}
+
+#[test]
+fn shows_each_step(rt: HostRuntime) {
+    let alloc = rt.alloc();
+    let accepted = accepted(rt, alloc, SUM, Vlen::V128);
+    let args = args(rt, alloc, Some(1024), 1, None);
+    let opened = Session::<16>::open(alloc, &accepted, args, Agnostic::Ones, 7);
+    let mut session = given!(rt; opened);
+    assert_shown(rt, &session);
+    assert_steps(rt, &mut session);
+    assert_same!(rt; matches!(&session.close().places[1], Arg::Scalar(1)), true);
+}

@@ -1,0 +1,279 @@
+//! Checks of which each allocation fails in turn, and the states that they start blocks with: the
+//! answer is want of memory there, what is refused is refused all the same, and the image and the
+//! certificate come back as they were.
+ghost use Rattle.std.specs.Prelude.{◌<◌, length};
+
+use crate::refusing::Refusing;
+use crate::tests::assertions::{assert_same, found, given, opaque};
+use crate::tests::kernels::{Kernel, STORE, SUM, file_of, parts_of, put};
+use crate::tests::want_of_memory::{Heap, MANY, served, until_served};
+use abs_state::{Abstract, MOST_WORDS, implies};
+use block_checker::{CheckError, check_in};
+use cert_note::{Certificate, Vlen};
+use elf_image::Image;
+use rv_decode::decode;
+use std::alloc::Global;
+use std::process::Abort;
+
+/// Takes the word at an address.
+fn take(rt: impl Abort + Copy, image: &Image, state: &mut Abstract<Heap<'_>>, pc: u32) {
+    let word = found!(rt; image.code_at(pc));
+    let insn = found!(rt; decode(word));
+    if state.words() >= MOST_WORDS {
+        panic!(rt; "too many words");
+    }
+    given!(rt; state.after(pc, &insn));
+}
+
+/// Takes the words from `start` on, and asserts that both ways out of the block are known.
+fn expect_words(
+    rt: impl Abort + Copy,
+    image: &Image,
+    state: &mut Abstract<Heap<'_>>,
+    start: u32,
+    words: u32,
+) {
+    let mut pc = start;
+    for _word in 0..words {
+        take(rt, image, state, pc);
+        pc = pc.wrapping_add(4);
+    }
+    assert_same!(rt; state.words(), words);
+    assert_same!(rt; state.refine(false).is_some(), true);
+    assert_same!(rt; state.refine(true).is_some(), true);
+}
+
+/// Asserts that what is known at a block is told or wants memory, and that the words of the block,
+/// as many as here, take none. Tells whether it is told.
+fn is_block_known(
+    rt: impl Abort + Copy,
+    heap: Heap<'_>,
+    after: u64,
+    kernel: &(Image, Certificate),
+    index: usize,
+    words: u32,
+) -> bool
+    requires { index < length kernel.now.1.blocks }
+{
+    let (image, certificate) = kernel;
+    let start = certificate.contents().blocks[index].start;
+    match served(
+        rt,
+        heap,
+        after,
+        Abstract::at_block(heap, certificate, image, index),
+    ) {
+        Ok(mut state) => {
+            expect_words(rt, image, &mut state, start, words);
+            // One more would have been refused.
+            assert_same!(rt; heap.has_refused(), false);
+            true
+        }
+        Err(_) => false,
+    }
+}
+
+/// Asserts so of each number of allocations.
+fn expect_block(
+    rt: impl Abort + Copy,
+    alloc: Global,
+    kernel: &(Image, Certificate),
+    index: usize,
+    words: u32,
+)
+    requires { index < length kernel.now.1.blocks }
+{
+    for after in 0..MANY {
+        let heap = Refusing::new(alloc, after);
+        if is_block_known(rt, &heap, after, kernel, index, words) {
+            return;
+        }
+    }
+    panic!(rt; "memory is never enough")
+}
+
+/// What is known at a block takes the memory for all that is known behind each of its words: lists
+/// of atoms, of forms and of facts on vector registers.
+#[test]
+fn knowing_a_block(rt: HostRuntime) {
+    let alloc = rt.alloc();
+    let kernel = parts_of(rt, alloc, SUM, Vlen::V128);
+    let words = [1, 5, 1];
+    assert_same!(rt; kernel.1.contents().blocks.len(), words.len());
+    for (index, words) in words.iter().enumerate() {
+        if index < kernel.1.contents().blocks.len() {
+            expect_block(rt, alloc, &kernel, index, *words);
+        }
+    }
+}
+
+/// Asserts that the way from the entry leads into the first block.
+fn expect_way(
+    rt: impl Abort + Copy,
+    state: &Abstract<Heap<'_>>,
+    image: &Image,
+    certificate: &Certificate,
+) {
+    assert_same!(rt; state.words(), 0);
+    let edge = found!(rt; state.refine(false));
+    assert_same!(rt; edge.target(), Some(image.entry()));
+    let block = certificate.contents().blocks.first();
+    assert_same!(rt; implies(&edge, block).is_ok(), true);
+}
+
+/// Asserts that what is known at the entry is told or wants memory, and tells whether it is told.
+fn is_entry_known(
+    rt: impl Abort + Copy,
+    heap: Heap<'_>,
+    after: u64,
+    image: &Image,
+    certificate: &Certificate,
+) -> bool {
+    match served(
+        rt,
+        heap,
+        after,
+        Abstract::at_entry(heap, certificate, image),
+    ) {
+        Ok(state) => {
+            expect_way(rt, &state, image, certificate);
+            // One more would have been refused.
+            assert_same!(rt; heap.has_refused(), false);
+            true
+        }
+        Err(_) => false,
+    }
+}
+
+/// The same lists. The way from there leads into the block at the entry.
+#[test]
+fn knowing_the_entry(rt: HostRuntime) {
+    let alloc = rt.alloc();
+    let (image, certificate) = parts_of(rt, alloc, SUM, Vlen::V128);
+    until_served(rt, alloc, |heap, after| {
+        is_entry_known(rt, heap, after, &image, &certificate)
+    });
+}
+
+/// What an image and a certificate say.
+fn said(rt: impl Abort + Copy, alloc: Global, image: &Image, certificate: &Certificate) -> String {
+    given!(rt; format!(in alloc; "{image:?} {certificate:?}"))
+}
+
+/// Asserts that they say what they said before.
+fn assert_said(
+    rt: impl Abort + Copy,
+    alloc: Global,
+    image: &Image,
+    certificate: &Certificate,
+    before: &str,
+) {
+    let back = said(rt, alloc, image, certificate);
+    assert_same!(rt; back.as_str(), before);
+}
+
+/// Whether the check answers at all, and wants no memory: with the fault, or by accepting where
+/// there is none.
+fn is_answered(
+    rt: impl Abort + Copy,
+    heap: Heap<'_>,
+    after: u64,
+    came: Option<CheckError>,
+    fault: Option<CheckError>,
+) -> bool {
+    if heap.has_refused() {
+        assert_same!(rt; came, Some(CheckError::NoMemory));
+        return false;
+    }
+    assert_same!(rt; (came, after > 0), (fault, true));
+    true
+}
+
+/// Checks the kernel, whose fault is this one. Gives it back where memory was refused.
+fn checked_again(
+    rt: impl Abort + Copy,
+    alloc: Global,
+    after: u64,
+    kernel: (Image, Certificate),
+    before: &str,
+    fault: Option<CheckError>,
+) -> Option<(Image, Certificate)> {
+    let heap = Refusing::new(alloc, after);
+    let (image, certificate) = kernel;
+    match opaque(check_in(&heap, image, certificate, Vlen::V128)) {
+        Ok(accepted) => {
+            assert_said(rt, alloc, accepted.image(), accepted.certificate(), before);
+            assert_same!(rt; is_answered(rt, &heap, after, None, fault), true);
+            None
+        }
+        Err((error, image, certificate)) => {
+            assert_said(rt, alloc, &image, &certificate, before);
+            if is_answered(rt, &heap, after, Some(error), fault) {
+                return None;
+            }
+            Some((image, certificate))
+        }
+    }
+}
+
+/// Asserts that the check of a kernel wants memory where it is refused, and accepts it or tells
+/// this fault where it isn't.
+fn expect_check(rt: impl Abort + Copy, alloc: Global, kernel: Kernel, fault: Option<CheckError>) {
+    let mut kernel = parts_of(rt, alloc, kernel, Vlen::V128);
+    let before = said(rt, alloc, &kernel.0, &kernel.1);
+    for after in 0..MANY {
+        match checked_again(rt, alloc, after, kernel, before.as_str(), fault) {
+            Some(back) => kernel = back,
+            None => return,
+        }
+    }
+    panic!(rt; "memory is never enough")
+}
+
+/// What is known at the entry and at a block, one block after the other. The fault of the second
+/// block stands behind what is known at the entry and at the first.
+#[test]
+fn checking(rt: HostRuntime) {
+    expect_check(rt, rt.alloc(), SUM, None);
+    let fault = CheckError::ReadOnly(0x1_0004);
+    expect_check(rt, rt.alloc(), STORE, Some(fault));
+}
+
+/// The file of the sum whose entry is its third word, where no block begins.
+fn moved_entry(rt: impl Abort + Copy, alloc: Global) -> Vec<u8> {
+    let mut file = file_of(rt, alloc, SUM.code);
+    put(rt, &mut file, 24, &[8]);
+    file
+}
+
+/// Asserts that the check tells this fault, and gives the certificate back.
+fn expect_fault(
+    rt: impl Abort + Copy,
+    heap: Heap<'_>,
+    kernel: (Image, Certificate),
+    vlen: Vlen,
+    fault: CheckError,
+) -> Certificate {
+    let (image, certificate) = kernel;
+    match opaque(check_in(heap, image, certificate, vlen)) {
+        Ok(_) => panic!(rt; "accepted"),
+        Err((error, _, certificate)) => {
+            assert_same!(rt; error, fault);
+            certificate
+        }
+    }
+}
+
+/// Faults that are told before any memory is asked for.
+#[test]
+fn checking_no_block(rt: HostRuntime) {
+    let alloc = rt.alloc();
+    let heap = Refusing::new(alloc, 0);
+    let kernel = parts_of(rt, alloc, SUM, Vlen::V128);
+    let certificate = expect_fault(rt, &heap, kernel, Vlen::V256, CheckError::WrongVlen);
+    let file = moved_entry(rt, alloc);
+    let elsewhere = given!(rt; elf_image::read(alloc, &file));
+    let kernel = (elsewhere, certificate);
+    expect_fault(rt, &heap, kernel, Vlen::V128, CheckError::NoEntryBlock);
+    assert_same!(rt; heap.has_refused(), false);
+}
