@@ -38,15 +38,18 @@ bit_lies true = up_lies 1 1 (omega arith) (lit< tt)
 bit_lies false = up_lies 1 0 (omega arith) (lit< tt)
 
 -- a number that is known is the one of its range
-pub known_is : (r : Range) (x c : ℕ) → LiesIn r x → known_of r ≡ Some c → x ≡ c
-known_is r x c l e = go (r.lo == r.hi) refl e
+pub known_between : (r : Range) (x c : ℕ) → r.lo ≤ x → x ≤ r.hi → known_of r ≡ Some c → x ≡ c
+known_between r x c low high e = go (r.lo == r.hi) refl e
   where
     go : (t : Bool) → (r.lo == r.hi) ≡ t → (if t then Some r.lo else None) ≡ Some c → x ≡ c
     go true f g =
         let k : r.lo ≡ r.hi = grind (arith, nat_tests) in
         let m : r.lo ≡ c = cc in
-        omega (arith, k, m, l.low, l.high)
+        omega (arith, k, m, low, high)
     go false f g = cc
+
+pub known_is : (r : Range) (x c : ℕ) → LiesIn r x → known_of r ≡ Some c → x ≡ c
+known_is r x c l e = known_between r x c l.low l.high e
 
 -- interval arithmetic that stays within 32 bits
 fitting_lies : (lo hi x : ℕ) → lo ≤ x → x ≤ hi → IfSome (fitting 32 lo hi) (λ r. LiesIn r (x % 2 ^ 32))
@@ -205,6 +208,15 @@ pub div_up : (a b d : ℕ) → a ≤ b → a / d ≤ b / d
 div_up a b zero l = omega arith
 div_up a b (suc d) l = le-div (a / suc d) b (suc d) (omega arith) (omega (arith, div-mul-le_self a (suc d), l))
 
+-- the quotients of a range's numbers
+divided_lies : (r : Range) (x d : ℕ) → LiesIn r x → LiesIn (record { lo = r.lo / d; hi = r.hi / d }) (x / d)
+divided_lies r x d h =
+    record {
+      low = div_up r.lo x d h.low;
+      high = div_up x r.hi d h.high;
+      fits = omega (arith, div-le_self r.hi d, h.fits);
+    }
+
 right_shift_lies : (r : Range) (x y : ℕ) (o : Option ℕ) → LiesIn r x → ((c : ℕ) → o ≡ Some c → y ≡ c)
     → LiesIn (right_shift_range r o) (x / 2 ^ (y % 32))
 unfolding right_shift_range
@@ -212,12 +224,7 @@ right_shift_lies r x y None h is =
     full_lies (x / 2 ^ (y % 32)) (omega (arith, div-le_self x (2 ^ (y % 32)), h.high, h.fits))
 right_shift_lies r x y (Some c) h is =
     let d = 2 ^ (c % 32) in
-    subst (λ (z : ℕ). LiesIn (record { lo = r.lo / d; hi = r.hi / d }) (x / 2 ^ (z % 32))) (sym (is c refl))
-    record {
-      low = div_up r.lo x d h.low;
-      high = div_up x r.hi d h.high;
-      fits = omega (arith, div-le_self r.hi d, h.fits);
-    }
+    subst (λ (z : ℕ). LiesIn (record { lo = r.lo / d; hi = r.hi / d }) (x / 2 ^ (z % 32))) (sym (is c refl)) (divided_lies r x d h)
 
 quotient_lies : (r : Range) (x y : ℕ) (o : Option ℕ) → LiesIn r x → y < 2 ^ 32 → ((c : ℕ) → o ≡ Some c → y ≡ c)
     → LiesIn (quotient_range r o) (unsigned_quotient x y)
@@ -229,12 +236,7 @@ quotient_lies r x y (Some c) h l is =
     go : (t : Bool) → (c == 0) ≡ t
         → LiesIn (if t then full_range else record { lo = r.lo / c; hi = r.hi / c }) (if t then 2 ^ 32 - 1 else x / c)
     go true e = full_lies (2 ^ 32 - 1) (lit< tt)
-    go false e =
-        record {
-          low = div_up r.lo x c h.low;
-          high = div_up x r.hi c h.high;
-          fits = omega (arith, div-le_self r.hi c, h.fits);
-        }
+    go false e = divided_lies r x c h
 
 remainder_lies : (r : Range) (x y : ℕ) (o : Option ℕ) → LiesIn r x → y < 2 ^ 32 → ((c : ℕ) → o ≡ Some c → y ≡ c)
     → LiesIn (remainder_range r o) (unsigned_remainder x y)

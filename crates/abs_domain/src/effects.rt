@@ -222,15 +222,11 @@ fn quotient_range(a: Range, divisor: Option<u32>) -> Range
     ensures { result ≡ quotient_range_of a divisor }
 {
     match divisor {
-        Some(c) => if c == 0 {
-            Range::FULL
-        } else {
-            Range {
-                lo: a.lo / c,
-                hi: a.hi / c,
-            }
+        Some(c) if c != 0 => Range {
+            lo: a.lo / c,
+            hi: a.hi / c,
         },
-        None => Range::FULL,
+        Some(_) | None => Range::FULL,
     }
 }
 
@@ -240,12 +236,8 @@ fn remainder_range(a: Range, divisor: Option<u32>) -> Range
     ensures { result ≡ remainder_range_of a divisor }
 {
     match divisor {
-        Some(c) => if c == 0 {
-            Range::FULL
-        } else {
-            up_to(a.hi.min(c - 1))
-        },
-        None => Range::FULL,
+        Some(c) if c != 0 => up_to(a.hi.min(c - 1)),
+        Some(_) | None => Range::FULL,
     }
 }
 
