@@ -343,6 +343,12 @@ scaled-IsForm n R k f h room = record {
   has_room = room;
 }
 
+-- the multiple of the form that was read in an atom's place, by its number
+pub read_at : (k : ℕ) (forms : List Linear) (f : Linear) (i a : ℕ) → i ≡ a → f ≡ get_or forms i (atom_form a)
+    → scaled k f ≡ scaled k (form_at forms a)
+unfolding form_at
+read_at k forms f i a e h = ap (scaled k) (h ∙ ap (λ j. get_or forms j (atom_form a)) e)
+
 with_replaced-IsForm : (n : ℕ) (forms : List Linear) → ((a : ℕ) → IsForm n (form_at forms a)) → (start : Linear) (ts : List Term)
     → IsForm (length start.terms) start → IsForm (length (with_replaced forms start ts).terms) (with_replaced forms start ts)
 unfolding with_replaced

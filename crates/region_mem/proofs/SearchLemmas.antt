@@ -47,7 +47,7 @@ begins address area h = grind (arith, nat_tests)
 begins_above : (address : ℕ) (area : Area) → leb area.first address ≡ false → address < area.first
 begins_above address area h = grind (arith, nat_tests)
 
-begins_at : (address : ℕ) (area : Area) → holds address area ≡ true → area.first ≤ address
+pub begins_at : (address : ℕ) (area : Area) → holds address area ≡ true → area.first ≤ address
 unfolding holds
 begins_at address area h = grind (arith, nat_tests)
 

@@ -16,7 +16,7 @@ use Rattle.region_mem.specs.Laws.{StartsWithCode, StartsCodeSafe, StartsInside}
 use Rattle.region_mem.proofs.Apart.{end_of, starts_in_order, all_insert, all_inserts, length_segment, length_zeros}
 use Rattle.region_mem.proofs.AccessLemmas.{admits_spans, spans_from, spans_to, open_in_one, number_in_one, holds_from}
 use Rattle.region_mem.proofs.ExtentLemmas.{start_placed}
-use Rattle.region_mem.proofs.SearchLemmas.{not_before, not_past}
+use Rattle.region_mem.proofs.SearchLemmas.{begins_at, not_before, not_past}
 
 -- The area is one of the list.
 abbrev pub IsOne : Area → List Area → Type 0
@@ -51,10 +51,6 @@ begins_from from area (other ∷ areas) order (inl same) = rw same order.0
 begins_from from area (other ∷ areas) order (inr one) =
     let rest = begins_from (end_of other) area areas order.1 one in omega (arith, order.0, rest)
 
-holds_low : (x : ℕ) (area : Area) → holds x area ≡ true → area.first ≤ x
-unfolding holds
-holds_low x area h = grind (arith, nat_tests)
-
 one_found : (x from : ℕ) (area : Area) (areas : List Area) → AreInOrder from areas → IsOne area areas → holds x area ≡ true → find (holds x) areas ≡ Some area
 unfolding AreInOrder
 one_found x from area [] order one here = absurd one
@@ -62,7 +58,7 @@ one_found x from area (other ∷ areas) order (inl same) here =
     let there : holds x other ≡ true = rw (← same) here in
     rw (there, same) refl
 one_found x from area (other ∷ areas) order (inr one) here =
-    let low = holds_low x area here in
+    let low = begins_at x area here in
     let rest = begins_from (end_of other) area areas order.1 one in
     rw (not_past x other (omega (arith, low, rest))) (one_found x (end_of other) area areas order.1 one here)
 
@@ -188,7 +184,7 @@ holds_high : (x : ℕ) (area : Area) → holds x area ≡ true → x < end_of ar
 unfolding holds
 holds_high x area h = grind (arith, nat_tests)
 
-closed_below : (right : Right) (x from : ℕ) (areas : List Area) → AreInOrder from areas → x < from → is_open right areas x ≡ false
+pub closed_below : (right : Right) (x from : ℕ) (areas : List Area) → AreInOrder from areas → x < from → is_open right areas x ≡ false
 unfolding AreInOrder is_open
 closed_below right x from [] order lt = refl
 closed_below right x from (area ∷ areas) order lt =

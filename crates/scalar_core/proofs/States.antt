@@ -287,7 +287,7 @@ csr_value-fits Vtype vlenb config h p q r is = r
 csr_value-fits Vlenb vlenb config h p q r is = p
 
 -- a hart stays one under new CSRs that fit
-csrs-is_hart : (vxrm vxsat : ℕ) (h : Hart) → vxrm < 4 → vxsat < 2 → IsHart h → IsHart (record h { vxrm = vxrm; vxsat = vxsat })
+pub csrs-is_hart : (vxrm vxsat : ℕ) (h : Hart) → vxrm < 4 → vxsat < 2 → IsHart h → IsHart (record h { vxrm = vxrm; vxsat = vxsat })
 csrs-is_hart vxrm vxsat h p q is =
     record {
       pc_fits = is.pc_fits;
@@ -307,7 +307,7 @@ with_csr-is_hart Vl value h is = is
 with_csr-is_hart Vtype value h is = is
 with_csr-is_hart Vlenb value h is = is
 
-csr_written-is_hart : (insn : CsrInsn) (vlenb : ℕ) (config : Vconfig) (h : Hart) → IsHart h → IsHart (csr_written insn vlenb config h)
+pub csr_written-is_hart : (insn : CsrInsn) (vlenb : ℕ) (config : Vconfig) (h : Hart) → IsHart h → IsHart (csr_written insn vlenb config h)
 unfolding csr_written
 csr_written-is_hart insn vlenb config h is =
     let value : ℕ = written insn.action (csr_value insn.csr vlenb config h) (operand_of insn.source h) in
