@@ -97,20 +97,9 @@ shown_true : (why : Why) (b : Bool) → shown_or why b ≡ Ok tt → b ≡ true
 shown_true why true e = refl
 shown_true why false e = cc
 
-module _ (a b : Shown) where
-  first_shown : and_then a b ≡ Ok tt → a ≡ Ok tt
-  first_shown e = by_first a e
-    where
-      by_first : (s : Shown) → and_then s b ≡ Ok tt → s ≡ Ok tt
-      by_first (Ok done) f = refl
-      by_first (Err why) f = cc
-
-  rest_shown : and_then a b ≡ Ok tt → b ≡ Ok tt
-  rest_shown e = by_first a e
-    where
-      by_first : (s : Shown) → and_then s b ≡ Ok tt → b ≡ Ok tt
-      by_first (Ok done) f = f
-      by_first (Err why) f = cc
+both_shown : (a b : Shown) → and_then a b ≡ Ok tt → (a ≡ Ok tt) × (b ≡ Ok tt)
+both_shown (Ok done) b e = (refl, e)
+both_shown (Err why) b e = cc
 
 leads : (edge : EdgeView) (address pc : ℕ) → leads_to edge address ≡ true → IfSome edge.target (λ t. pc ≡ t) → pc ≡ address
 leads edge address pc e at = by_target edge.target e at
@@ -347,30 +336,31 @@ pub implied-fits : ImpliedFits
 unfolding implied_by implies_block
 implied-fits e n edge block m goes at certificate h =
     let is = found e.certificate.version e.certificate.vlen e.certificate.parameters _ 0 e.certificate.blocks block certificate.blocks at in
-    let r1 = rest_shown _ _ h in
-    let r2 = rest_shown _ _ r1 in
-    let r3 = rest_shown _ _ r2 in
-    let r4 = rest_shown _ _ r3 in
-    let r5 = rest_shown _ _ r4 in
-    let r6 = rest_shown _ _ r5 in (
+    let target = both_shown _ _ h in
+    let type_is = both_shown _ _ target.1 in
+    let intervals = both_shown _ _ type_is.1 in
+    let equalities = both_shown _ _ intervals.1 in
+    let ordered = both_shown _ _ equalities.1 in
+    let elements = both_shown _ _ ordered.1 in (
       record {
-        pc = leads edge block.start m.hart.pc (shown_true _ _ (first_shown _ _ h)) goes.target;
+        pc = leads edge block.start m.hart.pc (shown_true _ _ target.0) goes.target;
         facts =
             facts_hold e n edge m goes e.certificate.parameters 1 block.registers.items is.1.registers
-            (shown_true _ _ (first_shown _ _ r2)) (shown_true _ _ (first_shown _ _ r3));
-        vtype = vtype_shown edge.state.vtype block.vtype m.vectors.config.vtype (shown_true _ _ (first_shown _ _ r1)) goes.known.vtype;
+            (shown_true _ _ intervals.0) (shown_true _ _ equalities.0);
+        vtype = vtype_shown edge.state.vtype block.vtype m.vectors.config.vtype (shown_true _ _ type_is.0) goes.known.vtype;
         orders =
             orders_hold e n edge m goes block.registers.items 1 block.orders.items is.1.orders
-            (shown_true _ _ (first_shown _ _ r4));
-        vectors = vectors_hold e n edge m goes block.vectors.items (shown_true _ _ (first_shown _ _ r5));
+            (shown_true _ _ ordered.0);
+        vectors = vectors_hold e n edge m goes block.vectors.items (shown_true _ _ elements.0);
         proper = goes.known.proper;
       },
-      block_is_paid e n edge m goes edge.state.budget block.budget is.1.budget goes.known.paid (shown_true _ _ r6),
+      block_is_paid e n edge m goes edge.state.budget block.budget is.1.budget goes.known.paid (shown_true _ _ elements.1),
     )
 
 pub implied-ends : ImpliedEnds
 unfolding implied_by implies_end
-implied-ends e n edge m goes h = (
-  leads edge exit m.hart.pc (shown_true _ _ (first_shown _ _ h)) goes.target,
-  end_is_paid e n edge m goes edge.state.budget goes.known.paid (shown_true _ _ (rest_shown _ _ h)),
-)
+implied-ends e n edge m goes h =
+    let shown = both_shown _ _ h in (
+      leads edge exit m.hart.pc (shown_true _ _ shown.0) goes.target,
+      end_is_paid e n edge m goes edge.state.budget goes.known.paid (shown_true _ _ shown.1),
+    )

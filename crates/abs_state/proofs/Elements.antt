@@ -24,7 +24,7 @@ use Rattle.vector_core.specs.Operations.{narrow_lanes}
 use Rattle.abs_domain.specs.Values.{known_of, up_to}
 use Rattle.abs_domain.specs.Effects.{fitting}
 use Rattle.abs_transfer.specs.Facts.{int_range, left_elements, narrow_range, remainder_by, remainder_elements, right_elements}
-use Rattle.abs_domain.proofs.Operations.{div_up}
+use Rattle.abs_domain.proofs.Operations.{div_up, known_between}
 
 -- x lies in a range, and below a limit
 pub record IsWithin (limit : ℕ) (r : Range) (x : ℕ) : Type 0 where
@@ -34,14 +34,7 @@ pub record IsWithin (limit : ℕ) (r : Range) (x : ℕ) : Type 0 where
 
 -- an element that is known is the one of its range
 known_one : (limit : ℕ) (r : Range) (x : ℕ) → IsWithin limit r x → (c : ℕ) → known_of r ≡ Some c → x ≡ c
-known_one limit r x l c e = go (r.lo == r.hi) refl e
-  where
-    go : (t : Bool) → (r.lo == r.hi) ≡ t → (if t then Some r.lo else None) ≡ Some c → x ≡ c
-    go true f g =
-        let k : r.lo ≡ r.hi = grind (arith, nat_tests) in
-        let m : r.lo ≡ c = cc in
-        omega (arith, k, m, l.low, l.high)
-    go false f g = cc
+known_one limit r x l c e = known_between r x c l.low l.high e
 
 -- a number between two ends that both have this many bits
 fitting_lies : (n lo hi x : ℕ) → lo ≤ x → x ≤ hi → IfSome (fitting n lo hi) (λ r. IsWithin (2 ^ n) r x)

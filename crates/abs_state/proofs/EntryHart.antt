@@ -2,7 +2,7 @@
 use Rattle.std.proofs.Common.{◌≡◌, ℕ, zero, suc, ◌<◌, ◌≤◌, ◌+◌, ◌^◌, ◌&&◌, ◌||◌, not, Bool, true, false, arith, refl, sym, ◌∙◌, subst, inl, inr, length, take, get_or, List, [], ◌∷◌, Option, Some, None, sum_by}
 use Rattle.std.specs.Prelude.{nat_le, if◌then◌else◌, unwrap_or, IsTrue}
 use Rattle.std.specs.List.{AllByRecursion, list_all, list_any, slice_get, zip}
-use Rattle.std.specs.Option.{option_map, option_and_then, option_or}
+use Rattle.std.specs.Option.{option_and_then}
 use Rattle.std.proofs.lemmas.Bool.Decides.{nat_tests}
 use Rattle.std.proofs.lemmas.Option.{slice_get-get_or}
 use Rattle.std.proofs.Math.ListN.{replicate}
@@ -12,7 +12,7 @@ use Rattle.region_mem.specs.declared.parameter.Param.{Param}
 use Rattle.region_mem.specs.declared.parameter.Param.TheVariants as parameter
 use Rattle.region_mem.specs.declared.arguments.Arg.TheVariants as argument
 use Rattle.region_mem.specs.Parameter.{Argument, AreArguments, address_of, argument_error, is_buffer, is_out_of_interval, is_valid, is_wrong_kind, room_of}
-use Rattle.region_mem.proofs.Matching.{NonePasses, none_passes, nothing_wrong}
+use Rattle.region_mem.proofs.Matching.{NonePasses, map_none, none_passes, nothing_wrong, or_none}
 use Rattle.region_mem.proofs.Rooms.{sum_by_room}
 use Rattle.scalar_core.specs.Hart.{IsHart}
 use Rattle.scalar_core.proofs.EntryLemmas.{entry_hart-is_hart, entry_hart-pc, entry_number-same, reg_of-entry_hart}
@@ -75,14 +75,6 @@ code_low (s ∷ ss) address are e = by_test (holds_code address s) refl e (code_
     by_test false h f more = more f
 
 -- ---- arguments that match
-
-or_none : {X : Type 0} (o p : Option X) → option_or o p ≡ None → (o ≡ None) × (p ≡ None)
-or_none None p h = (refl, h)
-or_none (Some x) p h = absurd (cc)
-
-map_none : {X Y : Type 0} (f : X → Y) (o : Option X) → option_map f o ≡ None → o ≡ None
-map_none f None h = refl
-map_none f (Some x) h = absurd (cc)
 
 -- no scalar lies outside its interval
 none_outside : (params : List Param) (args : List Argument) → AreArguments params args → NonePasses is_out_of_interval (zip params args)

@@ -26,7 +26,7 @@ use Rattle.scalar_core.specs.Arithmetic.{immediate_result, is_taken, register_re
 use Rattle.scalar_core.specs.Csr.{csr_step, csr_value, csr_written, does_write, operand_of, with_csr, written}
 use Rattle.scalar_core.specs.Hart.{Hart, IsHart, advanced, at_pc, exit, next_pc, put, reg_of, with_reg}
 use Rattle.scalar_core.specs.Step.{address_of, beside, branch_step, branch_to, jal_step, jalr_step, jump_and_link, jump_to, load_from, load_step, loaded, offset_by, rv32im_step, size_of_load, size_of_store, store_from, store_step, without_bit_0}
-use Rattle.scalar_core.proofs.States.{at_pc-is_hart, with_reg-is_hart}
+use Rattle.scalar_core.proofs.States.{at_pc-is_hart, csr_written-is_hart, with_reg-is_hart}
 use Rattle.abs_domain.specs.declared.why.Why.{Why}
 use Rattle.abs_domain.specs.declared.zones.Zone.{Zone}
 use Rattle.abs_state.specs.declared.state.Way.{Way}
@@ -382,44 +382,11 @@ written_stays insn vlenb config h =
     by_test true g e = e
     by_test false g e = (refl, refl)
 
--- and gives a hart
-csrs_fit : (vxrm vxsat : ℕ) (h : Hart) → vxrm < 4 → vxsat < 2 → IsHart h → IsHart (record h { vxrm = vxrm; vxsat = vxsat })
-csrs_fit vxrm vxsat h p q is =
-    record {
-      pc_fits = is.pc_fits;
-      registers = is.registers;
-      fit = is.fit;
-      x0 = is.x0;
-      vxrm_fits = p;
-      vxsat_fits = q;
-    }
-
-with_csr_fits : (csr : CsrName) (x : ℕ) (h : Hart) → IsHart h → IsHart (with_csr csr x h)
-unfolding with_csr
-with_csr_fits Vxsat x h is = csrs_fit h.vxrm (x % 2) h is.vxrm_fits (omega arith) is
-with_csr_fits Vxrm x h is = csrs_fit (x % 4) h.vxsat h (omega arith) is.vxsat_fits is
-with_csr_fits Vcsr x h is = csrs_fit (x / 2 % 4) (x % 2) h (omega arith) (omega arith) is
-with_csr_fits Vl x h is = is
-with_csr_fits Vtype x h is = is
-with_csr_fits Vlenb x h is = is
-
-written_fits : (insn : CsrInsn) (vlenb : ℕ) (config : Vconfig) (h : Hart) → IsHart h → IsHart (csr_written insn vlenb config h)
-unfolding csr_written
-written_fits insn vlenb config h is =
-    by_test (does_write insn.action insn.source) (with_csr insn.csr x h) (with_csr_fits insn.csr x h is)
-  where
-    x : ℕ
-    x = written insn.action (csr_value insn.csr vlenb config h) (operand_of insn.source h)
-
-    by_test : (t : Bool) (g : Hart) → IsHart g → IsHart (if t then g else h)
-    by_test true g k = k
-    by_test false g k = is
-
 pub csrs_hold : CsrStepsHold
 unfolding csr_after csr_step
 csrs_hold s v vlenb insn h config m f is l k aligned holds =
     let g : Hart = csr_written insn vlenb config h in
     let same = written_stays insn vlenb config h in
     put_held s v config m h.pc insn.rd (csr_value insn.csr vlenb config h) (csr_effect insn.csr vlenb (value_at s 32)) g same.0 aligned
-    (written_fits insn vlenb config h is) (same_registers s v g h config same.1 holds) f.0
+    (csr_written-is_hart insn vlenb config h is) (same_registers s v g h config same.1 holds) f.0
     (csr_describes (length s.atoms) v insn.csr vlenb (value_at s 32) config h is l k (holds.each 32 (omega arith)))

@@ -36,7 +36,7 @@ use Rattle.vector_mem.specs.Accesses.{first_refused, stored}
 use Rattle.vector_mem.specs.declared.plan.Access.{Access}
 use Rattle.vector_mem.specs.Transfers.{accesses_of, vector_load, vector_store}
 use Rattle.scalar_core.specs.Hart.{Hart, IsHart, advanced, next_pc, put, reg_of, with_reg}
-use Rattle.scalar_core.proofs.States.{advanced-is_hart, put-is_hart}
+use Rattle.scalar_core.proofs.States.{advanced-is_hart, csrs-is_hart, put-is_hart}
 use Rattle.lane_masks.specs.Masks as lanes
 use Rattle.vector_core.specs.Arithmetic.{arith_of}
 use Rattle.vector_core.specs.KeepLaws.{is_computing}
@@ -107,15 +107,7 @@ module _ (s : NumbersView) (v : ℕ → ℕ) (h : Hart) (config : Vconfig) (m : 
       }
 
 saturated_is : (b : Bool) (h : Hart) → IsHart h → IsHart (with_saturation b h)
-saturated_is true h is =
-    record {
-      pc_fits = is.pc_fits;
-      registers = is.registers;
-      fit = is.fit;
-      x0 = is.x0;
-      vxrm_fits = is.vxrm_fits;
-      vxsat_fits = omega arith;
-    }
+saturated_is true h is = csrs-is_hart h.vxrm 1 h is.vxrm_fits (omega arith) is
 saturated_is false h is = is
 
 saturated_pc : (b : Bool) (h : Hart) → (with_saturation b h).pc ≡ h.pc

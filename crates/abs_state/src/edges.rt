@@ -109,24 +109,14 @@ pub fn is_equality_shown<A: Allocator>(edge: &Edge<'_, A>, fact: &RegisterFact) 
 fn are_intervals_shown<A: Allocator>(edge: &Edge<'_, A>, facts: &[RegisterFact]) -> bool
     ensures { result ≡ list_all (is_interval_shown_of edge.now) facts.now }
 {
-    for fact in facts {
-        if !is_interval_shown(edge, fact) {
-            return false;
-        }
-    }
-    true
+    facts.iter().all(|fact| is_interval_shown(edge, fact))
 }
 
 /// Whether all equalities are shown.
 fn are_equalities_shown<A: Allocator>(edge: &Edge<'_, A>, facts: &[RegisterFact]) -> bool
     ensures { result ≡ list_all (is_equality_shown_of edge.now) facts.now }
 {
-    for fact in facts {
-        if !is_equality_shown(edge, fact) {
-            return false;
-        }
-    }
-    true
+    facts.iter().all(|fact| is_equality_shown(edge, fact))
 }
 
 /// Whether a branch says that the lesser register's number is at most the greater one's, both without sign.
@@ -184,12 +174,7 @@ pub fn is_order_shown<A: Allocator>(edge: &Edge<'_, A>, order: OrderFact) -> boo
 fn are_orders_shown<A: Allocator>(edge: &Edge<'_, A>, orders: &[OrderFact]) -> bool
     ensures { result ≡ list_all (is_order_shown_of edge.now) orders.now }
 {
-    for order in orders {
-        if !is_order_shown(edge, *order) {
-            return false;
-        }
-    }
-    true
+    orders.iter().all(|order| is_order_shown(edge, *order))
 }
 
 /// Whether a fact speaks of as many elements as another one, where vl lies in this range. A count of 0 stands for vl.

@@ -1,13 +1,8 @@
 -- The form that is read is the one in the atom's place.
-use Rattle.std.proofs.Common.{arith, ◌≡◌, ◌∙◌, ap, ℕ, List, get_or}
-use Rattle.linear_facts.specs.Forms.{Linear, scaled, form_at, atom_form}
+use Rattle.std.proofs.Common.{arith, ◌∙◌, ap, ℕ}
+use Rattle.linear_facts.specs.Forms.{atom_form}
+use Rattle.linear_facts.proofs.FormLaws.{read_at}
 use Rattle.abs_state.proofs.edges.replaced.Goals as goal
-
--- the form that was read, by its number
-read_at : (k : ℕ) (forms : List Linear) (f : Linear) (i a : ℕ) → i ≡ a → f ≡ get_or forms i (atom_form a)
-    → scaled k f ≡ scaled k (form_at forms a)
-unfolding form_at
-read_at k forms f i a e h = ap (scaled k) (h ∙ ap (λ j. get_or forms j (atom_form a)) e)
 
 pub returns-in-Some-clause-product : goal.returns-in-Some-clause-product
 returns-in-Some-clause-product c =
