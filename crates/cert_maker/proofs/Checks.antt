@@ -175,14 +175,14 @@ module _ (image : ImageView) (params : List Param) (vlen : Vlen) (through : Loop
       let kept = keeps image params through read in
       read.second_at
       ∙ (ap (λ (i : Insn). Some i) read.second_is.is
-      ∙ (ap (λ (r : ℕ). Some (VSet (Vsetvli r read.of.count read.of.vtype))) (sym kept.long)
-      ∙ (ap (λ (r : ℕ). Some (VSet (Vsetvli through.0.length r read.of.vtype))) (sym kept.count)
-      ∙ ap (λ (r : ℕ). Some (VSet (Vsetvli through.0.length through.0.count r))) (sym kept.vtype))))
+      ∙ (ap (λ (r : ℕ). Some (VSet (Vsetvli r read.of.count read.of.vtype))) (sym kept.alike.length)
+      ∙ (ap (λ (r : ℕ). Some (VSet (Vsetvli through.0.length r read.of.vtype))) (sym kept.alike.count)
+      ∙ ap (λ (r : ℕ). Some (VSet (Vsetvli through.0.length through.0.count r))) (sym kept.alike.vtype))))
 
   type_there : vtype_of through.0.vtype ≡ Some read.second_is.vector_type
   type_there =
       let kept = keeps image params through read in
-      ap (λ (v : ℕ). vtype_of v) kept.vtype ∙ read.second_is.type_is
+      ap (λ (v : ℕ). vtype_of v) kept.alike.vtype ∙ read.second_is.type_is
 
   returns : (blocks : List Block) → block_passes image (view_of vlen params blocks) last_block_of ≡ Ok tt
   unfolding last_block_of

@@ -33,7 +33,7 @@ use Rattle.cert_maker.specs.Known.{Round, IsRound, IsCertified, InBack, IsWithin
 use Rattle.cert_maker.proofs.Accesses.{le_true}
 use Rattle.cert_maker.proofs.Going.{count_other}
 use Rattle.cert_maker.proofs.Moves.{pointers-return}
-use Rattle.cert_maker.proofs.Shown.{Shows, block_shown, interval_shown, if_stated, edge_ok}
+use Rattle.cert_maker.proofs.Shown.{Shows, block_shown, exit_shown, interval_shown, if_stated, edge_ok}
 
 abbrev span : ℕ → ℕ → Range
 span lo hi = record { lo = lo; hi = hi }
@@ -175,10 +175,8 @@ module _ (k : Round) (is : IsRound k) (pc : ℕ) (a : AbstractView) (inside : Is
 
   ra_shown : (taken : Bool) (target : ℕ) (p : Range) → is_interval_shown (edge taken target p) (fact 1 exit exit None) ≡ true
   ra_shown taken target p =
-      let at : slice_index_or (edge taken target p).ranges 1 (just 0) ≡ just exit =
-      range_there a.numbers n 1 p (span 0 0) (λ e. omega (arith, e)) (λ e. (let low = is.count_low in omega (arith, e, low))) ∙ h.atoms.ra in
-      interval_shown (edge taken target p) (fact 1 exit exit None)
-      (subst (λ (r : Range). exit ≤ r.lo) (sym at) (le_self exit)) (subst (λ (r : Range). r.hi ≤ exit) (sym at) (le_self exit))
+      exit_shown (edge taken target p)
+      (range_there a.numbers n 1 p (span 0 0) (λ e. omega (arith, e)) (λ e. (let low = is.count_low in omega (arith, e, low))) ∙ h.atoms.ra)
 
   -- ---- back to the loop's start
 

@@ -32,7 +32,7 @@ use Rattle.cert_maker.proofs.Entrances.{HasEntry, base_fits, entry_places, not_c
 use Rattle.cert_maker.proofs.Equalities.{entry_equality, merged_empty, scaled_atom, sum_parts}
 use Rattle.cert_maker.proofs.IsRounds.{IsEntered}
 use Rattle.cert_maker.proofs.Moves.{same_form}
-use Rattle.cert_maker.proofs.Shown.{Shows, block_shown, edge_ok, if_stated, interval_shown}
+use Rattle.cert_maker.proofs.Shown.{Shows, block_shown, edge_ok, exit_shown, if_stated, interval_shown}
 
 -- ---- the two edges of a branch where the count is 0
 
@@ -148,10 +148,8 @@ module _ (k : Round) (is : IsEntered k) (pc : ℕ) (a : AbstractView) (h : IsFir
 
   ra_shown : (taken : Bool) (target : ℕ) (p : Range) → is_interval_shown (edge taken target p) (fact 1 exit exit None) ≡ true
   ra_shown taken target p =
-      let at : slice_index_or (edge taken target p).ranges 1 (just 0) ≡ just exit =
-      range_there a.numbers n 1 p (span 0 0) (λ f. omega (arith, f)) (λ f. (let low = is.count_low in omega (arith, f, low))) ∙ h.numbers.ra in
-      interval_shown (edge taken target p) (fact 1 exit exit None)
-      (subst (λ (r : Range). exit ≤ r.lo) (sym at) (le_self exit)) (subst (λ (r : Range). r.hi ≤ exit) (sym at) (le_self exit))
+      exit_shown (edge taken target p)
+      (range_there a.numbers n 1 p (span 0 0) (λ f. omega (arith, f)) (λ f. (let low = is.count_low in omega (arith, f, low))) ∙ h.numbers.ra)
 
   -- ---- on to the return
 

@@ -15,7 +15,7 @@ use Rattle.vreg_groups.specs.declared.vector_type.Vtype.{Vtype}
 use Rattle.scalar_core.specs.Step.{offset_by}
 use Rattle.cert_maker.specs.declared.loops.Head.{Head}
 use Rattle.cert_maker.specs.declared.loops.Loop.{Loop}
-use Rattle.cert_maker.specs.Loops.{parameter_in, most_of, count_by, length_by}
+use Rattle.cert_maker.specs.Loops.{parameter_in, most_of, count_by, length_by, loop_begun}
 use Rattle.cert_maker.proofs.Bodies.{both_true}
 use Rattle.cert_maker.proofs.Going.{same_number}
 use Rattle.cert_maker.proofs.Readings.{some_is, parameter_there}
@@ -81,25 +81,14 @@ unfolding length_by
 length_is head (class.VSet (Vsetvli rd rs1 vtype)) of e =
     by_test ((rs1 == head.count) && not (rd == 0) && not (rd == 1) && not (rd == head.count)) refl e
   where
-    made : Vtype → Loop
-    made t = record {
-      count = head.count;
-      most = head.most;
-      length = rd;
-      vtype = vtype;
-      sew = t.sew;
-      pointers = replicate 8 false;
-      end = head.end;
-    }
-
     by_type : ((rs1 == head.count) && not (rd == 0) && not (rd == 1) && not (rd == head.count)) ≡ true → (o : Option Vtype) → vtype_of vtype ≡ o
-        → option_map made o ≡ Some of → IsLength head (class.VSet (Vsetvli rd rs1 vtype)) of
+        → option_map (loop_begun head rd vtype) o ≡ Some of → IsLength head (class.VSet (Vsetvli rd rs1 vtype)) of
     by_type t None f g = absurd (cc)
     by_type t (Some v) f g =
         let first = both_true _ _ t in
         let second = both_true _ _ first.0 in
         let third = both_true _ _ second.0 in
-        subst (λ (l : Loop). IsLength head (class.VSet (Vsetvli rd rs1 vtype)) l) (some_is (made v) of g)
+        subst (λ (l : Loop). IsLength head (class.VSet (Vsetvli rd rs1 vtype)) l) (some_is (loop_begun head rd vtype v) of g)
         record {
           vector_type = v;
           is = ap (λ (r : ℕ). class.VSet (Vsetvli rd r vtype)) (same_number rs1 head.count third.0);
@@ -115,7 +104,7 @@ length_is head (class.VSet (Vsetvli rd rs1 vtype)) of e =
         }
 
     by_test : (t : Bool) → ((rs1 == head.count) && not (rd == 0) && not (rd == 1) && not (rd == head.count)) ≡ t
-        → (if t then option_map made (vtype_of vtype) else None) ≡ Some of → IsLength head (class.VSet (Vsetvli rd rs1 vtype)) of
+        → (if t then option_map (loop_begun head rd vtype) (vtype_of vtype) else None) ≡ Some of → IsLength head (class.VSet (Vsetvli rd rs1 vtype)) of
     by_test true t f = by_type t (vtype_of vtype) refl f
     by_test false t f = absurd (cc)
 length_is head other of e = absurd (cc)

@@ -29,7 +29,7 @@ use Rattle.cert_maker.specs.Known.{Round, IsRound, HasRoom, is_pointer}
 use Rattle.cert_maker.specs.Make.{AreParameters}
 use Rattle.cert_maker.proofs.Heads.{IsBranch, IsLength, branch_is, length_is}
 use Rattle.cert_maker.proofs.Readings.{followed, none_flagged, read_is, through_is}
-use Rattle.cert_maker.proofs.LoopWalks.{fits_at}
+use Rattle.cert_maker.proofs.LoopWalks.{fits_at, same_alike}
 use Rattle.cert_maker.proofs.Rounds.{HasBuffer, Keeps, room_there, through_keeps, valid_at}
 use Rattle.vreg_groups.proofs.Sizes.{vlmax_small}
 use Rattle.cert_maker.proofs.Starts.{vlmax_positive}
@@ -159,12 +159,7 @@ module _ (image : ImageView) (params : List Param) (through : Loop × ℕ) (read
   first_keeps : Keeps params read.of read.of
   first_keeps = record {
     flags = ap (λ (flags : List Bool). length flags) read.second_is.pointers;
-    count = refl;
-    most = refl;
-    long = refl;
-    vtype = refl;
-    sew = refl;
-    end = refl;
+    alike = same_alike read.of;
     buffers = none_yet;
   }
 
@@ -183,13 +178,13 @@ module _ (image : ImageView) (params : List Param) (through : Loop × ℕ) (read
   }
 
   pub count_same : through.0.count ≡ read.head.count
-  count_same = keeps.count ∙ read.second_is.count
+  count_same = keeps.alike.count ∙ read.second_is.count
 
   most_same : through.0.most ≡ read.head.most
-  most_same = keeps.most ∙ read.second_is.most
+  most_same = keeps.alike.most ∙ read.second_is.most
 
   pub end_is : through.0.end ≡ offset_by image.entry read.first_is.offset
-  end_is = keeps.end ∙ (read.second_is.end ∙ read.first_is.end)
+  end_is = keeps.alike.end ∙ (read.second_is.end ∙ read.first_is.end)
 
   pub scalar_there : slice_get params (through.0.count - 10) ≡ Some (parameter.Scalar read.first_is.least through.0.most)
   scalar_there =
@@ -198,8 +193,8 @@ module _ (image : ImageView) (params : List Param) (through : Loop × ℕ) (read
 
   pub room_in : (place : ℕ) (b : HasBuffer params read.of place) → through.0.most * size_of through.0 ≤ b.size
   room_in place b =
-      subst (λ (m : ℕ). m * size_of through.0 ≤ b.size) (sym keeps.most)
-      (subst (λ (w : Width). read.of.most * bytes_of_width w ≤ b.size) (sym keeps.sew) b.room)
+      subst (λ (m : ℕ). m * size_of through.0 ≤ b.size) (sym keeps.alike.most)
+      (subst (λ (w : Width). read.of.most * bytes_of_width w ≤ b.size) (sym keeps.alike.sew) b.room)
 
   module _ (are : AreParameters params) where
     has_room : (place : ℕ) → place < 8 → is_pointer through.0 place ≡ true → HasRoom params through.0 place
@@ -224,7 +219,7 @@ module _ (image : ImageView) (params : List Param) (through : Loop × ℕ) (read
         (subst (λ (i : Insn). FieldsFit i) read.second_is.is (fits_at (image.entry + 4) read.second image read.second_at)).0
 
     apart_from : (place : ℕ) → place < 8 → is_pointer through.0 place ≡ true → place + 10 ≢ through.0.length
-    apart_from place l e = λ f. (keeps.buffers place l e).apart (f ∙ keeps.long)
+    apart_from place l e = λ f. (keeps.buffers place l e).apart (f ∙ keeps.alike.length)
 
     abbrev pub limit_of : Vlen → ℕ
     limit_of vlen = vlmax_of (vlenb_of vlen) read.second_is.vector_type
@@ -236,9 +231,9 @@ module _ (image : ImageView) (params : List Param) (through : Loop × ℕ) (read
           count_low = first.count_low;
           count_high = first.count_high;
           count_is = first.count_is;
-          length_low = subst (λ (r : ℕ). 2 ≤ r) (sym keeps.long) (two_at read.of.length read.second_is.not_zero read.second_is.not_ra);
-          length_high = subst (λ (r : ℕ). r < 32) (sym keeps.long) length_below;
-          length_other = λ e. read.second_is.other (sym keeps.long ∙ (e ∙ keeps.count));
+          length_low = subst (λ (r : ℕ). 2 ≤ r) (sym keeps.alike.length) (two_at read.of.length read.second_is.not_zero read.second_is.not_ra);
+          length_high = subst (λ (r : ℕ). r < 32) (sym keeps.alike.length) length_below;
+          length_other = λ e. read.second_is.other (sym keeps.alike.length ∙ (e ∙ keeps.alike.count));
           size = first.size;
           some = some;
           least = first.least;

@@ -16,7 +16,7 @@ use Rattle.cert_maker.specs.declared.loops.Reading.TheVariants.{Works, Moves, Ba
 use Rattle.cert_maker.specs.Loops.{is_flagged, is_arithmetic, with_pointer, moved_by, shift_of, step_by, works_on, back_by, next_of}
 use Rattle.cert_maker.specs.Known.{IsPartOf, LeadsTo}
 use Rattle.cert_maker.specs.Laws.{LoopsLead}
-use Rattle.cert_maker.proofs.LoopWalks.{part_same, leads}
+use Rattle.cert_maker.proofs.LoopWalks.{alike_without, part_same, leads}
 
 taken_if : (t : Bool) (x next : Reading) → (if t then Some x else None) ≡ Some next → x ≡ next
 taken_if true x next e = same x next e
@@ -70,12 +70,7 @@ part_without : (of loop : Loop) (pointer : ℕ) → IsPartOf (with_pointer point
 unfolding with_pointer
 part_without of loop pointer is = record {
   flags = sym (length-set of.pointers (pointer - 10) true) ∙ is.flags;
-  count = is.count;
-  most = is.most;
-  length = is.length;
-  vtype = is.vtype;
-  sew = is.sew;
-  end = is.end;
+  alike = alike_without of loop pointer is.alike;
   pointers = λ place l e. is.pointers place l (flag_stays of.pointers (place + 10) (pointer - 10) e);
 }
 

@@ -13,11 +13,11 @@ use Rattle.abs_state.specs.State.{AbstractView}
 use Rattle.abs_state.specs.StepLaws.{jumps}
 use Rattle.abs_state.specs.After.{after_of}
 use Rattle.block_checker.specs.Passes.{Ended, On, block_at, edges_pass, followed, decoded, fetched, then_on, word_passes, walk}
-use Rattle.cert_maker.specs.Loops.{insn_at, is_through, next_of, then_read, loop_from}
+use Rattle.cert_maker.specs.Loops.{insn_at, is_through, next_of, then_read, loop_from, with_pointer}
 use Rattle.cert_maker.specs.declared.loops.Loop.{Loop}
 use Rattle.cert_maker.specs.declared.loops.Reading.{Reading}
 use Rattle.cert_maker.specs.declared.loops.Reading.TheVariants.{Works, Moves, Back, Through}
-use Rattle.cert_maker.specs.Known.{IsPartOf, LeadsTo}
+use Rattle.cert_maker.specs.Known.{AreAlike, IsPartOf, LeadsTo}
 use Rattle.cert_maker.specs.Laws.{WordsGoOn, WordsEnd}
 
 -- ---- a word
@@ -93,17 +93,22 @@ inside image params start (suc more) pc r through l e =
 
 -- ---- the readings on the way to a loop
 
+pub same_alike : (loop : Loop) → AreAlike loop loop
+same_alike loop = record { count = refl; most = refl; length = refl; vtype = refl; sew = refl; end = refl }
+
+-- a loop with a pointer more, and without it
+pub alike_with_pointer : (of loop : Loop) (pointer : ℕ) → AreAlike of loop → AreAlike (with_pointer pointer of) loop
+unfolding with_pointer
+alike_with_pointer of loop pointer is =
+    record { count = is.count; most = is.most; length = is.length; vtype = is.vtype; sew = is.sew; end = is.end }
+
+pub alike_without : (of loop : Loop) (pointer : ℕ) → AreAlike (with_pointer pointer of) loop → AreAlike of loop
+unfolding with_pointer
+alike_without of loop pointer is =
+    record { count = is.count; most = is.most; length = is.length; vtype = is.vtype; sew = is.sew; end = is.end }
+
 pub part_same : (loop : Loop) → IsPartOf loop loop
-part_same loop = record {
-  flags = refl;
-  count = refl;
-  most = refl;
-  length = refl;
-  vtype = refl;
-  sew = refl;
-  end = refl;
-  pointers = λ place l e. e;
-}
+part_same loop = record { flags = refl; alike = same_alike loop; pointers = λ place l e. e }
 
 module _ (image : ImageView) (params : List Param) (start : ℕ) where
   -- what holds before each word, and what holds of the loop then

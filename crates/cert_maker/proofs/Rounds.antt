@@ -29,11 +29,11 @@ use Rattle.cert_maker.specs.declared.loops.Reading.{Reading}
 use Rattle.cert_maker.specs.declared.loops.Reading.TheVariants.{Works, Moves, Back, Through}
 use Rattle.cert_maker.specs.Loops.{size_of, is_flagged, is_arithmetic, is_buffer_for, is_access, with_pointer, moved_by, shift_of, step_by, works_on, back_by, next_of, loop_from}
 use Rattle.cert_maker.specs.Certificates.{base_of}
-use Rattle.cert_maker.specs.Known.{HasRoom, bytes_of, is_pointer}
+use Rattle.cert_maker.specs.Known.{AreAlike, HasRoom, bytes_of, is_pointer}
 use Rattle.cert_maker.proofs.Bodies.{both_true}
 use Rattle.cert_maker.proofs.Flags.{flag_at}
 use Rattle.cert_maker.proofs.Going.{test_of}
-use Rattle.cert_maker.proofs.LoopWalks.{ends}
+use Rattle.cert_maker.proofs.LoopWalks.{alike_with_pointer, ends}
 use Rattle.cert_maker.proofs.Working.{access_parts, differ}
 
 -- ---- buffers
@@ -119,12 +119,7 @@ pub record HasBuffer (params : List Param) (first : Loop) (place : ℕ) : Type 0
 -- what stays of the loop that is read, and what its pointers are
 pub record Keeps (params : List Param) (first of : Loop) : Type 0 where
   pub flags : length of.pointers ≡ 8
-  pub count : of.count ≡ first.count
-  pub most : of.most ≡ first.most
-  pub long : of.length ≡ first.length
-  pub vtype : of.vtype ≡ first.vtype
-  pub sew : of.sew ≡ first.sew
-  pub end : of.end ≡ first.end
+  pub alike : AreAlike of first
   pub buffers : (place : ℕ) → place < 8 → is_pointer of place ≡ true → HasBuffer params first place
 
 buffer_is : (d : Direction) (bytes : ℕ) (o : Option Param) → option_map_or (is_buffer_for d bytes) o false ≡ true
@@ -143,12 +138,7 @@ module _ (params : List Param) (first : Loop) where
   unfolding with_pointer
   set_keeps of r l g keeps buffer = record {
     flags = length-set of.pointers (r - 10) true ∙ keeps.flags;
-    count = keeps.count;
-    most = keeps.most;
-    long = keeps.long;
-    vtype = keeps.vtype;
-    sew = keeps.sew;
-    end = keeps.end;
+    alike = alike_with_pointer of first r keeps.alike;
     buffers = λ place m e. by_place place m e (cases_eq place (r - 10));
   }
     where
@@ -170,13 +160,13 @@ module _ (params : List Param) (first : Loop) where
         access = is.0;
         size = is.1;
         is = is.2;
-        room = subst (λ (x : ℕ). x * size_of first ≤ is.1) keeps.most
-            (subst (λ (s : Width). of.most * bytes_of_width s ≤ is.1) keeps.sew is.3);
+        room = subst (λ (x : ℕ). x * size_of first ≤ is.1) keeps.alike.most
+            (subst (λ (s : Width). of.most * bytes_of_width s ≤ is.1) keeps.alike.sew is.3);
         apart = apart_by insn.rs1 parts.1 (differ insn.rs1 of.length parts.4);
       }
     where
       apart_by : (r : ℕ) → 10 ≤ r → r ≢ of.length → r - 10 + 10 ≢ first.length
-      apart_by r l ne f = (let long = keeps.long in ne (omega (arith, l, f, long)))
+      apart_by r l ne f = (let long = keeps.alike.length in ne (omega (arith, l, f, long)))
 
   works_keeps : (of : Loop) (insn : Insn) (next : Reading) → works_on params of insn ≡ Some next → Keeps params first of → Keeps params first (loop_in next)
   unfolding works_on

@@ -1,8 +1,9 @@
 -- What an edge shows of a block whose facts are stated by place.
-use Rattle.std.proofs.Common.{◌≡◌, ◌≢◌, ℕ, ◌+◌, ◌<◌, ◌≤◌, Bool, true, false, refl, ap, arith, Option, Some, None, IfSome, List}
+use Rattle.std.proofs.Common.{◌≡◌, ◌≢◌, ℕ, ◌+◌, ◌<◌, ◌≤◌, Bool, true, false, refl, ap, arith, subst, sym, Option, Some, None, IfSome, List}
 use Rattle.std.specs.Prelude.{Ok, if◌then◌else◌, ◌==◌, slice_index_or}
 use Rattle.std.proofs.lemmas.Bool.Decides.{nat_tests}
 use Rattle.scalar_core.specs.Hart.{exit}
+use Rattle.linear_facts.specs.declared.ranges.Range.{Range}
 use Rattle.cert_note.specs.Certificate.{CertificateView}
 use Rattle.cert_note.specs.declared.values.Block.{Block}
 use Rattle.cert_note.specs.declared.values.Budget.{Budget}
@@ -63,6 +64,12 @@ unfolding is_interval_shown
 interval_shown e f low high =
     let inside = edge_within e f.number f.low f.high low high in
     rw (le_true _ _ inside.0, le_true _ _ inside.1) refl
+
+-- ra is EXIT
+pub exit_shown : (e : EdgeView) → slice_index_or e.ranges 1 (just 0) ≡ just exit → is_interval_shown e (fact 1 exit exit None) ≡ true
+exit_shown e at =
+    interval_shown e (fact 1 exit exit None) (subst (λ (r : Range). exit ≤ r.lo) (sym at) (omega arith))
+    (subst (λ (r : Range). r.hi ≤ exit) (sym at) (omega arith))
 
 -- ---- what is stated of the count and of pointers
 

@@ -456,7 +456,7 @@ module _ (k : Round) (is : IsRound k) (pc : ℕ) (a : AbstractView) (inside : Is
       → GoesOn k pc insn a next
   other_goes of insn next part true true arithmetic legal e fits l =
       kept k is pc a inside insn next (not_jump insn arithmetic)
-      (body-keeps pc of.vtype insn a arithmetic (inside.vtype ∙ ap (λ (v : ℕ). Some v) (sym part.vtype)) legal)
+      (body-keeps pc of.vtype insn a arithmetic (inside.vtype ∙ ap (λ (v : ℕ). Some v) (sym part.alike.vtype)) legal)
       (subst (λ (r : Reading). NumbersAre k r a.numbers) (test_of true (Works of) next e).1 h)
   other_goes of insn next part true false arithmetic legal e fits l = cc
   other_goes of insn next part false u arithmetic legal e fits l =
@@ -473,8 +473,8 @@ module _ (k : Round) (is : IsRound k) (pc : ℕ) (a : AbstractView) (inside : Is
       let parts = access_parts k.params of insn tests.0 in
       let more : IsPartOf (with_pointer insn.rs1 of) k.loop = subst (λ (r : Reading). LeadsTo r k.loop) (sym read.1) l in
       access_goes k is pc a inside h insn next
-      (subst (λ (v : ℕ). is_legal record { vtype = v; vl = 0 } (VMem insn) ≡ true) part.vtype tests.1)
-      (subst (λ (s : Width). is_plain s insn.place ≡ true) part.sew parts.0) parts.1 parts.2
+      (subst (λ (v : ℕ). is_legal record { vtype = v; vl = 0 } (VMem insn) ≡ true) part.alike.vtype tests.1)
+      (subst (λ (s : Width). is_plain s insn.place ≡ true) part.alike.sew parts.0) parts.1 parts.2
       (flagged of k.loop insn.rs1 parts.1 parts.2 (part.flags ∙ is.flags) more)
       (λ room. may_there _ room.size insn.direction room.access _ room.is parts.3)
       (subst (λ (r : Reading). NumbersAre k r a.numbers) read.1 h)

@@ -84,15 +84,19 @@ pub record IsCertified (certificate : CertificateView) (k : Round) : Type 0 wher
 
 -- ---- numbers
 
--- The loop so far is the whole one, but for pointers that are still to come.
-pub record IsPartOf (of loop : Loop) : Type 0 where
-  pub flags : length of.pointers ≡ length loop.pointers
+-- Two loops are the same, but for their pointers.
+pub record AreAlike (of loop : Loop) : Type 0 where
   pub count : of.count ≡ loop.count
   pub most : of.most ≡ loop.most
   pub length : of.length ≡ loop.length
   pub vtype : of.vtype ≡ loop.vtype
   pub sew : of.sew ≡ loop.sew
   pub end : of.end ≡ loop.end
+
+-- The loop so far is the whole one, but for pointers that are still to come.
+pub record IsPartOf (of loop : Loop) : Type 0 where
+  pub flags : length of.pointers ≡ length loop.pointers
+  pub alike : AreAlike of loop
   pub pointers : (place : ℕ) → place < 8 → is_pointer of place ≡ true → is_pointer loop place ≡ true
 
 abbrev pub LeadsTo : Reading → Loop → Type 0

@@ -36,7 +36,7 @@ use Rattle.cert_maker.specs.declared.loops.Head.{Head}
 use Rattle.cert_maker.specs.declared.loops.Loop.{Loop}
 use Rattle.cert_maker.specs.declared.loops.Reading.{Reading}
 use Rattle.cert_maker.specs.declared.loops.Reading.TheVariants.{Works, Moves, Back, Through}
-use Rattle.cert_maker.specs.Words.{ImageView, Param, Insn, Width}
+use Rattle.cert_maker.specs.Words.{ImageView, Param, Insn, Vtype, Width}
 
 -- what follows an answer, or its error
 infixl 10 ◌>>=◌
@@ -95,19 +95,23 @@ count_by params pc (class.Scalar (Branch Eq rs1 rs2 offset)) =
     else None
 count_by params pc other = None
 
+-- the loop of a head, with vl in a register, under the type that bits say
+abbrev pub loop_begun : Head → ℕ → ℕ → Vtype → Loop
+loop_begun head rd bits vtype = record {
+  count = head.count;
+  most = head.most;
+  length = rd;
+  vtype = bits;
+  sew = vtype.sew;
+  pointers = replicate 8 false;
+  end = head.end;
+}
+
 -- `vsetvli t,n`, of a supported type
 unfoldable pub length_by : Head → Insn → Option Loop
 length_by head (class.VSet (Vsetvli rd rs1 vtype)) =
     if (rs1 == head.count) && not (rd == 0) && not (rd == 1) && not (rd == head.count)
-    then option_map (λ t. record {
-      count = head.count;
-      most = head.most;
-      length = rd;
-      vtype = vtype;
-      sew = t.sew;
-      pointers = replicate 8 false;
-      end = head.end;
-    }) (vtype_of vtype)
+    then option_map (loop_begun head rd vtype) (vtype_of vtype)
     else None
 length_by head other = None
 

@@ -142,51 +142,23 @@ fn loop_pointer(parameters: &Parameters, of: &Loop, place: u8) -> RegisterFact
     }
 }
 
-/// What is stated of an argument register at the entry.
-fn entry_fact(parameters: &Parameters, of: &Loop, place: u8) -> Option<RegisterFact>
-    requires place { place < 8 }
-    requires class { IsFor parameters.now of.now }
-    ensures { result ≡ stated_at Entry parameters.now of.now place }
-{
-    let register = Reg::new(place + 10);
-    if register.number() == of.count.number() {
-        Some(entry_count(of))
-    } else if is_flagged(register, &of.pointers) {
-        Some(entry_pointer(parameters, place))
-    } else {
-        None
-    }
-}
-
-/// What is stated of an argument register at the loop's first word.
-#[tactic(auto, using(crate::proofs::IsForLemmas::room_fits))]
-fn loop_fact(parameters: &Parameters, of: &Loop, place: u8) -> Option<RegisterFact>
-    requires params { AreParameters parameters.now }
-    requires place { place < 8 }
-    requires class { IsFor parameters.now of.now }
-    ensures { result ≡ stated_at Body parameters.now of.now place }
-{
-    let register = Reg::new(place + 10);
-    if register.number() == of.count.number() {
-        Some(loop_count(of))
-    } else if is_flagged(register, &of.pointers) {
-        Some(loop_pointer(parameters, of, place))
-    } else {
-        None
-    }
-}
-
 /// What is stated of an argument register.
+#[tactic(auto, using(crate::proofs::IsForLemmas::room_fits))]
 fn stated(spot: Spot, parameters: &Parameters, of: &Loop, place: u8) -> Option<RegisterFact>
     requires params { AreParameters parameters.now }
     requires place { place < 8 }
     requires class { IsFor parameters.now of.now }
     ensures { result ≡ stated_at spot parameters.now of.now place }
 {
+    let register = Reg::new(place + 10);
+    let is_count = register.number() == of.count.number();
+    let is_pointer = is_flagged(register, &of.pointers);
     match spot {
-        Spot::Entry => entry_fact(parameters, of, place),
-        Spot::Body => loop_fact(parameters, of, place),
-        Spot::Return => None,
+        Spot::Entry if is_count => Some(entry_count(of)),
+        Spot::Entry if is_pointer => Some(entry_pointer(parameters, place)),
+        Spot::Body if is_count => Some(loop_count(of)),
+        Spot::Body if is_pointer => Some(loop_pointer(parameters, of, place)),
+        Spot::Entry | Spot::Body | Spot::Return => None,
     }
 }
 
