@@ -15,7 +15,9 @@ use Rattle.region_mem.specs.declared.faults.Right.{Right}
 use Rattle.region_mem.specs.declared.faults.Right.TheVariants.{Write}
 use Rattle.region_mem.specs.declared.parameter.Param.{Param}
 use Rattle.region_mem.specs.declared.parameter.Param.TheVariants as parameter
-use Rattle.region_mem.proofs.Apart.{starts_in_order}
+use Rattle.region_mem.proofs.Apart.{end_of, starts_in_order}
+use Rattle.region_mem.proofs.SearchLemmas.{not_past}
+use Rattle.region_mem.proofs.StartCode.{closed_below}
 use Rattle.region_mem.proofs.StartLemmas.{buffers_of_start}
 use Rattle.vector_core.proofs.KeptMemory.{runs_keep}
 use Rattle.vector_core.specs.Kept.{Keeps}
@@ -38,26 +40,9 @@ AreKept [] (b ∷ bs) = ⊥
 AreKept (a ∷ xs) [] = ⊥
 AreKept (a ∷ xs) (b ∷ bs) = IsKept a b × AreKept xs bs
 
-abbrev end_of : Area → ℕ
-end_of a = a.first + length a.bytes
-
 holds_here : (x : ℕ) (a : Area) → a.first ≤ x → x < end_of a → holds x a ≡ true
 unfolding holds
 holds_here x a low high = grind (arith, nat_tests)
-
-holds_past : (x : ℕ) (a : Area) → end_of a ≤ x → holds x a ≡ false
-unfolding holds
-holds_past x a past = grind (arith, nat_tests)
-
-holds_below : (x : ℕ) (a : Area) → x < a.first → holds x a ≡ false
-unfolding holds
-holds_below x a below = grind (arith, nat_tests)
-
-open_below : (right : Right) (x from : ℕ) (areas : List Area) → AreInOrder from areas → x < from → is_open right areas x ≡ false
-unfolding is_open AreInOrder
-open_below right x from [] order below = refl
-open_below right x from (a ∷ areas) order below =
-    rw (holds_below x a (omega (arith, below, order.0))) (open_below right x (end_of a) areas order.1 (omega (arith, below, order.0)))
 
 -- Over the bytes from an address on of which none may be written.
 abbrev AreSame : ℕ → List Area → List Area → Type 0
@@ -94,7 +79,7 @@ head_kept from a b xs bs first size order same shut =
         let x : ℕ = a.first + i in
         let here = holds_here x a (omega arith) (omega (arith, below, size)) in
         let there = holds_here x b (omega (arith, first)) (omega (arith, below, first)) in
-        let rest = open_below Write x (end_of a) xs order.1 (omega (arith, below, size)) in
+        let rest = closed_below Write x (end_of a) xs order.1 (omega (arith, below, size)) in
         let equal = sym (byte_here x b bs there) ∙ same x (omega (arith, order.0)) (open_here x a xs shut rest) ∙ byte_here x a xs here in
         let at : x - a.first ≡ i = omega arith in
         let other : x - b.first ≡ i = omega (arith, first) in
@@ -113,8 +98,8 @@ kept_areas from (a ∷ xs) (b ∷ bs) extents order same =
     let size : length b.bytes ≡ length a.bytes = ap (λ e. e.size) heads in
     let later : AreSame (end_of a) xs bs =
     λ x low shut.
-    let past = holds_past x a low in
-    let gone = holds_past x b (omega (arith, low, first, size)) in
+    let past = not_past x a low in
+    let gone = not_past x b (omega (arith, low, first, size)) in
     sym (byte_past x b bs gone) ∙ same x (omega (arith, low, order.0)) (open_past x a xs past ∙ shut) ∙ byte_past x a xs past in (
       record { first = first; size = size; bytes = head_kept from a b xs bs first size order same },
       kept_areas (end_of a) xs bs tails order.1 later,
