@@ -1,5 +1,5 @@
 -- An atom that is split into two others: what is known of each atom.
-use Rattle.std.proofs.Common.{◌≡◌, ◌≢◌, ◌<◌, ◌+◌, ◌-◌, ℕ, sym, ap, ◌∙◌, inl, inr, length, List, get_or-set_same, get_or-set_other, Some}
+use Rattle.std.proofs.Common.{◌≡◌, ◌≢◌, ◌<◌, ◌+◌, ℕ, sym, ap, ◌∙◌, inl, inr, length, List, get_or-set_same, get_or-set_other, Some}
 use Rattle.std.proofs.lemmas.Bool.{cases_eq}
 use Rattle.std.proofs.Math.ListN.{length-set}
 use Rattle.linear_facts.specs.declared.ranges.Atom.{Atom}
