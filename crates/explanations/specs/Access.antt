@@ -1,5 +1,5 @@
 -- Accesses that the check refused, and in which words they are told.
-use Rattle.std.specs.Prelude.{ℕ, ℤ, pos, ◌+◌, ◌-◌, ◌++◌, ◌==◌, Bool, true, false, List, codes, Option, Some, None, if◌then◌else◌}
+use Rattle.std.specs.Prelude.{ℕ, ℤ, pos, ◌+◌, ◌-◌, ◌++◌, ◌==◌, Bool, true, false, List, [], codes, Option, Some, None, option_and_then, if◌then◌else◌}
 use Rattle.std.specs.Fmt.{decimal, signed_decimal}
 use Rattle.std.specs.List.{flat_map}
 use Rattle.linear_facts.specs.declared.ranges.Range.{Range}
@@ -27,19 +27,22 @@ operand is_store base offset size =
 
 -- of a load or store: whether it is a store, its base register, its offset, and how many
 -- bytes it accesses
+abbrev pub accessed : ScalarInsn → Option (Bool × ℕ × ℤ × ℕ)
+accessed (scalar.Load kind rd rs1 offset) = Some (false, rs1, offset, size_of_load kind)
+accessed (scalar.Store size rs1 rs2 offset) = Some (true, rs1, offset, size_of_store size)
+accessed (scalar.Lui rd imm) = None
+accessed (scalar.Auipc rd imm) = None
+accessed (scalar.Jal rd offset) = None
+accessed (scalar.Jalr rd rs1 offset) = None
+accessed (scalar.Branch condition rs1 rs2 offset) = None
+accessed (scalar.Immediate op rd rs1 imm) = None
+accessed (scalar.ShiftImmediate op rd rs1 amount) = None
+accessed (scalar.Register op rd rs1 rs2) = None
+accessed scalar.Fence = None
+accessed scalar.Ecall = None
+
 abbrev pub scalar_operand : ScalarInsn → Option Operand
-scalar_operand (scalar.Load kind rd rs1 offset) = operand false rs1 offset (size_of_load kind)
-scalar_operand (scalar.Store size rs1 rs2 offset) = operand true rs1 offset (size_of_store size)
-scalar_operand (scalar.Lui rd imm) = None
-scalar_operand (scalar.Auipc rd imm) = None
-scalar_operand (scalar.Jal rd offset) = None
-scalar_operand (scalar.Jalr rd rs1 offset) = None
-scalar_operand (scalar.Branch condition rs1 rs2 offset) = None
-scalar_operand (scalar.Immediate op rd rs1 imm) = None
-scalar_operand (scalar.ShiftImmediate op rd rs1 amount) = None
-scalar_operand (scalar.Register op rd rs1 rs2) = None
-scalar_operand scalar.Fence = None
-scalar_operand scalar.Ecall = None
+scalar_operand i = option_and_then (λ a. operand a.0 a.1 a.2 a.3) (accessed i)
 
 abbrev pub is_store : Direction → Bool
 is_store direction.Load = false
@@ -63,20 +66,8 @@ reach_from r size = Some record { first = r.lo; end = r.hi + size }
 
 -- where the bytes of a load or store may lie
 unfoldable pub scalar_reach : NumbersView → ScalarInsn → Option Reach
-scalar_reach s (scalar.Load kind rd rs1 offset) =
-    reach_from (address_range rs1 (unsigned offset) s) (size_of_load kind)
-scalar_reach s (scalar.Store size rs1 rs2 offset) =
-    reach_from (address_range rs1 (unsigned offset) s) (size_of_store size)
-scalar_reach s (scalar.Lui rd imm) = None
-scalar_reach s (scalar.Auipc rd imm) = None
-scalar_reach s (scalar.Jal rd offset) = None
-scalar_reach s (scalar.Jalr rd rs1 offset) = None
-scalar_reach s (scalar.Branch condition rs1 rs2 offset) = None
-scalar_reach s (scalar.Immediate op rd rs1 imm) = None
-scalar_reach s (scalar.ShiftImmediate op rd rs1 amount) = None
-scalar_reach s (scalar.Register op rd rs1 rs2) = None
-scalar_reach s scalar.Fence = None
-scalar_reach s scalar.Ecall = None
+scalar_reach s i =
+    option_and_then (λ a. reach_from (address_range a.1 (unsigned a.2) s) a.3) (accessed i)
 
 -- the same of any instruction, with what is known before it, if that says where
 unfoldable pub reach_in : Insn → AbstractView → Option Reach
@@ -124,8 +115,9 @@ bytes_line size = codes "  bytes of the access: " ++ (decimal size ++ codes "\n"
 abbrev pub offset_line : ℤ → List ℕ
 offset_line offset = codes "  offset from the base: " ++ (offset_text offset ++ codes "\n")
 
+-- of a vector instruction, whose size is not told, nothing
 unfoldable pub size_lines : ℤ → ℕ → List ℕ
-size_lines offset size = bytes_line size ++ offset_line offset
+size_lines offset size = if size == 0 then [] else bytes_line size ++ offset_line offset
 
 -- the first byte and the last one
 abbrev pub reach_line : Option Reach → List ℕ
@@ -145,7 +137,5 @@ wanted_lines a =
 
 -- the lines of an access
 unfoldable pub access_text : Access → List ℕ
-access_text a =
-    if a.operand.size == 0 then base_line a.operand.base a.interval ++ wanted_lines a
-    else base_line a.operand.base a.interval
+access_text a = base_line a.operand.base a.interval
     ++ (size_lines a.operand.offset a.operand.size ++ wanted_lines a)

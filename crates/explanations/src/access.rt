@@ -2,7 +2,7 @@
 ghost use Rattle.std.specs.Prelude.{◌≡◌};
 ghost use Rattle.scalar_core.specs.Step.{size_of_load, size_of_store};
 ghost use Rattle.abs_transfer.specs.Scalar.{address_range as address_range_of};
-ghost use Rattle.explanations.specs.Access.{access_wanted, is_store, operand_of};
+ghost use Rattle.explanations.specs.Access.{access_wanted, accessed, is_store, operand_of};
 ghost use Rattle.explanations.specs.Access.{reach_from as reach_from_of};
 ghost use Rattle.explanations.specs.Access.{reach_in as reach_in_of, rights_text, scalar_operand};
 ghost use Rattle.explanations.specs.Access.{scalar_reach as scalar_reach_of};
@@ -11,7 +11,7 @@ use crate::address::Address;
 use abs_state::{Abstract, Numbers, Reach, Zone, address_range};
 use arrayvec::ArrayVec;
 use linear_facts::Range;
-use rv_decode::{Direction, Insn, LoadKind, ScalarInsn, Width};
+use rv_decode::{Direction, Insn, LoadKind, Reg, ScalarInsn, Width};
 use std::alloc::Allocator;
 use std::fmt;
 
@@ -51,9 +51,9 @@ fn store_size(width: Width) -> u8
     width.bytes()
 }
 
-/// The operand of a scalar instruction, if it is a load or store.
-fn scalar_operand(insn: ScalarInsn) -> Option<Operand>
-    ensures { result ≡ scalar_operand insn }
+/// Of a load or store: whether it is a store, its base register, its offset, and how many bytes it accesses.
+fn accessed(insn: ScalarInsn) -> Option<(bool, Reg, i32, u8)>
+    ensures { result ≡ accessed insn }
 {
     match insn {
         ScalarInsn::Load {
@@ -61,23 +61,13 @@ fn scalar_operand(insn: ScalarInsn) -> Option<Operand>
             rs1,
             offset,
             ..
-        } => Some(Operand {
-            is_store: false,
-            base: rs1.number(),
-            offset,
-            size: load_size(kind),
-        }),
+        } => Some((false, rs1, offset, load_size(kind))),
         ScalarInsn::Store {
             size,
             rs1,
             offset,
             ..
-        } => Some(Operand {
-            is_store: true,
-            base: rs1.number(),
-            offset,
-            size: store_size(size),
-        }),
+        } => Some((true, rs1, offset, store_size(size))),
         ScalarInsn::Lui { .. }
         | ScalarInsn::Auipc { .. }
         | ScalarInsn::Jal { .. }
@@ -89,6 +79,19 @@ fn scalar_operand(insn: ScalarInsn) -> Option<Operand>
         | ScalarInsn::Fence
         | ScalarInsn::Ecall => None,
     }
+}
+
+/// The operand of a scalar instruction, if it is a load or store.
+fn scalar_operand(insn: ScalarInsn) -> Option<Operand>
+    ensures { result ≡ scalar_operand insn }
+{
+    let (is_store, base, offset, size) = accessed(insn)?;
+    Some(Operand {
+        is_store,
+        base: base.number(),
+        offset,
+        size,
+    })
 }
 
 /// Whether a vector access is a store.
@@ -138,30 +141,8 @@ fn reach_from(range: Range, size: u8) -> Option<Reach>
 fn scalar_reach<A: Allocator>(numbers: &Numbers<A>, insn: ScalarInsn) -> Option<Reach>
     ensures { result ≡ scalar_reach_of numbers.now insn }
 {
-    match insn {
-        ScalarInsn::Load {
-            kind,
-            rs1,
-            offset,
-            ..
-        } => reach_from(address_range(numbers, rs1, offset), load_size(kind)),
-        ScalarInsn::Store {
-            size,
-            rs1,
-            offset,
-            ..
-        } => reach_from(address_range(numbers, rs1, offset), store_size(size)),
-        ScalarInsn::Lui { .. }
-        | ScalarInsn::Auipc { .. }
-        | ScalarInsn::Jal { .. }
-        | ScalarInsn::Jalr { .. }
-        | ScalarInsn::Branch { .. }
-        | ScalarInsn::Immediate { .. }
-        | ScalarInsn::ShiftImmediate { .. }
-        | ScalarInsn::Register { .. }
-        | ScalarInsn::Fence
-        | ScalarInsn::Ecall => None,
-    }
+    let (_, base, offset, size) = accessed(insn)?;
+    reach_from(address_range(numbers, base, offset), size)
 }
 
 /// Where the bytes of an instruction's access may lie, with what is known before it.
@@ -249,7 +230,7 @@ impl fmt::Display for ZoneLines<'_> {
     }
 }
 
-/// How many bytes are accessed, and how far from the base on.
+/// How many bytes are accessed, and how far from the base on; nothing of a vector instruction.
 #[derive(Clone, Copy)]
 struct SizeLines(Operand);
 
@@ -262,30 +243,11 @@ impl fmt::Display for SizeLines {
     #[tactic(auto, unfolding(crate::specs::Access::size_lines, crate::specs::Access::offset_text))]
     fn fmt<W: fmt::Write>(&self, f: &mut fmt::Formatter<W>) -> fmt::Result {
         let Operand { offset, size, .. } = self.0;
+        if size == 0 {
+            return Ok(());
+        }
         writeln!(f, "  bytes of the access: {size}")?;
         writeln!(f, "  offset from the base: {offset}")
-    }
-}
-
-/// The first byte and the last one that may be accessed, as a line.
-#[derive(Clone, Copy)]
-struct ReachLine(Option<Reach>);
-
-impl fmt::Display for ReachLine {
-    ghost use Rattle.std.specs.Prelude.{Some};
-    ghost use Rattle.explanations.specs.Access.{reach_line};
-
-    ghost output = { λ line. Some (reach_line line.0) };
-
-    fn fmt<W: fmt::Write>(&self, f: &mut fmt::Formatter<W>) -> fmt::Result {
-        match self.0 {
-            None => writeln!(f, "  known: nothing of where its bytes lie"),
-            Some(reach) => {
-                let first = Address(reach.first);
-                let last = Address(reach.end.saturating_sub(1));
-                writeln!(f, "  known: its bytes in {first}..={last}")
-            }
-        }
     }
 }
 
@@ -311,14 +273,22 @@ impl fmt::Display for Access {
         let base = self.operand.base;
         let interval = Span(self.interval);
         let size = SizeLines(self.operand);
-        let reach = ReachLine(self.reach);
         let wanted = access_wanted(self.operand);
         let zones = ZoneLines(self.zones.as_slice());
         writeln!(f, "  known: x{base} in {interval}")?;
-        if self.operand.size == 0 {
-            write!(f, "{reach}{wanted}{zones}")
-        } else {
-            write!(f, "{size}{reach}{wanted}{zones}")
+        match self.reach {
+            None => write!(
+                f,
+                "{size}  known: nothing of where its bytes lie\n{wanted}{zones}"
+            ),
+            Some(reach) => {
+                let first = Address(reach.first);
+                let last = Address(reach.end.saturating_sub(1));
+                write!(
+                    f,
+                    "{size}  known: its bytes in {first}..={last}\n{wanted}{zones}"
+                )
+            }
         }
     }
 }

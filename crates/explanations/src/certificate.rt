@@ -163,28 +163,6 @@ fn wanted(error: CertError) -> &'static str
     }
 }
 
-/// Where reading stopped, as a line.
-#[derive(Clone, Copy)]
-struct PlaceLine {
-    place: Option<usize>,
-    size: usize,
-}
-
-impl fmt::Display for PlaceLine {
-    ghost use Rattle.std.specs.Prelude.{Some};
-    ghost use Rattle.explanations.specs.Certificate.{place_line};
-
-    ghost output = { λ line. Some (place_line line.place line.size) };
-
-    fn fmt<W: fmt::Write>(&self, f: &mut fmt::Formatter<W>) -> fmt::Result {
-        let size = self.size;
-        match self.place {
-            Some(place) => writeln!(f, "  reading stopped behind byte {place} of {size}"),
-            None => Ok(()),
-        }
-    }
-}
-
 /// The block there, as a line.
 #[derive(Clone, Copy)]
 struct BlockLine(Option<u16>);
@@ -210,12 +188,15 @@ impl fmt::Display for CertificateReason {
     ghost output = { λ reason. Some (certificate_text reason) };
 
     fn fmt<W: fmt::Write>(&self, f: &mut fmt::Formatter<W>) -> fmt::Result {
-        let place = PlaceLine {
-            place: self.place,
-            size: self.size,
-        };
+        let size = self.size;
         let block = BlockLine(self.block);
         let wanted = wanted(self.error);
-        write!(f, "{place}{block}{wanted}")
+        match self.place {
+            Some(place) => write!(
+                f,
+                "  reading stopped behind byte {place} of {size}\n{block}{wanted}"
+            ),
+            None => write!(f, "{block}{wanted}"),
+        }
     }
 }

@@ -227,27 +227,6 @@ pub fn check_reason<A: Allocator + Copy, B: Allocator, C: Allocator>(
     }
 }
 
-/// Where the check stopped, as a line.
-#[derive(Clone, Copy)]
-struct PartLine(Part);
-
-impl fmt::Display for PartLine {
-    ghost use Rattle.std.specs.Prelude.{Some};
-    ghost use Rattle.explanations.specs.Check.{part_line};
-
-    ghost output = { λ line. Some (part_line line.0) };
-
-    fn fmt<W: fmt::Write>(&self, f: &mut fmt::Formatter<W>) -> fmt::Result {
-        match self.0 {
-            Part::Entry => writeln!(f, "  stopped on the way into the first block"),
-            Part::Block(start) => {
-                let start = Address(u64::from(start));
-                writeln!(f, "  stopped in the block at {start}")
-            }
-        }
-    }
-}
-
 /// A word and its address, as a line.
 #[derive(Clone, Copy)]
 struct WordLine {
@@ -288,12 +267,19 @@ impl fmt::Display for StopLines<'_> {
         match self.0 {
             None => Ok(()),
             Some(stop) => {
-                let part = PartLine(stop.part);
                 let word = WordLine {
                     pc: stop.pc,
                     word: stop.word,
                 };
-                write!(f, "{part}{word}")
+                match stop.part {
+                    Part::Entry => {
+                        write!(f, "  stopped on the way into the first block\n{word}")
+                    }
+                    Part::Block(start) => {
+                        let start = Address(u64::from(start));
+                        write!(f, "  stopped in the block at {start}\n{word}")
+                    }
+                }
             }
         }
     }

@@ -3,7 +3,7 @@ ghost use Rattle.std.specs.Prelude.{◌≡◌, IfOk};
 ghost use Rattle.explanations.specs.Edge.{budget_of};
 ghost use Rattle.explanations.specs.Edge.{edge_at as edge_at_of, edge_told};
 ghost use Rattle.explanations.specs.Edge.{entered_at as entered_at_of};
-ghost use Rattle.explanations.specs.Edge.{entered_by as entered_by_of, entered_of, left_of};
+ghost use Rattle.explanations.specs.Edge.{entered_of, left_of};
 
 use crate::address::Address;
 use crate::unshown::{Unshown, unshown_in};
@@ -64,17 +64,17 @@ fn left_block<C: Allocator>(certificate: &Certificate<C>, part: Part) -> Option<
     }
 }
 
-/// The block of the certificate that begins at an address.
-#[tactic(auto, unfolding(crate::specs::Edge::entered_by))]
-fn entered_by<A: Allocator, C: Allocator>(
+/// The block to which a way leads, if it leads to one.
+#[tactic(auto, unfolding(crate::specs::Edge::entered_of, crate::specs::Edge::entered_by))]
+fn entered_block<A: Allocator, C: Allocator>(
     certificate: &Certificate<C>,
     error: CheckError,
     own: Option<Budget>,
     way: &Way<'_, A>,
-    address: u32,
 ) -> Option<Entered>
-    ensures { result ≡ entered_by_of error own way.now certificate.now.blocks address }
+    ensures { result ≡ entered_of certificate.now error own way.now }
 {
+    let address = way.target()?;
     if address == EXIT {
         return None;
     }
@@ -86,22 +86,6 @@ fn entered_by<A: Allocator, C: Allocator>(
         budget: block.budget,
         unshown: unshown_in(error, own, way, block),
     })
-}
-
-/// The block to which a way leads, if it leads to one.
-#[tactic(auto, unfolding(crate::specs::Edge::entered_of))]
-fn entered_block<A: Allocator, C: Allocator>(
-    certificate: &Certificate<C>,
-    error: CheckError,
-    own: Option<Budget>,
-    way: &Way<'_, A>,
-) -> Option<Entered>
-    ensures { result ≡ entered_of certificate.now error own way.now }
-{
-    match way.target() {
-        None => None,
-        Some(address) => entered_by(certificate, error, own, way, address),
-    }
 }
 
 /// The budget of the block that is left.
@@ -151,34 +135,6 @@ pub(crate) fn edge_at<A: Allocator + Copy, B: Allocator, C: Allocator>(
     match refused_edge(certificate, pc, &state) {
         None => Ok(None),
         Some(way) => Ok(Some(told(certificate, error, part, &way))),
-    }
-}
-
-/// Where a way out leads, as a line.
-#[derive(Clone, Copy)]
-struct TargetLine {
-    target: Option<u32>,
-    words: u32,
-}
-
-impl fmt::Display for TargetLine {
-    ghost use Rattle.std.specs.Prelude.{Some};
-    ghost use Rattle.explanations.specs.Edge.{target_line};
-
-    ghost output = { λ line. Some (target_line line.target line.words) };
-
-    fn fmt<W: fmt::Write>(&self, f: &mut fmt::Formatter<W>) -> fmt::Result {
-        let words = self.words;
-        match self.target {
-            None => writeln!(
-                f,
-                "  leads to an address that is not known, after {words} words"
-            ),
-            Some(target) => {
-                let target = Address(u64::from(target));
-                writeln!(f, "  leads to {target}, after {words} words of the block")
-            }
-        }
     }
 }
 
@@ -292,12 +248,21 @@ impl fmt::Display for Edge {
 
     #[tactic(auto, unfolding(crate::specs::Edge::edge_text))]
     fn fmt<W: fmt::Write>(&self, f: &mut fmt::Formatter<W>) -> fmt::Result {
-        let target = TargetLine {
-            target: self.target,
-            words: self.words,
-        };
+        let words = self.words;
         let left = LeftLine(self.left);
         let entered = EnteredLines(&self.entered);
-        write!(f, "{target}{left}{entered}")
+        match self.target {
+            None => write!(
+                f,
+                "  leads to an address that is not known, after {words} words\n{left}{entered}"
+            ),
+            Some(target) => {
+                let target = Address(u64::from(target));
+                write!(
+                    f,
+                    "  leads to {target}, after {words} words of the block\n{left}{entered}"
+                )
+            }
+        }
     }
 }

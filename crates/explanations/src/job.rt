@@ -320,26 +320,6 @@ impl fmt::Display for Command {
     }
 }
 
-/// Where a key stands, and what is wanted of it.
-#[derive(Clone, Copy)]
-struct In {
-    table: JobTable,
-    key: JobKey,
-}
-
-impl fmt::Display for In {
-    ghost use Rattle.std.specs.Prelude.{Some};
-    ghost use Rattle.job_file.specs.Keys.{in_text};
-
-    ghost output = { λ place. Some (in_text place.table place.key) };
-
-    fn fmt<W: fmt::Write>(&self, f: &mut fmt::Formatter<W>) -> fmt::Result {
-        let table = self.table;
-        let wanted = self.key.wanted();
-        write!(f, " in {table}: {wanted}")
-    }
-}
-
 impl fmt::Display for JobReason {
     ghost use Rattle.std.specs.Prelude.{Some};
     ghost use Rattle.explanations.specs.Job.{job_text};
@@ -368,12 +348,9 @@ impl fmt::Display for JobReason {
                 command,
             } => {
                 let name = key.name();
-                let place = In {
-                    table: *table,
-                    key: *key,
-                };
+                let wanted = key.wanted();
                 write!(f, "  {command} needs {name}")?;
-                writeln!(f, "{place}")
+                writeln!(f, " in {table}: {wanted}")
             }
             JobReason::Breach(breach) => writeln!(f, "  {breach}"),
         }
