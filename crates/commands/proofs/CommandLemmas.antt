@@ -8,7 +8,7 @@ use Rattle.block_checker.specs.Accepted.{AcceptedView}
 use Rattle.job_file.specs.Job.{IsTableFault, Text}
 use Rattle.job_file.specs.declared.values.JobError.{JobError}
 use Rattle.job_file.specs.declared.values.JobError.TheVariants as job_error
-use Rattle.job_file.specs.declared.values.RunJob.{RunJob}
+use Rattle.job_file.specs.Needs.{RunJob}
 use Rattle.job_file.specs.declared.values.RunParam.{RunParam}
 use Rattle.toml.specs.Data.{Members}
 use Rattle.toml.specs.Parse.{parse_document}

@@ -1,6 +1,6 @@
 -- What `mon` does.
 use Rattle.std.specs.Prelude.{◌≡◌, ◌⊎◌, ◌++◌, codes, ℕ, List, Option, Some, None, Result, Ok, Err}
-use Rattle.job_file.specs.declared.values.RunJob.{RunJob}
+use Rattle.job_file.specs.Needs.{RunJob}
 use Rattle.monitor.specs.Commands.{flow_of, text_of}
 use Rattle.monitor.specs.declared.commands.Command.{Command}
 use Rattle.monitor.specs.declared.commands.Flow.{Flow}

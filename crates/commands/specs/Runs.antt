@@ -2,7 +2,7 @@
 use Rattle.std.specs.Prelude.{◌≡◌, ℕ, List, Option, Some, None, Result, Ok, Err}
 use Rattle.std.specs.Io.KnownBytes.{Appends}
 use Rattle.block_checker.specs.Bound.{bound_of, scalars_of}
-use Rattle.job_file.specs.declared.values.RunJob.{RunJob}
+use Rattle.job_file.specs.Needs.{RunJob}
 use Rattle.sandbox_run.specs.Session.{open_fault}
 use Rattle.commands.specs.Ending.{status_of_end, stop_of_open}
 use Rattle.commands.specs.Files.{Files, outs_of}

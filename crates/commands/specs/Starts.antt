@@ -1,7 +1,7 @@
 -- What `run` and `mon` begin with: a job on an image that is accepted, and what it passes.
 use Rattle.std.specs.Prelude.{◌≡◌, List, Some, Ok}
 use Rattle.job_file.specs.Needs.{run_job_in}
-use Rattle.job_file.specs.declared.values.RunJob.{RunJob}
+use Rattle.job_file.specs.Needs.{RunJob}
 use Rattle.commands.specs.Accepted.{accepted_of}
 use Rattle.commands.specs.Files.{ArePassed, Files, IsImageAt, IsNoImageAt, IsUnpassed}
 use Rattle.commands.specs.Steps.{StopsAt, StopsAtJob, StopsAtResult}

@@ -6,7 +6,7 @@ use Rattle.job_file.specs.Needs.{try_job_in}
 use Rattle.job_file.specs.declared.values.JobError.TheVariants.{BadKey}
 use Rattle.job_file.specs.declared.values.RunParam.{RunParam}
 use Rattle.job_file.specs.declared.values.RunParam.TheVariants as given
-use Rattle.job_file.specs.declared.values.TryJob.{TryJob}
+use Rattle.job_file.specs.Needs.{TryJob}
 use Rattle.job_file.specs.declared.values.TryParam.{TryParam}
 use Rattle.job_file.specs.declared.values.TryParam.TheVariants as taken
 use Rattle.region_mem.specs.Parameter.{argument_error, parameters_of}

@@ -7,8 +7,11 @@ use Rattle.toml.specs.View.{items_view, members_view, view}
 use Rattle.toml.specs.declared.value.Value.{Value}
 use Rattle.toml.proofs.Views.{Entry, get_item_past, get_item_within}
 use Rattle.job_file.specs.Job.{Breach, Text, all_kept, all_there, first_unknown, is_one_of, places}
+use Rattle.job_file.specs.Needs.{runnable, runnable_lent}
 use Rattle.job_file.specs.declared.keys.JobKey.{JobKey}
 use Rattle.job_file.specs.declared.values.Places.{Places}
+use Rattle.vreg_groups.specs.declared.policies.Agnostic.{Agnostic}
+use Rattle.vreg_groups.specs.declared.vector_length.Vlen.{Vlen}
 
 -- the first key of a map that is none of these
 abbrev pub unknown_of : List JobKey → List (String Global) → Option Text
@@ -91,3 +94,16 @@ module _ {A B C D : Type 0} (f : B → Option C) (h : A → B) (g : D → C) (a 
   all_there-each_place seen same xs None len taken (k, below, (arg, none)) = sym (all_there-missing xs k (omega (arith, len, below)) (sym none))
   all_there-each_place seen same xs (Some p) len (eight, each) missing =
       ap Some (same p) ∙ sym (all_there-each xs p.at (len ∙ sym eight) (λ k below. sym (each k (omega (arith, eight, below))).1))
+
+-- ---- a job that can be run
+
+-- with texts that are lent, it is the one of the texts
+pub runnable-lent : {P Q : Type 0} (lent : P → Q) (image : Option (Bor Text)) (vlen : Option Vlen) (agnostic : Option Agnostic) (max : Option ℕ)
+    (params : Option (Places P)) (taken : Option (List Q)) → option_map (λ p. map lent p.at) params ≡ taken
+    → option_map (runnable_lent lent) (runnable image vlen agnostic max (option_map (λ p. p.at) params)) ≡ runnable (option_map (λ s. s.now) image) vlen agnostic max taken
+runnable-lent lent None vlen agnostic max params taken same = refl
+runnable-lent lent (Some image) None agnostic max params taken same = refl
+runnable-lent lent (Some image) (Some vlen) None max params taken same = refl
+runnable-lent lent (Some image) (Some vlen) (Some agnostic) None params taken same = refl
+runnable-lent lent (Some image) (Some vlen) (Some agnostic) (Some max) None taken same = rw (← same) refl
+runnable-lent lent (Some image) (Some vlen) (Some agnostic) (Some max) (Some params) taken same = rw (← same) refl

@@ -22,7 +22,9 @@ mod values;
 pub use keys::{JobBreach, JobKey, JobTable};
 use std::alloc::Global;
 use toml::Table;
-pub use values::{Job, JobError, JobParam, MakeJob, RunJob, RunParam, TryJob, TryParam};
+pub use values::{
+    Job, JobError, JobParam, MakeJob, RunJob, RunParam, RunnableJob, TryJob, TryParam,
+};
 
 /// The table of a job file.
 ///

@@ -4,11 +4,13 @@ ghost use Rattle.std.specs.Prelude.{option_map, slice_index_or};
 ghost use Rattle.job_file.specs.Job.{job_lent, param_lent};
 ghost use Rattle.job_file.specs.Needs.{make_job_of, make_param_of, make_params_of};
 ghost use Rattle.job_file.specs.Needs.{run_job_lent, run_job_of, run_param_lent, run_param_of};
-ghost use Rattle.job_file.specs.Needs.{run_params_of, try_params_of};
+ghost use Rattle.job_file.specs.Needs.{runnable};
 ghost use Rattle.job_file.specs.Needs.{try_job_lent, try_job_of, try_param_lent, try_param_of};
 ghost use Rattle.job_file.specs.declared.values.JobParam.TheVariants as param;
 
-use crate::values::{Job, JobParam, MakeJob, Places, RunJob, RunParam, TryJob, TryParam};
+use crate::values::{
+    Job, JobParam, MakeJob, Places, RunJob, RunParam, RunnableJob, TryJob, TryParam,
+};
 
 /// What is taken of the parameter at each place: `None` where there is nothing to take of one.
 fn each_place<'a, P: Copy, F: Fn(JobParam<&'a str>) -> Option<P>>(
@@ -28,6 +30,23 @@ fn each_place<'a, P: Copy, F: Fn(JobParam<&'a str>) -> Option<P>>(
         taken[place] = take(params[place])?;
     }
     Some(Places { at: taken })
+}
+
+/// A job that can be run, where what it needs and what is taken of its parameters is there.
+fn runnable<'a, P: Drop>(
+    job: Job<&'a str>,
+    params: Option<Places<P>>,
+) -> Option<RunnableJob<&'a str, P>>
+    ensures { result ≡ runnable job.entry.image job.entry.vlen job.entry.agnostic job.entry.max
+        (option_map (λ taken. taken.at) params) }
+{
+    Some(RunnableJob {
+        image: job.image?,
+        vlen: job.vlen?,
+        agnostic: job.agnostic?,
+        max: job.max?,
+        params: params?.at,
+    })
 }
 
 /// What `try` takes of a parameter: a scalar's `value`, a buffer's `mode` and `file`.
@@ -50,25 +69,12 @@ fn try_param<'a>(param: JobParam<&'a str>) -> Option<TryParam<&'a str>>
     }
 }
 
-/// What `try` takes of the parameters, by place.
-fn try_params<'a>(params: [JobParam<&'a str>; 8]) -> Option<Places<TryParam<&'a str>>>
-    ensures { option_map (λ taken. map try_param_lent taken.at) result
-        ≡ try_params_of (map param_lent params.entry) }
-{
-    each_place(params, TryParam::None, try_param)
-}
-
 /// What `try` takes of a job: `image`, `vlen`, `agnostic`, `max` and the parameters.
 pub fn try_job<'a>(job: Job<&'a str>) -> Option<TryJob<&'a str>>
     ensures { option_map try_job_lent result ≡ try_job_of (job_lent job.entry) }
 {
-    Some(TryJob {
-        image: job.image?,
-        vlen: job.vlen?,
-        agnostic: job.agnostic?,
-        max: job.max?,
-        params: try_params(job.params)?.at,
-    })
+    let params = each_place(job.params, TryParam::None, try_param);
+    runnable(job, params)
 }
 
 /// What `run` takes of a parameter: a scalar's `value`, a buffer's `file`.
@@ -82,25 +88,12 @@ fn run_param<'a>(param: JobParam<&'a str>) -> Option<RunParam<&'a str>>
     }
 }
 
-/// What `run` takes of the parameters, by place.
-fn run_params<'a>(params: [JobParam<&'a str>; 8]) -> Option<Places<RunParam<&'a str>>>
-    ensures { option_map (λ given. map run_param_lent given.at) result
-        ≡ run_params_of (map param_lent params.entry) }
-{
-    each_place(params, RunParam::None, run_param)
-}
-
 /// What `run` takes of a job: `image`, `vlen`, `agnostic`, `max` and the parameters.
 pub fn run_job<'a>(job: Job<&'a str>) -> Option<RunJob<&'a str>>
     ensures { option_map run_job_lent result ≡ run_job_of (job_lent job.entry) }
 {
-    Some(RunJob {
-        image: job.image?,
-        vlen: job.vlen?,
-        agnostic: job.agnostic?,
-        max: job.max?,
-        params: run_params(job.params)?.at,
-    })
+    let params = each_place(job.params, RunParam::None, run_param);
+    runnable(job, params)
 }
 
 /// What `make` takes of a parameter: a scalar's `lo` and `hi`, a buffer's `mode` and `size`.

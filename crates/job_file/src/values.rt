@@ -50,16 +50,6 @@ pub enum TryParam<T> {
     Buffer { mode: Mode, file: T, out: Option<T> },
 }
 
-/// What `try` takes of a job, with a parameter for each place.
-#[derive(Drop)]
-pub struct TryJob<T> {
-    pub image: T,
-    pub vlen: Vlen,
-    pub agnostic: Agnostic,
-    pub max: u64,
-    pub params: [TryParam<T>; 8],
-}
-
 /// What `run` takes of a parameter.
 #[derive(Clone, Copy)]
 pub enum RunParam<T> {
@@ -71,15 +61,21 @@ pub enum RunParam<T> {
     Buffer { file: T, out: Option<T> },
 }
 
-/// What `run` takes of a job, with a parameter for each place.
+/// What a subcommand that runs an image takes of a job, with what it takes of the parameter at each place.
 #[derive(Drop)]
-pub struct RunJob<T> {
+pub struct RunnableJob<T, P> {
     pub image: T,
     pub vlen: Vlen,
     pub agnostic: Agnostic,
     pub max: u64,
-    pub params: [RunParam<T>; 8],
+    pub params: [P; 8],
 }
+
+/// What `try` takes of a job.
+pub type TryJob<T> = RunnableJob<T, TryParam<T>>;
+
+/// What `run` takes of a job.
+pub type RunJob<T> = RunnableJob<T, RunParam<T>>;
 
 /// What `make` takes of a job, with a parameter for each place.
 #[derive(Clone, Copy, Debug, PartialEq, Eq)]
