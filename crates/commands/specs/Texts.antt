@@ -1,6 +1,6 @@
 -- How a reason to stop is told.
-use Rattle.std.specs.Prelude.{ℕ, List, [], ◌++◌, codes, Option, Some, None}
-use Rattle.block_checker.specs.Refusals.{address_of, name_of}
+use Rattle.std.specs.Prelude.{ℕ, List, [], ◌++◌, codes}
+use Rattle.block_checker.specs.Refusals.{address_of, at_address, name_of}
 use Rattle.cert_maker.specs.Make as maker
 use Rattle.cert_maker.specs.declared.errors.MakeError.{MakeError}
 use Rattle.cert_note.specs.declared.refusals.CertError.TheVariants as certificate_error
@@ -9,7 +9,6 @@ use Rattle.job_file.specs.declared.values.JobError.TheVariants as job_error
 use Rattle.monitor.specs.declared.commands.MonError.{MonError}
 use Rattle.monitor.specs.declared.commands.MonError.TheVariants as monitor_error
 use Rattle.sandbox_run.specs.declared.outcome.OpenError.TheVariants as open_error
-use Rattle.region_mem.specs.Digits.{digits_text}
 use Rattle.commands.specs.Words.{CertError, CheckError, ElfError, JobError, OpenError, Stop}
 use Rattle.commands.specs.declared.stop.Stop.TheVariants as stop
 
@@ -73,15 +72,11 @@ open_error_name open_error.NoMemory = codes "NoMemory"
 
 -- how a refusal of the check or of the maker is told: the error's name, and its address
 -- where it has one
-abbrev pub with_address : List ℕ → Option ℕ → List ℕ
-with_address name None = name
-with_address name (Some address) = name ++ (codes " at " ++ digits_text address)
-
 abbrev pub reason_text : CheckError → List ℕ
-reason_text error = with_address (name_of error) (address_of error)
+reason_text error = at_address (name_of error) (address_of error)
 
 abbrev pub misfit_text : MakeError → List ℕ
-misfit_text error = with_address (maker.name_of error) (maker.address_of error)
+misfit_text error = at_address (maker.name_of error) (maker.address_of error)
 
 abbrev pub refused_line : List ℕ → List ℕ
 refused_line name = codes "refused: " ++ (name ++ codes "\n")

@@ -102,9 +102,9 @@ struct Reason {
 
 impl fmt::Display for Reason {
     ghost use Rattle.std.specs.Prelude.{Some};
-    ghost use Rattle.commands.specs.Texts.{with_address};
+    ghost use Rattle.block_checker.specs.Refusals.{at_address};
 
-    ghost output = { λ reason. Some (with_address reason.name.now reason.address) };
+    ghost output = { λ reason. Some (at_address reason.name.now reason.address) };
 
     fn fmt<W: fmt::Write>(&self, f: &mut fmt::Formatter<W>) -> fmt::Result {
         let name = self.name;
