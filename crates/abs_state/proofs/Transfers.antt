@@ -1,6 +1,6 @@
 -- Vector loads and stores that pass their test are permitted, and stores keep of memory what a step has to keep.
 use Rattle.std.proofs.Common.{◌≡◌, ◌∙◌, ◌<◌, ◌≤◌, ◌+◌, ◌-◌, ◌*◌, ◌/◌, ◌%◌, ◌^◌, ℕ, zero, suc, Bool, true, false, cond, arith, refl, sym, ap, subst, lit<, List, [], ◌∷◌, length, map, find, Option, Some, None, IfSome, Ok, Err}
-use Rattle.std.specs.Prelude.{if◌then◌else◌, ◌==◌, ◌&&◌, not, nat_lt, filter, get_or, slice_index, slice_index_or, unwrap_or, MatchOption, Result}
+use Rattle.std.specs.Prelude.{if◌then◌else◌, ◌==◌, ◌&&◌, not, nat_lt, filter, get_or, slice_index, slice_index_or, MatchOption, Result}
 use Rattle.std.specs.List.{AllByRecursion, range_with_len}
 use Rattle.std.proofs.Math.Nat.{mul-div-le}
 use Rattle.std.proofs.lemmas.Bool.Decides.{nat_tests}
@@ -18,7 +18,7 @@ use Rattle.rv_decode.specs.declared.instructions.Width.{Width}
 use Rattle.rv_decode.specs.EncodeAccess.{PlaceFits}
 use Rattle.rv_decode.specs.Needs.{access_operands, needs_of, needs_of_access, needs_of_place}
 use Rattle.region_mem.specs.declared.faults.Right.{Right}
-use Rattle.region_mem.specs.Memory.{Memory, store_of}
+use Rattle.region_mem.specs.Memory.{Memory}
 use Rattle.vreg_groups.specs.declared.policies.Agnostic.{Agnostic}
 use Rattle.vreg_groups.specs.declared.setup.Setup.{Setup}
 use Rattle.vreg_groups.specs.declared.vector_length.Vconfig.{Vconfig}
@@ -31,11 +31,12 @@ use Rattle.vreg_groups.specs.VectorLength.{no_config, IsConfig}
 use Rattle.rv_decode.specs.Instructions.{bytes_of_width}
 use Rattle.vreg_groups.specs.VectorType.{type_in, vill, vlmax_of, vtype_of}
 use Rattle.vector_mem.specs.declared.plan.Access.{Access}
-use Rattle.vector_mem.specs.Accesses.{access_at, accesses, first_refused, is_refused, stored, with_stored}
+use Rattle.vector_mem.specs.Accesses.{access_at, accesses, first_refused, is_refused}
 use Rattle.vector_mem.specs.Transfers.{accesses_of, data_at, is_masked, place_at, right_of}
 use Rattle.scalar_core.specs.Hart.{Hart, reg_of}
 use Rattle.vector_core.specs.LoadsStores.{stride_of}
 use Rattle.vector_core.specs.Setup.{setup_of}
+use Rattle.vector_core.proofs.StoreLemmas.{list_kept}
 use Rattle.cert_note.specs.declared.values.VectorFact.{VectorFact}
 use Rattle.abs_transfer.specs.declared.accesses.Reach.{Reach}
 use Rattle.abs_domain.specs.declared.why.Why.{Why}
@@ -70,19 +71,8 @@ kept_twice m next last h k =
       bytes = λ are. k.bytes (h.bytes are);
     }
 
-one_kept : (values : List ℕ) (m : Memory) (a : Access) → KeepsMemory m (with_stored values m a)
-one_kept values m a = by_store (store_of a.address a.size (slice_index values a.element) m) refl
-  where
-    by_store : (o : Option Memory) → store_of a.address a.size (slice_index values a.element) m ≡ o → KeepsMemory m (unwrap_or o m)
-    by_store None e = nothing_changes m
-    by_store (Some next) e = store_keeps a.address a.size (slice_index values a.element) m next e
-
 pub transfers_kept : TransfersKeepMemory
-unfolding stored
-transfers_kept [] values m = nothing_changes m
-transfers_kept (a ∷ list) values m =
-    kept_twice m (with_stored values m a) (stored list values (with_stored values m a)) (one_kept values m a)
-    (transfers_kept list values (with_stored values m a))
+transfers_kept = list_kept KeepsMemory nothing_changes kept_twice store_keeps
 
 -- ---- accesses
 

@@ -1,6 +1,5 @@
 -- What a run keeps of memory: only stores change memory.
-use Rattle.std.proofs.Common.{◌≡◌, ◌∙◌, ℕ, zero, suc, true, List, [], ◌∷◌, refl, sym, Option, Some, None, Result, Ok, Err, slice_index}
-use Rattle.std.specs.Prelude.{unwrap_or}
+use Rattle.std.proofs.Common.{◌≡◌, ◌∙◌, ℕ, zero, suc, true, List, [], ◌∷◌, refl, sym, Option, Some, None, Result, Ok, Err}
 use Rattle.rv_decode.specs.Decode.{meaning_of}
 use Rattle.region_mem.specs.declared.faults.Right.TheVariants.{Fetch, Write}
 use Rattle.region_mem.proofs.KeptCode.{open_kept, permitted_kept, stores_keep_unwritable}
@@ -8,14 +7,13 @@ use Rattle.region_mem.specs.Memory.{fetch_of, is_permitted, store_of}
 use Rattle.region_mem.specs.Laws.{HasExtentsOf}
 use Rattle.region_mem.specs.declared.faults.Right.{Right}
 use Rattle.region_mem.proofs.ExtentLemmas.{stores_keep_extents}
-use Rattle.vector_mem.specs.Accesses.{stored, with_stored}
 use Rattle.vector_mem.specs.declared.plan.Access.{Access}
 use Rattle.vector_core.specs.Kept.{Keeps, StepsKeep, RunsKeep}
 use Rattle.vector_core.specs.Machine.{Machine}
 use Rattle.vector_core.specs.MachineStep.{decoded, fetched, step}
 use Rattle.vector_core.specs.Permitted.{ArePermitted, IsPermittedIn, IsPermittedStep}
 use Rattle.vector_core.specs.Run.{after, then_step}
-use Rattle.vector_core.proofs.StoreLemmas.{carried_kept}
+use Rattle.vector_core.proofs.StoreLemmas.{carried_kept, list_kept}
 use Rattle.vector_core.specs.Words.{Fault, Insn, Memory}
 
 same_extents : (m : Memory) → Keeps m m
@@ -33,27 +31,13 @@ one_store address n value m next e = record {
   unwritable = λ x is. stores_keep_unwritable address n value x m next e is;
 }
 
-one_kept : (values : List ℕ) (m : Memory) (a : Access) → Keeps m (with_stored values m a)
-one_kept values m a = by_store (store_of a.address a.size (slice_index values a.element) m) refl
-  where
-    by_store : (o : Option Memory) → store_of a.address a.size (slice_index values a.element) m ≡ o → Keeps m (unwrap_or o m)
-    by_store None e = same_extents m
-    by_store (Some next) e = one_store a.address a.size (slice_index values a.element) m next e
-
-list_kept : (list : List Access) (values : List ℕ) (m : Memory) → Keeps m (stored list values m)
-unfolding stored
-list_kept [] values m = same_extents m
-list_kept (a ∷ list) values m =
-    kept_twice m (with_stored values m a) (stored list values (with_stored values m a)) (one_kept values m a)
-    (list_kept list values (with_stored values m a))
-
 module _ (m t : Machine) where
   decoded_kept : (vlenb word : ℕ) (insn : Option Insn) → decoded vlenb word m insn ≡ Ok t → Keeps m.memory t.memory
   decoded_kept vlenb word None e = absurd (cc e)
   decoded_kept vlenb word (Some insn) e =
       carried_kept (Keeps m.memory) m t (same_extents m.memory) vlenb word insn
       (λ size rs1 rs2 offset next is e. one_store _ _ _ m.memory next e)
-      (λ access values is stores. list_kept _ values m.memory) e
+      (λ access values is stores. list_kept Keeps same_extents kept_twice one_store _ values m.memory) e
 
   fetched_kept : (vlenb : ℕ) (word : Option ℕ) → fetched vlenb m word ≡ Ok t → Keeps m.memory t.memory
   fetched_kept vlenb None e = absurd (cc e)

@@ -1,7 +1,7 @@
 -- Only stores change memory: what holds of memory as it is, and of what the stores of an instruction leave, holds of memory
 -- after its step.
-use Rattle.std.proofs.Common.{◌≡◌, ℕ, ℤ, Bool, true, false, List, refl, Option, Some, None, Result, Ok, Err}
-use Rattle.std.specs.Prelude.{if◌then◌else◌}
+use Rattle.std.proofs.Common.{◌≡◌, ℕ, ℤ, Bool, true, false, List, [], ◌∷◌, refl, Option, Some, None, Result, Ok, Err, slice_index}
+use Rattle.std.specs.Prelude.{if◌then◌else◌, unwrap_or}
 use Rattle.rv_decode.specs.declared.instructions.Direction.{Direction}
 use Rattle.rv_decode.specs.declared.instructions.Direction.TheVariants as way
 use Rattle.rv_decode.specs.declared.instructions.Insn.TheVariants.{Scalar, Csr, VSet, VArith, VMask, VPerm, VReduce, VMem, VMove}
@@ -17,7 +17,7 @@ use Rattle.region_mem.specs.Memory.{store_of}
 use Rattle.scalar_core.specs.Step.{address_of, beside, rv32im_step, scalar_step, size_of_store, store_from, store_step}
 use Rattle.vreg_groups.specs.Legality.{is_legal}
 use Rattle.vreg_groups.specs.VectorType.{type_in, vtype_of}
-use Rattle.vector_mem.specs.Accesses.{stored}
+use Rattle.vector_mem.specs.Accesses.{stored, with_stored}
 use Rattle.vector_mem.specs.Transfers.{accesses_of, unless_refused, vector_store}
 use Rattle.vector_mem.specs.declared.plan.Access.{Access}
 use Rattle.vector_core.specs.Configuration.{vset_step}
@@ -45,6 +45,24 @@ AfterVectorStores P vlenb m insn =
     (access : mem.VMem) (values : List ℕ) → insn ≡ VMem access → access.direction ≡ way.Store
     → P (stored (accesses_of vlenb (setup_of (type_in (vtype_of m.vectors.config.vtype)) m.vectors) access
     (reg_of access.rs1 m.hart) (stride_of access.place m.hart) m.vectors.registers) values m.memory)
+
+-- What relates a memory to itself and to what a store leaves, and goes on from memory to memory, relates it to what the
+-- stores of a vector instruction leave.
+module _ (K : Memory → Memory → Type 0) (same : (m : Memory) → K m m) (twice : (m next last : Memory) → K m next → K next last → K m last)
+    (one : (address n value : ℕ) (m next : Memory) → store_of address n value m ≡ Some next → K m next) where
+  one_kept : (values : List ℕ) (m : Memory) (a : Access) → K m (with_stored values m a)
+  one_kept values m a = by_store (store_of a.address a.size (slice_index values a.element) m) refl
+    where
+      by_store : (o : Option Memory) → store_of a.address a.size (slice_index values a.element) m ≡ o → K m (unwrap_or o m)
+      by_store None e = same m
+      by_store (Some next) e = one a.address a.size (slice_index values a.element) m next e
+
+  pub list_kept : (list : List Access) (values : List ℕ) (m : Memory) → K m (stored list values m)
+  unfolding stored
+  list_kept [] values m = same m
+  list_kept (a ∷ list) values m =
+      twice m (with_stored values m a) (stored list values (with_stored values m a)) (one_kept values m a)
+      (list_kept list values (with_stored values m a))
 
 module _ (P : Memory → Type 0) (m t : Machine) (same : P m.memory) where
   -- a scalar step that leaves memory as it is, and a vector step
