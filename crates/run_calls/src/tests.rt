@@ -7,7 +7,6 @@ mod explained;
 mod kernels;
 mod monitoring;
 mod readme;
-mod reasons;
 mod runs;
 mod sessions;
 mod states;

@@ -2,8 +2,7 @@
 //! the run compares it. They take their values and not references to them, since a proof pays for
 //! each loan that a test makes. What a call gives is asserted to be there: behind each `?` a proof
 //! would let go of all that the test holds.
-use std::alloc::Global;
-use std::fmt::{Debug, Display};
+use std::fmt::Debug;
 use std::process::Abort;
 
 /// Asserts that what came of a call is what is expected, and else names the call.
@@ -57,17 +56,6 @@ macro_rules! found {
     ($rt:expr; $call:expr) => {
         $crate::tests::assertions::some_of($rt, stringify!($call), $call)
     };
-}
-
-/// Asserts what a value shows.
-pub(crate) fn assert_shows<T: Display + Drop>(
-    rt: impl Abort + Copy,
-    alloc: Global,
-    value: T,
-    expected: &str,
-) {
-    let text = given!(rt; format!(in alloc; "{value}"));
-    assert_same!(rt; text.as_str(), expected);
 }
 
 pub(crate) use assert_same;

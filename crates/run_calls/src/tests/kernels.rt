@@ -139,21 +139,16 @@ fn code_of(rt: impl Abort + Copy, alloc: Global, words: &str) -> Vec<u8> {
     code
 }
 
-/// A file with this code at 0x10000, which is its entry.
-pub(crate) fn file_with(rt: impl Abort + Copy, alloc: Global, code: &[u8]) -> Vec<u8> {
+/// A file with these words at 0x10000, which is its entry.
+pub(crate) fn file_of(rt: impl Abort + Copy, alloc: Global, words: &str) -> Vec<u8> {
+    let code = code_of(rt, alloc, words);
     let size = u32::try_from(code.len()).unwrap_or(0).to_le_bytes();
     let mut file = bytes_of(rt, alloc, HEADERS);
     given!(rt; file.extend_from_slice(&size));
     given!(rt; file.extend_from_slice(&size));
     given!(rt; file.extend_from_slice(&[5, 0, 0, 0, 4, 0, 0, 0]));
-    given!(rt; file.extend_from_slice(code));
+    given!(rt; file.extend_from_slice(&code));
     file
-}
-
-/// The same with these words.
-pub(crate) fn file_of(rt: impl Abort + Copy, alloc: Global, words: &str) -> Vec<u8> {
-    let code = code_of(rt, alloc, words);
-    file_with(rt, alloc, &code)
 }
 
 /// The image of that file.

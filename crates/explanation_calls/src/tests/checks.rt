@@ -1,6 +1,6 @@
 //! Why images are refused: the kernel with a word or a number of its certificate changed.
 use crate::tests::assertions::{assert_same, assert_shows, found, given};
-use crate::tests::reasons::samples::{SUM, certificate, file_of, ordered, with_byte};
+use crate::tests::samples::{SUM, certificate, file_of, ordered, with_byte};
 use cert_note::Vlen;
 use explanations::{CheckReason, check_reason};
 use std::alloc::Global;

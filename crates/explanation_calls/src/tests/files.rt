@@ -1,6 +1,6 @@
 //! Why files are refused: the kernel's file with some bytes changed.
 use crate::tests::assertions::{assert_same, assert_shows, given};
-use crate::tests::reasons::samples::{SUM, file_of, with_byte};
+use crate::tests::samples::{SUM, file_of, with_byte};
 use elf_image::ElfError;
 use explanations::image_reason;
 use std::alloc::Global;

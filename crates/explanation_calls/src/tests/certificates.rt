@@ -1,6 +1,6 @@
 //! Why bytes are no certificate: the kernel's certificate with a byte changed, or cut off.
 use crate::tests::assertions::{assert_same, assert_shows, given};
-use crate::tests::reasons::samples::{certificate, ordered, with_byte};
+use crate::tests::samples::{certificate, ordered, with_byte};
 use cert_note::CertError;
 use explanations::certificate_reason;
 use std::alloc::Global;
