@@ -194,97 +194,64 @@ fn to_mask(vd: Reg, vs2: Reg, b: &Source, is_masked: bool) -> Operands
     by_width(mask(vd), group(vs2, Eew::Same), second(b), is_masked)
 }
 
+/// The same where the destination is of 2*SEW.
+fn widened(vd: Reg, vs2: Reg, b: &Source, is_masked: bool) -> Operands
+    ensures { result ≡ operands_of (group_of eew.Double vd) (group_of eew.Same vs2)
+        (second_of b.now) is_masked Sharing.ByWidth }
+{
+    two_sources(vd, Eew::Double, vs2, Eew::Same, b, is_masked)
+}
+
+/// The same where the destination and the first source are of 2*SEW.
+fn wide(vd: Reg, vs2: Reg, b: &Source, is_masked: bool) -> Operands
+    ensures { result ≡ operands_of (group_of eew.Double vd) (group_of eew.Double vs2)
+        (second_of b.now) is_masked Sharing.ByWidth }
+{
+    two_sources(vd, Eew::Double, vs2, Eew::Double, b, is_masked)
+}
+
+/// The same where the first source is of 2*SEW.
+fn narrowed(vd: Reg, vs2: Reg, b: &Source, is_masked: bool) -> Operands
+    ensures { result ≡ operands_of (group_of eew.Same vd) (group_of eew.Double vs2)
+        (second_of b.now) is_masked Sharing.ByWidth }
+{
+    two_sources(vd, Eew::Same, vs2, Eew::Double, b, is_masked)
+}
+
+/// What `$arith` needs, by its shape: of one with vd, vs2, `b` and a mask that may be on, what the function in its row
+/// makes of them; of the others, what their arms say.
+macro_rules! needs_by_shape {
+    ($arith:expr; $($shape:ident: $needs:ident,)*; $($arms:tt)*) => {
+        match $arith {
+            $(VArith::$shape { vd, vs2, b, masked, .. } => $needs(*vd, *vs2, b, *masked),)*
+            $($arms)*
+        }
+    };
+}
+
 #[tactic(auto, unfolding(crate::specs::Needs::needs_of_arith))]
 fn needs_arith(arith: &VArith) -> Operands
     ensures { result ≡ needs_of_arith arith.now }
 {
-    match arith {
-        VArith::Int {
-            vd,
-            vs2,
-            b,
-            masked,
-            ..
-        } => same(*vd, *vs2, b, *masked),
-        VArith::MultiplyAdd {
-            vd,
-            vs2,
-            b,
-            masked,
-            ..
-        } => same(*vd, *vs2, b, *masked),
+    needs_by_shape!(arith;
+        Int: same,
+        MultiplyAdd: same,
+        Fixed: same,
+        Compare: to_mask,
+        Widen: widened,
+        WidenMultiplyAdd: widened,
+        Wide: wide,
+        Narrow: narrowed,
+        Clip: narrowed,
+        ;
         VArith::Carry { vd, vs2, b, .. } => same(*vd, *vs2, b, true),
-        VArith::CarryOut {
-            vd,
-            vs2,
-            b,
-            with_carry,
-            ..
-        } => to_mask(*vd, *vs2, b, *with_carry),
+        VArith::CarryOut { vd, vs2, b, with_carry, .. } => to_mask(*vd, *vs2, b, *with_carry),
         VArith::Merge { vd, vs2, b } => same(*vd, *vs2, b, true),
         VArith::Copy { vd, b } => by_width(group(*vd, Eew::Same), None, second(b), false),
-        VArith::Compare {
-            vd,
-            vs2,
-            b,
-            masked,
-            ..
-        } => to_mask(*vd, *vs2, b, *masked),
-        VArith::Fixed {
-            vd,
-            vs2,
-            b,
-            masked,
-            ..
-        } => same(*vd, *vs2, b, *masked),
-        VArith::Widen {
-            vd,
-            vs2,
-            b,
-            masked,
-            ..
-        } => two_sources(*vd, Eew::Double, *vs2, Eew::Same, b, *masked),
-        VArith::Wide {
-            vd,
-            vs2,
-            b,
-            masked,
-            ..
-        } => two_sources(*vd, Eew::Double, *vs2, Eew::Double, b, *masked),
-        VArith::WidenMultiplyAdd {
-            vd,
-            vs2,
-            b,
-            masked,
-            ..
-        } => two_sources(*vd, Eew::Double, *vs2, Eew::Same, b, *masked),
-        VArith::Narrow {
-            vd,
-            vs2,
-            b,
-            masked,
-            ..
-        } => two_sources(*vd, Eew::Same, *vs2, Eew::Double, b, *masked),
-        VArith::Clip {
-            vd,
-            vs2,
-            b,
-            masked,
-            ..
-        } => two_sources(*vd, Eew::Same, *vs2, Eew::Double, b, *masked),
-        VArith::Extend {
-            of,
-            vd,
-            vs2,
-            masked,
-            ..
-        } => by_width(
-            group(*vd, Eew::Same),
-            group(*vs2, eew_of(*of)),
-            None,
-            *masked,
-        ),
-    }
+        VArith::Extend { of, vd, vs2, masked, .. } => {
+            by_width(group(*vd, Eew::Same), group(*vs2, eew_of(*of)), None, *masked)
+        }
+    )
 }
 
 #[tactic(auto, unfolding(crate::specs::Needs::needs_of_mask))]
