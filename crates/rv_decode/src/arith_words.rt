@@ -12,7 +12,7 @@ ghost use Rattle.rv_decode.specs.Vector.{widen_multiply_add as widen_multiply_ad
 ghost use Rattle.rv_decode.specs.Vector.{narrow as narrow_of, clip as clip_of, extend as extend_of};
 ghost use Rattle.rv_decode.specs.Vector.{extend_rows};
 
-use crate::word::{bits, register};
+use crate::word::{bits, operation, register};
 use crate::{
     CarryOp, CarryOutOp, ClipOp, CompareOp, FixedOp, Fraction, Insn, IntOp, MultiplyAddOp,
     NarrowOp, Source, VArith, WideOp, WidenMultiplyAddOp, WidenOp,
@@ -22,28 +22,14 @@ use crate::{
 pub(crate) fn int(word: u32, op: IntOp, b: Source) -> Insn
     ensures { result ≡ int_of op b word }
 {
-    let masked = bits(word, 25, 1) == 0;
-    Insn::VArith(VArith::Int {
-        op,
-        vd: register(word, 7),
-        vs2: register(word, 20),
-        b,
-        masked,
-    })
+    operation!(word, VArith::Int(op, b))
 }
 
 /// vmadd to vnmsac.
 pub(crate) fn multiply_add(word: u32, op: MultiplyAddOp, b: Source) -> Insn
     ensures { result ≡ multiply_add_of op b word }
 {
-    let masked = bits(word, 25, 1) == 0;
-    Insn::VArith(VArith::MultiplyAdd {
-        op,
-        vd: register(word, 7),
-        vs2: register(word, 20),
-        b,
-        masked,
-    })
+    operation!(word, VArith::MultiplyAdd(op, b))
 }
 
 /// vadc and vsbc: with vm 0 alone.
@@ -98,111 +84,55 @@ pub(crate) fn merge_or_copy(word: u32, b: Source) -> Option<Insn>
 pub(crate) fn compare(word: u32, op: CompareOp, b: Source) -> Insn
     ensures { result ≡ compare_of op b word }
 {
-    let masked = bits(word, 25, 1) == 0;
-    Insn::VArith(VArith::Compare {
-        op,
-        vd: register(word, 7),
-        vs2: register(word, 20),
-        b,
-        masked,
-    })
+    operation!(word, VArith::Compare(op, b))
 }
 
 /// The fixed-point operations of one width.
 pub(crate) fn fixed(word: u32, op: FixedOp, b: Source) -> Insn
     ensures { result ≡ fixed_of op b word }
 {
-    let masked = bits(word, 25, 1) == 0;
-    Insn::VArith(VArith::Fixed {
-        op,
-        vd: register(word, 7),
-        vs2: register(word, 20),
-        b,
-        masked,
-    })
+    operation!(word, VArith::Fixed(op, b))
 }
 
 /// vwaddu to vwmul, of two operands of SEW.
 pub(crate) fn widen(word: u32, op: WidenOp, b: Source) -> Insn
     ensures { result ≡ widen_of op b word }
 {
-    let masked = bits(word, 25, 1) == 0;
-    Insn::VArith(VArith::Widen {
-        op,
-        vd: register(word, 7),
-        vs2: register(word, 20),
-        b,
-        masked,
-    })
+    operation!(word, VArith::Widen(op, b))
 }
 
 /// vwaddu.w to vwsub.w.
 pub(crate) fn wide(word: u32, op: WideOp, b: Source) -> Insn
     ensures { result ≡ wide_of op b word }
 {
-    let masked = bits(word, 25, 1) == 0;
-    Insn::VArith(VArith::Wide {
-        op,
-        vd: register(word, 7),
-        vs2: register(word, 20),
-        b,
-        masked,
-    })
+    operation!(word, VArith::Wide(op, b))
 }
 
 /// vwmaccu to vwmaccsu.
 pub(crate) fn widen_multiply_add(word: u32, op: WidenMultiplyAddOp, b: Source) -> Insn
     ensures { result ≡ widen_multiply_add_of op b word }
 {
-    let masked = bits(word, 25, 1) == 0;
-    Insn::VArith(VArith::WidenMultiplyAdd {
-        op,
-        vd: register(word, 7),
-        vs2: register(word, 20),
-        b,
-        masked,
-    })
+    operation!(word, VArith::WidenMultiplyAdd(op, b))
 }
 
 /// vnsrl and vnsra.
 pub(crate) fn narrow(word: u32, op: NarrowOp, b: Source) -> Insn
     ensures { result ≡ narrow_of op b word }
 {
-    let masked = bits(word, 25, 1) == 0;
-    Insn::VArith(VArith::Narrow {
-        op,
-        vd: register(word, 7),
-        vs2: register(word, 20),
-        b,
-        masked,
-    })
+    operation!(word, VArith::Narrow(op, b))
 }
 
 /// vnclipu and vnclip.
 pub(crate) fn clip(word: u32, op: ClipOp, b: Source) -> Insn
     ensures { result ≡ clip_of op b word }
 {
-    let masked = bits(word, 25, 1) == 0;
-    Insn::VArith(VArith::Clip {
-        op,
-        vd: register(word, 7),
-        vs2: register(word, 20),
-        b,
-        masked,
-    })
+    operation!(word, VArith::Clip(op, b))
 }
 
 fn extended(word: u32, signed: bool, of: Fraction) -> Insn
     ensures { result ≡ extend_of signed of word }
 {
-    let masked = bits(word, 25, 1) == 0;
-    Insn::VArith(VArith::Extend {
-        signed,
-        of,
-        vd: register(word, 7),
-        vs2: register(word, 20),
-        masked,
-    })
+    operation!(word, VArith::Extend(signed, of))
 }
 
 /// vzext and vsext: the place of vs1 says which.

@@ -15,7 +15,7 @@ ghost use Rattle.rv_decode.specs.ElementWords.{from_scalar as from_x};
 ghost use Rattle.rv_decode.specs.ElementWords.{whole as whole_of, to_scalar_rows, set_mask_rows};
 ghost use Rattle.rv_decode.specs.ElementWords.{whole_rows};
 
-use crate::word::{bits, register};
+use crate::word::{bits, operation, register};
 use crate::{Count, FirstOp, FoldOp, Insn, LogicOp, Offset, Source, VMask, VMove, VPerm, VReduce};
 
 /// vmandn to vmxnor: with vm 1 alone.
@@ -52,13 +52,7 @@ pub(crate) fn to_scalar(word: u32) -> Option<Insn>
 fn set_first(word: u32, op: FirstOp) -> Insn
     ensures { result ≡ set_first_of op word }
 {
-    let masked = bits(word, 25, 1) == 0;
-    Insn::VMask(VMask::SetFirst {
-        op,
-        vd: register(word, 7),
-        vs2: register(word, 20),
-        masked,
-    })
+    operation!(word, VMask::SetFirst(op))
 }
 
 /// vmsbf, vmsof, vmsif, viota, and vid with vs2 0: the place of vs1 says which.
@@ -86,78 +80,45 @@ pub(crate) fn set_mask(word: u32) -> Option<Insn>
 pub(crate) fn slide_up(word: u32, offset: Offset) -> Insn
     ensures { result ≡ slide_up_of offset word }
 {
-    let masked = bits(word, 25, 1) == 0;
-    Insn::VPerm(VPerm::SlideUp {
-        vd: register(word, 7),
-        vs2: register(word, 20),
-        offset,
-        masked,
-    })
+    operation!(word, VPerm::SlideUp(offset))
 }
 
 /// vslidedown.
 pub(crate) fn slide_down(word: u32, offset: Offset) -> Insn
     ensures { result ≡ slide_down_of offset word }
 {
-    let masked = bits(word, 25, 1) == 0;
-    Insn::VPerm(VPerm::SlideDown {
-        vd: register(word, 7),
-        vs2: register(word, 20),
-        offset,
-        masked,
-    })
+    operation!(word, VPerm::SlideDown(offset))
 }
 
 /// vslide1up.
 pub(crate) fn slide_one_up(word: u32) -> Insn
     ensures { result ≡ slide_one_up_of word }
 {
-    let masked = bits(word, 25, 1) == 0;
-    Insn::VPerm(VPerm::SlideOneUp {
-        vd: register(word, 7),
-        vs2: register(word, 20),
-        rs1: register(word, 15),
-        masked,
-    })
+    let rs1 = register(word, 15);
+    operation!(word, VPerm::SlideOneUp(rs1))
 }
 
 /// vslide1down.
 pub(crate) fn slide_one_down(word: u32) -> Insn
     ensures { result ≡ slide_one_down_of word }
 {
-    let masked = bits(word, 25, 1) == 0;
-    Insn::VPerm(VPerm::SlideOneDown {
-        vd: register(word, 7),
-        vs2: register(word, 20),
-        rs1: register(word, 15),
-        masked,
-    })
+    let rs1 = register(word, 15);
+    operation!(word, VPerm::SlideOneDown(rs1))
 }
 
 /// vrgather.
 pub(crate) fn gather(word: u32, b: Source) -> Insn
     ensures { result ≡ gather_of b word }
 {
-    let masked = bits(word, 25, 1) == 0;
-    Insn::VPerm(VPerm::Gather {
-        vd: register(word, 7),
-        vs2: register(word, 20),
-        b,
-        masked,
-    })
+    operation!(word, VPerm::Gather(b))
 }
 
 /// vrgatherei16.
 pub(crate) fn gather16(word: u32) -> Insn
     ensures { result ≡ gather16_of word }
 {
-    let masked = bits(word, 25, 1) == 0;
-    Insn::VPerm(VPerm::Gather16 {
-        vd: register(word, 7),
-        vs2: register(word, 20),
-        vs1: register(word, 15),
-        masked,
-    })
+    let vs1 = register(word, 15);
+    operation!(word, VPerm::Gather16(vs1))
 }
 
 /// vcompress: with vm 1 alone.
@@ -178,28 +139,16 @@ pub(crate) fn compress(word: u32) -> Option<Insn>
 pub(crate) fn fold(word: u32, op: FoldOp) -> Insn
     ensures { result ≡ fold_of op word }
 {
-    let masked = bits(word, 25, 1) == 0;
-    Insn::VReduce(VReduce::Fold {
-        op,
-        vd: register(word, 7),
-        vs2: register(word, 20),
-        vs1: register(word, 15),
-        masked,
-    })
+    let vs1 = register(word, 15);
+    operation!(word, VReduce::Fold(op, vs1))
 }
 
 /// vwredsumu and vwredsum.
 pub(crate) fn widen_sum(word: u32, signed: bool) -> Insn
     ensures { result ≡ widen_sum_of signed word }
 {
-    let masked = bits(word, 25, 1) == 0;
-    Insn::VReduce(VReduce::WidenSum {
-        signed,
-        vd: register(word, 7),
-        vs2: register(word, 20),
-        vs1: register(word, 15),
-        masked,
-    })
+    let vs1 = register(word, 15);
+    operation!(word, VReduce::WidenSum(signed, vs1))
 }
 
 /// vmv.s.x: with vm 1 and vs2 0 alone.

@@ -90,3 +90,18 @@ pub(crate) fn immediate_j(word: u32) -> i32
         high + bits(word, 20, 1) * 2048 + bits(word, 21, 10) * 2,
     )
 }
+
+/// The vector operation that a word spells, with vd, vs2 and a mask that is on where vm is 0, and with these fields of its
+/// own: `operation!(word, VArith::Int(op, b))`.
+macro_rules! operation {
+    ($word:expr, $class:ident::$shape:ident($($field:ident),*)) => {
+        crate::Insn::$class($class::$shape {
+            vd: crate::word::register($word, 7),
+            vs2: crate::word::register($word, 20),
+            masked: crate::word::bits($word, 25, 1) == 0,
+            $($field),*
+        })
+    };
+}
+
+pub(crate) use operation;
