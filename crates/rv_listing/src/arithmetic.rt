@@ -4,14 +4,16 @@ ghost use Rattle.std.specs.Prelude.{◌≡◌};
 ghost use Rattle.rv_listing.specs.Arithmetic.{arithmetic_text, copy_text, extend_name, form_text};
 ghost use Rattle.rv_listing.specs.Arithmetic.{fraction_form, operation_text};
 ghost use Rattle.rv_listing.specs.Sinks.{Told};
+ghost use Rattle.rv_decode.specs.declared.instructions.VArith.TheVariants as shape;
 
 use crate::fields::{Field, put_fields};
 use crate::names::{
     carry_name, carry_out_name, clip_name, compare_name, fixed_name, int_name, multiply_add_name,
     narrow_name, wide_name, widen_multiply_add_name, widen_name,
 };
+use crate::shapes::by_shape;
 use crate::sink::{Failed, Sink};
-use rv_decode::{Fraction, Reg, Source, VArith};
+use rv_decode::{CarryOutOp, Fraction, Reg, Source, VArith};
 
 /// The suffixes by the kind of the second operand.
 #[derive(Clone, Copy)]
@@ -112,144 +114,79 @@ fn fraction(of: Fraction) -> &'static str
     }
 }
 
+/// vmadc and vmsbc, whose mask is the carry or borrow that goes in.
+#[tactic(auto, unfolding(crate::specs::Arithmetic::arithmetic_text))]
+fn put_carry_out<S: Sink>(
+    out: &mut S,
+    op: CarryOutOp,
+    vd: Reg,
+    vs2: Reg,
+    b: &Source,
+    with_carry: bool,
+) -> Result<(), Failed>
+    ensures { Told result (S.contents out.old) (S.contents out.new)
+        (S.failures out.old) (S.failures out.new)
+        (arithmetic_text (shape.CarryOut op vd vs2 b.now with_carry)) }
+{
+    let forms = if with_carry {
+        Forms::WithMask
+    } else {
+        Forms::Single
+    };
+    put_operation(out, carry_out_name(op), forms, vd, vs2, b, with_carry)
+}
+
+/// vzext and vsext.
+#[tactic(auto, unfolding(crate::specs::Arithmetic::arithmetic_text))]
+fn put_extension<S: Sink>(
+    out: &mut S,
+    signed: bool,
+    of: Fraction,
+    vd: Reg,
+    vs2: Reg,
+    masked: bool,
+) -> Result<(), Failed>
+    ensures { Told result (S.contents out.old) (S.contents out.new)
+        (S.failures out.old) (S.failures out.new)
+        (arithmetic_text (shape.Extend signed of vd vs2 masked)) }
+{
+    let fields = [Field::Vd(vd), Field::Vs2(vs2), Field::Vm(!masked)];
+    put_fields(out, extension(signed), fraction(of), &fields)
+}
+
 /// Writes an instruction that computes.
 #[tactic(auto, unfolding(crate::specs::Arithmetic::arithmetic_text))]
 pub(crate) fn put_arithmetic<S: Sink>(out: &mut S, insn: &VArith) -> Result<(), Failed>
     ensures { Told result (S.contents out.old) (S.contents out.new)
         (S.failures out.old) (S.failures out.new) (arithmetic_text insn.now) }
 {
-    match insn {
-        VArith::Int {
-            op,
-            vd,
-            vs2,
-            b,
-            masked,
-        } => put_operation(out, int_name(*op), Forms::Single, *vd, *vs2, b, *masked),
-        VArith::MultiplyAdd {
-            op,
-            vd,
-            vs2,
-            b,
-            masked,
-        } => put_operation(
-            out,
-            multiply_add_name(*op),
-            Forms::Single,
-            *vd,
-            *vs2,
-            b,
-            *masked,
-        ),
-        VArith::Compare {
-            op,
-            vd,
-            vs2,
-            b,
-            masked,
-        } => put_operation(out, compare_name(*op), Forms::Single, *vd, *vs2, b, *masked),
-        VArith::Fixed {
-            op,
-            vd,
-            vs2,
-            b,
-            masked,
-        } => put_operation(out, fixed_name(*op), Forms::Single, *vd, *vs2, b, *masked),
-        VArith::Widen {
-            op,
-            vd,
-            vs2,
-            b,
-            masked,
-        } => put_operation(out, widen_name(*op), Forms::Single, *vd, *vs2, b, *masked),
-        VArith::Wide {
-            op,
-            vd,
-            vs2,
-            b,
-            masked,
-        } => put_operation(out, wide_name(*op), Forms::Doubled, *vd, *vs2, b, *masked),
-        VArith::WidenMultiplyAdd {
-            op,
-            vd,
-            vs2,
-            b,
-            masked,
-        } => put_operation(
-            out,
-            widen_multiply_add_name(*op),
-            Forms::Single,
-            *vd,
-            *vs2,
-            b,
-            *masked,
-        ),
-        VArith::Narrow {
-            op,
-            vd,
-            vs2,
-            b,
-            masked,
-        } => put_operation(out, narrow_name(*op), Forms::Doubled, *vd, *vs2, b, *masked),
-        VArith::Clip {
-            op,
-            vd,
-            vs2,
-            b,
-            masked,
-        } => put_operation(out, clip_name(*op), Forms::Doubled, *vd, *vs2, b, *masked),
-        VArith::Carry { op, vd, vs2, b } => put_operation(
-            out,
-            carry_name(*op),
-            Forms::WithMask,
-            *vd,
-            *vs2,
-            b,
-            true,
-        ),
-        VArith::CarryOut {
-            op,
-            vd,
-            vs2,
-            b,
-            with_carry: true,
-        } => put_operation(
-            out,
-            carry_out_name(*op),
-            Forms::WithMask,
-            *vd,
-            *vs2,
-            b,
-            true,
-        ),
-        VArith::CarryOut {
-            op,
-            vd,
-            vs2,
-            b,
-            with_carry: false,
-        } => put_operation(out, carry_out_name(*op), Forms::Single, *vd, *vs2, b, false),
-        VArith::Merge { vd, vs2, b } => put_operation(
-            out,
-            "vmerge",
-            Forms::WithMask,
-            *vd,
-            *vs2,
-            b,
-            true,
-        ),
-        VArith::Copy { vd, b } => put_copy(out, *vd, b),
-        VArith::Extend {
-            signed,
-            of,
-            vd,
-            vs2,
-            masked,
-        } => put_fields(
-            out,
-            extension(*signed),
-            fraction(*of),
-            &[Field::Vd(*vd), Field::Vs2(*vs2), Field::Vm(!*masked)],
-        ),
-    }
+    by_shape!(insn;
+        VArith::Int(op, vd, vs2, b, masked) =>
+            put_operation(out, int_name(*op), Forms::Single, *vd, *vs2, b, *masked),
+        VArith::MultiplyAdd(op, vd, vs2, b, masked) =>
+            put_operation(out, multiply_add_name(*op), Forms::Single, *vd, *vs2, b, *masked),
+        VArith::Carry(op, vd, vs2, b) =>
+            put_operation(out, carry_name(*op), Forms::WithMask, *vd, *vs2, b, true),
+        VArith::CarryOut(op, vd, vs2, b, with_carry) =>
+            put_carry_out(out, *op, *vd, *vs2, b, *with_carry),
+        VArith::Merge(vd, vs2, b) =>
+            put_operation(out, "vmerge", Forms::WithMask, *vd, *vs2, b, true),
+        VArith::Copy(vd, b) => put_copy(out, *vd, b),
+        VArith::Compare(op, vd, vs2, b, masked) =>
+            put_operation(out, compare_name(*op), Forms::Single, *vd, *vs2, b, *masked),
+        VArith::Fixed(op, vd, vs2, b, masked) =>
+            put_operation(out, fixed_name(*op), Forms::Single, *vd, *vs2, b, *masked),
+        VArith::Widen(op, vd, vs2, b, masked) =>
+            put_operation(out, widen_name(*op), Forms::Single, *vd, *vs2, b, *masked),
+        VArith::Wide(op, vd, vs2, b, masked) =>
+            put_operation(out, wide_name(*op), Forms::Doubled, *vd, *vs2, b, *masked),
+        VArith::WidenMultiplyAdd(op, vd, vs2, b, masked) =>
+            put_operation(out, widen_multiply_add_name(*op), Forms::Single, *vd, *vs2, b, *masked),
+        VArith::Narrow(op, vd, vs2, b, masked) =>
+            put_operation(out, narrow_name(*op), Forms::Doubled, *vd, *vs2, b, *masked),
+        VArith::Clip(op, vd, vs2, b, masked) =>
+            put_operation(out, clip_name(*op), Forms::Doubled, *vd, *vs2, b, *masked),
+        VArith::Extend(signed, of, vd, vs2, masked) =>
+            put_extension(out, *signed, *of, *vd, *vs2, *masked),
+    )
 }

@@ -12,6 +12,7 @@ mod permutations;
 mod pieces;
 mod reductions;
 mod scalar;
+mod shapes;
 mod sink;
 
 pub use listing::put_listing;

@@ -1,10 +1,13 @@
 //! Listings of the instructions that move elements among places.
 
 ghost use Rattle.rv_listing.specs.Vector.{permutation_text, slide_text};
+ghost use Rattle.rv_listing.specs.Arithmetic.{operation_text};
 ghost use Rattle.rv_listing.specs.Sinks.{Told};
+ghost use Rattle.rv_listing.specs.declared.arithmetic.Forms.TheVariants as forms;
 
 use crate::arithmetic::{Forms, put_operation};
 use crate::fields::{Field, put_fields};
+use crate::shapes::by_shape;
 use crate::sink::{Failed, Sink};
 use rv_decode::{Offset, Reg, Source, VPerm};
 
@@ -22,10 +25,7 @@ fn put_slide<S: Sink>(
         (S.failures out.old) (S.failures out.new) (slide_text name.now vd vs2 offset.now masked) }
 {
     match offset {
-        Offset::Scalar(rs1) => {
-            let b = Source::Scalar(*rs1);
-            put_operation(out, name, Forms::Single, vd, vs2, &b, masked)
-        }
+        Offset::Scalar(rs1) => put_single(out, name, vd, vs2, Source::Scalar(*rs1), masked),
         Offset::Immediate(amount) => {
             let amount = Field::Amount(*amount);
             let fields = [Field::Vd(vd), Field::Vs2(vs2), amount, Field::Vm(!masked)];
@@ -34,86 +34,44 @@ fn put_slide<S: Sink>(
     }
 }
 
+/// An instruction with two sources of SEW.
+fn put_single<S: Sink>(
+    out: &mut S,
+    name: &str,
+    vd: Reg,
+    vs2: Reg,
+    b: Source,
+    masked: bool,
+) -> Result<(), Failed>
+    ensures { Told result (S.contents out.old) (S.contents out.new)
+        (S.failures out.old) (S.failures out.new)
+        (operation_text name.now forms.Single vd vs2 b masked) }
+{
+    put_operation(out, name, Forms::Single, vd, vs2, &b, masked)
+}
+
 /// Writes an instruction that moves elements among places.
 #[tactic(auto, unfolding(crate::specs::Vector::permutation_text))]
 pub(crate) fn put_permutation<S: Sink>(out: &mut S, insn: &VPerm) -> Result<(), Failed>
     ensures { Told result (S.contents out.old) (S.contents out.new)
         (S.failures out.old) (S.failures out.new) (permutation_text insn.now) }
 {
-    match insn {
-        VPerm::SlideUp {
-            vd,
-            vs2,
-            offset,
-            masked,
-        } => put_slide(out, "vslideup", *vd, *vs2, offset, *masked),
-        VPerm::SlideDown {
-            vd,
-            vs2,
-            offset,
-            masked,
-        } => put_slide(out, "vslidedown", *vd, *vs2, offset, *masked),
-        VPerm::SlideOneUp {
-            vd,
-            vs2,
-            rs1,
-            masked,
-        } => put_operation(
-            out,
-            "vslide1up",
-            Forms::Single,
-            *vd,
-            *vs2,
-            &Source::Scalar(*rs1),
-            *masked,
-        ),
-        VPerm::SlideOneDown {
-            vd,
-            vs2,
-            rs1,
-            masked,
-        } => put_operation(
-            out,
-            "vslide1down",
-            Forms::Single,
-            *vd,
-            *vs2,
-            &Source::Scalar(*rs1),
-            *masked,
-        ),
-        VPerm::Gather { vd, vs2, b, masked } => put_operation(
-            out,
-            "vrgather",
-            Forms::Single,
-            *vd,
-            *vs2,
-            b,
-            *masked,
-        ),
-        VPerm::Gather16 {
-            vd,
-            vs2,
-            vs1,
-            masked,
-        } => put_operation(
-            out,
-            "vrgatherei16",
-            Forms::Single,
-            *vd,
-            *vs2,
-            &Source::Vector(*vs1),
-            *masked,
-        ),
-        VPerm::Compress { vd, vs2, vs1 } => put_fields(
-            out,
-            "vcompress",
-            ".vm",
-            &[
-                Field::Vd(*vd),
-                Field::Vs2(*vs2),
-                Field::Vs1(*vs1),
-                Field::Vm(true),
-            ],
-        ),
-    }
+    by_shape!(insn;
+        VPerm::SlideUp(vd, vs2, offset, masked) =>
+            put_slide(out, "vslideup", *vd, *vs2, offset, *masked),
+        VPerm::SlideDown(vd, vs2, offset, masked) =>
+            put_slide(out, "vslidedown", *vd, *vs2, offset, *masked),
+        VPerm::SlideOneUp(vd, vs2, rs1, masked) =>
+            put_single(out, "vslide1up", *vd, *vs2, Source::Scalar(*rs1), *masked),
+        VPerm::SlideOneDown(vd, vs2, rs1, masked) =>
+            put_single(out, "vslide1down", *vd, *vs2, Source::Scalar(*rs1), *masked),
+        VPerm::Gather(vd, vs2, b, masked) =>
+            put_single(out, "vrgather", *vd, *vs2, *b, *masked),
+        VPerm::Gather16(vd, vs2, vs1, masked) =>
+            put_single(out, "vrgatherei16", *vd, *vs2, Source::Vector(*vs1), *masked),
+        VPerm::Compress(vd, vs2, vs1) =>
+            put_fields(out, "vcompress", ".vm", &[
+                Field::Vd(*vd), Field::Vs2(*vs2), Field::Vs1(*vs1), Field::Vm(true),
+            ]),
+    )
 }

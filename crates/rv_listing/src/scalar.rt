@@ -8,6 +8,7 @@ use crate::fields::{Field, put_fields};
 use crate::names::{
     branch_name, csr_name, immediate_name, load_name, register_name, shift_name, store_name,
 };
+use crate::shapes::by_shape;
 use crate::sink::{Failed, Sink};
 use rv_decode::{CsrInsn, CsrSource, ScalarInsn};
 
@@ -28,90 +29,37 @@ pub(crate) fn put_scalar<S: Sink>(
     ensures { Told result (S.contents out.old) (S.contents out.new)
         (S.failures out.old) (S.failures out.new) (scalar_text address insn.now) }
 {
-    match insn {
-        ScalarInsn::Lui { rd, imm } => put_fields(
-            out,
-            "lui",
-            "",
-            &[Field::Rd(*rd), Field::Upper(*imm)],
-        ),
-        ScalarInsn::Auipc { rd, imm } => put_fields(
-            out,
-            "auipc",
-            "",
-            &[Field::Rd(*rd), Field::Upper(*imm)],
-        ),
-        ScalarInsn::Jal { rd, offset } => put_fields(
-            out,
-            "jal",
-            "",
-            &[Field::Rd(*rd), jump(address, *offset)],
-        ),
-        ScalarInsn::Jalr { rd, rs1, offset } => put_fields(
-            out,
-            "jalr",
-            "",
-            &[Field::Rd(*rd), Field::Rs1(*rs1), Field::Imm(*offset)],
-        ),
-        ScalarInsn::Branch {
-            condition,
-            rs1,
-            rs2,
-            offset,
-        } => put_fields(
-            out,
-            branch_name(*condition),
-            "",
-            &[Field::Rs1(*rs1), Field::Rs2(*rs2), jump(address, *offset)],
-        ),
-        ScalarInsn::Load {
-            kind,
-            rd,
-            rs1,
-            offset,
-        } => put_fields(
-            out,
-            load_name(*kind),
-            "",
-            &[Field::Rd(*rd), Field::Rs1(*rs1), Field::Imm(*offset)],
-        ),
-        ScalarInsn::Store {
-            size,
-            rs1,
-            rs2,
-            offset,
-        } => put_fields(
-            out,
-            store_name(*size),
-            "",
-            &[Field::Rs1(*rs1), Field::Rs2(*rs2), Field::Imm(*offset)],
-        ),
-        ScalarInsn::Immediate { op, rd, rs1, imm } => put_fields(
-            out,
-            immediate_name(*op),
-            "",
-            &[Field::Rd(*rd), Field::Rs1(*rs1), Field::Imm(*imm)],
-        ),
-        ScalarInsn::ShiftImmediate {
-            op,
-            rd,
-            rs1,
-            amount,
-        } => put_fields(
-            out,
-            shift_name(*op),
-            "",
-            &[Field::Rd(*rd), Field::Rs1(*rs1), Field::Amount(*amount)],
-        ),
-        ScalarInsn::Register { op, rd, rs1, rs2 } => put_fields(
-            out,
-            register_name(*op),
-            "",
-            &[Field::Rd(*rd), Field::Rs1(*rs1), Field::Rs2(*rs2)],
-        ),
-        ScalarInsn::Fence => put_fields(out, "fence", "", &[]),
-        ScalarInsn::Ecall => put_fields(out, "ecall", "", &[]),
-    }
+    by_shape!(insn;
+        ScalarInsn::Lui(rd, imm) =>
+            put_fields(out, "lui", "", &[Field::Rd(*rd), Field::Upper(*imm)]),
+        ScalarInsn::Auipc(rd, imm) =>
+            put_fields(out, "auipc", "", &[Field::Rd(*rd), Field::Upper(*imm)]),
+        ScalarInsn::Jal(rd, offset) =>
+            put_fields(out, "jal", "", &[Field::Rd(*rd), jump(address, *offset)]),
+        ScalarInsn::Jalr(rd, rs1, offset) =>
+            put_fields(out, "jalr", "",
+                &[Field::Rd(*rd), Field::Rs1(*rs1), Field::Imm(*offset)]),
+        ScalarInsn::Branch(condition, rs1, rs2, offset) =>
+            put_fields(out, branch_name(*condition), "",
+                &[Field::Rs1(*rs1), Field::Rs2(*rs2), jump(address, *offset)]),
+        ScalarInsn::Load(kind, rd, rs1, offset) =>
+            put_fields(out, load_name(*kind), "",
+                &[Field::Rd(*rd), Field::Rs1(*rs1), Field::Imm(*offset)]),
+        ScalarInsn::Store(size, rs1, rs2, offset) =>
+            put_fields(out, store_name(*size), "",
+                &[Field::Rs1(*rs1), Field::Rs2(*rs2), Field::Imm(*offset)]),
+        ScalarInsn::Immediate(op, rd, rs1, imm) =>
+            put_fields(out, immediate_name(*op), "",
+                &[Field::Rd(*rd), Field::Rs1(*rs1), Field::Imm(*imm)]),
+        ScalarInsn::ShiftImmediate(op, rd, rs1, amount) =>
+            put_fields(out, shift_name(*op), "",
+                &[Field::Rd(*rd), Field::Rs1(*rs1), Field::Amount(*amount)]),
+        ScalarInsn::Register(op, rd, rs1, rs2) =>
+            put_fields(out, register_name(*op), "",
+                &[Field::Rd(*rd), Field::Rs1(*rs1), Field::Rs2(*rs2)]),
+        ScalarInsn::Fence() => put_fields(out, "fence", "", &[]),
+        ScalarInsn::Ecall() => put_fields(out, "ecall", "", &[]),
+    )
 }
 
 /// Writes an instruction on a CSR.
