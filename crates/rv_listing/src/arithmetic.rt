@@ -1,6 +1,6 @@
 //! Listings of vector arithmetic.
 
-ghost use Rattle.std.specs.Prelude.{◌≡◌};
+ghost use Rattle.std.specs.Prelude.{◌≡◌, true};
 ghost use Rattle.rv_listing.specs.Arithmetic.{arithmetic_text, copy_text, extend_name, form_text};
 ghost use Rattle.rv_listing.specs.Arithmetic.{fraction_form, operation_text};
 ghost use Rattle.rv_listing.specs.Sinks.{Told};
@@ -62,6 +62,21 @@ pub(crate) fn put_operation<S: Sink>(
     };
     let fields = [Field::Vd(vd), second, third, Field::Vm(!masked)];
     put_fields(out, name, form(forms, b), &fields)
+}
+
+/// An instruction with two sources of which v0 is a third.
+fn put_with_mask<S: Sink>(
+    out: &mut S,
+    name: &str,
+    vd: Reg,
+    vs2: Reg,
+    b: &Source,
+) -> Result<(), Failed>
+    ensures { Told result (S.contents out.old) (S.contents out.new)
+        (S.failures out.old) (S.failures out.new)
+        (operation_text name.now Forms.WithMask vd vs2 b.now true) }
+{
+    put_operation(out, name, Forms::WithMask, vd, vs2, b, true)
 }
 
 fn signed(imm: i32) -> Field
@@ -198,30 +213,14 @@ pub(crate) fn put_arithmetic<S: Sink>(out: &mut S, insn: &VArith) -> Result<(), 
             b,
             masked,
         } => put_operation(out, clip_name(*op), Forms::Doubled, *vd, *vs2, b, *masked),
-        VArith::Carry { op, vd, vs2, b } => put_operation(
-            out,
-            carry_name(*op),
-            Forms::WithMask,
-            *vd,
-            *vs2,
-            b,
-            true,
-        ),
+        VArith::Carry { op, vd, vs2, b } => put_with_mask(out, carry_name(*op), *vd, *vs2, b),
         VArith::CarryOut {
             op,
             vd,
             vs2,
             b,
             with_carry: true,
-        } => put_operation(
-            out,
-            carry_out_name(*op),
-            Forms::WithMask,
-            *vd,
-            *vs2,
-            b,
-            true,
-        ),
+        } => put_with_mask(out, carry_out_name(*op), *vd, *vs2, b),
         VArith::CarryOut {
             op,
             vd,
@@ -229,15 +228,7 @@ pub(crate) fn put_arithmetic<S: Sink>(out: &mut S, insn: &VArith) -> Result<(), 
             b,
             with_carry: false,
         } => put_operation(out, carry_out_name(*op), Forms::Single, *vd, *vs2, b, false),
-        VArith::Merge { vd, vs2, b } => put_operation(
-            out,
-            "vmerge",
-            Forms::WithMask,
-            *vd,
-            *vs2,
-            b,
-            true,
-        ),
+        VArith::Merge { vd, vs2, b } => put_with_mask(out, "vmerge", *vd, *vs2, b),
         VArith::Copy { vd, b } => put_copy(out, *vd, b),
         VArith::Extend {
             signed,

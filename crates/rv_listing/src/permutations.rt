@@ -8,7 +8,7 @@ use crate::fields::{Field, put_fields};
 use crate::sink::{Failed, Sink};
 use rv_decode::{Offset, Reg, Source, VPerm};
 
-/// vslideup and vslidedown.
+/// A slide.
 #[tactic(auto, unfolding(crate::specs::Vector::slide_text, crate::specs::Arithmetic::operation_text))]
 fn put_slide<S: Sink>(
     out: &mut S,
@@ -58,27 +58,18 @@ pub(crate) fn put_permutation<S: Sink>(out: &mut S, insn: &VPerm) -> Result<(), 
             vs2,
             rs1,
             masked,
-        } => put_operation(
-            out,
-            "vslide1up",
-            Forms::Single,
-            *vd,
-            *vs2,
-            &Source::Scalar(*rs1),
-            *masked,
-        ),
+        } => put_slide(out, "vslide1up", *vd, *vs2, &Offset::Scalar(*rs1), *masked),
         VPerm::SlideOneDown {
             vd,
             vs2,
             rs1,
             masked,
-        } => put_operation(
+        } => put_slide(
             out,
             "vslide1down",
-            Forms::Single,
             *vd,
             *vs2,
-            &Source::Scalar(*rs1),
+            &Offset::Scalar(*rs1),
             *masked,
         ),
         VPerm::Gather { vd, vs2, b, masked } => put_operation(
