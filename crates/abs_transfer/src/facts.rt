@@ -2,7 +2,7 @@
 ghost use Rattle.std.specs.Prelude.{◌≡◌, ◌+◌, ◌*◌, ◌%◌, ◌^◌, ◌<◌, ◌≤◌, ◌++◌, filter, find, length};
 ghost use Rattle.std.specs.Prelude.{map, option_to_list, vec_capacity};
 ghost use Rattle.std.specs.Option.{option_map};
-ghost use Rattle.rv_decode.specs.Needs.{eew_of as eew_of_of, needs_of};
+ghost use Rattle.rv_decode.specs.Needs.{needs_of};
 ghost use Rattle.vreg_groups.specs.Legality.{count_of as count_of_of};
 ghost use Rattle.vreg_groups.specs.VectorLength.{IsVlenb};
 ghost use Rattle.rv_decode.specs.Instructions.{bits_of_width};
@@ -33,7 +33,7 @@ use abs_domain::{Numbers, VL, fitting, just, known, multiple_range, up_to};
 use cert_note::VectorFact;
 use linear_facts::Range;
 use rv_decode::{
-    Eew, Extent, Fraction, Insn, IntOp, NarrowOp, Operand, Reg, Source, VArith, VMask, Width, needs,
+    Eew, Extent, Insn, IntOp, NarrowOp, Operand, Reg, Source, VArith, VMask, Width, needs,
 };
 use std::alloc::Allocator;
 use vreg_groups::{Vtype, whole_count};
@@ -102,16 +102,6 @@ pub(crate) fn source_range(
             hi: fact.high,
         },
         None => all_of_bits(width.min(32)),
-    }
-}
-
-/// The width of what is extended to SEW.
-fn eew_of(of: Fraction) -> Eew
-    ensures { result ≡ eew_of_of of }
-{
-    match of {
-        Fraction::Half => Eew::Half,
-        Fraction::Quarter => Eew::Quarter,
     }
 }
 
@@ -335,7 +325,7 @@ fn arith_range<A: Allocator>(
             masked,
             ..
         } => {
-            let range = source_range(t, numbers.range_at(VL), *vs2, eew_of(*of), facts);
+            let range = source_range(t, numbers.range_at(VL), *vs2, of.eew(), facts);
             unless_masked(*masked || *signed, Some(range))
         }
         VArith::Copy { b, .. } => Some(second_range(t, numbers, facts, *b)),

@@ -24,6 +24,19 @@ pub enum Eew {
     Fixed(Width),
 }
 
+impl Fraction {
+    /// The width of what vzext and vsext extend to SEW: half of it or a quarter ("Vector Integer Extension").
+    #[inline(always)]
+    pub fn eew(self) -> Eew
+        ensures { result ≡ eew_of self }
+    {
+        match self {
+            Fraction::Half => Eew::Half,
+            Fraction::Quarter => Eew::Quarter,
+        }
+    }
+}
+
 /// How much of the registers an operand covers.
 #[derive(Clone, Copy, PartialEq, Eq, Debug)]
 pub enum Extent {
@@ -124,15 +137,6 @@ fn whole(first: Reg, count: Count) -> Option<Operand>
         first,
         extent: Extent::Whole(count),
     })
-}
-
-fn eew_of(of: Fraction) -> Eew
-    ensures { result ≡ eew_of of }
-{
-    match of {
-        Fraction::Half => Eew::Half,
-        Fraction::Quarter => Eew::Quarter,
-    }
 }
 
 fn by_width(
@@ -249,7 +253,7 @@ fn needs_arith(arith: &VArith) -> Operands
         VArith::Merge { vd, vs2, b } => same(*vd, *vs2, b, true),
         VArith::Copy { vd, b } => by_width(group(*vd, Eew::Same), None, second(b), false),
         VArith::Extend { of, vd, vs2, masked, .. } => {
-            by_width(group(*vd, Eew::Same), group(*vs2, eew_of(*of)), None, *masked)
+            by_width(group(*vd, Eew::Same), group(*vs2, of.eew()), None, *masked)
         }
     )
 }

@@ -167,7 +167,7 @@ fn extend_elements<
         unreachable!()
     };
     let destination = setup.group(*vd, Eew::Same);
-    let source = setup.group::<VLENB>(*vs2, width_of(of));
+    let source = setup.group::<VLENB>(*vs2, of.eew());
     let vl = setup.vl;
     let mut a = [zero::<N>(); MOST];
     let mut x = [zero::<W>(); MOST];
@@ -175,13 +175,4 @@ fn extend_elements<
     source.read(registers, a);
     extend_results(*signed, a, x);
     write_results(registers, setup, &destination, *masked, x);
-}
-
-fn width_of(of: Fraction) -> Eew
-    ensures { result ≡ eew_of of }
-{
-    match of {
-        Fraction::Half => Eew::Half,
-        Fraction::Quarter => Eew::Quarter,
-    }
 }

@@ -21,10 +21,12 @@ fn widths_in_bits_and_bytes(rt: HostRuntime) {
     ] {
         assert_same!(rt; kind.width(), width);
     }
+    // vzext.vf4 reads elements of a quarter of SEW
+    assert_same!(rt; Fraction::Quarter.eew(), Eew::Quarter);
 }
 
 #[test]
-fn a_word_of_each_class(rt: HostRuntime) {
+fn a_word_of_each_scalar_class(rt: HostRuntime) {
     // lb x13, -2048(x14)
     let insn = Insn::Scalar(ScalarInsn::Load {
         kind: LoadKind::Byte,
@@ -48,6 +50,10 @@ fn a_word_of_each_class(rt: HostRuntime) {
         vtype: 0xc0,
     });
     assert_meaning(&rt, 0x0c06_72d7, Some(insn));
+}
+
+#[test]
+fn a_word_of_each_vector_class(rt: HostRuntime) {
     // vand.vi v15, v29, -1, v0.t
     let insn = Insn::VArith(VArith::Int {
         op: IntOp::And,
