@@ -6,10 +6,13 @@ ghost use Rattle.vreg_groups.specs.VectorLength.{IsVlenb};
 use crate::tests::assertions::{assert_same, given, opaque};
 use crate::tests::kernels::{Kernel, RAISE, RAISE_IF, SUM, accepted};
 use block_checker::Accepted;
-use cert_note::Vlen;
+use cert_note::Vlen::{self, V128, V256, V512};
 use region_mem::{Arg, Args, Bytes};
 use rv_decode::Reg;
-use sandbox_run::{OpenError, Session};
+use sandbox_run::OpenError::{
+    self, BoundTooLarge, ScalarOutOfInterval, WrongKind, WrongSize, WrongVlen,
+};
+use sandbox_run::Session;
 use std::alloc::Global;
 use std::process::Abort;
 use vreg_groups::Agnostic;
@@ -91,9 +94,9 @@ fn assert_run(
 ) {
     let accepted = accepted(rt, alloc, kernel.0, kernel.1);
     let came = match vlen {
-        Vlen::V128 => run_of::<16>(alloc, &accepted, args, max),
-        Vlen::V256 => run_of::<32>(alloc, &accepted, args, max),
-        Vlen::V512 => run_of::<64>(alloc, &accepted, args, max),
+        V128 => run_of::<16>(alloc, &accepted, args, max),
+        V256 => run_of::<32>(alloc, &accepted, args, max),
+        V512 => run_of::<64>(alloc, &accepted, args, max),
     };
     assert_same!(rt; came, left);
 }
@@ -101,58 +104,16 @@ fn assert_run(
 #[test]
 fn opens_no_other_run(rt: HostRuntime) {
     for (kernel, vlen, size, number, max, error) in [
-        (SUM, Vlen::V256, None, 1025, 1, OpenError::WrongKind(0)),
-        (
-            SUM,
-            Vlen::V256,
-            Some(1023),
-            1025,
-            1,
-            OpenError::ScalarOutOfInterval(1),
-        ),
-        (
-            SUM,
-            Vlen::V256,
-            Some(1023),
-            1024,
-            1,
-            OpenError::WrongSize(0),
-        ),
-        (
-            SUM,
-            Vlen::V256,
-            Some(1024),
-            1024,
-            5121,
-            OpenError::BoundTooLarge,
-        ),
-        (
-            SUM,
-            Vlen::V256,
-            Some(1024),
-            1024,
-            5122,
-            OpenError::WrongVlen,
-        ),
-        (
-            RAISE,
-            Vlen::V128,
-            Some(4096),
-            1024,
-            8193,
-            OpenError::BoundTooLarge,
-        ),
-        (
-            RAISE,
-            Vlen::V256,
-            Some(4096),
-            1024,
-            8194,
-            OpenError::WrongVlen,
-        ),
+        (SUM, V256, None, 1025, 1, WrongKind(0)),
+        (SUM, V256, Some(1023), 1025, 1, ScalarOutOfInterval(1)),
+        (SUM, V256, Some(1023), 1024, 1, WrongSize(0)),
+        (SUM, V256, Some(1024), 1024, 5121, BoundTooLarge),
+        (SUM, V256, Some(1024), 1024, 5122, WrongVlen),
+        (RAISE, V128, Some(4096), 1024, 8193, BoundTooLarge),
+        (RAISE, V256, Some(4096), 1024, 8194, WrongVlen),
     ] {
         let args = args(rt, rt.alloc(), size, number, None);
-        let kernel = (kernel, Vlen::V128);
+        let kernel = (kernel, V128);
         assert_run(rt, rt.alloc(), kernel, vlen, args, max, Err(error));
     }
 }
@@ -163,8 +124,8 @@ fn sums_bytes(rt: HostRuntime) {
     for (number, steps, sum) in [(0, 2, 0), (1, 7, 3), (1024, 5122, 3072)] {
         let args = args(rt, rt.alloc(), Some(1024), number, None);
         let left = Ok((steps, steps, sum, Some(3)));
-        let kernel = (SUM, Vlen::V128);
-        assert_run(rt, rt.alloc(), kernel, Vlen::V128, args, steps, left);
+        let kernel = (SUM, V128);
+        assert_run(rt, rt.alloc(), kernel, V128, args, steps, left);
     }
 }
 
@@ -172,15 +133,15 @@ fn sums_bytes(rt: HostRuntime) {
 #[test]
 fn runs_over_strips(rt: HostRuntime) {
     for (vlen, number, steps, first) in [
-        (Vlen::V128, 0, 2, 3),
-        (Vlen::V128, 9, 26, 4),
-        (Vlen::V128, 1024, 2050, 4),
-        (Vlen::V256, 9, 18, 4),
-        (Vlen::V256, 1024, 1026, 4),
-        (Vlen::V512, 16, 10, 4),
-        (Vlen::V512, 17, 18, 4),
-        (Vlen::V512, 1023, 514, 4),
-        (Vlen::V512, 1024, 514, 4),
+        (V128, 0, 2, 3),
+        (V128, 9, 26, 4),
+        (V128, 1024, 2050, 4),
+        (V256, 9, 18, 4),
+        (V256, 1024, 1026, 4),
+        (V512, 16, 10, 4),
+        (V512, 17, 18, 4),
+        (V512, 1023, 514, 4),
+        (V512, 1024, 514, 4),
     ] {
         let args = args(rt, rt.alloc(), Some(4096), number, None);
         let left = Ok((steps, steps, 0, Some(first)));
@@ -193,8 +154,8 @@ fn runs_either_way(rt: HostRuntime) {
     for (number, raised, steps, first) in [(17, 1, 18, 4), (17, 0, 16, 3), (0, 1, 2, 3)] {
         let args = args(rt, rt.alloc(), Some(1024), number, Some(raised));
         let left = Ok((steps, steps, raised, Some(first)));
-        let kernel = (RAISE_IF, Vlen::V128);
-        assert_run(rt, rt.alloc(), kernel, Vlen::V128, args, 8197, left);
+        let kernel = (RAISE_IF, V128);
+        assert_run(rt, rt.alloc(), kernel, V128, args, 8197, left);
     }
 }
 
@@ -238,7 +199,7 @@ fn assert_steps(rt: impl Abort + Copy, session: &mut Session<16>) {
 #[test]
 fn shows_each_step(rt: HostRuntime) {
     let alloc = rt.alloc();
-    let accepted = accepted(rt, alloc, SUM, Vlen::V128);
+    let accepted = accepted(rt, alloc, SUM, V128);
     let args = args(rt, alloc, Some(1024), 1, None);
     let opened = Session::<16>::open(alloc, &accepted, args, Agnostic::Ones, 7);
     let mut session = given!(rt; opened);
