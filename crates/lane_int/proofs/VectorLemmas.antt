@@ -10,11 +10,10 @@ use Rattle.lane_int.specs.Integer.{multiply_added, shift_amount}
 use Rattle.std.proofs.Math.Nat.{mod-add-mod}
 use Rattle.rv_decode.specs.declared.instructions.MultiplyAddOp.TheVariants.{Macc, Nmsac, Madd, Nmsub}
 use Rattle.lane_int.specs.Lists.{zip3}
-use Rattle.lane_int.specs.Chunks.{all_ones}
 use Rattle.lane_int.proofs.Overlay.{get_or-zip3}
 
 -- two functions agree on numbers below 2^SEW
-pub zip2_agrees : (w : Width) {f g : ℕ → ℕ → ℕ} (xs ys : List ℕ) → ((a b : ℕ) → a < 2 ^ bits w → b < 2 ^ bits w → f a b ≡ g a b) → Each1 (Fits w) xs → Each1 (Fits w) ys → zip2 f xs ys ≡ zip2 g xs ys
+pub zip2_agrees : (w : Width) {A : Type 0} {f g : ℕ → ℕ → A} (xs ys : List ℕ) → ((a b : ℕ) → a < 2 ^ bits w → b < 2 ^ bits w → f a b ≡ g a b) → Each1 (Fits w) xs → Each1 (Fits w) ys → zip2 f xs ys ≡ zip2 g xs ys
 zip2_agrees w [] ys same fits_x fits_y = refl
 zip2_agrees w (x ∷ xs) [] same fits_x fits_y = refl
 zip2_agrees w (x ∷ xs) (y ∷ ys) same fits_x fits_y = ap₂ (λ r rs. r ∷ rs) (same x y fits_x.0.fits fits_y.0.fits) (zip2_agrees w xs ys same fits_x.1 fits_y.1)
@@ -110,7 +109,7 @@ nmsub_lanes w xs ys zs = sym (zip3_x_yz (λ a b. (a + (2 ^ bits w - b)) % 2 ^ bi
 pub ruleset multiply_adds = (macc_lanes, nmsac_lanes, madd_lanes, nmsub_lanes)
 
 -- a choice of two splats by a comparison
-select_splats : (t : ℕ → ℕ → Bool) (n y z : ℕ) (us vs : List ℕ) → length us ≡ n → sel_l (zip2 t us vs) (replicate n y) (replicate n z) ≡ zip2 (λ a b. cond (t a b) y z) us vs
+pub select_splats : (t : ℕ → ℕ → Bool) (n y z : ℕ) (us vs : List ℕ) → length us ≡ n → sel_l (zip2 t us vs) (replicate n y) (replicate n z) ≡ zip2 (λ a b. cond (t a b) y z) us vs
 select_splats t n y z [] vs long = refl
 select_splats t n y z (u ∷ us) [] long = refl
 select_splats t zero y z (u ∷ us) (v ∷ vs) long = absurd (omega (arith, long))
@@ -137,14 +136,11 @@ picked w t xs ys is = ap (λ hs. sel_l (map (top (hbits w)) hs) xs ys) is ∙ ap
     pick (x ∷ xs) [] = refl
     pick (x ∷ xs) (y ∷ ys) = ap (λ rs. cond (t x y) x y ∷ rs) (pick xs ys)
 
--- all ones in the lanes where t holds, which is a compare on numbers below 2^SEW
-pub compared : (w : Width) {t u : ℕ → ℕ → Bool} (n : ℕ) {holds : List ℕ} (xs ys : List ℕ) → holds ≡ zip2 (λ a b. cond (t a b) (2 ^ bits w - 1) 0) xs ys → ((a b : ℕ) → a < 2 ^ bits w → b < 2 ^ bits w → t a b ≡ u a b) → length xs ≡ n → Each1 (Fits w) xs → Each1 (Fits w) ys
-    → sel_l (map (top (hbits w)) holds) (replicate n (2 ^ bits w - 1)) (replicate n 0) ≡ zip2 (λ a b. all_ones w (u a b)) xs ys
-compared w {t} {u} n xs ys is same long fits_x fits_y =
-    ap (λ hs. sel_l (map (top (hbits w)) hs) (replicate n (2 ^ bits w - 1)) (replicate n 0)) is
-    ∙ ap (λ ms. sel_l ms (replicate n (2 ^ bits w - 1)) (replicate n 0)) (tops_compared w t xs ys)
-    ∙ select_splats t n (2 ^ bits w - 1) 0 xs ys long
-    ∙ zip2_agrees w xs ys (λ a b p q. ap (all_ones w) (same a b p q)) fits_x fits_y
+-- lanes that a test chooses which is a compare on numbers below 2^SEW
+pub compared : (w : Width) {t u : ℕ → ℕ → Bool} {holds : List ℕ} (xs ys us vs : List ℕ) → holds ≡ zip2 (λ a b. cond (t a b) (2 ^ bits w - 1) 0) xs ys → ((a b : ℕ) → a < 2 ^ bits w → b < 2 ^ bits w → t a b ≡ u a b) → Each1 (Fits w) xs → Each1 (Fits w) ys
+    → sel_l (zip2 u xs ys) us vs ≡ sel_l (map (top (hbits w)) holds) us vs
+compared w {t} {u} xs ys us vs is same fits_x fits_y =
+    sym (ap (λ hs. sel_l (map (top (hbits w)) hs) us vs) is ∙ ap (λ ms. sel_l ms us vs) (tops_compared w t xs ys ∙ zip2_agrees w xs ys same fits_x fits_y))
 
 -- a lane that was read
 pub zip3_lane : (f : ℕ → ℕ → ℕ → ℕ) (n : ℕ) (xs ys zs : List ℕ) (i x : ℕ) → length xs ≡ n → length ys ≡ n → length zs ≡ n → i < n → x ≡ get_or (zip3 f xs ys zs) i x → x ≡ f (get_or xs i 0) (get_or ys i 0) (get_or zs i 0)

@@ -25,18 +25,18 @@ macro_rules! chunk_cases {
     };
 }
 
-/// The lanes where `op` holds of vs2's lane and of `b`'s.
+/// The lanes of `yes` where `op` holds of vs2's lane and of `b`'s, and those of `no` elsewhere.
 macro_rules! compare_cases {
-    ($op:ident, $values:ident, $b:ident) => {
+    ($op:ident, $values:ident, $b:ident, $yes:ident, $no:ident) => {
         match $op {
-            CompareOp::Eq => $values.simd_eq($b),
-            CompareOp::Ne => $values.simd_ne($b),
-            CompareOp::Ltu => $values.simd_lt($b),
-            CompareOp::Lt => turned($values).simd_lt(turned($b)),
-            CompareOp::Leu => $values.simd_le($b),
-            CompareOp::Le => turned($values).simd_le(turned($b)),
-            CompareOp::Gtu => $values.simd_gt($b),
-            CompareOp::Gt => turned($values).simd_gt(turned($b)),
+            CompareOp::Eq => $values.simd_eq($b).select($yes, $no),
+            CompareOp::Ne => $values.simd_ne($b).select($yes, $no),
+            CompareOp::Ltu => $values.simd_lt($b).select($yes, $no),
+            CompareOp::Lt => turned($values).simd_lt(turned($b)).select($yes, $no),
+            CompareOp::Leu => $values.simd_le($b).select($yes, $no),
+            CompareOp::Le => turned($values).simd_le(turned($b)).select($yes, $no),
+            CompareOp::Gtu => $values.simd_gt($b).select($yes, $no),
+            CompareOp::Gt => turned($values).simd_gt(turned($b)).select($yes, $no),
         }
     };
 }

@@ -2,7 +2,7 @@
 ghost use Rattle.std.specs.Prelude.{◌≡◌, ◌<◌, ℕ, List, map, slice_index};
 ghost use lib.Lanes.{Each2};
 ghost use Rattle.std.specs.Int.{w8};
-ghost use Rattle.std.specs.Simd.Lanes.{zip2};
+ghost use Rattle.std.specs.Simd.Lanes.{sel_l, zip2};
 ghost use Rattle.lane_int.specs.Chunks.{lane_of, all_ones, turned};
 ghost use Rattle.lane_int.specs.Integer.{element, compares, multiply_added, shift_amount};
 ghost use Rattle.lane_int.specs.Lists.{zip3};
@@ -59,13 +59,22 @@ fn shift_right_signed(values: u8x16, b: u8x16) -> u8x16
     (turned(values) >> amounts) - (tops >> amounts)
 }
 
+/// The lanes of `yes` where `op` holds of vs2's lane and of `b`'s, and those of `no` elsewhere.
+#[inline(always)]
+#[tactic(auto, using(crate::proofs::ChunkLemmas::chosen_lanes))]
+fn select(op: CompareOp, values: u8x16, b: u8x16, yes: u8x16, no: u8x16) -> u8x16
+    ensures { result ≡ sel_l (zip2 (compares op w8) values b) yes no }
+{
+    compare_cases!(op, values, b, yes, no)
+}
+
 /// All ones in the lanes where `op` holds of vs2's lane and of `b`'s, and 0 in the others.
 #[inline(always)]
+#[tactic(auto, using(crate::proofs::ChunkLemmas::ones_where))]
 fn compare(op: CompareOp, values: u8x16, b: u8x16) -> u8x16
     ensures { result ≡ zip2 (λ x y. all_ones w8 (compares op w8 x y)) values b }
 {
-    let holds = compare_cases!(op, values, b);
-    holds.select(u8x16::splat(u8::MAX), u8x16::splat(0))
+    select(op, values, b, u8x16::splat(u8::MAX), u8x16::splat(0))
 }
 
 /// vmacc, vnmsac, vmadd and vnmsub

@@ -2,7 +2,7 @@
 ghost use Rattle.std.specs.Prelude.{◌≡◌, ◌<◌, ℕ, List, map, slice_index};
 ghost use lib.Lanes.{Each2};
 ghost use Rattle.std.specs.Int.{w32};
-ghost use Rattle.std.specs.Simd.Lanes.{zip2};
+ghost use Rattle.std.specs.Simd.Lanes.{sel_l, zip2};
 ghost use Rattle.lane_int.specs.Chunks.{lane_of, all_ones, turned};
 ghost use Rattle.lane_int.specs.Integer.{element, compares, multiply_added, shift_amount};
 ghost use Rattle.lane_int.specs.Lists.{zip3};
@@ -59,13 +59,22 @@ fn shift_right_signed(values: u32x4, b: u32x4) -> u32x4
     (turned(values) >> amounts) - (tops >> amounts)
 }
 
+/// The lanes of `yes` where `op` holds of vs2's lane and of `b`'s, and those of `no` elsewhere.
+#[inline(always)]
+#[tactic(auto, using(crate::proofs::ChunkLemmas::chosen_lanes))]
+fn select(op: CompareOp, values: u32x4, b: u32x4, yes: u32x4, no: u32x4) -> u32x4
+    ensures { result ≡ sel_l (zip2 (compares op w32) values b) yes no }
+{
+    compare_cases!(op, values, b, yes, no)
+}
+
 /// All ones in the lanes where `op` holds of vs2's lane and of `b`'s, and 0 in the others.
 #[inline(always)]
+#[tactic(auto, using(crate::proofs::ChunkLemmas::ones_where))]
 fn compare(op: CompareOp, values: u32x4, b: u32x4) -> u32x4
     ensures { result ≡ zip2 (λ x y. all_ones w32 (compares op w32 x y)) values b }
 {
-    let holds = compare_cases!(op, values, b);
-    holds.select(u32x4::splat(u32::MAX), u32x4::splat(0))
+    select(op, values, b, u32x4::splat(u32::MAX), u32x4::splat(0))
 }
 
 /// vmacc, vnmsac, vmadd and vnmsub
