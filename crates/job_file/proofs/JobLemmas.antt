@@ -6,9 +6,12 @@ use Rattle.toml.specs.Data.{get_item}
 use Rattle.toml.specs.View.{items_view, members_view, view}
 use Rattle.toml.specs.declared.value.Value.{Value}
 use Rattle.toml.proofs.Views.{Entry, get_item_past, get_item_within}
-use Rattle.job_file.specs.Job.{Breach, Text, all_kept, all_there, first_unknown, is_one_of, places}
-use Rattle.job_file.specs.Needs.{runnable, runnable_lent}
+use Rattle.job_file.specs.Job.{Breach, Text, all_kept, all_there, first_unknown, is_one_of, job_lent, param_lent, places}
+use Rattle.job_file.specs.Needs.{runnable, runnable_lent, runnable_of, taken_of}
 use Rattle.job_file.specs.declared.keys.JobKey.{JobKey}
+use Rattle.job_file.specs.declared.values.Job.{Job}
+use Rattle.job_file.specs.declared.values.JobParam.{JobParam}
+use Rattle.job_file.specs.declared.values.JobParam.TheVariants as param
 use Rattle.job_file.specs.declared.values.Places.{Places}
 use Rattle.vreg_groups.specs.declared.policies.Agnostic.{Agnostic}
 use Rattle.vreg_groups.specs.declared.vector_length.Vlen.{Vlen}
@@ -107,3 +110,15 @@ runnable-lent lent (Some image) (Some vlen) None max params taken same = refl
 runnable-lent lent (Some image) (Some vlen) (Some agnostic) None params taken same = refl
 runnable-lent lent (Some image) (Some vlen) (Some agnostic) (Some max) None taken same = rw (← same) refl
 runnable-lent lent (Some image) (Some vlen) (Some agnostic) (Some max) (Some params) taken same = rw (← same) refl
+
+-- what is taken of each of its parameters is beside the rest of it
+pub runnable-each_place : {P Q : Type 0} (take : JobParam Text → Option Q) (lent : P → Q) (none : P) (j : Job (Bor Text)) (r : Option (Places P))
+    → length j.params ≡ 8
+    → IfSome r (λ p. (length p.at ≡ 8)
+    × ((k : ℕ) → k < 8 → JobParam (Bor Text) × (Some (lent (get_or p.at k none)) ≡ take (param_lent (get_or j.params k param.None)))))
+    → IfNone r ((k : ℕ) × (k < 8) × (JobParam (Bor Text) × (None ≡ take (param_lent (get_or j.params k param.None)))))
+    → option_map (runnable_lent lent) (runnable j.image j.vlen j.agnostic j.max (option_map (λ p. p.at) r)) ≡ runnable_of take (job_lent j)
+unfolding taken_of
+runnable-each_place take lent none j r len taken missing =
+    runnable-lent lent j.image j.vlen j.agnostic j.max r (taken_of take (map param_lent j.params))
+    (all_there-each_place take param_lent lent param.None none (λ p. map lent p.at) (λ p. refl) j.params r len taken missing)

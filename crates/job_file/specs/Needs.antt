@@ -38,6 +38,16 @@ runnable image vlen agnostic max params = option_and_then (λ image.
       params = params;
     }) params) max) agnostic) vlen) image
 
+-- what is taken of each parameter, where it is there
+unfoldable pub taken_of : {P : Type 0} → (JobParam Text → Option P) → List (JobParam Text)
+    → Option (List P)
+taken_of take params = all_there (map take params)
+
+-- what is taken of a job that can be run
+abbrev pub runnable_of : {P : Type 0} → (JobParam Text → Option P) → Job Text
+    → Option (RunnableJob Text P)
+runnable_of take j = runnable j.image j.vlen j.agnostic j.max (taken_of take j.params)
+
 -- ---- `try`: it needs `image`, `vlen`, `agnostic`, `max`, each scalar's `value` and each buffer's
 -- `mode` and `file`
 
@@ -47,11 +57,8 @@ try_param_of (param.Scalar lo hi value) = option_map taken.Scalar value
 try_param_of (param.Buffer mode size file out) =
     option_and_then (λ mode. option_map (λ file. taken.Buffer mode file out) file) mode
 
-unfoldable pub try_params_of : List (JobParam Text) → Option (List (TryParam Text))
-try_params_of params = all_there (map try_param_of params)
-
 abbrev pub try_job_of : Job Text → Option (TryJob Text)
-try_job_of j = runnable j.image j.vlen j.agnostic j.max (try_params_of j.params)
+try_job_of j = runnable_of try_param_of j
 
 -- what `try` takes of a job's table
 abbrev pub try_job_in : Members → Option (TryJob Text)
@@ -65,11 +72,8 @@ run_param_of param.None = Some given.None
 run_param_of (param.Scalar lo hi value) = option_map given.Scalar value
 run_param_of (param.Buffer mode size file out) = option_map (λ file. given.Buffer file out) file
 
-unfoldable pub run_params_of : List (JobParam Text) → Option (List (RunParam Text))
-run_params_of params = all_there (map run_param_of params)
-
 abbrev pub run_job_of : Job Text → Option (RunJob Text)
-run_job_of j = runnable j.image j.vlen j.agnostic j.max (run_params_of j.params)
+run_job_of j = runnable_of run_param_of j
 
 -- what `run` takes of a job's table
 abbrev pub run_job_in : Members → Option (RunJob Text)
@@ -84,14 +88,11 @@ make_param_of (param.Scalar lo hi value) =
 make_param_of (param.Buffer mode size file out) =
     option_and_then (λ mode. option_map (λ size. declared.Buffer mode size) size) mode
 
-unfoldable pub make_params_of : List (JobParam Text) → Option (List Param)
-make_params_of params = all_there (map make_param_of params)
-
 abbrev pub make_job_of : Job Text → Option MakeJob
 make_job_of j = option_and_then (λ vlen. option_map (λ params. record {
   vlen = vlen;
   params = params;
-}) (make_params_of j.params)) j.vlen
+}) (taken_of make_param_of j.params)) j.vlen
 
 -- what `make` takes of a job's table
 abbrev pub make_job_in : Members → Option MakeJob

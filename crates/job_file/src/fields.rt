@@ -2,9 +2,7 @@
 ghost use Rattle.std.specs.Prelude.{◌≡◌, IfErr, IfOk, None, Some, option_map};
 ghost use Rattle.toml.specs.Data.{as_str, get_member};
 ghost use Rattle.toml.specs.View.{table_view, view};
-ghost use Rattle.job_file.specs.Job.{agnostic_of, field, first_unknown, is_one_of};
-ghost use Rattle.job_file.specs.Job.{max_of, mode_of, read_lent, vlen_of};
-ghost use Rattle.job_file.specs.Job.{word_of};
+ghost use Rattle.job_file.specs.Job.{field, first_unknown, is_one_of, read_lent};
 ghost use Rattle.job_file.specs.Keys.{key_name};
 ghost use Rattle.job_file.specs.declared.keys.JobBreach.TheVariants as breach;
 
@@ -13,58 +11,91 @@ use region_mem::Mode;
 use toml::{Table, Value};
 use vreg_groups::{Agnostic, Vlen};
 
+/// What the value of a key can be read as.
+pub trait KeyValue {
+    ghost use Rattle.std.specs.Prelude.{◌≡◌, Option};
+    ghost use Rattle.toml.specs.Data.{Data};
+    ghost use Rattle.toml.specs.View.{view};
+
+    // what is read of a value, where it is of the type and range
+    ghost reads: { Data → Option Self };
+
+    fn read(value: &Value) -> Option<Self>
+        ensures { result ≡ reads (view value.now) };
+}
+
 /// `lo`, `hi`, `value` and `size`.
-#[tactic(auto, unfolding(crate::specs::Job::word_of))]
-fn word_of(value: &Value) -> Option<u32>
-    ensures { result ≡ word_of (view value.now) }
-{
-    let number = value.as_integer()?;
-    u32::try_from(number).ok()
+impl KeyValue for u32 {
+    ghost use Rattle.job_file.specs.Job.{word_of};
+
+    ghost reads = { word_of };
+
+    #[tactic(auto, unfolding(crate::specs::Job::word_of))]
+    fn read(value: &Value) -> Option<u32> {
+        let number = value.as_integer()?;
+        u32::try_from(number).ok()
+    }
 }
 
 /// `max`.
-#[tactic(auto, unfolding(crate::specs::Job::max_of))]
-fn max_of(value: &Value) -> Option<u64>
-    ensures { result ≡ max_of (view value.now) }
-{
-    let number = value.as_integer()?;
-    u64::try_from(number).ok()
+impl KeyValue for u64 {
+    ghost use Rattle.job_file.specs.Job.{max_of};
+
+    ghost reads = { max_of };
+
+    #[tactic(auto, unfolding(crate::specs::Job::max_of))]
+    fn read(value: &Value) -> Option<u64> {
+        let number = value.as_integer()?;
+        u64::try_from(number).ok()
+    }
 }
 
 /// `vlen`.
-#[tactic(auto, unfolding(crate::specs::Job::vlen_of))]
-fn vlen_of(value: &Value) -> Option<Vlen>
-    ensures { result ≡ vlen_of (view value.now) }
-{
-    match word_of(value)? {
-        128 => Some(Vlen::V128),
-        256 => Some(Vlen::V256),
-        512 => Some(Vlen::V512),
-        _ => None,
+impl KeyValue for Vlen {
+    ghost use Rattle.job_file.specs.Job.{vlen_of};
+
+    ghost reads = { vlen_of };
+
+    #[tactic(auto, unfolding(crate::specs::Job::vlen_of))]
+    fn read(value: &Value) -> Option<Vlen> {
+        match u32::read(value)? {
+            128 => Some(Vlen::V128),
+            256 => Some(Vlen::V256),
+            512 => Some(Vlen::V512),
+            _ => None,
+        }
     }
 }
 
 /// `agnostic`.
-#[tactic(auto, unfolding(crate::specs::Job::agnostic_of))]
-fn agnostic_of(value: &Value) -> Option<Agnostic>
-    ensures { result ≡ agnostic_of (view value.now) }
-{
-    match value.as_str()? {
-        "keep" => Some(Agnostic::Keep),
-        "ones" => Some(Agnostic::Ones),
-        _ => None,
+impl KeyValue for Agnostic {
+    ghost use Rattle.job_file.specs.Job.{agnostic_of};
+
+    ghost reads = { agnostic_of };
+
+    #[tactic(auto, unfolding(crate::specs::Job::agnostic_of))]
+    fn read(value: &Value) -> Option<Agnostic> {
+        match value.as_str()? {
+            "keep" => Some(Agnostic::Keep),
+            "ones" => Some(Agnostic::Ones),
+            _ => None,
+        }
     }
 }
 
 /// `mode`.
-#[tactic(auto, unfolding(crate::specs::Job::mode_of))]
-fn mode_of(value: &Value) -> Option<Mode>
-    ensures { result ≡ mode_of (view value.now) }
-{
-    match value.as_str()? {
-        "r" => Some(Mode::Read),
-        "rw" => Some(Mode::ReadWrite),
-        _ => None,
+impl KeyValue for Mode {
+    ghost use Rattle.job_file.specs.Job.{mode_of};
+
+    ghost reads = { mode_of };
+
+    #[tactic(auto, unfolding(crate::specs::Job::mode_of))]
+    fn read(value: &Value) -> Option<Mode> {
+        match value.as_str()? {
+            "r" => Some(Mode::Read),
+            "rw" => Some(Mode::ReadWrite),
+            _ => None,
+        }
     }
 }
 
@@ -93,72 +124,16 @@ where
     }
 }
 
-/// A number of 32 bits, where the key is there.
-pub fn word<'a>(
+/// The value of a key, where the key is there.
+pub fn value<'a, T: KeyValue + Drop>(
     table: &'a Table,
     place: JobTable,
     key: JobKey,
-) -> Result<Option<u32>, JobBreach<&'a str>>
-    ensures { read_lent (λ v. v) result ≡ field word_of place key (table_view table.now) }
+) -> Result<Option<T>, JobBreach<&'a str>>
+    ensures { read_lent (λ v. v) result ≡ field T.reads place key (table_view table.now) }
 {
     match at(table, key) {
-        Some(value) => Ok(Some(wanted(word_of(value), place, key)?)),
-        None => Ok(None),
-    }
-}
-
-/// `max`, where the key is there.
-pub fn max<'a>(
-    table: &'a Table,
-    place: JobTable,
-    key: JobKey,
-) -> Result<Option<u64>, JobBreach<&'a str>>
-    ensures { read_lent (λ v. v) result ≡ field max_of place key (table_view table.now) }
-{
-    match at(table, key) {
-        Some(value) => Ok(Some(wanted(max_of(value), place, key)?)),
-        None => Ok(None),
-    }
-}
-
-/// `vlen`, where the key is there.
-pub fn vlen<'a>(
-    table: &'a Table,
-    place: JobTable,
-    key: JobKey,
-) -> Result<Option<Vlen>, JobBreach<&'a str>>
-    ensures { read_lent (λ v. v) result ≡ field vlen_of place key (table_view table.now) }
-{
-    match at(table, key) {
-        Some(value) => Ok(Some(wanted(vlen_of(value), place, key)?)),
-        None => Ok(None),
-    }
-}
-
-/// `agnostic`, where the key is there.
-pub fn agnostic<'a>(
-    table: &'a Table,
-    place: JobTable,
-    key: JobKey,
-) -> Result<Option<Agnostic>, JobBreach<&'a str>>
-    ensures { read_lent (λ v. v) result ≡ field agnostic_of place key (table_view table.now) }
-{
-    match at(table, key) {
-        Some(value) => Ok(Some(wanted(agnostic_of(value), place, key)?)),
-        None => Ok(None),
-    }
-}
-
-/// `mode`, where the key is there.
-pub fn mode<'a>(
-    table: &'a Table,
-    place: JobTable,
-    key: JobKey,
-) -> Result<Option<Mode>, JobBreach<&'a str>>
-    ensures { read_lent (λ v. v) result ≡ field mode_of place key (table_view table.now) }
-{
-    match at(table, key) {
-        Some(value) => Ok(Some(wanted(mode_of(value), place, key)?)),
+        Some(value) => Ok(Some(wanted(T::read(value), place, key)?)),
         None => Ok(None),
     }
 }

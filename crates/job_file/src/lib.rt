@@ -47,9 +47,9 @@ fn job_fields<'a>(table: &'a Table) -> Result<Job<&'a str>, JobBreach<&'a str>>
     ensures { read_lent job_lent result ≡ job_fields (table_view table.now) }
 {
     let image = fields::text(table, JobTable::Job, JobKey::Image)?;
-    let vlen = fields::vlen(table, JobTable::Job, JobKey::Vlen)?;
-    let agnostic = fields::agnostic(table, JobTable::Job, JobKey::Agnostic)?;
-    let max = fields::max(table, JobTable::Job, JobKey::Max)?;
+    let vlen = fields::value(table, JobTable::Job, JobKey::Vlen)?;
+    let agnostic = fields::value(table, JobTable::Job, JobKey::Agnostic)?;
+    let max = fields::value(table, JobTable::Job, JobKey::Max)?;
     let params = params::params_in(table)?.at;
     Ok(Job {
         image,

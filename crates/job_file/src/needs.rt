@@ -2,7 +2,7 @@
 ghost use Rattle.std.specs.Prelude.{◌≡◌, ℕ, ◌<◌, IfNone, IfSome, None, Some, length, map};
 ghost use Rattle.std.specs.Prelude.{option_map, slice_index_or};
 ghost use Rattle.job_file.specs.Job.{job_lent, param_lent};
-ghost use Rattle.job_file.specs.Needs.{make_job_of, make_param_of, make_params_of};
+ghost use Rattle.job_file.specs.Needs.{make_job_of, make_param_of, taken_of};
 ghost use Rattle.job_file.specs.Needs.{run_job_lent, run_job_of, run_param_lent, run_param_of};
 ghost use Rattle.job_file.specs.Needs.{runnable};
 ghost use Rattle.job_file.specs.Needs.{try_job_lent, try_job_of, try_param_lent, try_param_of};
@@ -113,7 +113,7 @@ fn make_param(param: JobParam<&str>) -> Option<region_mem::Param>
 /// What `make` takes of the parameters, by place.
 fn make_params(params: [JobParam<&str>; 8]) -> Option<Places<region_mem::Param>>
     ensures { option_map (λ made. made.at) result
-        ≡ make_params_of (map param_lent params.entry) }
+        ≡ taken_of make_param_of (map param_lent params.entry) }
 {
     each_place(params, region_mem::Param::None, make_param)
 }

@@ -61,9 +61,9 @@ fn kind_keys(kind: Kind) -> &'static [JobKey]
 fn scalar<'a>(table: &'a Table, place: JobTable) -> Result<JobParam<&'a str>, JobBreach<&'a str>>
     ensures { read_lent param_lent result ≡ scalar_fields place (table_view table.now) }
 {
-    let lo = fields::word(table, place, JobKey::Lo)?;
-    let hi = fields::word(table, place, JobKey::Hi)?;
-    let value = fields::word(table, place, JobKey::Value)?;
+    let lo = fields::value(table, place, JobKey::Lo)?;
+    let hi = fields::value(table, place, JobKey::Hi)?;
+    let value = fields::value(table, place, JobKey::Value)?;
     Ok(JobParam::Scalar { lo, hi, value })
 }
 
@@ -71,8 +71,8 @@ fn scalar<'a>(table: &'a Table, place: JobTable) -> Result<JobParam<&'a str>, Jo
 fn buffer<'a>(table: &'a Table, place: JobTable) -> Result<JobParam<&'a str>, JobBreach<&'a str>>
     ensures { read_lent param_lent result ≡ buffer_fields place (table_view table.now) }
 {
-    let mode = fields::mode(table, place, JobKey::Mode)?;
-    let size = fields::word(table, place, JobKey::Size)?;
+    let mode = fields::value(table, place, JobKey::Mode)?;
+    let size = fields::value(table, place, JobKey::Size)?;
     let file = fields::text(table, place, JobKey::File)?;
     let out = fields::text(table, place, JobKey::Out)?;
     Ok(JobParam::Buffer {
