@@ -11,7 +11,7 @@ use Rattle.linear_facts.specs.declared.ranges.Split.{Split}
 use Rattle.linear_facts.specs.Forms.{atom_form}
 use Rattle.linear_facts.specs.Laws.{AreBelow}
 use Rattle.vreg_groups.specs.declared.vector_length.Vconfig.{Vconfig}
-use Rattle.scalar_core.specs.Hart.{Hart}
+use Rattle.scalar_core.specs.Hart.{Hart, reg_of}
 use Rattle.abs_domain.specs.Values.{ValueView}
 use Rattle.abs_domain.specs.Numbers.{NumbersView, atom_of_terms, plain, value_at, whole_atom, with_atom, with_fresh, with_split, with_value}
 use Rattle.abs_domain.specs.Described.{LiesIn, IsNumber}
@@ -59,20 +59,23 @@ fresh_length s v h config next r holds lies =
           (atom_number n (length (s.atoms ++ plain r ∷ [])) w r next.vl (length_push s.atoms (plain r)) (number_here v n next.vl) lies);
     }
 
--- vl stays
-pub same_length : (s : NumbersView) (v : ℕ → ℕ) (h : Hart) (config next : Vconfig) → Holds s v h config → next.vl ≡ config.vl
-    → Holds s v h next
-same_length s v h config next holds e =
+-- what is known stays where each number is as it was
+pub same_numbers : (s : NumbersView) (v : ℕ → ℕ) (g h : Hart) (config next : Vconfig) → Holds s v h config
+    → ((i : ℕ) → number_of i g next ≡ number_of i h config) → Holds s v g next
+same_numbers s v g h config next holds same =
     record {
       atoms = holds.atoms;
       splits = holds.splits;
       forms = holds.forms;
       ranges = holds.ranges;
-      each = λ i below. elim (cases_eq i 32) [
-        | inl is ↦ rw (is, e) (holds.each 32 (omega arith))
-        | inr ne ↦ rw (registers_stay i h config next ne) (holds.each i below)
-      ];
+      each = λ i below. subst (λ (n : ℕ). IsNumber (length s.atoms) v (value_at s i) n) (sym (same i)) (holds.each i below);
     }
+
+-- vl stays
+pub same_length : (s : NumbersView) (v : ℕ → ℕ) (h : Hart) (config next : Vconfig) → Holds s v h config → next.vl ≡ config.vl
+    → Holds s v h next
+same_length s v h config next holds e =
+    same_numbers s v h h config next holds (λ i. ap (λ (vl : ℕ). if i == 32 then vl else reg_of i h) e)
 
 -- ---- a split
 
@@ -132,24 +135,21 @@ into_holds s v h config next a y r t holds l p q e =
           lies = number.lies;
         }
 
+-- where neither case has an atom, there is none
+no_atom : {P : Type 0} (t : Bool) (a : ℕ) → (if t then None else None) ≡ Some a → P
+no_atom true a e = cc
+no_atom false a e = cc
+
 -- the atom that a form is is one of those of which it speaks
 whole_below : (n c : ℕ) (ts : List Term) (a : ℕ) → (if c == 0 then atom_of_terms ts else None) ≡ Some a → AreBelow n ts → a < n
-whole_below n c [] a e below = by_test (c == 0) e
-  where
-    by_test : {P : Type 0} (t : Bool) → (if t then None else None) ≡ Some a → P
-    by_test true f = cc
-    by_test false f = cc
+whole_below n c [] a e below = no_atom (c == 0) a e
 whole_below n c (t ∷ []) a e below = by_test (c == 0) (t.coefficient == 1) e
   where
     by_test : (p q : Bool) → (if p then (if q then Some t.atom else None) else None) ≡ Some a → a < n
     by_test true true f = (let is : t.atom ≡ a = cc in subst (λ (b : ℕ). b < n) is below.0)
     by_test true false f = cc
     by_test false q f = cc
-whole_below n c (t ∷ u ∷ ts) a e below = by_test (c == 0) e
-  where
-    by_test : {P : Type 0} (t : Bool) → (if t then None else None) ≡ Some a → P
-    by_test true f = cc
-    by_test false f = cc
+whole_below n c (t ∷ u ∷ ts) a e below = no_atom (c == 0) a e
 
 -- vl is the lesser of a number that is known and another one
 pub limited_holds : (s : NumbersView) (v : ℕ → ℕ) (h : Hart) (config next : Vconfig) (m : ℕ) (a : ValueView) (x : ℕ) → Holds s v h config

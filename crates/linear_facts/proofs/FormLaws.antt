@@ -6,7 +6,7 @@ use Rattle.std.proofs.lemmas.Grind.{common_steps}
 use Rattle.linear_facts.specs.Words.{Term}
 use Rattle.linear_facts.specs.Forms.{Linear, weight, value, RisesFrom, IsForm, merged, term_or_none, scaled_terms, sum_of, scaled, within, number_form, atom_form, form_at, with_replaced, substituted}
 use Rattle.linear_facts.proofs.Congruent.{Congruent, mod-Congruent, congruent_refl, congruent_equal, congruent_sym, congruent_trans, congruent_rest, congruent_add, congruent_mul, congruent_mul_right}
-use Rattle.linear_facts.proofs.Merging.{merged-nil, merged-less, merged-greater, merged-same}
+use Rattle.linear_facts.proofs.Merging.{merged-left, merged-nil, merged-less, merged-greater, merged-same}
 
 -- induction along a merge
 module _ (P : List Term → List Term → Type 0)
@@ -37,9 +37,20 @@ weight-term_or_none v atom coefficient ts = grind (arith, common_steps, cases_eq
 length-term_or_none : (atom coefficient : ℕ) → length (term_or_none atom coefficient) ≤ 1
 length-term_or_none atom coefficient = grind (arith, common_steps, cases_eq coefficient 0)
 
-merged-left : (ys : List Term) → merged [] ys ≡ ys
-unfolding merged
-merged-left ys = refl
+-- a term is left out where its coefficient is 0
+pub by_coefficient : (P : List Term → Type 0) (atom coefficient : ℕ) (ts : List Term) → P ts
+    → (0 < coefficient → P (record { atom = atom; coefficient = coefficient } ∷ ts)) → P (term_or_none atom coefficient ++ ts)
+by_coefficient P atom coefficient ts none one =
+    elim (cases_eq coefficient 0) [
+      | inl zero ↦ subst (λ (l : List Term). P (l ++ ts)) (sym (none_at zero)) none
+      | inr nonzero ↦ subst (λ (l : List Term). P (l ++ ts)) (sym (one_at nonzero)) (one (omega arith))
+    ]
+  where
+    none_at : coefficient ≡ 0 → term_or_none atom coefficient ≡ []
+    none_at e = grind (arith, common_steps)
+
+    one_at : (coefficient ≡ 0 → ⊥) → term_or_none atom coefficient ≡ record { atom = atom; coefficient = coefficient } ∷ []
+    one_at n = grind (arith, common_steps)
 
 -- a form's atoms may rise from a lower atom
 rises-lower : (low low' : ℕ) (ts : List Term) → low ≤ low' → RisesFrom low' ts → RisesFrom low ts
@@ -49,16 +60,7 @@ rises-lower low low' (t ∷ ts) le h = (omega arith, h.1, h.2, h.3)
 rises-term_or_none : (low atom coefficient : ℕ) (ts : List Term) → low ≤ atom → coefficient < 2 ^ 32
     → RisesFrom (atom + 1) ts → RisesFrom low (term_or_none atom coefficient ++ ts)
 rises-term_or_none low atom coefficient ts le fits h =
-    elim (cases_eq coefficient 0) [
-      | inl zero ↦ subst (λ (l : List Term). RisesFrom low (l ++ ts)) (sym (none_at zero)) (rises-lower low (atom + 1) ts (omega arith) h)
-      | inr nonzero ↦ subst (λ (l : List Term). RisesFrom low (l ++ ts)) (sym (one_at nonzero)) (le, omega arith, fits, h)
-    ]
-  where
-    none_at : coefficient ≡ 0 → term_or_none atom coefficient ≡ []
-    none_at e = grind (arith, common_steps)
-
-    one_at : (coefficient ≡ 0 → ⊥) → term_or_none atom coefficient ≡ record { atom = atom; coefficient = coefficient } ∷ []
-    one_at n = grind (arith, common_steps)
+    by_coefficient (λ (l : List Term). RisesFrom low l) atom coefficient ts (rises-lower low (atom + 1) ts (omega arith) h) (λ some. (le, some, fits, h))
 
 -- a term whose coefficient is taken modulo 2^32
 congruent_term : (k n w u : ℕ) → Congruent w u → Congruent (k % 4294967296 * n + w) (k * n + u)

@@ -1,13 +1,13 @@
 -- Of which atoms sums, multiples and replacements speak, and what ranges end in.
-use Rattle.std.proofs.Common.{◌≡◌, ℕ, ◌+◌, ◌*◌, ◌%◌, ◌^◌, ◌<◌, ◌≤◌, ◌/◌, inl, inr, List, [], ◌∷◌, ◌++◌, refl, sym, ap, subst, arith, Some}
+use Rattle.std.proofs.Common.{◌≡◌, ℕ, ◌+◌, ◌*◌, ◌%◌, ◌^◌, ◌<◌, ◌≤◌, ◌/◌, List, [], ◌∷◌, ◌++◌, refl, sym, ap, subst, arith, Some}
 use Rattle.std.proofs.lemmas.Bool.{cases_eq}
 use Rattle.std.proofs.lemmas.Grind.{common_steps}
 use Rattle.linear_facts.specs.Words.{Term, Range, Interval}
 use Rattle.linear_facts.specs.Forms.{Linear, weight, value, RisesFrom, merged, term_or_none, scaled_terms, sum_of, scaled, number_form, form_at, with_replaced, substituted}
 use Rattle.linear_facts.specs.Laws.{AreBelow, FormsStayBelow, SumsStayBelow, MultiplesStayBelow, SubstitutionsStayBelow, AgreeBelow, RangesFit}
 use Rattle.linear_facts.specs.Sums.{form_interval, range_within, range_of_form}
-use Rattle.linear_facts.proofs.FormLaws.{along_merge}
-use Rattle.linear_facts.proofs.Merging.{merged-nil, merged-less, merged-greater, merged-same}
+use Rattle.linear_facts.proofs.FormLaws.{along_merge, by_coefficient}
+use Rattle.linear_facts.proofs.Merging.{merged-left, merged-nil, merged-less, merged-greater, merged-same}
 
 raised : (n k : ℕ) (ts : List Term) → AreBelow n ts → AreBelow (n + k) ts
 raised n k [] h = tt
@@ -17,21 +17,7 @@ pub forms-stay : FormsStayBelow
 forms-stay n k f h = raised n k f.terms h
 
 below-term_or_none : (n atom coefficient : ℕ) (ts : List Term) → atom < n → AreBelow n ts → AreBelow n (term_or_none atom coefficient ++ ts)
-below-term_or_none n atom coefficient ts lt h =
-    elim (cases_eq coefficient 0) [
-      | inl zero ↦ subst (λ (l : List Term). AreBelow n (l ++ ts)) (sym (none_at zero)) h
-      | inr nonzero ↦ subst (λ (l : List Term). AreBelow n (l ++ ts)) (sym (one_at nonzero)) (lt, h)
-    ]
-  where
-    none_at : coefficient ≡ 0 → term_or_none atom coefficient ≡ []
-    none_at e = grind (arith, common_steps)
-
-    one_at : (coefficient ≡ 0 → ⊥) → term_or_none atom coefficient ≡ record { atom = atom; coefficient = coefficient } ∷ []
-    one_at n = grind (arith, common_steps)
-
-merged-left : (ys : List Term) → merged [] ys ≡ ys
-unfolding merged
-merged-left ys = refl
+below-term_or_none n atom coefficient ts lt h = by_coefficient (λ (l : List Term). AreBelow n l) atom coefficient ts h (λ some. (lt, h))
 
 below-merged : (n : ℕ) (xs ys : List Term) → AreBelow n xs → AreBelow n ys → AreBelow n (merged xs ys)
 below-merged n =

@@ -23,6 +23,10 @@ moved items front back rest whole new is_new is_rest is_whole =
     ap (λ xs. xs ++ back) is_new ∙ (append_assoc items front back ∙ (ap (λ xs. items ++ xs) (sym is_rest) ∙ is_whole))
 
 -- a list merged with no terms stays
+pub merged-left : (ys : List Term) → merged [] ys ≡ ys
+unfolding merged
+merged-left ys = refl
+
 pub merged-nil : (xs : List Term) → merged xs [] ≡ xs
 unfolding merged merged_from
 merged-nil [] = refl

@@ -23,4 +23,4 @@ pub use policies::{Agnostic, Policy};
 pub use registers::VregFile;
 pub use setup::Setup;
 pub use vector_length::{Avl, Vconfig, Vlen, vset};
-pub use vector_type::{Lmul, MOST_ELEMENTS, Vtype};
+pub use vector_type::{Lmul, MOST_ELEMENTS, Vtype, type_in};

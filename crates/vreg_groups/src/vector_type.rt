@@ -104,9 +104,10 @@ impl Vtype {
     }
 }
 
-/// The type that an instruction works under; where there is none, any will do.
+/// The type that an instruction works under. Where vill is set there is none, and any will do: only whole-register
+/// forms are legal then ("Vector Type Illegal (vill)").
 #[inline(always)]
-pub(crate) fn type_in(vtype: Option<Vtype>) -> Vtype
+pub fn type_in(vtype: Option<Vtype>) -> Vtype
     ensures { result ≡ type_in vtype }
 {
     match vtype {

@@ -4,7 +4,7 @@ use crate::tests::assertions::assert_same;
 use rv_decode::{Eew, Insn, IntOp, Reg, Source, VArith, Width};
 use std::test::Fail;
 use vreg_groups::{
-    Agnostic, Avl, Group, Lmul, Policy, Vconfig, VregFile, Vtype, legal, legal_type, vset,
+    Agnostic, Avl, Group, Lmul, Policy, Vconfig, VregFile, Vtype, legal, legal_type, type_in, vset,
 };
 
 /// vadd.vv v4,v2,v1
@@ -32,6 +32,12 @@ fn elements_in_bits(rt: HostRuntime) {
         assert_same!(rt; E16.eew_bits(eew), bits);
     }
     assert_same!(rt; E16.eew_bits(Eew::Fixed(Width::W8)), 8);
+}
+
+#[test]
+fn an_instruction_works_under_the_type_or_any(rt: HostRuntime) {
+    assert_same!(rt; type_in(Some(E16)), E16);
+    assert_same!(rt; type_in(None).sew, Width::W8);
 }
 
 #[test]
