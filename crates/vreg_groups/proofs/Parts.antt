@@ -3,7 +3,7 @@ use Rattle.std.proofs.Common.{Bool, true, false, ℕ, zero, suc, ◌+◌, ◌-�
 use Rattle.std.proofs.lemmas.List.{nil_from_length, take_at, drop_at, drop-drop, drop_more, take-append-drop, length-map, get_or-map, length-take-le, get_or-take, length-drop, take-map, replicate-append-replicate, get_or_default, get_or_past, get_or-replicate, take-replicate, get_or-drop, length-replicate, take_all}
 use Rattle.std.proofs.lemmas.List.FromFn.{fill_by_all, length-map-range_with_len, get_or-map-range_with_len}
 use Rattle.std.proofs.lemmas.Bool.Decides.{nat_tests}
-use Rattle.std.proofs.lemmas.Bool.{cases_lt}
+use Rattle.std.proofs.lemmas.Bool.{cases_lt, lt-ltb, le-ltb}
 use Rattle.std.specs.Prelude.{nat_lt, if◌then◌else◌, All}
 use Rattle.std.specs.List.{range_with_len, flat_map, list_all}
 use Rattle.std.proofs.Math.Nat.{mul-le-mul_left, pow-suc, one-le-pow, le_of_mul-le-mul_left}
@@ -309,12 +309,6 @@ rest_is size at m n Keep piece bytes now next place count h room small p c is no
     ∙ ap (overlaid (at + size * m) others) now_is in
     next_is ∙ sym self ∙ same ∙ whole
 
-is_below : (i n : ℕ) → i < n → nat_lt i n ≡ true
-is_below i n h = grind (arith, nat_tests)
-
-is_past : (i n : ℕ) → n ≤ i → nat_lt i n ≡ false
-is_past i n h = grind (arith, nat_tests)
-
 new_bytes-inactive : (size at : ℕ) (policy : Policy) (results : List ℕ) (active : List Bool) (bytes : List ℕ) (i : ℕ) →
     i < length results → length active ≤ i →
     new_bytes size at policy results active bytes i
@@ -324,7 +318,7 @@ new_bytes-inactive size at policy results active bytes i lt past =
     let old = element_at size at bytes i in
     let inactive = filled policy.inactive (256 ^ size - 1) old in
     let tail = filled policy.tail (256 ^ size - 1) old in
-    let inside = is_below i (length results) lt in
+    let inside = lt-ltb i (length results) lt in
     let none : get_or active i false ≡ false = get_or_past active i false past in
     ap (λ b. bytes_of size (if b then (if get_or active i false then get_or results i old else inactive) else tail)) inside
     ∙ ap (λ b. bytes_of size (if b then get_or results i old else inactive)) none
@@ -339,7 +333,7 @@ new_bytes-tail size at policy results active bytes i past =
     let inactive = filled policy.inactive (256 ^ size - 1) old in
     let tail = filled policy.tail (256 ^ size - 1) old in
     ap (λ b. bytes_of size (if b then (if get_or active i false then get_or results i old else inactive) else tail))
-    (is_past i (length results) past)
+    (le-ltb i (length results) past)
 
 -- the first elements depend on the first results and flags alone
 new_bytes-front : (size at n : ℕ) (policy : Policy) (results : List ℕ) (active : List Bool) (bytes : List ℕ) (i : ℕ) →
@@ -351,8 +345,8 @@ new_bytes-front size at n policy results active bytes i r a lt =
     let inactive = filled policy.inactive (256 ^ size - 1) old in
     let tail = filled policy.tail (256 ^ size - 1) old in
     let len : length (take n results) ≡ n = length-take-le n results r in
-    let here : nat_lt i (length (take n results)) ≡ true = is_below i (length (take n results)) (omega arith) in
-    let there : nat_lt i (length results) ≡ true = is_below i (length results) (omega arith) in
+    let here : nat_lt i (length (take n results)) ≡ true = lt-ltb i (length (take n results)) (omega arith) in
+    let there : nat_lt i (length results) ≡ true = lt-ltb i (length results) (omega arith) in
     let flag : get_or (take n active) i false ≡ get_or active i false = get_or-take n active i false lt in
     let result : get_or (take n results) i old ≡ get_or results i old = get_or-take n results i old lt in
     ap (λ b. bytes_of size
@@ -516,7 +510,7 @@ elements_of_bytes size at n bytes =
     let place : at + b ≡ a = omega arith in
     sym (get_or-take (size * n) (drop at bytes) b 0 inside ∙ get_or-drop at bytes b 0 ∙ ap (λ j. get_or bytes j 0) place)))
 
-length-numbers_of : (size n : ℕ) (bytes : List ℕ) → length (numbers_of size n bytes) ≡ n
+pub length-numbers_of : (size n : ℕ) (bytes : List ℕ) → length (numbers_of size n bytes) ≡ n
 unfolding numbers_of
 length-numbers_of size n bytes = length-map-range_with_len (element_at size 0 bytes) 0 n
 

@@ -1,7 +1,7 @@
 -- How many registers groups have.
 use Rattle.std.proofs.Common.{Bool, true, ℕ, ◌+◌, ◌*◌, ◌/◌, ◌%◌, ◌<◌, ◌≤◌, ◌≡◌, Option, Some, None, max, arith, refl, inl, inr}
 use Rattle.std.proofs.Math.Nat.{mul-le-mul_left, mul-div-le, le_of_mul-le-mul_left}
-use Rattle.std.proofs.lemmas.Bool.{cases_lt}
+use Rattle.std.proofs.lemmas.Bool.{and_parts, cases_lt, leb-true}
 use Rattle.std.proofs.lemmas.Bool.Decides.{Decides-eqb, leb_tells}
 use Rattle.std.specs.Prelude.{false, ◌&&◌, ◌==◌, nat_le}
 use Rattle.rv_decode.specs.declared.instructions.Width.{Width}
@@ -91,26 +91,15 @@ ends_within first c h whole multiple below =
           omega arith
     ]
 
-both : (a b : Bool) → (a && b) ≡ true → a ≡ true
-both true b h = refl
-both false b h = h
-
-is_at_most : (a b : ℕ) → nat_le a b ≡ true → a ≤ b
-is_at_most a b h = grind (arith, leb_tells)
-
 pub group_ends : (t : Vtype) (e : Eew) (first : ℕ) → first < 32 → first % group_count t e ≡ 0 → first + group_count t e ≤ 32
 unfolding group_count emul_eighths
 group_ends t e first below multiple =
-    let whole = both _ _ (fits t.sew t.lmul e) in
+    let whole = (and_parts _ _ (fits t.sew t.lmul e)).0 in
     ends_within first (group_count t e) (group_count_positive t e) ((Decides-eqb (32 % group_count t e) 0).0 whole) multiple below
 
 pub group_small : (t : Vtype) (e : Eew) → emul_eighths t e ≤ 64 → group_count t e ≤ 8
 unfolding group_count
 group_small t e h = omega arith
-
-second : (a b : Bool) → (a && b) ≡ true → b ≡ true
-second true b h = h
-second false b h = cc
 
 -- SEW * vl is at most LMUL * VLEN, both counted in eighths
 body_fits : (t : Vtype) (vlenb vl : ℕ) → vl ≤ vlmax_of vlenb t → bits_of_width t.sew * vl ≤ eighths_of t.lmul * vlenb
@@ -139,7 +128,7 @@ pub group_room : (t : Vtype) (e : Eew) (vlenb vl : ℕ) → vl ≤ vlmax_of vlen
 unfolding group_count emul_eighths
 group_room t e vlenb vl h =
     room_of (bits_of_width t.sew) (eew_bits t.sew e) (eighths_of t.lmul) (group_count t e) vlenb vl (width_positive t.sew)
-    (is_at_most _ _ (second _ _ (fits t.sew t.lmul e))) (body_fits t vlenb vl h)
+    (leb-true _ _ (and_parts _ _ (fits t.sew t.lmul e)).1) (body_fits t vlenb vl h)
 
 -- what fits by its bits fits by its bytes
 pub bytes_fit : (bits vl room : ℕ) → bits * vl ≤ 8 * room → bits / 8 * vl ≤ room
