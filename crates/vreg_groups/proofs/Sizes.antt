@@ -1,9 +1,9 @@
 -- How many registers groups have.
-use Rattle.std.proofs.Common.{Bool, true, ℕ, ◌+◌, ◌*◌, ◌/◌, ◌%◌, ◌<◌, ◌≤◌, ◌≡◌, Option, Some, None, max, arith, refl, inl, inr}
+use Rattle.std.proofs.Common.{true, ℕ, ◌+◌, ◌*◌, ◌/◌, ◌%◌, ◌<◌, ◌≤◌, ◌≡◌, Option, Some, None, max, arith, refl, inl, inr}
 use Rattle.std.proofs.Math.Nat.{mul-le-mul_left, mul-div-le, le_of_mul-le-mul_left}
 use Rattle.std.proofs.lemmas.Bool.{and_parts, cases_lt, leb-true}
-use Rattle.std.proofs.lemmas.Bool.Decides.{Decides-eqb, leb_tells}
-use Rattle.std.specs.Prelude.{false, ◌&&◌, ◌==◌, nat_le}
+use Rattle.std.proofs.lemmas.Bool.Decides.{Decides-eqb}
+use Rattle.std.specs.Prelude.{◌&&◌, ◌==◌, nat_le}
 use Rattle.rv_decode.specs.declared.instructions.Width.{Width}
 use Rattle.rv_decode.specs.declared.instructions.Width.TheVariants.{W8, W16, W32}
 use Rattle.rv_decode.specs.declared.extents.Eew.{Eew}
