@@ -9,6 +9,7 @@ use Rattle.std.proofs.lemmas.List.{get_or-set_same, set-get_or, set-set}
 use Rattle.std.proofs.lemmas.List.Folds.{find_at}
 use Rattle.std.proofs.lemmas.List.Quantifiers.{position-Some}
 use Rattle.std.proofs.lemmas.Option.{slice_get-get_or, get_or_from_slice_get, slice_get_within, slice_get_past}
+use Rattle.std.proofs.Math.Bool.{or-true}
 use Rattle.region_mem.specs.Words.{Right}
 use Rattle.region_mem.specs.Areas.{Area, AreInOrder, holds, spans, admits, has_right, is_open, is_open_from, byte_at, number_at, number_of, number_in, bytes_of, part_into, with_byte, with_bytes, with_number}
 use Rattle.region_mem.proofs.Apart.{end_of}
@@ -67,14 +68,10 @@ byte_other : (address at : ℕ) (areas : List Area) (area : Area) → AreInOrder
 unfolding byte_at
 byte_other address at areas area order found here = rw (find_other address at areas area order found here) refl
 
-or_true : (b : Bool) → (b || true) ≡ true
-or_true true = refl
-or_true false = refl
-
 any_step : (b : Bool) (p q : Area → Bool) (a : Area) (areas : List Area) (area : Area) → (find p areas ≡ Some area → list_any q areas ≡ true) → cond b (Some a) (find p areas) ≡ Some area →
     q area ≡ true → (q a || list_any q areas) ≡ true
 any_step true p q a areas area rest found here = let same : a ≡ area = cc in rw (same, here) refl
-any_step false p q a areas area rest found here = rw (rest found) (or_true (q a))
+any_step false p q a areas area rest found here = rw (rest found) (or-true (q a))
 
 any_found : (p q : Area → Bool) (areas : List Area) (area : Area) → find p areas ≡ Some area → q area ≡ true → list_any q areas ≡ true
 any_found p q [] area found here = absurd (cc)

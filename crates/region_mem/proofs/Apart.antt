@@ -1,12 +1,13 @@
 -- The areas that a run starts with lie apart, and stand in order.
 use Rattle.std.proofs.Common.{◌≡◌, ◌⊎◌, inl, inr, ℕ, ◌+◌, ◌-◌, ◌*◌, ◌<◌, ◌≤◌, Bool, true, false, cond, List, [], ◌∷◌, ◌++◌, length, map, take, ltb, Some, arith, sym, ap, refl, rules, ◌∙◌, sum_by, length-append, append_assoc}
 use Rattle.std.specs.List.{AllByRecursion, list_all, slice_get, zip}
+use Rattle.std.proofs.lemmas.Bool.{and_parts}
 use Rattle.std.proofs.lemmas.Bool.Decides.{nat_tests}
 use Rattle.std.proofs.lemmas.List.{length-replicate}
 use Rattle.std.proofs.lemmas.List.Sums.{sum_by-cons, sum_by-append}
 use Rattle.region_mem.specs.Words.{Param, Arg, BUFFERS, BUFFERS_END, MAX_BUFFER_SIZE, PAGE_SIZE, STACK, STACK_SIZE}
 use Rattle.region_mem.proofs.Matching.{NonePasses, nothing_wrong}
-use Rattle.region_mem.proofs.Rooms.{and_first, and_second, room_of_valid}
+use Rattle.region_mem.proofs.Rooms.{room_of_valid}
 use Rattle.elf_image.specs.Image.{SegmentView, IsSegment, IsApart, AreApart, IsInPlace}
 use Rattle.region_mem.specs.Areas.{Area, AreInOrder}
 use Rattle.region_mem.specs.Start.{zeros, segment_area, stack_area, buffer_area, buffer_areas, insert_area, insert_areas, start_areas, start_memory}
@@ -133,7 +134,7 @@ rising_between low high (a ∷ areas) above below rising =
     ((omega (arith, rising.0), omega (arith, rising.1)), rising_between (end_of a + 1) high areas (omega (arith, rising.0)) below rising.2)
 
 -- Where a buffer lies.
-at_middle : (done todo : List Param) (param : Param) → slice_get (done ++ param ∷ todo) (length done) ≡ Some param
+pub at_middle : (done todo : List Param) (param : Param) → slice_get (done ++ param ∷ todo) (length done) ≡ Some param
 at_middle [] todo param = refl
 at_middle (other ∷ done) todo param = at_middle done todo param
 
@@ -184,7 +185,7 @@ rising done (param ∷ todo) (arg ∷ args) params place low high whole at lows 
 sum_by_all : (params : List Param) → list_all is_valid params ≡ true → sum_by room_of params ≤ length params * (MAX_BUFFER_SIZE + PAGE_SIZE)
 sum_by_all [] h = omega arith
 sum_by_all (param ∷ params) h =
-    omega (arith, sum_by-cons room_of param params, room_of_valid param (and_first _ _ h), sum_by_all params (and_second _ _ h))
+    omega (arith, sum_by-cons room_of param params, room_of_valid param (and_parts _ _ h).0, sum_by_all params (and_parts _ _ h).1)
 
 -- The areas of the buffers rise, and end below the buffers' end.
 pub buffers_rise : (params : List Param) (args : List Argument) → list_all is_valid params ≡ true → length params ≡ 8 → length args ≡ 8 → AreArguments params args →

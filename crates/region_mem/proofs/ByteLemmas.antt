@@ -17,7 +17,7 @@ use Rattle.region_mem.specs.Parameter.{Argument}
 use Rattle.region_mem.specs.Start.{zeros, segment_area, stack_area, buffer_area, buffer_areas, insert_area, insert_areas, start_areas, start_memory}
 use Rattle.region_mem.specs.Laws.{AreBytes, BringsBytes, StartsWithBytes, StoresKeepBytes, NumbersFit, LoadsFit}
 use Rattle.region_mem.proofs.Apart.{all_insert, all_inserts}
-use Rattle.region_mem.proofs.KeptCode.{stored_is}
+use Rattle.region_mem.proofs.KeptCode.{read, stored_is}
 use Rattle.region_mem.proofs.Writes.{written}
 
 abbrev HoldsBytes : Area → Type 0
@@ -92,9 +92,6 @@ slice_small bytes i all =
       | inl lt ↦ All-get_or (λ byte. byte < 256) bytes i 0 lt all
       | inr ge ↦ rw (get_or_past bytes i 0 ge) (omega arith)
     ]
-
-read : ℕ → Area → ℕ
-read x area = slice_index area.bytes (x - area.first)
 
 small_step : (x : ℕ) (area : Area) (areas : List Area) (b : Bool) → HoldsBytes area → unwrap_or (option_map (read x) (find (holds x) areas)) 0 < 256 →
     unwrap_or (option_map (read x) (cond b (Some area) (find (holds x) areas))) 0 < 256

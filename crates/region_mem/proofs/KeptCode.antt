@@ -51,7 +51,7 @@ permitted_kept right from n areas others same = rw (all_kept right from n areas 
 abbrev IsOther : ℕ → ℕ → Type 0
 IsOther x a = (x < a) ⊎ (a < x)
 
-read : ℕ → Area → ℕ
+unfoldable pub read : ℕ → Area → ℕ
 read x area = slice_index area.bytes (x - area.first)
 
 other_place : (x a : ℕ) (area : Area) → IsOther x a → holds a area ≡ true → holds x area ≡ true → x - area.first ≢ a - area.first

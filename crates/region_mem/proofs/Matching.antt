@@ -1,11 +1,11 @@
 -- What arguments that match are like.
 use Rattle.std.proofs.Common.{◌≡◌, ℕ, suc, ◌+◌, ◌≤◌, Bool, true, false, not, cond, List, [], ◌∷◌, length, Option, Some, None, ltb, arith, refl}
+use Rattle.std.proofs.lemmas.Bool.{and_parts}
 use Rattle.std.specs.List.{list_all, zip, position, position_or_len, AllByRecursion}
 use Rattle.std.specs.Option.{option_map, option_or}
 use Rattle.std.proofs.lemmas.Bool.Decides.{nat_tests}
 use Rattle.region_mem.specs.Words.{Param, Arg, MAX_BUFFER_SIZE}
 use Rattle.region_mem.specs.Parameter.{Argument, is_valid, is_wrong_kind, is_wrong_size, argument_error, size_of}
-use Rattle.region_mem.proofs.Rooms.{and_first, and_second}
 
 -- Nothing passes.
 abbrev pub NonePasses : {X : Type 0} → (X → Bool) → List X → Type 0
@@ -44,7 +44,7 @@ sizes_small params [] v few kinds sizes = tt
 sizes_small [] (arg ∷ args) v few kinds sizes = absurd (omega arith)
 sizes_small (param ∷ params) (arg ∷ args) v few kinds sizes =
     let less : length args ≤ length params = omega arith in
-    (size_small param arg (and_first _ _ v) kinds.0 sizes.0, sizes_small params args (and_second _ _ v) less kinds.1 sizes.1)
+    (size_small param arg (and_parts _ _ v).0 kinds.0 sizes.0, sizes_small params args (and_parts _ _ v).1 less kinds.1 sizes.1)
 
 -- Of arguments that match no kind and no size is wrong.
 pub nothing_wrong : (params : List Param) (args : List Argument) → argument_error params args ≡ None →

@@ -1,14 +1,12 @@
 -- The rows of the vector loads and stores: each gives a word the instruction that it encodes.
-use Rattle.std.proofs.Common.{◌≡◌, ℕ, ◌^◌, ◌*◌, ◌+◌, ◌<◌, ◌%◌, ◌==◌, Bool, true, false, refl, arith}
+use Rattle.std.proofs.Common.{◌≡◌, ℕ, ◌^◌, ◌*◌, ◌+◌, ◌<◌, ◌%◌, Bool, true, false, refl, arith}
 use Rattle.rv_decode.specs.Bits.{bits}
 use Rattle.rv_decode.specs.Encode.{low_fields}
-use Rattle.rv_decode.specs.EncodeVector.{vm_of}
 use Rattle.rv_decode.specs.EncodeAccess.{encode_m, encode_access, opcode_of_direction, f3_of_width, number_of_count, nf_of_count, mop_of_order, WholeFits}
-use Rattle.rv_decode.specs.Operations.{is_masked}
 use Rattle.rv_decode.specs.Access.{unit, strided, indexed, mask, whole, element_rows, whole_rows, mask_rows, byte_rows, wide_load_rows, vector_load_groups, vector_store_groups}
 use Rattle.rv_decode.proofs.TableLaw.{RowsHold, GroupsHold, append_rows}
 use Rattle.rv_decode.proofs.ScalarLaw.{Encodes}
-use Rattle.rv_decode.proofs.Wholes.{below, below5}
+use Rattle.rv_decode.proofs.Wholes.{below5, mask_bit}
 use Rattle.rv_decode.specs.Words.{Count, Direction, Width, One, Two, Four, Eight, W8, W16, W32}
 
 parts_m : (word : ℕ) → word < 2 ^ 32 → word ≡ bits 29 3 word * 2 ^ 29 + bits 26 3 word * 2 ^ 26 + bits 25 1 word * 2 ^ 25 + bits 20 5 word * 2 ^ 20 + low_fields (bits 0 7 word) (bits 7 5 word) (bits 12 3 word) (bits 15 5 word)
@@ -23,12 +21,6 @@ record Spells (word : ℕ) (direction : Direction) (width : Width) : Type 0 wher
 word_of : (word : ℕ) (direction : Direction) (width : Width) → Spells word direction width → word < 2 ^ 32 → word ≡ bits 29 3 word * 2 ^ 29 + bits 26 3 word * 2 ^ 26 + bits 25 1 word * 2 ^ 25 + bits 20 5 word * 2 ^ 20 + low_fields (opcode_of_direction direction) (bits 7 5 word) (f3_of_width width) (bits 15 5 word)
 word_of word direction width s w =
     let h = parts_m word w in let o = s.at_opcode in let f = s.at_f3 in cc
-
-bit_of : (n : ℕ) → n < 2 → n ≡ vm_of (n == 0)
-bit_of n h = grind arith
-
-mask_bit : (word : ℕ) → bits 25 1 word ≡ vm_of (is_masked word)
-mask_bit word = bit_of (bits 25 1 word) (below 25 1 2 word refl (omega arith))
 
 unit_is : (word : ℕ) (direction : Direction) (width : Width) → Spells word direction width → bits 26 3 word ≡ 0 → bits 20 5 word ≡ 0 → bits 29 3 word ≡ 0 → Encodes word (unit direction width word)
 unfolding encode_access encode_m

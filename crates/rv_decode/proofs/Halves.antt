@@ -1,7 +1,7 @@
 -- A word's funct6 says which half of the operations may have a row for it.
 use Rattle.std.proofs.Common.{◌≡◌, ℕ, ◌<◌, ◌≤◌, ◌==◌, ◌&&◌, Bool, true, false, List, [], ◌∷◌, ◌++◌, if◌then◌else◌, refl, sym, ap, ◌∙◌, arith, rules, append_assoc, append-nil}
 use Rattle.std.specs.Prelude.{ltb, not}
-use Rattle.std.proofs.lemmas.Bool.{eqb-true}
+use Rattle.std.proofs.lemmas.Bool.{eqb-true, and_parts}
 use Rattle.rv_decode.specs.Bits.{bits}
 use Rattle.rv_decode.specs.Rows.{Row, has_fields, meanings_by_rows, row}
 use Rattle.rv_decode.specs.Operations.{Form, Operation, rows_in, rows_of, operand, funct6}
@@ -54,10 +54,6 @@ abbrev all_codes : (ℕ → Bool) → List Operation → Bool
 all_codes test [] = true
 all_codes test (op ∷ ops) = test op.code && all_codes test ops
 
-both : (a b : Bool) → a && b ≡ true → (a ≡ true) × (b ≡ true)
-both true b h = (refl, h)
-both false b h = absurd (search rules)
-
 differ : (test : ℕ → Bool) (n code : ℕ) (same : Bool) → (n == code) ≡ same → test n ≡ false → test code ≡ true → same ≡ false
 differ test n code false e h i = refl
 differ test n code true e h i =
@@ -66,7 +62,7 @@ differ test n code true e h i =
 apart : (test : ℕ → Bool) (word : ℕ) → test (bits 26 6 word) ≡ false → (ops : List Operation) → all_codes test ops ≡ true → IsApart word ops
 apart test word h [] i = tt
 apart test word h (op ∷ ops) i =
-    let parts = both (test op.code) (all_codes test ops) i in
+    let parts = and_parts (test op.code) (all_codes test ops) i in
     (differ test (bits 26 6 word) op.code (bits 26 6 word == op.code) refl h parts.0, apart test word h ops parts.1)
 
 abbrev is_low : ℕ → Bool

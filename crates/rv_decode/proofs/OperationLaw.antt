@@ -1,7 +1,8 @@
 -- The rows of some operations give a word the instruction that it encodes, where each operation does.
-use Rattle.std.proofs.Common.{◌≡◌, ℕ, ◌^◌, ◌*◌, ◌+◌, ◌<◌, ◌==◌, ◌||◌, Bool, true, false, List, [], ◌∷◌, ◌++◌, if◌then◌else◌, refl, sym, ap, ◌∙◌, arith, rules, inl, inr}
+use Rattle.std.proofs.Common.{◌≡◌, ℕ, ◌^◌, ◌*◌, ◌+◌, ◌<◌, Bool, true, false, List, [], ◌∷◌, ◌++◌, if◌then◌else◌, refl, sym, ap, ◌∙◌, arith, rules, inl, inr}
 use Rattle.std.proofs.lemmas.Int.{ints}
 use Rattle.std.proofs.Math.Nat.{mod-eq_of_lt}
+use Rattle.std.proofs.lemmas.Bool.{or_right}
 use Rattle.std.specs.List.{list_any}
 use Rattle.rv_decode.specs.Bits.{bits}
 use Rattle.rv_decode.specs.Encode.{modulo, low_fields}
@@ -10,7 +11,7 @@ use Rattle.rv_decode.specs.Rows.{Row, row}
 use Rattle.rv_decode.specs.Operations.{Form, V, X, I, U, operand, vectors, scalars, immediates, Operation, rows_in, rows_of, funct6, is_masked}
 use Rattle.rv_decode.proofs.TableLaw.{HasFields, Every, RowsHold, append_rows}
 use Rattle.rv_decode.proofs.ScalarLaw.{Encodes}
-use Rattle.rv_decode.proofs.Wholes.{below, below5, modulo_signed, signed_fits}
+use Rattle.rv_decode.proofs.Wholes.{below5, mask_bit, modulo_signed, signed_fits}
 use Rattle.rv_decode.specs.Words.{Source}
 
 -- the fields of a word that has a funct6
@@ -37,13 +38,10 @@ word_of word c b s w =
     let n = s.at_operand in
     cc
 
-mask_bit : (n : ℕ) → n < 2 → n ≡ vm_of (n == 0)
-mask_bit n h = grind arith
-
 pub word_with_mask : (word : ℕ) (c : Code) (b : Source) → Spells word c b → word < 2 ^ 32 → word ≡ encode_v c (bits 7 5 word) (vm_of (is_masked word)) (bits 20 5 word) b
 word_with_mask word c b s w =
     word_of word c b s w ∙
-    ap (λ vm. encode_v c (bits 7 5 word) vm (bits 20 5 word) b) (mask_bit (bits 25 1 word) (below 25 1 2 word refl (omega arith)))
+    ap (λ vm. encode_v c (bits 7 5 word) vm (bits 20 5 word) b) (mask_bit word)
 
 pub word_with_vm : (word : ℕ) (c : Code) (b : Source) (vm : ℕ) → Spells word c b → bits 25 1 word ≡ vm → word < 2 ^ 32 → word ≡ encode_v c (bits 7 5 word) vm (bits 20 5 word) b
 word_with_vm word c b vm s e w = word_of word c b s w ∙ ap (λ n. encode_v c (bits 7 5 word) n (bits 20 5 word) b) e
@@ -70,15 +68,11 @@ each_operation word category (op ∷ ops) h =
 
 -- a form's operand fits an operation that has the form
 
-any_more : (b c : Bool) → c ≡ true → b || c ≡ true
-any_more true c h = refl
-any_more false c h = h
-
 fits_more : (form : Form) (forms : List Form) (b : Source) → OperandFits forms b → OperandFits (form ∷ forms) b
-fits_more form forms (Source.Vector vs1) h = (any_more (vectors form) (list_any vectors forms) h.0, h.1)
-fits_more form forms (Source.Scalar rs1) h = (any_more (scalars form) (list_any scalars forms) h.0, h.1)
-fits_more form forms (Source.Immediate imm) (inl h) = inl (any_more (takes_signed form) (list_any takes_signed forms) h.0, h.1)
-fits_more form forms (Source.Immediate imm) (inr h) = inr (any_more (takes_unsigned form) (list_any takes_unsigned forms) h.0, h.1, h.2)
+fits_more form forms (Source.Vector vs1) h = (or_right (vectors form) (list_any vectors forms) h.0, h.1)
+fits_more form forms (Source.Scalar rs1) h = (or_right (scalars form) (list_any scalars forms) h.0, h.1)
+fits_more form forms (Source.Immediate imm) (inl h) = inl (or_right (takes_signed form) (list_any takes_signed forms) h.0, h.1)
+fits_more form forms (Source.Immediate imm) (inr h) = inr (or_right (takes_unsigned form) (list_any takes_unsigned forms) h.0, h.1, h.2)
 
 fits_here : (word : ℕ) (form : Form) (forms : List Form) → OperandFits (form ∷ forms) (operand form word)
 fits_here word V forms = (refl, below5 15 word)

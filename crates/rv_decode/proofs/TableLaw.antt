@@ -1,6 +1,6 @@
 -- What holds of each row of a table holds of the meaning that the table gives to a word.
-use Rattle.std.proofs.Common.{◌≡◌, ℕ, Bool, true, false, ◌&&◌, ◌==◌, List, [], ◌∷◌, ◌++◌, if◌then◌else◌, refl, rules}
-use Rattle.std.proofs.lemmas.Bool.{eqb-true}
+use Rattle.std.proofs.Common.{◌≡◌, ℕ, Bool, true, false, ◌==◌, List, [], ◌∷◌, ◌++◌, if◌then◌else◌, refl}
+use Rattle.std.proofs.lemmas.Bool.{eqb-true, and_parts}
 use Rattle.std.specs.Option.{IfSome}
 use Rattle.rv_decode.specs.Bits.{bits}
 use Rattle.rv_decode.specs.Rows.{Field, Row, RowGroup, Section, has_fields, meanings_by_rows, meanings_by_groups, meanings, first}
@@ -10,14 +10,10 @@ abbrev pub HasFields : List Field → ℕ → Type 0
 HasFields [] word = Unit {0}
 HasFields (f ∷ fs) word = (bits f.low f.width word ≡ f.value) × HasFields fs word
 
-both : (a b : Bool) → a && b ≡ true → (a ≡ true) × (b ≡ true)
-both true b h = (refl, h)
-both false b h = absurd (search rules)
-
 fields_of : (fs : List Field) (word : ℕ) → has_fields fs word ≡ true → HasFields fs word
 fields_of [] word h = tt
 fields_of (f ∷ fs) word h =
-    let parts = both (bits f.low f.width word == f.value) (has_fields fs word) h in
+    let parts = and_parts (bits f.low f.width word == f.value) (has_fields fs word) h in
     (eqb-true _ _ parts.0, fields_of fs word parts.1)
 
 abbrev pub Every : {X : Type 0} → (X → Type 0) → List X → Type 0

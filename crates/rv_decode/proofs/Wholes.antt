@@ -1,10 +1,12 @@
 -- A word is put together from its fields, and an immediate gives back the bits that it was made of.
-use Rattle.std.proofs.Common.{◌≡◌, ℕ, ◌+◌, ◌-◌, ◌*◌, ◌/◌, ◌%◌, ◌^◌, ◌<◌, ℤ, pos, negsuc, ap, refl, sym, ◌∙◌, arith, inl, inr}
+use Rattle.std.proofs.Common.{◌≡◌, ℕ, ◌+◌, ◌-◌, ◌*◌, ◌/◌, ◌%◌, ◌^◌, ◌<◌, ◌==◌, ℤ, pos, negsuc, ap, refl, sym, ◌∙◌, arith, inl, inr}
 use Rattle.std.proofs.lemmas.Int.{ints}
 use Rattle.std.proofs.lemmas.Bool.{cases_lt}
 use Rattle.std.proofs.Math.Nat.{mod-eq_of_lt, mod-lt}
 use Rattle.rv_decode.specs.Bits.{bits, signed, immediate_i, immediate_s, immediate_b, immediate_u, immediate_j}
 use Rattle.rv_decode.specs.Encode.{modulo, low_fields, middle_fields, encode_r, encode_i, encode_s, encode_b, encode_u, encode_j, IsSigned, IsUpper, IsEven}
+use Rattle.rv_decode.specs.EncodeVector.{vm_of}
+use Rattle.rv_decode.specs.Operations.{is_masked}
 use Rattle.rv_decode.proofs.Places.{bits_of_parts, signed_small, signed_large}
 
 pub below5 : (low word : ℕ) → bits low 5 word < 32
@@ -14,6 +16,14 @@ below5 low word = mod-lt (word / 2 ^ low) (omega arith)
 pub below : (low width m word : ℕ) → 2 ^ width ≡ m → 0 < m → bits low width word < m
 unfolding bits
 below low width m word e p = let h = mod-lt (word / 2 ^ low) p in grind (arith, h, e)
+
+-- the vm bit says whether the operation is masked
+
+bit_of : (n : ℕ) → n < 2 → n ≡ vm_of (n == 0)
+bit_of n h = grind arith
+
+pub mask_bit : (word : ℕ) → bits 25 1 word ≡ vm_of (is_masked word)
+mask_bit word = bit_of (bits 25 1 word) (below 25 1 2 word refl (omega arith))
 
 -- a signed number gives its bits back, and is in range
 

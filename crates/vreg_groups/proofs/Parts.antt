@@ -510,7 +510,7 @@ elements_of_bytes size at n bytes =
     let place : at + b ≡ a = omega arith in
     sym (get_or-take (size * n) (drop at bytes) b 0 inside ∙ get_or-drop at bytes b 0 ∙ ap (λ j. get_or bytes j 0) place)))
 
-length-numbers_of : (size n : ℕ) (bytes : List ℕ) → length (numbers_of size n bytes) ≡ n
+pub length-numbers_of : (size n : ℕ) (bytes : List ℕ) → length (numbers_of size n bytes) ≡ n
 unfolding numbers_of
 length-numbers_of size n bytes = length-map-range_with_len (element_at size 0 bytes) 0 n
 
