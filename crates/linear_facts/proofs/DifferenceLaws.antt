@@ -1,8 +1,8 @@
 -- Differences of multiples of forms: their steps, and why their lower bounds hold.
-use Rattle.std.proofs.Common.{◌≡◌, ℕ, ◌+◌, ◌-◌, ◌*◌, ◌/◌, ◌%◌, ◌^◌, ◌<◌, ◌≤◌, inl, inr, List, [], ◌∷◌, ◌++◌, map, length, take, drop, get_or, refl, ap, sym, ◌∙◌, subst, arith, Bool, true, false, ◌&&◌, is_some}
-use Rattle.std.proofs.lemmas.Bool.{cases_eq, leb-true}
+use Rattle.std.proofs.Common.{◌≡◌, ℕ, ◌+◌, ◌-◌, ◌*◌, ◌/◌, ◌%◌, ◌^◌, ◌<◌, ◌≤◌, inl, inr, List, [], ◌∷◌, ◌++◌, map, length, take, drop, get_or, refl, ap, sym, ◌∙◌, subst, arith, true, false, ◌&&◌, is_some}
+use Rattle.std.proofs.lemmas.Bool.{and_parts, cases_eq, leb-true}
 use Rattle.std.proofs.lemmas.List.{drop_more, drop_all, length-map, take_all}
-use Rattle.std.proofs.lemmas.Grind.{common_steps, take_at_read}
+use Rattle.std.proofs.lemmas.Grind.{take_at_read}
 use Rattle.std.specs.Prelude.{nat_le}
 use Rattle.linear_facts.specs.Words.{Term, WholeTerm, Interval, Side, Lo, Hi, Added, Taken}
 use Rattle.linear_facts.specs.Forms.{Linear, IsForm, value}
@@ -72,12 +72,6 @@ module _ (table : AtomTable) (side : Side) (k a : ℕ) (xs : List Term) (f : Lin
 pub terms_kept : (side : Side) (k plus minus : ℕ) (sum : WholeSum) → (with_number side k plus minus sum).terms ≡ sum.terms
 terms_kept Added k plus minus sum = refl
 terms_kept Taken k plus minus sum = refl
-
-and_first : (a b : Bool) → (a && b) ≡ true → a ≡ true
-and_first a b e = grind (arith, common_steps)
-
-and_rest : (a b : Bool) → (a && b) ≡ true → b ≡ true
-and_rest a b e = grind (arith, common_steps)
 
 -- what is added to and taken from a sum, where atom a is the number v a
 abbrev up : (ℕ → ℕ) → WholeSum → ℕ
@@ -181,14 +175,14 @@ module _ (table : AtomTable) (v : ℕ → ℕ) (agrees : AgreesWith table v) whe
   unfolding with_products
   added-products sum [] forms there = omega arith
   added-products sum (m ∷ ms) forms there =
-      omega (arith, added-product sum m forms.0 (and_first _ _ there), added-products (with_product table Added sum m) ms forms.1 (and_rest _ _ there))
+      omega (arith, added-product sum m forms.0 (and_parts _ _ there).0, added-products (with_product table Added sum m) ms forms.1 (and_parts _ _ there).1)
 
   taken-products : (sum : WholeSum) (ms : List Product) → AreForms ms → have_ranges table ms ≡ true
       → up v (with_products table Taken sum ms) + down v sum + total_of v ms ≡ up v sum + down v (with_products table Taken sum ms)
   unfolding with_products
   taken-products sum [] forms there = omega arith
   taken-products sum (m ∷ ms) forms there =
-      omega (arith, taken-product sum m forms.0 (and_first _ _ there), taken-products (with_product table Taken sum m) ms forms.1 (and_rest _ _ there))
+      omega (arith, taken-product sum m forms.0 (and_parts _ _ there).0, taken-products (with_product table Taken sum m) ms forms.1 (and_parts _ _ there).1)
 
   positive-holds : (sum : WholeSum) → is_positive table sum ≡ true → down v sum ≤ up v sum
   unfolding is_positive
@@ -252,12 +246,13 @@ module _ (table : AtomTable) (v : ℕ → ℕ) (agrees : AgreesWith table v) whe
   order-holds f g is_f is_g e =
       let start : WholeSum = record { plus = 0; minus = 0; terms = [] } in
       let test = nat_le (2 ^ 112) (sum_interval table (with_products table Taken (with_products table Added start (once f)) (once g))).lo in
-      let forms = and_first (have_ranges table (once f) && have_ranges table (once g)) test e in
+      let tests = and_parts (have_ranges table (once f) && have_ranges table (once g)) test e in
+      let forms = and_parts _ _ tests.0 in
       omega (
         arith,
-        not_negative _ (and_rest (have_ranges table (once f) && have_ranges table (once g)) test e),
-        added-products start (once f) (is_f, tt) (and_first _ _ forms),
-        taken-products (with_products table Added start (once f)) (once g) (is_g, tt) (and_rest _ _ forms),
+        not_negative _ tests.1,
+        added-products start (once f) (is_f, tt) forms.0,
+        taken-products (with_products table Added start (once f)) (once g) (is_g, tt) forms.1,
         sum_over-nil (gain_part v),
         sum_over-nil (loss_part v),
       )

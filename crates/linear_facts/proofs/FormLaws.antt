@@ -37,7 +37,7 @@ weight-term_or_none v atom coefficient ts = grind (arith, common_steps, cases_eq
 length-term_or_none : (atom coefficient : ℕ) → length (term_or_none atom coefficient) ≤ 1
 length-term_or_none atom coefficient = grind (arith, common_steps, cases_eq coefficient 0)
 
-merged-left : (ys : List Term) → merged [] ys ≡ ys
+pub merged-left : (ys : List Term) → merged [] ys ≡ ys
 unfolding merged
 merged-left ys = refl
 

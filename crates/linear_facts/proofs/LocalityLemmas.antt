@@ -6,7 +6,7 @@ use Rattle.linear_facts.specs.Words.{Term, Range, Interval}
 use Rattle.linear_facts.specs.Forms.{Linear, weight, value, RisesFrom, merged, term_or_none, scaled_terms, sum_of, scaled, number_form, form_at, with_replaced, substituted}
 use Rattle.linear_facts.specs.Laws.{AreBelow, FormsStayBelow, SumsStayBelow, MultiplesStayBelow, SubstitutionsStayBelow, AgreeBelow, RangesFit}
 use Rattle.linear_facts.specs.Sums.{form_interval, range_within, range_of_form}
-use Rattle.linear_facts.proofs.FormLaws.{along_merge}
+use Rattle.linear_facts.proofs.FormLaws.{along_merge, merged-left}
 use Rattle.linear_facts.proofs.Merging.{merged-nil, merged-less, merged-greater, merged-same}
 
 raised : (n k : ℕ) (ts : List Term) → AreBelow n ts → AreBelow (n + k) ts
@@ -28,10 +28,6 @@ below-term_or_none n atom coefficient ts lt h =
 
     one_at : (coefficient ≡ 0 → ⊥) → term_or_none atom coefficient ≡ record { atom = atom; coefficient = coefficient } ∷ []
     one_at n = grind (arith, common_steps)
-
-merged-left : (ys : List Term) → merged [] ys ≡ ys
-unfolding merged
-merged-left ys = refl
 
 below-merged : (n : ℕ) (xs ys : List Term) → AreBelow n xs → AreBelow n ys → AreBelow n (merged xs ys)
 below-merged n =

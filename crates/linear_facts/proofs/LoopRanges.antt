@@ -1,8 +1,9 @@
 -- The ranges of the forms of a loop.
 use Rattle.std.proofs.Common.{◌≡◌, ℕ, ◌+◌, ◌-◌, ◌*◌, ◌/◌, ◌%◌, ◌^◌, ◌<◌, ◌≤◌, ◌==◌, inl, inr, List, [], ◌∷◌, map, min, max, length, refl, sym, ap, ◌∙◌, subst, arith, true, false, Some, None}
-use Rattle.std.specs.Prelude.{nat_le, not}
+use Rattle.std.specs.Prelude.{not}
 use Rattle.std.proofs.lemmas.Bool.Decides.{nat_tests}
 use Rattle.std.proofs.lemmas.List.Sums.{count_by-le-length}
+use Rattle.std.proofs.lemmas.Bool.{le-leb}
 use Rattle.linear_facts.specs.Words.{Range, WholeTerm, Interval, Side, Added, Taken}
 use Rattle.linear_facts.specs.Forms.{Linear, number_form, atom_form}
 use Rattle.linear_facts.specs.Differences.{WholeSum, base_of, with_product, with_products, with_multiples, is_positive, difference_of, is_at_least_of}
@@ -87,9 +88,6 @@ differ a b l = grind (arith, nat_tests)
 
 differ_up : (a b : ℕ) → b < a → (a == b) ≡ false
 differ_up a b l = grind (arith, nat_tests)
-
-le_true : (a b : ℕ) → a ≤ b → nat_le a b ≡ true
-le_true a b l = grind (arith, nat_tests)
 
 same : (a : ℕ) → (a == a) ≡ true
 same a = grind (arith, nat_tests)
@@ -304,7 +302,7 @@ module _ (table : AtomTable) (n e v u L N M : ℕ) (is : IsLoop table n e v u L 
     positive =
         let c : k * 1 - k * 0 ≡ k = omega arith in
         let d : k * 0 - k * 1 ≡ 0 = omega arith in
-        rw ((level k).0, (level k).1, c, d, is.v_range) (le_true _ _ (omega (arith, one)))
+        rw ((level k).0, (level k).1, c, d, is.v_range) (le-leb _ _ (omega (arith, one)))
       where
         one_is : min 1 M ≡ 1
         one_is = omega (arith, is.progress)
@@ -369,7 +367,7 @@ module _ (table : AtomTable) (a lo hi : ℕ) (is_range : range_at table a ≡ re
 
     not_less : is_positive table second_sum ≡ true
     unfolding is_positive second_sum shares
-    not_less = rw ((level k).0, (level k).1) (le_true _ _ (omega arith))
+    not_less = rw ((level k).0, (level k).1) (le-leb _ _ (omega arith))
 
 pub atom-range : AtomRange
 atom-range table a lo hi is_range none le fits = alone_range table a lo hi is_range none le fits

@@ -1,7 +1,7 @@
 -- Why a form's value lies in its range.
-use Rattle.std.proofs.Common.{◌≡◌, ℕ, ◌+◌, ◌-◌, ◌*◌, ◌/◌, ◌%◌, ◌^◌, ◌<◌, ◌≤◌, ◌==◌, inl, inr, zero, suc, List, [], ◌∷◌, ◌++◌, map, length, get_or, position, slice_set, min, max, refl, ap, sym, ◌∙◌, subst, arith, append-nil, append_assoc, Option, Some, None, is_some, true, false, not, IfSome}
+use Rattle.std.proofs.Common.{◌≡◌, ℕ, ◌+◌, ◌-◌, ◌*◌, ◌/◌, ◌%◌, ◌^◌, ◌<◌, ◌≤◌, ◌==◌, inl, inr, zero, suc, List, [], ◌∷◌, ◌++◌, map, length, get_or, position, slice_set, min, max, refl, ap, sym, ◌∙◌, subst, arith, append-nil, append_assoc, Option, Some, None, is_some, false, not, IfSome}
 use Rattle.std.specs.List.{list_any, position_or_len}
-use Rattle.std.proofs.lemmas.Bool.{cases_eq, cases_lt}
+use Rattle.std.proofs.lemmas.Bool.{cases_eq, cases_lt, eqb-true}
 use Rattle.std.proofs.lemmas.Bool.Decides.{nat_tests}
 use Rattle.std.proofs.lemmas.List.{length-map}
 use Rattle.std.proofs.lemmas.List.Sums.{count_by-le-length}
@@ -106,9 +106,6 @@ form_interval-unsplit table c ts few rises none =
     omega (arith, few, length-map ts signed_term, count_by-le-length (λ (t : WholeTerm). not (t.plus == t.minus)) own) in
     sym (met-same (interval_of table c 0 own)) ∙ form_interval-few table record { constant = c; terms = ts } own own refl same count
 
-same_atom : (a b : ℕ) → (a == b) ≡ true → a ≡ b
-same_atom a b e = grind (arith, nat_tests, common_steps)
-
 -- one number per term, all added up
 unfoldable pub sum_over : (WholeTerm → ℕ) → List WholeTerm → ℕ
 sum_over f [] = 0
@@ -141,7 +138,7 @@ module _ (f : WholeTerm → ℕ) where
     by_place ts t None e = omega (arith, sum_over-append ts (t ∷ []), sum_over-one t)
     by_place ts t (Some i) e =
         let found = position-Some (λ u. u.atom == t.atom) ts i t e in
-        omega (arith, sum_over-set ts i t (joined (get_or ts i t) t) found.0, joins (get_or ts i t) t (same_atom (get_or ts i t).atom t.atom found.1))
+        omega (arith, sum_over-set ts i t (joined (get_or ts i t) t) found.0, joins (get_or ts i t) t (eqb-true (get_or ts i t).atom t.atom found.1))
 
     pub sum_over-with_term : (ts : List WholeTerm) (t : WholeTerm) → sum_over f (with_term ts t) ≡ sum_over f ts + f t
     unfolding with_term
