@@ -92,7 +92,7 @@ equality_again params low high (Some x) rest says =
 
 -- ---- facts on registers
 
-regroup3 : (a b c rest : List ℕ) → ((a ++ b) ++ c) ++ rest ≡ a ++ (b ++ (c ++ rest))
+pub regroup3 : (a b c rest : List ℕ) → ((a ++ b) ++ c) ++ rest ≡ a ++ (b ++ (c ++ rest))
 regroup3 a b c rest = simp append_assoc
 
 regroup4 : (a b c d rest : List ℕ) → (((a ++ b) ++ c) ++ d) ++ rest ≡ a ++ (b ++ (c ++ (d ++ rest)))

@@ -15,7 +15,7 @@ use Rattle.cert_note.specs.Certificate.{CertificateView, AllFrom, after_block, I
 use Rattle.cert_note.specs.Spelling.{half, word, version_code, vlen_code, header, parameter_of, spelled_parameter, spelled_block, spelling}
 use Rattle.cert_note.specs.Reading.{byte_at, number_at, zero_at, zeros_at, version_of, vlen_of, header_at, mode_of, is_first_number, is_second_number, param_of, parameter_at, parameters_at, block_at, blocks_at, count_at, certificate_of, parameter_from, after_parameter}
 use Rattle.cert_note.proofs.Numbers.{IsBytes, bind_ok, expected, found, ok_is, Takes, Takes-then, byte_takes, byte_again, half_takes, half_again, word_takes, word_again, zero_takes, zero_again, zeros_takes, zeros_again, many_takes, many_again}
-use Rattle.cert_note.proofs.Laws.{chosen, some_is, block_takes, block_again}
+use Rattle.cert_note.proofs.Laws.{chosen, some_is, block_takes, block_again, regroup3}
 
 -- ---- the header
 
@@ -133,9 +133,6 @@ parameter_takes bytes x rest fits e =
     let m = means a.0.0 b.0.0 f.0.0 g.0.0 c.0 p.0 c.1 q.0 r.0 t4.1 in
     subst (λ (y : Param × List ℕ). Takes bytes (spelled_parameter y.0) y.1 × IsParameter y.0) (ok_is (param_of a.0.0 c.0 f.0.0 g.0.0, g.0.1) (x, rest) r.1)
     (subst (λ (t : List ℕ). Takes bytes t g.0.1) m.spelled e4, m.valid)
-
-regroup3 : (a b c rest : List ℕ) → ((a ++ b) ++ c) ++ rest ≡ a ++ (b ++ (c ++ rest))
-regroup3 a b c rest = simp append_assoc
 
 numbers_again : (kind code a b : ℕ) (mode : Option Mode) (rest : List ℕ) → leb kind 2 ≡ true → mode_of kind code ≡ Some mode → is_first_number kind a ≡ true → is_second_number kind a b ≡ true → a < 2 ^ 32 → b < 2 ^ 32 →
     parameter_at (parameter_of kind code a b ++ rest) ≡ Ok (param_of kind mode a b, rest)
