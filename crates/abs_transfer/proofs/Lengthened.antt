@@ -1,10 +1,8 @@
 -- An instruction that sets vl makes at most two atoms more.
 use Rattle.std.proofs.Common.{◌≡◌, ◌≤◌, ◌+◌, ℕ, Bool, true, false, arith, sym, subst, length, length-append, List, [], ◌∷◌, ◌++◌, Option, Some, None}
 use Rattle.std.specs.Prelude.{if◌then◌else◌, ◌==◌}
-use Rattle.std.proofs.Math.ListN.{length-set}
 use Rattle.linear_facts.specs.declared.ranges.Range.{Range}
 use Rattle.linear_facts.specs.declared.ranges.Atom.{Atom}
-use Rattle.linear_facts.specs.declared.ranges.Split.{Split}
 use Rattle.vreg_groups.specs.declared.vector_type.Vtype.{Vtype}
 use Rattle.vreg_groups.specs.VectorType.{vtype_of, vlmax_of}
 use Rattle.abs_transfer.specs.declared.vset.Asked.{Asked}
@@ -14,7 +12,7 @@ use Rattle.abs_domain.specs.Values.{ValueView}
 use Rattle.abs_domain.specs.Numbers.{NumbersView, plain, value_at, with_effect, with_fresh, with_result, with_value}
 use Rattle.abs_domain.specs.Numbers.{whole_atom}
 use Rattle.abs_transfer.specs.Vset.{Configured, configured, has_vlmax, known_request, kept_or_zero, limited, limited_by, split_into, supported_request, unknown_request, with_length_in}
-use Rattle.abs_domain.specs.Numbers.{with_split}
+use Rattle.abs_domain.proofs.AtomSplits.{split_count}
 
 -- at most two atoms more
 abbrev Grows : NumbersView → NumbersView → Type 0
@@ -24,16 +22,12 @@ fresh_grows : (r : Range) (s : NumbersView) → Grows s (with_fresh 32 r s)
 unfolding with_fresh with_value
 fresh_grows r s = omega (arith, length-append s.atoms (plain r ∷ []))
 
-split_same : (a : ℕ) (p : Split) (atoms : List Atom) → length (with_split a p atoms) ≡ length atoms
-unfolding with_split
-split_same a p atoms = length-set atoms a _
-
 into_grows : (a : ℕ) (r t : Range) (atoms : List Atom) → length (split_into a r t atoms) ≤ length atoms + 2
 unfolding split_into
 into_grows a r t atoms =
     omega (
       arith,
-      split_same a record { first = length atoms; second = length atoms + 1 } ((atoms ++ plain r ∷ []) ++ plain t ∷ []),
+      split_count a record { first = length atoms; second = length atoms + 1 } ((atoms ++ plain r ∷ []) ++ plain t ∷ []),
       length-append (atoms ++ plain r ∷ []) (plain t ∷ []),
       length-append atoms (plain r ∷ []),
     )
