@@ -1,9 +1,8 @@
 -- What lies in a zone is permitted, and what is allowed lies in one; what stores keep of memory.
 use Rattle.std.proofs.Common.{◌≡◌, ◌<◌, ◌≤◌, ◌+◌, ◌^◌, ℕ, zero, suc, Bool, true, false, arith, refl, sym, ap, ◌∙◌, subst, List, [], ◌∷◌, map, length}
-use Rattle.std.specs.Prelude.{◌&&◌, ◌||◌, nat_le, nat_lt, if◌then◌else◌, Some, Result, Ok, Err}
+use Rattle.std.specs.Prelude.{◌&&◌, nat_le, if◌then◌else◌, Some, Result, Ok, Err}
 use Rattle.std.specs.List.{list_any, list_all, range_with_len}
-use Rattle.std.proofs.lemmas.Bool.Decides.{nat_tests}
-use Rattle.std.proofs.lemmas.Grind.{common_steps}
+use Rattle.std.proofs.lemmas.Bool.{and_parts, or_left, or_right, and_from, leb-true, le-leb, lt-ltb}
 use Rattle.region_mem.specs.declared.faults.Right.{Right}
 use Rattle.region_mem.specs.declared.faults.Right.TheVariants.{Read, Write, Fetch}
 use Rattle.region_mem.specs.Areas.{Area, AreInside, holds, has_right, is_open, is_open_from}
@@ -24,30 +23,6 @@ record IsOpen (right : Right) (first end : ℕ) (areas : List Area) : Type 0 whe
   low : end ≤ 2 ^ 32
   each : (x : ℕ) → first ≤ x → x < end → is_open right areas x ≡ true
 
-or_first : (a b : Bool) → a ≡ true → (a || b) ≡ true
-or_first a b e = grind (arith, common_steps)
-
-or_rest : (a b : Bool) → b ≡ true → (a || b) ≡ true
-or_rest a b e = grind (arith, common_steps)
-
-both : (a b : Bool) → a ≡ true → b ≡ true → (a && b) ≡ true
-both a b e f = grind (arith, common_steps)
-
-left : (a b : Bool) → (a && b) ≡ true → a ≡ true
-left a b e = grind (arith, common_steps)
-
-right_of : (a b : Bool) → (a && b) ≡ true → b ≡ true
-right_of a b e = grind (arith, common_steps)
-
-true_le : (a b : ℕ) → nat_le a b ≡ true → a ≤ b
-true_le a b e = grind (arith, nat_tests)
-
-le_true : (a b : ℕ) → a ≤ b → nat_le a b ≡ true
-le_true a b l = grind (arith, nat_tests)
-
-lt_true : (a b : ℕ) → a < b → nat_lt a b ≡ true
-lt_true a b l = grind (arith, nat_tests)
-
 -- the right of a zone is that of its area
 right_is : (right : Right) (area : Area) → zone_right right (zone_of area) ≡ true → has_right right area ≡ true
 unfolding zone_right has_right
@@ -60,16 +35,16 @@ here : (right : Right) (first end : ℕ) (area : Area) → spans first end (zone
     → (x : ℕ) → first ≤ x → x < end → (holds x area && has_right right area) ≡ true
 unfolding spans holds
 here right first end area e f x l h =
-    let low : area.first ≤ first = true_le area.first first (left (nat_le area.first first) (nat_le end (area.first + length area.bytes)) e) in
-    let high : end ≤ area.first + length area.bytes = true_le end (area.first + length area.bytes) (right_of (nat_le area.first first) (nat_le end (area.first + length area.bytes)) e) in
-    both _ _
-    (both _ _ (le_true area.first x (omega (arith, low, l))) (lt_true x (area.first + length area.bytes) (omega (arith, high, h))))
+    let low : area.first ≤ first = leb-true area.first first (and_parts (nat_le area.first first) (nat_le end (area.first + length area.bytes)) e).0 in
+    let high : end ≤ area.first + length area.bytes = leb-true end (area.first + length area.bytes) (and_parts (nat_le area.first first) (nat_le end (area.first + length area.bytes)) e).1 in
+    and_from _ _
+    (and_from _ _ (le-leb area.first x (omega (arith, low, l))) (lt-ltb x (area.first + length area.bytes) (omega (arith, high, h))))
     (right_is right area f)
 
 here_end : (first end : ℕ) (area : Area) → spans first end (zone_of area) ≡ true → area.first + length area.bytes ≤ 2 ^ 32 → end ≤ 2 ^ 32
 unfolding spans
 here_end first end area e l =
-    let high : end ≤ area.first + length area.bytes = true_le end (area.first + length area.bytes) (right_of (nat_le area.first first) (nat_le end (area.first + length area.bytes)) e) in
+    let high : end ≤ area.first + length area.bytes = leb-true end (area.first + length area.bytes) (and_parts (nat_le area.first first) (nat_le end (area.first + length area.bytes)) e).1 in
     omega (arith, high, l)
 
 zone_open : (right : Right) (first end : ℕ) (areas : List Area) → AreInside areas
@@ -84,12 +59,12 @@ zone_open right first end (area ∷ areas) are e =
 
     by_case : (b : Bool) → (spans first end (zone_of area) && zone_right right (zone_of area)) ≡ b → Rest → IsOpen right first end (area ∷ areas)
     by_case true f more = record {
-      low = here_end first end area (left _ _ f) are.0;
-      each = λ x l g. or_first _ _ (here right first end area (left _ _ f) (right_of _ _ f) x l g);
+      low = here_end first end area (and_parts _ _ f).0 are.0;
+      each = λ x l g. or_left _ _ (here right first end area (and_parts _ _ f).0 (and_parts _ _ f).1 x l g);
     }
     by_case false f more =
         let rest : IsOpen right first end areas = more (rw f at e) in
-        record { low = rest.low; each = λ x l g. or_rest _ _ (rest.each x l g) }
+        record { low = rest.low; each = λ x l g. or_right _ _ (rest.each x l g) }
 
 all_open : (right : Right) (first end : ℕ) (areas : List Area) (a n : ℕ) → IsOpen right first end areas → first ≤ a → a + n ≤ end
     → list_all (is_open right areas) (range_with_len a n) ≡ true
@@ -102,7 +77,7 @@ pub inside_permitted : ZonesArePermitted
 unfolding is_inside is_permitted is_open_from
 inside_permitted right first end zones m a n has e l g =
     let o : IsOpen right first end m.areas = zone_open right first end m.areas has.inside (has.there _ e) in
-    both _ _ (le_true (a + n) (2 ^ 32) (omega (arith, o.low, g))) (all_open right first end m.areas a n o l g)
+    and_from _ _ (le-leb (a + n) (2 ^ 32) (omega (arith, o.low, g))) (all_open right first end m.areas a n o l g)
 
 -- what lies in a zone is not past the last address
 pub inside_fits : (right : Right) (first end : ℕ) (zones : List Zone) (m : Memory) → HasZones zones m

@@ -6,6 +6,7 @@ use Rattle.std.proofs.lemmas.Option.{get_or_from_slice_get}
 use Rattle.std.proofs.lemmas.List.FromFn.{map-range_with_len_more}
 use Rattle.std.proofs.lemmas.Bool.Decides.{nat_tests}
 use Rattle.std.proofs.lemmas.List.{map-append, length-map, get_or-map, take-map, take_more, take_more_set, length-take-le}
+use Rattle.std.proofs.lemmas.Bool.{and_parts}
 use Rattle.linear_facts.specs.declared.forms.Term.{Term}
 use Rattle.linear_facts.specs.Forms.{IsForm, RisesFrom}
 use Rattle.linear_facts.specs.Laws.{AreBelow}
@@ -53,12 +54,6 @@ mapped_more f xs n d old y l g before is =
 
 -- ---- tests
 
--- both tests hold
-pub both : (p q : Bool) → IsTrue (p && q) → (p ≡ true) × (q ≡ true)
-both true true h = (refl, refl)
-both true false h = cc
-both false q h = cc
-
 -- an atom of a certificate is one of the 41
 pub atom_below : (params : List Param) (atom : ℕ) → is_atom params atom ≡ true → atom < 41
 unfolding is_atom
@@ -102,7 +97,7 @@ greaters_below facts from (o ∷ os) is = (greater_below facts from o is.0, grea
 
 term_from : (params : List Param) (from : ℕ) (t : EqualityTerm) → IsTerm params from t → from ≤ t.atom
 term_from params from t is =
-    let test = both (nat_le from t.atom) (is_atom params t.atom) is.atom in
+    let test = and_parts (nat_le from t.atom) (is_atom params t.atom) is.atom in
     grind (arith, nat_tests)
 
 coefficient_some : (params : List Param) (from : ℕ) (t : EqualityTerm) → IsTerm params from t → 0 < t.coefficient
@@ -113,10 +108,10 @@ terms_rise params from [] h = tt
 terms_rise params from (t ∷ ts) h =
     (term_from params from t h.0, coefficient_some params from t h.0, h.0.fits, terms_rise params (t.atom + 1) ts h.1)
 
-terms_below : (params : List Param) (from : ℕ) (ts : List EqualityTerm) → AllFrom (IsTerm params) after_term from ts → AreBelow 41 (map form_term ts)
+pub terms_below : (params : List Param) (from : ℕ) (ts : List EqualityTerm) → AllFrom (IsTerm params) after_term from ts → AreBelow 41 (map form_term ts)
 terms_below params from [] h = tt
 terms_below params from (t ∷ ts) h =
-    (atom_below params t.atom (both (nat_le from t.atom) (is_atom params t.atom) h.0.atom).1, terms_below params (t.atom + 1) ts h.1)
+    (atom_below params t.atom (and_parts (nat_le from t.atom) (is_atom params t.atom) h.0.atom).1, terms_below params (t.atom + 1) ts h.1)
 
 rises_lower : (low : ℕ) (ts : List Term) → RisesFrom (low + 1) ts → RisesFrom low ts
 rises_lower low [] h = tt

@@ -32,14 +32,10 @@ use Rattle.abs_domain.specs.Described.{LiesIn, Means, IsNumber}
 use Rattle.abs_domain.specs.Holds.{Holds, number_of, AreSplitsBelow}
 use Rattle.abs_domain.specs.Starts.{fact_for, interval_of, stated_range, equality_form, form_or_atom, stated_form, passed_range, start_atoms, numbers_by, passed_value, value_for, start_value, form_with, entry_form, entry_numbers}
 use Rattle.abs_domain.specs.BlockLaws.{IsPassed, ArePassed, number_in, FactIsTrue, IsEntry, EntryNumbersHold}
-use Rattle.abs_domain.proofs.States.{computed_lies, form_range_lies}
+use Rattle.abs_domain.proofs.States.{computed_lies, form_range_lies, value_fits}
 use Rattle.abs_domain.proofs.StartForms.{found_has, found_passes, equality_is, equality_below}
 
 -- ---- numbers by their forms and intervals
-
-value_small : (v : ℕ → ℕ) (f : Linear) (x : ℕ) → x ≡ value v f → x < 2 ^ 32
-unfolding value
-value_small v f x e = omega arith
 
 module _ (atoms : List Atom) (form : ℕ → Linear) (interval : ℕ → Option Range) where
   pub form_by : (i : ℕ) → i < 33 → (value_at (numbers_by atoms form interval) i).form ≡ form i
@@ -59,7 +55,7 @@ module _ (atoms : List Atom) (form : ℕ → Linear) (interval : ℕ → Option 
         means = subst (λ (f : Linear). Means 8 (length atoms) v f x) (sym (form_by i l)) means;
         lies =
             subst (λ (r : Range). LiesIn r x) (sym (range_by i l))
-            (computed_lies x (interval i) (range_of_form (table_with atoms) (form i)) (value_small v (form i) x means.number) lies
+            (computed_lies x (interval i) (range_of_form (table_with atoms) (form i)) (value_fits v (form i) x means.number) lies
             (form_range_lies (table_with atoms) (form i) v x agrees means.form means.number));
       }
 

@@ -1,9 +1,9 @@
 -- The areas that a run starts with have the zones of its image and parameters, in another order.
-use Rattle.std.proofs.Common.{◌≡◌, ◌+◌, ℕ, Bool, true, false, not, cond, ltb, eqb, arith, refl, sym, ap, ◌∙◌, List, [], ◌∷◌, ◌++◌, map, length, length-append, append_assoc, Some}
+use Rattle.std.proofs.Common.{◌≡◌, ◌+◌, ℕ, Bool, true, false, cond, ltb, arith, refl, sym, ap, ◌∙◌, List, [], ◌∷◌, ◌++◌, map, length, length-append, append_assoc, Some}
 use Rattle.std.specs.Prelude.{◌||◌}
 use Rattle.std.specs.Option.{option_to_list}
 use Rattle.std.specs.List.{AllByRecursion, list_any, slice_get, zip}
-use Rattle.std.proofs.lemmas.Bool.Decides.{nat_tests}
+use Rattle.std.proofs.lemmas.Bool.{eqb-true, not-false}
 use Rattle.std.proofs.lemmas.List.Folds.{list_any-append}
 use Rattle.elf_image.specs.Image.{SegmentView, IsSegment}
 use Rattle.region_mem.specs.declared.layout.TheConstants.{STACK_SIZE}
@@ -15,7 +15,7 @@ use Rattle.region_mem.specs.declared.arguments.Arg.TheVariants as argument
 use Rattle.region_mem.specs.Areas.{Area}
 use Rattle.region_mem.specs.Parameter.{Argument, is_wrong_kind, is_wrong_size}
 use Rattle.region_mem.specs.Start.{segment_area, stack_area, is_writable, buffer_area, buffer_areas, insert_area, insert_areas, start_areas, start_memory}
-use Rattle.region_mem.proofs.Apart.{length_segment, length_zeros}
+use Rattle.region_mem.proofs.Apart.{at_middle, length_segment, length_zeros}
 use Rattle.region_mem.proofs.Matching.{NonePasses, nothing_wrong}
 use Rattle.region_mem.proofs.StartCode.{starts_inside}
 use Rattle.abs_domain.specs.declared.zones.Zone.{Zone}
@@ -82,13 +82,6 @@ unfolding stack_area stack_zone
 stack_is = rw (length_zeros STACK_SIZE) refl
 
 -- and of the buffers of arguments that match.
-at_middle : (done todo : List Param) (param : Param) → slice_get (done ++ param ∷ todo) (length done) ≡ Some param
-at_middle [] todo param = refl
-at_middle (other ∷ done) todo param = at_middle done todo param
-
-same_size : (m n : ℕ) → not (eqb m n) ≡ false → m ≡ n
-same_size m n e = grind (arith, nat_tests)
-
 writable_is : (access : Mode) (size : ℕ) → is_writable (parameter.Buffer access size) ≡ may_write access
 unfolding is_writable
 writable_is mode.Read size = refl
@@ -108,7 +101,7 @@ place_is params others place (parameter.Scalar lo hi) (argument.Buffer bytes) ar
 place_is params others place (parameter.Buffer access n) argument.None args at kind size rest = absurd (cc)
 place_is params others place (parameter.Buffer access n) (argument.Scalar value) args at kind size rest = absurd (cc)
 place_is params others place (parameter.Buffer access n) (argument.Buffer bytes) args at kind size rest =
-    rw (at, writable_is access n, same_size (length bytes) n size, rest) refl
+    rw (at, writable_is access n, eqb-true (length bytes) n (not-false _ size), rest) refl
 
 buffers_are : (done todo params : List Param) (place : ℕ) (args : List Argument) → params ≡ done ++ todo → place ≡ length done
     → length args ≡ length todo → NonePasses is_wrong_kind (zip todo args) → NonePasses is_wrong_size (zip todo args)

@@ -34,7 +34,7 @@ type_fits bits t e = by_test (nat_le 256 bits) _ refl e
     by_test true others k e = cc
     by_test false others k e = grind (arith, nat_tests)
 
-no_config_is : (vlenb : ℕ) → IsConfig vlenb no_config
+pub no_config_is : (vlenb : ℕ) → IsConfig vlenb no_config
 unfolding IsConfig vtype_of
 no_config_is vlenb = refl
 
@@ -51,7 +51,7 @@ config_low vlenb config h = by_type (vtype_of config.vtype) h
     by_type None e = (let is : config.vl ≡ 0 = ap (λ (c : Vconfig). c.vl) e in omega (arith, is))
     by_type (Some t) l = vlmax_small t vlenb config.vl l
 
-config_within : (vlenb : ℕ) (config : Vconfig) (t : Vtype) → vtype_of config.vtype ≡ Some t → IsConfig vlenb config → config.vl ≤ vlmax_of vlenb t
+pub config_within : (vlenb : ℕ) (config : Vconfig) (t : Vtype) → vtype_of config.vtype ≡ Some t → IsConfig vlenb config → config.vl ≤ vlmax_of vlenb t
 unfolding IsConfig
 config_within vlenb config t e h = rw e at h
 

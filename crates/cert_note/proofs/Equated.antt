@@ -4,6 +4,7 @@ use Rattle.std.specs.List.{list_all, list_any}
 use Rattle.std.proofs.lemmas.Bool.Decides.{eqb_tells}
 use Rattle.std.proofs.lemmas.List.{take_more, get_or-set_same, get_or-set_other}
 use Rattle.std.proofs.lemmas.List.Folds.{list_any-append}
+use Rattle.std.proofs.Math.Bool.{or-true, or-false}
 use Rattle.cert_note.specs.Words.{RegisterFact, Equality}
 use Rattle.cert_note.specs.Certificate.{is_equated, is_free, are_free, has_no_atom}
 
@@ -15,14 +16,6 @@ one_more facts i fact n inside is =
     ∙ list_any-append (λ f. (f.number == n) && is_some f.equality) (take i facts) (get_or facts i fact ∷ [])
     ∙ ap (λ f. is_equated (take i facts) n || (((f.number == n) && is_some f.equality) || false)) (sym is)
 
-or_true : (b : Bool) → (b || true) ≡ true
-or_true true = refl
-or_true false = refl
-
-or_false : (b : Bool) → (b || false) ≡ b
-or_false true = refl
-or_false false = refl
-
 -- one fact is noted
 pub marked : (facts : List RegisterFact) (i : ℕ) (fact : RegisterFact) (found new : List Bool) → i < length facts → fact ≡ get_or facts i fact
     → ((n : ℕ) → get_or found n false ≡ is_equated (take i facts) n)
@@ -31,20 +24,20 @@ pub marked : (facts : List RegisterFact) (i : ℕ) (fact : RegisterFact) (found 
 marked facts i fact found new inside is so_far noted n =
     noted n
     ∙ ap (λ b. b || ((fact.number == n) && is_some fact.equality)) (so_far n)
-    ∙ ap (λ b. is_equated (take i facts) n || b) (sym (or_false ((fact.number == n) && is_some fact.equality)))
+    ∙ ap (λ b. is_equated (take i facts) n || b) (sym (or-false ((fact.number == n) && is_some fact.equality)))
     ∙ sym (one_more facts i fact n inside is)
 
 -- noting it, with an equality and without
 pub noted_some : (found : List Bool) (fact : RegisterFact) (n : ℕ) → is_some fact.equality ≡ true → fact.number < length found
     → get_or (set found fact.number true) n false ≡ (get_or found n false || ((fact.number == n) && is_some fact.equality))
 noted_some found fact n some fits = elim (eqb_tells fact.number n) [
-  | inl e ↦ rw (e.0, some) (ap (λ k. get_or (set found fact.number true) k false) (sym e.1) ∙ get_or-set_same found fact.number true false fits ∙ sym (or_true (get_or found n false)))
-  | inr e ↦ rw e.0 (get_or-set_other found fact.number n true false (λ h. e.1 (sym h)) ∙ sym (or_false (get_or found n false)))
+  | inl e ↦ rw (e.0, some) (ap (λ k. get_or (set found fact.number true) k false) (sym e.1) ∙ get_or-set_same found fact.number true false fits ∙ sym (or-true (get_or found n false)))
+  | inr e ↦ rw e.0 (get_or-set_other found fact.number n true false (λ h. e.1 (sym h)) ∙ sym (or-false (get_or found n false)))
 ]
 
 pub noted_none : (b c : Bool) {s : Bool} → s ≡ false → b ≡ (b || (c && s))
-noted_none b true is = rw is (sym (or_false b))
-noted_none b false is = sym (or_false b)
+noted_none b true is = rw is (sym (or-false b))
+noted_none b false is = sym (or-false b)
 
 -- nothing is noted at first
 blank : (k n : ℕ) → get_or (replicate k false) n false ≡ false

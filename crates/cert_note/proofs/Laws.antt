@@ -92,10 +92,10 @@ equality_again params low high (Some x) rest says =
 
 -- ---- facts on registers
 
-regroup3 : (a b c rest : List ℕ) → ((a ++ b) ++ c) ++ rest ≡ a ++ (b ++ (c ++ rest))
+pub regroup3 : (a b c rest : List ℕ) → ((a ++ b) ++ c) ++ rest ≡ a ++ (b ++ (c ++ rest))
 regroup3 a b c rest = simp append_assoc
 
-regroup4 : (a b c d rest : List ℕ) → (((a ++ b) ++ c) ++ d) ++ rest ≡ a ++ (b ++ (c ++ (d ++ rest)))
+pub regroup4 : (a b c d rest : List ℕ) → (((a ++ b) ++ c) ++ d) ++ rest ≡ a ++ (b ++ (c ++ (d ++ rest)))
 regroup4 a b c d rest = simp append_assoc
 
 regroup7 : (a b c d e f g rest : List ℕ) → ((((((a ++ b) ++ c) ++ d) ++ e) ++ f) ++ g) ++ rest ≡ a ++ (b ++ (c ++ (d ++ (e ++ (f ++ (g ++ rest))))))
@@ -199,7 +199,7 @@ abbrev IsSingle : Version → Budget → Type 0
 IsSingle V1 x = x.second_factor ≡ 0
 IsSingle V2 x = Unit {0}
 
-no_second : (k r : ℕ) → is_second k r 0 0 ≡ true
+pub no_second : (k r : ℕ) → is_second k r 0 0 ≡ true
 unfolding is_second
 no_second k r = refl
 

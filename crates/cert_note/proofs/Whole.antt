@@ -15,7 +15,7 @@ use Rattle.cert_note.specs.Certificate.{CertificateView, AllFrom, after_block, I
 use Rattle.cert_note.specs.Spelling.{half, word, version_code, vlen_code, header, parameter_of, spelled_parameter, spelled_block, spelling}
 use Rattle.cert_note.specs.Reading.{byte_at, number_at, zero_at, zeros_at, version_of, vlen_of, header_at, mode_of, is_first_number, is_second_number, param_of, parameter_at, parameters_at, block_at, blocks_at, count_at, certificate_of, parameter_from, after_parameter}
 use Rattle.cert_note.proofs.Numbers.{IsBytes, bind_ok, expected, found, ok_is, Takes, Takes-then, byte_takes, byte_again, half_takes, half_again, word_takes, word_again, zero_takes, zero_again, zeros_takes, zeros_again, many_takes, many_again}
-use Rattle.cert_note.proofs.Laws.{chosen, some_is, block_takes, block_again}
+use Rattle.cert_note.proofs.Laws.{chosen, some_is, block_takes, block_again, regroup3, regroup4}
 
 -- ---- the header
 
@@ -134,9 +134,6 @@ parameter_takes bytes x rest fits e =
     subst (λ (y : Param × List ℕ). Takes bytes (spelled_parameter y.0) y.1 × IsParameter y.0) (ok_is (param_of a.0.0 c.0 f.0.0 g.0.0, g.0.1) (x, rest) r.1)
     (subst (λ (t : List ℕ). Takes bytes t g.0.1) m.spelled e4, m.valid)
 
-regroup3 : (a b c rest : List ℕ) → ((a ++ b) ++ c) ++ rest ≡ a ++ (b ++ (c ++ rest))
-regroup3 a b c rest = simp append_assoc
-
 numbers_again : (kind code a b : ℕ) (mode : Option Mode) (rest : List ℕ) → leb kind 2 ≡ true → mode_of kind code ≡ Some mode → is_first_number kind a ≡ true → is_second_number kind a b ≡ true → a < 2 ^ 32 → b < 2 ^ 32 →
     parameter_at (parameter_of kind code a b ++ rest) ≡ Ok (param_of kind mode a b, rest)
 unfolding parameter_at parameter_of byte_at
@@ -166,7 +163,7 @@ from_all : (params : List Param) → AllByRecursion IsParameter params → AllFr
 from_all [] all = tt
 from_all (p ∷ params) all = (all.0, from_all params all.1)
 
-valid_all : (params : List Param) → AllByRecursion IsParameter params → list_all is_valid params ≡ true
+pub valid_all : (params : List Param) → AllByRecursion IsParameter params → list_all is_valid params ≡ true
 valid_all [] is = refl
 valid_all (p ∷ params) is = rw is.0.0 (valid_all params is.1)
 
@@ -229,9 +226,6 @@ certificate_takes bytes x fits e =
     subst (λ (y : CertificateView). IsCertificate y × (bytes ≡ spelling y)) (ok_is made x p.1)
     (record { eight = subst (λ (ps : List Param). length ps ≡ 8) same t1.1; parameters = subst (λ (ps : List Param). AllByRecursion IsParameter ps) same (all_from b.0.0 t1.2); few = few_blocks (length f.0.0) d.0.0 t3.1 t2.1; blocks = t3.2 }, whole)
 
-regroup5 : (a b c d e : List ℕ) → (((a ++ b) ++ c) ++ d) ++ e ≡ a ++ (b ++ (c ++ (d ++ e)))
-regroup5 a b c d e = simp append_assoc
-
 pub certificate_again : (x : CertificateView) → IsCertificate x → certificate_of (spelling x) ≡ Ok x
 unfolding certificate_of spelling parameters_of
 certificate_again x is =
@@ -242,7 +236,7 @@ certificate_again x is =
     (many_again parameter_from after_parameter spelled_parameter (λ from q. IsParameter q) (λ from q r h. parameter_again q r h) 0 x.parameters counted (from_all x.parameters is.parameters)) in
     let last : blocks_at x.version x.vlen x.parameters (length x.blocks) 0 blocks ≡ Ok (x.blocks, []) =
     ap (blocks_at x.version x.vlen x.parameters (length x.blocks) 0) (sym (append-nil blocks)) ∙ many_again (block_at x.version x.vlen x.parameters) after_block (spelled_block x.version) (IsBlock x.version x.vlen x.parameters) (block_again x.version x.vlen x.parameters) 0 x.blocks [] is.blocks in
-    ap certificate_of (regroup5 (header x.version x.vlen) (flat_map spelled_parameter x.parameters) (half (length x.blocks)) (half 0) blocks)
+    ap certificate_of (regroup4 (header x.version x.vlen) (flat_map spelled_parameter x.parameters) (half (length x.blocks)) (half 0) blocks)
     ∙ rw (header_again x.version x.vlen (flat_map spelled_parameter x.parameters ++ counted), read, valid_all x.parameters is.parameters, count_again (length x.blocks) blocks is.few, last) refl
 
 -- Two certificates of one spelling are one.

@@ -1,5 +1,5 @@
 -- The list of an instruction's accesses, one element after another.
-use Rattle.std.proofs.Common.{◌≡◌, ℕ, zero, suc, ◌+◌, ◌<◌, ◌≤◌, Bool, true, false, List, [], ◌∷◌, ◌++◌, length, get_or, map, ap, sym, ◌∙◌, refl, arith, cond, subst, append-nil}
+use Rattle.std.proofs.Common.{◌≡◌, ℕ, ◌+◌, ◌<◌, ◌≤◌, Bool, true, false, List, [], ◌∷◌, ◌++◌, length, get_or, map, ap, sym, ◌∙◌, refl, arith, cond, subst, append-nil}
 use Rattle.std.specs.Prelude.{filter}
 use Rattle.std.specs.List.{All, range_with_len}
 use Rattle.std.proofs.lemmas.List.{map-append}
@@ -9,18 +9,10 @@ use Rattle.region_mem.specs.declared.faults.Right.{Right}
 use Rattle.vector_mem.specs.declared.plan.Access.{Access}
 use Rattle.std.proofs.lemmas.List.{length-append, length-replicate}
 use Rattle.vreg_groups.specs.Elements.{active_of, mask_bits}
+use Rattle.vreg_groups.proofs.Places.{range_more}
 use Rattle.vector_mem.specs.Accesses.{IsAccessOf, access_at, accesses, accesses_from}
 use Rattle.vector_mem.specs.Transfers.{accesses_of, data_of, is_masked, place_at, right_of}
 use Rattle.vector_mem.specs.Words.{Setup, VMem}
-
-range_more : (a n : ℕ) → range_with_len a (n + 1) ≡ range_with_len a n ++ (a + n) ∷ []
-range_more a zero = let e : a + 0 ≡ a = omega arith in sym (ap (λ (k : ℕ). k ∷ []) e)
-range_more a (suc n) =
-    let longer : suc n + 1 ≡ suc (n + 1) = omega arith in
-    let last : a + 1 + n ≡ a + suc n = omega arith in
-    ap (range_with_len a) longer
-    ∙ ap (λ ks. a ∷ ks) (range_more (a + 1) n)
-    ∙ ap (λ (k : ℕ). a ∷ (range_with_len (a + 1) n ++ k ∷ [])) last
 
 -- no element, one element more, and all
 pub no_accesses : (right : Right) (size : ℕ) (place : ℕ → ℕ) (active : List Bool) → accesses_from right size place active 0 0 ≡ []
@@ -73,7 +65,7 @@ accesses_within right size place active =
     let is : get_or (range_with_len 0 n) i 0 ≡ 0 + i = get_or-range_with_len 0 n i 0 short in
     below _ (omega (arith, is, short)))))
 
-active_length : (vlenb n : ℕ) (masked : Bool) (file : List ℕ) → length (active_of vlenb masked n file) ≡ n
+pub active_length : (vlenb n : ℕ) (masked : Bool) (file : List ℕ) → length (active_of vlenb masked n file) ≡ n
 unfolding active_of mask_bits
 active_length vlenb n true file = length-map-range_with_len _ 0 n
 active_length vlenb n false file = length-replicate n true

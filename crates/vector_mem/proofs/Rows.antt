@@ -13,14 +13,13 @@ use Rattle.region_mem.specs.Memory.{Memory, has_window, load_of, window_of, with
 use Rattle.region_mem.specs.declared.faults.Right.{Right}
 use Rattle.region_mem.specs.declared.faults.Right.TheVariants.{Read, Write}
 use Rattle.region_mem.proofs.Parts.{number_of-cons}
-use Rattle.vreg_groups.specs.Elements.{active_of, bytes_of, element_at, elements_of, number_at, numbers_of}
-use Rattle.vreg_groups.specs.Group.{body_of}
-use Rattle.vreg_groups.proofs.Parts.{below_256}
+use Rattle.vreg_groups.specs.Elements.{active_of, bytes_of, element_at, number_at, numbers_of}
+use Rattle.vreg_groups.proofs.Parts.{below_256, length-numbers_of}
 use Rattle.vreg_groups.proofs.Writes.{number_at-lt}
 use Rattle.vector_mem.specs.declared.plan.Access.{Access}
 use Rattle.vector_mem.specs.Accesses.{access_at, accesses, first_refused, in_a_row, is_refused, loaded, low_bits, stored, strided, with_loaded, with_stored}
 use Rattle.vector_mem.specs.Transfers.{accesses_of, data_at, data_of, is_in_a_row, is_masked, place_at, right_of}
-use Rattle.vector_mem.specs.Words.{Addressing, Direction, Indexed, Mask, Setup, Span, Strided, Unit, VMem, Whole}
+use Rattle.vector_mem.specs.Words.{Addressing, Direction, Indexed, Mask, Setup, Strided, Unit, VMem, Whole}
 
 -- a test that holds of all
 filter_true : {A : Type 0} (p : A → Bool) (xs : List A) → ((k : ℕ) (d : A) → k < length xs → p (get_or xs k d) ≡ true) → filter p xs ≡ xs
@@ -136,10 +135,6 @@ row_number memory size base n i bytes bounds loads is small h =
     ∙ ap (λ (at : ℕ). number_at size at bytes) (omega arith)
     ∙ sym (get_or-map-range_with_len (element_at size 0 bytes) 0 n i i 0 h (omega arith))
 
-length_numbers : (size n : ℕ) (bytes : List ℕ) → length (numbers_of size n bytes) ≡ n
-unfolding numbers_of
-length_numbers size n bytes = length-map-range_with_len (element_at size 0 bytes) 0 n
-
 -- where the first i elements are those of the window, to load the k others gives them all
 row_rest : (memory : Memory) (size base n i k : ℕ) (bytes values : List ℕ) → WindowsToRead memory → LoadsInWindows memory →
     window_of base (size * n) memory ≡ Some bytes → All (λ byte. byte < 256) bytes → 0 < size → i + k ≡ n → length values ≡ n →
@@ -147,12 +142,12 @@ row_rest : (memory : Memory) (size base n i k : ℕ) (bytes values : List ℕ) �
     fold (with_loaded memory) values (drop i (in_a_row Read size base n)) ≡ numbers_of size n bytes
 row_rest memory size base n i zero bytes values bounds loads is small some all long so_far =
     let numbers = numbers_of size n bytes in
-    let count = length_numbers size n bytes in
+    let count = length-numbers_of size n bytes in
     ap (fold (with_loaded memory) values) (row_end Read size base n i (omega arith))
     ∙ sym (take_all i values (omega arith)) ∙ so_far ∙ take_all i numbers (omega arith)
 row_rest memory size base n i (suc k) bytes values bounds loads is small some all long so_far =
     let numbers = numbers_of size n bytes in
-    let count = length_numbers size n bytes in
+    let count = length-numbers_of size n bytes in
     let h : i < n = omega arith in
     let new = low_bits size (unwrap_or (load_of (base + size * i) size memory) 0) in
     let next = set values i new in
@@ -192,10 +187,6 @@ row_stored memory size base n values bounds fills is some long =
     ∙ fold-map (with_stored values) at memory (range_with_len 0 (length values))
     ∙ fills (λ i. strided base size i % 2 ^ 32) base size values has
     (λ i lt. mod-eq_of_lt (less size i (length values) base lt some (bounds base (size * length values) has)))
-
-pub length_body : (vlenb : ℕ) (group : Span) (file : List ℕ) → length (body_of vlenb group file) ≡ group.vl
-unfolding body_of elements_of
-length_body vlenb group file = length-map-range_with_len (element_at group.bytes (group.first * vlenb) file) 0 group.vl
 
 -- an instruction whose elements lie in a row
 pub row_accesses : (vlenb : ℕ) (s : Setup) (place : Addressing) (direction : Direction) (values base stride : ℕ) (file : List ℕ) →

@@ -60,7 +60,7 @@ number_at-drop n at xs ys e =
     let y : get_or (drop at ys) k 0 ≡ get_or ys (at + k) 0 = get_or-drop at ys k 0 in
     cc)
 
-range_more : (a n : ℕ) → range_with_len a (n + 1) ≡ range_with_len a n ++ (a + n) ∷ []
+pub range_more : (a n : ℕ) → range_with_len a (n + 1) ≡ range_with_len a n ++ (a + n) ∷ []
 range_more a n =
     sym (map-id (range_with_len a (n + 1))) ∙ map-range_with_len_more (λ x. x) a n (a + n) refl
     ∙ ap (λ xs. xs ++ (a + n) ∷ []) (map-id (range_with_len a n))

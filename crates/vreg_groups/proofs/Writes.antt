@@ -155,7 +155,7 @@ if-le : (b : Bool) (n : ℕ) → (if b then n else 0) ≤ n
 if-le true n = omega arith
 if-le false n = omega arith
 
-number_of_bits-lt : (n : ℕ) (f : ℕ → Bool) → number_of_bits n f < 2 ^ n
+pub number_of_bits-lt : (n : ℕ) (f : ℕ → Bool) → number_of_bits n f < 2 ^ n
 unfolding number_of_bits one_of
 number_of_bits-lt zero f = omega arith
 number_of_bits-lt (suc n) f =
