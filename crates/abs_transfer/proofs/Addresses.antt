@@ -8,10 +8,10 @@ use Rattle.vreg_groups.specs.declared.vector_length.Vconfig.{Vconfig}
 use Rattle.scalar_core.specs.Hart.{Hart, reg_of}
 use Rattle.scalar_core.specs.Arithmetic.{unsigned}
 use Rattle.scalar_core.proofs.States.{immediate_fits}
-use Rattle.abs_domain.specs.Numbers.{table_of, value_at}
+use Rattle.abs_domain.specs.Numbers.{NumbersView, table_of, value_at}
 use Rattle.abs_domain.specs.Effects.{offset_form, offset_range}
 use Rattle.abs_domain.specs.Described.{IsNumber}
-use Rattle.abs_domain.specs.Holds.{number_of}
+use Rattle.abs_domain.specs.Holds.{number_of, Holds}
 use Rattle.abs_transfer.specs.Scalar.{address_range}
 use Rattle.abs_transfer.specs.Addresses.{AddressesLie}
 use Rattle.abs_domain.proofs.Operations.{offset_lies, value_number}
@@ -32,13 +32,18 @@ offset_form-value v f m x e l =
 pub register_number : (i : ℕ) (h : Hart) (config : Vconfig) → i < 32 → number_of i h config ≡ reg_of i h
 register_number i h config l = (let ne : i ≢ 32 = λ e. omega (arith, e, l) in grind (arith, nat_tests))
 
+-- so is what is known of it
+pub register_holds : (s : NumbersView) (v : ℕ → ℕ) (h : Hart) (config : Vconfig) → Holds s v h config → (i : ℕ) → i < 32
+    → IsNumber (length s.atoms) v (value_at s i) (reg_of i h)
+register_holds s v h config holds i l =
+    subst (λ (z : ℕ). IsNumber (length s.atoms) v (value_at s i) z) (register_number i h config l) (holds.each i (omega (arith, l)))
+
 pub address_lies : AddressesLie
 unfolding address_range
 address_lies s v h config rs1 offset holds l fits =
     let m = unsigned offset in
     let small : m < 2 ^ 32 = immediate_fits offset fits in
-    let base : IsNumber (length s.atoms) v (value_at s rs1) (reg_of rs1 h) =
-    subst (λ (z : ℕ). IsNumber (length s.atoms) v (value_at s rs1) z) (register_number rs1 h config l) (holds.each rs1 (omega (arith, l))) in
+    let base = register_holds s v h config holds rs1 l in
     computed_lies ((reg_of rs1 h + m) % 2 ^ 32) (offset_range m (value_at s rs1).range)
     (range_of_form (table_of s) (offset_form (value_at s rs1).form m)) (omega arith)
     (offset_lies (value_at s rs1).range (reg_of rs1 h) m base.lies small)

@@ -19,7 +19,7 @@ use Rattle.abs_domain.specs.Numbers.{NumbersView, value_at, with_value}
 use Rattle.abs_domain.specs.Described.{LiesIn, IsNumber}
 use Rattle.abs_domain.specs.Holds.{Holds, Follows}
 use Rattle.abs_transfer.specs.Vset.{Configured, configured, has_vlmax, kept_or_zero, known_request, limited, supported_request, unknown_length, unknown_request}
-use Rattle.abs_transfer.proofs.Addresses.{register_number}
+use Rattle.abs_transfer.proofs.Addresses.{register_holds}
 use Rattle.abs_domain.proofs.Operations.{value_number}
 use Rattle.abs_transfer.proofs.Splits.{fresh_length, length_holds, limited_holds, same_length}
 
@@ -229,8 +229,7 @@ module _ (vlenb : ℕ) (s : NumbersView) (v : ℕ → ℕ) (h : Hart) (config : 
       }
   supported_held known (Register r) bits m k fits l =
       rw (lesser_is vlenb config (reg_of r h) bits m (vtype_of config.vtype))
-      (lesser_held bits m (reg_of r h) (value_at s r)
-      (subst (λ (x : ℕ). IsNumber (length s.atoms) v (value_at s r) x) (register_number r h config fits) (holds.each r (omega (arith, fits)))))
+      (lesser_held bits m (reg_of r h) (value_at s r) (register_holds s v h config holds r fits))
   supported_held known (Number n) bits m k fits l =
       rw (lesser_is vlenb config n bits m (vtype_of config.vtype))
       (lesser_held bits m n (record { form = number_form n; range = just n }) (constant n fits))
