@@ -1,6 +1,6 @@
 -- An error of a word, of an edge or of a block carries the address at which the check stopped; and a block is the one that begins
 -- at its start.
-use Rattle.std.proofs.Common.{◌≡◌, ◌<◌, ◌≤◌, ◌+◌, ◌-◌, ◌*◌, ◌/◌, ◌==◌, ◌&&◌, ◌||◌, ℕ, zero, suc, Bool, true, false, arith, refl, sym, ap, ◌∙◌, subst, List, [], ◌∷◌, ◌++◌, length, map, take, drop, add-one, inl, Option, Some, None, Result, Ok, Err, find, is_some, if◌then◌else◌}
+use Rattle.std.proofs.Common.{◌≡◌, ◌<◌, ◌≤◌, ◌+◌, ◌-◌, ◌*◌, ◌/◌, ◌==◌, ◌&&◌, ◌||◌, ℕ, zero, suc, Bool, true, false, arith, refl, sym, ap, ◌∙◌, subst, List, [], ◌∷◌, ◌++◌, length, map, take, drop, add-one, inl, Option, Some, None, Result, Ok, Err, find, get_or, is_some, if◌then◌else◌}
 use Rattle.std.specs.Prelude.{IfErr, IsTrue, nat_le, nat_lt, slice_set}
 use Rattle.std.specs.Bool.{then_some}
 use Rattle.std.specs.List.{position_or_len, slice_get, range_with_len}
@@ -9,7 +9,7 @@ use Rattle.std.proofs.lemmas.List.{take_more_set}
 use Rattle.std.proofs.lemmas.List.FromFn.{map-range_with_len_more}
 use Rattle.std.proofs.lemmas.Bool.Decides.{nat_tests}
 use Rattle.std.proofs.lemmas.List.Folds.{find_at}
-use Rattle.std.proofs.lemmas.Option.{slice_get_past}
+use Rattle.std.proofs.lemmas.Option.{get_or_from_slice_get, slice_get_past}
 use Rattle.std.proofs.lemmas.Result.{IfErr-at_err}
 use Rattle.region_mem.specs.declared.parameter.Param.{Param}
 use Rattle.rv_decode.specs.declared.instructions.Insn.{Insn}
@@ -366,6 +366,11 @@ entry_stops image certificate error stop pc a known place address refused state 
       word = refl;
       known = ap (λ (b : AbstractView). Some (intervals_of b)) (sym state) ∙ ap Some (sym told);
     }
+
+-- the block that an index finds is the one at the place
+pub start_there : (blocks : List Block) (n : ℕ) (found block : Block) → slice_get blocks n ≡ Some block → found ≡ get_or blocks n found
+    → found.start ≡ block.start
+start_there blocks n found block there is = ap (λ (b : Block). b.start) (is ∙ get_or_from_slice_get blocks n block found there)
 
 -- what the walk of a block answers, the block does
 pub block_answers : (image : ImageView) (certificate : CertificateView) (block : Block) (start : ℕ) (a : AbstractView) (answer : Checked)
