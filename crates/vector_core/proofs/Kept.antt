@@ -1,16 +1,16 @@
 -- What a write to the registers keeps: that they are 32 of vlenb bytes, and each byte that lies outside what is written.
-use Rattle.std.proofs.Common.{◌≡◌, ◌⊎◌, inl, inr, ◌<◌, ◌≤◌, ◌+◌, ◌-◌, ◌*◌, ◌/◌, ◌%◌, ◌^◌, ℕ, zero, suc, Bool, true, false, List, [], ◌∷◌, ◌++◌, length, length-append, take, drop, get_or, arith, refl, sym, ap, ◌∙◌, subst}
+use Rattle.std.proofs.Common.{◌≡◌, ◌⊎◌, inl, inr, ◌<◌, ◌≤◌, ◌+◌, ◌-◌, ◌*◌, ◌/◌, ◌%◌, ℕ, zero, suc, Bool, true, false, List, [], ◌∷◌, ◌++◌, length, length-append, take, drop, get_or, arith, refl, sym, ap, ◌∙◌, subst}
 use Rattle.std.specs.Prelude.{if◌then◌else◌}
 use Rattle.std.specs.List.{flat_map, range_with_len}
-use Rattle.std.proofs.Math.Nat.{mul-le-mul_left, mul-div-le, pow-suc}
+use Rattle.std.proofs.Math.Nat.{mul-le-mul_left, mul-div-le}
 use Rattle.std.proofs.lemmas.List.{get_or-append_right, get_or-drop, get_or-take, get_or_append_left, length-drop, length-take-le}
 use Rattle.vreg_groups.specs.Copies.{copied}
-use Rattle.vreg_groups.specs.Elements.{bytes_of, number_of_bits}
+use Rattle.vreg_groups.specs.Elements.{bytes_of}
 use Rattle.vreg_groups.specs.Group.{Span, written}
 use Rattle.vreg_groups.specs.NewElements.{mask_write_of, new_bytes, new_mask_byte, new_mask_bytes, replaced, write_of}
 use Rattle.vreg_groups.specs.declared.policies.Policy.{Policy}
 use Rattle.vreg_groups.proofs.Places.{bytes_of-suc, length-flat_map_range, length-new_bytes}
-use Rattle.vreg_groups.proofs.Writes.{length-new_mask_bytes}
+use Rattle.vreg_groups.proofs.Writes.{length-new_mask_bytes, number_of_bits-lt}
 use Rattle.vector_core.specs.KeepLaws.{AreRegisters}
 
 -- ---- lists of bytes
@@ -49,16 +49,6 @@ bytes_of_number zero v i = no_bytes i
 bytes_of_number (suc n) v i =
     subst (λ xs. get_or xs i 0 < 256) (sym (bytes_of-suc n v))
     (bytes_cons (v % 256) (bytes_of n (v / 256)) (omega arith) (bytes_of_number n (v / 256)) i)
-
--- a number of n bits
-if_at_most : (t : Bool) (n : ℕ) → (if t then n else 0) ≤ n
-if_at_most true n = omega arith
-if_at_most false n = omega arith
-
-bits_below : (n : ℕ) (bit : ℕ → Bool) → number_of_bits n bit < 2 ^ n
-unfolding number_of_bits
-bits_below zero bit = omega arith
-bits_below (suc n) bit = omega (arith, pow-suc 2 n, bits_below n bit, if_at_most (bit n) (2 ^ n))
 
 -- ---- what is kept
 
@@ -163,7 +153,7 @@ span_kept vlenb group policy results active file room r =
 new_mask_bytes_small : (at : ℕ) (policy : Policy) (results active : List Bool) (file : List ℕ) (k : ℕ)
     → AreBytes (new_mask_bytes at policy results active file k)
 unfolding new_mask_bytes new_mask_byte
-new_mask_bytes_small at policy results active file k zero = bits_below 8 _
+new_mask_bytes_small at policy results active file k zero = number_of_bits-lt 8 _
 new_mask_bytes_small at policy results active file k (suc i) = no_bytes i
 
 beside_register : (vlenb register i : ℕ) → Beside vlenb register 1 i

@@ -1,5 +1,5 @@
 -- The numbers of what a kernel computes, from what it makes of elements.
-use Rattle.std.proofs.Common.{◌≡◌, ℕ, ◌+◌, ◌<◌, ◌≤◌, Bool, List, [], ◌∷◌, ◌++◌, take, drop, set, get_or, length, append_assoc, append-nil, ap, sym, ◌∙◌, arith, map, replicate, zero, suc, refl, true, false}
+use Rattle.std.proofs.Common.{◌≡◌, ℕ, ◌+◌, ◌<◌, ◌≤◌, Bool, List, [], ◌∷◌, ◌++◌, take, drop, set, get_or, length, append_assoc, append-nil, ap, sym, ◌∙◌, arith, map, refl, true, false}
 use Rattle.std.proofs.lemmas.List.{take_more_set, drop-set-lt, drop_more, drop_all, take_all}
 use lib.Lanes.{zip2}
 use Rattle.lane_int.specs.Lists.{zip3}
@@ -39,10 +39,6 @@ chosen_number number a b false = refl
 
 pub choose_numbers : {A : Type 0} (number : A → ℕ) (xs ys : List A) (bits : List Bool) → map number (zip3 chosen xs ys bits) ≡ zip3 chosen (map number xs) (map number ys) bits
 choose_numbers number xs ys bits = map_by_bits number chosen chosen xs ys bits (chosen_number number)
-
-pub splat_numbers : {A : Type 0} (number : A → ℕ) (n : ℕ) (x : A) (y : ℕ) → number x ≡ y → map number (replicate n x) ≡ replicate n y
-splat_numbers number zero x y is = refl
-splat_numbers number (suc n) x y is = let rest = splat_numbers number n x y is in cc
 
 -- one more element is computed from three lists, over the first of them, and the end
 pub zip3_more : {A B C : Type 0} (f : A → B → C → A) (xs : List A) (ys : List B) (zs : List C) (i : ℕ) (x : A) (y : B) (z : C) (new : A) →

@@ -39,7 +39,7 @@ unfolding after
 after-plus vlenb m j zero t e = rw add-zero e
 after-plus vlenb m j (suc k) t e = rw add-suc (ap (then_step vlenb) (after-plus vlenb m j k t e))
 
-abbrev after_step : ℕ → ℕ → ℕ → Machine → Result Machine Fault → Stop
+abbrev pub after_step : ℕ → ℕ → ℕ → Machine → Result Machine Fault → Stop
 after_step vlenb n k m (Ok t) = outcome_from vlenb n (k + 1) t
 after_step vlenb n k m (Err fault) = Trapped fault k m
 
