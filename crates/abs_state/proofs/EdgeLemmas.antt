@@ -3,6 +3,7 @@ use Rattle.std.proofs.Common.{◌≡◌, ◌<◌, ◌≤◌, ◌+◌, ◌*◌, �
 use Rattle.std.specs.Prelude.{if◌then◌else◌, ◌==◌, ◌&&◌, nat_le}
 use Rattle.std.specs.List.{AllByRecursion, list_all, list_any}
 use Rattle.std.specs.Option.{option_map_or}
+use Rattle.std.proofs.lemmas.Bool.{and_parts}
 use Rattle.std.proofs.lemmas.Bool.Decides.{nat_tests}
 use Rattle.linear_facts.specs.Forms.{value, substituted}
 use Rattle.scalar_core.specs.Arithmetic.{is_taken}
@@ -39,7 +40,6 @@ use Rattle.abs_state.specs.Edges.{shown_or, and_then, Shown, is_interval_shown, 
 use Rattle.abs_state.specs.Held.{Setting, Goes, IsKnown, IsPaid, IsAt, IsTrueOf, AreTrueOf, budget_of, group_elements, fact_element, number_at, vlenb_in}
 use Rattle.abs_state.specs.EdgeLaws.{TakesEdge, EdgesAreTaken, ImpliedFits, ImpliedEnds}
 use Rattle.abs_transfer.proofs.Addresses.{register_number}
-use Rattle.abs_state.proofs.Substitutions.{both_true}
 use Rattle.abs_state.proofs.Payments.{equality_holds, parts_below, counted, covered, SaysMore as MoreSaid, says_more, paid_holds}
 use Rattle.abs_domain.proofs.StartForms.{budget_below, second_below, greater_below, lesser_below}
 use Rattle.abs_state.proofs.Ways.{IsEdge, plain_is, branch_is}
@@ -137,7 +137,7 @@ order_shown_in edge order e = e
 these_are : (number : ℕ → ℕ) (rs1 rs2 lesser greater : ℕ) → are_these rs1 rs2 lesser greater ≡ true → number rs1 ≤ number rs2
     → number lesser ≤ number greater
 these_are number rs1 rs2 lesser greater e le =
-    let both = both_true (rs1 == lesser) (rs2 == greater) e in
+    let both = and_parts (rs1 == lesser) (rs2 == greater) e in
     let l : rs1 ≡ lesser = grind (arith, nat_tests, both.0) in
     let g : rs2 ≡ greater = grind (arith, nat_tests, both.1) in
     omega (arith, le, ap number l, ap number g)
@@ -171,7 +171,7 @@ module _ (e : Setting) (n : ℕ) (edge : EdgeView) (m : Machine) (goes : Goes e 
   unfolding is_interval_shown is_equality_shown
   fact_holds params from fact is h k =
       let below : fact.number < 33 = number_below (nat_le from fact.number) is.number in
-      let both = both_true _ _ h in
+      let both = and_parts _ _ h in
       let lies = (goes.each fact.number below).lies in
       let same = register_below e.passed m.hart m.vectors.config fact.number below in
       record {
@@ -204,8 +204,8 @@ module _ (e : Setting) (n : ℕ) (edge : EdgeView) (m : Machine) (goes : Goes e 
       → list_all (is_interval_shown edge) facts ≡ true → list_all (is_equality_shown edge) facts ≡ true → AllByRecursion (FactIsTrue (number_at e m)) facts
   facts_hold params from [] is h k = tt
   facts_hold params from (x ∷ xs) is h k =
-      let p = both_true (is_interval_shown edge x) (list_all (is_interval_shown edge) xs) h in
-      let q = both_true (is_equality_shown edge x) (list_all (is_equality_shown edge) xs) k in
+      let p = and_parts (is_interval_shown edge x) (list_all (is_interval_shown edge) xs) h in
+      let q = and_parts (is_equality_shown edge x) (list_all (is_equality_shown edge) xs) k in
       (fact_holds params from x is.0 p.0 q.0, facts_hold params (after_fact x) xs is.1 p.1 q.1)
 
   -- a fact on vector registers that another one says is true where that one is
@@ -239,7 +239,7 @@ module _ (e : Setting) (n : ℕ) (edge : EdgeView) (m : Machine) (goes : Goes e 
   vectors_hold : (facts : List VectorFact) → list_all (is_vector_shown edge) facts ≡ true → AreTrueOf (vlenb_in e) m.vectors facts
   vectors_hold [] h = tt
   vectors_hold (x ∷ xs) h =
-      let p = both_true (is_vector_shown edge x) (list_all (is_vector_shown edge) xs) h in
+      let p = and_parts (is_vector_shown edge x) (list_all (is_vector_shown edge) xs) h in
       (vector_holds x edge.state.groups (vector_shown_in edge x p.0) goes.known.groups, vectors_hold xs p.1)
 
   -- an order that is shown holds
@@ -289,7 +289,7 @@ module _ (e : Setting) (n : ℕ) (edge : EdgeView) (m : Machine) (goes : Goes e 
       → list_all (is_order_shown edge) orders ≡ true → AllByRecursion (OrderIsTrue (number_at e m)) orders
   orders_hold facts from [] is h = tt
   orders_hold facts from (o ∷ os) is h =
-      let p = both_true (is_order_shown edge o) (list_all (is_order_shown edge) os) h in
+      let p = and_parts (is_order_shown edge o) (list_all (is_order_shown edge) os) h in
       (order_holds o (lesser_below facts from o is.0) (greater_below facts from o is.0) p.0, orders_hold facts (after_order o) os is.1 p.1)
 
   -- what was the budget pays for the instructions taken and for another budget

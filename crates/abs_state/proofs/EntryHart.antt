@@ -3,6 +3,7 @@ use Rattle.std.proofs.Common.{◌≡◌, ℕ, zero, suc, ◌<◌, ◌≤◌, ◌
 use Rattle.std.specs.Prelude.{nat_le, if◌then◌else◌, unwrap_or, IsTrue}
 use Rattle.std.specs.List.{AllByRecursion, list_all, list_any, slice_get, zip}
 use Rattle.std.specs.Option.{option_and_then}
+use Rattle.std.proofs.lemmas.Bool.{and_from, leb-true, and_parts, not-false}
 use Rattle.std.proofs.lemmas.Bool.Decides.{nat_tests}
 use Rattle.std.proofs.lemmas.Option.{slice_get-get_or}
 use Rattle.std.proofs.Math.ListN.{replicate}
@@ -100,27 +101,15 @@ is_true : (b : Bool) → IsTrue b → b ≡ true
 is_true true h = refl
 is_true false h = cc
 
-both_true : (a b : Bool) → a ≡ true → b ≡ true → (a && b) ≡ true
-both_true true b e f = f
-both_true false b e f = e
-
 -- parameters of a certificate are valid
 pub all_valid : (params : List Param) → AllByRecursion IsParameter params → list_all is_valid params ≡ true
 all_valid [] all = refl
-all_valid (p ∷ ps) all = both_true (is_valid p) (list_all is_valid ps) (is_true (is_valid p) all.0.0) (all_valid ps all.1)
-
-and_parts : (a b : Bool) → not (a && b) ≡ false → (a ≡ true) × (b ≡ true)
-and_parts true true e = (refl, refl)
-and_parts true false e = absurd (cc)
-and_parts false b e = absurd (cc)
+all_valid (p ∷ ps) all = and_from (is_valid p) (list_all is_valid ps) (is_true (is_valid p) all.0.0) (all_valid ps all.1)
 
 between : (lo x hi : ℕ) → not (nat_le lo x && nat_le x hi) ≡ false → (lo ≤ x) × (x ≤ hi)
 between lo x hi e =
-    let parts = and_parts (nat_le lo x) (nat_le x hi) e in
-    (at_most lo x parts.0, at_most x hi parts.1)
-  where
-    at_most : (a b : ℕ) → nat_le a b ≡ true → a ≤ b
-    at_most a b f = grind (arith, nat_tests)
+    let parts = and_parts (nat_le lo x) (nat_le x hi) (not-false (nat_le lo x && nat_le x hi) e) in
+    (leb-true lo x parts.0, leb-true x hi parts.1)
 
 address_small : (params : List Param) (place : ℕ) → list_all is_valid params ≡ true → length params ≡ 8 → place < 8
     → unwrap_or (address_of place params) 0 < 2 ^ 32

@@ -1,6 +1,7 @@
 pub mod EdgeLemmas
 pub mod Elements
 pub mod EntryHart
+pub mod Followed
 pub mod GroupLemmas
 pub mod Growth
 pub mod LegalLemmas

@@ -27,15 +27,13 @@ use Rattle.cert_note.specs.declared.values.RegisterFact.{RegisterFact}
 use Rattle.cert_note.specs.declared.values.Block.{Block}
 use Rattle.cert_note.specs.declared.values.OrderFact.{OrderFact}
 use Rattle.cert_note.specs.Certificate.{CertificateView, IsBlock, IsCertificate, after_block}
-use Rattle.abs_domain.specs.Numbers.{value_at}
-use Rattle.abs_domain.specs.Described.{IsNumber}
 use Rattle.abs_domain.specs.Holds.{Holds}
 use Rattle.abs_domain.specs.Starts.{entry_numbers, start_numbers, numbers_by}
 use Rattle.abs_state.specs.Blocks.{at_block_of, at_entry_of}
 use Rattle.abs_domain.specs.BlockLaws.{ArePassed, HoldsWith}
 use Rattle.abs_state.specs.Held.{Setting, Held, IsProper, number_at, vlenb_in}
 use Rattle.abs_state.specs.StartLaws.{ArePassedBy, BlocksAreHeld, EntriesAreHeld}
-use Rattle.abs_transfer.proofs.Addresses.{register_number}
+use Rattle.abs_transfer.proofs.Addresses.{register_holds}
 use Rattle.abs_state.proofs.EntryHart.{all_valid, are_passed, code_low, numbers_fit, start_is_entry, start_is_hart, start_pc, zeros_count, zeros_small}
 use Rattle.abs_domain.proofs.StartForms.{budget_below, second_below, found_is}
 use Rattle.abs_domain.proofs.OrderStarts.{block_numbers_hold}
@@ -90,10 +88,8 @@ blocks-are_held e block m is at fits =
           reg_of block.budget.register m.hart,
           reg_of block.budget.second_register m.hart,
           refl,
-          subst (λ (x : ℕ). IsNumber (length (start_numbers params facts orders).atoms) with.numbers (value_at (start_numbers params facts orders) block.budget.register) x)
-              (register_number block.budget.register m.hart config first) (known.each block.budget.register (omega (arith, first))),
-          subst (λ (x : ℕ). IsNumber (length (start_numbers params facts orders).atoms) with.numbers (value_at (start_numbers params facts orders) block.budget.second_register) x)
-              (register_number block.budget.second_register m.hart config second) (known.each block.budget.second_register (omega (arith, second))),
+          register_holds (start_numbers params facts orders) with.numbers m.hart config known block.budget.register first,
+          register_holds (start_numbers params facts orders) with.numbers m.hart config known block.budget.second_register second,
         );
         proper = fits.proper;
       };

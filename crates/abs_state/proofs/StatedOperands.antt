@@ -3,6 +3,7 @@ use Rattle.std.proofs.Common.{◌≡◌, ◌<◌, ◌≤◌, ◌+◌, ◌-◌, �
 use Rattle.std.specs.List.{AllByRecursion, find}
 use Rattle.std.specs.Option.{option_map_or}
 use Rattle.std.specs.Prelude.{if◌then◌else◌, ◌==◌, ◌||◌, min, nat_lt, nat_le}
+use Rattle.std.proofs.lemmas.Bool.{and_parts, eqb-true}
 use Rattle.std.proofs.lemmas.Bool.Decides.{nat_tests}
 use Rattle.std.proofs.Math.Nat.{mod-eq_of_lt, mod-lt}
 use Rattle.std.proofs.lemmas.List.{get_or-map, get_or-replicate, length-map, length-replicate}
@@ -37,7 +38,7 @@ use Rattle.abs_state.specs.Held.{IsTrueOf, fact_element}
 use Rattle.abs_domain.specs.Numbers.{NumbersView, value_at}
 use Rattle.abs_domain.specs.Values.{just, up_to}
 use Rattle.abs_state.proofs.Elements.{IsWithin}
-use Rattle.abs_state.proofs.StatedWrites.{AreResults, IsGroup, are_equal, both_true, element_inside}
+use Rattle.abs_state.proofs.StatedWrites.{AreResults, IsGroup, element_inside}
 
 -- What is known before an instruction is true of what it reads.
 pub record IsRead (vlenb : ℕ) (s : Setup) (hart : Hart) (file : List ℕ) (numbers : NumbersView) (facts : List VectorFact)
@@ -153,10 +154,10 @@ fact_of : (vl : Range) (first width registers : ℕ) (fact : VectorFact) → is_
     → IsFactOf first width registers vl.hi fact
 unfolding is_source
 fact_of vl first width registers fact e =
-    let a = both_true _ _ e in
-    let b = both_true _ _ a.0 in
-    let c = both_true _ _ b.0 in
-    record { register = are_equal _ _ c.0; width = are_equal _ _ c.1; registers = are_equal _ _ b.1; count = a.1 }
+    let a = and_parts _ _ e in
+    let b = and_parts _ _ a.0 in
+    let c = and_parts _ _ b.0 in
+    record { register = eqb-true _ _ c.0; width = eqb-true _ _ c.1; registers = eqb-true _ _ b.1; count = a.1 }
 
 min_low : (n : ℕ) → n ≤ 32 → min 32 n ≡ n
 min_low n l = omega (arith, l)

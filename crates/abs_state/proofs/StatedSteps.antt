@@ -2,6 +2,7 @@
 use Rattle.std.proofs.Common.{◌≡◌, ◌≤◌, ◌*◌, ◌%◌, ◌^◌, ℕ, Bool, true, false, arith, refl, sym, ap, ◌∙◌, subst, length, map, take, List, Option, Some, None, IfSome}
 use Rattle.std.specs.List.{AllByRecursion, range_with_len}
 use Rattle.std.specs.Prelude.{◌||◌, Ok}
+use Rattle.std.proofs.lemmas.Bool.{and_parts}
 use Rattle.std.proofs.lemmas.List.{length-replicate, length-take}
 use Rattle.std.proofs.lemmas.List.FromFn.{get_or-map-range_with_len, length-map-range_with_len}
 use Rattle.std.proofs.lemmas.List.Sums.{count_by-le-length}
@@ -35,7 +36,6 @@ use Rattle.vreg_groups.specs.declared.vector_type.Vtype.{Vtype}
 use Rattle.vreg_groups.specs.Elements.{active_of, bit_at, mask_bits}
 use Rattle.vreg_groups.specs.Legality.{are_operands_legal, eew_bits, is_legal, is_operand_legal, is_present_legal}
 use Rattle.vreg_groups.specs.Setup.{group_at}
-use Rattle.vreg_groups.specs.VectorLength.{IsConfig}
 use Rattle.rv_decode.specs.Instructions.{bits_of_width}
 use Rattle.vreg_groups.specs.VectorType.{vlmax_of, vtype_of}
 use Rattle.scalar_core.specs.Hart.{Hart}
@@ -55,16 +55,16 @@ use Rattle.vector_core.specs.Step.{arith_step, legal_step, vector_step}
 use Rattle.vector_core.specs.Vectors.{Stepped, Vectors}
 use Rattle.vector_core.specs.Widening.{double_width, extend_of, fraction_width}
 use Rattle.cert_note.specs.declared.values.VectorFact.{VectorFact}
-use Rattle.abs_domain.specs.Described.{LiesIn}
 use Rattle.abs_transfer.specs.Facts.{arith_range, fact_if, int_range, known_type, mask_range, narrow_range, place_range, second_range, source_range, stated_at, stated_by, stated_range, unless_masked}
 use Rattle.abs_state.specs.Held.{AreTrueOf, Held, IsTrueOf, Setting, VtypeHolds, vlenb_in}
 use Rattle.abs_domain.specs.Numbers.{NumbersView, value_at}
 use Rattle.abs_state.specs.State.{AbstractView}
 use Rattle.abs_state.specs.VectorLaws.{StatedAreTrue}
-use Rattle.abs_transfer.proofs.Addresses.{register_number}
+use Rattle.abs_transfer.proofs.Addresses.{register_holds}
 use Rattle.abs_state.proofs.Elements.{IsWithin, int_element, narrow_element, place_lies}
 use Rattle.abs_state.proofs.StatedOperands.{IsRead, IsSecond, map_lies, map_zip_lies, second_lies, source_lies, zip_lies}
-use Rattle.abs_state.proofs.StatedWrites.{AreResults, IsGroup, both_true, fact_true, legal_group}
+use Rattle.abs_state.proofs.StatedWrites.{AreResults, IsGroup, fact_true, legal_group}
+use Rattle.abs_transfer.proofs.Configurations.{config_within}
 
 -- ---- operands of a legal instruction
 
@@ -76,9 +76,9 @@ record AreOperands (t : Vtype) (operands : Operands) : Type 0 where
 legal_operands : (t : Vtype) (operands : Operands) → are_operands_legal (Some t) operands ≡ true → AreOperands t operands
 unfolding are_operands_legal
 legal_operands t operands e =
-    let a = both_true _ _ e in
-    let b = both_true _ _ a.0 in
-    let c = both_true _ _ b.0 in
+    let a = and_parts _ _ e in
+    let b = and_parts _ _ a.0 in
+    let c = and_parts _ _ b.0 in
     record { destination = c.0; vs2 = c.1; vs1 = b.1 }
 
 lane_bits : (w : Width) → bits_of_width w ≡ bits (lane_width w)
@@ -300,11 +300,6 @@ type_is : (vtype : Option ℕ) (m : Machine) (t : Vtype) → VtypeHolds vtype m 
 type_is None m t h e = cc
 type_is (Some b) m t h e = ap vtype_of h ∙ e
 
-length_fits : (vlenb : ℕ) (config : Vconfig) (t : Vtype) → vtype_of config.vtype ≡ Some t → IsConfig vlenb config
-    → config.vl ≤ vlmax_of vlenb t
-unfolding IsConfig
-length_fits vlenb config t e h = rw e at h
-
 operands_of : (config : Vconfig) (insn : Insn) (t : Vtype) → vtype_of config.vtype ≡ Some t → is_legal config insn ≡ true
     → AreOperands t (needs_of insn)
 unfolding is_legal
@@ -321,11 +316,10 @@ is_read : (e : Setting) (n : ℕ) (a : AbstractView) (s : Machine) (t : Vtype) �
 is_read e n a s t is h =
     record {
       vlenb_is = h.known.proper.vectors.vlenb_is;
-      fits = length_fits (vlenb_in e) s.vectors.config t is h.known.proper.vectors.config;
+      fits = config_within (vlenb_in e) s.vectors.config t is h.known.proper.vectors.config;
       registers = h.known.proper.registers;
       length = (h.known.known.each 32 (omega arith)).lies.high;
-      scalars = λ i l. subst (λ (x : ℕ). LiesIn (value_at a.numbers i).range x) (register_number i s.hart s.vectors.config l)
-          (h.known.known.each i (omega (arith, l))).lies;
+      scalars = λ i l. (register_holds a.numbers h.numbers s.hart s.vectors.config h.known.known i l).lies;
       holds = h.known.groups;
     }
 

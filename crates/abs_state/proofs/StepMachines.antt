@@ -17,7 +17,7 @@ use Rattle.vreg_groups.specs.declared.vector_type.Vtype.{Vtype}
 use Rattle.vreg_groups.specs.VectorType.{vill, vtype_of, vlmax_of}
 use Rattle.vreg_groups.specs.VectorLength.{IsVlenb, IsConfig, no_config}
 use Rattle.scalar_core.specs.Csr.{csr_step}
-use Rattle.scalar_core.specs.Hart.{Hart, IsHart}
+use Rattle.scalar_core.specs.Hart.{Hart}
 use Rattle.scalar_core.specs.Step.{rv32im_step, scalar_step}
 use Rattle.vector_core.specs.Machine.{Machine}
 use Rattle.vector_core.specs.MachineStep.{carry_out, unless_misaligned, with_scalar}
@@ -25,18 +25,16 @@ use Rattle.abs_domain.specs.declared.why.Why.{Why}
 use Rattle.abs_domain.specs.declared.zones.Zone.{Zone}
 use Rattle.abs_state.specs.declared.state.Way.{Way}
 use Rattle.abs_state.specs.declared.state.Way.TheVariants.{To}
-use Rattle.abs_domain.specs.Zones.{zones_of}
 use Rattle.abs_domain.specs.Numbers.{NumbersView}
 use Rattle.abs_domain.specs.Memories.{HasZones}
 use Rattle.abs_transfer.specs.Csr.{csr_after}
 use Rattle.abs_state.specs.State.{AbstractView}
 use Rattle.abs_transfer.specs.Legal.{legal_check}
 use Rattle.abs_state.specs.After.{access_check, after_of, next_word, passed, taken, vector_after, vset_after, way_of}
-use Rattle.abs_state.specs.Held.{Setting, IsProper, Held, vlenb_in}
+use Rattle.abs_state.specs.Held.{Setting, Held, vlenb_in}
 use Rattle.abs_state.specs.StepLaws.{or_misaligned, StepIsHeld, MachineIsHeld, StepsGoOn, jumps}
-use Rattle.abs_domain.specs.Memories.{KeepsMemory}
 use Rattle.abs_transfer.proofs.Configurations.{type_fits}
-use Rattle.abs_state.proofs.Paid.{paid_stays}
+use Rattle.abs_state.proofs.Followed.{follows_held, proper_kept}
 use Rattle.abs_state.proofs.StepScalars.{scalars_hold, csrs_hold}
 
 -- ---- what an instruction makes of what is known
@@ -129,20 +127,6 @@ whole_is s hart memory = by_test (hart.pc % 4 == 0)
     by_test true = refl
     by_test false = refl
 
-proper_stays : (e : Setting) (s : Machine) (hart : Hart) (memory : Memory) → IsProper e s → IsHart hart → KeepsMemory s.memory memory
-    → IsProper e (with_both s hart memory)
-proper_stays e s hart memory p is kept =
-    let code = kept.code p.safe in
-    record {
-      hart = is;
-      vectors = p.vectors;
-      registers = p.registers;
-      bytes = kept.bytes p.bytes;
-      zones = kept.zones (zones_of e.image e.certificate.parameters) p.zones;
-      code = λ pc word there. code.1 pc ∙ p.code pc word there;
-      safe = code.0;
-    }
-
 -- what is known after a step that leads to a hart and memory
 module _ (e : Setting) (n : ℕ) (a : AbstractView) (s : Machine) (held : Held e n a s) where
   abbrev next_state : NumbersView → Way → AbstractView
@@ -153,25 +137,14 @@ module _ (e : Setting) (n : ℕ) (a : AbstractView) (s : Machine) (held : Held e
       → MachineIsHeld e n (next_state new way) (with_scalar s result)
   step_held new way result h =
       let known = held.known in
+      let proper = known.proper in
+      let t = with_both s h.hart h.memory in
       record {
-        t = with_both s h.hart h.memory;
+        t = t;
         is = ap (λ (r : Result (Hart × Memory) Fault). with_scalar s r) h.is ∙ whole_is s h.hart h.memory;
-        held = record {
-          numbers = h.follows.numbers;
-          known = record {
-            vlenb = known.vlenb;
-            count = omega (arith, known.count, h.follows.grows);
-            passed = λ place l. h.follows.same (33 + place) (omega (arith, l, known.count)) ∙ known.passed place l;
-            known = h.follows.holds;
-            zones = known.zones;
-            vtype = known.vtype;
-            groups = known.groups;
-            paid =
-                paid_stays held.numbers h.follows.numbers n a.budget a (next_state new way) refl refl h.follows.grows h.follows.same known.paid;
-            proper = proper_stays e s h.hart h.memory known.proper h.is_hart h.kept;
-          };
-          way = h.at;
-        };
+        held =
+            follows_held e n a s t held new a.vtype a.groups way h.follows known.vtype known.groups
+            (proper_kept e s t proper h.is_hart proper.vectors.config proper.registers h.kept) h.at;
       }
 
 abbrev HeldBy : (e : Setting) → ℕ → (a b : AbstractView) → (s : Machine) → ℕ → Insn → Type 0

@@ -1,5 +1,5 @@
 -- What is known after a scalar instruction is true of the hart and memory to which it leads.
-use Rattle.std.proofs.Common.{◌≡◌, ◌<◌, ◌+◌, ◌%◌, ◌^◌, ℕ, Bool, true, false, arith, refl, sym, ap, ◌∙◌, subst, eq-eqb, length, List, Some, None, lit<}
+use Rattle.std.proofs.Common.{◌≡◌, ◌<◌, ◌+◌, ◌%◌, ◌^◌, ℕ, Bool, true, false, arith, refl, ap, ◌∙◌, subst, eq-eqb, length, List, Some, None, lit<}
 use Rattle.std.specs.Prelude.{if◌then◌else◌, ◌==◌, slice_index, slice_set, ℤ, Result, Ok, Err}
 use Rattle.std.specs.Int.{w32}
 use Rattle.std.specs.Int.RustNames.{FitsSigned}
@@ -37,7 +37,7 @@ use Rattle.abs_domain.specs.Values.{known_of}
 use Rattle.abs_domain.specs.Zones.{is_inside}
 use Rattle.abs_domain.specs.Numbers.{NumbersView, value_at, with_result}
 use Rattle.abs_domain.specs.Effects.{constant_effect, csr_effect, load_effect}
-use Rattle.abs_domain.specs.Described.{LiesIn, IsNumber, Describes}
+use Rattle.abs_domain.specs.Described.{LiesIn, Describes}
 use Rattle.abs_domain.specs.Holds.{Holds, Follows}
 use Rattle.abs_domain.specs.Memories.{HasZones}
 use Rattle.abs_transfer.specs.Scalar.{address_range, if_allowed, load_check, store_check, scalar_after}
@@ -49,7 +49,8 @@ use Rattle.abs_domain.specs.Memories.{KeepsMemory}
 use Rattle.abs_domain.proofs.Operations.{constant_describes, csr_describes, immediate_describes, load_describes, register_describes, shift_describes}
 use Rattle.abs_domain.proofs.States.{result_holds, value_fits}
 use Rattle.abs_state.proofs.Growth.{ok_numbers, same_ok}
-use Rattle.abs_transfer.proofs.Addresses.{address_lies, register_number}
+use Rattle.abs_transfer.proofs.Addresses.{address_lies, register_holds}
+use Rattle.abs_transfer.proofs.Splits.{same_numbers}
 use Rattle.abs_domain.proofs.Memories.{inside_permitted, load_inside, nothing_changes, store_inside, store_keeps}
 
 -- ---- harts
@@ -66,15 +67,7 @@ pc_stays rd x h = by_test (rd == 0)
 -- what is known of the registers is true of another hart with the same ones
 pub same_registers : (s : NumbersView) (v : ℕ → ℕ) (g h : Hart) (config : Vconfig) → g.x ≡ h.x → Holds s v h config → Holds s v g config
 same_registers s v g h config e holds =
-    record {
-      atoms = holds.atoms;
-      splits = holds.splits;
-      forms = holds.forms;
-      ranges = holds.ranges;
-      each = λ i l.
-          subst (λ (xs : List ℕ). IsNumber (length s.atoms) v (value_at s i) (if i == 32 then config.vl else slice_index xs i)) (sym e)
-          (holds.each i l);
-    }
+    same_numbers s v g h config config holds (λ i. ap (λ (xs : List ℕ). if i == 32 then config.vl else slice_index xs i) e)
 
 -- it follows from itself, and at another pc
 pub stays : (s : NumbersView) (v : ℕ → ℕ) (h : Hart) (config : Vconfig) → Holds s v h config → Follows s s v h config
@@ -189,10 +182,6 @@ module _ (s : NumbersView) (v : ℕ → ℕ) (zones : List Zone) (h : Hart) (con
     (bytes : AreBytes m) (aligned : h.pc % 4 ≡ 0) (holds : Holds s v h config) where
   abbrev IsHeld : NumbersView → Way → Result (Hart × Memory) Fault → Type 0
   IsHeld new way result = StepIsHeld s new v config way m result
-
-  number : (r : ℕ) → r < 32 → IsNumber (length s.atoms) v (value_at s r) (reg_of r h)
-  number r l =
-      subst (λ (x : ℕ). IsNumber (length s.atoms) v (value_at s r) x) (register_number r h config l) (holds.each r (omega (arith, l)))
 
   puts : (rd x : ℕ) (e : Effect) (new : NumbersView) → rd < 32 → Describes (length s.atoms) v e x
       → ok_numbers (with_result rd e s) ≡ Ok new → IsHeld new (To (next_word h.pc)) (Ok (put rd x h, m))
@@ -343,15 +332,15 @@ scalars_hold s new v zones (Store size rs1 rs2 offset) h config m f is has bytes
 scalars_hold s new v zones (Immediate op rd rs1 imm) h config m f is has bytes aligned holds e =
     puts s v zones h config m is has bytes aligned holds rd (immediate_result op (reg_of rs1 h) imm) _ new f.0
     (immediate_describes (length s.atoms) v op (value_at s rs1) (reg_of rs1 h) imm
-    (number s v zones h config m is has bytes aligned holds rs1 f.1) (short_fits imm f.2)) e
+    (register_holds s v h config holds rs1 f.1) (short_fits imm f.2)) e
 scalars_hold s new v zones (ShiftImmediate op rd rs1 amount) h config m f is has bytes aligned holds e =
     puts s v zones h config m is has bytes aligned holds rd (shift_result op (reg_of rs1 h) amount) _ new f.0
     (shift_describes (length s.atoms) v op (value_at s rs1) (reg_of rs1 h) amount
-    (number s v zones h config m is has bytes aligned holds rs1 f.1)) e
+    (register_holds s v h config holds rs1 f.1)) e
 scalars_hold s new v zones (Register op rd rs1 rs2) h config m f is has bytes aligned holds e =
     puts s v zones h config m is has bytes aligned holds rd (register_result op (reg_of rs1 h) (reg_of rs2 h)) _ new f.0
     (register_describes (length s.atoms) v op (value_at s rs1) (value_at s rs2) (reg_of rs1 h) (reg_of rs2 h)
-    (number s v zones h config m is has bytes aligned holds rs1 f.1) (number s v zones h config m is has bytes aligned holds rs2 f.2)) e
+    (register_holds s v h config holds rs1 f.1) (register_holds s v h config holds rs2 f.2)) e
 scalars_hold s new v zones Fence h config m f is has bytes aligned holds e =
     goes_on s v zones h config m is has bytes aligned holds new m (same_ok s new e) (nothing_changes m)
 scalars_hold s new v zones Ecall h config m f is has bytes aligned holds e =

@@ -1,5 +1,5 @@
 -- Vector loads and stores that pass their test are permitted, and stores keep of memory what a step has to keep.
-use Rattle.std.proofs.Common.{◌≡◌, ◌∙◌, ◌<◌, ◌≤◌, ◌+◌, ◌-◌, ◌*◌, ◌/◌, ◌%◌, ◌^◌, ℕ, zero, suc, Bool, true, false, cond, arith, refl, sym, ap, subst, lit<, List, [], ◌∷◌, length, map, find, Option, Some, None, IfSome, Ok, Err}
+use Rattle.std.proofs.Common.{◌≡◌, ◌∙◌, ◌<◌, ◌≤◌, ◌+◌, ◌-◌, ◌*◌, ◌/◌, ◌%◌, ◌^◌, ℕ, zero, suc, Bool, true, false, cond, arith, refl, sym, ap, subst, lit<, List, ◌∷◌, length, map, find, Option, Some, None, IfSome, Ok, Err}
 use Rattle.std.specs.Prelude.{if◌then◌else◌, ◌==◌, ◌&&◌, not, nat_lt, filter, get_or, slice_index, slice_index_or, MatchOption, Result}
 use Rattle.std.specs.List.{AllByRecursion, range_with_len}
 use Rattle.std.proofs.Math.Nat.{mul-div-le}
@@ -54,7 +54,7 @@ use Rattle.abs_transfer.specs.Accesses.{falling_reach, indexed_reach, is_whole, 
 use Rattle.abs_state.specs.Held.{IsKnown, IsTrueOf, vlenb_in}
 use Rattle.abs_domain.specs.Memories.{KeepsMemory}
 use Rattle.abs_state.specs.VectorLaws.{TransfersArePermitted, TransfersKeepMemory}
-use Rattle.abs_transfer.proofs.Addresses.{register_number}
+use Rattle.abs_transfer.proofs.Addresses.{register_holds}
 use Rattle.abs_domain.proofs.Memories.{inside_fits, inside_permitted, load_inside, nothing_changes, store_inside, store_keeps}
 use Rattle.abs_domain.proofs.Operations.{known_is}
 use Rattle.abs_transfer.proofs.AccessLemmas.{LieWithin, falling_first, falling_lies, indexed_lies, rising_end, rising_lies, row_lies, unit_end}
@@ -165,12 +165,8 @@ module _ (vlenb : ℕ) (s : NumbersView) (v : ℕ → ℕ) (h : Hart) (config : 
   abbrev LieAt : Addressing → ℕ → Type 0
   LieAt place stride = Lie s vlenb t facts setup place values rs1 (reg_of rs1 h) stride file
 
-  register : (i : ℕ) → i < 32 → IsNumber (length s.atoms) v (value_at s i) (reg_of i h)
-  register i l =
-      subst (λ (z : ℕ). IsNumber (length s.atoms) v (value_at s i) z) (register_number i h config l) (holds.each i (omega (arith, l)))
-
   base : IsNumber (length s.atoms) v (value_at s rs1) (reg_of rs1 h)
-  base = register rs1 below
+  base = register_holds s v h config holds rs1 below
 
   vl_is : IsNumber (length s.atoms) v (value_at s 32) config.vl
   vl_is = holds.each 32 (lit< tt)
@@ -246,7 +242,7 @@ module _ (vlenb : ℕ) (s : NumbersView) (v : ℕ → ℕ) (h : Hart) (config : 
           → LieWithin r.first r.end (bytes_of_width width) config.vl (λ i. reg_of rs1 h + reg_of rs2 h * i)
       by_stride None f g = cc
       by_stride (Some m) f g =
-          let stride = register rs2 l in
+          let stride = register_holds s v h config holds rs2 l in
           let is : reg_of rs2 h ≡ m = known_is (value_at s rs2).range (reg_of rs2 h) m stride.lies f in
           subst (λ (k : ℕ). r.end ≤ 2 ^ 32 → 0 < config.vl → LieWithin r.first r.end (bytes_of_width width) config.vl (λ i. reg_of rs1 h + k * i))
           (sym is)

@@ -22,7 +22,7 @@ use Rattle.vector_core.specs.Step.{vector_step}
 use Rattle.vector_core.specs.Vectors.{Stepped, Vectors}
 use Rattle.abs_domain.specs.declared.why.Why.{Why}
 use Rattle.abs_state.specs.declared.state.Way.TheVariants.{To}
-use Rattle.abs_domain.specs.Holds.{Holds}
+use Rattle.abs_domain.specs.Holds.{Follows}
 use Rattle.abs_transfer.specs.Facts.{groups_after, known_type, stated_by, untouched}
 use Rattle.abs_transfer.specs.Legal.{legal_check}
 use Rattle.abs_state.specs.State.{AbstractView}
@@ -30,10 +30,9 @@ use Rattle.abs_state.specs.After.{access_check, next_word, passed, vector_after,
 use Rattle.abs_state.specs.Held.{Setting, AreTrueOf, Held, vlenb_in}
 use Rattle.abs_state.specs.StepLaws.{MachineIsHeld}
 use Rattle.abs_state.specs.VectorLaws.{ChecksAreLegal, StatedAreTrue, TransfersArePermitted, TransfersKeepMemory, UntouchedAreTrue}
-use Rattle.abs_domain.specs.Zones.{zones_of}
 use Rattle.abs_state.proofs.VectorSteps.{IsDone, IsPermitted, vector_done}
 use Rattle.abs_state.proofs.LegalLemmas.{counts_known}
-use Rattle.abs_state.proofs.Paid.{paid_stays}
+use Rattle.abs_state.proofs.Followed.{follows_held, proper_kept}
 use Rattle.abs_state.proofs.StepMachines.{same_state}
 
 -- the two tests are passed, and what is known next is this
@@ -127,38 +126,17 @@ module _ (parts : Parts) (e : Setting) (n : ℕ) (a : AbstractView) (s : Machine
       let t : Machine = record { hart = done.hart; vectors = done.vectors; memory = done.memory } in
       let kept : KeepsVectors (vlenb_in e) insn s.vectors done.vectors =
       parts.keeps (vlenb_in e) word insn s.hart done.hart s.vectors done.vectors s.memory done.memory c f proper.vectors proper.registers done.is in
-      let code = done.kept.code proper.safe in
+      let config : IsConfig (vlenb_in e) done.vectors.config = subst (λ (k : Vconfig). IsConfig (vlenb_in e) k) (sym kept.config) proper.vectors.config in
+      let follows : Follows a.numbers (vector_numbers insn a.numbers) held.numbers done.hart done.vectors.config =
+      subst (λ (k : Vconfig). Follows a.numbers (vector_numbers insn a.numbers) held.numbers done.hart k) (sym kept.config) done.follows in
       record {
         t = t;
         is = ap (λ (r : Stepped). with_vector r) done.is ∙ aligned_is t (omega (arith, aligned, done.at));
-        held = record {
-          numbers = done.follows.numbers;
-          known = record {
-            vlenb = known.vlenb;
-            count = omega (arith, known.count, done.follows.grows);
-            passed = λ place l. done.follows.same (33 + place) (omega (arith, l, known.count)) ∙ known.passed place l;
-            known =
-                subst (λ (k : Vconfig). Holds (vector_numbers insn a.numbers) done.follows.numbers done.hart k) (sym kept.config) done.follows.holds;
-            zones = known.zones;
-            vtype = subst (λ (k : Vconfig). IfSome a.vtype (λ v. k.vtype ≡ v)) (sym kept.config) known.vtype;
-            groups = groups_true word insn done.hart done.vectors done.memory f legal l done.is kept;
-            paid =
-                paid_stays held.numbers done.follows.numbers n a.budget a (next_state insn) refl refl done.follows.grows done.follows.same known.paid;
-            proper = record {
-              hart = done.is_hart;
-              vectors = record {
-                vlenb_is = proper.vectors.vlenb_is;
-                config = subst (λ (k : Vconfig). IsConfig (vlenb_in e) k) (sym kept.config) proper.vectors.config;
-              };
-              registers = kept.registers;
-              bytes = done.kept.bytes proper.bytes;
-              zones = done.kept.zones (zones_of e.image e.certificate.parameters) proper.zones;
-              code = λ pc word there. code.1 pc ∙ proper.code pc word there;
-              safe = code.0;
-            };
-          };
-          way = done.at;
-        };
+        held =
+            follows_held e n a s t held (vector_numbers insn a.numbers) a.vtype (groups_after a.vlenb a.vtype a.numbers insn a.groups) (To (next_word s.hart.pc))
+            follows (subst (λ (k : Vconfig). IfSome a.vtype (λ v. k.vtype ≡ v)) (sym kept.config) known.vtype)
+            (groups_true word insn done.hart done.vectors done.memory f legal l done.is kept)
+            (proper_kept e s t proper done.is_hart config kept.registers done.kept) done.at;
       }
 
   pub vector_held : (word : ℕ) (insn : Insn) (b : AbstractView) → is_computing insn ≡ true → FieldsFit insn → vector_after s.hart.pc insn a ≡ Ok b

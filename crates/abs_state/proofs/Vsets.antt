@@ -37,9 +37,10 @@ use Rattle.abs_state.specs.State.{AbstractView}
 use Rattle.abs_state.specs.After.{next_word, vset_after}
 use Rattle.abs_state.specs.Held.{Setting, Held, IsProper, IsTrueOf, AreTrueOf, vlenb_in}
 use Rattle.abs_state.specs.VectorLaws.{CutAreTrue, VsetsAreHeld}
-use Rattle.abs_transfer.proofs.Addresses.{register_number}
+use Rattle.abs_transfer.proofs.Addresses.{register_holds}
 use Rattle.abs_transfer.proofs.Configurations.{AskedFits, IsConfigured, avl_asked, configured_held, vset_is}
-use Rattle.abs_state.proofs.Paid.{paid_stays}
+use Rattle.abs_domain.proofs.Memories.{nothing_changes}
+use Rattle.abs_state.proofs.Followed.{follows_held, proper_kept}
 use Rattle.abs_domain.proofs.States.{result_holds}
 use Rattle.abs_state.proofs.StepScalars.{moved, pc_stays}
 
@@ -102,7 +103,7 @@ wanted_is (Vsetvl rd rs1 rs2) s v h config holds fits = record {
   fits = asked_fits rd rs1 fits.1;
   vtype =
       known_is (value_at s rs2).range (reg_of rs2 h)
-      (subst (λ (x : ℕ). LiesIn (value_at s rs2).range x) (register_number rs2 h config fits.2) (holds.each rs2 (omega (arith, fits.2))).lies);
+      (register_holds s v h config holds rs2 fits.2).lies;
 }
 
 -- ---- rd
@@ -185,38 +186,18 @@ module _ (cut : CutAreTrue) (e : Setting) (n : ℕ) (a : AbstractView) (s : Mach
       (length_in_holds a.numbers c.numbers held.numbers s.hart next w.rd known.proper.hart l are.follows) in
       let follows : Follows a.numbers (with_length_in w.rd c.numbers) held.numbers (put rd next.vl s.hart) next =
       moved a.numbers (with_length_in w.rd c.numbers) held.numbers (next_pc hart) hart next written in
-      record {
-        numbers = follows.numbers;
-        known = record {
-          vlenb = known.vlenb;
-          count = omega (arith, known.count, follows.grows);
-          passed = λ place k. follows.same (33 + place) (omega (arith, k, known.count)) ∙ known.passed place k;
-          known = follows.holds;
-          zones = known.zones;
-          vtype = are.vtype;
-          groups = groups_held;
-          paid = paid_stays held.numbers follows.numbers n a.budget a (state_after s.hart.pc a w c) refl refl follows.grows follows.same known.paid;
-          proper = proper;
-        };
-        way = ap (λ (pc : ℕ). (pc + 4) % 2 ^ 32) (pc_stays rd next.vl s.hart);
-      }
+      follows_held e n a s (set_machine s rd next) held (with_length_in w.rd c.numbers) c.vtype
+      (if c.is_kept then a.groups else cut_groups a.vlenb (value_at a.numbers 32).range.lo a.groups) (To (next_word s.hart.pc)) follows are.vtype groups_held proper
+      (ap (λ (pc : ℕ). (pc + 4) % 2 ^ 32) (pc_stays rd next.vl s.hart))
 
 -- vtype and vl are as they can be, and nothing else changes that is the same throughout a run
 set_proper : (e : Setting) (s : Machine) (rd : ℕ) (asked : Avl) (bits : ℕ) → IsProper e s
     → (vset_of (vlenb_in e) s.vectors.config asked bits).vl < 2 ^ 32
     → IsProper e (set_machine s rd (vset_of (vlenb_in e) s.vectors.config asked bits))
-set_proper e s rd asked bits p l = record {
-  hart = put-is_hart rd (vset_of (vlenb_in e) s.vectors.config asked bits).vl s.hart l p.hart;
-  vectors = record {
-    vlenb_is = p.vectors.vlenb_is;
-    config = vset_is (vlenb_in e) s.vectors.config asked bits p.vectors.config;
-  };
-  registers = p.registers;
-  bytes = p.bytes;
-  zones = p.zones;
-  code = p.code;
-  safe = p.safe;
-}
+set_proper e s rd asked bits p l =
+    let next = vset_of (vlenb_in e) s.vectors.config asked bits in
+    proper_kept e s (set_machine s rd next) p (put-is_hart rd next.vl s.hart l p.hart)
+    (vset_is (vlenb_in e) s.vectors.config asked bits p.vectors.config) p.registers (nothing_changes s.memory)
 
 -- what is known after a request is true of the machine to which it leads
 pub vset_held : CutAreTrue → VsetsAreHeld

@@ -1,6 +1,5 @@
 //! What each vector instruction makes of what is known.
 ghost use Rattle.std.specs.Prelude.{◌≡◌, ◌<◌, ◌≤◌, ◌+◌, length, IfErr, OnErr, OnOk, Ok, Err};
-ghost use Rattle.vreg_groups.specs.VectorType.{type_in as type_in_of};
 ghost use Rattle.abs_transfer.specs.Facts.{known_type as known_type_of};
 ghost use Rattle.abs_domain.specs.Numbers.{with_result};
 ghost use Rattle.abs_state.specs.After.{access_check as access_check_of, mask_numbers};
@@ -13,9 +12,9 @@ use abs_transfer::{
     Reach, after_groups, after_vset, cut_groups, legal_check, reach_at, transfer_check,
 };
 use linear_facts::Range;
-use rv_decode::{Insn, Reg, VMask, VMem, VMove, VSet, Width};
+use rv_decode::{Insn, Reg, VMask, VMem, VMove, VSet};
 use std::alloc::Allocator;
-use vreg_groups::{Lmul, Vtype};
+use vreg_groups::{Vtype, type_in};
 
 /// The vector type, where vtype is known.
 fn known_type(vtype: Option<u8>) -> Option<Vtype>
@@ -24,21 +23,6 @@ fn known_type(vtype: Option<u8>) -> Option<Vtype>
     match vtype {
         None => None,
         Some(bits) => Vtype::from_bits(u32::from(bits)),
-    }
-}
-
-/// The type that an instruction works under; where there is none, any will do.
-fn type_in(vtype: Option<Vtype>) -> Vtype
-    ensures { result ≡ type_in_of vtype }
-{
-    match vtype {
-        Some(vtype) => vtype,
-        None => Vtype {
-            sew: Width::W8,
-            lmul: Lmul::One,
-            vta: false,
-            vma: false,
-        },
     }
 }
 
