@@ -1,6 +1,7 @@
 -- Only the branch back ends the reading of a loop, and its edges pass.
 use Rattle.std.proofs.Common.{◌≡◌, ℕ, ◌+◌, ◌-◌, ◌*◌, ◌/◌, ◌%◌, ◌^◌, ◌<◌, Bool, true, false, refl, sym, subst, arith, Option, Some, None, List}
 use Rattle.std.specs.Prelude.{ℤ, Ok, if◌then◌else◌, slice_set}
+use Rattle.std.proofs.lemmas.Bool.{and_parts, eqb-true}
 use Rattle.rv_decode.specs.declared.instructions.Condition.TheVariants.{Ne}
 use Rattle.rv_decode.specs.declared.instructions.Insn.{Insn}
 use Rattle.rv_decode.specs.declared.instructions.Insn.TheVariants.{Scalar, VMem}
@@ -23,19 +24,18 @@ use Rattle.cert_maker.specs.declared.loops.Reading.TheVariants.{Works, Moves, Ba
 use Rattle.cert_maker.specs.Loops.{is_arithmetic, with_pointer, moved_by, shift_of, step_by, works_on, back_by, next_of}
 use Rattle.cert_maker.specs.Known.{Round, IsRound, IsCertified, InBack, IsWithin}
 use Rattle.cert_maker.specs.Laws.{RoundsEnd}
-use Rattle.cert_maker.proofs.Bodies.{both_true}
-use Rattle.cert_maker.proofs.Going.{test_of, same_number}
+use Rattle.cert_maker.proofs.Going.{test_of}
 use Rattle.cert_maker.proofs.Ending.{edges_ok}
 
 -- ---- no other word ends it
+
+no_moves : {A : Type 0} (of : Loop) (step : ℕ) (left : List Bool) (loop : Loop) → Moves of step left ≡ Through loop → A
+no_moves of step left loop e = cc
 
 pub moved_through : {A : Type 0} (of : Loop) (step : ℕ) (left : List Bool) (insn : Insn) (loop : Loop) → moved_by of step left insn ≡ Some (Through loop) → A
 unfolding moved_by
 moved_through of step left (Scalar (Register Add rd rs1 rs2)) loop e =
     no_moves of step _ loop (test_of _ (Moves of step (slice_set left (rd - 10) false)) (Through loop) e).1
-  where
-    no_moves : {A : Type 0} (of : Loop) (step : ℕ) (left : List Bool) (loop : Loop) → Moves of step left ≡ Through loop → A
-    no_moves of step left loop e = cc
 moved_through of step left (Scalar (Register Sub rd rs1 rs2)) loop e = no_back of loop (test_of _ (Back of) (Through loop) e).1
   where
     no_back : {A : Type 0} (of loop : Loop) → Back of ≡ Through loop → A
@@ -47,9 +47,6 @@ unfolding step_by
 step_through of None insn loop e = moved_through of of.length of.pointers insn loop e
 step_through of (Some wanted) (Scalar (ShiftImmediate Slli rd rs1 amount)) loop e =
     no_moves of rd _ loop (test_of _ (Moves of rd of.pointers) (Through loop) e).1
-  where
-    no_moves : {A : Type 0} (of : Loop) (step : ℕ) (left : List Bool) (loop : Loop) → Moves of step left ≡ Through loop → A
-    no_moves of step left loop e = cc
 step_through of (Some wanted) other loop e = cc
 
 no_works : {A : Type 0} (of loop : Loop) → Works of ≡ Through loop → A
@@ -92,14 +89,14 @@ module _ (certificate : CertificateView) (k : Round) (is : IsRound k) (c : IsCer
   unfolding back_by
   back_ends (Scalar (Branch Ne rs1 rs2 offset)) e =
       let read = test_of _ (Through k.loop) (Through k.loop) e in
-      let first = both_true _ _ read.0 in
-      let second = both_true _ _ first.0 in
-      let third = both_true _ _ second.0 in
-      let left : k.loop.count ≡ rs1 = sym (same_number rs1 k.loop.count third.0) in
-      let right : 0 ≡ rs2 = sym (same_number rs2 0 third.1) in
+      let first = and_parts _ _ read.0 in
+      let second = and_parts _ _ first.0 in
+      let third = and_parts _ _ second.0 in
+      let left : k.loop.count ≡ rs1 = sym (eqb-true rs1 k.loop.count third.0) in
+      let right : 0 ≡ rs2 = sym (eqb-true rs2 0 third.1) in
       subst (λ (x : ℕ). Ends certificate pc (Scalar (Branch Ne x rs2 offset)) a) left
       (subst (λ (x : ℕ). Ends certificate pc (Scalar (Branch Ne k.loop.count x offset)) a) right
-      (branch_ends offset (same_number _ _ second.1) (same_number _ _ first.1)))
+      (branch_ends offset (eqb-true _ _ second.1) (eqb-true _ _ first.1)))
   back_ends other e = cc
 
 pub rounds-end : RoundsEnd

@@ -2,6 +2,7 @@
 use Rattle.std.proofs.Common.{◌≡◌, ◌≢◌, ℕ, ◌+◌, ◌-◌, ◌^◌, ◌<◌, ◌≤◌, true, refl, sym, ap, ◌∙◌, subst, arith, Option, Some, None, List, [], length}
 use Rattle.std.specs.List.{slice_get}
 use Rattle.std.specs.Option.{option_and_then}
+use Rattle.std.proofs.lemmas.Bool.{le-leb, lt-ltb, ne_eqb}
 use Rattle.std.proofs.lemmas.List.FromFn.{length-map-range_with_len}
 use Rattle.linear_facts.specs.declared.ranges.Range.{Range}
 use Rattle.linear_facts.specs.declared.ranges.Atom.{Atom}
@@ -9,7 +10,6 @@ use Rattle.linear_facts.specs.Forms.{Linear, atom_form, number_form}
 use Rattle.linear_facts.specs.Ranges.{range_at, split_at}
 use Rattle.linear_facts.specs.Sums.{range_of_form}
 use Rattle.linear_facts.proofs.LoopRanges.{atom-range, number-range}
-use Rattle.region_mem.specs.declared.parameter.Mode.{Mode}
 use Rattle.region_mem.specs.declared.parameter.Param.{Param}
 use Rattle.region_mem.specs.declared.parameter.Param.TheVariants as parameter
 use Rattle.scalar_core.specs.Entry.{entry_value}
@@ -23,12 +23,12 @@ use Rattle.cert_maker.specs.declared.loops.Loop.{Loop}
 use Rattle.cert_maker.specs.Certificates.{base_of, stated_by, entry_count, entry_facts, entry_pointer}
 use Rattle.cert_maker.specs.Known.{Round, known, atom_of, is_pointer}
 use Rattle.cert_maker.specs.Laws.{FactsByPlace}
-use Rattle.cert_maker.proofs.Accesses.{le_true, lt_true}
-use Rattle.cert_maker.proofs.Ending.{not_same}
 use Rattle.cert_maker.proofs.IsRounds.{IsEntered}
 use Rattle.cert_maker.proofs.Returns.{computed_just, ra_is}
 use Rattle.cert_maker.proofs.Shown.{if_stated}
-use Rattle.cert_maker.proofs.Beginnings.{span, part_met, value_is, begin_forms, begin_ranges, argument_range, none_split, begins_as, zero_is, range_stated, form_stated, count_stated, pointer_stated, scalar_range}
+use Rattle.cert_maker.proofs.Beginnings.{part_met, value_is, begin_forms, begin_ranges, argument_range, none_split, begins_as, zero_is, range_stated, form_stated, count_stated, pointer_stated, scalar_range}
+use Rattle.cert_maker.proofs.Accesses.{span}
+use Rattle.cert_maker.proofs.Going.{buffer_other}
 
 -- what is stated at the entry is stated by place
 pub entry_places : (params : List Param) (loop : Loop)
@@ -37,12 +37,7 @@ entry_places params loop place =
     if_stated (λ f. f.number ≡ place + 10) loop (entry_count loop) (λ q. entry_pointer params q) place (λ e. sym e) (λ e. refl)
 
 pub not_count : (k : Round) → IsEntered k → (place : ℕ) → place < 8 → is_pointer k.loop place ≡ true → place + 10 ≢ k.loop.count
-not_count k is place l p e =
-    let at : k.loop.count - 10 ≡ place = omega (arith, e) in
-    clash _ _ _ _ (sym (is.room place l p).is ∙ subst (λ (q : ℕ). slice_get k.params q ≡ Some (parameter.Scalar k.least k.loop.most)) at is.count_is)
-  where
-    clash : (a : Mode) (m lo hi : ℕ) → Some (parameter.Buffer a m) ≡ Some (parameter.Scalar lo hi) → ⊥
-    clash a m lo hi e = cc
+not_count k is place l p = buffer_other k place (is.room place l p) is.count_is
 
 pub base_fits : (k : Round) → IsEntered k → (place : ℕ) → place < 8 → is_pointer k.loop place ≡ true → base_of k.params place < 2 ^ 32
 base_fits k is place l p = (let high = (is.room place l p).high in omega (arith, high))
@@ -154,10 +149,10 @@ module _ (k : Round) (is : IsEntered k) where
   argument_form place l p there =
       let at : place + 10 - 10 ≡ place = omega arith in
       rw (
-        not_same (place + 10) 1 (λ f. omega (arith, f)),
-        not_same (place + 10) 2 (λ f. omega (arith, f)),
-        le_true 10 (place + 10) (omega arith),
-        lt_true (place + 10) 18 (omega (arith, l)),
+        ne_eqb (place + 10) 1 (λ f. omega (arith, f)),
+        ne_eqb (place + 10) 2 (λ f. omega (arith, f)),
+        le-leb 10 (place + 10) (omega arith),
+        lt-ltb (place + 10) 18 (omega (arith, l)),
         at,
         there,
       ) refl

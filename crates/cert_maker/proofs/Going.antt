@@ -2,17 +2,17 @@
 use Rattle.std.proofs.Common.{◌≡◌, ◌≢◌, ℕ, ◌+◌, ◌-◌, ◌*◌, ◌^◌, ◌<◌, ◌≤◌, ◌⊎◌, inl, inr, Bool, true, false, refl, sym, ap, ◌∙◌, subst, arith, Some, None, List, [], ◌∷◌, length, min}
 use Rattle.std.proofs.Common.{get_or-set_other}
 use Rattle.std.proofs.Math.ListN.{length-set}
-use Rattle.std.specs.Prelude.{Ok, if◌then◌else◌, ◌==◌, not, nat_le, slice_set}
+use Rattle.std.specs.Prelude.{Ok, if◌then◌else◌, nat_le, slice_set}
 use Rattle.std.specs.List.{list_any, slice_get}
-use Rattle.std.proofs.lemmas.Bool.{cases_eq}
+use Rattle.std.proofs.lemmas.Bool.{cases_eq, eqb-true, not-true, and_parts}
 use Rattle.std.proofs.lemmas.Bool.Decides.{nat_tests}
 use Rattle.linear_facts.specs.declared.ranges.Range.{Range}
 use Rattle.linear_facts.specs.declared.forms.Term.{Term}
 use Rattle.linear_facts.specs.Forms.{scaled, scaled_terms, sum_of, within, atom_form}
 use Rattle.linear_facts.specs.Sums.{range_of_form}
 use Rattle.linear_facts.specs.LoopForms.{term, IsLoop, moved_form, left_form}
-use Rattle.linear_facts.proofs.Merging.{merged-less}
-use Rattle.linear_facts.proofs.LoopRanges.{moved-range, left-range}
+use Rattle.linear_facts.proofs.Merging.{merged-less, merged-left}
+use Rattle.linear_facts.proofs.LoopRanges.{moved-range, left-range, by_size}
 use Rattle.rv_decode.specs.declared.instructions.Insn.{Insn}
 use Rattle.rv_decode.specs.declared.instructions.Insn.TheVariants.{Scalar}
 use Rattle.rv_decode.specs.declared.instructions.RegisterOp.{RegisterOp}
@@ -36,9 +36,7 @@ use Rattle.cert_maker.specs.Loops.{size_of, is_flagged, moved_by}
 use Rattle.cert_maker.specs.Certificates.{base_of}
 use Rattle.cert_maker.specs.Known.{Round, IsRound, HasRoom, HasAtoms, IsThere, IsMoved, InMoves, InBack, IsWithin, NumbersAre, Known, known, bytes_of, done_of, atom_of, is_pointer}
 use Rattle.cert_maker.specs.Laws.{IsPointer, IsStep}
-use Rattle.cert_maker.proofs.Accesses.{met_high}
-use Rattle.cert_maker.proofs.Bodies.{both_true}
-use Rattle.cert_maker.proofs.Equalities.{by_size, merged_empty}
+use Rattle.cert_maker.proofs.Accesses.{met_high, span, spans_same, not_zero}
 use Rattle.cert_maker.proofs.Flags.{flag_at, flag_low, cleared, none_set}
 use Rattle.cert_maker.proofs.Moves.{pointers-move}
 
@@ -53,9 +51,6 @@ test_of true x next e = (refl, same x next e)
     same : (a b : Reading) → Some a ≡ Some b → a ≡ b
     same a b e = cc
 test_of false x next e = cc
-
-pub same_number : (a b : ℕ) → (a == b) ≡ true → a ≡ b
-same_number a b e = grind (arith, nat_tests)
 
 -- ---- the state
 
@@ -110,22 +105,13 @@ atoms_stay k s i v h l = record {
   ra = ap (λ (a : ValueView). a.range) (other_value s i 1 v (λ e. omega (arith, e, l))) ∙ h.ra;
 }
 
-pub not_zero : (p : ℕ) → 0 < p → (p == 0) ≡ false
-not_zero p l = grind (arith, nat_tests)
-
 -- ---- what is left
 
 left_is : (n v : ℕ) → n < v → sum_of (atom_form n) (scaled 4294967295 (atom_form v)) ≡ left_form n v
 unfolding scaled scaled_terms sum_of
 left_is n v l =
     ap (λ (ts : List Term). record { constant = 0; terms = ts })
-    (merged-less (term n 1) (term v 4294967295) [] [] l ∙ ap (λ (ts : List Term). term n 1 ∷ ts) (merged_empty (term v 4294967295 ∷ [])))
-
-abbrev span : ℕ → ℕ → Range
-span lo hi = record { lo = lo; hi = hi }
-
-ranges_same : (a b c d : ℕ) → a ≡ c → b ≡ d → span a b ≡ span c d
-ranges_same a b c d e f = rw (e, f) refl
+    (merged-less (term n 1) (term v 4294967295) [] [] l ∙ ap (λ (ts : List Term). term n 1 ∷ ts) (merged-left (term v 4294967295 ∷ [])))
 
 alone : (r : Range) → computed_range None (Some r) ≡ r
 unfolding computed_range
@@ -139,7 +125,7 @@ left_met N M a b = by_test (nat_le (min N M) 1) refl
         → computed_range (if t then Some (span (1 - min N M) (N - 1)) else None) (Some (span 0 (N - M))) ≡ span 0 (N - M)
     by_test true e =
         let le : min N M ≤ 1 = grind (arith, nat_tests) in
-        met_high (1 - min N M) (N - 1) 0 (N - M) (omega (arith, le, a, b)) ∙ ranges_same _ _ _ _ (omega (arith, le, a, b)) (omega (arith, le, a, b))
+        met_high (1 - min N M) (N - 1) 0 (N - M) (omega (arith, le, a, b)) ∙ spans_same _ _ _ _ (omega (arith, le, a, b)) (omega (arith, le, a, b))
     by_test false e = alone (span 0 (N - M))
 
 -- ---- a round
@@ -150,6 +136,16 @@ fits_once base b l = omega (arith, l)
 less_more : (base b c d : ℕ) → b ≤ c → base + b - d ≤ base + c
 less_more base b c d l = omega (arith, l)
 
+-- the parameter of the count is no buffer
+pub buffer_other : (k : Round) (place : ℕ) → HasRoom k.params k.loop place
+    → slice_get k.params (k.loop.count - 10) ≡ Some (parameter.Scalar k.least k.loop.most) → place + 10 ≢ k.loop.count
+buffer_other k place room is e =
+    let at : k.loop.count - 10 ≡ place = omega (arith, e) in
+    clash _ _ _ _ (sym room.is ∙ subst (λ (q : ℕ). slice_get k.params q ≡ Some (parameter.Scalar k.least k.loop.most)) at is)
+  where
+    clash : (a : Mode) (m lo hi : ℕ) → Some (parameter.Buffer a m) ≡ Some (parameter.Scalar lo hi) → ⊥
+    clash a m lo hi e = cc
+
 module _ (k : Round) (is : IsRound k) where
   abbrev N : ℕ
   N = k.loop.most
@@ -159,12 +155,7 @@ module _ (k : Round) (is : IsRound k) where
 
   -- the count is no pointer
   pub count_other : (place : ℕ) → place < 8 → is_pointer k.loop place ≡ true → place + 10 ≢ k.loop.count
-  count_other place l p e =
-      let at : k.loop.count - 10 ≡ place = omega (arith, e) in
-      clash _ _ _ _ (sym (is.room place l p).is ∙ subst (λ (q : ℕ). slice_get k.params q ≡ Some (parameter.Scalar k.least k.loop.most)) at is.count_is)
-    where
-      clash : (a : Mode) (m lo hi : ℕ) → Some (parameter.Buffer a m) ≡ Some (parameter.Scalar lo hi) → ⊥
-      clash a m lo hi e = cc
+  count_other place l p = buffer_other k place (is.room place l p) is.count_is
 
   pub done_some : 1 ≤ done_of k
   done_some = omega (arith, is.some, is.progress)
@@ -335,31 +326,27 @@ module _ (k : Round) (is : IsRound k) where
 
   -- ---- words that move pointers, and the one that takes the count on
 
-  none_left : (t : Bool) → not t ≡ true → t ≡ false
-  none_left true e = cc
-  none_left false e = refl
-
   pub moved_on : (pc step : ℕ) (left : List Bool) (insn : Insn) (next : Reading) (a : AbstractView) → moved_by k.loop step left insn ≡ Some next
       → IsWithin k pc a → InMoves k step left a.numbers → GoesOn k pc insn a next
   unfolding moved_by
   moved_on pc step left (Scalar (Register Add rd rs1 rs2)) next a e inside h =
       let read = test_of _ (Moves k.loop step (slice_set left (rd - 10) false)) next e in
-      let first = both_true _ _ read.0 in
-      let second = both_true _ _ first.0 in
-      let from : rs1 ≡ rd = same_number rs1 rd second.1 in
-      let by : rs2 ≡ step = same_number rs2 step first.1 in
+      let first = and_parts _ _ read.0 in
+      let second = and_parts _ _ first.0 in
+      let from : rs1 ≡ rd = eqb-true rs1 rd second.1 in
+      let by : rs2 ≡ step = eqb-true rs2 step first.1 in
       subst (λ (r : Reading). GoesOn k pc (Scalar (Register Add rd rs1 rs2)) a r) read.1
       (register_goes k pc Add rd rs1 rs2 a (Moves k.loop step (slice_set left (rd - 10) false)) inside
       (rw (from, by) (register_moves a.numbers step left h rd second.0)))
   moved_on pc step left (Scalar (Register Sub rd rs1 rs2)) next a e inside h =
       let read = test_of _ (Back k.loop) next e in
-      let first = both_true _ _ read.0 in
-      let second = both_true _ _ first.0 in
-      let third = both_true _ _ second.0 in
-      let to : rd ≡ k.loop.count = same_number rd k.loop.count third.1 in
-      let from : rs1 ≡ k.loop.count = same_number rs1 k.loop.count second.1 in
-      let by : rs2 ≡ k.loop.length = same_number rs2 k.loop.length first.1 in
+      let first = and_parts _ _ read.0 in
+      let second = and_parts _ _ first.0 in
+      let third = and_parts _ _ second.0 in
+      let to : rd ≡ k.loop.count = eqb-true rd k.loop.count third.1 in
+      let from : rs1 ≡ k.loop.count = eqb-true rs1 k.loop.count second.1 in
+      let by : rs2 ≡ k.loop.length = eqb-true rs2 k.loop.length first.1 in
       subst (λ (r : Reading). GoesOn k pc (Scalar (Register Sub rd rs1 rs2)) a r) read.1
       (register_goes k pc Sub rd rs1 rs2 a (Back k.loop) inside
-      (rw (to, from, by) (back a.numbers step left h (none_left _ third.0))))
+      (rw (to, from, by) (back a.numbers step left h (not-true _ third.0))))
   moved_on pc step left other next a e inside h = cc

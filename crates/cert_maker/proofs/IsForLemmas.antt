@@ -3,6 +3,7 @@ use Rattle.std.proofs.Common.{◌≡◌, ℕ, ◌+◌, ◌*◌, ◌^◌, ◌<◌
 use Rattle.std.specs.Prelude.{Result, Ok, Err, IfOk, if◌then◌else◌, nat_le, unwrap_or}
 use Rattle.std.specs.List.{slice_get}
 use Rattle.std.specs.Option.{option_and_then, option_map_or}
+use Rattle.std.proofs.lemmas.Bool.{le-leb}
 use Rattle.std.proofs.lemmas.Bool.Decides.{nat_tests}
 use Rattle.elf_image.specs.Image.{ImageView}
 use Rattle.rv_decode.specs.declared.instructions.Direction.TheVariants.{Load}
@@ -18,7 +19,6 @@ use Rattle.cert_maker.specs.Loops.{size_of, is_buffer_for, may_be, is_flagged, l
 use Rattle.cert_maker.specs.Certificates.{base_of}
 use Rattle.cert_maker.specs.Make.{AreParameters, IsFor, has_room}
 use Rattle.region_mem.specs.declared.parameter.Mode.{Mode}
-use Rattle.cert_maker.proofs.Accesses.{le_true}
 use Rattle.cert_maker.proofs.IsRounds.{IsRead, count_same, keeps, read_all, room_in, scalar_there}
 use Rattle.cert_maker.proofs.LoopWalks.{inside}
 use Rattle.cert_maker.proofs.Rounds.{valid_at}
@@ -28,7 +28,7 @@ use Rattle.cert_maker.proofs.Rounds.{valid_at}
 room_read : (params : List Param) (loop : Loop) (place size : ℕ) (access : Mode) → slice_get params place ≡ Some (parameter.Buffer access size)
     → loop.most * size_of loop ≤ size → has_room params loop place ≡ true
 unfolding is_buffer_for may_be
-room_read params loop place size access is l = rw (is, le_true (loop.most * size_of loop) size l) refl
+room_read params loop place size access is l = rw (is, le-leb (loop.most * size_of loop) size l) refl
 
 is_for : (image : ImageView) (params : List Param) (through : Loop × ℕ) → IsRead image params through → IsFor params through.0
 unfolding is_scalar

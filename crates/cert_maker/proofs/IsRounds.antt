@@ -1,9 +1,9 @@
 -- A loop that is read through is a round of which all is true that the check needs.
 use Rattle.std.proofs.Common.{◌≡◌, ◌≢◌, ℕ, ◌+◌, ◌-◌, ◌*◌, ◌^◌, ◌<◌, ◌≤◌, inl, inr, zero, suc, Bool, true, false, refl, sym, ap, ◌∙◌, subst, arith, Some, None, List, [], ◌∷◌, length}
 use Rattle.std.proofs.Math.Nat.{mul_comm}
-use Rattle.std.specs.Prelude.{Result, Ok, if◌then◌else◌, nat_le}
+use Rattle.std.specs.Prelude.{Result, Ok, if◌then◌else◌}
 use Rattle.std.specs.List.{slice_get, AllByRecursion}
-use Rattle.std.proofs.lemmas.Bool.Decides.{nat_tests}
+use Rattle.std.proofs.lemmas.Bool.{leb-true}
 use Rattle.elf_image.specs.Image.{ImageView, IsImage}
 use Rattle.linear_facts.specs.LoopForms.{IsSize}
 use Rattle.rv_decode.specs.Encodings.{FieldsFit}
@@ -134,10 +134,7 @@ fits_there (q ∷ qs) (suc place) p fit e = fits_there qs place p fit.1 e
 
 least_below : (least most : ℕ) → is_valid (parameter.Scalar least most) ≡ true → least ≤ most
 unfolding is_valid
-least_below least most e = at_most least most e
-  where
-    at_most : (a b : ℕ) → nat_le a b ≡ true → a ≤ b
-    at_most a b f = grind (arith, nat_tests)
+least_below least most e = leb-true least most e
 
 -- ---- the round
 

@@ -4,7 +4,7 @@ use Rattle.std.specs.Option.{option_and_then}
 use Rattle.linear_facts.specs.Forms.{atom_form, number_form}
 use Rattle.linear_facts.specs.Ranges.{range_at}
 use Rattle.linear_facts.specs.LoopForms.{pointer_form}
-use Rattle.linear_facts.proofs.LoopRanges.{atom-range, pointer-range}
+use Rattle.linear_facts.proofs.LoopRanges.{atom-range, pointer-range, by_size}
 use Rattle.scalar_core.specs.Hart.{exit}
 use Rattle.cert_note.specs.declared.values.RegisterFact.{RegisterFact}
 use Rattle.abs_domain.specs.Values.{just}
@@ -14,12 +14,11 @@ use Rattle.cert_maker.specs.Loops.{size_of}
 use Rattle.cert_maker.specs.Certificates.{base_of, stated_by, loop_count, loop_facts, loop_pointer}
 use Rattle.cert_maker.specs.Known.{Round, IsRound, IsThere, known, atom_of, bytes_of, is_pointer}
 use Rattle.cert_maker.specs.Laws.{IsCount}
-use Rattle.cert_maker.proofs.Accesses.{met_high}
+use Rattle.cert_maker.proofs.Accesses.{met_high, span, spans_same}
 use Rattle.cert_maker.proofs.Ending.{loop_places}
-use Rattle.cert_maker.proofs.Equalities.{by_size}
 use Rattle.cert_maker.proofs.Going.{count_other, one_fits}
 use Rattle.cert_maker.proofs.Returns.{ra_is}
-use Rattle.cert_maker.proofs.Beginnings.{span, spans_same, part_met, begin_forms, begin_ranges, begin_atoms, register_range, argument_range, none_split, begins_as, zero_is, range_stated, form_stated, count_stated, pointer_stated, scalar_range}
+use Rattle.cert_maker.proofs.Beginnings.{part_met, begin_forms, begin_ranges, begin_atoms, register_range, argument_range, none_split, begins_as, zero_is, range_stated, form_stated, count_stated, pointer_stated, scalar_range}
 
 loop_pays : (base x y w : ℕ) → x ≤ y → w ≤ y → max base (base + x - y) ≤ min (base + y) (base + y - w)
 loop_pays base x y w l m = omega (arith, l, m)

@@ -1,6 +1,7 @@
 -- A pointer that is moved on by what was done.
-use Rattle.std.proofs.Common.{◌≡◌, ℕ, ◌+◌, ◌-◌, ◌*◌, ◌^◌, ◌<◌, ◌≤◌, Bool, true, false, refl, ap, ◌∙◌, arith, Option, Some, None, List, [], ◌∷◌, min, max}
+use Rattle.std.proofs.Common.{◌≡◌, ℕ, ◌+◌, ◌-◌, ◌*◌, ◌^◌, ◌≤◌, Bool, true, false, refl, ap, ◌∙◌, arith, Option, Some, None, List, [], ◌∷◌, min, max}
 use Rattle.std.specs.Prelude.{slice_index_or, if◌then◌else◌, nat_le, ◌==◌}
+use Rattle.std.proofs.lemmas.Bool.{le-leb, lt-ltb}
 use Rattle.std.proofs.lemmas.Bool.Decides.{nat_tests}
 use Rattle.linear_facts.specs.declared.ranges.Range.{Range}
 use Rattle.linear_facts.specs.declared.forms.Term.{Term}
@@ -14,10 +15,7 @@ use Rattle.abs_state.specs.Edges.{is_same, are_same_terms, is_interval_shown, is
 use Rattle.linear_facts.specs.LoopForms.{term, pointer_form, moved_form}
 use Rattle.cert_maker.specs.Laws.{IsPointer, IsStep, Moved, PointersMove, PointersReturn}
 use Rattle.cert_maker.proofs.Equalities.{sum_parts, back-equality}
-use Rattle.cert_maker.proofs.Accesses.{behind, met_high, lt_true, le_true}
-
-not_zero : (p : ℕ) → 0 < p → (p == 0) ≡ false
-not_zero p l = grind (arith, nat_tests)
+use Rattle.cert_maker.proofs.Accesses.{behind, met_high, not_zero}
 
 module _ (s : NumbersView) (base w n e v N m q p step lo hi : ℕ) (is : IsPointer s base w n e v N m q p) (by : IsStep s w v m step lo hi) where
   sum_is : sum_of (value_at s p).form (value_at s step).form ≡ moved_form base w n e v
@@ -31,8 +29,8 @@ module _ (s : NumbersView) (base w n e v N m q p step lo hi : ℕ) (is : IsPoint
       rw (
         is.range,
         by.range,
-        lt_true (base + lo) (2 ^ 32) (omega (arith, is.fits, by.least, by.filled, by.most, is.most)),
-        lt_true (base + w * N - w + hi) (2 ^ 32) (omega (arith, is.fits, by.most, is.most)),
+        lt-ltb (base + lo) (2 ^ 32) (omega (arith, is.fits, by.least, by.filled, by.most, is.most)),
+        lt-ltb (base + w * N - w + hi) (2 ^ 32) (omega (arith, is.fits, by.most, is.most)),
       ) refl
 
   moved_range : Range
@@ -107,7 +105,7 @@ pub pointers-return : PointersReturn
 unfolding is_interval_shown is_equality_shown is_sum_shown value_on
 pointers-return edge base w n e v N p size small l g form at_n at_e low high =
     let in_range = edge_within edge p base (base + w * N) low high in
-    ((rw (le_true _ _ in_range.0, le_true _ _ in_range.1) refl), shown)
+    ((rw (le-leb _ _ in_range.0, le-leb _ _ in_range.1) refl), shown)
   where
     shown : is_same (substituted edge.state.numbers.forms (pointer_form base w n e)) (value_at edge.state.numbers p).form ≡ true
     shown = rw (back-equality edge.state.numbers.forms base w n e v size small l g at_n at_e, form) (same_form (moved_form base w n e v))
