@@ -4,6 +4,7 @@ use Rattle.std.specs.Prelude.{if◌then◌else◌, ◌==◌, ◌&&◌, nat_le}
 use Rattle.std.specs.List.{AllByRecursion, list_all, list_any}
 use Rattle.std.specs.Option.{option_map_or}
 use Rattle.std.proofs.lemmas.Bool.Decides.{nat_tests}
+use Rattle.std.proofs.lemmas.Bool.{and_parts}
 use Rattle.linear_facts.specs.Forms.{value, substituted}
 use Rattle.scalar_core.specs.Arithmetic.{is_taken}
 use Rattle.scalar_core.specs.Hart.{reg_of, exit}
@@ -36,12 +37,12 @@ use Rattle.abs_state.specs.State.{AbstractView}
 use Rattle.abs_domain.specs.Starts.{equality_form}
 use Rattle.abs_state.specs.Branches.{EdgeView, plain_edge, edge_by, refined, table_on, value_on}
 use Rattle.abs_state.specs.Edges.{shown_or, and_then, Shown, is_interval_shown, is_equality_shown, is_sum_shown, is_vector_shown, are_these, says_order, tells_order, is_order_shown, own_total, next_total, no_budget, says, leads_to, is_vtype_shown, is_paid, is_paid_for, is_same, pays, implies_block, implies_end, implied_by}
-use Rattle.abs_state.specs.Held.{Setting, Goes, IsKnown, IsPaid, IsAt, IsTrueOf, AreTrueOf, budget_of, group_elements, fact_element, number_at, vlenb_in}
+use Rattle.abs_state.specs.Held.{Setting, Goes, IsKnown, IsPaid, IsAt, IsTrueOf, AreTrueOf, budget_of, fact_element, number_at, vlenb_in}
 use Rattle.abs_state.specs.EdgeLaws.{TakesEdge, EdgesAreTaken, ImpliedFits, ImpliedEnds}
+use Rattle.abs_transfer.specs.Facts.{elements_in}
 use Rattle.abs_transfer.proofs.Addresses.{register_number}
-use Rattle.abs_state.proofs.Substitutions.{both_true}
-use Rattle.abs_state.proofs.Payments.{equality_holds, parts_below, counted, covered, SaysMore as MoreSaid, says_more, paid_holds}
-use Rattle.abs_domain.proofs.StartForms.{budget_below, second_below, greater_below, lesser_below}
+use Rattle.abs_state.proofs.Payments.{equality_holds, counted, covered, SaysMore as MoreSaid, says_more, paid_holds}
+use Rattle.abs_domain.proofs.StartForms.{budget_below, second_below, greater_below, lesser_below, terms_below}
 use Rattle.abs_state.proofs.Ways.{IsEdge, plain_is, branch_is}
 
 -- ---- the edge that is taken
@@ -137,7 +138,7 @@ order_shown_in edge order e = e
 these_are : (number : ℕ → ℕ) (rs1 rs2 lesser greater : ℕ) → are_these rs1 rs2 lesser greater ≡ true → number rs1 ≤ number rs2
     → number lesser ≤ number greater
 these_are number rs1 rs2 lesser greater e le =
-    let both = both_true (rs1 == lesser) (rs2 == greater) e in
+    let both = and_parts (rs1 == lesser) (rs2 == greater) e in
     let l : rs1 ≡ lesser = grind (arith, nat_tests, both.0) in
     let g : rs2 ≡ greater = grind (arith, nat_tests, both.1) in
     omega (arith, le, ap number l, ap number g)
@@ -171,7 +172,7 @@ module _ (e : Setting) (n : ℕ) (edge : EdgeView) (m : Machine) (goes : Goes e 
   unfolding is_interval_shown is_equality_shown
   fact_holds params from fact is h k =
       let below : fact.number < 33 = number_below (nat_le from fact.number) is.number in
-      let both = both_true _ _ h in
+      let both = and_parts _ _ h in
       let lies = (goes.each fact.number below).lies in
       let same = register_below e.passed m.hart m.vectors.config fact.number below in
       record {
@@ -194,7 +195,7 @@ module _ (e : Setting) (n : ℕ) (edge : EdgeView) (m : Machine) (goes : Goes e 
           register_below e.passed m.hart m.vectors.config fact.number (number_below (nat_le from fact.number) is.number)
           ∙ equality_holds edge.state.numbers goes.numbers (λ i. number_of i m.hart m.vectors.config) e.passed fact.number (equality_form equality)
           goes.known.known.forms goes.known.known.each goes.atoms.fits goes.known.passed
-          (parts_below params 1 equality.terms.items g.terms) (number_below (nat_le from fact.number) is.number)
+          (terms_below params 1 equality.terms.items g.terms) (number_below (nat_le from fact.number) is.number)
           (sum_shown_in edge fact.number equality (sym (ap (λ (o : Option Equality). equality_test o) f) ∙ k))
         where
           equality_test : Option Equality → Bool
@@ -204,8 +205,8 @@ module _ (e : Setting) (n : ℕ) (edge : EdgeView) (m : Machine) (goes : Goes e 
       → list_all (is_interval_shown edge) facts ≡ true → list_all (is_equality_shown edge) facts ≡ true → AllByRecursion (FactIsTrue (number_at e m)) facts
   facts_hold params from [] is h k = tt
   facts_hold params from (x ∷ xs) is h k =
-      let p = both_true (is_interval_shown edge x) (list_all (is_interval_shown edge) xs) h in
-      let q = both_true (is_equality_shown edge x) (list_all (is_equality_shown edge) xs) k in
+      let p = and_parts (is_interval_shown edge x) (list_all (is_interval_shown edge) xs) h in
+      let q = and_parts (is_equality_shown edge x) (list_all (is_equality_shown edge) xs) k in
       (fact_holds params from x is.0 p.0 q.0, facts_hold params (after_fact x) xs is.1 p.1 q.1)
 
   -- a fact on vector registers that another one says is true where that one is
@@ -215,7 +216,7 @@ module _ (e : Setting) (n : ℕ) (edge : EdgeView) (m : Machine) (goes : Goes e 
       let r = (value_on edge 32).range in
       let vl = m.vectors.config.vl in
       let count : counted vl wanted.count ≤ counted vl known.count = covered r vl known.count wanted.count (goes.each 32 (omega arith)).lies s.covers in
-      let elements : group_elements (vlenb_in e) known ≡ group_elements (vlenb_in e) wanted =
+      let elements : elements_in (vlenb_in e) known ≡ elements_in (vlenb_in e) wanted =
       ap (λ (k : ℕ). k * vlenb_in e / (known.width / 8)) s.registers ∙ ap (λ (w : ℕ). wanted.registers * vlenb_in e / (w / 8)) s.width in
       let same : fact_element (vlenb_in e) m.vectors.registers known i ≡ fact_element (vlenb_in e) m.vectors.registers wanted i =
       ap (λ (w : ℕ). element_at (w / 8) (known.register * vlenb_in e) m.vectors.registers i) s.width
@@ -239,7 +240,7 @@ module _ (e : Setting) (n : ℕ) (edge : EdgeView) (m : Machine) (goes : Goes e 
   vectors_hold : (facts : List VectorFact) → list_all (is_vector_shown edge) facts ≡ true → AreTrueOf (vlenb_in e) m.vectors facts
   vectors_hold [] h = tt
   vectors_hold (x ∷ xs) h =
-      let p = both_true (is_vector_shown edge x) (list_all (is_vector_shown edge) xs) h in
+      let p = and_parts (is_vector_shown edge x) (list_all (is_vector_shown edge) xs) h in
       (vector_holds x edge.state.groups (vector_shown_in edge x p.0) goes.known.groups, vectors_hold xs p.1)
 
   -- an order that is shown holds
@@ -289,7 +290,7 @@ module _ (e : Setting) (n : ℕ) (edge : EdgeView) (m : Machine) (goes : Goes e 
       → list_all (is_order_shown edge) orders ≡ true → AllByRecursion (OrderIsTrue (number_at e m)) orders
   orders_hold facts from [] is h = tt
   orders_hold facts from (o ∷ os) is h =
-      let p = both_true (is_order_shown edge o) (list_all (is_order_shown edge) os) h in
+      let p = and_parts (is_order_shown edge o) (list_all (is_order_shown edge) os) h in
       (order_holds o (lesser_below facts from o is.0) (greater_below facts from o is.0) p.0, orders_hold facts (after_order o) os is.1 p.1)
 
   -- what was the budget pays for the instructions taken and for another budget

@@ -1,8 +1,9 @@
 -- The registers of the hart that a run starts with, and the numbers that are passed in them.
 use Rattle.std.proofs.Common.{◌≡◌, ℕ, zero, suc, ◌<◌, ◌≤◌, ◌+◌, ◌^◌, ◌&&◌, ◌||◌, not, Bool, true, false, arith, refl, sym, ◌∙◌, subst, inl, inr, length, take, get_or, List, [], ◌∷◌, Option, Some, None, sum_by}
-use Rattle.std.specs.Prelude.{nat_le, if◌then◌else◌, unwrap_or, IsTrue}
+use Rattle.std.specs.Prelude.{nat_le, if◌then◌else◌, unwrap_or}
 use Rattle.std.specs.List.{AllByRecursion, list_all, list_any, slice_get, zip}
 use Rattle.std.specs.Option.{option_and_then}
+use Rattle.std.proofs.lemmas.Bool.{and_parts, leb-true, not-false}
 use Rattle.std.proofs.lemmas.Bool.Decides.{nat_tests}
 use Rattle.std.proofs.lemmas.Option.{slice_get-get_or}
 use Rattle.std.proofs.Math.ListN.{replicate}
@@ -18,6 +19,7 @@ use Rattle.scalar_core.specs.Hart.{IsHart}
 use Rattle.scalar_core.proofs.EntryLemmas.{entry_hart-is_hart, entry_hart-pc, entry_number-same, reg_of-entry_hart}
 use Rattle.vector_core.specs.Start.{passed_at, passed_number, start_hart}
 use Rattle.cert_note.specs.Certificate.{FitsWords, IsParameter}
+use Rattle.cert_note.proofs.Whole.{valid_all}
 use Rattle.abs_domain.specs.BlockLaws.{ArePassed, IsEntry, IsPassed}
 
 -- ---- the hart that a run starts with
@@ -96,31 +98,10 @@ item_at P [] i d all l = absurd (omega (arith, l))
 item_at P (x ∷ xs) zero d all l = all.0
 item_at P (x ∷ xs) (suc i) d all l = item_at P xs i d all.1 (omega (arith, l))
 
-is_true : (b : Bool) → IsTrue b → b ≡ true
-is_true true h = refl
-is_true false h = cc
-
-both_true : (a b : Bool) → a ≡ true → b ≡ true → (a && b) ≡ true
-both_true true b e f = f
-both_true false b e f = e
-
--- parameters of a certificate are valid
-pub all_valid : (params : List Param) → AllByRecursion IsParameter params → list_all is_valid params ≡ true
-all_valid [] all = refl
-all_valid (p ∷ ps) all = both_true (is_valid p) (list_all is_valid ps) (is_true (is_valid p) all.0.0) (all_valid ps all.1)
-
-and_parts : (a b : Bool) → not (a && b) ≡ false → (a ≡ true) × (b ≡ true)
-and_parts true true e = (refl, refl)
-and_parts true false e = absurd (cc)
-and_parts false b e = absurd (cc)
-
 between : (lo x hi : ℕ) → not (nat_le lo x && nat_le x hi) ≡ false → (lo ≤ x) × (x ≤ hi)
 between lo x hi e =
-    let parts = and_parts (nat_le lo x) (nat_le x hi) e in
-    (at_most lo x parts.0, at_most x hi parts.1)
-  where
-    at_most : (a b : ℕ) → nat_le a b ≡ true → a ≤ b
-    at_most a b f = grind (arith, nat_tests)
+    let parts = and_parts (nat_le lo x) (nat_le x hi) (not-false _ e) in
+    (leb-true lo x parts.0, leb-true x hi parts.1)
 
 address_small : (params : List Param) (place : ℕ) → list_all is_valid params ≡ true → length params ≡ 8 → place < 8
     → unwrap_or (address_of place params) 0 < 2 ^ 32
@@ -178,7 +159,7 @@ module _ (params : List Param) (args : List Argument) (count : length params ≡
   numbers_fit place l =
       number_fits params place (passed_at params args place) (get_or params place parameter.None)
       (item_at IsParameter params place parameter.None all (omega (arith, count, l))).1
-      (address_small params place (all_valid params all) count l) (passed_there place l)
+      (address_small params place (valid_all params all) count l) (passed_there place l)
 
   -- numbers that were passed are what the parameters ask for
   pub are_passed : (passed : ℕ → ℕ)

@@ -1,6 +1,7 @@
 -- An instruction that is legal where vill is set is legal at any vtype: its operands are whole registers.
 use Rattle.std.proofs.Common.{◌≡◌, ℕ, Bool, true, false, refl, Option, Some, None}
-use Rattle.std.specs.Prelude.{if◌then◌else◌, ◌&&◌, Result, Ok, Err, IfSome}
+use Rattle.std.proofs.lemmas.Bool.{and_from, and_parts}
+use Rattle.std.specs.Prelude.{if◌then◌else◌, Result, Ok, Err, IfSome}
 use Rattle.rv_decode.specs.declared.extents.Extent.{Extent}
 use Rattle.rv_decode.specs.declared.extents.Extent.TheVariants.{Group, Single, Mask, Whole}
 use Rattle.rv_decode.specs.declared.extents.Operand.{Operand}
@@ -17,11 +18,6 @@ use Rattle.abs_domain.specs.declared.why.Why.TheVariants.{IllegalWord, VtypeUnkn
 use Rattle.abs_transfer.specs.Facts.{known_type}
 use Rattle.abs_transfer.specs.Legal.{legal_check, needs_vtype}
 use Rattle.abs_state.specs.VectorLaws.{ChecksAreLegal}
-use Rattle.abs_state.proofs.Substitutions.{both_true}
-
-of_both : (a b : Bool) → a ≡ true → b ≡ true → a && b ≡ true
-of_both true b e f = f
-of_both false b e f = cc
 
 -- ---- whole registers
 
@@ -72,25 +68,25 @@ destination_legal : (v : Option Vtype) (operands : Operands) (o : Option Operand
 unfolding is_destination_legal
 destination_legal v operands None e f = refl
 destination_legal v operands (Some d) e f =
-    let parts = both_true _ _ f in
-    of_both _ _
-    (of_both _ _ (source_legal v operands.sharing d operands.vs2 e) (source_legal v operands.sharing d operands.vs1 e))
+    let parts = and_parts _ _ f in
+    and_from _ _
+    (and_from _ _ (source_legal v operands.sharing d operands.vs2 e) (source_legal v operands.sharing d operands.vs1 e))
     (mask_legal v operands.is_masked operands.sharing d e parts.1)
 
 operands_legal : (v : Option Vtype) (operands : Operands) → are_operands_legal None operands ≡ true → are_operands_legal v operands ≡ true
 unfolding are_operands_legal
 operands_legal v operands f =
-    let parts = both_true _ _ f in
-    let more = both_true _ _ parts.0 in
-    let rest = both_true _ _ more.0 in
-    of_both _ _
-    (of_both _ _ (of_both _ _ (present_legal v operands.destination rest.0) (present_legal v operands.vs2 rest.1))
+    let parts = and_parts _ _ f in
+    let more = and_parts _ _ parts.0 in
+    let rest = and_parts _ _ more.0 in
+    and_from _ _
+    (and_from _ _ (and_from _ _ (present_legal v operands.destination rest.0) (present_legal v operands.vs2 rest.1))
     (present_legal v operands.vs1 more.1))
     (destination_legal v operands operands.destination rest.0 parts.1)
 
 destination_whole : (operands : Operands) → are_operands_legal None operands ≡ true → is_present_legal None operands.destination ≡ true
 unfolding are_operands_legal
-destination_whole operands f = (both_true _ _ (both_true _ _ (both_true _ _ f).0).0).0
+destination_whole operands f = (and_parts _ _ (and_parts _ _ (and_parts _ _ f).0).0).0
 
 whole_count_same : (v : Option Vtype) (o : Option Operand) → is_present_legal None o ≡ true → IfSome o (λ d. count_of None d.extent ≡ count_of v d.extent)
 whole_count_same v None e = tt

@@ -1,10 +1,11 @@
 -- What is shown of equalities, facts on vector registers and budgets holds of the numbers.
-use Rattle.std.proofs.Common.{◌≡◌, ◌<◌, ◌≤◌, ◌+◌, ◌-◌, ◌*◌, ◌%◌, ◌^◌, ℕ, Bool, true, false, arith, refl, sym, ap, ◌∙◌, IsTrue, List, [], ◌∷◌, length, map}
+use Rattle.std.proofs.Common.{◌≡◌, ◌<◌, ◌≤◌, ◌+◌, ◌-◌, ◌*◌, ◌%◌, ◌^◌, ℕ, Bool, true, false, arith, refl, sym, ap, ◌∙◌, IsTrue, List, length}
 use Rattle.std.specs.Prelude.{if◌then◌else◌, ◌==◌, ◌&&◌, ◌||◌, nat_le}
 use Rattle.std.proofs.lemmas.Bool.Decides.{nat_tests}
 use Rattle.std.proofs.lemmas.List.{get_or_default}
 use Rattle.std.proofs.Math.ListN.{get_or-eq_default}
 use Rattle.std.proofs.Math.Nat.{mul-le-mul_left}
+use Rattle.std.proofs.lemmas.Bool.{leb-true, and_parts, eqb-true}
 use Rattle.linear_facts.specs.declared.ranges.Range.{Range}
 use Rattle.linear_facts.specs.Forms.{Linear, value, number_form, atom_form, form_at, substituted}
 use Rattle.linear_facts.specs.Ranges.{AtomTable, AgreesWith}
@@ -14,22 +15,20 @@ use Rattle.linear_facts.proofs.FormLaws.{value-atom_form, value-substituted}
 use Rattle.linear_facts.proofs.DifferenceLaws.{difference-holds}
 use Rattle.linear_facts.proofs.LocalityLemmas.{agree-below}
 use Rattle.region_mem.specs.declared.parameter.Param.{Param}
-use Rattle.cert_note.specs.declared.values.EqualityTerm.{EqualityTerm}
 use Rattle.cert_note.specs.declared.values.VectorFact.{VectorFact}
-use Rattle.cert_note.specs.Certificate.{is_atom, AllFrom, after_term, IsTerm}
+use Rattle.cert_note.specs.Certificate.{is_atom}
 use Rattle.abs_domain.specs.Numbers.{NumbersView, value_at}
 use Rattle.abs_domain.specs.Described.{LiesIn, IsNumber}
-use Rattle.abs_domain.specs.Starts.{form_term}
 use Rattle.abs_state.specs.Edges.{is_same, covers, says, Total, least_of, most_of, products_of, is_paid}
-use Rattle.abs_state.proofs.Substitutions.{both_true, same_if, same_forms}
+use Rattle.abs_state.proofs.Substitutions.{same_forms}
 
 -- ---- equalities
 
-form_there : (s : NumbersView) (a : ℕ) → a < length s.forms → form_at s.forms a ≡ (value_at s a).form
+pub form_there : (s : NumbersView) (a : ℕ) → a < length s.forms → form_at s.forms a ≡ (value_at s a).form
 unfolding form_at value_at
 form_there s a l = get_or_default s.forms a (atom_form a) (number_form 0) l
 
-form_past : (s : NumbersView) (a : ℕ) → length s.forms ≤ a → form_at s.forms a ≡ atom_form a
+pub form_past : (s : NumbersView) (a : ℕ) → length s.forms ≤ a → form_at s.forms a ≡ atom_form a
 unfolding form_at
 form_past s a l = get_or-eq_default s.forms (atom_form a) l
 
@@ -67,11 +66,6 @@ atom_below : (params : List Param) (from a : ℕ) → IsTrue (nat_le from a && i
 unfolding is_atom
 atom_below params from a h = grind (arith, nat_tests)
 
-pub parts_below : (params : List Param) (from : ℕ) (ts : List EqualityTerm) → AllFrom (IsTerm params) after_term from ts
-    → AreBelow 41 (map form_term ts)
-parts_below params from [] h = tt
-parts_below params from (t ∷ ts) h = (atom_below params from t.atom h.0.atom, parts_below params (after_term t) ts h.1)
-
 -- ---- facts on vector registers
 
 -- as many elements as a count says, where 0 stands for vl
@@ -106,23 +100,20 @@ pub record SaysMore (r : Range) (wanted known : VectorFact) : Type 0 where
   pub high : known.high ≤ wanted.high
   pub covers : covers r known.count wanted.count ≡ true
 
-at_most : (a b : ℕ) → nat_le a b ≡ true → a ≤ b
-at_most a b e = grind (arith, nat_tests)
-
 pub says_more : (r : Range) (wanted known : VectorFact) → says r wanted known ≡ true → SaysMore r wanted known
 unfolding says
 says_more r wanted known e =
-    let a = both_true _ _ e in
-    let b = both_true _ _ a.0 in
-    let c = both_true _ _ b.0 in
-    let d = both_true _ _ c.0 in
-    let f = both_true _ _ d.0 in
+    let a = and_parts _ _ e in
+    let b = and_parts _ _ a.0 in
+    let c = and_parts _ _ b.0 in
+    let d = and_parts _ _ c.0 in
+    let f = and_parts _ _ d.0 in
     record {
-      register = same_if known.register wanted.register f.0;
-      width = same_if known.width wanted.width f.1;
-      registers = same_if known.registers wanted.registers d.1;
-      low = at_most wanted.low known.low c.1;
-      high = at_most known.high wanted.high b.1;
+      register = eqb-true known.register wanted.register f.0;
+      width = eqb-true known.width wanted.width f.1;
+      registers = eqb-true known.registers wanted.registers d.1;
+      low = leb-true wanted.low known.low c.1;
+      high = leb-true known.high wanted.high b.1;
       covers = a.1;
     }
 
@@ -132,8 +123,8 @@ at_least_holds : (table : AtomTable) (v : ℕ → ℕ) (c d : ℕ) (ms ls : List
     → is_at_least_of table c ms d ls ≡ true → d + total_of v ls ≤ c + total_of v ms
 unfolding is_at_least_of
 at_least_holds table v c d ms ls agrees f g e =
-    let p = both_true (have_ranges table ms && have_ranges table ls) (is_positive table (difference_of table c ms d ls)) e in
-    let q = both_true (have_ranges table ms) (have_ranges table ls) p.0 in
+    let p = and_parts (have_ranges table ms && have_ranges table ls) (is_positive table (difference_of table c ms d ls)) e in
+    let q = and_parts (have_ranges table ms) (have_ranges table ls) p.0 in
     difference-holds table v agrees c d ms ls f g q.0 q.1 p.1
 
 -- what is shown to be paid is paid
@@ -149,7 +140,7 @@ paid_holds table n v own next x y z w agrees p q r s e = by_test (nat_le (most_o
     by_test true f o =
         omega (
           arith,
-          at_most (most_of next) (least_of own) f,
+          leb-true (most_of next) (least_of own) f,
           mul-le-mul_left own.factor p.lies.low,
           mul-le-mul_left own.second_factor q.lies.low,
           mul-le-mul_left next.factor r.lies.high,

@@ -4,6 +4,7 @@ use Rattle.std.specs.Prelude.{if◌then◌else◌, ◌==◌, nat_lt, nat_le}
 use Rattle.std.specs.Int.{w32}
 use Rattle.std.proofs.lemmas.Int.{to_z_pos}
 use Rattle.std.proofs.lemmas.Bool.Decides.{nat_tests}
+use Rattle.std.proofs.lemmas.Bool.{eqb-true, eqb-false, ltb-true, ltb-false}
 use Rattle.linear_facts.specs.declared.ranges.Range.{Range}
 use Rattle.linear_facts.specs.Ranges.{meet_of}
 use Rattle.rv_decode.specs.declared.instructions.Condition.{Condition}
@@ -141,18 +142,6 @@ small_stands a b x y r h k s = by_test (nat_lt a.hi (2 ^ 31) && nat_lt b.hi (2 ^
         s (ap (λ z. int_lt z (signed y)) (is x (omega (arith, p, h.high))) ∙ ap (λ z. int_lt (pos x) z) (is y (omega (arith, q, k.high))))
     by_test false e = tt
 
-below_if : (x y : ℕ) → nat_lt x y ≡ true → x < y
-below_if x y e = grind (arith, nat_tests)
-
-not_below_if : (x y : ℕ) → nat_lt x y ≡ false → y ≤ x
-not_below_if x y e = grind (arith, nat_tests)
-
-same_if : (x y : ℕ) → (x == y) ≡ true → x ≡ y
-same_if x y e = grind (arith, nat_tests)
-
-different_if : (x y : ℕ) → (x == y) ≡ false → x ≢ y
-different_if x y e f = grind (arith, nat_tests)
-
 flipped : (b c : Bool) → not b ≡ c → b ≡ not c
 flipped true c e = ap not e
 flipped false c e = ap not e
@@ -161,17 +150,17 @@ flipped false c e = ap not e
 pub relation_stands : (condition : Condition) (taken : Bool) (a b : Range) (x y : ℕ) → LiesIn a x → LiesIn b y
     → is_taken condition x y ≡ taken → IfSome (relation_of condition taken a b) (λ r. Stands r x y)
 unfolding relation_of is_taken
-relation_stands Eq true a b x y h k e = same_if x y e
-relation_stands Eq false a b x y h k e = different_if x y e
-relation_stands Ne true a b x y h k e = different_if x y (flipped (x == y) true e)
-relation_stands Ne false a b x y h k e = same_if x y (flipped (x == y) false e)
-relation_stands Lt true a b x y h k e = small_stands a b x y Below h k (λ s. below_if x y (sym s ∙ e))
-relation_stands Lt false a b x y h k e = small_stands a b x y NotBelow h k (λ s. not_below_if x y (sym s ∙ e))
+relation_stands Eq true a b x y h k e = eqb-true x y e
+relation_stands Eq false a b x y h k e = eqb-false x y e
+relation_stands Ne true a b x y h k e = eqb-false x y (flipped (x == y) true e)
+relation_stands Ne false a b x y h k e = eqb-true x y (flipped (x == y) false e)
+relation_stands Lt true a b x y h k e = small_stands a b x y Below h k (λ s. ltb-true x y (sym s ∙ e))
+relation_stands Lt false a b x y h k e = small_stands a b x y NotBelow h k (λ s. ltb-false x y (sym s ∙ e))
 relation_stands Ge true a b x y h k e =
-    small_stands a b x y NotBelow h k (λ s. not_below_if x y (sym s ∙ flipped (int_lt (signed x) (signed y)) true e))
+    small_stands a b x y NotBelow h k (λ s. ltb-false x y (sym s ∙ flipped (int_lt (signed x) (signed y)) true e))
 relation_stands Ge false a b x y h k e =
-    small_stands a b x y Below h k (λ s. below_if x y (sym s ∙ flipped (int_lt (signed x) (signed y)) false e))
-relation_stands Ltu true a b x y h k e = below_if x y e
-relation_stands Ltu false a b x y h k e = not_below_if x y e
-relation_stands Geu true a b x y h k e = not_below_if x y (flipped (nat_lt x y) true e)
-relation_stands Geu false a b x y h k e = below_if x y (flipped (nat_lt x y) false e)
+    small_stands a b x y Below h k (λ s. ltb-true x y (sym s ∙ flipped (int_lt (signed x) (signed y)) false e))
+relation_stands Ltu true a b x y h k e = ltb-true x y e
+relation_stands Ltu false a b x y h k e = ltb-false x y e
+relation_stands Geu true a b x y h k e = ltb-false x y (flipped (nat_lt x y) true e)
+relation_stands Geu false a b x y h k e = ltb-true x y (flipped (nat_lt x y) false e)

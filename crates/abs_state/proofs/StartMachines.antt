@@ -27,6 +27,7 @@ use Rattle.cert_note.specs.declared.values.RegisterFact.{RegisterFact}
 use Rattle.cert_note.specs.declared.values.Block.{Block}
 use Rattle.cert_note.specs.declared.values.OrderFact.{OrderFact}
 use Rattle.cert_note.specs.Certificate.{CertificateView, IsBlock, IsCertificate, after_block}
+use Rattle.cert_note.proofs.Whole.{valid_all}
 use Rattle.abs_domain.specs.Numbers.{value_at}
 use Rattle.abs_domain.specs.Described.{IsNumber}
 use Rattle.abs_domain.specs.Holds.{Holds}
@@ -36,7 +37,8 @@ use Rattle.abs_domain.specs.BlockLaws.{ArePassed, HoldsWith}
 use Rattle.abs_state.specs.Held.{Setting, Held, IsProper, number_at, vlenb_in}
 use Rattle.abs_state.specs.StartLaws.{ArePassedBy, BlocksAreHeld, EntriesAreHeld}
 use Rattle.abs_transfer.proofs.Addresses.{register_number}
-use Rattle.abs_state.proofs.EntryHart.{all_valid, are_passed, code_low, numbers_fit, start_is_entry, start_is_hart, start_pc, zeros_count, zeros_small}
+use Rattle.abs_transfer.proofs.Configurations.{no_config_is}
+use Rattle.abs_state.proofs.EntryHart.{are_passed, code_low, numbers_fit, start_is_entry, start_is_hart, start_pc, zeros_count, zeros_small}
 use Rattle.abs_domain.proofs.StartForms.{budget_below, second_below, found_is}
 use Rattle.abs_domain.proofs.OrderStarts.{block_numbers_hold}
 use Rattle.abs_domain.proofs.StartNumbers.{atoms_many, entry_numbers_hold, number_past}
@@ -102,14 +104,10 @@ blocks-are_held e block m is at fits =
 
 -- ---- entries
 
-vlen_is : (vlen : Vlen) → IsVlenb (vlenb_of vlen)
+pub vlen_is : (vlen : Vlen) → IsVlenb (vlenb_of vlen)
 vlen_is V128 = inl refl
 vlen_is V256 = inr (inl refl)
 vlen_is V512 = inr (inr refl)
-
-none_config : (vlenb : ℕ) → IsConfig vlenb no_config
-unfolding IsConfig vtype_of
-none_config vlenb = refl
 
 entry_atoms : (params : List Param) → length (entry_numbers params).atoms ≡ 41
 unfolding entry_numbers numbers_by
@@ -140,10 +138,10 @@ module _ (e : Setting) (agnostic : Agnostic) (args : List Argument) (image : IsI
 
   proper : IsProper e machine
   proper =
-      let valid = all_valid params certificate.parameters in
+      let valid = valid_all params certificate.parameters in
       record {
         hart = is_hart;
-        vectors = record { vlenb_is = vlen_is e.certificate.vlen; config = none_config (vlenb_in e) };
+        vectors = record { vlenb_is = vlen_is e.certificate.vlen; config = no_config_is (vlenb_in e) };
         registers = record {
           count = zeros_count (32 * vlenb_in e);
           bytes = λ i. zeros_small (32 * vlenb_in e) i 256 (omega arith);

@@ -8,6 +8,7 @@ use Rattle.std.proofs.Math.Nat.{mod-eq_of_lt, mod-lt}
 use Rattle.std.proofs.lemmas.List.{get_or-map, get_or-replicate, length-map, length-replicate}
 use Rattle.std.proofs.lemmas.List.FromFn.{get_or-map-range_with_len, length-map-range_with_len}
 use Rattle.std.proofs.lemmas.Simd.{get_or-zip2, length-zip2}
+use Rattle.std.proofs.lemmas.Bool.{and_parts, eqb-true}
 use lib.Lanes.{zip2}
 use Rattle.linear_facts.specs.declared.ranges.Range.{Range}
 use Rattle.rv_decode.specs.declared.extents.Eew.{Eew}
@@ -37,7 +38,7 @@ use Rattle.abs_state.specs.Held.{IsTrueOf, fact_element}
 use Rattle.abs_domain.specs.Numbers.{NumbersView, value_at}
 use Rattle.abs_domain.specs.Values.{just, up_to}
 use Rattle.abs_state.proofs.Elements.{IsWithin}
-use Rattle.abs_state.proofs.StatedWrites.{AreResults, IsGroup, are_equal, both_true, element_inside}
+use Rattle.abs_state.proofs.StatedWrites.{AreResults, IsGroup, element_inside}
 
 -- What is known before an instruction is true of what it reads.
 pub record IsRead (vlenb : ℕ) (s : Setup) (hart : Hart) (file : List ℕ) (numbers : NumbersView) (facts : List VectorFact)
@@ -153,10 +154,10 @@ fact_of : (vl : Range) (first width registers : ℕ) (fact : VectorFact) → is_
     → IsFactOf first width registers vl.hi fact
 unfolding is_source
 fact_of vl first width registers fact e =
-    let a = both_true _ _ e in
-    let b = both_true _ _ a.0 in
-    let c = both_true _ _ b.0 in
-    record { register = are_equal _ _ c.0; width = are_equal _ _ c.1; registers = are_equal _ _ b.1; count = a.1 }
+    let a = and_parts _ _ e in
+    let b = and_parts _ _ a.0 in
+    let c = and_parts _ _ b.0 in
+    record { register = eqb-true _ _ c.0; width = eqb-true _ _ c.1; registers = eqb-true _ _ b.1; count = a.1 }
 
 min_low : (n : ℕ) → n ≤ 32 → min 32 n ≡ n
 min_low n l = omega (arith, l)

@@ -6,6 +6,7 @@ use Rattle.std.proofs.lemmas.List.{length-replicate, length-take}
 use Rattle.std.proofs.lemmas.List.FromFn.{get_or-map-range_with_len, length-map-range_with_len}
 use Rattle.std.proofs.lemmas.List.Sums.{count_by-le-length}
 use Rattle.std.proofs.lemmas.Simd.{length-zip2}
+use Rattle.std.proofs.lemmas.Bool.{and_parts}
 use mir.Val.{bits}
 use Rattle.linear_facts.specs.declared.ranges.Range.{Range}
 use Rattle.rv_decode.specs.declared.extents.Eew.TheVariants.{Double, Same}
@@ -35,7 +36,6 @@ use Rattle.vreg_groups.specs.declared.vector_type.Vtype.{Vtype}
 use Rattle.vreg_groups.specs.Elements.{active_of, bit_at, mask_bits}
 use Rattle.vreg_groups.specs.Legality.{are_operands_legal, eew_bits, is_legal, is_operand_legal, is_present_legal}
 use Rattle.vreg_groups.specs.Setup.{group_at}
-use Rattle.vreg_groups.specs.VectorLength.{IsConfig}
 use Rattle.rv_decode.specs.Instructions.{bits_of_width}
 use Rattle.vreg_groups.specs.VectorType.{vlmax_of, vtype_of}
 use Rattle.scalar_core.specs.Hart.{Hart}
@@ -62,9 +62,10 @@ use Rattle.abs_domain.specs.Numbers.{NumbersView, value_at}
 use Rattle.abs_state.specs.State.{AbstractView}
 use Rattle.abs_state.specs.VectorLaws.{StatedAreTrue}
 use Rattle.abs_transfer.proofs.Addresses.{register_number}
+use Rattle.abs_transfer.proofs.Configurations.{config_within}
 use Rattle.abs_state.proofs.Elements.{IsWithin, int_element, narrow_element, place_lies}
 use Rattle.abs_state.proofs.StatedOperands.{IsRead, IsSecond, map_lies, map_zip_lies, second_lies, source_lies, zip_lies}
-use Rattle.abs_state.proofs.StatedWrites.{AreResults, IsGroup, both_true, fact_true, legal_group}
+use Rattle.abs_state.proofs.StatedWrites.{AreResults, IsGroup, fact_true, legal_group}
 
 -- ---- operands of a legal instruction
 
@@ -76,9 +77,9 @@ record AreOperands (t : Vtype) (operands : Operands) : Type 0 where
 legal_operands : (t : Vtype) (operands : Operands) → are_operands_legal (Some t) operands ≡ true → AreOperands t operands
 unfolding are_operands_legal
 legal_operands t operands e =
-    let a = both_true _ _ e in
-    let b = both_true _ _ a.0 in
-    let c = both_true _ _ b.0 in
+    let a = and_parts _ _ e in
+    let b = and_parts _ _ a.0 in
+    let c = and_parts _ _ b.0 in
     record { destination = c.0; vs2 = c.1; vs1 = b.1 }
 
 lane_bits : (w : Width) → bits_of_width w ≡ bits (lane_width w)
@@ -300,11 +301,6 @@ type_is : (vtype : Option ℕ) (m : Machine) (t : Vtype) → VtypeHolds vtype m 
 type_is None m t h e = cc
 type_is (Some b) m t h e = ap vtype_of h ∙ e
 
-length_fits : (vlenb : ℕ) (config : Vconfig) (t : Vtype) → vtype_of config.vtype ≡ Some t → IsConfig vlenb config
-    → config.vl ≤ vlmax_of vlenb t
-unfolding IsConfig
-length_fits vlenb config t e h = rw e at h
-
 operands_of : (config : Vconfig) (insn : Insn) (t : Vtype) → vtype_of config.vtype ≡ Some t → is_legal config insn ≡ true
     → AreOperands t (needs_of insn)
 unfolding is_legal
@@ -321,7 +317,7 @@ is_read : (e : Setting) (n : ℕ) (a : AbstractView) (s : Machine) (t : Vtype) �
 is_read e n a s t is h =
     record {
       vlenb_is = h.known.proper.vectors.vlenb_is;
-      fits = length_fits (vlenb_in e) s.vectors.config t is h.known.proper.vectors.config;
+      fits = config_within (vlenb_in e) s.vectors.config t is h.known.proper.vectors.config;
       registers = h.known.proper.registers;
       length = (h.known.known.each 32 (omega arith)).lies.high;
       scalars = λ i l. subst (λ (x : ℕ). LiesIn (value_at a.numbers i).range x) (register_number i s.hart s.vectors.config l)

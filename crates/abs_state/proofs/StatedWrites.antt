@@ -1,11 +1,12 @@
 -- What an unmasked instruction wrote to its destination: each element of the body is its result.
 use Rattle.std.proofs.Common.{◌≡◌, ◌<◌, ◌≤◌, ◌+◌, ◌-◌, ◌*◌, ◌/◌, ◌%◌, ◌^◌, inl, inr, ℕ, Bool, true, false, arith, refl, ◌∙◌, length, get_or, replicate, List, [], ◌∷◌, Option, Some, None, IfSome}
 use Rattle.std.specs.List.{AllByRecursion}
-use Rattle.std.specs.Prelude.{if◌then◌else◌, ◌==◌, ◌&&◌, nat_lt, All}
+use Rattle.std.specs.Prelude.{if◌then◌else◌, ◌==◌, ◌&&◌, All}
 use Rattle.std.proofs.lemmas.Bool.Decides.{nat_tests}
 use Rattle.std.proofs.lemmas.List.{get_or-replicate, get_or_default}
 use Rattle.std.proofs.lemmas.List.Elements.{All-from_get_or}
 use Rattle.std.proofs.Math.Nat.{mul-le-mul_left}
+use Rattle.std.proofs.lemmas.Bool.{and_parts, eqb-true, lt-ltb}
 use Rattle.linear_facts.specs.declared.ranges.Range.{Range}
 use Rattle.rv_decode.specs.declared.instructions.Width.{Width}
 use Rattle.rv_decode.specs.declared.instructions.Width.TheVariants.{W8, W16, W32}
@@ -41,13 +42,6 @@ pub record IsGroup (vlenb bits : ℕ) (group : Span) : Type 0 where
   pub registers : group.first + group.count ≤ 32
   pub room : group.bytes * group.vl ≤ group.count * vlenb
 
-pub both_true : (a b : Bool) → (a && b) ≡ true → (a ≡ true) × (b ≡ true)
-both_true true b e = (refl, e)
-both_true false b e = cc
-
-pub are_equal : (a b : ℕ) → (a == b) ≡ true → a ≡ b
-are_equal a b e = grind (arith, nat_tests)
-
 -- bits that are 8 to 32 are those of a size
 size_of_bits : (sew : Width) (eew : Eew) → is_width (eew_bits sew eew) ≡ true
     → IsSize (eew_bits sew eew / 8) × (256 ^ (eew_bits sew eew / 8) ≡ 2 ^ eew_bits sew eew)
@@ -76,13 +70,13 @@ pub legal_group : (vlenb : ℕ) (s : Setup) (first : ℕ) (eew : Eew) → first 
     → is_group_legal s.vtype eew first ≡ true → IsGroup vlenb (eew_bits s.vtype.sew eew) (group_at s first eew)
 legal_group vlenb s first eew l fits legal =
     let t = s.vtype in
-    let both = both_true _ _ legal in
-    let widths = size_of_bits t.sew eew (both_true _ _ both.0).0 in
+    let both = and_parts _ _ legal in
+    let widths = size_of_bits t.sew eew (and_parts _ _ both.0).0 in
     record {
       size = widths.0;
-      width = width_low (eew_bits t.sew eew) (both_true _ _ both.0).0;
+      width = width_low (eew_bits t.sew eew) (and_parts _ _ both.0).0;
       limit = widths.1;
-      registers = group_ends t eew first l (are_equal (first % group_count t eew) 0 both.1);
+      registers = group_ends t eew first l (eqb-true (first % group_count t eew) 0 both.1);
       room = bytes_fit (eew_bits t.sew eew) s.vl (group_count t eew * vlenb) (group_room t eew vlenb s.vl fits);
     }
 
@@ -102,15 +96,12 @@ pub record AreResults (bits vl : ℕ) (range : Option Range) (results : List ℕ
   pub count : length results ≡ vl
   pub each : (i : ℕ) → i < vl → IfSome range (λ r. IsWithin (2 ^ bits) r (get_or results i 0))
 
-below : (i n : ℕ) → i < n → nat_lt i n ≡ true
-below i n l = grind (arith, nat_tests)
-
 -- where all elements of the body are active, an element becomes its result
 result_is : (policy : Policy) (ones n i old : ℕ) (results : List ℕ) → length results ≡ n → i < n
     → new_element policy ones results (replicate n true) i old ≡ get_or results i 0
 unfolding new_element
 result_is policy ones n i old results len l =
-    rw (below i (length results) (omega (arith, len, l)), get_or-replicate n i true false l)
+    rw (lt-ltb i (length results) (omega (arith, len, l)), get_or-replicate n i true false l)
     (get_or_default results i old 0 (omega (arith, len, l)))
 
 -- element i of the body, after results were written to all of it

@@ -1,8 +1,8 @@
 -- Sums of which each atom is replaced by the form in its place, and forms that are equal.
 use Rattle.std.proofs.Common.{◌≡◌, ◌<◌, ◌≤◌, ◌+◌, ◌↔◌, ℕ, Bool, true, false, arith, refl, sym, ap, ◌∙◌, IsTrue, List, [], ◌∷◌, length, map, drop, get_or}
 use Rattle.std.specs.Prelude.{◌==◌, ◌&&◌}
-use Rattle.std.proofs.lemmas.Bool.Decides.{nat_tests}
 use Rattle.std.proofs.lemmas.List.{get_or-map, length-map}
+use Rattle.std.proofs.lemmas.Bool.{and_parts, eqb-true, eq-eqb}
 use Rattle.linear_facts.specs.declared.forms.Term.{Term}
 use Rattle.linear_facts.specs.Forms.{Linear, form_at, scaled, sum_of, with_replaced}
 use Rattle.linear_facts.proofs.FormLaws.{replaced-more, replaced-done}
@@ -31,17 +31,6 @@ sums_done forms start ts i all l e =
 
 -- ---- equal forms
 
-pub both_true : (a b : Bool) → a && b ≡ true → (a ≡ true) × (b ≡ true)
-both_true true true e = (refl, refl)
-both_true true false e = cc
-both_true false b e = cc
-
-pub same_if : (x y : ℕ) → (x == y) ≡ true → x ≡ y
-same_if x y e = grind (arith, nat_tests)
-
-itself : (x : ℕ) → (x == x) ≡ true
-itself x = grind (arith, nat_tests)
-
 term_is : (t u : Term) → t.atom ≡ u.atom → t.coefficient ≡ u.coefficient → t ≡ u
 term_is t u e f =
     ap (λ (a : ℕ). record { atom = a; coefficient = t.coefficient }) e ∙ ap (λ (k : ℕ). record { atom = u.atom; coefficient = k }) f
@@ -56,26 +45,26 @@ same_terms [] [] e = refl
 same_terms [] (u ∷ us) e = cc
 same_terms (t ∷ ts) [] e = cc
 same_terms (t ∷ ts) (u ∷ us) e =
-    let p = both_true ((t.atom == u.atom) && (t.coefficient == u.coefficient)) (are_same_terms ts us) e in
-    let q = both_true (t.atom == u.atom) (t.coefficient == u.coefficient) p.0 in
-    ap (λ (k : Term). k ∷ ts) (term_is t u (same_if t.atom u.atom q.0) (same_if t.coefficient u.coefficient q.1))
+    let p = and_parts ((t.atom == u.atom) && (t.coefficient == u.coefficient)) (are_same_terms ts us) e in
+    let q = and_parts (t.atom == u.atom) (t.coefficient == u.coefficient) p.0 in
+    ap (λ (k : Term). k ∷ ts) (term_is t u (eqb-true t.atom u.atom q.0) (eqb-true t.coefficient u.coefficient q.1))
     ∙ ap (λ (ks : List Term). u ∷ ks) (same_terms ts us p.1)
 
 -- forms that the test finds equal are equal
 pub same_forms : (f g : Linear) → is_same f g ≡ true → f ≡ g
 unfolding is_same
 same_forms f g e =
-    let p = both_true (f.constant == g.constant) (are_same_terms f.terms g.terms) e in
-    linear_is f g (same_if f.constant g.constant p.0) (same_terms f.terms g.terms p.1)
+    let p = and_parts (f.constant == g.constant) (are_same_terms f.terms g.terms) e in
+    linear_is f g (eqb-true f.constant g.constant p.0) (same_terms f.terms g.terms p.1)
 
 own_terms : (ts : List Term) → are_same_terms ts ts ≡ true
 unfolding are_same_terms
 own_terms [] = refl
-own_terms (t ∷ ts) = rw (itself t.atom, itself t.coefficient) (own_terms ts)
+own_terms (t ∷ ts) = rw (eq-eqb t.atom t.atom refl, eq-eqb t.coefficient t.coefficient refl) (own_terms ts)
 
-own_form : (f : Linear) → is_same f f ≡ true
+pub own_form : (f : Linear) → is_same f f ≡ true
 unfolding is_same
-own_form f = rw (itself f.constant) (own_terms f.terms)
+own_form f = rw (eq-eqb f.constant f.constant refl) (own_terms f.terms)
 
 -- a test that is true exactly where two forms are equal is the one that compares them term by term
 pub same_is : (b : Bool) (f g : Linear) → (IsTrue b ↔ (f ≡ g)) → b ≡ is_same f g

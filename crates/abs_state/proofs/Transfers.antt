@@ -1,11 +1,9 @@
 -- Vector loads and stores that pass their test are permitted, and stores keep of memory what a step has to keep.
-use Rattle.std.proofs.Common.{◌≡◌, ◌∙◌, ◌<◌, ◌≤◌, ◌+◌, ◌-◌, ◌*◌, ◌/◌, ◌%◌, ◌^◌, ℕ, zero, suc, Bool, true, false, cond, arith, refl, sym, ap, subst, lit<, List, [], ◌∷◌, length, map, find, Option, Some, None, IfSome, Ok, Err}
+use Rattle.std.proofs.Common.{◌≡◌, ◌∙◌, ◌<◌, ◌≤◌, ◌+◌, ◌-◌, ◌*◌, ◌/◌, ◌%◌, ◌^◌, ℕ, zero, suc, Bool, true, false, cond, arith, refl, sym, ap, subst, lit<, List, ◌∷◌, length, map, find, Option, Some, None, IfSome, Ok, Err}
 use Rattle.std.specs.Prelude.{if◌then◌else◌, ◌==◌, ◌&&◌, not, nat_lt, filter, get_or, slice_index, slice_index_or, MatchOption, Result}
 use Rattle.std.specs.List.{AllByRecursion, range_with_len}
 use Rattle.std.proofs.Math.Nat.{mul-div-le}
 use Rattle.std.proofs.lemmas.Bool.Decides.{nat_tests}
-use Rattle.std.proofs.lemmas.List.{length-replicate}
-use Rattle.std.proofs.lemmas.List.FromFn.{length-map-range_with_len}
 use Rattle.rv_decode.specs.declared.extents.Eew.TheVariants.{Fixed}
 use Rattle.rv_decode.specs.declared.instructions.Count.{Count}
 use Rattle.rv_decode.specs.declared.instructions.Direction.{Direction}
@@ -23,7 +21,7 @@ use Rattle.vreg_groups.specs.declared.policies.Agnostic.{Agnostic}
 use Rattle.vreg_groups.specs.declared.setup.Setup.{Setup}
 use Rattle.vreg_groups.specs.declared.vector_length.Vconfig.{Vconfig}
 use Rattle.vreg_groups.specs.declared.vector_type.Vtype.{Vtype}
-use Rattle.vreg_groups.specs.Elements.{active_of, mask_bits}
+use Rattle.vreg_groups.specs.Elements.{active_of}
 use Rattle.vreg_groups.specs.Group.{body_of}
 use Rattle.vreg_groups.specs.Legality.{are_operands_legal, is_legal, is_operand_legal, whole_count}
 use Rattle.vreg_groups.specs.Setup.{group_at}
@@ -33,6 +31,7 @@ use Rattle.vreg_groups.specs.VectorType.{type_in, vill, vlmax_of, vtype_of}
 use Rattle.vector_mem.specs.declared.plan.Access.{Access}
 use Rattle.vector_mem.specs.Accesses.{access_at, accesses, first_refused, is_refused}
 use Rattle.vector_mem.specs.Transfers.{accesses_of, data_at, is_masked, place_at, right_of}
+use Rattle.vector_mem.proofs.Plans.{active_length}
 use Rattle.scalar_core.specs.Hart.{Hart, reg_of}
 use Rattle.vector_core.specs.LoadsStores.{stride_of}
 use Rattle.vector_core.specs.Setup.{setup_of}
@@ -107,11 +106,6 @@ unfolding first_refused accesses
 no_elements right size place active m none =
     none_from (is_refused m) (access_at right size place) (λ k. slice_index_or active k false) 0 (length active)
     (λ k l g. absurd (omega (arith, g, none)))
-
-active_length : (vlenb n : ℕ) (masked : Bool) (file : List ℕ) → length (active_of vlenb masked n file) ≡ n
-unfolding active_of mask_bits
-active_length vlenb n true file = length-map-range_with_len _ 0 n
-active_length vlenb n false file = length-replicate n true
 
 -- ---- the test
 
