@@ -1,10 +1,10 @@
 -- The accesses of a loop lie in their buffers.
-use Rattle.std.proofs.Common.{◌≡◌, ℕ, ◌+◌, ◌-◌, ◌*◌, ◌^◌, ◌<◌, ◌≤◌, zero, suc, Bool, true, false, refl, ap, ◌∙◌, subst, arith, Some, List, [], ◌∷◌, ◌++◌, map, min, max}
-use Rattle.std.specs.Prelude.{◌&&◌, ◌||◌, nat_le, nat_lt, unwrap_or}
+use Rattle.std.proofs.Common.{◌≡◌, ℕ, ◌+◌, ◌-◌, ◌*◌, ◌^◌, ◌<◌, ◌≤◌, zero, suc, Bool, true, refl, ap, ◌∙◌, subst, arith, Some, List, [], ◌∷◌, ◌++◌, map, min, max}
+use Rattle.std.specs.Prelude.{◌&&◌, unwrap_or}
 use Rattle.std.specs.List.{list_any, slice_get}
 use Rattle.std.specs.Option.{option_to_list}
-use Rattle.std.proofs.lemmas.Bool.Decides.{nat_tests}
 use Rattle.std.proofs.lemmas.List.Folds.{list_any-append}
+use Rattle.std.proofs.lemmas.Bool.{or_right, le-leb, lt-ltb}
 use Rattle.linear_facts.specs.declared.ranges.Range.{Range}
 use Rattle.linear_facts.specs.declared.forms.Term.{Term}
 use Rattle.linear_facts.specs.Forms.{Linear, merged, scaled, sum_of, number_form, atom_form, within}
@@ -23,8 +23,9 @@ use Rattle.abs_domain.specs.Zones.{zones_of, is_inside, spans, zone_right, buffe
 use Rattle.elf_image.specs.Image.{ImageView}
 use Rattle.abs_transfer.specs.Accesses.{unit_reach, sum_form, sharpened, met_with_form}
 use Rattle.linear_facts.specs.LoopForms.{term, IsSize, pointer_form, moved_form}
+use Rattle.linear_facts.proofs.FormLaws.{merged-left}
 use Rattle.cert_maker.specs.Laws.{ReachesEnd}
-use Rattle.cert_maker.proofs.Equalities.{sum_parts, scaled_atom, merged_empty}
+use Rattle.cert_maker.proofs.Equalities.{sum_parts, scaled_atom}
 
 -- ---- forms
 
@@ -34,7 +35,7 @@ pub behind : (n e v a b c : ℕ) → n < v → e < v
 behind n e v a b c l g =
     merged-less (term n a) (term v c) (term e b ∷ []) [] l
     ∙ ap (λ (ts : List Term). term n a ∷ ts) (merged-less (term e b) (term v c) [] [] g
-    ∙ ap (λ (ts : List Term). term e b ∷ ts) (merged_empty (term v c ∷ [])))
+    ∙ ap (λ (ts : List Term). term e b ∷ ts) (merged-left (term v c ∷ [])))
 
 plus_zero : (base : ℕ) (ts : List Term) → base < 2 ^ 32
     → sum_of (record { constant = base; terms = ts }) (number_form 0) ≡ record { constant = base; terms = ts }
@@ -58,17 +59,11 @@ reach_form base w n e v size small l g =
 
 -- ---- ranges
 
-pub le_true : (a b : ℕ) → a ≤ b → nat_le a b ≡ true
-le_true a b l = grind (arith, nat_tests)
-
-pub lt_true : (a b : ℕ) → a < b → nat_lt a b ≡ true
-lt_true a b l = grind (arith, nat_tests)
-
 -- where an interval and a form's range meet, the lesser upper end counts
 pub met_high : (lo hi p q : ℕ) → max lo p ≤ min hi q
     → computed_range (Some record { lo = lo; hi = hi }) (Some record { lo = p; hi = q }) ≡ record { lo = max lo p; hi = min hi q }
 unfolding computed_range
-met_high lo hi p q l = rw (le_true (max lo p) (min hi q) l) refl
+met_high lo hi p q l = rw (le-leb (max lo p) (min hi q) l) refl
 
 -- what is known of the numbers of an access
 pub record IsThere (s : NumbersView) (base w n e v N m p : ℕ) (x vl : ValueView) : Type 0 where
@@ -93,7 +88,7 @@ module _ (s : NumbersView) (base w n e v N m p : ℕ) (x vl : ValueView) (is : I
   met = rw is.moved (met_high (base + w * 1) (base + w * N - w + w * m) p (base + w * N) (omega (arith, a, b, is.low)))
 
   fitted : fitting 32 (base + w * 1) (base + w * N - w + w * m) ≡ Some record { lo = base + w * 1; hi = base + w * N - w + w * m }
-  fitted = rw (lt_true (base + w * 1) (2 ^ 32) (omega (arith, a, b, is.fits)), lt_true (base + w * N - w + w * m) (2 ^ 32) (omega (arith, a, b, is.fits))) refl
+  fitted = rw (lt-ltb (base + w * 1) (2 ^ 32) (omega (arith, a, b, is.fits)), lt-ltb (base + w * N - w + w * m) (2 ^ 32) (omega (arith, a, b, is.fits))) refl
 
   -- the elements of an access end within the buffer
   pub reach_is : unit_reach s w x vl ≡ record { first = base; end = min (base + w * N - w + w * m) (base + w * N) }
@@ -124,10 +119,6 @@ module _ (params : List Param) (p : Zone → Bool) where
       list_any-append p (option_to_list (buffer_zone params from x)) (buffer_zones params (from + 1) rest)
       ∙ or_right (list_any p (option_to_list (buffer_zone params from x))) _
       (any_buffer (from + 1) place rest zone param e (subst (λ (k : ℕ). buffer_zone params k param ≡ Some zone) there f) h)
-    where
-      or_right : (a b : Bool) → b ≡ true → (a || b) ≡ true
-      or_right true b e = refl
-      or_right false b e = e
 
 -- the buffer at a place has room from its address on, and may be read, and written where its mode says so
 pub buffer_inside : (image : ImageView) (params : List Param) (right : Right) (place base end size : ℕ) (access : Mode)
@@ -142,10 +133,6 @@ buffer_inside image params right place base end size access e at le may =
     ∙ or_right (list_any p (map segment_zone image.segments ++ stack_zone ∷ [])) _
     (any_buffer params p 0 place params zone (parameter.Buffer access size) e zone_is inside)
   where
-    or_right : (a b : Bool) → b ≡ true → (a || b) ≡ true
-    or_right true b e = refl
-    or_right false b e = e
-
     of : ℕ → Zone
     of first = record { first = first; end = first + size; read = true; write = may_write access }
 
@@ -155,7 +142,7 @@ buffer_inside image params right place base end size access e at le may =
         subst (λ (k : ℕ). Some (of (unwrap_or (address_of k params) 0)) ≡ Some (of base)) there (rw at refl)
 
     inside : (spans base end (of base) && zone_right right (of base)) ≡ true
-    inside = rw (le_true base base (omega arith), le_true end (base + size) le, may) refl
+    inside = rw (le-leb base base (omega arith), le-leb end (base + size) le, may) refl
 
 pub reaches-end : ReachesEnd
 reaches-end = λ image params right place base end size access e at le may. buffer_inside image params right place base end size access e at le may

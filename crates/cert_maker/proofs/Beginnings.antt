@@ -3,6 +3,7 @@ use Rattle.std.proofs.Common.{◌≡◌, ◌≢◌, ℕ, ◌+◌, ◌-◌, ◌<�
 use Rattle.std.specs.List.{slice_get}
 use Rattle.std.specs.Option.{option_and_then}
 use Rattle.std.proofs.lemmas.List.FromFn.{length-map-range_with_len}
+use Rattle.std.proofs.lemmas.Bool.{eq-eqb, ne_eqb}
 use Rattle.linear_facts.specs.declared.ranges.Range.{Range}
 use Rattle.linear_facts.specs.declared.ranges.Atom.{Atom}
 use Rattle.linear_facts.specs.Forms.{Linear, number_form}
@@ -21,15 +22,9 @@ use Rattle.cert_maker.specs.Certificates.{facts_by, stated_by}
 use Rattle.cert_maker.specs.Known.{known, is_pointer}
 use Rattle.cert_maker.specs.Laws.{FactsByPlace}
 use Rattle.cert_maker.proofs.Accesses.{met_high}
-use Rattle.cert_maker.proofs.Ending.{is_same, not_same}
 use Rattle.cert_maker.proofs.Facts.{facts-are}
 use Rattle.cert_maker.proofs.Returns.{computed_just}
-
-abbrev pub span : ℕ → ℕ → Range
-span lo hi = record { lo = lo; hi = hi }
-
-pub spans_same : (a b c d : ℕ) → a ≡ c → b ≡ d → span a b ≡ span c d
-spans_same a b c d e f = rw (e, f) refl
+use Rattle.cert_maker.proofs.Going.{span, spans_same}
 
 -- where a range meets a part of it that part is left
 pub part_met : (lo hi p q : ℕ) → lo ≤ p → p ≤ q → q ≤ hi → computed_range (Some (span lo hi)) (Some (span p q)) ≡ span p q
@@ -103,23 +98,23 @@ module _ (params : List Param) (stated : ℕ → Option RegisterFact) where
     pub range_stated : (place : ℕ) → place < 8 → stated_range (facts_by stated) (place + 10) ≡ interval_of (stated place)
     unfolding stated_range
     range_stated place l =
-        rw (not_same (place + 10) 0 (λ e. omega (arith, e))) (ap (λ (o : Option RegisterFact). interval_of o) ((facts-are stated numbers).place place l))
+        rw (ne_eqb (place + 10) 0 (λ e. omega (arith, e))) (ap (λ (o : Option RegisterFact). interval_of o) ((facts-are stated numbers).place place l))
 
     pub form_stated : (place : ℕ) → place < 8
         → stated_form (facts_by stated) (place + 10) ≡ form_or_atom (place + 10) (option_and_then (λ f. f.equality) (stated place))
     unfolding stated_form
     form_stated place l =
-        rw (not_same (place + 10) 0 (λ e. omega (arith, e)))
+        rw (ne_eqb (place + 10) 0 (λ e. omega (arith, e)))
         (ap (λ (o : Option RegisterFact). form_or_atom (place + 10) (option_and_then (λ f. f.equality) o)) ((facts-are stated numbers).place place l))
 
 -- ---- what is stated of the count and of pointers
 
 module _ (loop : Loop) (of_count : RegisterFact) (of_pointer : ℕ → RegisterFact) where
   pub count_stated : (place : ℕ) → place + 10 ≡ loop.count → stated_by loop of_count of_pointer place ≡ Some of_count
-  count_stated place e = rw (is_same (place + 10) loop.count e) refl
+  count_stated place e = rw (eq-eqb (place + 10) loop.count e) refl
 
   pub pointer_stated : (place : ℕ) → place + 10 ≢ loop.count → is_pointer loop place ≡ true → stated_by loop of_count of_pointer place ≡ Some (of_pointer place)
-  pointer_stated place ne p = rw (not_same (place + 10) loop.count ne, p) refl
+  pointer_stated place ne p = rw (ne_eqb (place + 10) loop.count ne, p) refl
 
 pub scalar_range : (params : List Param) (place e lo hi : ℕ) → slice_get params place ≡ Some (parameter.Scalar lo hi) → e - 33 ≡ place
     → passed_range (slice_get params (e - 33)) ≡ span lo hi

@@ -1,6 +1,7 @@
 -- Through the vector instructions of a loop what is known of numbers stays.
-use Rattle.std.proofs.Common.{◌≡◌, ℕ, ◌+◌, Bool, true, false, refl, sym, ◌∙◌, Option, Some}
-use Rattle.std.specs.Prelude.{Ok, ◌&&◌}
+use Rattle.std.proofs.Common.{◌≡◌, ℕ, ◌+◌, true, false, refl, sym, ◌∙◌, Option, Some}
+use Rattle.std.proofs.lemmas.Bool.{and_parts}
+use Rattle.std.specs.Prelude.{Ok}
 use Rattle.rv_decode.specs.Needs.{needs_of, needs_of_mask, needs_of_move}
 use Rattle.rv_decode.specs.declared.instructions.Insn.{Insn}
 use Rattle.rv_decode.specs.declared.instructions.Insn.TheVariants.{Scalar, Csr, VSet, VArith, VMask, VPerm, VReduce, VMem, VMove}
@@ -17,11 +18,6 @@ use Rattle.abs_transfer.specs.Facts.{groups_after}
 use Rattle.abs_state.specs.After.{after_of, vector_after, passed, next_word, mask_numbers, move_numbers, vector_numbers, access_check}
 use Rattle.cert_maker.specs.Loops.{is_arithmetic, is_vector_class}
 use Rattle.cert_maker.specs.Laws.{Goes, BodyKeeps}
-
-pub both_true : (a b : Bool) → (a && b) ≡ true → (a ≡ true) × (b ≡ true)
-both_true true true e = (refl, refl)
-both_true true false e = cc
-both_true false b e = cc
 
 -- ---- legality
 
@@ -82,7 +78,7 @@ move_stays (Whole count vd vs2) s e = refl
 
 pub not_arithmetic : {A : Type 0} (insn : Insn) → is_vector_class insn ≡ false → is_arithmetic insn ≡ true → A
 unfolding is_arithmetic
-not_arithmetic insn e f = absurd (clash (sym e ∙ (both_true _ _ (both_true _ _ (both_true _ _ f).0).0).0))
+not_arithmetic insn e f = absurd (clash (sym e ∙ (and_parts _ _ (and_parts _ _ (and_parts _ _ f).0).0).0))
   where
     clash : false ≡ true → ⊥
     clash h = cc

@@ -1,7 +1,7 @@
 -- What is made of a loop passes the check.
 use Rattle.std.proofs.Common.{◌≡◌, ◌≢◌, ℕ, ◌+◌, ◌*◌, ◌<◌, ◌≤◌, inl, inr, refl, sym, ap, ◌∙◌, subst, arith, Some, None, List, [], ◌∷◌}
 use Rattle.std.specs.Prelude.{ℤ, Ok}
-use Rattle.std.proofs.lemmas.Bool.{cases_eq}
+use Rattle.std.proofs.lemmas.Bool.{cases_eq, eq-eqb, ne_eqb}
 use Rattle.elf_image.specs.Image.{ImageView, IsImage}
 use Rattle.rv_decode.specs.declared.instructions.Condition.TheVariants.{Eq}
 use Rattle.rv_decode.specs.declared.instructions.Insn.{Insn}
@@ -32,7 +32,7 @@ use Rattle.cert_maker.specs.Known.{Round, IsCertified}
 use Rattle.cert_maker.specs.Laws.{CertificatesPass}
 use Rattle.cert_maker.specs.Make.{AreParameters}
 use Rattle.cert_maker.proofs.CodePlaces.{insn_low}
-use Rattle.cert_maker.proofs.Ending.{is_same, not_same, passes_both}
+use Rattle.cert_maker.proofs.Ending.{passes_both}
 use Rattle.cert_maker.proofs.Entrances.{block_entry, run_entry}
 use Rattle.cert_maker.proofs.Entries.{AreThere, IsFirst, branch_passes, way_in_passes}
 use Rattle.cert_maker.proofs.IsCertificateLemmas.{view_of}
@@ -45,11 +45,11 @@ use Rattle.cert_maker.proofs.Returns.{returns-pass}
 
 found : (address : ℕ) (b : Block) (blocks : List Block) → b.start ≡ address → block_at address (b ∷ blocks) ≡ Some b
 unfolding block_at
-found address b blocks e = rw (is_same b.start address e) refl
+found address b blocks e = rw (eq-eqb b.start address e) refl
 
 past : (address : ℕ) (b : Block) (blocks : List Block) → b.start ≢ address → block_at address (b ∷ blocks) ≡ block_at address blocks
 unfolding block_at
-past address b blocks ne = rw (not_same b.start address ne) refl
+past address b blocks ne = rw (ne_eqb b.start address ne) refl
 
 no_block : (address : ℕ) → block_at address [] ≡ None
 unfolding block_at
@@ -120,7 +120,7 @@ entered_there k is vlen blocks ne at =
 all_checked : (image : ImageView) (vlen : Vlen) (params : List Param) (blocks : List Block) → entry_passes image (view_of vlen params blocks) ≡ Ok tt
     → blocks_pass image (view_of vlen params blocks) blocks ≡ Ok tt → checked image (view_of vlen params blocks) vlen ≡ Ok tt
 unfolding checked
-all_checked image vlen params blocks e f = rw (is_same (vlenb_of vlen) (vlenb_of vlen) refl) (passes_both _ _ e f)
+all_checked image vlen params blocks e f = rw (eq-eqb (vlenb_of vlen) (vlenb_of vlen) refl) (passes_both _ _ e f)
 
 -- ---- a loop that was read
 
@@ -269,7 +269,7 @@ module _ (image : ImageView) (params : List Param) (vlen : Vlen) (through : Loop
 
     three_are : certificate_of image params vlen through.0 words ≡ view_of vlen params three
     unfolding certificate_of three first_block_of loop_block_of last_block_of
-    three_are = rw (not_same through.0.most 0 (λ e. omega (arith, e, some))) refl
+    three_are = rw (ne_eqb through.0.most 0 (λ e. omega (arith, e, some))) refl
 
     pub some_pass : checked image (certificate_of image params vlen through.0 words) vlen ≡ Ok tt
     some_pass = pass three three_are first_found blocks_go
@@ -301,7 +301,7 @@ module _ (image : ImageView) (params : List Param) (vlen : Vlen) (through : Loop
 
     two_are : certificate_of image params vlen through.0 words ≡ view_of vlen params two
     unfolding certificate_of two first_block_of last_block_of
-    two_are = rw (is_same through.0.most 0 none) refl
+    two_are = rw (eq-eqb through.0.most 0 none) refl
 
     pub none_pass : checked image (certificate_of image params vlen through.0 words) vlen ≡ Ok tt
     none_pass = pass two two_are first_of_two two_go

@@ -1,5 +1,6 @@
 -- Only the branch back ends the reading of a loop, and its edges pass.
 use Rattle.std.proofs.Common.{◌≡◌, ℕ, ◌+◌, ◌-◌, ◌*◌, ◌/◌, ◌%◌, ◌^◌, ◌<◌, Bool, true, false, refl, sym, subst, arith, Option, Some, None, List}
+use Rattle.std.proofs.lemmas.Bool.{and_parts, eqb-true}
 use Rattle.std.specs.Prelude.{ℤ, Ok, if◌then◌else◌, slice_set}
 use Rattle.rv_decode.specs.declared.instructions.Condition.TheVariants.{Ne}
 use Rattle.rv_decode.specs.declared.instructions.Insn.{Insn}
@@ -23,8 +24,7 @@ use Rattle.cert_maker.specs.declared.loops.Reading.TheVariants.{Works, Moves, Ba
 use Rattle.cert_maker.specs.Loops.{is_arithmetic, with_pointer, moved_by, shift_of, step_by, works_on, back_by, next_of}
 use Rattle.cert_maker.specs.Known.{Round, IsRound, IsCertified, InBack, IsWithin}
 use Rattle.cert_maker.specs.Laws.{RoundsEnd}
-use Rattle.cert_maker.proofs.Bodies.{both_true}
-use Rattle.cert_maker.proofs.Going.{test_of, same_number}
+use Rattle.cert_maker.proofs.Going.{test_of}
 use Rattle.cert_maker.proofs.Ending.{edges_ok}
 
 -- ---- no other word ends it
@@ -92,14 +92,14 @@ module _ (certificate : CertificateView) (k : Round) (is : IsRound k) (c : IsCer
   unfolding back_by
   back_ends (Scalar (Branch Ne rs1 rs2 offset)) e =
       let read = test_of _ (Through k.loop) (Through k.loop) e in
-      let first = both_true _ _ read.0 in
-      let second = both_true _ _ first.0 in
-      let third = both_true _ _ second.0 in
-      let left : k.loop.count ≡ rs1 = sym (same_number rs1 k.loop.count third.0) in
-      let right : 0 ≡ rs2 = sym (same_number rs2 0 third.1) in
+      let first = and_parts _ _ read.0 in
+      let second = and_parts _ _ first.0 in
+      let third = and_parts _ _ second.0 in
+      let left : k.loop.count ≡ rs1 = sym (eqb-true rs1 k.loop.count third.0) in
+      let right : 0 ≡ rs2 = sym (eqb-true rs2 0 third.1) in
       subst (λ (x : ℕ). Ends certificate pc (Scalar (Branch Ne x rs2 offset)) a) left
       (subst (λ (x : ℕ). Ends certificate pc (Scalar (Branch Ne k.loop.count x offset)) a) right
-      (branch_ends offset (same_number _ _ second.1) (same_number _ _ first.1)))
+      (branch_ends offset (eqb-true _ _ second.1) (eqb-true _ _ first.1)))
   back_ends other e = cc
 
 pub rounds-end : RoundsEnd

@@ -3,23 +3,19 @@ use Rattle.std.proofs.Common.{◌≡◌, ℕ, ◌+◌, ◌≤◌, inl, inr, Bool
 use Rattle.std.specs.Prelude.{find, if◌then◌else◌, ◌&&◌, nat_le}
 use Rattle.std.specs.List.{AllByRecursion}
 use Rattle.std.specs.Option.{option_map}
-use Rattle.std.proofs.lemmas.Bool.Decides.{nat_tests}
+use Rattle.std.proofs.lemmas.Bool.{leb-true, and_parts}
 use Rattle.elf_image.specs.Image.{ImageView, SegmentView, IsImage, IsInPlace, IsSegment, code_at, holds_code, word_in}
 use Rattle.rv_decode.specs.declared.instructions.Insn.{Insn}
 use Rattle.cert_maker.specs.Loops.{insn_at}
-use Rattle.cert_maker.proofs.Bodies.{both_true}
 use Rattle.cert_maker.proofs.LoopWalks.{code_of}
-
-at_most : (a b : ℕ) → nat_le a b ≡ true → a ≤ b
-at_most a b e = grind (arith, nat_tests)
 
 segment_low : (s : SegmentView) (pc : ℕ) → IsSegment s → holds_code pc s ≡ true → pc + 4 ≤ 3221225472
 segment_low s pc is e = by_place is.in_place
   where
     inside : pc + 4 ≤ s.address + s.memory_size
     inside =
-        at_most (pc + 4) (s.address + s.memory_size)
-        (both_true (s.execute && nat_le s.address pc) (nat_le (pc + 4) (s.address + s.memory_size)) e).1
+        leb-true (pc + 4) (s.address + s.memory_size)
+        (and_parts (s.execute && nat_le s.address pc) (nat_le (pc + 4) (s.address + s.memory_size)) e).1
 
     by_place : IsInPlace s.address s.memory_size → pc + 4 ≤ 3221225472
     by_place (inl low) = omega (arith, inside, low.1)

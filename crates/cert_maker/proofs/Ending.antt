@@ -1,13 +1,10 @@
 -- Where a round ends, the edges of its branch pass.
-use Rattle.std.proofs.Common.{◌≡◌, ◌≢◌, ℕ, ◌+◌, ◌-◌, ◌*◌, ◌/◌, ◌^◌, ◌<◌, ◌≤◌, ◌⊎◌, inl, inr, Bool, true, false, refl, sym, ap, ◌∙◌, subst, arith, Option, Some, None, IfSome, List, length, min}
+use Rattle.std.proofs.Common.{◌≡◌, ◌≢◌, ℕ, ◌+◌, ◌-◌, ◌*◌, ◌/◌, ◌^◌, ◌<◌, ◌≤◌, ◌⊎◌, inl, inr, Bool, true, false, refl, sym, ap, ◌∙◌, subst, arith, Option, Some, None, IfSome, List, length, min, le_refl}
 use Rattle.std.proofs.Common.{get_or-set_same, get_or-set_other}
-use Rattle.std.proofs.Math.ListN.{get_or-eq_default}
-use Rattle.std.proofs.lemmas.List.{get_or_default}
-use Rattle.std.specs.Prelude.{ℤ, Ok, ◌==◌, ◌||◌, slice_set, slice_index_or}
-use Rattle.std.proofs.lemmas.Bool.{cases_eq}
-use Rattle.std.proofs.lemmas.Bool.Decides.{nat_tests}
+use Rattle.std.specs.Prelude.{ℤ, Ok, slice_set, slice_index_or}
+use Rattle.std.proofs.lemmas.Bool.{cases_eq, eq-eqb, ne_eqb, le-leb, or_left, or_right}
 use Rattle.linear_facts.specs.declared.ranges.Range.{Range}
-use Rattle.linear_facts.specs.Forms.{atom_form, number_form, form_at}
+use Rattle.linear_facts.specs.Forms.{number_form}
 use Rattle.linear_facts.specs.LoopForms.{left_form}
 use Rattle.linear_facts.proofs.LoopRanges.{round-paid}
 use Rattle.rv_decode.specs.declared.instructions.Condition.TheVariants.{Ne}
@@ -25,27 +22,15 @@ use Rattle.abs_state.specs.After.{taken, next_word}
 use Rattle.abs_state.specs.Branches.{EdgeView, refined, edge_by, branch_edge, related_edge, relation_of, related_ranges, apart_from, without_end, edge_in, changes_of, value_on}
 use Rattle.abs_domain.specs.Numbers.{whole_atom}
 use Rattle.abs_state.specs.Edges.{is_interval_shown, is_equality_shown, is_paid_for, pays, is_paid, least_of, most_of, own_total, next_total}
+use Rattle.abs_state.proofs.Payments.{form_there, form_past}
 use Rattle.block_checker.specs.Passes.{Checked, both, edges_pass, possible_passes, edge_passes, is_branch, is_branch_insn}
 use Rattle.cert_maker.specs.declared.loops.Loop.{Loop}
 use Rattle.cert_maker.specs.Loops.{size_of}
 use Rattle.cert_maker.specs.Certificates.{fact, budget, base_of, stated_by, loop_count, loop_pointer}
 use Rattle.cert_maker.specs.Known.{Round, IsRound, IsCertified, InBack, IsWithin, known, atom_of, is_pointer}
-use Rattle.cert_maker.proofs.Accesses.{le_true}
-use Rattle.cert_maker.proofs.Going.{count_other}
+use Rattle.cert_maker.proofs.Going.{count_other, span}
 use Rattle.cert_maker.proofs.Moves.{pointers-return}
 use Rattle.cert_maker.proofs.Shown.{Shows, block_shown, exit_shown, interval_shown, if_stated, edge_ok}
-
-abbrev span : ℕ → ℕ → Range
-span lo hi = record { lo = lo; hi = hi }
-
-pub not_same : (a b : ℕ) → a ≢ b → (a == b) ≡ false
-not_same a b ne = grind (arith, nat_tests)
-
-pub is_same : (a b : ℕ) → a ≡ b → (a == b) ≡ true
-is_same a b e = grind (arith, nat_tests)
-
-pub le_self : (a : ℕ) → a ≤ a
-le_self a = omega arith
 
 pub least_zero : (r : ℕ) → min r 0 ≡ 0
 least_zero r = omega arith
@@ -71,19 +56,19 @@ module _ (b : AbstractView) (n there next : ℕ) (nonzero : n ≢ 0) (way : b.wa
 
   none_taken : value_at b.numbers n ≡ known (left_form n 41) 0 0 → refined true b ≡ None
   unfolding refined edge_by branch_edge related_edge relation_of related_ranges apart_from without_end
-  none_taken count = rw (way, not_same n 0 nonzero, count, zero_is) refl
+  none_taken count = rw (way, ne_eqb n 0 nonzero, count, zero_is) refl
 
   some_taken : (r : ℕ) → r ≢ 0 → value_at b.numbers n ≡ known (left_form n 41) 0 r → refined true b ≡ Some (edge_of true there (span 1 r))
   unfolding refined edge_by branch_edge related_edge relation_of related_ranges apart_from without_end edge_in changes_of whole_atom
   some_taken r some count =
       rw (
         way,
-        not_same n 0 nonzero,
+        ne_eqb n 0 nonzero,
         count,
         zero_is,
-        not_same r 0 some,
-        not_same 0 r (λ e. some (sym e)),
-        le_true 1 r (omega (arith, some)),
+        ne_eqb r 0 some,
+        ne_eqb 0 r (λ e. some (sym e)),
+        le-leb 1 r (omega (arith, some)),
         count,
         zero_is,
       ) refl
@@ -97,7 +82,7 @@ module _ (b : AbstractView) (n there next : ℕ) (nonzero : n ≢ 0) (way : b.wa
 
   pub other_edge : (r : ℕ) → value_at b.numbers n ≡ known (left_form n 41) 0 r → refined false b ≡ Some (edge_of false next (span 0 0))
   unfolding refined edge_by branch_edge related_edge relation_of related_ranges edge_in changes_of whole_atom
-  other_edge r count = rw (way, not_same n 0 nonzero, count, zero_is, least_zero r, count, zero_is) refl
+  other_edge r count = rw (way, ne_eqb n 0 nonzero, count, zero_is, least_zero r, count, zero_is) refl
 
 -- what registers' ranges are on an edge
 pub range_there : (s : NumbersView) (n i : ℕ) (p q : Range) → i ≢ 0 → i ≢ n
@@ -108,22 +93,6 @@ range_there s n i p q nz ne = get_or-set_other (slice_set s.ranges n p) 0 i q (j
 pub range_here : (s : NumbersView) (n : ℕ) (p q : Range) → n ≢ 0 → n < length s.ranges
     → slice_index_or (slice_set (slice_set s.ranges n p) 0 q) n (just 0) ≡ p
 range_here s n p q nz l = get_or-set_other (slice_set s.ranges n p) 0 n q (just 0) nz ∙ get_or-set_same s.ranges n p (just 0) l
-
-pub form_here : (s : NumbersView) (n : ℕ) → n < length s.forms → form_at s.forms n ≡ (value_at s n).form
-unfolding form_at value_at
-form_here s n l = get_or_default s.forms n (atom_form n) (number_form 0) l
-
-pub form_past : (s : NumbersView) (n : ℕ) → length s.forms ≤ n → form_at s.forms n ≡ atom_form n
-unfolding form_at
-form_past s n l = get_or-eq_default s.forms (atom_form n) l
-
-pub or_right : (a b : Bool) → b ≡ true → (a || b) ≡ true
-or_right true b e = refl
-or_right false b e = e
-
-pub or_left : (a b : Bool) → a ≡ true → (a || b) ≡ true
-or_left true b e = refl
-or_left false b e = cc
 
 least_is : (words : ℕ) (p q : ValueView) → p.range.lo ≡ 1 → 1 + words * p.range.lo + 0 * q.range.lo ≡ 1 + words
 least_is words p q e = rw e (omega arith)
@@ -193,7 +162,7 @@ module _ (k : Round) (is : IsRound k) (pc : ℕ) (a : AbstractView) (inside : Is
         range_there a.numbers n (place + 10) (span 1 (k.loop.most - k.limit)) (span 0 0) (λ e. omega (arith, e)) (other place l p) in
         pointers-return back (base_of k.params place) (size_of k.loop) n (atom_of k.loop) 41 k.loop.most (place + 10) is.size (fits (base_of k.params place) (size_of k.loop * k.loop.most) room.high)
         h.atoms.loop.first h.atoms.loop.second was.form
-        (form_here a.numbers n (let high = is.count_high in let m = h.atoms.forms in omega (arith, high, m)) ∙ ap (λ (v : ValueView). v.form) h.count)
+        (form_there a.numbers n (let high = is.count_high in let m = h.atoms.forms in omega (arith, high, m)) ∙ ap (λ (v : ValueView). v.form) h.count)
         (form_past a.numbers (atom_of k.loop) (let low = is.count_low in let m = h.atoms.forms in omega (arith, low, m)))
         (subst (λ (r : Range). base_of k.params place ≤ r.lo) (sym at) was.low)
         (subst (λ (r : Range). r.hi ≤ base_of k.params place + size_of k.loop * k.loop.most) (sym at) was.high)
@@ -209,7 +178,7 @@ module _ (k : Round) (is : IsRound k) (pc : ℕ) (a : AbstractView) (inside : Is
         let at : slice_index_or back.ranges n (just 0) ≡ span 1 (k.loop.most - k.limit) =
         range_here a.numbers n (span 1 (k.loop.most - k.limit)) (span 0 0) nonzero (let high = is.count_high in let m = h.atoms.ranges in omega (arith, high, m)) in
         interval_shown back (loop_count k.loop)
-        (subst (λ (r : Range). 1 ≤ r.lo) (sym at) (le_self 1)) (subst (λ (r : Range). r.hi ≤ k.loop.most) (sym at) (omega arith))
+        (subst (λ (r : Range). 1 ≤ r.lo) (sym at) (le_refl 1)) (subst (λ (r : Range). r.hi ≤ k.loop.most) (sym at) (omega arith))
 
     count_equal : is_equality_shown back (loop_count k.loop) ≡ true
     unfolding is_equality_shown
@@ -223,7 +192,7 @@ module _ (k : Round) (is : IsRound k) (pc : ℕ) (a : AbstractView) (inside : Is
 
     back_shows : Shows back k.start (budget 1 k.words n) (stated_by k.loop (loop_count k.loop) (λ q. loop_pointer k.params k.loop q))
     back_shows = record {
-      target = is_same there k.start target_is;
+      target = eq-eqb there k.start target_is;
       ra = ra_shown true there (span 1 (k.loop.most - k.limit));
       intervals = λ place l. if_stated (λ f. is_interval_shown back f ≡ true) k.loop (loop_count k.loop) (λ q. loop_pointer k.params k.loop q) place
           (λ e. count_shown) (λ p. (pointer_shown place l p).0);
@@ -246,14 +215,14 @@ module _ (k : Round) (is : IsRound k) (pc : ℕ) (a : AbstractView) (inside : Is
 
     on_pays : pays on (budget 1 k.words n) (Some (budget 1 0 0)) ≡ true
     unfolding pays is_paid
-    on_pays = or_left _ _ (le_true (most_of (next_total on (budget 1 0 0))) (least_of (own_total on (budget 1 k.words n))) (le_from _ _ k.words next_most own_least))
+    on_pays = or_left _ _ (le-leb (most_of (next_total on (budget 1 0 0))) (least_of (own_total on (budget 1 k.words n))) (le_from _ _ k.words next_most own_least))
 
     on_paid : is_paid_for on b.budget (Some (budget 1 0 0)) ≡ true
     on_paid = paid_by on b.budget (budget 1 k.words n) (budget 1 0 0) inside.budget on_pays
 
     on_shows : Shows on address (budget 1 0 0) (λ place. None)
     on_shows = record {
-      target = is_same (next_word pc) address target_is;
+      target = eq-eqb (next_word pc) address target_is;
       ra = ra_shown false (next_word pc) (span 0 0);
       intervals = λ place l. tt;
       equalities = λ place l. tt;

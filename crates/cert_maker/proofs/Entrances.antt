@@ -3,6 +3,7 @@ use Rattle.std.proofs.Common.{◌≡◌, ◌≢◌, ℕ, ◌+◌, ◌-◌, ◌^�
 use Rattle.std.specs.List.{slice_get}
 use Rattle.std.specs.Option.{option_and_then}
 use Rattle.std.proofs.lemmas.List.FromFn.{length-map-range_with_len}
+use Rattle.std.proofs.lemmas.Bool.{ne_eqb, le-leb, lt-ltb}
 use Rattle.linear_facts.specs.declared.ranges.Range.{Range}
 use Rattle.linear_facts.specs.declared.ranges.Atom.{Atom}
 use Rattle.linear_facts.specs.Forms.{Linear, atom_form, number_form}
@@ -23,12 +24,11 @@ use Rattle.cert_maker.specs.declared.loops.Loop.{Loop}
 use Rattle.cert_maker.specs.Certificates.{base_of, stated_by, entry_count, entry_facts, entry_pointer}
 use Rattle.cert_maker.specs.Known.{Round, known, atom_of, is_pointer}
 use Rattle.cert_maker.specs.Laws.{FactsByPlace}
-use Rattle.cert_maker.proofs.Accesses.{le_true, lt_true}
-use Rattle.cert_maker.proofs.Ending.{not_same}
 use Rattle.cert_maker.proofs.IsRounds.{IsEntered}
 use Rattle.cert_maker.proofs.Returns.{computed_just, ra_is}
 use Rattle.cert_maker.proofs.Shown.{if_stated}
-use Rattle.cert_maker.proofs.Beginnings.{span, part_met, value_is, begin_forms, begin_ranges, argument_range, none_split, begins_as, zero_is, range_stated, form_stated, count_stated, pointer_stated, scalar_range}
+use Rattle.cert_maker.proofs.Beginnings.{part_met, value_is, begin_forms, begin_ranges, argument_range, none_split, begins_as, zero_is, range_stated, form_stated, count_stated, pointer_stated, scalar_range}
+use Rattle.cert_maker.proofs.Going.{span}
 
 -- what is stated at the entry is stated by place
 pub entry_places : (params : List Param) (loop : Loop)
@@ -154,10 +154,10 @@ module _ (k : Round) (is : IsEntered k) where
   argument_form place l p there =
       let at : place + 10 - 10 ≡ place = omega arith in
       rw (
-        not_same (place + 10) 1 (λ f. omega (arith, f)),
-        not_same (place + 10) 2 (λ f. omega (arith, f)),
-        le_true 10 (place + 10) (omega arith),
-        lt_true (place + 10) 18 (omega (arith, l)),
+        ne_eqb (place + 10) 1 (λ f. omega (arith, f)),
+        ne_eqb (place + 10) 2 (λ f. omega (arith, f)),
+        le-leb 10 (place + 10) (omega arith),
+        lt-ltb (place + 10) 18 (omega (arith, l)),
         at,
         there,
       ) refl

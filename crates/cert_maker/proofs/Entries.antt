@@ -1,13 +1,14 @@
 -- The block of the entry passes, and so does the way into it.
-use Rattle.std.proofs.Common.{◌≡◌, ◌≢◌, ℕ, ◌+◌, ◌*◌, ◌<◌, ◌≤◌, ◌⊎◌, inl, inr, Bool, true, false, refl, sym, ap, ◌∙◌, subst, arith, Some, None, List, [], ◌∷◌, max}
-use Rattle.std.specs.Prelude.{ℤ, Ok, if◌then◌else◌, ◌==◌, nat_le, slice_set, slice_index_or}
-use Rattle.std.proofs.lemmas.Bool.{cases_eq}
+use Rattle.std.proofs.Common.{◌≡◌, ◌≢◌, ℕ, ◌+◌, ◌*◌, ◌<◌, ◌≤◌, ◌⊎◌, inl, inr, Bool, true, false, refl, sym, ap, ◌∙◌, subst, arith, Some, None, List, [], ◌∷◌, max, le_refl}
+use Rattle.std.specs.Prelude.{ℤ, Ok, if◌then◌else◌, ◌==◌, slice_set, slice_index_or}
+use Rattle.std.proofs.lemmas.Bool.{cases_eq, eq-eqb, ne_eqb, le-leb, lt-leb, or_left, or_right}
 use Rattle.std.proofs.lemmas.Bool.Decides.{nat_tests}
 use Rattle.linear_facts.specs.declared.ranges.Range.{Range}
 use Rattle.linear_facts.specs.Forms.{Linear, atom_form, form_at, number_form, scaled, substituted, sum_of, with_replaced}
 use Rattle.linear_facts.specs.Ranges.{atom_at, range_at, split_at}
 use Rattle.linear_facts.specs.LoopForms.{pointer_form}
 use Rattle.linear_facts.proofs.LoopRanges.{same-paid}
+use Rattle.linear_facts.proofs.FormLaws.{merged-left}
 use Rattle.rv_decode.specs.declared.instructions.Condition.TheVariants.{Eq}
 use Rattle.rv_decode.specs.declared.instructions.Insn.TheVariants.{Scalar}
 use Rattle.rv_decode.specs.declared.instructions.ScalarInsn.TheVariants.{Branch}
@@ -21,23 +22,20 @@ use Rattle.abs_state.specs.State.{AbstractView}
 use Rattle.abs_state.specs.Branches.{EdgeView, apart_from, branch_edge, changes_of, edge_by, edge_in, plain_edge, refined, related_edge, related_ranges, relation_of, table_on, value_on, without_end}
 use Rattle.abs_domain.specs.Numbers.{whole_atom}
 use Rattle.abs_state.specs.Edges.{is_equality_shown, is_interval_shown, is_paid, is_paid_for, is_sum_shown, least_of, most_of, next_total, own_total, pays}
+use Rattle.abs_state.proofs.Substitutions.{own_form}
+use Rattle.abs_state.proofs.Payments.{form_there, form_past}
 use Rattle.block_checker.specs.Passes.{block_at, edge_passes, edges_pass, is_branch, is_branch_insn, possible_passes}
 use Rattle.cert_maker.specs.Loops.{size_of}
 use Rattle.cert_maker.specs.Certificates.{base_of, block, budget, entry_count, entry_facts, entry_pointer, fact, facts_by, loop_count, loop_facts, loop_pointer, stated_by}
 use Rattle.cert_maker.specs.Known.{Round, atom_of, is_pointer, known}
-use Rattle.cert_maker.proofs.Accesses.{le_true}
-use Rattle.cert_maker.proofs.Beginnings.{span}
-use Rattle.cert_maker.proofs.Ending.{form_here, form_past, impossible, is_same, le_self, least_zero, loop_places, not_same, or_left, or_right, paid_by, passes_both, possible, range_here, range_there}
+use Rattle.cert_maker.proofs.Ending.{impossible, least_zero, loop_places, paid_by, passes_both, possible, range_here, range_there}
 use Rattle.cert_maker.proofs.Entrances.{HasEntry, base_fits, entry_places, not_count}
-use Rattle.cert_maker.proofs.Equalities.{entry_equality, merged_empty, scaled_atom, sum_parts}
+use Rattle.cert_maker.proofs.Equalities.{entry_equality, scaled_atom, sum_parts}
 use Rattle.cert_maker.proofs.IsRounds.{IsEntered}
-use Rattle.cert_maker.proofs.Moves.{same_form}
 use Rattle.cert_maker.proofs.Shown.{Shows, block_shown, edge_ok, exit_shown, if_stated, interval_shown}
+use Rattle.cert_maker.proofs.Going.{span}
 
 -- ---- the two edges of a branch where the count is 0
-
-not_le : (a b : ℕ) → b < a → nat_le a b ≡ false
-not_le a b l = grind (arith, nat_tests)
 
 most_zero : (r : ℕ) → max r 0 ≡ r
 most_zero r = omega arith
@@ -46,10 +44,10 @@ most_zero r = omega arith
 count_apart : (L N : ℕ) → 1 ≤ N → L ≤ N → apart_from (span 0 0) (span L N) ≡ Some (span (max 1 L) N)
 unfolding apart_from without_end
 count_apart L N some least = elim (cases_eq L 0) [
-  | inl none ↦ rw (none, not_same N 0 (λ e. omega (arith, e, some)), le_true 1 N some) refl
+  | inl none ↦ rw (none, ne_eqb N 0 (λ e. omega (arith, e, some)), le-leb 1 N some) refl
   | inr more ↦
       let at : max 1 L ≡ L = omega (arith, more) in
-      rw (not_same L 0 more, not_same N 0 (λ e. omega (arith, e, some)), le_true L N least, at) refl
+      rw (ne_eqb L 0 more, ne_eqb N 0 (λ e. omega (arith, e, some)), le-leb L N least, at) refl
 ]
 
 zero_apart : (L N : ℕ) → 1 ≤ N → apart_from (span L N) (span 0 0) ≡ Some (span 0 0)
@@ -59,7 +57,7 @@ zero_apart L N some = by_test (L == N) refl
     by_test : (t : Bool) → (L == N) ≡ t → (if t then without_end L (span 0 0) else Some (span 0 0)) ≡ Some (span 0 0)
     by_test true e =
         let same : L ≡ N = grind (arith, nat_tests) in
-        rw (not_same 0 L (λ f. omega (arith, f, same, some))) refl
+        rw (ne_eqb 0 L (λ f. omega (arith, f, same, some))) refl
     by_test false e = refl
 
 module _ (b : AbstractView) (n there next e : ℕ) (nonzero : n ≢ 0) (way : b.way ≡ Fork Eq n 0 there next)
@@ -77,11 +75,11 @@ module _ (b : AbstractView) (n there next e : ℕ) (nonzero : n ≢ 0) (way : b.
 
   some_taken : (N : ℕ) → value_at b.numbers n ≡ known (atom_form e) 0 N → refined true b ≡ Some (edge_of true there (span 0 0))
   unfolding refined edge_by branch_edge related_edge relation_of related_ranges edge_in changes_of whole_atom
-  some_taken N count = rw (way, not_same n 0 nonzero, count, zero_is, least_zero N, count, zero_is) refl
+  some_taken N count = rw (way, ne_eqb n 0 nonzero, count, zero_is, least_zero N, count, zero_is) refl
 
   none_taken : (L N : ℕ) → 0 < L → value_at b.numbers n ≡ known (atom_form e) L N → refined true b ≡ None
   unfolding refined edge_by branch_edge related_edge relation_of related_ranges
-  none_taken L N some count = rw (way, not_same n 0 nonzero, count, zero_is, most_zero L, least_zero N, not_le L 0 some) refl
+  none_taken L N some count = rw (way, ne_eqb n 0 nonzero, count, zero_is, most_zero L, least_zero N, lt-leb L 0 some) refl
 
   pub taken_edge : (L N : ℕ) → value_at b.numbers n ≡ known (atom_form e) L N
       → (refined true b ≡ None) ⊎ (refined true b ≡ Some (edge_of true there (span 0 0)))
@@ -93,13 +91,13 @@ module _ (b : AbstractView) (n there next e : ℕ) (nonzero : n ≢ 0) (way : b.
   -- where there is nothing to do the loop is not entered
   pub none_other : value_at b.numbers n ≡ known (atom_form e) 0 0 → refined false b ≡ None
   unfolding refined edge_by branch_edge related_edge relation_of related_ranges apart_from without_end
-  none_other count = rw (way, not_same n 0 nonzero, count, zero_is) refl
+  none_other count = rw (way, ne_eqb n 0 nonzero, count, zero_is) refl
 
   pub other_edge : (L N : ℕ) → 1 ≤ N → L ≤ N → value_at b.numbers n ≡ known (atom_form e) L N
       → refined false b ≡ Some (edge_of false next (span (max 1 L) N))
   unfolding refined edge_by branch_edge related_edge relation_of related_ranges edge_in changes_of whole_atom
   other_edge L N some least count =
-      rw (way, not_same n 0 nonzero, count, zero_is, count_apart L N some least, zero_apart L N some, count, zero_is) refl
+      rw (way, ne_eqb n 0 nonzero, count, zero_is, count_apart L N some least, zero_apart L N some, count, zero_is) refl
 
 -- ---- what they show
 
@@ -160,12 +158,12 @@ module _ (k : Round) (is : IsEntered k) (pc : ℕ) (a : AbstractView) (h : IsFir
     on_pays : pays on (budget 2 k.words n) (Some (budget 1 0 0)) ≡ true
     unfolding pays is_paid
     on_pays =
-        or_left _ _ (le_true (most_of (next_total on (budget 1 0 0))) (least_of (own_total on (budget 2 k.words n)))
+        or_left _ _ (le-leb (most_of (next_total on (budget 1 0 0))) (least_of (own_total on (budget 2 k.words n)))
         (two_least (a.words + 1) (k.words * a.paid.range.lo) 0 a.second_paid.range.lo (value_on on 0).range.hi (value_on on 0).range.hi one_word))
 
     on_shows : Shows on address (budget 1 0 0) (λ place. None)
     on_shows = record {
-      target = is_same there address target_is;
+      target = eq-eqb there address target_is;
       ra = ra_shown true there (span 0 0);
       intervals = λ place l. tt;
       equalities = λ place l. tt;
@@ -183,7 +181,7 @@ module _ (k : Round) (is : IsEntered k) (pc : ℕ) (a : AbstractView) (h : IsFir
         let at : slice_index_or into.ranges n (just 0) ≡ span (max 1 k.least) k.loop.most =
         range_here a.numbers n (span (max 1 k.least) k.loop.most) (span 0 0) nonzero (let high = is.count_high in let m = h.numbers.ranges in omega (arith, high, m)) in
         interval_shown into (loop_count k.loop)
-        (subst (λ (r : Range). 1 ≤ r.lo) (sym at) (omega arith)) (subst (λ (r : Range). r.hi ≤ k.loop.most) (sym at) (le_self k.loop.most))
+        (subst (λ (r : Range). 1 ≤ r.lo) (sym at) (omega arith)) (subst (λ (r : Range). r.hi ≤ k.loop.most) (sym at) (le_refl k.loop.most))
 
     count_equal : is_equality_shown into (loop_count k.loop) ≡ true
     unfolding is_equality_shown
@@ -195,7 +193,7 @@ module _ (k : Round) (is : IsEntered k) (pc : ℕ) (a : AbstractView) (h : IsFir
         range_there a.numbers n (place + 10) (span (max 1 k.least) k.loop.most) (span 0 0) (λ f. omega (arith, f)) (not_count k is place l p)
         ∙ ap (λ (v : ValueView). v.range) (h.numbers.pointers place l p) in
         interval_shown into (loop_pointer k.params k.loop place)
-        (subst (λ (r : Range). base_of k.params place ≤ r.lo) (sym at) (le_self (base_of k.params place)))
+        (subst (λ (r : Range). base_of k.params place ≤ r.lo) (sym at) (le_refl (base_of k.params place)))
         (subst (λ (r : Range). r.hi ≤ base_of k.params place + size_of k.loop * k.loop.most) (sym at) (omega arith))
 
     pointer_equal : (place : ℕ) → place < 8 → is_pointer k.loop place ≡ true → is_equality_shown into (loop_pointer k.params k.loop place) ≡ true
@@ -204,17 +202,17 @@ module _ (k : Round) (is : IsEntered k) (pc : ℕ) (a : AbstractView) (h : IsFir
         rw (
           equality,
           ap (λ (v : ValueView). v.form) (h.numbers.pointers place l p),
-        ) (same_form (number_form (base_of k.params place)))
+        ) (own_form (number_form (base_of k.params place)))
       where
         equality : substituted a.numbers.forms (pointer_form (base_of k.params place) (size_of k.loop) n e) ≡ number_form (base_of k.params place)
         equality =
             entry_equality a.numbers.forms (base_of k.params place) (size_of k.loop) n e is.size (base_fits k is place l p)
-            (form_here a.numbers n (let high = is.count_high in let m = h.numbers.forms in omega (arith, high, m)) ∙ ap (λ (v : ValueView). v.form) h.numbers.count)
+            (form_there a.numbers n (let high = is.count_high in let m = h.numbers.forms in omega (arith, high, m)) ∙ ap (λ (v : ValueView). v.form) h.numbers.count)
             (form_past a.numbers e (let low = is.count_low in let m = h.numbers.forms in omega (arith, low, m)))
 
     into_range : range_at (table_on into) e ≡ span (max 1 k.least) k.loop.most
     unfolding range_at
-    into_range = rw (is_same e e refl) refl
+    into_range = rw (eq-eqb e e refl) refl
 
     into_split : split_at (table_on into) e ≡ None
     unfolding split_at atom_at
@@ -228,7 +226,7 @@ module _ (k : Round) (is : IsEntered k) (pc : ℕ) (a : AbstractView) (h : IsFir
 
     into_shows : Shows into k.start (budget 1 k.words n) (stated_by k.loop (loop_count k.loop) (λ q. loop_pointer k.params k.loop q))
     into_shows = record {
-      target = is_same next k.start target_is;
+      target = eq-eqb next k.start target_is;
       ra = ra_shown false next (span (max 1 k.least) k.loop.most);
       intervals = λ place l. if_stated (λ f. is_interval_shown into f ≡ true) k.loop (loop_count k.loop) (λ q. loop_pointer k.params k.loop q) place
           (λ f. count_shown) (λ p. pointer_shown place l p);
@@ -284,7 +282,7 @@ one_replaced forms a x = refl
 atom_alone : (forms : List Linear) (a : ℕ) → form_at forms a ≡ atom_form a → substituted forms (atom_form a) ≡ atom_form a
 atom_alone forms a at =
     one_replaced forms a 1
-    ∙ (rw (at, scaled_atom 1 a (inl refl)) (sum_parts 0 0 [] (record { atom = a; coefficient = 1 } ∷ []) _ (omega arith) (merged_empty _)))
+    ∙ (rw (at, scaled_atom 1 a (inl refl)) (sum_parts 0 0 [] (record { atom = a; coefficient = 1 } ∷ []) _ (omega arith) (merged-left _)))
 
 module _ (k : Round) (is : IsEntered k) (pc : ℕ) (a : AbstractView) (h : HasEntry k a.numbers) (none : a.budget ≡ None) where
   abbrev way_in : EdgeView
@@ -307,22 +305,22 @@ module _ (k : Round) (is : IsEntered k) (pc : ℕ) (a : AbstractView) (h : HasEn
       rw (
         atom_alone a.numbers.forms (atom_of k.loop) (form_past a.numbers (atom_of k.loop) (let low = is.count_low in let m = h.forms in omega (arith, low, m))),
         ap (λ (v : ValueView). v.form) h.count,
-      ) (same_form (atom_form (atom_of k.loop)))
+      ) (own_form (atom_form (atom_of k.loop)))
 
   entry_pointer_equal : (place : ℕ) → place < 8 → is_pointer k.loop place ≡ true → is_equality_shown way_in (entry_pointer k.params place) ≡ true
   unfolding is_equality_shown is_sum_shown value_on substituted with_replaced
   entry_pointer_equal place l p =
-      rw (ap (λ (v : ValueView). v.form) (h.pointers place l p)) (same_form (number_form (base_of k.params place)))
+      rw (ap (λ (v : ValueView). v.form) (h.pointers place l p)) (own_form (number_form (base_of k.params place)))
 
   in_shows : Shows way_in pc (budget 2 k.words k.loop.count) (stated_by k.loop (entry_count k.loop) (λ q. entry_pointer k.params q))
   unfolding is_paid_for
   in_shows = record {
-    target = is_same pc pc refl;
-    ra = within_fact (fact 1 exit exit None) exit exit h.ra (le_self exit) (le_self exit);
+    target = eq-eqb pc pc refl;
+    ra = within_fact (fact 1 exit exit None) exit exit h.ra (le_refl exit) (le_refl exit);
     intervals = λ place l. if_stated (λ f. is_interval_shown way_in f ≡ true) k.loop (entry_count k.loop) (λ q. entry_pointer k.params q) place
-        (λ f. within_fact (entry_count k.loop) k.least k.loop.most (ap (λ (v : ValueView). v.range) h.count) (omega arith) (le_self k.loop.most))
+        (λ f. within_fact (entry_count k.loop) k.least k.loop.most (ap (λ (v : ValueView). v.range) h.count) (omega arith) (le_refl k.loop.most))
         (λ p. within_fact (entry_pointer k.params place) (base_of k.params place) (base_of k.params place) (ap (λ (v : ValueView). v.range) (h.pointers place l p))
-        (le_self (base_of k.params place)) (le_self (base_of k.params place)));
+        (le_refl (base_of k.params place)) (le_refl (base_of k.params place)));
     equalities = λ place l. if_stated (λ f. is_equality_shown way_in f ≡ true) k.loop (entry_count k.loop) (λ q. entry_pointer k.params q) place
         (λ f. entry_count_equal) (λ p. entry_pointer_equal place l p);
     paid = rw none refl;

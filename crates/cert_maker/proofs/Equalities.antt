@@ -1,19 +1,12 @@
 -- The forms of a strip-mined loop.
-use Rattle.std.proofs.Common.{◌≡◌, ℕ, ◌+◌, ◌-◌, ◌%◌, ◌^◌, ◌<◌, inl, inr, List, [], ◌∷◌, ◌++◌, refl, sym, ap, ◌∙◌, subst, arith}
+use Rattle.std.proofs.Common.{◌≡◌, ℕ, ◌+◌, ◌-◌, ◌%◌, ◌^◌, ◌<◌, List, [], ◌∷◌, ◌++◌, refl, ap, ◌∙◌, arith}
 use Rattle.linear_facts.specs.declared.forms.Term.{Term}
 use Rattle.linear_facts.specs.Forms.{Linear, merged, term_or_none, scaled_terms, sum_of, scaled, number_form, atom_form, form_at, with_replaced, substituted}
 use Rattle.linear_facts.proofs.Merging.{merged-nil, merged-less, merged-greater, merged-same}
 use Rattle.linear_facts.specs.LoopForms.{term, IsSize, pointer_form, left_form}
+use Rattle.linear_facts.proofs.LoopRanges.{by_size}
+use Rattle.linear_facts.proofs.FormLaws.{merged-left}
 use Rattle.cert_maker.specs.Laws.{BackEquality}
-
-pub by_size : (P : ℕ → Type 0) (w : ℕ) → IsSize w → P 1 → P 2 → P 4 → P w
-by_size P w (inl e) one two four = subst P (sym e) one
-by_size P w (inr (inl e)) one two four = subst P (sym e) two
-by_size P w (inr (inr e)) one two four = subst P (sym e) four
-
-pub merged_empty : (ys : List Term) → merged [] ys ≡ ys
-unfolding merged
-merged_empty ys = refl
 
 -- the middle term goes between
 pub between : (n e v a b c : ℕ) → n < e → e < v
@@ -51,7 +44,7 @@ back-equality forms base w n e v is small l g at_n at_e =
     two_replaced forms base n (2 ^ 32 - w) e w
     ∙ (rw (at_n, at_e, scaled_left w n v is, scaled_atom w e is)
     (ap (λ (f : Linear). sum_of f (record { constant = 0; terms = term e w ∷ [] }))
-    (sum_parts base 0 [] (term n (2 ^ 32 - w) ∷ term v w ∷ []) _ (omega (arith, small)) (merged_empty _))
+    (sum_parts base 0 [] (term n (2 ^ 32 - w) ∷ term v w ∷ []) _ (omega (arith, small)) (merged-left _))
     ∙ (sum_parts (base + 0) 0 (term n (2 ^ 32 - w) ∷ term v w ∷ []) (term e w ∷ []) _ (omega (arith, small)) (between n e v (2 ^ 32 - w) w w l g)
     ∙ ap (λ (c : ℕ). record { constant = c; terms = term n (2 ^ 32 - w) ∷ term e w ∷ term v w ∷ [] }) (omega arith))))
 
@@ -73,6 +66,6 @@ entry_equality forms base w n e is small at_n at_e =
     two_replaced forms base n (2 ^ 32 - w) e w
     ∙ (rw (at_n, at_e, scaled_entry w e is, scaled_atom w e is)
     (ap (λ (f : Linear). sum_of f (record { constant = 0; terms = term e w ∷ [] }))
-    (sum_parts base 0 [] (term e (2 ^ 32 - w) ∷ []) _ (omega (arith, small)) (merged_empty _))
+    (sum_parts base 0 [] (term e (2 ^ 32 - w) ∷ []) _ (omega (arith, small)) (merged-left _))
     ∙ (sum_parts (base + 0) 0 (term e (2 ^ 32 - w) ∷ []) (term e w ∷ []) _ (omega (arith, small)) (cancelled w e e is refl)
     ∙ ap (λ (c : ℕ). number_form c) (omega arith))))

@@ -1,6 +1,6 @@
 -- The facts of a block, by place.
 use Rattle.std.proofs.Common.{◌≡◌, ℕ, ◌+◌, ◌<◌, ◌≤◌, zero, suc, Bool, true, false, refl, sym, ap, ◌∙◌, arith, Option, Some, None, IfSome, List, [], ◌∷◌, ◌++◌, length}
-use Rattle.std.specs.Prelude.{◌==◌, ◌&&◌, nat_le}
+use Rattle.std.specs.Prelude.{◌&&◌, nat_le}
 use Rattle.std.specs.List.{flat_map, range_with_len, list_all, list_any}
 use Rattle.std.specs.Option.{option_to_list}
 use Rattle.std.proofs.lemmas.Bool.Decides.{nat_tests}
@@ -9,12 +9,6 @@ use Rattle.scalar_core.specs.Hart.{exit}
 use Rattle.cert_note.specs.Certificate.{AllFrom, after_fact, IsRegisterFact}
 use Rattle.cert_note.specs.declared.values.RegisterFact.{RegisterFact}
 use Rattle.cert_maker.specs.Certificates.{fact}
-
-pub not_same : (a b : ℕ) → (a ≡ b → ⊥) → (a == b) ≡ false
-not_same a b ne = grind (arith, nat_tests)
-
-pub is_same : (a b : ℕ) → a ≡ b → (a == b) ≡ true
-is_same a b e = grind (arith, nat_tests)
 
 -- what is stated of places from one on
 abbrev pub facts_from : (ℕ → Option RegisterFact) → ℕ → ℕ → List RegisterFact

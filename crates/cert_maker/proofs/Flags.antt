@@ -3,13 +3,13 @@ use Rattle.std.proofs.Common.{◌≡◌, ◌≢◌, ℕ, ◌+◌, ◌-◌, ◌<�
 use Rattle.std.specs.Prelude.{if◌then◌else◌, ◌&&◌, nat_le, nat_lt, slice_set}
 use Rattle.std.specs.List.{list_any}
 use Rattle.std.proofs.lemmas.Bool.Decides.{nat_tests}
+use Rattle.std.proofs.lemmas.Bool.{le-leb, lt-ltb}
 use Rattle.cert_maker.specs.Loops.{is_flagged}
-use Rattle.cert_maker.proofs.Accesses.{le_true, lt_true}
 
 -- a flag is one of the list
 flag_of : (r : ℕ) (flags : List Bool) → 10 ≤ r → r < 18 → is_flagged r flags ≡ get_or flags (r - 10) false
 unfolding is_flagged
-flag_of r flags l g = rw (le_true 10 r l, lt_true r 18 g) refl
+flag_of r flags l g = rw (le-leb 10 r l, lt-ltb r 18 g) refl
 
 pub flag_at : (q : ℕ) (flags : List Bool) → q < 8 → is_flagged (q + 10) flags ≡ get_or flags q false
 flag_at q flags l = flag_of (q + 10) flags (omega arith) (omega (arith, l)) ∙ ap (λ (i : ℕ). get_or flags i false) (omega arith)

@@ -2,9 +2,9 @@
 use Rattle.std.proofs.Common.{◌≡◌, ◌≢◌, ℕ, ◌+◌, ◌-◌, ◌*◌, ◌^◌, ◌<◌, ◌≤◌, ◌⊎◌, inl, inr, Bool, true, false, refl, sym, ap, ◌∙◌, subst, arith, Some, None, List, [], ◌∷◌, length, min}
 use Rattle.std.proofs.Common.{get_or-set_other}
 use Rattle.std.proofs.Math.ListN.{length-set}
-use Rattle.std.specs.Prelude.{Ok, if◌then◌else◌, ◌==◌, not, nat_le, slice_set}
+use Rattle.std.specs.Prelude.{Ok, if◌then◌else◌, not, nat_le, slice_set}
 use Rattle.std.specs.List.{list_any, slice_get}
-use Rattle.std.proofs.lemmas.Bool.{cases_eq}
+use Rattle.std.proofs.lemmas.Bool.{cases_eq, and_parts, eqb-true}
 use Rattle.std.proofs.lemmas.Bool.Decides.{nat_tests}
 use Rattle.linear_facts.specs.declared.ranges.Range.{Range}
 use Rattle.linear_facts.specs.declared.forms.Term.{Term}
@@ -12,7 +12,8 @@ use Rattle.linear_facts.specs.Forms.{scaled, scaled_terms, sum_of, within, atom_
 use Rattle.linear_facts.specs.Sums.{range_of_form}
 use Rattle.linear_facts.specs.LoopForms.{term, IsLoop, moved_form, left_form}
 use Rattle.linear_facts.proofs.Merging.{merged-less}
-use Rattle.linear_facts.proofs.LoopRanges.{moved-range, left-range}
+use Rattle.linear_facts.proofs.LoopRanges.{moved-range, left-range, by_size}
+use Rattle.linear_facts.proofs.FormLaws.{merged-left}
 use Rattle.rv_decode.specs.declared.instructions.Insn.{Insn}
 use Rattle.rv_decode.specs.declared.instructions.Insn.TheVariants.{Scalar}
 use Rattle.rv_decode.specs.declared.instructions.RegisterOp.{RegisterOp}
@@ -37,10 +38,8 @@ use Rattle.cert_maker.specs.Certificates.{base_of}
 use Rattle.cert_maker.specs.Known.{Round, IsRound, HasRoom, HasAtoms, IsThere, IsMoved, InMoves, InBack, IsWithin, NumbersAre, Known, known, bytes_of, done_of, atom_of, is_pointer}
 use Rattle.cert_maker.specs.Laws.{IsPointer, IsStep}
 use Rattle.cert_maker.proofs.Accesses.{met_high}
-use Rattle.cert_maker.proofs.Bodies.{both_true}
-use Rattle.cert_maker.proofs.Equalities.{by_size, merged_empty}
 use Rattle.cert_maker.proofs.Flags.{flag_at, flag_low, cleared, none_set}
-use Rattle.cert_maker.proofs.Moves.{pointers-move}
+use Rattle.cert_maker.proofs.Moves.{pointers-move, not_zero}
 
 -- what WordsGoOn wants of a word
 abbrev pub GoesOn : Round → ℕ → Insn → AbstractView → Reading → Type 0
@@ -53,9 +52,6 @@ test_of true x next e = (refl, same x next e)
     same : (a b : Reading) → Some a ≡ Some b → a ≡ b
     same a b e = cc
 test_of false x next e = cc
-
-pub same_number : (a b : ℕ) → (a == b) ≡ true → a ≡ b
-same_number a b e = grind (arith, nat_tests)
 
 -- ---- the state
 
@@ -110,22 +106,19 @@ atoms_stay k s i v h l = record {
   ra = ap (λ (a : ValueView). a.range) (other_value s i 1 v (λ e. omega (arith, e, l))) ∙ h.ra;
 }
 
-pub not_zero : (p : ℕ) → 0 < p → (p == 0) ≡ false
-not_zero p l = grind (arith, nat_tests)
-
 -- ---- what is left
 
 left_is : (n v : ℕ) → n < v → sum_of (atom_form n) (scaled 4294967295 (atom_form v)) ≡ left_form n v
 unfolding scaled scaled_terms sum_of
 left_is n v l =
     ap (λ (ts : List Term). record { constant = 0; terms = ts })
-    (merged-less (term n 1) (term v 4294967295) [] [] l ∙ ap (λ (ts : List Term). term n 1 ∷ ts) (merged_empty (term v 4294967295 ∷ [])))
+    (merged-less (term n 1) (term v 4294967295) [] [] l ∙ ap (λ (ts : List Term). term n 1 ∷ ts) (merged-left (term v 4294967295 ∷ [])))
 
-abbrev span : ℕ → ℕ → Range
+abbrev pub span : ℕ → ℕ → Range
 span lo hi = record { lo = lo; hi = hi }
 
-ranges_same : (a b c d : ℕ) → a ≡ c → b ≡ d → span a b ≡ span c d
-ranges_same a b c d e f = rw (e, f) refl
+pub spans_same : (a b c d : ℕ) → a ≡ c → b ≡ d → span a b ≡ span c d
+spans_same a b c d e f = rw (e, f) refl
 
 alone : (r : Range) → computed_range None (Some r) ≡ r
 unfolding computed_range
@@ -139,12 +132,12 @@ left_met N M a b = by_test (nat_le (min N M) 1) refl
         → computed_range (if t then Some (span (1 - min N M) (N - 1)) else None) (Some (span 0 (N - M))) ≡ span 0 (N - M)
     by_test true e =
         let le : min N M ≤ 1 = grind (arith, nat_tests) in
-        met_high (1 - min N M) (N - 1) 0 (N - M) (omega (arith, le, a, b)) ∙ ranges_same _ _ _ _ (omega (arith, le, a, b)) (omega (arith, le, a, b))
+        met_high (1 - min N M) (N - 1) 0 (N - M) (omega (arith, le, a, b)) ∙ spans_same _ _ _ _ (omega (arith, le, a, b)) (omega (arith, le, a, b))
     by_test false e = alone (span 0 (N - M))
 
 -- ---- a round
 
-fits_once : (base b : ℕ) → base + b + b < 2 ^ 32 → base + b < 2 ^ 32
+pub fits_once : (base b : ℕ) → base + b + b < 2 ^ 32 → base + b < 2 ^ 32
 fits_once base b l = omega (arith, l)
 
 less_more : (base b c d : ℕ) → b ≤ c → base + b - d ≤ base + c
@@ -344,21 +337,21 @@ module _ (k : Round) (is : IsRound k) where
   unfolding moved_by
   moved_on pc step left (Scalar (Register Add rd rs1 rs2)) next a e inside h =
       let read = test_of _ (Moves k.loop step (slice_set left (rd - 10) false)) next e in
-      let first = both_true _ _ read.0 in
-      let second = both_true _ _ first.0 in
-      let from : rs1 ≡ rd = same_number rs1 rd second.1 in
-      let by : rs2 ≡ step = same_number rs2 step first.1 in
+      let first = and_parts _ _ read.0 in
+      let second = and_parts _ _ first.0 in
+      let from : rs1 ≡ rd = eqb-true rs1 rd second.1 in
+      let by : rs2 ≡ step = eqb-true rs2 step first.1 in
       subst (λ (r : Reading). GoesOn k pc (Scalar (Register Add rd rs1 rs2)) a r) read.1
       (register_goes k pc Add rd rs1 rs2 a (Moves k.loop step (slice_set left (rd - 10) false)) inside
       (rw (from, by) (register_moves a.numbers step left h rd second.0)))
   moved_on pc step left (Scalar (Register Sub rd rs1 rs2)) next a e inside h =
       let read = test_of _ (Back k.loop) next e in
-      let first = both_true _ _ read.0 in
-      let second = both_true _ _ first.0 in
-      let third = both_true _ _ second.0 in
-      let to : rd ≡ k.loop.count = same_number rd k.loop.count third.1 in
-      let from : rs1 ≡ k.loop.count = same_number rs1 k.loop.count second.1 in
-      let by : rs2 ≡ k.loop.length = same_number rs2 k.loop.length first.1 in
+      let first = and_parts _ _ read.0 in
+      let second = and_parts _ _ first.0 in
+      let third = and_parts _ _ second.0 in
+      let to : rd ≡ k.loop.count = eqb-true rd k.loop.count third.1 in
+      let from : rs1 ≡ k.loop.count = eqb-true rs1 k.loop.count second.1 in
+      let by : rs2 ≡ k.loop.length = eqb-true rs2 k.loop.length first.1 in
       subst (λ (r : Reading). GoesOn k pc (Scalar (Register Sub rd rs1 rs2)) a r) read.1
       (register_goes k pc Sub rd rs1 rs2 a (Back k.loop) inside
       (rw (to, from, by) (back a.numbers step left h (none_left _ third.0))))

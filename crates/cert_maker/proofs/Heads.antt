@@ -1,5 +1,6 @@
 -- What the first two words of a loop are.
 use Rattle.std.proofs.Common.{◌≡◌, ◌≢◌, ℕ, ◌-◌, ◌<◌, ◌≤◌, Bool, true, false, refl, ap, subst, Option, Some, None, List, replicate}
+use Rattle.std.proofs.lemmas.Bool.{and_parts, eqb-true}
 use Rattle.std.specs.Prelude.{ℤ, if◌then◌else◌, ◌==◌, ◌&&◌, not}
 use Rattle.std.specs.List.{slice_get}
 use Rattle.std.specs.Option.{option_map, option_and_then}
@@ -16,8 +17,6 @@ use Rattle.scalar_core.specs.Step.{offset_by}
 use Rattle.cert_maker.specs.declared.loops.Head.{Head}
 use Rattle.cert_maker.specs.declared.loops.Loop.{Loop}
 use Rattle.cert_maker.specs.Loops.{parameter_in, most_of, count_by, length_by, loop_begun}
-use Rattle.cert_maker.proofs.Bodies.{both_true}
-use Rattle.cert_maker.proofs.Going.{same_number}
 use Rattle.cert_maker.proofs.Readings.{some_is, parameter_there}
 use Rattle.cert_maker.proofs.Working.{differ}
 
@@ -58,7 +57,7 @@ branch_is params pc (class.Scalar (Branch Eq rs1 rs2 offset)) head e = by_zero (
 
     by_zero : (t : Bool) → (rs2 == 0) ≡ t → (if t then option_map made (option_and_then most_of (parameter_in params rs1)) else None) ≡ Some head
         → IsBranch params pc (class.Scalar (Branch Eq rs1 rs2 offset)) head
-    by_zero true t f = by_param (same_number rs2 0 t) (parameter_in params rs1) refl f
+    by_zero true t f = by_param (eqb-true rs2 0 t) (parameter_in params rs1) refl f
     by_zero false t f = absurd (cc)
 branch_is params pc other head e = absurd (cc)
 
@@ -85,13 +84,13 @@ length_is head (class.VSet (Vsetvli rd rs1 vtype)) of e =
         → option_map (loop_begun head rd vtype) o ≡ Some of → IsLength head (class.VSet (Vsetvli rd rs1 vtype)) of
     by_type t None f g = absurd (cc)
     by_type t (Some v) f g =
-        let first = both_true _ _ t in
-        let second = both_true _ _ first.0 in
-        let third = both_true _ _ second.0 in
+        let first = and_parts _ _ t in
+        let second = and_parts _ _ first.0 in
+        let third = and_parts _ _ second.0 in
         subst (λ (l : Loop). IsLength head (class.VSet (Vsetvli rd rs1 vtype)) l) (some_is (loop_begun head rd vtype v) of g)
         record {
           vector_type = v;
-          is = ap (λ (r : ℕ). class.VSet (Vsetvli rd r vtype)) (same_number rs1 head.count third.0);
+          is = ap (λ (r : ℕ). class.VSet (Vsetvli rd r vtype)) (eqb-true rs1 head.count third.0);
           type_is = f;
           sew = refl;
           not_zero = differ rd 0 third.1;

@@ -1,7 +1,8 @@
 -- What is made of a loop is a certificate.
 use Rattle.std.proofs.Common.{◌≡◌, ℕ, ◌+◌, ◌-◌, ◌*◌, ◌%◌, ◌^◌, ◌<◌, ◌≤◌, Bool, true, false, ◌&&◌, refl, sym, ap, ◌∙◌, subst, arith, Option, Some, None, IfSome, List, [], ◌∷◌, ◌++◌, length}
-use Rattle.std.specs.Prelude.{if◌then◌else◌, ◌==◌, nat_le, nat_lt, is_some}
+use Rattle.std.specs.Prelude.{if◌then◌else◌, ◌==◌, nat_le, is_some}
 use Rattle.std.proofs.lemmas.Bool.Decides.{nat_tests}
+use Rattle.std.proofs.lemmas.Bool.{le-leb, lt-ltb, eqb-false, eqb-true, ne_eqb}
 use Rattle.elf_image.specs.Image.{ImageView, IsImage}
 use Rattle.rv_decode.specs.declared.instructions.Width.{Width}
 use Rattle.rv_decode.specs.declared.instructions.Width.TheVariants.{W8, W16, W32}
@@ -9,40 +10,25 @@ use Rattle.region_mem.specs.declared.parameter.Param.{Param}
 use Rattle.scalar_core.specs.Hart.{exit}
 use Rattle.rv_decode.specs.Instructions.{bytes_of_width}
 use Rattle.vreg_groups.specs.declared.vector_length.Vlen.{Vlen}
-use Rattle.cert_note.specs.Certificate.{AllFrom, after_block, is_atom, is_budget, is_full, is_second, is_equated, is_free, are_free, CertificateView, IsBlock, IsCertificate, IsRegisterFact}
+use Rattle.cert_note.specs.Certificate.{AllFrom, after_block, is_atom, is_budget, is_full, is_equated, is_free, are_free, CertificateView, IsBlock, IsCertificate, IsRegisterFact}
 use Rattle.cert_note.specs.declared.values.Block.{Block}
 use Rattle.cert_note.specs.declared.values.RegisterFact.{RegisterFact}
 use Rattle.cert_note.specs.declared.values.Version.TheVariants.{V1}
+use Rattle.cert_note.proofs.Laws.{no_second}
 use Rattle.cert_maker.specs.declared.loops.Loop.{Loop}
 use Rattle.cert_maker.specs.declared.building.Spot.TheVariants.{Entry, Body}
 use Rattle.cert_maker.specs.Loops.{size_of, is_flagged}
 use Rattle.cert_maker.specs.Certificates.{base_of, block, budget, certificate_of, entry_count, entry_pointer, entry_facts, fact, facts_by, loop_count, loop_facts, loop_pointer, stated_by}
 use Rattle.cert_maker.specs.Make.{AreParameters, IsFor, blocks_of, stated_at}
-use Rattle.cert_maker.proofs.FactLists.{AreStated, all_facts, facts_rise, few_facts, no_fact, not_same}
+use Rattle.abs_state.proofs.SourceLemmas.{width_some}
+use Rattle.cert_maker.proofs.FactLists.{AreStated, all_facts, facts_rise, few_facts, no_fact}
 use Rattle.cert_maker.proofs.FitsLemmas.{each_is}
 use Rattle.cert_maker.proofs.IsForLemmas.{room_fits}
 
-at_most : (a b : ℕ) → a ≤ b → nat_le a b ≡ true
-at_most a b l = grind (arith, nat_tests)
-
-below : (a b : ℕ) → a < b → nat_lt a b ≡ true
-below a b l = grind (arith, nat_tests)
-
-equal : (a b : ℕ) → (a == b) ≡ true → a ≡ b
-equal a b e = grind (arith, nat_tests)
-
-unequal : (a b : ℕ) → (a == b) ≡ false → a ≡ b → ⊥
-unequal a b e f = grind (arith, nat_tests)
-
 numbered : (least number : ℕ) → least ≤ number → number ≤ 32 → (nat_le least number && nat_le number 32) ≡ true
-numbered least number l g = rw (at_most least number l, at_most number 32 g) refl
+numbered least number l g = rw (le-leb least number l, le-leb number 32 g) refl
 
 -- ---- sizes of elements
-
-size_some : (w : Width) → 0 < bytes_of_width w
-size_some W8 = omega arith
-size_some W16 = omega arith
-size_some W32 = omega arith
 
 size_small : (w : Width) → bytes_of_width w ≤ 4
 size_small W8 = omega arith
@@ -57,22 +43,22 @@ module _ (params : List Param) (loop : Loop) (is : IsFor params loop) (most : lo
   argument_atom =
       let first : nat_le (loop.count + 23) 32 ≡ false = (let l = is.from in grind (arith, nat_tests)) in
       let place : loop.count + 23 - 33 ≡ loop.count - 10 = (let l = is.from in omega (arith, l)) in
-      rw (at_most 1 (loop.count + 23) (omega arith), first, at_most 33 (loop.count + 23) (omega (arith, is.from)), below (loop.count + 23) 41 (omega (arith, is.to)), place, is.count) refl
+      rw (le-leb 1 (loop.count + 23) (omega arith), first, le-leb 33 (loop.count + 23) (omega (arith, is.from)), lt-ltb (loop.count + 23) 41 (omega (arith, is.to)), place, is.count) refl
 
   count_atom : is_atom params loop.count ≡ true
   unfolding is_atom
-  count_atom = rw (at_most 1 loop.count (omega (arith, is.from)), at_most loop.count 32 (omega (arith, is.to))) refl
+  count_atom = rw (le-leb 1 loop.count (omega (arith, is.from)), le-leb loop.count 32 (omega (arith, is.to))) refl
 
   entry_count_is : IsRegisterFact params loop.count (entry_count loop)
   entry_count_is = record {
     number = numbered loop.count loop.count (omega arith) (omega (arith, is.to));
     low = omega arith;
     high = most;
-    interval = at_most 0 loop.most (omega arith);
+    interval = le-leb 0 loop.most (omega arith);
     says = record {
       few = omega arith;
       constant = omega arith;
-      terms = (record { atom = rw (at_most 1 (loop.count + 23) (omega arith), argument_atom) refl; coefficient = refl; fits = omega arith }, tt);
+      terms = (record { atom = rw (le-leb 1 (loop.count + 23) (omega arith), argument_atom) refl; coefficient = refl; fits = omega arith }, tt);
     };
   }
 
@@ -82,7 +68,7 @@ module _ (params : List Param) (loop : Loop) (is : IsFor params loop) (most : lo
     number = numbered loop.count loop.count (omega arith) (omega (arith, is.to));
     low = omega arith;
     high = most;
-    interval = at_most 1 loop.most some;
+    interval = le-leb 1 loop.most some;
     says = refl;
   }
 
@@ -91,34 +77,34 @@ module _ (params : List Param) (loop : Loop) (is : IsFor params loop) (most : lo
     number = numbered (place + 10) (place + 10) (omega arith) (omega (arith, l));
     low = base;
     high = base;
-    interval = at_most (base_of params place) (base_of params place) (omega arith);
+    interval = le-leb (base_of params place) (base_of params place) (omega arith);
     says = record { few = omega arith; constant = base; terms = tt };
   }
 
   loop_pointer_is : (place : ℕ) → place < 8 → base_of params place + size_of loop * loop.most < 2 ^ 32
       → IsRegisterFact params (place + 10) (loop_pointer params loop place)
   loop_pointer_is place l room =
-      let positive : 0 < size_of loop = size_some loop.sew in
+      let positive : 0 < size_of loop = width_some loop.sew in
       let small : size_of loop ≤ 4 = size_small loop.sew in
       let base : base_of params place < 2 ^ 32 = omega (arith, room) in
       record {
         number = numbered (place + 10) (place + 10) (omega arith) (omega (arith, l));
         low = base;
         high = room;
-        interval = at_most (base_of params place) (base_of params place + size_of loop * loop.most) (omega arith);
+        interval = le-leb (base_of params place) (base_of params place + size_of loop * loop.most) (omega arith);
         says = record {
           few = omega arith;
           constant = base;
           terms = (
             record {
-              atom = rw (at_most 1 loop.count (omega (arith, is.from)), count_atom) refl;
-              coefficient = below 0 (2 ^ 32 - size_of loop) (omega (arith, small));
+              atom = rw (le-leb 1 loop.count (omega (arith, is.from)), count_atom) refl;
+              coefficient = lt-ltb 0 (2 ^ 32 - size_of loop) (omega (arith, small));
               fits = omega (arith, positive);
             },
             (
               record {
-                atom = rw (at_most (loop.count + 1) (loop.count + 23) (omega arith), argument_atom) refl;
-                coefficient = below 0 (size_of loop) positive;
+                atom = rw (le-leb (loop.count + 1) (loop.count + 23) (omega arith), argument_atom) refl;
+                coefficient = lt-ltb 0 (size_of loop) positive;
                 fits = omega (arith, small);
               },
               tt,
@@ -139,8 +125,8 @@ module _ (params : List Param) (loop : Loop) (is : IsFor params loop) (most : lo
 
       by_test : (t : Bool) → (place + 10 == loop.count) ≡ t
           → IfSome (if t then Some of_count else (if is_flagged (place + 10) loop.pointers then Some (of_pointer place) else None)) P
-      by_test true e = count (equal (place + 10) loop.count e)
-      by_test false e = by_flag (is_flagged (place + 10) loop.pointers) (λ same. unequal (place + 10) loop.count e same) refl
+      by_test true e = count (eqb-true (place + 10) loop.count e)
+      by_test false e = by_flag (is_flagged (place + 10) loop.pointers) (λ same. eqb-false (place + 10) loop.count e same) refl
 
   abbrev Stated : ℕ → RegisterFact → Type 0
   Stated place f = (f.number ≡ place + 10) × IsRegisterFact params (place + 10) f
@@ -164,7 +150,7 @@ module _ (params : List Param) (loop : Loop) (is : IsFor params loop) (most : lo
   Equated number f = (f.number == number) && is_some f.equality
 
   other_number : (number : ℕ) (f : RegisterFact) → (f.number ≡ number → ⊥) → Equated number f ≡ false
-  other_number number f ne = rw (not_same f.number number ne) refl
+  other_number number f ne = rw (ne_eqb f.number number ne) refl
 
   -- an entry value is no register
   argument_free : (stated : ℕ → Option RegisterFact) → AreStated params stated → is_equated (facts_by stated) (loop.count + 23) ≡ false
@@ -213,16 +199,12 @@ return_is : (params : List Param) → IsRegisterFact params 1 (fact 1 exit exit 
 unfolding is_full
 return_is params = record { number = refl; low = omega arith; high = omega arith; interval = refl; says = refl }
 
-no_second : (factor register : ℕ) → is_second factor register 0 0 ≡ true
-unfolding is_second
-no_second factor register = refl
-
 block_is : (vlen : Vlen) (params : List Param) (from start constant factor register : ℕ) (stated : ℕ → Option RegisterFact)
     → from ≤ start → start % 4 ≡ 0 → start < 2 ^ 32 → constant < 2 ^ 32 → factor < 2 ^ 32 → is_budget factor register ≡ true
     → AreStated params stated → are_free (facts_by stated) ≡ true
     → IsBlock V1 vlen params from (block start (budget constant factor register) (facts_by stated))
 block_is vlen params from start constant factor register stated above aligned start_fits constant_fits factor_fits is_budget are free = record {
-  start = rw (at_most from start above, aligned) refl;
+  start = rw (le-leb from start above, aligned) refl;
   start_fits = start_fits;
   budget = record { constant = constant_fits; factor = factor_fits; register = is_budget; second_factor = omega arith; second = no_second factor register };
   vtype = tt;
@@ -240,7 +222,7 @@ loop_budget : (factor register : ℕ) → 0 < factor → 1 ≤ register → regi
 unfolding is_budget
 loop_budget factor register some first last =
     let not_zero : (factor == 0) ≡ false = grind (arith, nat_tests) in
-    rw (not_zero, at_most 1 register first, at_most register 31 last) refl
+    rw (not_zero, le-leb 1 register first, le-leb register 31 last) refl
 
 none_stated : (params : List Param) → AreStated params (λ place. None)
 none_stated params place l = tt

@@ -4,13 +4,14 @@ use Rattle.std.specs.Prelude.{Result, Ok, Err, IfOk, if◌then◌else◌, nat_le
 use Rattle.std.specs.List.{slice_get}
 use Rattle.std.specs.Option.{option_and_then, option_map_or}
 use Rattle.std.proofs.lemmas.Bool.Decides.{nat_tests}
+use Rattle.std.proofs.lemmas.Bool.{and_parts, le-leb}
 use Rattle.elf_image.specs.Image.{ImageView}
 use Rattle.rv_decode.specs.declared.instructions.Direction.TheVariants.{Load}
 use Rattle.region_mem.specs.declared.layout.TheConstants.{BUFFERS}
 use Rattle.region_mem.specs.declared.parameter.Param.{Param}
 use Rattle.region_mem.specs.declared.parameter.Param.TheVariants as parameter
 use Rattle.region_mem.specs.Parameter.{address_of, is_buffer, is_valid, room_of}
-use Rattle.region_mem.proofs.Rooms.{and_first, sum_by_room}
+use Rattle.region_mem.proofs.Rooms.{sum_by_room}
 use Rattle.cert_note.specs.Certificate.{is_scalar}
 use Rattle.cert_maker.specs.declared.loops.Loop.{Loop}
 use Rattle.cert_maker.specs.declared.loops.Reading.TheVariants.{Works}
@@ -18,7 +19,6 @@ use Rattle.cert_maker.specs.Loops.{size_of, is_buffer_for, may_be, is_flagged, l
 use Rattle.cert_maker.specs.Certificates.{base_of}
 use Rattle.cert_maker.specs.Make.{AreParameters, IsFor, has_room}
 use Rattle.region_mem.specs.declared.parameter.Mode.{Mode}
-use Rattle.cert_maker.proofs.Accesses.{le_true}
 use Rattle.cert_maker.proofs.IsRounds.{IsRead, count_same, keeps, read_all, room_in, scalar_there}
 use Rattle.cert_maker.proofs.LoopWalks.{inside}
 use Rattle.cert_maker.proofs.Rounds.{valid_at}
@@ -28,7 +28,7 @@ use Rattle.cert_maker.proofs.Rounds.{valid_at}
 room_read : (params : List Param) (loop : Loop) (place size : ℕ) (access : Mode) → slice_get params place ≡ Some (parameter.Buffer access size)
     → loop.most * size_of loop ≤ size → has_room params loop place ≡ true
 unfolding is_buffer_for may_be
-room_read params loop place size access is l = rw (is, le_true (loop.most * size_of loop) size l) refl
+room_read params loop place size access is l = rw (is, le-leb (loop.most * size_of loop) size l) refl
 
 is_for : (image : ImageView) (params : List Param) (through : Loop × ℕ) → IsRead image params through → IsFor params through.0
 unfolding is_scalar
@@ -78,7 +78,7 @@ room_fits params loop place are is l flag = by_param (slice_get params place) re
     by_param (Some parameter.None) e h = absurd (cc)
     by_param (Some (parameter.Scalar lo hi)) e h = absurd (cc)
     by_param (Some (parameter.Buffer access size)) e h =
-        let fits : nat_le (loop.most * size_of loop) size ≡ true = and_first _ _ h in
+        let fits : nat_le (loop.most * size_of loop) size ≡ true = (and_parts _ _ h).0 in
         let small : nat_le size 16777216 ≡ true = valid_at params place (parameter.Buffer access size) are.valid e in
         let first : loop.most * size_of loop ≤ size = grind (arith, nat_tests) in
         let second : size ≤ 16777216 = grind (arith, nat_tests) in

@@ -1,9 +1,9 @@
 -- A loop that is read through is a round of which all is true that the check needs.
 use Rattle.std.proofs.Common.{◌≡◌, ◌≢◌, ℕ, ◌+◌, ◌-◌, ◌*◌, ◌^◌, ◌<◌, ◌≤◌, inl, inr, zero, suc, Bool, true, false, refl, sym, ap, ◌∙◌, subst, arith, Some, None, List, [], ◌∷◌, length}
 use Rattle.std.proofs.Math.Nat.{mul_comm}
-use Rattle.std.specs.Prelude.{Result, Ok, if◌then◌else◌, nat_le}
+use Rattle.std.specs.Prelude.{Result, Ok, if◌then◌else◌}
 use Rattle.std.specs.List.{slice_get, AllByRecursion}
-use Rattle.std.proofs.lemmas.Bool.Decides.{nat_tests}
+use Rattle.std.proofs.lemmas.Bool.{leb-true}
 use Rattle.elf_image.specs.Image.{ImageView, IsImage}
 use Rattle.linear_facts.specs.LoopForms.{IsSize}
 use Rattle.rv_decode.specs.Encodings.{FieldsFit}
@@ -14,7 +14,7 @@ use Rattle.region_mem.specs.Parameter.{is_valid}
 use Rattle.region_mem.specs.declared.parameter.Param.{Param}
 use Rattle.region_mem.specs.declared.parameter.Param.TheVariants as parameter
 use Rattle.scalar_core.specs.Step.{offset_by}
-use Rattle.vreg_groups.specs.VectorLength.{IsVlenb, vlenb_of}
+use Rattle.vreg_groups.specs.VectorLength.{vlenb_of}
 use Rattle.rv_decode.specs.Instructions.{bytes_of_width}
 use Rattle.vreg_groups.specs.VectorType.{vlmax_of}
 use Rattle.vreg_groups.specs.declared.vector_length.Vlen.{Vlen}
@@ -32,6 +32,7 @@ use Rattle.cert_maker.proofs.Readings.{followed, none_flagged, read_is, through_
 use Rattle.cert_maker.proofs.LoopWalks.{fits_at, same_alike}
 use Rattle.cert_maker.proofs.Rounds.{HasBuffer, Keeps, room_there, through_keeps, valid_at}
 use Rattle.vreg_groups.proofs.Sizes.{vlmax_small}
+use Rattle.abs_state.proofs.StartMachines.{vlen_is}
 use Rattle.cert_maker.proofs.Starts.{vlmax_positive}
 use Rattle.cert_maker.proofs.Throughs.{IsWhole, whole_is}
 
@@ -108,11 +109,6 @@ size_is W8 = inl refl
 size_is W16 = inr (inl refl)
 size_is W32 = inr (inr refl)
 
-pub is_vlenb : (vlen : Vlen) → IsVlenb (vlenb_of vlen)
-is_vlenb V128 = inl refl
-is_vlenb V256 = inr (inl refl)
-is_vlenb V512 = inr (inr refl)
-
 vlenb_few : (vlen : Vlen) → vlenb_of vlen ≤ 64
 vlenb_few V128 = omega arith
 vlenb_few V256 = omega arith
@@ -134,10 +130,7 @@ fits_there (q ∷ qs) (suc place) p fit e = fits_there qs place p fit.1 e
 
 least_below : (least most : ℕ) → is_valid (parameter.Scalar least most) ≡ true → least ≤ most
 unfolding is_valid
-least_below least most e = at_most least most e
-  where
-    at_most : (a b : ℕ) → nat_le a b ≡ true → a ≤ b
-    at_most a b f = grind (arith, nat_tests)
+least_below least most e = leb-true least most e
 
 -- ---- the round
 
@@ -238,7 +231,7 @@ module _ (image : ImageView) (params : List Param) (through : Loop × ℕ) (read
           some = some;
           least = first.least;
           fits = first.fits;
-          progress = vlmax_positive (vlenb_of vlen) read.second_is.vector_type (is_vlenb vlen);
+          progress = vlmax_positive (vlenb_of vlen) read.second_is.vector_type (vlen_is vlen);
           short = vlmax_few vlen read.second_is.vector_type;
           flags = keeps.flags;
           end = subst (λ (x : ℕ). x < 2 ^ 32) (sym end_is) (omega arith);

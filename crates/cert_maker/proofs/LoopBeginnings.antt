@@ -1,10 +1,10 @@
 -- What is known of the numbers where the loop's block begins.
-use Rattle.std.proofs.Common.{◌≡◌, ℕ, ◌+◌, ◌-◌, ◌*◌, ◌^◌, ◌<◌, ◌≤◌, true, ap, ◌∙◌, subst, arith, Option, Some, [], length, min, max}
+use Rattle.std.proofs.Common.{◌≡◌, ℕ, ◌+◌, ◌-◌, ◌*◌, ◌<◌, ◌≤◌, true, ap, ◌∙◌, subst, arith, Option, Some, [], length, min, max}
 use Rattle.std.specs.Option.{option_and_then}
 use Rattle.linear_facts.specs.Forms.{atom_form, number_form}
 use Rattle.linear_facts.specs.Ranges.{range_at}
 use Rattle.linear_facts.specs.LoopForms.{pointer_form}
-use Rattle.linear_facts.proofs.LoopRanges.{atom-range, pointer-range}
+use Rattle.linear_facts.proofs.LoopRanges.{atom-range, pointer-range, by_size}
 use Rattle.scalar_core.specs.Hart.{exit}
 use Rattle.cert_note.specs.declared.values.RegisterFact.{RegisterFact}
 use Rattle.abs_domain.specs.Values.{just}
@@ -16,10 +16,9 @@ use Rattle.cert_maker.specs.Known.{Round, IsRound, IsThere, known, atom_of, byte
 use Rattle.cert_maker.specs.Laws.{IsCount}
 use Rattle.cert_maker.proofs.Accesses.{met_high}
 use Rattle.cert_maker.proofs.Ending.{loop_places}
-use Rattle.cert_maker.proofs.Equalities.{by_size}
-use Rattle.cert_maker.proofs.Going.{count_other, one_fits}
+use Rattle.cert_maker.proofs.Going.{count_other, one_fits, span, spans_same, fits_once}
 use Rattle.cert_maker.proofs.Returns.{ra_is}
-use Rattle.cert_maker.proofs.Beginnings.{span, spans_same, part_met, begin_forms, begin_ranges, begin_atoms, register_range, argument_range, none_split, begins_as, zero_is, range_stated, form_stated, count_stated, pointer_stated, scalar_range}
+use Rattle.cert_maker.proofs.Beginnings.{part_met, begin_forms, begin_ranges, begin_atoms, register_range, argument_range, none_split, begins_as, zero_is, range_stated, form_stated, count_stated, pointer_stated, scalar_range}
 
 loop_pays : (base x y w : ℕ) → x ≤ y → w ≤ y → max base (base + x - y) ≤ min (base + y) (base + y - w)
 loop_pays base x y w l m = omega (arith, l, m)
@@ -29,9 +28,6 @@ low_end base x y l = omega (arith, l)
 
 high_end : (base y w : ℕ) → min (base + y) (base + y - w) ≡ base + y - w
 high_end base y w = omega arith
-
-fits_less : (base b : ℕ) → base + b + b < 2 ^ 32 → base + b < 2 ^ 32
-fits_less base b l = omega (arith, l)
 
 module _ (k : Round) (is : IsRound k) where
   abbrev n : ℕ
@@ -124,7 +120,7 @@ module _ (k : Round) (is : IsRound k) where
       ∙ ap (λ (o : Option RegisterFact). form_or_atom (place + 10) (option_and_then (λ f. f.equality) o)) here)
       (range_stated k.params stated (loop_places k.params k.loop) place l ∙ ap (λ (o : Option RegisterFact). interval_of o) here)
       (pointer-range (table_of loop_start) base (size_of k.loop) n e k.least k.loop.most (omega arith) n_range e_range (none_split k.params stated n)
-      (none_split k.params stated e) is.some is.least is.size room.low (fits_less base (bytes_of k.loop) room.high))
+      (none_split k.params stated e) is.some is.least is.size room.low (fits_once base (bytes_of k.loop) room.high))
       (met_high base (base + bytes_of k.loop) (base + size_of k.loop * k.least - bytes_of k.loop) (base + bytes_of k.loop - size_of k.loop)
       (loop_pays base (size_of k.loop * k.least) (bytes_of k.loop) (size_of k.loop) least_bytes (one_fits k is))
       ∙ spans_same _ _ _ _ (low_end base (size_of k.loop * k.least) (bytes_of k.loop) least_bytes) (high_end base (bytes_of k.loop) (size_of k.loop)))

@@ -1,5 +1,6 @@
 -- The block of a loop passes.
 use Rattle.std.proofs.Common.{◌≡◌, ◌≢◌, ℕ, ◌+◌, ◌*◌, ◌<◌, ◌≤◌, refl, sym, ap, ◌∙◌, subst, arith, Some, None, List, length, min}
+use Rattle.std.proofs.lemmas.Bool.{ne_eqb}
 use Rattle.std.specs.Prelude.{Ok}
 use Rattle.linear_facts.specs.Forms.{atom_form}
 use Rattle.linear_facts.specs.LoopForms.{IsLoop}
@@ -26,7 +27,6 @@ use Rattle.cert_maker.specs.Certificates.{block, budget, loop_facts}
 use Rattle.cert_maker.specs.Known.{Round, IsRound, IsCertified, HasAtoms, InWorks, IsWithin, Known, known, atom_of, done_of}
 use Rattle.cert_maker.specs.Laws.{IsSet}
 use Rattle.cert_maker.proofs.Closing.{rounds-end}
-use Rattle.cert_maker.proofs.Ending.{not_same}
 use Rattle.cert_maker.proofs.IsCertificateLemmas.{view_of}
 use Rattle.cert_maker.proofs.Leading.{next_leads}
 use Rattle.cert_maker.proofs.LoopBeginnings.{atoms_begin, count_begins, count_is, loop_start, pointer_begins, ra_begins, zero_begins}
@@ -50,9 +50,9 @@ set_by : (pc rd rs1 bits : ℕ) (t : Vtype) (a : AbstractView) → rs1 ≢ 0 →
     → IsSetBy rd rs1 bits t a (vset_after pc (Vsetvli rd rs1 bits) a)
 unfolding vset_after wanted_of configured known_request supported_request
 set_by pc rd rs1 bits t a ne is = record {
-  numbers = rw (not_same rs1 0 ne, is) refl;
+  numbers = rw (ne_eqb rs1 0 ne, is) refl;
   zones = refl;
-  vtype = rw (not_same rs1 0 ne, is) refl;
+  vtype = rw (ne_eqb rs1 0 ne, is) refl;
   budget = refl;
   paid = refl;
   second_paid = refl;

@@ -1,22 +1,23 @@
 -- A pointer that is moved on by what was done.
-use Rattle.std.proofs.Common.{◌≡◌, ℕ, ◌+◌, ◌-◌, ◌*◌, ◌^◌, ◌<◌, ◌≤◌, Bool, true, false, refl, ap, ◌∙◌, arith, Option, Some, None, List, [], ◌∷◌, min, max}
+use Rattle.std.proofs.Common.{◌≡◌, ℕ, ◌+◌, ◌-◌, ◌*◌, ◌^◌, ◌<◌, ◌≤◌, Bool, true, false, refl, ap, ◌∙◌, arith, Option, Some, None, [], ◌∷◌, min, max}
 use Rattle.std.specs.Prelude.{slice_index_or, if◌then◌else◌, nat_le, ◌==◌}
 use Rattle.std.proofs.lemmas.Bool.Decides.{nat_tests}
+use Rattle.std.proofs.lemmas.Bool.{le-leb, lt-ltb}
 use Rattle.linear_facts.specs.declared.ranges.Range.{Range}
-use Rattle.linear_facts.specs.declared.forms.Term.{Term}
-use Rattle.linear_facts.specs.Forms.{Linear, sum_of, within, substituted}
+use Rattle.linear_facts.specs.Forms.{sum_of, within, substituted}
 use Rattle.linear_facts.specs.Sums.{range_of_form}
 use Rattle.abs_domain.specs.Values.{just, computed_range, or_own}
 use Rattle.abs_domain.specs.Effects.{register_effect, sum_effect, sum_range}
 use Rattle.abs_domain.specs.Numbers.{NumbersView, value_at, with_short, with_computed, with_effect, with_result}
 use Rattle.abs_state.specs.Branches.{EdgeView, value_on, table_on}
-use Rattle.abs_state.specs.Edges.{is_same, are_same_terms, is_interval_shown, is_equality_shown, is_sum_shown}
+use Rattle.abs_state.specs.Edges.{is_same, is_interval_shown, is_equality_shown, is_sum_shown}
+use Rattle.abs_state.proofs.Substitutions.{own_form}
 use Rattle.linear_facts.specs.LoopForms.{term, pointer_form, moved_form}
 use Rattle.cert_maker.specs.Laws.{IsPointer, IsStep, Moved, PointersMove, PointersReturn}
 use Rattle.cert_maker.proofs.Equalities.{sum_parts, back-equality}
-use Rattle.cert_maker.proofs.Accesses.{behind, met_high, lt_true, le_true}
+use Rattle.cert_maker.proofs.Accesses.{behind, met_high}
 
-not_zero : (p : ℕ) → 0 < p → (p == 0) ≡ false
+pub not_zero : (p : ℕ) → 0 < p → (p == 0) ≡ false
 not_zero p l = grind (arith, nat_tests)
 
 module _ (s : NumbersView) (base w n e v N m q p step lo hi : ℕ) (is : IsPointer s base w n e v N m q p) (by : IsStep s w v m step lo hi) where
@@ -31,8 +32,8 @@ module _ (s : NumbersView) (base w n e v N m q p step lo hi : ℕ) (is : IsPoint
       rw (
         is.range,
         by.range,
-        lt_true (base + lo) (2 ^ 32) (omega (arith, is.fits, by.least, by.filled, by.most, is.most)),
-        lt_true (base + w * N - w + hi) (2 ^ 32) (omega (arith, is.fits, by.most, is.most)),
+        lt-ltb (base + lo) (2 ^ 32) (omega (arith, is.fits, by.least, by.filled, by.most, is.most)),
+        lt-ltb (base + w * N - w + hi) (2 ^ 32) (omega (arith, is.fits, by.most, is.most)),
       ) refl
 
   moved_range : Range
@@ -57,21 +58,6 @@ pub pointers-move : PointersMove
 pointers-move s base w n e v N m q p step lo hi is by = moves s base w n e v N m q p step lo hi is by
 
 -- ---- the way back
-
-same_terms : (ts : List Term) → are_same_terms ts ts ≡ true
-unfolding are_same_terms
-same_terms [] = refl
-same_terms (t ∷ ts) = rw (same t.atom, same t.coefficient, same_terms ts) refl
-  where
-    same : (a : ℕ) → (a == a) ≡ true
-    same a = grind (arith, nat_tests)
-
-pub same_form : (f : Linear) → is_same f f ≡ true
-unfolding is_same
-same_form f = rw (same f.constant, same_terms f.terms) refl
-  where
-    same : (a : ℕ) → (a == a) ≡ true
-    same a = grind (arith, nat_tests)
 
 -- a range that is met with another one stays within
 pub computed_within : (own : Range) (o : Option Range) (low high : ℕ) → low ≤ own.lo → own.hi ≤ high
@@ -107,7 +93,7 @@ pub pointers-return : PointersReturn
 unfolding is_interval_shown is_equality_shown is_sum_shown value_on
 pointers-return edge base w n e v N p size small l g form at_n at_e low high =
     let in_range = edge_within edge p base (base + w * N) low high in
-    ((rw (le_true _ _ in_range.0, le_true _ _ in_range.1) refl), shown)
+    ((rw (le-leb _ _ in_range.0, le-leb _ _ in_range.1) refl), shown)
   where
     shown : is_same (substituted edge.state.numbers.forms (pointer_form base w n e)) (value_at edge.state.numbers p).form ≡ true
-    shown = rw (back-equality edge.state.numbers.forms base w n e v size small l g at_n at_e, form) (same_form (moved_form base w n e v))
+    shown = rw (back-equality edge.state.numbers.forms base w n e v size small l g at_n at_e, form) (own_form (moved_form base w n e v))

@@ -1,14 +1,13 @@
 -- What the steps of a reading gave, and what argument registers hold.
-use Rattle.std.proofs.Common.{◌≡◌, ℕ, ◌+◌, ◌-◌, ◌<◌, ◌≤◌, Bool, true, false, ◌&&◌, refl, sym, ap, ◌∙◌, arith, Option, Some, None, List, replicate}
+use Rattle.std.proofs.Common.{◌≡◌, ℕ, ◌+◌, ◌-◌, ◌<◌, ◌≤◌, Bool, true, false, ◌&&◌, refl, sym, ap, ◌∙◌, Option, Some, None, List, replicate}
 use Rattle.std.specs.Prelude.{Result, Ok, Err, if◌then◌else◌, nat_le, nat_lt, unwrap_or, ok_or}
 use Rattle.std.specs.List.{slice_get}
 use Rattle.std.specs.Option.{option_and_then}
-use Rattle.std.proofs.lemmas.Bool.Decides.{nat_tests}
+use Rattle.std.proofs.lemmas.Bool.{and_parts, leb-true, ltb-true}
 use Rattle.std.proofs.lemmas.List.{get_or-replicate}
 use Rattle.elf_image.specs.Image.{ImageView}
 use Rattle.rv_decode.specs.declared.instructions.Insn.{Insn}
 use Rattle.region_mem.specs.declared.parameter.Param.{Param}
-use Rattle.region_mem.proofs.Rooms.{and_first, and_second}
 use Rattle.cert_maker.specs.declared.loops.Loop.{Loop}
 use Rattle.cert_maker.specs.Loops.{◌>>=◌, parameter_in, is_flagged, insn_at, read_at}
 use Rattle.cert_maker.proofs.Flags.{flag_at}
@@ -19,13 +18,7 @@ some_is {A} x y e = ap (λ (o : Option A). unwrap_or o x) e
 -- ---- argument registers
 
 in_place : (r : ℕ) → (nat_le 10 r && nat_lt r 18) ≡ true → (10 ≤ r) × (r < 18)
-in_place r e = (first (and_first _ _ e), second (and_second _ _ e))
-  where
-    first : nat_le 10 r ≡ true → 10 ≤ r
-    first f = grind (arith, nat_tests)
-
-    second : nat_lt r 18 ≡ true → r < 18
-    second f = grind (arith, nat_tests)
+in_place r e = (leb-true 10 r (and_parts _ _ e).0, ltb-true r 18 (and_parts _ _ e).1)
 
 pub parameter_there : (params : List Param) (r : ℕ) (p : Param) → parameter_in params r ≡ Some p
     → (10 ≤ r) × (r < 18) × (slice_get params (r - 10) ≡ Some p)

@@ -1,7 +1,8 @@
 -- The block of the return passes.
 use Rattle.std.proofs.Common.{◌≡◌, ℕ, ◌+◌, ◌≤◌, Bool, true, false, refl, ap, ◌∙◌, subst, arith, Option, Some, None, List, [], max, min}
-use Rattle.std.specs.Prelude.{ℤ, Ok, if◌then◌else◌, ◌==◌, ◌&&◌, nat_le}
+use Rattle.std.specs.Prelude.{ℤ, Ok, if◌then◌else◌, nat_le}
 use Rattle.std.proofs.lemmas.Bool.Decides.{nat_tests}
+use Rattle.std.proofs.lemmas.Bool.{and_parts, eqb-true, le-leb}
 use Rattle.linear_facts.specs.declared.ranges.Range.{Range}
 use Rattle.elf_image.specs.Image.{ImageView}
 use Rattle.rv_decode.specs.declared.instructions.Insn.{Insn}
@@ -30,7 +31,6 @@ use Rattle.block_checker.specs.Passes.{edges_pass, possible_passes, edge_passes,
 use Rattle.cert_maker.specs.Loops.{insn_at, is_return}
 use Rattle.cert_maker.specs.Certificates.{facts_by, budget, block}
 use Rattle.cert_maker.specs.Laws.{ReturnsPass}
-use Rattle.cert_maker.proofs.Accesses.{le_true}
 use Rattle.cert_maker.proofs.LoopWalks.{word_is, stops}
 
 -- a range of one number stays what it is
@@ -70,22 +70,14 @@ unfolding possible_passes refined edge_by edge_passes block_for implied_by impli
 ends_there certificate pc b way paid words =
     let edge : EdgeView = plain_edge b (Some exit) in
     let le : most_of (next_total edge no_budget) ≤ least_of (own_total edge (budget 1 0 0)) = omega (arith, words) in
-    rw (way, paid, le_true (most_of (next_total edge no_budget)) (least_of (own_total edge (budget 1 0 0))) le) refl
-
-both_true : (a b : Bool) → (a && b) ≡ true → (a ≡ true) × (b ≡ true)
-both_true true true e = (refl, refl)
-both_true true false e = cc
-both_true false b e = cc
-
-same_number : (a b : ℕ) → (a == b) ≡ true → a ≡ b
-same_number a b e = grind (arith, nat_tests)
+    rw (way, paid, le-leb (most_of (next_total edge no_budget)) (least_of (own_total edge (budget 1 0 0))) le) refl
 
 is_jump : (insn : Insn) → is_return insn ≡ true → (offset : ℤ) × (insn ≡ Scalar (Jalr 0 1 offset)) × (unsigned offset ≡ 0)
 unfolding is_return
 is_jump (Scalar (Jalr rd rs1 offset)) e =
-    let first = both_true _ _ e in
-    let second = both_true _ _ first.0 in
-    (offset, parts _ _ (same_number _ _ second.0) (same_number _ _ second.1) offset, same_number _ _ first.1)
+    let first = and_parts _ _ e in
+    let second = and_parts _ _ first.0 in
+    (offset, parts _ _ (eqb-true _ _ second.0) (eqb-true _ _ second.1) offset, eqb-true _ _ first.1)
   where
     parts : (a b : ℕ) → a ≡ 0 → b ≡ 1 → (offset : ℤ) → Scalar (Jalr a b offset) ≡ Scalar (Jalr 0 1 offset)
     parts a b e f offset = rw (e, f) refl

@@ -2,11 +2,10 @@
 use Rattle.std.proofs.Common.{◌≡◌, ◌≢◌, ℕ, ◌+◌, ◌-◌, ◌*◌, ◌^◌, ◌<◌, ◌≤◌, ◌⊎◌, inl, inr, zero, suc, Bool, true, false, refl, sym, ap, ◌∙◌, subst, arith, Option, Some, None, List, [], ◌∷◌, length}
 use Rattle.std.proofs.Common.{get_or-set_other}
 use Rattle.std.proofs.Math.ListN.{length-set}
-use Rattle.std.specs.Prelude.{Ok, if◌then◌else◌, nat_le, slice_set, take, sum_by, unwrap_or}
+use Rattle.std.specs.Prelude.{Ok, if◌then◌else◌, slice_set, take, sum_by, unwrap_or}
 use Rattle.std.specs.List.{list_all, slice_get}
 use Rattle.std.specs.Option.{option_map_or}
-use Rattle.std.proofs.lemmas.Bool.{cases_eq}
-use Rattle.std.proofs.lemmas.Bool.Decides.{nat_tests}
+use Rattle.std.proofs.lemmas.Bool.{cases_eq, leb-true, and_parts}
 use Rattle.elf_image.specs.Image.{ImageView}
 use Rattle.rv_decode.specs.declared.instructions.Condition.TheVariants.{Ne}
 use Rattle.rv_decode.specs.declared.instructions.Direction.{Direction}
@@ -30,7 +29,6 @@ use Rattle.cert_maker.specs.declared.loops.Reading.TheVariants.{Works, Moves, Ba
 use Rattle.cert_maker.specs.Loops.{size_of, is_flagged, is_arithmetic, is_buffer_for, is_access, with_pointer, moved_by, shift_of, step_by, works_on, back_by, next_of, loop_from}
 use Rattle.cert_maker.specs.Certificates.{base_of}
 use Rattle.cert_maker.specs.Known.{AreAlike, HasRoom, bytes_of, is_pointer}
-use Rattle.cert_maker.proofs.Bodies.{both_true}
 use Rattle.cert_maker.proofs.Flags.{flag_at}
 use Rattle.cert_maker.proofs.Going.{test_of}
 use Rattle.cert_maker.proofs.LoopWalks.{alike_with_pointer, ends}
@@ -40,18 +38,15 @@ use Rattle.cert_maker.proofs.Working.{access_parts, differ}
 
 pub valid_at : (params : List Param) (place : ℕ) (param : Param) → list_all is_valid params ≡ true → slice_get params place ≡ Some param → is_valid param ≡ true
 valid_at [] place param all e = cc
-valid_at (x ∷ xs) zero param all e = subst (λ (p : Param). is_valid p ≡ true) (same x param e) (both_true _ _ all).0
+valid_at (x ∷ xs) zero param all e = subst (λ (p : Param). is_valid p ≡ true) (same x param e) (and_parts _ _ all).0
   where
     same : (a b : Param) → Some a ≡ Some b → a ≡ b
     same a b f = cc
-valid_at (x ∷ xs) (suc place) param all e = valid_at xs place param (both_true _ _ all).1 e
+valid_at (x ∷ xs) (suc place) param all e = valid_at xs place param (and_parts _ _ all).1 e
 
 size_small : (access : Mode) (size : ℕ) → is_valid (parameter.Buffer access size) ≡ true → size ≤ 16777216
 unfolding is_valid
-size_small access size e = at_most size 16777216 e
-  where
-    at_most : (a b : ℕ) → nat_le a b ≡ true → a ≤ b
-    at_most a b f = grind (arith, nat_tests)
+size_small access size e = leb-true size 16777216 e
 
 address_is : (params : List Param) (place size : ℕ) (access : Mode) → slice_get params place ≡ Some (parameter.Buffer access size)
     → address_of place params ≡ Some (1073741824 + sum_by room_of (take place params))
@@ -128,10 +123,7 @@ unfolding is_buffer_for
 buffer_is d bytes None e = cc
 buffer_is d bytes (Some parameter.None) e = cc
 buffer_is d bytes (Some (parameter.Scalar lo hi)) e = cc
-buffer_is d bytes (Some (parameter.Buffer access size)) e = (access, size, refl, at_most bytes size (both_true _ _ e).0)
-  where
-    at_most : (a b : ℕ) → nat_le a b ≡ true → a ≤ b
-    at_most a b f = grind (arith, nat_tests)
+buffer_is d bytes (Some (parameter.Buffer access size)) e = (access, size, refl, leb-true bytes size (and_parts _ _ e).0)
 
 module _ (params : List Param) (first : Loop) where
   set_keeps : (of : Loop) (r : ℕ) → 10 ≤ r → r < 18 → Keeps params first of → HasBuffer params first (r - 10) → Keeps params first (with_pointer r of)
@@ -172,7 +164,7 @@ module _ (params : List Param) (first : Loop) where
   unfolding works_on
   works_keeps of (VMem insn) next e keeps =
       let read = test_of _ (Works (with_pointer insn.rs1 of)) next e in
-      subst (λ (r : Reading). Keeps params first (loop_in r)) read.1 (access_keeps of insn (both_true _ _ read.0).0 keeps)
+      subst (λ (r : Reading). Keeps params first (loop_in r)) read.1 (access_keeps of insn (and_parts _ _ read.0).0 keeps)
   works_keeps of other next e keeps = by_tests (is_arithmetic other) (is_legal record { vtype = of.vtype; vl = 0 } other) _ next e (λ f. step_keeps of (shift_of of.sew) other next f)
     where
       by_tests : (t u : Bool) (o : Option Reading) (next : Reading) → (if t then (if u then Some (Works of) else None) else o) ≡ Some next

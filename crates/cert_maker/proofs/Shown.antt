@@ -1,7 +1,7 @@
 -- What an edge shows of a block whose facts are stated by place.
 use Rattle.std.proofs.Common.{◌≡◌, ◌≢◌, ℕ, ◌+◌, ◌<◌, ◌≤◌, Bool, true, false, refl, ap, arith, subst, sym, Option, Some, None, IfSome, List}
 use Rattle.std.specs.Prelude.{Ok, if◌then◌else◌, ◌==◌, slice_index_or}
-use Rattle.std.proofs.lemmas.Bool.Decides.{nat_tests}
+use Rattle.std.proofs.lemmas.Bool.{eqb-true, ne_eqb, le-leb}
 use Rattle.scalar_core.specs.Hart.{exit}
 use Rattle.linear_facts.specs.declared.ranges.Range.{Range}
 use Rattle.cert_note.specs.Certificate.{CertificateView}
@@ -18,7 +18,6 @@ use Rattle.cert_maker.specs.Loops.{is_flagged}
 use Rattle.cert_maker.specs.Certificates.{fact, facts_by, stated_by, block}
 use Rattle.cert_maker.specs.Known.{is_pointer}
 use Rattle.cert_maker.specs.Laws.{FactsByPlace}
-use Rattle.cert_maker.proofs.Accesses.{le_true}
 use Rattle.cert_maker.proofs.Facts.{facts-are}
 use Rattle.cert_maker.proofs.Moves.{edge_within}
 
@@ -63,7 +62,7 @@ pub interval_shown : (e : EdgeView) (f : RegisterFact) → f.low ≤ (slice_inde
 unfolding is_interval_shown
 interval_shown e f low high =
     let inside = edge_within e f.number f.low f.high low high in
-    rw (le_true _ _ inside.0, le_true _ _ inside.1) refl
+    rw (le-leb _ _ inside.0, le-leb _ _ inside.1) refl
 
 -- ra is EXIT
 pub exit_shown : (e : EdgeView) → slice_index_or e.ranges 1 (just 0) ≡ just exit → is_interval_shown e (fact 1 exit exit None) ≡ true
@@ -73,9 +72,6 @@ exit_shown e at =
 
 -- ---- what is stated of the count and of pointers
 
-same_number : (a b : ℕ) → (a == b) ≡ true → a ≡ b
-same_number a b e = grind (arith, nat_tests)
-
 pub if_stated : (P : RegisterFact → Type 0) (loop : Loop) (of_count : RegisterFact) (of_pointer : ℕ → RegisterFact) (place : ℕ)
     → (place + 10 ≡ loop.count → P of_count) → (is_pointer loop place ≡ true → P (of_pointer place))
     → IfSome (stated_by loop of_count of_pointer place) P
@@ -84,19 +80,16 @@ if_stated P loop of_count of_pointer place at_count at_pointer =
   where
     by_tests : (t u : Bool) → (place + 10 == loop.count) ≡ t → is_flagged (place + 10) loop.pointers ≡ u
         → IfSome (if t then Some of_count else (if u then Some (of_pointer place) else None)) P
-    by_tests true u e f = at_count (same_number _ _ e)
+    by_tests true u e f = at_count (eqb-true _ _ e)
     by_tests false true e f = at_pointer f
     by_tests false false e f = tt
 
 -- ---- an edge to a block
 
-not_same : (a b : ℕ) → a ≢ b → (a == b) ≡ false
-not_same a b ne = grind (arith, nat_tests)
-
 for_block : (o : Option ℕ) (address : ℕ) (blocks : List Block) (b : Block) → o ≡ Some address → address ≢ exit → block_at address blocks ≡ Some b
     → block_for o blocks ≡ Some b
 unfolding block_for
-for_block o address blocks b is ne at = rw (is, not_same address exit ne) at
+for_block o address blocks b is ne at = rw (is, ne_eqb address exit ne) at
 
 told : (pc : ℕ) (e : EdgeView) (o : Option Block) (b : Block) → o ≡ Some b → implies_block e b ≡ Ok tt → told_at pc (implied_by e o) ≡ Ok tt
 unfolding implied_by

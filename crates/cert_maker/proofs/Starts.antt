@@ -1,7 +1,6 @@
 -- What is known behind the word that sets vl from the count.
-use Rattle.std.proofs.Common.{◌≡◌, ◌≢◌, ℕ, ◌+◌, ◌-◌, ◌<◌, ◌≤◌, false, refl, sym, ◌∙◌, subst, arith, length, min}
+use Rattle.std.proofs.Common.{◌≡◌, ◌≢◌, ℕ, ◌+◌, ◌-◌, ◌<◌, ◌≤◌, refl, sym, ◌∙◌, subst, arith, length, min}
 use Rattle.std.proofs.Common.{inl, inr, ◌*◌, ◌/◌}
-use Rattle.std.specs.Prelude.{◌==◌}
 use Rattle.rv_decode.specs.declared.instructions.Width.{Width}
 use Rattle.rv_decode.specs.declared.instructions.Width.TheVariants.{W8, W16, W32}
 use Rattle.vreg_groups.specs.declared.vector_type.Lmul.{Lmul}
@@ -10,7 +9,6 @@ use Rattle.vreg_groups.specs.declared.vector_type.Vtype.{Vtype}
 use Rattle.rv_decode.specs.Instructions.{bits_of_width}
 use Rattle.vreg_groups.specs.VectorType.{eighths_of, vlmax_of}
 use Rattle.vreg_groups.specs.VectorLength.{IsVlenb}
-use Rattle.std.proofs.lemmas.Bool.Decides.{nat_tests}
 use Rattle.std.proofs.lemmas.Nat.{le-div, mul-le}
 use Rattle.std.proofs.Math.ListN.{length-set}
 use Rattle.linear_facts.specs.declared.ranges.Range.{Range}
@@ -23,9 +21,7 @@ use Rattle.abs_domain.proofs.States.{this_value, other_value}
 use Rattle.linear_facts.specs.LoopForms.{IsLoop}
 use Rattle.cert_maker.specs.Laws.{AreSplit, IsCount, IsSet, LengthsAreSet}
 use Rattle.cert_maker.proofs.Lengths.{are_split}
-
-not_zero : (p : ℕ) → 0 < p → (p == 0) ≡ false
-not_zero p l = grind (arith, nat_tests)
+use Rattle.cert_maker.proofs.Moves.{not_zero}
 
 module _ (s : NumbersView) (n t e L N M : ℕ) (is : IsCount s n t e L N M) where
   abbrev k : ℕ

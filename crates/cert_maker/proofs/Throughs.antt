@@ -1,6 +1,7 @@
 -- How many words a loop has that is read through, and where the branch before it leads.
 use Rattle.std.proofs.Common.{◌≡◌, ℕ, ◌+◌, ◌-◌, ◌*◌, ◌/◌, ◌≤◌, refl, subst, arith, Some, List}
 use Rattle.std.proofs.lemmas.Int.{ints}
+use Rattle.std.proofs.lemmas.Bool.{and_parts, eqb-true}
 use Rattle.std.specs.Prelude.{ℤ, pos, negsuc, Ok, ◌≤ℤ◌}
 use Rattle.elf_image.specs.Image.{ImageView, IsImage}
 use Rattle.rv_decode.specs.Encodings.{FieldsFit}
@@ -14,10 +15,9 @@ use Rattle.cert_maker.specs.declared.loops.Loop.{Loop}
 use Rattle.cert_maker.specs.declared.loops.Reading.{Reading}
 use Rattle.cert_maker.specs.declared.loops.Reading.TheVariants.{Works, Moves, Back, Through}
 use Rattle.cert_maker.specs.Loops.{back_by, next_of, loop_from}
-use Rattle.cert_maker.proofs.Bodies.{both_true}
 use Rattle.cert_maker.proofs.Closing.{moved_through, works_through}
 use Rattle.cert_maker.proofs.CodePlaces.{insn_low}
-use Rattle.cert_maker.proofs.Going.{test_of, same_number}
+use Rattle.cert_maker.proofs.Going.{test_of}
 use Rattle.cert_maker.proofs.LoopWalks.{ends, fits_at}
 
 -- A branch back that leads to the start, which lies at most 4096 bytes before it.
@@ -42,10 +42,10 @@ back_end : (of : Loop) (start pc : ℕ) (insn : Insn) (loop : Loop) → FieldsFi
 unfolding back_by
 back_end of start pc (Scalar (Branch Ne rs1 rs2 offset)) loop fits l low e =
     let read = test_of _ (Through of) (Through loop) e in
-    let first = both_true _ _ read.0 in
-    let second = both_true _ _ first.0 in
+    let first = and_parts _ _ read.0 in
+    let second = and_parts _ _ first.0 in
     subst (λ (o : Loop). IsEnd start pc o) (same_loop of loop read.1)
-    (short_by start pc offset fits.2.0 fits.2.1 l low (same_number _ _ second.1), same_number _ _ first.1)
+    (short_by start pc offset fits.2.0 fits.2.1 l low (eqb-true _ _ second.1), eqb-true _ _ first.1)
 back_end of start pc other loop fits l low e = cc
 
 last_word : (params : List Param) (start pc : ℕ) (r : Reading) (insn : Insn) (loop : Loop) → FieldsFit insn → start ≤ pc → pc + 4 ≤ 3221225472

@@ -5,10 +5,12 @@ use Rattle.std.specs.Prelude.{Ok, if◌then◌else◌, ◌==◌, ◌&&◌, not, 
 use Rattle.std.specs.List.{slice_get}
 use Rattle.std.specs.Option.{option_map_or}
 use Rattle.std.proofs.lemmas.Bool.Decides.{nat_tests}
+use Rattle.std.proofs.lemmas.Bool.{and_parts, eqb-true, lt-ltb, not-true}
 use Rattle.linear_facts.specs.declared.ranges.Range.{Range}
 use Rattle.linear_facts.specs.Forms.{within, atom_form}
 use Rattle.linear_facts.specs.Sums.{range_of_form}
 use Rattle.linear_facts.specs.LoopForms.{term, IsSize}
+use Rattle.linear_facts.proofs.LoopRanges.{by_size}
 use Rattle.rv_decode.specs.Encodings.{FieldsFit}
 use Rattle.rv_decode.specs.declared.instructions.Condition.TheVariants.{Ne}
 use Rattle.rv_decode.specs.declared.instructions.Direction.{Direction}
@@ -51,13 +53,13 @@ use Rattle.cert_maker.specs.Loops.{size_of, is_flagged, is_arithmetic, is_vector
 use Rattle.cert_maker.specs.Certificates.{base_of}
 use Rattle.cert_maker.specs.Known.{Round, IsRound, HasRoom, IsThere, IsStepOf, IsPartOf, LeadsTo, InWorks, InMoves, IsWithin, NumbersAre, known, bytes_of, done_of, atom_of, is_pointer}
 use Rattle.cert_maker.specs.Laws.{Keeps, LoopsGoOn}
-use Rattle.cert_maker.proofs.Accesses.{IsThere as Reached, reach_is, reaches-end, lt_true}
-use Rattle.cert_maker.proofs.Bodies.{both_true, legal_there, not_arithmetic, goes_on, body-keeps}
-use Rattle.cert_maker.proofs.Equalities.{by_size, scaled_atom}
+use Rattle.cert_maker.proofs.Accesses.{IsThere as Reached, reach_is, reaches-end}
+use Rattle.cert_maker.proofs.Bodies.{legal_there, not_arithmetic, goes_on, body-keeps}
+use Rattle.cert_maker.proofs.Equalities.{scaled_atom}
 use Rattle.cert_maker.proofs.Flags.{flag_at}
 use Rattle.cert_maker.proofs.Leading.{step_leads}
-use Rattle.cert_maker.proofs.Moves.{computed_within}
-use Rattle.cert_maker.proofs.Going.{GoesOn, test_of, same_number, within_on, atoms_stay, not_zero, done_some, done_fits, one_done, moved_at, moved_low, moved_on}
+use Rattle.cert_maker.proofs.Moves.{computed_within, not_zero}
+use Rattle.cert_maker.proofs.Going.{GoesOn, test_of, within_on, atoms_stay, done_some, done_fits, one_done, moved_at, moved_low, moved_on}
 
 least_end : (a base b size : ℕ) → b ≤ size → min a (base + b) ≤ base + size
 least_end a base b size l = omega (arith, l)
@@ -165,7 +167,7 @@ module _ (k : Round) (is : IsRound k) (pc : ℕ) (a : AbstractView) (inside : Is
     by_place (place.Unit width masked) d q plain ok = by_test ((value_at a.numbers 32).range.hi == 0)
       where
         same : bytes_of_width width ≡ w
-        same = same_number _ _ (both_true _ _ plain).0
+        same = eqb-true _ _ (and_parts _ _ plain).0
 
         by_test : (t : Bool)
             → (if t then Ok tt else reach_allowed d (Some (unit_reach a.numbers (bytes_of_width width) (value_at a.numbers (q + 10)) (value_at a.numbers 32))) a.zones) ≡ Ok tt
@@ -213,7 +215,7 @@ unfolding is_buffer_for
 may_there bytes size d access o is e =
     let there : option_map_or (is_buffer_for d bytes) (Some (parameter.Buffer access size)) false ≡ true =
     subst (λ (x : Option Param). option_map_or (is_buffer_for d bytes) x false ≡ true) is e in
-    (both_true _ _ there).1
+    (and_parts _ _ there).1
 
 -- ---- the step
 
@@ -264,7 +266,7 @@ module _ (s : NumbersView) (t w m : ℕ) where
       → with_result rd (product_effect w (value_at s t)) s ≡ with_value rd step_value s
   unfolding with_result with_effect product_effect with_computed with_short within step_value
   product_is rd some size one all at =
-      rw (at, not_zero rd some, scaled_atom w 41 size, lt_true (w * 1) (2 ^ 32) one, lt_true (w * m) (2 ^ 32) all) refl
+      rw (at, not_zero rd some, scaled_atom w 41 size, lt-ltb (w * 1) (2 ^ 32) one, lt-ltb (w * m) (2 ^ 32) all) refl
 
   step_is : (rd amount : ℕ) → 0 < rd → IsSize w → w * 1 < 2 ^ 32 → w * m < 2 ^ 32 → value_at s t ≡ known (atom_form 41) 1 m → 2 ^ (amount % 32) ≡ w
       → with_result rd (shift_effect Slli (value_at s t) amount) s ≡ with_value rd step_value s
@@ -387,12 +389,8 @@ shift_goes k pc op rd rs1 amount a next w n = (
   (within_on k pc a _ _ w, n),
 )
 
-is_false : (t : Bool) → not t ≡ true → t ≡ false
-is_false true e = cc
-is_false false e = refl
-
 pub differ : (a b : ℕ) → not (a == b) ≡ true → a ≢ b
-differ a b e f = clash (is_false _ e) f
+differ a b e f = clash (not-true _ e) f
   where
     clash : (a == b) ≡ false → a ≡ b → ⊥
     clash g h = grind (arith, nat_tests)
@@ -404,8 +402,8 @@ pub access_parts : (params : List Param) (of : Loop) (insn : mem.VMem) → is_ac
     × (not (insn.rs1 == of.length) ≡ true)
 unfolding is_access
 access_parts params of insn e =
-    let tests = both_true _ _ e in
-    let first = both_true _ _ tests.0 in
+    let tests = and_parts _ _ e in
+    let first = and_parts _ _ tests.0 in
     let there = buffer_in params insn.rs1 (of.most * size_of of) insn.direction tests.1 in
     (first.0, there.0, there.1, there.2, first.1)
 
@@ -424,14 +422,14 @@ module _ (k : Round) (is : IsRound k) (pc : ℕ) (a : AbstractView) (inside : Is
       moved_on k is pc k.loop.length k.loop.pointers insn next a e inside (bytes_move k is a.numbers h (one_byte k.loop.sew sew))
   stepped (Some wanted) (Scalar (ShiftImmediate Slli rd rs1 amount)) next sew fits e =
       let read = test_of _ (Moves k.loop rd k.loop.pointers) next e in
-      let first = both_true _ _ read.0 in
-      let second = both_true _ _ first.0 in
-      let third = both_true _ _ second.0 in
-      let free = both_true _ _ second.1 in
-      let other = both_true _ _ free.0 in
-      let low = both_true _ _ other.0 in
-      let from : rs1 ≡ k.loop.length = same_number rs1 k.loop.length third.0 in
-      let by : amount ≡ wanted = same_number amount wanted third.1 in
+      let first = and_parts _ _ read.0 in
+      let second = and_parts _ _ first.0 in
+      let third = and_parts _ _ second.0 in
+      let free = and_parts _ _ second.1 in
+      let other = and_parts _ _ free.0 in
+      let low = and_parts _ _ other.0 in
+      let from : rs1 ≡ k.loop.length = eqb-true rs1 k.loop.length third.0 in
+      let by : amount ≡ wanted = eqb-true amount wanted third.1 in
       let nonzero = differ rd 0 low.0 in
       let not_one = differ rd 1 low.1 in
       subst (λ (r : Reading). GoesOn k pc (Scalar (ShiftImmediate Slli rd rs1 amount)) a r) read.1
@@ -444,7 +442,7 @@ module _ (k : Round) (is : IsRound k) (pc : ℕ) (a : AbstractView) (inside : Is
       two_at r x y = omega (arith, x, y)
 
       unflagged : (q r : ℕ) → q + 10 ≡ r → is_pointer k.loop q ≡ true → not (is_flagged r k.loop.pointers) ≡ true → ⊥
-      unflagged q r f p g = clash (sym p ∙ (ap (λ (x : ℕ). is_flagged x k.loop.pointers) f ∙ is_false _ g))
+      unflagged q r f p g = clash (sym p ∙ (ap (λ (x : ℕ). is_flagged x k.loop.pointers) f ∙ not-true _ g))
         where
           clash : true ≡ false → ⊥
           clash x = cc
@@ -469,7 +467,7 @@ module _ (k : Round) (is : IsRound k) (pc : ℕ) (a : AbstractView) (inside : Is
   unfolding works_on
   works_goes of (VMem insn) next fits e part l =
       let read = test_of _ (Works (with_pointer insn.rs1 of)) next e in
-      let tests = both_true _ _ read.0 in
+      let tests = and_parts _ _ read.0 in
       let parts = access_parts k.params of insn tests.0 in
       let more : IsPartOf (with_pointer insn.rs1 of) k.loop = subst (λ (r : Reading). LeadsTo r k.loop) (sym read.1) l in
       access_goes k is pc a inside h insn next
