@@ -37,7 +37,8 @@ use Rattle.abs_state.specs.State.{AbstractView}
 use Rattle.abs_domain.specs.Starts.{equality_form}
 use Rattle.abs_state.specs.Branches.{EdgeView, plain_edge, edge_by, refined, table_on, value_on}
 use Rattle.abs_state.specs.Edges.{shown_or, and_then, Shown, is_interval_shown, is_equality_shown, is_sum_shown, is_vector_shown, are_these, says_order, tells_order, is_order_shown, own_total, next_total, no_budget, says, leads_to, is_vtype_shown, is_paid, is_paid_for, is_same, pays, implies_block, implies_end, implied_by}
-use Rattle.abs_state.specs.Held.{Setting, Goes, IsKnown, IsPaid, IsAt, IsTrueOf, AreTrueOf, budget_of, group_elements, fact_element, number_at, vlenb_in}
+use Rattle.abs_state.specs.Held.{Setting, Goes, IsKnown, IsPaid, IsAt, IsTrueOf, AreTrueOf, budget_of, fact_element, number_at, vlenb_in}
+use Rattle.abs_transfer.specs.Facts.{elements_in}
 use Rattle.abs_state.specs.EdgeLaws.{TakesEdge, EdgesAreTaken, ImpliedFits, ImpliedEnds}
 use Rattle.abs_transfer.proofs.Addresses.{register_number}
 use Rattle.abs_state.proofs.Payments.{equality_holds, parts_below, counted, covered, SaysMore as MoreSaid, says_more, paid_holds}
@@ -215,7 +216,7 @@ module _ (e : Setting) (n : ℕ) (edge : EdgeView) (m : Machine) (goes : Goes e 
       let r = (value_on edge 32).range in
       let vl = m.vectors.config.vl in
       let count : counted vl wanted.count ≤ counted vl known.count = covered r vl known.count wanted.count (goes.each 32 (omega arith)).lies s.covers in
-      let elements : group_elements (vlenb_in e) known ≡ group_elements (vlenb_in e) wanted =
+      let elements : elements_in (vlenb_in e) known ≡ elements_in (vlenb_in e) wanted =
       ap (λ (k : ℕ). k * vlenb_in e / (known.width / 8)) s.registers ∙ ap (λ (w : ℕ). wanted.registers * vlenb_in e / (w / 8)) s.width in
       let same : fact_element (vlenb_in e) m.vectors.registers known i ≡ fact_element (vlenb_in e) m.vectors.registers wanted i =
       ap (λ (w : ℕ). element_at (w / 8) (known.register * vlenb_in e) m.vectors.registers i) s.width

@@ -19,8 +19,8 @@ use Rattle.vreg_groups.specs.VectorType.{vlmax_of}
 use Rattle.vreg_groups.proofs.Sizes.{bytes_fit, group_room}
 use Rattle.vreg_groups.proofs.Writes.{number_at-lt}
 use Rattle.cert_note.specs.declared.values.VectorFact.{VectorFact}
-use Rattle.abs_transfer.specs.Facts.{all_of_bits, fact_range, is_source, source_range}
-use Rattle.abs_state.specs.Held.{IsTrueOf, count_of, fact_element, group_elements}
+use Rattle.abs_transfer.specs.Facts.{all_of_bits, fact_range, is_source, source_range, elements_in}
+use Rattle.abs_state.specs.Held.{IsTrueOf, count_of, fact_element}
 use Rattle.abs_domain.proofs.StartForms.{found_has, found_passes}
 
 pub width_some : (width : Width) → 0 < bytes_of_width width
@@ -82,7 +82,7 @@ module _ (vlenb : ℕ) (t : Vtype) (vl : ℕ) (r : Range) (first : ℕ) (width :
         by_test true e = omega arith
         by_test false e = (let most : r.hi ≤ fact.count = grind (arith, nat_tests, passes, e) in omega (arith, most, below))
 
-    elements : group_elements vlenb fact ≡ group_count t (Fixed width) * vlenb / (bits / 8)
+    elements : elements_in vlenb fact ≡ group_count t (Fixed width) * vlenb / (bits / 8)
     elements =
         ap (λ (n : ℕ). n * vlenb / (fact.width / 8)) same_count
         ∙ ap (λ (n : ℕ). group_count t (Fixed width) * vlenb / (n / 8)) same_width

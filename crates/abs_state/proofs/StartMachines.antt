@@ -34,6 +34,7 @@ use Rattle.abs_domain.specs.BlockLaws.{ArePassed, HoldsWith}
 use Rattle.abs_state.specs.Held.{Setting, Held, IsProper, number_at, vlenb_in}
 use Rattle.abs_state.specs.StartLaws.{ArePassedBy, BlocksAreHeld, EntriesAreHeld}
 use Rattle.abs_transfer.proofs.Addresses.{register_holds}
+use Rattle.abs_transfer.proofs.Configurations.{no_config_is}
 use Rattle.abs_state.proofs.EntryHart.{all_valid, are_passed, code_low, numbers_fit, start_is_entry, start_is_hart, start_pc, zeros_count, zeros_small}
 use Rattle.abs_domain.proofs.StartForms.{budget_below, second_below, found_is}
 use Rattle.abs_domain.proofs.OrderStarts.{block_numbers_hold}
@@ -103,10 +104,6 @@ vlen_is V128 = inl refl
 vlen_is V256 = inr (inl refl)
 vlen_is V512 = inr (inr refl)
 
-none_config : (vlenb : ℕ) → IsConfig vlenb no_config
-unfolding IsConfig vtype_of
-none_config vlenb = refl
-
 entry_atoms : (params : List Param) → length (entry_numbers params).atoms ≡ 41
 unfolding entry_numbers numbers_by
 entry_atoms params = atoms_many params []
@@ -139,7 +136,7 @@ module _ (e : Setting) (agnostic : Agnostic) (args : List Argument) (image : IsI
       let valid = all_valid params certificate.parameters in
       record {
         hart = is_hart;
-        vectors = record { vlenb_is = vlen_is e.certificate.vlen; config = none_config (vlenb_in e) };
+        vectors = record { vlenb_is = vlen_is e.certificate.vlen; config = no_config_is (vlenb_in e) };
         registers = record {
           count = zeros_count (32 * vlenb_in e);
           bytes = λ i. zeros_small (32 * vlenb_in e) i 256 (omega arith);

@@ -14,6 +14,7 @@ use Rattle.abs_domain.specs.Described.{IsNumber}
 use Rattle.abs_domain.specs.Holds.{Holds, number_of}
 use Rattle.abs_domain.specs.Memories.{HasZones}
 use Rattle.abs_domain.specs.Zones.{zones_of}
+use Rattle.abs_transfer.specs.Facts.{elements_in}
 use Rattle.abs_state.specs.State.{AbstractView}
 use Rattle.abs_state.specs.Branches.{EdgeView, table_on, value_on}
 
@@ -40,14 +41,10 @@ pub record IsProper (e : Setting) (m : Machine) : Type 0 where
 
 -- ---- facts
 
--- how many elements a group has
-abbrev pub group_elements : ℕ → VectorFact → ℕ
-group_elements vlenb fact = fact.registers * vlenb / (fact.width / 8)
-
 -- of how many elements a fact on vector registers speaks; a count of 0 stands for vl
 abbrev pub count_of : ℕ → ℕ → VectorFact → ℕ
 count_of vlenb vl fact =
-    min (if fact.count == 0 then vl else fact.count) (group_elements vlenb fact)
+    min (if fact.count == 0 then vl else fact.count) (elements_in vlenb fact)
 
 abbrev pub fact_element : ℕ → List ℕ → VectorFact → ℕ → ℕ
 fact_element vlenb registers fact i =
