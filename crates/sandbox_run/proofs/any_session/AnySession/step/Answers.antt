@@ -1,0 +1,5 @@
+use Rattle.std.proofs.Common.{rules}
+use Rattle.sandbox_run.proofs.any_session.AnySession.step.Goals as goal
+
+pub returns-in-V512-clause-end : goal.returns-in-V512-clause-end
+returns-in-V512-clause-end c = search rules

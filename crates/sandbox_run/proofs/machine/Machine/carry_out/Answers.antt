@@ -1,0 +1,11 @@
+use Rattle.std.proofs.Common.{rules}
+use Rattle.vector_core.specs.MachineStep.{carry_out}
+use Rattle.sandbox_run.proofs.machine.Machine.carry_out.Goals as goal
+
+pub returns-in-Scalar : goal.returns-in-Scalar
+unfolding carry_out
+returns-in-Scalar g c = search rules
+
+pub returns-in-VSet : goal.returns-in-VSet
+unfolding carry_out
+returns-in-VSet g c = search rules
