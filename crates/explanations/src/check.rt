@@ -126,7 +126,7 @@ fn access_at<A: Allocator + Copy, B: Allocator, C: Allocator>(
     let reach = reach_at(alloc, image, certificate, stop, &insn)?;
     Ok(Wanted::Access(Access {
         operand,
-        interval: stop.known[usize::from(operand.base)],
+        interval: stop.known[usize::from(operand.base.number())],
         reach,
         zones: memory_zones(image, &certificate.contents().parameters),
     }))
