@@ -12,7 +12,7 @@ use Rattle.region_mem.specs.Parameter.{is_valid}
 use Rattle.region_mem.specs.declared.parameter.Param.{Param}
 use Rattle.region_mem.specs.declared.parameter.Param.TheVariants as parameter
 use Rattle.rv_listing.specs.Listing.{listing_text}
-use Rattle.explanations.specs.Address.{address_text}
+use Rattle.explanations.specs.Check.{listing_line, word_line}
 use Rattle.explanations.specs.declared.make.LoopRow.{LoopRow}
 use Rattle.explanations.specs.declared.make.LoopRow.TheVariants as row
 use Rattle.explanations.specs.declared.make.MakeReason.{MakeReason}
@@ -108,11 +108,9 @@ room_wanted =
 -- the lines of a reason
 abbrev pub make_text : MakeReason → List ℕ
 make_text reason.Untold = []
-make_text (reason.NoWord pc wanted) =
-    codes "  at " ++ (address_text pc ++ (codes ": no word\n" ++ row_wanted wanted))
-make_text (reason.Word pc word listing wanted) = codes "  at " ++ (address_text pc ++ (codes ": "
-    ++ (address_text word ++ (codes "\n  that is " ++ (string_bytes listing ++ (codes "\n"
-    ++ row_wanted wanted))))))
+make_text (reason.NoWord pc wanted) = word_line pc None ++ row_wanted wanted
+make_text (reason.Word pc word listing wanted) =
+    word_line pc (Some word) ++ (listing_line (Some listing) ++ row_wanted wanted)
 make_text (reason.Empty place lo hi) = codes "  lo of the param at place " ++ (decimal place
     ++ (codes ": " ++ (decimal lo ++ (codes "\n  wanted: at most its hi, "
     ++ (decimal hi ++ codes "\n")))))

@@ -229,9 +229,9 @@ pub fn check_reason<A: Allocator + Copy, B: Allocator, C: Allocator>(
 
 /// A word and its address, as a line.
 #[derive(Clone, Copy)]
-struct WordLine {
-    pc: u32,
-    word: Option<u32>,
+pub(crate) struct WordLine {
+    pub(crate) pc: u32,
+    pub(crate) word: Option<u32>,
 }
 
 impl fmt::Display for WordLine {
