@@ -6,7 +6,7 @@ ghost use Rattle.explanations.specs.Make.{is_invalid, parameter_reason, room_wan
 ghost use Rattle.explanations.specs.Make.{row_wanted};
 
 use crate::check::{WordLine, listed};
-use crate::headers::half;
+use crate::headers::{half, lacks_header};
 use elf_image::{ElfError, Image};
 use region_mem::{MAX_BUFFER_SIZE, Param};
 use std::alloc::{AllocError, Global};
@@ -148,7 +148,7 @@ pub fn attach_reason(file: &[u8], image: &Image, certificate: usize, error: ElfE
     match error {
         ElfError::CertificateThere => MakeReason::Certified(certificate_size(image)),
         ElfError::TooLarge => {
-            if file.len() < 52 {
+            if lacks_header(file) {
                 return MakeReason::Untold;
             }
             MakeReason::LargeFile {
