@@ -1,5 +1,5 @@
 -- Accesses that the check refused, and in which words they are told.
-use Rattle.std.specs.Prelude.{ℕ, ℤ, pos, ◌+◌, ◌-◌, ◌++◌, ◌==◌, Bool, true, false, List, [], codes, Option, Some, None, option_and_then, if◌then◌else◌}
+use Rattle.std.specs.Prelude.{ℕ, ℤ, pos, ◌+◌, ◌-◌, ◌++◌, ◌==◌, Bool, true, false, List, [], codes, Option, Some, None, option_map, if◌then◌else◌}
 use Rattle.std.specs.Fmt.{decimal, signed_decimal}
 use Rattle.std.specs.List.{flat_map}
 use Rattle.linear_facts.specs.declared.ranges.Range.{Range}
@@ -27,22 +27,19 @@ operand is_store base offset size =
 
 -- of a load or store: whether it is a store, its base register, its offset, and how many
 -- bytes it accesses
-abbrev pub accessed : ScalarInsn → Option (Bool × ℕ × ℤ × ℕ)
-accessed (scalar.Load kind rd rs1 offset) = Some (false, rs1, offset, size_of_load kind)
-accessed (scalar.Store size rs1 rs2 offset) = Some (true, rs1, offset, size_of_store size)
-accessed (scalar.Lui rd imm) = None
-accessed (scalar.Auipc rd imm) = None
-accessed (scalar.Jal rd offset) = None
-accessed (scalar.Jalr rd rs1 offset) = None
-accessed (scalar.Branch condition rs1 rs2 offset) = None
-accessed (scalar.Immediate op rd rs1 imm) = None
-accessed (scalar.ShiftImmediate op rd rs1 amount) = None
-accessed (scalar.Register op rd rs1 rs2) = None
-accessed scalar.Fence = None
-accessed scalar.Ecall = None
-
 abbrev pub scalar_operand : ScalarInsn → Option Operand
-scalar_operand i = option_and_then (λ a. operand a.0 a.1 a.2 a.3) (accessed i)
+scalar_operand (scalar.Load kind rd rs1 offset) = operand false rs1 offset (size_of_load kind)
+scalar_operand (scalar.Store size rs1 rs2 offset) = operand true rs1 offset (size_of_store size)
+scalar_operand (scalar.Lui rd imm) = None
+scalar_operand (scalar.Auipc rd imm) = None
+scalar_operand (scalar.Jal rd offset) = None
+scalar_operand (scalar.Jalr rd rs1 offset) = None
+scalar_operand (scalar.Branch condition rs1 rs2 offset) = None
+scalar_operand (scalar.Immediate op rd rs1 imm) = None
+scalar_operand (scalar.ShiftImmediate op rd rs1 amount) = None
+scalar_operand (scalar.Register op rd rs1 rs2) = None
+scalar_operand scalar.Fence = None
+scalar_operand scalar.Ecall = None
 
 abbrev pub is_store : Direction → Bool
 is_store direction.Load = false
@@ -61,13 +58,14 @@ operand_of (insn.VReduce i) = None
 operand_of (insn.VMove i) = None
 
 -- so many bytes, the first of which has its address in a range
-abbrev pub reach_from : Range → ℕ → Option Reach
-reach_from r size = Some record { first = r.lo; end = r.hi + size }
+abbrev pub reach_from : Range → ℕ → Reach
+reach_from r size = record { first = r.lo; end = r.hi + size }
 
 -- where the bytes of a load or store may lie
 unfoldable pub scalar_reach : NumbersView → ScalarInsn → Option Reach
 scalar_reach s i =
-    option_and_then (λ a. reach_from (address_range a.1 (unsigned a.2) s) a.3) (accessed i)
+    option_map (λ o. reach_from (address_range o.base (unsigned o.offset) s) o.size)
+    (scalar_operand i)
 
 -- the same of any instruction, with what is known before it, if that says where
 unfoldable pub reach_in : Insn → AbstractView → Option Reach

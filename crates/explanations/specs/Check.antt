@@ -92,7 +92,20 @@ IsWantedBy image certificate bits (error.NotCode pc) stop told = told ≡ wanted
 IsWantedBy image certificate bits (error.IllegalWord pc) stop told = told ≡ wanted.Plain
 IsWantedBy image certificate bits (error.BlockTooLong pc) stop told = told ≡ wanted.Plain
 IsWantedBy image certificate bits error.NoMemory stop told = told ≡ wanted.Plain
-IsWantedBy image certificate bits edge stop told = IsEdgeWanted image certificate edge stop told
+IsWantedBy image certificate bits (error.VtypeUnknown pc) stop told =
+    IsEdgeWanted image certificate (error.VtypeUnknown pc) stop told
+IsWantedBy image certificate bits (error.TargetNotABlock pc) stop told =
+    IsEdgeWanted image certificate (error.TargetNotABlock pc) stop told
+IsWantedBy image certificate bits (error.IntervalNotProved pc) stop told =
+    IsEdgeWanted image certificate (error.IntervalNotProved pc) stop told
+IsWantedBy image certificate bits (error.EqualityNotProved pc) stop told =
+    IsEdgeWanted image certificate (error.EqualityNotProved pc) stop told
+IsWantedBy image certificate bits (error.OrderNotProved pc) stop told =
+    IsEdgeWanted image certificate (error.OrderNotProved pc) stop told
+IsWantedBy image certificate bits (error.VectorFactNotProved pc) stop told =
+    IsEdgeWanted image certificate (error.VectorFactNotProved pc) stop told
+IsWantedBy image certificate bits (error.BudgetNotProved pc) stop told =
+    IsEdgeWanted image certificate (error.BudgetNotProved pc) stop told
 
 abbrev pub IsWanted : ImageView → CertificateView → Vlen → Explanation → Wanted → Type 0
 IsWanted image certificate bits e told = IsWantedBy image certificate bits e.error e.stop told

@@ -9,6 +9,10 @@ use Rattle.explanations.specs.declared.headers.Header.{Header}
 use Rattle.explanations.specs.declared.headers.SegmentRule.{SegmentRule}
 use Rattle.explanations.specs.declared.headers.SegmentRule.TheVariants as rule
 
+-- the file is too short for an ELF header
+abbrev pub lacks_header : List ℕ → Bool
+lacks_header file = nat_lt (length file) 52
+
 -- the fields of a header that is told
 abbrev pub fields_of : Header → ProgramHeader
 fields_of h = record {

@@ -1,5 +1,5 @@
 -- Why a file is no image that runs: which number of it is told, and in which words.
-use Rattle.std.specs.Prelude.{◌≡◌, ℕ, ◌==◌, ◌++◌, not, nat_lt, ◌||◌, Bool, List, [], bit_and, codes, length, if◌then◌else◌}
+use Rattle.std.specs.Prelude.{◌≡◌, ℕ, ◌==◌, ◌++◌, not, nat_lt, ◌||◌, List, [], bit_and, codes, length, if◌then◌else◌}
 use Rattle.std.specs.Fmt.{decimal}
 use Rattle.std.specs.List.{slice_index}
 use Rattle.elf_image.specs.Words.{word_at}
@@ -7,7 +7,7 @@ use Rattle.elf_image.specs.File.{HasTable, e_ehsize, e_entry, e_flags, e_machine
 use Rattle.elf_image.specs.declared.error.ElfError.{ElfError}
 use Rattle.elf_image.specs.declared.error.ElfError.TheVariants as error
 use Rattle.explanations.specs.Address.{address_text}
-use Rattle.explanations.specs.Headers.{AreApart, AreOverlapping, IsFirst, NoneBreaks, header_text, rule_text}
+use Rattle.explanations.specs.Headers.{AreApart, AreOverlapping, IsFirst, NoneBreaks, header_text, lacks_header, rule_text}
 use Rattle.explanations.specs.declared.headers.SegmentRule.{SegmentRule}
 use Rattle.explanations.specs.declared.headers.SegmentRule.TheVariants as rule
 use Rattle.explanations.specs.declared.image.ElfField.{ElfField}
@@ -52,27 +52,24 @@ number_in file field.EntryCount = e_phnum file
 -- a field, with its place and its number; nothing where the file has no ELF header
 abbrev pub told_field : List ℕ → ElfField → ImageReason
 told_field file f =
-    if nat_lt (length file) 52 then reason.Untold
+    if lacks_header file then reason.Untold
     else reason.Field f (offset_of f) (number_in file f)
-
-abbrev pub is_no_header : List ℕ → Bool
-is_no_header file = nat_lt (length file) 52
 
 -- of class, order of bytes and version the first that is not 1
 abbrev pub ident_field : List ℕ → ElfField
 ident_field file =
-    if is_no_header file || not (slice_index file 4 == 1) then field.Class
+    if lacks_header file || not (slice_index file 4 == 1) then field.Class
     else (if not (slice_index file 5 == 1) then field.Order else field.IdentVersion)
 
 -- e_type where it is not that of an executable file, else e_version
 abbrev pub type_field : List ℕ → ElfField
 type_field file =
-    if is_no_header file || not (e_type file == 2) then field.Type else field.Version
+    if lacks_header file || not (e_type file == 2) then field.Type else field.Version
 
 -- the first of the sizes and the count that is wrong, else the table's offset
 abbrev pub table_field : List ℕ → ElfField
 table_field file =
-    if is_no_header file || not (e_ehsize file == 52) then field.HeaderSize
+    if lacks_header file || not (e_ehsize file == 52) then field.HeaderSize
     else (if not (e_phentsize file == 32) then field.EntrySize
     else (if (e_phnum file == 0) || nat_lt 64 (e_phnum file) then field.EntryCount
     else field.TableOffset))

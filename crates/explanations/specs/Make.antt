@@ -1,5 +1,5 @@
 -- Why no certificate is made of an image for a job, and in which words it is told.
-use Rattle.std.specs.Prelude.{◌≡◌, ℕ, ◌+◌, ◌++◌, ◌==◌, not, nat_lt, Bool, List, [], codes, length}
+use Rattle.std.specs.Prelude.{◌≡◌, ℕ, ◌+◌, ◌++◌, ◌==◌, not, Bool, List, [], codes, length}
 use Rattle.std.specs.Prelude.{position, Option, Some, None, string_bytes, if◌then◌else◌}
 use Rattle.std.specs.Fmt.{decimal}
 use Rattle.std.specs.List.{slice_get}
@@ -12,7 +12,8 @@ use Rattle.region_mem.specs.Parameter.{is_valid}
 use Rattle.region_mem.specs.declared.parameter.Param.{Param}
 use Rattle.region_mem.specs.declared.parameter.Param.TheVariants as parameter
 use Rattle.rv_listing.specs.Listing.{listing_text}
-use Rattle.explanations.specs.Address.{address_text}
+use Rattle.explanations.specs.Check.{listing_line, word_line}
+use Rattle.explanations.specs.Headers.{lacks_header}
 use Rattle.explanations.specs.declared.make.LoopRow.{LoopRow}
 use Rattle.explanations.specs.declared.make.LoopRow.TheVariants as row
 use Rattle.explanations.specs.declared.make.MakeReason.{MakeReason}
@@ -68,7 +69,7 @@ certificate_size (Some bytes) = length bytes
 
 abbrev pub told_large : List ℕ → ℕ → MakeReason
 told_large file size =
-    if nat_lt (length file) 52 then reason.Untold
+    if lacks_header file then reason.Untold
     else reason.LargeFile (length file) (half_at 44 file) size
 
 -- why a certificate of so many bytes is not attached to a file, whose image has this one
@@ -108,11 +109,9 @@ room_wanted =
 -- the lines of a reason
 abbrev pub make_text : MakeReason → List ℕ
 make_text reason.Untold = []
-make_text (reason.NoWord pc wanted) =
-    codes "  at " ++ (address_text pc ++ (codes ": no word\n" ++ row_wanted wanted))
-make_text (reason.Word pc word listing wanted) = codes "  at " ++ (address_text pc ++ (codes ": "
-    ++ (address_text word ++ (codes "\n  that is " ++ (string_bytes listing ++ (codes "\n"
-    ++ row_wanted wanted))))))
+make_text (reason.NoWord pc wanted) = word_line pc None ++ row_wanted wanted
+make_text (reason.Word pc word listing wanted) =
+    word_line pc (Some word) ++ (listing_line (Some listing) ++ row_wanted wanted)
 make_text (reason.Empty place lo hi) = codes "  lo of the param at place " ++ (decimal place
     ++ (codes ": " ++ (decimal lo ++ (codes "\n  wanted: at most its hi, "
     ++ (decimal hi ++ codes "\n")))))

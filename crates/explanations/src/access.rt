@@ -2,7 +2,7 @@
 ghost use Rattle.std.specs.Prelude.{◌≡◌};
 ghost use Rattle.scalar_core.specs.Step.{size_of_load, size_of_store};
 ghost use Rattle.abs_transfer.specs.Scalar.{address_range as address_range_of};
-ghost use Rattle.explanations.specs.Access.{access_wanted, accessed, is_store, operand_of};
+ghost use Rattle.explanations.specs.Access.{access_wanted, is_store, operand_of};
 ghost use Rattle.explanations.specs.Access.{reach_from as reach_from_of};
 ghost use Rattle.explanations.specs.Access.{reach_in as reach_in_of, rights_text, scalar_operand};
 ghost use Rattle.explanations.specs.Access.{scalar_reach as scalar_reach_of};
@@ -20,7 +20,7 @@ use std::fmt;
 #[derive(Clone, Copy, Debug, PartialEq, Eq)]
 pub struct Operand {
     pub is_store: bool,
-    pub base: u8,
+    pub base: Reg,
     pub offset: i32,
     pub size: u8,
 }
@@ -51,9 +51,9 @@ fn store_size(width: Width) -> u8
     width.bytes()
 }
 
-/// Of a load or store: whether it is a store, its base register, its offset, and how many bytes it accesses.
-fn accessed(insn: ScalarInsn) -> Option<(bool, Reg, i32, u8)>
-    ensures { result ≡ accessed insn }
+/// The operand of a scalar instruction, if it is a load or store.
+fn scalar_operand(insn: ScalarInsn) -> Option<Operand>
+    ensures { result ≡ scalar_operand insn }
 {
     match insn {
         ScalarInsn::Load {
@@ -61,13 +61,23 @@ fn accessed(insn: ScalarInsn) -> Option<(bool, Reg, i32, u8)>
             rs1,
             offset,
             ..
-        } => Some((false, rs1, offset, load_size(kind))),
+        } => Some(Operand {
+            is_store: false,
+            base: rs1,
+            offset,
+            size: load_size(kind),
+        }),
         ScalarInsn::Store {
             size,
             rs1,
             offset,
             ..
-        } => Some((true, rs1, offset, store_size(size))),
+        } => Some(Operand {
+            is_store: true,
+            base: rs1,
+            offset,
+            size: store_size(size),
+        }),
         ScalarInsn::Lui { .. }
         | ScalarInsn::Auipc { .. }
         | ScalarInsn::Jal { .. }
@@ -79,19 +89,6 @@ fn accessed(insn: ScalarInsn) -> Option<(bool, Reg, i32, u8)>
         | ScalarInsn::Fence
         | ScalarInsn::Ecall => None,
     }
-}
-
-/// The operand of a scalar instruction, if it is a load or store.
-fn scalar_operand(insn: ScalarInsn) -> Option<Operand>
-    ensures { result ≡ scalar_operand insn }
-{
-    let (is_store, base, offset, size) = accessed(insn)?;
-    Some(Operand {
-        is_store,
-        base: base.number(),
-        offset,
-        size,
-    })
 }
 
 /// Whether a vector access is a store.
@@ -112,7 +109,7 @@ pub(crate) fn operand_of(insn: &Insn) -> Option<Operand>
         Insn::Scalar(insn) => scalar_operand(insn),
         Insn::VMem(insn) => Some(Operand {
             is_store: is_store(insn.direction),
-            base: insn.rs1.number(),
+            base: insn.rs1,
             offset: 0,
             size: 0,
         }),
@@ -127,13 +124,13 @@ pub(crate) fn operand_of(insn: &Insn) -> Option<Operand>
 }
 
 /// So many bytes, the first of which has its address in a range.
-fn reach_from(range: Range, size: u8) -> Option<Reach>
+fn reach_from(range: Range, size: u8) -> Reach
     ensures { result ≡ reach_from_of range size }
 {
-    Some(Reach {
+    Reach {
         first: u64::from(range.lo),
         end: u64::from(range.hi) + u64::from(size),
-    })
+    }
 }
 
 /// Where the bytes of a load or store may lie.
@@ -141,8 +138,9 @@ fn reach_from(range: Range, size: u8) -> Option<Reach>
 fn scalar_reach<A: Allocator>(numbers: &Numbers<A>, insn: ScalarInsn) -> Option<Reach>
     ensures { result ≡ scalar_reach_of numbers.now insn }
 {
-    let (_, base, offset, size) = accessed(insn)?;
-    reach_from(address_range(numbers, base, offset), size)
+    let operand = scalar_operand(insn)?;
+    let range = address_range(numbers, operand.base, operand.offset);
+    Some(reach_from(range, operand.size))
 }
 
 /// Where the bytes of an instruction's access may lie, with what is known before it.
@@ -270,7 +268,7 @@ impl fmt::Display for Access {
 
     #[tactic(auto, unfolding(crate::specs::Access::access_text, crate::specs::Access::wanted_lines))]
     fn fmt<W: fmt::Write>(&self, f: &mut fmt::Formatter<W>) -> fmt::Result {
-        let base = self.operand.base;
+        let base = self.operand.base.number();
         let interval = Span(self.interval);
         let size = SizeLines(self.operand);
         let wanted = access_wanted(self.operand);

@@ -126,7 +126,7 @@ fn access_at<A: Allocator + Copy, B: Allocator, C: Allocator>(
     let reach = reach_at(alloc, image, certificate, stop, &insn)?;
     Ok(Wanted::Access(Access {
         operand,
-        interval: stop.known[usize::from(operand.base)],
+        interval: stop.known[usize::from(operand.base.number())],
         reach,
         zones: memory_zones(image, &certificate.contents().parameters),
     }))
@@ -229,9 +229,9 @@ pub fn check_reason<A: Allocator + Copy, B: Allocator, C: Allocator>(
 
 /// A word and its address, as a line.
 #[derive(Clone, Copy)]
-struct WordLine {
-    pc: u32,
-    word: Option<u32>,
+pub(crate) struct WordLine {
+    pub(crate) pc: u32,
+    pub(crate) word: Option<u32>,
 }
 
 impl fmt::Display for WordLine {

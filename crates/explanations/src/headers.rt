@@ -6,7 +6,7 @@ ghost use Rattle.elf_image.specs.File.{HasTable, e_phnum, e_phoff, is_segment};
 ghost use Rattle.elf_image.specs.Faults.{is_between, is_out_of_file, is_out_of_place, overlap};
 ghost use Rattle.explanations.specs.Headers.{AreApart, AreOverlapping, IsFirst, IsHeader};
 ghost use Rattle.explanations.specs.Headers.{NoneBreaks, NoneOverlaps, are_overlapping, breaks};
-ghost use Rattle.explanations.specs.Headers.{fields_of};
+ghost use Rattle.explanations.specs.Headers.{fields_of, lacks_header};
 
 use crate::address::Address;
 use byteorder::{ByteOrder, LittleEndian};
@@ -57,12 +57,20 @@ pub(crate) fn word(file: &[u8], offset: usize) -> u32
     LittleEndian::read_u32(&file[offset..])
 }
 
+/// Whether the file is too short for an ELF header.
+pub(crate) fn lacks_header(file: &[u8]) -> bool
+    ensures value { result ≡ lacks_header file.now }
+    ensures room { result ≡ false → 52 ≤ length file.now }
+{
+    file.len() < 52
+}
+
 /// Whether the ELF header and the table of program headers lie in the file, and the table has at most 64 headers.
 pub(crate) fn has_table(file: &[u8]) -> bool
     ensures yes { result ≡ true → HasTable file.now }
     ensures no { result ≡ false → ¬ (HasTable file.now) }
 {
-    if file.len() < 52 {
+    if lacks_header(file) {
         return false;
     }
     let count = u64::from(half(file, 44));

@@ -6,7 +6,7 @@ ghost use Rattle.explanations.specs.Image.{told_field, type_field, wanted, large
 
 use crate::address::Address;
 use crate::headers;
-use crate::headers::{Header, SegmentRule, half, word};
+use crate::headers::{Header, SegmentRule, half, lacks_header, word};
 use elf_image::ElfError;
 use std::fmt;
 
@@ -121,7 +121,7 @@ fn number_in(file: &[u8], field: ElfField) -> u32
 fn told_field(file: &[u8], field: ElfField) -> ImageReason
     ensures { result ≡ told_field file.now field }
 {
-    if file.len() < 52 {
+    if lacks_header(file) {
         return ImageReason::Untold;
     }
     ImageReason::Field {
@@ -135,7 +135,7 @@ fn told_field(file: &[u8], field: ElfField) -> ImageReason
 fn ident_field(file: &[u8]) -> ElfField
     ensures { result ≡ ident_field file.now }
 {
-    if file.len() < 52 || number_in(file, ElfField::Class) != 1 {
+    if lacks_header(file) || number_in(file, ElfField::Class) != 1 {
         ElfField::Class
     } else if number_in(file, ElfField::Order) != 1 {
         ElfField::Order
@@ -148,7 +148,7 @@ fn ident_field(file: &[u8]) -> ElfField
 fn type_field(file: &[u8]) -> ElfField
     ensures { result ≡ type_field file.now }
 {
-    if file.len() < 52 || number_in(file, ElfField::Type) != 2 {
+    if lacks_header(file) || number_in(file, ElfField::Type) != 2 {
         ElfField::Type
     } else {
         ElfField::Version
@@ -159,7 +159,7 @@ fn type_field(file: &[u8]) -> ElfField
 fn table_field(file: &[u8]) -> ElfField
     ensures { result ≡ table_field file.now }
 {
-    if file.len() < 52 || number_in(file, ElfField::HeaderSize) != 52 {
+    if lacks_header(file) || number_in(file, ElfField::HeaderSize) != 52 {
         return ElfField::HeaderSize;
     }
     if number_in(file, ElfField::EntrySize) != 32 {

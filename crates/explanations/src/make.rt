@@ -5,9 +5,8 @@ ghost use Rattle.explanations.specs.Make.{IsWordReason, attach_reason, certifica
 ghost use Rattle.explanations.specs.Make.{is_invalid, parameter_reason, room_wanted, row_of};
 ghost use Rattle.explanations.specs.Make.{row_wanted};
 
-use crate::address::Address;
-use crate::check::listed;
-use crate::headers::half;
+use crate::check::{WordLine, listed};
+use crate::headers::{half, lacks_header};
 use elf_image::{ElfError, Image};
 use region_mem::{MAX_BUFFER_SIZE, Param};
 use std::alloc::{AllocError, Global};
@@ -149,7 +148,7 @@ pub fn attach_reason(file: &[u8], image: &Image, certificate: usize, error: ElfE
     match error {
         ElfError::CertificateThere => MakeReason::Certified(certificate_size(image)),
         ElfError::TooLarge => {
-            if file.len() < 52 {
+            if lacks_header(file) {
                 return MakeReason::Untold;
             }
             MakeReason::LargeFile {
@@ -208,9 +207,12 @@ impl fmt::Display for MakeReason {
         match self {
             MakeReason::Untold => Ok(()),
             MakeReason::NoWord { pc, row } => {
-                let pc = Address(u64::from(*pc));
+                let line = WordLine {
+                    pc: *pc,
+                    word: None,
+                };
                 let wanted = row_wanted(*row);
-                write!(f, "  at {pc}: no word\n{wanted}")
+                write!(f, "{line}{wanted}")
             }
             MakeReason::Word {
                 pc,
@@ -218,10 +220,12 @@ impl fmt::Display for MakeReason {
                 listing,
                 row,
             } => {
-                let pc = Address(u64::from(*pc));
-                let word = Address(u64::from(*word));
+                let line = WordLine {
+                    pc: *pc,
+                    word: Some(*word),
+                };
                 let wanted = row_wanted(*row);
-                write!(f, "  at {pc}: {word}\n  that is {listing}\n{wanted}")
+                write!(f, "{line}  that is {listing}\n{wanted}")
             }
             MakeReason::Empty { place, lo, hi } => {
                 write!(
