@@ -25,66 +25,54 @@ fn tells_a_byte_that_is_no_text(rt: HostRuntime) {
     assert_shows(rt, rt.alloc(), reason, "  not UTF-8 from byte 2 on\n");
 }
 
+/// Before the last of the places stands a character of two bytes.
 #[test]
 fn tells_where_a_text_is_no_toml(rt: HostRuntime) {
-    let expected = "  not TOML from byte 18 on: line 2, column 8\n";
-    assert_told(
-        rt,
-        rt.alloc(),
-        "vlen = 128\nimage =\n",
-        Command::Run,
-        expected,
-    );
-}
-
-/// A character of two bytes stands before the place.
-#[test]
-fn tells_a_column_in_characters(rt: HostRuntime) {
-    let expected = "  not TOML from byte 24 on: line 3, column 3\n";
-    assert_told(
-        rt,
-        rt.alloc(),
-        "vlen = 128\n# comment\n\"é\n",
-        Command::Run,
-        expected,
-    );
+    for (text, expected) in [
+        (
+            "vlen = 128\nimage =\n",
+            "  not TOML from byte 18 on: line 2, column 8\n",
+        ),
+        (
+            "vlen = 128\n# comment\n\"é\n",
+            "  not TOML from byte 24 on: line 3, column 3\n",
+        ),
+    ] {
+        assert_told(rt, rt.alloc(), text, Command::Run, expected);
+    }
 }
 
 #[test]
 fn tells_a_key_that_is_needed(rt: HostRuntime) {
-    let expected = "  run needs image in the job: a path\n";
-    assert_told(rt, rt.alloc(), "vlen = 128", Command::Run, expected);
+    let scalar = "vlen = 128\nparam = [{ kind = \"scalar\", lo = 1 }]\n";
+    let of_scalar = "  make needs hi in the param at place 0: a number in 0..=4294967295\n";
+    for (text, command, expected) in [
+        (
+            "vlen = 128",
+            Command::Run,
+            "  run needs image in the job: a path\n",
+        ),
+        (scalar, Command::Make, of_scalar),
+    ] {
+        assert_told(rt, rt.alloc(), text, command, expected);
+    }
 }
 
+/// A value out of its range, a key that is none, and a value of a parameter.
 #[test]
-fn tells_a_key_that_a_parameter_needs(rt: HostRuntime) {
-    let expected = "  make needs hi in the param at place 0: a number in 0..=4294967295\n";
-    assert_told(
-        rt,
-        rt.alloc(),
-        "vlen = 128\nparam = [{ kind = \"scalar\", lo = 1 }]\n",
-        Command::Make,
-        expected,
-    );
-}
-
-#[test]
-fn tells_a_value_out_of_its_range(rt: HostRuntime) {
-    let expected = "  not as wanted: vlen in the job: 128, 256 or 512\n";
-    assert_told(rt, rt.alloc(), "vlen = 100", Command::Try, expected);
-}
-
-#[test]
-fn tells_a_key_that_is_none(rt: HostRuntime) {
-    let expected = "  no key of the job: vlne\n";
-    assert_told(rt, rt.alloc(), "vlne = 128", Command::Try, expected);
-}
-
-#[test]
-fn tells_a_value_of_a_parameter(rt: HostRuntime) {
-    let expected = "  not as wanted: mode in the param at place 1: \"r\" or \"rw\"\n";
-    let text = "param = [{ kind = \"none\" }, { kind = \"buffer\", mode = \"w\" }]\n";
-    assert_told(rt, rt.alloc(), text, Command::Try, expected);
+fn tells_a_key_that_breaks_a_rule(rt: HostRuntime) {
+    let buffer = "param = [{ kind = \"none\" }, { kind = \"buffer\", mode = \"w\" }]\n";
+    let of_buffer = "  not as wanted: mode in the param at place 1: \"r\" or \"rw\"\n";
+    for (text, expected) in [
+        (
+            "vlen = 100",
+            "  not as wanted: vlen in the job: 128, 256 or 512\n",
+        ),
+        ("vlne = 128", "  no key of the job: vlne\n"),
+        (buffer, of_buffer),
+    ] {
+        assert_told(rt, rt.alloc(), text, Command::Try, expected);
+    }
 }
 
 /// Asserts which rule of job files a text breaks first.

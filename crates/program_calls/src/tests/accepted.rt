@@ -64,7 +64,7 @@ const OF_THREE_SEGMENTS: &str = "\
 pub(crate) const SHORT: &str = "@hex 010001\n@at 100 1700000017000000\n@at 136 03000000\n";
 
 /// The start of a job.
-const JOB: &str = "@file job.toml\nimage = \"kernel.elf\"\n";
+pub(crate) const JOB: &str = "@file job.toml\nimage = \"kernel.elf\"\n";
 
 /// Its settings, with the steps that the certificate states.
 const SETTINGS: &str = "vlen = 128\nagnostic = \"keep\"\nmax = 4\n";

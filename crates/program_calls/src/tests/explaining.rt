@@ -1,5 +1,5 @@
 //! `--explain`: what more is told of why a subcommand stops.
-use crate::tests::accepted::{CERTIFICATE, IMAGE, SHORT};
+use crate::tests::accepted::{CERTIFICATE, IMAGE, JOB, SHORT};
 use crate::tests::assertions::{assert_same, given};
 use crate::tests::making::{JOB as MAKE_JOB, KERNEL, LARGE, MADE, OVER_ITS_HEADER, PARAMS, WORDS};
 use crate::tests::shelf::{Shelf, assert_text, shelf_of, words_of};
@@ -90,9 +90,7 @@ fn explained(rt: impl Abort + Copy, alloc: Global, files: &[&str], commands: &st
     }
 }
 
-/// The start of a job, and the keys of one that is run.
-const JOB: &str = "@file job.toml\nimage = \"kernel.elf\"\n";
-
+/// The keys of a job that is run.
 const KEYS: &str = "vlen = 128\nagnostic = \"keep\"\nmax = 5\n";
 
 /// Changes what the certificate states: the instructions that suffice, of which it takes four.
