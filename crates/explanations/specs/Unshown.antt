@@ -10,6 +10,7 @@ use Rattle.cert_note.specs.declared.values.VectorFact.{VectorFact}
 use Rattle.linear_facts.specs.Forms.{Linear, substituted}
 use Rattle.linear_facts.specs.declared.ranges.Range.{Range}
 use Rattle.abs_domain.specs.Starts.{equality_form}
+use Rattle.abs_transfer.specs.Facts.{fact_range}
 use Rattle.abs_state.specs.Branches.{EdgeView, value_on}
 use Rattle.abs_state.specs.Edges.{is_interval_shown, is_equality_shown, is_order_shown, is_vector_shown, least_of, most_of, next_total, own_total}
 use Rattle.block_checker.specs.declared.errors.CheckError.{CheckError}
@@ -144,13 +145,10 @@ group_text fact =
     codes "v" ++ (decimal fact.register ++ (codes ", registers " ++ (decimal fact.registers
     ++ (codes ", SEW " ++ decimal fact.width))))
 
-abbrev pub vector_range : VectorFact → Range
-vector_range fact = record { lo = fact.low; hi = fact.high }
-
 abbrev pub elements_text : VectorFact → List ℕ
 elements_text fact =
     codes ": " ++ (count_text fact.count
-    ++ (codes " elements in " ++ span_text (vector_range fact)))
+    ++ (codes " elements in " ++ span_text (fact_range fact)))
 
 unfoldable pub vector_text : VectorFact → List ℕ
 vector_text fact = group_text fact ++ elements_text fact

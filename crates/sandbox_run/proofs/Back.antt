@@ -1,8 +1,7 @@
 -- What comes back of the arguments, since a run keeps the map of memory and what may not be written.
 use Rattle.std.proofs.Common.{◌≡◌, ◌∙◌, ℕ, suc, ◌+◌, ◌-◌, ◌<◌, ◌≤◌, Bool, true, false, ◌&&◌, ◌||◌, List, [], ◌∷◌, ◌++◌, length, map, filter, get_or, Option, Some, unwrap_or, slice_index, ap, refl, sym, arith, append_assoc, length-append}
 use Rattle.std.specs.Prelude.{if◌then◌else◌}
-use Rattle.std.specs.List.{slice_get, zip, position, position_or_len}
-use Rattle.std.proofs.lemmas.Bool.Decides.{nat_tests}
+use Rattle.std.specs.List.{zip, position, position_or_len}
 use Rattle.std.proofs.lemmas.List.{ext_get_or}
 use Rattle.region_mem.specs.Areas.{Area, AreInOrder, byte_at, has_right, holds, is_open}
 use Rattle.elf_image.specs.Image.{ImageView}
@@ -11,14 +10,14 @@ use Rattle.region_mem.specs.Memory.{Memory, arg_with, args_of, args_with, byte_o
 use Rattle.region_mem.specs.Parameter.{AreArguments, argument_error, is_out_of_interval, is_wrong_kind, is_wrong_size}
 use Rattle.region_mem.specs.Start.{buffer_area, buffer_areas, is_writable, passed_of, start_memory}
 use Rattle.region_mem.specs.declared.arguments.Arg.TheVariants as argument
-use Rattle.region_mem.specs.declared.faults.Right.{Right}
 use Rattle.region_mem.specs.declared.faults.Right.TheVariants.{Write}
 use Rattle.region_mem.specs.declared.parameter.Param.{Param}
 use Rattle.region_mem.specs.declared.parameter.Param.TheVariants as parameter
-use Rattle.region_mem.proofs.Apart.{end_of, starts_in_order}
+use Rattle.region_mem.proofs.Apart.{end_of, starts_in_order, at_middle}
 use Rattle.region_mem.proofs.SearchLemmas.{not_past}
 use Rattle.region_mem.proofs.StartCode.{closed_below}
 use Rattle.region_mem.proofs.StartLemmas.{buffers_of_start}
+use Rattle.region_mem.proofs.AccessLemmas.{holds_from}
 use Rattle.vector_core.proofs.KeptMemory.{runs_keep}
 use Rattle.vector_core.specs.Kept.{Keeps}
 use Rattle.vector_core.specs.Start.{start}
@@ -39,10 +38,6 @@ AreKept [] [] = Unit {0}
 AreKept [] (b ∷ bs) = ⊥
 AreKept (a ∷ xs) [] = ⊥
 AreKept (a ∷ xs) (b ∷ bs) = IsKept a b × AreKept xs bs
-
-holds_here : (x : ℕ) (a : Area) → a.first ≤ x → x < end_of a → holds x a ≡ true
-unfolding holds
-holds_here x a low high = grind (arith, nat_tests)
 
 -- Over the bytes from an address on of which none may be written.
 abbrev AreSame : ℕ → List Area → List Area → Type 0
@@ -77,8 +72,8 @@ head_kept from a b xs bs first size order same shut =
     each : (i : ℕ) → i < length b.bytes → get_or b.bytes i 0 ≡ get_or a.bytes i 0
     each i below =
         let x : ℕ = a.first + i in
-        let here = holds_here x a (omega arith) (omega (arith, below, size)) in
-        let there = holds_here x b (omega (arith, first)) (omega (arith, below, first)) in
+        let here = holds_from x a (omega arith) (omega (arith, below, size)) in
+        let there = holds_from x b (omega (arith, first)) (omega (arith, below, first)) in
         let rest = closed_below Write x (end_of a) xs order.1 (omega (arith, below, size)) in
         let equal = sym (byte_here x b bs there) ∙ same x (omega (arith, order.0)) (open_here x a xs shut rest) ∙ byte_here x a xs here in
         let at : x - a.first ≡ i = omega arith in
@@ -124,10 +119,6 @@ kept_filter (a ∷ xs) (b ∷ bs) kept =
     by_test false true is rest = absurd (cc is)
 
 -- ---- arguments
-
-at_middle : (done todo : List Param) (param : Param) → slice_get (done ++ param ∷ todo) (length done) ≡ Some param
-at_middle [] todo param = refl
-at_middle (other ∷ done) todo param = at_middle done todo param
 
 write_of : (done todo params : List Param) (param : Param) (place : ℕ) (bytes : List ℕ) → params ≡ done ++ param ∷ todo → place ≡ length done
     → (buffer_area params place bytes).write ≡ is_writable param

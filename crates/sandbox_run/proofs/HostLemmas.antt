@@ -8,15 +8,10 @@ use Rattle.vector_core.specs.Machine.{Machine}
 use Rattle.vector_core.specs.MachineStep.{step}
 use Rattle.vector_core.specs.Run.{Ended, OutOfSteps, Stop, Trapped, IsOutcome, after, has_ended, outcome, outcome_from}
 use Rattle.vector_core.specs.Start.{start}
-use Rattle.vector_core.proofs.RunLemmas.{after-plus, outcome-is}
+use Rattle.vector_core.proofs.RunLemmas.{after-plus, outcome-is, after_step}
 use Rattle.sandbox_run.specs.HostLaws.{StepsAreUnique, MoreStepsChangeNothing, StartsAreAlike}
 use Rattle.sandbox_run.proofs.StopLemmas.{within_end}
 use Rattle.sandbox_run.proofs.SessionLemmas.{no_fault}
-
--- what follows a step, or its fault
-abbrev then_on : ℕ → ℕ → ℕ → Machine → Result Machine Fault → Stop
-then_on vlenb n k m (Ok t) = outcome_from vlenb n (k + 1) t
-then_on vlenb n k m (Err fault) = Trapped fault k m
 
 more_from : (vlenb n max k j : ℕ) (m t : Machine) → n ≤ max → outcome_from vlenb n k m ≡ Ended j t → outcome_from vlenb max k m ≡ Ended j t
 unfolding outcome_from
@@ -24,22 +19,22 @@ more_from vlenb zero zero k j m t least e = e
 more_from vlenb zero (suc max) k j m t least e = by_end (has_ended m) e
   where
     by_end : (b : Bool) → (if b then Ended k m else OutOfSteps k m) ≡ Ended j t
-        → (if b then Ended k m else then_on vlenb max k m (step vlenb m)) ≡ Ended j t
+        → (if b then Ended k m else after_step vlenb max k m (step vlenb m)) ≡ Ended j t
     by_end true e = e
     by_end false e = absurd (cc e)
 more_from vlenb (suc n) zero k j m t least e = absurd (omega (arith, least))
 more_from vlenb (suc n) (suc max) k j m t least e =
     by_end (has_ended m) e (λ next. more_from vlenb n max (k + 1) j next t (omega (arith, least)))
   where
-    by_step : (r : Result Machine Fault) → then_on vlenb n k m r ≡ Ended j t
+    by_step : (r : Result Machine Fault) → after_step vlenb n k m r ≡ Ended j t
         → ((next : Machine) → outcome_from vlenb n (k + 1) next ≡ Ended j t → outcome_from vlenb max (k + 1) next ≡ Ended j t)
-        → then_on vlenb max k m r ≡ Ended j t
+        → after_step vlenb max k m r ≡ Ended j t
     by_step (Ok next) e further = further next e
     by_step (Err fault) e further = absurd (cc e)
 
-    by_end : (b : Bool) → (if b then Ended k m else then_on vlenb n k m (step vlenb m)) ≡ Ended j t
+    by_end : (b : Bool) → (if b then Ended k m else after_step vlenb n k m (step vlenb m)) ≡ Ended j t
         → ((next : Machine) → outcome_from vlenb n (k + 1) next ≡ Ended j t → outcome_from vlenb max (k + 1) next ≡ Ended j t)
-        → (if b then Ended k m else then_on vlenb max k m (step vlenb m)) ≡ Ended j t
+        → (if b then Ended k m else after_step vlenb max k m (step vlenb m)) ≡ Ended j t
     by_end true e further = e
     by_end false e further = by_step (step vlenb m) e further
 

@@ -1,11 +1,11 @@
 -- Stops of runs, and what a session keeps of them.
-use Rattle.std.proofs.Common.{◌≡◌, ◌∙◌, ℕ, ◌+◌, ◌≤◌, inl, inr, true, false, List, [], ◌∷◌, length, Ok, refl, ap, arith, add-one, below_more}
-use Rattle.std.specs.List.{AllByRecursion, list_all}
+use Rattle.std.proofs.Common.{◌≡◌, ◌∙◌, ℕ, ◌+◌, ◌≤◌, inl, inr, true, false, List, length, Ok, refl, ap, arith, add-one, below_more}
 use Rattle.std.proofs.lemmas.Bool.{cases_lt}
-use Rattle.cert_note.specs.Certificate.{CertificateView, IsCertificate, IsParameter}
+use Rattle.cert_note.specs.Certificate.{CertificateView, IsCertificate}
+use Rattle.cert_note.proofs.Whole.{valid_all}
 use Rattle.elf_image.specs.Image.{ImageView, IsImage}
 use Rattle.region_mem.specs.Memory.{args_of}
-use Rattle.region_mem.specs.Parameter.{Argument, AreArguments, is_valid}
+use Rattle.region_mem.specs.Parameter.{Argument, AreArguments}
 use Rattle.region_mem.specs.Start.{start_memory}
 use Rattle.region_mem.specs.declared.parameter.Param.{Param}
 use Rattle.region_mem.proofs.StartLemmas.{gives_arguments_back}
@@ -59,10 +59,6 @@ stop_after_step vlenb steps first m t (is, goes) going next =
 
 -- ---- what a session is opened with
 
-all_valid : (params : List Param) → AllByRecursion IsParameter params → list_all is_valid params ≡ true
-all_valid [] each = refl
-all_valid (param ∷ params) each = rw (each.0.0, all_valid params each.1) refl
-
 memory_of_start : (vlenb : ℕ) (agnostic : Agnostic) (image : ImageView) (params : List Param) (args : List Argument)
     → (start vlenb agnostic image params args).memory ≡ start_memory image params args
 unfolding start
@@ -77,13 +73,13 @@ module _ (vlenb : ℕ) (agnostic : Agnostic) (image : ImageView) (certificate : 
   pub passed_back : args_of m.memory ≡ args
   passed_back =
       ap args_of memory_is
-      ∙ gives_arguments_back image certificate.parameters args is (all_valid _ stated.parameters) stated.eight eight matching
+      ∙ gives_arguments_back image certificate.parameters args is (valid_all _ stated.parameters) stated.eight eight matching
 
   pub hands_back : HandsBack certificate.parameters m.memory
   hands_back =
       rw passed_back (
         matching,
-        λ next keeps. starts_come_back image certificate.parameters args is (all_valid _ stated.parameters) stated.eight eight matching next
+        λ next keeps. starts_come_back image certificate.parameters args is (valid_all _ stated.parameters) stated.eight eight matching next
             (rw (← memory_is) keeps),
       )
 
