@@ -2,10 +2,9 @@
 use Rattle.std.proofs.Common.{◌≡◌, ℕ, ◌+◌, ◌<◌, ◌≤◌, suc, inl, inr, Bool, true, false, refl, sym, subst, arith, Some, None, List, [], ◌∷◌, length}
 use Rattle.std.specs.Prelude.{is_some, if◌then◌else◌}
 use Rattle.std.specs.List.{list_all, AllByRecursion}
-use Rattle.std.proofs.lemmas.Bool.{cases_eq}
+use Rattle.std.proofs.lemmas.Bool.{cases_eq, and_parts}
 use Rattle.region_mem.specs.declared.parameter.Param.{Param}
 use Rattle.region_mem.specs.Parameter.{is_valid, parameters_of}
-use Rattle.region_mem.proofs.Rooms.{and_first, and_second}
 use Rattle.cert_note.specs.Certificate.{FitsWords, IsParameter}
 use Rattle.cert_maker.specs.Make.{FitsAt, AreParameters}
 
@@ -49,6 +48,6 @@ are_parameters params eight fit e = record { eight = eight; valid = are_valid pa
 pub each_is : (params : List Param) → list_all is_valid params ≡ true → AllByRecursion FitsWords params → AllByRecursion IsParameter params
 each_is [] valid fit = tt
 each_is (p ∷ ps) valid fit = (
-  (and_first (is_valid p) (list_all is_valid ps) valid, fit.0),
-  each_is ps (and_second (is_valid p) (list_all is_valid ps) valid) fit.1,
+  ((and_parts (is_valid p) (list_all is_valid ps) valid).0, fit.0),
+  each_is ps (and_parts (is_valid p) (list_all is_valid ps) valid).1 fit.1,
 )

@@ -3,7 +3,7 @@ use Rattle.std.proofs.Common.{◌≡◌, ℕ, ◌+◌, ◌*◌, ◌^◌, ◌<◌
 use Rattle.std.specs.Prelude.{Result, Ok, Err, IfOk, if◌then◌else◌, nat_le, unwrap_or}
 use Rattle.std.specs.List.{slice_get}
 use Rattle.std.specs.Option.{option_and_then, option_map_or}
-use Rattle.std.proofs.lemmas.Bool.{le-leb}
+use Rattle.std.proofs.lemmas.Bool.{le-leb, and_parts}
 use Rattle.std.proofs.lemmas.Bool.Decides.{nat_tests}
 use Rattle.elf_image.specs.Image.{ImageView}
 use Rattle.rv_decode.specs.declared.instructions.Direction.TheVariants.{Load}
@@ -11,7 +11,7 @@ use Rattle.region_mem.specs.declared.layout.TheConstants.{BUFFERS}
 use Rattle.region_mem.specs.declared.parameter.Param.{Param}
 use Rattle.region_mem.specs.declared.parameter.Param.TheVariants as parameter
 use Rattle.region_mem.specs.Parameter.{address_of, is_buffer, is_valid, room_of}
-use Rattle.region_mem.proofs.Rooms.{and_first, sum_by_room}
+use Rattle.region_mem.proofs.Rooms.{sum_by_room}
 use Rattle.cert_note.specs.Certificate.{is_scalar}
 use Rattle.cert_maker.specs.declared.loops.Loop.{Loop}
 use Rattle.cert_maker.specs.declared.loops.Reading.TheVariants.{Works}
@@ -78,7 +78,7 @@ room_fits params loop place are is l flag = by_param (slice_get params place) re
     by_param (Some parameter.None) e h = absurd (cc)
     by_param (Some (parameter.Scalar lo hi)) e h = absurd (cc)
     by_param (Some (parameter.Buffer access size)) e h =
-        let fits : nat_le (loop.most * size_of loop) size ≡ true = and_first _ _ h in
+        let fits : nat_le (loop.most * size_of loop) size ≡ true = (and_parts _ _ h).0 in
         let small : nat_le size 16777216 ≡ true = valid_at params place (parameter.Buffer access size) are.valid e in
         let first : loop.most * size_of loop ≤ size = grind (arith, nat_tests) in
         let second : size ≤ 16777216 = grind (arith, nat_tests) in

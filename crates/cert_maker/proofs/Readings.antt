@@ -5,10 +5,10 @@ use Rattle.std.specs.List.{slice_get}
 use Rattle.std.specs.Option.{option_and_then}
 use Rattle.std.proofs.lemmas.Bool.Decides.{nat_tests}
 use Rattle.std.proofs.lemmas.List.{get_or-replicate}
+use Rattle.std.proofs.lemmas.Bool.{and_parts}
 use Rattle.elf_image.specs.Image.{ImageView}
 use Rattle.rv_decode.specs.declared.instructions.Insn.{Insn}
 use Rattle.region_mem.specs.declared.parameter.Param.{Param}
-use Rattle.region_mem.proofs.Rooms.{and_first, and_second}
 use Rattle.cert_maker.specs.declared.loops.Loop.{Loop}
 use Rattle.cert_maker.specs.Loops.{◌>>=◌, parameter_in, is_flagged, insn_at, read_at}
 use Rattle.cert_maker.proofs.Flags.{flag_at}
@@ -19,7 +19,7 @@ some_is {A} x y e = ap (λ (o : Option A). unwrap_or o x) e
 -- ---- argument registers
 
 in_place : (r : ℕ) → (nat_le 10 r && nat_lt r 18) ≡ true → (10 ≤ r) × (r < 18)
-in_place r e = (first (and_first _ _ e), second (and_second _ _ e))
+in_place r e = (let tests = and_parts _ _ e in (first tests.0, second tests.1))
   where
     first : nat_le 10 r ≡ true → 10 ≤ r
     first f = grind (arith, nat_tests)
