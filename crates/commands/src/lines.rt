@@ -6,10 +6,11 @@ ghost use Rattle.commands.specs.Mons.{IsUnanswered, answer_of, error_line, flow_
 ghost use Rattle.commands.specs.Why.{Notes};
 ghost use Rattle.commands.specs.declared.stop.Stop.TheVariants.{Memory};
 
+use crate::files::stop_at;
 use crate::stop::Stop;
 use crate::store::StoreError;
 use crate::texts::monitor_error_name;
-use crate::why::{FileReason, Why};
+use crate::why::Why;
 use monitor::{Flow, MonError, Monitor, Over};
 use rv_listing::{Piece, put_all};
 use std::alloc::Global;
@@ -113,13 +114,7 @@ fn unread<'a>(error: io::Error, why: &mut Why) -> Stop<'a>
     ensures notes { Notes why.old why.new }
 {
     let kind = error.kind();
-    match StoreError::from(error) {
-        StoreError::Failed => {
-            why.note(&FileReason(kind));
-            Stop::File("-")
-        }
-        StoreError::NoMemory => Stop::Memory,
-    }
+    stop_at(StoreError::from(error), Some(kind), "-", why)
 }
 
 /// Answers the lines of the input, up to the command `q` or the end, in at most `reads` reads. The last line needs no end.
