@@ -4,7 +4,7 @@ ghost use Rattle.job_file.specs.Needs.{run_param_lent};
 ghost use Rattle.toml.specs.Parse.{parse_document};
 ghost use Rattle.toml.specs.View.{table_view};
 ghost use Rattle.commands.specs.Accepted.{IsOrWant};
-ghost use Rattle.commands.specs.Ending.{IsOfFile};
+ghost use Rattle.commands.specs.Ending.{IsOfFile, stop_at_file};
 ghost use Rattle.commands.specs.Files.{ArePassed, AreWritten, IsImageAt, IsNoImageAt, IsNoTable};
 ghost use Rattle.commands.specs.Files.{IsNoTableAt, IsOfParam, IsOutWritten, IsPassed, IsTableAt};
 ghost use Rattle.commands.specs.Files.{IsUnpassed, IsWritten, image_in, out_file};
@@ -19,20 +19,23 @@ use explanations::Command;
 use job_file::{JobError, RunParam, parse};
 use region_mem::{Arg, Args, Bytes};
 use std::alloc::Global;
+use std::io::ErrorKind;
 use toml::Table;
 
-/// Notes what the system said of the last call, where that failed for another reason than want of memory.
-fn note_failure<S: Store>(store: &S, error: StoreError, why: &mut Why)
-    ensures { Notes why.old why.new }
+/// Why a subcommand stops at the file at `path`. What the system says of it is noted, unless memory ran out.
+pub fn stop_at<'a>(
+    error: StoreError,
+    says: Option<ErrorKind>,
+    path: &'a str,
+    why: &mut Why,
+) -> Stop<'a>
+    ensures stop { result ≡ stop_at_file error path.entry }
+    ensures notes { Notes why.old why.new }
 {
-    match error {
-        StoreError::Failed => {
-            if let Some(kind) = store.last_failure() {
-                why.note(&FileReason(kind));
-            }
-        }
-        StoreError::NoMemory => {}
+    if let (StoreError::Failed, Some(kind)) = (error, says) {
+        why.note(&FileReason(kind));
     }
+    Stop::at_file(error, path)
 }
 
 /// The file at `path`.
@@ -49,10 +52,7 @@ pub fn read<'a, S: Store>(
 {
     match store.read(alloc, path) {
         Ok(bytes) => Ok(bytes),
-        Err(error) => {
-            note_failure(store, error, why);
-            Err(Stop::at_file(error, path))
-        }
+        Err(error) => Err(stop_at(error, store.last_failure(), path, why)),
     }
 }
 
@@ -196,10 +196,7 @@ pub fn write<'a, S: Store>(
 {
     match store.write(path, bytes) {
         Ok(()) => Ok(()),
-        Err(error) => {
-            note_failure(store, error, why);
-            Err(Stop::at_file(error, path))
-        }
+        Err(error) => Err(stop_at(error, store.last_failure(), path, why)),
     }
 }
 

@@ -6,10 +6,11 @@ ghost use Rattle.commands.specs.Mons.{IsUnanswered, answer_of, error_line, flow_
 ghost use Rattle.commands.specs.Why.{Notes};
 ghost use Rattle.commands.specs.declared.stop.Stop.TheVariants.{Memory};
 
+use crate::files::stop_at;
 use crate::stop::Stop;
 use crate::store::StoreError;
 use crate::texts::monitor_error_name;
-use crate::why::{FileReason, Why};
+use crate::why::Why;
 use monitor::{Flow, MonError, Monitor, Over};
 use rv_listing::{Piece, put_all};
 use std::alloc::Global;
@@ -113,23 +114,23 @@ fn unread<'a>(error: io::Error, why: &mut Why) -> Stop<'a>
     ensures notes { Notes why.old why.new }
 {
     let kind = error.kind();
-    match StoreError::from(error) {
-        StoreError::Failed => {
-            why.note(&FileReason(kind));
-            Stop::File("-")
-        }
-        StoreError::NoMemory => Stop::Memory,
-    }
+    stop_at(StoreError::from(error), Some(kind), "-", why)
 }
 
-/// Answers the lines of the input, up to the command `q` or the end, in at most `reads` reads. The last line needs no end.
+/// The input, how often it is read at most, and where its lines are answered.
+#[derive(Drop)]
+pub struct Talk<'a, I, O> {
+    pub input: &'a mut I,
+    pub reads: u64,
+    pub output: &'a mut O,
+}
+
+/// Answers the lines of the input, up to the command `q` or the end. The last line needs no end.
 /// Where the input fails, what the system says of it is noted.
 pub fn answer_lines<'a, const VLENB: usize, I: Read, O: Write>(
     alloc: Global,
     monitor: &mut Monitor<'_, VLENB>,
-    input: &mut I,
-    output: &mut O,
-    reads: u64,
+    talk: &mut Talk<'_, I, O>,
     why: &mut Why,
 ) -> Result<(), Stop<'a>>
     ensures same_reference { monitor.new.session.ghost_name ≡ monitor.old.session.ghost_name }
@@ -138,14 +139,14 @@ pub fn answer_lines<'a, const VLENB: usize, I: Read, O: Write>(
 {
     let mut line = Vec::new(alloc);
     let mut chunk = [0u8; 4096];
-    for _ in 0..reads {
-        match input.read(&mut chunk) {
+    for _ in 0..talk.reads {
+        match talk.input.read(&mut chunk) {
             Ok(0) if line.is_empty() => return Ok(()),
             Ok(0) => {
-                answer(alloc, monitor, line.as_slice(), output)?;
+                answer(alloc, monitor, line.as_slice(), talk.output)?;
                 return Ok(());
             }
-            Ok(n) => match answer_bytes(alloc, monitor, &mut line, &chunk[..n], output)? {
+            Ok(n) => match answer_bytes(alloc, monitor, &mut line, &chunk[..n], talk.output)? {
                 Flow::Go => {}
                 Flow::Quit => return Ok(()),
             },

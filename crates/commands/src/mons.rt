@@ -8,14 +8,12 @@ ghost use Rattle.commands.specs.Mons.{IsStopped, IsUnanswered, Mons, StopsMon, S
 ghost use Rattle.commands.specs.Written.{Gains, Written};
 
 use crate::files::write_outs;
-use crate::lines::answer_lines;
-use crate::starts::{on_table, started};
+use crate::lines::{Talk, answer_lines};
+use crate::starts::{Ready, on_table, started};
 use crate::stop::{Ending, Status, Stop};
 use crate::store::{MOST_READS, Store};
 use crate::why::{Why, note_open};
-use block_checker::Accepted;
 use explanations::Command;
-use job_file::RunJob;
 use monitor::Monitor;
 use region_mem::Args;
 use sandbox_run::Session;
@@ -73,8 +71,13 @@ pub fn mon_job_within<S: Store, I: Read, O: Write, E: Write>(
         (StopsMon S.files (Gains (S.written store.old) (S.written store.new))))
         (E.contents errors.old) (E.contents errors.new) result }
 {
+    let mut talk = Talk {
+        input,
+        output,
+        reads,
+    };
     on_table!(alloc, path, Command::Mon, explain, store, errors; table, why =>
-        mon_table(alloc, table, store, input, output, reads, why))
+        mon_table(alloc, table, store, &mut talk, why))
 }
 
 /// `mon` on a job's table. No file was written since those of `first`.
@@ -82,9 +85,7 @@ fn mon_table<'a, S: Store, I: Read, O: Write>(
     alloc: Global,
     table: &'a Table,
     store: &mut S,
-    input: &mut I,
-    output: &mut O,
-    reads: u64,
+    talk: &mut Talk<'_, I, O>,
     why: &mut Why,
 ) -> Result<Status, Stop<'a>>
     ensures { (first : Option Written) → Gains first (S.written store.old) [] → MatchResult result
@@ -93,17 +94,8 @@ fn mon_table<'a, S: Store, I: Read, O: Write>(
 {
     let start = started(alloc, table, store, why)?;
     let args = start.args;
-    let kept = mon_accepted(
-        alloc,
-        &start.job,
-        &start.accepted,
-        args,
-        input,
-        output,
-        reads,
-        why,
-    )?;
-    write_outs(&start.job.params, &kept.places, store, why)?;
+    let kept = mon_accepted(alloc, &start.ready, args, talk, why)?;
+    write_outs(&start.ready.job.params, &kept.places, store, why)?;
     Ok(Status::Done)
 }
 
@@ -111,29 +103,21 @@ fn mon_table<'a, S: Store, I: Read, O: Write>(
 /// where the lines end.
 fn mon_accepted<'a, I: Read, O: Write>(
     alloc: Global,
-    job: &RunJob<&str>,
-    accepted: &Accepted,
+    ready: &Ready<'_>,
     args: Args,
-    input: &mut I,
-    output: &mut O,
-    reads: u64,
+    talk: &mut Talk<'_, I, O>,
     why: &mut Why,
 ) -> Result<Args, Stop<'a>>
     ensures { MatchResult result
-        (λ kept. IsStopped (vlenb_of job.now.vlen) job.now.agnostic job.now.max accepted.now
-        args.places kept.places)
-        (StopsWatching (vlenb_of job.now.vlen) job.now.max accepted.now args.places) }
+        (λ kept. IsStopped (vlenb_of ready.now.job.vlen) ready.now.job.agnostic ready.now.job.max
+        ready.now.accepted args.places kept.places)
+        (StopsWatching (vlenb_of ready.now.job.vlen) ready.now.job.max ready.now.accepted
+        args.places) }
 {
-    match job.vlen {
-        Vlen::V128 => {
-            mon_session::<16, I, O>(alloc, job, accepted, args, input, output, reads, why)
-        }
-        Vlen::V256 => {
-            mon_session::<32, I, O>(alloc, job, accepted, args, input, output, reads, why)
-        }
-        Vlen::V512 => {
-            mon_session::<64, I, O>(alloc, job, accepted, args, input, output, reads, why)
-        }
+    match ready.job.vlen {
+        Vlen::V128 => mon_session::<16, I, O>(alloc, ready, args, talk, why),
+        Vlen::V256 => mon_session::<32, I, O>(alloc, ready, args, talk, why),
+        Vlen::V512 => mon_session::<64, I, O>(alloc, ready, args, talk, why),
     }
 }
 
@@ -141,37 +125,33 @@ fn mon_accepted<'a, I: Read, O: Write>(
 fn watch<'a, const VLENB: usize, I: Read, O: Write>(
     alloc: Global,
     session: &mut Session<VLENB>,
-    input: &mut I,
-    output: &mut O,
-    reads: u64,
+    talk: &mut Talk<'_, I, O>,
     why: &mut Why,
 ) -> Result<(), Stop<'a>>
     ensures first { session.new.first ≡ session.old.first }
     ensures unanswered { IfErr result IsUnanswered }
 {
     let mut monitor = Monitor::new(session);
-    answer_lines(alloc, &mut monitor, input, output, reads, why)
+    answer_lines(alloc, &mut monitor, talk, why)
 }
 
 fn mon_session<'a, const VLENB: usize, I: Read, O: Write>(
     alloc: Global,
-    job: &RunJob<&str>,
-    accepted: &Accepted,
+    ready: &Ready<'_>,
     args: Args,
-    input: &mut I,
-    output: &mut O,
-    reads: u64,
+    talk: &mut Talk<'_, I, O>,
     why: &mut Why,
 ) -> Result<Args, Stop<'a>>
     requires { IsVlenb VLENB }
     ensures { MatchResult result
-        (λ kept. IsStopped VLENB job.now.agnostic job.now.max accepted.now
+        (λ kept. IsStopped VLENB ready.now.job.agnostic ready.now.job.max ready.now.accepted
         args.places kept.places)
-        (StopsWatching VLENB job.now.max accepted.now args.places) }
+        (StopsWatching VLENB ready.now.job.max ready.now.accepted args.places) }
 {
+    let Ready { job, accepted } = ready;
     match Session::<VLENB>::open(alloc, accepted, args, job.agnostic, job.max) {
         Ok(mut session) => {
-            watch(alloc, &mut session, input, output, reads, why)?;
+            watch(alloc, &mut session, talk, why)?;
             session.stands();
             Ok(session.close())
         }

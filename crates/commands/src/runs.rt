@@ -10,14 +10,12 @@ ghost use Rattle.commands.specs.Trial.{OrMemory};
 ghost use Rattle.commands.specs.Written.{Gains, Written};
 ghost use Rattle.commands.specs.declared.trial.End.TheVariants.{Ended};
 
-use crate::starts::{on_table, started};
+use crate::starts::{Ready, on_table, started};
 use crate::stop::{Ending, Status, Stop};
 use crate::store::Store;
 use crate::trial::{Trial, finish};
 use crate::why::{Why, note_open};
-use block_checker::Accepted;
 use explanations::Command;
-use job_file::RunJob;
 use region_mem::Args;
 use sandbox_run::Session;
 use std::alloc::Global;
@@ -68,8 +66,8 @@ fn run_table<'a, S: Store, O: Write>(
 {
     let start = started(alloc, table, store, why)?;
     let args = start.args;
-    let trial = run_accepted(alloc, &start.job, &start.accepted, args, why)?;
-    finish(&start.job.params, &trial, store, output, why)
+    let trial = run_accepted(alloc, &start.ready, args, why)?;
+    finish(&start.ready.job.params, &trial, store, output, why)
 }
 
 /// Runs a job on an accepted image and arguments, at the job's length of vector registers and setting.
@@ -79,33 +77,33 @@ fn run_table<'a, S: Store, O: Write>(
 /// where it is not refused.
 fn run_accepted<'a>(
     alloc: Global,
-    job: &RunJob<&str>,
-    accepted: &Accepted,
+    ready: &Ready<'_>,
     args: Args,
     why: &mut Why,
 ) -> Result<Trial, Stop<'a>>
-    ensures answer { OrMemory (run_of_job (run_job_lent job.now) accepted.now args.places) result }
+    ensures answer { OrMemory (run_of_job (run_job_lent ready.now.job) ready.now.accepted
+        args.places) result }
     ensures ended { IfOk result (λ trial. trial.end ≡ Ended) }
 {
-    match job.vlen {
-        Vlen::V128 => run_session::<16>(alloc, job, accepted, args, why),
-        Vlen::V256 => run_session::<32>(alloc, job, accepted, args, why),
-        Vlen::V512 => run_session::<64>(alloc, job, accepted, args, why),
+    match ready.job.vlen {
+        Vlen::V128 => run_session::<16>(alloc, ready, args, why),
+        Vlen::V256 => run_session::<32>(alloc, ready, args, why),
+        Vlen::V512 => run_session::<64>(alloc, ready, args, why),
     }
 }
 
 fn run_session<'a, const VLENB: usize>(
     alloc: Global,
-    job: &RunJob<&str>,
-    accepted: &Accepted,
+    ready: &Ready<'_>,
     args: Args,
     why: &mut Why,
 ) -> Result<Trial, Stop<'a>>
     requires { IsVlenb VLENB }
-    ensures answer { OrMemory (session_of VLENB job.now.agnostic job.now.max
-        accepted.now args.places) result }
+    ensures answer { OrMemory (session_of VLENB ready.now.job.agnostic ready.now.job.max
+        ready.now.accepted args.places) result }
     ensures ended { IfOk result (λ trial. trial.end ≡ Ended) }
 {
+    let Ready { job, accepted } = ready;
     match Session::<VLENB>::open(alloc, accepted, args, job.agnostic, job.max) {
         Ok(mut session) => {
             let steps = session.run();

@@ -37,11 +37,17 @@ macro_rules! on_table {
 
 pub(crate) use on_table;
 
-/// A job on an image that is accepted, and what it passes.
+/// A job on an image that is accepted.
 #[derive(Drop)]
-pub struct Start<'a> {
+pub struct Ready<'a> {
     pub job: RunJob<&'a str>,
     pub accepted: Accepted,
+}
+
+/// The same, with what it passes.
+#[derive(Drop)]
+pub struct Start<'a> {
+    pub ready: Ready<'a>,
     pub args: Args,
 }
 
@@ -54,8 +60,8 @@ pub fn started<'a, S: Store>(
     why: &mut Why,
 ) -> Result<Start<'a>, Stop<'a>>
     ensures start { MatchResult result
-        (λ start. IsStarted S.files (table_view table.entry.now) (run_job_lent start.job)
-        start.accepted start.args.places)
+        (λ start. IsStarted S.files (table_view table.entry.now) (run_job_lent start.ready.job)
+        start.ready.accepted start.args.places)
         (IsUnstarted S.files (table_view table.entry.now)) }
     ensures files { Gains (S.written store.old) (S.written store.new) [] }
 {
@@ -64,9 +70,6 @@ pub fn started<'a, S: Store>(
     let image = read_image(alloc, job.image, store, why)?;
     let accepted = accept(alloc, image, Some(job.vlen), why)?;
     let args = read_args(alloc, &job.params, store, why)?;
-    Ok(Start {
-        job,
-        accepted,
-        args,
-    })
+    let ready = Ready { job, accepted };
+    Ok(Start { ready, args })
 }

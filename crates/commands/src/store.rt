@@ -1,6 +1,6 @@
 //! Where a job's files are read and written.
 ghost use Rattle.std.specs.Io.KnownBytes.{Consumes, IsAtEnd};
-ghost use Rattle.std.specs.Prelude.{◌≡◌, IfOk, OnOk};
+ghost use Rattle.std.specs.Prelude.{◌≡◌, IfOk, None, OnOk};
 ghost use Rattle.std.specs.IoError.{error_kind};
 ghost use Rattle.commands.specs.Ending.{store_error_of};
 ghost use Rattle.commands.specs.declared.store.StoreError.TheVariants as store_error;
@@ -102,16 +102,15 @@ impl<'a, R> Disk<'a, R> {
     {
         Disk { rt, failure: None }
     }
-}
 
-impl<'a, R: Files> Store for Disk<'a, R> {
-    ghost failure = { λ disk. disk.failure };
-
-    fn read(&mut self, alloc: Global, path: &str) -> Result<Vec<u8>, StoreError> {
-        match read_file(self.rt, alloc, path) {
-            Ok(bytes) => {
+    /// What came of a call. What the system says where it failed is kept.
+    fn kept<T>(&mut self, came: io::Result<T>) -> Result<T, StoreError>
+        ensures { OnOk result (self.new.failure ≡ None) }
+    {
+        match came {
+            Ok(value) => {
                 self.failure = None;
-                Ok(bytes)
+                Ok(value)
             }
             Err(error) => {
                 self.failure = Some(error.kind());
@@ -119,18 +118,19 @@ impl<'a, R: Files> Store for Disk<'a, R> {
             }
         }
     }
+}
+
+impl<'a, R: Files> Store for Disk<'a, R> {
+    ghost failure = { λ disk. disk.failure };
+
+    fn read(&mut self, alloc: Global, path: &str) -> Result<Vec<u8>, StoreError> {
+        let came = read_file(self.rt, alloc, path);
+        self.kept(came)
+    }
 
     fn write(&mut self, path: &str, bytes: &[u8]) -> Result<(), StoreError> {
-        match write_file(self.rt, path, bytes) {
-            Ok(()) => {
-                self.failure = None;
-                Ok(())
-            }
-            Err(error) => {
-                self.failure = Some(error.kind());
-                Err(StoreError::from(error))
-            }
-        }
+        let came = write_file(self.rt, path, bytes);
+        self.kept(came)
     }
 
     fn last_failure(&self) -> Option<ErrorKind> {

@@ -18,7 +18,7 @@ pub returns-in_err-write_outs : goal.returns-in_err-write_outs
 returns-in_err-write_outs g c first none =
     let wrote = Gains first (g.S.Store.written c.write_outs.new.store) in
     let read = gains_more _ _ _ [] [] none c.in_ok-start.ensures.files in
-    let un = unwritten_more g.S.Store.files _ wrote (map run_param_lent c.in_ok-start.start.job.params) c.in_ok-kept.kept.places _ (λ xs some. gains_more _ _ _ [] xs read some) c.in_err-write_outs.ensures in
+    let un = unwritten_more g.S.Store.files _ wrote (map run_param_lent c.in_ok-start.start.ready.job.params) c.in_ok-kept.kept.places _ (λ xs some. gains_more _ _ _ [] xs read some) c.in_err-write_outs.ensures in
     handed_on _ _ _ _ c.from_residual-in_err-write_outs.ensures.1 (stops_started g.S.Store.files wrote (StopsWatched g.S.Store.files) _ _ _ _ _ c.in_ok-start.ensures.start (inr (c.in_ok-kept.kept.places, c.in_ok-kept.ensures, un)))
 
 pub returns : goal.returns
@@ -26,8 +26,8 @@ returns g c first none =
     let s = c.in_ok-start.start in
     let read = gains_more _ _ _ [] [] none c.in_ok-start.ensures.files in
     record {
-      job = run_job_lent s.job;
-      accepted = s.accepted;
+      job = run_job_lent s.ready.job;
+      accepted = s.ready.accepted;
       args = s.args.places;
       started = c.in_ok-start.ensures.start;
       kept = c.in_ok-kept.kept.places;

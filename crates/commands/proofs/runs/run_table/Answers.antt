@@ -17,13 +17,13 @@ returns-in_err-trial g c first none =
 pub returns : goal.returns
 returns g c first none =
     let s = c.in_ok-start.start in
-    let job = run_job_lent s.job in
+    let job = run_job_lent s.ready.job in
     let wrote = Gains first (g.S.Store.written c.finish.new.store) in
-    finished g.S.Store.files _ _ first _ _ _ job.params (run_of_job job s.accepted s.args.places) c.in_ok-trial.trial c.finish.result _ _ refl c.in_ok-trial.ensures.answer
+    finished g.S.Store.files _ _ first _ _ _ job.params (run_of_job job s.ready.accepted s.args.places) c.in_ok-trial.trial c.finish.result _ _ refl c.in_ok-trial.ensures.answer
     (gains_more _ _ _ [] [] none c.in_ok-start.ensures.files) c.finish.ensures.done c.finish.ensures.told c.finish.ensures.wrote c.finish.ensures.unfinished
     (λ status comes outs told done. record {
       job = job;
-      accepted = s.accepted;
+      accepted = s.ready.accepted;
       args = s.args.places;
       started = c.in_ok-start.ensures.start;
       trial = c.in_ok-trial.trial;
