@@ -30,7 +30,8 @@ use Rattle.vreg_groups.proofs.Writes.{number_at-lt}
 use Rattle.scalar_core.specs.Arithmetic.{unsigned}
 use Rattle.scalar_core.specs.Hart.{Hart, reg_of}
 use Rattle.vector_core.specs.KeepLaws.{AreRegisters}
-use Rattle.vector_core.specs.Operands.{low_bits, second_of}
+use Rattle.vector_core.specs.Operands.{second_of}
+use Rattle.vector_mem.specs.Accesses.{low_bits}
 use Rattle.cert_note.specs.declared.values.VectorFact.{VectorFact}
 use Rattle.abs_domain.specs.Described.{LiesIn}
 use Rattle.abs_transfer.specs.Facts.{all_of_bits, fact_range, is_source, low_range, second_range, source_range}

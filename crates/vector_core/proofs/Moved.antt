@@ -1,6 +1,5 @@
 -- The numbers of elements that were moved are the numbers of the elements, moved.
 use Rattle.std.proofs.Common.{◌≡◌, ℕ, ◌+◌, ◌-◌, ◌%◌, ◌^◌, Bool, true, false, List, [], ◌∷◌, ◌++◌, take, get_or, length, map, ap, zero, suc, refl}
-use Rattle.std.proofs.Math.Nat.{zero-mod}
 use Rattle.std.proofs.lemmas.List.{drop-map, length-map, map-append, take-map}
 use Rattle.std.specs.List.{range_with_len}
 use Rattle.lane_masks.specs.Folds.{kept}
@@ -10,7 +9,7 @@ use Rattle.rv_decode.specs.Instructions.{bytes_of_width}
 use Rattle.rv_decode.specs.declared.instructions.Width.{Width}
 use Rattle.rv_decode.specs.declared.instructions.Width.TheVariants.{W8, W16, W32}
 use Rattle.vector_core.specs.Integer.{lane_width}
-use Rattle.vector_core.specs.Operands.{low_bits}
+use Rattle.vector_mem.specs.Accesses.{low_bits}
 
 -- a lane's width and an element's size are those of one SEW
 pub low_is : (sew : Width) (n : ℕ) → n % 2 ^ bits (lane_width sew) ≡ low_bits (bytes_of_width sew) n
@@ -18,10 +17,6 @@ unfolding low_bits
 low_is W8 n = refl
 low_is W16 n = refl
 low_is W32 n = refl
-
-pub zero_low : (size : ℕ) → low_bits size 0 ≡ 0
-unfolding low_bits
-zero_low size = zero-mod (256 ^ size)
 
 -- the default is looked up like an element
 got : {A : Type 0} (number : A → ℕ) (xs : List A) (i : ℕ) (d : A) (n : ℕ) → number d ≡ n → number (get_or xs i d) ≡ get_or (map number xs) i n

@@ -7,8 +7,8 @@ use Rattle.rv_decode.specs.declared.instructions.VMove.TheVariants.{ToScalar, Fr
 use Rattle.lane_int.specs.Lists.{zip3}
 use Rattle.vreg_groups.specs.{Copies.copied, Legality.whole_count}
 use Rattle.vector_core.specs.Words.{Hart, Memory, Same, Setup, Source, VMove, body_of}
-use Rattle.vector_core.specs.Words.{bytes_of_width, mask_bits, reg_of}
-use Rattle.vector_core.specs.Operands.{low_bits, results_written, second_of}
+use Rattle.vector_core.specs.Words.{bytes_of_width, low_bits, mask_bits, reg_of}
+use Rattle.vector_core.specs.Operands.{results_written, second_of}
 use Rattle.vector_core.specs.Singles.{first_element, first_written}
 use Rattle.vector_core.specs.Vectors.{Stepped, Vectors, in_registers, in_scalar}
 use Rattle.vector_core.specs.{Integer.lane_width, Setup.group_at}

@@ -1,18 +1,14 @@
 -- What vector instructions read from the registers and write to them ("Vector Instruction
 -- Formats"). `file` is the registers' bytes; the body's elements, and the results for them, are a
 -- list.
-use Rattle.std.specs.Prelude.{ℕ, ◌%◌, ◌^◌, ◌==◌, Bool, List, replicate, if◌then◌else◌}
+use Rattle.std.specs.Prelude.{ℕ, ◌==◌, Bool, List, replicate, if◌then◌else◌}
 use Rattle.std.specs.Int.{w32, cast_unsigned}
 use Rattle.rv_decode.specs.declared.instructions.Source.TheVariants.{Vector, Scalar, Immediate}
 use Rattle.vreg_groups.specs.Group.{written}
 use Rattle.vreg_groups.specs.NewElements.{mask_policy_of, mask_write_of, policy_of}
 use Rattle.vector_core.specs.Words.{Hart, Same, Setup, Source, Span, active_of, body_of}
-use Rattle.vector_core.specs.Words.{bytes_of_width, reg_of}
+use Rattle.vector_core.specs.Words.{bytes_of_width, low_bits, reg_of}
 use Rattle.vector_core.specs.Setup.{group_at}
-
--- the element of `size` bytes in the low bits of a number
-unfoldable pub low_bits : ℕ → ℕ → ℕ
-low_bits size n = n % 256 ^ size
 
 -- the elements of the second operand: of a group, or each of them a scalar's or an immediate's low
 -- SEW bits. An immediate is sign-extended.

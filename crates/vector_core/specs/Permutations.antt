@@ -11,9 +11,9 @@ use Rattle.vreg_groups.specs.Group.{group_of, written}
 use Rattle.vreg_groups.specs.{NewElements.policy_of, VectorType.vlmax_of}
 use Rattle.rv_decode.specs.declared.instructions.Offset.TheVariants as offset
 use Rattle.vector_core.specs.Words.{Fixed, Hart, Memory, Same, Setup, Source, Span, VPerm, W16}
-use Rattle.vector_core.specs.Words.{active_of, body_of, bytes_of_width, mask_bits, reg_of, Offset}
+use Rattle.vector_core.specs.Words.{active_of, body_of, bytes_of_width, low_bits, mask_bits, reg_of, Offset}
 use Rattle.vector_core.specs.Vectors.{Stepped, Vectors, in_registers}
-use Rattle.vector_core.specs.{Operands.low_bits, Operands.results_written, Setup.group_at}
+use Rattle.vector_core.specs.{Operands.results_written, Setup.group_at}
 
 -- all elements of SEW that a group has: VLMAX of them, whatever vl is
 abbrev pub all_at : ℕ → Setup → ℕ → Span

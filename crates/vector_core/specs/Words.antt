@@ -25,6 +25,7 @@ pub use Rattle.region_mem.specs.declared.faults.Right.TheVariants.{Read, Write}
 pub use Rattle.scalar_core.specs.Hart.{Hart, advanced, reg_of, with_reg}
 pub use Rattle.vreg_groups.specs.{Elements.active_of, Elements.mask_bits, Group.Span}
 pub use Rattle.rv_decode.specs.Instructions.{bytes_of_width}
+pub use Rattle.vector_mem.specs.Accesses.{low_bits}
 pub use Rattle.vreg_groups.specs.Group.{body_of}
 pub use Rattle.vreg_groups.specs.declared.vector_length.{Avl.Avl, Vconfig.Vconfig}
 pub use Rattle.vreg_groups.specs.declared.policies.Agnostic.{Agnostic}

@@ -2,7 +2,7 @@
 
 ghost use Rattle.std.specs.Prelude.{◌≡◌, length, map};
 ghost use Rattle.rv_decode.specs.Instructions.{bytes_of_width};
-ghost use Rattle.vector_core.specs.Operands.{low_bits};
+ghost use Rattle.vector_mem.specs.Accesses.{low_bits};
 
 use lane_fixed::FixedLane;
 use lane_int::Lane;
@@ -106,7 +106,7 @@ pub fn low_bits<E: VectorElement>(n: u32) -> E
 }
 
 /// The element 0.
-#[tactic(auto, using(crate::proofs::Moved::zero_low))]
+#[tactic(auto, using(vector_mem::proofs::Steps::zero_bits))]
 pub fn zero<E: VectorElement>() -> E
     ensures { E.Element.number result ≡ 0 }
 {

@@ -8,7 +8,8 @@ ghost use Rattle.vreg_groups.specs.Group.{IsGroupInside, body_of, written};
 ghost use Rattle.vreg_groups.specs.Legality.{IsInside};
 ghost use Rattle.vreg_groups.specs.NewElements.{policy_of};
 ghost use Rattle.rv_decode.specs.Instructions.{bytes_of_width};
-ghost use Rattle.vector_core.specs.Operands.{bits_written, low_bits, results_written, second_of};
+ghost use Rattle.vector_core.specs.Operands.{bits_written, results_written, second_of};
+ghost use Rattle.vector_mem.specs.Accesses.{low_bits};
 ghost use Rattle.vector_core.specs.Setup.{IsSetup, group_at};
 
 use crate::elements::{VectorElement, low_bits};
