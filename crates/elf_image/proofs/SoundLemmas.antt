@@ -67,13 +67,17 @@ pub is_table : (file : List ℕ) → HasHeader file → IsTable file
 unfolding has_bad_header_table
 is_table file h =
     let a = neither _ _ h.table in
+    let there = neither _ _ a.1 in
     let b = neither _ _ a.0 in
-    let c = neither _ _ b.0 in
-    let d = neither _ _ c.0 in
+    let sizes = neither _ _ b.0 in
     record {
-      header_size = eqb-true _ _ (not-false _ d.0);
-      entry_size = eqb-true _ _ (not-false _ d.1);
-      has_table = record { header = ltb-false _ _ h.short; count = ltb-false _ _ b.1; inside = ltb-false _ _ a.1 };
+      header_size = eqb-true _ _ (not-false _ sizes.0);
+      entry_size = eqb-true _ _ (not-false _ sizes.1);
+      has_table = record {
+        header = ltb-false _ _ h.short;
+        count = ltb-false _ _ there.0;
+        inside = ltb-false _ _ there.1;
+      };
     }
 
 -- there is room for one header more, and the size is not above the limit

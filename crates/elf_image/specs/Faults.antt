@@ -1,5 +1,5 @@
 -- What may be wrong with a file, and which of it is told.
-use Rattle.std.specs.Prelude.{ℕ, ◌+◌, ◌*◌, ◌%◌, ◌==◌, ◌&&◌, ◌||◌, not, nat_lt, nat_le, nat_eq, Bool, false, List, [], ◌∷◌, ◌++◌, length, bit_and, Option, Some, None, find, if◌then◌else◌}
+use Rattle.std.specs.Prelude.{ℕ, ◌+◌, ◌%◌, ◌==◌, ◌&&◌, ◌||◌, not, nat_lt, nat_le, nat_eq, Bool, false, List, [], ◌∷◌, ◌++◌, length, bit_and, Option, Some, None, find, if◌then◌else◌}
 use Rattle.std.specs.List.{list_any, sum_by, starts_with, slice_index}
 use Rattle.elf_image.specs.declared.error.ElfError.{ElfError}
 use Rattle.elf_image.specs.declared.error.ElfError.TheVariants.{TooShort, BadMagic, BadClass, BadType, BadMachine, BadFlags, BadHeaderTable, NotStatic, SegmentOutOfFile, SegmentOutOfPlace, SegmentsOverlap, WriteAndExecute, TooLarge, EntryNotCode, TwoCertificates, CertificateThere, NoMemory}
@@ -7,7 +7,7 @@ use Rattle.elf_image.specs.declared.header.ProgramHeader.{ProgramHeader}
 use Rattle.elf_image.specs.declared.faults.TheConstants.{ELF_HEADER_SIZE, MAGIC, EI_CLASS, EI_DATA, EI_VERSION, ELFCLASS32, ELFDATA2LSB, EV_CURRENT, ET_EXEC, EM_RISCV, EXTENSION_FLAGS}
 use Rattle.elf_image.specs.declared.header.TheConstants.{PROGRAM_HEADER_SIZE, MAX_PROGRAM_HEADERS, PT_DYNAMIC, PT_INTERP, PT_TLS}
 use Rattle.elf_image.specs.declared.layout.TheConstants.{LOW_SEGMENTS, LOW_SEGMENTS_END, HIGH_SEGMENTS, HIGH_SEGMENTS_END, MAX_FILE_SIZE, MAX_SEGMENTS, MAX_MEMORY_SIZE}
-use Rattle.elf_image.specs.File.{certificates_of, e_type, e_machine, e_version, e_entry, e_phoff, e_flags, e_ehsize, e_phentsize, e_phnum, program_headers, segment_headers, is_load, is_note, is_executable, is_writable}
+use Rattle.elf_image.specs.File.{certificates_of, e_type, e_machine, e_version, e_entry, e_flags, e_ehsize, e_phentsize, e_phnum, header_offset, program_headers, segment_headers, is_load, is_note, is_executable, is_writable}
 
 -- fewer bytes than an ELF header has
 abbrev pub is_too_short : List ℕ → Bool
@@ -35,13 +35,17 @@ has_bad_machine file = not (e_machine file == EM_RISCV)
 unfoldable pub has_bad_flags : List ℕ → Bool
 has_bad_flags file = not (bit_and (e_flags file) EXTENSION_FLAGS == 0)
 
+-- there are too many program headers, or their table doesn't lie inside the file
+abbrev pub lacks_table : List ℕ → Bool
+lacks_table file = nat_lt MAX_PROGRAM_HEADERS (e_phnum file)
+    || nat_lt (length file) (header_offset (e_phnum file) file)
+
 -- the sizes of the headers aren't the standard's for 32 bits, there is no program header or there
 -- are too many, or their table doesn't lie inside the file
 unfoldable pub has_bad_header_table : List ℕ → Bool
 has_bad_header_table file =
     not (e_ehsize file == ELF_HEADER_SIZE) || not (e_phentsize file == PROGRAM_HEADER_SIZE)
-    || e_phnum file == 0 || nat_lt MAX_PROGRAM_HEADERS (e_phnum file)
-    || nat_lt (length file) (e_phoff file + PROGRAM_HEADER_SIZE * e_phnum file)
+    || e_phnum file == 0 || lacks_table file
 
 -- a program header of type PT_DYNAMIC, PT_INTERP or PT_TLS
 abbrev pub is_dynamic : ProgramHeader → Bool

@@ -48,11 +48,14 @@ program_header_at offset file = record {
   p_flags = word_at (offset + P_FLAGS) file;
 }
 
--- the table: e_phnum program headers, one after the other from e_phoff on
+-- where the program header with a number begins: they lie one after the other from e_phoff on
+abbrev pub header_offset : ℕ → List ℕ → ℕ
+header_offset number file = e_phoff file + PROGRAM_HEADER_SIZE * number
+
+-- the table: e_phnum program headers
 unfoldable pub program_headers : List ℕ → List ProgramHeader
 program_headers file =
-    map (λ i. program_header_at (e_phoff file + PROGRAM_HEADER_SIZE * i) file)
-    (range_with_len 0 (e_phnum file))
+    map (λ i. program_header_at (header_offset i file) file) (range_with_len 0 (e_phnum file))
 
 -- the ELF header and the table are inside the file, and the table isn't too long
 pub record HasTable (file : List ℕ) : Type 0 where

@@ -1,6 +1,6 @@
 //! What may be wrong with a file.
 
-ghost use Rattle.std.specs.Prelude.{◌≡◌, ◌≤◌, false, OnOk, length};
+ghost use Rattle.std.specs.Prelude.{◌≡◌, ◌≤◌, false, true, OnOk, length};
 ghost use Rattle.std.specs.Result.{result_err};
 ghost use Rattle.std.specs.List.{list_any};
 ghost use Rattle.elf_image.specs.File.{HasTable, e_entry, program_headers, segment_headers};
@@ -8,10 +8,9 @@ ghost use Rattle.elf_image.specs.Faults.{has_bad_class, has_bad_flags, has_bad_h
 ghost use Rattle.elf_image.specs.Faults.{has_bad_machine, has_bad_magic, has_bad_type};
 ghost use Rattle.elf_image.specs.Faults.{has_out_of_file, has_out_of_place, has_overlap};
 ghost use Rattle.elf_image.specs.Faults.{has_write_and_execute, is_not_code, is_not_static};
-ghost use Rattle.elf_image.specs.Faults.{is_out_of_file, is_out_of_place, is_too_large};
-ghost use Rattle.elf_image.specs.Faults.{is_too_short, overlap, is_between, is_dynamic};
-ghost use Rattle.elf_image.specs.Faults.{is_write_and_execute, has_word, first_of, header_faults};
-ghost use Rattle.elf_image.specs.Faults.{place_faults, segment_faults, told_if};
+ghost use Rattle.elf_image.specs.Faults.{is_too_large, is_too_short, lacks_table, overlap};
+ghost use Rattle.elf_image.specs.Faults.{has_word, first_of, header_faults, place_faults};
+ghost use Rattle.elf_image.specs.Faults.{segment_faults, told_if};
 
 use crate::error::ElfError;
 use crate::header;
@@ -23,31 +22,35 @@ use crate::layout::{
     MAX_MEMORY_SIZE, MAX_SEGMENTS,
 };
 
-/// What `e_ident` begins with (`ELFMAG`), and where its next bytes lie.
+/// What `e_ident` begins with ("ELF Identification", `ELFMAG`),
 const MAGIC: [u8; 4] = [0x7f, b'E', b'L', b'F'];
 
-const EI_CLASS: usize = 4;
+/// and where its next bytes lie.
+pub const EI_CLASS: usize = 4;
 
-const EI_DATA: usize = 5;
+pub const EI_DATA: usize = 5;
 
-const EI_VERSION: usize = 6;
+pub const EI_VERSION: usize = 6;
 
-const ELFCLASS32: u8 = 1;
+/// What these are for 32 bits, the lowest byte first, and the version of the standard.
+pub const ELFCLASS32: u8 = 1;
 
-const ELFDATA2LSB: u8 = 1;
+pub const ELFDATA2LSB: u8 = 1;
 
-const EV_CURRENT: u8 = 1;
+pub const EV_CURRENT: u8 = 1;
 
-const ET_EXEC: u16 = 2;
+/// The `e_type` of an executable file ("ELF Header").
+pub const ET_EXEC: u16 = 2;
 
 const EM_RISCV: u16 = 243;
 /// EF_RISCV_RVC, EF_RISCV_FLOAT_ABI and EF_RISCV_RVE.
 const EXTENSION_FLAGS: u32 = 0xf;
 
-/// The size of an ELF header.
-const ELF_HEADER_SIZE: usize = 52;
+/// The size of an ELF header ("ELF Header", `Elf32_Ehdr`).
+pub const ELF_HEADER_SIZE: usize = 52;
 
-fn is_too_short(file: &[u8]) -> bool
+/// Whether a file has fewer bytes than an ELF header ("ELF Header", `Elf32_Ehdr`).
+pub fn is_too_short(file: &[u8]) -> bool
     ensures { result ≡ is_too_short file.now }
 {
     file.len() < ELF_HEADER_SIZE
@@ -93,20 +96,37 @@ fn has_bad_flags(file: &[u8]) -> bool
     word_at(header::E_FLAGS, file) & EXTENSION_FLAGS != 0
 }
 
+/// Whether the table has too many program headers, or does not lie inside the file.
+fn lacks_table(file: &[u8]) -> bool
+    requires { ELF_HEADER_SIZE ≤ length file.now }
+    ensures value { result ≡ lacks_table file.now }
+    ensures table { result ≡ false → HasTable file.now }
+{
+    let count = half_at(header::E_PHNUM, file);
+    let end = u64::from(word_at(header::E_PHOFF, file))
+        + u64::from(PROGRAM_HEADER_SIZE) * u64::from(count);
+    usize::from(count) > MAX_PROGRAM_HEADERS || (file.len() as u64) < end
+}
+
+/// Whether the ELF header and the table of program headers lie inside the file, and the table is not too long ("ELF
+/// Header", `e_phoff` and `e_phnum`).
+pub fn has_table(file: &[u8]) -> bool
+    ensures yes { result ≡ true → HasTable file.now }
+    ensures no { result ≡ false → ¬ (HasTable file.now) }
+{
+    !is_too_short(file) && !lacks_table(file)
+}
+
 #[tactic(auto, unfolding(crate::specs::Faults::has_bad_header_table))]
 fn has_bad_header_table(file: &[u8]) -> bool
     requires { ELF_HEADER_SIZE ≤ length file.now }
     ensures value { result ≡ has_bad_header_table file.now }
     ensures table { result ≡ false → HasTable file.now }
 {
-    let count = half_at(header::E_PHNUM, file);
-    let end = u64::from(word_at(header::E_PHOFF, file))
-        + u64::from(PROGRAM_HEADER_SIZE) * u64::from(count);
     half_at(header::E_EHSIZE, file) as usize != ELF_HEADER_SIZE
         || half_at(header::E_PHENTSIZE, file) != PROGRAM_HEADER_SIZE
-        || count == 0
-        || usize::from(count) > MAX_PROGRAM_HEADERS
-        || (file.len() as u64) < end
+        || half_at(header::E_PHNUM, file) == 0
+        || lacks_table(file)
 }
 
 /// Refuses a file that has this fault.
@@ -130,64 +150,31 @@ pub fn check_header(file: &[u8]) -> Result<(), ElfError>
     refuse_if(has_bad_header_table(file), ElfError::BadHeaderTable)
 }
 
-fn is_dynamic(h: &ProgramHeader) -> bool
-    ensures { result ≡ is_dynamic h.now }
-{
-    h.p_type == header::PT_DYNAMIC || h.p_type == header::PT_INTERP || h.p_type == header::PT_TLS
-}
-
 #[tactic(auto, unfolding(crate::specs::Faults::is_not_static))]
 fn is_not_static(headers: &[ProgramHeader]) -> bool
     ensures { result ≡ is_not_static headers.now }
 {
-    headers.iter().any(|h| is_dynamic(h))
-}
-
-fn is_out_of_file(size: u64, h: &ProgramHeader) -> bool
-    ensures { result ≡ is_out_of_file size h.now }
-{
-    let end = u64::from(h.p_offset) + u64::from(h.p_filesz);
-    (h.is_load() || h.is_note()) && 0 < h.p_filesz && size < end
-        || h.is_load() && h.p_memsz < h.p_filesz
+    headers.iter().any(|h| h.is_dynamic())
 }
 
 #[tactic(auto, unfolding(crate::specs::Faults::has_out_of_file))]
 fn has_out_of_file(size: u64, headers: &[ProgramHeader]) -> bool
     ensures { result ≡ has_out_of_file size headers.now }
 {
-    headers.iter().any(|h| is_out_of_file(size, h))
-}
-
-fn is_between(low: u32, high: u32, h: &ProgramHeader) -> bool
-    ensures { result ≡ is_between low high h.now }
-{
-    low <= h.p_vaddr && h.end() <= u64::from(high)
-}
-
-fn is_out_of_place(h: &ProgramHeader) -> bool
-    ensures { result ≡ is_out_of_place h.now }
-{
-    !(is_between(LOW_SEGMENTS, LOW_SEGMENTS_END, h)
-        || is_between(HIGH_SEGMENTS, HIGH_SEGMENTS_END, h))
+    headers.iter().any(|h| h.is_out_of_file(size))
 }
 
 #[tactic(auto, unfolding(crate::specs::Faults::has_out_of_place))]
 fn has_out_of_place(segments: &[ProgramHeader]) -> bool
     ensures { result ≡ has_out_of_place segments.now }
 {
-    segments.iter().any(|h| is_out_of_place(h))
-}
-
-fn overlap(g: &ProgramHeader, h: &ProgramHeader) -> bool
-    ensures { result ≡ overlap g.now h.now }
-{
-    u64::from(g.p_vaddr) < h.end() && u64::from(h.p_vaddr) < g.end()
+    segments.iter().any(|h| h.is_out_of_place())
 }
 
 fn overlaps_one_of(h: &ProgramHeader, others: &[ProgramHeader]) -> bool
     ensures { result ≡ list_any (overlap h.now) others.now }
 {
-    others.iter().any(|other| overlap(h, other))
+    others.iter().any(|other| h.overlaps(other))
 }
 
 #[tactic(auto, unfolding(crate::specs::Faults::has_overlap))]
@@ -204,17 +191,11 @@ fn has_overlap(segments: &[ProgramHeader]) -> bool
     false
 }
 
-fn is_write_and_execute(h: &ProgramHeader) -> bool
-    ensures { result ≡ is_write_and_execute h.now }
-{
-    h.is_writable() && h.is_executable()
-}
-
 #[tactic(auto, unfolding(crate::specs::Faults::has_write_and_execute))]
 fn has_write_and_execute(segments: &[ProgramHeader]) -> bool
     ensures { result ≡ has_write_and_execute segments.now }
 {
-    segments.iter().any(|h| is_write_and_execute(h))
+    segments.iter().any(|h| h.is_write_and_execute())
 }
 
 #[tactic(auto, unfolding(crate::specs::Faults::is_too_large))]

@@ -5,13 +5,16 @@ ghost use Rattle.std.specs.Prelude.{filter};
 ghost use Rattle.elf_image.specs.Words.{half_at, word_at};
 ghost use Rattle.elf_image.specs.File.{HasTable, program_header_at, program_headers, is_load};
 ghost use Rattle.elf_image.specs.File.{is_note, is_segment, is_executable, is_writable};
-ghost use Rattle.elf_image.specs.File.{is_readable, file_part};
+ghost use Rattle.elf_image.specs.File.{is_readable, file_part, e_phnum, header_offset};
+ghost use Rattle.elf_image.specs.Faults.{is_between, is_dynamic, is_out_of_file, is_out_of_place};
+ghost use Rattle.elf_image.specs.Faults.{is_write_and_execute, overlap};
 
+use crate::layout::{HIGH_SEGMENTS, HIGH_SEGMENTS_END, LOW_SEGMENTS, LOW_SEGMENTS_END};
 use arrayvec::ArrayVec;
 use byteorder::{ByteOrder, LittleEndian};
 use std::marker::Model;
 
-/// Where the fields of the ELF header lie (`Elf32_Ehdr`).
+/// Where the fields of the ELF header lie ("ELF Header", `Elf32_Ehdr`).
 pub const E_TYPE: usize = 16;
 
 pub const E_MACHINE: usize = 18;
@@ -30,7 +33,7 @@ pub const E_PHENTSIZE: usize = 42;
 
 pub const E_PHNUM: usize = 44;
 
-/// The size of a program header, and where its fields lie (`Elf32_Phdr`).
+/// The size of a program header, and where its fields lie ("Program Header", `Elf32_Phdr`).
 pub const PROGRAM_HEADER_SIZE: u16 = 32;
 
 pub const P_TYPE: usize = 0;
@@ -66,7 +69,7 @@ pub const PF_W: u32 = 2;
 
 pub const PF_R: u32 = 4;
 
-/// The number in the two bytes at an offset.
+/// The number in the two bytes at an offset, the lower byte first ("Data Representation", `Elf32_Half`).
 #[tactic(auto, unfolding(crate::specs::Words::half_at))]
 pub fn half_at(offset: usize, file: &[u8]) -> u16
     requires { offset + 2 ≤ length file.now }
@@ -75,7 +78,7 @@ pub fn half_at(offset: usize, file: &[u8]) -> u16
     LittleEndian::read_u16(&file[offset..])
 }
 
-/// The number in the four bytes at an offset.
+/// The number in the four bytes at an offset, the lowest byte first ("Data Representation", `Elf32_Word`).
 #[tactic(auto, unfolding(crate::specs::Words::word_at))]
 pub fn word_at(offset: usize, file: &[u8]) -> u32
     requires { offset + 4 ≤ length file.now }
@@ -95,8 +98,8 @@ pub fn part_of(bytes: &[u8], offset: usize, size: usize) -> &[u8]
     &bytes[offset..offset + size]
 }
 
-/// A program header (`Elf32_Phdr`), without the fields that play no part.
-#[derive(Clone, Copy, Default)]
+/// A program header ("Program Header", `Elf32_Phdr`), without the fields that play no part.
+#[derive(Clone, Copy, Debug, Default, PartialEq, Eq)]
 pub struct ProgramHeader {
     pub p_type: u32,
     pub p_offset: u32,
@@ -107,45 +110,45 @@ pub struct ProgramHeader {
 }
 
 impl ProgramHeader {
-    pub fn is_load(&self) -> bool
+    pub(crate) fn is_load(&self) -> bool
         ensures { result ≡ is_load self.now }
     {
         self.p_type == PT_LOAD
     }
 
-    pub fn is_note(&self) -> bool
+    pub(crate) fn is_note(&self) -> bool
         ensures { result ≡ is_note self.now }
     {
         self.p_type == PT_NOTE
     }
 
-    /// Whether it is that of a loadable segment with bytes in memory.
+    /// Whether it is that of a loadable segment (`PT_LOAD`) with bytes in memory ("Program Header").
     pub fn is_segment(&self) -> bool
         ensures { result ≡ is_segment self.now }
     {
         self.is_load() && 0 < self.p_memsz
     }
 
-    pub fn is_executable(&self) -> bool
+    pub(crate) fn is_executable(&self) -> bool
         ensures { result ≡ is_executable self.now }
     {
         self.p_flags & PF_X != 0
     }
 
-    pub fn is_writable(&self) -> bool
+    pub(crate) fn is_writable(&self) -> bool
         ensures { result ≡ is_writable self.now }
     {
         self.p_flags & PF_W != 0
     }
 
-    pub fn is_readable(&self) -> bool
+    pub(crate) fn is_readable(&self) -> bool
         ensures { result ≡ is_readable self.now }
     {
         self.p_flags & PF_R != 0
     }
 
     /// The bytes of the file that are the segment's.
-    pub fn file_part<'a>(&self, file: &'a [u8]) -> &'a [u8]
+    pub(crate) fn file_part<'a>(&self, file: &'a [u8]) -> &'a [u8]
         requires { 0 < self.now.p_filesz → self.now.p_offset + self.now.p_filesz ≤ length file.now }
         ensures { result.now ≡ file_part file.now self.now }
     {
@@ -153,14 +156,70 @@ impl ProgramHeader {
     }
 
     /// The address after its last byte in memory.
-    pub fn end(&self) -> u64
+    pub(crate) fn end(&self) -> u64
         ensures { result ≡ self.now.p_vaddr + self.now.p_memsz }
     {
         u64::from(self.p_vaddr) + u64::from(self.p_memsz)
     }
+
+    /// Whether it asks for dynamic linking, an interpreter or thread-local storage ("Program Header": `PT_DYNAMIC`,
+    /// `PT_INTERP`, `PT_TLS`).
+    pub fn is_dynamic(&self) -> bool
+        ensures { result ≡ is_dynamic self.now }
+    {
+        self.p_type == PT_DYNAMIC || self.p_type == PT_INTERP || self.p_type == PT_TLS
+    }
+
+    /// Whether a loadable or note segment has bytes that are not in a file of this size, or a loadable one more in the
+    /// file than in memory ("Program Header", `p_filesz`).
+    pub fn is_out_of_file(&self, size: u64) -> bool
+        ensures { result ≡ is_out_of_file size self.now }
+    {
+        let end = u64::from(self.p_offset) + u64::from(self.p_filesz);
+        (self.is_load() || self.is_note()) && 0 < self.p_filesz && size < end
+            || self.is_load() && self.p_memsz < self.p_filesz
+    }
+
+    fn is_between(&self, low: u32, high: u32) -> bool
+        ensures { result ≡ is_between low high self.now }
+    {
+        low <= self.p_vaddr && self.end() <= u64::from(high)
+    }
+
+    /// Whether its bytes in memory (`p_vaddr`, `p_memsz`) lie in neither of the two parts that are for segments.
+    pub fn is_out_of_place(&self) -> bool
+        ensures { result ≡ is_out_of_place self.now }
+    {
+        !(self.is_between(LOW_SEGMENTS, LOW_SEGMENTS_END)
+            || self.is_between(HIGH_SEGMENTS, HIGH_SEGMENTS_END))
+    }
+
+    /// Whether some address lies in both (`p_vaddr`, `p_memsz`), of two segments that have bytes.
+    pub fn overlaps(&self, other: &ProgramHeader) -> bool
+        ensures { result ≡ overlap self.now other.now }
+    {
+        u64::from(self.p_vaddr) < other.end() && u64::from(other.p_vaddr) < self.end()
+    }
+
+    /// Whether its bytes may be both written and executed ("Program Header", `PF_W` and `PF_X`).
+    pub fn is_write_and_execute(&self) -> bool
+        ensures { result ≡ is_write_and_execute self.now }
+    {
+        self.is_writable() && self.is_executable()
+    }
 }
 
-fn program_header_at(offset: usize, file: &[u8]) -> ProgramHeader
+/// Where the program header with a number begins in a file: the table begins at `e_phoff` ("ELF Header").
+pub fn header_offset(number: usize, file: &[u8]) -> usize
+    requires table { HasTable file.now }
+    requires there { number < e_phnum file.now }
+    ensures { result ≡ header_offset number file.now }
+{
+    word_at(E_PHOFF, file) as usize + PROGRAM_HEADER_SIZE as usize * number
+}
+
+/// The program header at an offset ("Program Header", `Elf32_Phdr`).
+pub fn program_header_at(offset: usize, file: &[u8]) -> ProgramHeader
     requires { offset + PROGRAM_HEADER_SIZE ≤ length file.now }
     ensures { result ≡ program_header_at offset file.now }
 {
@@ -221,11 +280,10 @@ impl HeaderTable {
         requires { HasTable file.now }
         ensures { result ≡ program_headers file.now }
     {
-        let first = word_at(E_PHOFF, file) as usize;
         let count = half_at(E_PHNUM, file) as usize;
         let mut table = HeaderTable::new();
         for i in 0..count {
-            table.push(program_header_at(first + PROGRAM_HEADER_SIZE as usize * i, file));
+            table.push(program_header_at(header_offset(i, file), file));
         }
         table
     }

@@ -15,6 +15,15 @@ mod segment;
 
 pub use attached::attach;
 pub use error::ElfError;
+pub use faults::{
+    EI_CLASS, EI_DATA, EI_VERSION, ELF_HEADER_SIZE, ELFCLASS32, ELFDATA2LSB, ET_EXEC, EV_CURRENT,
+    has_table, is_too_short,
+};
+pub use header::{
+    E_EHSIZE, E_ENTRY, E_FLAGS, E_MACHINE, E_PHENTSIZE, E_PHNUM, E_PHOFF, E_TYPE, E_VERSION,
+    MAX_PROGRAM_HEADERS, PROGRAM_HEADER_SIZE, ProgramHeader, half_at, header_offset,
+    program_header_at, word_at,
+};
 pub use image::Image;
 pub use laws::{attached_is_read, segments_are_kept};
 pub use layout::{
