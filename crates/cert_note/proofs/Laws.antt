@@ -11,9 +11,11 @@ use Rattle.std.proofs.lemmas.List.{nil_from_length}
 use Rattle.cert_note.specs.Certificate.{is_width, is_group, is_budget, is_second, is_greater, is_lesser, after_term, after_fact, after_vector, after_order, IsTerm, IsEquality, SaysMore, IsRegisterFact, IsVectorFact, IsOrderFact, IsBudgetOf, IsVtype, IsOf, IsBlock}
 use Rattle.vreg_groups.specs.VectorType.{vtype_of}
 use Rattle.std.specs.Prelude.{is_some}
-use Rattle.cert_note.specs.Spelling.{half, word, spelled_term, spelled_equality, spelled_fact, spelled_vector, spelled_order, spelled_budget, spelled_vtype, counts, spelled_block}
+use Rattle.elf_image.specs.Words.{half, word}
+use Rattle.cert_note.specs.Spelling.{spelled_term, spelled_equality, spelled_fact, spelled_vector, spelled_order, spelled_budget, spelled_vtype, counts, spelled_block}
 use Rattle.cert_note.specs.Reading.{byte_at, number_at, zero_at, zeros_at, term_at, terms_at, sum_at, none_at, some_at, equality_at, fact_at, facts_at, group_at, vector_at, vectors_at, single_at, double_at, budget_at, known_vtype, vtype_at, few_at, order_count_at, counts_at, order_at, orders_at, block_at}
-use Rattle.cert_note.proofs.Numbers.{IsBytes, bind_ok, expected, found, ok_is, Takes, Takes-then, byte_takes, byte_again, half_takes, half_again, word_takes, word_again, zero_takes, zeros_takes, zeros_again, many_takes, many_again}
+use Rattle.elf_image.proofs.Bytes.{AreBytes}
+use Rattle.cert_note.proofs.Numbers.{bind_ok, expected, found, ok_is, Takes, Takes-then, byte_takes, byte_again, half_takes, half_again, word_takes, word_again, zero_takes, zeros_takes, zeros_again, many_takes, many_again}
 
 pub chosen : {A : Type 0} (b : Bool) (x y z : A) → cond b x y ≡ z → ((b ≡ true) × (x ≡ z)) ⊎ ((b ≡ false) × (y ≡ z))
 chosen true x y z e = inl (refl, e)
@@ -21,7 +23,7 @@ chosen false x y z e = inr (refl, e)
 
 -- ---- terms
 
-pub term_takes : (params : List Param) (from : ℕ) (bytes : List ℕ) (x : EqualityTerm) (rest : List ℕ) → IsBytes bytes → term_at params from bytes ≡ Ok (x, rest) → Takes bytes (spelled_term x) rest × IsTerm params from x
+pub term_takes : (params : List Param) (from : ℕ) (bytes : List ℕ) (x : EqualityTerm) (rest : List ℕ) → AreBytes bytes → term_at params from bytes ≡ Ok (x, rest) → Takes bytes (spelled_term x) rest × IsTerm params from x
 unfolding term_at spelled_term
 term_takes params from bytes x rest fits e =
     let a = bind_ok (byte_at bytes) _ (x, rest) e in
@@ -40,7 +42,7 @@ term_again params from x rest is = rw (is.atom, word_again x.coefficient rest is
 
 -- ---- equalities
 
-pub sum_takes : (params : List Param) (count : ℕ) (bytes : List ℕ) (x : Equality) (rest : List ℕ) → IsBytes bytes → sum_at params count bytes ≡ Ok (x, rest) →
+pub sum_takes : (params : List Param) (count : ℕ) (bytes : List ℕ) (x : Equality) (rest : List ℕ) → AreBytes bytes → sum_at params count bytes ≡ Ok (x, rest) →
     Takes bytes (word x.constant ++ flat_map spelled_term x.terms.items) rest × (length x.terms.items ≡ count) × IsEquality params x
 unfolding sum_at
 sum_takes params count bytes x rest fits e =
@@ -63,7 +65,7 @@ sum_again params x rest is =
     ap (sum_at params (length x.terms.items)) regrouped
     ∙ rw (few, word_again x.constant (flat_map spelled_term x.terms.items ++ rest) is.constant, many_again (term_at params) after_term spelled_term (IsTerm params) (term_again params) 1 x.terms.items rest is.terms) refl
 
-pub equality_takes : (params : List Param) (low high : ℕ) (bytes : List ℕ) (x : Option Equality) (rest : List ℕ) → IsBytes bytes → equality_at params low high bytes ≡ Ok (x, rest) →
+pub equality_takes : (params : List Param) (low high : ℕ) (bytes : List ℕ) (x : Option Equality) (rest : List ℕ) → AreBytes bytes → equality_at params low high bytes ≡ Ok (x, rest) →
     Takes bytes (spelled_equality x) rest × SaysMore params low high x
 unfolding equality_at none_at some_at spelled_equality
 equality_takes params low high bytes x rest fits e =
@@ -101,7 +103,7 @@ regroup4 a b c d rest = simp append_assoc
 regroup7 : (a b c d e f g rest : List ℕ) → ((((((a ++ b) ++ c) ++ d) ++ e) ++ f) ++ g) ++ rest ≡ a ++ (b ++ (c ++ (d ++ (e ++ (f ++ (g ++ rest))))))
 regroup7 a b c d e f g rest = simp append_assoc
 
-pub fact_takes : (params : List Param) (from : ℕ) (bytes : List ℕ) (x : RegisterFact) (rest : List ℕ) → IsBytes bytes → fact_at params from bytes ≡ Ok (x, rest) → Takes bytes (spelled_fact x) rest × IsRegisterFact params from x
+pub fact_takes : (params : List Param) (from : ℕ) (bytes : List ℕ) (x : RegisterFact) (rest : List ℕ) → AreBytes bytes → fact_at params from bytes ≡ Ok (x, rest) → Takes bytes (spelled_fact x) rest × IsRegisterFact params from x
 unfolding fact_at spelled_fact
 fact_takes params from bytes x rest fits e =
     let a = bind_ok (byte_at bytes) _ (x, rest) e in
@@ -135,7 +137,7 @@ IsGroupFrom from g = ((leb from g.register && leb g.register 31) ≡ true) × (i
 abbrev spelled_group : FactGroup → List ℕ
 spelled_group g = g.register ∷ g.width ∷ g.registers ∷ 0 ∷ []
 
-group_takes : (from : ℕ) (bytes : List ℕ) (x : FactGroup) (rest : List ℕ) → IsBytes bytes → group_at from bytes ≡ Ok (x, rest) → Takes bytes (spelled_group x) rest × IsGroupFrom from x
+group_takes : (from : ℕ) (bytes : List ℕ) (x : FactGroup) (rest : List ℕ) → AreBytes bytes → group_at from bytes ≡ Ok (x, rest) → Takes bytes (spelled_group x) rest × IsGroupFrom from x
 unfolding group_at
 group_takes from bytes x rest fits e =
     let a = bind_ok (byte_at bytes) _ (x, rest) e in
@@ -159,7 +161,7 @@ group_again : (from : ℕ) (x : FactGroup) (rest : List ℕ) → IsGroupFrom fro
 unfolding group_at byte_at zero_at
 group_again from x rest is = rw (is.0, is.1, is.2) refl
 
-pub vector_takes : (vlen : Vlen) (from : ℕ) (bytes : List ℕ) (x : VectorFact) (rest : List ℕ) → IsBytes bytes → vector_at vlen from bytes ≡ Ok (x, rest) → Takes bytes (spelled_vector x) rest × IsVectorFact vlen from x
+pub vector_takes : (vlen : Vlen) (from : ℕ) (bytes : List ℕ) (x : VectorFact) (rest : List ℕ) → AreBytes bytes → vector_at vlen from bytes ≡ Ok (x, rest) → Takes bytes (spelled_vector x) rest × IsVectorFact vlen from x
 unfolding vector_at spelled_vector
 vector_takes vlen from bytes x rest fits e =
     let a = bind_ok (group_at from bytes) _ (x, rest) e in
@@ -217,7 +219,7 @@ beside k r (suc n) m e =
     let lt : 0 < k = grind (arith, nat_tests, e) in
     grind (arith, nat_tests, lt)
 
-single_takes : (bytes : List ℕ) (x : Budget) (rest : List ℕ) → IsBytes bytes → single_at bytes ≡ Ok (x, rest) → Takes bytes (spelled_budget V1 x) rest × IsBudgetOf x × (x.second_factor ≡ 0)
+single_takes : (bytes : List ℕ) (x : Budget) (rest : List ℕ) → AreBytes bytes → single_at bytes ≡ Ok (x, rest) → Takes bytes (spelled_budget V1 x) rest × IsBudgetOf x × (x.second_factor ≡ 0)
 unfolding single_at spelled_budget
 single_takes bytes x rest fits e =
     let a = bind_ok (number_at _ bytes) _ (x, rest) e in
@@ -233,7 +235,7 @@ single_takes bytes x rest fits e =
     subst (λ (y : Budget × List ℕ). Takes bytes (spelled_budget V1 y.0) y.1 × IsBudgetOf y.0 × (y.0.second_factor ≡ 0)) (ok_is made (x, rest) p.1)
     (e2, record { constant = t0.1; factor = t1.1; register = p.0; second_factor = omega arith; second = no_second b.0.0 c.0.0 }, refl)
 
-double_takes : (bytes : List ℕ) (x : Budget) (rest : List ℕ) → IsBytes bytes → double_at bytes ≡ Ok (x, rest) → Takes bytes (spelled_budget V2 x) rest × IsBudgetOf x
+double_takes : (bytes : List ℕ) (x : Budget) (rest : List ℕ) → AreBytes bytes → double_at bytes ≡ Ok (x, rest) → Takes bytes (spelled_budget V2 x) rest × IsBudgetOf x
 unfolding double_at spelled_budget
 double_takes bytes x rest fits e =
     let a = bind_ok (number_at _ bytes) _ (x, rest) e in
@@ -257,7 +259,7 @@ double_takes bytes x rest fits e =
     subst (λ (y : Budget × List ℕ). Takes bytes (spelled_budget V2 y.0) y.1 × IsBudgetOf y.0) (ok_is made (x, rest) s.1)
     (e3, record { constant = t0.1; factor = t1.1; register = q.0; second_factor = t2.1; second = s.0 })
 
-pub budget_takes : (version : Version) (bytes : List ℕ) (x : Budget) (rest : List ℕ) → IsBytes bytes → budget_at version bytes ≡ Ok (x, rest) →
+pub budget_takes : (version : Version) (bytes : List ℕ) (x : Budget) (rest : List ℕ) → AreBytes bytes → budget_at version bytes ≡ Ok (x, rest) →
     Takes bytes (spelled_budget version x) rest × IsBudgetOf x × IsSingle version x
 unfolding budget_at
 budget_takes V1 bytes x rest fits e = single_takes bytes x rest fits e
@@ -314,7 +316,7 @@ known_is (suc zero) bits v le e =
     ]
 known_is (suc (suc known)) bits v le e = absurd (grind (arith, nat_tests, le))
 
-pub vtype_takes : (bytes : List ℕ) (x : Option ℕ) (rest : List ℕ) → IsBytes bytes → vtype_at bytes ≡ Ok (x, rest) → Takes bytes (spelled_vtype x) rest × IsVtype x
+pub vtype_takes : (bytes : List ℕ) (x : Option ℕ) (rest : List ℕ) → AreBytes bytes → vtype_at bytes ≡ Ok (x, rest) → Takes bytes (spelled_vtype x) rest × IsVtype x
 unfolding vtype_at
 vtype_takes bytes x rest fits e =
     let a = bind_ok (byte_at bytes) _ (x, rest) e in
@@ -333,7 +335,7 @@ unfolding vtype_at spelled_vtype byte_at known_vtype
 vtype_again None rest is = refl
 vtype_again (Some vtype) rest is = rw is refl
 
-few_takes : (bytes : List ℕ) (x : ℕ) (rest : List ℕ) → IsBytes bytes → few_at bytes ≡ Ok (x, rest) → Takes bytes (x ∷ []) rest × (x ≤ 32)
+few_takes : (bytes : List ℕ) (x : ℕ) (rest : List ℕ) → AreBytes bytes → few_at bytes ≡ Ok (x, rest) → Takes bytes (x ∷ []) rest × (x ≤ 32)
 unfolding few_at
 few_takes bytes x rest fits e =
     let a = bind_ok (byte_at bytes) _ (x, rest) e in
@@ -357,7 +359,7 @@ abbrev order_count : Version → ℕ → List ℕ
 order_count V1 n = 0 ∷ 0 ∷ []
 order_count V2 n = n ∷ []
 
-order_count_takes : (version : Version) (bytes : List ℕ) (x : ℕ) (rest : List ℕ) → IsBytes bytes → order_count_at version bytes ≡ Ok (x, rest) →
+order_count_takes : (version : Version) (bytes : List ℕ) (x : ℕ) (rest : List ℕ) → AreBytes bytes → order_count_at version bytes ≡ Ok (x, rest) →
     Takes bytes (order_count version x) rest × (x ≤ 32) × HasNone version x
 unfolding order_count_at
 order_count_takes V1 bytes x rest fits e =
@@ -381,7 +383,7 @@ unfolding counts
 spelled_counts V1 registers vectors orders = refl
 spelled_counts V2 registers vectors orders = refl
 
-counts_takes : (version : Version) (bytes : List ℕ) (x : Counts) (rest : List ℕ) → IsBytes bytes → counts_at version bytes ≡ Ok (x, rest) →
+counts_takes : (version : Version) (bytes : List ℕ) (x : Counts) (rest : List ℕ) → AreBytes bytes → counts_at version bytes ≡ Ok (x, rest) →
     Takes bytes (counts version x.registers x.vectors x.orders) rest × HasCounts version x.registers x.vectors x.orders
 unfolding counts_at
 counts_takes version bytes x rest fits e =
@@ -411,7 +413,7 @@ counts_again V2 registers vectors orders rest has =
 
 -- ---- orders
 
-order_takes : (facts : List RegisterFact) (from : ℕ) (bytes : List ℕ) (x : OrderFact) (rest : List ℕ) → IsBytes bytes → order_at facts from bytes ≡ Ok (x, rest) → Takes bytes (spelled_order x) rest × IsOrderFact facts from x
+order_takes : (facts : List RegisterFact) (from : ℕ) (bytes : List ℕ) (x : OrderFact) (rest : List ℕ) → AreBytes bytes → order_at facts from bytes ≡ Ok (x, rest) → Takes bytes (spelled_order x) rest × IsOrderFact facts from x
 unfolding order_at spelled_order
 order_takes facts from bytes x rest fits e =
     let a = bind_ok (byte_at bytes) _ (x, rest) e in
@@ -448,7 +450,7 @@ none_of : (version : Version) (block : Block) → IsOf version block → HasNone
 none_of V1 block of = ap length of.1
 none_of V2 block of = tt
 
-pub block_takes : (version : Version) (vlen : Vlen) (params : List Param) (from : ℕ) (bytes : List ℕ) (x : Block) (rest : List ℕ) → IsBytes bytes → block_at version vlen params from bytes ≡ Ok (x, rest) →
+pub block_takes : (version : Version) (vlen : Vlen) (params : List Param) (from : ℕ) (bytes : List ℕ) (x : Block) (rest : List ℕ) → AreBytes bytes → block_at version vlen params from bytes ≡ Ok (x, rest) →
     Takes bytes (spelled_block version x) rest × IsBlock version vlen params from x
 unfolding block_at spelled_block
 block_takes version vlen params from bytes x rest fits e =

@@ -1,32 +1,20 @@
 -- A field that is read is the field that was written, and what was written is read again.
-use Rattle.std.proofs.Common.{◌≡◌, ℕ, zero, suc, ◌+◌, ◌^◌, ◌<◌, ◌≤◌, Bool, true, false, cond, ltb, eqb, List, [], ◌∷◌, ◌++◌, length, get_or, take, drop, Option, Some, None, Result, Ok, Err, refl, sym, ap, subst, ◌∙◌, append_assoc, arith, inl, inr}
+use Rattle.std.proofs.Common.{◌≡◌, ℕ, zero, suc, ◌^◌, ◌<◌, ◌≤◌, Bool, true, false, cond, ltb, eqb, List, [], ◌∷◌, ◌++◌, length, take, drop, Option, Some, None, Result, Ok, Err, refl, sym, ap, subst, ◌∙◌, append_assoc, arith}
 use Rattle.std.specs.Prelude.{ok_or}
 use Rattle.std.specs.Int.{Width, w16, w32, byte_len, from_le_bytes, to_le_bytes}
-use Rattle.std.proofs.lemmas.Bool.{cases_lt, ltb-false, le-ltb}
+use Rattle.std.proofs.lemmas.Bool.{ltb-false, le-ltb}
 use Rattle.std.proofs.lemmas.Bool.Decides.{nat_tests}
-use Rattle.std.proofs.lemmas.List.{take_at, drop_at, take-append-drop, length-append, length-take, get_or-drop, get_or-take, get_or_past}
+use Rattle.std.proofs.lemmas.List.{take_at, drop_at, take-append-drop, length-append, length-take}
 use Rattle.std.proofs.lemmas.List.Concat.{flat_map-cons}
 use Rattle.std.specs.List.{flat_map}
 use Rattle.std.proofs.lemmas.Nat.{le_bytes_2, le_bytes_4, from_le_bytes-to_le_bytes_2, from_le_bytes-to_le_bytes_4}
 use Rattle.cert_note.specs.declared.refusals.CertError.{CertError}
 use Rattle.cert_note.specs.declared.refusals.CertError.TheVariants as error
 use Rattle.cert_note.specs.Certificate.{AllFrom}
-use Rattle.cert_note.specs.Spelling.{half, word}
+use Rattle.elf_image.specs.Words.{half, word}
+use Rattle.elf_image.proofs.Bytes.{AreBytes, AreBytes-rest, AreBytes-take, AreBytes-drop}
 use Rattle.cert_note.specs.Reading.{◌>>=◌, expect, One, byte_at, number_at, zero_at, zeros_at, many_at}
 use Rattle.cert_note.proofs.Loop.{none, more}
-
-abbrev pub IsBytes : List ℕ → Type 0
-IsBytes bytes = (i : ℕ) → get_or bytes i 0 < 256
-
-IsBytes-drop : (n : ℕ) (bytes : List ℕ) → IsBytes bytes → IsBytes (drop n bytes)
-IsBytes-drop n bytes h i = rw get_or-drop (h (n + i))
-
-IsBytes-take : (n : ℕ) (bytes : List ℕ) → IsBytes bytes → IsBytes (take n bytes)
-IsBytes-take n bytes h i =
-    elim (cases_lt i n) [
-      | inl lt ↦ rw (get_or-take n bytes i 0 lt) (h i)
-      | inr le ↦ rw (get_or_past (take n bytes) i 0 (omega (arith, length-take n bytes))) (omega arith)
-    ]
 
 -- the value of a step that did not fail
 pub bind_ok : {A B : Type 0} (r : Result A CertError) (f : A → Result B CertError) (y : B) → (r >>= f) ≡ Ok y → (x : A) × (r ≡ Ok x) × (f x ≡ Ok y)
@@ -57,21 +45,18 @@ ok_is x y e = cc
 -- what a reader took from the front
 pub record Takes (bytes text rest : List ℕ) : Type 0 where
   pub parts : bytes ≡ text ++ rest
-  pub rest_fits : IsBytes rest
+  pub rest_fits : AreBytes rest
 
 pub Takes-then : (a x b y c : List ℕ) → Takes a x b → Takes b y c → Takes a (x ++ y) c
 Takes-then a x b y c p q = record { parts = p.parts ∙ ap (λ (t : List ℕ). x ++ t) q.parts ∙ sym (append_assoc x y c); rest_fits = q.rest_fits }
 
 -- ---- a byte
 
-IsBytes-rest : (b : ℕ) (bytes : List ℕ) → IsBytes (b ∷ bytes) → IsBytes bytes
-IsBytes-rest b bytes h i = h (suc i)
-
-pub byte_takes : (bytes : List ℕ) (n : ℕ) (rest : List ℕ) → IsBytes bytes → byte_at bytes ≡ Ok (n, rest) → Takes bytes (n ∷ []) rest × (n < 256)
+pub byte_takes : (bytes : List ℕ) (n : ℕ) (rest : List ℕ) → AreBytes bytes → byte_at bytes ≡ Ok (n, rest) → Takes bytes (n ∷ []) rest × (n < 256)
 unfolding byte_at
 byte_takes [] n rest fits e = absurd (cc)
 byte_takes (b ∷ bytes) n rest fits e =
-    subst (λ (x : ℕ × List ℕ). Takes (b ∷ bytes) (x.0 ∷ []) x.1 × (x.0 < 256)) (ok_is (b, bytes) (n, rest) e) (record { parts = refl; rest_fits = IsBytes-rest b bytes fits }, fits 0)
+    subst (λ (x : ℕ × List ℕ). Takes (b ∷ bytes) (x.0 ∷ []) x.1 × (x.0 < 256)) (ok_is (b, bytes) (n, rest) e) (record { parts = refl; rest_fits = AreBytes-rest b bytes fits }, fits 0)
 
 pub byte_again : (n : ℕ) (rest : List ℕ) → byte_at ((n ∷ []) ++ rest) ≡ Ok (n, rest)
 unfolding byte_at
@@ -81,9 +66,9 @@ byte_again n rest = refl
 
 pub record IsWide (w : Width) (limit : ℕ) : Type 0 where
   pub len : (n : ℕ) → length (to_le_bytes w n) ≡ byte_len w
-  pub back : (bytes : List ℕ) → length bytes ≡ byte_len w → IsBytes bytes → to_le_bytes w (from_le_bytes w bytes) ≡ bytes
+  pub back : (bytes : List ℕ) → length bytes ≡ byte_len w → AreBytes bytes → to_le_bytes w (from_le_bytes w bytes) ≡ bytes
   pub again : (n : ℕ) → n < limit → from_le_bytes w (to_le_bytes w n) ≡ n
-  pub below : (bytes : List ℕ) → IsBytes bytes → from_le_bytes w bytes < limit
+  pub below : (bytes : List ℕ) → AreBytes bytes → from_le_bytes w bytes < limit
 
 wide16 : IsWide w16 (2 ^ 16)
 wide16 = record {
@@ -101,15 +86,15 @@ wide32 = record {
   below = λ bytes fits. omega (arith, fits 0, fits 1, fits 2, fits 3);
 }
 
-number_takes : (w : Width) (limit : ℕ) (wide : IsWide w limit) (bytes : List ℕ) (n : ℕ) (rest : List ℕ) → IsBytes bytes → number_at w bytes ≡ Ok (n, rest) → Takes bytes (to_le_bytes w n) rest × (n < limit)
+number_takes : (w : Width) (limit : ℕ) (wide : IsWide w limit) (bytes : List ℕ) (n : ℕ) (rest : List ℕ) → AreBytes bytes → number_at w bytes ≡ Ok (n, rest) → Takes bytes (to_le_bytes w n) rest × (n < limit)
 unfolding number_at
 number_takes w limit wide bytes n rest fits e =
     let g = guard_ok (ltb (length bytes) (byte_len w)) error.Short (from_le_bytes w (take (byte_len w) bytes), drop (byte_len w) bytes) (n, rest) e in
     let long : byte_len w ≤ length bytes = ltb-false _ _ g.0 in
     let n-is : from_le_bytes w (take (byte_len w) bytes) ≡ n = ap (λ (p : ℕ × List ℕ). p.0) g.1 in
     let rest-is : drop (byte_len w) bytes ≡ rest = ap (λ (p : ℕ × List ℕ). p.1) g.1 in
-    let front : to_le_bytes w n ≡ take (byte_len w) bytes = rw (← n-is) (wide.back (take (byte_len w) bytes) (omega (arith, length-take (byte_len w) bytes)) (IsBytes-take (byte_len w) bytes fits)) in
-    (record { parts = rw (front, ← rest-is) (sym (take-append-drop (byte_len w) bytes)); rest_fits = rw (← rest-is) (IsBytes-drop (byte_len w) bytes fits) }, rw (← n-is) (wide.below (take (byte_len w) bytes) (IsBytes-take (byte_len w) bytes fits)))
+    let front : to_le_bytes w n ≡ take (byte_len w) bytes = rw (← n-is) (wide.back (take (byte_len w) bytes) (omega (arith, length-take (byte_len w) bytes)) (AreBytes-take (byte_len w) bytes fits)) in
+    (record { parts = rw (front, ← rest-is) (sym (take-append-drop (byte_len w) bytes)); rest_fits = rw (← rest-is) (AreBytes-drop (byte_len w) bytes fits) }, rw (← n-is) (wide.below (take (byte_len w) bytes) (AreBytes-take (byte_len w) bytes fits)))
 
 number_again : (w : Width) (limit : ℕ) (wide : IsWide w limit) (n : ℕ) (rest : List ℕ) → n < limit → number_at w (to_le_bytes w n ++ rest) ≡ Ok (n, rest)
 unfolding number_at
@@ -118,7 +103,7 @@ number_again w limit wide n rest lt =
     let long : ltb (length (to_le_bytes w n ++ rest)) (byte_len w) ≡ false = le-ltb _ _ (omega (arith, length-append (to_le_bytes w n) rest)) in
     rw (long, take_at (to_le_bytes w n) rest (byte_len w) len, drop_at (to_le_bytes w n) rest (byte_len w) len, wide.again n lt) refl
 
-pub half_takes : (bytes : List ℕ) (n : ℕ) (rest : List ℕ) → IsBytes bytes → number_at w16 bytes ≡ Ok (n, rest) → Takes bytes (half n) rest × (n < 2 ^ 16)
+pub half_takes : (bytes : List ℕ) (n : ℕ) (rest : List ℕ) → AreBytes bytes → number_at w16 bytes ≡ Ok (n, rest) → Takes bytes (half n) rest × (n < 2 ^ 16)
 unfolding half
 half_takes bytes n rest fits e = number_takes w16 (2 ^ 16) wide16 bytes n rest fits e
 
@@ -126,7 +111,7 @@ pub half_again : (n : ℕ) (rest : List ℕ) → n < 2 ^ 16 → number_at w16 (h
 unfolding half
 half_again n rest lt = number_again w16 (2 ^ 16) wide16 n rest lt
 
-pub word_takes : (bytes : List ℕ) (n : ℕ) (rest : List ℕ) → IsBytes bytes → number_at w32 bytes ≡ Ok (n, rest) → Takes bytes (word n) rest × (n < 2 ^ 32)
+pub word_takes : (bytes : List ℕ) (n : ℕ) (rest : List ℕ) → AreBytes bytes → number_at w32 bytes ≡ Ok (n, rest) → Takes bytes (word n) rest × (n < 2 ^ 32)
 unfolding word
 word_takes bytes n rest fits e = number_takes w32 (2 ^ 32) wide32 bytes n rest fits e
 
@@ -145,7 +130,7 @@ blank_takes spelled fault bytes rest read takes e =
     let none : b.0.0 ≡ 0 = grind (arith, nat_tests, x.0) in
     subst (λ (r : List ℕ). Takes bytes (spelled 0) r) (ok_is b.0.1 rest x.1) (subst (λ (n : ℕ). Takes bytes (spelled n) b.0.1) none (takes b.0.0 b.0.1 b.1))
 
-pub zero_takes : (fault : CertError) (bytes rest : List ℕ) → IsBytes bytes → zero_at fault bytes ≡ Ok rest → Takes bytes (0 ∷ []) rest
+pub zero_takes : (fault : CertError) (bytes rest : List ℕ) → AreBytes bytes → zero_at fault bytes ≡ Ok rest → Takes bytes (0 ∷ []) rest
 unfolding zero_at
 zero_takes fault bytes rest fits e = blank_takes (λ n. n ∷ []) fault bytes rest (byte_at bytes) (λ n after a. (byte_takes bytes n after fits a).0) e
 
@@ -153,7 +138,7 @@ pub zero_again : (fault : CertError) (rest : List ℕ) → zero_at fault ((0 ∷
 unfolding zero_at byte_at
 zero_again fault rest = refl
 
-pub zeros_takes : (fault : CertError) (bytes rest : List ℕ) → IsBytes bytes → zeros_at fault bytes ≡ Ok rest → Takes bytes (half 0) rest
+pub zeros_takes : (fault : CertError) (bytes rest : List ℕ) → AreBytes bytes → zeros_at fault bytes ≡ Ok rest → Takes bytes (half 0) rest
 unfolding zeros_at
 zeros_takes fault bytes rest fits e = blank_takes half fault bytes rest (number_at w16 bytes) (λ n after a. (half_takes bytes n after fits a).0) e
 
@@ -164,8 +149,8 @@ zeros_again fault rest = rw (half_again 0 rest (omega arith)) refl
 -- ---- lists
 
 pub many_takes : {A : Type 0} (one : One A) (next : A → ℕ) (spelled : A → List ℕ) (Valid : ℕ → A → Type 0) →
-    ((from : ℕ) (bytes : List ℕ) (x : A) (rest : List ℕ) → IsBytes bytes → one from bytes ≡ Ok (x, rest) → Takes bytes (spelled x) rest × Valid from x) →
-    (n from : ℕ) (bytes : List ℕ) (xs : List A) (rest : List ℕ) → IsBytes bytes → many_at one next n from bytes ≡ Ok (xs, rest) →
+    ((from : ℕ) (bytes : List ℕ) (x : A) (rest : List ℕ) → AreBytes bytes → one from bytes ≡ Ok (x, rest) → Takes bytes (spelled x) rest × Valid from x) →
+    (n from : ℕ) (bytes : List ℕ) (xs : List A) (rest : List ℕ) → AreBytes bytes → many_at one next n from bytes ≡ Ok (xs, rest) →
     Takes bytes (flat_map spelled xs) rest × (length xs ≡ n) × AllFrom Valid next from xs
 many_takes {A} one next spelled Valid each zero from bytes xs rest fits e =
     subst (λ (y : List A × List ℕ). Takes bytes (flat_map spelled y.0) y.1 × (length y.0 ≡ 0) × AllFrom Valid next from y.0) (ok_is ([], bytes) (xs, rest) (sym (none one next from bytes) ∙ e)) (record { parts = refl; rest_fits = fits }, refl, tt)

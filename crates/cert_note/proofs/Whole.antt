@@ -12,9 +12,11 @@ use Rattle.region_mem.specs.declared.parameter.Param.TheVariants as parameter
 use Rattle.cert_note.specs.declared.refusals.CertError.TheVariants as error
 use Rattle.vreg_groups.specs.declared.vector_length.Vlen.TheVariants.{V128, V256, V512}
 use Rattle.cert_note.specs.Certificate.{CertificateView, AllFrom, after_block, IsBlock, IsParameter, IsCertificate}
-use Rattle.cert_note.specs.Spelling.{half, word, version_code, vlen_code, header, parameter_of, spelled_parameter, spelled_block, spelling}
+use Rattle.elf_image.specs.Words.{half, word}
+use Rattle.cert_note.specs.Spelling.{version_code, vlen_code, header, parameter_of, spelled_parameter, spelled_block, spelling}
 use Rattle.cert_note.specs.Reading.{byte_at, number_at, zero_at, zeros_at, version_of, vlen_of, header_at, mode_of, is_first_number, is_second_number, param_of, parameter_at, parameters_at, block_at, blocks_at, count_at, certificate_of, parameter_from, after_parameter}
-use Rattle.cert_note.proofs.Numbers.{IsBytes, bind_ok, expected, found, ok_is, Takes, Takes-then, byte_takes, byte_again, half_takes, half_again, word_takes, word_again, zero_takes, zero_again, zeros_takes, zeros_again, many_takes, many_again}
+use Rattle.elf_image.proofs.Bytes.{AreBytes}
+use Rattle.cert_note.proofs.Numbers.{bind_ok, expected, found, ok_is, Takes, Takes-then, byte_takes, byte_again, half_takes, half_again, word_takes, word_again, zero_takes, zero_again, zeros_takes, zeros_again, many_takes, many_again}
 use Rattle.cert_note.proofs.Laws.{chosen, some_is, block_takes, block_again, regroup3, regroup4}
 
 -- ---- the header
@@ -51,7 +53,7 @@ version_small : (version : Version) → version_code version < 2 ^ 16
 version_small V1 = omega arith
 version_small V2 = omega arith
 
-header_takes : (bytes : List ℕ) (x : Version × Vlen) (rest : List ℕ) → IsBytes bytes → header_at bytes ≡ Ok (x, rest) → Takes bytes (header x.0 x.1) rest
+header_takes : (bytes : List ℕ) (x : Version × Vlen) (rest : List ℕ) → AreBytes bytes → header_at bytes ≡ Ok (x, rest) → Takes bytes (header x.0 x.1) rest
 unfolding header_at header
 header_takes bytes x rest fits e =
     let a = bind_ok (number_at _ bytes) _ (x, rest) e in
@@ -108,7 +110,7 @@ means (suc (suc zero)) code a b mode le m first second small =
     ]
 means (suc (suc (suc kind))) code a b mode le m first second small = absurd (grind (arith, nat_tests, le))
 
-parameter_takes : (bytes : List ℕ) (x : Param) (rest : List ℕ) → IsBytes bytes → parameter_at bytes ≡ Ok (x, rest) → Takes bytes (spelled_parameter x) rest × IsParameter x
+parameter_takes : (bytes : List ℕ) (x : Param) (rest : List ℕ) → AreBytes bytes → parameter_at bytes ≡ Ok (x, rest) → Takes bytes (spelled_parameter x) rest × IsParameter x
 unfolding parameter_at parameter_of
 parameter_takes bytes x rest fits e =
     let a = bind_ok (byte_at bytes) _ (x, rest) e in
@@ -169,7 +171,7 @@ valid_all (p ∷ params) is = rw is.0.0 (valid_all params is.1)
 
 -- ---- the count of blocks
 
-count_takes : (bytes : List ℕ) (x : ℕ) (rest : List ℕ) → IsBytes bytes → count_at bytes ≡ Ok (x, rest) → Takes bytes (half x ++ half 0) rest × (x ≤ 1024)
+count_takes : (bytes : List ℕ) (x : ℕ) (rest : List ℕ) → AreBytes bytes → count_at bytes ≡ Ok (x, rest) → Takes bytes (half x ++ half 0) rest × (x ≤ 1024)
 unfolding count_at
 count_takes bytes x rest fits e =
     let a = bind_ok (number_at _ bytes) _ (x, rest) e in
@@ -199,7 +201,7 @@ same_params params found_params e =
 few_blocks : (n m : ℕ) → n ≡ m → m ≤ 1024 → n ≤ 1024
 few_blocks n m e h = omega arith
 
-pub certificate_takes : (bytes : List ℕ) (x : CertificateView) → IsBytes bytes → certificate_of bytes ≡ Ok x → IsCertificate x × (bytes ≡ spelling x)
+pub certificate_takes : (bytes : List ℕ) (x : CertificateView) → AreBytes bytes → certificate_of bytes ≡ Ok x → IsCertificate x × (bytes ≡ spelling x)
 unfolding certificate_of spelling
 certificate_takes bytes x fits e =
     let a = bind_ok (header_at bytes) _ x e in

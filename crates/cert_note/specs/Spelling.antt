@@ -2,18 +2,12 @@
 use Rattle.std.specs.Prelude.{ℕ, List, [], ◌∷◌, ◌++◌, length, Option, Some, None}
 use Rattle.std.specs.List.{flat_map}
 use Rattle.cert_note.specs.Words.{Version, Block, Equality, RegisterFact, Mode, Param, Vlen, EqualityTerm, Budget, VectorFact, OrderFact}
-use Rattle.std.specs.Int.{w16, w32, to_le_bytes}
+use Rattle.elf_image.specs.Words.{half, word}
 use Rattle.region_mem.specs.declared.parameter.Mode.TheVariants.{Read, ReadWrite}
 use Rattle.region_mem.specs.declared.parameter.Param.TheVariants as parameter
 use Rattle.vreg_groups.specs.declared.vector_length.Vlen.TheVariants.{V128, V256, V512}
 use Rattle.cert_note.specs.declared.values.Version.TheVariants.{V1, V2}
 use Rattle.cert_note.specs.Certificate.{CertificateView}
-
-unfoldable pub half : ℕ → List ℕ
-half n = to_le_bytes w16 n
-
-unfoldable pub word : ℕ → List ℕ
-word n = to_le_bytes w32 n
 
 abbrev pub version_code : Version → ℕ
 version_code V1 = 1

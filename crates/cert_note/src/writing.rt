@@ -2,7 +2,7 @@
 ghost use Rattle.std.specs.Prelude.{◌≡◌, ◌<◌, ◌≤◌, ◌^◌, ◌++◌, length, OnOk, IfOk};
 ghost use Rattle.std.specs.List.{flat_map};
 ghost use Rattle.cert_note.specs.Certificate.{view};
-ghost use Rattle.cert_note.specs.Spelling.{half, word, counts, version_code, header, parameter_of};
+ghost use Rattle.cert_note.specs.Spelling.{counts, version_code, header, parameter_of};
 ghost use Rattle.cert_note.specs.Spelling.{mode_code, spelled_equality, spelled_budget};
 ghost use Rattle.cert_note.specs.Spelling.{spelled_vtype, spelled_block, spelling};
 
@@ -10,25 +10,10 @@ use crate::values::{
     Block, Budget, Certificate, Contents, Counts, Equality, EqualityTerm, OrderFact, RegisterFact,
     VectorFact, Version,
 };
+use elf_image::{put_half, put_word};
 use region_mem::{Mode, Param};
 use std::alloc::{AllocError, Allocator};
 use vreg_groups::Vlen;
-
-#[tactic(auto, unfolding(crate::specs::Spelling::half))]
-fn put_half<A: Allocator>(out: &mut Vec<u8, A>, number: u16) -> Result<(), AllocError>
-    ensures { OnOk result (out.new.items ≡ out.old.items ++ half number) }
-{
-    out.extend_from_slice(&number.to_le_bytes())?;
-    Ok(())
-}
-
-#[tactic(auto, unfolding(crate::specs::Spelling::word))]
-fn put_word<A: Allocator>(out: &mut Vec<u8, A>, number: u32) -> Result<(), AllocError>
-    ensures { OnOk result (out.new.items ≡ out.old.items ++ word number) }
-{
-    out.extend_from_slice(&number.to_le_bytes())?;
-    Ok(())
-}
 
 /// What a certificate lists: its items are spelled one after the other.
 trait Listed {

@@ -3,7 +3,7 @@ use Rattle.std.proofs.Common.{◌≡◌, ℕ, ◌+◌, ◌%◌, ◌<◌, ◌≤�
 use Rattle.std.specs.List.{All, AllByRecursion, list_any, sum_by}
 use Rattle.std.proofs.lemmas.Bool.{and_parts, and_from, and_cases, or_cases, ltb-true, ltb-false, leb-true, eqb-true, lt-ltb, not-false}
 use Rattle.std.proofs.lemmas.List.{length-take, length-map}
-use Rattle.std.proofs.lemmas.List.Elements.{All-from_recursion, All-take, All-drop}
+use Rattle.std.proofs.lemmas.List.Elements.{All-from_get_or, All-from_recursion, All-take, All-drop}
 use Rattle.std.proofs.lemmas.List.Sums.{sum_by-cons}
 use Rattle.elf_image.specs.declared.header.ProgramHeader.{ProgramHeader}
 use Rattle.elf_image.specs.declared.layout.TheConstants.{LOW_SEGMENTS, LOW_SEGMENTS_END, HIGH_SEGMENTS, HIGH_SEGMENTS_END, MAX_FILE_SIZE, MAX_SEGMENTS, MAX_MEMORY_SIZE}
@@ -11,6 +11,7 @@ use Rattle.elf_image.specs.declared.error.ElfError.TheVariants.{TooLarge, EntryN
 use Rattle.elf_image.specs.Image.{SegmentView, IsSegment, IsInPlace, IsApart, AreApart, IsImage, holds_code}
 use Rattle.elf_image.specs.File.{e_entry, is_load, is_note, is_segment, is_writable, is_executable, program_headers, segment_headers, segment_of, image_of, IsInside, IsLoadable, HasImage}
 use Rattle.elf_image.specs.Faults.{is_out_of_file, has_out_of_file, is_between, is_out_of_place, has_out_of_place, overlap, has_overlap, is_write_and_execute, has_write_and_execute, is_too_large, has_word, is_not_code, first_of, place_faults, segment_faults}
+use Rattle.elf_image.proofs.Bytes.{AreBytes}
 use Rattle.elf_image.proofs.FaultLemmas.{not_told, has_places}
 
 pub neither : (x y : Bool) → (x || y) ≡ false → (x ≡ false) × (y ≡ false)
@@ -20,9 +21,6 @@ neither false y e = (refl, e)
 not_both : (x y : Bool) → (x && y) ≡ false → x ≡ true → y ≡ false
 not_both true y e t = e
 not_both false y e t = absurd cc
-
-abbrev AreBytes : List ℕ → Type 0
-AreBytes bytes = All (λ byte. byte < 256) bytes
 
 -- what "outside the file" says where it is not so
 pub inside_file : (file : List ℕ) (h : ProgramHeader) → is_out_of_file (length file) h ≡ false → (is_load h || is_note h) ≡ true → IsInside file h
@@ -48,7 +46,7 @@ is_in_place h e =
     ]
 
 -- a header of which no fault holds can be loaded
-loadable : (file : List ℕ) (h : ProgramHeader) → AreBytes file → is_segment h ≡ true → is_out_of_file (length file) h ≡ false → is_out_of_place h ≡ false → is_write_and_execute h ≡ false → IsLoadable file h
+loadable : (file : List ℕ) (h : ProgramHeader) → All (λ byte. byte < 256) file → is_segment h ≡ true → is_out_of_file (length file) h ≡ false → is_out_of_place h ≡ false → is_write_and_execute h ≡ false → IsLoadable file h
 unfolding segment_of
 loadable file h bytes is_seg in_file in_place exclusive =
     let kind = and_parts (is_load h) (ltb 0 h.p_memsz) is_seg in
@@ -67,7 +65,7 @@ loadable file h bytes is_seg in_file in_place exclusive =
     }
 
 -- so can each header of which no fault holds
-each_loadable : (file : List ℕ) (hs : List ProgramHeader) → AreBytes file
+each_loadable : (file : List ℕ) (hs : List ProgramHeader) → All (λ byte. byte < 256) file
     → list_any (is_out_of_file (length file)) hs ≡ false → list_any is_out_of_place (filter is_segment hs) ≡ false → list_any is_write_and_execute (filter is_segment hs) ≡ false
     → AllByRecursion (IsLoadable file) (filter is_segment hs)
 each_loadable file [] bytes o p w = tt
@@ -159,5 +157,6 @@ has_image file bytes e =
     let large = not_told _ _ _ places.1 in
     let code = not_told _ _ _ large.1 in
     let p = places.0 in
-    let each = each_loadable file (program_headers file) bytes p.inside p.place p.exclusive in
+    let all_bytes = All-from_get_or (λ byte. byte < 256) file 0 (λ i l. bytes i) in
+    let each = each_loadable file (program_headers file) all_bytes p.inside p.place p.exclusive in
     record { segments = All-from_recursion (IsLoadable file) _ each; notes = All-from_recursion _ _ (notes_inside file (program_headers file) p.inside); image = is_image file each p.apart large.0 code.0 }

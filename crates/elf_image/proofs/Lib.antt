@@ -1,3 +1,4 @@
+pub mod Bytes
 pub mod FaultLemmas
 pub mod HasImage
 pub mod Certificates

@@ -25,19 +25,21 @@ use std::alloc::{AllocError, Allocator};
 /// As many zeros as padding can have.
 pub const ZEROS: [u8; 3] = [0, 0, 0];
 
+/// Writes a number of two bytes, the lower byte first ("Data Representation", `Elf32_Half`).
 #[tactic(auto, unfolding(crate::specs::Words::half))]
-fn put_half<A: Allocator>(out: &mut Vec<u8, A>, number: u16) -> Result<(), AllocError>
+pub fn put_half<A: Allocator>(out: &mut Vec<u8, A>, number: u16) -> Result<(), AllocError>
     ensures { OnOk result (out.new.items ≡ out.old.items ++ half number) }
 {
-    out.extend_from_slice(&number.to_le_bytes())?;
+    out.extend_from_slice(&u16::to_le_bytes(number))?;
     Ok(())
 }
 
+/// Writes a number of four bytes, the lowest byte first ("Data Representation", `Elf32_Word`).
 #[tactic(auto, unfolding(crate::specs::Words::word))]
-fn put_word<A: Allocator>(out: &mut Vec<u8, A>, number: u32) -> Result<(), AllocError>
+pub fn put_word<A: Allocator>(out: &mut Vec<u8, A>, number: u32) -> Result<(), AllocError>
     ensures { OnOk result (out.new.items ≡ out.old.items ++ word number) }
 {
-    out.extend_from_slice(&number.to_le_bytes())?;
+    out.extend_from_slice(&u32::to_le_bytes(number))?;
     Ok(())
 }
 

@@ -13,7 +13,7 @@ mod note;
 mod reading;
 mod segment;
 
-pub use attached::attach;
+pub use attached::{attach, put_half, put_word};
 pub use error::ElfError;
 pub use faults::{
     EI_CLASS, EI_DATA, EI_VERSION, ELF_HEADER_SIZE, ELFCLASS32, ELFDATA2LSB, ET_EXEC, EV_CURRENT,
