@@ -4,6 +4,7 @@ use Rattle.std.specs.Prelude.{if◌then◌else◌}
 use Rattle.std.specs.List.{flat_map, range_with_len}
 use Rattle.std.proofs.Math.Nat.{mul-le-mul_left, mul-div-le}
 use Rattle.std.proofs.lemmas.List.{get_or-append_right, get_or-drop, get_or-take, get_or_append_left, length-drop, length-take-le}
+use Rattle.elf_image.proofs.Bytes.{AreBytes, AreBytes-nil, AreBytes-cons, AreBytes-append, AreBytes-take, AreBytes-drop}
 use Rattle.vreg_groups.specs.Copies.{copied}
 use Rattle.vreg_groups.specs.Elements.{bytes_of}
 use Rattle.vreg_groups.specs.Group.{Span, written}
@@ -15,40 +16,16 @@ use Rattle.vector_core.specs.KeepLaws.{AreRegisters}
 
 -- ---- lists of bytes
 
-abbrev AreBytes : List ℕ → Type 0
-AreBytes bytes = (i : ℕ) → get_or bytes i 0 < 256
-
-no_bytes : AreBytes []
-no_bytes i = omega arith
-
-bytes_cons : (x : ℕ) (xs : List ℕ) → x < 256 → AreBytes xs → AreBytes (x ∷ xs)
-bytes_cons x xs p q zero = p
-bytes_cons x xs p q (suc i) = q i
-
-bytes_append : (xs ys : List ℕ) → AreBytes xs → AreBytes ys → AreBytes (xs ++ ys)
-bytes_append [] ys p q i = q i
-bytes_append (x ∷ xs) ys p q zero = p zero
-bytes_append (x ∷ xs) ys p q (suc i) = bytes_append xs ys (λ j. p (suc j)) q i
-
-bytes_take : (n : ℕ) (xs : List ℕ) → AreBytes xs → AreBytes (take n xs)
-bytes_take zero xs p i = no_bytes i
-bytes_take (suc n) [] p i = no_bytes i
-bytes_take (suc n) (x ∷ xs) p zero = p zero
-bytes_take (suc n) (x ∷ xs) p (suc i) = bytes_take n xs (λ j. p (suc j)) i
-
-bytes_drop : (n : ℕ) (xs : List ℕ) → AreBytes xs → AreBytes (drop n xs)
-bytes_drop n xs p i = omega (arith, get_or-drop n xs i 0, p (n + i))
-
 bytes_flat_map : (f : ℕ → List ℕ) (xs : List ℕ) → ((k : ℕ) → AreBytes (f k)) → AreBytes (flat_map f xs)
-bytes_flat_map f [] h i = no_bytes i
-bytes_flat_map f (x ∷ xs) h i = bytes_append (f x) (flat_map f xs) (h x) (bytes_flat_map f xs h) i
+bytes_flat_map f [] h i = AreBytes-nil i
+bytes_flat_map f (x ∷ xs) h i = AreBytes-append (f x) (flat_map f xs) (h x) (bytes_flat_map f xs h) i
 
 bytes_of_number : (n v : ℕ) → AreBytes (bytes_of n v)
 unfolding bytes_of
-bytes_of_number zero v i = no_bytes i
+bytes_of_number zero v i = AreBytes-nil i
 bytes_of_number (suc n) v i =
     subst (λ xs. get_or xs i 0 < 256) (sym (bytes_of-suc n v))
-    (bytes_cons (v % 256) (bytes_of n (v / 256)) (omega arith) (bytes_of_number n (v / 256)) i)
+    (AreBytes-cons (v % 256) (bytes_of n (v / 256)) (omega arith) (bytes_of_number n (v / 256)) i)
 
 -- ---- what is kept
 
@@ -88,11 +65,11 @@ put_kept vlenb at past others file r small len room =
     let begins : length (take at file) ≡ at = length-take-le at file (omega (arith, r.count)) in
     let front : length (take at file ++ others) ≡ past = omega (arith, length-append (take at file) others) in
     let all = length-append (take at file ++ others) (drop past file) in
-    let low = bytes_append (take at file) others (bytes_take at file r.bytes) small in
+    let low = AreBytes-append (take at file) others (AreBytes-take at file r.bytes) small in
     record {
       registers = record {
         count = omega (arith, all, length-drop past file, r.count);
-        bytes = bytes_append (take at file ++ others) (drop past file) low (bytes_drop past file r.bytes);
+        bytes = AreBytes-append (take at file ++ others) (drop past file) low (AreBytes-drop past file r.bytes);
       };
       others = λ k outside. put_elsewhere at past k others file begins front outside;
     }
@@ -154,7 +131,7 @@ new_mask_bytes_small : (at : ℕ) (policy : Policy) (results active : List Bool)
     → AreBytes (new_mask_bytes at policy results active file k)
 unfolding new_mask_bytes new_mask_byte
 new_mask_bytes_small at policy results active file k zero = number_of_bits-lt 8 _
-new_mask_bytes_small at policy results active file k (suc i) = no_bytes i
+new_mask_bytes_small at policy results active file k (suc i) = AreBytes-nil i
 
 beside_register : (vlenb register i : ℕ) → Beside vlenb register 1 i
     → (i < register * vlenb) ⊎ (register * vlenb + 1 * vlenb ≤ i)
@@ -185,5 +162,5 @@ copy_kept vlenb first source count file room from r =
     let len : length moved ≡ count * vlenb =
     length-take-le (count * vlenb) (drop (source * vlenb) file) (omega (arith, r.count)) in
     put_kept vlenb (first * vlenb) ((first + count) * vlenb) moved file r
-    (bytes_take (count * vlenb) (drop (source * vlenb) file) (bytes_drop (source * vlenb) file r.bytes))
+    (AreBytes-take (count * vlenb) (drop (source * vlenb) file) (AreBytes-drop (source * vlenb) file r.bytes))
     (omega arith) (omega arith)
