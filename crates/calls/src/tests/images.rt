@@ -94,3 +94,61 @@ fn tells_why_a_file_is_refused(rt: HostRuntime) {
     let text = given!(rt; format!(in rt.alloc(); "{error}"));
     assert_same!(rt; text.as_str(), "the file is not for RISC-V");
 }
+
+/// The header of the data among them: a program header has 32 bytes.
+fn data_header() -> ProgramHeader {
+    program_header_at(32, &BEHIND)
+}
+
+#[test]
+fn reads_the_numbers_of_headers(rt: HostRuntime) {
+    let header = elf_header(0x1_0000, 52, 3);
+    assert_same!(rt; half_at(18, &header), 243);
+    assert_same!(rt; word_at(24, &header), 0x1_0000);
+    let data = ProgramHeader {
+        p_type: 1,
+        p_offset: 172,
+        p_vaddr: 0x2_0000,
+        p_filesz: 4,
+        p_memsz: 16,
+        p_flags: 6,
+    };
+    assert_same!(rt; data_header(), data);
+}
+
+/// Where the program header with number 1 begins.
+fn second_offset(file: &[u8]) -> Option<usize> {
+    if has_table(file) && 1 < half_at(E_PHNUM, file) {
+        Some(header_offset(1, file))
+    } else {
+        None
+    }
+}
+
+#[test]
+fn finds_the_table_of_headers(rt: HostRuntime) {
+    let file = file(rt, rt.alloc(), 3);
+    assert_same!(rt; is_too_short(&file), false);
+    assert_same!(rt; second_offset(&file), Some(84));
+    assert_same!(rt; is_too_short(&[0x7f, 0x45, 0x4c, 0x46]), true);
+}
+
+#[test]
+fn tests_program_headers(rt: HostRuntime) {
+    let data = data_header();
+    assert_same!(rt; data.is_segment(), true);
+    assert_same!(rt; data.is_dynamic(), false);
+    assert_same!(rt; data.is_out_of_file(176), false);
+    assert_same!(rt; data.is_out_of_file(175), true);
+    assert_same!(rt; data.is_out_of_place(), false);
+    assert_same!(rt; data.overlaps(&program_header_at(0, &BEHIND)), false);
+    assert_same!(rt; data.is_write_and_execute(), false);
+}
+
+#[test]
+fn writes_the_bytes_of_numbers(rt: HostRuntime) {
+    let mut out = Vec::new(rt.alloc());
+    given!(rt; put_half(&mut out, 0x0102));
+    given!(rt; put_word(&mut out, 0x0304_0506));
+    assert_same!(rt; out.as_slice(), [2, 1, 6, 5, 4, 3].as_slice());
+}
