@@ -1,0 +1,4 @@
+use Rattle.elf_image.proofs.image.Image.entry.Goals as goal
+
+pub returns-clause-value : goal.returns-clause-value
+returns-clause-value g c = cc
