@@ -1,7 +1,7 @@
 -- Program headers of a file, as they are told.
-use Rattle.std.specs.Prelude.{◌≡◌, ◌<◌, ℕ, ◌+◌, ◌*◌, ◌&&◌, ◌++◌, Bool, true, false, List, codes, length, nat_lt}
+use Rattle.std.specs.Prelude.{◌≡◌, ◌<◌, ℕ, ◌&&◌, ◌++◌, Bool, true, false, List, codes, length, nat_lt}
 use Rattle.std.specs.Fmt.{decimal}
-use Rattle.elf_image.specs.File.{e_phnum, e_phoff, is_segment, program_header_at}
+use Rattle.elf_image.specs.File.{e_phnum, header_offset, is_segment, program_header_at}
 use Rattle.elf_image.specs.Faults.{is_dynamic, is_out_of_file, is_out_of_place, is_write_and_execute, overlap}
 use Rattle.elf_image.specs.declared.header.ProgramHeader.{ProgramHeader}
 use Rattle.explanations.specs.Address.{address_text}
@@ -9,36 +9,17 @@ use Rattle.explanations.specs.declared.headers.Header.{Header}
 use Rattle.explanations.specs.declared.headers.SegmentRule.{SegmentRule}
 use Rattle.explanations.specs.declared.headers.SegmentRule.TheVariants as rule
 
--- the file is too short for an ELF header
-abbrev pub lacks_header : List ℕ → Bool
-lacks_header file = nat_lt (length file) 52
-
--- the fields of a header that is told
-abbrev pub fields_of : Header → ProgramHeader
-fields_of h = record {
-  p_type = h.p_type;
-  p_offset = h.p_offset;
-  p_vaddr = h.p_vaddr;
-  p_filesz = h.p_filesz;
-  p_memsz = h.p_memsz;
-  p_flags = h.p_flags;
-}
-
--- where the header with a number begins in the file
-abbrev pub offset_of : List ℕ → ℕ → ℕ
-offset_of file number = e_phoff file + 32 * number
-
 -- the header with a number
 unfoldable pub header_at : List ℕ → ℕ → ProgramHeader
-header_at file number = program_header_at (offset_of file number) file
+header_at file number = program_header_at (header_offset number file) file
 
 -- What is told is the header with this number: where it begins, and the numbers that stand in
 -- the file there.
 pub record IsHeader (file : List ℕ) (n : ℕ) (h : Header) : Type 0 where
   pub there : n < e_phnum file
   pub number : h.number ≡ n
-  pub offset : h.offset ≡ offset_of file n
-  pub fields : fields_of h ≡ header_at file n
+  pub offset : h.offset ≡ header_offset n file
+  pub fields : h.fields ≡ header_at file n
 
 -- a header breaks a rule, in a file of this size
 unfoldable pub breaks : SegmentRule → ℕ → ProgramHeader → Bool
@@ -55,7 +36,7 @@ NoneBreaks rule file count =
 -- What is told is the first header that breaks the rule.
 pub record IsFirst (rule : SegmentRule) (file : List ℕ) (h : Header) : Type 0 where
   pub header : IsHeader file h.number h
-  pub breaks : breaks rule (length file) (fields_of h) ≡ true
+  pub breaks : breaks rule (length file) h.fields ≡ true
   pub first : NoneBreaks rule file h.number
 
 -- ---- segments that share an address
@@ -73,8 +54,8 @@ NoneOverlaps file n g count = (m : ℕ) → m < count → are_overlapping n g m 
 pub record AreOverlapping (file : List ℕ) (g h : Header) : Type 0 where
   pub one : IsHeader file g.number g
   pub other : IsHeader file h.number h
-  pub segment : is_segment (fields_of g) ≡ true
-  pub overlapping : are_overlapping g.number (fields_of g) h.number (fields_of h) ≡ true
+  pub segment : is_segment g.fields ≡ true
+  pub overlapping : are_overlapping g.number g.fields h.number h.fields ≡ true
 
 -- none of the segments below a number shares an address with one behind it
 abbrev pub AreApart : List ℕ → ℕ → Type 0
@@ -87,16 +68,16 @@ abbrev pub place_line : Header → List ℕ
 place_line h = codes "  program header " ++ (decimal h.number ++ (codes " at byte "
     ++ (decimal h.offset ++ codes " of the file:\n")))
 
-abbrev pub address_line : Header → List ℕ
+abbrev pub address_line : ProgramHeader → List ℕ
 address_line h = codes "  p_type " ++ (decimal h.p_type ++ (codes ", p_offset "
     ++ (decimal h.p_offset ++ (codes ", p_vaddr " ++ (address_text h.p_vaddr ++ codes "\n")))))
 
-abbrev pub size_line : Header → List ℕ
+abbrev pub size_line : ProgramHeader → List ℕ
 size_line h = codes "  p_filesz " ++ (decimal h.p_filesz ++ (codes ", p_memsz "
     ++ (decimal h.p_memsz ++ (codes ", p_flags " ++ (decimal h.p_flags ++ codes "\n")))))
 
 unfoldable pub header_text : Header → List ℕ
-header_text h = place_line h ++ (address_line h ++ size_line h)
+header_text h = place_line h ++ (address_line h.fields ++ size_line h.fields)
 
 abbrev pub rule_text : SegmentRule → List ℕ
 rule_text rule.Static = codes "  wanted: no p_type 2, 3 or 7\n  remedy: link with -static\n"

@@ -4,10 +4,13 @@ use Rattle.std.specs.Fmt.{decimal}
 use Rattle.std.specs.List.{slice_index}
 use Rattle.elf_image.specs.Words.{word_at}
 use Rattle.elf_image.specs.File.{HasTable, e_ehsize, e_entry, e_flags, e_machine, e_phentsize, e_phnum, e_phoff, e_type, e_version}
+use Rattle.elf_image.specs.Faults.{is_too_short}
+use Rattle.elf_image.specs.declared.faults.TheConstants.{EI_CLASS, EI_DATA, EI_VERSION, ELF_HEADER_SIZE, ELFCLASS32, ELFDATA2LSB, ET_EXEC}
+use Rattle.elf_image.specs.declared.header.TheConstants.{E_TYPE, E_MACHINE, E_VERSION, E_ENTRY, E_PHOFF, E_FLAGS, E_EHSIZE, E_PHENTSIZE, E_PHNUM, MAX_PROGRAM_HEADERS, PROGRAM_HEADER_SIZE}
 use Rattle.elf_image.specs.declared.error.ElfError.{ElfError}
 use Rattle.elf_image.specs.declared.error.ElfError.TheVariants as error
 use Rattle.explanations.specs.Address.{address_text}
-use Rattle.explanations.specs.Headers.{AreApart, AreOverlapping, IsFirst, NoneBreaks, header_text, lacks_header, rule_text}
+use Rattle.explanations.specs.Headers.{AreApart, AreOverlapping, IsFirst, NoneBreaks, header_text, rule_text}
 use Rattle.explanations.specs.declared.headers.SegmentRule.{SegmentRule}
 use Rattle.explanations.specs.declared.headers.SegmentRule.TheVariants as rule
 use Rattle.explanations.specs.declared.image.ElfField.{ElfField}
@@ -20,25 +23,25 @@ use Rattle.explanations.specs.declared.image.ImageReason.TheVariants as reason
 -- where a field begins in the file
 abbrev pub offset_of : ElfField → ℕ
 offset_of field.Magic = 0
-offset_of field.Class = 4
-offset_of field.Order = 5
-offset_of field.IdentVersion = 6
-offset_of field.Type = 16
-offset_of field.Machine = 18
-offset_of field.Version = 20
-offset_of field.Entry = 24
-offset_of field.TableOffset = 28
-offset_of field.Flags = 36
-offset_of field.HeaderSize = 40
-offset_of field.EntrySize = 42
-offset_of field.EntryCount = 44
+offset_of field.Class = EI_CLASS
+offset_of field.Order = EI_DATA
+offset_of field.IdentVersion = EI_VERSION
+offset_of field.Type = E_TYPE
+offset_of field.Machine = E_MACHINE
+offset_of field.Version = E_VERSION
+offset_of field.Entry = E_ENTRY
+offset_of field.TableOffset = E_PHOFF
+offset_of field.Flags = E_FLAGS
+offset_of field.HeaderSize = E_EHSIZE
+offset_of field.EntrySize = E_PHENTSIZE
+offset_of field.EntryCount = E_PHNUM
 
 -- the number that stands there
 abbrev pub number_in : List ℕ → ElfField → ℕ
 number_in file field.Magic = word_at 0 file
-number_in file field.Class = slice_index file 4
-number_in file field.Order = slice_index file 5
-number_in file field.IdentVersion = slice_index file 6
+number_in file field.Class = slice_index file EI_CLASS
+number_in file field.Order = slice_index file EI_DATA
+number_in file field.IdentVersion = slice_index file EI_VERSION
 number_in file field.Type = e_type file
 number_in file field.Machine = e_machine file
 number_in file field.Version = e_version file
@@ -52,26 +55,26 @@ number_in file field.EntryCount = e_phnum file
 -- a field, with its place and its number; nothing where the file has no ELF header
 abbrev pub told_field : List ℕ → ElfField → ImageReason
 told_field file f =
-    if lacks_header file then reason.Untold
+    if is_too_short file then reason.Untold
     else reason.Field f (offset_of f) (number_in file f)
 
 -- of class, order of bytes and version the first that is not 1
 abbrev pub ident_field : List ℕ → ElfField
 ident_field file =
-    if lacks_header file || not (slice_index file 4 == 1) then field.Class
-    else (if not (slice_index file 5 == 1) then field.Order else field.IdentVersion)
+    if is_too_short file || not (slice_index file EI_CLASS == ELFCLASS32) then field.Class
+    else (if not (slice_index file EI_DATA == ELFDATA2LSB) then field.Order else field.IdentVersion)
 
 -- e_type where it is not that of an executable file, else e_version
 abbrev pub type_field : List ℕ → ElfField
 type_field file =
-    if lacks_header file || not (e_type file == 2) then field.Type else field.Version
+    if is_too_short file || not (e_type file == ET_EXEC) then field.Type else field.Version
 
 -- the first of the sizes and the count that is wrong, else the table's offset
 abbrev pub table_field : List ℕ → ElfField
 table_field file =
-    if lacks_header file || not (e_ehsize file == 52) then field.HeaderSize
-    else (if not (e_phentsize file == 32) then field.EntrySize
-    else (if (e_phnum file == 0) || nat_lt 64 (e_phnum file) then field.EntryCount
+    if is_too_short file || not (e_ehsize file == ELF_HEADER_SIZE) then field.HeaderSize
+    else (if not (e_phentsize file == PROGRAM_HEADER_SIZE) then field.EntrySize
+    else (if (e_phnum file == 0) || nat_lt MAX_PROGRAM_HEADERS (e_phnum file) then field.EntryCount
     else field.TableOffset))
 
 -- ---- what is told of an error

@@ -5,7 +5,8 @@ use Rattle.std.specs.Fmt.{decimal}
 use Rattle.std.specs.List.{slice_get}
 use Rattle.std.specs.Str.Lossy.{utf8_lossy}
 use Rattle.elf_image.specs.Image.{ImageView, code_at}
-use Rattle.elf_image.specs.Words.{half_at}
+use Rattle.elf_image.specs.Faults.{is_too_short}
+use Rattle.elf_image.specs.File.{e_phnum}
 use Rattle.elf_image.specs.declared.error.ElfError.{ElfError}
 use Rattle.elf_image.specs.declared.error.ElfError.TheVariants as error
 use Rattle.region_mem.specs.Parameter.{is_valid}
@@ -13,7 +14,6 @@ use Rattle.region_mem.specs.declared.parameter.Param.{Param}
 use Rattle.region_mem.specs.declared.parameter.Param.TheVariants as parameter
 use Rattle.rv_listing.specs.Listing.{listing_text}
 use Rattle.explanations.specs.Check.{listing_line, word_line}
-use Rattle.explanations.specs.Headers.{lacks_header}
 use Rattle.explanations.specs.declared.make.LoopRow.{LoopRow}
 use Rattle.explanations.specs.declared.make.LoopRow.TheVariants as row
 use Rattle.explanations.specs.declared.make.MakeReason.{MakeReason}
@@ -69,8 +69,8 @@ certificate_size (Some bytes) = length bytes
 
 abbrev pub told_large : List ℕ → ℕ → MakeReason
 told_large file size =
-    if lacks_header file then reason.Untold
-    else reason.LargeFile (length file) (half_at 44 file) size
+    if is_too_short file then reason.Untold
+    else reason.LargeFile (length file) (e_phnum file) size
 
 -- why a certificate of so many bytes is not attached to a file, whose image has this one
 abbrev pub attach_reason : List ℕ → Option (List ℕ) → ℕ → ElfError → MakeReason
@@ -106,19 +106,31 @@ abbrev pub room_wanted : List ℕ
 room_wanted =
     codes "  wanted: at most 63, and at most 4194304 bytes with one more and the certificate\n"
 
+abbrev pub high_line : ℕ → List ℕ
+high_line hi = codes "  wanted: at most its hi, " ++ (decimal hi ++ codes "\n")
+
+abbrev pub size_wanted : List ℕ
+size_wanted = codes "  wanted: at most 16777216\n"
+
+abbrev pub bare_wanted : List ℕ
+bare_wanted = codes "  wanted: an image with no certificate\n"
+
+abbrev pub size_lines : ℕ → ℕ → List ℕ
+size_lines size certificate = codes "  size of the file: "
+    ++ (decimal size ++ (codes "\n  size of the certificate: "
+    ++ (decimal certificate ++ codes "\n")))
+
 -- the lines of a reason
 abbrev pub make_text : MakeReason → List ℕ
 make_text reason.Untold = []
 make_text (reason.NoWord pc wanted) = word_line pc None ++ row_wanted wanted
 make_text (reason.Word pc word listing wanted) =
     word_line pc (Some word) ++ (listing_line (Some listing) ++ row_wanted wanted)
-make_text (reason.Empty place lo hi) = codes "  lo of the param at place " ++ (decimal place
-    ++ (codes ": " ++ (decimal lo ++ (codes "\n  wanted: at most its hi, "
-    ++ (decimal hi ++ codes "\n")))))
-make_text (reason.LargeBuffer place size) = codes "  size of the param at place " ++ (decimal place
-    ++ (codes ": " ++ (decimal size ++ codes "\n  wanted: at most 16777216\n")))
+make_text (reason.Empty place lo hi) = codes "  lo of the param at place "
+    ++ (decimal place ++ (codes ": " ++ (decimal lo ++ (codes "\n" ++ high_line hi))))
+make_text (reason.LargeBuffer place size) = codes "  size of the param at place "
+    ++ (decimal place ++ (codes ": " ++ (decimal size ++ (codes "\n" ++ size_wanted))))
 make_text (reason.Certified size) = codes "  there: a certificate of "
-    ++ (decimal size ++ codes " bytes\n  wanted: an image with no certificate\n")
-make_text (reason.LargeFile size headers certificate) = codes "  size of the file: "
-    ++ (decimal size ++ (codes "\n  size of the certificate: " ++ (decimal certificate
-    ++ (codes "\n  program headers: " ++ (decimal headers ++ (codes "\n" ++ room_wanted))))))
+    ++ (decimal size ++ (codes " bytes\n" ++ bare_wanted))
+make_text (reason.LargeFile size headers certificate) = size_lines size certificate
+    ++ (codes "  program headers: " ++ (decimal headers ++ (codes "\n" ++ room_wanted)))

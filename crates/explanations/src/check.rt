@@ -230,8 +230,16 @@ pub fn check_reason<A: Allocator + Copy, B: Allocator, C: Allocator>(
 /// A word and its address, as a line.
 #[derive(Clone, Copy)]
 pub(crate) struct WordLine {
-    pub(crate) pc: u32,
-    pub(crate) word: Option<u32>,
+    pc: u32,
+    word: Option<u32>,
+}
+
+/// The line of a word and its address.
+pub(crate) fn word_line(pc: u32, word: Option<u32>) -> WordLine
+    ensures pc { result.pc ≡ pc }
+    ensures word { result.word ≡ word }
+{
+    WordLine { pc, word }
 }
 
 impl fmt::Display for WordLine {
@@ -267,10 +275,7 @@ impl fmt::Display for StopLines<'_> {
         match self.0 {
             None => Ok(()),
             Some(stop) => {
-                let word = WordLine {
-                    pc: stop.pc,
-                    word: stop.word,
-                };
+                let word = word_line(stop.pc, stop.word);
                 match stop.part {
                     Part::Entry => {
                         write!(f, "  stopped on the way into the first block\n{word}")

@@ -6,8 +6,12 @@ ghost use Rattle.explanations.specs.Image.{told_field, type_field, wanted, large
 
 use crate::address::Address;
 use crate::headers;
-use crate::headers::{Header, SegmentRule, half, lacks_header, word};
-use elf_image::ElfError;
+use crate::headers::{Header, SegmentRule};
+use elf_image::{
+    E_EHSIZE, E_ENTRY, E_FLAGS, E_MACHINE, E_PHENTSIZE, E_PHNUM, E_PHOFF, E_TYPE, E_VERSION,
+    EI_CLASS, EI_DATA, EI_VERSION, ELF_HEADER_SIZE, ELFCLASS32, ELFDATA2LSB, ET_EXEC, ElfError,
+    MAX_PROGRAM_HEADERS, PROGRAM_HEADER_SIZE, half_at, has_table, is_too_short, word_at,
+};
 use std::fmt;
 
 /// A field of an ELF header.
@@ -79,25 +83,25 @@ impl ElfField {
     {
         match self {
             ElfField::Magic => 0,
-            ElfField::Class => 4,
-            ElfField::Order => 5,
-            ElfField::IdentVersion => 6,
-            ElfField::Type => 16,
-            ElfField::Machine => 18,
-            ElfField::Version => 20,
-            ElfField::Entry => 24,
-            ElfField::TableOffset => 28,
-            ElfField::Flags => 36,
-            ElfField::HeaderSize => 40,
-            ElfField::EntrySize => 42,
-            ElfField::EntryCount => 44,
+            ElfField::Class => EI_CLASS,
+            ElfField::Order => EI_DATA,
+            ElfField::IdentVersion => EI_VERSION,
+            ElfField::Type => E_TYPE,
+            ElfField::Machine => E_MACHINE,
+            ElfField::Version => E_VERSION,
+            ElfField::Entry => E_ENTRY,
+            ElfField::TableOffset => E_PHOFF,
+            ElfField::Flags => E_FLAGS,
+            ElfField::HeaderSize => E_EHSIZE,
+            ElfField::EntrySize => E_PHENTSIZE,
+            ElfField::EntryCount => E_PHNUM,
         }
     }
 }
 
 /// The number of a field.
 fn number_in(file: &[u8], field: ElfField) -> u32
-    requires { 52 ≤ length file.now }
+    requires { ELF_HEADER_SIZE ≤ length file.now }
     ensures { result ≡ number_in file.now field }
 {
     match field {
@@ -108,12 +112,12 @@ fn number_in(file: &[u8], field: ElfField) -> u32
         | ElfField::Machine
         | ElfField::HeaderSize
         | ElfField::EntrySize
-        | ElfField::EntryCount => u32::from(half(file, field.offset())),
+        | ElfField::EntryCount => u32::from(half_at(field.offset(), file)),
         ElfField::Magic
         | ElfField::Version
         | ElfField::Entry
         | ElfField::TableOffset
-        | ElfField::Flags => word(file, field.offset()),
+        | ElfField::Flags => word_at(field.offset(), file),
     }
 }
 
@@ -121,7 +125,7 @@ fn number_in(file: &[u8], field: ElfField) -> u32
 fn told_field(file: &[u8], field: ElfField) -> ImageReason
     ensures { result ≡ told_field file.now field }
 {
-    if lacks_header(file) {
+    if is_too_short(file) {
         return ImageReason::Untold;
     }
     ImageReason::Field {
@@ -135,9 +139,9 @@ fn told_field(file: &[u8], field: ElfField) -> ImageReason
 fn ident_field(file: &[u8]) -> ElfField
     ensures { result ≡ ident_field file.now }
 {
-    if lacks_header(file) || number_in(file, ElfField::Class) != 1 {
+    if is_too_short(file) || number_in(file, ElfField::Class) != u32::from(ELFCLASS32) {
         ElfField::Class
-    } else if number_in(file, ElfField::Order) != 1 {
+    } else if number_in(file, ElfField::Order) != u32::from(ELFDATA2LSB) {
         ElfField::Order
     } else {
         ElfField::IdentVersion
@@ -148,7 +152,7 @@ fn ident_field(file: &[u8]) -> ElfField
 fn type_field(file: &[u8]) -> ElfField
     ensures { result ≡ type_field file.now }
 {
-    if lacks_header(file) || number_in(file, ElfField::Type) != 2 {
+    if is_too_short(file) || number_in(file, ElfField::Type) != u32::from(ET_EXEC) {
         ElfField::Type
     } else {
         ElfField::Version
@@ -159,14 +163,14 @@ fn type_field(file: &[u8]) -> ElfField
 fn table_field(file: &[u8]) -> ElfField
     ensures { result ≡ table_field file.now }
 {
-    if lacks_header(file) || number_in(file, ElfField::HeaderSize) != 52 {
+    if is_too_short(file) || number_in(file, ElfField::HeaderSize) != ELF_HEADER_SIZE as u32 {
         return ElfField::HeaderSize;
     }
-    if number_in(file, ElfField::EntrySize) != 32 {
+    if number_in(file, ElfField::EntrySize) != u32::from(PROGRAM_HEADER_SIZE) {
         return ElfField::EntrySize;
     }
     let count = number_in(file, ElfField::EntryCount);
-    if count == 0 || 64 < count {
+    if count == 0 || (MAX_PROGRAM_HEADERS as u32) < count {
         ElfField::EntryCount
     } else {
         ElfField::TableOffset
@@ -177,7 +181,7 @@ fn table_field(file: &[u8]) -> ElfField
 fn told_segment(file: &[u8], rule: SegmentRule) -> ImageReason
     ensures { TellsSegment file.now rule result }
 {
-    if !headers::has_table(file) {
+    if !has_table(file) {
         return ImageReason::Untold;
     }
     match headers::first_breaking(file, rule) {
@@ -190,7 +194,7 @@ fn told_segment(file: &[u8], rule: SegmentRule) -> ImageReason
 fn told_overlap(file: &[u8]) -> ImageReason
     ensures { TellsOverlap file.now result }
 {
-    if !headers::has_table(file) {
+    if !has_table(file) {
         return ImageReason::Untold;
     }
     match headers::first_overlap(file) {

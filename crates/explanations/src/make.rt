@@ -3,11 +3,10 @@
 ghost use Rattle.std.specs.Prelude.{◌≡◌, IfOk, position};
 ghost use Rattle.explanations.specs.Make.{IsWordReason, attach_reason, certificate_size};
 ghost use Rattle.explanations.specs.Make.{is_invalid, parameter_reason, room_wanted, row_of};
-ghost use Rattle.explanations.specs.Make.{row_wanted};
+ghost use Rattle.explanations.specs.Make.{bare_wanted, row_wanted, size_wanted};
 
-use crate::check::{WordLine, listed};
-use crate::headers::{half, lacks_header};
-use elf_image::{ElfError, Image};
+use crate::check::{listed, word_line};
+use elf_image::{E_PHNUM, ElfError, Image, half_at, is_too_short};
 use region_mem::{MAX_BUFFER_SIZE, Param};
 use std::alloc::{AllocError, Global};
 use std::fmt;
@@ -148,12 +147,12 @@ pub fn attach_reason(file: &[u8], image: &Image, certificate: usize, error: ElfE
     match error {
         ElfError::CertificateThere => MakeReason::Certified(certificate_size(image)),
         ElfError::TooLarge => {
-            if lacks_header(file) {
+            if is_too_short(file) {
                 return MakeReason::Untold;
             }
             MakeReason::LargeFile {
                 size: file.len(),
-                headers: half(file, 44),
+                headers: half_at(E_PHNUM, file),
                 certificate,
             }
         }
@@ -197,6 +196,55 @@ fn room_wanted() -> &'static str
     "  wanted: at most 63, and at most 4194304 bytes with one more and the certificate\n"
 }
 
+/// What is wanted of a `lo`, as a line.
+#[derive(Clone, Copy)]
+struct HighLine(u32);
+
+impl fmt::Display for HighLine {
+    ghost use Rattle.std.specs.Prelude.{Some};
+    ghost use Rattle.explanations.specs.Make.{high_line};
+
+    ghost output = { λ line. Some (high_line line.0) };
+
+    fn fmt<W: fmt::Write>(&self, f: &mut fmt::Formatter<W>) -> fmt::Result {
+        let hi = self.0;
+        writeln!(f, "  wanted: at most its hi, {hi}")
+    }
+}
+
+/// What is wanted of the size of a buffer.
+fn size_wanted() -> &'static str
+    ensures { result.now ≡ size_wanted }
+{
+    "  wanted: at most 16777216\n"
+}
+
+/// What is wanted of an image that is to have a certificate.
+fn bare_wanted() -> &'static str
+    ensures { result.now ≡ bare_wanted }
+{
+    "  wanted: an image with no certificate\n"
+}
+
+/// The sizes of a file and of its certificate, a line each.
+#[derive(Clone, Copy)]
+struct SizeLines(usize, usize);
+
+impl fmt::Display for SizeLines {
+    ghost use Rattle.std.specs.Prelude.{Some};
+    ghost use Rattle.explanations.specs.Make.{size_lines};
+
+    ghost output = { λ lines. Some (size_lines lines.0 lines.1) };
+
+    fn fmt<W: fmt::Write>(&self, f: &mut fmt::Formatter<W>) -> fmt::Result {
+        let SizeLines(file, certificate) = *self;
+        write!(
+            f,
+            "  size of the file: {file}\n  size of the certificate: {certificate}\n"
+        )
+    }
+}
+
 impl fmt::Display for MakeReason {
     ghost use Rattle.std.specs.Prelude.{Some};
     ghost use Rattle.explanations.specs.Make.{make_text};
@@ -207,10 +255,7 @@ impl fmt::Display for MakeReason {
         match self {
             MakeReason::Untold => Ok(()),
             MakeReason::NoWord { pc, row } => {
-                let line = WordLine {
-                    pc: *pc,
-                    word: None,
-                };
+                let line = word_line(*pc, None);
                 let wanted = row_wanted(*row);
                 write!(f, "{line}{wanted}")
             }
@@ -220,43 +265,30 @@ impl fmt::Display for MakeReason {
                 listing,
                 row,
             } => {
-                let line = WordLine {
-                    pc: *pc,
-                    word: Some(*word),
-                };
+                let line = word_line(*pc, Some(*word));
                 let wanted = row_wanted(*row);
                 write!(f, "{line}  that is {listing}\n{wanted}")
             }
             MakeReason::Empty { place, lo, hi } => {
-                write!(
-                    f,
-                    "  lo of the param at place {place}: {lo}\n  wanted: at most its hi, {hi}\n"
-                )
+                let wanted = HighLine(*hi);
+                write!(f, "  lo of the param at place {place}: {lo}\n{wanted}")
             }
             MakeReason::LargeBuffer { place, size } => {
-                write!(
-                    f,
-                    "  size of the param at place {place}: {size}\n  wanted: at most 16777216\n"
-                )
+                let wanted = size_wanted();
+                write!(f, "  size of the param at place {place}: {size}\n{wanted}")
             }
             MakeReason::Certified(size) => {
-                write!(
-                    f,
-                    "  there: a certificate of {size} bytes\n  \
-                     wanted: an image with no certificate\n"
-                )
+                let wanted = bare_wanted();
+                write!(f, "  there: a certificate of {size} bytes\n{wanted}")
             }
             MakeReason::LargeFile {
                 size,
                 headers,
                 certificate,
             } => {
+                let sizes = SizeLines(*size, *certificate);
                 let wanted = room_wanted();
-                write!(
-                    f,
-                    "  size of the file: {size}\n  size of the certificate: {certificate}\n  \
-                     program headers: {headers}\n{wanted}"
-                )
+                write!(f, "{sizes}  program headers: {headers}\n{wanted}")
             }
         }
     }

@@ -347,6 +347,26 @@ impl fmt::Display for KnownGroup {
     }
 }
 
+/// What is left of a budget at least, and what is asked of it at most, a line each.
+#[derive(Clone, Copy)]
+struct BudgetLines(u128, u128);
+
+impl fmt::Display for BudgetLines {
+    ghost use Rattle.std.specs.Prelude.{◌++◌, Some};
+    ghost use Rattle.explanations.specs.Unshown.{asked_line, left_line};
+
+    ghost output = { λ lines. Some (left_line lines.0 ++ asked_line lines.1) };
+
+    fn fmt<W: fmt::Write>(&self, f: &mut fmt::Formatter<W>) -> fmt::Result {
+        let BudgetLines(left, asked) = *self;
+        writeln!(f, "  known: the budget left is at least {left}")?;
+        writeln!(
+            f,
+            "  known: these words and the budget entered are at most {asked}"
+        )
+    }
+}
+
 impl fmt::Display for Unshown {
     ghost use Rattle.std.specs.Prelude.{Some};
     ghost use Rattle.explanations.specs.Unshown.{unshown_text};
@@ -391,11 +411,8 @@ impl fmt::Display for Unshown {
                 writeln!(f, "{known}  wanted on entering it: {wanted}")
             }
             Unshown::Budget { left, asked } => {
-                writeln!(f, "  known: the budget left is at least {left}")?;
-                writeln!(
-                    f,
-                    "  known: these words and the budget entered are at most {asked}"
-                )
+                let lines = BudgetLines(*left, *asked);
+                write!(f, "{lines}")
             }
         }
     }
