@@ -142,15 +142,11 @@ fn any(flags: &[bool; 8]) -> bool
 fn moved_by(of: &Loop, step: Reg, left: &[bool; 8], insn: &Insn) -> Option<Reading>
     ensures { result ≡ moved_by_of of.now step left.now insn.now }
 {
-    match insn {
-        Insn::Scalar(
-            ScalarInsn::Register {
-                op: RegisterOp::Add,
-                rd,
-                rs1,
-                rs2,
-            },
-        ) => {
+    let Insn::Scalar(ScalarInsn::Register { op, rd, rs1, rs2 }) = insn else {
+        return None;
+    };
+    match op {
+        RegisterOp::Add => {
             if is_flagged(*rd, left)
                 && rs1.number() == rd.number()
                 && rs2.number() == step.number()
@@ -164,14 +160,7 @@ fn moved_by(of: &Loop, step: Reg, left: &[bool; 8], insn: &Insn) -> Option<Readi
                 None
             }
         }
-        Insn::Scalar(
-            ScalarInsn::Register {
-                op: RegisterOp::Sub,
-                rd,
-                rs1,
-                rs2,
-            },
-        ) => {
+        RegisterOp::Sub => {
             if !any(left)
                 && rd.number() == of.count.number()
                 && rs1.number() == of.count.number()
