@@ -1,0 +1,5 @@
+use Rattle.std.proofs.Common.{rules}
+use Rattle.region_mem.proofs.layout.layout_in_numbers.Goals as goal
+
+pub returns-clause-buffer_size : goal.returns-clause-buffer_size
+returns-clause-buffer_size c = search rules

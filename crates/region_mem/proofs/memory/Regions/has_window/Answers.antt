@@ -1,0 +1,7 @@
+use Rattle.std.proofs.Common.{rules}
+use Rattle.region_mem.specs.Memory.{has_window}
+use Rattle.region_mem.proofs.memory.Regions.has_window.Goals as goal
+
+pub returns : goal.returns
+unfolding has_window
+returns g c = search rules

@@ -1,0 +1,7 @@
+use Rattle.std.proofs.Common.{rules}
+use Rattle.region_mem.specs.Memory.{load_of, is_permitted}
+use Rattle.region_mem.proofs.memory.Regions.load.Goals as goal
+
+pub returns : goal.returns
+unfolding load_of is_permitted
+returns g c = search rules

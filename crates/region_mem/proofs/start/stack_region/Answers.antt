@@ -1,0 +1,7 @@
+use Rattle.std.proofs.Common.{rules}
+use Rattle.region_mem.specs.Start.{stack_area}
+use Rattle.region_mem.proofs.start.stack_region.Goals as goal
+
+pub returns : goal.returns
+unfolding stack_area
+returns g c = search rules

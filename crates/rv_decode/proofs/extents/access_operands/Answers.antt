@@ -1,0 +1,7 @@
+use Rattle.std.proofs.Common.{rules}
+use Rattle.rv_decode.specs.Needs.{access_operands}
+use Rattle.rv_decode.proofs.extents.access_operands.Goals as goal
+
+pub returns-in-Store : goal.returns-in-Store
+unfolding access_operands
+returns-in-Store c = search rules

@@ -1,0 +1,7 @@
+use Rattle.std.proofs.Common.{rules}
+use Rattle.rv_decode.specs.Vector.{high_opm}
+use Rattle.rv_decode.proofs.opm_words.high_opmvx.Goals as goal
+
+pub returns-in-62 : goal.returns-in-62
+unfolding high_opm
+returns-in-62 c = search rules

@@ -1,0 +1,7 @@
+use Rattle.std.proofs.Common.{rules}
+use Rattle.rv_decode.specs.Bits.{immediate_i}
+use Rattle.rv_decode.proofs.word.immediate_i.Goals as goal
+
+pub returns : goal.returns
+unfolding immediate_i
+returns c = search rules
