@@ -3,7 +3,7 @@ use Rattle.std.proofs.Common.{◌≡◌, ℕ, ◌+◌, ◌*◌, ◌^◌, ◌<◌
 use Rattle.rv_decode.specs.Bits.{bits, immediate_i, immediate_s, immediate_b, immediate_u, immediate_j}
 use Rattle.rv_decode.specs.Decode.{meaning_of, table}
 use Rattle.rv_decode.specs.System.{system_groups}
-use Rattle.rv_decode.specs.Encode.{modulo, encode_i, encode_s, encode_b, encode_u, encode_j, encode_r, low_fields, middle_fields, encode, IsEncodable}
+use Rattle.rv_decode.specs.Encode.{modulo, encode_i, encode_s, encode_b, encode_u, encode_j, encode_r, low_fields, middle_fields, encode, IsEncodable, IsSigned}
 use Rattle.rv_decode.specs.Encode.{f3_of_condition, f3_of_load, f3_of_store, f3_of_immediate, codes_of_shift, codes_of_register}
 use Rattle.rv_decode.specs.Words.{Condition, ImmediateOp, LoadKind, RegisterOp, ScalarInsn, ShiftOp, Width, Scalar, Lui, Auipc, Jal, Jalr}
 use Rattle.rv_decode.specs.Words.{Branch, Load, Store, Immediate, ShiftImmediate, Register, Fence, Ecall, Eq, Ne, Lt, Ge, Ltu, Geu, Byte}
@@ -166,6 +166,17 @@ low_i : (imm : ℤ) (opcode rd f3 rs1 : ℕ) → opcode < 2 ^ 7 → rd < 32 → 
 unfolding encode_i
 low_i imm opcode rd f3 rs1 o d f s = low_of (modulo 4096 imm) opcode rd f3 rs1 _ o d f s refl
 
+-- the word of an instruction with an immediate of the I format has its fields, and the immediate
+record IsI (word opcode rd f3 rs1 : ℕ) (imm : ℤ) : Type 0 where
+  fields : Low word opcode rd f3 rs1
+  read : immediate_i word ≡ imm
+
+word_i : (imm : ℤ) (opcode rd f3 rs1 : ℕ) → opcode < 2 ^ 7 → f3 < 8 → rd < 32 → rs1 < 32 → IsSigned 2048 imm → IsI (encode_i imm (low_fields opcode rd f3 rs1)) opcode rd f3 rs1 imm
+word_i imm opcode rd f3 rs1 o f d s h = record {
+  fields = low_i imm opcode rd f3 rs1 o d f s;
+  read = back_i imm _ h.0 h.1 (low_below opcode rd f3 rs1 o d f s);
+}
+
 pub encoded : (insn : ScalarInsn) → IsEncodable insn → meaning_of (encode insn) ≡ Some (Scalar insn)
 unfolding encode
 encoded (Lui rd imm) h =
@@ -178,29 +189,24 @@ encoded (Jal rd offset) h =
     let d : rd < 32 = h.0 in
     jal_from rd offset _ (lowest_j offset 0x6f rd (omega arith) d) (back_j offset (rd * 2 ^ 7 + 0x6f) h.1.0 h.1.1 h.2 (omega arith))
 encoded (Jalr rd rs1 offset) h =
-    jalr_from rd rs1 offset _
-    (low_i offset 0x67 rd 0 rs1 (omega arith) h.0 (omega arith) h.1)
-    (back_i offset _ h.2.0 h.2.1 (low_below 0x67 rd 0 rs1 (omega arith) h.0 (omega arith) h.1))
+    let w = word_i offset 0x67 rd 0 rs1 (omega arith) (omega arith) h.0 h.1 h.2 in
+    jalr_from rd rs1 offset _ w.fields w.read
 encoded (Branch op rs1 rs2 offset) h =
     let f : f3_of_condition op < 8 = condition_below op in
     branch_from op rs1 rs2 offset _
     (middle_b offset 0x63 (f3_of_condition op) rs1 rs2 (omega arith) f h.0 h.1)
     (back_b offset _ 0x63 h.2.0 h.2.1 h.3 (middle_below (f3_of_condition op) rs1 rs2 f h.0 h.1) (omega arith))
 encoded (Load op rd rs1 offset) h =
-    let f : f3_of_load op < 8 = load_below op in
-    load_from op rd rs1 offset _
-    (low_i offset 0x03 rd (f3_of_load op) rs1 (omega arith) h.0 f h.1)
-    (back_i offset _ h.2.0 h.2.1 (low_below 0x03 rd (f3_of_load op) rs1 (omega arith) h.0 f h.1))
+    let w = word_i offset 0x03 rd (f3_of_load op) rs1 (omega arith) (load_below op) h.0 h.1 h.2 in
+    load_from op rd rs1 offset _ w.fields w.read
 encoded (Store op rs1 rs2 offset) h =
     let f : f3_of_store op < 8 = store_below op in
     store_from op rs1 rs2 offset _
     (middle_s offset 0x23 (f3_of_store op) rs1 rs2 (omega arith) f h.0 h.1)
     (back_s offset _ 0x23 h.2.0 h.2.1 (middle_below (f3_of_store op) rs1 rs2 f h.0 h.1) (omega arith))
 encoded (Immediate op rd rs1 imm) h =
-    let f : f3_of_immediate op < 8 = immediate_below op in
-    immediate_from op rd rs1 imm _
-    (low_i imm 0x13 rd (f3_of_immediate op) rs1 (omega arith) h.0 f h.1)
-    (back_i imm _ h.2.0 h.2.1 (low_below 0x13 rd (f3_of_immediate op) rs1 (omega arith) h.0 f h.1))
+    let w = word_i imm 0x13 rd (f3_of_immediate op) rs1 (omega arith) (immediate_below op) h.0 h.1 h.2 in
+    immediate_from op rd rs1 imm _ w.fields w.read
 encoded (ShiftImmediate op rd rs1 amount) h =
     let f = shift_below op in
     shift_from op rd rs1 amount _

@@ -71,49 +71,46 @@ is_low code = ltb code 0x20
 abbrev is_high : ℕ → Bool
 is_high code = not (ltb code 0x20)
 
-below : (selects : Form → Bool) (word : ℕ) (low high : List Operation) → all_codes is_high high ≡ true → bits 26 6 word < 0x20 → meanings_by_rows (rows_of selects (low ++ high)) word ≡ meanings_by_rows (rows_of selects low) word
-below selects word low high h less =
-    let test : is_high (bits 26 6 word) ≡ false = grind (arith, less) in
-    ap (λ rows. meanings_by_rows rows word) (rows_of_both selects low high) ∙
-    by_both (rows_of selects low) (rows_of selects high) word ∙
-    ap (λ l. meanings_by_rows (rows_of selects low) word ++ l) (none_of selects word high (apart is_high word test high h)) ∙
-    append-nil (meanings_by_rows (rows_of selects low) word)
+-- where the codes of two halves are told apart, a word has rows in one of them alone
 
-above : (selects : Form → Bool) (word : ℕ) (low high : List Operation) → all_codes is_low low ≡ true → 0x20 ≤ bits 26 6 word → meanings_by_rows (rows_of selects (low ++ high)) word ≡ meanings_by_rows (rows_of selects high) word
-above selects word low high h more =
-    let test : is_low (bits 26 6 word) ≡ false = grind (arith, more) in
-    ap (λ rows. meanings_by_rows rows word) (rows_of_both selects low high) ∙
-    by_both (rows_of selects low) (rows_of selects high) word ∙
-    ap (λ l. l ++ meanings_by_rows (rows_of selects high) word) (none_of selects word low (apart is_low word test low h))
+abbrev Halves : (Form → Bool) → ℕ → List Operation → List Operation → Type 0
+Halves selects word low high =
+    (bits 26 6 word < 0x20 → meanings_by_rows (rows_of selects (low ++ high)) word ≡ meanings_by_rows (rows_of selects low) word)
+    × (0x20 ≤ bits 26 6 word → meanings_by_rows (rows_of selects (low ++ high)) word ≡ meanings_by_rows (rows_of selects high) word)
 
-high_opi_codes : all_codes is_high high_opi ≡ true
-unfolding high_opi whole_rows
-high_opi_codes = refl
+halves : (selects : Form → Bool) (word : ℕ) (low high : List Operation) → all_codes is_low low ≡ true → all_codes is_high high ≡ true → Halves selects word low high
+halves selects word low high below above =
+    let both = ap (λ rows. meanings_by_rows rows word) (rows_of_both selects low high) ∙ by_both (rows_of selects low) (rows_of selects high) word in (
+      λ less.
+          let test : is_high (bits 26 6 word) ≡ false = grind (arith, less) in
+          both ∙
+          ap (λ l. meanings_by_rows (rows_of selects low) word ++ l) (none_of selects word high (apart is_high word test high above)) ∙
+          append-nil (meanings_by_rows (rows_of selects low) word),
+      λ more.
+          let test : is_low (bits 26 6 word) ≡ false = grind (arith, more) in
+          both ∙ ap (λ l. l ++ meanings_by_rows (rows_of selects high) word) (none_of selects word low (apart is_low word test low below)),
+    )
 
-low_opi_codes : all_codes is_low low_opi ≡ true
-unfolding low_opi
-low_opi_codes = refl
+opi_halves : (selects : Form → Bool) (word : ℕ) → Halves selects word low_opi high_opi
+unfolding low_opi high_opi whole_rows
+opi_halves selects word = halves selects word low_opi high_opi refl refl
 
-high_opm_codes : all_codes is_high high_opm ≡ true
-unfolding high_opm
-high_opm_codes = refl
-
-low_opm_codes : all_codes is_low low_opm ≡ true
-unfolding low_opm extend_rows to_scalar_rows set_mask_rows
-low_opm_codes = refl
+opm_halves : (selects : Form → Bool) (word : ℕ) → Halves selects word low_opm high_opm
+unfolding low_opm high_opm extend_rows to_scalar_rows set_mask_rows
+opm_halves selects word = halves selects word low_opm high_opm refl refl
 
 pub opi_below : (selects : Form → Bool) (word : ℕ) → bits 26 6 word < 0x20 → meanings_by_rows (rows_of selects opi) word ≡ meanings_by_rows (rows_of selects low_opi) word
 unfolding opi
-opi_below selects word less = below selects word low_opi high_opi high_opi_codes less
+opi_below selects word = (opi_halves selects word).0
 
 pub opi_above : (selects : Form → Bool) (word : ℕ) → 0x20 ≤ bits 26 6 word → meanings_by_rows (rows_of selects opi) word ≡ meanings_by_rows (rows_of selects high_opi) word
 unfolding opi
-opi_above selects word more = above selects word low_opi high_opi low_opi_codes more
+opi_above selects word = (opi_halves selects word).1
 
 pub opm_below : (selects : Form → Bool) (word : ℕ) → bits 26 6 word < 0x20 → meanings_by_rows (rows_of selects opm) word ≡ meanings_by_rows (rows_of selects low_opm) word
 unfolding opm
-opm_below selects word less = below selects word low_opm high_opm high_opm_codes less
+opm_below selects word = (opm_halves selects word).0
 
 pub opm_above : (selects : Form → Bool) (word : ℕ) → 0x20 ≤ bits 26 6 word → meanings_by_rows (rows_of selects opm) word ≡ meanings_by_rows (rows_of selects high_opm) word
 unfolding opm
-opm_above selects word more = above selects word low_opm high_opm low_opm_codes more
+opm_above selects word = (opm_halves selects word).1

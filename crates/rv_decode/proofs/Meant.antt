@@ -20,6 +20,10 @@ meant word {insn} e = (subst (λ m. IfSome m (Encodes word)) e (encodes word)).1
 pub signed_fits_word : (sign : ℕ) (z : ℤ) → 0 < sign → sign ≤ 2 ^ 31 → IsSigned sign z → FitsSigned w32 z
 signed_fits_word sign z some most h = omega (arith, ints)
 
+-- two registers and an immediate of twelve signed bits
+twelve_bits : (a b : ℕ) (z : ℤ) → (a < 32) × (b < 32) × IsSigned 2048 z → (a < 32) × (b < 32) × FitsSigned w32 z
+twelve_bits a b z h = (h.0, h.1, signed_fits_word 2048 z (omega arith) (omega arith) h.2)
+
 pub meant_lui : (word : ℕ) {rd imm : ℕ} → meaning_of word ≡ Some (Scalar (Lui rd imm)) → (rd < 32) × (imm < 2 ^ 32)
 meant_lui word e = let h = meant word e in (h.0, h.1.1)
 
@@ -31,24 +35,20 @@ meant_jal word {rd} {offset} e =
     let h = meant word e in (h.0, signed_fits_word 1048576 offset (omega arith) (omega arith) h.1)
 
 pub meant_jalr : (word : ℕ) {rd rs1 : ℕ} {offset : ℤ} → meaning_of word ≡ Some (Scalar (Jalr rd rs1 offset)) → (rd < 32) × (rs1 < 32) × FitsSigned w32 offset
-meant_jalr word {rd} {rs1} {offset} e =
-    let h = meant word e in (h.0, h.1, signed_fits_word 2048 offset (omega arith) (omega arith) h.2)
+meant_jalr word {rd} {rs1} {offset} e = twelve_bits rd rs1 offset (meant word e)
 
 pub meant_branch : (word : ℕ) {rs1 rs2 : ℕ} {condition : Condition} {offset : ℤ} → meaning_of word ≡ Some (Scalar (Branch condition rs1 rs2 offset)) → (rs1 < 32) × (rs2 < 32) × FitsSigned w32 offset
 meant_branch word {rs1} {rs2} {condition} {offset} e =
     let h = meant word e in (h.0, h.1, signed_fits_word 4096 offset (omega arith) (omega arith) h.2)
 
 pub meant_load : (word : ℕ) {rd rs1 : ℕ} {kind : LoadKind} {offset : ℤ} → meaning_of word ≡ Some (Scalar (Load kind rd rs1 offset)) → (rd < 32) × (rs1 < 32) × FitsSigned w32 offset
-meant_load word {rd} {rs1} {kind} {offset} e =
-    let h = meant word e in (h.0, h.1, signed_fits_word 2048 offset (omega arith) (omega arith) h.2)
+meant_load word {rd} {rs1} {kind} {offset} e = twelve_bits rd rs1 offset (meant word e)
 
 pub meant_store : (word : ℕ) {rs1 rs2 : ℕ} {size : Width} {offset : ℤ} → meaning_of word ≡ Some (Scalar (Store size rs1 rs2 offset)) → (rs1 < 32) × (rs2 < 32) × FitsSigned w32 offset
-meant_store word {rs1} {rs2} {size} {offset} e =
-    let h = meant word e in (h.0, h.1, signed_fits_word 2048 offset (omega arith) (omega arith) h.2)
+meant_store word {rs1} {rs2} {size} {offset} e = twelve_bits rs1 rs2 offset (meant word e)
 
 pub meant_immediate : (word : ℕ) {rd rs1 : ℕ} {op : ImmediateOp} {imm : ℤ} → meaning_of word ≡ Some (Scalar (Immediate op rd rs1 imm)) → (rd < 32) × (rs1 < 32) × FitsSigned w32 imm
-meant_immediate word {rd} {rs1} {op} {imm} e =
-    let h = meant word e in (h.0, h.1, signed_fits_word 2048 imm (omega arith) (omega arith) h.2)
+meant_immediate word {rd} {rs1} {op} {imm} e = twelve_bits rd rs1 imm (meant word e)
 
 pub meant_shift : (word : ℕ) {rd rs1 amount : ℕ} {op : ShiftOp} → meaning_of word ≡ Some (Scalar (ShiftImmediate op rd rs1 amount)) → (rd < 32) × (rs1 < 32) × (amount < 32)
 meant_shift word e = meant word e

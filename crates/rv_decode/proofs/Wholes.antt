@@ -3,6 +3,7 @@ use Rattle.std.proofs.Common.{◌≡◌, ℕ, ◌+◌, ◌-◌, ◌*◌, ◌/◌
 use Rattle.std.proofs.lemmas.Int.{ints}
 use Rattle.std.proofs.lemmas.Bool.{cases_lt}
 use Rattle.std.proofs.Math.Nat.{mod-eq_of_lt, mod-lt}
+use Rattle.std.proofs.lemmas.Nat.{pow_pos}
 use Rattle.rv_decode.specs.Bits.{bits, signed, immediate_i, immediate_s, immediate_b, immediate_u, immediate_j}
 use Rattle.rv_decode.specs.Encode.{modulo, low_fields, middle_fields, encode_r, encode_i, encode_s, encode_b, encode_u, encode_j, IsSigned, IsUpper, IsEven}
 use Rattle.rv_decode.specs.EncodeVector.{vm_of}
@@ -16,6 +17,10 @@ below5 low word = mod-lt (word / 2 ^ low) (omega arith)
 pub below : (low width m word : ℕ) → 2 ^ width ≡ m → 0 < m → bits low width word < m
 unfolding bits
 below low width m word e p = let h = mod-lt (word / 2 ^ low) p in grind (arith, h, e)
+
+-- the same, with the power
+bits_below : (low width word : ℕ) → bits low width word < 2 ^ width
+bits_below low width word = below low width (2 ^ width) word refl (pow_pos width)
 
 -- the vm bit says whether the operation is masked
 
@@ -165,15 +170,14 @@ fits_s word =
     let low : bits 7 5 word < 32 = below5 7 word in
     signed_fits 2048 (bits 25 7 word * 32 + bits 7 5 word) (omega arith)
 
+fits_even : (sign n : ℕ) → n < 2 * sign → n % 2 ≡ 0 → IsSigned sign (signed sign n) × IsEven (signed sign n)
+fits_even sign n h even = (signed_fits sign n h, signed_even sign n h even)
+
 pub fits_b : (word : ℕ) → IsSigned 4096 (immediate_b word) × IsEven (immediate_b word)
 unfolding immediate_b
 fits_b word =
-    let a : bits 31 1 word < 2 = below 31 1 2 word refl (omega arith) in
-    let b : bits 25 6 word < 64 = below 25 6 64 word refl (omega arith) in
-    let d : bits 8 4 word < 16 = below 8 4 16 word refl (omega arith) in
-    let e : bits 7 1 word < 2 = below 7 1 2 word refl (omega arith) in
     let n : ℕ = bits 31 1 word * 4096 + bits 7 1 word * 2048 + bits 25 6 word * 32 + bits 8 4 word * 2 in
-    (signed_fits 4096 n (omega arith), signed_even 4096 n (omega arith) (omega arith))
+    fits_even 4096 n (omega (arith, bits_below 31 1 word, bits_below 7 1 word, bits_below 25 6 word, bits_below 8 4 word)) (omega arith)
 
 pub fits_u : (word : ℕ) → IsUpper (immediate_u word)
 unfolding bits immediate_u
@@ -182,9 +186,5 @@ fits_u word = (omega arith, omega arith)
 pub fits_j : (word : ℕ) → IsSigned 1048576 (immediate_j word) × IsEven (immediate_j word)
 unfolding immediate_j
 fits_j word =
-    let a : bits 31 1 word < 2 = below 31 1 2 word refl (omega arith) in
-    let b : bits 21 10 word < 1024 = below 21 10 1024 word refl (omega arith) in
-    let d : bits 20 1 word < 2 = below 20 1 2 word refl (omega arith) in
-    let e : bits 12 8 word < 256 = below 12 8 256 word refl (omega arith) in
     let n : ℕ = bits 31 1 word * 1048576 + bits 12 8 word * 4096 + bits 20 1 word * 2048 + bits 21 10 word * 2 in
-    (signed_fits 1048576 n (omega arith), signed_even 1048576 n (omega arith) (omega arith))
+    fits_even 1048576 n (omega (arith, bits_below 31 1 word, bits_below 12 8 word, bits_below 20 1 word, bits_below 21 10 word)) (omega arith)
