@@ -1,0 +1,5 @@
+use Rattle.std.proofs.Common.{rules}
+use Rattle.vector_core.proofs.state.VectorState.byte.Goals as goal
+
+pub returns : goal.returns
+returns g c = search rules
