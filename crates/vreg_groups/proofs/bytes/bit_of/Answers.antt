@@ -1,0 +1,7 @@
+use Rattle.std.proofs.Common.{rules}
+use Rattle.vreg_groups.specs.Elements.{bit_of}
+use Rattle.vreg_groups.proofs.bytes.bit_of.Goals as goal
+
+pub returns : goal.returns
+unfolding bit_of
+returns c = search rules

@@ -1,0 +1,5 @@
+use Rattle.std.proofs.Common.{rules}
+use Rattle.vreg_groups.proofs.legality.is_group_legal.Goals as goal
+
+pub returns-then-emul_eighths-le64-clause-meaning : goal.returns-then-emul_eighths-le64-clause-meaning
+returns-then-emul_eighths-le64-clause-meaning c = search rules

@@ -1,0 +1,5 @@
+use Rattle.std.proofs.Common.{rules}
+use Rattle.vreg_groups.proofs.vector_length.Vlen.bytes.Goals as goal
+
+pub returns-in-V512-clause-meaning : goal.returns-in-V512-clause-meaning
+returns-in-V512-clause-meaning c = search rules

@@ -1,0 +1,7 @@
+use Rattle.std.proofs.Common.{rules}
+use Rattle.vreg_groups.specs.VectorLength.{supported_vset}
+use Rattle.vreg_groups.proofs.vector_length.supported_vset.Goals as goal
+
+pub returns-in-Some : goal.returns-in-Some
+unfolding supported_vset
+returns-in-Some c = search rules
