@@ -1,10 +1,10 @@
 -- The indices of a legal access are inside the registers, as many as there are elements.
-use Rattle.std.proofs.Common.{lit<, ◌≡◌, ◌∙◌, ap, arith, length, sym}
+use Rattle.std.proofs.Common.{lit<, ◌≡◌, ◌∙◌, ap, arith, length, sym, rules}
 use Rattle.std.proofs.lemmas.List.{length-take-le}
 use Rattle.rv_decode.specs.declared.instructions.Addressing.{Addressing}
 use Rattle.vreg_groups.specs.Group.{Span}
 use Rattle.vector_mem.specs.Words.{Indexed}
-use Rattle.vector_mem.specs.Transfers.{data_at}
+use Rattle.vector_mem.specs.Transfers.{accesses_of, data_at, place_at}
 use Rattle.vector_mem.proofs.Inside.{indices_inside}
 use Rattle.vector_mem.proofs.Rooms.{body_length, few}
 use Rattle.vector_mem.proofs.accesses.access.Goals as goal
@@ -34,3 +34,7 @@ indexed_plan-requires-clause-len g c =
     c.read_active.auto.active
     ∙ length-take-le c.vl.result _ (omega (arith, c.vl.ensures.meaning, few _ _ c.requires.setup.vlenb_is c.data_group-group.ensures.bits)) in
     indices ∙ sym vl ∙ sym active
+
+pub returns-in-Strided : goal.returns-in-Strided
+unfolding accesses_of place_at data_at
+returns-in-Strided g c = search rules

@@ -1,5 +1,6 @@
 -- The data of a legal load or store is inside the registers.
-use Rattle.std.proofs.Common.{lit<, ◌≡◌}
+use Rattle.std.proofs.Common.{lit<, ◌≡◌, rules}
+use Rattle.vector_mem.specs.Transfers.{data_at}
 use Rattle.vector_mem.specs.Words.{Unit, Strided, Indexed, Whole}
 use Rattle.vector_mem.proofs.Inside.{unit_inside, strided_inside, indexed_inside, whole_inside}
 use Rattle.vector_mem.proofs.operands.data_group.Goals as goal
@@ -23,3 +24,7 @@ pub whole-requires : goal.whole-requires
 whole-requires g c =
     let place : c.args.insn.now.place ≡ Whole c.in-Whole.width c.in-Whole.count = cc in
     (lit< tt, (c.requires.setup.vlenb_is, whole_inside c.args.setup.now.vtype c.args.insn.now _ _ place c.requires.inside))
+
+pub returns-in-Mask-clause-meaning : goal.returns-in-Mask-clause-meaning
+unfolding data_at
+returns-in-Mask-clause-meaning g c = search rules
