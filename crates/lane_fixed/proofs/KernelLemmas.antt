@@ -1,27 +1,17 @@
 -- Numbers that are overwritten from the front, and whether an active one of them saturates.
-use Rattle.std.proofs.Common.{◌≡◌, ℕ, ◌+◌, ◌<◌, ◌≤◌, Bool, true, false, ◌&&◌, ◌||◌, List, [], ◌∷◌, ◌++◌, length, get_or, set, take, drop, map, refl, ap, sym, ◌∙◌, arith, append-nil}
+use Rattle.std.proofs.Common.{◌≡◌, ℕ, ◌+◌, ◌<◌, ◌≤◌, Bool, true, false, ◌&&◌, ◌||◌, List, [], ◌∷◌, length, get_or, set, take, map, refl, ap, sym, ◌∙◌, arith}
 use lib.Lanes.{zip2}
 use Rattle.std.specs.List.{list_any}
-use Rattle.std.proofs.Math.Nat.{sub_self}
 use Rattle.std.proofs.lemmas.Simd.{length-zip2, get_or-zip2}
 use Rattle.std.proofs.lemmas.List.Folds.{list_any-append}
-use Rattle.std.proofs.lemmas.List.{append_assoc, length-take-le, take_more, take_all, drop_more, drop_all, get_or-append_right, get_or-map, length-map, map-set, set-append_right}
+use Rattle.std.proofs.lemmas.List.{take_more, take_all, length-map, map-set}
 use Rattle.lane_fixed.specs.FixedPoint.{any_active}
+pub use Rattle.rv_decode.proofs.Overlay.{overlaid, overlaid_all, number_at}
+use Rattle.rv_decode.proofs.Overlay.{overlaid_more, get_or-overlaid}
 
 or_false : (b : Bool) → (b || false) ≡ b
 or_false true = refl
 or_false false = refl
-
--- the first i are those of `new`, the rest those of `old`
-abbrev pub overlaid : {X : Type 0} → ℕ → List X → List X → List X
-overlaid i new old = take i new ++ drop i old
-
-pub overlaid_all : {X : Type 0} (i : ℕ) (new old now : List X) → now ≡ overlaid i new old → length old ≤ i → length new ≡ length old → now ≡ new
-overlaid_all i new old now e end same = rw (e, take_all i new (omega arith), drop_all i old (omega arith), append-nil)
-
--- the number of an element that was read
-pub number_at : {X : Type 0} (f : X → ℕ) (xs : List X) (i : ℕ) (r : X) → i < length xs → r ≡ get_or xs i r → f r ≡ get_or (map f xs) i (f r)
-number_at f xs i r lt is = ap f is ∙ sym (get_or-map f xs i r (f r) lt)
 
 -- one more number is written: over those that are read, and over others
 pub written_into : {X : Type 0} (number : X → ℕ) (f : ℕ → ℕ → ℕ) (xs ys old : List ℕ) (now : List X) (i x y : ℕ) (z : X) → map number now ≡ overlaid i (zip2 f xs ys) old → i < length old → length xs ≡ length old → length ys ≡ length old → x ≡ get_or xs i x → y ≡ get_or ys i y → number z ≡ f x y → map number (set now i z) ≡ overlaid (i + 1) (zip2 f xs ys) old
@@ -29,7 +19,7 @@ written_into number f xs ys old now i x y z e lt same_x same_y is_x is_y is_z =
     let long = length-zip2 f xs ys (same_x ∙ sym same_y) in
     let at : get_or (zip2 f xs ys) i (number z) ≡ f (get_or xs i x) (get_or ys i y) = get_or-zip2 f xs ys i x y (number z) (omega arith) (omega arith) in
     let is : get_or (zip2 f xs ys) i (number z) ≡ number z = cc in
-    rw (map-set number now i z, e, set-append_right (take i (zip2 f xs ys)) (drop i old) i i (number z) (length-take-le i (zip2 f xs ys) (omega arith)) (omega arith), sub_self, drop_more old i (number z) lt, take_more (zip2 f xs ys) i (number z) (omega arith), is, append_assoc) refl
+    map-set number now i z ∙ overlaid_more i (zip2 f xs ys) old (map number now) (number z) e lt (long ∙ same_x) is
 
 pub written_over : {X : Type 0} (number : X → ℕ) (f : ℕ → ℕ → ℕ) (xs ys : List ℕ) (now : List X) (i x y : ℕ) (z : X) → map number now ≡ overlaid i (zip2 f xs ys) xs → i < length xs → length ys ≡ length xs → x ≡ get_or xs i x → y ≡ get_or ys i y → number z ≡ f x y → map number (set now i z) ≡ overlaid (i + 1) (zip2 f xs ys) xs
 written_over number f xs ys now i x y z e lt same is_x is_y is_z = written_into number f xs ys xs now i x y z e lt refl same is_x is_y is_z
@@ -37,8 +27,7 @@ written_over number f xs ys now i x y z e lt same is_x is_y is_z = written_into 
 -- an element that is not written yet
 pub still_old : {X : Type 0} (number : X → ℕ) (new old : List ℕ) (now : List X) (i : ℕ) (r : X) → map number now ≡ overlaid i new old → i < length old → length new ≡ length old → i < length now → r ≡ get_or now i r → number r ≡ get_or old i (number r)
 still_old number new old now i r e lt same inside is =
-    let later : get_or (overlaid i new old) i (number r) ≡ get_or old i (number r) = rw (get_or-append_right (take i new) (drop i old) i i (number r) (length-take-le i new (omega arith)) (omega arith), sub_self, drop_more old i (number r) lt) refl in
-    number_at number now i r inside is ∙ ap (λ zs. get_or zs i (number r)) e ∙ later
+    number_at number now i r inside is ∙ ap (λ zs. get_or zs i (number r)) e ∙ get_or-overlaid i new old (number r) lt same
 
 abbrev flags_of : (ℕ → ℕ → Bool) → List ℕ → List ℕ → List Bool → List Bool
 flags_of test xs ys active = zip2 (λ is_active saturates. is_active && saturates) active (zip2 test xs ys)

@@ -1,24 +1,9 @@
--- A list that is overwritten from the front: the first i elements are those of `new`, the rest those of `old`.
-use Rattle.std.proofs.Common.{◌≡◌, ℕ, ◌+◌, ◌<◌, ◌≤◌, List, [], ◌∷◌, ◌++◌, zero, suc, length, get_or, set, take, drop, refl, ap, sym, ◌∙◌, arith, append-nil}
+-- Lists that kernels overwrite from the front with what they make of two or three others.
+use Rattle.std.proofs.Common.{◌≡◌, ℕ, ◌+◌, ◌<◌, List, [], ◌∷◌, zero, suc, length, get_or, set, refl, ap, sym, ◌∙◌, arith}
 use lib.Lanes.{zip2}
-use Rattle.std.proofs.Math.Nat.{sub_self}
 use Rattle.std.proofs.lemmas.Simd.{length-zip2, get_or-zip2}
-use Rattle.std.proofs.lemmas.List.{append_assoc, length-take-le, take_all, take_more, drop_all, drop_more, get_or-append_right, set-append_right}
 use Rattle.lane_int.specs.Lists.{zip3}
-
-abbrev pub overlaid : {X : Type 0} → ℕ → List X → List X → List X
-overlaid i new old = take i new ++ drop i old
-
--- one more element is written
-pub overlaid_more : {X : Type 0} (i : ℕ) (new old now : List X) (y : X) → now ≡ overlaid i new old → i < length old → length new ≡ length old → get_or new i y ≡ y → set now i y ≡ overlaid (i + 1) new old
-overlaid_more i new old now y e lt same is = rw (e, set-append_right (take i new) (drop i old) i i y (length-take-le i new (omega arith)) (omega arith), sub_self, drop_more old i y lt, take_more new i y (omega arith), is, append_assoc) refl
-
--- what is not written yet is old
-pub get_or-overlaid : {X : Type 0} (i : ℕ) (new old : List X) (d : X) → i < length old → length new ≡ length old → get_or (overlaid i new old) i d ≡ get_or old i d
-get_or-overlaid i new old d lt same = rw (get_or-append_right (take i new) (drop i old) i i d (length-take-le i new (omega arith)) (omega arith), sub_self, drop_more old i d lt) refl
-
-pub overlaid_all : {X : Type 0} (i : ℕ) (new old now : List X) → now ≡ overlaid i new old → length old ≤ i → length new ≡ length old → now ≡ new
-overlaid_all i new old now e end same = rw (e, take_all i new (omega arith), drop_all i old (omega arith), append-nil)
+pub use Rattle.rv_decode.proofs.Overlay.{overlaid, overlaid_more, get_or-overlaid, overlaid_all, zip2_more}
 
 pub length-zip3 : {A B C D : Type 0} (f : A → B → C → D) (xs : List A) (ys : List B) (zs : List C) → length ys ≡ length xs → length zs ≡ length xs → length (zip3 f xs ys zs) ≡ length xs
 length-zip3 f [] ys zs p q = refl
@@ -32,14 +17,6 @@ get_or-zip3 f (x ∷ xs) [] zs i a b c e p q r = absurd (omega arith)
 get_or-zip3 f (x ∷ xs) (y ∷ ys) [] i a b c e p q r = absurd (omega arith)
 get_or-zip3 f (x ∷ xs) (y ∷ ys) (z ∷ zs) zero a b c e p q r = refl
 get_or-zip3 f (x ∷ xs) (y ∷ ys) (z ∷ zs) (suc i) a b c e p q r = get_or-zip3 f xs ys zs i a b c e (omega arith) (omega arith) (omega arith)
-
--- a kernel writes one more element: over vs2's
-pub zip2_more : {A B : Type 0} (f : A → B → A) (xs now : List A) (ys : List B) (i : ℕ) (x : A) (y : B) (z : A) → now ≡ overlaid i (zip2 f xs ys) xs → i < length xs → length ys ≡ length xs → x ≡ get_or now i x → y ≡ get_or ys i y → z ≡ f x y → set now i z ≡ overlaid (i + 1) (zip2 f xs ys) xs
-zip2_more f xs now ys i x y z e lt same is_x is_y is_z =
-    let long = length-zip2 f xs ys (sym same) in
-    let at : get_or (zip2 f xs ys) i z ≡ f (get_or xs i x) (get_or ys i y) = get_or-zip2 f xs ys i x y z lt (omega arith) in
-    let old : get_or now i x ≡ get_or xs i x = rw e (get_or-overlaid i (zip2 f xs ys) xs x lt long) in
-    overlaid_more i (zip2 f xs ys) xs now z e lt long cc
 
 -- over something else
 pub zip2_more_into : {A B C : Type 0} (f : A → B → C) (xs : List A) (ys : List B) (old now : List C) (i : ℕ) (x : A) (y : B) (z : C) → now ≡ overlaid i (zip2 f xs ys) old → i < length old → length xs ≡ length old → length ys ≡ length old → x ≡ get_or xs i x → y ≡ get_or ys i y → z ≡ f x y → set now i z ≡ overlaid (i + 1) (zip2 f xs ys) old

@@ -13,3 +13,4 @@ pub mod VectorLaw
 pub mod AccessLaw
 pub mod MeaningLaw
 pub mod Meant
+pub mod Overlay
