@@ -95,18 +95,21 @@ module _ (f h : WholeTerm → ℕ) (joins : (u t : WholeTerm) → u.atom ≡ t.a
         times t,
       )
 
+-- what counts where a product is added, or where it is taken away
+abbrev by_side : {A : Type 0} → Side → A → A → A
+by_side Added x y = x
+by_side Taken x y = y
+
 module _ (v : ℕ → ℕ) (k : ℕ) (so_far ts : List WholeTerm) where
-  added_gains : sum_over (gain_part v) (with_multiples Added k so_far ts) ≡ sum_over (gain_part v) so_far + k * sum_over (gain_part v) ts
-  added_gains = sum_over-with_multiples (gain_part v) (gain_part v) (gain_joins v) Added k (λ t. omega arith) so_far ts
+  gains-with_multiples : (side : Side) → sum_over (gain_part v) (with_multiples side k so_far ts)
+      ≡ sum_over (gain_part v) so_far + k * by_side side (sum_over (gain_part v) ts) (sum_over (loss_part v) ts)
+  gains-with_multiples Added = sum_over-with_multiples (gain_part v) (gain_part v) (gain_joins v) Added k (λ t. omega arith) so_far ts
+  gains-with_multiples Taken = sum_over-with_multiples (gain_part v) (loss_part v) (gain_joins v) Taken k (λ t. omega arith) so_far ts
 
-  added_losses : sum_over (loss_part v) (with_multiples Added k so_far ts) ≡ sum_over (loss_part v) so_far + k * sum_over (loss_part v) ts
-  added_losses = sum_over-with_multiples (loss_part v) (loss_part v) (loss_joins v) Added k (λ t. omega arith) so_far ts
-
-  taken_gains : sum_over (gain_part v) (with_multiples Taken k so_far ts) ≡ sum_over (gain_part v) so_far + k * sum_over (loss_part v) ts
-  taken_gains = sum_over-with_multiples (gain_part v) (loss_part v) (gain_joins v) Taken k (λ t. omega arith) so_far ts
-
-  taken_losses : sum_over (loss_part v) (with_multiples Taken k so_far ts) ≡ sum_over (loss_part v) so_far + k * sum_over (gain_part v) ts
-  taken_losses = sum_over-with_multiples (loss_part v) (gain_part v) (loss_joins v) Taken k (λ t. omega arith) so_far ts
+  losses-with_multiples : (side : Side) → sum_over (loss_part v) (with_multiples side k so_far ts)
+      ≡ sum_over (loss_part v) so_far + k * by_side side (sum_over (loss_part v) ts) (sum_over (gain_part v) ts)
+  losses-with_multiples Added = sum_over-with_multiples (loss_part v) (loss_part v) (loss_joins v) Added k (λ t. omega arith) so_far ts
+  losses-with_multiples Taken = sum_over-with_multiples (loss_part v) (gain_part v) (loss_joins v) Taken k (λ t. omega arith) so_far ts
 
 -- a number is the multiple of 2^32 below it and its rest
 quotient : (lo n hi : ℕ) → lo ≤ n → n ≤ hi → lo / 4294967296 ≡ hi / 4294967296 → lo / 4294967296 * 4294967296 + n % 4294967296 ≡ n
@@ -148,43 +151,35 @@ module _ (table : AtomTable) (v : ℕ → ℕ) (agrees : AgreesWith table v) whe
         is_form.has_room,
       )
 
-  added-product : (sum : WholeSum) (m : Product) → IsForm 8 m.form → is_some (range_of_form table m.form) ≡ true
-      → up v (with_product table Added sum m) + down v sum ≡ up v sum + down v (with_product table Added sum m) + m.factor * value v m.form
+  -- a sum with n added or taken away, in place of another one
+  abbrev Moves : Side → WholeSum → ℕ → WholeSum → Type 0
+  Moves side sum n other = up v other + down v sum + by_side side 0 n ≡ up v sum + down v other + by_side side n 0
+
+  product-moves : (side : Side) (sum : WholeSum) (m : Product) → IsForm 8 m.form → is_some (range_of_form table m.form) ≡ true
+      → Moves side sum (m.factor * value v m.form) (with_product table side sum m)
   unfolding with_product
-  added-product sum m is_form there =
-      omega (
-        arith,
-        ap (λ n. m.factor * n) (value_parts m.form is_form there),
-        added_gains v m.factor sum.terms (map signed_term m.form.terms),
-        added_losses v m.factor sum.terms (map signed_term m.form.terms),
-      )
+  product-moves side sum m is_form there =
+      let ts = map signed_term m.form.terms in
+      let value_at = ap (λ n. m.factor * n) (value_parts m.form is_form there) in
+      let gains_at = gains-with_multiples v m.factor sum.terms ts in
+      let losses_at = losses-with_multiples v m.factor sum.terms ts in
+      elim side as (λ s. Moves s sum (m.factor * value v m.form) (with_product table s sum m)) [
+        | Added ↦ omega (arith, value_at, gains_at Added, losses_at Added)
+        | Taken ↦ omega (arith, value_at, gains_at Taken, losses_at Taken)
+      ]
 
-  taken-product : (sum : WholeSum) (m : Product) → IsForm 8 m.form → is_some (range_of_form table m.form) ≡ true
-      → up v (with_product table Taken sum m) + down v sum + m.factor * value v m.form ≡ up v sum + down v (with_product table Taken sum m)
-  unfolding with_product
-  taken-product sum m is_form there =
-      omega (
-        arith,
-        ap (λ n. m.factor * n) (value_parts m.form is_form there),
-        taken_gains v m.factor sum.terms (map signed_term m.form.terms),
-        taken_losses v m.factor sum.terms (map signed_term m.form.terms),
-      )
-
-  added-products : (sum : WholeSum) (ms : List Product) → AreForms ms → have_ranges table ms ≡ true
-      → up v (with_products table Added sum ms) + down v sum ≡ up v sum + down v (with_products table Added sum ms) + total_of v ms
+  products-move : (side : Side) (sum : WholeSum) (ms : List Product) → AreForms ms → have_ranges table ms ≡ true
+      → Moves side sum (total_of v ms) (with_products table side sum ms)
   unfolding with_products
-  added-products sum [] forms there = omega arith
-  added-products sum (m ∷ ms) forms there =
+  products-move Added sum [] forms there = omega arith
+  products-move Taken sum [] forms there = omega arith
+  products-move side sum (m ∷ ms) forms there =
       let tests = and_parts _ _ there in
-      omega (arith, added-product sum m forms.0 tests.0, added-products (with_product table Added sum m) ms forms.1 tests.1)
-
-  taken-products : (sum : WholeSum) (ms : List Product) → AreForms ms → have_ranges table ms ≡ true
-      → up v (with_products table Taken sum ms) + down v sum + total_of v ms ≡ up v sum + down v (with_products table Taken sum ms)
-  unfolding with_products
-  taken-products sum [] forms there = omega arith
-  taken-products sum (m ∷ ms) forms there =
-      let tests = and_parts _ _ there in
-      omega (arith, taken-product sum m forms.0 tests.0, taken-products (with_product table Taken sum m) ms forms.1 tests.1)
+      both side _ _ _ _ _ (product-moves side sum m forms.0 tests.0) (products-move side (with_product table side sum m) ms forms.1 tests.1)
+    where
+      both : (side : Side) (s t u : WholeSum) (n k : ℕ) → Moves side s n t → Moves side t k u → Moves side s (n + k) u
+      both Added s t u n k h h' = omega arith
+      both Taken s t u n k h h' = omega arith
 
   positive-holds : (sum : WholeSum) → is_positive table sum ≡ true → down v sum ≤ up v sum
   unfolding is_positive
@@ -207,8 +202,8 @@ module _ (table : AtomTable) (v : ℕ → ℕ) (agrees : AgreesWith table v) whe
       omega (
         arith,
         positive-holds _ positive,
-        added-products start ms forms there,
-        taken-products (with_products table Added start ms) ls forms' there',
+        products-move Added start ms forms there,
+        products-move Taken (with_products table Added start ms) ls forms' there',
         sum_over-nil (gain_part v),
         sum_over-nil (loss_part v),
       )
@@ -253,8 +248,8 @@ module _ (table : AtomTable) (v : ℕ → ℕ) (agrees : AgreesWith table v) whe
       omega (
         arith,
         not_negative _ tests.1,
-        added-products start (once f) (is_f, tt) ranges.0,
-        taken-products (with_products table Added start (once f)) (once g) (is_g, tt) ranges.1,
+        products-move Added start (once f) (is_f, tt) ranges.0,
+        products-move Taken (with_products table Added start (once f)) (once g) (is_g, tt) ranges.1,
         sum_over-nil (gain_part v),
         sum_over-nil (loss_part v),
       )

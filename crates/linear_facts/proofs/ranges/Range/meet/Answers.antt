@@ -1,0 +1,6 @@
+-- The greater of the lower ends and the lesser of the upper ones.
+use Rattle.std.proofs.Common.{rules}
+use Rattle.linear_facts.proofs.ranges.Range.meet.Goals as goal
+
+pub returns-then-lo-hi : goal.returns-then-lo-hi
+returns-then-lo-hi c = search rules
