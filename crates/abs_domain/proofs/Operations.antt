@@ -217,37 +217,44 @@ divided_lies r x d h =
       fits = omega (arith, div-le_self r.hi d, h.fits);
     }
 
+-- what an operation gives is in its range, with the second number known or not
+by_known : (range : Option ℕ → Range) (result : ℕ → ℕ) (y : ℕ) (o : Option ℕ) → ((c : ℕ) → o ≡ Some c → y ≡ c)
+    → LiesIn (range None) (result y) → ((c : ℕ) → LiesIn (range (Some c)) (result c)) → LiesIn (range o) (result y)
+by_known range result y None is unknown known = unknown
+by_known range result y (Some c) is unknown known =
+    subst (λ (z : ℕ). LiesIn (range (Some c)) (result z)) (sym (is c refl)) (known c)
+
 right_shift_lies : (r : Range) (x y : ℕ) (o : Option ℕ) → LiesIn r x → ((c : ℕ) → o ≡ Some c → y ≡ c)
     → LiesIn (right_shift_range r o) (x / 2 ^ (y % 32))
 unfolding right_shift_range
-right_shift_lies r x y None h is =
-    full_lies (x / 2 ^ (y % 32)) (omega (arith, div-le_self x (2 ^ (y % 32)), h.high, h.fits))
-right_shift_lies r x y (Some c) h is =
-    let d = 2 ^ (c % 32) in
-    subst (λ (z : ℕ). LiesIn (record { lo = r.lo / d; hi = r.hi / d }) (x / 2 ^ (z % 32))) (sym (is c refl)) (divided_lies r x d h)
+right_shift_lies r x y o h is =
+    by_known (right_shift_range r) (λ z. x / 2 ^ (z % 32)) y o is
+    (full_lies (x / 2 ^ (y % 32)) (omega (arith, div-le_self x (2 ^ (y % 32)), h.high, h.fits)))
+    (λ c. divided_lies r x (2 ^ (c % 32)) h)
 
 quotient_lies : (r : Range) (x y : ℕ) (o : Option ℕ) → LiesIn r x → y < 2 ^ 32 → ((c : ℕ) → o ≡ Some c → y ≡ c)
     → LiesIn (quotient_range r o) (unsigned_quotient x y)
 unfolding quotient_range register_result
-quotient_lies r x y None h l is = full_lies (unsigned_quotient x y) (register_result-fits Divu x y (omega (arith, h.high, h.fits)) l)
-quotient_lies r x y (Some c) h l is =
-    subst (λ (z : ℕ). LiesIn (quotient_range r (Some c)) (unsigned_quotient x z)) (sym (is c refl)) (go (c == 0) refl)
+quotient_lies r x y o h l is =
+    by_known (quotient_range r) (unsigned_quotient x) y o is
+    (full_lies (unsigned_quotient x y) (register_result-fits Divu x y (omega (arith, h.high, h.fits)) l)) (λ c. go c (c == 0) refl)
   where
-    go : (t : Bool) → (c == 0) ≡ t
+    go : (c : ℕ) (t : Bool) → (c == 0) ≡ t
         → LiesIn (if t then full_range else record { lo = r.lo / c; hi = r.hi / c }) (if t then 2 ^ 32 - 1 else x / c)
-    go true e = full_lies (2 ^ 32 - 1) (lit< tt)
-    go false e = divided_lies r x c h
+    go c true e = full_lies (2 ^ 32 - 1) (lit< tt)
+    go c false e = divided_lies r x c h
 
 remainder_lies : (r : Range) (x y : ℕ) (o : Option ℕ) → LiesIn r x → y < 2 ^ 32 → ((c : ℕ) → o ≡ Some c → y ≡ c)
     → LiesIn (remainder_range r o) (unsigned_remainder x y)
 unfolding remainder_range register_result
-remainder_lies r x y None h l is = full_lies (unsigned_remainder x y) (register_result-fits Remu x y (omega (arith, h.high, h.fits)) l)
-remainder_lies r x y (Some c) h l is =
-    subst (λ (z : ℕ). LiesIn (remainder_range r (Some c)) (unsigned_remainder x z)) (sym (is c refl)) (go (c == 0) refl)
+remainder_lies r x y o h l is =
+    by_known (remainder_range r) (unsigned_remainder x) y o is
+    (full_lies (unsigned_remainder x y) (register_result-fits Remu x y (omega (arith, h.high, h.fits)) l)) (λ c. go c (c == 0) refl)
   where
-    go : (t : Bool) → (c == 0) ≡ t → LiesIn (if t then full_range else up_to (min r.hi (c - 1))) (if t then x else x % c)
-    go true e = full_lies x (omega (arith, h.high, h.fits))
-    go false e =
+    go : (c : ℕ) (t : Bool) → (c == 0) ≡ t
+        → LiesIn (if t then full_range else up_to (min r.hi (c - 1))) (if t then x else x % c)
+    go c true e = full_lies x (omega (arith, h.high, h.fits))
+    go c false e =
         let some : 0 < c = grind (arith, nat_tests) in
         let small : x % c < c = omega arith in
         up_lies (min r.hi (c - 1)) (x % c) (omega (arith, mod-le x c, h.high, small)) (omega (arith, h.fits))
