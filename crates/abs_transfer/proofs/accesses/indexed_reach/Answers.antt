@@ -1,0 +1,6 @@
+-- Both ends of the reach, from those of the base and of the indices.
+use Rattle.std.proofs.Common.{rules}
+use Rattle.abs_transfer.proofs.accesses.indexed_reach.Goals as goal
+
+pub returns : goal.returns
+returns c = search rules

@@ -1,0 +1,8 @@
+-- A stride from 2^31 on is a negative one.
+use Rattle.std.proofs.Common.{rules}
+use Rattle.abs_transfer.specs.Accesses.{strided_reach}
+use Rattle.abs_transfer.proofs.accesses.strided_reach.Goals as goal
+
+pub returns-else-n : goal.returns-else-n
+unfolding strided_reach
+returns-else-n g c = search rules

@@ -1,0 +1,8 @@
+-- A fact that is not for vl stays, and one for vl where vl is at least 1.
+use Rattle.std.proofs.Common.{rules}
+use Rattle.abs_transfer.specs.Facts.{is_lasting}
+use Rattle.abs_transfer.proofs.facts.is_lasting.Goals as goal
+
+pub returns-else-fact-ne0 : goal.returns-else-fact-ne0
+unfolding is_lasting
+returns-else-fact-ne0 c = search rules
