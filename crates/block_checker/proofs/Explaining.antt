@@ -38,6 +38,7 @@ use Rattle.block_checker.specs.Refusals.{address_of, refusal}
 use Rattle.block_checker.specs.Passes.{Checked, Progress, On, both, ends, told_at, block_at, block_for, is_branch, edge_passes, possible_passes, edges_pass, followed, decoded, fetched, word_passes, walk, block_passes, blocks_pass, entry_passes}
 use Rattle.block_checker.specs.Explained.{IsStop, answer_of, before_in, before_word, behind, behind_in, behind_word, known_before, intervals_of, place_in}
 use Rattle.block_checker.specs.Walking.{StopsWalk}
+use Rattle.block_checker.proofs.SearchLemmas.{start_from}
 use Rattle.block_checker.proofs.Walks.{at_place, blocks_next}
 
 -- ---- addresses
@@ -124,9 +125,6 @@ pub edge_error_there : (certificate : CertificateView) (pc : ℕ) (edge : Option
 edge_error_there certificate pc edge error refused = IfErr-at_err (IsAt pc) refused (possible_there certificate pc edge)
 
 -- ---- the block at a start
-
-start_from : (from start : ℕ) (rest : Bool) → IsTrue (nat_le from start && rest) → from ≤ start
-start_from from start rest valid = grind (arith, nat_tests, valid)
 
 start_above : (version : Version) (vlen : Vlen) (params : List Param) (from : ℕ) (blocks : List Block) (n : ℕ) (block : Block)
     → AllFrom (IsBlock version vlen params) after_block from blocks → slice_get blocks n ≡ Some block → from ≤ block.start

@@ -16,7 +16,7 @@ use Rattle.cert_note.specs.declared.values.Version.{Version}
 use Rattle.block_checker.specs.Passes.{block_at}
 use Rattle.block_checker.specs.Walking.{IsCountBelow}
 
-start_from : (from start : ℕ) (rest : Bool) → IsTrue (nat_le from start && rest) → from ≤ start
+pub start_from : (from start : ℕ) (rest : Bool) → IsTrue (nat_le from start && rest) → from ≤ start
 start_from from start rest valid = grind (arith, nat_tests, valid)
 
 starts_from : (version : Version) (vlen : Vlen) (params : List Param) (from : ℕ) (blocks : List Block) (j : ℕ) (d : Block)
