@@ -1,0 +1,6 @@
+-- What is passed at a place is read there.
+use Rattle.std.proofs.Common.{rules}
+use Rattle.block_checker.proofs.accepted.start_number.Goals as goal
+
+pub returns-in-Passed : goal.returns-in-Passed
+returns-in-Passed c = search rules

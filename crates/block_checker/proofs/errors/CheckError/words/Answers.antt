@@ -1,0 +1,6 @@
+-- Each error has its own words.
+use Rattle.std.proofs.Common.{rules}
+use Rattle.block_checker.proofs.errors.CheckError.words.Goals as goal
+
+pub returns-in-OrderNotProved : goal.returns-in-OrderNotProved
+returns-in-OrderNotProved c = search rules

@@ -1,0 +1,6 @@
+-- The address is told behind the words.
+use Rattle.std.proofs.Common.{rules}
+use Rattle.block_checker.proofs.errors.CheckErrorDisplay.fmt.Goals as goal
+
+pub returns-in-Some-clause-writes : goal.returns-in-Some-clause-writes
+returns-in-Some-clause-writes g c = search rules
