@@ -4,3 +4,6 @@ use Rattle.block_checker.proofs.accepted.entry_budget.Goals as goal
 
 pub unreachable-requires : goal.unreachable-requires
 unreachable-requires g c = has_entry _ _ _ c.requires (search rules)
+
+pub returns : goal.returns
+returns g c = search rules
