@@ -1,0 +1,6 @@
+-- The answer is told.
+use Rattle.std.proofs.Common.{rules}
+use Rattle.monitor.proofs.monitor.Monitor.obey.Goals as goal
+
+pub returns-in-Ok-tell-clause-told : goal.returns-in-Ok-tell-clause-told
+returns-in-Ok-tell-clause-told g c = search rules
