@@ -107,88 +107,114 @@ const ROUND_THE_LOOP: &str = "  leads to 0x00010004, after 5 words of the block
   enters block 1 of the certificate, with a budget of 1 + 5 * x11
 ";
 
-/// lbu t0,4(a0): the last bytes lie behind the buffer.
-#[test]
-fn tells_an_access(rt: HostRuntime) {
-    let expected = "  that is lbu rd=5 rs1=10 imm=4
+/// What is told where one word of the kernel is another: its number, the word, and the lines.
+const WORDS: [(usize, u32, &[&str]); 6] = [
+    // lbu t0,4(a0): the last bytes lie behind the buffer.
+    (
+        1,
+        0x0045_4283,
+        &[
+            "  that is lbu rd=5 rs1=10 imm=4
   known: x10 in 0x40000000..=0x400003ff
   bytes of the access: 1
   offset from the base: 4
   known: its bytes in 0x40000004..=0x40000403
   wanted: all bytes in one of these zones that may be read
-";
-    assert_stops_at(rt, rt.alloc(), 1, 0x0045_4283, &[expected, ZONES]);
-}
-
-/// sb t0,0(a0): the buffer is to be read.
-#[test]
-fn tells_a_store(rt: HostRuntime) {
-    let expected = "  that is sb rs1=10 rs2=5 imm=0
+",
+            ZONES,
+        ],
+    ),
+    // sb t0,0(a0): the buffer is to be read.
+    (
+        1,
+        0x0055_0023,
+        &[
+            "  that is sb rs1=10 rs2=5 imm=0
   known: x10 in 0x40000000..=0x400003ff
   bytes of the access: 1
   offset from the base: 0
   known: its bytes in 0x40000000..=0x400003ff
   wanted: all bytes in one of these zones that may be written
-";
-    assert_stops_at(rt, rt.alloc(), 1, 0x0055_0023, &[expected, ZONES]);
-}
-
-/// vl1re8.v v8,(a0): the last of its 16 bytes lie behind the buffer.
-#[test]
-fn tells_a_vector_access(rt: HostRuntime) {
-    let expected = "  that is vl1re8.v vd=8 rs1=10 vm=1
+",
+            ZONES,
+        ],
+    ),
+    // vl1re8.v v8,(a0): the last of its 16 bytes lie behind the buffer.
+    (
+        1,
+        0x0285_0407,
+        &[
+            "  that is vl1re8.v vd=8 rs1=10 vm=1
   known: x10 in 0x40000000..=0x400003ff
   known: its bytes in 0x40000000..=0x4000040e
   wanted: all bytes in one of these zones that may be read
-";
-    assert_stops_at(rt, rt.alloc(), 1, 0x0285_0407, &[expected, ZONES]);
-}
-
-/// vadd.vv v8,v8,v8: no vset stands before it.
-#[test]
-fn tells_a_vector_type(rt: HostRuntime) {
-    let expected = "  that is vadd.vv vd=8 vs2=8 vs1=8 vm=1
+",
+            ZONES,
+        ],
+    ),
+    // vadd.vv v8,v8,v8: no vset stands before it.
+    (
+        1,
+        0x0284_0457,
+        &[
+            "  that is vadd.vv vd=8 vs2=8 vs1=8 vm=1
   wanted: a vector type that is known there
-";
-    assert_stops_at(rt, rt.alloc(), 1, 0x0284_0457, &[expected]);
-}
-
-#[test]
-fn tells_an_illegal_word(rt: HostRuntime) {
-    let expected = "  that is illegal
+",
+        ],
+    ),
+    (
+        3,
+        0,
+        &[
+            "  that is illegal
   wanted: an instruction that is legal there
-";
-    assert_stops_at(rt, rt.alloc(), 3, 0, &[expected]);
-}
-
-/// bne x11,x0 leads four bytes further: no block begins there.
-#[test]
-fn tells_a_target(rt: HostRuntime) {
-    let expected = "  that is bne rs1=11 rs2=0 to=00010008
+",
+        ],
+    ),
+    // bne x11,x0 leads four bytes further: no block begins there.
+    (
+        5,
+        0xfe05_9ae3,
+        &[
+            "  that is bne rs1=11 rs2=0 to=00010008
   wanted: a block where the word leads, or the exit
   leads to 0x00010008, after 5 words of the block
   leaves block 1 of the certificate, with a budget of 1 + 5 * x11
-";
-    assert_stops_at(rt, rt.alloc(), 5, 0xfe05_9ae3, &[expected]);
+",
+        ],
+    ),
+];
+
+#[test]
+fn tells_what_a_changed_word_breaks(rt: HostRuntime) {
+    for (number, word, expected) in WORDS {
+        assert_stops_at(rt, rt.alloc(), number, word, expected);
+    }
 }
 
-/// The way over the loop takes two instructions, and the first block has a budget of one for it.
-#[test]
-fn tells_a_budget(rt: HostRuntime) {
-    let expected = "  wanted: a budget for these words and the block entered
+/// What is told where one byte of the certificate is another: its place, the byte, and the lines.
+const BYTES: [(usize, u8, &[&str]); 5] = [
+    // The way over the loop takes two instructions, and the first block has a budget of one for it.
+    (
+        108,
+        1,
+        &[
+            AT_THE_FIRST_BRANCH,
+            "  wanted: a budget for these words and the block entered
   leads to 0x00010018, after 1 words of the block
   leaves block 0 of the certificate, with a budget of 1 + 5 * x11
   enters block 2 of the certificate, with a budget of 1
   known: the budget left is at least 1
   known: these words and the budget entered are at most 2
-";
-    assert_told_of_byte(rt, rt.alloc(), 108, 1, &[AT_THE_FIRST_BRANCH, expected]);
-}
-
-/// The number that is passed may be above what the first block states of it.
-#[test]
-fn tells_the_way_into_the_first_block(rt: HostRuntime) {
-    let expected = "  stopped on the way into the first block
+",
+        ],
+    ),
+    // The number that is passed may be above what the first block states of it.
+    (
+        154,
+        3,
+        &[
+            "  stopped on the way into the first block
   at 0x00010000: 0x00058c63
   that is beq rs1=11 rs2=0 to=00010018
   wanted: the intervals of the block entered
@@ -197,15 +223,44 @@ fn tells_the_way_into_the_first_block(rt: HostRuntime) {
   known: x11 in 0x00000000..=0x00000400
   known: x11 = 0x00000000 + 1 * param 1
   wanted on entering it: x11 in 0x00000000..=0x00000300
-";
-    assert_told_of_byte(rt, rt.alloc(), 154, 3, &[expected]);
-}
+",
+        ],
+    ),
+    // No block begins at the entry: the first one begins behind it.
+    (106, 0, &["  wanted: a block at the entry, 0x00010000\n"]),
+    // A branch tells that x11 is not 0 in the loop, where 2 is wanted.
+    (
+        222,
+        2,
+        &[
+            AT_THE_FIRST_BRANCH,
+            "  wanted: the intervals of the block entered
+  leads to 0x00010004, after 1 words of the block
+  leaves block 0 of the certificate, with a budget of 2 + 5 * x11
+  enters block 1 of the certificate, with a budget of 1 + 5 * x11
+  known: x11 in 0x00000001..=0x00000400
+  known: x11 = 0x00000000 + 1 * param 1
+  wanted on entering it: x11 in 0x00000002..=0x00000400
+",
+        ],
+    ),
+    // The last block states a vector type.
+    (
+        244,
+        1,
+        &[
+            AT_THE_FIRST_BRANCH,
+            "  wanted: a vector type that is known there\n",
+            OVER_THE_LOOP,
+        ],
+    ),
+];
 
-/// No block begins at the entry: the first one begins behind it.
 #[test]
-fn tells_the_entry(rt: HostRuntime) {
-    let expected = "  wanted: a block at the entry, 0x00010000\n";
-    assert_told_of_byte(rt, rt.alloc(), 106, 0, &[expected]);
+fn tells_what_a_changed_byte_breaks(rt: HostRuntime) {
+    for (place, byte, expected) in BYTES {
+        assert_told_of_byte(rt, rt.alloc(), place, byte, expected);
+    }
 }
 
 #[test]
@@ -230,20 +285,6 @@ fn tells_an_interval_on_a_way_out(rt: HostRuntime) {
 ";
     let expected = [AT_THE_LAST_BRANCH, wanted, ROUND_THE_LOOP, known];
     assert_told(rt, rt.alloc(), 2, 0x0025_0513, &expected);
-}
-
-/// A branch tells that x11 is not 0 in the loop, where 2 is wanted.
-#[test]
-fn tells_what_a_branch_says(rt: HostRuntime) {
-    let expected = "  wanted: the intervals of the block entered
-  leads to 0x00010004, after 1 words of the block
-  leaves block 0 of the certificate, with a budget of 2 + 5 * x11
-  enters block 1 of the certificate, with a budget of 1 + 5 * x11
-  known: x11 in 0x00000001..=0x00000400
-  known: x11 = 0x00000000 + 1 * param 1
-  wanted on entering it: x11 in 0x00000002..=0x00000400
-";
-    assert_told_of_byte(rt, rt.alloc(), 222, 2, &[AT_THE_FIRST_BRANCH, expected]);
 }
 
 /// addi a0,a0,0: x10 stays as it is, and x11 falls.
@@ -287,14 +328,6 @@ fn tells_a_vector_fact(rt: HostRuntime) {
 ";
     let expected = [AT_THE_FIRST_BRANCH, wanted, OVER_THE_LOOP, known];
     assert_told_with(rt, rt.alloc(), &bytes, &SUM, &expected);
-}
-
-/// The last block states a vector type.
-#[test]
-fn tells_a_vector_type_of_a_block(rt: HostRuntime) {
-    let wanted = "  wanted: a vector type that is known there\n";
-    let expected = [AT_THE_FIRST_BRANCH, wanted, OVER_THE_LOOP];
-    assert_told_of_byte(rt, rt.alloc(), 244, 1, &expected);
 }
 
 /// The last word is not in the file.

@@ -6,19 +6,6 @@ use explanations::image_reason;
 use std::alloc::Global;
 use std::process::Abort;
 
-/// Asserts that the kernel's file with one byte changed is refused with this error, and what is told of it.
-fn assert_told(
-    rt: impl Abort + Copy,
-    alloc: Global,
-    place: usize,
-    byte: u8,
-    error: ElfError,
-    expected: &str,
-) {
-    let file = with_byte(rt, file_of(rt, alloc, &SUM), place, byte);
-    assert_refused(rt, alloc, &file, error, expected);
-}
-
 /// Asserts that a file is refused with this error, and what is told of it.
 fn assert_refused(
     rt: impl Abort + Copy,
@@ -32,113 +19,125 @@ fn assert_refused(
     assert_shows(rt, alloc, image_reason(file, error), expected);
 }
 
-#[test]
-fn tells_the_machine(rt: HostRuntime) {
-    let expected = "  e_machine at byte 18 of the file: 62 (0x0000003e)
+/// What is told of the kernel's file with one byte changed: where the byte lies, what it is then, the error, and the lines.
+const CHANGED: [(usize, u8, ElfError, &str); 12] = [
+    (
+        18,
+        62,
+        ElfError::BadMachine,
+        "  e_machine at byte 18 of the file: 62 (0x0000003e)
   wanted: 243, RISC-V
   remedy: compile with --target=riscv32
-";
-    assert_told(rt, rt.alloc(), 18, 62, ElfError::BadMachine, expected);
-}
-
-#[test]
-fn tells_compressed_code(rt: HostRuntime) {
-    let expected = "  e_flags at byte 36 of the file: 1 (0x00000001)
+",
+    ),
+    (
+        36,
+        1,
+        ElfError::BadFlags,
+        "  e_flags at byte 36 of the file: 1 (0x00000001)
   wanted: no compressed code
   remedy: compile with -march=rv32im_zve32x
-";
-    assert_told(rt, rt.alloc(), 36, 1, ElfError::BadFlags, expected);
-}
-
-#[test]
-fn tells_the_class(rt: HostRuntime) {
-    let expected = "  EI_CLASS of e_ident at byte 4 of the file: 2 (0x00000002)
+",
+    ),
+    (
+        4,
+        2,
+        ElfError::BadClass,
+        "  EI_CLASS of e_ident at byte 4 of the file: 2 (0x00000002)
   wanted: 1, 32 bits
   remedy: compile with --target=riscv32
-";
-    assert_told(rt, rt.alloc(), 4, 2, ElfError::BadClass, expected);
-}
-
-#[test]
-fn tells_the_type(rt: HostRuntime) {
-    let expected = "  e_type at byte 16 of the file: 3 (0x00000003)
+",
+    ),
+    (
+        16,
+        3,
+        ElfError::BadType,
+        "  e_type at byte 16 of the file: 3 (0x00000003)
   wanted: 2, an executable file
   remedy: link with -static
-";
-    assert_told(rt, rt.alloc(), 16, 3, ElfError::BadType, expected);
-}
-
-#[test]
-fn tells_the_count_of_headers(rt: HostRuntime) {
-    let expected = "  e_phnum at byte 44 of the file: 0 (0x00000000)
+",
+    ),
+    (
+        44,
+        0,
+        ElfError::BadHeaderTable,
+        "  e_phnum at byte 44 of the file: 0 (0x00000000)
   wanted: 1 to 64
-";
-    assert_told(rt, rt.alloc(), 44, 0, ElfError::BadHeaderTable, expected);
-}
-
-#[test]
-fn tells_a_dynamic_header(rt: HostRuntime) {
-    let expected = "  program header 0 at byte 52 of the file:
+",
+    ),
+    (
+        52,
+        2,
+        ElfError::NotStatic,
+        "  program header 0 at byte 52 of the file:
   p_type 2, p_offset 84, p_vaddr 0x00010000
   p_filesz 28, p_memsz 28, p_flags 5
   wanted: no p_type 2, 3 or 7
   remedy: link with -static
-";
-    assert_told(rt, rt.alloc(), 52, 2, ElfError::NotStatic, expected);
-}
-
-#[test]
-fn tells_a_segment_to_write_and_execute(rt: HostRuntime) {
-    let expected = "  program header 0 at byte 52 of the file:
+",
+    ),
+    (
+        76,
+        7,
+        ElfError::WriteAndExecute,
+        "  program header 0 at byte 52 of the file:
   p_type 1, p_offset 84, p_vaddr 0x00010000
   p_filesz 28, p_memsz 28, p_flags 7
   wanted: p_flags without 1 (execute) or without 2 (write)
-";
-    assert_told(rt, rt.alloc(), 76, 7, ElfError::WriteAndExecute, expected);
-}
-
-#[test]
-fn tells_the_entry(rt: HostRuntime) {
-    let expected = "  e_entry at byte 24 of the file: 65538 (0x00010002)
+",
+    ),
+    (
+        24,
+        2,
+        ElfError::EntryNotCode,
+        "  e_entry at byte 24 of the file: 65538 (0x00010002)
   wanted: a multiple of 4 in a segment that can be executed
-";
-    assert_told(rt, rt.alloc(), 24, 2, ElfError::EntryNotCode, expected);
-}
-
-#[test]
-fn tells_the_magic(rt: HostRuntime) {
-    let expected = "  e_ident at byte 0 of the file: 1179403520 (0x464c4500)
+",
+    ),
+    (
+        0,
+        0,
+        ElfError::BadMagic,
+        "  e_ident at byte 0 of the file: 1179403520 (0x464c4500)
   wanted: 0x464c457f, the bytes 7f, E, L, F
-";
-    assert_told(rt, rt.alloc(), 0, 0, ElfError::BadMagic, expected);
-}
-
-#[test]
-fn tells_a_segment_past_the_file(rt: HostRuntime) {
-    let expected = "  program header 0 at byte 52 of the file:
+",
+    ),
+    (
+        56,
+        85,
+        ElfError::SegmentOutOfFile,
+        "  program header 0 at byte 52 of the file:
   p_type 1, p_offset 85, p_vaddr 0x00010000
   p_filesz 28, p_memsz 28, p_flags 5
   wanted: p_offset + p_filesz within the file, and p_filesz at most p_memsz
-";
-    assert_told(rt, rt.alloc(), 56, 85, ElfError::SegmentOutOfFile, expected);
-}
-
-#[test]
-fn tells_a_segment_at_no_place_for_one(rt: HostRuntime) {
-    let expected = "  program header 0 at byte 52 of the file:
+",
+    ),
+    (
+        62,
+        0,
+        ElfError::SegmentOutOfPlace,
+        "  program header 0 at byte 52 of the file:
   p_type 1, p_offset 84, p_vaddr 0x00000000
   p_filesz 28, p_memsz 28, p_flags 5
   wanted: all in 0x00001000..0x20000000 or all in 0x80000000..0xc0000000
-";
-    assert_told(rt, rt.alloc(), 62, 0, ElfError::SegmentOutOfPlace, expected);
-}
+",
+    ),
+    (
+        75,
+        1,
+        ElfError::TooLarge,
+        "  size of the file: 112
+  wanted: at most 4194304, at most 16 segments, and at most 16777216 bytes of memory
+",
+    ),
+];
 
 #[test]
-fn tells_a_large_segment(rt: HostRuntime) {
-    let expected = "  size of the file: 112
-  wanted: at most 4194304, at most 16 segments, and at most 16777216 bytes of memory
-";
-    assert_told(rt, rt.alloc(), 75, 1, ElfError::TooLarge, expected);
+fn tells_what_a_changed_byte_breaks(rt: HostRuntime) {
+    for (place, byte, error, expected) in CHANGED {
+        let file = with_byte(rt, file_of(rt, rt.alloc(), &SUM), place, byte);
+        assert_refused(rt, rt.alloc(), &file, error, expected);
+    }
 }
 
 /// A file with so many program headers, of which these words spell the ones behind the first, and then a note.
