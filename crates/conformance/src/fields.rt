@@ -2,29 +2,19 @@
 
 use hex::{FromHexError, decode};
 use std::alloc::{AllocError, AllocFailed, Global};
-use std::error::Error;
-use std::fmt;
+use thiserror::Error;
 use vreg_groups::{Agnostic, Vlen};
 
 /// Why a row was not tried.
-#[derive(Clone, Copy, Debug, PartialEq, Eq)]
+#[derive(Clone, Copy, Debug, PartialEq, Eq, Error)]
 pub enum RowError {
     /// The text is not of the table's form.
+    #[error("no row of this table")]
     NoRow,
     /// Memory was refused.
+    #[error("out of memory")]
     NoMemory,
 }
-
-impl fmt::Display for RowError {
-    fn fmt<W: fmt::Write>(&self, f: &mut fmt::Formatter<W>) -> fmt::Result {
-        match self {
-            RowError::NoRow => write!(f, "no row of this table"),
-            RowError::NoMemory => write!(f, "out of memory"),
-        }
-    }
-}
-
-impl Error for RowError {}
 
 impl From<AllocError> for RowError {
     fn from(_error: AllocError) -> RowError {
