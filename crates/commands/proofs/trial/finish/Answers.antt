@@ -1,4 +1,4 @@
-use Rattle.std.proofs.Common.{inl, inr, refl}
+use Rattle.std.proofs.Common.{rules, inl, inr, refl}
 use Rattle.commands.proofs.CommandLemmas.{handed_on}
 use Rattle.commands.proofs.trial.finish.Goals as goal
 
@@ -8,3 +8,6 @@ returns-in_err-write_outs-clause-unfinished g c =
 
 pub returns-in-Err-clause-unfinished : goal.returns-in-Err-clause-unfinished
 returns-in-Err-clause-unfinished g c = inr (refl, c.in_ok-write_outs.ensures)
+
+pub returns-in-Ok-clause-done : goal.returns-in-Ok-clause-done
+returns-in-Ok-clause-done g c = search rules
