@@ -1,4 +1,4 @@
-use Rattle.std.proofs.Common.{◌∙◌, ◌≤◌, ap, sym, subst, ℕ, List}
+use Rattle.std.proofs.Common.{rules, ◌∙◌, ◌≤◌, ap, sym, subst, ℕ, List}
 use Rattle.region_mem.specs.Parameter.{Argument}
 use Rattle.rvvbox_c.specs.Runs.{all_put, arguments_of}
 use Rattle.rvvbox_c.proofs.RunLemmas.{is_run}
@@ -14,3 +14,10 @@ returns-in-Ok-clause-ran g c = record {
       (subst (λ (n : ℕ). n ≤ c.run-steps.new.self.bound) (sym c.run-steps.ensures.steps) c.run-steps.ensures.within);
   put = c.put_all_back.ensures.value ∙ ap (λ (l : List Argument). all_put l c.args.places.now c.args.memory.now) c.close.ensures.places;
 }
+
+-- Where no session opens memory is as it was, and its reason is the status.
+pub returns-in-Err-clause-refused : goal.returns-in-Err-clause-refused
+returns-in-Err-clause-refused g c = search rules
+
+pub returns-in-Err-clause-fault : goal.returns-in-Err-clause-fault
+returns-in-Err-clause-fault g c = search rules

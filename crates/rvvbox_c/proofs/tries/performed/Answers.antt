@@ -8,3 +8,6 @@ pub try_image-requires : goal.try_image-requires
 try_image-requires c =
     let taken : c.in_ok-parameters.parameters ≡ params_of c.args.places.now = search rules in
     rw (taken, c.in_ok-args.ensures.named) (args_match c.args.memory.now c.args.places.now (sym c.in_default.ensures.fault))
+
+pub returns-in_err-parameters-clause-fault : goal.returns-in_err-parameters-clause-fault
+returns-in_err-parameters-clause-fault c = search rules

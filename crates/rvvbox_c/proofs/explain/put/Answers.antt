@@ -1,0 +1,6 @@
+-- As many bytes as both have are put.
+use Rattle.std.proofs.Common.{rules}
+use Rattle.rvvbox_c.proofs.explain.put.Goals as goal
+
+pub returns-clause-many : goal.returns-clause-many
+returns-clause-many c = search rules

@@ -1,0 +1,6 @@
+-- A length that is none is refused at once.
+use Rattle.std.proofs.Common.{rules}
+use Rattle.rvvbox_c.proofs.explain.rvvbox_explain.Goals as goal
+
+pub returns-in_default-clause-at_once : goal.returns-in_default-clause-at_once
+returns-in_default-clause-at_once c = search rules

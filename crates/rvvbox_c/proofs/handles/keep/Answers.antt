@@ -1,0 +1,6 @@
+-- What is kept was accepted at the length that is asked for.
+use Rattle.std.proofs.Common.{rules}
+use Rattle.rvvbox_c.proofs.handles.keep.Goals as goal
+
+pub returns-clause-kept : goal.returns-clause-kept
+returns-clause-kept c = search rules

@@ -1,0 +1,6 @@
+-- Places that are not eight are refused at once.
+use Rattle.std.proofs.Common.{rules}
+use Rattle.rvvbox_c.proofs.handles.rvvbox_run_accepted.Goals as goal
+
+pub returns-in_default-clause-at_once : goal.returns-in_default-clause-at_once
+returns-in_default-clause-at_once c = search rules

@@ -1,0 +1,6 @@
+-- A place of kind 0 names nothing.
+use Rattle.std.proofs.Common.{rules}
+use Rattle.rvvbox_c.proofs.places.argument.Goals as goal
+
+pub returns-in-0 : goal.returns-in-0
+returns-in-0 c = search rules

@@ -1,0 +1,6 @@
+-- A number is taken as the one that stands there.
+use Rattle.std.proofs.Common.{rules}
+use Rattle.rvvbox_c.proofs.places.parameter.Goals as goal
+
+pub returns-in-1-clause-value : goal.returns-in-1-clause-value
+returns-in-1-clause-value c = search rules

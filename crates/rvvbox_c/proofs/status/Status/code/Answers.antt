@@ -1,0 +1,6 @@
+-- Each status has its number.
+use Rattle.std.proofs.Common.{rules}
+use Rattle.rvvbox_c.proofs.status.Status.code.Goals as goal
+
+pub returns-in-Trapped-clause-code : goal.returns-in-Trapped-clause-code
+returns-in-Trapped-clause-code c = search rules

@@ -1,0 +1,6 @@
+-- Each fault has its number.
+use Rattle.std.proofs.Common.{rules}
+use Rattle.rvvbox_c.proofs.tries.fault_number.Goals as goal
+
+pub returns-in-FetchFault : goal.returns-in-FetchFault
+returns-in-FetchFault c = search rules
