@@ -7,7 +7,7 @@ use crate::state::{Abstract, MOST_WORDS, Way};
 use abs_domain::{MOST_ATOMS, Numbers, Why, Zone, known};
 use abs_transfer::{address_range, after_csr, after_scalar};
 use arrayvec::ArrayVec;
-use rv_decode::{CsrInsn, Insn, ScalarInsn};
+use rv_decode::{CsrInsn, Insn, ScalarInsn, integer_computation, vector_arithmetic};
 use scalar_core::EXIT;
 use std::alloc::Allocator;
 
@@ -52,14 +52,10 @@ fn way<A: Allocator>(pc: u32, insn: &ScalarInsn, numbers: &Numbers<A>) -> Way
             target: pc.wrapping_add_signed(offset),
             next,
         },
-        ScalarInsn::Lui { .. }
-        | ScalarInsn::Auipc { .. }
-        | ScalarInsn::Load { .. }
+        ScalarInsn::Load { .. }
         | ScalarInsn::Store { .. }
-        | ScalarInsn::Immediate { .. }
-        | ScalarInsn::ShiftImmediate { .. }
-        | ScalarInsn::Register { .. }
-        | ScalarInsn::Fence => to(next),
+        | ScalarInsn::Fence
+        | integer_computation!() => to(next),
         ScalarInsn::Ecall => to(EXIT),
     }
 }
@@ -133,12 +129,7 @@ impl<A: Allocator> Abstract<A> {
                 self.take_vset(pc, insn);
                 Ok(())
             }
-            Insn::VArith(_)
-            | Insn::VMask(_)
-            | Insn::VPerm(_)
-            | Insn::VReduce(_)
-            | Insn::VMem(_)
-            | Insn::VMove(_) => self.take_vector(pc, insn),
+            Insn::VMem(_) | vector_arithmetic!() => self.take_vector(pc, insn),
         }
     }
 }

@@ -12,7 +12,7 @@ use abs_transfer::{
     Reach, after_groups, after_vset, cut_groups, legal_check, reach_at, transfer_check,
 };
 use linear_facts::Range;
-use rv_decode::{Insn, Reg, VMask, VMem, VMove, VSet};
+use rv_decode::{Insn, Reg, VMask, VMem, VMove, VSet, vector_arithmetic};
 use std::alloc::Allocator;
 use vreg_groups::{Vtype, type_in};
 
@@ -113,14 +113,7 @@ impl<A: Allocator> Abstract<A> {
                 self.zones.as_slice(),
                 insn,
             ),
-            Insn::Scalar(_)
-            | Insn::Csr(_)
-            | Insn::VSet(_)
-            | Insn::VArith(_)
-            | Insn::VMask(_)
-            | Insn::VPerm(_)
-            | Insn::VReduce(_)
-            | Insn::VMove(_) => Ok(()),
+            Insn::Scalar(_) | Insn::Csr(_) | Insn::VSet(_) | vector_arithmetic!() => Ok(()),
         }
     }
 

@@ -23,7 +23,7 @@ use crate::errors::{CheckError, told};
 use abs_state::{Abstract, Edge, MOST_WORDS, implies};
 use cert_note::{Block, Certificate};
 use elf_image::Image;
-use rv_decode::{Insn, ScalarInsn, decode};
+use rv_decode::{Insn, ScalarInsn, decode, integer_computation, vector_arithmetic};
 use scalar_core::EXIT;
 use std::alloc::Allocator;
 use vreg_groups::Vlen;
@@ -99,23 +99,12 @@ fn exits_of(insn: &Insn) -> Exits
         Insn::Scalar(insn) => match insn {
             ScalarInsn::Branch { .. } => Exits::Fork,
             ScalarInsn::Jal { .. } | ScalarInsn::Jalr { .. } | ScalarInsn::Ecall => Exits::Jump,
-            ScalarInsn::Lui { .. }
-            | ScalarInsn::Auipc { .. }
-            | ScalarInsn::Load { .. }
+            ScalarInsn::Load { .. }
             | ScalarInsn::Store { .. }
-            | ScalarInsn::Immediate { .. }
-            | ScalarInsn::ShiftImmediate { .. }
-            | ScalarInsn::Register { .. }
-            | ScalarInsn::Fence => Exits::Next,
+            | ScalarInsn::Fence
+            | integer_computation!() => Exits::Next,
         },
-        Insn::Csr(_)
-        | Insn::VSet(_)
-        | Insn::VArith(_)
-        | Insn::VMask(_)
-        | Insn::VPerm(_)
-        | Insn::VReduce(_)
-        | Insn::VMem(_)
-        | Insn::VMove(_) => Exits::Next,
+        Insn::Csr(_) | Insn::VSet(_) | Insn::VMem(_) | vector_arithmetic!() => Exits::Next,
     }
 }
 

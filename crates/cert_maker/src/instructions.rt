@@ -23,7 +23,7 @@ use crate::loops::{Head, Loop, Reading};
 use region_mem::{Mode, Param, Parameters};
 use rv_decode::{
     Addressing, Condition, Direction, Eew, Extent, Insn, Operand, Reg, RegisterOp, ScalarInsn,
-    ShiftOp, VMem, VSet, Width, needs,
+    ShiftOp, VMem, VSet, Width, needs, vector_arithmetic,
 };
 use vreg_groups::{Vconfig, Vtype, legal};
 
@@ -299,8 +299,7 @@ fn is_vector_class(insn: &Insn) -> bool
 {
     match insn {
         Insn::Scalar(_) | Insn::Csr(_) | Insn::VSet(_) | Insn::VMem(_) => false,
-        Insn::VArith(_) | Insn::VMask(_) | Insn::VPerm(_) | Insn::VReduce(_) | Insn::VMove(_) =>
-            true,
+        vector_arithmetic!() => true,
     }
 }
 

@@ -5,7 +5,7 @@ ghost use Rattle.vreg_groups.specs.VectorLength.{IsVlenb};
 use crate::memory::FIRST;
 use crate::state::State;
 use region_mem::{Fault, Regions};
-use rv_decode::{Insn, Reg, decode};
+use rv_decode::{Insn, Reg, decode, vector_arithmetic};
 use scalar_core::{Scalar, step_scalar};
 use std::fmt;
 use vector_core::{VectorState, step_vector};
@@ -49,13 +49,9 @@ pub(crate) fn step<const VLENB: usize>(
             let config = vectors.config();
             step_scalar(hart, insn, memory, &config, VLENB)
         }
-        Insn::VSet(_)
-        | Insn::VArith(_)
-        | Insn::VMask(_)
-        | Insn::VPerm(_)
-        | Insn::VReduce(_)
-        | Insn::VMem(_)
-        | Insn::VMove(_) => step_vector(vectors, hart, word, insn, memory),
+        Insn::VSet(_) | Insn::VMem(_) | vector_arithmetic!() => step_vector(
+            vectors, hart, word, insn, memory,
+        ),
     }
 }
 

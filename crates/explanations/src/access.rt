@@ -11,7 +11,9 @@ use crate::address::Address;
 use abs_state::{Abstract, Numbers, Reach, Zone, address_range};
 use arrayvec::ArrayVec;
 use linear_facts::Range;
-use rv_decode::{Direction, Insn, LoadKind, Reg, ScalarInsn, Width};
+use rv_decode::{
+    Direction, Insn, LoadKind, Reg, ScalarInsn, Width, integer_computation, vector_arithmetic,
+};
 use std::alloc::Allocator;
 use std::fmt;
 
@@ -78,16 +80,12 @@ fn scalar_operand(insn: ScalarInsn) -> Option<Operand>
             offset,
             size: store_size(size),
         }),
-        ScalarInsn::Lui { .. }
-        | ScalarInsn::Auipc { .. }
-        | ScalarInsn::Jal { .. }
+        ScalarInsn::Jal { .. }
         | ScalarInsn::Jalr { .. }
         | ScalarInsn::Branch { .. }
-        | ScalarInsn::Immediate { .. }
-        | ScalarInsn::ShiftImmediate { .. }
-        | ScalarInsn::Register { .. }
         | ScalarInsn::Fence
-        | ScalarInsn::Ecall => None,
+        | ScalarInsn::Ecall
+        | integer_computation!() => None,
     }
 }
 
@@ -113,13 +111,7 @@ pub(crate) fn operand_of(insn: &Insn) -> Option<Operand>
             offset: 0,
             size: 0,
         }),
-        Insn::Csr(_)
-        | Insn::VSet(_)
-        | Insn::VArith(_)
-        | Insn::VMask(_)
-        | Insn::VPerm(_)
-        | Insn::VReduce(_)
-        | Insn::VMove(_) => None,
+        Insn::Csr(_) | Insn::VSet(_) | vector_arithmetic!() => None,
     }
 }
 
@@ -151,13 +143,7 @@ pub(crate) fn reach_in<A: Allocator>(state: &Abstract<A>, insn: &Insn) -> Option
     match insn {
         Insn::Scalar(insn) => scalar_reach(state.numbers(), *insn),
         Insn::VMem(insn) => state.reach(insn),
-        Insn::Csr(_)
-        | Insn::VSet(_)
-        | Insn::VArith(_)
-        | Insn::VMask(_)
-        | Insn::VPerm(_)
-        | Insn::VReduce(_)
-        | Insn::VMove(_) => None,
+        Insn::Csr(_) | Insn::VSet(_) | vector_arithmetic!() => None,
     }
 }
 

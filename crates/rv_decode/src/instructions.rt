@@ -94,6 +94,19 @@ pub enum Insn {
     VMove(VMove),
 }
 
+/// The pattern of the instructions that compute in vector registers: those of the "V" extension 1.0 but `vset` and the loads
+/// and stores ("Vector Arithmetic Instruction Formats").
+#[macro_export]
+macro_rules! vector_arithmetic {
+    () => {
+        $crate::Insn::VArith(_)
+            | $crate::Insn::VMask(_)
+            | $crate::Insn::VPerm(_)
+            | $crate::Insn::VReduce(_)
+            | $crate::Insn::VMove(_)
+    };
+}
+
 /// The instructions of RV32I and M, but for those on CSRs.
 #[derive(Clone, Copy, PartialEq, Eq, Debug)]
 pub enum ScalarInsn {
@@ -155,6 +168,19 @@ pub enum ScalarInsn {
     },
     Fence,
     Ecall,
+}
+
+/// The pattern of the scalar instructions that compute in registers alone: those of the RISC-V Unprivileged ISA, "Integer
+/// Computational Instructions" and "M" extension.
+#[macro_export]
+macro_rules! integer_computation {
+    () => {
+        $crate::ScalarInsn::Lui { .. }
+            | $crate::ScalarInsn::Auipc { .. }
+            | $crate::ScalarInsn::Immediate { .. }
+            | $crate::ScalarInsn::ShiftImmediate { .. }
+            | $crate::ScalarInsn::Register { .. }
+    };
 }
 
 /// When a branch is taken: beq, bne, blt, bge, bltu, bgeu.

@@ -67,17 +67,8 @@ pub fn decode_access(word: u32) -> Option<VMem>
     };
     match insn {
         Some(Insn::VMem(access)) => Some(access),
-        Some(
-            Insn::Scalar(_)
-            | Insn::Csr(_)
-            | Insn::VSet(_)
-            | Insn::VArith(_)
-            | Insn::VMask(_)
-            | Insn::VPerm(_)
-            | Insn::VReduce(_)
-            | Insn::VMove(_),
-        )
-        | None => None,
+        Some(Insn::Scalar(_) | Insn::Csr(_) | Insn::VSet(_) | crate::vector_arithmetic!()) | None =>
+            None,
     }
 }
 

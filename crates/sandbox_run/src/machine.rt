@@ -5,7 +5,7 @@ ghost use Rattle.region_mem.specs.Faults.{Steps};
 
 use crate::outcome::Registers;
 use region_mem::{Fault, Regions};
-use rv_decode::{Insn, decode, decode_access, decode_scalar};
+use rv_decode::{Insn, decode, decode_access, decode_scalar, vector_arithmetic};
 use scalar_core::{Scalar, step_scalar};
 use std::alloc::{Allocator, Global};
 use std::marker::Model;
@@ -115,13 +115,7 @@ impl<const VLENB: usize, A: Allocator> Machine<VLENB, A> {
                 let config = self.vectors.config();
                 step_scalar(&mut self.hart, insn, &mut self.memory, &config, VLENB)
             }
-            Insn::VSet(_)
-            | Insn::VArith(_)
-            | Insn::VMask(_)
-            | Insn::VPerm(_)
-            | Insn::VReduce(_)
-            | Insn::VMem(_)
-            | Insn::VMove(_) => {
+            Insn::VSet(_) | Insn::VMem(_) | vector_arithmetic!() => {
                 step_vector(
                     &mut self.vectors,
                     &mut self.hart,

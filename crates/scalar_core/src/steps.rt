@@ -11,7 +11,7 @@ use crate::hart::{EXIT, Scalar};
 use crate::jumps::{branch, jal, jalr};
 use crate::transfers::{load, store};
 use region_mem::{Fault, Regions};
-use rv_decode::{Insn, ScalarInsn};
+use rv_decode::{Insn, ScalarInsn, vector_arithmetic};
 use std::alloc::Allocator;
 use vreg_groups::Vconfig;
 
@@ -43,13 +43,7 @@ pub fn step_scalar<A: Allocator>(
             step_csr(scalar, insn, config, vlenb);
             Ok(())
         }
-        Insn::VSet(_)
-        | Insn::VArith(_)
-        | Insn::VMask(_)
-        | Insn::VPerm(_)
-        | Insn::VReduce(_)
-        | Insn::VMem(_)
-        | Insn::VMove(_) => Ok(()),
+        Insn::VSet(_) | Insn::VMem(_) | vector_arithmetic!() => Ok(()),
     };
     scalar.state_law();
     outcome

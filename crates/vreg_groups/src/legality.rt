@@ -21,7 +21,7 @@ use crate::vector_length::Vconfig;
 use crate::vector_type::{Vtype, emul_eighths, type_in};
 use rv_decode::{
     Addressing, Count, Direction, Eew, Extent, Insn, Operand, Operands, Reg, Sharing, Source,
-    VArith, VMem, needs,
+    VArith, VMem, needs, vector_arithmetic,
 };
 
 /// Tells whether an instruction is legal under `config`.
@@ -94,13 +94,7 @@ fn is_plain(vtype: Option<Vtype>, insn: &Insn) -> bool
         ) => is_plain_operation(&vtype, *vd, *vs2, b, *masked),
         Insn::VMem(access) => is_plain_access(&vtype, access),
         Insn::VSet(_) => true,
-        Insn::Scalar(_)
-        | Insn::Csr(_)
-        | Insn::VArith(_)
-        | Insn::VMask(_)
-        | Insn::VPerm(_)
-        | Insn::VReduce(_)
-        | Insn::VMove(_) => false,
+        Insn::Scalar(_) | Insn::Csr(_) | vector_arithmetic!() => false,
     }
 }
 

@@ -1,6 +1,6 @@
 //! Why images are refused: the kernel with a word or a number of its certificate changed.
 use crate::tests::assertions::{assert_same, assert_shows, found, given};
-use crate::tests::samples::{SUM, certificate, file_of, ordered, with_byte};
+use crate::tests::samples::{certificate, file_of, ordered, sum, with_byte};
 use cert_note::Vlen;
 use explanations::{CheckReason, check_reason};
 use std::alloc::Global;
@@ -38,7 +38,7 @@ fn assert_told_with(
 
 /// Asserts what is told where one word of the kernel is another.
 fn assert_told(rt: impl Abort + Copy, alloc: Global, place: usize, word: u32, parts: &[&str]) {
-    let mut words = SUM;
+    let mut words = sum(rt, alloc);
     match words.get_mut(place) {
         Some(old) => *old = word,
         None => panic!(rt; "there is no word {place}"),
@@ -67,13 +67,19 @@ fn assert_told_of_byte(
     parts: &[&str],
 ) {
     let certificate = with_byte(rt, certificate(rt, alloc), place, byte);
-    assert_told_with(rt, alloc, &certificate, &SUM, parts);
+    assert_told_with(rt, alloc, &certificate, &sum(rt, alloc), parts);
 }
 
 #[test]
 fn tells_nothing_of_what_passes(rt: HostRuntime) {
     let certificate = certificate(rt, rt.alloc());
-    let told = told(rt, rt.alloc(), &SUM, &certificate, Vlen::V128);
+    let told = told(
+        rt,
+        rt.alloc(),
+        &sum(rt, rt.alloc()),
+        &certificate,
+        Vlen::V128,
+    );
     assert_same!(rt; told.is_none(), true);
 }
 
@@ -266,7 +272,7 @@ fn tells_what_a_changed_byte_breaks(rt: HostRuntime) {
 #[test]
 fn tells_the_lengths(rt: HostRuntime) {
     let certificate = certificate(rt, rt.alloc());
-    let reason = found!(rt; told(rt, rt.alloc(), &SUM, &certificate, Vlen::V256));
+    let reason = found!(rt; told(rt, rt.alloc(), &sum(rt, rt.alloc()), &certificate, Vlen::V256));
     assert_shows(
         rt,
         rt.alloc(),
@@ -312,7 +318,13 @@ fn tells_an_order(rt: HostRuntime) {
 ";
     let expected = [AT_THE_FIRST_BRANCH, wanted, OVER_THE_LOOP, known];
     let certificate = ordered(rt, rt.alloc());
-    assert_told_with(rt, rt.alloc(), &certificate, &SUM, &expected);
+    assert_told_with(
+        rt,
+        rt.alloc(),
+        &certificate,
+        &sum(rt, rt.alloc()),
+        &expected,
+    );
 }
 
 /// The last block states that the 16 bytes of v8 are at most 127.
@@ -327,7 +339,7 @@ fn tells_a_vector_fact(rt: HostRuntime) {
   wanted on entering it: v8, registers 1, SEW 8: 16 elements in 0x00000000..=0x0000007f
 ";
     let expected = [AT_THE_FIRST_BRANCH, wanted, OVER_THE_LOOP, known];
-    assert_told_with(rt, rt.alloc(), &bytes, &SUM, &expected);
+    assert_told_with(rt, rt.alloc(), &bytes, &sum(rt, rt.alloc()), &expected);
 }
 
 /// The last word is not in the file.
@@ -338,7 +350,9 @@ fn tells_where_no_code_is(rt: HostRuntime) {
   wanted: a word in one segment that can be executed
 ";
     let certificate = certificate(rt, rt.alloc());
-    assert_told_with(rt, rt.alloc(), &certificate, &SUM[..6], &[expected]);
+    let mut words = sum(rt, rt.alloc());
+    words.pop();
+    assert_told_with(rt, rt.alloc(), &certificate, &words, &[expected]);
 }
 
 /// So many times addi x0,x0,0.

@@ -1,6 +1,6 @@
 //! Why files are refused: the kernel's file with some bytes changed.
 use crate::tests::assertions::{assert_same, assert_shows, given};
-use crate::tests::samples::{SUM, file_of, with_byte};
+use crate::tests::samples::{file_of, sum, with_byte};
 use elf_image::ElfError;
 use explanations::image_reason;
 use std::alloc::Global;
@@ -135,7 +135,12 @@ const CHANGED: [(usize, u8, ElfError, &str); 12] = [
 #[test]
 fn tells_what_a_changed_byte_breaks(rt: HostRuntime) {
     for (place, byte, error, expected) in CHANGED {
-        let file = with_byte(rt, file_of(rt, rt.alloc(), &SUM), place, byte);
+        let file = with_byte(
+            rt,
+            file_of(rt, rt.alloc(), &sum(rt, rt.alloc())),
+            place,
+            byte,
+        );
         assert_refused(rt, rt.alloc(), &file, error, expected);
     }
 }

@@ -13,6 +13,7 @@
 //! says what it is, and spells nothing.
 use crate::tests::assertions::{found, given};
 use hex::decode;
+use sample_kernels::HEADERS;
 use std::alloc::{AllocError, Global};
 use std::process::Abort;
 
@@ -105,11 +106,6 @@ fn put_at(rt: impl Abort + Copy, alloc: Global, bytes: &mut Vec<u8>, text: &str)
         place = place.saturating_add(1);
     }
 }
-
-/// The headers of a file of one segment, up to the segment's sizes.
-const HEADERS: &str = "\
-7f454c46010101000000000000000000 0200f30001000000000001003400000000000000000000003400200001000000 \
-00000000 01000000540000000000010000000100";
 
 /// The image of code.
 fn add_code(rt: impl Abort + Copy, alloc: Global, bytes: &mut Vec<u8>, text: &str) {

@@ -1,8 +1,9 @@
 //! How certificates are read, written and made.
 use crate::tests::assertions::{assert_same, found, given};
-use crate::tests::kernels::{Kernel, ORDER, RAISE, RAISE_IF, bytes_of, changed};
+use crate::tests::kernels::{bytes_of, changed};
 use cert_note::{CertError, Certificate, Contents, OrderFact, Version, Vlen, read, write};
 use region_mem::{Param, Parameters};
+use sample_kernels::{Kernel, ORDER, RAISE, RAISE_IF};
 use std::alloc::Global;
 use std::process::Abort;
 

@@ -1,10 +1,9 @@
 //! What is accepted and what is refused.
 use crate::tests::assertions::{assert_same, given, opaque};
-use crate::tests::kernels::{
-    Kernel, ORDER, RAISE, RAISE_IF, STORE, SUM, accepted, changed, image_of,
-};
+use crate::tests::kernels::{accepted, changed, image_of};
 use block_checker::{CheckError, check};
 use cert_note::Vlen;
+use sample_kernels::{Kernel, ORDER, RAISE, RAISE_IF, STORE, SUM};
 use std::alloc::Global;
 use std::process::Abort;
 

@@ -1,9 +1,10 @@
 //! Why images are refused: the sum of bytes with a word or a number of its certificate changed, and
 //! what is told of it.
 use crate::tests::assertions::{assert_same, found, given};
-use crate::tests::kernels::{SUM, changed, image_of};
+use crate::tests::kernels::{changed, image_of};
 use block_checker::{CheckError, Explanation, Part, Stop, explain};
 use cert_note::Vlen;
+use sample_kernels::SUM;
 use std::alloc::Global;
 use std::process::Abort;
 

@@ -4,12 +4,13 @@
 ghost use Rattle.std.specs.Prelude.{◌≡◌, ◌≤◌, length};
 
 use crate::tests::assertions::{assert_same, given};
-use crate::tests::kernels::{RAISE, accepted};
+use crate::tests::kernels::accepted;
 use crate::tests::sessions::args;
 use block_checker::Accepted;
 use cert_note::Vlen;
 use monitor::{Flow, MonError, Monitor};
 use rv_listing::{Failed, Over, Piece, Sink, put_all, put_listing};
+use sample_kernels::RAISE;
 use sandbox_run::Session;
 use std::alloc::Global;
 use std::process::Abort;

@@ -4,9 +4,10 @@
 ghost use Rattle.vreg_groups.specs.VectorLength.{IsVlenb};
 
 use crate::tests::assertions::{assert_same, found, given};
-use crate::tests::kernels::{ADD_BYTES, image_of};
+use crate::tests::kernels::image_of;
 use elf_image::Image;
 use region_mem::{Arg, Args, Bytes, Mode, Param, Parameters};
+use sample_kernels::ADD_BYTES;
 use sandbox_run::{Final, OpenError, Outcome, try_run};
 use std::alloc::Global;
 use std::process::Abort;

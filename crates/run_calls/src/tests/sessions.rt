@@ -4,11 +4,12 @@
 ghost use Rattle.vreg_groups.specs.VectorLength.{IsVlenb};
 
 use crate::tests::assertions::{assert_same, given, opaque};
-use crate::tests::kernels::{Kernel, RAISE, RAISE_IF, SUM, accepted};
+use crate::tests::kernels::accepted;
 use block_checker::Accepted;
 use cert_note::Vlen::{self, V128, V256, V512};
 use region_mem::{Arg, Args, Bytes};
 use rv_decode::Reg;
+use sample_kernels::{Kernel, RAISE, RAISE_IF, SUM};
 use sandbox_run::OpenError::{
     self, BoundTooLarge, ScalarOutOfInterval, WrongKind, WrongSize, WrongVlen,
 };

@@ -3,9 +3,10 @@
 ghost use Rattle.std.specs.Prelude.{◌<◌};
 
 use crate::tests::assertions::{assert_same, given};
-use crate::tests::kernels::{SUM, parts_of};
+use crate::tests::kernels::parts_of;
 use abs_state::Abstract;
 use cert_note::Vlen;
+use sample_kernels::SUM;
 use std::process::Abort;
 
 /// Asserts in which interval a register is.

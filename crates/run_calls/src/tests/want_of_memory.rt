@@ -2,12 +2,13 @@
 //! memory there, and what is wrong with the bytes is told all the same.
 use crate::refusing::Refusing;
 use crate::tests::assertions::{assert_same, found, given};
-use crate::tests::kernels::{SUM, bytes_of, file_of, put};
+use crate::tests::kernels::{bytes_of, file_of, put};
 use crate::tests::readme::RAISE;
 use cert_maker::{MakeError, make_in};
 use cert_note::{CertError, Certificate, Vlen};
 use elf_image::{ElfError, Image, attach};
 use region_mem::{Mode, Param, Parameters};
+use sample_kernels::SUM;
 use std::alloc::Global;
 use std::fmt::Debug;
 use std::process::Abort;

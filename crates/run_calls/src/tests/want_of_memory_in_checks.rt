@@ -5,13 +5,14 @@ ghost use Rattle.std.specs.Prelude.{◌<◌, length};
 
 use crate::refusing::Refusing;
 use crate::tests::assertions::{assert_same, found, given, opaque};
-use crate::tests::kernels::{Kernel, STORE, SUM, file_of, parts_of, put};
+use crate::tests::kernels::{file_of, parts_of, put};
 use crate::tests::want_of_memory::{Heap, MANY, served, until_served};
 use abs_state::{Abstract, MOST_WORDS, implies};
 use block_checker::{CheckError, check_in};
 use cert_note::{Certificate, Vlen};
 use elf_image::Image;
 use rv_decode::decode;
+use sample_kernels::{Kernel, STORE, SUM};
 use std::alloc::Global;
 use std::process::Abort;
 
