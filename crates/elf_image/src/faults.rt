@@ -22,21 +22,25 @@ use crate::layout::{
     MAX_MEMORY_SIZE, MAX_SEGMENTS,
 };
 
-/// What `e_ident` begins with ("ELF Identification", `ELFMAG`),
+/// What `e_ident` begins with ("ELF Identification", `ELFMAG`).
 const MAGIC: [u8; 4] = [0x7f, b'E', b'L', b'F'];
 
-/// and where its next bytes lie.
+/// Where the byte of a file's class lies, 32 bits or 64 ("ELF Identification").
 pub const EI_CLASS: usize = 4;
 
+/// Where the byte of the order of bytes lies.
 pub const EI_DATA: usize = 5;
 
+/// Where the byte of the standard's version lies.
 pub const EI_VERSION: usize = 6;
 
-/// What these are for 32 bits, the lowest byte first, and the version of the standard.
+/// The class of 32 bits.
 pub const ELFCLASS32: u8 = 1;
 
+/// The order with the lowest byte first.
 pub const ELFDATA2LSB: u8 = 1;
 
+/// The version of the standard.
 pub const EV_CURRENT: u8 = 1;
 
 /// The `e_type` of an executable file ("ELF Header").

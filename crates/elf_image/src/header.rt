@@ -14,59 +14,79 @@ use arrayvec::ArrayVec;
 use byteorder::{ByteOrder, LittleEndian};
 use std::marker::Model;
 
-/// Where the fields of the ELF header lie ("ELF Header", `Elf32_Ehdr`).
+/// Where the kind of file lies, of which this crate reads executables ("ELF Header", `Elf32_Ehdr`).
 pub const E_TYPE: usize = 16;
 
+/// Where the architecture lies.
 pub const E_MACHINE: usize = 18;
 
+/// Where the version of the standard lies once more.
 pub const E_VERSION: usize = 20;
 
+/// Where the address lies at which a run starts.
 pub const E_ENTRY: usize = 24;
 
+/// Where the place of the program headers lies.
 pub const E_PHOFF: usize = 28;
 
+/// Where the flags of the architecture lie.
 pub const E_FLAGS: usize = 36;
 
+/// Where the size of the ELF header lies.
 pub const E_EHSIZE: usize = 40;
 
+/// Where the size of a program header lies.
 pub const E_PHENTSIZE: usize = 42;
 
+/// Where the number of program headers lies.
 pub const E_PHNUM: usize = 44;
 
-/// The size of a program header, and where its fields lie ("Program Header", `Elf32_Phdr`).
+/// The size of a program header ("Program Header", `Elf32_Phdr`).
 pub const PROGRAM_HEADER_SIZE: u16 = 32;
 
+/// Where the kind of a segment lies, in a program header.
 pub const P_TYPE: usize = 0;
 
+/// Where the place of its bytes in the file lies.
 pub const P_OFFSET: usize = 4;
 
+/// Where its address in memory lies.
 pub const P_VADDR: usize = 8;
 
+/// Where its size in the file lies.
 pub const P_FILESZ: usize = 16;
 
+/// Where its size in memory lies.
 pub const P_MEMSZ: usize = 20;
 
+/// Where the rights to it lie.
 pub const P_FLAGS: usize = 24;
 
 /// How many program headers a file has at most.
 pub const MAX_PROGRAM_HEADERS: usize = 64;
 
-/// Types of program headers.
+/// The `p_type` of a segment that is loaded.
 pub const PT_LOAD: u32 = 1;
 
+/// Of what a dynamic linker reads.
 pub const PT_DYNAMIC: u32 = 2;
 
+/// Of the path of an interpreter.
 pub const PT_INTERP: u32 = 3;
 
+/// Of notes.
 pub const PT_NOTE: u32 = 4;
 
+/// Of storage of threads.
 pub const PT_TLS: u32 = 7;
 
-/// Flags of segments.
+/// The bit of `p_flags` that lets a segment be executed.
 pub const PF_X: u32 = 1;
 
+/// The one that lets it be written.
 pub const PF_W: u32 = 2;
 
+/// The one that lets it be read.
 pub const PF_R: u32 = 4;
 
 /// The number in the two bytes at an offset, the lower byte first ("Data Representation", `Elf32_Half`).
