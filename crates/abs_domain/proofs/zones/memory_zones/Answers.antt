@@ -10,3 +10,15 @@ returns g c = grind (arith, common_steps)
 
 pub loop-segment-preserved : goal.loop-segment-preserved
 loop-segment-preserved g c = grind (arith, common_steps)
+
+pub push-requires : goal.push-requires
+unfolding zones_of
+push-requires g c = grind (arith, common_steps)
+
+pub push-requires-2 : goal.push-requires-2
+unfolding zones_of
+push-requires-2 g c = grind (arith, common_steps)
+
+pub add_buffers-requires : goal.add_buffers-requires
+unfolding zones_of
+add_buffers-requires g c = grind (arith, common_steps)

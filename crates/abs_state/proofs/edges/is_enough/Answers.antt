@@ -1,8 +1,9 @@
 -- What is left is enough for the block that follows.
-use Rattle.std.proofs.Common.{rules}
+use Rattle.std.proofs.Common.{arith}
+use Rattle.std.proofs.lemmas.Grind.{common_steps}
 use Rattle.abs_state.specs.Edges.{pays}
 use Rattle.abs_state.proofs.edges.is_enough.Goals as goal
 
 pub returns : goal.returns
 unfolding pays
-returns g c = search rules depth 2
+returns g c = grind (arith, common_steps)

@@ -1,4 +1,5 @@
-use Rattle.std.proofs.Common.{rules}
+use Rattle.std.proofs.Common.{rules, arith}
+use Rattle.std.proofs.lemmas.Grind.{common_steps}
 use Rattle.block_checker.proofs.EntryLemmas.{has_entry}
 use Rattle.block_checker.proofs.accepted.entry_budget.Goals as goal
 
@@ -6,4 +7,4 @@ pub unreachable-requires : goal.unreachable-requires
 unreachable-requires g c = has_entry _ _ _ c.requires (search rules)
 
 pub returns : goal.returns
-returns g c = search rules
+returns g c = grind (arith, common_steps)

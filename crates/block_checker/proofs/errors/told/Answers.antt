@@ -1,6 +1,7 @@
 -- Each reason is told as its own error.
-use Rattle.std.proofs.Common.{rules}
+use Rattle.std.proofs.Common.{arith}
+use Rattle.std.proofs.lemmas.Grind.{common_steps}
 use Rattle.block_checker.proofs.errors.told.Goals as goal
 
 pub returns-in-OrderNotProved : goal.returns-in-OrderNotProved
-returns-in-OrderNotProved c = search rules
+returns-in-OrderNotProved c = grind (arith, common_steps)

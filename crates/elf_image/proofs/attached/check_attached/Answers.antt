@@ -1,4 +1,5 @@
-use Rattle.std.proofs.Common.{rules}
+use Rattle.std.proofs.Common.{arith}
+use Rattle.std.proofs.lemmas.Grind.{common_steps}
 use Rattle.elf_image.specs.Attached.{attach_fault}
 use Rattle.elf_image.proofs.HasImage.{notes_in_place}
 use Rattle.elf_image.proofs.attached.check_attached.Goals as goal
@@ -9,4 +10,4 @@ certificate-requires-clause-inside c =
 
 pub returns-in_err-refuse_if-clause-value : goal.returns-in_err-refuse_if-clause-value
 unfolding attach_fault
-returns-in_err-refuse_if-clause-value c = search rules
+returns-in_err-refuse_if-clause-value c = grind (arith, common_steps)

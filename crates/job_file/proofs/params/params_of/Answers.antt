@@ -1,9 +1,10 @@
-use Rattle.std.proofs.Common.{rules, sym, ◌≡◌, false, get_or, map, is_some, Err, Ok}
+use Rattle.std.proofs.Common.{rules, sym, ◌≡◌, false, get_or, map, is_some, Err, Ok, arith}
 use Rattle.toml.specs.Data.{get_item}
 use Rattle.toml.specs.View.{array_view}
 use Rattle.job_file.specs.Job.{all_kept, breach_lent, param_at, param_lent, params_of, places}
 use Rattle.job_file.specs.declared.values.JobParam.TheVariants as param
 use Rattle.job_file.proofs.JobLemmas.{eight_stopped, eight_there}
+use Rattle.std.proofs.lemmas.Grind.{common_steps}
 use Rattle.job_file.proofs.params.params_of.Goals as goal
 
 pub returns-in_err-params : goal.returns-in_err-params
@@ -23,3 +24,7 @@ returns c =
     let there : all_kept (map (param_at (array_view c.args.items.now)) places) ≡ Ok (map param_lent c.loop-place.params) =
     eight_there param_lent (param_at (array_view c.args.items.now)) param.None c.loop-place.params c.loop-place.invariant.eight (λ k below. c.loop-place.invariant.filled k (search rules)) in
     rw no_ninth (sym there)
+
+pub loop-place-preserved : goal.loop-place-preserved
+unfolding params_of
+loop-place-preserved c = grind (arith, common_steps)

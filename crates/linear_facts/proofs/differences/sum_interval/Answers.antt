@@ -1,5 +1,6 @@
 -- Its terms are small enough for both intervals.
-use Rattle.std.proofs.Common.{arith, rules, ◌^◌, List, subst, sym}
+use Rattle.std.proofs.Common.{arith, ◌^◌, List, subst, sym}
+use Rattle.std.proofs.lemmas.Grind.{common_steps}
 use Rattle.linear_facts.specs.Words.{WholeTerm}
 use Rattle.linear_facts.specs.Sums.{AllAtMost}
 use Rattle.linear_facts.specs.Differences.{WholeSum, sum_interval}
@@ -13,4 +14,4 @@ interval_by_ends-own-requires-clause-small c =
 
 pub returns : goal.returns
 unfolding sum_interval
-returns c = search rules
+returns c = grind (arith, common_steps)

@@ -2,6 +2,7 @@ use Rattle.std.proofs.Common.{rules, ◌≡◌, ◌-◌, suc, false, IsNone, IsS
 use Rattle.sandbox_run.proofs.SessionLemmas.{not_ended}
 use Rattle.vector_core.specs.Run.{has_ended}
 use Rattle.monitor.proofs.MoveLemmas.{goes_nowhere, goes_past, does_one, does_more, no_stop_more}
+use Rattle.std.proofs.lemmas.Grind.{common_steps}
 use Rattle.monitor.proofs.moves.go_on.Goals as goal
 
 pub returns-then-is_none : goal.returns-then-is_none
@@ -32,3 +33,9 @@ stepping-preserved g c =
           (c.step-in-stepping.ensures.moves some) counts c.step-in-stepping.ensures.bound c.step-in-stepping.ensures.first c.step-in-stepping.ensures.parameters);
       first = rw more (no_stop_more g.row.VLENB c.args.breakpoints.now c.args.session.now c.stepping.session _ c.stepping.invariant.first c.stepping.invariant.does past);
     }
+
+pub stepping-smaller : goal.stepping-smaller
+stepping-smaller g c = grind (arith, common_steps)
+
+pub returns-else-is_some : goal.returns-else-is_some
+returns-else-is_some g c = grind (arith, common_steps)

@@ -3,6 +3,7 @@ use Rattle.vector_core.specs.Run.{outcome, outcome_from}
 use Rattle.sandbox_run.specs.declared.outcome.Outcome.TheVariants.{Ended, Trapped, OutOfSteps}
 use Rattle.sandbox_run.specs.Answer.{answer_of, final_of}
 use Rattle.vector_core.proofs.RunLemmas.{outcome_from-next, outcome_from-trap, outcome_from-ended, outcome_from-out}
+use Rattle.std.proofs.lemmas.Grind.{common_steps}
 use Rattle.sandbox_run.proofs.run.run.Goals as goal
 
 pub returns-then-has_ended : goal.returns-then-has_ended
@@ -29,3 +30,11 @@ unfolding outcome
 stepping-init g c =
     let whole : c.args.max - 0 ≡ c.args.max = omega arith in
     (omega arith, ap (λ n. outcome_from g.row.VLENB n 0 c.args.machine) whole)
+
+pub finish-requires : goal.finish-requires
+unfolding outcome
+finish-requires g c = grind (arith, common_steps)
+
+pub finish-requires-in-Err : goal.finish-requires-in-Err
+unfolding outcome
+finish-requires-in-Err g c = grind (arith, common_steps)

@@ -1,5 +1,6 @@
-use Rattle.std.proofs.Common.{sym}
+use Rattle.std.proofs.Common.{sym, arith}
 use Rattle.sandbox_run.proofs.Refusals.{refused_by-err}
+use Rattle.std.proofs.lemmas.Grind.{common_steps}
 use Rattle.sandbox_run.proofs.run.try_run_in.Goals as goal
 
 pub returns-in-Err-clause-refused : goal.returns-in-Err-clause-refused
@@ -13,3 +14,9 @@ returns-in-Ok-clause-refused g c = rw c.in_default.ensures.matching tt
 
 pub returns-in-Err-start-clause-refused : goal.returns-in-Err-start-clause-refused
 returns-in-Err-start-clause-refused g c = rw c.in_default.ensures.matching tt
+
+pub start-requires : goal.start-requires
+start-requires g c = grind (arith, common_steps)
+
+pub run-requires : goal.run-requires
+run-requires g c = grind (arith, common_steps)

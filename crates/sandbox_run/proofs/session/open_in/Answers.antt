@@ -9,6 +9,8 @@ use Rattle.sandbox_run.proofs.OpenFaults.{arguments_fault, bound_fault, length_f
 use Rattle.sandbox_run.proofs.Refusals.{refused_by-err}
 use Rattle.sandbox_run.proofs.SessionLemmas.{opened-well}
 use Rattle.sandbox_run.proofs.StopLemmas.{hands_back, passed_back, stop_at_start}
+use Rattle.std.proofs.lemmas.Grind.{common_steps}
+use Rattle.sandbox_run.specs.Session.{open_fault}
 use Rattle.sandbox_run.proofs.session.open_in.Goals as goal
 
 pub returns-in-Err-clause-refused : goal.returns-in-Err-clause-refused
@@ -92,3 +94,7 @@ returns-in-Err-start-clause-refused g c =
     let within : bound_of c.args.accepted.now (scalars_of c.args.args.places) ≤ c.args.max = omega (arith, bound-is, c.from-2.ensures, c.if-bound-from.false) in
     let length-is : vlenb_of c.args.accepted.now.vlen ≡ g.row.VLENB = sym (ap vlenb_of c.vlen.ensures) ∙ (sym c.bytes.ensures.meaning ∙ c.if-bytes.false) in
     rw (no_open_fault g.row.VLENB c.args.accepted.now c.args.args.places c.args.max matching within length-is) tt
+
+pub returns-then-bound-from-clause-memory : goal.returns-then-bound-from-clause-memory
+unfolding open_fault
+returns-then-bound-from-clause-memory g c = grind (arith, common_steps)

@@ -1,6 +1,10 @@
-use Rattle.std.proofs.Common.{rules}
+use Rattle.std.proofs.Common.{rules, arith}
 use Rattle.sandbox_run.proofs.SessionLemmas.{scalars-each}
+use Rattle.std.proofs.lemmas.Grind.{common_steps}
 use Rattle.sandbox_run.proofs.session.scalars.Goals as goal
 
 pub returns-clause-made : goal.returns-clause-made
 returns-clause-made g c = scalars-each c.loop-place.made c.args.places.now (search rules) (λ k below. c.loop-place.invariant.filled k (search rules))
+
+pub loop-place-preserved : goal.loop-place-preserved
+loop-place-preserved g c = grind (arith, common_steps)

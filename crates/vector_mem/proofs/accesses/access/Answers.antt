@@ -1,5 +1,6 @@
 -- The indices of a legal access are inside the registers, as many as there are elements.
-use Rattle.std.proofs.Common.{lit<, ◌≡◌, ◌∙◌, ap, arith, length, sym, rules}
+use Rattle.std.proofs.Common.{lit<, ◌≡◌, ◌∙◌, ap, arith, length, sym}
+use Rattle.std.proofs.lemmas.Grind.{common_steps}
 use Rattle.std.proofs.lemmas.List.{length-take-le}
 use Rattle.rv_decode.specs.declared.instructions.Addressing.{Addressing}
 use Rattle.vreg_groups.specs.Group.{Span}
@@ -37,4 +38,4 @@ indexed_plan-requires-clause-len g c =
 
 pub returns-in-Strided : goal.returns-in-Strided
 unfolding accesses_of place_at data_at
-returns-in-Strided g c = search rules
+returns-in-Strided g c = grind (arith, common_steps)

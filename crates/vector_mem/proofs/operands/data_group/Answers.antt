@@ -1,5 +1,6 @@
 -- The data of a legal load or store is inside the registers.
-use Rattle.std.proofs.Common.{lit<, ◌≡◌, rules}
+use Rattle.std.proofs.Common.{lit<, ◌≡◌, arith}
+use Rattle.std.proofs.lemmas.Grind.{common_steps}
 use Rattle.vector_mem.specs.Transfers.{data_at}
 use Rattle.vector_mem.specs.Words.{Unit, Strided, Indexed, Whole}
 use Rattle.vector_mem.proofs.Inside.{unit_inside, strided_inside, indexed_inside, whole_inside}
@@ -27,4 +28,4 @@ whole-requires g c =
 
 pub returns-in-Mask-clause-meaning : goal.returns-in-Mask-clause-meaning
 unfolding data_at
-returns-in-Mask-clause-meaning g c = search rules
+returns-in-Mask-clause-meaning g c = grind (arith, common_steps)

@@ -1,4 +1,5 @@
-use Rattle.std.proofs.Common.{ap, length, sym, rules}
+use Rattle.std.proofs.Common.{ap, length, sym, arith}
+use Rattle.std.proofs.lemmas.Grind.{common_steps}
 use Rattle.region_mem.specs.declared.faults.Right.TheVariants.{Write}
 use Rattle.vector_mem.specs.Transfers.{right_of}
 use Rattle.vector_mem.proofs.Plans.{plan_within}
@@ -11,4 +12,4 @@ store_elements-requires g c =
     (sym c.requires.length)
 
 pub returns-else-is_none-clause-kept : goal.returns-else-is_none-clause-kept
-returns-else-is_none-clause-kept g c = search rules
+returns-else-is_none-clause-kept g c = grind (arith, common_steps)

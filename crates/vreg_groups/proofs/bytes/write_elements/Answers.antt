@@ -1,5 +1,6 @@
 use Rattle.std.proofs.Common.{arith, ap, ◌+◌, ◌-◌, ◌*◌}
 use Rattle.vreg_groups.proofs.Parts.{write_is}
+use Rattle.std.proofs.lemmas.Bool.Decides.{nat_tests}
 use Rattle.vreg_groups.proofs.bytes.write_elements.Goals as goal
 
 pub returns : goal.returns
@@ -13,3 +14,6 @@ returns g c =
     (ap (λ w. c.args.at + w * c.min-body.result) c.SIZE-3.ensures)
     (ap (λ w. w * (c.args.count - c.min-body.result)) c.SIZE-4.ensures)
     c.fill_if-2.ensures
+
+pub fill_if-requires-2 : goal.fill_if-requires-2
+fill_if-requires-2 g c = grind (arith, nat_tests)

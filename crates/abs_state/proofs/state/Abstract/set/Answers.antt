@@ -1,8 +1,9 @@
 -- What the block states is known, and nothing else.
-use Rattle.std.proofs.Common.{rules}
+use Rattle.std.proofs.Common.{arith}
+use Rattle.std.proofs.lemmas.Grind.{common_steps}
 use Rattle.abs_state.specs.Blocks.{at_block_of}
 use Rattle.abs_state.proofs.state.Abstract.set.Goals as goal
 
 pub returns-clause-state : goal.returns-clause-state
 unfolding at_block_of
-returns-clause-state g c = search rules depth 2
+returns-clause-state g c = grind (arith, common_steps)

@@ -1,6 +1,7 @@
 -- Each error has its own words.
-use Rattle.std.proofs.Common.{rules}
+use Rattle.std.proofs.Common.{arith}
+use Rattle.std.proofs.lemmas.Grind.{common_steps}
 use Rattle.block_checker.proofs.errors.CheckError.words.Goals as goal
 
 pub returns-in-OrderNotProved : goal.returns-in-OrderNotProved
-returns-in-OrderNotProved c = search rules
+returns-in-OrderNotProved c = grind (arith, common_steps)

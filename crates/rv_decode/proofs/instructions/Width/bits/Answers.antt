@@ -1,5 +1,6 @@
-use Rattle.std.proofs.Common.{rules}
+use Rattle.std.proofs.Common.{arith}
+use Rattle.std.proofs.lemmas.Grind.{common_steps}
 use Rattle.rv_decode.proofs.instructions.Width.bits.Goals as goal
 
 pub returns-in-W32-clause-value : goal.returns-in-W32-clause-value
-returns-in-W32-clause-value c = search rules
+returns-in-W32-clause-value c = grind (arith, common_steps)

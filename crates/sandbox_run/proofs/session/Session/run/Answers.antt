@@ -3,6 +3,7 @@ use Rattle.sandbox_run.specs.Session.{SessionView}
 use Rattle.sandbox_run.proofs.SessionLemmas.{after_none, after_more, not_ended}
 use Rattle.vector_core.specs.Run.{has_ended}
 use Rattle.vector_core.proofs.RunLemmas.{outcome_from-next, outcome_from-ended}
+use Rattle.std.proofs.lemmas.Grind.{common_steps}
 use Rattle.sandbox_run.proofs.session.Session.run.Goals as goal
 
 pub stepping-init : goal.stepping-init
@@ -45,3 +46,18 @@ returns-clause-opened g c = c.step.ensures.first ∙ c.stepping.invariant.opened
 
 pub returns-clause-parameters : goal.returns-clause-parameters
 returns-clause-parameters g c = c.step.ensures.parameters ∙ c.stepping.invariant.parameters
+
+pub stepping-smaller : goal.stepping-smaller
+stepping-smaller g c = grind (arith, common_steps)
+
+pub returns-clause-ended : goal.returns-clause-ended
+returns-clause-ended g c = grind (arith, common_steps)
+
+pub returns-clause-steps : goal.returns-clause-steps
+returns-clause-steps g c = grind (arith, common_steps)
+
+pub returns-clause-grows : goal.returns-clause-grows
+returns-clause-grows g c = grind (arith, common_steps)
+
+pub returns-clause-after : goal.returns-clause-after
+returns-clause-after g c = grind (arith, common_steps)

@@ -1,6 +1,7 @@
 use Rattle.std.proofs.Common.{◌+◌, ◌-◌, ◌≤◌, sym, arith}
 use Rattle.sandbox_run.proofs.SessionLemmas.{no_fault, step-well}
 use Rattle.sandbox_run.proofs.StopLemmas.{stop_after_step}
+use Rattle.std.proofs.lemmas.Grind.{common_steps}
 use Rattle.sandbox_run.proofs.session.Session.step.Goals as goal
 
 pub overflow_add-self : goal.overflow_add-self
@@ -23,3 +24,15 @@ unreachable-requires g c =
 pub returns-clause-within : goal.returns-clause-within
 returns-clause-within g c =
     let more = step-well g.row.VLENB c.self.inside.steps c.self.inside.bound c.self.inside.machine c.step.new.self c.self.invariant.1 (sym c.if-has_ended.ensures) c.in-Ok.ensures in more.0
+
+pub returns-then-has_ended-clause-counts : goal.returns-then-has_ended-clause-counts
+returns-then-has_ended-clause-counts g c = grind (arith, common_steps)
+
+pub returns-then-has_ended-clause-within : goal.returns-then-has_ended-clause-within
+returns-then-has_ended-clause-within g c = grind (arith, common_steps)
+
+pub returns-clause-counts : goal.returns-clause-counts
+returns-clause-counts g c = grind (arith, common_steps)
+
+pub returns-clause-bound : goal.returns-clause-bound
+returns-clause-bound g c = grind (arith, common_steps)

@@ -1,5 +1,6 @@
-use Rattle.std.proofs.Common.{rules}
+use Rattle.std.proofs.Common.{arith}
+use Rattle.std.proofs.lemmas.Grind.{common_steps}
 use Rattle.vector_core.proofs.state.VectorState.into_registers.Goals as goal
 
 pub returns : goal.returns
-returns g c = search rules
+returns g c = grind (arith, common_steps)

@@ -1,0 +1,7 @@
+-- What `search` finds late, or not at all.
+use Rattle.std.proofs.Common.{arith}
+use Rattle.std.proofs.lemmas.Grind.{common_steps}
+use Rattle.sandbox_run.proofs.session.Session.pc.Goals as goal
+
+pub returns : goal.returns
+returns g c = grind (arith, common_steps)
