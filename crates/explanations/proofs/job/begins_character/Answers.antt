@@ -1,5 +1,6 @@
-use Rattle.std.proofs.Common.{rules}
+use Rattle.std.proofs.Common.{arith}
+use Rattle.std.proofs.lemmas.Grind.{common_steps}
 use Rattle.explanations.proofs.job.begins_character.Goals as goal
 
 pub returns-else-byte-lt128 : goal.returns-else-byte-lt128
-returns-else-byte-lt128 c = search rules
+returns-else-byte-lt128 c = grind (arith, common_steps)

@@ -1,6 +1,7 @@
 -- At most 256 bytes.
-use Rattle.std.proofs.Common.{rules}
+use Rattle.std.proofs.Common.{arith}
+use Rattle.std.proofs.lemmas.Grind.{common_steps}
 use Rattle.monitor.proofs.numbers.count.Goals as goal
 
 pub returns-in-Some : goal.returns-in-Some
-returns-in-Some c = search rules
+returns-in-Some c = grind (arith, common_steps)

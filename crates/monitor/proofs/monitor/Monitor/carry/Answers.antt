@@ -1,6 +1,7 @@
 -- So many steps are done at most.
-use Rattle.std.proofs.Common.{rules}
+use Rattle.std.proofs.Common.{arith}
+use Rattle.std.proofs.lemmas.Grind.{common_steps}
 use Rattle.monitor.proofs.monitor.Monitor.carry.Goals as goal
 
 pub returns-in-Step-clause-done : goal.returns-in-Step-clause-done
-returns-in-Step-clause-done g c = search rules
+returns-in-Step-clause-done g c = grind (arith, common_steps)

@@ -1,0 +1,7 @@
+-- What `search` finds late, or not at all.
+use Rattle.std.proofs.Common.{arith}
+use Rattle.std.proofs.lemmas.Grind.{common_steps}
+use Rattle.explanations.proofs.certificate.place_of.Goals as goal
+
+pub returns-then-tells-clause-found : goal.returns-then-tells-clause-found
+returns-then-tells-clause-found g c = grind (arith, common_steps)

@@ -1,0 +1,10 @@
+-- What `search` finds late, or not at all.
+use Rattle.std.proofs.Common.{arith}
+use Rattle.std.proofs.lemmas.Grind.{common_steps}
+use Rattle.explanations.specs.Unshown.{unshown_text}
+use Rattle.explanations.proofs.unshown.UnshownDisplay.fmt.Goals as goal
+
+pub returns-in_ok-writeln-in-Vector-clause-writes :
+    goal.returns-in_ok-writeln-in-Vector-clause-writes
+unfolding unshown_text
+returns-in_ok-writeln-in-Vector-clause-writes g c = grind (arith, common_steps)
