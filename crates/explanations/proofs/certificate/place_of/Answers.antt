@@ -1,4 +1,3 @@
--- What `search` finds late, or not at all.
 use Rattle.std.proofs.Common.{arith}
 use Rattle.std.proofs.lemmas.Grind.{common_steps}
 use Rattle.explanations.proofs.certificate.place_of.Goals as goal

@@ -1,4 +1,5 @@
-use Rattle.std.proofs.Common.{rules, ◌∙◌, ◌≤◌, ap, sym, subst, ℕ, List}
+use Rattle.std.proofs.Common.{◌∙◌, ◌≤◌, ap, sym, subst, ℕ, List, arith}
+use Rattle.std.proofs.lemmas.Grind.{common_steps}
 use Rattle.region_mem.specs.Parameter.{Argument}
 use Rattle.rvvbox_c.specs.Runs.{all_put, arguments_of}
 use Rattle.rvvbox_c.proofs.RunLemmas.{is_run}
@@ -17,7 +18,7 @@ returns-in-Ok-clause-ran g c = record {
 
 -- Where no session opens memory is as it was, and its reason is the status.
 pub returns-in-Err-clause-refused : goal.returns-in-Err-clause-refused
-returns-in-Err-clause-refused g c = search rules
+returns-in-Err-clause-refused g c = grind (arith, common_steps)
 
 pub returns-in-Err-clause-fault : goal.returns-in-Err-clause-fault
-returns-in-Err-clause-fault g c = search rules
+returns-in-Err-clause-fault g c = grind (arith, common_steps)
