@@ -20,3 +20,6 @@ start-requires g c = grind (arith, common_steps)
 
 pub run-requires : goal.run-requires
 run-requires g c = grind (arith, common_steps)
+
+pub returns-in-Err-start-clause-back : goal.returns-in-Err-start-clause-back
+returns-in-Err-start-clause-back g c = grind (arith, common_steps)

@@ -1,10 +1,11 @@
-use Rattle.std.proofs.Common.{◌≡◌, ◌∙◌, ap, subst}
+use Rattle.std.proofs.Common.{◌≡◌, ◌∙◌, ap, arith, subst}
 use Rattle.region_mem.specs.Memory.{args_of}
 use Rattle.vector_core.specs.Machine.{Machine}
 use Rattle.sandbox_run.specs.Session.{HandsBack, SessionView}
 use Rattle.sandbox_run.specs.Stops.{IsStop}
 use Rattle.sandbox_run.proofs.Back.{matches_again, scalars_again}
 use Rattle.sandbox_run.proofs.StopLemmas.{comes_back_here}
+use Rattle.std.proofs.lemmas.Grind.{common_steps}
 use Rattle.sandbox_run.proofs.session.Session.close.Goals as goal
 
 -- the state comes of the run, and what comes out is in its memory
@@ -26,3 +27,6 @@ returns-clause-matching g c =
     let s = c.args.self in
     let hands : HandsBack s.parameters s.first.memory = subst (λ (v : SessionView). HandsBack v.parameters v.first.memory) c.self.view_is c.self.invariant.3 in
     matches_again s.parameters _ _ (returns-clause-back g c) hands.0
+
+pub returns-clause-places : goal.returns-clause-places
+returns-clause-places g c = grind (arith, common_steps)
