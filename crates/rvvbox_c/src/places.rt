@@ -12,6 +12,7 @@ ghost use Rattle.rvvbox_c.specs.Tries.{is_tried, param_of, params_of};
 use crate::status::Status;
 use region_mem::{Arg, Args, Bytes, MAX_BUFFER_SIZE, Mode, Param, Parameters};
 use std::alloc::{AllocError, Global};
+use std::array;
 
 /// What stands at one of the eight places: nothing (kind 0), the number `value` (kind 1), or the
 /// `size` bytes from `from` on of the host's memory, which are put back after the run (kind 2) or
@@ -84,19 +85,11 @@ pub(crate) fn arguments(
     requires { places_fault memory.now places.now ≡ None }
     ensures named { IfOk result (λ args. args.places ≡ arguments_of places.now memory.now) }
 {
-    let [a, b, c, d, e, f, g, h] = *places;
-    Ok(Args {
-        places: [
-            argument(alloc, memory, a)?,
-            argument(alloc, memory, b)?,
-            argument(alloc, memory, c)?,
-            argument(alloc, memory, d)?,
-            argument(alloc, memory, e)?,
-            argument(alloc, memory, f)?,
-            argument(alloc, memory, g)?,
-            argument(alloc, memory, h)?,
-        ],
-    })
+    let mut made: [Arg; 8] = array::from_fn(|_| Arg::None);
+    for number in 0..8 {
+        made[number] = argument(alloc, memory, places[number])?;
+    }
+    Ok(Args { places: made })
 }
 
 /// Puts a buffer back where it came from.
