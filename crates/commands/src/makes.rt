@@ -89,9 +89,9 @@ fn make_table<'a, S: Store, O: Write>(
     why.forget();
     let file = read(alloc, paths.image, store, why)?;
     let bytes = made(alloc, &job, file.as_slice(), why)?;
-    let accepted = read_back(alloc, &job, bytes.as_slice(), why)?;
+    let budget = read_back(alloc, &job, bytes.as_slice(), why)?.budget();
     write(paths.out, bytes.as_slice(), store, why)?;
-    match print_bound(accepted.budget(), output) {
+    match print_bound(budget, output) {
         Ok(()) => Ok(Status::Done),
         Err(_) => Err(Stop::Output),
     }

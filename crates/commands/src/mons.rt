@@ -9,7 +9,7 @@ ghost use Rattle.commands.specs.Written.{Gains, Written};
 
 use crate::files::write_outs;
 use crate::lines::{Talk, answer_lines};
-use crate::starts::{Ready, on_table, started};
+use crate::starts::{Ready, Start, on_table, started};
 use crate::stop::{Ending, Status, Stop};
 use crate::store::{MOST_READS, Store};
 use crate::why::{Why, note_open};
@@ -92,10 +92,9 @@ fn mon_table<'a, S: Store, I: Read, O: Write>(
         (Mons S.files (table_view table.entry.now) first (S.written store.new))
         (StopsMon S.files (Gains first (S.written store.new)) (table_view table.entry.now)) }
 {
-    let start = started(alloc, table, store, why)?;
-    let args = start.args;
-    let kept = mon_accepted(alloc, &start.ready, args, talk, why)?;
-    write_outs(&start.ready.job.params, &kept.places, store, why)?;
+    let Start { ready, args } = started(alloc, table, store, why)?;
+    let kept = mon_accepted(alloc, &ready, args, talk, why)?;
+    write_outs(&ready.job.params, &kept.places, store, why)?;
     Ok(Status::Done)
 }
 

@@ -10,7 +10,7 @@ ghost use Rattle.commands.specs.Trial.{OrMemory};
 ghost use Rattle.commands.specs.Written.{Gains, Written};
 ghost use Rattle.commands.specs.declared.trial.End.TheVariants.{Ended};
 
-use crate::starts::{Ready, on_table, started};
+use crate::starts::{Ready, Start, on_table, started};
 use crate::stop::{Ending, Status, Stop};
 use crate::store::Store;
 use crate::trial::{Trial, finish};
@@ -64,10 +64,9 @@ fn run_table<'a, S: Store, O: Write>(
         (O.contents output.old) (O.contents output.new) first (S.written store.new))
         (StopsRun S.files (Gains first (S.written store.new)) (table_view table.entry.now)) }
 {
-    let start = started(alloc, table, store, why)?;
-    let args = start.args;
-    let trial = run_accepted(alloc, &start.ready, args, why)?;
-    finish(&start.ready.job.params, &trial, store, output, why)
+    let Start { ready, args } = started(alloc, table, store, why)?;
+    let trial = run_accepted(alloc, &ready, args, why)?;
+    finish(&ready.job.params, &trial, store, output, why)
 }
 
 /// Runs a job on an accepted image and arguments, at the job's length of vector registers and setting.

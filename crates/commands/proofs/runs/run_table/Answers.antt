@@ -6,30 +6,29 @@ use Rattle.commands.proofs.CommandLemmas.{finished, handed_on, stops_started, un
 use Rattle.commands.proofs.WrittenLemmas.{gains_more}
 use Rattle.commands.proofs.runs.run_table.Goals as goal
 
-pub returns-in_err-start : goal.returns-in_err-start
-returns-in_err-start g c first none =
-    handed_on _ _ _ _ c.from_residual.ensures.1 (unstarted g.S.Store.files (Gains first (g.S.Store.written c.started.new.store)) (StopsRan g.S.Store.files) _ _ c.in_err-start.ensures.start (gains_more _ _ _ [] [] none c.in_err-start.ensures.files))
+pub returns-in_err-ready : goal.returns-in_err-ready
+returns-in_err-ready g c first none =
+    handed_on _ _ _ _ c.from_residual.ensures.1 (unstarted g.S.Store.files (Gains first (g.S.Store.written c.started.new.store)) (StopsRan g.S.Store.files) _ _ c.in_err-ready.ensures.start (gains_more _ _ _ [] [] none c.in_err-ready.ensures.files))
 
 pub returns-in_err-trial : goal.returns-in_err-trial
 returns-in_err-trial g c first none =
-    handed_on _ _ _ _ c.from_residual-in_err-trial.ensures.1 (stops_started g.S.Store.files (Gains first (g.S.Store.written c.started.new.store)) (StopsRan g.S.Store.files) _ _ _ _ _ c.in_ok-start.ensures.start (inl (c.in_err-trial.ensures.answer, gains_more _ _ _ [] [] none c.in_ok-start.ensures.files)))
+    handed_on _ _ _ _ c.from_residual-in_err-trial.ensures.1 (stops_started g.S.Store.files (Gains first (g.S.Store.written c.started.new.store)) (StopsRan g.S.Store.files) _ _ _ _ _ c.in_ok-ready.ensures.start (inl (c.in_err-trial.ensures.answer, gains_more _ _ _ [] [] none c.in_ok-ready.ensures.files)))
 
 pub returns : goal.returns
 returns g c first none =
-    let s = c.in_ok-start.start in
-    let job = run_job_lent s.ready.job in
+    let job = run_job_lent c.in_ok-ready.field-0.ready.job in
     let wrote = Gains first (g.S.Store.written c.finish.new.store) in
-    finished g.S.Store.files _ _ first _ _ _ job.params (run_of_job job s.ready.accepted s.args.places) c.in_ok-trial.trial c.finish.result _ _ refl c.in_ok-trial.ensures.answer
-    (gains_more _ _ _ [] [] none c.in_ok-start.ensures.files) c.finish.ensures.done c.finish.ensures.told c.finish.ensures.wrote c.finish.ensures.unfinished
+    finished g.S.Store.files _ _ first _ _ _ job.params (run_of_job job c.in_ok-ready.field-0.ready.accepted c.in_ok-ready.field-0.args.places) c.in_ok-trial.trial c.finish.result _ _ refl c.in_ok-trial.ensures.answer
+    (gains_more _ _ _ [] [] none c.in_ok-ready.ensures.files) c.finish.ensures.done c.finish.ensures.told c.finish.ensures.wrote c.finish.ensures.unfinished
     (λ status comes outs told done. record {
       job = job;
-      accepted = s.ready.accepted;
-      args = s.args.places;
-      started = c.in_ok-start.ensures.start;
+      accepted = c.in_ok-ready.field-0.ready.accepted;
+      args = c.in_ok-ready.field-0.args.places;
+      started = c.in_ok-ready.ensures.start;
       trial = c.in_ok-trial.trial;
       comes = comes;
       wrote = outs;
       told = told;
       done = done;
     })
-    (λ reason. stops_started g.S.Store.files wrote (StopsRan g.S.Store.files) _ _ _ _ _ c.in_ok-start.ensures.start)
+    (λ reason. stops_started g.S.Store.files wrote (StopsRan g.S.Store.files) _ _ _ _ _ c.in_ok-ready.ensures.start)
