@@ -7,3 +7,7 @@ pub returns-in_ok-writeln-in-Vector-clause-writes :
     goal.returns-in_ok-writeln-in-Vector-clause-writes
 unfolding unshown_text
 returns-in_ok-writeln-in-Vector-clause-writes g c = grind (arith, common_steps)
+
+pub returns-in-Order-clause-writes : goal.returns-in-Order-clause-writes
+unfolding unshown_text
+returns-in-Order-clause-writes g c = grind (arith, common_steps)
