@@ -1,5 +1,5 @@
 use Rattle.std.proofs.Common.{arith}
-use Rattle.region_mem.proofs.SearchLemmas.{search_none, search_nowhere}
+use Rattle.region_mem.proofs.SearchLemmas.{search_none, search_nowhere, search_found}
 use Rattle.region_mem.proofs.areas.place_of.Goals as goal
 
 pub returns-then-count-eq0 : goal.returns-then-count-eq0
@@ -8,3 +8,6 @@ returns-then-count-eq0 g c =
 
 pub returns-else-holds : goal.returns-else-holds
 returns-else-holds g c = grind (arith, search_none)
+
+pub returns-then-holds : goal.returns-then-holds
+returns-then-holds g c = grind (arith, search_found, search_none)

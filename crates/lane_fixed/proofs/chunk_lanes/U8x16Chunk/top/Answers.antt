@@ -1,0 +1,5 @@
+use Rattle.std.proofs.Common.{arith}
+use Rattle.lane_fixed.proofs.chunk_lanes.U8x16Chunk.top.Goals as goal
+
+pub returns : goal.returns
+returns c = grind arith

@@ -1,0 +1,6 @@
+use Rattle.std.proofs.Common.{arith}
+use Rattle.lane_int.proofs.ChunkLemmas.{lanes_of_each}
+use Rattle.lane_int.proofs.chunks.halves.chunk_u16.Goals as goal
+
+pub returns : goal.returns
+returns c = grind (arith, lanes_of_each)

@@ -1,0 +1,5 @@
+use Rattle.std.proofs.Common.{arith}
+use Rattle.scalar_core.proofs.hart.Scalar.set_vxrm.Goals as goal
+
+pub returns : goal.returns
+returns c = grind arith
