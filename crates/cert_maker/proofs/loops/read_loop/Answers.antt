@@ -13,3 +13,6 @@ returns-in-Through-clause-value g c =
 
 pub returns-clause-value : goal.returns-clause-value
 returns-clause-value g c = grind (arith, read_more, read_through, read_refused, read_none)
+
+pub loop-words-preserved : goal.loop-words-preserved
+loop-words-preserved g c = grind (arith, read_more, read_through, read_refused, read_none)

@@ -20,3 +20,9 @@ returns-in-Ssubu-clause-saturated g c = grind (arith, each_mode)
 
 pub returns-in-Ssub-clause-saturated : goal.returns-in-Ssub-clause-saturated
 returns-in-Ssub-clause-saturated g c = grind (arith, each_mode)
+
+pub returns-in-Ssubu-clause-results : goal.returns-in-Ssubu-clause-results
+returns-in-Ssubu-clause-results g c = grind (arith, each_mode)
+
+pub returns-in-Ssub-clause-results : goal.returns-in-Ssub-clause-results
+returns-in-Ssub-clause-results g c = grind (arith, each_mode)
