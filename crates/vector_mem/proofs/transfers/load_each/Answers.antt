@@ -11,10 +11,10 @@ pub load_as-requires-in-W32 : goal.load_as-requires-in-W32
 load_as-requires-in-W32 g c = grind arith
 
 pub returns-in-W16 : goal.returns-in-W16
-returns-in-W16 c = grind arith
+returns-in-W16 g c = grind arith
 
 pub returns-in-W32 : goal.returns-in-W32
-returns-in-W32 c = grind arith
+returns-in-W32 g c = grind arith
 
 pub returns-in-W8 : goal.returns-in-W8
-returns-in-W8 c = grind arith
+returns-in-W8 g c = grind arith
