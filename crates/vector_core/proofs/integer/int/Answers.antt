@@ -1,4 +1,5 @@
 -- What an operation makes of elements, as numbers.
+use Rattle.std.proofs.lemmas.Grind.{elements}
 use Rattle.std.proofs.Common.{arith}
 use Rattle.rv_decode.specs.Needs.{needs_of_arith}
 use Rattle.vector_core.specs.Arithmetic.{arith_of}
@@ -9,3 +10,19 @@ use Rattle.vector_core.proofs.integer.int.Goals as goal
 pub returns : goal.returns
 unfolding needs_of_arith int_of arith_of
 returns g c = grind (arith, map_two)
+
+pub group-destination-requires : goal.group-destination-requires
+unfolding needs_of_arith
+group-destination-requires g c = grind (arith, elements)
+
+pub read_body-requires : goal.read_body-requires
+unfolding needs_of_arith
+read_body-requires g c = grind arith
+
+pub read_second-requires : goal.read_second-requires
+unfolding needs_of_arith
+read_second-requires g c = grind arith
+
+pub write_results-requires : goal.write_results-requires
+unfolding needs_of_arith
+write_results-requires g c = grind arith

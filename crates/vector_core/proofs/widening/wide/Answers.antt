@@ -1,4 +1,5 @@
 -- What `search` finds late, or not at all.
+use Rattle.std.proofs.lemmas.Grind.{elements}
 use Rattle.std.proofs.Common.{arith}
 use Rattle.vector_core.proofs.Numbers.{map_two}
 use Rattle.rv_decode.specs.Needs.{needs_of_arith}
@@ -9,3 +10,19 @@ use Rattle.vector_core.proofs.widening.wide.Goals as goal
 pub returns : goal.returns
 unfolding needs_of_arith wide_of arith_of
 returns g c = grind (arith, map_two)
+
+pub group-destination-requires : goal.group-destination-requires
+unfolding needs_of_arith wide_of arith_of
+group-destination-requires g c = grind arith
+
+pub read-requires : goal.read-requires
+unfolding needs_of_arith wide_of arith_of
+read-requires g c = grind arith
+
+pub read_doubled-requires : goal.read_doubled-requires
+unfolding needs_of_arith wide_of arith_of
+read_doubled-requires g c = grind (arith, map_two)
+
+pub write_results-requires : goal.write_results-requires
+unfolding needs_of_arith wide_of arith_of
+write_results-requires g c = grind (arith, elements)
