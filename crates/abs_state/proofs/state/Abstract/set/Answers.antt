@@ -7,3 +7,7 @@ use Rattle.abs_state.proofs.state.Abstract.set.Goals as goal
 pub returns-clause-state : goal.returns-clause-state
 unfolding at_block_of
 returns-clause-state g c = grind (arith, common_steps)
+
+pub invariant_of-self : goal.invariant_of-self
+unfolding at_block_of
+invariant_of-self g c = grind arith
