@@ -2,9 +2,6 @@ use Rattle.std.proofs.Common.{arith}
 use Rattle.std.proofs.lemmas.Grind.{common_steps}
 use Rattle.abs_state.proofs.edges.are_vectors_shown.Goals as goal
 
-pub bounds-facts-fact-index : goal.bounds-facts-fact-index
-bounds-facts-fact-index g c = grind arith
-
 pub loop-fact-preserved : goal.loop-fact-preserved
 loop-fact-preserved g c = grind (arith, common_steps)
 

@@ -12,3 +12,9 @@ returns-in-Err g c =
 
 pub returns : goal.returns
 returns g c = grind (arith, walk_more, walk_ended, walk_refused, walk_none)
+
+pub loop-steps-preserved : goal.loop-steps-preserved
+loop-steps-preserved g c = grind (arith, walk_more, walk_ended, walk_refused, walk_none)
+
+pub returns-in-Ok-Ended : goal.returns-in-Ok-Ended
+returns-in-Ok-Ended g c = grind (arith, walk_more, walk_ended, walk_refused, walk_none)

@@ -1,4 +1,3 @@
-use Rattle.std.proofs.lemmas.Grind.{common_steps}
 use Rattle.std.proofs.Common.{◌≡◌, ◌∙◌, ◌+◌, ◌≤◌, ◌||◌, ◌&&◌, false, ap, ap₂, sym, get_or, map, length, refl, arith}
 use lib.Lanes.{zip2}
 use Rattle.std.proofs.lemmas.List.{length-map, length-set}
@@ -64,6 +63,3 @@ returns-clause-results g c =
 pub returns-clause-saturated : goal.returns-clause-saturated
 returns-clause-saturated g c =
     flag_done g.T.FixedLane.number g.T.FixedLane.number (lane_saturates c.args.op g.T.FixedLane.width) c.args.values.now c.args.b.now c.args.active.now c.loop-i.i c.loop-i.is_saturated (omega (arith, c.loop-i.invariant.0)) c.requires.b_len c.requires.active_len c.loop-i.invariant.2
-
-pub offset_bounds-values-i-in-loop-i : goal.offset_bounds-values-i-in-loop-i
-offset_bounds-values-i-in-loop-i g c = grind (arith, common_steps)

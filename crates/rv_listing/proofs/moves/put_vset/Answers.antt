@@ -10,7 +10,3 @@ returns-in-Vsetivli g c = grind (arith, elements)
 pub returns-in-Vsetvl : goal.returns-in-Vsetvl
 unfolding vset_text
 returns-in-Vsetvl c = grind arith
-
-pub returns-in-Vsetvli : goal.returns-in-Vsetvli
-unfolding vset_text
-returns-in-Vsetvli g c = grind (arith, elements)

@@ -1,5 +1,4 @@
 -- What `search` finds late, or not at all.
-use Rattle.std.proofs.lemmas.Grind.{common_steps}
 use Rattle.std.proofs.Common.{arith}
 use Rattle.std.proofs.lemmas.Bool.Decides.{nat_tests}
 use Rattle.rv_decode.specs.Needs.{needs_of_arith}
@@ -10,7 +9,3 @@ use Rattle.vector_core.proofs.fixed_point.fixed.Goals as goal
 pub write_results-requires : goal.write_results-requires
 unfolding needs_of_arith fixed_of arith_of
 write_results-requires g c = grind (arith, nat_tests)
-
-pub read_body-requires : goal.read_body-requires
-unfolding needs_of_arith fixed_of arith_of
-read_body-requires g c = grind (arith, common_steps)

@@ -1,5 +1,4 @@
 -- How elements compare, by their numbers.
-use Rattle.std.proofs.lemmas.Grind.{moves}
 use Rattle.std.proofs.Common.{arith}
 use Rattle.rv_decode.specs.Needs.{needs_of_arith}
 use Rattle.vector_core.specs.Arithmetic.{arith_of}
@@ -10,15 +9,3 @@ use Rattle.vector_core.proofs.integer.compare.Goals as goal
 pub returns : goal.returns
 unfolding needs_of_arith compare_of arith_of
 returns g c = grind (arith, test_two)
-
-pub read_body-requires : goal.read_body-requires
-unfolding needs_of_arith
-read_body-requires g c = grind arith
-
-pub read_second-requires : goal.read_second-requires
-unfolding needs_of_arith
-read_second-requires g c = grind (arith, moves)
-
-pub compare-requires-clause-a_len : goal.compare-requires-clause-a_len
-unfolding needs_of_arith
-compare-requires-clause-a_len g c = grind (arith, moves)

@@ -9,19 +9,3 @@ use Rattle.vector_core.proofs.integer.multiply_add.Goals as goal
 pub returns : goal.returns
 unfolding needs_of_arith multiply_add_of arith_of
 returns g c = grind (arith, map_three)
-
-pub group-destination-requires : goal.group-destination-requires
-unfolding needs_of_arith
-group-destination-requires g c = grind arith
-
-pub read_body-requires : goal.read_body-requires
-unfolding needs_of_arith
-read_body-requires g c = grind arith
-
-pub read_second-requires : goal.read_second-requires
-unfolding needs_of_arith
-read_second-requires g c = grind arith
-
-pub write_results-requires : goal.write_results-requires
-unfolding needs_of_arith
-write_results-requires g c = grind arith

@@ -7,7 +7,3 @@ use Rattle.vector_core.proofs.masks.iota_elements.Goals as goal
 pub read_set_and_active-requires : goal.read_set_and_active-requires
 unfolding iota_of
 read_set_and_active-requires g c = grind (arith, common_steps)
-
-pub whole_as_front-a : goal.whole_as_front-a
-unfolding iota_of
-whole_as_front-a g c = grind arith

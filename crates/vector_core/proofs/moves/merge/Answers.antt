@@ -1,5 +1,4 @@
 -- What `search` finds late, or not at all.
-use Rattle.std.proofs.lemmas.Grind.{common_steps}
 use Rattle.std.proofs.Common.{arith}
 use Rattle.vector_core.proofs.Numbers.{choose_numbers}
 use Rattle.rv_decode.specs.Needs.{needs_of_arith}
@@ -10,10 +9,6 @@ use Rattle.vector_core.proofs.moves.merge.Goals as goal
 pub returns : goal.returns
 unfolding needs_of_arith merge_of arith_of
 returns g c = grind (arith, choose_numbers)
-
-pub read_body-requires : goal.read_body-requires
-unfolding needs_of_arith merge_of arith_of
-read_body-requires g c = grind (arith, common_steps)
 
 pub write_results-requires : goal.write_results-requires
 unfolding needs_of_arith merge_of arith_of

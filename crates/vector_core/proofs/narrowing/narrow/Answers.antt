@@ -10,14 +10,6 @@ pub returns : goal.returns
 unfolding needs_of_arith narrow_of arith_of
 returns g c = grind (arith, map_two)
 
-pub group-source-requires : goal.group-source-requires
-unfolding needs_of_arith narrow_of arith_of
-group-source-requires g c = grind (arith, map_two)
-
-pub read_doubled-requires : goal.read_doubled-requires
-unfolding needs_of_arith narrow_of arith_of
-read_doubled-requires g c = grind (arith, map_two)
-
 pub write_results-requires : goal.write_results-requires
 unfolding needs_of_arith narrow_of arith_of
 write_results-requires g c = grind arith

@@ -8,7 +8,3 @@ use Rattle.vector_core.proofs.permutations.slide_one_up.Goals as goal
 pub returns : goal.returns
 unfolding needs_of_perm slide_one_up_of perm_of
 returns g c = grind (arith, slid_one_up_numbers)
-
-pub write_results-requires : goal.write_results-requires
-unfolding needs_of_perm slide_one_up_of perm_of
-write_results-requires g c = grind (arith, slid_one_up_numbers)

@@ -1,6 +1,6 @@
 -- What a fold makes of elements, as a number.
 use Rattle.std.proofs.Common.{arith}
-use Rattle.std.proofs.lemmas.Grind.{common_steps, moves}
+use Rattle.std.proofs.lemmas.Grind.{common_steps}
 use Rattle.rv_decode.specs.Needs.{needs_of_reduce}
 use Rattle.vector_core.specs.Reductions.{fold_of, reduce_of}
 use Rattle.vector_core.proofs.reductions.fold_elements.Goals as goal
@@ -8,11 +8,3 @@ use Rattle.vector_core.proofs.reductions.fold_elements.Goals as goal
 pub returns : goal.returns
 unfolding needs_of_reduce fold_of reduce_of
 returns g c = grind (arith, common_steps)
-
-pub read_body-requires : goal.read_body-requires
-unfolding needs_of_reduce
-read_body-requires g c = grind arith
-
-pub fold-value-requires : goal.fold-value-requires
-unfolding needs_of_reduce
-fold-value-requires g c = grind (arith, moves)

@@ -11,18 +11,6 @@ pub returns : goal.returns
 unfolding needs_of_arith wide_of arith_of
 returns g c = grind (arith, map_two)
 
-pub group-destination-requires : goal.group-destination-requires
-unfolding needs_of_arith wide_of arith_of
-group-destination-requires g c = grind arith
-
-pub read-requires : goal.read-requires
-unfolding needs_of_arith wide_of arith_of
-read-requires g c = grind arith
-
-pub read_doubled-requires : goal.read_doubled-requires
-unfolding needs_of_arith wide_of arith_of
-read_doubled-requires g c = grind (arith, map_two)
-
 pub write_results-requires : goal.write_results-requires
 unfolding needs_of_arith wide_of arith_of
 write_results-requires g c = grind (arith, elements)

@@ -10,11 +10,3 @@ use Rattle.vector_core.proofs.widening.widen.Goals as goal
 pub returns : goal.returns
 unfolding needs_of_arith widen_of second_of arith_of
 returns g c = grind (arith, map_two)
-
-pub read_doubled-requires : goal.read_doubled-requires
-unfolding needs_of_arith widen_of second_of arith_of
-read_doubled-requires g c = grind (arith, map_two)
-
-pub write_results-requires : goal.write_results-requires
-unfolding needs_of_arith widen_of second_of arith_of
-write_results-requires g c = grind (arith, map_two)

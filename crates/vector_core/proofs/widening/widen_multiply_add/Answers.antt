@@ -11,14 +11,6 @@ pub returns : goal.returns
 unfolding needs_of_arith widen_multiply_add_of second_of arith_of
 returns g c = grind (arith, map_three)
 
-pub read_doubled-requires : goal.read_doubled-requires
-unfolding needs_of_arith widen_multiply_add_of second_of arith_of
-read_doubled-requires g c = grind arith
-
-pub read_doubled-requires-2 : goal.read_doubled-requires-2
-unfolding needs_of_arith widen_multiply_add_of second_of arith_of
-read_doubled-requires-2 g c = grind (arith, map_three)
-
 pub write_results-requires : goal.write_results-requires
 unfolding needs_of_arith widen_multiply_add_of second_of arith_of
 write_results-requires g c = grind arith

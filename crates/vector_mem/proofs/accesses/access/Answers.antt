@@ -39,11 +39,3 @@ indexed_plan-requires-clause-len g c =
 pub returns-in-Strided : goal.returns-in-Strided
 unfolding accesses_of place_at data_at
 returns-in-Strided g c = grind (arith, common_steps)
-
-pub strided_plan-requires : goal.strided_plan-requires
-unfolding accesses_of place_at data_at
-strided_plan-requires g c = grind (arith, common_steps)
-
-pub strided_plan-requires-in-Whole : goal.strided_plan-requires-in-Whole
-unfolding accesses_of place_at data_at
-strided_plan-requires-in-Whole g c = grind (arith, common_steps)

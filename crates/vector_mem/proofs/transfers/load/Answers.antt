@@ -1,4 +1,4 @@
-use Rattle.std.proofs.Common.{◌≡◌, ◌∙◌, ap, replicate, true, arith}
+use Rattle.std.proofs.Common.{◌≡◌, ◌∙◌, ap, replicate, true}
 use Rattle.region_mem.specs.declared.faults.Right.TheVariants.{Read}
 use Rattle.vreg_groups.specs.Group.{written}
 use Rattle.vector_mem.specs.Accesses.{in_a_row, loaded}
@@ -21,9 +21,3 @@ returns-then-load_window g c =
     (c.load_window.ensures.permitted c.if-load_window.true)
     (c.load_window.ensures.loaded c.if-load_window.true
     ∙ ap (λ (p : Policy). written g.row.VLENB group p values (replicate group.vl true) c.args.registers.now) c.policy.ensures)
-
-pub load_each-requires : goal.load_each-requires
-load_each-requires g c = grind arith
-
-pub load_window-requires : goal.load_window-requires
-load_window-requires g c = grind arith

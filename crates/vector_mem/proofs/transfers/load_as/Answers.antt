@@ -11,11 +11,3 @@ slice_bounds-values-end-2 g c = grind (arith, common_steps)
 pub load_values-requires : goal.load_values-requires
 unfolding vector_load
 load_values-requires g c = grind (arith, common_steps)
-
-pub returns-in-Some : goal.returns-in-Some
-unfolding vector_load
-returns-in-Some g c = grind arith
-
-pub slice_bounds-values-end : goal.slice_bounds-values-end
-unfolding vector_load
-slice_bounds-values-end g c = grind arith

@@ -1,4 +1,3 @@
-use Rattle.std.proofs.lemmas.Grind.{common_steps}
 use Rattle.std.proofs.Common.{◌≡◌, ◌∙◌, ◌+◌, ◌<◌, ap, arith, drop, get_or, length, map, refl, replicate, subst, sym, ℕ, List, Some, None}
 use Rattle.std.specs.List.{All, fold}
 use Rattle.std.specs.Option.{option_map}
@@ -67,11 +66,3 @@ loop-access-preserved g c =
           ∙ c.loop-access.invariant.so_far
           ∙ ap (λ (n : ℕ). loaded n list memory) (sym (length-set c.loop-access.values a.element c.low_bits-in-loop-access.result));
     }
-
-pub bounds-values-access : goal.bounds-values-access
-unfolding first_refused loaded
-bounds-values-access g c = grind arith
-
-pub returns : goal.returns
-unfolding first_refused loaded
-returns g c = grind (arith, common_steps)

@@ -1,4 +1,4 @@
-use Rattle.std.proofs.Common.{◌≡◌, ap, true, arith}
+use Rattle.std.proofs.Common.{◌≡◌, ap, true}
 use Rattle.region_mem.specs.declared.faults.Right.TheVariants.{Write}
 use Rattle.vector_mem.specs.Transfers.{is_in_a_row, right_of}
 use Rattle.vector_mem.proofs.Rows.{is_row}
@@ -16,6 +16,3 @@ returns-then-store_window g c =
     body_stored g.row.VLENB c.args.setup.now c.args.insn.now c.args.base c.args.stride c.args.registers.now c.args.memory.now
     c.store_window.new.memory group _ meaning is (c.store_window.ensures.permitted c.if-store_window.true)
     (c.store_window.ensures.stored c.if-store_window.true)
-
-pub store_each-requires : goal.store_each-requires
-store_each-requires g c = grind arith

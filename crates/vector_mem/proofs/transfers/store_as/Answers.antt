@@ -11,11 +11,3 @@ slice_bounds-values-end-2 g c = grind (arith, common_steps)
 pub store_values-requires : goal.store_values-requires
 unfolding vector_store
 store_values-requires g c = grind (arith, common_steps)
-
-pub read-requires : goal.read-requires
-unfolding vector_store
-read-requires g c = grind (arith, common_steps)
-
-pub slice_bounds-values-end : goal.slice_bounds-values-end
-unfolding vector_store
-slice_bounds-values-end g c = grind arith

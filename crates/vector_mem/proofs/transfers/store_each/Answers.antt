@@ -1,15 +1,6 @@
 use Rattle.std.proofs.Common.{arith}
 use Rattle.vector_mem.proofs.transfers.store_each.Goals as goal
 
-pub returns-in-W16 : goal.returns-in-W16
-returns-in-W16 g c = grind arith
-
-pub returns-in-W32 : goal.returns-in-W32
-returns-in-W32 g c = grind arith
-
-pub returns-in-W8 : goal.returns-in-W8
-returns-in-W8 g c = grind arith
-
 pub store_as-requires : goal.store_as-requires
 store_as-requires g c = grind arith
 

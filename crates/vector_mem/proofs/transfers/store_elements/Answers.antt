@@ -3,10 +3,6 @@ use Rattle.std.proofs.lemmas.Grind.{common_steps}
 use Rattle.vector_mem.specs.Accesses.{stored}
 use Rattle.vector_mem.proofs.transfers.store_elements.Goals as goal
 
-pub bounds-access-items-access-index : goal.bounds-access-items-access-index
-unfolding stored
-bounds-access-items-access-index c = grind arith
-
 pub bounds-values-access : goal.bounds-values-access
 unfolding stored
 bounds-values-access c = grind arith
@@ -14,10 +10,6 @@ bounds-values-access c = grind arith
 pub loop-access-preserved : goal.loop-access-preserved
 unfolding stored
 loop-access-preserved g c = grind (arith, common_steps)
-
-pub loop-access-smaller : goal.loop-access-smaller
-unfolding stored
-loop-access-smaller c = grind arith
 
 pub returns : goal.returns
 unfolding stored

@@ -1,4 +1,4 @@
-use Rattle.std.proofs.Common.{◌≡◌, ◌∙◌, ◌*◌, ap, replicate, sym, true, ℕ, List, Option, Some, arith}
+use Rattle.std.proofs.Common.{◌≡◌, ◌∙◌, ◌*◌, ap, replicate, sym, true, ℕ, List, Option, Some}
 use Rattle.std.specs.Prelude.{option_copied}
 use Rattle.region_mem.specs.Memory.{Memory, window_of}
 use Rattle.vreg_groups.specs.Group.{written}
@@ -29,6 +29,3 @@ returns-clause-loaded g c = λ _.
     ∙ ap (λ (values : List ℕ). written g.row.VLENB group c.args.policy values (replicate group.vl true) c.args.registers.now)
     (sym (row_loaded memory group.bytes c.args.base group.vl bytes c.loads_in_windows.ensures.bounds c.loads_in_windows.ensures.loads there
     c.are_bytes.ensures (positive group.bytes c.requires)))
-
-pub write_bytes-requires : goal.write_bytes-requires
-write_bytes-requires g c = grind arith

@@ -1,4 +1,3 @@
-use Rattle.std.proofs.lemmas.Grind.{common_steps}
 use Rattle.std.proofs.Common.{arith, length}
 use Rattle.vreg_groups.proofs.Places.{begins_inside, replaced_none}
 use Rattle.vreg_groups.proofs.Parts.{put_more, puts_are}
@@ -18,12 +17,3 @@ pub returns : goal.returns
 returns g c =
     puts_are g.E.Element.number g.E.Element.SIZE c.args.at c.loop-i.i c.args.values.now c.args.bytes.now c.loop-i.bytes (omega arith)
     c.loop-i.invariant
-
-pub overflow_mul-SIZE : goal.overflow_mul-SIZE
-overflow_mul-SIZE g c = grind (arith, common_steps)
-
-pub overflow_add-at : goal.overflow_add-at
-overflow_add-at g c = grind (arith, common_steps)
-
-pub put-requires : goal.put-requires
-put-requires g c = grind arith

@@ -1,5 +1,5 @@
 use Rattle.std.proofs.Common.{arith, ℕ, ap, map, ◌∙◌}
-use Rattle.std.proofs.lemmas.Grind.{common_steps, moves}
+use Rattle.std.proofs.lemmas.Grind.{common_steps}
 use Rattle.std.specs.List.{range_with_len}
 use Rattle.vreg_groups.specs.Elements.{element_at}
 use Rattle.vreg_groups.proofs.Places.{read_all}
@@ -14,7 +14,3 @@ returns g c =
 pub loop-i-preserved : goal.loop-i-preserved
 unfolding element_at
 loop-i-preserved g c = grind (arith, common_steps)
-
-pub overflow_mul-SIZE : goal.overflow_mul-SIZE
-unfolding element_at
-overflow_mul-SIZE g c = grind (arith, moves)

@@ -1,4 +1,3 @@
-use Rattle.std.proofs.lemmas.Grind.{common_steps}
 use Rattle.std.proofs.Common.{ap, sym, refl, ◌∙◌, ◌≡◌, length, map, arith}
 use Rattle.std.proofs.lemmas.List.{length-map}
 use Rattle.vreg_groups.specs.NewElements.{replaced, new_bytes, new_element}
@@ -30,9 +29,3 @@ loop-i-preserved g c =
     c.args.active.now c.args.bytes.now c.loop-i.bytes c.put.new.bytes c.ones.result c.get-old.result
     c.body_element-new.result c.SIZE.ensures room c.ones.ensures c.get-old.ensures is c.loop-i.invariant
     c.put.ensures
-
-pub overflow_mul-place : goal.overflow_mul-place
-overflow_mul-place g c = grind (arith, common_steps)
-
-pub overflow_add-place : goal.overflow_add-place
-overflow_add-place g c = grind (arith, common_steps)

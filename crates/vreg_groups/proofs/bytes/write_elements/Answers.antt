@@ -1,4 +1,3 @@
-use Rattle.std.proofs.lemmas.Grind.{common_steps}
 use Rattle.std.proofs.Common.{arith, ap, ◌+◌, ◌-◌, ◌*◌}
 use Rattle.vreg_groups.proofs.Parts.{write_is}
 use Rattle.std.proofs.lemmas.Bool.Decides.{nat_tests}
@@ -18,24 +17,3 @@ returns g c =
 
 pub fill_if-requires-2 : goal.fill_if-requires-2
 fill_if-requires-2 g c = grind (arith, nat_tests)
-
-pub overflow_mul-SIZE : goal.overflow_mul-SIZE
-overflow_mul-SIZE g c = grind arith
-
-pub overflow_add-at : goal.overflow_add-at
-overflow_add-at g c = grind (arith, common_steps)
-
-pub overflow_mul-SIZE-2 : goal.overflow_mul-SIZE-2
-overflow_mul-SIZE-2 g c = grind arith
-
-pub fill_if-requires : goal.fill_if-requires
-fill_if-requires g c = grind arith
-
-pub overflow_mul-SIZE-3 : goal.overflow_mul-SIZE-3
-overflow_mul-SIZE-3 g c = grind (arith, common_steps)
-
-pub overflow_add-at-2 : goal.overflow_add-at-2
-overflow_add-at-2 g c = grind (arith, common_steps)
-
-pub overflow_mul-SIZE-4 : goal.overflow_mul-SIZE-4
-overflow_mul-SIZE-4 g c = grind arith

@@ -3,10 +3,6 @@ use Rattle.abs_state.proofs.Growth.{csr_grows}
 use Rattle.abs_state.specs.After.{after_of, taken}
 use Rattle.abs_state.proofs.state.Abstract.take_csr.Goals as goal
 
-pub after_csr-requires : goal.after_csr-requires
-unfolding after_of taken
-after_csr-requires g c = grind arith
-
 pub invariant_of-self : goal.invariant_of-self
 unfolding after_of taken
 invariant_of-self g c = grind (arith, csr_grows)

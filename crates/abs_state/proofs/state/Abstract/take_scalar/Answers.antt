@@ -11,14 +11,6 @@ pub invariant_of-self-2 : goal.invariant_of-self-2
 unfolding after_of taken
 invariant_of-self-2 g c = grind (arith, scalar_grows)
 
-pub put-requires : goal.put-requires
-unfolding after_of taken
-put-requires g c = grind arith
-
 pub returns : goal.returns
 unfolding after_of taken
 returns g c = grind arith
-
-pub returns-in_err-self-inside : goal.returns-in_err-self-inside
-unfolding after_of taken
-returns-in_err-self-inside g c = grind arith

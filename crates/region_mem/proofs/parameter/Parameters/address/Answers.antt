@@ -7,7 +7,3 @@ use Rattle.region_mem.proofs.parameter.Parameters.address.Goals as goal
 pub room_before-requires : goal.room_before-requires
 unfolding address_of
 room_before-requires c = grind (arith, sum_by_room)
-
-pub overflow_cast-result : goal.overflow_cast-result
-unfolding address_of
-overflow_cast-result c = grind (arith, sum_by_room)

@@ -3,10 +3,6 @@ use Rattle.std.proofs.lemmas.Grind.{common_steps}
 use Rattle.vreg_groups.specs.Copies.{copied}
 use Rattle.vreg_groups.proofs.registers.VregFile.copy_registers.Goals as goal
 
-pub returns-clause-meaning : goal.returns-clause-meaning
-unfolding copied
-returns-clause-meaning g c = grind (arith, common_steps)
-
 pub returns-clause-shape : goal.returns-clause-shape
 unfolding copied
 returns-clause-shape g c = grind (arith, common_steps)

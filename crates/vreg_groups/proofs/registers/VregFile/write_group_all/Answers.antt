@@ -1,5 +1,5 @@
 use Rattle.std.proofs.Common.{arith}
-use Rattle.std.proofs.lemmas.Grind.{common_steps, elements, moves}
+use Rattle.std.proofs.lemmas.Grind.{common_steps, moves}
 use Rattle.vreg_groups.specs.NewElements.{write_of}
 use Rattle.vreg_groups.proofs.registers.VregFile.write_group_all.Goals as goal
 
@@ -10,7 +10,3 @@ nonzero_div-count g c = grind (arith, moves)
 pub returns-clause-meaning : goal.returns-clause-meaning
 unfolding write_of
 returns-clause-meaning g c = grind (arith, common_steps)
-
-pub returns-clause-shape : goal.returns-clause-shape
-unfolding write_of
-returns-clause-shape g c = grind (arith, elements)

@@ -1,6 +1,8 @@
 use Rattle.std.proofs.Common.{arith}
 use Rattle.std.proofs.lemmas.Grind.{elements}
-use Rattle.region_mem.proofs.areas.place_or_first.Goals as goal
+use Rattle.block_checker.specs.Passes.{block_passes}
+use Rattle.block_checker.proofs.checks.block_passes.Goals as goal
 
 pub returns : goal.returns
+unfolding block_passes
 returns g c = grind (arith, elements)
