@@ -6,4 +6,5 @@ pub returns-then-place-regions-clause-open : goal.returns-then-place-regions-cla
 returns-then-place-regions-clause-open g c = grind (arith, found_there, open_in_one, number_in_one)
 
 pub returns-then-place-regions-clause-number : goal.returns-then-place-regions-clause-number
-returns-then-place-regions-clause-number g c = grind (arith, found_there, open_in_one, number_in_one)
+returns-then-place-regions-clause-number g c =
+    grind (arith, found_there, open_in_one, number_in_one)

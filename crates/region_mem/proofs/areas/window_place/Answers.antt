@@ -15,7 +15,8 @@ pub unreachable-requires : goal.unreachable-requires
 unreachable-requires g c = grind (arith, window_spans, found_below, found_is, found_some, window_is)
 
 pub returns-clause-inside : goal.returns-clause-inside
-returns-clause-inside g c = grind (arith, window_spans, found_below, found_is, found_some, window_is)
+returns-clause-inside g c =
+    grind (arith, window_spans, found_below, found_is, found_some, window_is)
 
 pub returns-clause-part : goal.returns-clause-part
 returns-clause-part g c = grind (arith, window_spans, found_below, found_is, found_some, window_is)
