@@ -1,5 +1,4 @@
 -- What an operation makes of elements, as numbers.
-use Rattle.std.proofs.lemmas.Grind.{elements}
 use Rattle.std.proofs.Common.{arith}
 use Rattle.rv_decode.specs.Needs.{needs_of_arith}
 use Rattle.vector_core.specs.Arithmetic.{arith_of}
