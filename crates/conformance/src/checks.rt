@@ -3,9 +3,9 @@
 use crate::fields::{RowError, bytes, next, vlen};
 use crate::table::{Table, unlike};
 use block_checker::{Accepted, CheckError, check};
-use cert_note::CertError;
+use cert_note::{Budget, CertError};
 use elf_image::{ElfError, Image};
-use std::alloc::Global;
+use std::alloc::{AllocError, Global};
 use std::fmt;
 use vreg_groups::Vlen;
 
@@ -67,36 +67,30 @@ pub(crate) fn accept(alloc: Global, file: &[u8], vlen: Option<Vlen>) -> Result<A
     }
 }
 
-/// The name of the refusal, or `accepted` and the budget of the block at the entry: its second factor and register too, where
-/// it has these.
+/// `accepted` and a budget, with its second factor and register where it has these.
+fn budget_text(alloc: Global, budget: Budget) -> Result<String, AllocError> {
+    let Budget {
+        constant,
+        factor,
+        register,
+        second_factor,
+        second_register,
+    } = budget;
+    if second_factor == 0 {
+        return format!(in alloc; "accepted {constant} {factor} {register}");
+    }
+    format!(in alloc; "accepted {constant} {factor} {register} {second_factor} {second_register}")
+}
+
+/// The name of the refusal, or `accepted` and the budget of the block at the entry.
 pub(crate) fn text_of(
     alloc: Global,
     checked: Result<Accepted, Refusal>,
-) -> Result<String, RowError> {
-    let accepted = match checked {
-        Ok(accepted) => accepted,
-        Err(refusal) => return Ok(format!(in alloc; "{refusal}")?),
-    };
-    let entry = accepted.image().entry();
-    for block in &accepted.certificate().contents().blocks {
-        if block.start == entry {
-            let budget = block.budget;
-            let first = format!(in alloc;
-                "accepted {} {} {}",
-                budget.constant, budget.factor, budget.register
-            )?;
-            if budget.second_factor == 0 {
-                return Ok(first);
-            }
-            return Ok(format!(in alloc;
-                "{} {} {}",
-                first.as_str(),
-                budget.second_factor,
-                budget.second_register
-            )?);
-        }
+) -> Result<String, AllocError> {
+    match checked {
+        Ok(accepted) => budget_text(alloc, accepted.budget()),
+        Err(refusal) => refusal.to_string(alloc),
     }
-    Err(RowError::NoRow)
 }
 
 impl Table for Checks {

@@ -58,8 +58,7 @@ fn script_difference<const VLENB: usize>(
     }
 }
 
-/// What a monitor answers to a command that is given in hexadecimal: `quit` or the name of the error, and the text in
-/// hexadecimal.
+/// What a monitor answers to a command that is given in hexadecimal.
 fn answer<const VLENB: usize>(
     alloc: Global,
     monitor: &mut Monitor<'_, VLENB>,
@@ -69,7 +68,16 @@ fn answer<const VLENB: usize>(
     let command = std::str::from_utf8(command.as_slice()).map_err(|_| RowError::NoRow)?;
     let mut out = Over::new(Vec::new(alloc));
     let came = monitor.command(command, &mut out);
-    let text = encode(alloc, out.into_inner().as_slice())?;
+    answer_text(alloc, came, out.into_inner().as_slice())
+}
+
+/// `quit` or the name of the error, and the text in hexadecimal.
+fn answer_text(
+    alloc: Global,
+    came: Result<Flow, MonError>,
+    text: &[u8],
+) -> Result<String, RowError> {
+    let text = encode(alloc, text)?;
     match came {
         Ok(Flow::Go) => Ok(text),
         Ok(Flow::Quit) => Ok(format!(in alloc; "quit{text}")?),

@@ -7,10 +7,11 @@ use crate::fields::{RowError, bytes, hex, next, setting, vlen};
 use crate::state::{Difference, Part, State, VECTOR_BYTES, differ, vector_bytes};
 use crate::step::Named;
 use crate::table::{Table, unlike};
+use elf_image::{ElfError, Image};
 use region_mem::{Arg, Args, Mode, Parameters};
 use sandbox_run::{Outcome, Registers, try_run};
 use scalar_core::EXIT;
-use std::alloc::Global;
+use std::alloc::{AllocError, Global};
 use vreg_groups::{Agnostic, Vconfig, Vlen};
 
 /// Where the stack ends.
@@ -100,28 +101,64 @@ pub(crate) fn start(parameters: &Parameters, given: &Given) -> State {
 fn run<const VLENB: usize>(alloc: Global, case: &Case<'_>) -> Result<Option<String>, RowError>
     requires { IsVlenb VLENB }
 {
+    match image_of(alloc, case)? {
+        Ok(image) => run_image::<VLENB>(alloc, &image, case),
+        Err(error) => Ok(Some(error.to_string(alloc)?)),
+    }
+}
+
+/// The image of a row.
+fn image_of(alloc: Global, case: &Case<'_>) -> Result<Result<Image, ElfError>, RowError> {
     let file = bytes(alloc, case.image)?;
-    let image = match elf_image::read(alloc, file.as_slice()) {
-        Ok(image) => image,
-        Err(error) => return Ok(Some(error.to_string(alloc)?)),
-    };
+    Ok(elf_image::read(alloc, file.as_slice()))
+}
+
+/// Runs an image as the row says.
+fn run_image<const VLENB: usize>(
+    alloc: Global,
+    image: &Image,
+    case: &Case<'_>,
+) -> Result<Option<String>, RowError>
+    requires { IsVlenb VLENB }
+{
     let given = case.given(alloc)?;
     let parameters = Parameters::new(given.params).ok_or(RowError::NoRow)?;
     let expected = start(&parameters, &given);
     let Given { params: _, args } = given;
-    let agnostic = case.agnostic;
-    let (end, last) = match try_run::<VLENB>(alloc, &image, &parameters, args, agnostic, case.max) {
-        Ok(Outcome::Ended(last)) => (format!(in alloc; "ended {}", last.steps)?, last),
-        Ok(Outcome::OutOfSteps(last)) => (format!(in alloc; "steps {}", last.steps)?, last),
-        Ok(Outcome::Trapped(fault, last)) => {
-            let fault = Named(fault);
-            (format!(in alloc; "trapped {fault} {}", last.steps)?, last)
+    match try_run::<VLENB>(alloc, image, &parameters, args, case.agnostic, case.max) {
+        Ok(outcome) => case.difference::<VLENB>(alloc, expected, &last_of(alloc, outcome)?),
+        Err((error, _)) => Ok(Some(error.to_string(alloc)?)),
+    }
+}
+
+/// How a run ended, as the row says it.
+fn end_of<const VLENB: usize>(
+    alloc: Global,
+    outcome: &Outcome<VLENB>,
+) -> Result<String, AllocError> {
+    match outcome {
+        Outcome::Ended(last) => format!(in alloc; "ended {}", last.steps),
+        Outcome::OutOfSteps(last) => format!(in alloc; "steps {}", last.steps),
+        Outcome::Trapped(fault, last) => {
+            let fault = Named(*fault);
+            format!(in alloc; "trapped {fault} {}", last.steps)
         }
-        Err((error, _)) => return Ok(Some(error.to_string(alloc)?)),
+    }
+}
+
+/// What a run left.
+fn last_of<const VLENB: usize>(alloc: Global, outcome: Outcome<VLENB>) -> Result<Last, AllocError>
+    requires { IsVlenb VLENB }
+{
+    let end = end_of(alloc, &outcome)?;
+    let last = match outcome {
+        Outcome::Ended(last) | Outcome::OutOfSteps(last) | Outcome::Trapped(_, last) => last,
     };
-    let state = last_state(&last.registers, vector_bytes(&last.vectors));
-    let args = last.args;
-    case.difference::<VLENB>(alloc, expected, &Last { end, state, args })
+    Ok(Last {
+        end,
+        state: last_state(&last.registers, vector_bytes(&last.vectors)),
+        args: last.args,
+    })
 }
 
 /// The registers in the end.

@@ -3,14 +3,15 @@
 ghost use Rattle.vreg_groups.specs.VectorLength.{IsVlenb};
 
 use crate::arguments::Given;
-use crate::checks::accept;
+use crate::checks::{Refusal, accept};
 use crate::fields::{RowError, bytes, hex};
 use crate::runs::{Case, Last, at_length, last_state, read_case, start};
 use crate::state::{Difference, Part, State, VECTOR_BYTES, differ};
 use crate::table::Table;
+use block_checker::Accepted;
 use rv_decode::Reg;
 use sandbox_run::Session;
-use std::alloc::Global;
+use std::alloc::{AllocError, Global};
 use vreg_groups::Vlen;
 
 /// The table of runs of accepted images.
@@ -48,15 +49,30 @@ pub(crate) fn open<const VLENB: usize>(
 ) -> Result<Opening<VLENB>, RowError>
     requires { IsVlenb VLENB }
 {
+    match accepted_of(alloc, case)? {
+        Ok(accepted) => open_accepted(alloc, &accepted, case),
+        Err(refusal) => Ok(Opening::Refusal(refusal.to_string(alloc)?)),
+    }
+}
+
+/// The image of a row, where it passes the check.
+fn accepted_of(alloc: Global, case: &Case<'_>) -> Result<Result<Accepted, Refusal>, RowError> {
     let file = bytes(alloc, case.image)?;
-    let accepted = match accept(alloc, file.as_slice(), None) {
-        Ok(accepted) => accepted,
-        Err(refusal) => return Ok(Opening::Refusal(format!(in alloc; "{refusal}")?)),
-    };
+    Ok(accept(alloc, file.as_slice(), None))
+}
+
+/// Opens the run of an image that passed the check.
+fn open_accepted<const VLENB: usize>(
+    alloc: Global,
+    accepted: &Accepted,
+    case: &Case<'_>,
+) -> Result<Opening<VLENB>, RowError>
+    requires { IsVlenb VLENB }
+{
     let given = case.given(alloc)?;
     let expected = start(accepted.parameters(), &given);
     let Given { params: _, args } = given;
-    match Session::<VLENB>::open(alloc, &accepted, args, case.agnostic, case.max) {
+    match Session::<VLENB>::open(alloc, accepted, args, case.agnostic, case.max) {
         Ok(session) => Ok(Opening::Run(session, expected)),
         Err((error, _args)) => Ok(Opening::Refusal(format!(in alloc; "{error:?}")?)),
     }
@@ -71,23 +87,28 @@ fn finish<const VLENB: usize>(
 ) -> Result<Option<String>, RowError>
     requires { IsVlenb VLENB }
 {
-    let end = format!(in alloc; "ended {}", session.run())?;
+    let steps = session.run();
     match memory_difference(alloc, &session, case)? {
-        Some(difference) => Ok(Some(format!(in alloc; "{difference}")?)),
-        None => case.difference::<VLENB>(alloc, expected, &left_by(session, end)),
+        Some(difference) => Ok(Some(difference.to_string(alloc)?)),
+        None => case.difference::<VLENB>(alloc, expected, &left_by(alloc, session, steps)?),
     }
 }
 
-/// What a session leaves.
-fn left_by<const VLENB: usize>(session: Session<VLENB>, end: String) -> Last
+/// What a session leaves that ended after these steps.
+fn left_by<const VLENB: usize>(
+    alloc: Global,
+    session: Session<VLENB>,
+    steps: u64,
+) -> Result<Last, AllocError>
     requires { IsVlenb VLENB }
 {
+    let end = format!(in alloc; "ended {steps}")?;
     let state = last_state(&session.registers(), vectors_of(&session));
-    Last {
+    Ok(Last {
         end,
         state,
         args: session.close(),
-    }
+    })
 }
 
 /// The bytes of all vector registers, and zeros behind them.
@@ -116,15 +137,31 @@ fn memory_difference<const VLENB: usize>(
         if let Some(field) = field.strip_prefix("m")
             && let Some((address, expected)) = field.split_once('=')
         {
-            let mut address = hex(address)?;
-            for byte in bytes(alloc, expected)?.as_slice() {
-                let came = session.peek(address).map_or(u32::MAX, u32::from);
-                if u32::from(*byte) != came {
-                    return Ok(differ(Part::Memory(address), u32::from(*byte), came));
-                }
-                address = address.wrapping_add(1);
+            let expected = bytes(alloc, expected)?;
+            let difference = difference_from(session, hex(address)?, expected.as_slice());
+            if difference.is_some() {
+                return Ok(difference);
             }
         }
     }
     Ok(None)
+}
+
+/// The first byte of memory from an address on that is not the expected one.
+fn difference_from<const VLENB: usize>(
+    session: &Session<VLENB>,
+    address: u32,
+    expected: &[u8],
+) -> Option<Difference>
+    requires { IsVlenb VLENB }
+{
+    let mut address = address;
+    for byte in expected {
+        let came = session.peek(address).map_or(u32::MAX, u32::from);
+        if u32::from(*byte) != came {
+            return differ(Part::Memory(address), u32::from(*byte), came);
+        }
+        address = address.wrapping_add(1);
+    }
+    None
 }

@@ -1,5 +1,6 @@
 //! Rows `VLENB SETTING VTYPE VL SEED WORD [IN..] = OUT..`: what one step does.
 
+ghost use Rattle.std.specs.Prelude.{◌<◌};
 ghost use Rattle.vreg_groups.specs.VectorLength.{IsVlenb};
 
 use crate::draws::Draws;
@@ -150,12 +151,7 @@ fn read_case<'a>(alloc: Global, row: &'a str) -> Result<Case<'a>, RowError> {
     let mut before = State::new(CODE);
     before.config = Vconfig { vtype, vl };
     before.fill(draws, vlen.bytes());
-    for field in fields.split(' ').filter(|field| !field.is_empty()) {
-        let (name, value) = field.split_once('=').ok_or(RowError::NoRow)?;
-        if !before.set(alloc, vlen.bytes(), name, value)? {
-            return Err(RowError::NoRow);
-        }
-    }
+    set_fields(alloc, &mut before, vlen.bytes(), fields)?;
     Ok(Case {
         vlen,
         agnostic,
@@ -163,4 +159,17 @@ fn read_case<'a>(alloc: Global, row: &'a str) -> Result<Case<'a>, RowError> {
         word,
         after,
     })
+}
+
+/// Sets the parts of a state that the fields name.
+fn set_fields(alloc: Global, state: &mut State, vlenb: usize, fields: &str) -> Result<(), RowError>
+    requires { vlenb < 65 }
+{
+    for field in fields.split(' ').filter(|field| !field.is_empty()) {
+        let (name, value) = field.split_once('=').ok_or(RowError::NoRow)?;
+        if !state.set(alloc, vlenb, name, value)? {
+            return Err(RowError::NoRow);
+        }
+    }
+    Ok(())
 }

@@ -40,18 +40,22 @@ fn told<T: Table>(alloc: Global, table: &mut T, row: &str) -> Result<Option<Stri
     }
 }
 
-/// Tries each row of the file at `path`, and prints the first rows that differ, by their lines, and how many rows came
-/// out as expected. Tells whether all did.
-pub(crate) fn run_table<R: Files + AllocGlobal + Print, T: Table>(
+/// How many rows of a table were tried, and how many of them differ.
+struct Tally {
+    rows: u64,
+    differing: u64,
+}
+
+/// Tries each row of the text of a table, and prints the first that differ, by their lines.
+fn try_rows<R: AllocGlobal + Print, T: Table>(
     rt: &R,
-    name: &str,
     path: &str,
+    text: &str,
     table: &mut T,
-) -> io::Result<bool> {
-    let text = fs::read_to_string(rt, path)?;
+) -> io::Result<Tally> {
     let mut rows = 0u64;
     let mut differing = 0u64;
-    for (index, line) in text.as_str().lines().enumerate() {
+    for (index, line) in text.lines().enumerate() {
         if !is_row(line) {
             continue;
         }
@@ -63,6 +67,19 @@ pub(crate) fn run_table<R: Files + AllocGlobal + Print, T: Table>(
             }
         }
     }
+    Ok(Tally { rows, differing })
+}
+
+/// Tries each row of the file at `path`, and prints the first rows that differ, by their lines, and how many rows came
+/// out as expected. Tells whether all did.
+pub(crate) fn run_table<R: Files + AllocGlobal + Print, T: Table>(
+    rt: &R,
+    name: &str,
+    path: &str,
+    table: &mut T,
+) -> io::Result<bool> {
+    let text = fs::read_to_string(rt, path)?;
+    let Tally { rows, differing } = try_rows(rt, path, text.as_str(), table)?;
     println!(rt;
         "{name}: {} of {rows} as expected",
         rows.saturating_sub(differing)
