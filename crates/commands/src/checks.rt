@@ -52,8 +52,8 @@ fn check_at<'a, S: Store, O: Write>(
         (StopsCheck S.files (Gains (S.written store.old) (S.written store.new)) path.entry.now) }
 {
     let image = read_image(alloc, path, store, why)?;
-    let accepted = accept(alloc, image, None, why)?;
-    match print_bound(accepted.budget(), output) {
+    let budget = accept(alloc, image, None, why)?.budget();
+    match print_bound(budget, output) {
         Ok(()) => Ok(Status::Done),
         Err(_) => Err(Stop::Output),
     }

@@ -162,16 +162,27 @@ fn assert_whole_run(
     assert_told(rt, alloc, &mut monitor, "d 10004", "gone 00010004\n");
 }
 
-#[test]
-fn a_failure_cuts_the_text_alone(rt: HostRuntime) {
-    let alloc = rt.alloc();
-    let accepted = accepted(rt, alloc, RAISE, Vlen::V128);
+/// What the strips make of the texts, one behind the other.
+fn whole_text(rt: impl Abort + Copy, alloc: Global) -> Vec<u8> {
     let mut whole = Vec::new(alloc);
     for (_, text) in STRIPS {
         given!(rt; whole.extend_from_slice(text.as_bytes()));
     }
+    whole
+}
+
+/// Asserts the same of each room that is too small for the whole, and of one that is not.
+fn assert_each_room(rt: impl Abort + Copy, alloc: Global, accepted: &Accepted, whole: &[u8]) {
     for room in 0..=whole.len() {
-        let mut session = opened(rt, alloc, &accepted);
-        assert_whole_run(rt, alloc, &mut session, whole.as_slice(), room);
+        let mut session = opened(rt, alloc, accepted);
+        assert_whole_run(rt, alloc, &mut session, whole, room);
     }
+}
+
+#[test]
+fn a_failure_cuts_the_text_alone(rt: HostRuntime) {
+    let alloc = rt.alloc();
+    let accepted = accepted(rt, alloc, RAISE, Vlen::V128);
+    let whole = whole_text(rt, alloc);
+    assert_each_room(rt, alloc, &accepted, whole.as_slice());
 }
