@@ -1,8 +1,12 @@
 -- The arguments are those that the eight places name, one by one.
 use Rattle.std.proofs.Common.{arith}
+use Rattle.std.proofs.lemmas.Grind.{elements}
 use Rattle.rvvbox_c.proofs.PlaceLemmas.{each_mapped}
 use Rattle.rvvbox_c.specs.Runs.{argument_of}
 use Rattle.rvvbox_c.proofs.places.arguments.Goals as goal
+
+pub loop-number-preserved : goal.loop-number-preserved
+loop-number-preserved c = grind (arith, elements)
 
 pub returns : goal.returns
 returns c = record {
