@@ -69,17 +69,14 @@ pub(crate) fn accept(alloc: Global, file: &[u8], vlen: Option<Vlen>) -> Result<A
 
 /// `accepted` and a budget, with its second factor and register where it has these.
 fn budget_text(alloc: Global, budget: Budget) -> Result<String, AllocError> {
-    let Budget {
-        constant,
-        factor,
-        register,
-        second_factor,
-        second_register,
-    } = budget;
-    if second_factor == 0 {
-        return format!(in alloc; "accepted {constant} {factor} {register}");
+    let first = format!(in alloc;
+        "accepted {} {} {}",
+        budget.constant, budget.factor, budget.register
+    )?;
+    match budget.second_factor {
+        0 => Ok(first),
+        factor => format!(in alloc; "{first} {factor} {}", budget.second_register),
     }
-    format!(in alloc; "accepted {constant} {factor} {register} {second_factor} {second_register}")
 }
 
 /// The name of the refusal, or `accepted` and the budget of the block at the entry.

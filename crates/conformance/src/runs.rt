@@ -102,7 +102,7 @@ fn run<const VLENB: usize>(alloc: Global, case: &Case<'_>) -> Result<Option<Stri
     requires { IsVlenb VLENB }
 {
     match image_of(alloc, case)? {
-        Ok(image) => run_image::<VLENB>(alloc, &image, case),
+        Ok(image) => case.run::<VLENB>(alloc, &image),
         Err(error) => Ok(Some(error.to_string(alloc)?)),
     }
 }
@@ -111,24 +111,6 @@ fn run<const VLENB: usize>(alloc: Global, case: &Case<'_>) -> Result<Option<Stri
 fn image_of(alloc: Global, case: &Case<'_>) -> Result<Result<Image, ElfError>, RowError> {
     let file = bytes(alloc, case.image)?;
     Ok(elf_image::read(alloc, file.as_slice()))
-}
-
-/// Runs an image as the row says.
-fn run_image<const VLENB: usize>(
-    alloc: Global,
-    image: &Image,
-    case: &Case<'_>,
-) -> Result<Option<String>, RowError>
-    requires { IsVlenb VLENB }
-{
-    let given = case.given(alloc)?;
-    let parameters = Parameters::new(given.params).ok_or(RowError::NoRow)?;
-    let expected = start(&parameters, &given);
-    let Given { params: _, args } = given;
-    match try_run::<VLENB>(alloc, image, &parameters, args, case.agnostic, case.max) {
-        Ok(outcome) => case.difference::<VLENB>(alloc, expected, &last_of(alloc, outcome)?),
-        Err((error, _)) => Ok(Some(error.to_string(alloc)?)),
-    }
 }
 
 /// How a run ended, as the row says it.
@@ -191,6 +173,24 @@ impl Case<'_> {
             }
         }
         Ok(given)
+    }
+
+    /// Runs an image as the row says.
+    fn run<const VLENB: usize>(
+        &self,
+        alloc: Global,
+        image: &Image,
+    ) -> Result<Option<String>, RowError>
+        requires { IsVlenb VLENB }
+    {
+        let given = self.given(alloc)?;
+        let parameters = Parameters::new(given.params).ok_or(RowError::NoRow)?;
+        let expected = start(&parameters, &given);
+        let (args, agnostic) = (given.args, self.agnostic);
+        match try_run::<VLENB>(alloc, image, &parameters, args, agnostic, self.max) {
+            Ok(outcome) => self.difference::<VLENB>(alloc, expected, &last_of(alloc, outcome)?),
+            Err((error, _)) => Ok(Some(error.to_string(alloc)?)),
+        }
     }
 
     /// What is told where the row says another end than this one.
