@@ -18,7 +18,7 @@ use region_mem::{Mode, Param, Parameters, STACK, STACK_SIZE};
 use std::alloc::Allocator;
 
 /// The addresses from `first` on and below `end`, and what may be done there throughout a run.
-#[derive(Clone, Copy, Debug, Default, PartialEq, Eq)]
+#[derive(Clone, Copy, Default, PartialEq, Eq)]
 pub struct Zone {
     pub first: u64,
     pub end: u64,

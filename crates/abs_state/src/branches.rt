@@ -21,7 +21,7 @@ use std::alloc::{Allocator, Global};
 use std::marker::Model;
 
 /// How one number stands to another, both without sign.
-#[derive(Clone, Copy, Debug, PartialEq, Eq)]
+#[derive(Clone, Copy, PartialEq, Eq)]
 pub enum Relation {
     Same,
     Different,
@@ -30,7 +30,7 @@ pub enum Relation {
 }
 
 /// A branch, and whether it is taken.
-#[derive(Clone, Copy, Debug, PartialEq, Eq)]
+#[derive(Clone, Copy, PartialEq, Eq)]
 pub struct Said {
     pub condition: Condition,
     pub rs1: Reg,

@@ -13,7 +13,7 @@ use std::marker::Model;
 pub const MOST_WORDS: u32 = 4096;
 
 /// Where an instruction leads, as far as it is known.
-#[derive(Clone, Copy, Debug, PartialEq, Eq)]
+#[derive(Clone, Copy, PartialEq, Eq)]
 pub enum Way {
     /// To one address.
     To {

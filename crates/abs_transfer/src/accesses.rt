@@ -26,7 +26,7 @@ use std::alloc::Allocator;
 use vreg_groups::{Vtype, whole_count};
 
 /// Addresses from the first on and below the end.
-#[derive(Clone, Copy, Debug, PartialEq, Eq)]
+#[derive(Clone, Copy, PartialEq, Eq)]
 pub struct Reach {
     pub first: u64,
     pub end: u64,

@@ -20,7 +20,7 @@ use std::alloc::Allocator;
 use vreg_groups::Vtype;
 
 /// The application vector length that an instruction asks for.
-#[derive(Clone, Copy, Debug, PartialEq, Eq)]
+#[derive(Clone, Copy, PartialEq, Eq)]
 pub enum Asked {
     /// The length that vl has.
     Keep,
@@ -33,7 +33,7 @@ pub enum Asked {
 }
 
 /// What an instruction asks for, as far as it is known.
-#[derive(Clone, Copy, Debug, PartialEq, Eq)]
+#[derive(Clone, Copy, PartialEq, Eq)]
 pub struct Wanted {
     /// The register that gets vl.
     pub rd: Reg,
@@ -43,7 +43,7 @@ pub struct Wanted {
 }
 
 /// What an instruction sets: vtype, if it is known. Whether vl is what it was.
-#[derive(Clone, Copy, Debug, PartialEq, Eq)]
+#[derive(Clone, Copy, PartialEq, Eq)]
 pub struct Set {
     pub vtype: Option<u8>,
     pub is_kept: bool,

@@ -29,7 +29,7 @@ use std::alloc::Allocator;
 use vreg_groups::Vlen;
 
 /// Whether a block goes on to the next word.
-#[derive(Clone, Copy, Debug, PartialEq, Eq)]
+#[derive(Clone, Copy, PartialEq, Eq)]
 pub(crate) enum Told {
     Ended,
     On,
@@ -80,7 +80,7 @@ fn block_for<C: Allocator>(certificate: &Certificate<C>, target: Option<u32>) ->
 }
 
 /// How a word leads on.
-#[derive(Clone, Copy, Debug, PartialEq, Eq)]
+#[derive(Clone, Copy, PartialEq, Eq)]
 pub(crate) enum Exits {
     /// To the next word alone.
     Next,

@@ -31,7 +31,7 @@ use std::fmt;
 use vreg_groups::Vlen;
 
 /// A part of the check.
-#[derive(Clone, Copy, Debug, PartialEq, Eq)]
+#[derive(Clone, Copy, PartialEq, Eq)]
 pub enum Part {
     /// The way from the start of a run into the block at the entry.
     Entry,
@@ -40,7 +40,7 @@ pub enum Part {
 }
 
 /// Where a check stopped.
-#[derive(Clone, Copy, Debug, PartialEq, Eq)]
+#[derive(Clone, Copy, PartialEq, Eq)]
 pub struct Stop {
     /// The part of the check that stopped.
     pub part: Part,
@@ -54,7 +54,7 @@ pub struct Stop {
 }
 
 /// Why an image is refused.
-#[derive(Clone, Copy, Debug, PartialEq, Eq)]
+#[derive(Clone, Copy, PartialEq, Eq)]
 pub struct Explanation {
     /// The check's error.
     pub error: CheckError,

@@ -22,7 +22,7 @@ use scalar_core::EXIT;
 use std::alloc::{AllocError, Allocator};
 
 /// Where a block begins.
-#[derive(Clone, Copy, Debug, PartialEq, Eq)]
+#[derive(Clone, Copy, PartialEq, Eq)]
 pub enum Spot {
     /// At the entry, with the branch past the loop.
     Entry,

@@ -14,7 +14,7 @@ use rv_decode::{Insn, Reg, ScalarInsn, Width, decode};
 use std::alloc::Allocator;
 
 /// What the first branch says.
-#[derive(Clone, Copy, Debug, PartialEq, Eq)]
+#[derive(Clone, Copy, PartialEq, Eq)]
 pub struct Head {
     /// The register that counts the elements that are left.
     pub count: Reg,
@@ -25,7 +25,7 @@ pub struct Head {
 }
 
 /// What is known of a loop once its first two words are read.
-#[derive(Clone, Copy, Debug, PartialEq, Eq)]
+#[derive(Clone, Copy, PartialEq, Eq)]
 pub struct Loop {
     /// The register that counts the elements that are left.
     pub count: Reg,
@@ -44,7 +44,7 @@ pub struct Loop {
 }
 
 /// Where the reading of a loop stands.
-#[derive(Clone, Copy, Debug, PartialEq, Eq)]
+#[derive(Clone, Copy, PartialEq, Eq)]
 pub enum Reading {
     /// Among the vector instructions.
     Works(Loop),

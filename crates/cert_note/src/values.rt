@@ -6,7 +6,7 @@ use std::marker::Model;
 use vreg_groups::Vlen;
 
 /// A multiple of an atom, which is a value that an equality may speak of.
-#[derive(Clone, Copy, Debug, Default, PartialEq, Eq)]
+#[derive(Clone, Copy, Default, PartialEq, Eq)]
 pub struct EqualityTerm {
     /// Where the block begins, the value of a register (1 to 31: x1 to x31) or of vl (32); or the value at the start of
     /// the run of the parameter at place j, counted from 0 (33 + j, so 33 to 40), which has to be a scalar.
@@ -16,7 +16,7 @@ pub struct EqualityTerm {
 }
 
 /// A sum: a constant and multiples of atoms, added modulo 2^32.
-#[derive(Debug, Drop)]
+#[derive(Drop)]
 pub struct Equality {
     /// What the sum is where there are no terms.
     pub constant: u32,
@@ -25,7 +25,7 @@ pub struct Equality {
 }
 
 /// A register, or vl, lies between two numbers where a block begins, and is equal to a sum, if one is stated.
-#[derive(Debug, Default, Drop)]
+#[derive(Default, Drop)]
 pub struct RegisterFact {
     /// A register (1 to 31: x1 to x31) or vl (32).
     pub number: u8,
@@ -39,7 +39,7 @@ pub struct RegisterFact {
 }
 
 /// The first elements of a group of vector registers lie between two numbers, both included, where a block begins.
-#[derive(Clone, Copy, Debug, Default, PartialEq, Eq)]
+#[derive(Clone, Copy, Default, PartialEq, Eq)]
 pub struct VectorFact {
     /// The group's first register, 0 to 31. In a certificate it is a multiple of `registers`.
     pub register: u8,
@@ -59,7 +59,7 @@ pub struct VectorFact {
 
 /// The form of a certificate's bytes, and what it can say. Version 2 says all that version 1 does, and also budgets of
 /// two registers and orders.
-#[derive(Clone, Copy, Debug, PartialEq, Eq)]
+#[derive(Clone, Copy, PartialEq, Eq)]
 pub enum Version {
     /// Version 1: a budget has one register, and no order is stated.
     V1,
@@ -70,7 +70,7 @@ pub enum Version {
 /// How long a run may still be: where a block begins, at most `constant + factor * x[register] + second_factor *
 /// x[second_register]` instructions are executed from there to the end of the run. These are whole numbers: the sum does
 /// not wrap, and the registers are unsigned.
-#[derive(Clone, Copy, Debug, PartialEq, Eq)]
+#[derive(Clone, Copy, PartialEq, Eq)]
 pub struct Budget {
     /// The number of instructions that does not depend on a register.
     pub constant: u32,
@@ -88,7 +88,7 @@ pub struct Budget {
 }
 
 /// The value of one register, or of vl, is at most that of another where a block begins, both unsigned.
-#[derive(Clone, Copy, Debug, Default, PartialEq, Eq)]
+#[derive(Clone, Copy, Default, PartialEq, Eq)]
 pub struct OrderFact {
     /// The register (1 to 31: x1 to x31), or vl (32), whose value is not the lesser one. In a certificate it has no
     /// equality in the same block.
@@ -100,7 +100,7 @@ pub struct OrderFact {
 
 /// What holds wherever a block of the code begins: how long a run may still be, the vector type where that is known,
 /// and facts.
-#[derive(Debug, Drop)]
+#[derive(Drop)]
 pub struct Block {
     /// The address of the block's first instruction. In a certificate it is a multiple of 4.
     pub start: u32,
@@ -120,7 +120,7 @@ pub struct Block {
 
 /// What a certificate states of an image, whether it meets the conditions on certificates or not. `A` is the allocator
 /// of its blocks.
-#[derive(Debug, Drop)]
+#[derive(Drop)]
 pub struct Contents<A: Allocator = Global> {
     /// The form of its bytes.
     pub version: Version,
@@ -150,7 +150,7 @@ pub struct FactGroup {
 
 /// A certificate: contents that meet all conditions on certificates, which the fields of [`Contents`] and of its parts
 /// name. Contracts see it as its contents, without where they lie in memory. `A` is the allocator of its blocks.
-#[derive(Debug, Drop)]
+#[derive(Drop)]
 pub struct Certificate<A: Allocator = Global> {
     contents: Contents<A>,
 }

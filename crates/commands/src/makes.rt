@@ -21,15 +21,16 @@ use block_checker::Accepted;
 use cert_maker::make;
 use cert_note::Certificate;
 use elf_image::{Image, attach};
-use explanations::{Command, parameter_reason};
+use explanations::parameter_reason;
 use job_file::{JobError, MakeJob, make_job_in};
+use job_reasons::Command;
 use region_mem::Parameters;
 use std::alloc::Global;
 use std::io::Write;
 use toml::Table;
 
 /// The paths that `make` is given.
-#[derive(Clone, Copy, Debug)]
+#[derive(Clone, Copy)]
 pub struct MakePaths<'a> {
     /// The image file that is read.
     pub image: &'a str,

@@ -13,7 +13,7 @@ use crate::starts::{Ready, Start, on_table, started};
 use crate::stop::{Ending, Status, Stop};
 use crate::store::{MOST_READS, Store};
 use crate::why::{Why, note_open};
-use explanations::Command;
+use job_reasons::Command;
 use monitor::Monitor;
 use region_mem::Args;
 use sandbox_run::Session;

@@ -15,7 +15,7 @@ use crate::stop::{Ending, Status, Stop};
 use crate::store::Store;
 use crate::trial::{Trial, finish};
 use crate::why::{Why, note_open};
-use explanations::Command;
+use job_reasons::Command;
 use region_mem::Args;
 use sandbox_run::Session;
 use std::alloc::Global;

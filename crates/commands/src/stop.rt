@@ -21,7 +21,7 @@ use std::io;
 use std::io::Write;
 
 /// What the program's exit status says.
-#[derive(Clone, Copy, Debug, PartialEq, Eq)]
+#[derive(Clone, Copy, PartialEq, Eq)]
 pub enum Status {
     /// All was done.
     Done,
@@ -54,7 +54,7 @@ impl Status {
 }
 
 /// How the program ended.
-#[derive(Clone, Copy, Debug)]
+#[derive(Clone, Copy)]
 pub struct Ending {
     /// What its exit status says.
     pub status: Status,

@@ -5,11 +5,11 @@ ghost use Rattle.commands.specs.Why.{Notes};
 use block_checker::{Accepted, CheckError};
 use cert_maker::MakeError;
 use cert_note::{CertError, Certificate};
+use check_reasons::check_reason;
 use elf_image::{ElfError, Image};
-use explanations::{
-    Command, Refusal, attach_reason, certificate_reason, check_reason, image_reason, job_reason,
-    open_reason, word_reason,
-};
+use explanations::{Refusal, attach_reason, certificate_reason, image_reason, word_reason};
+use job_reasons::{Command, job_reason};
+use open_reasons::open_reason;
 use region_mem::{Arg, Args, Fault, Parameters};
 use rv_listing::{Over, put_listing};
 use sandbox_run::OpenError;

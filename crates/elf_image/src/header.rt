@@ -119,7 +119,7 @@ pub fn part_of(bytes: &[u8], offset: usize, size: usize) -> &[u8]
 }
 
 /// A program header ("Program Header", `Elf32_Phdr`), without the fields that play no part.
-#[derive(Clone, Copy, Debug, Default, PartialEq, Eq)]
+#[derive(Clone, Copy, Default, PartialEq, Eq)]
 pub struct ProgramHeader {
     pub p_type: u32,
     pub p_offset: u32,

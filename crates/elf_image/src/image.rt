@@ -13,7 +13,7 @@ use std::marker::Model;
 
 /// What a file becomes in memory: its entry, its segments in the order of their program headers, and its
 /// certificate. `A` is the allocator of their bytes.
-#[derive(Debug, Drop)]
+#[derive(Drop)]
 pub struct Image<A: Allocator = Global> {
     entry: u32,
     segments: Vec<Segment<A>, A>,

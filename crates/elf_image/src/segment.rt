@@ -10,7 +10,7 @@ use std::alloc::{AllocError, Allocator, Global};
 use std::marker::Model;
 
 /// What may be done with the bytes of a segment.
-#[derive(Clone, Copy, Debug, PartialEq, Eq)]
+#[derive(Clone, Copy, PartialEq, Eq)]
 pub struct Rights {
     pub read: bool,
     pub write: bool,
@@ -19,7 +19,7 @@ pub struct Rights {
 
 /// A segment: where it lies in memory, its bytes that come from the file, and its rights. Its bytes past
 /// those of the file are 0. `A` is the allocator of its bytes.
-#[derive(Debug, Drop)]
+#[derive(Drop)]
 pub struct Segment<A: Allocator = Global> {
     address: u32,
     bytes: Vec<u8, A>,

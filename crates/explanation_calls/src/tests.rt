@@ -1,9 +1,6 @@
 //! The tests, by what they try.
 
 mod assertions;
-mod certificates;
-mod checks;
 mod files;
 mod jobs;
 mod opens;
-mod samples;

@@ -2,12 +2,6 @@ pub mod Address
 pub mod Headers
 pub mod Image
 pub mod Certificate
-pub mod Open
-pub mod Access
-pub mod Check
-pub mod Job
-pub mod Edge
-pub mod Sums
-pub mod Unshown
+pub mod Words
 pub mod Make
 pub mod Refusal

@@ -13,7 +13,7 @@ use Rattle.region_mem.specs.Parameter.{is_valid}
 use Rattle.region_mem.specs.declared.parameter.Param.{Param}
 use Rattle.region_mem.specs.declared.parameter.Param.TheVariants as parameter
 use Rattle.rv_listing.specs.Listing.{listing_text}
-use Rattle.explanations.specs.Check.{listing_line, word_line}
+use Rattle.explanations.specs.Words.{listing_line, word_line}
 use Rattle.explanations.specs.declared.make.LoopRow.{LoopRow}
 use Rattle.explanations.specs.declared.make.LoopRow.TheVariants as row
 use Rattle.explanations.specs.declared.make.MakeReason.{MakeReason}

@@ -3,7 +3,7 @@ use region_mem::Digits;
 use std::fmt;
 
 /// An address or a word, which is told as `0x` and eight digits of base 16. The end of an area may be 2^32.
-#[derive(Clone, Copy, Debug, PartialEq, Eq)]
+#[derive(Clone, Copy, PartialEq, Eq)]
 pub struct Address(pub u64);
 
 impl fmt::Display for Address {

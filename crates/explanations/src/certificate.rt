@@ -8,7 +8,7 @@ use std::alloc::{AllocError, Allocator};
 use std::fmt;
 
 /// Why bytes are no certificate, and where reading them stopped.
-#[derive(Clone, Copy, Debug, PartialEq, Eq)]
+#[derive(Clone, Copy, PartialEq, Eq)]
 pub struct CertificateReason {
     /// Why the bytes are no certificate.
     pub error: CertError,

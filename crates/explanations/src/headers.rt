@@ -9,7 +9,7 @@ use elf_image::{E_PHNUM, ProgramHeader, half_at, header_offset, program_header_a
 use std::fmt;
 
 /// A rule that each program header has to meet.
-#[derive(Clone, Copy, Debug, PartialEq, Eq)]
+#[derive(Clone, Copy, PartialEq, Eq)]
 pub enum SegmentRule {
     /// None asks for dynamic linking, an interpreter or thread-local storage.
     Static,
@@ -22,7 +22,7 @@ pub enum SegmentRule {
 }
 
 /// A program header: its number in the table, from 0 on, where it begins in the file, and what its fields say.
-#[derive(Clone, Copy, Debug, PartialEq, Eq)]
+#[derive(Clone, Copy, PartialEq, Eq)]
 pub struct Header {
     pub number: usize,
     pub offset: usize,

@@ -15,7 +15,7 @@ use elf_image::{
 use std::fmt;
 
 /// A field of an ELF header.
-#[derive(Clone, Copy, Debug, PartialEq, Eq)]
+#[derive(Clone, Copy, PartialEq, Eq)]
 pub enum ElfField {
     /// The first four bytes of `e_ident`.
     Magic,
@@ -46,7 +46,7 @@ pub enum ElfField {
 }
 
 /// Why a file is no image that runs.
-#[derive(Clone, Copy, Debug, PartialEq, Eq)]
+#[derive(Clone, Copy, PartialEq, Eq)]
 pub enum ImageReason {
     /// There is nothing to tell of the file.
     Untold,

@@ -5,14 +5,14 @@ ghost use Rattle.explanations.specs.Make.{IsWordReason, attach_reason, certifica
 ghost use Rattle.explanations.specs.Make.{is_invalid, parameter_reason, room_wanted, row_of};
 ghost use Rattle.explanations.specs.Make.{bare_wanted, row_wanted, size_wanted};
 
-use crate::check::{listed, word_line};
+use crate::words::{WordLine, listed};
 use elf_image::{E_PHNUM, ElfError, Image, half_at, is_too_short};
 use region_mem::{MAX_BUFFER_SIZE, Param};
 use std::alloc::{AllocError, Global};
 use std::fmt;
 
 /// The rows of a plain loop, as docs/MAKE.md has them, of which one is wanted at an address.
-#[derive(Clone, Copy, Debug, PartialEq, Eq)]
+#[derive(Clone, Copy, PartialEq, Eq)]
 pub enum LoopRow {
     /// The first, at the entry.
     Count,
@@ -23,7 +23,7 @@ pub enum LoopRow {
 }
 
 /// Why no certificate is made.
-#[derive(Debug, Drop)]
+#[derive(Drop)]
 pub enum MakeReason {
     /// There is nothing to tell.
     Untold,
@@ -255,7 +255,7 @@ impl fmt::Display for MakeReason {
         match self {
             MakeReason::Untold => Ok(()),
             MakeReason::NoWord { pc, row } => {
-                let line = word_line(*pc, None);
+                let line = WordLine(*pc, None);
                 let wanted = row_wanted(*row);
                 write!(f, "{line}{wanted}")
             }
@@ -265,7 +265,7 @@ impl fmt::Display for MakeReason {
                 listing,
                 row,
             } => {
-                let line = word_line(*pc, Some(*word));
+                let line = WordLine(*pc, Some(*word));
                 let wanted = row_wanted(*row);
                 write!(f, "{line}  that is {listing}\n{wanted}")
             }

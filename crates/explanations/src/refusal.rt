@@ -2,7 +2,7 @@
 use std::fmt;
 
 /// An error, and the reason that is told of it: the error's text on a line of its own, and then the reason's lines.
-#[derive(Debug, Drop)]
+#[derive(Drop)]
 pub struct Refusal<E, R> {
     pub error: E,
     pub reason: R,

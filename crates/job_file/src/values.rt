@@ -78,7 +78,7 @@ pub type TryJob<T> = RunnableJob<T, TryParam<T>>;
 pub type RunJob<T> = RunnableJob<T, RunParam<T>>;
 
 /// What `make` takes of a job, with a parameter for each place.
-#[derive(Clone, Copy, Debug, PartialEq, Eq)]
+#[derive(Clone, Copy, PartialEq, Eq)]
 pub struct MakeJob {
     pub vlen: Vlen,
     pub params: [region_mem::Param; 8],

@@ -3,7 +3,7 @@
 
 /// How the bits that a result has no room for are rounded off: the values of vxrm ("Vector Fixed-Point Rounding Mode
 /// Register vxrm").
-#[derive(Clone, Copy, PartialEq, Eq, Debug)]
+#[derive(Clone, Copy, PartialEq, Eq)]
 pub enum RoundingMode {
     /// rnu, 0: to the nearest, halves up.
     NearestUp,
@@ -16,7 +16,7 @@ pub enum RoundingMode {
 }
 
 /// An operation of the chunk calls, with vxrm where it rounds.
-#[derive(Clone, Copy, PartialEq, Eq, Debug)]
+#[derive(Clone, Copy, PartialEq, Eq)]
 pub enum Op {
     /// vsaddu
     Saddu,

@@ -3,7 +3,7 @@
 use rv_decode::{CompareOp, MultiplyAddOp};
 
 /// An operation of the chunk calls: on vs2's lane, on b and on vd's old lane.
-#[derive(Clone, Copy, PartialEq, Eq, Debug)]
+#[derive(Clone, Copy, PartialEq, Eq)]
 pub enum Op {
     /// vadd
     Add,

@@ -7,14 +7,14 @@ ghost use Rattle.linear_facts.specs.Ranges.{changed_or};
 use std::marker::Model;
 
 /// The numbers from `lo` to `hi`, both included.
-#[derive(Clone, Copy, Debug, PartialEq, Eq)]
+#[derive(Clone, Copy, PartialEq, Eq)]
 pub struct Range {
     pub lo: u32,
     pub hi: u32,
 }
 
 /// One of the two ends of a range.
-#[derive(Clone, Copy, Debug, PartialEq, Eq)]
+#[derive(Clone, Copy, PartialEq, Eq)]
 pub enum End {
     Lo,
     Hi,
@@ -52,21 +52,21 @@ impl Range {
 }
 
 /// The two atoms whose sum an atom is, in whole numbers.
-#[derive(Clone, Copy, Debug, PartialEq, Eq)]
+#[derive(Clone, Copy, PartialEq, Eq)]
 pub struct Split {
     pub first: u16,
     pub second: u16,
 }
 
 /// What is known of an unknown number: its range, and the two atoms whose sum it is, if it was split.
-#[derive(Clone, Copy, Debug, PartialEq, Eq)]
+#[derive(Clone, Copy, PartialEq, Eq)]
 pub struct Atom {
     pub range: Range,
     pub split: Option<Split>,
 }
 
 /// A range that stands in place of an atom's own.
-#[derive(Clone, Copy, Debug, PartialEq, Eq)]
+#[derive(Clone, Copy, PartialEq, Eq)]
 pub struct Change {
     pub atom: u16,
     pub range: Range,

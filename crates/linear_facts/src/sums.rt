@@ -17,14 +17,14 @@ use crate::ranges::{Atoms, End, Range};
 use arrayvec::ArrayVec;
 
 /// A side of 0: what is added to a sum, or taken away from it.
-#[derive(Clone, Copy, Debug, PartialEq, Eq)]
+#[derive(Clone, Copy, PartialEq, Eq)]
 pub(crate) enum Side {
     Added,
     Taken,
 }
 
 /// A coefficient, `plus - minus`, times an atom.
-#[derive(Clone, Copy, Debug, Default, PartialEq, Eq)]
+#[derive(Clone, Copy, Default, PartialEq, Eq)]
 pub(crate) struct WholeTerm {
     pub(crate) atom: u16,
     pub(crate) plus: u128,
@@ -32,7 +32,7 @@ pub(crate) struct WholeTerm {
 }
 
 /// The whole numbers from `lo` to `hi`, both with 2^112 added.
-#[derive(Clone, Copy, Debug, PartialEq, Eq)]
+#[derive(Clone, Copy, PartialEq, Eq)]
 pub(crate) struct Interval {
     pub(crate) lo: u128,
     pub(crate) hi: u128,

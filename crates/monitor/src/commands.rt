@@ -8,7 +8,7 @@ use std::error::Error;
 use std::fmt;
 
 /// What a line asks for, with numbers that were judged.
-#[derive(Clone, Copy, Debug, PartialEq, Eq)]
+#[derive(Clone, Copy, PartialEq, Eq)]
 pub enum Command {
     /// `b`: a breakpoint at an address, a multiple of 4.
     Break(u32),
@@ -43,7 +43,7 @@ pub enum Command {
 }
 
 /// Whether commands go on.
-#[derive(Clone, Copy, Debug, PartialEq, Eq)]
+#[derive(Clone, Copy, PartialEq, Eq)]
 pub enum Flow {
     /// The next command is awaited.
     Go,

@@ -1,12 +1,7 @@
 //! The tests, by what they try.
 
-mod accepted;
 mod assertions;
-mod explaining;
-mod limits;
-mod making;
-mod monitoring;
+mod performances;
 mod reading;
-mod shelf;
-mod spelling;
-mod trying;
+mod stores;
+mod system;

@@ -13,7 +13,7 @@ fn are_bytes(bytes: &[u8])
 }
 
 /// The bytes of a buffer, in a vector that is moved in and out and never copied. `A` is its allocator.
-#[derive(Debug, Drop)]
+#[derive(Drop)]
 pub struct Bytes<A: Allocator = Global> {
     items: Vec<u8, A>,
 }
@@ -101,7 +101,7 @@ impl<A: Allocator> Bytes<A> {
 }
 
 /// What a caller passes at one place, a buffer as `B`.
-#[derive(Debug, Drop)]
+#[derive(Drop)]
 pub enum Arg<B = Bytes> {
     None,
     Scalar(u32),
@@ -109,13 +109,13 @@ pub enum Arg<B = Bytes> {
 }
 
 /// What a caller passes, by place. Place `n` is handed over in register a`n`.
-#[derive(Debug, Drop)]
+#[derive(Drop)]
 pub struct Args<B = Bytes> {
     pub places: [Arg<B>; 8],
 }
 
 /// What a place was passed, without a buffer's bytes.
-#[derive(Clone, Copy, Debug, PartialEq, Eq)]
+#[derive(Clone, Copy, PartialEq, Eq)]
 pub enum Passed {
     None,
     Scalar(u32),

@@ -2,7 +2,7 @@
 use std::fmt;
 
 /// A number as eight digits of base 16 or more, as addresses and words are told.
-#[derive(Clone, Copy, Debug, PartialEq, Eq)]
+#[derive(Clone, Copy, PartialEq, Eq)]
 pub struct Digits(pub u64);
 
 impl fmt::Display for Digits {

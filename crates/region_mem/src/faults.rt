@@ -7,7 +7,7 @@ use std::error::Error;
 use std::fmt;
 
 /// What an access asks of each byte.
-#[derive(Clone, Copy, Debug, PartialEq, Eq)]
+#[derive(Clone, Copy, PartialEq, Eq)]
 pub enum Right {
     Read,
     Write,

@@ -19,14 +19,14 @@ use std::fmt;
 use std::marker::Model;
 
 /// How a kernel may use a buffer.
-#[derive(Clone, Copy, Debug, PartialEq, Eq)]
+#[derive(Clone, Copy, PartialEq, Eq)]
 pub enum Mode {
     Read,
     ReadWrite,
 }
 
 /// What a kernel takes at one place.
-#[derive(Clone, Copy, Debug, PartialEq, Eq)]
+#[derive(Clone, Copy, PartialEq, Eq)]
 pub enum Param {
     None,
     /// A number from `lo` to `hi`, both included.
@@ -121,7 +121,7 @@ fn room_before(params: &[Param]) -> u64
 }
 
 /// A kernel's parameters, by place, each of them valid.
-#[derive(Clone, Copy, Debug)]
+#[derive(Clone, Copy)]
 pub struct Parameters {
     params: [Param; 8],
 }

@@ -10,7 +10,7 @@ use std::alloc::{Allocator, Global};
 use std::marker::Model;
 
 /// Bytes from an address on, and what may be done with them.
-#[derive(Debug, Drop)]
+#[derive(Drop)]
 pub struct Region<A: Allocator = Global> {
     first: u64,
     bytes: Bytes<A>,

@@ -15,7 +15,7 @@ use crate::{
 };
 
 /// The width of the elements of an operand: a multiple of SEW, or a width of its own.
-#[derive(Clone, Copy, PartialEq, Eq, Debug)]
+#[derive(Clone, Copy, PartialEq, Eq)]
 pub enum Eew {
     Quarter,
     Half,
@@ -38,7 +38,7 @@ impl Fraction {
 }
 
 /// How much of the registers an operand covers.
-#[derive(Clone, Copy, PartialEq, Eq, Debug)]
+#[derive(Clone, Copy, PartialEq, Eq)]
 pub enum Extent {
     /// A group of EMUL = EEW / SEW * LMUL registers.
     Group(Eew),
@@ -51,14 +51,14 @@ pub enum Extent {
 }
 
 /// An operand in vector registers: the first register of what it covers.
-#[derive(Clone, Copy, PartialEq, Eq, Debug)]
+#[derive(Clone, Copy, PartialEq, Eq)]
 pub struct Operand {
     pub first: Reg,
     pub extent: Extent,
 }
 
 /// What a destination may share with a source: registers as the overlap rule allows by their widths, or nothing.
-#[derive(Clone, Copy, PartialEq, Eq, Debug)]
+#[derive(Clone, Copy, PartialEq, Eq)]
 pub enum Sharing {
     ByWidth,
     Nothing,
@@ -66,7 +66,7 @@ pub enum Sharing {
 
 /// The operands of an instruction in vector registers. The data of a store stands in `vs1`. `is_masked` says that the
 /// instruction reads v0 as its mask, or as its carry or selecting operand.
-#[derive(Clone, Copy, PartialEq, Eq, Debug)]
+#[derive(Clone, Copy, PartialEq, Eq)]
 pub struct Operands {
     pub destination: Option<Operand>,
     pub vs2: Option<Operand>,

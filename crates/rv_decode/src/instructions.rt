@@ -5,7 +5,7 @@ ghost use Rattle.std.specs.Prelude.{◌≡◌, ◌<◌, ◌≤◌, ◌⊎◌};
 use std::marker::Model;
 
 /// The number of a register, scalar or vector: below 32.
-#[derive(Clone, Copy, PartialEq, Eq, Debug)]
+#[derive(Clone, Copy, PartialEq, Eq)]
 pub struct Reg {
     number: u8,
 }
@@ -41,7 +41,7 @@ impl Reg {
 }
 
 /// How many bits an element or an access has.
-#[derive(Clone, Copy, PartialEq, Eq, Debug)]
+#[derive(Clone, Copy, PartialEq, Eq)]
 pub enum Width {
     W8,
     W16,
@@ -81,7 +81,7 @@ impl Width {
 }
 
 /// An instruction, by its class.
-#[derive(Clone, Copy, PartialEq, Eq, Debug)]
+#[derive(Clone, Copy, PartialEq, Eq)]
 pub enum Insn {
     Scalar(ScalarInsn),
     Csr(CsrInsn),
@@ -108,7 +108,7 @@ macro_rules! vector_arithmetic {
 }
 
 /// The instructions of RV32I and M, but for those on CSRs.
-#[derive(Clone, Copy, PartialEq, Eq, Debug)]
+#[derive(Clone, Copy, PartialEq, Eq)]
 pub enum ScalarInsn {
     /// `imm` has its twelve zeros.
     Lui {
@@ -184,7 +184,7 @@ macro_rules! integer_computation {
 }
 
 /// When a branch is taken: beq, bne, blt, bge, bltu, bgeu.
-#[derive(Clone, Copy, PartialEq, Eq, Debug)]
+#[derive(Clone, Copy, PartialEq, Eq)]
 pub enum Condition {
     Eq,
     Ne,
@@ -195,7 +195,7 @@ pub enum Condition {
 }
 
 /// What a scalar load reads: lb, lh, lw, lbu, lhu.
-#[derive(Clone, Copy, PartialEq, Eq, Debug)]
+#[derive(Clone, Copy, PartialEq, Eq)]
 pub enum LoadKind {
     Byte,
     Half,
@@ -221,7 +221,7 @@ impl LoadKind {
 }
 
 /// The operations on a register and a signed immediate.
-#[derive(Clone, Copy, PartialEq, Eq, Debug)]
+#[derive(Clone, Copy, PartialEq, Eq)]
 pub enum ImmediateOp {
     Addi,
     Slti,
@@ -232,7 +232,7 @@ pub enum ImmediateOp {
 }
 
 /// The shifts by an immediate amount.
-#[derive(Clone, Copy, PartialEq, Eq, Debug)]
+#[derive(Clone, Copy, PartialEq, Eq)]
 pub enum ShiftOp {
     Slli,
     Srli,
@@ -240,7 +240,7 @@ pub enum ShiftOp {
 }
 
 /// The operations on two registers.
-#[derive(Clone, Copy, PartialEq, Eq, Debug)]
+#[derive(Clone, Copy, PartialEq, Eq)]
 pub enum RegisterOp {
     Add,
     Sub,
@@ -263,7 +263,7 @@ pub enum RegisterOp {
 }
 
 /// The six forms that read a CSR and write, set or clear its bits.
-#[derive(Clone, Copy, PartialEq, Eq, Debug)]
+#[derive(Clone, Copy, PartialEq, Eq)]
 pub struct CsrInsn {
     pub action: CsrAction,
     pub csr: CsrName,
@@ -271,14 +271,14 @@ pub struct CsrInsn {
     pub rd: Reg,
 }
 
-#[derive(Clone, Copy, PartialEq, Eq, Debug)]
+#[derive(Clone, Copy, PartialEq, Eq)]
 pub enum CsrAction {
     Write,
     Set,
     Clear,
 }
 
-#[derive(Clone, Copy, PartialEq, Eq, Debug)]
+#[derive(Clone, Copy, PartialEq, Eq)]
 pub enum CsrName {
     Vxsat,
     Vxrm,
@@ -288,7 +288,7 @@ pub enum CsrName {
     Vlenb,
 }
 
-#[derive(Clone, Copy, PartialEq, Eq, Debug)]
+#[derive(Clone, Copy, PartialEq, Eq)]
 pub enum CsrSource {
     Register(Reg),
     /// Below 32.
@@ -296,7 +296,7 @@ pub enum CsrSource {
 }
 
 /// The forms that set vl and vtype; `vtype` is the requested one, `avl` below 32.
-#[derive(Clone, Copy, PartialEq, Eq, Debug)]
+#[derive(Clone, Copy, PartialEq, Eq)]
 pub enum VSet {
     Vsetvli { rd: Reg, rs1: Reg, vtype: u32 },
     Vsetivli { rd: Reg, avl: u32, vtype: u32 },
@@ -304,7 +304,7 @@ pub enum VSet {
 }
 
 /// The second operand of a vector instruction: vs1, x[rs1], or an immediate.
-#[derive(Clone, Copy, PartialEq, Eq, Debug)]
+#[derive(Clone, Copy, PartialEq, Eq)]
 pub enum Source {
     Vector(Reg),
     Scalar(Reg),
@@ -312,7 +312,7 @@ pub enum Source {
 }
 
 /// Vector arithmetic, by the shape of its operands. `masked` says that vm is 0, so that the mask v0 governs.
-#[derive(Clone, Copy, PartialEq, Eq, Debug)]
+#[derive(Clone, Copy, PartialEq, Eq)]
 pub enum VArith {
     /// vd is an operation on vs2 and b.
     Int {
@@ -423,7 +423,7 @@ pub enum VArith {
 }
 
 /// The single-width integer operations of two operands: vadd, vsub, vrsub and so on.
-#[derive(Clone, Copy, PartialEq, Eq, Debug)]
+#[derive(Clone, Copy, PartialEq, Eq)]
 pub enum IntOp {
     Add,
     Sub,
@@ -449,7 +449,7 @@ pub enum IntOp {
 }
 
 /// vmadd, vnmsub, vmacc, vnmsac.
-#[derive(Clone, Copy, PartialEq, Eq, Debug)]
+#[derive(Clone, Copy, PartialEq, Eq)]
 pub enum MultiplyAddOp {
     Madd,
     Nmsub,
@@ -458,21 +458,21 @@ pub enum MultiplyAddOp {
 }
 
 /// vadc, vsbc.
-#[derive(Clone, Copy, PartialEq, Eq, Debug)]
+#[derive(Clone, Copy, PartialEq, Eq)]
 pub enum CarryOp {
     Adc,
     Sbc,
 }
 
 /// vmadc, vmsbc.
-#[derive(Clone, Copy, PartialEq, Eq, Debug)]
+#[derive(Clone, Copy, PartialEq, Eq)]
 pub enum CarryOutOp {
     Madc,
     Msbc,
 }
 
 /// vmseq, vmsne, vmsltu, vmslt, vmsleu, vmsle, vmsgtu, vmsgt.
-#[derive(Clone, Copy, PartialEq, Eq, Debug)]
+#[derive(Clone, Copy, PartialEq, Eq)]
 pub enum CompareOp {
     Eq,
     Ne,
@@ -485,7 +485,7 @@ pub enum CompareOp {
 }
 
 /// The fixed-point operations of one width: vsaddu to vasub, vsmul, vssrl and vssra.
-#[derive(Clone, Copy, PartialEq, Eq, Debug)]
+#[derive(Clone, Copy, PartialEq, Eq)]
 pub enum FixedOp {
     Saddu,
     Sadd,
@@ -501,7 +501,7 @@ pub enum FixedOp {
 }
 
 /// vwaddu to vwsub, vwmulu, vwmulsu and vwmul.
-#[derive(Clone, Copy, PartialEq, Eq, Debug)]
+#[derive(Clone, Copy, PartialEq, Eq)]
 pub enum WidenOp {
     Addu,
     Add,
@@ -513,7 +513,7 @@ pub enum WidenOp {
 }
 
 /// vwaddu.w to vwsub.w.
-#[derive(Clone, Copy, PartialEq, Eq, Debug)]
+#[derive(Clone, Copy, PartialEq, Eq)]
 pub enum WideOp {
     Addu,
     Add,
@@ -522,7 +522,7 @@ pub enum WideOp {
 }
 
 /// vwmaccu, vwmacc, vwmaccus, vwmaccsu.
-#[derive(Clone, Copy, PartialEq, Eq, Debug)]
+#[derive(Clone, Copy, PartialEq, Eq)]
 pub enum WidenMultiplyAddOp {
     Maccu,
     Macc,
@@ -531,28 +531,28 @@ pub enum WidenMultiplyAddOp {
 }
 
 /// vnsrl, vnsra.
-#[derive(Clone, Copy, PartialEq, Eq, Debug)]
+#[derive(Clone, Copy, PartialEq, Eq)]
 pub enum NarrowOp {
     Srl,
     Sra,
 }
 
 /// vnclipu, vnclip.
-#[derive(Clone, Copy, PartialEq, Eq, Debug)]
+#[derive(Clone, Copy, PartialEq, Eq)]
 pub enum ClipOp {
     Clipu,
     Clip,
 }
 
 /// The width of what vzext and vsext extend: SEW / 2 or SEW / 4.
-#[derive(Clone, Copy, PartialEq, Eq, Debug)]
+#[derive(Clone, Copy, PartialEq, Eq)]
 pub enum Fraction {
     Half,
     Quarter,
 }
 
 /// The instructions on masks.
-#[derive(Clone, Copy, PartialEq, Eq, Debug)]
+#[derive(Clone, Copy, PartialEq, Eq)]
 pub enum VMask {
     /// The bits of vd are an operation on those of vs2 and vs1.
     Logic {
@@ -594,7 +594,7 @@ pub enum VMask {
 }
 
 /// vmandn to vmxnor.
-#[derive(Clone, Copy, PartialEq, Eq, Debug)]
+#[derive(Clone, Copy, PartialEq, Eq)]
 pub enum LogicOp {
     Andn,
     And,
@@ -607,7 +607,7 @@ pub enum LogicOp {
 }
 
 /// vmsbf, vmsof, vmsif.
-#[derive(Clone, Copy, PartialEq, Eq, Debug)]
+#[derive(Clone, Copy, PartialEq, Eq)]
 pub enum FirstOp {
     Before,
     Only,
@@ -615,7 +615,7 @@ pub enum FirstOp {
 }
 
 /// The instructions that move elements among places.
-#[derive(Clone, Copy, PartialEq, Eq, Debug)]
+#[derive(Clone, Copy, PartialEq, Eq)]
 pub enum VPerm {
     SlideUp {
         vd: Reg,
@@ -666,14 +666,14 @@ pub enum VPerm {
 }
 
 /// How far vslideup and vslidedown slide: x[rs1], or an immediate below 32.
-#[derive(Clone, Copy, PartialEq, Eq, Debug)]
+#[derive(Clone, Copy, PartialEq, Eq)]
 pub enum Offset {
     Scalar(Reg),
     Immediate(u32),
 }
 
 /// The reductions: element 0 of vd is element 0 of vs1 together with the active elements of vs2.
-#[derive(Clone, Copy, PartialEq, Eq, Debug)]
+#[derive(Clone, Copy, PartialEq, Eq)]
 pub enum VReduce {
     Fold {
         op: FoldOp,
@@ -693,7 +693,7 @@ pub enum VReduce {
 }
 
 /// vredsum to vredmax.
-#[derive(Clone, Copy, PartialEq, Eq, Debug)]
+#[derive(Clone, Copy, PartialEq, Eq)]
 pub enum FoldOp {
     Sum,
     And,
@@ -706,7 +706,7 @@ pub enum FoldOp {
 }
 
 /// The moves between element 0 and an x register, and those of whole registers.
-#[derive(Clone, Copy, PartialEq, Eq, Debug)]
+#[derive(Clone, Copy, PartialEq, Eq)]
 pub enum VMove {
     /// vmv.x.s: rd is element 0 of vs2.
     ToScalar { rd: Reg, vs2: Reg },
@@ -717,7 +717,7 @@ pub enum VMove {
 }
 
 /// How many registers a whole-register form has.
-#[derive(Clone, Copy, PartialEq, Eq, Debug)]
+#[derive(Clone, Copy, PartialEq, Eq)]
 pub enum Count {
     One,
     Two,
@@ -726,7 +726,7 @@ pub enum Count {
 }
 
 /// A vector load or store: `values` is the data's group, `rs1` holds the base address.
-#[derive(Clone, Copy, PartialEq, Eq, Debug)]
+#[derive(Clone, Copy, PartialEq, Eq)]
 pub struct VMem {
     pub direction: Direction,
     pub place: Addressing,
@@ -734,14 +734,14 @@ pub struct VMem {
     pub rs1: Reg,
 }
 
-#[derive(Clone, Copy, PartialEq, Eq, Debug)]
+#[derive(Clone, Copy, PartialEq, Eq)]
 pub enum Direction {
     Load,
     Store,
 }
 
 /// The addressing mode of a vector load or store: where its elements lie.
-#[derive(Clone, Copy, PartialEq, Eq, Debug)]
+#[derive(Clone, Copy, PartialEq, Eq)]
 pub enum Addressing {
     /// One after another from the base on, as many as vl.
     Unit {

@@ -1,4 +1,4 @@
--- Why a file is refused, in words: those of the reason that the crate `explanations` tells.
+-- Why a file is refused, in words: those of the reason that `explanations` or `check_reasons` tells.
 use Rattle.std.specs.Prelude.{ℕ, ◌≡◌, ◌⊎◌, ◌++◌, List, [], length, min, take, drop, codes, Option, None, Some, Result, Ok, Err}
 use Rattle.std.specs.declared.alloc.Global.{Global}
 use Rattle.block_checker.specs.Explained.{Explains, answer_of}
@@ -8,17 +8,17 @@ use Rattle.cert_note.specs.Certificate.{CertificateView}
 use Rattle.cert_note.specs.Reading.{certificate_of}
 use Rattle.cert_note.specs.Refusals.{refusal_text}
 use Rattle.cert_note.specs.declared.refusals.CertError.{CertError}
+use Rattle.check_reasons.specs.Check.{IsListed, IsWanted, check_text}
+use Rattle.check_reasons.specs.declared.check.CheckReason.{CheckReason}
 use Rattle.elf_image.specs.Error.{error_text}
 use Rattle.elf_image.specs.Faults.{fault_of}
 use Rattle.elf_image.specs.File.{image_of}
 use Rattle.elf_image.specs.Image.{ImageView}
 use Rattle.elf_image.specs.declared.error.ElfError.{ElfError}
 use Rattle.explanations.specs.Certificate.{IsReason, certificate_text}
-use Rattle.explanations.specs.Check.{IsListed, IsWanted, check_text}
 use Rattle.explanations.specs.Image.{Tells, image_text}
 use Rattle.explanations.specs.Refusal.{told}
 use Rattle.explanations.specs.declared.certificate.CertificateReason.{CertificateReason}
-use Rattle.explanations.specs.declared.check.CheckReason.{CheckReason}
 use Rattle.explanations.specs.declared.image.ImageReason.{ImageReason}
 use Rattle.vreg_groups.specs.declared.vector_length.Vlen.{Vlen}
 use Rattle.rvvbox_c.specs.Accept.{vlen_at}

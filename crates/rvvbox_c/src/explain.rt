@@ -12,8 +12,9 @@ ghost use Rattle.rvvbox_c.specs.declared.status.Status.TheVariants.{NoMemory};
 use crate::accept::vlen_of;
 use crate::status::Status;
 use cert_note::{CertError, Certificate};
+use check_reasons::check_reason;
 use elf_image::{ElfError, Image};
-use explanations::{Refusal, certificate_reason, check_reason, image_reason};
+use explanations::{Refusal, certificate_reason, image_reason};
 use std::alloc::Global;
 use vreg_groups::Vlen;
 

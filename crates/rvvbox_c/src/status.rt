@@ -17,7 +17,7 @@ use sandbox_run::OpenError;
 use std::alloc::AllocError;
 
 /// What came of a call.
-#[derive(Clone, Copy, Debug, PartialEq, Eq)]
+#[derive(Clone, Copy, PartialEq, Eq)]
 pub enum Status {
     /// All was done: the image is accepted, or the run has ended.
     Done,
@@ -192,7 +192,7 @@ impl From<OpenError> for Status {
 /// Why an image is refused: the status, the number of the rule in its order in `include/rvvbox.h`,
 /// from 1 on, and the address of the word at which a check stopped. What there is not is 0.
 #[repr(C)]
-#[derive(Clone, Copy, Debug, PartialEq, Eq)]
+#[derive(Clone, Copy, PartialEq, Eq)]
 pub struct Refusal {
     pub status: u32,
     pub rule: u32,

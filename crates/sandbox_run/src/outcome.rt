@@ -9,7 +9,7 @@ use std::fmt;
 use vreg_groups::VregFile;
 
 /// The registers at the end of a run.
-#[derive(Clone, Copy, Debug, PartialEq, Eq)]
+#[derive(Clone, Copy, PartialEq, Eq)]
 pub struct Registers {
     /// The program counter.
     pub pc: u32,

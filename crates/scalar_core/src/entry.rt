@@ -8,7 +8,7 @@ use crate::hart::EXIT;
 use region_mem::STACK_END;
 
 /// What a register holds at the start of a run.
-#[derive(Clone, Copy, Debug, PartialEq)]
+#[derive(Clone, Copy, PartialEq)]
 pub enum EntryValue {
     /// The number.
     Number(u32),

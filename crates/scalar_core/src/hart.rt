@@ -12,7 +12,7 @@ pub const EXIT: u32 = 0xffff_fff0;
 
 /// pc, x0 to x31, and the CSRs vxrm (the rounding mode of fixed-point vector instructions) and
 /// vxsat (their saturation flag). x0 is always 0.
-#[derive(Debug, Drop)]
+#[derive(Drop)]
 pub struct Scalar {
     pc: u32,
     x: [u32; 32],

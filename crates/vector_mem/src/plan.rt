@@ -9,7 +9,7 @@ use std::marker::Model;
 use vreg_groups::MOST_ELEMENTS;
 
 /// The access of an element: where it begins, how many bytes it has, and the right that it needs.
-#[derive(Clone, Copy, PartialEq, Eq, Debug)]
+#[derive(Clone, Copy, PartialEq, Eq)]
 pub struct Access {
     pub element: usize,
     pub address: u32,

@@ -7,14 +7,14 @@ ghost use Rattle.vreg_groups.specs.NewElements.{new_element};
 use crate::vector_type::Vtype;
 
 /// What becomes of agnostic elements, throughout a run: they keep their values, or all their bits become ones.
-#[derive(Clone, Copy, PartialEq, Eq, Debug)]
+#[derive(Clone, Copy, PartialEq, Eq)]
 pub enum Agnostic {
     Keep,
     Ones,
 }
 
 /// What becomes of a destination's tail and of its inactive elements.
-#[derive(Clone, Copy, PartialEq, Eq, Debug)]
+#[derive(Clone, Copy, PartialEq, Eq)]
 pub struct Policy {
     pub tail: Agnostic,
     pub inactive: Agnostic,

@@ -8,7 +8,7 @@ ghost use Rattle.vreg_groups.specs.VectorLength.{vset_of, IsConfig, IsLength};
 use crate::vector_type::Vtype;
 
 /// VLEN, the number of bits of a vector register.
-#[derive(Clone, Copy, Debug, PartialEq, Eq)]
+#[derive(Clone, Copy, PartialEq, Eq)]
 pub enum Vlen {
     /// 128 bits.
     V128,
@@ -33,7 +33,7 @@ impl Vlen {
 }
 
 /// The registers vtype and vl.
-#[derive(Clone, Copy, PartialEq, Eq, Debug)]
+#[derive(Clone, Copy, PartialEq, Eq)]
 pub struct Vconfig {
     pub vtype: u32,
     pub vl: u32,
@@ -64,7 +64,7 @@ impl Vconfig {
 }
 
 /// The application vector length that a vset instruction asks for.
-#[derive(Clone, Copy, PartialEq, Eq, Debug)]
+#[derive(Clone, Copy, PartialEq, Eq)]
 pub enum Avl {
     /// The length that vl has.
     Keep,

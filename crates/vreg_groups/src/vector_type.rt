@@ -15,7 +15,7 @@ use rv_decode::{Eew, Width};
 pub const MOST_ELEMENTS: usize = 512;
 
 /// How many vector registers a group has, or which part of one: LMUL.
-#[derive(Clone, Copy, PartialEq, Eq, Debug)]
+#[derive(Clone, Copy, PartialEq, Eq)]
 pub enum Lmul {
     Quarter,
     Half,
@@ -29,7 +29,7 @@ pub enum Lmul {
 ///
 /// `sew` is the width of an element, `lmul` the size of a register group, `vta` whether the elements past the vector
 /// length are agnostic, `vma` whether those that the mask leaves out are.
-#[derive(Clone, Copy, PartialEq, Eq, Debug)]
+#[derive(Clone, Copy, PartialEq, Eq)]
 pub struct Vtype {
     pub sew: Width,
     pub lmul: Lmul,

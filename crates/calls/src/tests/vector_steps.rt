@@ -1,13 +1,10 @@
 //! How a step is made: a vset, a load, a sum, a store, and a fault; and instructions of two widths, whose results are worked
-//! out by hand from the standard.
+//! out by hand from the standard. The words come from the LLVM assembler.
 
 use crate::tests::assertions::{assert_same, given};
 use crate::tests::fixture::memory;
 use region_mem::{Fault, Regions};
-use rv_decode::{
-    ClipOp, FixedOp, Fraction, Insn, NarrowOp, Reg, Source, VArith, WideOp, WidenMultiplyAddOp,
-    WidenOp, decode,
-};
+use rv_decode::{Reg, decode};
 use scalar_core::Scalar;
 use std::process::Abort;
 use vector_core::{VectorState, step_vector};
@@ -57,166 +54,67 @@ fn assert_store_refused(
     assert_same!(rt; memory.byte(0x200e), Some(0x0f));
 }
 
-/// A step by an instruction that computes, and the first two bytes of v10 after it.
+/// A step by a word that computes, and the first two bytes of v10 after it.
 fn computed(
     vectors: &mut VectorState<16>,
     scalar: &mut Scalar,
     memory: &mut Regions,
-    insn: VArith,
+    word: u32,
 ) -> Result<u32, Fault> {
-    step_vector(vectors, scalar, 0, Insn::VArith(insn), memory)?;
+    step(vectors, scalar, memory, word)?;
     let low = u32::from(vectors.byte(Reg::new(10), 0));
     Ok(low + 0x100 * u32::from(vectors.byte(Reg::new(10), 1)))
 }
 
-/// A state under e8,m1 or e16,m1 with vl 3, whose v8 has bytes 80 and whose x12 is fe.
-fn ready(
-    rt: impl Abort + Copy,
-    scalar: &mut Scalar,
-    memory: &mut Regions,
-    vsetivli: u32,
-) -> VectorState<16> {
+/// A word, the first two bytes of v10 after it, and vxsat.
+type Step = (u32, u32, u32);
+
+/// An active element alone saturates.
+const SATURATING: [Step; 3] = [
+    (0x9c84_0557, 0, 0), // vsmul.vv v10,v8,v8,v0.t
+    (0x9e84_0557, 0x7f7f, 1), // vsmul.vv v10,v8,v8
+    (0x8280_b557, 0x8181, 1), // vsaddu.vi v10,v8,1
+];
+
+/// Elements of two widths.
+const WIDE: [Step; 6] = [
+    (0xea86_6557, 0x8100, 0), // vwmulsu.vx v10,v8,x12: -128 * 254
+    (0xdea6_6557, 0x8102, 0), // vwsub.wx v10,v10,x12: less -2
+    (0xfe86_6557, 0x8002, 0), // vwmaccsu.vx v10,x12,v8: and 128 * -2
+    (0xb6a4_b557, 0xc0c0, 0), // vnsra.wi v10,v10,9: -63.99, down
+    (0xea86_6557, 0x8100, 0), // vwmulsu.vx v10,v8,x12
+    (0xbaa4_b557, 0x4141, 0), // vnclipu.wi v10,v10,9: 64.5, half up
+];
+
+/// The halves of elements are extended.
+const HALVES: [Step; 2] = [
+    (0x4a83_a557, 0xff80, 0), // vsext.vf2 v10,v8
+    (0x4a83_2557, 0x80, 0), // vzext.vf2 v10,v8
+];
+
+/// Asserts what the words make of a state with vl 3 under e8,m1 or e16,m1, whose v8 has bytes 80 and whose x12 is fe.
+fn assert_steps(rt: impl Abort + Copy, memory: &mut Regions, vsetivli: u32, steps: &[Step]) {
     let mut vectors = VectorState::<16>::new(Agnostic::Keep);
+    let mut scalar = Scalar::new(0x1000);
     scalar.set_reg(Reg::new(11), 0x8080);
     scalar.set_reg(Reg::new(12), 0xfe);
-    given!(rt; step(&mut vectors, scalar, memory, vsetivli));
-    let splat = VArith::Copy {
-        vd: Reg::new(8),
-        b: Source::Scalar(Reg::new(11)),
-    };
-    given!(rt; step_vector(&mut vectors, scalar, 0, Insn::VArith(splat), memory));
-    vectors
-}
-
-#[test]
-fn an_active_element_alone_saturates(rt: HostRuntime) {
-    let mut memory = memory(rt, rt.alloc());
-    let mut scalar = Scalar::new(0x1000);
-    // vsetivli x7,3,e8,m1,ta,ma
-    let mut vectors = ready(rt, &mut scalar, &mut memory, 0xcc01_f3d7);
-    let product = |masked: bool| VArith::Fixed {
-        op: FixedOp::Smul,
-        vd: Reg::new(10),
-        vs2: Reg::new(8),
-        b: Source::Vector(Reg::new(8)),
-        masked,
-    };
-    let masked_off = computed(&mut vectors, &mut scalar, &mut memory, product(true));
-    assert_same!(rt; masked_off, Ok(0));
-    assert_same!(rt; scalar.vxsat(), 0);
-    let active = computed(&mut vectors, &mut scalar, &mut memory, product(false));
-    assert_same!(rt; active, Ok(0x7f7f));
-    assert_same!(rt; scalar.vxsat(), 1);
-    let sum = VArith::Fixed {
-        op: FixedOp::Saddu,
-        vd: Reg::new(10),
-        vs2: Reg::new(8),
-        b: Source::Immediate(1),
-        masked: false,
-    };
-    assert_same!(rt;
-        computed(&mut vectors, &mut scalar, &mut memory, sum),
-        Ok(0x8181)
-    );
-    assert_same!(rt; scalar.vxsat(), 1);
-}
-
-fn vwmulsu() -> VArith {
-    VArith::Widen {
-        op: WidenOp::Mulsu,
-        vd: Reg::new(10),
-        vs2: Reg::new(8),
-        b: Source::Scalar(Reg::new(12)),
-        masked: false,
+    for word in [vsetivli, 0x5e05_c457] { // vmv.v.x v8,x11
+        given!(rt; step(&mut vectors, &mut scalar, memory, word));
     }
-}
-
-fn vwsub_wide() -> VArith {
-    VArith::Wide {
-        op: WideOp::Sub,
-        vd: Reg::new(10),
-        vs2: Reg::new(10),
-        b: Source::Scalar(Reg::new(12)),
-        masked: false,
-    }
-}
-
-fn vwmaccsu() -> VArith {
-    VArith::WidenMultiplyAdd {
-        op: WidenMultiplyAddOp::Maccsu,
-        vd: Reg::new(10),
-        vs2: Reg::new(8),
-        b: Source::Scalar(Reg::new(12)),
-        masked: false,
-    }
-}
-
-fn vnsra() -> VArith {
-    VArith::Narrow {
-        op: NarrowOp::Sra,
-        vd: Reg::new(10),
-        vs2: Reg::new(10),
-        b: Source::Immediate(9),
-        masked: false,
-    }
-}
-
-fn vnclipu() -> VArith {
-    VArith::Clip {
-        op: ClipOp::Clipu,
-        vd: Reg::new(10),
-        vs2: Reg::new(10),
-        b: Source::Immediate(9),
-        masked: false,
+    for (word, bytes, vxsat) in steps {
+        let came = computed(&mut vectors, &mut scalar, memory, *word);
+        assert_same!(rt; (came, scalar.vxsat()), (Ok(*bytes), *vxsat));
     }
 }
 
 #[test]
-fn elements_of_two_widths(rt: HostRuntime) {
+fn elements_are_computed(rt: HostRuntime) {
     let mut memory = memory(rt, rt.alloc());
-    let mut scalar = Scalar::new(0x1000);
-    // vsetivli x7,3,e8,m1,ta,ma
-    let mut vectors = ready(rt, &mut scalar, &mut memory, 0xcc01_f3d7);
-    let cases = [
-        (vwmulsu(), 0x8100), // -128 * 254
-        (vwsub_wide(), 0x8102), // less -2
-        (vwmaccsu(), 0x8002), // and 128 * -2
-        (vnsra(), 0xc0c0), // -63.99, down
-        (vwmulsu(), 0x8100),
-        (vnclipu(), 0x4141), // 64.5, half up
-    ];
-    for (insn, expected) in cases {
-        let result = computed(&mut vectors, &mut scalar, &mut memory, insn);
-        assert_same!(rt; result, Ok(expected));
+    for (vsetivli, steps) in [
+        (0xcc01_f3d7, SATURATING.as_slice()), // vsetivli x7,3,e8,m1,ta,ma
+        (0xcc01_f3d7, WIDE.as_slice()),
+        (0xcc81_f3d7, HALVES.as_slice()), // vsetivli x7,3,e16,m1,ta,ma
+    ] {
+        assert_steps(rt, &mut memory, vsetivli, steps);
     }
-}
-
-/// Asserts what the extension of v8's halves gives, with their signs or with zeros.
-fn assert_half_extended(
-    rt: impl Abort + Copy,
-    vectors: &mut VectorState<16>,
-    scalar: &mut Scalar,
-    memory: &mut Regions,
-    signed: bool,
-    expected: u32,
-) {
-    let insn = VArith::Extend {
-        signed,
-        of: Fraction::Half,
-        vd: Reg::new(10),
-        vs2: Reg::new(8),
-        masked: false,
-    };
-    let result = computed(vectors, scalar, memory, insn);
-    assert_same!(rt; result, Ok(expected));
-}
-
-#[test]
-fn a_half_is_extended(rt: HostRuntime) {
-    let mut memory = memory(rt, rt.alloc());
-    let mut scalar = Scalar::new(0x1000);
-    // vsetivli x7,3,e16,m1,ta,ma
-    let mut vectors = ready(rt, &mut scalar, &mut memory, 0xcc81_f3d7);
-    assert_half_extended(rt, &mut vectors, &mut scalar, &mut memory, true, 0xff80);
-    assert_half_extended(rt, &mut vectors, &mut scalar, &mut memory, false, 0x80);
 }

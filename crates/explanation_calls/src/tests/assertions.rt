@@ -2,25 +2,8 @@
 //! They take their values and not references to them, since a proof pays for each loan that a test makes. What a call gives
 //! is asserted to be there: behind each `?` a proof would let go of all that the test holds.
 use std::alloc::Global;
-use std::fmt::{Debug, Display};
+use std::fmt::Display;
 use std::process::Abort;
-
-/// Asserts that what came of a call is what is expected, and else names the call.
-pub(crate) fn assert_equal<T: PartialEq + Debug + Drop>(
-    rt: impl Abort + Copy,
-    call: &str,
-    came: T,
-    expected: T,
-) {
-    assert_eq!(&rt; came, expected, "{call}");
-}
-
-/// As `assert_eq!`, but cheap to prove.
-macro_rules! assert_same {
-    ($rt:expr; $came:expr, $expected:expr $(,)?) => {
-        $crate::tests::assertions::assert_equal($rt, stringify!($came), $came, $expected)
-    };
-}
 
 /// What a call gives, where it is not refused. Else stops, and names the call.
 pub(crate) fn value_of<T, E>(rt: impl Abort + Copy, call: &str, answer: Result<T, E>) -> T {
@@ -60,9 +43,8 @@ pub(crate) fn assert_shows<T: Display + Drop>(
     expected: &str,
 ) {
     let text = given!(rt; format!(in alloc; "{value}"));
-    assert_same!(rt; text.as_str(), expected);
+    assert_eq!(rt; text.as_str(), expected);
 }
 
-pub(crate) use assert_same;
 pub(crate) use found;
 pub(crate) use given;

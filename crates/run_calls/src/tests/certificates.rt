@@ -1,21 +1,46 @@
 //! How certificates are read, written and made.
 use crate::tests::assertions::{assert_same, found, given};
-use crate::tests::kernels::{bytes_of, changed};
-use cert_note::{CertError, Certificate, Contents, OrderFact, Version, Vlen, read, write};
+use crate::tests::kernels::bytes_of;
+use cert_note::{
+    Block, CertError, Certificate, Contents, OrderFact, RegisterFact, Version, Vlen, read, write,
+};
 use region_mem::{Param, Parameters};
-use sample_kernels::{Kernel, ORDER, RAISE, RAISE_IF};
+use sample_kernels::{Kernel, RAISE, RAISE_IF};
 use std::alloc::Global;
 use std::process::Abort;
 
-/// The block of the loop: x10 is 0x40000000 - 4 * x11 + 4 * n, where n is parameter 1.
-const LOOP: &str = "Block { start: 65540, budget: Budget { constant: 1, factor: 8, register: 11, \
-second_factor: 0, second_register: 0 }, \
-vtype: None, registers: [\
-RegisterFact { number: 1, low: 4294967280, high: 4294967280, equality: None }, \
-RegisterFact { number: 10, low: 1073741824, high: 1073745920, equality: Some(Equality { \
-constant: 1073741824, terms: [EqualityTerm { atom: 11, coefficient: 4294967292 }, \
-EqualityTerm { atom: 34, coefficient: 4 }] }) }, \
-RegisterFact { number: 11, low: 1, high: 1024, equality: None }], vectors: [], orders: [] }";
+/// What the block of the loop states of registers: the place, the number, the interval, and whether it is equal to a sum.
+const LOOP: [(usize, (u8, u32, u32, bool)); 3] = [
+    (0, (1, 0xffff_fff0, 0xffff_fff0, false)),
+    (1, (10, 0x4000_0000, 0x4000_1000, true)),
+    (2, (11, 1, 1024, false)),
+];
+
+/// Asserts that x10 is 0x40000000 - 4 * x11 + 4 * n in a fact, where n is parameter 1.
+fn expect_place(rt: impl Abort + Copy, fact: &RegisterFact) {
+    let sum = found!(rt; fact.equality.as_ref());
+    assert_same!(rt; (sum.constant, sum.terms.len()), (0x4000_0000, 2));
+    for (place, expected) in [(0, (11, 0xffff_fffc)), (1, (34, 4))] {
+        let term = found!(rt; sum.terms.as_slice().get(place));
+        assert_same!(rt; (term.atom, term.coefficient), expected);
+    }
+}
+
+/// Asserts that a block is that of the loop, with a budget of 1 + 8 * x11.
+fn expect_loop(rt: impl Abort + Copy, block: &Block) {
+    let budget = block.budget;
+    assert_same!(rt; (block.start, block.vtype), (0x1_0004, None));
+    assert_same!(rt; (budget.constant, budget.factor, budget.register), (1, 8, 11));
+    assert_same!(rt; (budget.second_factor, budget.second_register), (0, 0));
+    assert_same!(rt; (block.vectors.len(), block.orders.len()), (0, 0));
+    assert_same!(rt; block.registers.len(), LOOP.len());
+    for (place, expected) in LOOP {
+        let fact = found!(rt; block.registers.as_slice().get(place));
+        let came = (fact.number, fact.low, fact.high, fact.equality.is_some());
+        assert_same!(rt; came, expected);
+    }
+    expect_place(rt, found!(rt; block.registers.as_slice().get(1)));
+}
 
 /// The kernel's certificate, of this version. Asserts that it is written as it was read, and how
 /// many blocks it has.
@@ -36,18 +61,13 @@ fn read_back(
     certificate
 }
 
+/// The example, and a certificate of version 2: its block at 0x10010.
 #[test]
-fn reads_and_writes_the_example(rt: HostRuntime) {
+fn reads_and_writes_certificates(rt: HostRuntime) {
     let certificate = read_back(rt, rt.alloc(), RAISE, Version::V1);
     let block = found!(rt; certificate.contents().blocks.get(1));
-    let text = given!(rt; format!(in rt.alloc(); "{block:?}"));
-    assert_same!(rt; text.as_str(), LOOP);
-}
-
-#[test]
-fn reads_and_writes_version_two(rt: HostRuntime) {
+    expect_loop(rt, block);
     let certificate = read_back(rt, rt.alloc(), RAISE_IF, Version::V2);
-    // The block at 0x10010.
     let block = found!(rt; certificate.contents().blocks.get(2));
     let order = OrderFact {
         greater: 11,
@@ -57,51 +77,24 @@ fn reads_and_writes_version_two(rt: HostRuntime) {
     assert_same!(rt; block.budget.second_factor, 0);
 }
 
+/// No byte, one byte less, and two that stand behind the last block.
 #[test]
 fn refuses_another_length(rt: HostRuntime) {
-    for (length, fault) in [
-        (0, CertError::Short),
-        (260, CertError::Short),
-        (263, CertError::TrailingBytes),
-    ] {
-        let mut bytes = bytes_of(rt, rt.alloc(), RAISE.certificate);
-        given!(rt; bytes.resize(length, 0xff));
-        assert_same!(rt; read(rt.alloc(), &bytes).err(), Some(fault));
-    }
-}
-
-/// The coefficient 4 of n is 0 in the equality of the example's loop, and the order of `RAISE_IF`
-/// has these registers, of which x10 has an equality.
-#[test]
-fn refuses_wrong_facts(rt: HostRuntime) {
-    let wrong = Some(CertError::Order);
-    for (kernel, place, bytes, fault) in [
-        (RAISE, 217, [0, 0], Some(CertError::Equality)),
-        (RAISE_IF, ORDER, [11, 32], None),
-        (RAISE_IF, ORDER, [32, 11], None),
-        (RAISE_IF, ORDER, [0, 32], wrong),
-        (RAISE_IF, ORDER, [33, 32], wrong),
-        (RAISE_IF, ORDER, [11, 33], wrong),
-        (RAISE_IF, ORDER, [11, 11], wrong),
-        (RAISE_IF, ORDER, [10, 32], wrong),
-        (RAISE_IF, ORDER, [11, 10], wrong),
-    ] {
-        let bytes = changed(rt, rt.alloc(), kernel.certificate, place, &bytes);
-        assert_same!(rt; read(rt.alloc(), &bytes).err(), fault);
-    }
-}
-
-#[test]
-fn tells_what_is_wrong(rt: HostRuntime) {
-    for (fault, expected) in [
+    for (length, fault, text) in [
+        (0, CertError::Short, "the certificate is cut off"),
+        (260, CertError::Short, "the certificate is cut off"),
         (
+            263,
             CertError::TrailingBytes,
             "bytes stand behind the certificate",
         ),
-        (CertError::Order, "an order is wrong"),
     ] {
-        let text = given!(rt; format!(in rt.alloc(); "{fault}"));
-        assert_same!(rt; text.as_str(), expected);
+        let mut bytes = bytes_of(rt, rt.alloc(), RAISE.certificate);
+        given!(rt; bytes.resize(length, 0xff));
+        let came = found!(rt; read(rt.alloc(), &bytes).err());
+        assert_same!(rt; came, fault);
+        let came = given!(rt; format!(in rt.alloc(); "{came}"));
+        assert_same!(rt; came.as_str(), text);
     }
 }
 

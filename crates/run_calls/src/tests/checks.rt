@@ -61,18 +61,22 @@ fn assert_told(rt: impl Abort + Copy, alloc: Global, error: CheckError, told: To
     assert_same!(rt; text.as_str(), told.text);
 }
 
-/// Asserts why the check refuses a kernel, whose certificate has these bytes at `ORDER` where it is
-/// so long, and whether it accepts what it hands back at 128 bits.
+/// Asserts why the check refuses a kernel, whose order is turned round where it has one, and whether
+/// it accepts what it hands back at 128 bits.
 fn assert_refused(
     rt: impl Abort + Copy,
     alloc: Global,
     kernel: Kernel,
-    order: &[u8],
     vlen: Vlen,
     told: Told,
     is_accepted: bool,
 ) {
-    let bytes = changed(rt, alloc, kernel.certificate, ORDER, order);
+    let turned: &[u8] = if kernel.blocks == RAISE_IF.blocks {
+        &[32, 11]
+    } else {
+        &[]
+    };
+    let bytes = changed(rt, alloc, kernel.certificate, ORDER, turned);
     let certificate = given!(rt; cert_note::read(alloc, &bytes));
     let image = image_of(rt, alloc, kernel.code);
     match opaque(check(alloc, image, certificate, vlen)) {
@@ -85,36 +89,32 @@ fn assert_refused(
     }
 }
 
-/// A store in place of a load.
+/// A store in place of a load, another vector length, and an order turned round.
 #[test]
-fn refuses_a_store(rt: HostRuntime) {
-    let told = Told {
+fn refuses_kernels(rt: HostRuntime) {
+    let store = Told {
         error: CheckError::ReadOnly(0x1_0004),
         name: "ReadOnly",
         address: Some(0x1_0004),
         text: "a store to read-only memory at 00010004",
     };
-    assert_refused(rt, rt.alloc(), STORE, &[], Vlen::V128, told, false);
-}
-
-#[test]
-fn refuses_another_vector_length(rt: HostRuntime) {
-    let told = Told {
+    let length = Told {
         error: CheckError::WrongVlen,
         name: "WrongVlen",
         address: None,
         text: "the certificate is for another vector length",
     };
-    assert_refused(rt, rt.alloc(), SUM, &[], Vlen::V256, told, true);
-}
-
-#[test]
-fn refuses_an_order_turned_round(rt: HostRuntime) {
-    let told = Told {
+    let order = Told {
         error: CheckError::OrderNotProved(0x1_000c),
         name: "OrderNotProved",
         address: Some(0x1_000c),
         text: "an order is not proved at 0001000c",
     };
-    assert_refused(rt, rt.alloc(), RAISE_IF, &[32, 11], Vlen::V128, told, false);
+    for (kernel, vlen, told, is_accepted) in [
+        (STORE, Vlen::V128, store, false),
+        (SUM, Vlen::V256, length, true),
+        (RAISE_IF, Vlen::V128, order, false),
+    ] {
+        assert_refused(rt, rt.alloc(), kernel, vlen, told, is_accepted);
+    }
 }

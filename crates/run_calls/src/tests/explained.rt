@@ -1,5 +1,5 @@
 //! Why images are refused: the sum of bytes with a word or a number of its certificate changed, and
-//! what is told of it.
+//! what is told of it. What is told of more of them is tried by `program_rows`, on tables.
 use crate::tests::assertions::{assert_same, found, given};
 use crate::tests::kernels::{changed, image_of};
 use block_checker::{CheckError, Explanation, Part, Stop, explain};
@@ -8,14 +8,11 @@ use sample_kernels::SUM;
 use std::alloc::Global;
 use std::process::Abort;
 
-/// Where the certificate states the constant of the first block's budget.
-const CONSTANT: usize = 108;
-
-/// Where it states, of the first block, the second byte of the highest number of x11.
+/// Where the certificate states, of the first block, the second byte of the highest number of x11.
 const HIGHEST: usize = 154;
 
 /// What is told of this code, where bytes of the certificate are others.
-fn told(
+fn told_of(
     rt: impl Abort + Copy,
     alloc: Global,
     code: &str,
@@ -30,44 +27,29 @@ fn told(
 }
 
 /// In which part a check stopped, and at which word.
-type Place = (Part, Option<u32>);
-
-fn place_of(stop: Stop) -> Place {
+fn place_of(stop: Stop) -> (Part, Option<u32>) {
     (stop.part, stop.word)
 }
 
-fn address_of(stop: Stop) -> u32 {
-    stop.pc
-}
-
-/// Asserts what is told: the error, the place, which is at the error's address, and the text, where
-/// there is one.
-fn assert_told(
-    rt: impl Abort + Copy,
-    alloc: Global,
-    told: Option<Explanation>,
+/// What is told: the error, the place, which is at the error's address, and the text.
+#[derive(Clone, Copy)]
+struct Told {
     error: CheckError,
-    place: Option<Place>,
-    text: &str,
-) {
-    let explanation = found!(rt; told);
-    assert_same!(rt; explanation.error, error);
-    assert_same!(rt; explanation.stop.map(place_of), place);
-    assert_same!(rt; explanation.stop.map(address_of), error.address());
-    if !text.is_empty() {
-        let came = given!(rt; format!(in alloc; "{explanation}"));
-        assert_same!(rt; came.as_str(), text);
-    }
+    place: Option<(Part, Option<u32>)>,
+    text: &'static str,
 }
 
-#[test]
-fn tells_nothing_of_what_passes(rt: HostRuntime) {
-    let told = told(rt, rt.alloc(), SUM.code, 0, &[], Vlen::V128);
-    assert_same!(rt; told, None);
+/// Asserts what is told.
+fn assert_told(rt: impl Abort + Copy, alloc: Global, explanation: Option<Explanation>, told: Told) {
+    let explanation = found!(rt; explanation);
+    assert_same!(rt; explanation.error, told.error);
+    assert_same!(rt; explanation.stop.map(place_of), told.place);
+    assert_same!(rt; explanation.stop.map(|stop| stop.pc), told.error.address());
+    let came = given!(rt; format!(in alloc; "{explanation}"));
+    assert_same!(rt; came.as_str(), told.text);
 }
 
-/// lbu t0,4(a0): the last bytes lie behind the buffer. addi a0,a0,2: x10 may come to lie above its
-/// interval of the loop. A word that means nothing. Without its last word the kernel runs out of
+/// lbu t0,4(a0): the last bytes lie behind the buffer. Without its last word the kernel runs out of
 /// its code.
 #[test]
 fn explains_words(rt: HostRuntime) {
@@ -84,18 +66,6 @@ x11 is 00000001 to 00000400
 the others may be anything",
         ),
         (
-            "00058c63 00054283 00250513 00560633 fff58593 fe0598e3 00008067",
-            CheckError::IntervalNotProved(0x1_0014),
-            (Part::Block(0x1_0004), Some(0xfe05_98e3)),
-            "",
-        ),
-        (
-            "00058c63 00054283 00150513 00000000 fff58593 fe0598e3 00008067",
-            CheckError::IllegalWord(0x1_000c),
-            (Part::Block(0x1_0004), Some(0)),
-            "",
-        ),
-        (
             "00058c63 00054283 00150513 00560633 fff58593 fe0598e3",
             CheckError::NotCode(0x1_0018),
             (Part::Block(0x1_0018), None),
@@ -105,46 +75,37 @@ x1 is fffffff0
 the others may be anything",
         ),
     ] {
-        let told = told(rt, rt.alloc(), code, 0, &[], Vlen::V128);
-        assert_told(rt, rt.alloc(), told, error, Some(place), text);
+        let came = told_of(rt, rt.alloc(), code, 0, &[], Vlen::V128);
+        let place = Some(place);
+        assert_told(rt, rt.alloc(), came, Told { error, place, text });
     }
 }
 
-/// The way over the loop takes two instructions, and the first block has a budget of one for it.
-/// The number that is passed may be above what the first block states of it.
+/// The number that is passed may be above what the first block states of it. Of another length no
+/// place is told, and nothing of what passes.
 #[test]
-fn explains_numbers_of_the_first_block(rt: HostRuntime) {
-    for (place, byte, error, part, text) in [
-        (
-            CONSTANT,
-            1,
-            CheckError::BudgetNotProved(0x1_0000),
-            Part::Block(0x1_0000),
-            "",
-        ),
-        (
-            HIGHEST,
-            3,
-            CheckError::IntervalNotProved(0x1_0000),
-            Part::Entry,
-            "an interval is not proved at 00010000
+fn explains_what_is_no_word(rt: HostRuntime) {
+    let alloc = rt.alloc();
+    let number = Told {
+        error: CheckError::IntervalNotProved(0x1_0000),
+        place: Some((Part::Entry, Some(0x0005_8c63))),
+        text: "an interval is not proved at 00010000
 the way into the first block, word 00058c63
 x1 is fffffff0
 x2 is 30000000
 x10 is 40000000
 x11 is 00000000 to 00000400
 the others are 0",
-        ),
-    ] {
-        let told = told(rt, rt.alloc(), SUM.code, place, &[byte], Vlen::V128);
-        let place = Some((part, Some(0x0005_8c63)));
-        assert_told(rt, rt.alloc(), told, error, place, text);
-    }
-}
-
-#[test]
-fn tells_no_place_of_another_vector_length(rt: HostRuntime) {
-    let told = told(rt, rt.alloc(), SUM.code, 0, &[], Vlen::V256);
-    let text = "the certificate is for another vector length";
-    assert_told(rt, rt.alloc(), told, CheckError::WrongVlen, None, text);
+    };
+    let came = told_of(rt, alloc, SUM.code, HIGHEST, &[3], Vlen::V128);
+    assert_told(rt, alloc, came, number);
+    let length = Told {
+        error: CheckError::WrongVlen,
+        place: None,
+        text: "the certificate is for another vector length",
+    };
+    let came = told_of(rt, alloc, SUM.code, 0, &[], Vlen::V256);
+    assert_told(rt, alloc, came, length);
+    let none = told_of(rt, alloc, SUM.code, 0, &[], Vlen::V128);
+    assert_same!(rt; none.is_none(), true);
 }

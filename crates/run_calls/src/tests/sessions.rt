@@ -82,18 +82,15 @@ fn run_of<const VLENB: usize>(
     }
 }
 
-/// Asserts what comes of a run at a length of vector registers, of a kernel that is accepted for
-/// one.
-fn assert_run(
-    rt: impl Abort + Copy,
-    alloc: Global,
-    kernel: (Kernel, Vlen),
-    vlen: Vlen,
-    args: Args,
-    max: u64,
-    left: Result<Left, OpenError>,
-) {
-    let accepted = accepted(rt, alloc, kernel.0, kernel.1);
+/// A kernel, the length that it is accepted for and that of its run, the arguments of that, and the
+/// steps that it may take.
+type Run = (Kernel, Vlen, Vlen, Option<usize>, u32, Option<u32>, u64);
+
+/// Asserts what comes of a run.
+fn assert_run(rt: impl Abort + Copy, alloc: Global, run: Run, left: Result<Left, OpenError>) {
+    let (kernel, own, vlen, size, number, other, max) = run;
+    let accepted = accepted(rt, alloc, kernel, own);
+    let args = args(rt, alloc, size, number, other);
     let came = match vlen {
         V128 => run_of::<16>(alloc, &accepted, args, max),
         V256 => run_of::<32>(alloc, &accepted, args, max),
@@ -102,61 +99,84 @@ fn assert_run(
     assert_same!(rt; came, left);
 }
 
+/// Each reason why no run is opened, and which comes first.
 #[test]
 fn opens_no_other_run(rt: HostRuntime) {
-    for (kernel, vlen, size, number, max, error) in [
-        (SUM, V256, None, 1025, 1, WrongKind(0)),
-        (SUM, V256, Some(1023), 1025, 1, ScalarOutOfInterval(1)),
-        (SUM, V256, Some(1023), 1024, 1, WrongSize(0)),
-        (SUM, V256, Some(1024), 1024, 5121, BoundTooLarge),
-        (SUM, V256, Some(1024), 1024, 5122, WrongVlen),
-        (RAISE, V128, Some(4096), 1024, 8193, BoundTooLarge),
-        (RAISE, V256, Some(4096), 1024, 8194, WrongVlen),
+    for (run, error) in [
+        ((SUM, V128, V256, None, 1025, None, 1), WrongKind(0)),
+        (
+            (SUM, V128, V256, Some(1023), 1025, None, 1),
+            ScalarOutOfInterval(1),
+        ),
+        ((SUM, V128, V256, Some(1023), 1024, None, 1), WrongSize(0)),
+        (
+            (SUM, V128, V256, Some(1024), 1024, None, 5121),
+            BoundTooLarge,
+        ),
+        ((SUM, V128, V256, Some(1024), 1024, None, 5122), WrongVlen),
+        (
+            (RAISE, V128, V128, Some(4096), 1024, None, 8193),
+            BoundTooLarge,
+        ),
+        ((RAISE, V128, V256, Some(4096), 1024, None, 8194), WrongVlen),
     ] {
-        let args = args(rt, rt.alloc(), size, number, None);
-        let kernel = (kernel, V128);
-        assert_run(rt, rt.alloc(), kernel, vlen, args, max, Err(error));
+        assert_run(rt, rt.alloc(), run, Err(error));
     }
 }
 
-/// Each number of bytes takes exactly the bound's steps, and x12 is their sum.
+/// Each number of bytes takes exactly the bound's steps, and x12 is their sum. Nine words are three
+/// strips at 128 bits and two at 256, seventeen are two at 512. The loop that branches, either way.
 #[test]
-fn sums_bytes(rt: HostRuntime) {
-    for (number, steps, sum) in [(0, 2, 0), (1, 7, 3), (1024, 5122, 3072)] {
-        let args = args(rt, rt.alloc(), Some(1024), number, None);
-        let left = Ok((steps, steps, sum, Some(3)));
-        let kernel = (SUM, V128);
-        assert_run(rt, rt.alloc(), kernel, V128, args, steps, left);
-    }
-}
-
-/// Nine words are three strips at 128 bits and two at 256, seventeen are two at 512.
-#[test]
-fn runs_over_strips(rt: HostRuntime) {
-    for (vlen, number, steps, first) in [
-        (V128, 0, 2, 3),
-        (V128, 9, 26, 4),
-        (V128, 1024, 2050, 4),
-        (V256, 9, 18, 4),
-        (V256, 1024, 1026, 4),
-        (V512, 16, 10, 4),
-        (V512, 17, 18, 4),
-        (V512, 1023, 514, 4),
-        (V512, 1024, 514, 4),
+fn runs_to_the_end(rt: HostRuntime) {
+    for (run, steps, sum, first) in [
+        ((SUM, V128, V128, Some(1024), 0, None, 2), 2, 0, 3),
+        ((SUM, V128, V128, Some(1024), 1, None, 7), 7, 3, 3),
+        (
+            (SUM, V128, V128, Some(1024), 1024, None, 5122),
+            5122,
+            3072,
+            3,
+        ),
+        ((RAISE, V128, V128, Some(4096), 0, None, 8194), 2, 0, 3),
+        ((RAISE, V128, V128, Some(4096), 9, None, 8194), 26, 0, 4),
+        (
+            (RAISE, V128, V128, Some(4096), 1024, None, 8194),
+            2050,
+            0,
+            4,
+        ),
+        ((RAISE, V256, V256, Some(4096), 9, None, 8194), 18, 0, 4),
+        (
+            (RAISE, V256, V256, Some(4096), 1024, None, 8194),
+            1026,
+            0,
+            4,
+        ),
+        ((RAISE, V512, V512, Some(4096), 16, None, 8194), 10, 0, 4),
+        ((RAISE, V512, V512, Some(4096), 17, None, 8194), 18, 0, 4),
+        ((RAISE, V512, V512, Some(4096), 1023, None, 8194), 514, 0, 4),
+        ((RAISE, V512, V512, Some(4096), 1024, None, 8194), 514, 0, 4),
+        (
+            (RAISE_IF, V128, V128, Some(1024), 17, Some(1), 8197),
+            18,
+            1,
+            4,
+        ),
+        (
+            (RAISE_IF, V128, V128, Some(1024), 17, Some(0), 8197),
+            16,
+            0,
+            3,
+        ),
+        (
+            (RAISE_IF, V128, V128, Some(1024), 0, Some(1), 8197),
+            2,
+            1,
+            3,
+        ),
     ] {
-        let args = args(rt, rt.alloc(), Some(4096), number, None);
-        let left = Ok((steps, steps, 0, Some(first)));
-        assert_run(rt, rt.alloc(), (RAISE, vlen), vlen, args, 8194, left);
-    }
-}
-
-#[test]
-fn runs_either_way(rt: HostRuntime) {
-    for (number, raised, steps, first) in [(17, 1, 18, 4), (17, 0, 16, 3), (0, 1, 2, 3)] {
-        let args = args(rt, rt.alloc(), Some(1024), number, Some(raised));
-        let left = Ok((steps, steps, raised, Some(first)));
-        let kernel = (RAISE_IF, V128);
-        assert_run(rt, rt.alloc(), kernel, V128, args, 8197, left);
+        let left = Ok((steps, steps, sum, Some(first)));
+        assert_run(rt, rt.alloc(), run, left);
     }
 }
 

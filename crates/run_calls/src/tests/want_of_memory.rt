@@ -10,7 +10,6 @@ use elf_image::{ElfError, Image, attach};
 use region_mem::{Mode, Param, Parameters};
 use sample_kernels::SUM;
 use std::alloc::Global;
-use std::fmt::Debug;
 use std::process::Abort;
 
 /// An allocator that refuses one allocation.
@@ -65,7 +64,7 @@ pub(crate) fn served<T, E>(
 }
 
 /// What a call gives that is served, as `served` asserts. Nothing where memory was wanting, and asserts that this is told.
-pub(crate) fn given_or_wanting<T, E: PartialEq + Debug + Drop>(
+pub(crate) fn given_or_wanting<T, E: PartialEq + Drop>(
     rt: impl Abort + Copy,
     heap: Heap<'_>,
     after: u64,

@@ -9,7 +9,7 @@ use crate::tests::kernels::{file_of, parts_of, put};
 use crate::tests::want_of_memory::{Heap, MANY, served, until_served};
 use abs_state::{Abstract, MOST_WORDS, implies};
 use block_checker::{CheckError, check_in};
-use cert_note::{Certificate, Vlen};
+use cert_note::{Certificate, Vlen, write};
 use elf_image::Image;
 use rv_decode::decode;
 use sample_kernels::{Kernel, STORE, SUM};
@@ -156,9 +156,24 @@ fn knowing_the_entry(rt: HostRuntime) {
     });
 }
 
-/// What an image and a certificate say.
-fn said(rt: impl Abort + Copy, alloc: Global, image: &Image, certificate: &Certificate) -> String {
-    given!(rt; format!(in alloc; "{image:?} {certificate:?}"))
+/// What an image and a certificate say: the certificate's bytes, then the entry, the certificate that the image has, and
+/// each segment.
+fn said(rt: impl Abort + Copy, alloc: Global, image: &Image, certificate: &Certificate) -> Vec<u8> {
+    let mut said = given!(rt; write(alloc, certificate));
+    given!(rt; said.extend_from_slice(&image.entry().to_le_bytes()));
+    let note = image.certificate();
+    given!(rt; said.push(u8::from(note.is_some())));
+    given!(rt; said.extend_from_slice(note.unwrap_or(&[])));
+    for segment in image.segments() {
+        let rights = segment.rights();
+        given!(rt; said.extend_from_slice(&segment.address().to_le_bytes()));
+        given!(rt; said.extend_from_slice(&segment.memory_size().to_le_bytes()));
+        given!(rt; said.push(u8::from(rights.read)));
+        given!(rt; said.push(u8::from(rights.write)));
+        given!(rt; said.push(u8::from(rights.execute)));
+        given!(rt; said.extend_from_slice(segment.bytes()));
+    }
+    said
 }
 
 /// Asserts that they say what they said before.
@@ -167,10 +182,10 @@ fn assert_said(
     alloc: Global,
     image: &Image,
     certificate: &Certificate,
-    before: &str,
+    before: &[u8],
 ) {
     let back = said(rt, alloc, image, certificate);
-    assert_same!(rt; back.as_str(), before);
+    assert_same!(rt; back.as_slice(), before);
 }
 
 /// Whether the check answers at all, and wants no memory: with the fault, or by accepting where
@@ -196,7 +211,7 @@ fn checked_again(
     alloc: Global,
     after: u64,
     kernel: (Image, Certificate),
-    before: &str,
+    before: &[u8],
     fault: Option<CheckError>,
 ) -> Option<(Image, Certificate)> {
     let heap = Refusing::new(alloc, after);
@@ -223,7 +238,7 @@ fn expect_check(rt: impl Abort + Copy, alloc: Global, kernel: Kernel, fault: Opt
     let mut kernel = parts_of(rt, alloc, kernel, Vlen::V128);
     let before = said(rt, alloc, &kernel.0, &kernel.1);
     for after in 0..MANY {
-        match checked_again(rt, alloc, after, kernel, before.as_str(), fault) {
+        match checked_again(rt, alloc, after, kernel, before.as_slice(), fault) {
             Some(back) => kernel = back,
             None => return,
         }

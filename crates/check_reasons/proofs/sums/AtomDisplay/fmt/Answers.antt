@@ -1,0 +1,8 @@
+use Rattle.std.proofs.Common.{arith}
+use Rattle.std.proofs.lemmas.Grind.{elements}
+use Rattle.check_reasons.specs.Sums.{atom_text}
+use Rattle.check_reasons.proofs.sums.AtomDisplay.fmt.Goals as goal
+
+pub returns-then-atom-lt41-clause-writes : goal.returns-then-atom-lt41-clause-writes
+unfolding atom_text
+returns-then-atom-lt41-clause-writes g c = grind (arith, elements)

@@ -1,0 +1,339 @@
+//! Why an image is refused with its certificate: the word at which the check stopped, what was known there, and what
+//! was wanted.
+ghost use Rattle.std.specs.Prelude.{◌≡◌, IfOk, IfSome, option_map};
+ghost use Rattle.std.specs.Option.{option_and_then};
+ghost use Rattle.block_checker.specs.Explained.{Explains, answer_of, before_in};
+ghost use Rattle.block_checker.specs.Passes.{checked as checked_of};
+ghost use Rattle.check_reasons.specs.Access.{reach_in as reach_in_of};
+ghost use Rattle.check_reasons.specs.Check.{IsAccess, IsEdgeWanted, IsListed, IsWanted, rule};
+
+use crate::access::{Access, operand_of, reach_in};
+use crate::edge::{Edge, edge_at};
+use abs_state::{Reach, memory_zones};
+use block_checker::{CheckError, Explanation, Part, Stop, explain, state_before};
+use cert_note::Certificate;
+use elf_image::Image;
+use explanations::{Address, WordLine, listed};
+use rv_decode::{Insn, decode};
+use std::alloc::{AllocError, Allocator, Global};
+use std::fmt;
+use vreg_groups::Vlen;
+
+/// What was wanted where a check stopped, beside what its error says.
+#[derive(Drop)]
+pub enum Wanted {
+    /// Nothing more.
+    Plain,
+    /// A certificate for vector registers of this length; it states another one.
+    Length { stated: Vlen, wanted: Vlen },
+    /// A block at the image's entry.
+    Entry(u32),
+    /// Bytes that lie in one zone with the right.
+    Access(Access),
+    /// What the block that a way out enters states.
+    Edge(Edge),
+}
+
+/// Why an image is refused with its certificate.
+#[derive(Drop)]
+pub struct CheckReason<A: Allocator = Global> {
+    /// The error, and where the check stopped.
+    pub explanation: Explanation,
+    /// The word there as it is listed, if there is a word.
+    pub listing: Option<String<A>>,
+    /// What was wanted.
+    pub wanted: Wanted,
+}
+
+/// The word at which a check stopped, as it is listed.
+fn listing_of<A: Allocator + Copy>(
+    alloc: A,
+    stop: &Option<Stop>,
+) -> Result<Option<String<A>>, AllocError>
+    ensures { IfOk result (IsListed stop.now) }
+{
+    let Some(stop) = stop else {
+        return Ok(None);
+    };
+    match stop.word {
+        None => Ok(None),
+        Some(word) => {
+            let text = listed(alloc, word, stop.pc)?;
+            Ok(Some(text))
+        }
+    }
+}
+
+/// Where the bytes of an access at which a check stopped may lie.
+fn reach_at<A: Allocator + Copy, B: Allocator, C: Allocator>(
+    alloc: A,
+    image: &Image<B>,
+    certificate: &Certificate<C>,
+    stop: &Stop,
+    insn: &Insn,
+) -> Result<Option<Reach>, AllocError>
+    ensures { IfOk result (λ reach. reach ≡ option_and_then (reach_in_of insn.now)
+        (before_in image.now certificate.now stop.now.part stop.now.pc)) }
+{
+    match state_before(alloc, image, certificate, stop.part, stop.pc)? {
+        None => Ok(None),
+        Some(state) => Ok(reach_in(&state, insn)),
+    }
+}
+
+/// What an access at which a check stopped wants.
+fn access_at<A: Allocator + Copy, B: Allocator, C: Allocator>(
+    alloc: A,
+    image: &Image<B>,
+    certificate: &Certificate<C>,
+    stop: &Option<Stop>,
+) -> Result<Wanted, AllocError>
+    ensures { IfOk result (IsAccess image.now certificate.now stop.now) }
+{
+    let Some(stop) = stop else {
+        return Ok(Wanted::Plain);
+    };
+    let Some(word) = stop.word else {
+        return Ok(Wanted::Plain);
+    };
+    let Some(insn) = decode(word) else {
+        return Ok(Wanted::Plain);
+    };
+    let Some(operand) = operand_of(&insn) else {
+        return Ok(Wanted::Plain);
+    };
+    let reach = reach_at(alloc, image, certificate, stop, &insn)?;
+    Ok(Wanted::Access(Access {
+        operand,
+        interval: stop.known[usize::from(operand.base.number())],
+        reach,
+        zones: memory_zones(image, &certificate.contents().parameters),
+    }))
+}
+
+/// What a way out at which a check stopped wants.
+fn edge_wanted<A: Allocator + Copy, B: Allocator, C: Allocator>(
+    alloc: A,
+    image: &Image<B>,
+    certificate: &Certificate<C>,
+    error: CheckError,
+    stop: &Option<Stop>,
+) -> Result<Wanted, AllocError>
+    ensures { IfOk result (IsEdgeWanted image.now certificate.now error stop.now) }
+{
+    let Some(stop) = stop else {
+        return Ok(Wanted::Plain);
+    };
+    match edge_at(alloc, image, certificate, error, stop.part, stop.pc)? {
+        Some(edge) => Ok(Wanted::Edge(edge)),
+        None => Ok(Wanted::Plain),
+    }
+}
+
+/// What was wanted.
+fn wanted_of<A: Allocator + Copy, B: Allocator, C: Allocator>(
+    alloc: A,
+    image: &Image<B>,
+    certificate: &Certificate<C>,
+    vlen: Vlen,
+    explanation: &Explanation,
+) -> Result<Wanted, AllocError>
+    ensures { IfOk result (IsWanted image.now certificate.now vlen explanation.now) }
+{
+    match explanation.error {
+        CheckError::WrongVlen => Ok(Wanted::Length {
+            stated: certificate.contents().vlen,
+            wanted: vlen,
+        }),
+        CheckError::NoEntryBlock => Ok(Wanted::Entry(image.entry())),
+        CheckError::AccessNotProved(_) | CheckError::ReadOnly(_) => {
+            access_at(alloc, image, certificate, &explanation.stop)
+        }
+        CheckError::VtypeUnknown(_)
+        | CheckError::TargetNotABlock(_)
+        | CheckError::IntervalNotProved(_)
+        | CheckError::EqualityNotProved(_)
+        | CheckError::OrderNotProved(_)
+        | CheckError::VectorFactNotProved(_)
+        | CheckError::BudgetNotProved(_) => {
+            edge_wanted(
+                alloc,
+                image,
+                certificate,
+                explanation.error,
+                &explanation.stop,
+            )
+        }
+        CheckError::NotCode(_)
+        | CheckError::IllegalWord(_)
+        | CheckError::BlockTooLong(_)
+        | CheckError::NoMemory => Ok(Wanted::Plain),
+    }
+}
+
+/// Why an image is refused with a certificate at a length of vector registers: `None` where the check accepts it.
+///
+/// # Errors
+/// An allocation was refused.
+pub fn check_reason<A: Allocator + Copy, B: Allocator, C: Allocator>(
+    alloc: A,
+    image: &Image<B>,
+    certificate: &Certificate<C>,
+    vlen: Vlen,
+) -> Result<Option<CheckReason<A>>, AllocError>
+    // None exactly where the check passes; else its own error.
+    ensures answer { IfOk result (λ told. answer_of (option_map (λ r. r.explanation) told)
+        ≡ checked_of image.now certificate.now vlen) }
+    ensures stop { IfOk result (λ told. IfSome told (λ r.
+        Explains image.now certificate.now r.explanation)) }
+    ensures listing { IfOk result (λ told. IfSome told (λ r.
+        IsListed r.explanation.stop r.listing)) }
+    ensures wanted { IfOk result (λ told. IfSome told (λ r.
+        IsWanted image.now certificate.now vlen r.explanation r.wanted)) }
+{
+    let told = explain(alloc, image, certificate, vlen)?;
+    match told {
+        None => Ok(None),
+        Some(explanation) => {
+            let listing = listing_of(alloc, &explanation.stop)?;
+            let wanted = wanted_of(alloc, image, certificate, vlen, &explanation)?;
+            Ok(Some(CheckReason {
+                explanation,
+                listing,
+                wanted,
+            }))
+        }
+    }
+}
+
+/// Where a check stopped, and the word there.
+#[derive(Clone, Copy)]
+struct StopLines<'a>(&'a Option<Stop>);
+
+impl fmt::Display for StopLines<'_> {
+    ghost use Rattle.std.specs.Prelude.{Some};
+    ghost use Rattle.check_reasons.specs.Check.{stop_text};
+
+    ghost output = { λ lines. Some (stop_text lines.0.now) };
+
+    #[tactic(auto, unfolding(crate::specs::Check::stop_text))]
+    fn fmt<W: fmt::Write>(&self, f: &mut fmt::Formatter<W>) -> fmt::Result {
+        match self.0 {
+            None => Ok(()),
+            Some(stop) => {
+                let word = WordLine(stop.pc, stop.word);
+                match stop.part {
+                    Part::Entry => {
+                        write!(f, "  stopped on the way into the first block\n{word}")
+                    }
+                    Part::Block(start) => {
+                        let start = Address(u64::from(start));
+                        write!(f, "  stopped in the block at {start}\n{word}")
+                    }
+                }
+            }
+        }
+    }
+}
+
+/// A word as it is listed, as a line.
+#[derive(Clone, Copy)]
+struct ListingLine<'a, A: Allocator>(&'a Option<String<A>>);
+
+impl<A: Allocator> fmt::Display for ListingLine<'_, A> {
+    ghost use Rattle.std.specs.Prelude.{Some};
+    ghost use Rattle.explanations.specs.Words.{listing_line};
+
+    ghost output = { λ line. Some (listing_line line.0.now) };
+
+    fn fmt<W: fmt::Write>(&self, f: &mut fmt::Formatter<W>) -> fmt::Result {
+        match self.0 {
+            None => Ok(()),
+            Some(text) => writeln!(f, "  that is {text}"),
+        }
+    }
+}
+
+/// What is wanted, by the error alone.
+fn rule(error: CheckError) -> &'static str
+    ensures { result.now ≡ rule error }
+{
+    match error {
+        CheckError::WrongVlen => "",
+        CheckError::NoEntryBlock => "",
+        CheckError::NotCode(_) => "  wanted: a word in one segment that can be executed\n",
+        CheckError::IllegalWord(_) => "  wanted: an instruction that is legal there\n",
+        CheckError::VtypeUnknown(_) => "  wanted: a vector type that is known there\n",
+        CheckError::AccessNotProved(_) => "",
+        CheckError::ReadOnly(_) => "",
+        CheckError::TargetNotABlock(_) => "  wanted: a block where the word leads, or the exit\n",
+        CheckError::IntervalNotProved(_) => "  wanted: the intervals of the block entered\n",
+        CheckError::EqualityNotProved(_) => "  wanted: the equalities of the block entered\n",
+        CheckError::OrderNotProved(_) => "  wanted: the orders of the block entered\n",
+        CheckError::VectorFactNotProved(_) => "  wanted: the vector facts of the block entered\n",
+        CheckError::BudgetNotProved(_) =>
+            "  wanted: a budget for these words and the block entered\n",
+        CheckError::BlockTooLong(_) => "  wanted: at most 4096 words in a block\n",
+        CheckError::NoMemory => "",
+    }
+}
+
+impl fmt::Display for Wanted {
+    ghost use Rattle.std.specs.Prelude.{Some};
+    ghost use Rattle.check_reasons.specs.Check.{wanted_text};
+
+    ghost output = { λ wanted. Some (wanted_text wanted) };
+
+    #[tactic(auto, unfolding(crate::specs::Check::wanted_text))]
+    fn fmt<W: fmt::Write>(&self, f: &mut fmt::Formatter<W>) -> fmt::Result {
+        match self {
+            Wanted::Plain => Ok(()),
+            Wanted::Length { stated, wanted } => {
+                let stated = Bits(*stated);
+                let wanted = Bits(*wanted);
+                write!(f, "  stated: VLEN {stated}\n  wanted: VLEN {wanted}\n")
+            }
+            Wanted::Entry(entry) => {
+                let entry = Address(u64::from(*entry));
+                writeln!(f, "  wanted: a block at the entry, {entry}")
+            }
+            Wanted::Access(access) => write!(f, "{access}"),
+            Wanted::Edge(edge) => write!(f, "{edge}"),
+        }
+    }
+}
+
+/// The number of bits of a vector register.
+#[derive(Clone, Copy)]
+struct Bits(Vlen);
+
+impl fmt::Display for Bits {
+    ghost use Rattle.std.specs.Prelude.{Some};
+    ghost use Rattle.check_reasons.specs.Check.{bits_text};
+
+    ghost output = { λ bits. Some (bits_text bits.0) };
+
+    fn fmt<W: fmt::Write>(&self, f: &mut fmt::Formatter<W>) -> fmt::Result {
+        f.write_str(match self.0 {
+            Vlen::V128 => "128",
+            Vlen::V256 => "256",
+            Vlen::V512 => "512",
+        })
+    }
+}
+
+impl<A: Allocator> fmt::Display for CheckReason<A> {
+    ghost use Rattle.std.specs.Prelude.{Some};
+    ghost use Rattle.check_reasons.specs.Check.{check_text};
+
+    ghost output = { λ reason. Some (check_text reason) };
+
+    #[tactic(auto, unfolding(crate::specs::Check::check_text))]
+    fn fmt<W: fmt::Write>(&self, f: &mut fmt::Formatter<W>) -> fmt::Result {
+        let stop = StopLines(&self.explanation.stop);
+        let listing = ListingLine(&self.listing);
+        let rule = rule(self.explanation.error);
+        let wanted = &self.wanted;
+        write!(f, "{stop}{listing}{rule}{wanted}")
+    }
+}

@@ -1,0 +1,16 @@
+//! Why an image is refused with its certificate: what stands there, what was known, and what is wanted.
+//!
+//! A reason is a value, whose text is one or more lines. Each line begins with two spaces and ends in a newline.
+#![tactic(auto)]
+
+mod access;
+mod check;
+mod edge;
+mod sums;
+mod unshown;
+
+pub use access::{Access, Operand};
+pub use check::{CheckReason, Wanted, check_reason};
+pub use edge::{Edge, Entered, Left};
+pub use sums::Sum;
+pub use unshown::{Number, Unshown};

@@ -1,0 +1,156 @@
+//! Sums modulo 2^32, of a constant and multiples of numbers, as they are told.
+ghost use Rattle.std.specs.Prelude.{◌≡◌};
+ghost use Rattle.abs_domain.specs.Starts.{equality_form};
+
+use arrayvec::ArrayVec;
+use cert_note::Equality;
+use explanations::Address;
+use linear_facts::{Form, Term};
+use std::fmt;
+use std::marker::Model;
+
+/// A sum modulo 2^32. Its atoms are x1 to x31 and vl (32) where a block begins, the numbers that were passed (33 to 40, by
+/// place), and numbers that an instruction left of which no more is known.
+#[derive(Drop)]
+pub struct Sum<const N: usize> {
+    pub constant: u32,
+    pub terms: ArrayVec<Term, N>,
+}
+
+impl<const N: usize> Model for Sum<N> {
+    ghost use Rattle.linear_facts.specs.Forms.{Linear};
+
+    ghost Value = { Linear };
+
+    ghost view = { λ s. record { constant = s.constant; terms = s.terms.items } };
+}
+
+/// A form as a sum.
+pub(crate) fn sum_of<const N: usize>(form: Form<N>) -> Sum<N>
+    ensures { result ≡ form.entry }
+{
+    Sum {
+        constant: form.constant,
+        terms: form.terms,
+    }
+}
+
+/// The sum that an equality states.
+pub(crate) fn sum_stated(equality: &Equality) -> Sum<8>
+    ensures { result ≡ equality_form equality.now }
+{
+    let mut terms = ArrayVec::new();
+    for term in equality.terms.as_slice() {
+        terms.push(Term {
+            atom: u16::from(term.atom),
+            coefficient: term.coefficient,
+        });
+    }
+    Sum {
+        constant: equality.constant,
+        terms,
+    }
+}
+
+/// A register, or vl (32).
+#[derive(Clone, Copy)]
+pub(crate) struct Name(pub(crate) u8);
+
+impl fmt::Display for Name {
+    ghost use Rattle.std.specs.Prelude.{Some};
+    ghost use Rattle.check_reasons.specs.Sums.{name_text};
+
+    ghost output = { λ name. Some (name_text name.0) };
+
+    #[tactic(auto, unfolding(crate::specs::Sums::name_text))]
+    fn fmt<W: fmt::Write>(&self, f: &mut fmt::Formatter<W>) -> fmt::Result {
+        let number = self.0;
+        if number == 32 {
+            write!(f, "vl")
+        } else {
+            write!(f, "x{number}")
+        }
+    }
+}
+
+/// An atom of a sum.
+#[derive(Clone, Copy)]
+struct Atom(u16);
+
+impl fmt::Display for Atom {
+    ghost use Rattle.std.specs.Prelude.{Some};
+    ghost use Rattle.check_reasons.specs.Sums.{atom_text};
+
+    ghost output = { λ atom. Some (atom_text atom.0) };
+
+    #[tactic(auto, unfolding(crate::specs::Sums::atom_text))]
+    fn fmt<W: fmt::Write>(&self, f: &mut fmt::Formatter<W>) -> fmt::Result {
+        let atom = self.0;
+        if atom < 33 {
+            let name = Name(atom as u8);
+            write!(f, "{name}")
+        } else if atom < 41 {
+            let place = atom - 33;
+            write!(f, "param {place}")
+        } else {
+            let number = atom - 41;
+            write!(f, "n{number}")
+        }
+    }
+}
+
+/// A multiple of an atom that is added, or taken away.
+#[derive(Clone, Copy)]
+struct TermText(Term);
+
+impl fmt::Display for TermText {
+    ghost use Rattle.std.specs.Prelude.{Some};
+    ghost use Rattle.check_reasons.specs.Sums.{term_text};
+
+    ghost output = { λ term. Some (term_text term.0) };
+
+    #[tactic(auto, unfolding(crate::specs::Sums::term_text))]
+    fn fmt<W: fmt::Write>(&self, f: &mut fmt::Formatter<W>) -> fmt::Result {
+        let coefficient = self.0.coefficient;
+        let atom = Atom(self.0.atom);
+        if coefficient < 1 << 31 {
+            write!(f, " + {coefficient} * {atom}")
+        } else {
+            let less = (1_u64 << 32) - u64::from(coefficient);
+            write!(f, " - {less} * {atom}")
+        }
+    }
+}
+
+/// The terms of a sum.
+#[derive(Clone, Copy)]
+struct Terms<'a>(&'a [Term]);
+
+impl fmt::Display for Terms<'_> {
+    ghost use Rattle.std.specs.Prelude.{Some};
+    ghost use Rattle.check_reasons.specs.Sums.{terms_text};
+
+    ghost output = { λ terms. Some (terms_text terms.0.now) };
+
+    #[tactic(auto, unfolding(crate::specs::Sums::terms_text))]
+    fn fmt<W: fmt::Write>(&self, f: &mut fmt::Formatter<W>) -> fmt::Result {
+        for term in self.0 {
+            let term = TermText(*term);
+            write!(f, "{term}")?;
+        }
+        Ok(())
+    }
+}
+
+impl<const N: usize> fmt::Display for Sum<N> {
+    ghost use Rattle.std.specs.Prelude.{Some};
+    ghost use Rattle.check_reasons.specs.Sums.{sum_text};
+
+    ghost output = { λ sum. Some (sum_text sum) };
+
+    fn fmt<W: fmt::Write>(&self, f: &mut fmt::Formatter<W>) -> fmt::Result {
+        let constant = Address(u64::from(self.constant));
+        let terms = Terms(self.terms.as_slice());
+        write!(f, "{constant}{terms}")
+    }
+}

@@ -1,4 +1,0 @@
-use Rattle.explanations.proofs.access.reach_from.Goals as goal
-
-pub returns : goal.returns
-returns c = cc

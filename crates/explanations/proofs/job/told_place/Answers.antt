@@ -1,4 +1,0 @@
-use Rattle.explanations.proofs.job.told_place.Goals as goal
-
-pub returns : goal.returns
-returns c = cc

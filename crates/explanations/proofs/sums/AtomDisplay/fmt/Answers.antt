@@ -1,8 +1,0 @@
-use Rattle.std.proofs.Common.{arith}
-use Rattle.std.proofs.lemmas.Grind.{elements}
-use Rattle.explanations.specs.Sums.{atom_text}
-use Rattle.explanations.proofs.sums.AtomDisplay.fmt.Goals as goal
-
-pub returns-then-atom-lt41-clause-writes : goal.returns-then-atom-lt41-clause-writes
-unfolding atom_text
-returns-then-atom-lt41-clause-writes g c = grind (arith, elements)

@@ -1,6 +1,0 @@
-use Rattle.std.proofs.Common.{arith}
-use Rattle.std.proofs.lemmas.Grind.{common_steps}
-use Rattle.explanations.proofs.sums.sum_stated.Goals as goal
-
-pub push-requires : goal.push-requires
-push-requires c = grind (arith, common_steps)

@@ -1,6 +1,0 @@
-use Rattle.explanations.specs.Unshown.{unshown_budget}
-use Rattle.explanations.proofs.unshown.unshown_budget.Goals as goal
-
-pub returns-in-Some : goal.returns-in-Some
-unfolding unshown_budget
-returns-in-Some g c = rw c.in-Some.is cc

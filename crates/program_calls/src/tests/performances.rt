@@ -1,0 +1,42 @@
+//! What comes of words of a command line.
+use crate::tests::assertions::given;
+use command_line::perform;
+use commands::{Status, Store};
+use std::alloc::Global;
+use std::io::Read;
+use std::process::Abort;
+
+/// How a performance ended, and what standard output and standard error have.
+#[derive(Drop)]
+pub(crate) struct Outcome {
+    pub status: Status,
+    pub output: Vec<u8>,
+    pub errors: Vec<u8>,
+}
+
+/// The words of a line.
+fn words_of<'a>(rt: impl Abort + Copy, alloc: Global, line: &'a str) -> Vec<&'a str> {
+    let mut words = Vec::new(alloc);
+    for word in line.split_whitespace() {
+        given!(rt; words.push(word));
+    }
+    words
+}
+
+/// What comes of the words of a line over a store and an input.
+pub(crate) fn performed<S: Store, I: Read>(
+    rt: impl Abort + Copy,
+    alloc: Global,
+    line: &str,
+    store: &mut S,
+    input: &mut I,
+) -> Outcome {
+    let words = words_of(rt, alloc, line);
+    let (mut output, mut errors) = (Vec::new(alloc), Vec::new(alloc));
+    let ending = perform(alloc, &words, store, input, &mut output, &mut errors);
+    Outcome {
+        status: ending.status,
+        output,
+        errors,
+    }
+}

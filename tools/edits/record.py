@@ -1,0 +1,92 @@
+"""The table of docs/EDITS.md: for each pair the goal that stays open, and the sum of the sources that it was tried on."""
+import hashlib
+import re
+from typing import NamedTuple
+
+from rt_texts import without_comments
+
+BEGIN = "<!-- the pairs, by `tools/each-edit --write` -->"
+END = "<!-- the end of the pairs -->"
+HEAD = "| Pair | Goal that stays open | Sum |\n|---|---|---|\n"
+ROW = re.compile(r"(?m)^\| `(\w+)` \| `(.+)` \| `([0-9a-f]+)` \|$")
+# A module that only tests have.
+OF_TESTS = re.compile(r"#\[cfg\(test\)\]\s*(?:pub(?:\([^)]*\))?\s+)?mod\s+(\w+)\s*;")
+# The derives of a type. `Debug` prints, and no clause speaks of it.
+DERIVES = re.compile(r"#\[derive\(([^)]*)\)\]\s*")
+DIGITS = 12
+
+
+class RecordError(Exception):
+    """A document that has no place for the table."""
+
+
+class Row(NamedTuple):
+    """What is known of a pair: its goal, and the sum of what it was tried on."""
+
+    goal: str
+    sum: str
+
+
+def sources(crate):
+    """The files that a sum is made of, by path: the code without its tests, the specifications and the proofs."""
+    texts = {str(it.relative_to(crate)): it.read_text() for part in ("src", "specs", "proofs") for it in (crate / part).rglob("*.*t")}
+    code = [text for path, text in texts.items() if path.startswith("src/")]
+    tests = {"tests", *(it[1] for text in code for it in OF_TESTS.finditer(text))}
+    return {path: text for path, text in sorted(texts.items()) if not tests & set(path.removesuffix(".rt").split("/")[1:])}
+
+
+def without_debug(text):
+    """The text without derives of `Debug`."""
+    kept = lambda it: ", ".join(name for name in re.findall(r"[\w:]+", it[1]) if name != "Debug")
+    return DERIVES.sub(lambda it: f"#[derive({kept(it)})]\n" if kept(it) else "", text)
+
+
+def sums(crate, pairs):
+    """The sum of each pair: of the crate's sources without comments, blank space at the ends of lines and `Debug`, and of the pair's own
+    text."""
+    of_crate = hashlib.sha256()
+    for path, text in sources(crate).items():
+        of_crate.update(f"{path}\n{without_debug(without_comments(text, path.endswith('.antt')))}\n".encode())
+    return {it.name: sum_of(of_crate.copy(), it) for it in pairs}
+
+
+def sum_of(of_crate, pair):
+    """The sum of a pair, begun with that of its crate."""
+    of_crate.update(pair.text().encode())
+    return of_crate.hexdigest()[:DIGITS]
+
+
+def split(document):
+    """What stands before the table, the table, and what stands behind it."""
+    before, begin, rest = document.partition(BEGIN)
+    table, end, behind = rest.partition(END)
+    if not begin or not end:
+        raise RecordError(f"the table's place, from {BEGIN} to {END}, is not there")
+    return before + begin, table, end + behind
+
+
+def read_table(document):
+    """The rows of the table, by crate and pair."""
+    parts = re.split(r"(?m)^### (\w+)\n", split(document)[1])
+    return {name: {it[1]: Row(it[2], it[3]) for it in ROW.finditer(text)} for name, text in zip(parts[1::2], parts[2::2])}
+
+
+def with_table(document, table):
+    """The document with this table in place of its own."""
+    before, _, behind = split(document)
+    sections = [f"\n### {name}\n\n{HEAD}{rows_of(rows)}" for name, rows in sorted(table.items()) if rows]
+    return f"{before}\n{''.join(sections)}\n{behind}"
+
+
+def rows_of(rows):
+    """The lines of a crate's rows."""
+    return "".join(f"| `{name}` | `{row.goal}` | `{row.sum}` |\n" for name, row in rows.items())
+
+
+def renewed(rows, pairs, tried, own_sums):
+    """The rows of a crate's pairs, in the order of its file, once some were tried: without those that left no goal open."""
+    goals = tried.goals if tried else {}
+    missed = {it.name for it in tried.missed} if tried else set()
+    new = {name: Row(goal, own_sums[name]) for name, goal in goals.items()}
+    kept = {name: row for name, row in rows.items() if name not in missed} | new
+    return {it.name: kept[it.name] for it in pairs if it.name in kept}
