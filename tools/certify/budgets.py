@@ -12,6 +12,7 @@ ROOM = 2
 NOTHING_FALLS = 'no register falls on any way round this loop and rises on none'
 TOO_DEEP = 'more than two loops stand within one another'
 TOO_GREAT = 'its numbers are above 2^32'
+NOT_SHOWN = 'on some way both ends and sums are needed to show that it is paid'
 
 
 class NoBudget(Exception):
@@ -74,7 +75,7 @@ def over(edge, need, room):
     by_ends = edge.words + need.constant + sum(k * state.x[r].range[1] for r, k in need.factors.items())
     total = checker.whole_sum(state, edge.words + need.constant, [(k, state.x[r].form) for r, k in need.factors.items()])
     if total is None:
-        return Budget(by_ends, {})
+        return lowered(edge, Budget(by_ends, {}), room)
     budget = Budget(total[0], {})
     for atom, k in total[1].items():
         register = next((r for r in range(1, 32) if edge.start[r].form.only_atom() == atom), None)
@@ -82,6 +83,8 @@ def over(edge, need, room):
             budget = budget.more(0, register, k)
         else:
             budget = budget.more(max(k * end for end in state.atoms[atom]))
+    if by_ends <= checker.M32 < budget.constant + sum(k * edge.start[r].range[1] for r, k in budget.factors.items()):
+        return Budget(by_ends, {})      # (the way tells how great a register is; what comes before its block need not)
     return lowered(edge, narrowed(edge, budget, room) if budget.factors else Budget(min(by_ends, budget.constant), {}), room)
 
 
@@ -107,10 +110,17 @@ def lowered(edge, budget, room):
 
 
 class Budgets:
-    """edges: all ways; of: block -> its budget, which `solve` fills."""
+    """edges: all ways; of: block -> its budget, which `solve` fills; watch: who looks on, if anyone."""
 
-    def __init__(self, edges):
-        self.edges, self.of = edges, {}
+    def __init__(self, edges, watch=None):
+        self.edges, self.of, self.watch, self.falls = edges, {}, watch, {}
+
+    def fall(self, edge, register):
+        """By how much a register falls at least on a way, which is asked for again at each loop around it."""
+        key = id(edge), register
+        if key not in self.falls:
+            self.falls[key] = fall(edge, register)
+        return self.falls[key]
 
     def need(self, edge):
         return NOTHING if edge.target == model.EXIT else self.of[edge.target]
@@ -136,6 +146,8 @@ class Budgets:
             self.of[block] = out
 
     def loop(self, part, edges, inner, room):
+        if self.watch:
+            self.watch.check()
         counters = self.counters(part, inner)
         if not counters:
             raise NoBudget(part, NOTHING_FALLS)
@@ -143,10 +155,15 @@ class Budgets:
             raise NoBudget(part, TOO_DEEP)
         trouble = None
         for register in counters:
-            falling = [e for e in inner if fall(e, register) > 0]
+            falling = [e for e in inner if self.fall(e, register) > 0]
             try:
                 self.solve(part, [e for e in edges if e not in falling], room - 1)
-                return self.raised(part, edges, falling, register)
+                self.raised(part, edges, falling, register)
+                if not all(self.of[block].is_written() for block in part):
+                    raise NoBudget(part, TOO_GREAT)
+                if all(spare(edge, self.of[edge.source], self.need(edge)) >= 0 for edge in edges):
+                    return
+                raise NoBudget(part, NOT_SHOWN)
             except NoBudget as e:
                 trouble = trouble or e
         raise trouble
@@ -156,20 +173,24 @@ class Budgets:
         def loops_left(register):
             leads = {}
             for e in inner:
-                if fall(e, register) <= 0:
+                if self.fall(e, register) <= 0:
                     leads.setdefault(e.source, set()).add(e.target)
             return any(len(p) > 1 or set(p) & leads.get(next(iter(p)), set()) for p in flow.components(part, leads))
-        falls = {r: [fall(e, r) for e in inner] for r in range(1, 32)}
+        falls = {r: [self.fall(e, r) for e in inner] for r in range(1, 32)}
         good = [r for r in falls if min(falls[r]) >= 0 and max(falls[r]) > 0]
         width = lambda r: max(e.start[r].range[1] for e in inner)
         return sorted(good, key=lambda r: (loops_left(r), width(r), r))
 
     def raised(self, part, edges, falling, register):
-        """Adds the multiple of the register that pays for the ways on which it falls, and takes away what is too much."""
+        """Adds the multiple of the register that pays for the ways on which it falls, and takes away what is too much. What comes behind
+        the loop may ask for a multiple of it, which then stands in all blocks."""
+        most = max(self.of[block].factors.get(register, 0) for block in part)
+        for block in part:
+            self.of[block] = self.of[block].more(0, register, most - self.of[block].factors.get(register, 0))
         factor = 1
         for edge in falling:
             short = -spare(edge, self.of[edge.source], self.of[edge.target])
-            factor = max(factor, -(-short // fall(edge, register)))
+            factor = max(factor, -(-short // self.fall(edge, register)))
         for block in part:
             self.of[block] = self.of[block].more(0, register, factor)
         less = min(self.of[block].constant for block in part)

@@ -6,31 +6,11 @@ known from the words alone.
 import struct
 from collections import namedtuple
 
+import quick
 from outside import certificates, checker, model
 
 EVERYWHERE = [checker.Zone(-1 << 60, 1 << 60, certificates.READ | certificates.WRITE)]
 VL = checker.VL
-
-
-def copied(known, _):
-    """What is known, so that a change of the copy leaves the other as it is: numbers and forms are never changed in place."""
-    other = object.__new__(checker.Known)
-    other.__dict__ = {name: value.copy() if isinstance(value, (list, dict)) else value for name, value in known.__dict__.items()}
-    return other
-
-
-def interval_of_sum(known, form, slow=checker.Known.sum_interval):
-    """The interval of a form's sum, at once where the form is a number, or one atom that is not split and a number."""
-    if len(form.terms) < 2:
-        (atom, factor), = form.terms.items() or ((None, 1),)
-        if factor == 1 and atom not in known.splits:
-            lo, hi = known.atoms.get(atom, (0, 0))
-            return form.constant + lo, form.constant + hi
-    return slow(known, form)
-
-
-checker.Known.__deepcopy__ = copied     # the checker copies at each branch, and a search walks many
-checker.Known.sum_interval = interval_of_sum
 
 # known: what is known on the way. start: the values where the source begins. told: the orders that the branch tells.
 Edge = namedtuple('Edge', 'source target known start told words pc')
@@ -101,9 +81,9 @@ def cuts_of(image, starts):
     return out
 
 
-def blocks_of(image):
-    """start -> the words of each block, and start -> where it leads, as far as the words alone say."""
-    starts = starts_of(image, [image.entry])
+def blocks_of(image, more=()):
+    """start -> the words of each block, and start -> where it leads, as far as the words alone say. more: other starts that are known."""
+    starts = starts_of(image, [image.entry, *more])
     blocks = {start: words_of(image, start, starts) for start in starts}
     targets = {}
     for start, words in blocks.items():
@@ -118,7 +98,7 @@ class Explorer(checker.Walk):
 
     def __init__(self, image, certificate):
         super().__init__(image, certificate)
-        self.zones, self.walked = EVERYWHERE, {}
+        self.zones, self.walked, self.legal, self.known = EVERYWHERE, {}, {}, {}
 
     def edges(self, block):
         """The ways out of a block as far as it can be followed."""
@@ -126,8 +106,15 @@ class Explorer(checker.Walk):
             self.walked[block] = self.ways_out(block)
         return self.walked[block]
 
+    def fetched(self, s, pc):
+        """The instruction at pc, where it is one that is legal."""
+        if (pc, s.vtype) not in self.legal:
+            self.legal[pc, s.vtype] = super().fetched(s, pc)
+        return self.legal[pc, s.vtype]
+
     def ways_out(self, block):
-        s = checker.at_block(self.certificate, block, self.vlenb)
+        """The same, walked."""
+        s = quick.at_block(self.certificate, block, self.vlenb)
         start, pc = list(s.x), block.start
         try:
             while True:
@@ -145,7 +132,7 @@ class Explorer(checker.Walk):
         after = pc + 4
         if i.shape == 'branch':
             both = ((taken, pc + f['to'] if taken else after) for taken in (True, False))
-            known = ((checker.refined(s, i, f, taken), target, checker.told_orders(i, f, taken)) for taken, target in both)
+            known = ((quick.refined(s, i, f, taken), target, checker.told_orders(i, f, taken)) for taken, target in both)
             return [way for way in known if way[0]]
         if i.shape in ('jal', 'jalr'):
             to = pc + f['to'] if i.shape == 'jal' else checker.known(checker.offset_sum(s, f['rs1'], f['imm']).range)
@@ -172,51 +159,76 @@ def used_and_set(i, f):
 
 def live_at(blocks, targets):
     """block -> the registers whose numbers may still be read. blocks: start -> instructions; targets: start -> where it leads."""
-    live = {start: set() for start in blocks}
-    is_changed = True
-    while is_changed:
-        is_changed = False
-        for start, words in blocks.items():
-            now = set().union(*(live.get(target, set()) for target in targets.get(start, ())), set())
-            for _, i, f in reversed(words):
-                used, wrote = used_and_set(i, f)
-                now = now - wrote | used
-            if now != live[start]:
-                live[start], is_changed = now, True
+    read, kept, comes = {}, {}, {start: set() for start in blocks}
+    for start, words in blocks.items():
+        read[start], wrote = set(), set()
+        for _, i, f in words:
+            used, sets = used_and_set(i, f)
+            read[start] |= used - wrote
+            wrote |= sets
+        kept[start] = wrote
+        for target in targets.get(start, ()):
+            comes.setdefault(target, set()).add(start)
+    live, todo = {start: set(read[start]) for start in blocks}, list(blocks)
+    while todo:
+        target = todo.pop()
+        for start in comes[target]:
+            more = live[target] - kept[start] - live[start]
+            if more:
+                live[start] |= more
+                todo.append(start)
     return live
 
 
 def components(nodes, leads):
     """The strongly connected parts, those that are led to first. leads: node -> nodes."""
-    order, low, on, stack, out = {}, {}, set(), [], []
-
-    def visit(node):
-        order[node] = low[node] = len(order)
-        stack.append(node)
-        on.add(node)
-        for to in leads.get(node, ()):
-            if to not in order:
-                visit(to)
-                low[node] = min(low[node], low[to])
-            elif to in on:
-                low[node] = min(low[node], order[to])
-        if low[node] == order[node]:
-            part = set()
-            while node not in part:
-                part.add(stack.pop())
-            on.difference_update(part)
-            out.append(part)
-
-    for node in sorted(nodes):
-        if node not in order:
-            visit(node)
+    order, low, stack, out = {}, {}, [], []
+    for first in sorted(nodes):
+        walk = [(first, iter(leads.get(first, ())))] if first not in order else []
+        while walk:
+            node, ways = walk[-1]
+            if node not in order:
+                order[node] = low[node] = len(order)
+                stack.append(node)
+            to = next(ways, None)
+            if to is not None:
+                if to not in order:
+                    walk.append((to, iter(leads.get(to, ()))))
+                elif to in low:
+                    low[node] = min(low[node], low[to])
+                continue
+            walk.pop()
+            if walk:
+                low[walk[-1][0]] = min(low[walk[-1][0]], low[node])
+            if low[node] == order[node]:
+                out.append(taken_off(stack, node, low))
     return out
+
+
+def taken_off(stack, node, low):
+    """The part of the stack from a node on, which is done: it has no `low` any more."""
+    part = set()
+    while node not in part:
+        part.add(stack.pop())
+    for other in part:
+        del low[other]
+    return part
 
 
 def loops(blocks, leads):
     """The loops, each as its blocks: what is strongly connected, and what still is when no way leads to its first block."""
-    for part in components(blocks, leads):
-        inner = {node: set(leads.get(node, ())) & part for node in part}
-        if any(node in inner[node] for node in part) or len(part) > 1:
-            yield part
-            yield from loops(part, {node: to - {min(part)} for node, to in inner.items()})
+    def around(blocks, leads):
+        """The outermost loops, and their ways without those to their first blocks."""
+        for part in components(blocks, leads):
+            inner = {node: set(leads.get(node, ())) & part for node in part}
+            if any(node in inner[node] for node in part) or len(part) > 1:
+                yield part, {node: to - {min(part)} for node, to in inner.items()}
+
+    walk = [around(blocks, leads)]
+    while walk:
+        part, inner = next(walk[-1], (None, None))
+        if part is None:
+            walk.pop()
+            continue
+        yield part
+        walk.append(around(part, inner))

@@ -60,12 +60,11 @@ def is_behind(first, headers):
     return first >= max(ends, default=0)
 
 
-def labels(image):
-    """The names of the image's symbol table with their addresses. Empty where it was stripped."""
+def symbols(image):
+    """(name, place of its entry, value) of each named symbol of the image's table. None where it was stripped."""
     sections, size, count = struct.unpack_from('<I', image, 32)[0], *struct.unpack_from('<HH', image, 46)
-    out = {}
     if not sections or size != 40 or sections + size * count > len(image):
-        return out
+        return
     table = [struct.unpack_from('<10I', image, sections + size * k) for k in range(count)]
     for _, kind, _, _, offset, length, link, *_ in table:
         if kind != SYMTAB or link >= len(table):
@@ -75,8 +74,19 @@ def labels(image):
             name, value = struct.unpack_from('<II', image, at)
             text = strings[name:strings.index(b'\0', name)].decode(errors='replace')
             if text and not text.startswith('$'):
-                out[text] = value
-    return out
+                yield text, at, value
+
+
+def labels(image):
+    """The names of the image's symbol table with their addresses. Empty where it was stripped."""
+    return {text: value for text, _, value in symbols(image)}
+
+
+def move_labels(image, places):
+    """Gives each symbol whose address is in `places` the address that stands there. The image is changed."""
+    for _, at, value in list(symbols(bytes(image))):
+        if value in places:
+            struct.pack_into('<I', image, at + 4, places[value])
 
 
 def mapped(text):

@@ -10,6 +10,7 @@ import advice
 import affine
 import budgets
 import flow
+import quick
 from outside import certificates, checker, model
 
 FULL, VL, PASSED = certificates.FULL, checker.VL, checker.PASSED
@@ -22,151 +23,236 @@ PLANS = [Plan('lengths', False, 'none', False), Plan('lengths', False, 'lengths'
          Plan('counters', False, 'branches', True), Plan('lengths', True, 'none', False), Plan('pointers', False, 'branches', False),
          Plan('lengths', False, 'all', True), Plan('lengths', True, 'all', True)]
 
+
+class OutOfTime(Exception):
+    """The time that was allowed for a search has passed."""
+
+
+class Watch:
+    """What looks on while a search works: this one tells nothing and never stops it."""
+
+    def tell(self, text):
+        """What the search does now."""
+
+    def check(self):
+        """Raises OutOfTime where the search is to stop."""
+
+
 # What came out. certificate: the best that was found. answer: what the second checker says of it. trouble: why there is no budget.
 Found = namedtuple('Found', 'certificate answer trouble plan finder')
 
 
 class Guess:
-    """What is guessed of a block's start."""
+    """What is guessed of a block's start. edges: the ways out, until the guess changes."""
 
-    def __init__(self, known, sums):
-        self.x = [value.range for value in known.x]
+    def __init__(self, known, sums, orders, wanted):
+        self.x = [value.range if n in wanted else FULL for n, value in enumerate(known.x)]
         self.vtype, self.vectors = known.vtype, list(known.facts)
-        self.sums, self.orders, self.visits = sums, (), 0
+        self.sums, self.orders, self.wanted, self.visits, self.edges = sums, orders, wanted, 0, None
+
+    def key(self):
+        """What the guess states, for look-ups: equal keys of one block state the same."""
+        return tuple(self.x), self.vtype, tuple(self.vectors), tuple(self.sums.items()), self.orders, self.wanted
+
+
+class Shared:
+    """What the searches of one image share: walks, and what was settled of equal guesses."""
+
+    def __init__(self, image, frame):
+        self.image, self.frame = image, frame
+        self.explorers, self.flows, self.spaces, self.settled, self.judgements = {}, {}, {}, {}, {}
+
+    def explorer(self, starts):
+        """The explorer of blocks that begin here."""
+        key = frozenset(starts)
+        if key not in self.explorers:
+            self.explorers[key] = flow.Explorer(self.image, self.frame)
+            self.explorers[key].blocks = dict.fromkeys(key)
+        return self.explorers[key]
 
 
 def hull(a, b):
+    """The least interval around two."""
     return min(a[0], b[0]), max(a[1], b[1])
 
 
 class Finder:
-    """One search by one plan."""
+    """One search by one plan. shared: what other searches of this image have found; watch: who looks on."""
 
-    def __init__(self, image, params, vlen, plan):
+    def __init__(self, image, params, vlen, plan, shared=None, watch=None):
         self.image, self.plan, self.vlenb = image, plan, vlen // 8
         params = list(params) + [certificates.Param('none')] * (8 - len(params))
         self.frame = certificates.Certificate(vlen, params, [], 1)
+        self.shared, self.watch = shared or Shared(image, self.frame), watch or Watch()
         self.starts = flow.starts_of(image, [image.entry])
         if plan.cuts:
             self.starts |= flow.cuts_of(image, self.starts)
         self.guesses, self.sums, self.orders = {}, {}, {}
-        self.marks, self.explorer = marks_of(image, params), flow.Explorer(image, self.frame)
+        self.marks, self.explorer = marks_of(image, params), self.shared.explorer(self.starts)
+        self.at_entry = checker.at_entry(self.frame, self.vlenb)
 
     # ---- Intervals, vector types and facts ------------------------------------------------------------------------------
 
+    def wanted(self, start):
+        """The registers of which a block states something."""
+        return frozenset(self.live[start] | self.sums.get(start, {}).keys() | {n for o in self.orders.get(start, ()) for n in o})
+
     def block(self, start, budget=budgets.NOTHING):
-        guess, live = self.guesses[start], self.live[start]
-        wanted = lambda n: n in live or n in guess.sums or any(n in o for o in guess.orders)
+        """What is guessed of a block, as a certificate states it."""
+        guess = self.guesses[start]
         facts = [certificates.RegisterFact(n, *guess.x[n], guess.sums.get(n)) for n in range(1, 33)
-                 if wanted(n) and (guess.x[n] != FULL or n in guess.sums)]
+                 if n in guess.wanted and (guess.x[n] != FULL or n in guess.sums)]
         factors = sorted(budget.factors.items()) + 2 * [(0, 0)]
         (r, k), (r2, k2) = factors[:2]
-        return certificates.Block(start, budget.constant, k, r, guess.vtype, tuple(facts), tuple(guess.vectors[:32]), k2, r2,
+        return certificates.Block(start, budget.constant, k, r, guess.vtype, tuple(facts), tuple(sorted(guess.vectors)[:32]), k2, r2,
                                   guess.orders)
 
     def edges(self, start):
-        return self.explorer.edges(self.block(start))
+        """The ways out of a block by its guess."""
+        guess = self.guesses[start]
+        if guess.edges is None:
+            self.watch.check()
+            key = start, guess.key()
+            guess.edges = self.explorer.known.get(key)
+            if guess.edges is None:
+                guess.edges = self.explorer.known[key] = self.explorer.edges(self.block(start))
+        return guess.edges
 
     def intervals(self):
         """The fixpoint, from the entry on. Whether all targets are blocks; where one is not, it is added."""
-        if self.explorer.blocks.keys() != self.starts:
-            self.explorer = flow.Explorer(self.image, self.frame)
-            self.explorer.blocks = dict.fromkeys(self.starts)
+        self.explorer = self.shared.explorer(self.starts)
         self.guesses = {}
-        self.enter(checker.at_entry(self.frame, self.vlenb), self.image.entry)
-        todo, rounds = [self.image.entry], 0
+        self.enter(self.at_entry, self.image.entry)
+        todo, rounds = {self.image.entry}, 0
         while todo and rounds < MOST_ROUNDS * len(self.starts):
             rounds += 1
-            todo.sort(reverse=True)
-            start = todo.pop()
+            start = min(todo)
+            todo.remove(start)
             for edge in self.edges(start):
                 if edge.target in (None, model.EXIT):
                     continue
                 if edge.target not in self.starts:
                     self.starts.add(edge.target)
                     return False
-                if self.enter(edge.known, edge.target) and edge.target not in todo:
-                    todo.append(edge.target)
+                if self.enter(edge.known, edge.target):
+                    todo.add(edge.target)
+        seen = {}
         for _ in range(ROUNDS_BACK):
-            self.take_back()
+            if not self.take_back(seen):
+                break
         return True
 
     def enter(self, s, target):
         """Makes the guess of a block hold on this way in too: whether that changed it."""
         guess = self.guesses.get(target)
         if guess is None:
-            guess = self.guesses[target] = Guess(s, self.sums.get(target, {}))
-            guess.orders = self.orders.get(target, ())
+            orders = self.orders.get(target, ())
+            self.guesses[target] = Guess(s, self.sums.get(target, {}), orders, self.wanted(target))
             return True
-        before = guess.x, guess.vtype, guess.vectors
         guess.visits += 1
         is_wide = guess.visits > BEFORE_WIDENING
-        guess.x = [self.widened(old, hull(old, value.range), is_wide) for old, value in zip(guess.x, s.x)]
-        guess.vtype = guess.vtype if guess.vtype == s.vtype else None
-        guess.vectors = [fact for fact in (met_fact(s, fact, is_wide) for fact in guess.vectors) if fact]
-        return before != (guess.x, guess.vtype, guess.vectors)
+        is_changed = False
+        for n in guess.wanted:
+            old, new = guess.x[n], s.x[n].range
+            if new[0] < old[0] or new[1] > old[1]:
+                guess.x[n], is_changed = self.widened(old, hull(old, new), is_wide), True
+        vtype = guess.vtype if guess.vtype == s.vtype else None
+        vectors = [fact for fact in (met_fact(s, fact, is_wide) for fact in guess.vectors) if fact]
+        if is_changed or (vtype, vectors) != (guess.vtype, guess.vectors):
+            guess.vtype, guess.vectors, guess.edges = vtype, vectors, None
+            return True
+        return False
 
     def widened(self, old, new, is_wide):
-        if not is_wide or old == new:
+        """A wider interval, to the next marks where it has been made wider often."""
+        if not is_wide:
             return new
         lo = new[0] if new[0] == old[0] else max(mark for mark in self.marks if mark <= new[0])
         hi = new[1] if new[1] == old[1] else min(mark for mark in self.marks if mark >= new[1])
         return lo, hi
 
-    def take_back(self):
-        """Narrows every interval to what the ways in give."""
-        ways = self.ways_in()
-        for target, guess in self.guesses.items():
-            known = [s.x for s in ways.get(target, [])]
-            for n in range(1, 33) if known else ():
-                lo, hi = min(x[n].range[0] for x in known), max(x[n].range[1] for x in known)
-                guess.x[n] = checker.meet(guess.x[n], (lo, hi)) or guess.x[n]
-
-    def ways_in(self):
-        """target -> what is known on each way in."""
-        ways = {self.image.entry: [checker.at_entry(self.frame, self.vlenb)]}
+    def take_back(self, seen):
+        """Narrows intervals to what the ways in give, where one has changed since it was seen: whether that changed any."""
+        ways = {self.image.entry: [self.at_entry]}
         for edge in self.all_edges():
             ways.setdefault(edge.target, []).append(edge.known)
-        return ways
+        is_changed = False
+        for target, guess in self.guesses.items():
+            known = ways.get(target, [])
+            if not known or seen.get(target) == (ids := [id(s) for s in known]):
+                continue
+            seen[target] = ids
+            for n in guess.wanted:
+                ranges = [s.x[n].range for s in known]
+                lo, hi = min(r[0] for r in ranges), max(r[1] for r in ranges)
+                now = checker.meet(guess.x[n], (lo, hi)) or guess.x[n]
+                if now != guess.x[n]:
+                    guess.x[n], guess.edges, is_changed = now, None, True
+        return is_changed
 
     def all_edges(self):
+        """The ways out of all blocks, in the order of their addresses."""
         return [edge for start in sorted(self.guesses) for edge in self.edges(start)]
 
     # ---- Sums and orders -------------------------------------------------------------------------------------------------
 
     def settle_flow(self):
         """The words of each block, where they lead, and which registers matter."""
-        while not self.intervals():
-            pass
-        self.words = {start: flow.words_of(self.image, start, self.starts) for start in self.guesses}
-        self.targets = {start: {e.target for e in self.edges(start)} for start in self.guesses}
-        self.uses, self.loops = Uses(self.words), []
-        for loop in flow.loops(self.words, {start: to & self.words.keys() for start, to in self.targets.items()}):
-            self.loops.append((loop, set().union(*(flow.used_and_set(i, f)[1] for b in loop for _, i, f in self.words[b]))))
+        if self.plan.cuts not in self.shared.flows:
+            self.live = EveryRegister()
+            self.settle_blocks()
+            self.shared.flows[self.plan.cuts] = self.starts, self.words, self.targets, Uses(self.words), self.loops_around()
+        starts, self.words, self.targets, self.uses, self.loops = self.shared.flows[self.plan.cuts]
+        self.starts = set(starts)
         self.live = EveryRegister(flow.live_at(self.words, self.targets))
         if self.plan.dead:
             self.live = EveryRegister((start, set(range(1, 33))) for start in self.live)
 
-    def find_sums(self):
-        spaces, todo = {self.image.entry: affine.at_entry(self.frame)}, [self.image.entry]
+    def settle_blocks(self):
+        """The fixpoint, with as many blocks as it takes."""
+        while not self.intervals():
+            pass
+        self.words = {start: flow.words_of(self.image, start, self.starts) for start in self.guesses}
+        self.targets = {start: {e.target for e in self.edges(start)} for start in self.guesses}
+
+    def loops_around(self):
+        """The loops, each with the registers that its blocks set."""
+        leads = {start: to & self.words.keys() for start, to in self.targets.items()}
+        wrote = {start: set().union(*(flow.used_and_set(i, f)[1] for _, i, f in words)) for start, words in self.words.items()}
+        return [(loop, set().union(*(wrote[block] for block in loop))) for loop in flow.loops(self.words, leads)]
+
+    def spaces(self):
+        """The affine hull at each block's start."""
+        key = frozenset(self.starts), frozenset((start, frozenset(to)) for start, to in self.targets.items())
+        if key not in self.shared.spaces:
+            self.shared.spaces[key] = self.hulls()
+        return self.shared.spaces[key]
+
+    def hulls(self):
+        """The affine hull at each block's start, from the entry on."""
+        spaces, todo, effects = {self.image.entry: affine.at_entry(self.frame)}, [self.image.entry], {}
         while todo:
+            self.watch.check()
             start = todo.pop()
-            space = spaces[start].copy()
-            for pc, i, f in self.words[start]:
-                affine.step(space, i, f, pc, self.vlenb)
+            if start not in effects or not effects[start].is_fixed:
+                effects[start] = affine.effect(self.words[start], spaces[start], self.vlenb)
+            space = effects[start].on(spaces[start])
             for target in self.targets.get(start, set()) & self.words.keys():
-                own = affine.Space(space.point, affine.reduced(space.directions, range(1, affine.PLACES))[0])
-                new = spaces[target].joined(space) if target in spaces else own
+                new = spaces[target].joined(space) if target in spaces else space
                 if target not in spaces or len(new.directions) > len(spaces[target].directions):
                     spaces[target] = new
                     todo.append(target)
+        return spaces
+
+    def find_sums(self):
+        """Guesses the sums of each block."""
         self.sums = {start: {} for start in self.words}
-        self.sums.update((start, self.sums_at(start, space.copy())) for start, space in spaces.items())
+        self.sums.update((start, self.sums_at(start, space.copy())) for start, space in self.spaces().items())
 
     def sums_at(self, start, space):
+        """The sums at a block's start, with those registers free that the plan names."""
         live = self.live[start]
-        for number in set(range(1, 33)) - live:
-            space.free(number)
+        space.free(set(range(1, 33)) - live)
         moved = [n for loop, wrote in self.loops if start in loop for n in wrote]
         rank = lambda n: (n not in live, *self.uses.rank(self.plan, n, moved.count(n)))
         return space.sums(list(range(PASSED, PASSED + 8)) + sorted(range(1, 33), key=rank))
@@ -193,44 +279,60 @@ class Finder:
         ways += [(e.known, e.target, e.told) for e in self.all_edges() if e.target in self.guesses]
         for known, target, told in ways:
             for number, equal in list(self.sums.setdefault(target, {}).items()):
-                if not checker.is_equal(known, certificates.RegisterFact(number, *FULL, equal)):
+                if not quick.is_equal(known, number, equal):
                     del self.sums[target][number]
-                    is_all = False
+                    self.guesses[target].edges, is_all = None, False
             for order in self.orders.get(target, ()):
                 if order not in told and not checker.is_in_order(known, known.x[order.s], known.x[order.r]):
-                    self.orders[target] = tuple(o for o in self.orders[target] if o != order)
-                    is_all = False
+                    self.guesses[target].orders = self.orders[target] = tuple(o for o in self.orders[target] if o != order)
+                    self.guesses[target].edges, is_all = None, False
         return is_all
 
     # ---- The whole ---------------------------------------------------------------------------------------------------------
 
     def find(self):
-        self.live = EveryRegister()
+        """The search by this plan."""
         self.settle_flow()
         for _ in range(2):
             self.find_sums()
             self.guess_orders()
             self.settle()
+        key = id(self.guesses)
+        if key not in self.shared.judgements:
+            self.shared.judgements[key] = self.judgement()
+        self.edge_list, self.budgets, certificate, answer, trouble = self.shared.judgements[key]
+        return Found(certificate, answer, trouble, self.plan, self)
+
+    def judgement(self):
+        """The ways, the budgets, the certificate, what the second checker says of it, and why there is no budget."""
         self.edge_list = self.all_edges()
-        self.budgets, trouble = budgets.Budgets(self.edge_list), None
+        self.budgets, trouble = budgets.Budgets(self.edge_list, self.watch), None
         try:
             self.budgets.solve(set(self.guesses), [e for e in self.edge_list if e.target is not None])
         except (budgets.NoBudget, KeyError) as e:
             trouble = e
         certificate = self.certificate()
-        return Found(certificate, judged(self.image, certificate), trouble, self.plan, self)
+        return self.edge_list, self.budgets, certificate, judged(self.image, certificate), trouble
 
     def settle(self):
-        """The fixpoint with the sums and orders, as often as one of them has to go."""
-        is_settled = False
-        while not is_settled:
-            while not self.intervals():
-                pass
-            is_settled = self.drop_what_fails()
-        self.words = {start: flow.words_of(self.image, start, self.starts) for start in self.guesses}
-        self.targets = {start: {e.target for e in self.edges(start)} for start in self.guesses}
+        """The fixpoint with the sums and orders, as often as one of them has to go; at once where these guesses were settled before."""
+        parts = (self.starts, {start: tuple(sums.items()) for start, sums in self.sums.items()}, self.orders,
+                 {start: frozenset(live) for start, live in self.live.items()})
+        key = tuple(frozenset(part.items() if isinstance(part, dict) else part) for part in parts)
+        if key not in self.shared.settled:
+            is_settled = False
+            while not is_settled:
+                self.settle_blocks()
+                is_settled = self.drop_what_fails()
+                while not is_settled and not self.drop_what_fails():
+                    pass    # what fails without what has just gone goes at once, before intervals are asked for again
+            self.shared.settled[key] = self.starts, self.guesses, self.words, self.targets, self.sums, self.orders
+        starts, self.guesses, self.words, self.targets, self.sums, orders = self.shared.settled[key]
+        self.starts, self.orders = set(starts), dict(orders)
+        self.explorer = self.shared.explorer(self.starts)
 
     def certificate(self):
+        """What was guessed, as a certificate."""
         budget_of = {start: budget for start, budget in self.budgets.of.items() if budget.is_written()}
         blocks = [self.block(start, budget_of.get(start, budgets.NOTHING)) for start in sorted(self.guesses)]
         version = 2 if any(b.orders or b.k2 for b in blocks) else 1
@@ -303,13 +405,20 @@ def judged(image, certificate):
     return 'accepted'
 
 
-def find(image, params, vlen):
+def find(image, params, vlen, watch=None):
     """The first certificate that the second checker accepts, else the one with which the search came furthest."""
-    best, least = None, None
-    for plan in PLANS:
-        found = Finder(image, params, vlen, plan).find()
+    best, least, shared, seen = None, None, None, set()
+    for number, plan in enumerate(PLANS):
+        if watch:
+            watch.tell(f'search at VLEN {vlen}, plan {number + 1} of {len(PLANS)}')
+        finder = Finder(image, params, vlen, plan, shared, watch)
+        shared = finder.shared
+        found = finder.find()
         if found.answer == 'accepted':
             return found
+        if id(finder.guesses) in seen:
+            continue
+        seen.add(id(finder.guesses))
         wrong = len(list(advice.misfits(image, found.certificate))), found.trouble is not None
         if best is None or wrong < least:
             best, least = found, wrong

@@ -2,17 +2,17 @@
 import contextlib
 import io
 import pathlib
-import re
 import shutil
 import subprocess
 import tempfile
-import tomllib
 import unittest
 
 import advice
 import certify_main
+import kernels_page
 import notes
 import search
+import small
 import toml_form
 import trial
 from outside import ROOT, certificates
@@ -39,10 +39,10 @@ def example(name):
 
 
 class Kernels(unittest.TestCase):
-    """The kernels of kernels.toml, and that docs/CERTIFY.md says of each what comes of the search."""
+    """The kernels of kernels.toml, and that docs/KERNELS.md is the page that is printed of them."""
 
     def setUp(self):
-        self.kernels = tomllib.loads((HERE / 'kernels/kernels.toml').read_text())['kernel']
+        self.kernels = kernels_page.kernels()
 
     @unittest.skipUnless(IS_THERE, 'clang-16 or ld.lld-16 is not installed')
     def test_each_kernel_is_found_or_not_as_the_table_says(self):
@@ -51,14 +51,26 @@ class Kernels(unittest.TestCase):
                 with self.subTest(kernel=kernel['name']):
                     self.search(kernel, pathlib.Path(folder))
 
-    def search(self, kernel, folder):
+    def built(self, kernel, folder):
+        """A kernel's image, as a file and read, and its parameters."""
         built, image = folder / 'k.o', folder / 'k.elf'
-        options = kernel.get('options', ['-Os', '-fno-vectorize'])
         source = HERE / 'kernels' / f"{kernel['name']}.c"
-        subprocess.run(['clang-16', *OPTIONS, *options, source, '-o', built], check=True)
+        subprocess.run(['clang-16', *OPTIONS, *kernel.get('options', kernels_page.PLAIN), source, '-o', built], check=True)
         subprocess.run([*LINK, built, '-o', image], check=True)
         data = image.read_bytes()
-        read, params = certificates.read_image(data), [param(text) for text in kernel['param']]
+        return image, data, certificates.read_image(data), [param(text) for text in kernel['param']]
+
+    @unittest.skipUnless(IS_THERE, 'clang-16 or ld.lld-16 is not installed')
+    def test_each_that_is_refused_is_accepted_with_guards(self):
+        with tempfile.TemporaryDirectory() as folder:
+            for kernel in self.kernels:
+                if kernel['search'] != 'found':
+                    with self.subTest(kernel=kernel['name']):
+                        _, data, _, params = self.built(kernel, pathlib.Path(folder))
+                        self.assertEqual(small.Guarded(data, params).answer(), 'accepted')
+
+    def search(self, kernel, folder):
+        image, data, read, params = self.built(kernel, folder)
         refuted = trial.refuted(read, params, 128)
         self.assertEqual(refuted is not None, kernel['search'] == 'none')
         if refuted:
@@ -75,13 +87,9 @@ class Kernels(unittest.TestCase):
         else:
             self.assertIn(kernel['help'], '\n'.join(advice.told(found, read)))
 
-    def test_the_table_says_what_is_measured(self):
-        text = (ROOT / 'docs/CERTIFY.md').read_text()
-        rows = dict(re.findall(r'^\| \[(\w+)\]\(\.\./tools/certify/kernels/\1\.c\) \|.*\| ([a-z ]+)(?:: .*)? \|$', text, re.M))
-        self.assertEqual(rows, {kernel['name']: kernel['search'] for kernel in self.kernels})
-        count = lambda answer: sum(kernel['search'] == answer for kernel in self.kernels)
-        self.assertIn(f"of {len(self.kernels)} {count('found')} are found, and of {count('none')} a run shows", ' '.join(text.split()))
-        self.assertEqual({path.stem for path in (HERE / 'kernels').glob('*.c')}, set(rows))
+    def test_the_page_is_the_printed_one(self):
+        self.assertEqual((ROOT / 'docs/KERNELS.md').read_text(), kernels_page.page())
+        self.assertEqual({path.stem for path in (HERE / 'kernels').glob('*.c')}, {kernel['name'] for kernel in self.kernels})
 
 
 class Runs(unittest.TestCase):

@@ -10,14 +10,17 @@ import tempfile
 import unittest
 
 import certify_main
+import compilers
+import host
 import names
 import notes
 import toml_form
 from outside import ROOT, certificates
 
 EXAMPLES = ROOT / 'examples'
-IS_THERE = shutil.which('clang-16') and shutil.which('ld.lld-16')
-BUILT = ROOT / 'crates/rvvbox/out/rvvbox'
+COMPILERS = 'clang-16', 'ld.lld-16', 'clang-19', 'ld.lld-19'
+GCC = 'riscv64-unknown-elf-gcc'
+ARE_THERE = all(map(shutil.which, COMPILERS))
 LOOP = '''vlen = [128, 256, 512]
 
 [[param]]
@@ -286,31 +289,58 @@ class NewHost(unittest.TestCase):
         self.assertIn(block, (ROOT / 'crates/run_calls/src/tests/readme.rt').read_text())
 
 
-@unittest.skipUnless(IS_THERE, 'clang-16 or ld.lld-16 is not installed')
+def told(page, heading):
+    """The blocks of text in a section of a page: of each its commands with what they print."""
+    text = (ROOT / page).read_text()
+    section = re.split(r'^## ', text[text.index(f'\n## {heading}\n') + 4:], flags=re.M)[0]
+    # a command goes on behind a backslash at the end of its line
+    return [re.findall(r'^\$ ((?:.*\\\n)*.*)\n((?:(?!\$ ).*\n)*)', block, re.M) for block in re.findall(r'^```text\n(.*?)^```', section, re.S | re.M)]
+
+
+@unittest.skipUnless(ARE_THERE, f"one of {', '.join(COMPILERS)} is not installed")
 class NewUser(Case):
-    """README.md's own kernel, from C to `run`, by its own words."""
+    """README.md's own kernel, from C to `run`, and what docs/CERTIFY.md goes on to do with it, by their own words."""
 
     def setUp(self):
         super().setUp()
-        block = re.search(r'^## Your own kernel.*?^```text\n(.*?)^```', (ROOT / 'README.md').read_text(), re.S | re.M)[1]
-        self.source, *self.job = block[:block.index('$ clang-16')].splitlines()[1:]
-        # a command goes on behind a backslash at the end of its line
-        self.commands = re.findall(r'^\$ ((?:.*\\\n)*.*)\n((?:[^$\n].*\n)*)', block[block.index('$ clang-16'):], re.M)
-
-    def test_three_commands(self):
-        self.file('halve.c', self.source)
-        self.file('job.toml', '\n'.join(self.job))
         os.symlink(ROOT / 'tools', self.folder / 'tools')
-        self.assertEqual(len(self.commands), 3)
-        path = {**os.environ, 'PATH': f"{BUILT.parent}:{os.environ['PATH']}"}
-        for command, said in self.commands[:3 if BUILT.exists() else 2]:
-            ran = subprocess.run(command, shell=True, cwd=self.folder, env=path, capture_output=True, text=True)
-            self.assertEqual((ran.returncode, ran.stdout.strip()), (0, said.strip()), command + ran.stderr)
+        os.mkdir(self.folder / 'bin')
+        if host.program():
+            os.symlink(pathlib.Path(host.program()).resolve(), self.folder / 'bin/rvvbox')
+        self.path = {**os.environ, 'PATH': f"{self.folder / 'bin'}:{os.environ['PATH']}"}
+        self.first, self.early, self.make = told('README.md', 'Your own kernel')
+        (_, files), *self.first = self.first            # (the first command shows the source and the job)
+        self.file('line.c', files[:files.index('image = ')])
+        self.file('job.toml', files[files.index('image = '):])
+
+    def try_all(self, commands, folder=None):
+        """Runs commands, each of which has to print what the page shows. Those that run a kernel need the program."""
+        for command, said in commands:
+            if not host.program() and 'rvvbox ' in command:
+                continue
+            ran = subprocess.run(['bash', '-c', command], cwd=folder or self.folder, env=self.path, capture_output=True, text=True)
+            self.assertEqual((ran.returncode, ran.stdout), (0, said), command + ran.stderr)
+
+    def test_the_readme(self):
+        self.try_all(self.first + self.early)
+
+    @unittest.skipUnless(shutil.which(GCC), f'{GCC} is not installed')
+    def test_the_page(self):
+        (self.folder / 'text').write_bytes((self.folder / 'job.toml').read_bytes()[:64])
+        for name, size in (('to', 32), ('length', 4), ('status', 4)):
+            (self.folder / name).write_bytes(bytes(size))
+        for heading in ('Your C, one command', 'What a guard that fails looks like', 'Images of other compilers'):
+            for block in told('docs/CERTIFY.md', heading):
+                self.try_all(block)
+
+    @unittest.skipUnless(host.program(), 'rvvbox is not built')
+    def test_the_readmes_loop_that_needs_no_search(self):
+        self.try_all(self.make, shutil.copytree(EXAMPLES / 'raise_words', self.folder / 'raise_words'))
 
     def test_labels_come_from_the_symbol_table(self):
-        self.file('halve.c', self.source)
-        subprocess.run(self.commands[0][0], shell=True, cwd=self.folder, check=True)
+        source = self.file('halve.c', 'void _start(unsigned char *bytes, unsigned n) { for (unsigned i = 0; i < n; i++) bytes[i] /= 2; }')
         image = self.folder / 'halve.elf'
+        self.assertIsNone(compilers.compiled(compilers.SETS[0], [source], image, '_start'))
         entry = certificates.read_image(image.read_bytes()).entry
         self.assertEqual(notes.labels(image.read_bytes())['_start'], entry)
         blocks = 'vlen = 128\nblock = [{ start = "_start + 8", constant = 1 }, { start = "_start", constant = 2 }]\n'

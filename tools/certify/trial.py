@@ -10,6 +10,7 @@ import flow
 from outside import certificates, checker, model
 
 STEPS, VISITS = 12_000, 40
+LOOK = 64        # steps between two looks at the clock
 RIGHTS = ((certificates.READ, 'r'), (certificates.WRITE, 'w'), (certificates.EXECUTE, 'x'))
 
 # pc: where a run showed it. fault: its name and address, or None. arguments: the scalars that were passed, by name.
@@ -32,11 +33,13 @@ class Run(model.Machine):
         super().__init__(vlen // 8, False, image.entry, x, bytes(4 * vlen), model.VILL, 0, 0, 0, model.Memory(areas))
         self.image, self.words, self.visits = image, {}, {}
 
-    def refuted(self):
-        """What the run refutes, or None."""
-        for _ in range(STEPS):
+    def refuted(self, watch=None):
+        """What the run refutes, or None. watch: who looks on, if anyone."""
+        for step in range(STEPS):
             if self.pc == model.EXIT:
                 break
+            if watch and step % LOOK == 0:
+                watch.check()
             pc = self.pc
             try:
                 self.step(self.fetched(pc))
@@ -77,10 +80,10 @@ def is_paid_by(falls):
     return all(lowest[0] * -a < b * lowest[1] for a, b in falls if a < 0)
 
 
-def refuted(image, params, vlen):
+def refuted(image, params, vlen, watch=None):
     """What a run refutes, on buffers of zeros and on full ones; else None."""
     for fill in (0, 255):
-        found = Run(image, params, vlen, fill).refuted()
+        found = Run(image, params, vlen, fill).refuted(watch)
         if found:
             return found
     return None

@@ -1,0 +1,193 @@
+"""Which buffers an address may have been computed from, over all ways: what each register may stem from before each node.
+
+An origin is the place of a buffer, STACK, an address in the image, or LINK, where some call returns to. A sum stems from what both of its
+parts stem from; a load from a slot of the stack from what was stored there; every other load from nothing, as what any instruction but
+sums and moves makes.
+"""
+from outside import checker
+
+import graph
+
+STACK, LINK = 'stack', 'link'
+NOTHING = frozenset()
+MOST = 12       # addresses of the image that are told apart; more count as nothing
+
+
+class Bases:
+    """What registers stem from. before: node -> {register: origins}."""
+
+    def __init__(self, code, its_graph, params):
+        self.code, self.graph = code, its_graph
+        self.slots, self.before = {}, {}
+        start = {10 + place: frozenset([place]) for place, *_ in checker.buffers(params)}
+        start[2] = frozenset([(STACK, 0)])
+        self.start = start
+        self.solve()
+
+    def solve(self):
+        order = self.graph.order
+        is_changed = True
+        while is_changed:
+            is_changed = False
+            behind = {}
+            self.before = {order[0]: dict(self.start)}
+            todo, waiting = list(reversed(order)), set(order)
+            while todo:
+                key = todo.pop()
+                waiting.discard(key)
+                known = self.before.get(key)
+                if known is None:
+                    continue
+                now = self.stepped(key, known)
+                if behind.get(key) == now:
+                    continue
+                behind[key] = now
+                for to in self.graph.leads[key]:
+                    if self.join(to, now) and to not in waiting:
+                        waiting.add(to)
+                        todo.append(to)
+            is_changed = self.store_slots()
+
+    def join(self, key, now):
+        old = self.before.get(key)
+        if old is None:
+            self.before[key] = dict(now)
+            return True
+        is_changed = False
+        for register, origins in now.items():
+            both = merged(old.get(register, NOTHING), origins)
+            if both != old.get(register, NOTHING):
+                old[register], is_changed = both, True
+        return is_changed
+
+    def store_slots(self):
+        """What is stored to the stack, by slot. Whether that is more than was known."""
+        is_changed = False
+        for key, known in self.before.items():
+            node = self.code.nodes[key]
+            if node.i.name != 'sw':
+                continue
+            stored = known.get(node.f['rs2'], NOTHING)
+            for slot in slots_of(known.get(node.f['rs1'], NOTHING), node.f['imm']):
+                both = merged(self.slots.get(slot, NOTHING), stored)
+                if both != self.slots.get(slot, NOTHING):
+                    self.slots[slot], is_changed = both, True
+        return is_changed
+
+    def stepped(self, key, known):
+        node = self.code.nodes[key]
+        wrote = graph.used_and_set(node)[1] & ~(1 << 32)
+        if not wrote:
+            return dict(known)
+        now = dict(known)
+        rd = node.f['rd']
+        made = self.made(node, known)
+        if made:
+            now[rd] = made
+        else:
+            now.pop(rd, None)
+        return now
+
+    def reads_links(self):
+        """Whether where a call returns to may be read, but to return or to be kept on the stack."""
+        for key, known in self.before.items():
+            node = self.code.nodes[key]
+            links = {r for r, origins in known.items() if (LINK, None) in origins and graph.used_and_set(node)[0] >> r & 1}
+            is_kept = node.i.name == 'sw' and links == {node.f['rs2']} and any(o[0] == STACK for o in known.get(node.f['rs1'], ()) if isinstance(o, tuple))
+            if links and not self.code.is_return(node) and not is_kept:
+                return True
+        return False
+
+    def made(self, node, known):
+        i, f = node.i, node.f
+        one, two = known.get(f.get('rs1', 0), NOTHING), known.get(f.get('rs2', 0), NOTHING)
+        if i.shape in ('jal', 'jalr'):
+            return frozenset([(LINK, None)])
+        if i.name in ('lui', 'auipc'):
+            return frozenset([('at', f['imm'] + (node.pc if i.name == 'auipc' else 0) & 0xffffffff)])
+        if i.name == 'addi':
+            return moved(one, f['imm']) if f['rs1'] else NOTHING
+        if i.name in ('add', 'or'):
+            return summed(one, two)
+        if i.name == 'sub':
+            return NOTHING if places(two) else loose(one)
+        if i.name == 'andi' and f['imm'] < 0:
+            return loose(one)
+        if i.name == 'lw':
+            out = NOTHING
+            for slot in slots_of(one, f['imm']):
+                out = merged(out, self.slots.get(slot, NOTHING))
+            return out
+        return NOTHING
+
+
+def places(origins):
+    """The origins without the sums that may be plain numbers."""
+    return {o for o in origins if not (isinstance(o, tuple) and o[0] == 'at' and o[1] is not None and o[1] < 0x1000)}
+
+
+def merged(one, two):
+    both = one | two
+    if len(both) > MOST:
+        return frozenset(o if not isinstance(o, tuple) else (o[0], None) for o in both)
+    return both
+
+
+def moved(origins, by):
+    """A sum with a number."""
+    return frozenset((o[0], None if o[1] is None else o[1] + by if o[0] == STACK else o[1] + by & 0xffffffff)
+                     if isinstance(o, tuple) else o for o in origins)
+
+
+def loose(origins):
+    """Origins at an offset that is not known: of an address of the image what it was near stays."""
+    return frozenset((o[0], None) if isinstance(o, tuple) and o[0] == STACK else o for o in origins)
+
+
+def summed(one, two):
+    one_places, two_places = places(one), places(two)
+    if one_places and two_places:
+        # a great number out of lui may be an offset: what is a buffer or the stack counts first
+        strong = {o for o in one_places | two_places if not (isinstance(o, tuple) and o[0] == 'at')}
+        return loose(frozenset(strong or one_places | two_places))
+    return loose(frozenset(one_places or two_places))
+
+
+def slots_of(origins, offset):
+    """The slots of the stack that an access means, as far as they are known."""
+    return [o[1] + offset for o in origins if isinstance(o, tuple) and o[0] == STACK and o[1] is not None]
+
+
+def zones_of(origins, image, params):
+    """(first, end, rights, name) of what the origins lie in."""
+    out = []
+    buffers = {place: (address, address + size, mode, f'a{place}') for place, address, size, mode in checker.buffers(params)}
+    for origin in origins:
+        if not isinstance(origin, tuple):
+            out.append(buffers[origin])
+        elif origin[0] == STACK:
+            out.append(stack_zone())
+        else:
+            out += nearest(origin[1], image)
+    return sorted(set(out))
+
+
+def stack_zone():
+    return 0x2fff0000, 0x30000000, 6, 'the stack'
+
+
+def nearest(address, image):
+    """The segment in which an address lies, or that begins less than a page behind it."""
+    segments = [(s.first, s.end, s.rights, 'the image') for s in image.segments]
+    if address is None:
+        return segments
+    inside = [z for z in segments if z[0] <= address < z[1]]
+    near = [z for z in segments if z[0] - 0x1000 <= address < z[1] + 0x1000]
+    return inside or near
+
+
+def all_zones(image, params):
+    """All that an address out of memory may mean: buffers first, then the image's data and the stack."""
+    out = [(address, address + size, mode, f'a{place}') for place, address, size, mode in checker.buffers(params)]
+    out += [(s.first, s.end, s.rights, 'the image') for s in image.segments if not s.rights & 1]
+    return out + [stack_zone()]

@@ -1,0 +1,210 @@
+"""Counters of loops: a register beside a loop that falls on each way round, for loops in which no register does.
+
+`rest`: what is left of a count of elements where strips are taken from it by an index that rises: no branch changes.
+`end`: where a pointer will stand when a loop ends that counts its rounds: it is tested once, before the loop.
+`left`: a loop that ends where a register x meets a number e. The counter is e - x (or x - e where x falls), in steps of x; it moves
+with x, and the branches of x and e become branches of the counter and 0. `mirror`: a register that rises on each way round and is known
+to stay at or below some number; the counter is that number less the register. Neither changes what the kernel does.
+"""
+from collections import namedtuple
+
+import graph
+from program import SP, ZERO, Branch, Label, Number, word
+
+LEFT, MIRROR, REST, END = 'left', 'mirror', 'rest', 'end'
+
+LONGEST = 1024   # by how much a register is taken to rise at most where that is not known
+SLACK = 4
+ANEW = 0         # the sign of a move by what is not known: the register is computed anew
+TRIES = 4        # how many registers of a loop are tried
+# One way that a register moves: the node, and by which number (None: by a register's) it rises.
+Move = namedtuple('Move', 'key by register sign')
+# kind; registers: the counter, and the one that keeps its start; x, and e or the number that x stays below; step: of which the counter counts one; rises:
+# whether x does; moves; exits: the branches; is_tested: whether the start is tested.
+Counter = namedtuple('Counter', 'kind registers x end step rises moves exits is_tested')
+
+
+def moves_of(the_graph, loop, x, numbers=()):
+    """The ways that a register moves in a loop; None where it is set to something else there. numbers: registers that hold one number
+    throughout the loop, which are steps like any other."""
+    numbers = dict(numbers)
+    moves = []
+    for key in the_graph.writers(loop.nodes, x):
+        node = the_graph.nodes[key]
+        i, f = node.i, node.f
+        if i.name == 'addi' and f['rs1'] == x and f['imm']:
+            moves.append(Move(key, f['imm'], None, 1))
+        elif i.name == 'add' and (f['rs1'] == x) != (f['rs2'] == x):
+            register = f['rs2'] if f['rs1'] == x else f['rs1']
+            moves.append(Move(key, numbers.get(register), register, 1))
+        elif i.name == 'sub' and f['rs1'] == x and f['rs2'] != x:
+            step = numbers.get(f['rs2'])
+            moves.append(Move(key, None if step is None else -step, f['rs2'], -1))
+        else:
+            return None
+    return moves or None
+
+
+def is_rise(move):
+    return move.sign > 0 if move.by is None else move.by > 0
+
+
+def is_on_each_way(the_graph, loop, keys):
+    """Whether each way round a loop goes through one of these nodes."""
+    keys, seen, todo = set(keys), set(), [loop.head]
+    if loop.head in keys:
+        return True
+    while todo:
+        key = todo.pop()
+        for to in the_graph.leads[key]:
+            if to == loop.head:
+                return False
+            if to in loop.nodes and to not in keys and to not in seen:
+                seen.add(to)
+                todo.append(to)
+    return True
+
+
+def left_counters(the_graph, loop, numbers):
+    """The counters of the first kind that a loop may have, without registers. numbers: as for `moves_of`."""
+    pairs = {}
+    for key in loop.nodes:
+        node = the_graph.nodes[key]
+        if node.i.name in ('beq', 'bne'):
+            for x, end in ((node.f['rs1'], node.f['rs2']), (node.f['rs2'], node.f['rs1'])):
+                if x and x != end and any(to not in loop.nodes for to in the_graph.leads[key]):
+                    pairs.setdefault((x, end), []).append(key)
+    for (x, end), exits in pairs.items():
+        moves = moves_of(the_graph, loop, x, numbers)
+        if moves is None or end and the_graph.writers(loop.nodes, end):
+            continue
+        rises = {is_rise(m) for m in moves}
+        if len(rises) != 1 or not is_on_each_way(the_graph, loop, [m.key for m in moves]):
+            continue
+        steps = {abs(m.by) if m.by is not None else None for m in moves}
+        step = steps.pop() if len(steps) == 1 else None
+        yield Counter(LEFT, (), x, end, step or 1, rises.pop(), tuple(moves), tuple(exits), False)
+
+
+def mirror_counters(the_graph, loop, most):
+    """The counters of the second kind. most: register -> the greatest number that is known of it at the head. First those of registers that
+    rise in place, then those of some that are computed anew from others, of which the search has to find out that they rise."""
+    anew = []
+    for x in range(1, 32):
+        if x == SP or most.get(x, 1 << 32) >= (1 << 32) - (1 << 12):
+            continue
+        moves = moves_of(the_graph, loop, x)
+        if moves is None:
+            moves = anew_moves(the_graph, loop, x)
+            if moves and is_on_each_way(the_graph, loop, [m.key for m in moves]):
+                anew.append(mirror(x, most[x], moves))
+        elif (all(is_rise(m) for m in moves) and all(m.by is None or m.by <= 2047 for m in moves)
+                and is_on_each_way(the_graph, loop, [m.key for m in moves])):
+            yield mirror(x, most[x], moves)
+    yield from anew[:TRIES]
+
+
+def mirror(x, most, moves):
+    """The counter of a register that is at most so much at the head: its number is so great that it holds behind each move as well, and
+    where intervals are known less well than at the head."""
+    return Counter(MIRROR, (), x, most + SLACK * max(move.by or LONGEST for move in moves), 1, True, tuple(moves), (), False)
+
+
+def anew_moves(the_graph, loop, x):
+    """The ways that a register is computed from others in a loop; None where it is set to a number, or to what is loaded."""
+    moves = []
+    for key in the_graph.writers(loop.nodes, x):
+        node = the_graph.nodes[key]
+        if node.i.name not in ('add', 'addi') or not node.f['rs1']:
+            return None
+        moves.append(Move(key, None, None, ANEW))
+    return moves
+
+
+def needs(counter):
+    """How many registers a counter needs: its own, and one for what it started from or the number that it is taken from."""
+    return 2 if counter.kind == LEFT or any(move.sign == ANEW for move in counter.moves) else 1
+
+
+def rest_counters(the_graph, loop):
+    """What is left of n where a strip's length is asked for as n less an index, which moves by the length."""
+    for key in loop.nodes:
+        node = the_graph.nodes[key]
+        if node.i.shape != 'vset' or not node.f.get('rs1'):
+            continue
+        for at in the_graph.writers(loop.nodes, node.f['rs1']):
+            made = the_graph.nodes[at]
+            end, x = made.f.get('rs1', 0), made.f.get('rs2', 0)
+            if made.i.name != 'sub' or not x or end and the_graph.writers(loop.nodes, end):
+                continue
+            moves = moves_of(the_graph, loop, x)
+            length = node.f['rd']
+            if length and moves and [(m.register, m.sign) for m in moves] == [(length, 1)]:
+                # (it falls right behind the vset, where what is left is known as a part of what was)
+                yield Counter(REST, (), x, end, 1, True, (Move(key, None, length, 1),), (), False)
+
+
+def rounds_of(the_graph, loop, counter):
+    """The register that holds how many rounds of a loop are still to come at its head, where one does: it falls by one each time, and
+    the loop ends where it is 0, at its one way out, behind all else."""
+    ways_out = [key for key in loop.nodes if any(to not in loop.nodes for to in the_graph.leads[key]) or not the_graph.leads[key]]
+    if len(ways_out) != 1 or list(loop.latches) != ways_out:
+        return None
+    if counter is not None and counter.kind == LEFT and counter.exits == tuple(ways_out):
+        return counter.registers[0] if len(counter.moves) == 1 and abs(counter.moves[0].by or 0) == counter.step else None
+    node = the_graph.nodes[ways_out[0]]
+    if node.i.name != 'bne' or 0 not in (node.f['rs1'], node.f['rs2']):
+        return None
+    register = node.f['rs1'] or node.f['rs2']
+    moves = moves_of(the_graph, loop, register) or []
+    falls_once = [m.by for m in moves] == [-1] and is_on_each_way(the_graph, loop, [moves[0].key])
+    return register if falls_once and the_graph.depth(moves[0].key) == the_graph.depth(loop.head) else None
+
+
+def step_of(the_graph, loop, register):
+    """By how much a pointer rises once in each round of a loop, and where; None where it is not so."""
+    moves = moves_of(the_graph, loop, register) or []
+    if len(moves) != 1 or not moves[0].by or moves[0].by < 0 or not is_on_each_way(the_graph, loop, [moves[0].key]):
+        return None
+    return moves[0].by if the_graph.depth(moves[0].key) == the_graph.depth(loop.head) else None
+
+
+def on_entering(counter, fail_division, fail_start, most, free):
+    """What sets a counter on the way into its loop. fail_division, fail_start: labels. free: a register for numbers, or None."""
+    r = counter.registers[0]
+    if counter.kind == MIRROR:
+        number = counter.registers[-1]
+        return [Number(number, counter.end), word('sub', rd=r, rs1=number, rs2=counter.x)]
+    if counter.kind == REST:
+        return [word('sub', rd=r, rs1=counter.end, rs2=counter.x)]
+    kept = counter.registers[1]
+    ends = (counter.end, counter.x) if counter.rises else (counter.x, counter.end)
+    out = [word('sub', rd=r, rs1=ends[0], rs2=ends[1])]
+    step = counter.step
+    if step > 1 and step & step - 1 == 0 and step <= 2048:
+        out += [word('andi', rd=kept, rs1=r, imm=step - 1), Branch('bne', kept, ZERO, fail_division)]
+        out += [word('srli', rd=r, rs1=r, imm=step.bit_length() - 1)]
+    elif step > 1:
+        out += [Number(kept, step), word('remu', rd=kept, rs1=r, rs2=kept), Branch('bne', kept, ZERO, fail_division)]
+        out += [Number(kept, step), word('divu', rd=r, rs1=r, rs2=kept)]
+    if counter.is_tested:
+        none, many = fail_start
+        out += [Branch('beq', r, ZERO, none), Number(kept, most), Branch('bltu', kept, r, many)]
+    return out + [word('addi', rd=kept, rs1=r, imm=0)]
+
+
+def on_move(counter, move):
+    """What moves a counter with its register."""
+    r = counter.registers[0]
+    if move.sign == ANEW:
+        return [word('sub', rd=r, rs1=counter.registers[1], rs2=counter.x)]
+    if move.by is None:
+        falls = (move.sign > 0) == counter.rises
+        return [word('sub' if falls else 'add', rd=r, rs1=r, rs2=move.register)]
+    return [word('addi', rd=r, rs1=r, imm=-abs(move.by) // counter.step)]
+
+
+def in_place(counter, the_graph, key):
+    """What stands in the place of a branch that ends a loop."""
+    node = the_graph.nodes[key]
+    return [Branch(node.i.name, counter.registers[0], ZERO, ('way', key, the_graph.leads[key][0]), key)]

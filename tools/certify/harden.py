@@ -1,0 +1,171 @@
+"""`certify guard`: from an image to one with a certificate, with guards where a search alone is refused."""
+import sys
+import time
+from collections import namedtuple
+
+import guard
+import host
+import lines
+import notes
+import search
+import trial
+from outside import certificates, checker
+
+FACTOR, LEAST_FUEL = 4, 1024
+QUICK = 12                  # processor seconds up to which a second way is tried
+FIND_AT_MOST = 20           # seconds for the search without guards
+NO_STATUS = 'without --status a run that a guard ended cannot be told from a whole one'
+
+# What was made: the image's bytes with its note, the certificate, and the maker, or None where nothing was put in.
+Made = namedtuple('Made', 'data image certificate maker')
+
+
+class Within(search.Watch):
+    """A part of a search that may take so many seconds."""
+
+    def __init__(self, whole, seconds):
+        self.whole, self.end = whole, whole.clock() + seconds
+
+    def tell(self, text):
+        self.whole.tell(text)
+        self.check()
+
+    def check(self):
+        self.whole.check()
+        if self.whole.clock() > self.end:
+            raise search.OutOfTime('the search without guards')
+
+
+def made(data, image, job, vlen, looking, fuel=None, status=None):
+    """An image with a certificate for a length: its own bytes where the search finds one, else with guards. Raises notes.Trouble."""
+    check_status(job.params, status)
+    found = found_alone(image, job.params, vlen, looking)
+    if found is not None:
+        return Made(notes.with_note(data, certificates.certificate_bytes(found.certificate)), image, found.certificate, None)
+    return guarded(data, image, job, vlen, looking, fuel, status)
+
+
+def guarded(data, image, job, vlen, looking, fuel, status):
+    """An image with guards: with tests before loops, or within them, whichever takes the job's own run fewer steps."""
+    ways, trouble, start = [], None, time.process_time()
+    for hoists in (True, False):
+        maker = guard.Maker(data, image, job.params, vlen, fuel or guard.FUEL, status, looking, hoists)
+        try:
+            ways.append((maker, *made_by(maker, job, vlen, fuel)))
+        except notes.Trouble as e:
+            trouble = trouble or e
+        is_quick = time.process_time() - start < QUICK
+        if ways and not (is_quick and maker.is_hoisted() and job.can_run() and host.program()):
+            break
+    if not ways:
+        raise trouble
+    maker, out, new, found, why = min(ways, key=lambda way: steps_of(way[0], way[1], job, vlen)) if len(ways) > 1 else ways[0]
+    if why:
+        print(f'fuel: {maker.fuel} rounds, {why}', file=sys.stderr)
+    tell_of_own_run(maker, job, vlen)
+    return Made(notes.with_note(out, certificates.certificate_bytes(found.certificate)), new, found.certificate, maker)
+
+
+def made_by(maker, job, vlen, fuel):
+    """The image, what was read of it, what was found, and why it has so much fuel, where it has some that was not stated."""
+    out, new, found = maker.run()
+    if not maker.fuelled or fuel is not None:
+        return out, new, found, None
+    maker.fuel, why = fuel_of(maker, job, vlen)
+    return *maker.run(), why
+
+
+def steps_of(maker, out, job, vlen):
+    """How many steps the job's own run takes; above all where a guard ends it."""
+    if failed_guard(maker, job, vlen, job.contents()):
+        return 1 << 60
+    return host.run(job.table, out, job.params, job.contents(), vlen).steps or 1 << 59
+
+
+def tell_of_own_run(maker, job, vlen):
+    """Says on standard error where a guard ends the job's own run."""
+    number = failed_guard(maker, job, vlen, job.contents()) if maker.told and job.can_run() and host.program() else None
+    if number:
+        it = maker.told[number - 1]
+        print(f"guard {number} ends the job's own run: {it.kind} at {it.pc:#x}, {it.what}", file=sys.stderr)
+
+
+def check_status(params, status):
+    if status is None:
+        return
+    if not (0 <= status < len(params) and params[status].kind == 'buffer' and params[status].mode & certificates.WRITE
+            and params[status].a >= 4):
+        raise notes.Trouble('--status has to name the place of a buffer of mode "rw" with 4 bytes or more')
+
+
+def found_alone(image, params, vlen, looking):
+    """What the search finds without guards, or None. Where a run shows that there is no certificate it is not begun."""
+    looking.tell(f'runs at VLEN {vlen}')
+    if trial.refuted(image, params, vlen):
+        return None
+    try:
+        found = search.find(image, params, vlen, Within(looking, FIND_AT_MOST))
+    except search.OutOfTime:
+        looking.check()
+        return None
+    return found if found.answer == 'accepted' else None
+
+
+# ---- Fuel ----------------------------------------------------------------------------------------------------------------------
+
+def fuel_of(maker, job, vlen):
+    """How much fuel a kernel gets, and why: some times what the job's own run takes, and a run on the greatest scalars."""
+    if not job.can_run() or not host.program() or len(job.params) > 7:
+        return guard.FUEL, 'since the job states no run that can be measured: --fuel N states another number'
+    contents = job.contents()
+    greatest = [param.b if param.kind == 'scalar' else content for param, content in zip(job.params, contents)]
+    most = max(used_fuel(maker, job, vlen, passed) or 0 for passed in (contents, greatest))
+    if not most:
+        return guard.FUEL, 'since the job has no run that ends: --fuel N states another number'
+    fuel = max(LEAST_FUEL, 1 << (FACTOR * most - 1).bit_length())
+    return fuel, f'at least {FACTOR} times the {most} that runs of the job take: --fuel N states another number'
+
+
+def used_fuel(maker, job, vlen, contents):
+    """How many rounds of loops with fuel a run takes, or None where it does not end."""
+    left = told_by_run(maker, job, vlen, contents, True)
+    return None if left is None else (1 << 32) - 1 - left
+
+
+def failed_guard(maker, job, vlen, contents):
+    """The number of the guard that ends a run, 0 where none does; None where that can't be asked."""
+    return told_by_run(maker, job, vlen, contents, False)
+
+
+def told_by_run(maker, job, vlen, contents, measures_fuel):
+    """The number that a run leaves in a buffer of its own behind the job's. None where there is no place, or the run does not end."""
+    if len(job.params) > 7:
+        return None
+    params = [*job.params, certificates.Param('buffer', certificates.READ | certificates.WRITE, 4, 0)]
+    address = next(at for place, at, *_ in checker.buffers(params) if place == len(job.params))
+    ran = host.run(job.table, maker.told_at(address, measures_fuel), params, [*contents, bytes(4)], vlen)
+    left = ran.buffers.get(len(job.params))
+    return None if ran.steps is None or left is None else int.from_bytes(left, 'little')
+
+
+# ---- What is told --------------------------------------------------------------------------------------------------------------
+
+def summary(made_of, status):
+    """What was put in, in one line each."""
+    maker = made_of.maker
+    if maker is None:
+        return ['nothing had to be put in']
+    kinds = [(len(list(maker.counting())), 'counters'), (len(maker.fuelled), 'loops with fuel'),
+             (len(maker.tests) + len(maker.strips) + len(maker.choices), 'tests before accesses')]
+    out = ['put in: ' + ', '.join(f'{count} {what}' for count, what in kinds if count)] if any(c for c, _ in kinds) else []
+    if maker.is_ending:
+        out.append('returns of the kernel are ecall')
+    return out + ([NO_STATUS] if maker.told and status is None else [])
+
+
+def map_lines(made_of, path, data):
+    """`number kind address function source what` of each guard that may fail."""
+    told = made_of.maker.told if made_of.maker else []
+    sources = lines.source_lines(path, {guard_told.pc for guard_told in told})
+    for number, it in enumerate(told, 1):
+        yield f"{number}\t{it.kind}\t{it.pc:#x}\t{lines.function_at(data, it.pc)}\t{sources.get(it.pc, '-')}\t{it.what}"

@@ -1,0 +1,377 @@
+"""A kernel's code as a graph of instructions, and its layout as a new segment with more instructions between them.
+
+A node is an instruction at an address, for one chain of calls: a function that is called from two places has a copy for each, so
+that each return leads to one place. Registers keep their numbers, data stay where they are, and the old code stays as data that may
+be read. What is put between the nodes is a list of operations, which `layout` turns into words with all branches in range.
+"""
+import struct
+from collections import namedtuple
+
+import flow
+import notes
+from outside import certificates, model, table
+
+WORDS_AT_MOST = 1 << 16
+LINKS = (1, 5)              # the registers that the calling convention leaves return addresses in
+LOAD = 1
+PAGE = 0x1000
+ZERO, RA, SP = 0, 1, 2
+
+INS = {i.name: i for rows in model.TABLE.values() for _, _, i in rows}
+OPPOSITE = {'beq': 'bne', 'bne': 'beq', 'blt': 'bge', 'bge': 'blt', 'bltu': 'bgeu', 'bgeu': 'bltu'}
+NEAR, FAR = 1 << 12, 1 << 20
+
+# An instruction: its address, the return addresses of the calls around it (each with its link register), and what its word means.
+Node = namedtuple('Node', 'key pc calls i f word')
+
+# What is put between instructions.
+Word = namedtuple('Word', 'word key', defaults=(None,))
+Label = namedtuple('Label', 'name')
+Branch = namedtuple('Branch', 'name rs1 rs2 label key', defaults=(None,))
+Jump = namedtuple('Jump', 'rd label key', defaults=(None,))
+Number = namedtuple('Number', 'rd value')           # one word or two
+Address = namedtuple('Address', 'rd label')         # always two
+
+
+def word(name, **fields):
+    """The operation of one instruction that is no branch or jump."""
+    return Word(INS[name].encode(**fields))
+
+
+def number_words(rd, value):
+    """The words that put a number into a register."""
+    low = model.signed(value, 12)
+    high = value - low & table.M32
+    words = [INS['lui'].encode(rd=rd, imm=high)] if high else []
+    if low or not high:
+        words.append(INS['addi'].encode(rd=rd, rs1=rd if high else 0, imm=low))
+    return words
+
+
+class Code:
+    """The instructions that can be reached from the entry, and where each leads."""
+
+    def __init__(self, image, tables=()):
+        """tables: the addresses to which indirect jumps may lead, by the address of the jump."""
+        self.image, self.tables = image, dict(tables)
+        self.nodes, self.returns, self.lost = {}, {}, set()
+        self.entry = (), image.entry
+        self.leads, self.reads_links = {}, False        # (reads_links: whether calls leave the addresses that they left in the old code)
+        self.reach()
+
+    def reach(self):
+        todo = [self.entry]
+        while todo:
+            key = todo.pop()
+            if self.read(key):
+                todo += self.ways(self.nodes[key])
+            if not todo:            # (where a return leads is known once each call of its chain is)
+                todo = [to for node in self.nodes.values() if self.is_return(node) for to in self.ways(node)
+                        if to not in self.nodes and to not in self.lost]
+        for key in self.nodes:
+            self.leads[key] = [to for to in self.ways(self.nodes[key]) if to in self.nodes]
+
+    def read(self, key):
+        """Makes the node of an address, once. Whether that was now."""
+        if key in self.nodes or key in self.lost:
+            return False
+        decoded = flow.decoded_at(self.image, key[1])
+        if decoded is None or len(self.nodes) >= WORDS_AT_MOST:
+            self.lost.add(key)
+            return False
+        segment = certificates.code_segment(self.image.segments, key[1])
+        here, = struct.unpack_from('<I', segment.data, key[1] - segment.first)
+        self.nodes[key] = Node(key, key[1], key[0], *decoded, here)
+        return True
+
+    def ways(self, node):
+        """The nodes to which an instruction leads, of a branch the one where it is taken first."""
+        after = node.calls, node.pc + 4
+        shape = node.i.shape
+        if shape == 'branch':
+            return [(node.calls, node.pc + node.f['to'] & table.M32), after]
+        if shape in ('jal', 'jalr'):
+            return self.jumps(node)
+        return [] if shape == 'ecall' else [after]
+
+    def jumps(self, node):
+        target = self.target(node)
+        link = node.f['rd']
+        if target is None:
+            if self.is_return(node):
+                return sorted(self.returns.get(node.calls, ()))
+            targets = self.tables.get(node.pc, ())
+        else:
+            targets = target,
+        if not link:
+            return [(node.calls, to) for to in dict.fromkeys(targets)]
+        frame = node.pc + 4, link
+        calls = node.calls + (frame,)
+        if frame in node.calls:                     # a recursion: its chain is cut at the first call from here
+            calls = node.calls[:node.calls.index(frame) + 1]
+        self.returns.setdefault(calls, set()).add((node.calls, node.pc + 4))
+        return [(calls, to) for to in dict.fromkeys(targets)]
+
+    def is_return(self, node):
+        return (node.i.shape == 'jalr' and not node.f['rd'] and not node.f['imm']
+                and node.f['rs1'] == (node.calls[-1][1] if node.calls else RA))
+
+    def is_exit(self, node):
+        """Whether a run ends here: an ecall, or the return of the entry's function."""
+        return node.i.shape == 'ecall' or not node.calls and self.is_return(node)
+
+    def is_call(self, node):
+        return node.i.shape in ('jal', 'jalr') and node.f['rd'] and self.target(node) is not None
+
+    def target(self, node):
+        """Where a jump leads, as far as the words before it say."""
+        if node.i.shape == 'jal':
+            return node.pc + node.f['to'] & table.M32
+        base = self.constant(node.f['rs1'], node)
+        return None if base is None else base + node.f['imm'] & table.M32 & ~1
+
+    def constant(self, register, node):
+        """The number that lui or auipc, and addi, put into a register right before a node."""
+        total, pc = 0, node.pc
+        for _ in range(2):
+            pc -= 4
+            before = self.nodes.get((node.calls, pc))
+            if before is None or before.f.get('rd') != register:
+                return None
+            if before.i.name in ('lui', 'auipc'):
+                return total + before.f['imm'] + (pc if before.i.name == 'auipc' else 0) & table.M32
+            if before.i.name != 'addi' or before.f['rs1'] != register:
+                return None
+            total += before.f['imm']
+        return None
+
+
+class Edits:
+    """What is put into the code. Each is a list of operations."""
+
+    def __init__(self):
+        self.first = []         # before all
+        self.before = {}        # node -> whenever the node is come to
+        self.after = {}         # node -> behind the node, which is no branch or jump
+        self.entering = {}      # head of a loop -> (the loop's nodes, operations on the ways in from outside)
+        self.instead = {}       # node -> in its place
+        self.last = []          # behind all
+
+
+def layout(code, edits):
+    """All operations in the order in which they stand: an instruction falls through to the one that it leads to."""
+    out, late = [*edits.first], []
+    order = sorted(code.nodes, key=lambda key: (key[0] != (), key[0], key[1]))
+    out.append(Jump(ZERO, ('way', None, code.entry)))
+    before = None
+    for key in order:
+        node = code.nodes[key]
+        falls = before is not None and falls_to(code, before) == key
+        if before is not None and not falls:
+            out += way_on(code, before)
+        enter_node(code, edits, key, before if falls else None, out, late)
+        out += edits.before.get(key, [])
+        out += edits.instead[key] if key in edits.instead else own_words(code, node)
+        out += edits.after.get(key, [])
+        before = key
+    if before is not None:
+        out += way_on(code, before)
+    out += late + edits.last
+    return without_idle(resolved(code, edits, out))
+
+
+def falls_to(code, key):
+    """The node that has to stand behind a node, or None where it does not go on."""
+    node = code.nodes[key]
+    if node.i.shape in ('jal', 'jalr', 'ecall'):
+        return (node.calls, node.pc + 4) if code.is_call(node) and (node.calls, node.pc + 4) in code.nodes else None
+    return node.calls, node.pc + 4
+
+
+def way_on(code, key):
+    """What stands behind a node whose next one is not laid out there."""
+    to = falls_to(code, key)
+    if to is None:
+        return []
+    return [Jump(ZERO, ('way', key, to))] if to in code.nodes else [Word(0)]
+
+
+def enter_node(code, edits, key, falls_from, out, late):
+    """The labels before a node, and what is done on the ways into its loop."""
+    if key in edits.entering:
+        loop, operations = edits.entering[key]
+        if falls_from is not None and falls_from in loop:
+            late += [Label(('enter', key)), *operations, Jump(ZERO, ('at', key))]
+        else:
+            out += [Label(('enter', key)), *operations]
+    out.append(Label(('at', key)))
+
+
+def own_words(code, node):
+    """A node's own instruction, with its targets by label."""
+    i, f, key = node.i, node.f, node.key
+    if i.shape == 'branch':
+        to = node.calls, node.pc + f['to'] & table.M32
+        return [Branch(i.name, f['rs1'], f['rs2'], ('way', key, to), key)]
+    if i.name == 'auipc':
+        return [Number(f['rd'], node.pc + f['imm'] & table.M32)]
+    if i.shape == 'jal' or i.shape == 'jalr' and code.target(node) is not None:
+        if not code.leads[key]:
+            return [Word(0)]
+        if f['rd'] and code.reads_links:
+            return [Number(f['rd'], node.pc + 4), Jump(ZERO, ('way', key, code.leads[key][0]), key)]
+        return [Jump(f['rd'], ('way', key, code.leads[key][0]), key)]
+    if code.is_return(node) and node.calls:
+        return [Jump(ZERO, ('way', key, code.leads[key][0]), key)] if code.leads[key] else [Word(0)]
+    return [Word(node.word, key)]
+
+
+def returned(code, node, other, fails):
+    """A return to one of several places: to the one whose address the link register holds, else to a label. other: a spare register."""
+    out = []
+    for back in code.leads[node.key]:
+        way = 'way', (back[0], back[1] - 4), back           # (the address that the call before it left in the link register)
+        out += [Address(other, way), Branch('beq', node.f['rs1'], other, way)]
+    return [*out[:-1], out[-1]._replace(key=node.key), Jump(ZERO, fails)]
+
+
+def resolved(code, edits, operations):
+    """Each way by its label: through what is done before a loop where it comes from outside of it."""
+    def name(label):
+        if label[0] != 'way':
+            return label
+        _, source, to = label
+        if to not in code.nodes:
+            return 'nowhere',
+        if to in edits.entering and (source is None or source not in edits.entering[to][0]):
+            return 'enter', to
+        return 'at', to
+    out = [op._replace(label=name(op.label)) if hasattr(op, 'label') else op for op in operations]
+    if any(getattr(op, 'label', None) == ('nowhere',) for op in out):
+        out += [Label(('nowhere',)), Word(0)]
+    return out
+
+
+def without_idle(operations):
+    """Without the jumps to what stands right behind them."""
+    out = []
+    for k, op in enumerate(operations):
+        if isinstance(op, Jump) and op.rd == ZERO:
+            ahead = k + 1
+            while ahead < len(operations) and isinstance(operations[ahead], Label):
+                if operations[ahead].name == op.label:
+                    break
+                ahead += 1
+            if ahead < len(operations) and isinstance(operations[ahead], Label):
+                continue
+        out.append(op)
+    return out
+
+
+class Laid:
+    """Operations as words at addresses."""
+
+    def __init__(self, operations, first):
+        self.operations, self.first = operations, first
+        self.long = set()
+        while self.grown():
+            pass
+        self.words = self.encoded()
+
+    def size(self, k, op):
+        if isinstance(op, Label):
+            return 0
+        if isinstance(op, Number):
+            return 4 * len(number_words(op.rd, op.value))
+        if isinstance(op, Address):
+            return 8
+        return 8 if k in self.long else 4
+
+    def grown(self):
+        """Lays all out, and makes long the branches that don't reach their labels. Whether there was one."""
+        at, self.places, self.at = self.first, {}, []
+        for k, op in enumerate(self.operations):
+            self.at.append(at)
+            if isinstance(op, Label):
+                self.places[op.name] = at
+            at += self.size(k, op)
+        more = {k for k, op in enumerate(self.operations) if isinstance(op, Branch) and k not in self.long
+                and not -NEAR <= self.places[op.label] - self.at[k] < NEAR}
+        self.long |= more
+        return bool(more)
+
+    def encoded(self):
+        words = []
+        for k, op in enumerate(self.operations):
+            words += self.words_of(k, op)
+        return words
+
+    def words_of(self, k, op):
+        if isinstance(op, Label):
+            return []
+        if isinstance(op, Word):
+            return [op.word]
+        if isinstance(op, Number):
+            return number_words(op.rd, op.value)
+        to = self.places[op.label]
+        if isinstance(op, Address):
+            low = model.signed(to, 12)
+            return [INS['lui'].encode(rd=op.rd, imm=to - low & table.M32), INS['addi'].encode(rd=op.rd, rs1=op.rd, imm=low)]
+        away = to - self.at[k]
+        if isinstance(op, Jump):
+            if not -FAR <= away < FAR:
+                raise notes.Trouble('the code is larger than a jump reaches')
+            return [INS['jal'].encode(rd=op.rd, to=0x10000 + away)]
+        if k in self.long:
+            return [INS[OPPOSITE[op.name]].encode(rs1=op.rs1, rs2=op.rs2, to=0x10008),
+                    INS['jal'].encode(rd=0, to=0x10000 + away - 4)]
+        return [INS[op.name].encode(rs1=op.rs1, rs2=op.rs2, to=0x10000 + away)]
+
+    def nodes_at(self):
+        """The address of each word that is an instruction of the kernel, to its node."""
+        return {self.at[k]: op.key for k, op in enumerate(self.operations) if getattr(op, 'key', None)}
+
+    def nodes_before(self):
+        """The address of each word that was put in, to the node that stands behind it, or None."""
+        out, key = {}, None
+        for k in range(len(self.operations) - 1, -1, -1):
+            op = self.operations[k]
+            if getattr(op, 'key', None):
+                key = op.key
+            elif not isinstance(op, Label):
+                for at in range(self.at[k], self.at[k] + self.size(k, op), 4):
+                    out[at] = key
+        return out
+
+
+def place_for_code(image):
+    """Where the new segment begins: behind all segments that lie below the stack, on a page of its own."""
+    ends = [segment.end for segment in image.segments if segment.first < 0x20000000]
+    return (max(ends, default=PAGE) + 2 * PAGE - 1) // PAGE * PAGE
+
+
+def with_code(data, laid):
+    """The image's file with new code: its headers say that old code is data, and the entry is the new segment's first word. Labels of
+    functions that moved have their new addresses."""
+    first, = struct.unpack_from('<I', data, 28)
+    count, = struct.unpack_from('<H', data, 44)
+    headers = [list(struct.unpack_from('<8I', data, first + 32 * k)) for k in range(count)]
+    headers = [h for h in headers if not notes.is_certificate(data, struct.pack('<8I', *h))]
+    for header in headers:
+        if header[0] == LOAD:
+            header[6] = header[6] & ~certificates.EXECUTE | certificates.READ
+    body = notes.padded(data)
+    code = b''.join(struct.pack('<I', w) for w in laid.words)
+    place = len(body) + 32 * (len(headers) + 1)
+    headers.append([LOAD, place, laid.first, laid.first, len(code), len(code), certificates.READ | certificates.EXECUTE, 4])
+    out = bytearray(body + b''.join(struct.pack('<8I', *h) for h in headers) + code)
+    struct.pack_into('<I', out, 24, laid.first)
+    struct.pack_into('<I', out, 28, len(body))
+    struct.pack_into('<H', out, 44, len(headers))
+    notes.move_labels(out, moved(laid))
+    return bytes(out)
+
+
+def moved(laid):
+    """Old addresses to new ones, for the copies that no call made."""
+    return {name[1][1]: at for name, at in laid.places.items() if name[0] == 'at' and name[1][0] == ()}

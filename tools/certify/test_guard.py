@@ -1,0 +1,266 @@
+"""Tests of each kind of guard: a run that passes at its last byte, and one that fails one past it and tells its number."""
+import struct
+import unittest
+
+import small
+from outside import checker
+from small import reads, scalar, word, writes
+
+TAKEN_APART = bytes(range(1, 33))
+
+
+class Kinds(unittest.TestCase):
+    """Each kernel has its access, or the head of its loop, at the label `at`."""
+
+    def guards(self, text, params, whole, early, kind='address', fuel=1000, data=()):
+        """Puts guards into a kernel. whole: arguments of runs that are as those of the kernel as it was. early: of runs that a guard of
+        this kind at `at` ends, where the kernel as it was meets a fault or runs on and on."""
+        made = small.Guarded(small.image(text, data), params, fuel)
+        self.assertEqual(made.answer(), 'accepted')
+        for contents in whole:
+            (ran, number), plain = made.run(contents), made.run_plain(contents)
+            self.assertEqual((number, ran.fault, ran.buffers), (0, None, plain.buffers), contents)
+            self.assertEqual((plain.steps is None, ran.steps is None), (False, False), contents)
+        for contents in early:
+            (ran, number), plain = made.run(contents), made.run_plain(contents)
+            self.assertEqual((ran.steps is None, ran.fault, plain.steps), (False, None, None), contents)
+            self.assertEqual(made.told[number - 1][:2] if number else None, (kind, small.label(text, 'at')), contents)
+        return made
+
+    # ---- Scalar accesses --------------------------------------------------------------------------------------------------------
+
+    def test_scalar_at_both_ends(self):
+        some = lambda offset: [word(offset), TAKEN_APART[:16], bytes(4)]
+        made = self.guards('lw t0, 0(a0); add t1, a1, t0; addi t1, t1, -3; at: lbu t2, 0(t1); sw t2, 0(a2); ret',
+                           [reads(4), reads(16), writes(4)], [some(3), some(18)], [some(2), some(19), some(-1), some(1 << 31)])
+        self.assertEqual([told.what for told in made.told], ['a1'])
+
+    def test_words_at_both_ends(self):
+        some = lambda offset: [word(offset), TAKEN_APART[:16], bytes(4)]
+        self.guards('lw t0, 0(a0); add t1, a1, t0; addi t1, t1, -8; at: lw t2, 4(t1); sw t2, 0(a2); ret',
+                    [reads(4), reads(16), writes(4)], [some(4), some(16)], [some(3), some(17)])
+
+    def test_index(self):
+        some = lambda offset: [word(offset), TAKEN_APART[:16], bytes(4)]
+        self.guards('lw t0, 0(a0); at: add t1, a1, t0; lbu t2, 0(t1); sw t2, 0(a2); ret',
+                    [reads(4), reads(16), writes(4)], [some(0), some(15)], [some(-1), some(16)])
+
+    def test_a_store_goes_to_no_buffer_that_may_only_be_read(self):
+        some = lambda offset: [word(offset), bytes(16)]
+        self.guards('lw t0, 0(a0); add t1, a1, t0; addi t1, t1, 4; at: sb t0, -4(t1); ret', [reads(4), writes(16)],
+                    [some(0), some(15)], [some(-1), some(16), some(-0x10000)])
+
+    def test_where_no_register_is_spare(self):
+        """All registers are needed before and behind the access: each keeps its number."""
+        each = lambda line: '; '.join(line.format(n, 4 * n) for n in range(3, 32) if n not in (10, 11)) + '; '
+        text = each('lw x{}, {}(a0)') + 'add x3, x3, a0; addi x3, x3, 1; at: sb x4, 0(x3); addi x3, x3, -1; sub x3, x3, a0; ' + each('sw x{}, {}(a0)')
+        some = lambda offset: [TAKEN_APART[:12] + word(offset - 1) + bytes(range(100, 212)), 7]
+        self.guards(text + 'sw a1, 0(a0); ret', [writes(128), scalar(0, 100)], [some(0), some(127)], [some(-1), some(128)])
+
+    def test_choice_among_buffers(self):
+        some = lambda which, offset: [TAKEN_APART[:8], TAKEN_APART[:12], which, offset, bytes(4)]
+        made = self.guards('mv t0, a0; beqz a2, on; mv t0, a1; on: add t0, t0, a3; at: lbu t1, 0(t0); sw t1, 0(a4); ret',
+                           [reads(8), reads(12), scalar(0, 1), scalar(0, 20), writes(4)],
+                           [some(0, 7), some(1, 11), some(1, 0)], [some(0, 8), some(1, 12)])
+        self.assertEqual([told.what for told in made.told], ['a0 or a1'])
+
+    # ---- Vector accesses --------------------------------------------------------------------------------------------------------
+
+    STRIPS = '''li t0, 0; loop: sub t1, a1, t0; vsetvli t1, t1, e8, m1, ta, ma; add t2, a0, t0; at: vle8.v v8, (t2); vadd.vi v8, v8, 1
+        add t0, t0, t1; vse8.v v8, (t2); bltu t0, a1, loop; ret'''
+
+    def test_unit_stride_strips(self):
+        some = lambda many: [bytes(48), many]
+        self.guards(self.STRIPS, [writes(48), scalar(0, 64)], [some(0), some(1), some(32), some(48)], [some(49), some(64)], 'strip')
+
+    def test_strided(self):
+        some = lambda many: [TAKEN_APART[:15], many, bytes(16)]
+        self.guards('li t0, 2; vsetvli t1, a1, e8, m1, ta, ma; at: vlse8.v v8, (a0), t0; vse8.v v8, (a2); ret',
+                    [reads(15), scalar(0, 16), writes(16)], [some(0), some(8)], [some(9), some(16)], 'strip')
+
+    def test_strided_downwards(self):
+        some = lambda many: [TAKEN_APART[:8], many, bytes(16)]
+        self.guards('li t0, -1; vsetvli t1, a1, e8, m1, ta, ma; addi t2, a0, 7; at: vlse8.v v8, (t2), t0; vse8.v v8, (a2); ret',
+                    [reads(8), scalar(0, 16), writes(16)], [some(0), some(8)], [some(9)], 'strip')
+
+    def test_strided_from_a_base_that_is_not_known(self):
+        for stride, whole, early in ((3, [(0, 6), (3, 5), (9, 3)], [(0, 7), (1, 6), (9, 4)]), (-3, [(15, 6), (2, 1), (9, 4)], [(15, 7), (2, 2), (16, 1)])):
+            some = lambda case: [TAKEN_APART[:16], case[0], case[1], bytes(16)]
+            with self.subTest(stride=stride):
+                self.guards(f'li t0, {stride}; vsetvli t1, a2, e8, m1, ta, ma; add t2, a0, a1; at: vlse8.v v8, (t2), t0; vse8.v v8, (a3); ret',
+                            [reads(16), scalar(0, 20), scalar(0, 16), writes(16)], map(some, whole), map(some, early), 'strip')
+
+    def test_choice_among_buffers_of_vectors(self):
+        """Each buffer has a copy of the access."""
+        strip = 'vsetvli t1, a3, e8, m1, ta, ma; at: {}; vse8.v v8, (a4)'
+        for stride, access in ((1, 'vle8.v v8, (t0)'), (2, 'vlse8.v v8, (t0), t3'), (-2, 'vlse8.v v8, (t0), t3')):
+            most = lambda size: (size - 1) // abs(stride) + 1
+            some = lambda which, many: [TAKEN_APART[:8], TAKEN_APART[:13], which, many, bytes(16)]
+            ends = 'addi t0, a0, 7; beqz a2, on; addi t0, a1, 12' if stride < 0 else 'mv t0, a0; beqz a2, on; mv t0, a1'
+            with self.subTest(stride=stride):
+                made = self.guards(f'li t3, {stride}; {ends}; on: {strip.format(access)}; ret', [reads(8), reads(13), scalar(0, 1), scalar(0, 16), writes(16)],
+                                   [some(0, 0), some(0, most(8)), some(1, most(13)), some(1, 0)], [some(0, most(8) + 1), some(1, most(13) + 1)], 'strip')
+                self.assertEqual([told.what for told in made.told], ['a0 or a1'])
+
+    def test_choice_among_buffers_of_whole_registers_and_masks(self):
+        for access, size in (('vl1re8.v v8, (t0); vs1r.v v8, (a4)', 16), ('vlm.v v8, (t0); vsm.v v8, (a4)', 2)):
+            some = lambda which, offset: [TAKEN_APART[:20], TAKEN_APART[:24], which, offset, bytes(16)]
+            with self.subTest(access=access):
+                self.guards(f'vsetivli x0, 16, e8, m1, ta, ma; mv t0, a0; beqz a2, on; mv t0, a1; on: add t0, t0, a3; at: {access}; ret',
+                            [reads(20), reads(24), scalar(0, 1), scalar(0, 40), writes(16)],
+                            [some(0, 0), some(0, 20 - size), some(1, 24 - size)], [some(0, 21 - size), some(1, 25 - size)])
+
+    def test_an_address_out_of_memory(self):
+        """It may be in any buffer, and in the image or the stack."""
+        params = [reads(8), reads(12), writes(16)]
+        first, second = [address for _, address, *_ in checker.buffers(params)][:2]
+        some = lambda address: [word(address) + bytes(range(4)), TAKEN_APART[:12], bytes(16)]
+        for kind, access, size in (('address', 'lw t1, 0(t0); sw t1, 0(a2)', 4), ('strip', 'vle8.v v8, (t0); vse8.v v8, (a2)', 3)):
+            with self.subTest(access=access):
+                self.guards(f'vsetivli x0, 3, e8, m1, ta, ma; lw t0, 0(a0); at: {access}; ret', params,
+                            [some(first), some(first + 8 - size), some(second), some(second + 12 - size)],
+                            [some(0), some(first + 9 - size), some(second - 1), some(second + 13 - size), some(-1)], kind)
+
+    def test_masks_of_no_element(self):
+        """Where vl is 0 nothing is accessed, wherever the base lies."""
+        some = lambda offset, many: [TAKEN_APART[:4], word(offset), bytes(2), many]
+        self.guards('lw t0, 0(a1); add t1, a0, t0; vsetvli t2, a3, e8, m1, ta, ma; at: vlm.v v0, (t1); vsm.v v0, (a2); ret',
+                    [reads(4), reads(4), writes(2), scalar(0, 16)], [some(2, 16), some(4, 0), some(3, 8)], [some(3, 9)], 'strip')
+
+    def test_masks(self):
+        for access, params in (('vlm.v v0, (t1); vsm.v v0, (a2)', [reads(4), reads(4), writes(2)]),
+                               ('vsm.v v0, (t1)', [writes(4), reads(4), reads(2)])):
+            some = lambda offset: [TAKEN_APART[:4], word(offset), bytes(2)]
+            with self.subTest(access=access):
+                self.guards(f'lw t0, 0(a1); add t1, a0, t0; vsetivli x0, 16, e8, m1, ta, ma; vlm.v v0, (a2); at: {access}; ret',
+                            params, [some(0), some(2)], [some(3), some(-1)], 'strip')
+
+    def test_whole_registers(self):
+        for access, params in (('vl2re8.v v8, (t1)', [reads(64), reads(4)]), ('vs2r.v v8, (t1)', [writes(64), reads(4)])):
+            some = lambda offset: [TAKEN_APART * 2, word(offset)]
+            with self.subTest(access=access):
+                self.guards(f'lw t0, 0(a1); add t1, a0, t0; at: {access}; ret', params, [some(0), some(32)], [some(33), some(-1)])
+
+    def test_indexed(self):
+        some = lambda *indices: [TAKEN_APART[:20], bytes(indices), bytes(4)]
+        self.guards('vsetivli x0, 4, e8, m1, ta, ma; vle8.v v4, (a1); at: vluxei8.v v8, (a0), v4; vse8.v v8, (a2); ret',
+                    [reads(20), reads(4), writes(4)], [some(0, 19, 3, 18)], [some(0, 20, 1, 2), some(0, 1, 2, 255)], 'index')
+
+    def test_indexed_stores(self):
+        some = lambda *indices: [bytes(20), bytes(indices), TAKEN_APART[:4]]
+        self.guards('vsetivli x0, 4, e8, m1, ta, ma; vle8.v v4, (a1); vle8.v v8, (a2); at: vsuxei8.v v8, (a0), v4; ret',
+                    [writes(20), reads(4), reads(4)], [some(0, 19, 3, 18)], [some(0, 1, 2, 20)], 'index')
+
+    def test_gathers_keep_the_registers_of_groups(self):
+        """Of groups whose length is the instruction's own, or comes of its width."""
+        for first, last in (('vl2re8.v v2, (a2)', 'vs2r.v v2, (a3)'), ('vle32.v v4, (a2)', 'vse32.v v4, (a3)')):
+            text = f'''vsetivli x0, 16, e8, m1, ta, ma; {first}; vsetivli x0, 4, e8, m1, ta, ma; vle8.v v1, (a1); at: vluxei8.v v8, (a0), v1
+                vse8.v v8, (a4); vsetivli x0, 16, e8, m1, ta, ma; {last}; ret'''
+            some = lambda index: [TAKEN_APART[:20], bytes([1, 2, 3, index]), TAKEN_APART * 2, bytes(64), bytes(4)]
+            with self.subTest(first=first):
+                self.guards(text, [reads(20), reads(4), reads(64), writes(64), writes(4)], [some(19)], [some(20)], 'index')
+
+    def test_a_mask_does_not_count(self):
+        """A masked access is tested as if all its elements were: a run that relies on its mask ends."""
+        text = 'vsetvli t1, a1, e8, m1, ta, ma; vlm.v v0, (a2); at: vle8.v v8, (a0), v0.t; vse8.v v8, (a3); ret'
+        params, some = [reads(8), scalar(0, 16), reads(2), writes(16)], lambda many, mask: [TAKEN_APART[:8], many, mask, bytes(16)]
+        made = self.guards(text, params, [some(8, b'\xff\xff')], [some(9, b'\xff\xff')], 'strip')
+        self.assertEqual(made.run(some(9, b'\xff\0'))[1], 1)
+
+    # ---- Loops ------------------------------------------------------------------------------------------------------------------
+
+    def test_fuel(self):
+        text = '''li t0, 0; li t1, 1; at: beq a0, t1, end; andi t2, a0, 1; srli a0, a0, 1; beqz t2, even; slli t3, a0, 1; add a0, a0, t3
+            addi a0, a0, 2; even: addi t0, t0, 1; j at; end: sw t0, 0(a1); ret'''
+        made = small.Guarded(small.image(text), [scalar(1, 100_000), writes(4)], fuel=9)
+        self.assertEqual((made.answer(), [told.kind for told in made.told]), ('accepted', ['fuel']))
+        rounds = lambda x: 0 if x == 1 else 1 + rounds(x // 2 if x % 2 == 0 else (3 * x + 1) // 2)
+        for x in (1, 6, 128, 256, 7, 512, 27):
+            ran, number = made.run([x, bytes(4)])
+            is_whole = rounds(x) < 9          # (its head is come to once more than it goes round)
+            self.assertEqual((number == 0, ran.buffers[1]), (is_whole, word(rounds(x)) if is_whole else bytes(4)), x)
+            if number:
+                self.assertEqual(made.told[number - 1].pc, small.label(text, 'at'))
+
+    def test_a_pointer_is_tested_once_before_a_loop(self):
+        some = lambda many: [TAKEN_APART, many, bytes(4)]
+        made = self.guards('li t2, 0; beqz a1, end; at: loop: lbu t1, 0(a0); add t2, t2, t1; addi a0, a0, 1; addi a1, a1, -1; bnez a1, loop; '
+                           'end: sw t2, 0(a2); ret', [reads(32), scalar(0, 40), writes(4)], map(some, (0, 1, 32)), map(some, (33, 40)), 'span')
+        self.assertEqual(len(made.told), 1)
+
+    def test_a_count_that_is_no_multiple_of_its_step(self):
+        for step in (3, 4):
+            text = f'li t0, 0; li t1, 0; at: addi t0, t0, {step}; addi t1, t1, 1; bne t0, a0, at; sw t1, 0(a1); ret'
+            with self.subTest(step=step):
+                self.guards(text, [scalar(1, 1000), writes(4)], [[12, bytes(4)], [step, bytes(4)]], [[step + 1, bytes(4)]], 'division')
+
+    def test_a_count_of_0(self):
+        self.guards('li t0, 0; at: addi t0, t0, 1; bne t0, a0, at; sw t0, 0(a1); ret', [scalar(0, 900), writes(4)],
+                    [[1, bytes(4)], [900, bytes(4)]], [[0, bytes(4)]], 'count')
+
+    def rising(self, branch):
+        """The kinds of guards of a loop over a rising index, which may leave its buffer."""
+        made = self.guards(f'li t0, 0; li t2, 0; beqz a1, end; loop: at: add t1, a0, t0; lbu t1, 0(t1); add t2, t2, t1; addi t0, t0, 1; {branch}, loop; '
+                           'end: sw t2, 0(a2); ret', [reads(32), scalar(0, 40), writes(4)],
+                           [[TAKEN_APART, many, bytes(4)] for many in (0, 1, 32)], [[TAKEN_APART, many, bytes(4)] for many in (33, 40)])
+        return {told.kind for told in made.told}
+
+    def test_a_rising_index_needs_no_fuel(self):
+        self.assertEqual(self.rising('bne t0, a1'), {'address'})
+
+    def test_a_rising_index_below_its_end_needs_no_fuel(self):
+        self.assertEqual(self.rising('bltu t0, a1'), {'address'})
+
+    # ---- Calls and jumps --------------------------------------------------------------------------------------------------------
+
+    CALL = 'addi sp, sp, -16; sw ra, 12(sp); {}; lw ra, 12(sp); addi sp, sp, 16; ret; '
+
+    def test_the_entrys_return_in_memory(self):
+        made = self.guards(self.CALL.format('jal ra, f') + 'f: sw a0, 0(a1); ret', [scalar(0, 1000), writes(4)], [[12, bytes(4)]], [])
+        self.assertEqual(made.told, [])
+
+    def test_calls_from_two_places(self):
+        some = lambda one, two: [one, two, TAKEN_APART, bytes(4)]
+        self.guards(self.CALL.format('jal ra, f; mv a0, a1; jal ra, f') + 'f: at: add t0, a2, a0; lbu t1, 0(t0); sw t1, 0(a3); ret',
+                    [scalar(0, 100), scalar(0, 100), reads(32), writes(4)], [some(31, 0), some(0, 31)], [some(32, 0), some(0, 32)])
+
+    def test_recursion(self):
+        text = self.CALL.format('jal ra, f') + '''f: addi sp, sp, -16; sw ra, 12(sp); beqz a0, done; addi a0, a0, -1; jal ra, f
+            lw t0, 0(a1); addi t0, t0, 1; sw t0, 0(a1); done: lw ra, 12(sp); addi sp, sp, 16; ret'''
+        made = small.Guarded(small.image(text), [scalar(0, 100), writes(4)], fuel=50)
+        self.assertEqual(made.answer(), 'accepted')
+        for many in (0, 1, 20):
+            self.assertEqual(made.run([many, bytes(4)])[0].buffers, {1: word(many)})
+        self.assertEqual(made.told[made.run([100, bytes(4)])[1] - 1].kind, 'fuel')
+
+    def test_a_recursion_keeps_its_registers(self):
+        """What a return is compared with has to stand in a register that nothing needs."""
+        text = self.CALL.format('li t1, 0; li t2, 0; jal ra, f; sw t1, 0(a1); sw t2, 4(a1)') + '''f: addi sp, sp, -16; sw ra, 12(sp); beqz a0, done
+            addi a0, a0, -1; jal ra, f; addi t1, t1, 1; addi t2, t2, 2; done: lw ra, 12(sp); addi sp, sp, 16; ret'''
+        self.guards(text, [scalar(0, 20), writes(8)], [[many, bytes(8)] for many in (0, 1, 20)], [])
+
+    def test_a_return_to_no_call(self):
+        """Where a return address was written over in a recursion, the run ends."""
+        text = self.CALL.format('jal ra, f; lw t0, 0(a1); addi t0, t0, 1; sw t0, 0(a1)') + '''f: addi sp, sp, -16; sw ra, 12(sp); beqz a0, done
+            addi a0, a0, -1; jal ra, f; done: lw t0, 0(a2); beqz t0, ok; sw t0, 12(sp); ok: lw ra, 12(sp); addi sp, sp, 16; at: ret'''
+        self.guards(text, [scalar(0, 20), writes(4), reads(4)], [[3, bytes(4), bytes(4)]], [[3, bytes(4), b'wild']], 'choice')
+
+    def test_data_by_where_a_call_returns(self):
+        """Code that reads its own words from where a call would return to finds those of the code as it came."""
+        text = 'jal t0, next; .word 77; next: lw t1, 0(t0); sw t1, 0(a1); lw t2, 0(a0); at: add t2, t2, a0; lbu t2, 0(t2); sw t2, 0(a2); ret'
+        some = lambda offset: [small.word(offset) + TAKEN_APART[:16], bytes(4), bytes(4)]
+        self.guards(text, [reads(20), writes(4), writes(4)], [some(0), some(19)], [some(20)])
+
+    def test_a_loop_that_is_come_into_in_its_midst(self):
+        text = 'li t0, 0; li t2, 0; beqz a2, mid; at: addi t2, t2, 5; mid: addi t0, t0, 1; addi t2, t2, 1; bne t0, a0, at; sw t2, 0(a1); ret'
+        self.guards(text, [scalar(1, 100), writes(4), scalar(0, 1)], [[many, bytes(4), way] for many in (1, 9, 100) for way in (0, 1)], [])
+
+    def test_jump_table(self):
+        text = '''li t0, 3; bgeu a0, t0, none; slli t0, a0, 2; lui t1, 0x20; add t0, t0, t1; lw t0, 0(t0); jalr x0, 0(t0); one: li t2, 11; j end
+            two: li t2, 22; j end; three: li t2, 33; j end; none: li t2, 0; end: sw t2, 0(a1); ret'''
+        table = struct.pack('<3I', *[small.label(text, name) for name in ('one', 'two', 'three')])
+        self.guards(text, [scalar(0, 100), writes(4)], [[case, bytes(4)] for case in (0, 1, 2, 3, 100)], [], data=[(0x20000, table, small.READ)])
+
+
+if __name__ == '__main__':
+    unittest.main()

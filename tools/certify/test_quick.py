@@ -1,0 +1,138 @@
+"""Tests of the search's speed-ups: the same answers as the checker's own, the same parts and loops, no recursion that ends."""
+import importlib.util
+import random
+import unittest
+
+import affine
+import flow
+import quick
+import search
+from outside import ROOT, certificates, checker
+
+EXAMPLES = ROOT / 'examples'
+
+
+def plain_checker():
+    """The second checker as it stands in its file, without what `quick` puts in."""
+    spec = importlib.util.spec_from_file_location('plain_checker', ROOT / 'conformance/checker.py')
+    module = importlib.util.module_from_spec(spec)
+    spec.loader.exec_module(module)
+    return module
+
+
+def shown(s):
+    """What is known, as values that can be compared."""
+    form = lambda form: (form.constant, tuple(sorted(form.terms.items())))
+    return ([(form(v.form), v.range) for v in s.x], s.atoms, s.splits, s.vtype, s.facts, s.words)
+
+
+class Slow(checker.Walk):
+    """The walk of another checker module, its state shown before each word and on each way out of a branch."""
+
+    def states(self, module, image, certificate):
+        """Of each block in turn."""
+        walk = module.Walk(image, certificate)
+        walk.zones = [module.Zone(-1 << 60, 1 << 60, 7)]
+        for block in certificate.blocks:
+            s, pc = module.at_block(certificate, block, walk.vlenb), block.start
+            yield shown(s)
+            while True:
+                i, f = walk.fetched(s, pc)
+                s.words += 1
+                if i.shape == 'branch':
+                    yield from ((way and shown(way)) for way in (module.refined(s, i, f, taken) for taken in (True, False)))
+                if i.shape in ('branch', 'jal', 'jalr', 'ecall'):
+                    break
+                walk.act(s, i, f, pc)
+                yield shown(s)
+                pc += 4
+                if pc in walk.blocks:
+                    break
+
+
+class Quick(unittest.TestCase):
+    """Steps with the answers of the checker's own."""
+
+    def test_each_state_is_that_of_the_plain_checker(self):
+        plain, states = plain_checker(), Slow.states
+        for name in ('sum_bytes', 'raise_words', 'translate', 'raise_if', 'fill_rows', 'grey'):
+            image = certificates.read_image((EXAMPLES / name / f'{name}.elf').read_bytes())
+            certificate = certificates.read_certificate(image.certificate)
+            slow = list(states(None, plain, image, certificate))
+            fast = type('Fast', (), {**vars(checker), 'at_block': staticmethod(quick.at_block), 'refined': staticmethod(quick.refined)})
+            self.assertEqual(list(states(None, fast, image, certificate)), slow, name)
+
+    def test_ranges_behind_a_branch(self):
+        plain, rng = plain_checker(), random.Random(7)
+        branches = [flow.model.decode(word) for word in (0x00b50463, 0x00b51463, 0x00b56463, 0x00b57463, 0x00b54463, 0x00b55463, 0x00050463)]
+        ends = [0, 1, 5, 31, 4096, (1 << 31) - 1, 1 << 31, checker.M32]
+        for _ in range(300):
+            facts = []
+            for number in (10, 11, 12, 13, 32):
+                lo, hi = sorted(rng.sample(ends, 2))
+                equal = (rng.choice(ends), ((10, rng.choice((1, 4, checker.M32))), (12, 1))) if number in (11, 13) and rng.random() < .6 else None
+                facts.append(certificates.RegisterFact(number, lo, hi, equal))
+            orders = tuple(certificates.OrderFact(*pair) for pair in ((10, 32), (12, 10)) if rng.random() < .5)
+            block = certificates.Block(0, 0, 0, 0, None, tuple(facts), (), 0, 0, orders)
+            frame = certificates.Certificate(128, [certificates.Param('none')] * 8, [block], 2)
+            slow, fast = plain.at_block(frame, block, 16), quick.at_block(frame, block, 16)
+            self.assertEqual(shown(fast), shown(slow))
+            i, f = rng.choice(branches)
+            for taken in (True, False):
+                one, two = plain.refined(slow, i, f, taken), quick.refined(fast, i, f, taken)
+                self.assertEqual(two and shown(two), one and shown(one))
+
+
+    def test_sums_on_the_way(self):
+        plain, rng = plain_checker(), random.Random(3)
+        frame = certificates.Certificate(128, [certificates.Param('scalar', 0, 0, 9)] * 8, [], 2)
+        for _ in range(500):
+            number = lambda: rng.choice((0, 1, 4, checker.M32))
+            facts = [certificates.RegisterFact(n, 0, 9, (number(), ((12, 1), (33, 4))) if n != 12 else None) for n in (11, 12, 13)]
+            s = plain.at_block(frame, certificates.Block(0, 0, 0, 0, None, tuple(facts), ()), 16)
+            equal = number(), tuple((atom, factor) for atom in (11, 12, 33) if (factor := number()))
+            self.assertEqual(quick.is_equal(s, 13, equal), plain.is_equal(s, certificates.RegisterFact(13, 0, 9, equal)))
+
+
+class Graphs(unittest.TestCase):
+    """Strongly connected parts and loops."""
+
+    def test_a_long_chain_and_a_deep_nest(self):
+        chain = {k: {k + 1} for k in range(20_000)}
+        self.assertEqual(len(flow.components(range(20_001), chain)), 20_001)
+        ring = {**chain, 20_000: {0}}
+        self.assertEqual(flow.components(range(20_001), ring), [set(range(20_001))])
+        deep = {k: {k + 1, k - 1} - {-1, 300} for k in range(300)}
+        self.assertEqual([min(loop) for loop in flow.loops(range(300), deep)], list(range(299)))
+
+    def test_parts_and_loops(self):
+        leads = {1: {2}, 2: {3, 5}, 3: {3, 4}, 4: {2}, 5: {6}, 6: set()}
+        self.assertEqual(flow.components(leads, leads), [{6}, {5}, {2, 3, 4}, {1}])
+        self.assertEqual(list(flow.loops(leads, leads)), [{2, 3, 4}, {3}])
+
+
+class Sums(unittest.TestCase):
+    """Affine hulls, and what searches share."""
+
+    def test_sums_of_a_hull(self):
+        space = affine.Space([0] * affine.PLACES, [{10: 4, 11: -1}, {12: 1}])
+        moved = affine.Space([0] * 10 + [8] + [0] * 30, [{10: 4, 11: -1}, {12: 1}])
+        self.assertEqual(space.sums([11, 12, 10])[10], (0, ((11, checker.M32 - 3),)))
+        self.assertNotIn(11, space.sums([10, 12]))
+        joined = space.joined(moved)
+        self.assertEqual(len(joined.directions), 3)
+        joined.free({10})
+        self.assertEqual(sorted(map(sorted, joined.directions)), [[10], [11], [12]])
+
+    def test_a_search_shares_what_is_settled(self):
+        image = certificates.read_image((EXAMPLES / 'sum_bytes/sum_bytes.elf').read_bytes())
+        params = certificates.read_certificate(image.certificate).params
+        one = search.Finder(image, params, 128, search.PLANS[0])
+        two = search.Finder(image, params, 128, search.PLANS[1], one.shared)
+        self.assertIs(one.find().certificate, two.find().certificate)
+        alone = search.Finder(image, params, 128, search.PLANS[1]).find()
+        self.assertEqual(alone.certificate, two.find().certificate)
+
+
+if __name__ == '__main__':
+    unittest.main()
