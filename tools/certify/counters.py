@@ -169,8 +169,8 @@ def step_of(the_graph, loop, register):
     return moves[0].by if the_graph.depth(moves[0].key) == the_graph.depth(loop.head) else None
 
 
-def on_entering(counter, fail_division, fail_start, most, free):
-    """What sets a counter on the way into its loop. fail_division, fail_start: labels. free: a register for numbers, or None."""
+def on_entering(counter, fail_division, fail_start, most):
+    """What sets a counter on the way into its loop. fail_division, fail_start: labels. most: what a tested count is at most."""
     r = counter.registers[0]
     if counter.kind == MIRROR:
         number = counter.registers[-1]

@@ -376,7 +376,7 @@ class Maker:
                 division = self.failed('division', pc, 'a count is no multiple of its step')
             if counter.is_tested:
                 start = self.failed('count', pc, 'a count is 0'), self.failed('count', pc, f'a count is above {self.most_rounds}')
-            self.enter(head, counters.on_entering(counter, division, start, self.most_rounds, None))
+            self.enter(head, counters.on_entering(counter, division, start, self.most_rounds))
             for move in counter.moves:
                 self.edits.after.setdefault(move.key, []).extend(counters.on_move(counter, move))
             for key in counter.exits:
