@@ -14,7 +14,7 @@ use Rattle.std.specs.Prelude.{is_some}
 use Rattle.elf_image.specs.Words.{half, word}
 use Rattle.cert_note.specs.Spelling.{spelled_term, spelled_equality, spelled_fact, spelled_vector, spelled_order, spelled_budget, spelled_vtype, counts, spelled_block}
 use Rattle.cert_note.specs.Reading.{byte_at, number_at, zero_at, zeros_at, term_at, terms_at, sum_at, none_at, some_at, equality_at, fact_at, facts_at, group_at, vector_at, vectors_at, single_at, double_at, budget_at, known_vtype, vtype_at, few_at, order_count_at, counts_at, order_at, orders_at, block_at}
-use Rattle.elf_image.proofs.Bytes.{AreBytes}
+use Rattle.elf_image.specs.Words.{AreBytes}
 use Rattle.cert_note.proofs.Numbers.{bind_ok, expected, found, ok_is, Takes, Takes-then, byte_takes, byte_again, half_takes, half_again, word_takes, word_again, zero_takes, zeros_takes, zeros_again, many_takes, many_again}
 
 pub chosen : {A : Type 0} (b : Bool) (x y z : A) → cond b x y ≡ z → ((b ≡ true) × (x ≡ z)) ⊎ ((b ≡ false) × (y ≡ z))

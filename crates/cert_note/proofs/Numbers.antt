@@ -12,7 +12,8 @@ use Rattle.cert_note.specs.declared.refusals.CertError.{CertError}
 use Rattle.cert_note.specs.declared.refusals.CertError.TheVariants as error
 use Rattle.cert_note.specs.Certificate.{AllFrom}
 use Rattle.elf_image.specs.Words.{half, word}
-use Rattle.elf_image.proofs.Bytes.{AreBytes, AreBytes-rest, AreBytes-take, AreBytes-drop}
+use Rattle.elf_image.specs.Words.{AreBytes}
+use Rattle.elf_image.specs.ByteLemmas.{AreBytes-rest, AreBytes-take, AreBytes-drop}
 use Rattle.cert_note.specs.Reading.{◌>>=◌, expect, One, byte_at, number_at, zero_at, zeros_at, many_at}
 use Rattle.cert_note.proofs.Loop.{none, more}
 

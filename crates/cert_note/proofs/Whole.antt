@@ -15,7 +15,8 @@ use Rattle.cert_note.specs.Certificate.{CertificateView, AllFrom, after_block, I
 use Rattle.elf_image.specs.Words.{half, word}
 use Rattle.cert_note.specs.Spelling.{version_code, vlen_code, header, parameter_of, spelled_parameter, spelled_block, spelling}
 use Rattle.cert_note.specs.Reading.{byte_at, number_at, zero_at, zeros_at, version_of, vlen_of, header_at, mode_of, is_first_number, is_second_number, param_of, parameter_at, parameters_at, block_at, blocks_at, count_at, certificate_of, parameter_from, after_parameter}
-use Rattle.elf_image.proofs.Bytes.{AreBytes}
+use Rattle.elf_image.specs.Words.{AreBytes}
+pub use Rattle.cert_note.specs.ParameterLemmas.{valid_all}
 use Rattle.cert_note.proofs.Numbers.{bind_ok, expected, found, ok_is, Takes, Takes-then, byte_takes, byte_again, half_takes, half_again, word_takes, word_again, zero_takes, zero_again, zeros_takes, zeros_again, many_takes, many_again}
 use Rattle.cert_note.proofs.Laws.{chosen, some_is, block_takes, block_again, regroup3, regroup4}
 
@@ -164,10 +165,6 @@ all_from (p ∷ params) all = (all.0, all_from params all.1)
 from_all : (params : List Param) → AllByRecursion IsParameter params → AllFrom (λ from p. IsParameter p) after_parameter 0 params
 from_all [] all = tt
 from_all (p ∷ params) all = (all.0, from_all params all.1)
-
-pub valid_all : (params : List Param) → AllByRecursion IsParameter params → list_all is_valid params ≡ true
-valid_all [] is = refl
-valid_all (p ∷ params) is = rw is.0.0 (valid_all params is.1)
 
 -- ---- the count of blocks
 

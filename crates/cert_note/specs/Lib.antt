@@ -3,3 +3,5 @@ pub mod Certificate
 pub mod Spelling
 pub mod Reading
 pub mod Refusals
+pub mod SpellingLaws
+pub mod ParameterLemmas

@@ -9,7 +9,7 @@ mod refusals;
 mod values;
 mod writing;
 
-pub use reading::{one_spelling, read};
+pub use reading::{certificates_are_spellings, one_spelling, read};
 pub use refusals::CertError;
 pub use values::{
     Block, Budget, Certificate, Contents, Equality, EqualityTerm, OrderFact, RegisterFact,

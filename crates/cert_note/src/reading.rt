@@ -2,6 +2,7 @@
 ghost use Rattle.std.specs.Prelude.{◌≡◌, ◌⊎◌, ◌≤◌, ◌==◌, ◌&&◌, ◌||◌, ℕ, false, not, is_some};
 ghost use Rattle.std.specs.Prelude.{slice_index_or, IfOk, IfErr, IsOk, MatchResult, Err};
 ghost use Rattle.cert_note.specs.Spelling.{spelling};
+ghost use Rattle.cert_note.specs.SpellingLaws.{CertificatesAreSpellings};
 ghost use Rattle.std.specs.List.{list_all, list_any};
 ghost use Rattle.cert_note.specs.Certificate.{view, CertificateView, IsCertificate, is_equated};
 ghost use Rattle.cert_note.specs.Certificate.{has_no_atom, is_greater, is_lesser, are_free};
@@ -474,4 +475,9 @@ pub fn read<A: Allocator>(alloc: A, bytes: &[u8]) -> Result<Certificate<A>, Cert
 pub fn one_spelling()
     ensures { (c d : CertificateView) → IsCertificate c → IsCertificate d
         → spelling c ≡ spelling d → c ≡ d }
+{}
+
+/// A law, which does nothing when it runs: bytes have a certificate exactly where they are its spelling.
+pub fn certificates_are_spellings()
+    ensures { CertificatesAreSpellings }
 {}

@@ -11,7 +11,7 @@ use Rattle.elf_image.specs.declared.error.ElfError.TheVariants.{TooLarge, EntryN
 use Rattle.elf_image.specs.Image.{SegmentView, IsSegment, IsInPlace, IsApart, AreApart, IsImage, holds_code}
 use Rattle.elf_image.specs.File.{e_entry, is_load, is_note, is_segment, is_writable, is_executable, program_headers, segment_headers, segment_of, image_of, IsInside, IsLoadable, HasImage}
 use Rattle.elf_image.specs.Faults.{is_out_of_file, has_out_of_file, is_between, is_out_of_place, has_out_of_place, overlap, has_overlap, is_write_and_execute, has_write_and_execute, is_too_large, has_word, is_not_code, first_of, place_faults, segment_faults}
-use Rattle.elf_image.proofs.Bytes.{AreBytes}
+use Rattle.elf_image.specs.Words.{AreBytes}
 use Rattle.elf_image.proofs.FaultLemmas.{not_told, has_places}
 
 pub neither : (x y : Bool) → (x || y) ≡ false → (x ≡ false) × (y ≡ false)

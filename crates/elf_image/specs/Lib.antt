@@ -7,3 +7,4 @@ pub mod Error
 pub mod Attached
 pub mod ReadBack
 pub use Rattle.byteorder.specs.Endian
+pub mod ByteLemmas

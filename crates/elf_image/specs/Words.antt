@@ -1,7 +1,11 @@
 -- The little-endian numbers of which a file of the ELF standard is made.
-use Rattle.std.specs.Prelude.{ℕ, List, drop}
+use Rattle.std.specs.Prelude.{ℕ, ◌<◌, List, drop, get_or}
 use Rattle.std.specs.Int.{w16, w32, to_le_bytes}
 use Rattle.byteorder.specs.Endian.{little_number}
+
+-- each item of a list is a byte
+abbrev pub AreBytes : List ℕ → Type 0
+AreBytes bytes = (i : ℕ) → get_or bytes i 0 < 256
 
 -- the number in the two bytes at an offset (Elf32_Half), and in the four (Elf32_Word)
 unfoldable pub half_at : ℕ → List ℕ → ℕ

@@ -46,7 +46,9 @@ pub const EV_CURRENT: u8 = 1;
 /// The `e_type` of an executable file ("ELF Header").
 pub const ET_EXEC: u16 = 2;
 
-const EM_RISCV: u16 = 243;
+/// The `e_machine` of RISC-V ("ELF Object Files" of the RISC-V psABI).
+pub const EM_RISCV: u16 = 243;
+
 /// EF_RISCV_RVC, EF_RISCV_FLOAT_ABI and EF_RISCV_RVE.
 const EXTENSION_FLAGS: u32 = 0xf;
 
