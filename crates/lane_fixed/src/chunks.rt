@@ -145,11 +145,11 @@ fn computed<T: Chunk>(op: Op, a: T, b: T) -> (T, T)
 }
 
 /// What `op` makes of sixteen elements of 8 bits: of vs2's, which are `values`, and of vs1's, the scalar's or the
-/// immediate's, which are `b`. The first chunk has the results, the second all ones in each lane that saturates and 0
+/// immediate's, which are `b`. No operation reads vd's old elements. The first chunk has the results, the second all ones in each lane that saturates and 0
 /// in the others ("Vector Single-Width Saturating Add and Subtract", "Vector Single-Width Averaging Add and Subtract",
 /// "Vector Single-Width Scaling Shift Instructions").
 #[inline(always)]
-pub fn chunk_u8(op: Op, values: u8x16, b: u8x16) -> (u8x16, u8x16)
+pub fn chunk_u8(op: Op, values: u8x16, b: u8x16, _vd: u8x16) -> (u8x16, u8x16)
     ensures results { result.0 ≡ zip2 (lane_result op w8) values b }
     ensures flags { result.1 ≡ zip2 (lane_flag op w8) values b }
 {
@@ -158,7 +158,7 @@ pub fn chunk_u8(op: Op, values: u8x16, b: u8x16) -> (u8x16, u8x16)
 
 /// What `op` makes of eight elements of 16 bits; otherwise as `chunk_u8`.
 #[inline(always)]
-pub fn chunk_u16(op: Op, values: u16x8, b: u16x8) -> (u16x8, u16x8)
+pub fn chunk_u16(op: Op, values: u16x8, b: u16x8, _vd: u16x8) -> (u16x8, u16x8)
     ensures results { result.0 ≡ zip2 (lane_result op w16) values b }
     ensures flags { result.1 ≡ zip2 (lane_flag op w16) values b }
 {
@@ -167,7 +167,7 @@ pub fn chunk_u16(op: Op, values: u16x8, b: u16x8) -> (u16x8, u16x8)
 
 /// What `op` makes of four elements of 32 bits; otherwise as `chunk_u8`.
 #[inline(always)]
-pub fn chunk_u32(op: Op, values: u32x4, b: u32x4) -> (u32x4, u32x4)
+pub fn chunk_u32(op: Op, values: u32x4, b: u32x4, _vd: u32x4) -> (u32x4, u32x4)
     ensures results { result.0 ≡ zip2 (lane_result op w32) values b }
     ensures flags { result.1 ≡ zip2 (lane_flag op w32) values b }
 {

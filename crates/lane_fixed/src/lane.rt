@@ -85,11 +85,8 @@ macro_rules! by_chunk {
         $call:ident, $lanes:ident, $count:literal,
         $op:ident, $values:ident, $b:ident, $active:ident, $at:ident, $so_far:ident
     ) => {{
-        let (results, flags) = $call(
-            $op,
-            $lanes::from_slice(&$values[$at..]),
-            $lanes::from_slice(&$b[$at..]),
-        );
+        let lanes = $lanes::from_slice(&$values[$at..]);
+        let (results, flags) = $call($op, lanes, $lanes::from_slice(&$b[$at..]), lanes);
         results.copy_to_slice(&mut $values[$at..]);
         let mask = flags.simd_ne($lanes::splat(0)).to_bitmask();
         or_flagged($so_far, mask, &flags.to_array(), &$active[$at..$at + $count])

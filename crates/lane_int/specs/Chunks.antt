@@ -1,9 +1,10 @@
 -- What an operation of the chunk calls makes of one lane: a is the lane of vs2, b that of vs1, the
 -- scalar or the immediate, d the old one of vd.
-use Rattle.std.specs.Prelude.{ℕ, ◌+◌, ◌-◌, ◌%◌, ◌^◌, Bool, if◌then◌else◌}
+use Rattle.std.specs.Prelude.{ℕ, ◌+◌, ◌-◌, ◌%◌, ◌^◌, Bool, true, false, if◌then◌else◌}
 use Rattle.std.specs.Int.{Width}
 use mir.Val.{bits, hbits}
 use Rattle.lane_int.specs.Integer.{element, compares, multiply_added}
+use Rattle.rv_decode.specs.declared.instructions.IntOp.{IntOp}
 use Rattle.rv_decode.specs.declared.instructions.IntOp.TheVariants as int
 use Rattle.lane_int.specs.declared.operations.Op.{Op}
 use Rattle.lane_int.specs.declared.operations.Op.TheVariants.{Add, Sub, Rsub, Minu, Min, Maxu, Max, And, Or, Xor, Sll, Srl, Sra, Mul, Compare, MultiplyAdd}
@@ -33,3 +34,31 @@ lane_of Sra w a b d = element int.Sra w a b
 lane_of Mul w a b d = element int.Mul w a b
 lane_of (Compare op) w a b d = all_ones w (compares op w a b)
 lane_of (MultiplyAdd op) w a b d = multiply_added op w a b d
+
+-- the operations of the kernels that a chunk call has
+abbrev pub has_chunk : IntOp → Bool
+has_chunk int.Mulhu = false
+has_chunk int.Mulhsu = false
+has_chunk int.Mulh = false
+has_chunk int.Divu = false
+has_chunk int.Div = false
+has_chunk int.Remu = false
+has_chunk int.Rem = false
+has_chunk op = true
+
+-- its name there
+abbrev pub chunk_op : IntOp → Op
+chunk_op int.Add = Add
+chunk_op int.Sub = Sub
+chunk_op int.Rsub = Rsub
+chunk_op int.Minu = Minu
+chunk_op int.Min = Min
+chunk_op int.Maxu = Maxu
+chunk_op int.Max = Max
+chunk_op int.And = And
+chunk_op int.Or = Or
+chunk_op int.Xor = Xor
+chunk_op int.Sll = Sll
+chunk_op int.Srl = Srl
+chunk_op int.Sra = Sra
+chunk_op op = Mul

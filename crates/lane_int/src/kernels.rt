@@ -2,7 +2,8 @@
 //!
 //! Each matches its operation once, outside the loop: every arm has a loop of its own, in which the operation is known, so
 //! that the compiler can work on many elements at a time.
-ghost use Rattle.std.specs.Prelude.{◌≡◌, length};
+ghost use Rattle.std.specs.Prelude.{◌≡◌, true, length};
+ghost use Rattle.lane_int.specs.Chunks.{has_chunk};
 ghost use lib.Lanes.{zip2};
 ghost use Rattle.lane_int.specs.Lists.{zip3};
 
@@ -15,20 +16,20 @@ pub fn compute<T: Lane>(op: IntOp, values: &mut [T], b: &[T])
     ensures { values.new ≡ zip2 (T.result_of op) values.old b.now }
 {
     match op {
-        IntOp::Add => compute_each(IntOp::Add, values, b),
-        IntOp::Sub => compute_each(IntOp::Sub, values, b),
-        IntOp::Rsub => compute_each(IntOp::Rsub, values, b),
-        IntOp::Minu => compute_each(IntOp::Minu, values, b),
-        IntOp::Min => compute_each(IntOp::Min, values, b),
-        IntOp::Maxu => compute_each(IntOp::Maxu, values, b),
-        IntOp::Max => compute_each(IntOp::Max, values, b),
-        IntOp::And => compute_each(IntOp::And, values, b),
-        IntOp::Or => compute_each(IntOp::Or, values, b),
-        IntOp::Xor => compute_each(IntOp::Xor, values, b),
-        IntOp::Sll => compute_each(IntOp::Sll, values, b),
-        IntOp::Srl => compute_each(IntOp::Srl, values, b),
-        IntOp::Sra => compute_each(IntOp::Sra, values, b),
-        IntOp::Mul => compute_each(IntOp::Mul, values, b),
+        IntOp::Add => compute_chunks(IntOp::Add, values, b),
+        IntOp::Sub => compute_chunks(IntOp::Sub, values, b),
+        IntOp::Rsub => compute_chunks(IntOp::Rsub, values, b),
+        IntOp::Minu => compute_chunks(IntOp::Minu, values, b),
+        IntOp::Min => compute_chunks(IntOp::Min, values, b),
+        IntOp::Maxu => compute_chunks(IntOp::Maxu, values, b),
+        IntOp::Max => compute_chunks(IntOp::Max, values, b),
+        IntOp::And => compute_chunks(IntOp::And, values, b),
+        IntOp::Or => compute_chunks(IntOp::Or, values, b),
+        IntOp::Xor => compute_chunks(IntOp::Xor, values, b),
+        IntOp::Sll => compute_chunks(IntOp::Sll, values, b),
+        IntOp::Srl => compute_chunks(IntOp::Srl, values, b),
+        IntOp::Sra => compute_chunks(IntOp::Sra, values, b),
+        IntOp::Mul => compute_chunks(IntOp::Mul, values, b),
         IntOp::Mulhu => compute_each(IntOp::Mulhu, values, b),
         IntOp::Mulhsu => compute_each(IntOp::Mulhsu, values, b),
         IntOp::Mulh => compute_each(IntOp::Mulh, values, b),
@@ -39,7 +40,24 @@ pub fn compute<T: Lane>(op: IntOp, values: &mut [T], b: &[T])
     }
 }
 
-/// The loop of `compute`.
+/// The loop over chunks, and that over the elements after the last of them.
+#[inline(always)]
+fn compute_chunks<T: Lane>(op: IntOp, values: &mut [T], b: &[T])
+    requires call { has_chunk op ≡ true }
+    requires length { length b.now ≡ length values.old }
+    ensures { values.new ≡ zip2 (T.result_of op) values.old b.now }
+{
+    let mut at = 0;
+    while values.len() - at >= T::count() {
+        T::chunk(op, values, b, at);
+        at += T::count();
+    }
+    for i in at..values.len() {
+        values[i] = T::int_result(op, values[i], b[i]);
+    }
+}
+
+/// The loop over single elements.
 #[inline(always)]
 fn compute_each<T: Lane>(op: IntOp, values: &mut [T], b: &[T])
     requires { length b.now ≡ length values.old }
@@ -138,21 +156,26 @@ pub fn multiply_add<T: Lane>(op: MultiplyAddOp, a: &[T], b: &[T], values: &mut [
     ensures { values.new ≡ zip3 (T.added_of op) a.now b.now values.old }
 {
     match op {
-        MultiplyAddOp::Macc => multiply_add_each(MultiplyAddOp::Macc, a, b, values),
-        MultiplyAddOp::Nmsac => multiply_add_each(MultiplyAddOp::Nmsac, a, b, values),
-        MultiplyAddOp::Madd => multiply_add_each(MultiplyAddOp::Madd, a, b, values),
-        MultiplyAddOp::Nmsub => multiply_add_each(MultiplyAddOp::Nmsub, a, b, values),
+        MultiplyAddOp::Macc => multiply_add_chunks(MultiplyAddOp::Macc, a, b, values),
+        MultiplyAddOp::Nmsac => multiply_add_chunks(MultiplyAddOp::Nmsac, a, b, values),
+        MultiplyAddOp::Madd => multiply_add_chunks(MultiplyAddOp::Madd, a, b, values),
+        MultiplyAddOp::Nmsub => multiply_add_chunks(MultiplyAddOp::Nmsub, a, b, values),
     }
 }
 
-/// The loop of `multiply_add`.
+/// The loop over chunks, and that over the elements after the last of them.
 #[inline(always)]
-fn multiply_add_each<T: Lane>(op: MultiplyAddOp, a: &[T], b: &[T], values: &mut [T])
+fn multiply_add_chunks<T: Lane>(op: MultiplyAddOp, a: &[T], b: &[T], values: &mut [T])
     requires a_len { length a.now ≡ length values.old }
     requires b_len { length b.now ≡ length values.old }
     ensures { values.new ≡ zip3 (T.added_of op) a.now b.now values.old }
 {
-    for i in 0..values.len() {
+    let mut at = 0;
+    while values.len() - at >= T::count() {
+        T::added_chunk(op, a, b, values, at);
+        at += T::count();
+    }
+    for i in at..values.len() {
         values[i] = T::multiply_add(op, a[i], b[i], values[i]);
     }
 }

@@ -1,14 +1,23 @@
 //! The widths that the kernels work on.
 ghost use Rattle.std.specs.Prelude.{◌≡◌, ℕ, Bool};
 
+use crate::chunks::{chunk_u8, chunk_u16, chunk_u32};
 use crate::elements::{
     by_sign, carry_out, carry_result, extended, high_half, int_result, int_test, multiply_add,
 };
+use crate::lanes_in_bytes::{bytes_of_halves, bytes_of_words, halves_in, words_in};
+use crate::operations::{Op, chunk_op};
 use rv_decode::{CarryOp, CompareOp, IntOp, MultiplyAddOp};
+use std::simd::prelude::*;
 
 /// An element of one width: `u8`, `u16` or `u32`.
 pub trait Lane: Copy {
-    ghost use Rattle.std.specs.Prelude.{ℕ, Bool, ◌≡◌};
+    ghost use Rattle.std.specs.Prelude.{ℕ, Bool, true, ◌≡◌, ◌≤◌, ◌+◌, length};
+    ghost use Rattle.std.specs.Prelude.{◌*◌, ◌<◌};
+    ghost use lib.Lanes.{chunk, put_chunk, zip2};
+    ghost use Rattle.byteorder.specs.Endian.{little_from};
+    ghost use Rattle.lane_int.specs.Chunks.{has_chunk};
+    ghost use Rattle.lane_int.specs.Lists.{zip3};
     ghost use Rattle.std.specs.Int.{Width};
     ghost use Rattle.lane_int.specs.Integer.{element, compares, carried, carries, multiply_added};
     ghost use Rattle.rv_decode.specs.declared.instructions.IntOp.{IntOp};
@@ -20,6 +29,13 @@ pub trait Lane: Copy {
     ghost width: { Width };
 
     ghost number: { Self → ℕ };
+
+    // how many elements a chunk has, and how many bytes an element
+    ghost count: { ℕ };
+
+    ghost size: { ℕ };
+
+    ghost sizes: { size * count ≡ 16 };
 
     // what the methods below answer
     ghost result_of: { IntOp → Self → Self → Self };
@@ -35,6 +51,45 @@ pub trait Lane: Copy {
     /// What `op` makes of vs2's element `a` and of `b`.
     fn int_result(op: IntOp, a: Self, b: Self) -> Self
         ensures { result ≡ result_of op a b };
+
+    /// How many elements a chunk call takes.
+    fn count() -> usize
+        ensures meaning { result ≡ count }
+        ensures some { 1 ≤ result }
+        ensures few { result ≤ 16 };
+
+    /// Writes over a chunk of `values`, from `at` on, what a chunk call makes of it and of `b`'s.
+    fn chunk(op: IntOp, values: &mut [Self], b: &[Self], at: usize)
+        requires call { has_chunk op ≡ true }
+        requires values_room { at + count ≤ length values.old }
+        requires b_room { at + count ≤ length b.now }
+        ensures { values.new ≡ put_chunk at values.old
+            (zip2 (result_of op) (chunk at count values.old) (chunk at count b.now)) };
+
+    /// Writes over a chunk of `values`, which are vd's, from `at` on, what a chunk call makes of `a`'s, which are vs2's, of
+    /// `b`'s and of themselves.
+    fn added_chunk(op: MultiplyAddOp, a: &[Self], b: &[Self], values: &mut [Self], at: usize)
+        requires a_room { at + count ≤ length a.now }
+        requires b_room { at + count ≤ length b.now }
+        requires values_room { at + count ≤ length values.old }
+        ensures { values.new ≡ put_chunk at values.old
+            (zip3 (added_of op) (chunk at count a.now) (chunk at count b.now)
+            (chunk at count values.old)) };
+
+    /// How many bytes an element has.
+    fn size() -> usize
+        ensures { result ≡ size };
+
+    /// The element in each place of sixteen bytes, the lowest byte of each first.
+    fn byte_splat(self) -> u8x16
+        ensures { (j : ℕ) → j < count → little_from (size * j) size result ≡ number self };
+
+    /// What a chunk call makes of the elements that lie in sixteen bytes, the lowest byte of each first.
+    fn byte_chunk(op: IntOp, values: u8x16, b: u8x16) -> u8x16
+        requires call { has_chunk op ≡ true }
+        ensures { (j : ℕ) → j < count → little_from (size * j) size result
+            ≡ element op width (little_from (size * j) size values)
+            (little_from (size * j) size b) };
 
     /// Whether `op` holds of vs2's element `a` and of `b`.
     fn int_test(op: CompareOp, a: Self, b: Self) -> bool
@@ -69,6 +124,25 @@ pub trait Lane: Copy {
         ≡ multiply_added op width (number a) (number b) (number d) };
 }
 
+/// The body of `chunk`: `$call` on the `$lanes` of `values` and `b` from `at` on.
+macro_rules! by_chunk {
+    ($call:ident, $lanes:ident, $op:ident, $values:ident, $b:ident, $at:ident) => {{
+        let lanes = $lanes::from_slice(&$values[$at..]);
+        let results = $call(chunk_op($op), lanes, $lanes::from_slice(&$b[$at..]), lanes);
+        results.copy_to_slice(&mut $values[$at..]);
+    }};
+}
+
+/// The body of `added_chunk`.
+macro_rules! by_added_chunk {
+    ($call:ident, $lanes:ident, $op:ident, $a:ident, $b:ident, $values:ident, $at:ident) => {{
+        let old = $lanes::from_slice(&$values[$at..]);
+        let factors = $lanes::from_slice(&$a[$at..]);
+        let results = $call(Op::MultiplyAdd($op), factors, $lanes::from_slice(&$b[$at..]), old);
+        results.copy_to_slice(&mut $values[$at..]);
+    }};
+}
+
 impl Lane for u8 {
     ghost use Rattle.std.specs.Prelude.{refl};
     ghost use Rattle.std.specs.Int.{w8};
@@ -77,6 +151,12 @@ impl Lane for u8 {
     ghost width = { w8 };
 
     ghost number = { λ a. a };
+
+    ghost count = { 16 };
+
+    ghost size = { 1 };
+
+    ghost sizes = { refl };
 
     ghost result_of = { λ op a b. element op w8 a b };
 
@@ -92,6 +172,37 @@ impl Lane for u8 {
     #[tactic(auto, unfolding(crate::specs::Integer::element))]
     fn int_result(op: IntOp, a: u8, b: u8) -> u8 {
         int_result!(u8, u16, i16, 8, op, a, b)
+    }
+
+    #[inline(always)]
+    fn count() -> usize {
+        16
+    }
+
+    #[inline(always)]
+    fn chunk(op: IntOp, values: &mut [u8], b: &[u8], at: usize) {
+        by_chunk!(chunk_u8, u8x16, op, values, b, at)
+    }
+
+    #[inline(always)]
+    fn added_chunk(op: MultiplyAddOp, a: &[u8], b: &[u8], values: &mut [u8], at: usize) {
+        by_added_chunk!(chunk_u8, u8x16, op, a, b, values, at)
+    }
+
+    #[inline(always)]
+    fn size() -> usize {
+        1
+    }
+
+    #[inline(always)]
+    fn byte_splat(self) -> u8x16 {
+        u8x16::splat(self)
+    }
+
+    #[inline(always)]
+    fn byte_chunk(op: IntOp, values: u8x16, b: u8x16) -> u8x16 {
+        let results = chunk_u8(chunk_op(op), values, b, values);
+        results
     }
 
     #[inline(always)]
@@ -138,6 +249,12 @@ impl Lane for u16 {
 
     ghost number = { λ a. a };
 
+    ghost count = { 8 };
+
+    ghost size = { 2 };
+
+    ghost sizes = { refl };
+
     ghost result_of = { λ op a b. element op w16 a b };
 
     ghost test_of = { λ op a b. compares op w16 a b };
@@ -152,6 +269,39 @@ impl Lane for u16 {
     #[tactic(auto, unfolding(crate::specs::Integer::element))]
     fn int_result(op: IntOp, a: u16, b: u16) -> u16 {
         int_result!(u16, u32, i32, 16, op, a, b)
+    }
+
+    #[inline(always)]
+    fn count() -> usize {
+        8
+    }
+
+    #[inline(always)]
+    fn chunk(op: IntOp, values: &mut [u16], b: &[u16], at: usize) {
+        by_chunk!(chunk_u16, u16x8, op, values, b, at)
+    }
+
+    #[inline(always)]
+    fn added_chunk(op: MultiplyAddOp, a: &[u16], b: &[u16], values: &mut [u16], at: usize) {
+        by_added_chunk!(chunk_u16, u16x8, op, a, b, values, at)
+    }
+
+    #[inline(always)]
+    fn size() -> usize {
+        2
+    }
+
+    #[inline(always)]
+    fn byte_splat(self) -> u8x16 {
+        bytes_of_halves(u16x8::splat(self))
+    }
+
+    #[inline(always)]
+    fn byte_chunk(op: IntOp, values: u8x16, b: u8x16) -> u8x16 {
+        let lanes = halves_in(values);
+        let others = halves_in(b);
+        let results = chunk_u16(chunk_op(op), lanes, others, lanes);
+        bytes_of_halves(results)
     }
 
     #[inline(always)]
@@ -198,6 +348,12 @@ impl Lane for u32 {
 
     ghost number = { λ a. a };
 
+    ghost count = { 4 };
+
+    ghost size = { 4 };
+
+    ghost sizes = { refl };
+
     ghost result_of = { λ op a b. element op w32 a b };
 
     ghost test_of = { λ op a b. compares op w32 a b };
@@ -212,6 +368,39 @@ impl Lane for u32 {
     #[tactic(auto, unfolding(crate::specs::Integer::element))]
     fn int_result(op: IntOp, a: u32, b: u32) -> u32 {
         int_result!(u32, u64, i64, 32, op, a, b)
+    }
+
+    #[inline(always)]
+    fn count() -> usize {
+        4
+    }
+
+    #[inline(always)]
+    fn chunk(op: IntOp, values: &mut [u32], b: &[u32], at: usize) {
+        by_chunk!(chunk_u32, u32x4, op, values, b, at)
+    }
+
+    #[inline(always)]
+    fn added_chunk(op: MultiplyAddOp, a: &[u32], b: &[u32], values: &mut [u32], at: usize) {
+        by_added_chunk!(chunk_u32, u32x4, op, a, b, values, at)
+    }
+
+    #[inline(always)]
+    fn size() -> usize {
+        4
+    }
+
+    #[inline(always)]
+    fn byte_splat(self) -> u8x16 {
+        bytes_of_words(u32x4::splat(self))
+    }
+
+    #[inline(always)]
+    fn byte_chunk(op: IntOp, values: u8x16, b: u8x16) -> u8x16 {
+        let lanes = words_in(values);
+        let others = words_in(b);
+        let results = chunk_u32(chunk_op(op), lanes, others, lanes);
+        bytes_of_words(results)
     }
 
     #[inline(always)]

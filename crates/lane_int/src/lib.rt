@@ -6,11 +6,12 @@ mod chunks;
 mod elements;
 mod kernels;
 mod lane;
+mod lanes_in_bytes;
 mod operations;
 mod resizing;
 
 pub use chunks::{chunk_u8, chunk_u16, chunk_u32, lane_u8, lane_u16, lane_u32};
 pub use kernels::{compare, compute, compute_carried, compute_carries, multiply_add};
 pub use lane::Lane;
-pub use operations::Op;
+pub use operations::{Op, has_chunk};
 pub use resizing::{Narrow, cut, extend};

@@ -8,9 +8,9 @@ use rv_decode::LogicOp;
 use std::simd::prelude::*;
 
 /// What `op` makes of sixteen bytes of vs2, which are `values`, and of vs1's bytes `b`: each bit is that of `combine`
-/// ("Vector Mask-Register Logical Instructions").
+/// ("Vector Mask-Register Logical Instructions"). No operation reads vd's old bytes.
 #[tactic(auto, unfolding(crate::specs::Chunks::byte_of))]
-pub fn chunk_u8(op: LogicOp, values: u8x16, b: u8x16) -> u8x16
+pub fn chunk_u8(op: LogicOp, values: u8x16, b: u8x16, _vd: u8x16) -> u8x16
     ensures bytes { result ≡ zip2 (byte_of op) values b }
     ensures bits { (i j : ℕ) → i < 16 → j < 8 → is_set j (slice_index result i)
         ≡ logic_of op (is_set j (slice_index values i)) (is_set j (slice_index b i)) }

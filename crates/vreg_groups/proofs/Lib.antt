@@ -6,6 +6,7 @@ pub mod Rooms
 pub mod Parts
 pub mod Spans
 pub mod Plain
+pub mod Pointwise
 mod LendableMemory
 mod LoanLemmas
 mod ChunkLemmas

@@ -97,6 +97,17 @@ impl<const VLENB: usize> Group<VLENB> {
         self.vl
     }
 
+    /// How many registers it has: all of them are among the 32, and the body lies in them.
+    pub fn count(&self) -> usize
+        ensures meaning { result ≡ self.now.count }
+        ensures vlenb { IsVlenb VLENB }
+        ensures inside { self.now.first + result ≤ 32 }
+        ensures few { result ≤ 8 }
+        ensures body { self.now.bytes * self.now.vl ≤ result * VLENB }
+    {
+        self.count
+    }
+
     /// Reads the elements of the body.
     #[tactic(auto, unfolding(crate::specs::Group::body_of))]
     pub fn read<E: Element>(&self, registers: &VregFile<VLENB>, out: &mut [E])

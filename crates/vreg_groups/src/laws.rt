@@ -1,7 +1,8 @@
 //! Laws of writes: what one element, one mask bit and the other bytes become. Each law is a function's contract.
 
-ghost use Rattle.std.specs.Prelude.{◌≡◌, ◌+◌, ◌*◌, ◌^◌, ◌<◌, ◌≤◌, ◌⊎◌, length, slice_index, All};
-ghost use Rattle.vreg_groups.specs.NewElements.{write_of, mask_write_of, overlaid, overlaid_within};
+ghost use Rattle.std.specs.Prelude.{ℕ, ◌-◌, ◌≡◌, ◌+◌, ◌*◌, ◌^◌, ◌<◌, ◌≤◌, ◌⊎◌, length, slice_index, All};
+ghost use Rattle.vreg_groups.specs.Elements.{element_at};
+ghost use Rattle.vreg_groups.specs.NewElements.{new_element, write_of, mask_write_of, overlaid, overlaid_within};
 ghost use Rattle.vreg_groups.specs.VectorLength.{IsVlenb};
 ghost use Rattle.vreg_groups.specs.Laws.{ElementIsNew, MaskBitIsNew};
 
@@ -99,4 +100,34 @@ pub fn lent_bytes_are_written(file: &[u8], at: usize, written: &[u8])
     ensures { overlaid_within at file.now written.now ≡ overlaid at written.now file.now }
 {
     let _ = file;
+}
+
+/// The converse: registers whose elements of a group are the new ones, and whose other bytes are as they were, are those
+/// after the write.
+pub fn new_elements_are_a_write(
+    vlenb: usize,
+    size: usize,
+    first: Reg,
+    count: usize,
+    policy: Policy,
+    results: &[u32],
+    active: &[bool],
+    file: &[u8],
+    new: &[u8],
+)
+    requires vlenb_is { IsVlenb vlenb }
+    requires size_is { (size ≡ 1) ⊎ (size ≡ 2) ⊎ (size ≡ 4) }
+    requires group { first + count ≤ 32 }
+    requires registers { length file.now ≡ 32 * vlenb }
+    requires same { length new.now ≡ length file.now }
+    requires elements { (i : ℕ) → size * i + size ≤ count * vlenb
+        → element_at size (first * vlenb) new.now i
+        ≡ new_element policy (256 ^ size - 1) results.now active.now i
+        (element_at size (first * vlenb) file.now i) }
+    requires others { (k : ℕ) → (k < first * vlenb) ⊎ ((first + count) * vlenb ≤ k)
+        → slice_index new.now k ≡ slice_index file.now k }
+    ensures { new.now ≡ write_of vlenb size first count policy results.now active.now file.now }
+{
+    let _ = file;
+    let _ = new;
 }

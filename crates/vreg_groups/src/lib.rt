@@ -15,7 +15,7 @@ mod setup;
 mod vector_length;
 mod vector_type;
 
-pub use chunks::choose;
+pub use chunks::{choose, written_lanes};
 pub use elements::Element;
 pub use group::Group;
 pub use legality::{legal, legal_access_type, legal_type, whole_count};

@@ -1,23 +1,25 @@
 //! The 32 vector registers.
 
 ghost use Rattle.std.specs.Borrow.{sem};
+ghost use lib.Lanes.{chunk, put_chunk};
 ghost use Rattle.std.specs.Prelude.{◌≡◌, ℕ, ◌+◌, ◌*◌, ◌/◌, ◌<◌, ◌≤◌, ◌⊎◌, ◌++◌, true, length, map};
 ghost use Rattle.std.specs.Prelude.{replicate, take, drop, slice_index, All};
 ghost use Rattle.vreg_groups.specs.Copies.{copied};
 ghost use Rattle.vreg_groups.specs.Elements.{mask_bit, bytes_from, element_at, elements_of};
 ghost use Rattle.vreg_groups.specs.Elements.{mask_bits, active_of};
 ghost use Rattle.vreg_groups.specs.VectorLength.{IsVlenb};
-ghost use Rattle.vreg_groups.specs.NewElements.{bytes_written, overlaid, write_of, mask_write_of};
+ghost use Rattle.vreg_groups.specs.NewElements.{bytes_written, filled, overlaid, write_of, mask_write_of};
 
 use crate::bytes::{
-    are_bytes, bit_at, overlay, read_bits, read_elements, write_all_bytes, write_all_elements,
-    write_bits, write_elements,
+    are_bytes, bit_at, fill_if, overlay, read_bits, read_elements, write_all_bytes,
+    write_all_elements, write_bits, write_elements,
 };
 use crate::elements::Element;
 use crate::lendable::Lendable;
 use crate::policies::{Agnostic, Policy};
 use rv_decode::Reg;
 use std::marker::Model;
+use std::simd::prelude::*;
 
 /// The 32 vector registers, of `VLENB` bytes each: 16, 32 or 64. Register n begins at byte n * VLENB.
 #[derive(Drop)]
@@ -298,4 +300,51 @@ fn copy_bytes(bytes: &mut [u8], at: usize, source: usize, count: usize)
         ++ drop (at + count) bytes.old }
 {
     bytes.copy_within(source..source + count, at);
+}
+
+impl<const VLENB: usize> VregFile<VLENB> {
+    /// The sixteen bytes from place `at` on.
+    #[inline(always)]
+    pub fn sixteen(&self, at: usize) -> u8x16
+        requires { at + 16 ≤ 32 * VLENB }
+        ensures { result ≡ chunk at 16 self.now }
+    {
+        u8x16::from_slice(&self.all()[at..])
+    }
+
+    /// Writes sixteen bytes, from place `at` on.
+    #[inline(always)]
+    pub fn set_sixteen(&mut self, at: usize, lanes: u8x16)
+        requires { at + 16 ≤ 32 * VLENB }
+        ensures meaning { self.new ≡ put_chunk at self.old lanes }
+        ensures shape { length self.old ≡ 32 * VLENB }
+        ensures count { length lanes ≡ 16 }
+    {
+        let _ = &self.bytes;
+        let bytes = &mut self.bytes.items[..32 * VLENB];
+        put_sixteen(bytes, at, lanes);
+    }
+}
+
+impl<const VLENB: usize> VregFile<VLENB> {
+    /// What becomes of `n` bytes that no result is written to, from place `at` on.
+    pub fn fill(&mut self, at: usize, n: usize, agnostic: Agnostic)
+        requires { at + n ≤ 32 * VLENB }
+        ensures meaning { self.new ≡ filled agnostic (overlaid at (replicate n 0xff) self.old)
+            self.old }
+        ensures shape { length self.old ≡ 32 * VLENB }
+    {
+        let _ = &self.bytes;
+        let bytes = &mut self.bytes.items[..32 * VLENB];
+        fill_if(bytes, at, n, agnostic);
+    }
+}
+
+// Sixteen bytes over others.
+#[inline(always)]
+fn put_sixteen(bytes: &mut [u8], at: usize, lanes: u8x16)
+    requires { at + 16 ≤ length bytes.old }
+    ensures { bytes.new ≡ put_chunk at bytes.old lanes }
+{
+    lanes.copy_to_slice(&mut bytes[at..]);
 }

@@ -52,7 +52,7 @@ fn a_chunk_of_bytes_saturates(rt: HostRuntime) {
     let b = u8x16::from_array([
         0, 0xff, 1, 0xff, 0xff, 0x7f, 0x80, 0x64, 0x64, 0xce, 2, 2, 1, 1, 3, 0x40,
     ]);
-    let (sums, flags) = fixed_u8(FixedOp::Sadd, a, b);
+    let (sums, flags) = fixed_u8(FixedOp::Sadd, a, b, b);
     let expected = [
         0, 0, 0x7f, 0x80, 0xfe, 0x7f, 0x80, 0x7f, 0x2c, 0, 7, 0xfd, 4, 0xfe, 0x84, 0x7f,
     ];
@@ -67,7 +67,7 @@ fn a_chunk_of_bytes_saturates(rt: HostRuntime) {
 fn a_chunk_of_halves_saturates(rt: HostRuntime) {
     let a = u16x8::from_array([0x7fff, 0x8000, 0x1234, 0xffff, 1, 0x8001, 0xff, 0x4000]);
     let b = u16x8::from_array([0xffff, 1, 4, 0xffff, 2, 2, 0x10, 0xc000]);
-    let (left, flags) = fixed_u16(FixedOp::Ssub, a, b);
+    let (left, flags) = fixed_u16(FixedOp::Ssub, a, b, b);
     let expected = [0x7fff, 0x8000, 0x1230, 0, 0xffff, 0x8000, 0xef, 0x7fff];
     assert_same!(rt; left.to_array(), expected);
     assert_same!(rt;
@@ -80,7 +80,7 @@ fn a_chunk_of_halves_saturates(rt: HostRuntime) {
 fn a_chunk_of_words_saturates(rt: HostRuntime) {
     let a = u32x4::from_array([0x7fff_ffff, 0, 0x1234_5678, 0xffff_ffff]);
     let b = u32x4::from_array([1, 1, 0x1234_5679, 0x8000_0000]);
-    let (left, flags) = fixed_u32(FixedOp::Ssubu, a, b);
+    let (left, flags) = fixed_u32(FixedOp::Ssubu, a, b, b);
     assert_same!(rt; left.to_array(), [0x7fff_fffe, 0, 0, 0x7fff_ffff]);
     assert_same!(rt; flags.to_array(), [0, 0xffff_ffff, 0xffff_ffff, 0]);
 }
@@ -89,10 +89,10 @@ fn a_chunk_of_words_saturates(rt: HostRuntime) {
 fn a_chunk_of_words_is_rounded(rt: HostRuntime) {
     let a = u32x4::from_array([0x7, 0x8000_0005, 0xffff_ffff, 0x6]);
     let b = u32x4::from_array([0x4, 0x1, 0x1, 0x3]);
-    let (means, flags) = fixed_u32(FixedOp::Aaddu(RoundingMode::NearestEven), a, b);
+    let (means, flags) = fixed_u32(FixedOp::Aaddu(RoundingMode::NearestEven), a, b, b);
     assert_same!(rt; means.to_array(), [0x6, 0x4000_0003, 0x8000_0000, 0x4]);
     assert_same!(rt; flags.to_array(), [0; 4]);
-    let (scaled, _) = fixed_u32(FixedOp::Ssra(RoundingMode::NearestUp), a, b);
+    let (scaled, _) = fixed_u32(FixedOp::Ssra(RoundingMode::NearestUp), a, b, b);
     assert_same!(rt; scaled.to_array(), [0x0, 0xc000_0003, 0x0, 0x1]);
 }
 
@@ -104,7 +104,7 @@ fn a_chunk_of_mask_bytes(rt: HostRuntime) {
     let b = u8x16::from_array([
         0xff, 0xff, 0x3c, 0x3c, 0x0f, 0x0f, 0x55, 0x55, 1, 1, 0x18, 0x18, 0xfe, 0xdc, 0xba, 0x98,
     ]);
-    let or_not = lane_masks::chunk_u8(LogicOp::Orn, a, b).to_array();
+    let or_not = lane_masks::chunk_u8(LogicOp::Orn, a, b, b).to_array();
     let expected = [
         0, 0xff, 0xcf, 0xf3, 0xf5, 0xfa, 0xbb, 0xee, 0xff, 0xfe, 0xff, 0xe7, 0x13, 0x37, 0x57, 0x7f,
     ];

@@ -1,0 +1,5 @@
+mod Steps
+mod Chosen
+mod Groups
+mod Masks
+mod Calls
