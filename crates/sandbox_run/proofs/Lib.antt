@@ -1,6 +1,7 @@
 pub mod Back
 pub mod OpenFaults
 pub mod HostLemmas
+pub mod OpSteps
 pub mod Refusals
 pub mod SessionLemmas
 pub mod StartLemmas

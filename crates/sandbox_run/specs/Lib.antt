@@ -7,6 +7,7 @@ pub mod HostLaws
 pub mod Rooms
 pub mod Session
 pub mod Laws
+pub mod Memo
 pub mod Stops
 pub mod Words
 pub use Rattle.region_mem.specs.Parameter

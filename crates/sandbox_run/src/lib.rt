@@ -8,6 +8,7 @@
 mod any_session;
 mod laws;
 mod machine;
+mod memo;
 mod outcome;
 mod run;
 mod session;

@@ -1,15 +1,19 @@
 //! The state of a run, and one step.
 
-ghost use Rattle.std.specs.Prelude.{◌≡◌};
+ghost use Rattle.std.specs.Prelude.{◌≡◌, slice_index};
 ghost use Rattle.region_mem.specs.Faults.{Steps};
+ghost use Rattle.rv_decode.specs.Decode.{meaning_of};
+ghost use Rattle.vector_core.specs.MachineStep.{decoded};
+ghost use Rattle.sandbox_run.specs.Memo.{room_of};
 
+use crate::memo::Memo;
 use crate::outcome::Registers;
 use region_mem::{Fault, Regions};
-use rv_decode::{Insn, decode, decode_access, decode_scalar, vector_arithmetic};
-use scalar_core::{Scalar, step_scalar};
+use rv_decode::{Insn, vector_arithmetic};
+use scalar_core::{Scalar, step_op, step_scalar};
 use std::alloc::{Allocator, Global};
 use std::marker::Model;
-use vector_core::{VectorState, step_access, step_vector};
+use vector_core::{VectorState, step_known};
 
 /// The scalar registers, the vector registers, and memory.
 #[derive(Drop)]
@@ -17,6 +21,8 @@ pub(crate) struct Machine<const VLENB: usize, A: Allocator = Global> {
     pub(crate) hart: Scalar,
     pub(crate) vectors: VectorState<VLENB>,
     pub(crate) memory: Regions<A>,
+    // What the words mean that were met before. Contracts do not see it.
+    pub(crate) memo: Memo<A>,
 }
 
 impl<const VLENB: usize, A: Allocator> Model for Machine<VLENB, A> {
@@ -29,8 +35,6 @@ impl<const VLENB: usize, A: Allocator> Model for Machine<VLENB, A> {
 
 impl<const VLENB: usize, A: Allocator> Machine<VLENB, A> {
     ghost use Rattle.vector_core.specs.Run.{has_ended as has_ended_of};
-    ghost use Rattle.rv_decode.specs.Decode.{meaning_of};
-    ghost use Rattle.vector_core.specs.MachineStep.{carry_out as carry_out_of, decoded};
     ghost use Rattle.vector_core.specs.MachineStep.{step as step_of};
     ghost use Rattle.sandbox_run.specs.Answer.{registers_of};
 
@@ -56,7 +60,7 @@ impl<const VLENB: usize, A: Allocator> Machine<VLENB, A> {
         }
     }
 
-    /// Fetches the word at pc, decodes it and carries it out. A fault changes nothing.
+    /// Fetches the word at pc, looks up what it means and carries it out. A fault changes nothing.
     #[tactic(auto, unfolding(vector_core::specs::MachineStep::step))]
     pub(crate) fn step(&mut self) -> Result<(), Fault>
         ensures { Steps (step_of VLENB self.old) self.old self.new result }
@@ -65,65 +69,51 @@ impl<const VLENB: usize, A: Allocator> Machine<VLENB, A> {
         let Some(word) = self.memory.fetch_next(pc) else {
             return Err(Fault::FetchFault(pc));
         };
-        match decode_scalar(word) {
-            Some(insn) => self.carry_out(word, insn),
-            None => self.carry_out_word(word),
+        self.memo.learn(pc, word);
+        if let Some(op) = self.memo.op(pc) {
+            return step_op(&mut self.hart, op, &mut self.memory);
         }
+        carry_out(
+            &mut self.hart,
+            &mut self.vectors,
+            &mut self.memory,
+            &mut self.memo,
+            pc,
+            word,
+        )
     }
+}
 
-    /// Decodes any word and carries it out. It stands apart so that the instructions that are most
-    /// often met are never written to memory between decode and step; and so do loads and stores.
-    #[inline(never)]
-    #[tactic(auto, unfolding(vector_core::specs::MachineStep::carry_out))]
-    fn carry_out_word(&mut self, word: u32) -> Result<(), Fault>
-        ensures { Steps (decoded VLENB word self.old (meaning_of word)) self.old self.new result }
-    {
-        match decode_access(word) {
-            Some(access) => {
-                step_access(
-                    &mut self.vectors,
-                    &mut self.hart,
-                    word,
-                    &access,
-                    &mut self.memory,
-                )
-            }
-            None => self.carry_out_any(word),
-        }
-    }
-
-    /// The same by the decode of all words.
-    #[inline(never)]
-    fn carry_out_any(&mut self, word: u32) -> Result<(), Fault>
-        ensures { Steps (decoded VLENB word self.old (meaning_of word)) self.old self.new result }
-    {
-        let Some(insn) = decode(word) else {
-            return Err(Fault::Illegal(word));
-        };
-        self.carry_out(word, insn)
-    }
-
-    /// Carries an instruction out, by its class.
-    #[inline(always)]
-    #[tactic(auto, unfolding(vector_core::specs::MachineStep::carry_out))]
-    fn carry_out(&mut self, word: u32, insn: Insn) -> Result<(), Fault>
-        ensures { Steps (carry_out_of VLENB word self.old insn) self.old self.new result }
-    {
-        match insn {
+/// Carries out the word that is remembered for an address, by the class of what it means. It stands
+/// apart, so that the words that have a flat form take none of its room.
+#[inline(never)]
+#[tactic(auto, unfolding(vector_core::specs::MachineStep::carry_out))]
+fn carry_out<const VLENB: usize, A: Allocator>(
+    hart: &mut Scalar,
+    vectors: &mut VectorState<VLENB>,
+    memory: &mut Regions<A>,
+    memo: &mut Memo<A>,
+    pc: u32,
+    word: u32,
+) -> Result<(), Fault>
+    requires { slice_index memo.old (room_of pc) ≡ word }
+    ensures { Steps (decoded VLENB word
+        (record { hart = hart.old; vectors = vectors.old; memory = memory.old }) (meaning_of word))
+        (record { hart = hart.old; vectors = vectors.old; memory = memory.old })
+        (record { hart = hart.new; vectors = vectors.new; memory = memory.new }) result }
+{
+    let config = vectors.config();
+    let judged = memo.judged(pc, &config);
+    match memo.insn(pc) {
+        None => Err(Fault::Illegal(word)),
+        Some(insn) => match insn {
             Insn::Scalar(_) | Insn::Csr(_) => {
-                self.vectors.state_law();
-                let config = self.vectors.config();
-                step_scalar(&mut self.hart, insn, &mut self.memory, &config, VLENB)
+                vectors.state_law();
+                step_scalar(hart, insn, memory, &config, VLENB)
             }
             Insn::VSet(_) | Insn::VMem(_) | vector_arithmetic!() => {
-                step_vector(
-                    &mut self.vectors,
-                    &mut self.hart,
-                    word,
-                    insn,
-                    &mut self.memory,
-                )
+                step_known(vectors, hart, word, &insn, judged, memory)
             }
-        }
+        },
     }
 }

@@ -8,6 +8,7 @@ ghost use Rattle.vector_core.specs.Start.{start as start_of, start_hart as start
 ghost use Rattle.vreg_groups.specs.VectorLength.{IsVlenb};
 
 use crate::machine::Machine;
+use crate::memo::Memo;
 use elf_image::Image;
 use region_mem::{Arg, Args, Bytes, Parameters, Regions};
 use rv_decode::Reg;
@@ -75,10 +76,15 @@ pub(crate) fn start<const VLENB: usize, A: Allocator + Copy, B: Allocator>(
     ensures back { IfErr result (λ e. e.1 ≡ args) }
 {
     let hart = start_hart(image.entry(), parameters, &args.places);
+    let memo = match Memo::new(alloc) {
+        Ok(memo) => memo,
+        Err(error) => return Err((error, args)),
+    };
     let memory = Regions::new(alloc, image, parameters, args)?;
     Ok(Machine {
         hart,
         vectors: VectorState::new(agnostic),
         memory,
+        memo,
     })
 }

@@ -11,10 +11,12 @@ mod entry;
 mod hart;
 mod jumps;
 mod laws;
+mod op;
 mod steps;
 mod transfers;
 
 pub use entry::{EntryValue, entry_value};
 pub use hart::{EXIT, Scalar};
 pub use laws::{division_with_remainder, exit_in_numbers, steps_keep_harts};
-pub use steps::step_scalar;
+pub use op::{Op, OpKind};
+pub use steps::{step_op, step_scalar};

@@ -4,6 +4,7 @@ pub mod Inside
 pub mod Kept
 pub mod KeptMemory
 pub mod KeptSteps
+pub mod Lengths
 pub mod Moved
 pub mod Numbers
 pub mod Permits

@@ -43,3 +43,15 @@ has_doubles (shape.WidenMultiplyAdd op vd vs2 b masked) = true
 has_doubles (shape.Narrow op vd vs2 b masked) = true
 has_doubles (shape.Clip op vd vs2 b masked) = true
 has_doubles insn = false
+
+-- whether all of an instruction's elements are of SEW
+unfoldable pub is_same_width : VArith → Bool
+is_same_width (shape.Int op vd vs2 b masked) = true
+is_same_width (shape.MultiplyAdd op vd vs2 b masked) = true
+is_same_width (shape.Carry op vd vs2 b) = true
+is_same_width (shape.CarryOut op vd vs2 b with_carry) = true
+is_same_width (shape.Merge vd vs2 b) = true
+is_same_width (shape.Copy vd b) = true
+is_same_width (shape.Compare op vd vs2 b masked) = true
+is_same_width (shape.Fixed op vd vs2 b masked) = true
+is_same_width insn = false

@@ -1,10 +1,13 @@
 -- One step of a vector instruction: the state after it, or its fault. An instruction that faults
 -- has no new state.
-use Rattle.std.specs.Prelude.{ℕ, Bool, true, false, if◌then◌else◌, Ok, Err}
+use Rattle.std.specs.Prelude.{ℕ, ◌≡◌, Bool, true, false, if◌then◌else◌, Ok, Err}
+use Rattle.std.specs.Prelude.{Option, Some, None, IfSome}
 use Rattle.rv_decode.specs.declared.instructions.Insn.TheVariants as class
-use Rattle.vreg_groups.specs.{VectorType.type_in, VectorType.vtype_of, Legality.is_legal}
+use Rattle.rv_decode.specs.Needs.{needs_of}
+use Rattle.vreg_groups.specs.Legality.{AreAllInside, are_operands_legal, is_legal}
+use Rattle.vreg_groups.specs.VectorType.{type_in, vtype_of}
 use Rattle.rv_decode.specs.declared.instructions.VArith as arith
-use Rattle.vector_core.specs.Words.{Hart, Illegal, Insn, Memory, Setup, advanced}
+use Rattle.vector_core.specs.Words.{Hart, Illegal, Insn, Memory, Setup, Vtype, advanced}
 use Rattle.vector_core.specs.Vectors.{Stepped, Vectors, with_registers}
 use Rattle.vector_core.specs.{Arithmetic.arith_of, Computed.Computed, Configuration.vset_step}
 use Rattle.vector_core.specs.{LoadsStores.memory_step, Masks.mask_step, Moves.move_step}
@@ -41,3 +44,10 @@ vector_step vlenb insn word hart v memory =
     if is_legal v.config insn
     then legal_step vlenb (setup_of (type_in (vtype_of v.config.vtype)) v) insn hart v memory
     else Err (Illegal word)
+
+-- what legality says of `insn` under vtype with these bits: the type that it works under, where its
+-- operands are inside the registers, or that it is not legal
+pub record IsJudged (bits : ℕ) (insn : Insn) (judged : Option Vtype) : Type 0 where
+  pub meaning : judged ≡ (if are_operands_legal (vtype_of bits) (needs_of insn)
+      then Some (type_in (vtype_of bits)) else None)
+  pub inside : IfSome judged (λ t. AreAllInside t (needs_of insn))

@@ -25,6 +25,8 @@ pub trait VectorElement: Element + Lane + FixedLane + FoldLane {
 
     ghost number_is: { Self.Lane.number ≡ Self.Element.number };
 
+    ghost lane_size_is: { Self.Lane.size ≡ bytes_of_width sew };
+
     ghost fixed_width_is: { Self.FixedLane.width ≡ lane_width sew };
 
     ghost fixed_number_is: { Self.FixedLane.number ≡ Self.Element.number };
@@ -45,6 +47,8 @@ impl VectorElement for u8 {
     ghost width_is = { refl };
 
     ghost number_is = { refl };
+
+    ghost lane_size_is = { refl };
 
     ghost fixed_width_is = { refl };
 
@@ -67,6 +71,8 @@ impl VectorElement for u16 {
 
     ghost number_is = { refl };
 
+    ghost lane_size_is = { refl };
+
     ghost fixed_width_is = { refl };
 
     ghost fixed_number_is = { refl };
@@ -87,6 +93,8 @@ impl VectorElement for u32 {
     ghost width_is = { refl };
 
     ghost number_is = { refl };
+
+    ghost lane_size_is = { refl };
 
     ghost fixed_width_is = { refl };
 

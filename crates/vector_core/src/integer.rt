@@ -4,14 +4,16 @@
 ghost use Rattle.std.specs.Prelude.{◌≡◌, length};
 ghost use Rattle.vector_core.specs.Arithmetic.{arith_of};
 ghost use Rattle.vector_core.specs.Computed.{exact};
+ghost use Rattle.vector_core.specs.Rooms.{IsRoom};
 ghost use Rattle.vector_core.specs.Shapes.{CarryOutShape, CarryShape, CompareShape, IntShape};
 ghost use Rattle.vector_core.specs.Shapes.{IsShaped, MultiplyAddShape};
 ghost use Rattle.vector_core.specs.Integer.{carry_in};
 ghost use Rattle.vector_core.specs.Setup.{IsSetup};
 
-use crate::elements::VectorElement;
+use crate::elements::{VectorElement, zero};
 use crate::operands::{read_bits, read_body, read_second, write_bits, write_results};
 use crate::operations::carry_out_lanes;
+use crate::rooms::body_law;
 use crate::setup::Setup;
 use crate::shapes::of_shape;
 use rv_decode::{Eew, Reg, VArith};
@@ -41,24 +43,26 @@ pub fn int<E: VectorElement, const VLENB: usize>(
     write_results(registers, setup, &destination, *masked, a);
 }
 
-/// vd is a product and a sum of b, vs2 and the old vd, whose body there is room for in `d`.
+/// vd is a product and a sum of b, vs2 and the old vd, of whose elements a body has at most MOST.
 #[tactic(auto, unfolding(rv_decode::specs::Needs::needs_of_arith))]
-pub fn multiply_add<E: VectorElement, const VLENB: usize>(
+pub fn multiply_add<E: VectorElement, const MOST: usize, const VLENB: usize>(
     registers: &mut VregFile<VLENB>,
     scalar: &Scalar,
     setup: &Setup,
     insn: &VArith,
     a: &mut [E],
     c: &mut [E],
-    d: &mut [E],
 )
+    requires room { IsRoom VLENB E.row E.SIZE MOST }
     requires shape { IsShaped VLENB setup.now E.sew insn.now MultiplyAddShape }
     requires a_len { length a.old ≡ setup.now.vl }
     requires c_len { length c.old ≡ setup.now.vl }
-    requires d_len { length d.old ≡ setup.now.vl }
     ensures { arith_of VLENB setup.now scalar.now insn.now registers.old ≡ exact registers.new }
 {
     of_shape!(VArith::MultiplyAdd(op, vd, vs2, b, masked) = insn);
+    body_law::<VLENB>(setup);
+    let mut d = [zero::<E>(); MOST];
+    let d = &mut d[..setup.vl];
     let destination = setup.group(*vd, Eew::Same);
     read_body(registers, setup, *vs2, a);
     read_second(registers, scalar, setup, *b, c);

@@ -10,6 +10,7 @@ mod doubles;
 mod elements;
 mod fixed_point;
 mod fold_elements;
+mod in_place;
 mod integer;
 pub mod laws;
 mod loads_stores;
@@ -30,4 +31,4 @@ mod step;
 mod widening;
 
 pub use state::VectorState;
-pub use step::{step_access, step_vector};
+pub use step::{judge, step_access, step_known, step_vector};

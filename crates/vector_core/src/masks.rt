@@ -13,7 +13,7 @@ ghost use Rattle.vector_core.specs.Setup.{IsReady, IsSetup};
 
 use crate::elements::{VectorElement, zero};
 use crate::operands::{write_bits, write_results};
-use crate::rooms::{MOST_HALVES, MOST_WORDS, on_sew};
+use crate::rooms::{body_law, on_sew, with_room};
 use crate::setup::Setup;
 use crate::state::VectorState;
 use lane_masks::{combine, set_first};
@@ -121,7 +121,7 @@ fn set_around_first<const VLENB: usize>(
     write_bits(registers, setup, vd, masked, bits);
 }
 
-/// Each element of vd, of which a body has at most MOST, is how many bits of vs2 below it are set and active.
+/// Each element of vd, is how many bits of vs2 below it are set and active.
 #[tactic(auto, unfolding(crate::specs::Masks::iota_of))]
 fn iota_elements<E: VectorElement, const MOST: usize, const VLENB: usize>(
     registers: &mut VregFile<VLENB>,
@@ -130,13 +130,14 @@ fn iota_elements<E: VectorElement, const MOST: usize, const VLENB: usize>(
     vs2: Reg,
     masked: bool,
 )
-    requires room { IsRoom E.row E.SIZE MOST }
+    requires room { IsRoom VLENB E.row E.SIZE MOST }
     requires width { E.sew ≡ setup.now.vtype.sew }
     requires setup { IsSetup VLENB setup.now }
     requires inside { IsGroupInside setup.now.vtype vd Same }
     ensures { registers.new ≡ iota_of VLENB setup.now vd vs2 masked registers.old }
 {
     let destination = setup.group(vd, Eew::Same);
+    body_law::<VLENB>(setup);
     let mut a = [zero::<E>(); MOST];
     let a = &mut a[..setup.vl];
     let mut bits = [false; MOST_ELEMENTS];
@@ -161,7 +162,7 @@ fn iota<const VLENB: usize>(
     on_sew!(setup, iota_elements(registers, setup, vd, vs2, masked))
 }
 
-/// Each element of vd, of which a body has at most MOST, is its own number.
+/// Each element of vd, is its own number.
 #[tactic(auto, unfolding(crate::specs::Masks::index_of))]
 fn index_elements<E: VectorElement, const MOST: usize, const VLENB: usize>(
     registers: &mut VregFile<VLENB>,
@@ -169,13 +170,14 @@ fn index_elements<E: VectorElement, const MOST: usize, const VLENB: usize>(
     vd: Reg,
     masked: bool,
 )
-    requires room { IsRoom E.row E.SIZE MOST }
+    requires room { IsRoom VLENB E.row E.SIZE MOST }
     requires width { E.sew ≡ setup.now.vtype.sew }
     requires setup { IsSetup VLENB setup.now }
     requires inside { IsGroupInside setup.now.vtype vd Same }
     ensures { registers.new ≡ index_of VLENB setup.now vd masked registers.old }
 {
     let destination = setup.group(vd, Eew::Same);
+    body_law::<VLENB>(setup);
     let mut a = [zero::<E>(); MOST];
     let a = &mut a[..setup.vl];
     lane_masks::index(a);

@@ -111,6 +111,25 @@ pub fn write_results<E: VectorElement, const VLENB: usize>(
         write_whole(registers, setup, group, results);
         return;
     }
+    write_active(registers, setup, group, masked, results);
+}
+
+/// The same where the body has elements, by the list of those that are active. It is apart, so that where this is not
+/// needed there is no room for it.
+#[inline(never)]
+fn write_active<E: VectorElement, const VLENB: usize>(
+    registers: &mut VregFile<VLENB>,
+    setup: &Setup,
+    group: &Group<VLENB>,
+    masked: bool,
+    results: &[E],
+)
+    requires size { E.SIZE ≡ group.now.bytes }
+    requires setup { IsSetup VLENB setup.now }
+    ensures { registers.new ≡ written VLENB group.now (policy_of setup.now.agnostic setup.now.vtype)
+        (map E.Element.number results.now) (active_of VLENB masked setup.now.vl registers.old)
+        registers.old }
+{
     let mut bits = [false; MOST_ELEMENTS];
     let active = &mut bits[..setup.vl];
     registers.read_active(masked, active);

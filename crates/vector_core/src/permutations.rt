@@ -19,7 +19,7 @@ ghost use Rattle.vector_core.specs.Setup.{IsReady, IsSetup};
 
 use crate::elements::{VectorElement, low_bits, numbers_of, zero};
 use crate::operands::{read_bits, read_body, write_results};
-use crate::rooms::{MOST_HALVES, MOST_WORDS, on_sew};
+use crate::rooms::{body_law, on_sew, with_room};
 use crate::setup::Setup;
 use crate::shapes::of_shape;
 use rv_decode::{Eew, Offset, Reg, Source, VPerm, Width};
@@ -27,10 +27,12 @@ use scalar_core::Scalar;
 use vreg_groups::{Group, MOST_ELEMENTS, VregFile};
 
 /// VLMAX.
+#[tactic(auto, using(crate::proofs::Lengths::body_room))]
 fn vlmax<const VLENB: usize>(setup: &Setup) -> usize
     requires { IsSetup VLENB setup.now }
     ensures meaning { result ≡ vlmax_of VLENB setup.now.vtype }
     ensures bytes { bytes_of_width setup.now.vtype.sew * result ≤ MOST_ELEMENTS }
+    ensures room { bytes_of_width setup.now.vtype.sew * result ≤ 8 * VLENB }
 {
     setup.vtype.vlmax(VLENB) as usize
 }
@@ -286,7 +288,7 @@ fn compress<E: VectorElement, const VLENB: usize>(
     write_results(registers, setup, &destination, false, &a[..count]);
 }
 
-/// What an instruction does to the registers, on elements of one width, of which a group has at most MOST.
+/// What an instruction does to the registers, on elements of one width.
 #[tactic(auto, unfolding(crate::specs::Permutations::perm_of))]
 fn permute_elements<E: VectorElement, const MOST: usize, const VLENB: usize>(
     registers: &mut VregFile<VLENB>,
@@ -294,11 +296,12 @@ fn permute_elements<E: VectorElement, const MOST: usize, const VLENB: usize>(
     setup: &Setup,
     insn: &VPerm,
 )
-    requires room { IsRoom E.row E.SIZE MOST }
+    requires room { IsRoom VLENB E.row E.SIZE MOST }
     requires width { E.sew ≡ setup.now.vtype.sew }
     requires ready { IsReady VLENB setup.now (needs_of_perm insn.now) }
     ensures { registers.new ≡ perm_of VLENB setup.now scalar.now insn.now registers.old }
 {
+    body_law::<VLENB>(setup);
     let vl = setup.vl;
     let vlmax = vlmax::<VLENB>(setup);
     let mut a = [zero::<E>(); MOST];

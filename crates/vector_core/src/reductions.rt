@@ -13,14 +13,14 @@ ghost use Rattle.vector_core.specs.Shapes.{FoldShape, WidenSumShape, reduce_shap
 use crate::elements::{VectorElement, zero};
 use crate::fold_elements::extended_sum;
 use crate::operands::read_body;
-use crate::rooms::{MOST_HALVES, MOST_WORDS, on_sew};
+use crate::rooms::{body_law, on_sew, with_room};
 use crate::setup::Setup;
 use crate::shapes::of_shape;
 use crate::singles::write_first;
 use rv_decode::{VReduce, Width};
 use vreg_groups::{MOST_ELEMENTS, VregFile};
 
-/// Element 0 of vd is the fold of element 0 of vs1 with the active elements of vs2, of which a body has at most MOST.
+/// Element 0 of vd is the fold of element 0 of vs1 with the active elements of vs2.
 #[tactic(auto, unfolding(rv_decode::specs::Needs::needs_of_reduce))]
 fn fold_elements<E: VectorElement, const MOST: usize, const VLENB: usize>(
     registers: &mut VregFile<VLENB>,
@@ -28,7 +28,7 @@ fn fold_elements<E: VectorElement, const MOST: usize, const VLENB: usize>(
     insn: &VReduce,
 )
     requires shape { reduce_shape_of insn.now ≡ FoldShape }
-    requires room { IsRoom E.row E.SIZE MOST }
+    requires room { IsRoom VLENB E.row E.SIZE MOST }
     requires fits { FitsInMemory E.row }
     requires width { E.sew ≡ setup.now.vtype.sew }
     requires ready { IsReady VLENB setup.now (needs_of_reduce insn.now) }
@@ -38,6 +38,7 @@ fn fold_elements<E: VectorElement, const MOST: usize, const VLENB: usize>(
     let mut bits = [false; MOST_ELEMENTS];
     let active = &mut bits[..setup.vl];
     registers.read_active(*masked, active);
+    body_law::<VLENB>(setup);
     let mut a = [zero::<E>(); MOST];
     let a = &mut a[..setup.vl];
     let start = registers.first_element::<E>(*vs1);
@@ -56,7 +57,7 @@ fn fold<const VLENB: usize>(registers: &mut VregFile<VLENB>, setup: &Setup, insn
 }
 
 /// Element 0 of vd, of 2*SEW, is the sum of element 0 of vs1, of 2*SEW, with the active elements of vs2, which are
-/// extended and of which a body has at most MOST.
+/// extended.
 #[tactic(auto, unfolding(rv_decode::specs::Needs::needs_of_reduce, crate::specs::Reductions::widen_sum_of, crate::specs::Reductions::reduce_of))]
 fn widen_sum_of<W: VectorElement, N: VectorElement, const MOST: usize, const VLENB: usize>(
     registers: &mut VregFile<VLENB>,
@@ -64,7 +65,7 @@ fn widen_sum_of<W: VectorElement, N: VectorElement, const MOST: usize, const VLE
     insn: &VReduce,
 )
     requires shape { reduce_shape_of insn.now ≡ WidenSumShape }
-    requires room { IsRoom N.row N.SIZE MOST }
+    requires room { IsRoom VLENB N.row N.SIZE MOST }
     requires fits { FitsInMemory W.row }
     requires width { N.sew ≡ setup.now.vtype.sew }
     requires wide_size { W.SIZE ≡ 2 * bytes_of_width setup.now.vtype.sew }
@@ -76,6 +77,7 @@ fn widen_sum_of<W: VectorElement, N: VectorElement, const MOST: usize, const VLE
     let mut bits = [false; MOST_ELEMENTS];
     let active = &mut bits[..setup.vl];
     registers.read_active(*masked, active);
+    body_law::<VLENB>(setup);
     let mut a = [zero::<N>(); MOST];
     let a = &mut a[..setup.vl];
     let start = registers.first_element::<W>(*vs1);
@@ -96,8 +98,14 @@ fn widen_sum<const VLENB: usize>(registers: &mut VregFile<VLENB>, setup: &Setup,
     };
     let sew = setup.vtype.sew;
     match sew {
-        Width::W8 => widen_sum_of::<u16, u8, MOST_ELEMENTS, VLENB>(registers, setup, insn),
-        Width::W16 => widen_sum_of::<u32, u16, MOST_HALVES, VLENB>(registers, setup, insn),
+        Width::W8 => with_room!(
+            widen_sum_of < u16,
+            u8 > (128, 256, 512)(registers, setup, insn)
+        ),
+        Width::W16 => with_room!(
+            widen_sum_of < u32,
+            u16 > (64, 128, 256)(registers, setup, insn)
+        ),
         Width::W32 => unreachable!(),
     }
 }

@@ -2,7 +2,8 @@
 
 ghost use Rattle.std.specs.Prelude.{◌≡◌, ◌<◌, ◌+◌, ◌*◌, slice_index};
 ghost use Rattle.vector_core.specs.Vectors.{new_vectors, IsVectors};
-ghost use Rattle.vreg_groups.specs.VectorLength.{IsVlenb};
+ghost use Rattle.vreg_groups.specs.VectorLength.{IsLength, IsVlenb};
+ghost use Rattle.vreg_groups.specs.VectorType.{type_in, vtype_of};
 ghost use Rattle.vector_core.specs.Setup.{setup_of};
 
 use crate::setup::Setup;
@@ -47,6 +48,14 @@ impl<const VLENB: usize> VectorState<VLENB> {
     /// A law of every state: VLEN is 128, 256 or 512, and vl at most VLMAX.
     pub fn state_law(&self)
         ensures { IsVectors VLENB self.now }
+    {
+        let _ = &self.config;
+    }
+
+    /// Another: vl fits the type that an instruction works under.
+    #[tactic(auto, using(crate::proofs::Lengths::length_fits), unfolding(vreg_groups::specs::VectorLength::IsConfig))]
+    pub(crate) fn length_law(&self)
+        ensures { IsLength VLENB (type_in (vtype_of self.now.config.vtype)) self.now.config.vl }
     {
         let _ = &self.config;
     }

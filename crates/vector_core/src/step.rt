@@ -3,7 +3,7 @@
 ghost use Rattle.region_mem.specs.Faults.{Steps};
 ghost use Rattle.rv_decode.specs.Needs.{needs_of};
 ghost use Rattle.vector_core.specs.Setup.{IsReady};
-ghost use Rattle.vector_core.specs.Step.{legal_step, vector_step};
+ghost use Rattle.vector_core.specs.Step.{IsJudged, legal_step, vector_step};
 
 use crate::arithmetic::arith;
 use crate::configuration::set_type;
@@ -18,7 +18,7 @@ use region_mem::{Fault, Regions};
 use rv_decode::{Insn, VMem};
 use scalar_core::Scalar;
 use std::alloc::Allocator;
-use vreg_groups::{legal_access_type, legal_type};
+use vreg_groups::{Vconfig, Vtype, legal_access_type, legal_type};
 
 /// The step of an instruction that is legal.
 #[tactic(auto, unfolding(crate::specs::Step::legal_step, crate::specs::Step::arith_step, crate::specs::Permutations::perm_step, crate::specs::Reductions::reduce_step, rv_decode::specs::Needs::needs_of))]
@@ -76,7 +76,39 @@ pub fn step_vector<const VLENB: usize, A: Allocator>(
     step_legal(vectors, scalar, &setup, &insn, memory)
 }
 
-/// The same by a vector load or store.
+/// What legality says of an instruction under vtype: the vector type that it works under, or `None` where it is not legal.
+/// It depends on nothing else, so it may be remembered as long as vtype stays.
+#[tactic(auto, unfolding(vreg_groups::specs::Legality::is_legal))]
+pub fn judge(config: &Vconfig, insn: &Insn) -> Option<Vtype>
+    ensures { IsJudged config.now.vtype insn.now result }
+{
+    legal_type(config, insn)
+}
+
+/// As [`step_vector`], where `judge` told before what legality says of the instruction under vtype as it stands.
+#[tactic(auto, unfolding(crate::specs::Step::vector_step, vreg_groups::specs::Legality::is_legal))]
+pub fn step_known<const VLENB: usize, A: Allocator>(
+    vectors: &mut VectorState<VLENB>,
+    scalar: &mut Scalar,
+    word: u32,
+    insn: &Insn,
+    judged: Option<Vtype>,
+    memory: &mut Regions<A>,
+) -> Result<(), Fault>
+    requires { IsJudged vectors.old.config.vtype insn.now judged }
+    ensures { Steps (vector_step VLENB insn.now word scalar.old vectors.old memory.old)
+        (scalar.old, vectors.old, memory.old) (scalar.new, vectors.new, memory.new) result }
+{
+    vectors.state_law();
+    vectors.length_law();
+    let Some(vtype) = judged else {
+        return Err(Fault::Illegal(word));
+    };
+    let setup = vectors.setup(vtype);
+    step_legal(vectors, scalar, &setup, insn, memory)
+}
+
+/// As [`step_vector`] by a vector load or store.
 #[tactic(auto, unfolding(crate::specs::Step::vector_step, crate::specs::Step::legal_step, rv_decode::specs::Needs::needs_of))]
 pub fn step_access<const VLENB: usize, A: Allocator>(
     vectors: &mut VectorState<VLENB>,

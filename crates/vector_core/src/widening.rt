@@ -1,7 +1,7 @@
 //! Instructions with results wider than what they read: each resolves its operands, reads them, extends what it read,
 //! computes and writes. `a` is what is read at SEW; `x` is vs2 and `y` the second operand at 2*SEW.
 
-ghost use Rattle.std.specs.Prelude.{◌≡◌, ◌/◌, length};
+ghost use Rattle.std.specs.Prelude.{◌≡◌, ◌≤◌, ◌*◌, ◌/◌, length};
 ghost use Rattle.rv_decode.specs.Needs.{eew_of, needs_of_arith};
 ghost use Rattle.vreg_groups.specs.Legality.{eew_bits};
 ghost use Rattle.vector_core.specs.Arithmetic.{arith_of};
@@ -19,7 +19,7 @@ use crate::operations::{
     is_wide_signed, wide_lanes, widen_lanes, widen_multiply_add_signs, widen_signs,
 };
 use crate::resizing::{HalfOf, extend_results, read_doubled};
-use crate::rooms::{MOST_HALVES, MOST_WORDS};
+use crate::rooms::{body_law, with_room};
 use crate::setup::Setup;
 use crate::shapes::of_shape;
 use lane_int::Narrow;
@@ -80,9 +80,9 @@ pub fn wide<N: HalfOf<W>, W: VectorElement, const VLENB: usize>(
     write_results(registers, setup, &destination, *masked, x);
 }
 
-/// vd is the product of b and vs2, both of SEW, and the old vd together, whose body there is room for in `d`.
+/// vd is the product of b and vs2, both of SEW, and the old vd together, of whose elements a body has at most MOST.
 #[tactic(auto, using(crate::proofs::Numbers::map_three), unfolding(rv_decode::specs::Needs::needs_of_arith, crate::specs::Widening::widen_multiply_add_of, crate::specs::Operands::second_of, crate::specs::Arithmetic::arith_of))]
-pub fn widen_multiply_add<N: HalfOf<W>, W: VectorElement, const VLENB: usize>(
+pub fn widen_multiply_add<N: HalfOf<W>, W: VectorElement, const MOST: usize, const VLENB: usize>(
     registers: &mut VregFile<VLENB>,
     scalar: &Scalar,
     setup: &Setup,
@@ -90,16 +90,18 @@ pub fn widen_multiply_add<N: HalfOf<W>, W: VectorElement, const VLENB: usize>(
     a: &mut [N],
     x: &mut [W],
     y: &mut [W],
-    d: &mut [W],
 )
+    requires room { IsRoom VLENB W.row W.SIZE MOST }
+    requires body { W.SIZE * setup.now.vl ≤ 8 * VLENB }
     requires shape { IsShaped VLENB setup.now N.sew insn.now WidenMultiplyAddShape }
     requires a_len { length a.old ≡ setup.now.vl }
     requires x_len { length x.old ≡ setup.now.vl }
     requires y_len { length y.old ≡ setup.now.vl }
-    requires d_len { length d.old ≡ setup.now.vl }
     ensures { arith_of VLENB setup.now scalar.now insn.now registers.old ≡ exact registers.new }
 {
     of_shape!(VArith::WidenMultiplyAdd(op, vd, vs2, b, masked) = insn);
+    let mut d = [zero::<W>(); MOST];
+    let d = &mut d[..setup.vl];
     let destination = setup.group(*vd, Eew::Double);
     let signs = widen_multiply_add_signs(*op);
     let vs2 = Source::Vector(*vs2);
@@ -129,19 +131,28 @@ pub fn extend<const VLENB: usize>(
     let sew = setup.vtype.sew;
     match (of, sew) {
         (Fraction::Half, Width::W16) => {
-            extend_elements::<u8, u16, MOST_HALVES, VLENB>(registers, scalar, setup, insn, of);
+            with_room!(
+                extend_elements < u8,
+                u16 > (64, 128, 256)(registers, scalar, setup, insn, of)
+            );
         }
         (Fraction::Half, Width::W32) => {
-            extend_elements::<u16, u32, MOST_WORDS, VLENB>(registers, scalar, setup, insn, of);
+            with_room!(
+                extend_elements < u16,
+                u32 > (32, 64, 128)(registers, scalar, setup, insn, of)
+            );
         }
         (Fraction::Quarter, Width::W32) => {
-            extend_elements::<u8, u32, MOST_WORDS, VLENB>(registers, scalar, setup, insn, of);
+            with_room!(
+                extend_elements < u8,
+                u32 > (32, 64, 128)(registers, scalar, setup, insn, of)
+            );
         }
         (Fraction::Half, Width::W8) | (Fraction::Quarter, Width::W8 | Width::W16) => unreachable!(),
     }
 }
 
-/// The same on elements of these widths, of which a body has at most MOST.
+/// The same on elements of these widths.
 #[tactic(auto, unfolding(rv_decode::specs::Needs::needs_of_arith, crate::specs::Widening::extend_of, crate::specs::Arithmetic::arith_of))]
 fn extend_elements<
     N: VectorElement + Narrow<W>,
@@ -150,8 +161,8 @@ fn extend_elements<
     const VLENB: usize,
 >(registers: &mut VregFile<VLENB>, scalar: &Scalar, setup: &Setup, insn: &VArith, of: Fraction)
     requires shape { IsShaped VLENB setup.now W.sew insn.now (ExtendShape of) }
-    requires narrow_room { IsRoom N.row W.SIZE MOST }
-    requires room { IsRoom W.row W.SIZE MOST }
+    requires narrow_room { IsRoom VLENB N.row W.SIZE MOST }
+    requires room { IsRoom VLENB W.row W.SIZE MOST }
     requires size { N.SIZE ≡ eew_bits setup.now.vtype.sew (eew_of of) / 8 }
     requires lanes { lane_width N.sew ≡ fraction_width setup.now.vtype.sew of }
     ensures { arith_of VLENB setup.now scalar.now insn.now registers.old ≡ exact registers.new }
@@ -166,6 +177,7 @@ fn extend_elements<
     else {
         unreachable!()
     };
+    body_law::<VLENB>(setup);
     let destination = setup.group(*vd, Eew::Same);
     let source = setup.group::<VLENB>(*vs2, of.eew());
     let vl = setup.vl;

@@ -1,5 +1,5 @@
 -- The list of an instruction's accesses, one element after another.
-use Rattle.std.proofs.Common.{◌≡◌, ℕ, ◌+◌, ◌<◌, ◌≤◌, Bool, true, false, List, [], ◌∷◌, ◌++◌, length, get_or, map, ap, sym, ◌∙◌, refl, arith, cond, subst, append-nil}
+use Rattle.std.proofs.Common.{◌≡◌, ℕ, ◌+◌, ◌-◌, ◌<◌, ◌≤◌, Bool, true, false, List, [], ◌∷◌, ◌++◌, length, get_or, map, ap, sym, ◌∙◌, refl, arith, cond, subst, append-nil, suc}
 use Rattle.std.specs.Prelude.{filter}
 use Rattle.std.specs.List.{All, range_with_len}
 use Rattle.std.proofs.lemmas.List.{map-append}
@@ -85,3 +85,44 @@ plan_within vlenb s insn base stride file plan right size n is direction bytes v
     (subst (λ (m : ℕ). All (IsAccessOf right size m) (accesses (right_of insn.direction) (data_of vlenb s insn).bytes place active)) long
     (subst (λ (r : Right). All (IsAccessOf r size (length active)) (accesses (right_of insn.direction) (data_of vlenb s insn).bytes place active)) direction
     (subst (λ (k : ℕ). All (IsAccessOf (right_of insn.direction) k (length active)) (accesses (right_of insn.direction) (data_of vlenb s insn).bytes place active)) bytes all)))
+
+-- those from element i on: its own, where it is active, and those after it
+from_here : (right : Right) (size : ℕ) (place : ℕ → ℕ) (active : List Bool) (i n m : ℕ) (b : Bool) → n ≡ suc m → get_or active i false ≡ b →
+    accesses_from right size place active i n
+    ≡ map (access_at right size place) (cond b (i ∷ filter (λ k. get_or active k false) (range_with_len (i + 1) m))
+    (filter (λ k. get_or active k false) (range_with_len (i + 1) m)))
+from_here right size place active i n m b more is =
+    ap (accesses_from right size place active i) more
+    ∙ ap (λ (b : Bool). map (access_at right size place) (cond b (i ∷ filter (λ k. get_or active k false) (range_with_len (i + 1) m))
+    (filter (λ k. get_or active k false) (range_with_len (i + 1) m)))) is
+
+pub from_active : (right : Right) (size : ℕ) (place : ℕ → ℕ) (active : List Bool) (i : ℕ) → i < length active → get_or active i false ≡ true →
+    accesses_from right size place active i (length active - i)
+    ≡ access_at right size place i ∷ accesses_from right size place active (i + 1) (length active - (i + 1))
+from_active right size place active i below is =
+    let m = length active - (i + 1) in
+    let more : length active - i ≡ suc m = omega arith in
+    from_here right size place active i (length active - i) m true more is
+
+pub from_inactive : (right : Right) (size : ℕ) (place : ℕ → ℕ) (active : List Bool) (i : ℕ) → i < length active → get_or active i false ≡ false →
+    accesses_from right size place active i (length active - i)
+    ≡ accesses_from right size place active (i + 1) (length active - (i + 1))
+from_inactive right size place active i below is =
+    let m = length active - (i + 1) in
+    let more : length active - i ≡ suc m = omega arith in
+    from_here right size place active i (length active - i) m false more is
+
+-- there is none past the last element
+pub from_end : (right : Right) (size : ℕ) (place : ℕ → ℕ) (active : List Bool) (i : ℕ) → length active ≤ i →
+    accesses_from right size place active i (length active - i) ≡ []
+from_end right size place active i past =
+    let none : length active - i ≡ 0 = omega arith in
+    ap (accesses_from right size place active i) none
+
+-- from the first element on they are all
+pub from_start : (right : Right) (size : ℕ) (place : ℕ → ℕ) (active : List Bool) →
+    accesses_from right size place active 0 (length active - 0) ≡ accesses right size place active
+unfolding accesses
+from_start right size place active =
+    let all : length active - 0 ≡ length active = omega arith in
+    ap (accesses_from right size place active 0) all

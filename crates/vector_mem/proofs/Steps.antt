@@ -1,5 +1,5 @@
 -- What a loop over the accesses of an instruction keeps.
-use Rattle.std.proofs.Common.{◌≡◌, ℕ, ◌+◌, ◌^◌, ◌<◌, Bool, true, false, List, Option, Some, None, drop, get_or, length, map, set, ap, sym, ◌∙◌, refl, cond, replicate, zero, suc}
+use Rattle.std.proofs.Common.{◌≡◌, ℕ, ◌+◌, ◌^◌, ◌<◌, Bool, true, false, List, ◌∷◌, Option, Some, None, drop, get_or, length, map, set, ap, sym, ◌∙◌, refl, cond, replicate, zero, suc}
 use Rattle.std.specs.Prelude.{find, not, unwrap_or, if◌then◌else◌}
 use Rattle.std.specs.Option.{option_map}
 use Rattle.std.proofs.Math.Nat.{zero-mod}
@@ -76,3 +76,31 @@ splat_numbers number (suc n) x y is = let rest = splat_numbers number n x y is i
 pub zero_bits : (size : ℕ) → low_bits size 0 ≡ 0
 unfolding low_bits
 zero_bits size = zero-mod (256 ^ size)
+
+-- of a list of accesses the first is refused, or it is not
+pub refused_first : (memory : Memory) (a : Access) (rest list : List Access) (size : ℕ) → a.right ≡ Read → a.size ≡ size →
+    load_of a.address size memory ≡ None → list ≡ a ∷ rest → Some a.address ≡ option_map (λ a. a.address) (find (is_refused memory) list)
+refused_first memory a rest list size right sized none is =
+    let e : load_of a.address a.size memory ≡ None = cc in
+    sym (ap (λ (b : Bool). option_map (λ a. a.address) (cond b (Some a) (find (is_refused memory) rest))) (refuses memory a right e))
+    ∙ sym (ap (λ l. option_map (λ a. a.address) (find (is_refused memory) l)) is)
+
+pub granted_first : (memory : Memory) (a : Access) (rest list : List Access) (size value : ℕ) → a.right ≡ Read → a.size ≡ size →
+    load_of a.address size memory ≡ Some value → list ≡ a ∷ rest → find (is_refused memory) rest ≡ find (is_refused memory) list
+granted_first memory a rest list size value right sized some is =
+    let e : load_of a.address a.size memory ≡ Some value = cc in
+    sym (ap (λ (b : Bool). cond b (Some a) (find (is_refused memory) rest)) (grants memory a value right e))
+    ∙ sym (ap (find (is_refused memory)) is)
+
+-- the same where it was asked whether it is permitted
+pub tested_first : (memory : Memory) (a : Access) (rest list : List Access) → is_permitted a.right a.address a.size memory ≡ false →
+    list ≡ a ∷ rest → Some a.address ≡ option_map (λ a. a.address) (find (is_refused memory) list)
+tested_first memory a rest list denied is =
+    sym (ap (λ (b : Bool). option_map (λ a. a.address) (cond (not b) (Some a) (find (is_refused memory) rest))) denied)
+    ∙ sym (ap (λ l. option_map (λ a. a.address) (find (is_refused memory) l)) is)
+
+pub passed_first : (memory : Memory) (a : Access) (rest list : List Access) → is_permitted a.right a.address a.size memory ≡ true →
+    list ≡ a ∷ rest → find (is_refused memory) rest ≡ find (is_refused memory) list
+passed_first memory a rest list granted is =
+    sym (ap (λ (b : Bool). cond (not b) (Some a) (find (is_refused memory) rest)) granted)
+    ∙ sym (ap (find (is_refused memory)) is)

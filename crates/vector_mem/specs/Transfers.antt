@@ -118,3 +118,8 @@ load_asked vlenb t file memory = vector_load vlenb t.setup t.insn t.base t.strid
 
 abbrev pub store_asked : ℕ → Transfer → List ℕ → Memory → Result Memory Fault
 store_asked vlenb t file memory = vector_store vlenb t.setup t.insn t.base t.stride file memory
+
+-- its elements lie `apart` bytes apart from its base on
+abbrev pub IsApart : ℕ → Transfer → ℕ → List ℕ → Type 0
+IsApart vlenb t apart file =
+    place_at vlenb t.setup t.insn.place t.base t.stride file ≡ strided t.base apart

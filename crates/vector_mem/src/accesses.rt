@@ -35,7 +35,7 @@ fn plan<F: Fn(usize) -> u32>(right: Right, size: u8, active: &[bool], address: F
 }
 
 // The address of element `i` of those that lie `stride` bytes apart.
-fn strided_address(base: u32, stride: u32, i: usize) -> u32
+pub fn strided_address(base: u32, stride: u32, i: usize) -> u32
     requires { i ≤ MOST_ELEMENTS }
     ensures { result ≡ (base + stride * i) % 2 ^ 32 }
 {

@@ -2,6 +2,7 @@
 #![tactic(auto)]
 
 mod accesses;
+mod each;
 mod elements;
 mod operands;
 mod plan;

@@ -1,11 +1,10 @@
 //! Loads and stores: all of an instruction's accesses are made, or none.
 
 ghost use Rattle.std.specs.Prelude.{◌≡◌, ◌≤◌, ◌*◌, false, true, None, IfSome, length, map};
-ghost use Rattle.std.specs.Prelude.{replicate, unwrap_or};
+ghost use Rattle.std.specs.Prelude.{replicate};
 ghost use Rattle.std.specs.List.{All};
 ghost use Rattle.std.specs.Option.{option_map};
 ghost use Rattle.region_mem.specs.Faults.{Steps};
-ghost use Rattle.region_mem.specs.Memory.{IsAccessSize, store_of};
 ghost use Rattle.region_mem.specs.declared.faults.Right.TheVariants.{Read, Write};
 ghost use Rattle.rv_decode.specs.Needs.{needs_of_access};
 ghost use Rattle.rv_decode.specs.declared.instructions.Direction.TheVariants.{Load, Store};
@@ -15,17 +14,18 @@ ghost use Rattle.vreg_groups.specs.Setup.{IsReady};
 ghost use Rattle.rv_decode.specs.Instructions.{bytes_of_width};
 ghost use Rattle.vreg_groups.specs.declared.vector_type.TheConstants.{MOST_ELEMENTS};
 ghost use Rattle.vector_mem.specs.Accesses.{IsAccessOf, first_refused, loaded, stored};
-ghost use Rattle.vector_mem.specs.Transfers.{IsTransfer, accesses_asked, data_of, load_asked};
+ghost use Rattle.vector_mem.specs.Transfers.{IsApart, IsTransfer, accesses_asked, data_of, load_asked};
 ghost use Rattle.vector_mem.specs.Transfers.{loaded_to, store_asked, vector_load, vector_store};
 ghost use Rattle.vector_mem.specs.Transfers.{width_at};
 
 use crate::accesses::access;
+use crate::each::{load_strided, store_element, store_strided};
 use crate::elements::{Datum, splat, with_room};
 use crate::operands::{data_group, in_a_row, masked, policy, width};
 use crate::plan::AccessPlan;
 use crate::windows::{load_window, store_window};
 use region_mem::{Fault, Regions};
-use rv_decode::{VMem, Width};
+use rv_decode::{Addressing, VMem, Width};
 use std::alloc::Allocator;
 use vreg_groups::{Group, MOST_ELEMENTS, Policy, Setup, VregFile};
 
@@ -112,15 +112,36 @@ fn store_elements<E: Datum, A: Allocator>(plan: &AccessPlan, memory: &mut Region
     }
 }
 
-fn store_element<A: Allocator>(memory: &mut Regions<A>, address: u32, size: usize, value: u32)
-    requires { IsAccessSize size }
-    ensures { memory.new ≡ unwrap_or (store_of address size value memory.old) memory.old }
+/// Loads the elements of an instruction, or answers the address of the first access that is not permitted.
+#[tactic(auto, unfolding(crate::specs::Transfers::place_at))]
+fn load_values<E: Datum, const VLENB: usize, A: Allocator>(
+    asked: &Transfer,
+    registers: &VregFile<VLENB>,
+    memory: &Regions<A>,
+    values: &mut [E],
+) -> Option<u32>
+    requires asked { IsTransfer VLENB asked.now Load }
+    requires size { E.Element.SIZE ≡ (data_of VLENB asked.now.setup asked.now.insn).bytes }
+    requires length { length values.old ≡ (data_of VLENB asked.now.setup asked.now.insn).vl }
+    ensures refused { result ≡ option_map (λ a. a.address)
+        (first_refused (accesses_asked VLENB asked.now registers.now) memory.now) }
+    ensures loaded { result ≡ None → map E.Element.number values.new
+        ≡ loaded (length values.old) (accesses_asked VLENB asked.now registers.now) memory.now }
 {
-    let _is_stored = memory.store(address, size, value);
+    let place = asked.insn.place;
+    match place {
+        Addressing::Indexed { .. } => load_planned(asked, registers, memory, values),
+        Addressing::Strided { .. } => { load_apart(asked, registers, asked.stride, memory, values) }
+        Addressing::Unit { .. } | Addressing::Mask | Addressing::Whole { .. } => {
+            let size = width(&asked.insn, &asked.setup).bytes();
+            load_apart(asked, registers, u32::from(size), memory, values)
+        }
+    }
 }
 
-/// Loads the elements of an instruction, or answers the address of the first access that is not permitted.
-fn load_values<E: Datum, const VLENB: usize, A: Allocator>(
+/// The same by a plan. It is apart, so that what needs no plan makes none.
+#[inline(never)]
+fn load_planned<E: Datum, const VLENB: usize, A: Allocator>(
     asked: &Transfer,
     registers: &VregFile<VLENB>,
     memory: &Regions<A>,
@@ -136,6 +157,31 @@ fn load_values<E: Datum, const VLENB: usize, A: Allocator>(
 {
     let plan = asked.plan(registers);
     load_elements(&plan, memory, values)
+}
+
+/// The same of elements that lie `stride` bytes apart.
+#[tactic(auto, unfolding(crate::specs::Transfers::accesses_of))]
+fn load_apart<E: Datum, const VLENB: usize, A: Allocator>(
+    asked: &Transfer,
+    registers: &VregFile<VLENB>,
+    stride: u32,
+    memory: &Regions<A>,
+    values: &mut [E],
+) -> Option<u32>
+    requires asked { IsTransfer VLENB asked.now Load }
+    requires size { E.Element.SIZE ≡ (data_of VLENB asked.now.setup asked.now.insn).bytes }
+    requires length { length values.old ≡ (data_of VLENB asked.now.setup asked.now.insn).vl }
+    requires place { IsApart VLENB asked.now stride registers.now }
+    ensures refused { result ≡ option_map (λ a. a.address)
+        (first_refused (accesses_asked VLENB asked.now registers.now) memory.now) }
+    ensures loaded { result ≡ None → map E.Element.number values.new
+        ≡ loaded (length values.old) (accesses_asked VLENB asked.now registers.now) memory.now }
+{
+    let group = data_group::<VLENB>(&asked.insn, &asked.setup);
+    let mut bits = [false; MOST_ELEMENTS];
+    let active = &mut bits[..group.vl()];
+    registers.read_active(masked(&asked.insn), active);
+    load_strided(active, asked.base, stride, memory, values)
 }
 
 /// Writes the elements that were loaded to the registers: nothing where there are none.
@@ -263,7 +309,39 @@ pub fn load<const VLENB: usize, A: Allocator>(
 }
 
 /// Stores the elements of an instruction, or answers the address of the first access that is not permitted.
+#[tactic(auto, unfolding(crate::specs::Transfers::place_at))]
 fn store_values<E: Datum, const VLENB: usize, A: Allocator>(
+    asked: &Transfer,
+    registers: &VregFile<VLENB>,
+    memory: &mut Regions<A>,
+    values: &[E],
+) -> Option<u32>
+    requires asked { IsTransfer VLENB asked.now Store }
+    requires size { E.Element.SIZE ≡ (data_of VLENB asked.now.setup asked.now.insn).bytes }
+    requires length { length values.now ≡ (data_of VLENB asked.now.setup asked.now.insn).vl }
+    ensures refused { result ≡ option_map (λ a. a.address)
+        (first_refused (accesses_asked VLENB asked.now registers.now) memory.old) }
+    ensures stored { result ≡ None
+        → memory.new ≡ stored (accesses_asked VLENB asked.now registers.now)
+        (map E.Element.number values.now) memory.old }
+    ensures kept { IfSome result (λ _. memory.new ≡ memory.old) }
+{
+    let place = asked.insn.place;
+    match place {
+        Addressing::Indexed { .. } => store_planned(asked, registers, memory, values),
+        Addressing::Strided { .. } => {
+            store_apart(asked, registers, asked.stride, memory, values)
+        }
+        Addressing::Unit { .. } | Addressing::Mask | Addressing::Whole { .. } => {
+            let size = width(&asked.insn, &asked.setup).bytes();
+            store_apart(asked, registers, u32::from(size), memory, values)
+        }
+    }
+}
+
+/// The same by a plan.
+#[inline(never)]
+fn store_planned<E: Datum, const VLENB: usize, A: Allocator>(
     asked: &Transfer,
     registers: &VregFile<VLENB>,
     memory: &mut Regions<A>,
@@ -285,6 +363,33 @@ fn store_values<E: Datum, const VLENB: usize, A: Allocator>(
         store_elements(&plan, memory, values);
     }
     refused
+}
+
+/// The same of elements that lie `stride` bytes apart.
+#[tactic(auto, unfolding(crate::specs::Transfers::accesses_of))]
+fn store_apart<E: Datum, const VLENB: usize, A: Allocator>(
+    asked: &Transfer,
+    registers: &VregFile<VLENB>,
+    stride: u32,
+    memory: &mut Regions<A>,
+    values: &[E],
+) -> Option<u32>
+    requires asked { IsTransfer VLENB asked.now Store }
+    requires size { E.Element.SIZE ≡ (data_of VLENB asked.now.setup asked.now.insn).bytes }
+    requires length { length values.now ≡ (data_of VLENB asked.now.setup asked.now.insn).vl }
+    requires place { IsApart VLENB asked.now stride registers.now }
+    ensures refused { result ≡ option_map (λ a. a.address)
+        (first_refused (accesses_asked VLENB asked.now registers.now) memory.old) }
+    ensures stored { result ≡ None
+        → memory.new ≡ stored (accesses_asked VLENB asked.now registers.now)
+        (map E.Element.number values.now) memory.old }
+    ensures kept { IfSome result (λ _. memory.new ≡ memory.old) }
+{
+    let group = data_group::<VLENB>(&asked.insn, &asked.setup);
+    let mut bits = [false; MOST_ELEMENTS];
+    let active = &mut bits[..group.vl()];
+    registers.read_active(masked(&asked.insn), active);
+    store_strided(active, asked.base, stride, memory, values)
 }
 
 /// A store of elements of one width, with room for them in `values`.

@@ -7,7 +7,7 @@ use region_mem::{Fault, Regions};
 use rv_decode::{Reg, decode};
 use scalar_core::Scalar;
 use std::process::Abort;
-use vector_core::{VectorState, step_vector};
+use vector_core::{VectorState, judge, step_known, step_vector};
 use vreg_groups::{Agnostic, Vconfig};
 
 /// A step by a word.
@@ -39,6 +39,36 @@ fn bytes_are_raised_in_memory(rt: HostRuntime) {
     assert_same!(rt; scalar.pc(), 0x1010);
     assert_store_refused(rt, &mut vectors, &mut scalar, &mut memory);
     assert_same!(rt; vectors.into_registers().byte(Reg::new(8), 0), 3);
+}
+
+/// A step by a word that was judged before.
+fn judged_step(
+    vectors: &mut VectorState<16>,
+    scalar: &mut Scalar,
+    memory: &mut Regions,
+    word: u32,
+) -> Result<(), Fault> {
+    let Some(insn) = decode(word) else {
+        return Err(Fault::Illegal(word));
+    };
+    let judged = judge(&vectors.config(), &insn);
+    step_known(vectors, scalar, word, &insn, judged, memory)
+}
+
+#[test]
+fn words_that_were_judged_are_stepped(rt: HostRuntime) {
+    let mut memory = memory(rt, rt.alloc());
+    let mut vectors = VectorState::<16>::new(Agnostic::Ones);
+    let mut scalar = Scalar::new(0x1000);
+    scalar.set_reg(Reg::new(10), 0x2000);
+    // vadd.vi v8,v8,2 has no vector type yet.
+    let refused = judged_step(&mut vectors, &mut scalar, &mut memory, 0x0281_3457);
+    assert_same!(rt; refused, Err(Fault::Illegal(0x0281_3457)));
+    // vsetivli x7,3,e8,m1,ta,ma; vle8.v v8,(x10); vadd.vi v8,v8,2; vse8.v v8,(x10)
+    for word in [0xcc01_f3d7, 0x0205_0407, 0x0281_3457, 0x0205_0427] {
+        given!(rt; judged_step(&mut vectors, &mut scalar, &mut memory, word));
+    }
+    assert_same!(rt; memory.load(0x2000, 4), Some(0xff00_0403));
 }
 
 /// vse8.v v8,(x10), of which two bytes may be written.

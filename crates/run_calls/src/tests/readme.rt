@@ -1,4 +1,4 @@
-//! How the libraries are called from a file's bytes to the buffers after a run: the lines of the repository's README, word for word.
+//! How the libraries are called from a file's bytes to the buffers after a run: the lines of docs/EMBEDDING.md, word for word.
 use crate::tests::assertions::assert_same;
 use block_checker::check;
 use region_mem::{Arg, Args, Bytes};

@@ -2,7 +2,7 @@ use Rattle.std.proofs.Common.{ap, length, sym}
 use Rattle.region_mem.specs.declared.faults.Right.TheVariants.{Read}
 use Rattle.vector_mem.specs.Transfers.{right_of}
 use Rattle.vector_mem.proofs.Plans.{plan_within}
-use Rattle.vector_mem.proofs.transfers.load_values.Goals as goal
+use Rattle.vector_mem.proofs.transfers.load_planned.Goals as goal
 
 pub load_elements-requires : goal.load_elements-requires
 load_elements-requires g c =

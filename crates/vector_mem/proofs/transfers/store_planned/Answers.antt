@@ -3,7 +3,7 @@ use Rattle.std.proofs.lemmas.Grind.{common_steps}
 use Rattle.region_mem.specs.declared.faults.Right.TheVariants.{Write}
 use Rattle.vector_mem.specs.Transfers.{right_of}
 use Rattle.vector_mem.proofs.Plans.{plan_within}
-use Rattle.vector_mem.proofs.transfers.store_values.Goals as goal
+use Rattle.vector_mem.proofs.transfers.store_planned.Goals as goal
 
 pub store_elements-requires : goal.store_elements-requires
 store_elements-requires g c =
