@@ -38,7 +38,7 @@ class Bases:
                 known = self.before.get(key)
                 if known is None:
                     continue
-                now = self.stepped(key, known)
+                now = self.stepped(key)
                 if behind.get(key) == now:
                     continue
                 behind[key] = now
@@ -47,6 +47,24 @@ class Bases:
                         waiting.add(to)
                         todo.append(to)
             is_changed = self.store_slots()
+
+    def at(self, key):
+        """What registers stem from before a node, behind the loads that lead it."""
+        known, loads = self.before.get(key, {}), self.code.nodes[key].loads
+        return {**known, **{t: known[r] for t, r in loads if r in known}} if loads else known
+
+    def depth(self, key):
+        """Where the stack pointer stands before a node, from where a run starts; None where that is not one number."""
+        stems = self.before.get(key, {}).get(2, ())
+        known = [it[1] for it in stems if isinstance(it, tuple) and it[0] == STACK]
+        return known[0] if len(known) == len(stems) == 1 else None
+
+    def bottom(self):
+        """How far down the kernel uses the stack, as far as that is known."""
+        def lowest(key):
+            access = graph.access_of(self.code.nodes[key])
+            return (self.depth(key) or 0) + (min(access[1], 0) if access and access[0] == 2 else 0)
+        return min(map(lowest, self.graph.order))
 
     def join(self, key, now):
         old = self.before.get(key)
@@ -63,8 +81,8 @@ class Bases:
     def store_slots(self):
         """What is stored to the stack, by slot. Whether that is more than was known."""
         is_changed = False
-        for key, known in self.before.items():
-            node = self.code.nodes[key]
+        for key in self.before:
+            node, known = self.code.nodes[key], self.at(key)
             if node.i.name != 'sw':
                 continue
             stored = known.get(node.f['rs2'], NOTHING)
@@ -74,18 +92,16 @@ class Bases:
                     self.slots[slot], is_changed = both, True
         return is_changed
 
-    def stepped(self, key, known):
+    def stepped(self, key):
         node = self.code.nodes[key]
-        wrote = graph.used_and_set(node)[1] & ~(1 << 32)
-        if not wrote:
-            return dict(known)
-        now = dict(known)
-        rd = node.f['rd']
-        made = self.made(node, known)
-        if made:
-            now[rd] = made
-        else:
-            now.pop(rd, None)
+        now = dict(self.at(key))
+        if graph.used_and_set(node)[1] & ~(1 << 32):
+            rd = node.stores[0][1] if node.stores else node.f['rd']
+            made = self.made(node, now)
+            if made:
+                now[rd] = made
+            else:
+                now.pop(rd, None)
         return now
 
     def reads_links(self):
@@ -111,7 +127,7 @@ class Bases:
             return summed(one, two)
         if i.name == 'sub':
             return NOTHING if places(two) else loose(one)
-        if i.name == 'andi' and f['imm'] < 0:
+        if i.name == 'andi' and f['imm'] < 0 or i.name == 'ori' and f['imm'] >= 0:
             return loose(one)
         if i.name == 'lw':
             out = NOTHING

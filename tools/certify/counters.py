@@ -9,19 +9,23 @@ to stay at or below some number; the counter is that number less the register. N
 from collections import namedtuple
 
 import graph
-from program import SP, ZERO, Branch, Label, Number, word
+from outside import table
+from program import SP, ZERO, Branch, Number, word
 
 LEFT, MIRROR, REST, END = 'left', 'mirror', 'rest', 'end'
 
 LONGEST = 1024   # by how much a register is taken to rise at most where that is not known
 SLACK = 4
 ANEW = 0         # the sign of a move by what is not known: the register is computed anew
+# What a branch of an index and its end becomes as one of what is left and 0, where the index is at most the end.
+REST_BRANCHES = {'bltu': 'bne', 'blt': 'bne', 'bne': 'bne', 'bgeu': 'beq', 'bge': 'beq', 'beq': 'beq'}
 TRIES = 4        # how many registers of a loop are tried
 # One way that a register moves: the node, and by which number (None: by a register's) it rises.
 Move = namedtuple('Move', 'key by register sign')
 # kind; registers: the counter, and the one that keeps its start; x, and e or the number that x stays below; step: of which the counter counts one; rises:
 # whether x does; moves; exits: the branches; is_tested: whether the start is tested.
-Counter = namedtuple('Counter', 'kind registers x end step rises moves exits is_tested')
+# more: other registers that are taken from the number too.
+Counter = namedtuple('Counter', 'kind registers x end step rises moves exits is_tested more', defaults=((),))
 
 
 def moves_of(the_graph, loop, x, numbers=()):
@@ -32,6 +36,8 @@ def moves_of(the_graph, loop, x, numbers=()):
     for key in the_graph.writers(loop.nodes, x):
         node = the_graph.nodes[key]
         i, f = node.i, node.f
+        if graph.is_moved(node, x):
+            return None
         if i.name == 'addi' and f['rs1'] == x and f['imm']:
             moves.append(Move(key, f['imm'], None, 1))
         elif i.name == 'add' and (f['rs1'] == x) != (f['rs2'] == x):
@@ -89,36 +95,128 @@ def left_counters(the_graph, loop, numbers):
 def mirror_counters(the_graph, loop, most):
     """The counters of the second kind. most: register -> the greatest number that is known of it at the head. First those of registers that
     rise in place, then those of some that are computed anew from others, of which the search has to find out that they rise."""
-    anew = []
+    anew, rising = [], {}
     for x in range(1, 32):
         if x == SP or most.get(x, 1 << 32) >= (1 << 32) - (1 << 12):
             continue
         moves = moves_of(the_graph, loop, x)
         if moves is None:
-            moves = anew_moves(the_graph, loop, x)
-            if moves and is_on_each_way(the_graph, loop, [m.key for m in moves]):
+            moves = anew_moves(the_graph, loop, x) if the_graph.writers(loop.nodes, x) else None
+            if moves:
                 anew.append(mirror(x, most[x], moves))
-        elif (all(is_rise(m) for m in moves) and all(m.by is None or m.by <= 2047 for m in moves)
-                and is_on_each_way(the_graph, loop, [m.key for m in moves])):
+        elif all(is_rise(m) for m in moves) and all(m.by is None or m.by <= 2047 for m in moves):
+            rising[x] = moves
+    yield from together(the_graph, loop, most, rising)
+    for x, moves in rising.items():
+        if is_on_each_way(the_graph, loop, [m.key for m in moves]):
             yield mirror(x, most[x], moves)
-    yield from anew[:TRIES]
+    is_sure = lambda counter: rises_anew(the_graph, loop, counter.x)
+    yield from sorted(anew, key=lambda counter: (not is_sure(counter), counter.end))[:TRIES]
+
+
+def setters_of(the_graph, loop, key, register):
+    """The nodes of a loop that may have set a register last before a node, and None where it is as it was at the head."""
+    out, todo, seen = set(), [key], {key}
+    while todo:
+        at = todo.pop()
+        if at == loop.head:
+            out.add(None)
+            continue
+        for come in the_graph.comes[at]:
+            if come in loop.nodes and the_graph.writers([come], register):
+                out.add(come)
+            elif come in loop.nodes and come not in seen:
+                seen.add(come)
+                todo.append(come)
+    return out
+
+
+def last_setters(the_graph, loop, x):
+    """The nodes that set a register last in a round of a loop; None among them where a way round does not set it."""
+    out = set()
+    for latch in loop.latches:
+        out |= {latch} if the_graph.writers([latch], x) else setters_of(the_graph, loop, latch, x)
+    return out
+
+
+def rise_by(the_graph, loop, setter, x, depth=0):
+    """By how much a register is above x of the head at least, behind the node that sets it by sums with numbers alone; None where it is
+    computed otherwise."""
+    node = the_graph.nodes[setter]
+    if node.i.name != 'addi' or node.loads or node.stores or depth > 4:
+        return None
+    before = setters_of(the_graph, loop, setter, node.f['rs1'])
+    rises = [(0 if node.f['rs1'] == x else None) if it is None else rise_by(the_graph, loop, it, x, depth + 1) for it in before]
+    return None if None in rises or not rises else min(rises) + node.f['imm']
+
+
+def rises_anew(the_graph, loop, x):
+    """Whether a register is computed anew as itself and a number above 0 on each way round."""
+    rises = rises_of(the_graph, loop, x)
+    return all(rise is not None and rise > 0 for rise in rises)
+
+
+def falls_anew(the_graph, loop, x):
+    """The same with a number below 0."""
+    rises = rises_of(the_graph, loop, x)
+    return len(rises) == 1 and rises[0] is not None and rises[0] < 0
+
+
+def rises_of(the_graph, loop, x):
+    return [it and rise_by(the_graph, loop, it, x) for it in last_setters(the_graph, loop, x)]
+
+
+def counts(the_graph, loop):
+    """The registers that fall by a number on each way round a loop, which ends where one is 0."""
+    ending = {node.f['rs1'] or node.f['rs2'] for key in loop.nodes for node in [the_graph.nodes[key]]
+              if node.i.name in ('beq', 'bne') and 0 in (node.f['rs1'], node.f['rs2']) and any(to not in loop.nodes for to in the_graph.leads[key])}
+    for x in sorted(ending - {0}):
+        moves = moves_of(the_graph, loop, x) or []
+        if moves and all(m.by is not None and m.by < 0 for m in moves) and is_on_each_way(the_graph, loop, [m.key for m in moves]):
+            yield x
+        elif not moves and falls_anew(the_graph, loop, x):
+            yield x
+
+
+def only_rises(the_graph, loop, x):
+    """Whether a register only rises in a loop, in place or computed anew."""
+    moves = moves_of(the_graph, loop, x)
+    return rises_anew(the_graph, loop, x) if moves is None else all(map(is_rise, moves))
+
+
+def together(the_graph, loop, most, rising):
+    """The counter of as few registers that rise as will do, of which one does on each way round: round the loops within as well, where
+    that can be, so that one register pays for all."""
+    def is_enough(some, loops):
+        keys = {m.key for x in some for m in rising[x]}
+        return all(is_on_each_way(the_graph, it, keys & it.nodes) for it in loops)
+    loops = [it for it in the_graph.loops if it.nodes <= loop.nodes and the_graph.is_natural(it) and is_enough(rising, [it])]
+    if loop not in loops:
+        return
+    kept = list(rising)
+    for x in sorted(rising, key=lambda x: -most[x]):
+        if is_enough([other for other in kept if other != x], loops):
+            kept.remove(x)
+    first, *more = kept
+    moves = [m for x in kept for m in rising[x]]
+    yield mirror(first, sum(most[x] for x in kept), moves)._replace(more=tuple(more))
 
 
 def mirror(x, most, moves):
     """The counter of a register that is at most so much at the head: its number is so great that it holds behind each move as well, and
     where intervals are known less well than at the head."""
-    return Counter(MIRROR, (), x, most + SLACK * max(move.by or LONGEST for move in moves), 1, True, tuple(moves), (), False)
+    return Counter(MIRROR, (), x, most + SLACK * sum(move.by or LONGEST for move in moves), 1, True, tuple(moves), (), False)
 
 
 def anew_moves(the_graph, loop, x):
-    """The ways that a register is computed from others in a loop; None where it is set to a number, or to what is loaded."""
+    """The ways that a register is computed from others in a loop, as its head has it; None where it is set to a number, or to what is loaded."""
     moves = []
-    for key in the_graph.writers(loop.nodes, x):
-        node = the_graph.nodes[key]
-        if node.i.name not in ('add', 'addi') or not node.f['rs1']:
+    for key in last_setters(the_graph, loop, x):
+        node = the_graph.nodes.get(key)
+        if node is None or node.i.name not in ('add', 'addi') or not node.f['rs1'] or graph.is_moved(node, x):
             return None
         moves.append(Move(key, None, None, ANEW))
-    return moves
+    return sorted(moves)
 
 
 def needs(counter):
@@ -130,7 +228,7 @@ def rest_counters(the_graph, loop):
     """What is left of n where a strip's length is asked for as n less an index, which moves by the length."""
     for key in loop.nodes:
         node = the_graph.nodes[key]
-        if node.i.shape != 'vset' or not node.f.get('rs1'):
+        if node.i.shape != 'vset' or not node.f.get('rs1') or node.loads or node.stores:
             continue
         for at in the_graph.writers(loop.nodes, node.f['rs1']):
             made = the_graph.nodes[at]
@@ -141,7 +239,21 @@ def rest_counters(the_graph, loop):
             length = node.f['rd']
             if length and moves and [(m.register, m.sign) for m in moves] == [(length, 1)]:
                 # (it falls right behind the vset, where what is left is known as a part of what was)
-                yield Counter(REST, (), x, end, 1, True, (Move(key, None, length, 1),), (), False)
+                exits = rest_exits(the_graph, loop, key, at, moves[0].key, x, end)
+                yield Counter(REST, (), x, end, 1, True, (Move(key, None, length, 1),), exits, False)
+
+
+def rest_exits(the_graph, loop, vset, made, move, x, end):
+    """The branches that end a loop where its index has come to the end, and that stand behind its move: what is left is 0 there. None,
+    unless each round asks once for what is left, and then moves the index by what it got."""
+    node = the_graph.nodes[vset]
+    is_once = all(the_graph.depth(key) == the_graph.depth(loop.head) and is_on_each_way(the_graph, loop, [key]) for key in (vset, move))
+    if not (is_once and setters_of(the_graph, loop, vset, node.f['rs1']) == {made} and setters_of(the_graph, loop, move, node.f['rd']) == {vset}
+            and setters_of(the_graph, loop, made, x) == setters_of(the_graph, loop, vset, x) == {None}):
+        return ()
+    return tuple(key for key in sorted(loop.nodes) if the_graph.nodes[key].i.name in REST_BRANCHES
+                 and (the_graph.nodes[key].f['rs1'], the_graph.nodes[key].f['rs2']) == (x, end)
+                 and setters_of(the_graph, loop, key, x) == {move} and any(to not in loop.nodes for to in the_graph.leads[key]))
 
 
 def rounds_of(the_graph, loop, counter):
@@ -174,9 +286,11 @@ def on_entering(counter, fail_division, fail_start, most):
     r = counter.registers[0]
     if counter.kind == MIRROR:
         number = counter.registers[-1]
-        return [Number(number, counter.end), word('sub', rd=r, rs1=number, rs2=counter.x)]
+        taken = [word('sub', rd=r, rs1=r, rs2=x) for x in counter.more]
+        return [Number(number, counter.end & table.M32), word('sub', rd=r, rs1=number, rs2=counter.x), *taken]
     if counter.kind == REST:
-        return [word('sub', rd=r, rs1=counter.end, rs2=counter.x)]
+        test = [Branch('bltu', counter.end, counter.x, fail_start[0])] if counter.exits else []
+        return test + [word('sub', rd=r, rs1=counter.end, rs2=counter.x)]
     kept = counter.registers[1]
     ends = (counter.end, counter.x) if counter.rises else (counter.x, counter.end)
     out = [word('sub', rd=r, rs1=ends[0], rs2=ends[1])]
@@ -207,4 +321,5 @@ def on_move(counter, move):
 def in_place(counter, the_graph, key):
     """What stands in the place of a branch that ends a loop."""
     node = the_graph.nodes[key]
-    return [Branch(node.i.name, counter.registers[0], ZERO, ('way', key, the_graph.leads[key][0]), key)]
+    name = REST_BRANCHES[node.i.name] if counter.kind == REST else node.i.name
+    return [Branch(name, counter.registers[0], ZERO, ('way', key, the_graph.leads[key][0]), key)]

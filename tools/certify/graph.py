@@ -3,18 +3,22 @@ are sure to come."""
 from collections import namedtuple
 
 import flow
+from outside import model, table
 
 VL = flow.VL
+FARTHEST = 1 << 12      # how far accesses lie from a register that are tested with it
 ALL = (1 << 33) - 1
 
 # head: its first node. nodes: all of it. latches: the nodes from which it goes back to its head. depth: how many loops it stands in, itself too.
 Loop = namedtuple('Loop', 'head nodes latches depth')
+# What is known of vl, which vector types are possible (None: others too), VLMAX, where it is one number, and the registers that hold vl.
+Setting = namedtuple('Setting', 'length types most holders')
 
 
 class Graph:
     """The graph of `program.Code`."""
 
-    def __init__(self, code):
+    def __init__(self, code, vlenb=16):
         self.code, self.nodes, self.leads = code, code.nodes, code.leads
         self.order = reversed_postorder(code.entry, code.leads)
         self.place = {key: k for k, key in enumerate(self.order)}
@@ -25,7 +29,10 @@ class Graph:
         self.above = self.dominators()
         self.loops = self.natural_loops()
         self.inside = {key: [loop for loop in self.loops if key in loop.nodes] for key in self.order}
-        self.live = self.live_before()
+        self.live = self.live_at()
+        self.settings = self.vectors_before(vlenb)
+        self.lengths = {key: it.length for key, it in self.settings.items()}
+        self.types = {key: min(it.types) for key, it in self.settings.items() if len(it.types) == 1 and None not in it.types}
 
     # ---- Dominators and loops -------------------------------------------------------------------------------------------
 
@@ -84,9 +91,11 @@ class Graph:
 
     # ---- Registers that are still read -----------------------------------------------------------------------------------
 
-    def live_before(self):
-        """node -> the registers whose numbers may still be read there, as bits. Where a run ends a0 and a1 are read."""
+    def live_at(self):
+        """node -> the registers whose numbers may still be read there, as bits, behind the loads that lead it. Where a run ends a0 and a1 are
+        read."""
         uses = {key: self.used_and_set(key) for key in self.order}
+        loaded = {key: sum(1 << t for t, _ in self.nodes[key].loads) for key in self.order}
         live, todo = {key: 0 for key in self.order}, list(self.order)
         waiting = set(todo)
         while todo:
@@ -95,7 +104,7 @@ class Graph:
             used, wrote = uses[key]
             behind = 0
             for to in self.leads[key]:
-                behind |= live[to]
+                behind |= live[to] & ~loaded[to]
             if self.code.is_exit(self.nodes[key]):
                 behind |= 3 << 10
             now = behind & ~wrote | used
@@ -107,12 +116,6 @@ class Graph:
                         todo.append(come)
         return live
 
-    def live_behind(self, key):
-        out = 3 << 10 if self.code.is_exit(self.nodes[key]) else 0
-        for to in self.leads[key]:
-            out |= self.live[to]
-        return out
-
     def used_and_set(self, key):
         """As `used_and_set`; a return that ends the run reads no register, since ecall may stand in its place."""
         return (0, 0) if self.code.is_exit(self.nodes[key]) else used_and_set(self.nodes[key])
@@ -122,30 +125,113 @@ class Graph:
         out = 0
         for key in keys:
             used, wrote = self.used_and_set(key)
-            out |= used | wrote | self.live[key]
+            out |= used | wrote | self.live[key] | sum(1 << t for t, _ in self.nodes[key].loads)
         return out
 
     def writers(self, keys, register):
-        return [key for key in keys if used_and_set(self.nodes[key])[1] >> register & 1]
+        return [key for key in keys if used_and_set(self.nodes[key])[1] >> register & 1 or is_moved(self.nodes[key], register)]
 
     # ---- Accesses that are sure to come --------------------------------------------------------------------------------------
 
     def sure_accesses(self):
-        """node -> {register: (first, end)}: offsets from the register's number between which accesses are sure to come, as long as
-        the register keeps it. What lies between the lowest and the highest on every way."""
+        """node -> {register: (first, end)}: offsets from the register's number there between which accesses are sure to come. What lies
+        between the lowest and the highest on every way."""
         sure, todo = {}, list(self.order)
-        for _ in range(4 * len(self.order)):
+        for _ in range(8 * len(self.order)):
             if not todo:
-                break
+                return sure
             key = todo.pop()
-            ways = [sure.get(to) for to in self.leads[key]]
-            known = [way for way in ways if way is not None]
-            behind = met(known) if known else {}
-            now = before_access(self.nodes[key], behind)
+            known = [without_loaded(self.nodes[to], sure[to]) for to in self.leads[key] if to in sure]
+            now = self.before_access(key, met(known) if known else {})
             if sure.get(key) != now:
                 sure[key] = now
                 todo += self.comes[key]
-        return sure
+        return {key: self.before_access(key, {}) for key in self.order}
+
+    def before_access(self, key, behind):
+        """What is sure before a node, from what is sure behind it."""
+        node = self.nodes[key]
+        now = behind
+        if used_and_set(node)[1] or node.stores:
+            now = {register: span for register, span in behind.items() if not used_and_set(node)[1] >> register & 1}
+        if node.i.name == 'addi' and node.f['rs1'] not in (0, 2) and node.f['rd'] in behind and not node.stores:
+            first, end = behind[node.f['rd']]
+            now = with_span(now, node.f['rs1'], first + node.f['imm'], end + node.f['imm'])
+        span = self.span_of(key)
+        return with_span(now, *span) if span else now
+
+    def span_of(self, key):
+        """(register, first, end): what an access touches, as offsets from a register's number; None where it is not known, or nothing."""
+        node, length = self.nodes[key], self.lengths.get(key)
+        access = access_of(node)
+        if access:
+            register, offset, size, _ = access
+            return register, offset, offset + size
+        if node.i.shape in ('vload', 'vstore') and length and node.f['vm']:
+            return node.f['rs1'], 0, length * node.i.width // 8
+        return None
+
+    # ---- Lengths of vectors ------------------------------------------------------------------------------------------------------
+
+    def same_lengths(self, vlenb):
+        """The nodes that ask for vl as it is, by a register that holds it, and get no other."""
+        for key, before in self.settings.items():
+            node = self.nodes[key]
+            if node.i.shape == 'vset' and node.f.get('rs1') in before.holders and node.f['rd'] in (0, node.f['rs1']) and before.types:
+                if 'imm' in node.f and before.most == table.vlmax_of(node.f['imm'], vlenb) and not node.loads:
+                    yield key
+
+    def vectors_before(self, vlenb):
+        """node -> what the words alone say of vl and the vector type there."""
+        known, todo = {self.order[0]: Setting(None, frozenset(), None, frozenset())}, [self.order[0]]
+        while todo:
+            key = todo.pop()
+            now = setting_behind(self.nodes[key], known[key], vlenb)
+            for to in self.leads[key]:
+                both = now if to not in known else met_settings(known[to], now)
+                if known.get(to) != both:
+                    known[to] = both
+                    todo.append(to)
+        return known
+
+
+def met_settings(one, two):
+    """What holds of both."""
+    return Setting(one.length if one.length == two.length else None, one.types | two.types, one.most if one.most == two.most else None,
+                   one.holders & two.holders)
+
+
+def setting_behind(node, before, vlenb):
+    """What is known behind a node."""
+    wrote = {node.f.get('rd')} | {t for t, _ in node.loads}
+    if node.i.shape != 'vset':
+        holders = before.holders - wrote
+        if node.i.name == 'addi' and not node.f['imm'] and node.f['rs1'] in before.holders or node.f.get('csr') == 0xc20:
+            holders |= {node.f['rd']} - {0}
+        return before._replace(holders=holders)
+    f, vtype = node.f, node.f.get('imm')
+    if vtype is None or not model.is_supported(vtype):
+        return Setting(None, frozenset([None]), None, frozenset())
+    most, holders = table.vlmax_of(vtype, vlenb), wrote - {0, None}
+    if 'avl' in f:
+        return Setting(min(f['avl'], most), frozenset([vtype]), most, frozenset(holders))
+    if f['rs1'] == 0 and f['rd']:
+        return Setting(most, frozenset([vtype]), most, frozenset(holders))
+    if (is_keep(node) or f['rs1'] in before.holders) and before.most == most:
+        return Setting(before.length, frozenset([vtype]), most, before.holders | holders)
+    return Setting(None, frozenset([vtype]), most, frozenset(holders))
+
+
+def is_keep(node):
+    """Whether an instruction sets the vector type and keeps vl."""
+    return node.i.shape == 'vset' and node.f.get('rs1') == 0 and node.f.get('rd') == 0
+
+
+def with_span(spans, register, first, end):
+    """Spans with one more; one that lies far away is left out."""
+    own = spans.get(register, (first, end))
+    first, end = min(own[0], first), max(own[1], end)
+    return spans if max(-first, end) > FARTHEST else {**spans, register: (first, end)}
 
 
 def reversed_postorder(entry, leads):
@@ -171,6 +257,16 @@ def used_and_set(node):
     return bits(used), bits(wrote - {0})
 
 
+def is_moved(node, register):
+    """Whether a register holds one here that is kept on the stack."""
+    return any(t == register for t, _ in node.loads + node.stores)
+
+
+def without_loaded(node, spans):
+    """What is sure before the loads that lead a node."""
+    return {r: span for r, span in spans.items() if not any(t == r for t, _ in node.loads)} if node.loads else spans
+
+
 def access_of(node):
     """(register, offset, size, is a store) of a scalar load or store, else None."""
     i, f = node.i, node.f
@@ -191,15 +287,3 @@ def met(ways):
                     continue
             del out[register]
     return out
-
-
-def before_access(node, behind):
-    """What is sure before a node, from what is sure behind it."""
-    wrote = used_and_set(node)[1]
-    now = {register: span for register, span in behind.items() if not wrote >> register & 1}
-    access = access_of(node)
-    if access:
-        register, offset, size, _ = access
-        first, end = now.get(register, (offset, offset + size))
-        now[register] = min(first, offset), max(end, offset + size)
-    return now

@@ -13,7 +13,8 @@ from outside import certificates, checker
 
 FACTOR, LEAST_FUEL = 4, 1024
 QUICK = 12                  # processor seconds up to which a second way is tried
-FIND_AT_MOST = 20           # seconds for the search without guards
+WAYS = (True, True), (False, True), (True, False)      # whether tests go before loops, and whether inner loops have counters
+FIND_AT_MOST = 8            # processor seconds for the search without guards
 NO_STATUS = 'without --status a run that a guard ended cannot be told from a whole one'
 
 # What was made: the image's bytes with its note, the certificate, and the maker, or None where nothing was put in.
@@ -21,10 +22,10 @@ Made = namedtuple('Made', 'data image certificate maker')
 
 
 class Within(search.Watch):
-    """A part of a search that may take so many seconds."""
+    """A part of a search that may take so many processor seconds."""
 
     def __init__(self, whole, seconds):
-        self.whole, self.end = whole, whole.clock() + seconds
+        self.whole, self.end = whole, time.process_time() + seconds
 
     def tell(self, text):
         self.whole.tell(text)
@@ -32,7 +33,7 @@ class Within(search.Watch):
 
     def check(self):
         self.whole.check()
-        if self.whole.clock() > self.end:
+        if time.process_time() > self.end:
             raise search.OutOfTime('the search without guards')
 
 
@@ -46,17 +47,20 @@ def made(data, image, job, vlen, looking, fuel=None, status=None):
 
 
 def guarded(data, image, job, vlen, looking, fuel, status):
-    """An image with guards: with tests before loops, or within them, whichever takes the job's own run fewer steps."""
+    """An image with guards: with tests before loops or within them, with counters for inner loops or fuel, whichever takes the job's own run
+    fewer steps."""
     ways, trouble, start = [], None, time.process_time()
-    for hoists in (True, False):
-        maker = guard.Maker(data, image, job.params, vlen, fuel or guard.FUEL, status, looking, hoists)
+    for hoists, counts in WAYS:
+        first = ways[0][0] if ways else None
+        if first and (not can_measure(job) or time.process_time() - start > QUICK):
+            break
+        if first and not (counts and first.is_hoisted() or not counts and first.counts_within()):
+            continue
+        maker = guard.Maker(data, image, job.params, vlen, fuel or guard.FUEL, status, looking, hoists, counts)
         try:
             ways.append((maker, *made_by(maker, job, vlen, fuel)))
         except notes.Trouble as e:
             trouble = trouble or e
-        is_quick = time.process_time() - start < QUICK
-        if ways and not (is_quick and maker.is_hoisted() and job.can_run() and host.program()):
-            break
     if not ways:
         raise trouble
     maker, out, new, found, why = min(ways, key=lambda way: steps_of(way[0], way[1], job, vlen)) if len(ways) > 1 else ways[0]
@@ -68,10 +72,12 @@ def guarded(data, image, job, vlen, looking, fuel, status):
 
 def made_by(maker, job, vlen, fuel):
     """The image, what was read of it, what was found, and why it has so much fuel, where it has some that was not stated."""
+    maker.measures_later = fuel is None and can_measure(job)
     out, new, found = maker.run()
     if not maker.fuelled or fuel is not None:
         return out, new, found, None
     maker.fuel, why = fuel_of(maker, job, vlen)
+    maker.measures_later = False
     return *maker.run(), why
 
 
@@ -113,9 +119,14 @@ def found_alone(image, params, vlen, looking):
 
 # ---- Fuel ----------------------------------------------------------------------------------------------------------------------
 
+def can_measure(job):
+    """Whether runs of a job can tell how much fuel they take."""
+    return job.can_run() and host.program() is not None and len(job.params) <= 7
+
+
 def fuel_of(maker, job, vlen):
     """How much fuel a kernel gets, and why: some times what the job's own run takes, and a run on the greatest scalars."""
-    if not job.can_run() or not host.program() or len(job.params) > 7:
+    if not can_measure(job):
         return guard.FUEL, 'since the job states no run that can be measured: --fuel N states another number'
     contents = job.contents()
     greatest = [param.b if param.kind == 'scalar' else content for param, content in zip(job.params, contents)]

@@ -16,13 +16,15 @@ LINKS = (1, 5)              # the registers that the calling convention leaves r
 LOAD = 1
 PAGE = 0x1000
 ZERO, RA, SP = 0, 1, 2
+STACK_TOP = 0x30000000      # where the stack ends, and the stack pointer begins
 
 INS = {i.name: i for rows in model.TABLE.values() for _, _, i in rows}
 OPPOSITE = {'beq': 'bne', 'bne': 'beq', 'blt': 'bge', 'bge': 'blt', 'bltu': 'bgeu', 'bgeu': 'bltu'}
 NEAR, FAR = 1 << 12, 1 << 20
 
-# An instruction: its address, the return addresses of the calls around it (each with its link register), and what its word means.
-Node = namedtuple('Node', 'key pc calls i f word')
+# An instruction: its address, the return addresses of the calls around it (each with its link register), and what its word means. loads,
+# stores: (register, the kernel's register that it holds here) where that is kept on the stack, right before it and right behind it.
+Node = namedtuple('Node', 'key pc calls i f word loads stores', defaults=((), ()))
 
 # What is put between instructions.
 Word = namedtuple('Word', 'word key', defaults=(None,))
@@ -55,6 +57,7 @@ class Code:
         """tables: the addresses to which indirect jumps may lead, by the address of the jump."""
         self.image, self.tables = image, dict(tables)
         self.nodes, self.returns, self.lost = {}, {}, set()
+        self.first, self.before, self.behind = [], {}, {}       # what moves registers that are kept on the stack
         self.entry = (), image.entry
         self.leads, self.reads_links = {}, False        # (reads_links: whether calls leave the addresses that they left in the old code)
         self.reach()
@@ -160,7 +163,7 @@ class Edits:
 
 def layout(code, edits):
     """All operations in the order in which they stand: an instruction falls through to the one that it leads to."""
-    out, late = [*edits.first], []
+    out, late = [*code.first, *edits.first], []
     order = sorted(code.nodes, key=lambda key: (key[0] != (), key[0], key[1]))
     out.append(Jump(ZERO, ('way', None, code.entry)))
     before = None
@@ -170,9 +173,9 @@ def layout(code, edits):
         if before is not None and not falls:
             out += way_on(code, before)
         enter_node(code, edits, key, before if falls else None, out, late)
-        out += edits.before.get(key, [])
+        out += code.before.get(key, []) + edits.before.get(key, [])
         out += edits.instead[key] if key in edits.instead else own_words(code, node)
-        out += edits.after.get(key, [])
+        out += edits.after.get(key, []) + code.behind.get(key, [])
         before = key
     if before is not None:
         out += way_on(code, before)

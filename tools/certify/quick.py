@@ -165,12 +165,22 @@ def refined(s, i, f, taken):
             return None
         ranges = both, both
     s = copied(s)
-    s.x[one], s.x[two] = Value(a.form, ranges[0]), Value(b.form, ranges[1])
-    cut = {atom: range_ for atom, range_ in zip(atoms, ranges) if atom is not None}
-    s.atoms.update(cut)
-    touched = set(cut) | {atom for atom, parts in s.splits.items() if parts[0] in cut or parts[1] in cut}
+    cut(s, one, ranges[0], two, ranges[1])
+    return s
+
+
+def cut(s, one, range_one, two=0, range_two=(0, 0)):
+    """Cuts the ranges of two numbers, and what follows for others."""
+    cuts = {}
+    for number, range_ in ((one, range_one), (two, range_two)):
+        form = s.x[number].form
+        s.x[number] = Value(form, range_)
+        atom = form.only_atom()
+        if atom is not None:
+            cuts[atom] = range_
+    s.atoms.update(cuts)
+    touched = set(cuts) | {atom for atom, parts in s.splits.items() if parts[0] in cuts or parts[1] in cuts}
     for number, value in enumerate(s.x):
         if number and (number in (one, two) or not touched.isdisjoint(value.form.terms)):
             of_form = s.range_of(value.form)
             s.x[number] = Value(value.form, of_form and checker.meet(value.range, of_form) or value.range)
-    return s

@@ -253,21 +253,21 @@ def done(work):
     folder, name, texts, flags, limit, runs = work
     def up(*_):
         raise TimeUp
-    signal.signal(signal.SIGALRM, up)
-    signal.alarm(limit)
+    signal.signal(signal.SIGPROF, up)
+    signal.setitimer(signal.ITIMER_PROF, limit)
     said = io.StringIO()
     try:
         with tempfile.TemporaryDirectory() as place, contextlib.redirect_stderr(said):
             kernel = Kernel(folder, name, texts, runs)
             row = kernel.by_cc() if flags == 'cc' else kernel.guarded(FLAGS[flags](), pathlib.Path(place))
     except TimeUp:
-        row = Row(name, flags, None, None, '', 0, f'more than {limit} seconds')
+        row = Row(name, flags, None, None, '', 0, f'more than {limit} processor seconds')
     except (notes.Trouble, certificates.Refused) as e:
         row = Row(name, flags, None, None, '', 0, f'not accepted: {one_line(str(e))}')
     except Exception:
         row = Row(name, flags, None, None, '', 0, f'CRASH: {one_line(traceback.format_exc()[-400:])}')
     finally:
-        signal.alarm(0)
+        signal.setitimer(signal.ITIMER_PROF, 0)
     tail = f' [{one_line(said.getvalue())[-160:]}]' if said.getvalue() and not row.answer.startswith('ok') else ''
     return row._replace(seconds=row.seconds or used(), flags=flags if flags != 'cc' else row.flags, answer=row.answer + tail)
 
@@ -314,7 +314,7 @@ def main(words=None):
     parser.add_argument('--jobs', type=int, default=1)
     parser.add_argument('--cc', action='store_true', help='by `certify cc`, which chooses the flags')
     parser.add_argument('--markdown', action='store_true')
-    parser.add_argument('--limit', type=int, default=300, help='seconds for a kernel')
+    parser.add_argument('--limit', type=int, default=120, help='processor seconds for a kernel')
     parser.add_argument('--runs', type=int, default=5, help='how many other inputs')
     args = parser.parse_args(words)
     if host.program() is None:

@@ -282,10 +282,10 @@ class Show(Case):
 
 
 class NewHost(unittest.TestCase):
-    """README.md's call of the library."""
+    """The documents' call of the library."""
 
     def test_it_is_a_test_word_for_word(self):
-        block = re.search(r'^## As a library\n```rust\n(.*?)^```', (ROOT / 'README.md').read_text(), re.S | re.M)[1]
+        block = re.search(r'^## In Rattle\n.*?```rust\n(.*?)^```', (ROOT / 'docs/EMBEDDING.md').read_text(), re.S | re.M)[1]
         self.assertIn(block, (ROOT / 'crates/run_calls/src/tests/readme.rt').read_text())
 
 
@@ -299,7 +299,7 @@ def told(page, heading):
 
 @unittest.skipUnless(ARE_THERE, f"one of {', '.join(COMPILERS)} is not installed")
 class NewUser(Case):
-    """README.md's own kernel, from C to `run`, and what docs/CERTIFY.md goes on to do with it, by their own words."""
+    """README.md's own kernel, from C to `run`, what docs/CERTIFY.md goes on to do with it, and the loop of docs/MAKE.md, by their own words."""
 
     def setUp(self):
         super().setUp()
@@ -308,7 +308,7 @@ class NewUser(Case):
         if host.program():
             os.symlink(pathlib.Path(host.program()).resolve(), self.folder / 'bin/rvvbox')
         self.path = {**os.environ, 'PATH': f"{self.folder / 'bin'}:{os.environ['PATH']}"}
-        self.first, self.early, self.make = told('README.md', 'Your own kernel')
+        self.first, self.early = told('README.md', 'Your own kernel')
         (_, files), *self.first = self.first            # (the first command shows the source and the job)
         self.file('line.c', files[:files.index('image = ')])
         self.file('job.toml', files[files.index('image = '):])
@@ -334,8 +334,9 @@ class NewUser(Case):
                 self.try_all(block)
 
     @unittest.skipUnless(host.program(), 'rvvbox is not built')
-    def test_the_readmes_loop_that_needs_no_search(self):
-        self.try_all(self.make, shutil.copytree(EXAMPLES / 'raise_words', self.folder / 'raise_words'))
+    def test_the_loop_that_needs_no_search(self):
+        made, *_ = told('docs/MAKE.md', 'An example')
+        self.try_all(made, shutil.copytree(EXAMPLES / 'raise_words', self.folder / 'raise_words'))
 
     def test_labels_come_from_the_symbol_table(self):
         source = self.file('halve.c', 'void _start(unsigned char *bytes, unsigned n) { for (unsigned i = 0; i < n; i++) bytes[i] /= 2; }')

@@ -1,7 +1,9 @@
 """Tests of each kind of guard: a run that passes at its last byte, and one that fails one past it and tells its number."""
 import struct
 import unittest
+import unittest.mock
 
+import notes
 import small
 from outside import checker
 from small import reads, scalar, word, writes
@@ -73,6 +75,16 @@ class Kinds(unittest.TestCase):
         some = lambda many: [bytes(48), many]
         self.guards(self.STRIPS, [writes(48), scalar(0, 64)], [some(0), some(1), some(32), some(48)], [some(49), some(64)], 'strip')
 
+    def test_what_was_put_in_last_is_searched(self):
+        """However few rounds there are: a search sees all that was put in."""
+        for rounds, is_enough in ((4, False), (5, True)):
+            with self.subTest(rounds=rounds), unittest.mock.patch('guard.MOST_ROUNDS', rounds):
+                made = lambda: small.Guarded(small.image(self.STRIPS), [writes(48), scalar(0, 64)])
+                if is_enough:
+                    self.assertEqual(made().answer(), 'accepted')
+                else:
+                    self.assertRaises(notes.Trouble, made)
+
     def test_strided(self):
         some = lambda many: [TAKEN_APART[:15], many, bytes(16)]
         self.guards('li t0, 2; vsetvli t1, a1, e8, m1, ta, ma; at: vlse8.v v8, (a0), t0; vse8.v v8, (a2); ret',
@@ -140,6 +152,47 @@ class Kinds(unittest.TestCase):
             some = lambda offset: [TAKEN_APART * 2, word(offset)]
             with self.subTest(access=access):
                 self.guards(f'lw t0, 0(a1); add t1, a0, t0; at: {access}; ret', params, [some(0), some(32)], [some(33), some(-1)])
+
+    def test_a_stride_that_is_not_known(self):
+        some = lambda stride, many: [word(stride), TAKEN_APART[:15], many, bytes(16)]
+        for access in ('vlse8.v v8, (a1), t0', 'vmv.v.i v8, 5; add t2, a3, t0; sub t2, t2, t0; vlse8.v v8, (a1), t0'):
+            self.guards(f'lw t0, 0(a0); vsetvli t1, a2, e8, m1, ta, ma; {access}; vse8.v v8, (a3); ret'.replace('vlse8', 'at: vlse8'),
+                        [reads(4), reads(15), scalar(0, 16), writes(16)], [some(2, 8), some(0, 16), some(7, 3), some(9, 0)],
+                        [some(2, 9), some(-1, 2), some(1 << 31, 2)], 'index')
+
+    def test_a_stride_of_elements_that_are_not_those_of_the_vector_type(self):
+        some = lambda stride, offset: [word(stride) + word(offset), bytes(range(64)), bytes(64)]
+        for width, vtype, base in ((8, 'e32, m2', '0'), (16, 'e8, m1', '0'), (32, 'e16, m2', '0'), (16, 'e32, m1', 't2'), (32, 'e8, mf2', 't2')):
+            size, many = width // 8, 8 if base == '0' else 4
+            last, move = 64 - size, '' if base == '0' else 'lw t2, 4(a0); add a1, a1, t2; '
+            whole = [some(size, 0), some(2 * size, 0), some(0, 0)] + ([some(-size, last)] if move else [])
+            early = [some((last + many - 1) // (many - 1) // size * size + size, 0), some(-size, 0)]
+            for load, store in (('at: vlse{}.v v8, (a1), t0', 'vse{}.v v8, (a2)'), ('vle{}.v v8, (a1)', 'at: vsse{}.v v8, (a2), t0')):
+                first = f'{move if "at" in load else move.replace("a1", "a2")}lw t0, 0(a0); vsetivli x0, {many}, {vtype}, ta, ma; '
+                with self.subTest(width=width, vtype=vtype, load=load, base=base):
+                    self.guards(f'{first}{load.format(width)}; {store.format(width)}; vmv.v.i v8, 1; addi t3, a3, 0; vs1r.v v8, (t3); ret',
+                                [reads(8), reads(64), writes(64), writes(16)], [it + [bytes(16)] for it in whole], [it + [bytes(16)] for it in early], 'index')
+
+    def test_a_stride_and_a_base_that_are_not_known(self):
+        some = lambda stride, base, many: [word(stride) + word(base), bytes(range(15)), many]
+        self.guards('lw t0, 0(a0); lw t2, 4(a0); add t2, t2, a1; vsetvli t1, a2, e8, m1, ta, ma; vid.v v8; at: vsse8.v v8, (t2), t0; ret',
+                    [reads(8), writes(15), scalar(0, 16)], [some(2, 0, 8), some(-2, 14, 8), some(3, 8, 3), some(0, 14, 16)],
+                    [some(2, 1, 8), some(-2, 13, 8), some(3, 8, 4), some(1, -1, 1), some(1, 15, 1)], 'index')
+
+    def test_indices_from_a_base_that_is_not_known(self):
+        some = lambda base, least: [word(base), bytes([least, 3, 1, 4]), TAKEN_APART[:15 + width // 8], bytes(4)]
+        for width, lmul in (8, 'mf2'), (16, 'm1'):
+            widen = f'vsetivli x0, 4, e{width}, {lmul}, ta, ma; vle8.v v9, (a1); vzext.vf2 v8, v9' if width == 16 else f'vsetivli x0, 4, e8, {lmul}, ta, ma; vle8.v v8, (a1)'
+            self.guards(f'lw t0, 0(a0); add t0, t0, a2; {widen}; at: vluxei{width}.v v10, (t0), v8; vsetivli x0, 4, e8, m1, ta, ma; vse8.v v10, (a3); ret',
+                        [reads(4), reads(4), reads(15 + width // 8), writes(4)], [some(0, 5), some(11, 4), some(-1, 2)], [some(12, 2), some(-2, 4), some(0, 100)], 'index')
+
+    def test_indices_where_no_vector_register_is_spare(self):
+        """All vector registers are needed before and behind the access."""
+        fill = '; '.join(f'addi t2, a2, {8 * n}; vle8.v v{n}, (t2)' for n in range(32))
+        keep = '; '.join(f'addi t2, a3, {8 * n}; vse8.v v{n}, (t2)' for n in range(32))
+        some = lambda least: [bytes([least, 3, 1, 4, 5, 6, 7, 8]), TAKEN_APART[:16], bytes(range(256)), bytes(256)]
+        self.guards(f'vsetivli x0, 8, e8, m1, ta, ma; {fill}; vle8.v v9, (a0); at: vluxei8.v v10, (a1), v9; {keep}; ret',
+                    [reads(8), reads(16), reads(256), writes(256)], [some(0), some(15)], [some(16), some(255)], 'index')
 
     def test_indexed(self):
         some = lambda *indices: [TAKEN_APART[:20], bytes(indices), bytes(4)]
@@ -214,6 +267,35 @@ class Kinds(unittest.TestCase):
     # ---- Calls and jumps --------------------------------------------------------------------------------------------------------
 
     CALL = 'addi sp, sp, -16; sw ra, 12(sp); {}; lw ra, 12(sp); addi sp, sp, 16; ret; '
+
+    def test_two_pointers_of_which_one_rises_need_no_fuel(self):
+        """Sorted bytes that are in both: one counter for both pointers."""
+        text = '''li t2, 0; loop: at: bgeu a0, a1, end; bgeu a2, a3, end; lbu t0, 0(a0); lbu t1, 0(a2); bltu t0, t1, one; bltu t1, t0, two
+            addi t2, t2, 1; one: addi a0, a0, 1; j loop; two: addi a2, a2, 1; j loop; end: sw t2, 0(a4); ret'''
+        text = 'add a1, a0, a1; add a3, a2, a3; ' + text
+        made = self.guards(text, [reads(16), scalar(0, 20), reads(16), scalar(0, 20), writes(4)],
+                           [[TAKEN_APART[:16], 16, bytes(range(3, 51, 3)), many, bytes(4)] for many in (0, 5, 16)], [])
+        self.assertEqual(len(made.maker.fuelled), 0)
+
+    def test_what_a_strip_relies_on_needs_nothing(self):
+        """A length that is asked for again by a register that holds it, a vector type that is not the same on each way, and an address that was
+        kept on the stack."""
+        params = [writes(64), scalar(0, 16)]
+        again = '''beqz a1, end; loop: vsetvli t0, a1, e8, m1, ta, ma; vle8.v v8, (a0); vsetvli x0, t0, e16, m2, ta, ma; vmv.v.i v12, 0
+            sub a1, a1, t0; add a0, a0, t0; bnez a1, loop; end: ret'''
+        types = '''vsetivli x0, 4, e32, m4, ta, ma; beqz a1, end; loop: vsetvli x0, x0, e8, m1, ta, ma; vle8.v v8, (a0); vadd.vi v8, v8, 1
+            vse8.v v8, (a0); addi a0, a0, 4; addi a1, a1, -1; bnez a1, loop; end: ret'''
+        stack = 'addi sp, sp, -16; sw a0, 4(sp); li a0, 0; lw t0, 4(sp); add t0, t0, a1; sb a1, 0(t0); addi sp, sp, 16; ret'
+        for text in (again, types, stack):
+            with self.subTest(text=text):
+                made = self.guards(text, params, [[TAKEN_APART * 2, many] for many in (0, 1, 16)], [])
+                self.assertEqual(made.told, [])
+
+    def test_a_count_out_of_memory_is_tested_before_its_loop(self):
+        text = '''li a3, 100; more: lw t0, 0(a0); beqz t0, next; at: addi t0, t0, -1; addi a2, a2, 3; bnez t0, at
+            next: addi a3, a3, -1; bnez a3, more; sw a2, 0(a1); ret'''
+        made = self.guards(text, [reads(4), writes(4)], [[word(many), bytes(4)] for many in (0, 1, 7)], [[word(1 << 30), bytes(4)]], 'count')
+        self.assertEqual(len(made.maker.fuelled), 0)
 
     def test_the_entrys_return_in_memory(self):
         made = self.guards(self.CALL.format('jal ra, f') + 'f: sw a0, 0(a1); ret', [scalar(0, 1000), writes(4)], [[12, bytes(4)]], [])

@@ -103,13 +103,24 @@ class Commands(Case):
         self.refused('IllegalWord at 0x10000', '.word 0x00052007; ret', [writes(256)])
 
     def test_too_few_spare_registers(self):
-        """What lies below the stack pointer is used, so that no register can go there."""
-        load, move, store = of_each('lw x{}, {}(a0)'), of_each('addi x{0}, x{0}, 1'), of_each('sw x{}, {}(a0)')
-        self.refused('compile with -ffixed-x26 -ffixed-x27', 'sw t0, -4(sp); ' + load + 'loop: ' + move + 'srli a1, a1, 1; bnez a1, loop; ' + store + 'ret',
-                     [writes(256), scalar(0, 100)])
+        """Where the stack pointer stands is not known, so that no register can go to the stack."""
+        load, move, store = (of_each(line, (1, *EVERY)) for line in ('lw x{}, {}(a0)', 'addi x{0}, x{0}, 1', 'sw x{}, {}(a0)'))
+        self.refused('compile with -ffixed-x26 -ffixed-x27', 'andi t0, a1, 16; sub sp, sp, t0; ' + load + 'loop: ' + move
+                     + 'srli a1, a1, 1; bnez a1, loop; ' + store + 'ecall', [writes(256), scalar(0, 100)])
 
-    def test_a_stride_that_is_not_known(self):
-        self.refused('the stride at 0x10008 is not one known number', 'vsetvli t1, a1, e8, m1, ta, ma; lw t0, 0(a0); vlse8.v v8, (a0), t0; ret',
+    def test_a_register_that_is_kept_on_the_stack(self):
+        """All registers are needed in a loop that needs fuel."""
+        load, move, store = (of_each(line, (1, *EVERY)) for line in ('lw x{}, {}(a0)', 'addi x{0}, x{0}, 1', 'sw x{}, {}(a0)'))
+        params = [writes(256), scalar(0, 100)]
+        status, out, err = self.guard(load + 'loop: ' + move + 'srli a1, a1, 1; bnez a1, loop; ' + store + 'ecall', params)
+        self.assertEqual(status, 0, err)
+        plain, image = (certificates.read_image((self.folder / name).read_bytes()) for name in ('in.elf', 'out.elf'))
+        for number in (0, 1, 77):
+            one, two = (small.run(it, params, [bytes(range(256)), number]) for it in (plain, image))
+            self.assertEqual((one.fault, one.buffers), (two.fault, two.buffers))
+
+    def test_a_stride_that_takes_too_many_registers(self):
+        self.refused('would take more than 8 registers', 'vsetvli t1, a1, e8, m4, ta, ma; lw t0, 0(a0); vlse8.v v8, (a0), t0; ret',
                      [writes(256), scalar(0, 100)])
 
     def test_a_limit(self):

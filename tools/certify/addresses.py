@@ -1,0 +1,187 @@
+"""Tests of addresses before scalar accesses, and which buffer is meant."""
+import bases
+import counters
+import graph
+import quick
+from kinds import COUNT, NoRegister, Strip, Test
+from outside import certificates, checker, table
+from program import SP, ZERO, Branch, Jump, Label, Number, Word, word
+
+VL = checker.VL
+
+
+class Addresses:
+    """What a maker puts in for a scalar access."""
+
+    def guard_scalar(self, misfit, node):
+        """A test of the address, where one buffer is possible; else a choice among several."""
+        register, offset, size, is_store = graph.access_of(node)
+        zones = self.zones(misfit.key, register, is_store)
+        if len(zones) > 1:
+            self.choices[misfit.key] = tuple(zones)
+            return
+        zone, = zones
+        first, end = self.sure[misfit.key].get(register, (offset, offset + size))
+        if not self.give_end(misfit, register, zone) and not self.put_index_test(misfit, register, first, end, zone):
+            self.put_test(misfit, register, first, end, zone)
+
+    def put_index_test(self, misfit, register, first, end, zone):
+        """A test of the number that is added to the zone's first address, where the address is such a sum: one comparison for both
+        ends. Whether it is one."""
+        made = self.maker_of(misfit.key, register)
+        if made is None:
+            return False
+        at, written = made
+        node = self.code.nodes[at]
+        for base, index in ((node.f['rs1'], node.f['rs2']), (node.f['rs2'], node.f['rs1'])):
+            number = checker.known(misfit.known.x[base].range)
+            if base in written or number is None or number + first != zone[0] or not index:
+                continue
+            at, index, shift = self.before_shift(at, index)
+            test = Test(at, False, index, 0, zone[1] - end - number >> shift, False, True, zone[3])
+            if self.tests.get((at, index)) == test:
+                return False
+            self.tests[at, index] = test
+            return True
+        return False
+
+    def before_shift(self, key, index):
+        """Where an index stands before it is shifted for a sum, with by how much: there its test tells of the register that stays."""
+        at, node = key, None
+        while node is None or not graph.used_and_set(node)[1] >> index & 1:
+            comes = self.graph.comes[at]
+            if len(comes) != 1 or len(self.graph.leads[comes[0]]) != 1:
+                return key, index, 0
+            at, = comes
+            node = self.code.nodes[at]
+        if node.i.name != 'slli' or node.f['rs1'] in (0, index) or node.loads or node.stores:
+            return key, index, 0
+        return at, node.f['rs1'], node.f['imm']
+
+    def maker_of(self, key, register):
+        """The add that makes an address, where it stands before the access in one straight line, and what is written between."""
+        written = set()
+        while not (self.code.nodes[key].loads or self.code.nodes[key].stores):
+            comes = self.graph.comes[key]
+            if len(comes) != 1 or len(self.graph.leads[comes[0]]) != 1:
+                return None
+            key, = comes
+            node = self.code.nodes[key]
+            wrote = node.f.get('rd') if graph.used_and_set(node)[1] & ~(1 << VL) else None
+            if wrote == register:
+                written.add(wrote)
+                return (key, written) if node.i.name == 'add' else None
+            if wrote is not None:
+                written.add(wrote)
+        return None
+
+    def zones(self, key, register, is_store):
+        right = certificates.WRITE if is_store else certificates.READ
+        known = self.bases.at(key).get(register, bases.NOTHING)
+        found = [zone for zone in bases.zones_of(known, self.image, self.params) if zone[2] & right]
+        return found or [zone for zone in bases.all_zones(self.image, self.params) if zone[2] & right]
+
+    def put_test(self, misfit, register, first, end, zone):
+        known, key, is_entering = misfit.known.x[register].range, *self.place_of_test(misfit.key, register, first, end)
+        if is_entering:
+            first, end = self.sure[key][register]
+        least, most = zone[0] - first & table.M32, zone[1] - end & table.M32
+        needs_low, needs_high = known[0] < least, known[1] > most
+        name = (key, register, 'entering') if is_entering else (key, register)
+        older = self.tests.get(name)
+        if older is None and not is_entering and needs_low and needs_high and self.rises(misfit.key, register):
+            needs_low = False
+        if older is not None:
+            needs_low, needs_high = needs_low or older.low, needs_high or older.high
+            if (needs_low, needs_high) == (older.low, older.high):
+                needs_low = needs_high = True
+        self.tests[name] = Test(key, is_entering, register, least, most, needs_low, needs_high, zone[3])
+
+    def place_of_test(self, key, register, first, end):
+        """Where a register is tested: before the access, or on the ways into the outermost loop that does not write it and from whose head
+        on the access is sure to come; with whether it is that."""
+        found = key, False
+        for loop in sorted(self.graph.inside[key], key=lambda loop: -loop.depth):
+            span = self.sure[loop.head].get(register)
+            if not self.hoists or not self.graph.is_natural(loop) or span is None or self.graph.writers(loop.nodes, register):
+                break
+            if not span[0] <= first < end <= span[1]:
+                break
+            found = loop.head, True
+        return found
+
+    def rises(self, key, register):
+        """Whether a register only rises in the loops around a node."""
+        for loop in self.graph.inside[key]:
+            if self.graph.writers(loop.nodes, register):
+                return counters.only_rises(self.graph, loop, register)
+        return False
+
+    def test_words(self, test):
+        label = self.failed('count' if test.zone == COUNT else 'address', test.key[1], test.zone)
+        try:
+            return self.compared_ends(test, label, {})
+        except NoRegister:
+            spilled = self.spilled(test.key, 1 << test.register) if self.may_spill else None
+            if spilled is None:
+                raise
+        numbers = dict.fromkeys((test.least, test.most), spilled)
+        return [word('sw', rs1=SP, rs2=spilled, imm=-4), *self.compared_ends(test, label, numbers), word('lw', rd=spilled, rs1=SP, imm=-4)]
+
+    def compared_ends(self, test, label, given):
+        """The comparisons of a test. given: the register for a number, where it is not to be looked for."""
+        out = []
+        for value, is_tested, is_least in ((test.least, test.low, True), (test.most, test.high, False)):
+            if is_tested:
+                out += self.compared(test.key, test.register, value, is_least, label, 0, given.get(value), test.is_entering)
+        return out
+
+    def compared(self, key, register, value, is_least, label, more, given=None, is_outside=False):
+        """A branch to a label where a register is below a number, or above it. given: the register for the number, if it is chosen.
+        is_outside: whether it stands on the ways into the loop of a head."""
+        out, other = [], self.held(key, value, is_outside)
+        if other is None and given is not None:
+            other = given
+            out.append(Number(other, value))
+        if other is None:
+            other = self.temporary([key], more | 1 << register)
+            out.append(Number(other, value))
+        return out + [Branch('bltu', *((register, other) if is_least else (other, register)), label)]
+
+    def times(self, key, t, length, factor, more, given=None):
+        """Puts a multiple of a length into a register. given: one for the factor, if it is chosen."""
+        if factor & factor - 1 == 0:
+            return [word('slli', rd=t, rs1=length, imm=factor.bit_length() - 1)] if factor else [Number(t, 0)]
+        other = given or self.temporary([key], more | 1 << t)
+        return [Number(other, factor), word('mul', rd=t, rs1=length, rs2=other)]
+
+    def choice_words(self, key, choice):
+        """An access of which several zones are possible: a copy for each."""
+        if isinstance(choice[0], Strip):
+            return self.strip_choice_words(key, choice)
+        node = self.code.nodes[key]
+        register, first, size, _ = graph.access_of(node) or (node.f['rs1'], 0, self.sizes[key], None)
+        label = self.failed('address', key[1], ' or '.join(dict.fromkeys(zone[3] for zone in choice)))
+        out = []
+        for k, zone in enumerate(choice):
+            low, high = zone[0] - first & table.M32, zone[1] - first - size & table.M32
+            other = ('other', key, k) if k + 1 < len(choice) else label
+            t = self.temporary([key], 1 << register)
+            out += [Number(t, low), Branch('bltu', register, t, other), Number(t, high), Branch('bltu', t, register, other),
+                    Word(node.word, key), Jump(ZERO, ('joined', key)), Label(('other', key, k))]
+        return out + [Label(('joined', key))]
+
+    def cut(self, known, misfit):
+        """Leaves of what is known behind an access what a test before it will tell of its address."""
+        node = self.code.nodes.get(misfit.key)
+        span = node and self.graph.span_of(misfit.key)
+        if not span or node.loads or graph.used_and_set(node)[1] >> node.f['rs1'] & 1:
+            return
+        register, first, end = span
+        zones = self.zones(misfit.key, register, 'store' in node.i.shape)
+        if len(zones) == 1:
+            first, end = self.sure[misfit.key].get(register, (first, end))
+            number = known.x[register]
+            low, high = max(number.range[0], zones[0][0] - first & table.M32), min(number.range[1], zones[0][1] - end & table.M32)
+            if low <= high:
+                quick.cut(known, register, (low, high))

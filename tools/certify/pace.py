@@ -1,0 +1,250 @@
+"""What makes a loop end: counters beside it, or fuel, and tests before it of where its pointers will stand."""
+import budgets
+import counters
+import flow
+from kinds import COUNT, End, NoRegister, Test
+from outside import model, table
+from program import ZERO, Branch, word
+
+UNKNOWN = (1 << 32) - (1 << 12)     # how great a number may be of which nothing is known
+LITTLE = 1 << 12        # fuel of which a run tells later whether it is enough
+GREAT = 1 << 24         # rounds that no loop is taken to have
+
+
+class Pace:
+    """What a maker puts in for a budget."""
+
+    def settle_counters(self):
+        """Gives each counter its registers; one for which none are left goes."""
+        wanted = sorted([*self.counters.items(), *self.rests.items()], key=lambda item: -self.loop_of[self.head_of(item[0])].depth)
+        older, self.counters, self.rests = (self.counters, self.rests), {}, {}
+        for name, counter in wanted:
+            need = counters.needs(counter)
+            free = self.free(self.loop_of[self.head_of(name)].nodes, need)
+            if len(free) == need:
+                (self.rests if counter.kind in (counters.REST, counters.END) else self.counters)[name] = counter._replace(registers=tuple(free))
+            elif not self.is_ending:
+                self.counters, self.rests = older
+                raise NoRegister('no register is spare for a counter')
+
+    def head_of(self, name):
+        return name if name in self.loop_of else name[0]
+
+    def put_counters(self):
+        for head, counter in list(self.counting()):
+            if counter.kind == counters.END:
+                continue
+            pc = head[1]
+            division, start = None, ()
+            if counter.kind == counters.LEFT and counter.step > 1:
+                division = self.failed('division', pc, 'a count is no multiple of its step')
+            if counter.kind == counters.REST and counter.exits:
+                start = self.failed('count', pc, 'a count is above its end'),
+            if counter.is_tested:
+                start = self.failed('count', pc, 'a count is 0'), self.failed('count', pc, f'a count is above {self.most_rounds}')
+            self.enter(head, counters.on_entering(counter, division, start, self.most_rounds))
+            for move in counter.moves:
+                self.edits.after.setdefault(move.key, []).extend(counters.on_move(counter, move))
+            for key in counter.exits:
+                self.edits.instead[key] = counters.in_place(counter, self.graph, key)
+
+    def put_ends_of_pointers(self):
+        """Tests of where pointers will stand at the end of a loop, on the ways into it."""
+        for (head, register), counter in self.rests.items():
+            if counter.kind != counters.END:
+                continue
+            end, k = counter.end, counter.registers[0]
+            rounds = counters.rounds_of(self.graph, self.loop_of[head], self.counters.get(head))
+            if rounds is None:          # (the loop's own counter has gone)
+                continue
+            label = self.failed('span', head[1], end.zone)
+            more = 1 << register | 1 << rounds | 1 << k
+            out = self.compared(head, register, end.least, True, label, more, None, True)
+            out += self.compared(head, register, end.most, False, label, more, None, True)
+            out += self.compared(head, rounds, end.rounds, False, label, more, None, True)
+            out += self.times(head, k, rounds, counter.step, more) + [word('add', rd=k, rs1=k, rs2=register)]
+            self.enter(head, out + self.compared(head, k, end.most, False, label, more, None, True))
+
+    def give_end(self, misfit, register, zone):
+        """A test of where a pointer will stand when the loop around an access ends, where each round of it has that access. Whether it was
+        given."""
+        for loop in sorted(filter(self.graph.is_natural, self.graph.inside[misfit.key]), key=lambda loop: -loop.depth)[:1]:
+            name, step = (loop.head, register), counters.step_of(self.graph, loop, register)
+            span = self.sure[loop.head].get(register)
+            if self.tried.get(name) == self.round:
+                return True
+            if not self.hoists or name in self.tried or step is None or span is None:
+                return False
+            if counters.rounds_of(self.graph, loop, self.counters.get(loop.head)) is None:
+                return False
+            self.tried[name] = self.round
+            end = End(zone[3], zone[0] - span[0] & table.M32, (zone[1] - zone[0]) // step + 1, zone[1] - span[1] + step & table.M32)
+            self.rests[name] = counters.Counter(counters.END, (), register, end, step, True, (), (), False)
+            return True
+        return False
+
+    def give_rest(self, misfit):
+        """A counter of what is left of the elements in the loop around an access, once, with a test that keeps the index in its interval.
+        Whether it was given."""
+        for loop in sorted(filter(self.graph.is_natural, self.graph.inside[misfit.key]), key=lambda loop: -loop.depth)[:1]:
+            for counter in counters.rest_counters(self.graph, loop):
+                name, most = (loop.head, counter.x), misfit.known.x[counter.end].range[1]
+                if self.tried.get(name) == self.round:
+                    return True
+                if name not in self.tried and most < 1 << 31:
+                    self.tried[name] = self.round
+                    self.rests[name] = counter
+                    if not counter.exits:
+                        self.tests[loop.head, counter.x] = Test(loop.head, False, counter.x, 0, most, False, True, COUNT)
+                    return True
+                if name in self.rests and (loop.head, counter.x) not in self.tests:
+                    self.tried[name] = self.round
+                    self.tests[loop.head, counter.x] = Test(loop.head, False, counter.x, 0, most, False, True, COUNT)
+                    return True
+        return False
+
+    def enter(self, head, operations):
+        nodes, older = self.edits.entering.get(head, (self.loop_of[head].nodes, []))
+        self.edits.entering[head] = nodes, older + operations
+
+    def put_fuel(self):
+        for head in sorted(self.paying_heads()):
+            f = self.fuel_register
+            ends = self.failed('fuel', head[1], 'the fuel is used up')
+            self.edits.before[head] = [Branch('beq', f, ZERO, ends), word('addi', rd=f, rs1=f, imm=-1), *self.edits.before.get(head, [])]
+
+    def paying_heads(self):
+        """The heads at which fuel is paid: not that of a loop of which each way round comes to another one that pays."""
+        heads = set(self.fuelled)
+        for head in sorted(heads, key=lambda head: self.loop_of[head].depth):
+            loop, others = self.loop_of[head], heads - {head}
+            if self.graph.is_natural(loop) and counters.is_on_each_way(self.graph, loop, others & loop.nodes):
+                heads.remove(head)
+        return heads
+
+    def count(self, found, kinds):
+        """Gives the loops on which no number falls a counter of these kinds, or fuel where all kinds were tried."""
+        edges = [e for e in found.finder.edge_list if e.target is not None]
+        leads = {}
+        for e in edges:
+            leads.setdefault(e.source, set()).add(e.target)
+        solver, nodes, done = budgets.Budgets(edges), set(found.finder.guesses), set()
+        for part in flow.loops(nodes, {n: to & nodes for n, to in leads.items()}):
+            inner = [e for e in edges if e.source in part and e.target in part]
+            if not solver.counters(part, inner):
+                self.give_counter(part, found, kinds, done)
+
+    def heads_of(self, part):
+        """The heads of the kernel's loops whose heads these blocks are, outer ones first."""
+        keys = {self.key_at.get(start) if self.laid else ((), start) for start in part}
+        loops = [loop for loop in self.graph.loops if loop.head in keys]
+        return [loop.head for loop in sorted(loops, key=lambda loop: loop.depth)]
+
+    def give_counter(self, part, found, kinds, done):
+        """A counter for the outermost loop of these blocks, else fuel."""
+        for head in self.heads_of(part)[:1]:
+            loop, tried = self.loop_of[head], self.tried.setdefault(head, [])
+            if head in self.fuelled or head in done or self.is_paid_around(loop):
+                return
+            for counter in kinds(loop, found) if self.graph.is_natural(loop) and (self.counts or loop.depth == 1) else ():
+                name = counter.kind, counter.x, counter.end, counter.is_tested, counter.more
+                if name not in tried:
+                    tried.append(name)
+                    self.counters[head] = counter
+                    done.add(head)
+                    return
+            if kinds == self.possible and self.bound_before(loop, found):
+                done.add(head)
+                return
+            if kinds == self.possible:
+                self.counters.pop(head, None)
+                self.fuelled.add(head)
+                done.add(head)
+
+    def bound_before(self, loop, found):
+        """Tests pointers that rise in a loop before it as well, where each round is sure to test them, so that it is known how far they may
+        rise. Whether there was one."""
+        if not self.graph.is_natural(loop):
+            return False
+        most, is_changed = self.most_at(loop.head, found), False
+        for test in [test for test in self.tests.values() if test.high and test.key in loop.nodes and not test.is_entering]:
+            x, span, name = test.register, self.sure[loop.head].get(test.register), (loop.head, test.register, 'entering')
+            own = self.sure[test.key].get(x)
+            if name in self.tests or not span or not own or most.get(x, 0) < UNKNOWN or not counters.only_rises(self.graph, loop, x):
+                continue
+            self.tests[name] = Test(loop.head, True, x, 0, test.most + own[1] - span[1] & table.M32, False, True, test.zone)
+            is_changed = True
+        return is_changed
+
+    def is_paid_around(self, loop):
+        """Whether the counter of a loop around this one falls on each way round this one too."""
+        for head, counter in self.counters.items():
+            keys = {move.key for move in counter.moves if move.sign != counters.ANEW} & loop.nodes
+            if counter.kind == counters.MIRROR and loop.nodes < self.loop_of[head].nodes and counters.is_on_each_way(self.graph, loop, keys):
+                return True
+        return False
+
+    def simplest(self, loop, found):
+        if loop.head not in self.counters:
+            yield from counters.left_counters(self.graph, loop, self.numbers_at(loop, found))
+
+    def possible(self, loop, found):
+        """Those that never fail first."""
+        yield from counters.mirror_counters(self.graph, loop, self.most_at(loop.head, found))
+        for counter in counters.left_counters(self.graph, loop, self.numbers_at(loop, found)):
+            yield counter
+            yield counter._replace(is_tested=True)
+
+    def lessen(self, found):
+        """Tests counts of loops before them where they may be great numbers, else gives such loops other counters. Whether there was one."""
+        is_changed = False
+        if self.fuelled and self.measures_later and self.fuel > LITTLE:
+            self.fuel = LITTLE
+            return True
+        for loop in filter(self.graph.is_natural, self.graph.loops):
+            for x in counters.counts(self.graph, loop) if loop.head not in self.fuelled else ():
+                name = loop.head, x, 'entering'
+                if self.most_at(loop.head, found).get(x, 0) >= GREAT and name not in self.tests:
+                    self.tests[name] = Test(loop.head, True, x, 0, self.most_rounds, False, True, COUNT)
+                    is_changed = True
+        if is_changed:
+            return True
+        for head, counter in sorted(self.counters.items(), key=lambda item: self.loop_of[item[0]].depth):
+            if counter.kind != counters.LEFT or counter.is_tested or self.most_at(head, found).get(counter.registers[0], 0) < GREAT:
+                continue
+            if self.is_paid_around(self.loop_of[head]):
+                del self.counters[head]
+                is_changed = True
+                continue
+            tried = self.tried.setdefault(head, [])
+            for other in self.possible(self.loop_of[head], found):
+                name = other.kind, other.x, other.end, other.is_tested, other.more
+                if name not in tried:
+                    tried.append(name)
+                    self.counters[head], is_changed = other, True
+                    break
+        return is_changed
+
+    def guess_at(self, head, found):
+        return found.finder.guesses.get(self.laid.places.get(('at', head)) if self.laid else head[1])
+
+    def most_at(self, head, found):
+        guess = self.guess_at(head, found)
+        return {} if guess is None else {r: guess.x[r][1] for r in range(1, 32)}
+
+    def numbers_at(self, loop, found):
+        """The registers that hold one number throughout a loop, with that number as a signed one."""
+        guess = self.guess_at(loop.head, found)
+        if guess is None:
+            return {}
+        return {r: model.signed(guess.x[r][0], 32) for r in range(1, 32)
+                if guess.x[r][0] == guess.x[r][1] and not self.graph.writers(loop.nodes, r)}
+
+    def give_fuel(self, found):
+        """Fuel for the outer loops of what is nested too deep, else for all loops."""
+        outer = {loop.head for loop in self.graph.loops if any(other.nodes < loop.nodes for other in self.graph.loops)}
+        more = outer - self.fuelled or {loop.head for loop in self.graph.loops} - self.fuelled
+        self.fuelled |= more
+        for head in more:
+            if not any(name[0] == head for name in self.rests):
+                self.counters.pop(head, None)

@@ -1,0 +1,68 @@
+"""Which vector registers are still read at a node, and which are free there."""
+from outside import model, table
+
+WHOLE = {'vload', 'vload_strided', 'vload_indexed', 'vload_whole', 'int', 'mv', 'ext', 'narrow', 'widen', 'mvr', 'cmp', 'iota', 'fixed', 'gather'}
+TAIL_AGNOSTIC = 0x40
+
+
+class Vectors:
+    """Of a graph: node -> the vector registers whose elements may still be read there."""
+
+    def __init__(self, its_graph, vlenb):
+        self.graph = its_graph
+        nodes = its_graph.nodes
+        sets = [node.f for node in nodes.values() if node.i.shape == 'vset']
+        self.all_types = {f['imm'] for f in sets} if all('imm' in f for f in sets) else set(table.VTYPES)
+        self.types = its_graph.types
+        self.uses = {key: self.used_and_set(nodes[key]) for key in its_graph.order if nodes[key].i.is_vector}
+        self.live = self.live_at()
+
+    def used_and_set(self, node):
+        """The vector registers that a node may read, and those that it sets as a whole."""
+        vtype = self.types.get(node.key)
+        used, wrote = set(), None
+        for vtype in {vtype} if vtype is not None else self.all_types | {0}:
+            if not model.is_legal(vtype, node.word):
+                continue
+            dest, sources = model.operands(node.i, node.f, vtype)
+            own = set(dest.registers) if dest else set()
+            used.update(*(operand.registers for operand in sources))
+            is_whole = node.i.shape in WHOLE and node.f.get('vm', 1) and (vtype & TAIL_AGNOSTIC or node.i.shape in ('vload_whole', 'mvr'))
+            if not is_whole:
+                used |= own
+            wrote = own if wrote is None else wrote & own
+            if not is_whole:
+                wrote = set()
+        if not node.f.get('vm', 1) or node.i.shape in ('carry', 'carry_mask', 'merge'):
+            used.add(0)
+        return frozenset(used), frozenset(wrote or ())
+
+    def live_at(self):
+        live = {key: frozenset() for key in self.graph.order}
+        todo, waiting = list(self.graph.order), set(self.graph.order)
+        while todo:
+            key = todo.pop()
+            waiting.discard(key)
+            behind = self.behind(key, live)
+            used, wrote = self.uses.get(key, (frozenset(), frozenset()))
+            now = behind - wrote | used
+            if now != live[key]:
+                live[key] = now
+                for come in self.graph.comes[key]:
+                    if come not in waiting:
+                        waiting.add(come)
+                        todo.append(come)
+        return live
+
+    def behind(self, key, live):
+        return frozenset().union(*(live[to] for to in self.graph.leads[key]))
+
+    def free(self, key):
+        """The registers that nothing reads before or behind a node, nor the node itself."""
+        busy = self.live[key] | self.behind(key, self.live)
+        node = self.graph.nodes[key]
+        for vtype in {self.types.get(key)} - {None} or self.all_types:
+            if model.is_legal(vtype, node.word):
+                dest, sources = model.operands(node.i, node.f, vtype)
+                busy |= frozenset().union(*(operand.registers for operand in [*filter(None, [dest]), *sources]))
+        return set(range(32)) - busy - {0}
