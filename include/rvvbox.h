@@ -1,8 +1,11 @@
 /* rvvbox: certified RISC-V vector kernels on a host's memory.
  *
  * Link librvvbox_c.a and the kit's liblibc_c.a, which calls the program's malloc, realloc and free. docs/EMBEDDING.md tells what a
- * caller owes. No call keeps a pointer to the caller's memory, and calls from several threads share nothing, if their memory and their
- * handles are not the same. */
+ * caller owes. No call keeps a pointer to the caller's memory. Any number of threads may call at once, if no two of them pass the same
+ * kernel, or memory that one of them writes.
+ *
+ * The numbers of statuses, of rules and of kinds, once given, stay, and new ones come after them. Where the first part of the version is
+ * the same, so are the structs and the calls; fields that are `reserved` are 0. */
 #ifndef RVVBOX_H
 #define RVVBOX_H
 
@@ -13,7 +16,8 @@
 extern "C" {
 #endif
 
-#define RVVBOX_VERSION 1u
+#define RVVBOX_VERSION_MAJOR 2u
+#define RVVBOX_VERSION_MINOR 0u
 
 /* What a call answers. */
 enum rvvbox_status {
@@ -25,10 +29,10 @@ enum rvvbox_status {
     RVVBOX_BAD_KIND = 5,               /* a place of no kind */
     RVVBOX_BAD_RANGE = 6,              /* a place names bytes that the memory does not have */
     RVVBOX_TOO_LARGE = 7,              /* buffers beyond what a try allows */
-    RVVBOX_IMAGE = 8,                  /* the bytes spell no image: rules 1 to 16 */
+    RVVBOX_IMAGE = 8,                  /* the bytes spell no image */
     RVVBOX_NO_CERTIFICATE = 9,         /* the image has no certificate */
-    RVVBOX_CERTIFICATE = 10,            /* its certificate can't be read: rules 1 to 10 */
-    RVVBOX_CHECK = 11,                 /* the check refuses both: rules 1 to 14 */
+    RVVBOX_CERTIFICATE = 10,           /* its certificate can't be read */
+    RVVBOX_CHECK = 11,                 /* the check refuses both */
     RVVBOX_WRONG_KIND = 12,            /* an argument of another kind than the parameter */
     RVVBOX_SCALAR_OUT_OF_INTERVAL = 13,
     RVVBOX_WRONG_SIZE = 14,            /* a buffer of another size than the parameter says */
@@ -36,16 +40,63 @@ enum rvvbox_status {
     RVVBOX_WRONG_VLEN = 16,            /* accepted for another length of registers */
     RVVBOX_TRAPPED = 17,               /* a tried run met a fault */
     RVVBOX_OUT_OF_STEPS = 18,          /* a tried run did `max` steps and has not ended */
-    RVVBOX_NOTHING_KEPT = 19           /* the handle keeps nothing */
+    RVVBOX_NOTHING_KEPT = 19           /* another call has the kernel now, which a caller may not do */
+};
+
+/* The rule that an image breaks, of RVVBOX_IMAGE. */
+enum rvvbox_image_rule {
+    RVVBOX_IMAGE_TOO_SHORT = 1,
+    RVVBOX_IMAGE_BAD_MAGIC = 2,
+    RVVBOX_IMAGE_BAD_CLASS = 3,
+    RVVBOX_IMAGE_BAD_TYPE = 4,
+    RVVBOX_IMAGE_BAD_MACHINE = 5,
+    RVVBOX_IMAGE_BAD_FLAGS = 6,
+    RVVBOX_IMAGE_BAD_HEADER_TABLE = 7,
+    RVVBOX_IMAGE_NOT_STATIC = 8,
+    RVVBOX_IMAGE_SEGMENT_OUT_OF_FILE = 9,
+    RVVBOX_IMAGE_SEGMENT_OUT_OF_PLACE = 10,
+    RVVBOX_IMAGE_SEGMENTS_OVERLAP = 11,
+    RVVBOX_IMAGE_WRITE_AND_EXECUTE = 12,
+    RVVBOX_IMAGE_TOO_LARGE = 13,
+    RVVBOX_IMAGE_ENTRY_NOT_CODE = 14,
+    RVVBOX_IMAGE_TWO_CERTIFICATES = 15,
+    RVVBOX_IMAGE_CERTIFICATE_THERE = 16
+};
+
+/* The rule that a certificate's bytes break, of RVVBOX_CERTIFICATE. No rule is 10. */
+enum rvvbox_certificate_rule {
+    RVVBOX_CERTIFICATE_SHORT = 1,
+    RVVBOX_CERTIFICATE_VERSION = 2,
+    RVVBOX_CERTIFICATE_PARAMETER = 3,
+    RVVBOX_CERTIFICATE_BLOCK_ORDER = 4,
+    RVVBOX_CERTIFICATE_FACT = 5,
+    RVVBOX_CERTIFICATE_EQUALITY = 6,
+    RVVBOX_CERTIFICATE_BUDGET = 7,
+    RVVBOX_CERTIFICATE_TRAILING_BYTES = 8,
+    RVVBOX_CERTIFICATE_TOO_MANY = 9,
+    RVVBOX_CERTIFICATE_ORDER = 11
+};
+
+/* The rule at which the check stops, of RVVBOX_CHECK. No rule is 14. */
+enum rvvbox_check_rule {
+    RVVBOX_CHECK_WRONG_VLEN = 1,
+    RVVBOX_CHECK_NO_ENTRY_BLOCK = 2,
+    RVVBOX_CHECK_NOT_CODE = 3,
+    RVVBOX_CHECK_ILLEGAL_WORD = 4,
+    RVVBOX_CHECK_VTYPE_UNKNOWN = 5,
+    RVVBOX_CHECK_ACCESS_NOT_PROVED = 6,
+    RVVBOX_CHECK_READ_ONLY = 7,
+    RVVBOX_CHECK_TARGET_NOT_A_BLOCK = 8,
+    RVVBOX_CHECK_INTERVAL_NOT_PROVED = 9,
+    RVVBOX_CHECK_EQUALITY_NOT_PROVED = 10,
+    RVVBOX_CHECK_VECTOR_FACT_NOT_PROVED = 11,
+    RVVBOX_CHECK_BUDGET_NOT_PROVED = 12,
+    RVVBOX_CHECK_BLOCK_TOO_LONG = 13,
+    RVVBOX_CHECK_ORDER_NOT_PROVED = 15
 };
 
 /* Why an image is refused: the status, the rule's number, and the address of the word at which the check stopped. What there is not
- * is 0. The rules, from 1 on:
- *   RVVBOX_IMAGE: TooShort, BadMagic, BadClass, BadType, BadMachine, BadFlags, BadHeaderTable, NotStatic, SegmentOutOfFile,
- *     SegmentOutOfPlace, SegmentsOverlap, WriteAndExecute, TooLarge, EntryNotCode, TwoCertificates, CertificateThere
- *   RVVBOX_CERTIFICATE: Short, Version, Parameter, BlockOrder, Fact, Equality, Budget, TrailingBytes, TooMany, Order
- *   RVVBOX_CHECK: WrongVlen, NoEntryBlock, NotCode, IllegalWord, VtypeUnknown, AccessNotProved, ReadOnly, TargetNotABlock,
- *     IntervalNotProved, EqualityNotProved, OrderNotProved, VectorFactNotProved, BudgetNotProved, BlockTooLong */
+ * is 0. */
 struct rvvbox_refusal {
     uint32_t status;
     uint32_t rule;
@@ -77,6 +128,7 @@ struct rvvbox_place {
 /* What came of one run. */
 struct rvvbox_ran {
     uint32_t status;
+    uint32_t reserved;
     uint64_t steps;
 };
 
@@ -91,7 +143,8 @@ struct rvvbox_bound {
     uint64_t high;
 };
 
-/* RVVBOX_VERSION of the library. */
+/* The version of the library, major * 65536 + minor. A host can use one of the same RVVBOX_VERSION_MAJOR, and of the same
+ * RVVBOX_VERSION_MINOR or a higher. */
 uint32_t rvvbox_version(void);
 
 /* Checks the image, and answers the status, which stands in `refusal` too. */
@@ -108,7 +161,7 @@ uint32_t rvvbox_bound(const uint8_t *image, size_t image_size, uint32_t vlen, co
                       struct rvvbox_bound *bound);
 
 /* Checks the image and runs it once. `places` are eight. Where the answer is RVVBOX_DONE the run has ended, within its bound and
- * `*steps` steps, and the buffers stand in memory as the kernel left them. Else memory is as it was. */
+ * `*steps` steps, and the buffers stand in memory as the kernel left them. Else memory and `*steps` are as they were. */
 uint32_t rvvbox_run(const uint8_t *image, size_t image_size, const struct rvvbox_setting *setting, uint8_t *memory,
                     size_t memory_size, const struct rvvbox_place *places, size_t places_count, uint64_t *steps);
 
@@ -118,27 +171,28 @@ uint32_t rvvbox_run_many(const uint8_t *image, size_t image_size, const struct r
                          size_t memory_size, const struct rvvbox_place *places, size_t places_count,
                          struct rvvbox_ran *runs, size_t runs_count);
 
-/* An accepted image, kept for many runs, or none: begin with {0}. Only the calls below read or write it. It is not copied, stays on the
- * thread that made it, and is let go by rvvbox_free. */
-struct rvvbox_handle {
-    uint8_t *at;
-};
+/* A kernel: an accepted image, kept for many runs. The library makes each, and rvvbox_free lets it go. A kernel may go from thread to
+ * thread, and each has one call at a time: a thread that runs while others do has one of its own, by rvvbox_share. */
+struct rvvbox_kernel;
 
-/* Checks the image, and keeps it in `handle`, in place of what that kept, where the answer is RVVBOX_DONE. Else the handle is as it was.
- * The answer stands in `refusal` too. */
-uint32_t rvvbox_accept(const uint8_t *image, size_t image_size, uint32_t vlen, struct rvvbox_handle *handle,
+/* Checks the image, and puts a kernel of it into `*out` where the answer is RVVBOX_DONE. Else `*out` is as it was. `*out` is NULL, or a
+ * kernel, which is then let go. The answer stands in `refusal` too. */
+uint32_t rvvbox_accept(const uint8_t *image, size_t image_size, uint32_t vlen, struct rvvbox_kernel **out,
                        struct rvvbox_refusal *refusal);
 
-/* Tells the most steps of a run of what is kept with these scalars. `bound` is set where the answer is RVVBOX_DONE. */
-uint32_t rvvbox_bound_of(struct rvvbox_handle *handle, const struct rvvbox_scalars *scalars, struct rvvbox_bound *bound);
+/* Puts one more kernel of the same image into `*out`, as rvvbox_accept does, and checks and copies nothing. */
+uint32_t rvvbox_share(struct rvvbox_kernel *kernel, struct rvvbox_kernel **out);
 
-/* As rvvbox_run, of what is kept. `vlen` of the setting is the one that it was accepted for. */
-uint32_t rvvbox_run_accepted(struct rvvbox_handle *handle, const struct rvvbox_setting *setting, uint8_t *memory,
+/* Tells the most steps of a run of the kernel with these scalars. `bound` is set where the answer is RVVBOX_DONE. */
+uint32_t rvvbox_bound_of(struct rvvbox_kernel *kernel, const struct rvvbox_scalars *scalars, struct rvvbox_bound *bound);
+
+/* As rvvbox_run, of the kernel. `vlen` of the setting is the one that it was accepted for. */
+uint32_t rvvbox_run_accepted(struct rvvbox_kernel *kernel, const struct rvvbox_setting *setting, uint8_t *memory,
                              size_t memory_size, const struct rvvbox_place *places, size_t places_count,
                              uint64_t *steps);
 
-/* Lets go what is kept. The handle then keeps nothing, and may be used again. */
-void rvvbox_free(struct rvvbox_handle *handle);
+/* Lets go a kernel, or does nothing where it is NULL. */
+void rvvbox_free(struct rvvbox_kernel *kernel);
 
 /* What a kernel takes at one place, of the kinds above: a number from lo to hi, or a buffer of `size` bytes. */
 struct rvvbox_parameter {
@@ -158,6 +212,7 @@ struct rvvbox_stopped {
     uint32_t fault;
     uint32_t number;
     uint32_t pc;
+    uint32_t reserved;
     uint64_t steps;
 };
 

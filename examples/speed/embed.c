@@ -42,14 +42,14 @@ static void row(const char *name, uint32_t n, size_t count, int calls) {
     printf("%s, n = %u: %.0f ns\n", name, n, (now() - from) / calls / (double)count);
 }
 
-static void kept(struct rvvbox_handle *handle, uint32_t n, int calls) {
+static void kept(struct rvvbox_kernel *kernel, uint32_t n, int calls) {
     memset(places, 0, sizeof places);
     places[0] = (struct rvvbox_place){.kind = RVVBOX_BUFFER, .size = sizeof words};
     places[1] = (struct rvvbox_place){.kind = RVVBOX_SCALAR, .value = n};
     uint64_t steps;
     double from = now();
-    for (int i = 0; i < calls; i++) ended(rvvbox_run_accepted(handle, &setting, words, sizeof words, places, 8, &steps));
-    printf("run of a handle, n = %u: %.0f ns\n", n, (now() - from) / calls);
+    for (int i = 0; i < calls; i++) ended(rvvbox_run_accepted(kernel, &setting, words, sizeof words, places, 8, &steps));
+    printf("run of a kernel, n = %u: %.0f ns\n", n, (now() - from) / calls);
 }
 
 int main(void) {
@@ -62,9 +62,9 @@ int main(void) {
     static const uint32_t counts[] = {0, 16, 100, 1000};
     for (size_t i = 0; i < 4; i++) row("check and run", counts[i], 1, 1000);
     for (size_t i = 0; i < 4; i++) row("run, of 256 in a call", counts[i], RUNS, 20);
-    struct rvvbox_handle handle = {0};
-    ended(rvvbox_accept(image, size, 128, &handle, &refusal));
-    for (size_t i = 0; i < 4; i++) kept(&handle, counts[i], 5000);
-    rvvbox_free(&handle);
+    struct rvvbox_kernel *kernel = NULL;
+    ended(rvvbox_accept(image, size, 128, &kernel, &refusal));
+    for (size_t i = 0; i < 4; i++) kept(kernel, counts[i], 5000);
+    rvvbox_free(kernel);
     return 0;
 }

@@ -1,7 +1,7 @@
 #!/usr/bin/env python3
 """How long a host's call takes: `examples/speed/embed.py [RUNS]` builds embed.c over the library that `rt lib` makes in crates/rvvbox_c.
 
-Prints, for each row that embed.c prints, the median of so many runs of it (7), of processor time; and what a run by a handle with
+Prints, for each row that embed.c prints, the median of so many runs of it (7), of processor time; and what a run of a kernel with
 n = 16 takes beyond its steps, each of which takes what the steps between n = 0 and n = 1000 take. Beside it, how long a process of
 `rvvbox run` takes on the same job, where the program was built.
 """
@@ -49,9 +49,9 @@ def main():
         rows = medians(built(folder), runs)
     for name, number in rows.items():
         print('%s: %.0f ns' % (name, number))
-    took = {n: rows['run of a handle, n = %d' % n] for n in STEPS}
+    took = {n: rows['run of a kernel, n = %d' % n] for n in STEPS}
     step = (took[1000] - took[0]) / (STEPS[1000] - STEPS[0])
-    print('a step: %.1f ns; a run of a handle beyond its steps, n = 16: %.0f ns' % (step, took[16] - step * STEPS[16]))
+    print('a step: %.1f ns; a run of a kernel beyond its steps, n = 16: %.0f ns' % (step, took[16] - step * STEPS[16]))
     if os.path.exists(PROGRAM):
         start = time.perf_counter()
         for _ in range(100):

@@ -41,7 +41,8 @@ static uint32_t run(size_t count) { return rvvbox_run(image, size, &setting, wor
 static void refuses_place(struct rvvbox_place place, int at, uint32_t status) {
     struct rvvbox_place kept = places[at];
     places[at] = place;
-    EXPECT(run(8) == status);
+    steps = 7;
+    EXPECT(run(8) == status && steps == 7);
     EXPECT(!memcmp(words, before, sizeof words));
     places[at] = kept;
 }
@@ -50,11 +51,11 @@ static void wrong_arguments(void) {
     struct rvvbox_refusal refusal;
     struct rvvbox_scalars scalars = {.a1 = 1000};
     struct rvvbox_bound bound;
-    EXPECT(rvvbox_version() == RVVBOX_VERSION);
+    EXPECT(rvvbox_version() == (RVVBOX_VERSION_MAJOR << 16 | RVVBOX_VERSION_MINOR));
     EXPECT(rvvbox_check(image, size, 128, &refusal) == RVVBOX_DONE && refusal.status == RVVBOX_DONE);
     EXPECT(rvvbox_check(image, size, 127, &refusal) == RVVBOX_BAD_VLEN);
-    EXPECT(rvvbox_check(image, size, 256, &refusal) == RVVBOX_CHECK && refusal.rule == 1);
-    EXPECT(rvvbox_check(image, 51, 128, &refusal) == RVVBOX_IMAGE && refusal.rule == 1);
+    EXPECT(rvvbox_check(image, size, 256, &refusal) == RVVBOX_CHECK && refusal.rule == RVVBOX_CHECK_WRONG_VLEN);
+    EXPECT(rvvbox_check(image, 51, 128, &refusal) == RVVBOX_IMAGE && refusal.rule == RVVBOX_IMAGE_TOO_SHORT);
     EXPECT(rvvbox_bound(image, size, 128, &scalars, &bound) == RVVBOX_DONE && bound.low == 8002 && bound.high == 0);
     refuses_place((struct rvvbox_place){.kind = 4}, 7, RVVBOX_BAD_KIND);
     refuses_place((struct rvvbox_place){.kind = RVVBOX_SCALAR}, 0, RVVBOX_WRONG_KIND);
@@ -137,95 +138,118 @@ static void explained(void) {
     EXPECT(written == size_told && !memcmp(text, wanted, size_told));
 }
 
-static uint32_t run_kept(struct rvvbox_handle *handle, size_t count) {
-    return rvvbox_run_accepted(handle, &setting, words, sizeof words, places, count, &steps);
+static uint32_t run_kept(struct rvvbox_kernel *kernel, size_t count) {
+    return rvvbox_run_accepted(kernel, &setting, words, sizeof words, places, count, &steps);
 }
 
-/* An image is kept, told and run twice; what is refused leaves the handle as it is, and one that keeps nothing says so */
-static void kept(void) {
-    struct rvvbox_handle handle = {0};
-    struct rvvbox_refusal refusal;
-    struct rvvbox_scalars scalars = {.a1 = 1000};
-    struct rvvbox_bound bound;
-    EXPECT(run_kept(&handle, 8) == RVVBOX_NOTHING_KEPT && rvvbox_bound_of(&handle, &scalars, &bound) == RVVBOX_NOTHING_KEPT);
-    EXPECT(rvvbox_accept(image, 51, 128, &handle, &refusal) == RVVBOX_IMAGE && refusal.rule == 1 && !handle.at);
-    EXPECT(rvvbox_accept(image, size, 128, &handle, &refusal) == RVVBOX_DONE && refusal.status == RVVBOX_DONE && handle.at);
-    EXPECT(rvvbox_accept(image, size, 256, &handle, &refusal) == RVVBOX_CHECK && handle.at);
-    EXPECT(rvvbox_bound_of(&handle, &scalars, &bound) == RVVBOX_DONE && bound.low == 8002 && bound.high == 0);
-    EXPECT(run_kept(&handle, 7) == RVVBOX_BAD_COUNT);
-    setting.vlen = 256;
-    EXPECT(run_kept(&handle, 8) == RVVBOX_WRONG_VLEN && !memcmp(words, before, sizeof words));
-    setting.vlen = 128;
-    for (int times = 0; times < 2; times++) {
-        EXPECT(run_kept(&handle, 8) == RVVBOX_DONE && steps == 2002 && !memcmp(words, expected, sizeof words));
-        memcpy(words, before, sizeof words);
-    }
-    EXPECT(rvvbox_accept(image, size, 128, &handle, &refusal) == RVVBOX_DONE);
-    rvvbox_free(&handle);
-    EXPECT(!handle.at && run_kept(&handle, 8) == RVVBOX_NOTHING_KEPT);
-    rvvbox_free(&handle);
+static uint32_t accept(uint32_t vlen, struct rvvbox_kernel **out) {
+    struct rvvbox_refusal refusal = {.status = 77};
+    uint32_t status = rvvbox_accept(image, size, vlen, out, &refusal);
+    EXPECT(refusal.status == status);
+    return status;
 }
 
-/* The kept kernel runs, and leaves the words as they were expected */
-static void runs_well(struct rvvbox_handle *handle) {
-    EXPECT(run_kept(handle, 8) == RVVBOX_DONE && steps == 2002 && !memcmp(words, expected, sizeof words));
+/* The kernel runs, and leaves the words as they were expected */
+static void runs_well(struct rvvbox_kernel *kernel) {
+    EXPECT(run_kept(kernel, 8) == RVVBOX_DONE && steps == 2002 && !memcmp(words, expected, sizeof words));
     memcpy(words, before, sizeof words);
 }
 
-/* Lets go what is kept, for which no memory is asked for */
-static void let_go(struct rvvbox_handle *handle) {
+/* Lets go a kernel, for which no memory is asked for */
+static void let_go(struct rvvbox_kernel *kernel) {
     refused = 0;
-    rvvbox_free(handle);
-    EXPECT(refused == 0 && !handle->at);
+    rvvbox_free(kernel);
+    EXPECT(refused == 0);
     refused = -1;
 }
 
-/* Each allocation of an acceptance and of the run that follows is refused once: want of memory in that call, and words as they were. The
- * handle can be used afterwards, in the same way as if nothing had been refused, until it is let go */
-static void want_of_memory_by_handle(void) {
-    struct rvvbox_handle handle = {0};
+/* An image is accepted, told and run twice; what is refused leaves the place for the kernel as it is, and nothing is let go of NULL */
+static void kept(void) {
+    struct rvvbox_kernel *kernel = NULL, *first;
     struct rvvbox_refusal refusal;
-    long given = 0, in_runs = 0;
-    for (;; given++) {
-        refused = given;
-        uint32_t accepted = rvvbox_accept(image, size, 128, &handle, &refusal);
-        uint32_t ran = run_kept(&handle, 8);
-        int was_refused = refused < 0;
-        refused = -1;
-        if (!was_refused) break;
-        EXPECT(refusal.status == accepted && !memcmp(words, before, sizeof words));
-        if (accepted == RVVBOX_DONE) {
-            in_runs++;
-            EXPECT(handle.at && ran == RVVBOX_NO_MEMORY);
-        } else {
-            EXPECT(accepted == RVVBOX_NO_MEMORY && !handle.at && ran == RVVBOX_NOTHING_KEPT);
-            EXPECT(rvvbox_accept(image, size, 128, &handle, &refusal) == RVVBOX_DONE);
-        }
-        runs_well(&handle);
-        let_go(&handle);
-    }
-    EXPECT(in_runs > 2 && given - in_runs > 2 && !memcmp(words, expected, sizeof words));
-    memcpy(words, before, sizeof words);
-    let_go(&handle);
+    struct rvvbox_scalars scalars = {.a1 = 1000};
+    struct rvvbox_bound bound;
+    let_go(NULL);
+    EXPECT(rvvbox_accept(image, 51, 128, &kernel, &refusal) == RVVBOX_IMAGE && refusal.rule == RVVBOX_IMAGE_TOO_SHORT && !kernel);
+    EXPECT(accept(128, &kernel) == RVVBOX_DONE && kernel);
+    first = kernel;
+    EXPECT(accept(256, &kernel) == RVVBOX_CHECK && kernel == first);
+    EXPECT(rvvbox_bound_of(kernel, &scalars, &bound) == RVVBOX_DONE && bound.low == 8002 && bound.high == 0);
+    steps = 7;
+    EXPECT(run_kept(kernel, 7) == RVVBOX_BAD_COUNT && steps == 7);
+    setting.vlen = 256;
+    EXPECT(run_kept(kernel, 8) == RVVBOX_WRONG_VLEN && steps == 7 && !memcmp(words, before, sizeof words));
+    setting.vlen = 128;
+    runs_well(kernel);
+    runs_well(kernel);
+    EXPECT(accept(128, &kernel) == RVVBOX_DONE);
+    runs_well(kernel);
+    let_go(kernel);
 }
 
-/* Each allocation of an acceptance is refused once, while the handle keeps a kernel: it keeps that one, which runs as before */
-static void want_of_memory_in_place(void) {
-    struct rvvbox_handle handle = {0};
-    struct rvvbox_refusal refusal;
-    EXPECT(rvvbox_accept(image, size, 128, &handle, &refusal) == RVVBOX_DONE);
-    for (long given = 0;; given++) {
-        uint8_t *at = handle.at;
+/* Kernels of one image serve one by one, in whatever order they are let go, and the place of another is taken with its kernel let go */
+static void shared(void) {
+    struct rvvbox_kernel *kernel = NULL, *second = NULL, *third = NULL;
+    EXPECT(accept(128, &kernel) == RVVBOX_DONE && accept(128, &third) == RVVBOX_DONE);
+    EXPECT(rvvbox_share(kernel, &second) == RVVBOX_DONE && second && second != kernel);
+    EXPECT(rvvbox_share(second, &third) == RVVBOX_DONE);
+    let_go(kernel);
+    runs_well(second);
+    let_go(second);
+    runs_well(third);
+    let_go(third);
+}
+
+/* Each allocation of an acceptance, of a share and of a run is refused once: want of memory in that call, and words as they were. The
+ * kernels can be used afterwards, in the same way as if nothing had been refused, until they are let go */
+static void want_of_memory_of_kernels(void) {
+    long given = 0, in_shares = 0, in_runs = 0;
+    for (int was_refused = 1; was_refused; given++) {
+        struct rvvbox_kernel *kernel = NULL, *second = NULL;
         refused = given;
-        uint32_t accepted = rvvbox_accept(image, size, 128, &handle, &refusal);
+        uint32_t accepted = accept(128, &kernel);
+        if (accepted == RVVBOX_NO_MEMORY) {
+            EXPECT(!kernel && accept(128, &kernel) == RVVBOX_DONE);
+        }
+        uint32_t taken = rvvbox_share(kernel, &second);
+        if (taken == RVVBOX_NO_MEMORY) {
+            in_shares++;
+            EXPECT(!second && rvvbox_share(kernel, &second) == RVVBOX_DONE);
+        }
+        steps = 7;
+        uint32_t ran = run_kept(second, 8);
+        was_refused = refused < 0;
+        refused = -1;
+        if (ran == RVVBOX_NO_MEMORY) {
+            in_runs++;
+            EXPECT(steps == 7 && !memcmp(words, before, sizeof words));
+        }
+        EXPECT(was_refused == (accepted != RVVBOX_DONE || taken != RVVBOX_DONE || ran != RVVBOX_DONE));
+        memcpy(words, before, sizeof words);
+        runs_well(kernel);
+        runs_well(second);
+        let_go(kernel);
+        let_go(second);
+    }
+    EXPECT(in_shares > 1 && in_runs > 2 && given > in_shares + in_runs + 2);
+}
+
+/* Each allocation of an acceptance is refused once, while the place has a kernel: it keeps that one, which runs as before */
+static void want_of_memory_in_place(void) {
+    struct rvvbox_kernel *kernel = NULL;
+    EXPECT(accept(128, &kernel) == RVVBOX_DONE);
+    for (long given = 0;; given++) {
+        struct rvvbox_kernel *first = kernel;
+        refused = given;
+        uint32_t accepted = accept(128, &kernel);
         int was_refused = refused < 0;
         refused = -1;
         if (!was_refused) break;
-        EXPECT(accepted == RVVBOX_NO_MEMORY && handle.at == at);
-        runs_well(&handle);
+        EXPECT(accepted == RVVBOX_NO_MEMORY && kernel == first);
+        runs_well(kernel);
     }
-    runs_well(&handle);
-    let_go(&handle);
+    runs_well(kernel);
+    let_go(kernel);
 }
 
 /* Each allocation of a try is refused once: want of memory, and nothing changed. Then none is refused, and the run has ended */
@@ -248,11 +272,12 @@ static void want_of_memory(void) {
     long given = 0;
     for (;; given++) {
         refused = given;
+        steps = 7;
         uint32_t status = run(8);
         int was_refused = refused < 0;
         refused = -1;
         if (!was_refused) break;
-        EXPECT(status == RVVBOX_NO_MEMORY);
+        EXPECT(status == RVVBOX_NO_MEMORY && steps == 7);
         EXPECT(!memcmp(words, before, sizeof words));
     }
     EXPECT(given > 5);
@@ -270,7 +295,8 @@ int main(void) {
     explained();
     two_runs();
     kept();
-    want_of_memory_by_handle();
+    shared();
+    want_of_memory_of_kernels();
     want_of_memory_in_place();
     want_of_memory_in_a_try();
     want_of_memory();

@@ -55,9 +55,15 @@ def under_valgrind(program):
     return [found, *words, program] if found else [program]
 
 
+def under_helgrind(program):
+    """The words that run a program under helgrind, which sees two threads race, where valgrind is installed."""
+    found = valgrind()
+    return [found, '--tool=helgrind', '--quiet', '--error-exitcode=99', program] if found else [program]
+
+
 def c_name(name):
     """`BadVlen` as `BAD_VLEN`."""
-    return re.sub(r'(?<=[a-z])(?=[A-Z])', '_', name).upper()
+    return re.sub(r'(?<=[a-z])(?=[A-Z])|(?<=[A-Z])(?=[A-Z][a-z])', '_', name).upper()
 
 
 def without_target(environment=os.environ):

@@ -1,4 +1,4 @@
--- The machine values of a `Loose` and of a handle. Assumes `Logic`.
+-- The machine values of a `Loose` and of a kernel. Assumes `Logic`.
 use Rattle.std.proofs.Common.{◌≡◌, ℕ, List, [], ◌∷◌, ◌++◌, refl, subst}
 use mathlib.Core.Bool.{true, ◌&&◌}
 use lib.Dec.{T, lit<}
@@ -30,9 +30,8 @@ use Rattle.std.specs.declared.option.Option.{Option}
 use Rattle.std.specs.declared.option.Option.TheVariants.{None, Some}
 use Rattle.std.specs.contracts.impls.GlobalAllocator.TheImpl.{ghosts}
 use Rattle.std.proofs.GlobalToken.{dealloc_token-Testable}
-use Rattle.block_checker.specs.Accepted.{AcceptedView}
-use Rattle.rvvbox_c.specs.Holds.{accepted_row, global, handle_owns}
-use Rattle.rvvbox_c.specs.contracts.kept.Handle as handle
+use Rattle.rvvbox_c.specs.Holds.{SharedView, shared_row, global, kernel_owns}
+use Rattle.rvvbox_c.specs.contracts.kept.Kernel as kernel
 use Rattle.rvvbox_c.specs.contracts.loose.Loose as loose
 
 abbrev pub both : Val → Val → Val
@@ -65,7 +64,7 @@ module _ (R Z : RattleType) (L : Laws Z) (g : Ghosts Z.Denot) where
         fpack t (Valss (RawPtr ∷ Z ∷ [])) (within (shape (loose.the_type R Z g)) (block_ptr b o, (a, tt)) (v ∷ [])) (vptr b o ∷ [], (h ∷ [], tt)) $ fjoin t $ s)
 
 abbrev pub Hd : RattleType
-Hd = handle.the_row
+Hd = kernel.the_row
 
 abbrev pub alone : Ptr → Val
 alone p = vstruct (vcons (ptr_val p) vnil)
@@ -77,25 +76,25 @@ ptr_good null_ptr = (tt, record { fits = lit< tt })
 pub alone_good : (p : Ptr) → Good (layout Hd) (alone p)
 alone_good p = (and_tt (has_ty ty_ptr (ptr_val p)) (ptr_good p).0, ((ptr_good p).1, tt))
 
-abbrev pub boxed : Ptr → AcceptedView → Fml
-boxed p a = box_owns (ghosts.dealloc_token global) accepted_row p a
+abbrev pub boxed : Ptr → SharedView → Fml
+boxed p a = box_owns (ghosts.dealloc_token global) shared_row p a
 
 module _ {M : Type 1} {𝓤 : Ura M} (𝓛 : Logic 𝓤) where
-  pub tested : (p : Ptr) (a : AcceptedView) → ent 𝓤 (sem 𝓛 (boxed p a)) (guard 𝓤 (Testable p) (sem 𝓛 (boxed p a)))
-  tested p a = fact_use 𝓤 (Testable p) (via 𝓤 _ (snd∗ 𝓤 (sem 𝓛 (lies_at accepted_row full_share p a)) (sem 𝓛 (ghosts.dealloc_token global (bare (lone accepted_row.mir)) p))) (dealloc_token-Testable 𝓛 global (bare (lone accepted_row.mir)) p)) (guard_i 𝓤 (Testable p) (sem 𝓛 (boxed p a)))
+  pub tested : (p : Ptr) (a : SharedView) → ent 𝓤 (sem 𝓛 (boxed p a)) (guard 𝓤 (Testable p) (sem 𝓛 (boxed p a)))
+  tested p a = fact_use 𝓤 (Testable p) (via 𝓤 _ (snd∗ 𝓤 (sem 𝓛 (lies_at shared_row full_share p a)) (sem 𝓛 (ghosts.dealloc_token global (bare (lone shared_row.mir)) p))) (dealloc_token-Testable 𝓛 global (bare (lone shared_row.mir)) p)) (guard_i 𝓤 (Testable p) (sem 𝓛 (boxed p a)))
 
 module _ {M : Type 1} {𝓤 : Ura M} {𝓛 : Logic 𝓤} {K : Type 0} {Γ : List (Item 𝓤)} {G : Goal 𝓤 𝓛.H} where
-  pub handle_in : K → (p : Ptr) (x : Option AcceptedView) → Step K 𝓛 (‵ (Hd.own_val (record { at = p; kept = x }) (alone p ∷ [])) ∷ Γ) G (‵ (handle_owns p x) ∷ Γ) G
-  handle_in t p x = step (λ s.
+  pub kernel_in : K → (p : Ptr) (x : Option SharedView) → Step K 𝓛 (‵ (Hd.own_val (record { at = p; kept = x }) (alone p ∷ [])) ∷ Γ) G (‵ (kernel_owns p x) ∷ Γ) G
+  kernel_in t p x = step (λ s.
       nothing t $ feq_i t (List Val) (ptr_val p ∷ []) (ptr_val p ∷ []) refl $ fjoin t $ feq_i t (List Val) (alone p ∷ []) (alone p ∷ []) refl $ fjoin t $
-      fpack t (Valss (RawPtr ∷ [])) (within (shape handle.the_type) (p, tt) (alone p ∷ [])) (ptr_val p ∷ [], tt) $ fjoin t $ s)
+      fpack t (Valss (RawPtr ∷ [])) (within (shape kernel.the_type) (p, tt) (alone p ∷ [])) (ptr_val p ∷ [], tt) $ fjoin t $ s)
 
-  pub handle_out : K → (d : Hd.Denot) (vs : List Val) → (vs ≡ alone d.at ∷ [] → Seq K 𝓛 (‵ (handle_owns d.at d.kept) ∷ Γ) G) → Seq K 𝓛 (‵ (Hd.own_val d vs) ∷ Γ) G
-  handle_out t d vs k =
+  pub kernel_out : K → (d : Hd.Denot) (vs : List Val) → (vs ≡ alone d.at ∷ [] → Seq K 𝓛 (‵ (kernel_owns d.at d.kept) ∷ Γ) G) → Seq K 𝓛 (‵ (Hd.own_val d vs) ∷ Γ) G
+  kernel_out t d vs k =
       fsplit t $ fpick t (λ vss. fsplit t $ feq_l t (λ ev. fsplit t $ feq_l t (λ ep. drop t $ k (subst (λ (ps : List Val). vs ≡ vstruct (of_list (ps ++ [])) ∷ []) ep ev))))
 
-  pub either_held : K → (p : Ptr) (x : Option AcceptedView) → (p ≡ null_ptr → x ≡ None → Seq K 𝓛 Γ G)
-      → ((b o : ℕ) (a : AcceptedView) → p ≡ block_ptr b o → x ≡ Some a → Testable (block_ptr b o) → Seq K 𝓛 (‵ (boxed (block_ptr b o) a) ∷ Γ) G) → Seq K 𝓛 (‵ (handle_owns p x) ∷ Γ) G
+  pub either_held : K → (p : Ptr) (x : Option SharedView) → (p ≡ null_ptr → x ≡ None → Seq K 𝓛 Γ G)
+      → ((b o : ℕ) (a : SharedView) → p ≡ block_ptr b o → x ≡ Some a → Testable (block_ptr b o) → Seq K 𝓛 (‵ (boxed (block_ptr b o) a) ∷ Γ) G) → Seq K 𝓛 (‵ (kernel_owns p x) ∷ Γ) G
   either_held t p None none one = feq_l t (λ e. none e refl)
-  either_held t p (Some a) none one = in_a_block t p (λ q. boxed q a) (fst∗ 𝓤 (never 𝓤) (sem 𝓛 (ghosts.dealloc_token global (bare (lone accepted_row.mir)) null_ptr))) (λ b o e.
+  either_held t p (Some a) none one = in_a_block t p (λ q. boxed q a) (fst∗ 𝓤 (never 𝓤) (sem 𝓛 (ghosts.dealloc_token global (bare (lone shared_row.mir)) null_ptr))) (λ b o e.
       use1 𝓛 (given (Testable (block_ptr b o)) (‵ (boxed (block_ptr b o) a))) (tested 𝓛 (block_ptr b o) a) $ learn t (λ u. one b o a e refl u))

@@ -5,6 +5,7 @@ pub mod Holds
 pub mod Places
 pub mod Runs
 pub mod Scalars
+pub mod Slots
 pub mod Status
 pub mod Told
 pub mod Tries

@@ -91,7 +91,7 @@ certificate_rule certificate.Equality = 6
 certificate_rule certificate.Budget = 7
 certificate_rule certificate.TrailingBytes = 8
 certificate_rule certificate.TooMany = 9
-certificate_rule certificate.Order = 10
+certificate_rule certificate.Order = 11
 certificate_rule certificate.NoMemory = 0
 
 abbrev pub check_rule : CheckError → ℕ
@@ -105,10 +105,10 @@ check_rule (check.ReadOnly pc) = 7
 check_rule (check.TargetNotABlock pc) = 8
 check_rule (check.IntervalNotProved pc) = 9
 check_rule (check.EqualityNotProved pc) = 10
-check_rule (check.OrderNotProved pc) = 11
-check_rule (check.VectorFactNotProved pc) = 12
-check_rule (check.BudgetNotProved pc) = 13
-check_rule (check.BlockTooLong pc) = 14
+check_rule (check.OrderNotProved pc) = 15
+check_rule (check.VectorFactNotProved pc) = 11
+check_rule (check.BudgetNotProved pc) = 12
+check_rule (check.BlockTooLong pc) = 13
 check_rule check.NoMemory = 0
 
 -- ---- refusals

@@ -54,6 +54,7 @@ stopped_at fault number last = record {
   fault = fault;
   number = number;
   pc = last.registers.pc;
+  reserved = 0;
   steps = last.steps;
 }
 

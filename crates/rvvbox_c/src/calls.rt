@@ -19,6 +19,7 @@ ghost use Rattle.rvvbox_c.specs.Status.{IsFaultOrWant, IsThisOrWant, code_of, st
 ghost use Rattle.rvvbox_c.specs.Told.{parameter_of, parameters_told};
 ghost use Rattle.rvvbox_c.specs.Tries.{is_tried};
 ghost use Rattle.sandbox_run.specs.Session.{open_fault};
+ghost use Rattle.rvvbox_c.specs.declared.calls.TheConstants.{VERSION_MAJOR, VERSION_MINOR};
 ghost use Rattle.rvvbox_c.specs.declared.status.Status.TheVariants.{Done};
 
 use crate::accept::{accept, agnostic_of, vlen_of};
@@ -64,6 +65,7 @@ impl Setting {
 #[derive(Clone, Copy)]
 pub struct Ran {
     pub status: u32,
+    pub reserved: u32,
     pub steps: u64,
 }
 
@@ -76,8 +78,21 @@ impl Ran {
     {
         Ran {
             status: status.code(),
+            reserved: 0,
             steps: 0,
         }
+    }
+
+    /// The status. The steps are told where the run was done.
+    pub(crate) fn told(self, steps: &mut u64) -> u32
+        ensures status { result ≡ self.status }
+        ensures done { self.status ≡ 0 → steps.new ≡ self.steps }
+        ensures refused { IsFailure self.status → steps.new ≡ steps.old }
+    {
+        if self.status == 0 {
+            *steps = self.steps;
+        }
+        self.status
     }
 }
 
@@ -114,12 +129,18 @@ pub struct Parameter {
     pub size: u32,
 }
 
-/// The version of these calls. It changes where one of them does.
+/// The first part of the version: a host that was compiled for another can't use the library.
+pub const VERSION_MAJOR: u32 = 2;
+
+/// The second part: a library of a higher one has all that those before it had.
+pub const VERSION_MINOR: u32 = 0;
+
+/// The version of these calls, the first part above the lower 16 bits.
 #[unsafe(no_mangle)]
 pub extern "C" fn rvvbox_version() -> u32
-    ensures { result ≡ 1 }
+    ensures { result ≡ VERSION_MAJOR * 2 ^ 16 + VERSION_MINOR }
 {
-    1
+    VERSION_MAJOR * (1 << 16) + VERSION_MINOR
 }
 
 /// Checks the image that `file` spells, for vector registers of `vlen` bits, and answers the
@@ -323,6 +344,7 @@ pub(crate) fn run_one(
     match steps {
         Ok(steps) => Ran {
             status: Status::Done.code(),
+            reserved: 0,
             steps,
         },
         Err(status) => Ran::refused(status),
@@ -407,7 +429,8 @@ pub extern "C" fn rvvbox_run(
     ensures at_once { IfSome (call_fault file.now setting.now (length places.now == 8))
         (λ fault. result ≡ code_of fault) }
     ensures answer { IsThisOrWant (run_answer file.now setting.now places.now memory.old) result }
-    ensures refused { IsFailure result → memory.new ≡ memory.old }
+    ensures refused { IsFailure result
+        → (memory.new ≡ memory.old) × (steps.new ≡ steps.old) }
     ensures length { length memory.new ≡ length memory.old }
     ensures outside { KeepsOutside places.now memory.old memory.new }
     ensures within { result ≡ 0 → steps.new ≤ setting.now.max }
@@ -422,9 +445,7 @@ pub extern "C" fn rvvbox_run(
     match accept(alloc, file, vlen) {
         Err(refusal) => refusal.status,
         Ok(accepted) => {
-            let ran = run_one(alloc, &accepted, memory, places, agnostic, setting.max);
-            *steps = ran.steps;
-            ran.status
+            run_one(alloc, &accepted, memory, places, agnostic, setting.max).told(steps)
         }
     }
 }

@@ -1,76 +1,103 @@
-//! An accepted image that a host holds by a handle.
-ghost use Rattle.std.specs.Prelude.{◌≡◌, Option, None, Some};
+//! An accepted image that a host keeps for many runs, on its threads.
+ghost use Rattle.std.specs.Prelude.{◌≡◌, IfErr, IfOk, Option, None, Some};
+ghost use Rattle.std.specs.Arc.{arc_value};
 ghost use Rattle.std.specs.Option.{option_map};
-ghost use Rattle.block_checker.specs.Accepted.{AcceptedView};
-ghost use Rattle.rvvbox_c.specs.Holds.{handle_owns};
+ghost use Rattle.rvvbox_c.specs.Holds.{SharedView, kernel_owns};
 
 use crate::loose::Loose;
 use block_checker::Accepted;
-use std::alloc::Global;
+use std::alloc::{AllocError, Global};
 use std::marker::Model;
+use std::sync::Arc;
 use std::{mem, ptr};
 
-/// An accepted image, or none, where the pointer is null. The host keeps it as it is, and in one
-/// place.
+/// An accepted image that may be shared with others of its kind, or none, where the pointer is
+/// null. The host has a pointer to it, and nothing else.
 #[repr(C)]
-pub struct Handle {
+#[derive(Drop)]
+pub struct Kernel {
     at: *mut u8,
-    pub ghost kept: { Option AcceptedView },
+    pub ghost kept: { Option SharedView },
 }
 
-impl Model for Handle {
-    ghost also_owns = { λ h. handle_owns h.at h.kept };
+impl Model for Kernel {
+    ghost also_owns = { λ k. kernel_owns k.at k.kept };
 }
 
-impl Handle {
-    /// A handle that keeps nothing.
-    fn empty() -> Handle
+unsafe impl Send for Kernel {}
+
+impl Kernel {
+    /// A kernel that keeps nothing.
+    fn empty() -> Kernel
         ensures { result.kept ≡ None }
     {
-        Handle {
+        Kernel {
             at: ptr::null_mut(),
         }
     }
 
-    /// A handle that keeps an accepted image.
-    fn of(accepted: Loose<Accepted, Global>) -> Handle
+    /// A kernel that keeps an accepted image.
+    fn of(accepted: Loose<Arc<Accepted>, Global>) -> Kernel
         ensures { result.kept ≡ Some accepted.value }
     {
         let Loose { at, alloc: _alloc } = accepted;
-        Handle { at: at as *mut u8 }
+        Kernel { at: at as *mut u8 }
     }
 
     /// What is kept, if anything is.
-    fn into_loose(self, alloc: Global) -> Option<Loose<Accepted, Global>>
+    fn into_loose(self, alloc: Global) -> Option<Loose<Arc<Accepted>, Global>>
         ensures { option_map (λ l. l.value) result ≡ self.kept }
     {
-        let Handle { at } = self;
+        let Kernel { at } = self;
         if at.is_null() {
             None
         } else {
             Some(Loose {
-                at: at as *mut Accepted,
+                at: at as *mut Arc<Accepted>,
                 alloc,
             })
         }
     }
 
+    /// A kernel of an accepted image, in memory of its own.
+    pub(crate) fn made(alloc: Global, accepted: Arc<Accepted>) -> Result<Box<Kernel>, AllocError>
+        ensures { IfOk result (λ b. b.value.kept ≡ Some accepted) }
+    {
+        let Ok(accepted) = Box::new(alloc, accepted) else {
+            return Err(AllocError);
+        };
+        let Ok(mut kernel) = Box::new(alloc, Kernel::empty()) else {
+            return Err(AllocError);
+        };
+        kernel.keep(alloc, accepted);
+        Ok(kernel)
+    }
+
     /// Takes out what is kept.
-    pub(crate) fn take(&mut self, alloc: Global) -> Option<Box<Accepted>>
+    pub(crate) fn take(&mut self, alloc: Global) -> Option<Box<Arc<Accepted>>>
         ensures taken { option_map (λ b. b.value) result ≡ self.old.kept }
         ensures empty { self.new.kept ≡ None }
     {
-        let held = mem::replace(self, Handle::empty());
+        let held = mem::replace(self, Kernel::empty());
         held.into_loose(alloc).map(Loose::into_box)
     }
 
     /// Keeps an accepted image, and lets go what was kept.
-    pub(crate) fn keep(&mut self, alloc: Global, accepted: Box<Accepted>)
+    pub(crate) fn keep(&mut self, alloc: Global, accepted: Box<Arc<Accepted>>)
         ensures { self.new.kept ≡ Some accepted.value }
     {
-        let before = mem::replace(self, Handle::of(Loose::of(accepted)));
+        let before = mem::replace(self, Kernel::of(Loose::of(accepted)));
         if let Some(loose) = before.into_loose(alloc) {
             drop(loose.into_box());
         }
     }
+}
+
+/// One more kernel of the same image.
+pub(crate) fn another(alloc: Global, held: &Box<Arc<Accepted>>) -> Result<Box<Kernel>, AllocError>
+    ensures { IfOk result (λ b. option_map arc_value b.value.kept
+        ≡ Some (arc_value held.now.value)) }
+{
+    let owner: &Arc<Accepted> = held;
+    Kernel::made(alloc, Arc::try_clone(owner)?)
 }

@@ -9,6 +9,7 @@ mod handles;
 mod kept;
 mod loose;
 mod places;
+mod slot;
 mod status;
 mod tries;
 
@@ -17,8 +18,9 @@ pub use calls::{
     rvvbox_version,
 };
 pub use explain::rvvbox_explain;
-pub use handles::{rvvbox_accept, rvvbox_bound_of, rvvbox_free, rvvbox_run_accepted};
-pub use kept::Handle;
+pub use handles::{rvvbox_accept, rvvbox_bound_of, rvvbox_free, rvvbox_run_accepted, rvvbox_share};
+pub use kept::Kernel;
 pub use places::Place;
+pub use slot::Slot;
 pub use status::Refusal;
 pub use tries::{Stopped, rvvbox_try};

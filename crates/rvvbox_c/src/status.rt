@@ -253,7 +253,7 @@ fn certificate_rule(error: CertError) -> u32
         CertError::Budget => 7,
         CertError::TrailingBytes => 8,
         CertError::TooMany => 9,
-        CertError::Order => 10,
+        CertError::Order => 11,
         CertError::NoMemory => 0,
     }
 }
@@ -273,10 +273,10 @@ fn check_rule(error: CheckError) -> u32
         CheckError::TargetNotABlock(_) => 8,
         CheckError::IntervalNotProved(_) => 9,
         CheckError::EqualityNotProved(_) => 10,
-        CheckError::OrderNotProved(_) => 11,
-        CheckError::VectorFactNotProved(_) => 12,
-        CheckError::BudgetNotProved(_) => 13,
-        CheckError::BlockTooLong(_) => 14,
+        CheckError::OrderNotProved(_) => 15,
+        CheckError::VectorFactNotProved(_) => 11,
+        CheckError::BudgetNotProved(_) => 12,
+        CheckError::BlockTooLong(_) => 13,
         CheckError::NoMemory => 0,
     }
 }

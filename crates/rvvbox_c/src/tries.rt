@@ -28,6 +28,7 @@ pub struct Stopped {
     pub fault: u32,
     pub number: u32,
     pub pc: u32,
+    pub reserved: u32,
     pub steps: u64,
 }
 
@@ -70,6 +71,7 @@ fn stop<const VLENB: usize>(status: Status, fault: u32, number: u32, last: Final
             fault,
             number,
             pc: registers.pc,
+            reserved: 0,
             steps,
         },
         args,

@@ -1,0 +1,68 @@
+/* Threads with a kernel each of one image, which the first of them has checked. Prints nothing and ends with 0 where each run is done and
+ * each refusal is the header's; else names the line. */
+#include "rvvbox.h"
+#include <pthread.h>
+#include <stdio.h>
+#include <stdlib.h>
+#include <string.h>
+
+#define EXPECT(holds) do { if (!(holds)) { fprintf(stderr, "line %d: %s\n", __LINE__, #holds); exit(1); } } while (0)
+
+enum { THREADS = 8, ROUNDS = 6, SIZE = 4096 };
+static uint8_t image[SIZE], before[SIZE], expected[SIZE];
+static size_t size;
+static const struct rvvbox_setting setting = {.vlen = 128, .agnostic = 0, .max = 10000};
+
+static size_t read_file(const char *name, uint8_t *bytes) {
+    FILE *file = fopen(name, "rb");
+    EXPECT(file);
+    size_t count = fread(bytes, 1, SIZE, file);
+    fclose(file);
+    return count;
+}
+
+static void runs(struct rvvbox_kernel *kernel, uint8_t *words, uint32_t n, uint32_t status) {
+    struct rvvbox_place places[8] = {{.kind = RVVBOX_BUFFER, .size = SIZE}, {.kind = RVVBOX_SCALAR, .value = n}};
+    uint64_t steps = 7;
+    memcpy(words, before, SIZE);
+    EXPECT(rvvbox_run_accepted(kernel, &setting, words, SIZE, places, 8, &steps) == status);
+    EXPECT(steps == (status == RVVBOX_DONE ? 2002 : 7));
+    EXPECT(!memcmp(words, status == RVVBOX_DONE ? expected : before, SIZE));
+}
+
+/* Runs the kernel that another thread has made, shares it further, and lets both go */
+static void *work(void *kernel) {
+    static const struct rvvbox_scalars scalars = {.a1 = 1000};
+    uint8_t *words = malloc(SIZE);
+    EXPECT(words);
+    for (int round = 0; round < ROUNDS; round++) {
+        struct rvvbox_kernel *second = NULL;
+        struct rvvbox_bound bound;
+        runs(kernel, words, 1000, RVVBOX_DONE);
+        EXPECT(rvvbox_share(kernel, &second) == RVVBOX_DONE);
+        EXPECT(rvvbox_bound_of(second, &scalars, &bound) == RVVBOX_DONE && bound.low == 8002 && !bound.high);
+        runs(second, words, 1025, RVVBOX_SCALAR_OUT_OF_INTERVAL);
+        rvvbox_free(second);
+    }
+    free(words);
+    rvvbox_free(kernel);
+    return NULL;
+}
+
+int main(void) {
+    size = read_file("raise_words.elf", image);
+    read_file("a.bin", before);
+    read_file("expected.bin", expected);
+    struct rvvbox_kernel *kernel = NULL;
+    struct rvvbox_refusal refusal;
+    EXPECT(rvvbox_accept(image, size, 128, &kernel, &refusal) == RVVBOX_DONE);
+    pthread_t threads[THREADS];
+    for (int i = 0; i < THREADS; i++) {
+        struct rvvbox_kernel *own = NULL;
+        EXPECT(rvvbox_share(kernel, &own) == RVVBOX_DONE);
+        EXPECT(!pthread_create(&threads[i], NULL, work, own));
+    }
+    rvvbox_free(kernel);
+    for (int i = 0; i < THREADS; i++) EXPECT(!pthread_join(threads[i], NULL));
+    return 0;
+}
