@@ -1,6 +1,6 @@
 """A second opinion on opening a run: why no run of an image is opened on given arguments, in Python.
 
-Written from docs/JOBS.md ("What `run` does", "Standard error"), docs/MACHINE.md ("Start and end") and, for the order of the errors, from what the README
+Written from docs/JOBS.md ("What each does, in order", "Standard error"), docs/MACHINE.md ("Start and end") and, for the order of the errors, from what the README
 files of region_mem and sandbox_run say in words; from no code or definition of crates/. An argument is None, a number, or a buffer: its mode and its bytes.
 """
 from certificates import read_certificate, read_image
