@@ -13,6 +13,8 @@ ROW = re.compile(r"(?m)^\| `(\w+)` \| `(.+)` \| `([0-9a-f]+)` \|$")
 OF_TESTS = re.compile(r"#\[cfg\(test\)\]\s*(?:pub(?:\([^)]*\))?\s+)?mod\s+(\w+)\s*;")
 # The derives of a type. `Debug` prints, and no clause speaks of it.
 DERIVES = re.compile(r"#\[derive\(([^)]*)\)\]\s*")
+# What is taken from a crate counts in a sum, and not the module there that has it.
+IMPORT = re.compile(r"(?m)^((?:\w+ )*use Rattle\.\w+)\.[\w.]*(\.\{.*)$")
 DIGITS = 12
 
 
@@ -41,12 +43,20 @@ def without_debug(text):
     return DERIVES.sub(lambda it: f"#[derive({kept(it)})]\n" if kept(it) else "", text)
 
 
+def meant(path, text):
+    """What counts of a file: its lines without comments, `Debug` and the modules of imports, which come first and in order. The path counts
+    for code alone, as definitions and proofs may move."""
+    is_code = path.endswith(".rt")
+    lines = IMPORT.sub(r"\1\2", without_debug(without_comments(text, not is_code))).splitlines()
+    is_import = lambda it: "use Rattle." in it
+    return "\n".join([path] * is_code + sorted(filter(is_import, lines)) + [it for it in lines if not is_import(it)])
+
+
 def sums(crate, pairs):
-    """The sum of each pair: of the crate's sources without comments, blank space at the ends of lines and `Debug`, and of the pair's own
-    text."""
+    """The sum of each pair: of what counts of the crate's sources, and of the pair's own text."""
     of_crate = hashlib.sha256()
-    for path, text in sources(crate).items():
-        of_crate.update(f"{path}\n{without_debug(without_comments(text, path.endswith('.antt')))}\n".encode())
+    for text in sorted(meant(*it) for it in sources(crate).items()):
+        of_crate.update(f"{text}\n".encode())
     return {it.name: sum_of(of_crate.copy(), it) for it in pairs}
 
 

@@ -130,6 +130,18 @@ class Sums(WithCrate):
             seen.append(self.sums())
             self.assertNotIn(seen[-1], seen[:-1], path)
 
+    def test_a_lemma_may_move(self):
+        lemma, user = "use Rattle.low.specs.Lib.{a}\nuse Rattle.std.proofs.Common.{refl}\npub b = a", "use Rattle.low.{}.Less.{{b}}\npub c = b"
+        self.put("proofs/Less.antt", lemma)
+        self.put("proofs/More.antt", user.format("proofs"))
+        before = self.sums()
+        (self.crate / "proofs/Less.antt").unlink()
+        self.put("specs/Less.antt", "\n".join([*reversed(lemma.split("\n")[:2]), "pub b = a"]))
+        self.put("proofs/More.antt", user.format("specs"))
+        self.assertEqual(self.sums(), before)
+        self.put("proofs/More.antt", user.format("specs").replace("Rattle.low", "Rattle.lower"))
+        self.assertNotEqual(self.sums(), before)
+
     def test_the_text_of_a_pair_counts_for_it_alone(self):
         before = self.sums()
         self.put("must-fail/pairs.edit", EDITS.replace("n + 2", "n + 3").replace("# takes", "-- A remark\n# takes"))
