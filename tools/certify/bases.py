@@ -2,9 +2,9 @@
 
 An origin is the place of a buffer, STACK, an address in the image, or LINK, where some call returns to. A sum stems from what both of its
 parts stem from; a load from a slot of the stack from what was stored there; every other load from nothing, as what any instruction but
-sums and moves makes.
+sums and moves makes. A function's own slots are told apart from those of functions that use the same stack before or after it.
 """
-from outside import checker
+from outside import checker, model
 
 import graph
 
@@ -18,7 +18,8 @@ class Bases:
 
     def __init__(self, code, its_graph, params):
         self.code, self.graph = code, its_graph
-        self.slots, self.before = {}, {}
+        self.slots, self.own, self.others, self.before = {}, {}, {}, {}
+        self.settle_frames()
         start = {10 + place: frozenset([place]) for place, *_ in checker.buffers(params)}
         start[2] = frozenset([(STACK, 0)])
         self.start = start
@@ -42,11 +43,23 @@ class Bases:
                 if behind.get(key) == now:
                     continue
                 behind[key] = now
-                for to in self.graph.leads[key]:
-                    if self.join(to, now) and to not in waiting:
+                for to, part in self.ways_on(key, now):
+                    if self.join(to, part) and to not in waiting:
                         waiting.add(to)
                         todo.append(to)
             is_changed = self.store_slots()
+
+    def ways_on(self, key, now):
+        """(node, what registers stem from) of each way. Behind a call of a function that leaves the stack pointer as it was, this one stems
+        from what it did before: so it is known behind a recursion, too."""
+        node, leads = self.code.nodes[key], self.graph.leads[key]
+        if self.code.is_return(node) and node.calls in self.balanced:
+            now = {register: origins for register, origins in now.items() if register != 2}
+        out = [(to, now) for to in leads]
+        after = node.calls, node.pc + 4
+        if node.i.shape in ('jal', 'jalr') and node.f['rd'] and leads and leads[0][0] in self.balanced and after in self.graph.place:
+            out.append((after, {2: now.get(2, NOTHING)}))
+        return out
 
     def at(self, key):
         """What registers stem from before a node, behind the loads that lead it."""
@@ -73,8 +86,8 @@ class Bases:
             return True
         is_changed = False
         for register, origins in now.items():
-            both = merged(old.get(register, NOTHING), origins)
-            if both != old.get(register, NOTHING):
+            known = old.get(register, NOTHING)
+            if not origins <= known and (both := merged(known, origins)) != known:
                 old[register], is_changed = both, True
         return is_changed
 
@@ -85,12 +98,57 @@ class Bases:
             node, known = self.code.nodes[key], self.at(key)
             if node.i.name != 'sw':
                 continue
-            stored = known.get(node.f['rs2'], NOTHING)
-            for slot in slots_of(known.get(node.f['rs1'], NOTHING), node.f['imm']):
-                both = merged(self.slots.get(slot, NOTHING), stored)
-                if both != self.slots.get(slot, NOTHING):
-                    self.slots[slot], is_changed = both, True
+            stored, own = known.get(node.f['rs2'], NOTHING), self.own_slot(node)
+            slots = slots_of(known.get(node.f['rs1'], NOTHING), node.f['imm'])
+            parts = [(self.slots, slot) for slot in slots] + ([(self.own, own)] if own else [(self.others, slot) for slot in slots])
+            for part, slot in parts:
+                both = merged(part.get(slot, NOTHING), stored)
+                if both != part.get(slot, NOTHING):
+                    part[slot], is_changed = both, True
         return is_changed
+
+    def settle_frames(self):
+        """Where the stack pointer stands in functions, and which of them, as chains of calls, leave it as it was."""
+        returns = [node for node in self.code.nodes.values() if node.calls and self.code.is_return(node)]
+        self.balanced, older = {node.calls for node in returns}, None
+        while self.balanced != older:
+            self.frames, older = self.depths_in_functions(), self.balanced
+            self.balanced = older - {node.calls for node in returns if self.frames.get(node.key) != 0}
+
+    def depths_in_functions(self):
+        """node -> where the stack pointer stands, from where the function of the node began; None where that is not one number."""
+        known, todo = {self.code.entry: 0}, [self.code.entry]
+        while todo:
+            key = todo.pop()
+            for to, now in self.depths_behind(self.code.nodes[key], known[key]):
+                both = now if to not in known or known[to] == now else None
+                if to in self.code.nodes and (to not in known or known[to] != both):
+                    known[to] = both
+                    todo.append(to)
+        return known
+
+    def depths_behind(self, node, now):
+        """(node, where the stack pointer stands) of each way: within the function, and where one that is called begins."""
+        leads = self.code.leads[node.key]
+        if node.i.shape in ('jal', 'jalr') and node.f['rd'] and leads:
+            return [((node.calls, node.pc + 4), now if leads[0][0] in self.balanced else None), *((to, 0) for to in leads)]
+        if self.code.is_return(node):
+            return []
+        if graph.used_and_set(node)[1] >> 2 & 1:
+            by = node.f['imm'] if node.i.name == 'addi' else self.added(node) if node.i.name == 'add' else None
+            now = now + by if None not in (now, by) and node.f['rs1'] == 2 else None
+        return [(to, now) for to in leads]
+
+    def added(self, node):
+        """The known number that an add adds, as a signed one; None where there is none."""
+        number = self.code.constant(node.f['rs2'], node)
+        return None if number is None else model.signed(number, 32)
+
+    def own_slot(self, node):
+        """The slot of its function's own frame that a load or store by the stack pointer means, else None."""
+        now = self.frames.get(node.key)
+        is_own = now is not None and node.f['rs1'] == 2 and now + node.f['imm'] < 0
+        return (node.calls, now + node.f['imm']) if is_own else None
 
     def stepped(self, key):
         node = self.code.nodes[key]
@@ -123,6 +181,8 @@ class Bases:
             return frozenset([('at', f['imm'] + (node.pc if i.name == 'auipc' else 0) & 0xffffffff)])
         if i.name == 'addi':
             return moved(one, f['imm']) if f['rs1'] else NOTHING
+        if i.name == 'add' and is_stack(one) and self.added(node) is not None:
+            return moved(one, self.added(node))         # (a frame that is larger than an addi reaches)
         if i.name in ('add', 'or'):
             return summed(one, two)
         if i.name == 'sub':
@@ -130,11 +190,17 @@ class Bases:
         if i.name == 'andi' and f['imm'] < 0 or i.name == 'ori' and f['imm'] >= 0:
             return loose(one)
         if i.name == 'lw':
-            out = NOTHING
+            own = self.own_slot(node)
+            out, part = (self.own.get(own, NOTHING), self.others) if own else (NOTHING, self.slots)
             for slot in slots_of(one, f['imm']):
-                out = merged(out, self.slots.get(slot, NOTHING))
+                out = merged(out, part.get(slot, NOTHING))
             return out
         return NOTHING
+
+
+def is_stack(origins):
+    """Whether there are only addresses of the stack."""
+    return bool(origins) and all(isinstance(o, tuple) and o[0] == STACK for o in origins)
 
 
 def places(origins):
@@ -143,10 +209,14 @@ def places(origins):
 
 
 def merged(one, two):
+    """What is in one or the other: where one of a kind is not known, no others of it, so that merging ends."""
+    if two <= one:
+        return one
     both = one | two
     if len(both) > MOST:
         return frozenset(o if not isinstance(o, tuple) else (o[0], None) for o in both)
-    return both
+    vague = {o[0] for o in both if isinstance(o, tuple) and o[1] is None}
+    return frozenset(o for o in both if not isinstance(o, tuple) or o[1] is None or o[0] not in vague) if vague else both
 
 
 def moved(origins, by):

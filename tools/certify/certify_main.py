@@ -34,7 +34,7 @@ def judge(path, image, certificate):
     if program:
         ran = subprocess.run([program, 'check', path], capture_output=True, text=True)
         return (ran.stdout + ran.stderr).strip(), ran.returncode == 0
-    print('rvvbox is not built: the second checker of conformance/ is asked instead', file=sys.stderr)
+    print('rvvbox is not built: the second checker of vectors/ is asked instead', file=sys.stderr)
     answer = search.judged(image, certificate)
     if answer == 'accepted':
         return advice.ended(answer, certificate, image.entry), True

@@ -36,10 +36,11 @@ PLANS = [search.Plan('lengths', False, 'none', False), search.Plan('lengths', Fa
 class Maker(Registers, Pace, Addresses, Strips, Tables):
     """An image on the way to one with a certificate."""
 
-    def __init__(self, data, image, params, vlen, fuel=FUEL, status=None, watch=None, hoists=True, counts=True):
+    def __init__(self, data, image, params, vlen, fuel=FUEL, status=None, watch=None, hoists=True, counts=True, shares=True):
         """fuel: how many rounds all loops with fuel may take. status: the place of a buffer of 4 bytes that gets a guard's number. hoists:
-        whether pointers are tested before loops where that can be. counts: whether loops within others have counters before fuel."""
-        self.hoists, self.counts, self.may_spill = hoists, counts, False
+        whether pointers are tested before loops where that can be. counts: whether loops within others have counters before fuel. shares:
+        whether large functions have one copy where copies make much code."""
+        self.hoists, self.counts, self.shares, self.may_spill = hoists, counts, shares, False
         self.most_rounds = max(LEAST_ROUNDS, 2 << sum(param.a for param in params if param.kind == 'buffer').bit_length())
         self.data, self.image, self.params, self.vlen = data, image, params, vlen
         self.fuel, self.status, self.watch = fuel, status, watch
@@ -47,7 +48,7 @@ class Maker(Registers, Pace, Addresses, Strips, Tables):
         self.round = 0
         self.status_address = None if status is None else self.address_of(status)
         self.measures_fuel = False              # whether it is what is left of the fuel that goes there
-        self.tables, self.is_ending = {}, False
+        self.tables, self.pointers, self.is_ending = {}, set(), False       # (pointers: the jumps by tables whose addresses were not told)
         self.evicted = 0                        # how many registers are kept on the stack
         self.told, self.known_misfits = [], None
         self.begin_anew()
@@ -62,12 +63,9 @@ class Maker(Registers, Pace, Addresses, Strips, Tables):
         self.read_code()
 
     def read_code(self):
-        self.code = program.Code(self.image, self.tables)
-        if self.code.entry not in self.code.nodes:
-            raise Stuck(f'IllegalWord at {self.image.entry:#x}: {advice.ILLEGAL}')
-        self.graph = graph.Graph(self.code, self.vlen // 8)
-        self.bases = bases.Bases(self.code, self.graph, self.params)
-        self.code.reads_links = self.bases.reads_links()
+        self.read_graph(program.read(self.image, self.tables, self.shares))
+        if self.code.shared and self.code.reads_links:
+            self.read_graph(program.Code(self.image, self.tables))
         if self.evicted:
             evict.evicted(self.code, self.graph, self.bases, self.params, self.evicted)
             self.graph = graph.Graph(self.code, self.vlen // 8)
@@ -79,6 +77,15 @@ class Maker(Registers, Pace, Addresses, Strips, Tables):
         self.touched = self.graph.touched(self.graph.order)
         self.lengths = sorted({(node.f['rs1'], node.f['rd']) for node in self.code.nodes.values()
                                if node.i.shape == 'vset' and node.f.get('rs1') and node.f['rd'] not in (0, node.f['rs1'])})
+
+    def read_graph(self, code):
+        """The code as it came, its graph, and what its addresses are computed from."""
+        self.code = code
+        if code.entry not in code.nodes:
+            raise Stuck(f'IllegalWord at {self.image.entry:#x}: {advice.ILLEGAL}')
+        self.graph = graph.Graph(code, self.vlen // 8)
+        self.bases = bases.Bases(code, self.graph, self.params)
+        code.reads_links = self.bases.reads_links()
 
     def build(self):
         """The image with all that is put in, without a certificate. Numbers stay in registers as far as enough are left for others."""
@@ -172,7 +179,8 @@ class Maker(Registers, Pace, Addresses, Strips, Tables):
                 if self.code.reads_links:
                     raise Stuck(f'the return at {node.pc:#x} has several places, and the code reads where calls return to')
                 label = self.failed('choice', key[1], 'a return to no place of a call')
-                self.edits.instead[key] = program.returned(self.code, node, self.temporary([key], 1 << node.f['rs1']), label)
+                places = sorted(self.code.leads[key], key=lambda back: -self.graph.depth(back))
+                self.edits.instead[key] = program.returned(node, places, self.temporary([key], 1 << node.f['rs1']), label)
 
     def last_words(self):
         """What is done where a guard failed: its number goes to the status."""
@@ -338,7 +346,7 @@ class Maker(Registers, Pace, Addresses, Strips, Tables):
                     self.guard(misfit)
                 elif misfit.rule == 'VtypeUnknown':
                     self.give_type(misfit)
-        if self.signature() == before:
+        if self.signature() == before and not self.lead_anywhere():
             self.count(found, self.possible)
         if self.signature() == before and (found.trouble is not None or found.answer.startswith('BudgetNotProved')):
             if not self.lessen(found):

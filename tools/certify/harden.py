@@ -11,9 +11,11 @@ import search
 import trial
 from outside import certificates, checker
 
-FACTOR, LEAST_FUEL = 4, 1024
+FACTORS = 4, 2, 1           # how many times the rounds of the job's runs fuel is, where that is accepted
+LEAST_FUEL = 1024
 QUICK = 12                  # processor seconds up to which a second way is tried
-WAYS = (True, True), (False, True), (True, False)      # whether tests go before loops, and whether inner loops have counters
+# Whether tests go before loops, whether inner loops have counters, and whether large functions have one copy where copies make much code.
+WAYS = (True, True, True), (False, True, True), (True, False, True), (True, True, False)
 FIND_AT_MOST = 8            # processor seconds for the search without guards
 NO_STATUS = 'without --status a run that a guard ended cannot be told from a whole one'
 
@@ -49,14 +51,16 @@ def made(data, image, job, vlen, looking, fuel=None, status=None):
 def guarded(data, image, job, vlen, looking, fuel, status):
     """An image with guards: with tests before loops or within them, with counters for inner loops or fuel, whichever takes the job's own run
     fewer steps."""
-    ways, trouble, start = [], None, time.process_time()
-    for hoists, counts in WAYS:
+    ways, trouble, start, maker = [], None, time.process_time(), None
+    for hoists, counts, shares in WAYS:
         first = ways[0][0] if ways else None
         if first and (not can_measure(job) or time.process_time() - start > QUICK):
             break
         if first and not (counts and first.is_hoisted() or not counts and first.counts_within()):
             continue
-        maker = guard.Maker(data, image, job.params, vlen, fuel or guard.FUEL, status, looking, hoists, counts)
+        if not shares and (first or not maker.code.shared):
+            continue
+        maker = guard.Maker(data, image, job.params, vlen, fuel or guard.FUEL, status, looking, hoists, counts, shares)
         try:
             ways.append((maker, *made_by(maker, job, vlen, fuel)))
         except notes.Trouble as e:
@@ -76,9 +80,14 @@ def made_by(maker, job, vlen, fuel):
     out, new, found = maker.run()
     if not maker.fuelled or fuel is not None:
         return out, new, found, None
-    maker.fuel, why = fuel_of(maker, job, vlen)
+    ways, trouble = list(fuel_of(maker, job, vlen)), None
     maker.measures_later = False
-    return *maker.run(), why
+    for maker.fuel, why in ways:
+        try:
+            return *maker.run(), why
+        except notes.Trouble as e:
+            trouble = trouble or e
+    raise trouble
 
 
 def steps_of(maker, out, job, vlen):
@@ -125,16 +134,19 @@ def can_measure(job):
 
 
 def fuel_of(maker, job, vlen):
-    """How much fuel a kernel gets, and why: some times what the job's own run takes, and a run on the greatest scalars."""
+    """How much fuel a kernel gets, and why, in the order in which it is tried: some times what the job's own run takes, and a run on the
+    greatest scalars."""
     if not can_measure(job):
-        return guard.FUEL, 'since the job states no run that can be measured: --fuel N states another number'
+        yield guard.FUEL, 'since the job states no run that can be measured: --fuel N states another number'
+        return
     contents = job.contents()
     greatest = [param.b if param.kind == 'scalar' else content for param, content in zip(job.params, contents)]
     most = max(used_fuel(maker, job, vlen, passed) or 0 for passed in (contents, greatest))
     if not most:
-        return guard.FUEL, 'since the job has no run that ends: --fuel N states another number'
-    fuel = max(LEAST_FUEL, 1 << (FACTOR * most - 1).bit_length())
-    return fuel, f'at least {FACTOR} times the {most} that runs of the job take: --fuel N states another number'
+        yield guard.FUEL, 'since the job has no run that ends: --fuel N states another number'
+    for factor in FACTORS if most else ():
+        fuel = max(LEAST_FUEL, 1 << (factor * most - 1).bit_length())
+        yield fuel, f'at least {factor} times the {most} that runs of the job take: --fuel N states another number'
 
 
 def used_fuel(maker, job, vlen, contents):

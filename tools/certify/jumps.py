@@ -1,12 +1,15 @@
-"""Indirect jumps through a table in data that may only be read, whose index the code has cut to the table's length."""
+"""Indirect jumps: through a table in data that may only be read, whose index the code has cut to the table's length, else to any code whose
+address the image names, as pointers to functions do."""
 import struct
 
 import flow
+import notes
 from guided import Before
 from outside import certificates, checker, table
-from program import ZERO, Jump, Label
+from program import ZERO, Address, Branch, Jump, Label, Number
 
 ENTRIES = 1024      # the most of a table
+POINTED = 32        # the most places that a jump by a pointer may lead to
 
 
 def targets(image, walk, pc):
@@ -44,6 +47,33 @@ def entries(image, s, f, added):
     return found if all(flow.decoded_at(image, to) for to in found) else ()
 
 
+def pointed(image, data, is_call):
+    """The addresses of code that words of the image hold, or that its code makes by two instructions: for a call those of functions, where
+    the symbols are there."""
+    found = set()
+    for segment in image.segments:
+        away = -segment.first % 4
+        found.update(struct.unpack_from(f'<{(len(segment.data) - away) // 4}I', segment.data, away))
+        if segment.rights & certificates.EXECUTE:
+            found |= made_in(image, range(segment.first + away, segment.end - 3, 4))
+    found = {at for at in found if at % 4 == 0 and flow.decoded_at(image, at)}
+    functions = {value for _, _, value in notes.symbols(data)} if is_call else set()
+    return tuple(sorted(found & functions or found))
+
+
+def made_in(image, addresses):
+    """The numbers that lui or auipc, and addi, make of nothing else in the words at these addresses."""
+    out, upper = set(), {}
+    for pc in addresses:
+        i, f = flow.decoded_at(image, pc) or (None, {})
+        if i and i.name == 'addi' and f['rs1'] in upper:
+            out.add(upper[f['rs1']] + f['imm'] & table.M32)
+        upper.pop(f.get('rd'), None)
+        if i and i.name in ('lui', 'auipc'):
+            upper[f['rd']] = f['imm'] + (pc if i.name == 'auipc' else 0) & table.M32
+    return out
+
+
 class Tables:
     """What a maker puts in for a jump to an address that is not known."""
 
@@ -59,11 +89,29 @@ class Tables:
         """Adds the targets of a jump through a table that can be told now. Where there are more, all else is put in anew, since it was
         chosen for the code that could be reached before. Whether there are."""
         older = self.tables.get(node.pc, ())
+        if node.pc in self.pointers:
+            return False
         more = tuple(to for to in targets(self.image, Before(self, node.calls, found, image), node.pc) if to not in older)
         if more:
             self.tables[node.pc] = older + more
             self.begin_anew()
         return bool(more)
+
+    def lead_anywhere(self):
+        """Takes jumps by pointers to lead to any code whose address the image names, where nothing else is known of them, and calls that can
+        be reached then as well. Whether there were some."""
+        is_changed = False
+        while True:
+            nodes = [node for node in self.code.nodes.values() if node.i.shape == 'jalr' and node.pc not in self.tables
+                     and not self.code.is_return(node) and self.code.target(node) is None and (node.f['rd'] or not is_changed)]
+            places = {node.pc: pointed(self.image, self.data, node.f['rd'] != 0) for node in nodes}
+            found = {pc: some for pc, some in places.items() if 0 < len(some) <= POINTED}
+            if not found:
+                return is_changed
+            is_changed = True
+            self.tables.update(found)
+            self.pointers |= found.keys()
+            self.begin_anew()
 
     def widen_tables(self, found, image):
         """The same for all jumps through tables: code that a jump leads to may give its index other numbers."""
@@ -74,7 +122,8 @@ class Tables:
         """The jumps through tables, as a choice among all targets by the number that the table gave."""
         for key, node in self.code.nodes.items():
             if node.pc in self.tables and node.i.shape == 'jalr':
-                self.edits.instead[key] = self.chosen(key, node, self.targets_of(key))
+                label = self.failed('choice', node.pc, 'a jump to no code whose address the image names') if node.pc in self.pointers else None
+                self.edits.instead[key] = self.chosen(key, node, self.targets_of(key), label)
 
     def targets_of(self, key):
         """The addresses to which a jump leads, in their order."""
@@ -87,14 +136,36 @@ class Tables:
             yield targets[half] - node.f['imm'] & table.M32, weight
             yield from self.numbers_of_choice(node, targets[half:], weight / 2)
             yield from self.numbers_of_choice(node, targets[:half], weight / 2)
+        elif node.pc in self.pointers:
+            yield targets[0] - node.f['imm'] & table.M32, weight
 
-    def chosen(self, key, node, targets):
-        """A choice among targets, by halves."""
+    def chosen(self, key, node, targets, label):
+        """A choice among targets, by halves. label: where a jump to none of them leads, if there may be one."""
         if len(targets) == 1:
             to = next(way for way in self.code.leads[key] if way[1] == targets[0])
-            back = [Jump(ZERO, ('way', key, (node.calls, node.pc + 4)))] if node.f['rd'] else []
-            return [Jump(node.f['rd'], ('way', key, to), key), *back]
+            return [*self.compared_target(key, node, targets[0], label), *self.gone_to(key, node, to)]
         half = len(targets) // 2
         lower = 'lower', key, targets[half]
         return [*self.compared(key, node.f['rs1'], targets[half] - node.f['imm'] & table.M32, True, lower, 0),
-                *self.chosen(key, node, targets[half:]), Label(lower), *self.chosen(key, node, targets[:half])]
+                *self.chosen(key, node, targets[half:], label), Label(lower), *self.chosen(key, node, targets[:half], label)]
+
+    def compared_target(self, key, node, target, label):
+        """A test that a jump leads to a target, where it may not."""
+        number, register = target - node.f['imm'] & table.M32, node.f['rs1']
+        if label is None:
+            return []
+        held = self.held(key, number)
+        other = held or self.temporary([key], 1 << register)
+        return [*([] if held else [Number(other, number)]), Branch('bne', register, other, label)]
+
+    def gone_to(self, key, node, to):
+        """The jump to a target, with what a call leaves in its link register."""
+        rd, back = node.f['rd'], ('way', key, (node.calls, node.pc + 4))
+        go = Jump(ZERO, ('way', key, to), key)
+        if not rd:
+            return [go]
+        if self.code.reads_links:
+            return [Number(rd, node.pc + 4), go]
+        if any(it.calls == to[0] and self.code.is_return(it) and len(self.code.leads[it.key]) > 1 for it in self.code.nodes.values()):
+            return [Address(rd, back), go]          # (its returns compare where they lead)
+        return [go._replace(rd=rd), Jump(ZERO, back)]

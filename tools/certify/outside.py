@@ -1,9 +1,9 @@
-"""What this tool takes from `conformance/`: the second checker in Python, what words mean, and the bytes of certificates."""
+"""What this tool takes from `vectors/`: the second checker in Python, what words mean, and the bytes of certificates."""
 import pathlib
 import sys
 
 ROOT = pathlib.Path(__file__).resolve().parent.parent.parent
-sys.path.insert(0, str(ROOT / 'conformance'))
+sys.path.insert(0, str(ROOT / 'vectors'))
 
 import certificates  # noqa: E402
 import checker  # noqa: E402

@@ -7,7 +7,7 @@ from outside import model, table
 from program import ZERO, Branch, word
 
 UNKNOWN = (1 << 32) - (1 << 12)     # how great a number may be of which nothing is known
-LITTLE = 1 << 12        # fuel of which a run tells later whether it is enough
+LITTLE = 1 << 12, 1 << 10       # fuel of which a run tells later whether it is enough
 GREAT = 1 << 24         # rounds that no loop is taken to have
 
 
@@ -198,8 +198,9 @@ class Pace:
     def lessen(self, found):
         """Tests counts of loops before them where they may be great numbers, else gives such loops other counters. Whether there was one."""
         is_changed = False
-        if self.fuelled and self.measures_later and self.fuel > LITTLE:
-            self.fuel = LITTLE
+        less = [fuel for fuel in LITTLE if fuel < self.fuel]
+        if self.fuelled and self.measures_later and less:
+            self.fuel = less[0]
             return True
         for loop in filter(self.graph.is_natural, self.graph.loops):
             for x in counters.counts(self.graph, loop) if loop.head not in self.fuelled else ():

@@ -1,8 +1,9 @@
 """A kernel's code as a graph of instructions, and its layout as a new segment with more instructions between them.
 
 A node is an instruction at an address, for one chain of calls: a function that is called from two places has a copy for each, so
-that each return leads to one place. Registers keep their numbers, data stay where they are, and the old code stays as data that may
-be read. What is put between the nodes is a list of operations, which `layout` turns into words with all branches in range.
+that each return leads to one place; but where that makes too much code, large functions have one copy. Registers keep their numbers,
+data stay where they are, and the old code stays as data that may be read. What is put between the nodes is a list of
+operations, which `layout` turns into words with all branches in range.
 """
 import struct
 from collections import namedtuple
@@ -12,6 +13,9 @@ import notes
 from outside import certificates, model, table
 
 WORDS_AT_MOST = 1 << 16
+MOST_COPIED = 900           # nodes up to which each call has a copy of its function
+MOST_READ = 1 << 12         # nodes that are read before some functions have one copy
+LARGE = 24                  # words from which on a function is a large one
 LINKS = (1, 5)              # the registers that the calling convention leaves return addresses in
 LOAD = 1
 PAGE = 0x1000
@@ -53,10 +57,11 @@ def number_words(rd, value):
 class Code:
     """The instructions that can be reached from the entry, and where each leads."""
 
-    def __init__(self, image, tables=()):
-        """tables: the addresses to which indirect jumps may lead, by the address of the jump."""
-        self.image, self.tables = image, dict(tables)
-        self.nodes, self.returns, self.lost = {}, {}, set()
+    def __init__(self, image, tables=(), shared=(), most=WORDS_AT_MOST):
+        """tables: the addresses to which indirect jumps may lead, by the address of the jump. shared: functions that have one copy. most: how
+        many nodes there may be."""
+        self.image, self.tables, self.shared, self.most = image, dict(tables), frozenset(shared), most
+        self.nodes, self.returns, self.lost, self.recursive = {}, {}, set(), set()
         self.first, self.before, self.behind = [], {}, {}       # what moves registers that are kept on the stack
         self.entry = (), image.entry
         self.leads, self.reads_links = {}, False        # (reads_links: whether calls leave the addresses that they left in the old code)
@@ -79,7 +84,7 @@ class Code:
         if key in self.nodes or key in self.lost:
             return False
         decoded = flow.decoded_at(self.image, key[1])
-        if decoded is None or len(self.nodes) >= WORDS_AT_MOST:
+        if decoded is None or len(self.nodes) >= self.most:
             self.lost.add(key)
             return False
         segment = certificates.code_segment(self.image.segments, key[1])
@@ -108,12 +113,29 @@ class Code:
             targets = target,
         if not link:
             return [(node.calls, to) for to in dict.fromkeys(targets)]
-        frame = node.pc + 4, link
-        calls = node.calls + (frame,)
+        ways = [(self.calls_in(node, to), to) for to in dict.fromkeys(targets)]
+        for calls, _ in ways:
+            self.returns.setdefault(calls, set()).add((node.calls, node.pc + 4))
+        return ways
+
+    def calls_in(self, node, target):
+        """The chain of calls in a function that a node calls."""
+        frame = node.pc + 4, node.f['rd']
+        if target in self.shared:
+            return (target, node.f['rd'], 'shared'),
         if frame in node.calls:                     # a recursion: its chain is cut at the first call from here
-            calls = node.calls[:node.calls.index(frame) + 1]
-        self.returns.setdefault(calls, set()).add((node.calls, node.pc + 4))
-        return [(calls, to) for to in dict.fromkeys(targets)]
+            self.recursive.add(target)
+            return node.calls[:node.calls.index(frame) + 1]
+        return node.calls + (frame,)
+
+    def copied(self):
+        """The functions of which there are several copies, of those that are large or call themselves."""
+        copies = {}
+        for key, node in self.nodes.items():
+            if node.i.shape in ('jal', 'jalr') and node.f['rd']:
+                for calls, to in self.leads[key]:
+                    copies.setdefault(to, set()).add(calls)
+        return {to for to, chains in copies.items() if len(chains) > 1 and (to in self.recursive or size_of(self.image, to) >= LARGE)}
 
     def is_return(self, node):
         return (node.i.shape == 'jalr' and not node.f['rd'] and not node.f['imm']
@@ -147,6 +169,28 @@ class Code:
                 return None
             total += before.f['imm']
         return None
+
+
+def read(image, tables, shares=True):
+    """The code of an image: where copies make too much of it, with one copy of some functions. shares: whether it is less that is too much."""
+    code, least = Code(image, tables, most=MOST_READ), MOST_COPIED if shares else MOST_READ - 1
+    while len(code.nodes) > least and not code.copied() <= code.shared:
+        code = Code(image, tables, code.shared | code.copied(), MOST_READ)
+    return code if len(code.nodes) < MOST_READ else Code(image, tables, code.shared)
+
+
+def size_of(image, first):
+    """How many words a function has, without those that it calls."""
+    seen, todo = set(), [first]
+    while todo:
+        pc = todo.pop()
+        i, f = (None, {}) if pc in seen else flow.decoded_at(image, pc) or (None, {})
+        if i:
+            seen.add(pc)
+            targets, is_end = flow.leads_to(i, f, pc)
+            is_call = i.shape in ('jal', 'jalr') and f['rd']
+            todo += [pc + 4] if is_call or not is_end else targets
+    return len(seen)
 
 
 class Edits:
@@ -229,10 +273,10 @@ def own_words(code, node):
     return [Word(node.word, key)]
 
 
-def returned(code, node, other, fails):
+def returned(node, places, other, fails):
     """A return to one of several places: to the one whose address the link register holds, else to a label. other: a spare register."""
     out = []
-    for back in code.leads[node.key]:
+    for back in places:
         way = 'way', (back[0], back[1] - 4), back           # (the address that the call before it left in the link register)
         out += [Address(other, way), Branch('beq', node.f['rs1'], other, way)]
     return [*out[:-1], out[-1]._replace(key=node.key), Jump(ZERO, fails)]

@@ -1,3 +1,4 @@
+#!/usr/bin/env python3
 """How far `certify` reaches: a folder of kernels, each compiled in several ways, guarded, run, and compared with what it was.
 
     reach.py FOLDER [--flags NAME,..] [--only KERNEL,..] [--jobs N] [--cc] [--markdown] [--limit SECONDS] [--runs N]

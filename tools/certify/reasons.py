@@ -11,6 +11,7 @@ FUEL = '`certify guard` would put fuel into this loop'
 END = '`certify guard` would end the run here by ecall'
 RETURNS = '`certify guard` would choose here among the places that call'
 TABLE = '`certify guard` would test the jump against the addresses of its table'
+POINTERS = '`certify guard` would choose here among the code whose address the image has, if any'
 NOTHING = '`certify guard` has nothing for this'
 
 REASONS = {
@@ -77,7 +78,7 @@ REASONS = {
         'compile with -fno-jump-tables', TABLE),
     'pointer': Reason(
         'where the jump leads is not known',
-        'no function pointers', NOTHING),
+        'no function pointers', POINTERS),
     # Of a loop.
     budgets.TOO_DEEP: Reason(
         '',

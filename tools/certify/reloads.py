@@ -88,5 +88,7 @@ def behind(node, state, is_wild):
         out[f['rd']] = node.pc + f['imm'] & table.M32
     elif i.name == 'addi' and (f['rs1'] in state or not f['rs1']):
         out[f['rd']] = state.get(f['rs1'], 0) + f['imm'] & table.M32
+    elif i.name == 'add' and f['rs1'] in state and f['rs2'] in state:
+        out[f['rd']] = state[f['rs1']] + state[f['rs2']] & table.M32
     out.pop(0, None)
     return out

@@ -160,7 +160,8 @@ class Strips:
         vlenb, place = self.vlen // 8, bases.stack_zone()[0]        # (frames of vector registers are as large as VLEN says)
         if kept and place + sum(count for _, count in kept) * vlenb > program.STACK_TOP + self.bases.bottom() - KEPT_BELOW:
             raise Stuck(f'too little of the stack is left for vector registers at {node.pc:#x}')
-        return [*indices.moved(kept, t, place, vlenb, 'vs{}r.v'), *indices.words(node, index, label, t, other, spare, mask, {value: self.held(key, value) for value in (index.first, max(index.most, 0)) if self.held(key, value)}),
+        held = {value: self.held(key, value) for value in (index.first, max(index.most, 0)) if self.held(key, value)}
+        return [*indices.moved(kept, t, place, vlenb, 'vs{}r.v'), *indices.words(node, index, label, t, other, spare, mask, held),
                 *indices.moved(kept, t, place, vlenb, 'vl{}re8.v')]
 
     def give_type(self, misfit):

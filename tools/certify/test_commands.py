@@ -216,7 +216,9 @@ class Put(Case):
         example = re.search(r'^```toml\n(.*?)^```', text, re.S | re.M)[1]
         made = certificates.certificate_bytes(toml_form.Form(example).certificate(128))
         self.assertIn(f'It has {len(made)} bytes', text)
-        for part in re.findall(r'`((?:[0-9a-f]{2}\s)+[0-9a-f]{2})`', text):
+        parts = re.findall(r'^((?:[0-9a-f]{2} )+[0-9a-f]{2}) ', text, re.M)
+        self.assertEqual(len(parts), 5)
+        for part in parts:
             self.assertIn(bytes.fromhex(part), made)
         image = certificates.read_image((EXAMPLES / 'raise_words/raise_words.elf').read_bytes())
         self.assertEqual(made, image.certificate)

@@ -4,8 +4,9 @@ import unittest
 import unittest.mock
 
 import notes
+import program
 import small
-from outside import checker
+from outside import certificates, checker
 from small import reads, scalar, word, writes
 
 TAKEN_APART = bytes(range(1, 33))
@@ -342,6 +343,41 @@ class Kinds(unittest.TestCase):
             two: li t2, 22; j end; three: li t2, 33; j end; none: li t2, 0; end: sw t2, 0(a1); ret'''
         table = struct.pack('<3I', *[small.label(text, name) for name in ('one', 'two', 'three')])
         self.guards(text, [scalar(0, 100), writes(4)], [[case, bytes(4)] for case in (0, 1, 2, 3, 100)], [], data=[(0x20000, table, small.READ)])
+
+
+    def test_calls_by_pointers(self):
+        """A pointer to a function leads to one whose address the image names, whatever holds it."""
+        text = ('mv t2, ra; lw t0, 0(a0); at: jalr ra, 0(t0); sw a1, 0(a2); mv ra, t2; ret; '
+                'f: addi a1, a1, 1; ret; g: add a1, a1, a1; ret; h: lw a1, 4(a0); ret')
+        table = struct.pack('<3I', *[small.label(text, name) for name in 'fgh'])
+        some = lambda address: [struct.pack('<2I', address & 0xffffffff, 9), 5, bytes(4)]
+        self.guards(text, [reads(8), scalar(0, 100), writes(4)], [some(small.label(text, name)) for name in 'fgh'],
+                    [some(0), some(-1), some(0x20000)], 'choice', data=[(0x20000, table, small.READ_WRITE)])
+
+    def test_a_recursion_by_a_pointer(self):
+        text = ('mv t2, ra; mv a2, a1; at: jalr ra, 0(a2); sw a1, 0(a0); mv ra, t2; ret; '
+                'f: beqz a1, done; addi a1, a1, -1; addi sp, sp, -16; sw ra, 12(sp); jalr ra, 0(a2); addi a1, a1, 3; lw ra, 12(sp); addi sp, sp, 16; done: ret')
+        address = small.label(text, 'f')
+        text = text.replace('mv a2, a1', f'lui a2, {address >> 12:#x}; addi a2, a2, {(address & 0xfff) + 4}')
+        self.assertEqual(small.label(text, 'f'), address + 4)
+        self.guards(text, [writes(4), scalar(0, 5)], [[bytes(4), n] for n in range(6)], [])
+
+
+    def test_functions_of_one_copy(self):
+        with unittest.mock.patch('program.MOST_COPIED', 0), unittest.mock.patch('program.LARGE', 1):
+            for name in ('calls_from_two_places', 'recursion', 'a_recursion_keeps_its_registers', 'a_return_to_no_call', 'calls_by_pointers', 'data_by_where_a_call_returns'):
+                with self.subTest(name):
+                    getattr(self, f'test_{name}')()
+
+
+    def test_a_recursion_with_many_calls(self):
+        """The chains of calls are cut before there are too many: ten calls of itself would be ten factorial of them."""
+        calls = 'addi a0, a0, -1; sw a0, 8(sp); beqz a0, done; jal ra, f; lw a0, 8(sp); '
+        text = self.CALL.format('jal ra, f') + ('f: addi sp, sp, -16; sw ra, 12(sp); lw t0, 0(a1); addi t0, t0, 1; sw t0, 0(a1); sw a0, 8(sp); ' + 10 * calls
+                                                + 'done: lw ra, 12(sp); addi sp, sp, 16; ret')
+        code = program.read(certificates.read_image(small.image(text)), ())
+        self.assertLess(len(code.nodes), 100)
+        self.assertEqual(len(code.shared), 1)
 
 
 if __name__ == '__main__':

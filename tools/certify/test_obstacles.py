@@ -91,7 +91,7 @@ KERNELS = {
     'return kept': ([word('sw', rs2=1, rs1=2, imm=-4), load(1, 2, -4, 'lw'), RET], [],
                     ('the return address was kept in memory (lw ra, -4(sp) at 0x10004)', 'end the run here by ecall')),
     'table': ([load(11, 10, name='lw'), word('jalr', rd=0, rs1=11, imm=0)], [buffer()], ('the jump goes by a table in memory',)),
-    'pointer': ([word('jalr', rd=0, rs1=10, imm=0)], [scalar(0, 1 << 20)], ('where the jump leads is not known', 'has nothing for this')),
+    'pointer': ([word('jalr', rd=0, rs1=10, imm=0)], [scalar(0, 1 << 20)], ('where the jump leads is not known', 'among the code whose address')),
     'read only': ([word('sb', rs1=10, rs2=11, imm=0), RET], [buffer(mode=R)], ('state mode = "rw"', 'has nothing for this')),
     'computed jump': ([word('auipc', rd=5, imm=0), word('jalr', rd=0, rs1=5, imm=8), load(11, 0), RET], [], ('zero is 0',)),
     'no instruction': ([0], [], ('means no instruction', 'has nothing for this')),

@@ -14,7 +14,7 @@ EXAMPLES = ROOT / 'examples'
 
 def plain_checker():
     """The second checker as it stands in its file, without what `quick` puts in."""
-    spec = importlib.util.spec_from_file_location('plain_checker', ROOT / 'conformance/checker.py')
+    spec = importlib.util.spec_from_file_location('plain_checker', ROOT / 'vectors/checker.py')
     module = importlib.util.module_from_spec(spec)
     spec.loader.exec_module(module)
     return module

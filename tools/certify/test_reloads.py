@@ -30,6 +30,9 @@ class Reloads(unittest.TestCase):
             with self.subTest(between=between):
                 self.assertEqual(found(FIRST + between + LAST), 7)
 
+    def test_a_large_frame(self):
+        self.assertEqual(found(FIRST.replace('addi sp, sp, -32', 'lui t1, 0xfffff; addi t1, t1, -16; add sp, sp, t1') + LAST), 7)
+
     def test_what_may_change_it(self):
         for between in ('lw t2, 0(a1); sw t2, 12(sp); ', 'sw a1, 9(sp); ', 'sw a1, 14(sp); ', 'sb a1, 12(sp); ', 'addi t2, sp, 4; sw a1, 8(t2); ', 'ori t2, sp, 12; sw a1, 0(t2); ',
                         'xori t2, sp, 12; sw a1, 0(t2); ', 'sub t2, x0, sp; sub t2, x0, t2; sw a1, 12(t2); ', 'sw sp, 0(a0); lw t2, 0(a0); sw a1, 12(t2); ',
