@@ -15,6 +15,9 @@ OF_TESTS = re.compile(r"#\[cfg\(test\)\]\s*(?:pub(?:\([^)]*\))?\s+)?mod\s+(\w+)\
 DERIVES = re.compile(r"#\[derive\(([^)]*)\)\]\s*")
 # What is taken from a crate counts in a sum, and not the module there that has it.
 IMPORT = re.compile(r"(?m)^((?:\w+ )*use Rattle\.\w+)\.[\w.]*(\.\{.*)$")
+# The same in an attribute of code, and a list of a crate's modules.
+USING = re.compile(r"\b(?:proofs|specs)::(?:\w+::)*")
+MODULE = re.compile(r"(?m)^(?:pub )?mod \w+$")
 DIGITS = 12
 
 
@@ -47,7 +50,8 @@ def meant(path, text):
     """What counts of a file: its lines without comments, `Debug` and the modules of imports, which come first and in order. The path counts
     for code alone, as definitions and proofs may move."""
     is_code = path.endswith(".rt")
-    lines = IMPORT.sub(r"\1\2", without_debug(without_comments(text, not is_code))).splitlines()
+    said = MODULE.sub("", USING.sub("", IMPORT.sub(r"\1\2", without_debug(without_comments(text, not is_code)))))
+    lines = [it for it in said.splitlines() if it]
     is_import = lambda it: "use Rattle." in it
     return "\n".join([path] * is_code + sorted(filter(is_import, lines)) + [it for it in lines if not is_import(it)])
 
@@ -55,7 +59,7 @@ def meant(path, text):
 def sums(crate, pairs):
     """The sum of each pair: of what counts of the crate's sources, and of the pair's own text."""
     of_crate = hashlib.sha256()
-    for text in sorted(meant(*it) for it in sources(crate).items()):
+    for text in sorted(filter(None, (meant(*it) for it in sources(crate).items()))):
         of_crate.update(f"{text}\n".encode())
     return {it.name: sum_of(of_crate.copy(), it) for it in pairs}
 

@@ -125,7 +125,7 @@ class Sums(WithCrate):
 
     def test_code_specifications_and_proofs_count(self):
         seen = [self.sums()]
-        for path, text in [("src/lib.rt", CODE.replace('"{ // }"', '"{ /// }"')), ("specs/Lib.antt", "pub mod A"), ("proofs/next/Answers.antt", "pub a = b")]:
+        for path, text in [("src/lib.rt", CODE.replace('"{ // }"', '"{ /// }"')), ("specs/Lib.antt", "pub a = c"), ("proofs/next/Answers.antt", "pub a = b")]:
             self.put(path, text)
             seen.append(self.sums())
             self.assertNotIn(seen[-1], seen[:-1], path)
@@ -134,9 +134,12 @@ class Sums(WithCrate):
         lemma, user = "use Rattle.low.specs.Lib.{a}\nuse Rattle.std.proofs.Common.{refl}\npub b = a", "use Rattle.low.{}.Less.{{b}}\npub c = b"
         self.put("proofs/Less.antt", lemma)
         self.put("proofs/More.antt", user.format("proofs"))
+        self.put("proofs/Lib.antt", "pub mod Less\npub mod More")
         before = self.sums()
         (self.crate / "proofs/Less.antt").unlink()
         self.put("specs/Less.antt", "\n".join([*reversed(lemma.split("\n")[:2]), "pub b = a"]))
+        self.put("specs/Lib.antt", "pub mod Less")
+        self.put("proofs/Lib.antt", "pub mod More")
         self.put("proofs/More.antt", user.format("specs"))
         self.assertEqual(self.sums(), before)
         self.put("proofs/More.antt", user.format("specs").replace("Rattle.low", "Rattle.lower"))
@@ -255,7 +258,7 @@ class Gate(WithCrate):
         self.assertIn("tools/each-edit --write --changed", self.said)
 
     def test_a_pair_that_breaks_nothing_fails(self):
-        self.put("specs/Lib.antt", "pub mod A")
+        self.put("specs/Lib.antt", "pub a = c")
         self.assertEqual(self.status("--changed", goals={"adds_two": "src/lib.rt: next: returns"}), 1)
 
     def test_a_pair_without_a_row_fails_until_it_is_written(self):
@@ -272,7 +275,7 @@ class Gate(WithCrate):
         self.assertEqual(self.status("--changed"), 0)
 
     def test_what_the_minutes_did_not_reach_fails_and_is_named(self):
-        self.put("specs/Lib.antt", "pub mod A")
+        self.put("specs/Lib.antt", "pub a = c")
         left = pairs.read_pairs(self.crate)
         self.assertEqual(self.status("--changed", goals={}, left=left), 1)
         self.assertIn("low: 2 not tried yet; `tools/each-edit --write low` tries all", self.said)
