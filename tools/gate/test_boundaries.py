@@ -32,10 +32,9 @@ class Boundaries(unittest.TestCase):
         self.assertEqual([*imports(self.top)], ['crates/high/proofs/f/Answers.antt: Rattle.low.proofs.Own',
                                                 'crates/high/src/lib.rt: Rattle.low.proofs.Other'])
 
-    def test_what_a_crate_still_may_is_passed_over(self):
-        self.write('high', 'specs/Words.antt', 'pub use Rattle.low.proofs.Own.{lemma}\n')
-        self.assertEqual([*imports(self.top, {'high': 'other low'})], [])
-        self.assertEqual([*imports(self.top, {'high': 'other'})], ['crates/high/specs/Words.antt: Rattle.low.proofs.Own'])
+    def test_an_attribute_of_code_counts_and_one_of_its_own_crate_or_std_does_not(self):
+        self.write('high', 'src/lib.rt', '#[tactic(auto, using(crate::proofs::Own::a, std::proofs::lemmas::List::b, low::proofs::Own::c))]\n')
+        self.assertEqual([*imports(self.top)], ['crates/high/src/lib.rt: low::proofs::Own'])
 
     def test_the_script_fails_where_there_is_one(self):
         script = [sys.executable, str(HERE / 'boundaries.py'), str(self.top)]

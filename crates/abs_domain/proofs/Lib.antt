@@ -1,11 +1,2 @@
-pub mod AtomSplits
 pub mod Lists
-pub mod Memories
-pub mod Operations
-pub mod OrderStarts
-pub mod Rooms
-pub mod StartForms
-pub mod StartNumbers
 pub mod StartRanges
-pub mod StartZones
-pub mod States

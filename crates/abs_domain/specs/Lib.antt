@@ -11,3 +11,12 @@ pub mod Values
 pub mod Zones
 pub mod Words
 pub mod Why
+pub mod AtomSplitLemmas
+pub mod MemoryLemmas
+pub mod OperationLemmas
+pub mod OrderStartLemmas
+pub mod RoomLemmas
+pub mod StartFormLemmas
+pub mod StartNumberLemmas
+pub mod StartZoneLemmas
+pub mod StateLemmas

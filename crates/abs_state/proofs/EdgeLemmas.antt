@@ -22,7 +22,7 @@ use Rattle.cert_note.specs.declared.values.Version.{Version}
 use Rattle.rv_decode.specs.declared.instructions.Condition.{Condition}
 use Rattle.rv_decode.specs.declared.instructions.Condition.TheVariants.{Eq, Ne, Lt, Ge, Ltu, Geu}
 use Rattle.linear_facts.specs.Differences.{is_not_less_of}
-use Rattle.linear_facts.proofs.DifferenceLaws.{orders-hold}
+use Rattle.linear_facts.specs.DifferenceLemmas.{orders-hold}
 use Rattle.abs_state.specs.declared.branches.Said.{Said}
 use Rattle.cert_note.specs.Certificate.{AllFrom, after_fact, after_order, after_block, IsRegisterFact, IsOrderFact, IsBudgetOf, IsBlock, SaysMore}
 use Rattle.abs_domain.specs.declared.why.Why.{Why}
@@ -32,7 +32,7 @@ use Rattle.abs_domain.specs.Described.{IsNumber}
 use Rattle.abs_domain.specs.Numbers.{value_at}
 use Rattle.abs_domain.specs.BlockLaws.{FactIsTrue, OrderIsTrue}
 use Rattle.abs_domain.specs.Holds.{number_of}
-use Rattle.abs_domain.proofs.StartNumbers.{number_below as register_below}
+use Rattle.abs_domain.specs.StartNumberLemmas.{number_below as register_below}
 use Rattle.abs_state.specs.State.{AbstractView}
 use Rattle.abs_domain.specs.Starts.{equality_form}
 use Rattle.abs_state.specs.Branches.{EdgeView, plain_edge, edge_by, refined, table_on, value_on}
@@ -40,9 +40,9 @@ use Rattle.abs_state.specs.Edges.{shown_or, and_then, Shown, is_interval_shown, 
 use Rattle.abs_state.specs.Held.{Setting, Goes, IsKnown, IsPaid, IsAt, IsTrueOf, AreTrueOf, budget_of, fact_element, number_at, vlenb_in}
 use Rattle.abs_transfer.specs.Facts.{elements_in}
 use Rattle.abs_state.specs.EdgeLaws.{TakesEdge, EdgesAreTaken, ImpliedFits, ImpliedEnds}
-use Rattle.abs_transfer.proofs.Addresses.{register_number}
-use Rattle.abs_state.proofs.Payments.{equality_holds, parts_below, counted, covered, SaysMore as MoreSaid, says_more, paid_holds}
-use Rattle.abs_domain.proofs.StartForms.{budget_below, second_below, greater_below, lesser_below}
+use Rattle.abs_transfer.specs.AddressLemmas.{register_number}
+use Rattle.abs_state.specs.PaymentLemmas.{equality_holds, parts_below, counted, covered, SaysMore as MoreSaid, says_more, paid_holds}
+use Rattle.abs_domain.specs.StartFormLemmas.{budget_below, second_below, greater_below, lesser_below}
 use Rattle.abs_state.proofs.Ways.{IsEdge, plain_is, branch_is}
 
 -- ---- the edge that is taken

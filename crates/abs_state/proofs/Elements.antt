@@ -24,7 +24,7 @@ use Rattle.vector_core.specs.Operations.{narrow_lanes}
 use Rattle.abs_domain.specs.Values.{known_of, up_to}
 use Rattle.abs_domain.specs.Effects.{fitting}
 use Rattle.abs_transfer.specs.Facts.{int_range, left_elements, narrow_range, remainder_by, remainder_elements, right_elements}
-use Rattle.abs_domain.proofs.Operations.{div_up, known_between}
+use Rattle.abs_domain.specs.OperationLemmas.{div_up, known_between}
 
 -- x lies in a range, and below a limit
 pub record IsWithin (limit : ℕ) (r : Range) (x : ℕ) : Type 0 where

@@ -13,13 +13,14 @@ use Rattle.region_mem.specs.declared.parameter.Param.{Param}
 use Rattle.region_mem.specs.declared.parameter.Param.TheVariants as parameter
 use Rattle.region_mem.specs.declared.arguments.Arg.TheVariants as argument
 use Rattle.region_mem.specs.Parameter.{Argument, AreArguments, address_of, argument_error, is_buffer, is_out_of_interval, is_valid, is_wrong_kind, room_of}
-use Rattle.region_mem.proofs.Matching.{NonePasses, map_none, none_passes, nothing_wrong, or_none}
-use Rattle.region_mem.proofs.Rooms.{sum_by_room}
+use Rattle.region_mem.specs.MatchingLemmas.{NonePasses, map_none, none_passes, nothing_wrong, or_none}
+use Rattle.region_mem.specs.RoomLemmas.{sum_by_room}
 use Rattle.scalar_core.specs.Hart.{IsHart}
-use Rattle.scalar_core.proofs.EntryLemmas.{entry_hart-is_hart, entry_hart-pc, entry_number-same, reg_of-entry_hart}
+use Rattle.scalar_core.specs.EntryLemmas.{entry_hart-is_hart, entry_number-same, reg_of-entry_hart}
 use Rattle.vector_core.specs.Start.{passed_at, passed_number, start_hart}
 use Rattle.cert_note.specs.Certificate.{FitsWords, IsParameter}
 use Rattle.abs_domain.specs.BlockLaws.{ArePassed, IsEntry, IsPassed}
+use Rattle.abs_state.specs.EntryLemmas.{pair_at}
 
 -- ---- the hart that a run starts with
 
@@ -39,10 +40,6 @@ zeros_count zero = refl
 zeros_count (suc n) = (let rest = zeros_count n in omega (arith, rest))
 
 module _ (entry : ℕ) (params : List Param) (args : List Argument) where
-  pub start_pc : (start_hart entry params args).pc ≡ entry
-  unfolding start_hart
-  start_pc = entry_hart-pc entry (passed_at params args)
-
   pub start_is_hart : entry < 2 ^ 32 → ((k : ℕ) → k < 8 → passed_at params args k < 2 ^ 32)
       → IsHart (start_hart entry params args)
   unfolding start_hart
@@ -84,13 +81,6 @@ none_outside params args h =
     let kind = or_none _ _ h in
     let rest = or_none _ _ kind.1 in
     none_passes is_out_of_interval (zip params args) (map_none _ _ rest.0)
-
-pub pair_at : (p : Param × Argument → Bool) (params : List Param) (args : List Argument) (i : ℕ) → NonePasses p (zip params args)
-    → i < length params → i < length args → p (get_or params i parameter.None, get_or args i argument.None) ≡ false
-pair_at p [] args i none l g = absurd (omega (arith, l))
-pair_at p (x ∷ xs) [] i none l g = absurd (omega (arith, g))
-pair_at p (x ∷ xs) (y ∷ ys) zero none l g = none.0
-pair_at p (x ∷ xs) (y ∷ ys) (suc i) none l g = pair_at p xs ys i none.1 (omega (arith, l)) (omega (arith, g))
 
 item_at : {X : Type 0} (P : X → Type 0) (xs : List X) (i : ℕ) (d : X) → AllByRecursion P xs → i < length xs → P (get_or xs i d)
 item_at P [] i d all l = absurd (omega (arith, l))

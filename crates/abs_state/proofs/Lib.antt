@@ -6,7 +6,6 @@ pub mod GroupLemmas
 pub mod Growth
 pub mod LegalLemmas
 pub mod Paid
-pub mod Payments
 pub mod Refinements
 pub mod SourceLemmas
 pub mod StartMachines
@@ -16,7 +15,6 @@ pub mod StatedWrites
 pub mod StepMachines
 pub mod StepScalars
 pub mod StepsHeld
-pub mod Substitutions
 pub mod Transfers
 pub mod VectorMachines
 pub mod VectorSteps

@@ -1,6 +1,6 @@
 -- What is known of a number, and what the budget came to, stay right as atoms are added.
 use Rattle.std.proofs.Common.{◌≡◌, ◌<◌, ◌≤◌, ◌+◌, ◌-◌, ℕ, arith, sym, ◌∙◌, subst, length, Option, Some, None}
-use Rattle.linear_facts.proofs.LocalityLemmas.{forms-stay, agree-below}
+use Rattle.linear_facts.specs.LocalityLemmas.{forms-stay, agree-below}
 use Rattle.cert_note.specs.declared.values.Budget.{Budget}
 use Rattle.abs_domain.specs.Values.{ValueView}
 use Rattle.abs_domain.specs.Described.{IsNumber}

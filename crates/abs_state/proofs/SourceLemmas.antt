@@ -16,12 +16,12 @@ use Rattle.vreg_groups.specs.Group.{Span, body_of}
 use Rattle.vreg_groups.specs.Legality.{group_count}
 use Rattle.rv_decode.specs.Instructions.{bits_of_width, bytes_of_width}
 use Rattle.vreg_groups.specs.VectorType.{vlmax_of}
-use Rattle.vreg_groups.proofs.Sizes.{bytes_fit, group_room}
-use Rattle.vreg_groups.proofs.Writes.{number_at-lt}
+use Rattle.vreg_groups.specs.SizeLemmas.{bytes_fit, group_room}
+use Rattle.vreg_groups.specs.WriteLemmas.{number_at-lt}
 use Rattle.cert_note.specs.declared.values.VectorFact.{VectorFact}
 use Rattle.abs_transfer.specs.Facts.{all_of_bits, fact_range, is_source, source_range, elements_in}
 use Rattle.abs_state.specs.Held.{IsTrueOf, count_of, fact_element}
-use Rattle.abs_domain.proofs.StartForms.{found_has, found_passes}
+use Rattle.abs_domain.specs.StartFormLemmas.{found_has, found_passes}
 
 pub width_some : (width : Width) → 0 < bytes_of_width width
 width_some W8 = omega arith

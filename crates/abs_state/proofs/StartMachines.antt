@@ -1,16 +1,14 @@
 -- What is known where a block begins is true of a machine that fits it, and what is known where a run begins of its first one.
-use Rattle.std.proofs.Common.{◌≡◌, ℕ, ◌<◌, ◌≤◌, ◌+◌, ◌*◌, ◌^◌, inl, inr, arith, refl, sym, ap, ◌∙◌, subst, length, get_or, List, [], Option, Some, None}
+use Rattle.std.proofs.Common.{◌≡◌, ℕ, ◌<◌, ◌≤◌, ◌+◌, ◌*◌, ◌^◌, inl, inr, arith, refl, ap, ◌∙◌, length, List, [], Option, Some, None}
 use Rattle.std.specs.Prelude.{◌==◌, MatchOption}
 use Rattle.std.specs.List.{AllByRecursion}
-use Rattle.std.proofs.Math.ListN.{get_or-eq_default}
-use Rattle.elf_image.specs.Image.{ImageView, IsImage}
+use Rattle.elf_image.specs.Image.{IsImage}
 use Rattle.region_mem.specs.declared.parameter.Param.{Param}
-use Rattle.region_mem.specs.declared.arguments.Arg.TheVariants as argument
 use Rattle.region_mem.specs.Laws.{BringsBytes}
 use Rattle.region_mem.specs.Parameter.{Argument, AreArguments}
 use Rattle.region_mem.specs.Start.{start_memory}
-use Rattle.region_mem.proofs.ByteLemmas.{starts_with_bytes}
-use Rattle.region_mem.proofs.StartCode.{starts_code_safe, starts_with_code}
+use Rattle.region_mem.specs.ByteLemmas.{starts_with_bytes}
+use Rattle.region_mem.specs.StartCodeLemmas.{starts_code_safe, starts_with_code}
 use Rattle.vreg_groups.specs.declared.policies.Agnostic.{Agnostic}
 use Rattle.vreg_groups.specs.declared.vector_length.Vconfig.{Vconfig}
 use Rattle.vreg_groups.specs.declared.vector_length.Vlen.{Vlen}
@@ -18,28 +16,29 @@ use Rattle.vreg_groups.specs.declared.vector_length.Vlen.TheVariants.{V128, V256
 use Rattle.vreg_groups.specs.declared.vector_type.Vtype.{Vtype}
 use Rattle.vreg_groups.specs.VectorType.{vtype_of, vlmax_of}
 use Rattle.vreg_groups.specs.VectorLength.{IsVlenb, IsConfig, no_config, vlenb_of}
-use Rattle.vreg_groups.proofs.Sizes.{vlmax_small}
+use Rattle.vreg_groups.specs.SizeLemmas.{vlmax_small}
 use Rattle.scalar_core.specs.Hart.{Hart, IsHart, reg_of}
 use Rattle.vector_core.specs.Machine.{Machine}
-use Rattle.vector_core.specs.Start.{passed_at, passed_number, start, start_hart}
+use Rattle.vector_core.specs.Start.{start, start_hart}
 use Rattle.vector_core.specs.Vectors.{Vectors, new_vectors}
 use Rattle.cert_note.specs.declared.values.RegisterFact.{RegisterFact}
 use Rattle.cert_note.specs.declared.values.Block.{Block}
 use Rattle.cert_note.specs.declared.values.OrderFact.{OrderFact}
-use Rattle.cert_note.specs.Certificate.{CertificateView, IsBlock, IsCertificate, after_block}
+use Rattle.cert_note.specs.Certificate.{IsBlock, IsCertificate, after_block}
 use Rattle.abs_domain.specs.Holds.{Holds}
 use Rattle.abs_domain.specs.Starts.{entry_numbers, start_numbers, numbers_by}
 use Rattle.abs_state.specs.Blocks.{at_block_of, at_entry_of}
 use Rattle.abs_domain.specs.BlockLaws.{ArePassed, HoldsWith}
+use Rattle.abs_state.specs.EntryLemmas.{start_pc}
 use Rattle.abs_state.specs.Held.{Setting, Held, IsProper, number_at, vlenb_in}
 use Rattle.abs_state.specs.StartLaws.{ArePassedBy, BlocksAreHeld, EntriesAreHeld}
-use Rattle.abs_transfer.proofs.Addresses.{register_holds}
-use Rattle.abs_transfer.proofs.Configurations.{no_config_is}
-use Rattle.abs_state.proofs.EntryHart.{all_valid, are_passed, code_low, numbers_fit, start_is_entry, start_is_hart, start_pc, zeros_count, zeros_small}
-use Rattle.abs_domain.proofs.StartForms.{budget_below, second_below, found_is}
-use Rattle.abs_domain.proofs.OrderStarts.{block_numbers_hold}
-use Rattle.abs_domain.proofs.StartNumbers.{atoms_many, entry_numbers_hold, number_past}
-use Rattle.abs_domain.proofs.StartZones.{zones_are_there}
+use Rattle.abs_transfer.specs.AddressLemmas.{register_holds}
+use Rattle.abs_transfer.specs.ConfigurationLemmas.{no_config_is}
+use Rattle.abs_state.proofs.EntryHart.{all_valid, are_passed, code_low, numbers_fit, start_is_entry, start_is_hart, zeros_count, zeros_small}
+use Rattle.abs_domain.specs.StartFormLemmas.{budget_below, second_below, found_is}
+use Rattle.abs_domain.specs.OrderStartLemmas.{block_numbers_hold}
+use Rattle.abs_domain.specs.StartNumberLemmas.{atoms_many, entry_numbers_hold, number_past}
+use Rattle.abs_domain.specs.StartZoneLemmas.{zones_are_there}
 
 -- ---- numbers of 32 bits
 
@@ -179,21 +178,3 @@ entries-are_held e n agnostic args image certificate eight matching brings by = 
   },
   entry_held e agnostic args image certificate eight matching brings by n,
 )
-
--- the setting in which the numbers are those that the arguments pass
-abbrev pub setting_by : ImageView → CertificateView → List Argument → Setting
-setting_by image certificate args = record {
-  image = image;
-  certificate = certificate;
-  passed = passed_at certificate.parameters args;
-}
-
-pub passed_by_them : (image : ImageView) (certificate : CertificateView) (args : List Argument) → length args ≡ 8
-    → ArePassedBy (setting_by image certificate args) args
-unfolding passed_number
-passed_by_them image certificate args eight = record {
-  each = λ place l. refl;
-  past = λ place l. (
-      let none : get_or args place argument.None ≡ argument.None = get_or-eq_default args argument.None (omega (arith, eight, l)) in
-      subst (λ (arg : Argument). passed_number certificate.parameters place arg < 2 ^ 32) (sym none) (omega arith));
-}

@@ -25,8 +25,8 @@ use Rattle.vreg_groups.specs.Setup.{group_at}
 use Rattle.vreg_groups.specs.VectorLength.{IsVlenb}
 use Rattle.rv_decode.specs.Instructions.{bits_of_width, bytes_of_width}
 use Rattle.vreg_groups.specs.VectorType.{vlmax_of}
-use Rattle.vreg_groups.proofs.Rooms.{element_within}
-use Rattle.vreg_groups.proofs.Writes.{number_at-lt}
+use Rattle.vreg_groups.specs.RoomLemmas.{element_within}
+use Rattle.vreg_groups.specs.WriteLemmas.{number_at-lt}
 use Rattle.scalar_core.specs.Arithmetic.{unsigned}
 use Rattle.scalar_core.specs.Hart.{Hart, reg_of}
 use Rattle.vector_core.specs.KeepLaws.{AreRegisters}

@@ -60,11 +60,11 @@ use Rattle.abs_state.specs.Held.{AreTrueOf, Held, IsTrueOf, Setting, VtypeHolds,
 use Rattle.abs_domain.specs.Numbers.{NumbersView, value_at}
 use Rattle.abs_state.specs.State.{AbstractView}
 use Rattle.abs_state.specs.VectorLaws.{StatedAreTrue}
-use Rattle.abs_transfer.proofs.Addresses.{register_holds}
+use Rattle.abs_transfer.specs.AddressLemmas.{register_holds}
 use Rattle.abs_state.proofs.Elements.{IsWithin, int_element, narrow_element, place_lies}
 use Rattle.abs_state.proofs.StatedOperands.{IsRead, IsSecond, map_lies, map_zip_lies, second_lies, source_lies, zip_lies}
 use Rattle.abs_state.proofs.StatedWrites.{AreResults, IsGroup, fact_true, legal_group}
-use Rattle.abs_transfer.proofs.Configurations.{config_within}
+use Rattle.abs_transfer.specs.ConfigurationLemmas.{config_within}
 
 -- ---- operands of a legal instruction
 

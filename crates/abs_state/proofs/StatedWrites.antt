@@ -23,9 +23,9 @@ use Rattle.vreg_groups.specs.Setup.{group_at}
 use Rattle.vreg_groups.specs.VectorLength.{IsVlenb}
 use Rattle.rv_decode.specs.Instructions.{bits_of_width}
 use Rattle.vreg_groups.specs.VectorType.{vlmax_of}
-use Rattle.vreg_groups.proofs.Rooms.{element_within, group_within}
-use Rattle.vreg_groups.proofs.Sizes.{bytes_fit, group_ends, group_room}
-use Rattle.vreg_groups.proofs.Writes.{element_after}
+use Rattle.vreg_groups.specs.RoomLemmas.{element_within, group_within}
+use Rattle.vreg_groups.specs.SizeLemmas.{bytes_fit, group_ends, group_room}
+use Rattle.vreg_groups.specs.WriteLemmas.{element_after}
 use Rattle.vector_core.specs.KeepLaws.{AreRegisters}
 use Rattle.vector_core.specs.Operands.{results_written}
 use Rattle.abs_transfer.specs.Facts.{fact_if, group_fact}

@@ -8,7 +8,7 @@ use Rattle.rv_decode.specs.declared.instructions.CsrInsn.{CsrInsn}
 use Rattle.rv_decode.specs.declared.instructions.ScalarInsn.{ScalarInsn}
 use Rattle.rv_decode.specs.declared.instructions.VSet as vset
 use Rattle.rv_decode.specs.Decode.{meaning_of}
-use Rattle.rv_decode.proofs.Meant.{meant}
+use Rattle.rv_decode.specs.Encodings.{MeaningsFit}
 use Rattle.region_mem.specs.declared.faults.Fault.{Fault}
 use Rattle.region_mem.specs.declared.faults.Fault.TheVariants.{JumpMisaligned}
 use Rattle.region_mem.specs.Memory.{Memory}
@@ -32,10 +32,9 @@ use Rattle.abs_state.specs.State.{AbstractView}
 use Rattle.abs_transfer.specs.Legal.{legal_check}
 use Rattle.abs_state.specs.After.{access_check, after_of, next_word, passed, taken, vector_after, vset_after, way_of}
 use Rattle.abs_state.specs.Held.{Setting, Held, vlenb_in}
-use Rattle.abs_state.specs.StepLaws.{or_misaligned, StepIsHeld, MachineIsHeld, StepsGoOn, jumps}
-use Rattle.abs_transfer.proofs.Configurations.{type_fits}
+use Rattle.abs_state.specs.StepLaws.{or_misaligned, CsrStepsHold, ScalarStepsHold, StepIsHeld, MachineIsHeld, StepsGoOn, jumps}
+use Rattle.abs_transfer.specs.ConfigurationLemmas.{type_fits}
 use Rattle.abs_state.proofs.Followed.{follows_held, proper_kept}
-use Rattle.abs_state.proofs.StepScalars.{scalars_hold, csrs_hold}
 
 -- ---- what an instruction makes of what is known
 
@@ -152,19 +151,19 @@ HeldBy e n a b s word insn =
     Held e n a s → s.hart.pc % 4 ≡ 0 → meaning_of word ≡ Some insn → after_of s.hart.pc insn a ≡ Ok b
     → MachineIsHeld e n b (carry_out (vlenb_in e) word s insn)
 
-pub held_scalars : (e : Setting) (n : ℕ) (a b : AbstractView) (s : Machine) (word : ℕ) (insn : ScalarInsn) → HeldBy e n a b s word (Scalar insn)
+pub held_scalars : MeaningsFit → ScalarStepsHold → (e : Setting) (n : ℕ) (a b : AbstractView) (s : Machine) (word : ℕ) (insn : ScalarInsn) → HeldBy e n a b s word (Scalar insn)
 unfolding after_of carry_out scalar_step
-held_scalars e n a b s word insn held aligned m eq =
+held_scalars fit holds e n a b s word insn held aligned m eq =
     let known = held.known in
     let t = taken_is _ a b _ eq in
     subst (λ (c : AbstractView). MachineIsHeld e n c (with_scalar s (rv32im_step insn s.hart s.memory))) t.same
     (step_held e n a s held t.numbers (way_of s.hart.pc insn a.numbers) (rv32im_step insn s.hart s.memory)
-    (scalars_hold a.numbers t.numbers held.numbers a.zones insn s.hart s.vectors.config s.memory (meant word m) known.proper.hart
+    (holds a.numbers t.numbers held.numbers a.zones insn s.hart s.vectors.config s.memory (fit word (Scalar insn) m) known.proper.hart
     (subst (λ (zs : List Zone). HasZones zs s.memory) (sym known.zones) known.proper.zones) known.proper.bytes aligned known.known t.is))
 
-pub held_csrs : (e : Setting) (n : ℕ) (a b : AbstractView) (s : Machine) (word : ℕ) (insn : CsrInsn) → HeldBy e n a b s word (Csr insn)
+pub held_csrs : MeaningsFit → CsrStepsHold → (e : Setting) (n : ℕ) (a b : AbstractView) (s : Machine) (word : ℕ) (insn : CsrInsn) → HeldBy e n a b s word (Csr insn)
 unfolding after_of taken carry_out scalar_step
-held_csrs e n a b s word insn held aligned m eq =
+held_csrs fit holds e n a b s word insn held aligned m eq =
     let known = held.known in
     let config : Vconfig = s.vectors.config in
     let small : vlenb_in e < 2 ^ 32 = vlenb_fits (vlenb_in e) known.proper.vectors.vlenb_is in
@@ -172,7 +171,7 @@ held_csrs e n a b s word insn held aligned m eq =
     let new : NumbersView = csr_after a.vlenb insn a.numbers in
     let way : Way = To (next_word s.hart.pc) in
     let step : StepIsHeld a.numbers new held.numbers config way s.memory (Ok (csr_step insn a.vlenb config s.hart, s.memory)) =
-    csrs_hold a.numbers held.numbers a.vlenb insn s.hart config s.memory (meant word m) known.proper.hart fits
+    holds a.numbers held.numbers a.vlenb insn s.hart config s.memory (fit word (Csr insn) m) known.proper.hart fits
     (config_fits (vlenb_in e) config known.proper.vectors.config) aligned known.known in
     subst (λ (c : AbstractView). MachineIsHeld e n c (with_scalar s (Ok (csr_step insn (vlenb_in e) config s.hart, s.memory))))
     (same_state (next_state e n a s held new way) b eq)

@@ -1,5 +1,6 @@
 -- What is known after a scalar instruction is true of the hart and memory to which it leads.
 use Rattle.std.proofs.Common.{◌≡◌, ◌<◌, ◌+◌, ◌%◌, ◌^◌, ℕ, Bool, true, false, arith, refl, ap, ◌∙◌, subst, eq-eqb, length, List, Some, None, lit<}
+use Rattle.std.proofs.lemmas.Int.{ints}
 use Rattle.std.specs.Prelude.{if◌then◌else◌, ◌==◌, slice_index, slice_set, ℤ, Result, Ok, Err}
 use Rattle.std.specs.Int.{w32}
 use Rattle.std.specs.Int.RustNames.{FitsSigned}
@@ -13,20 +14,19 @@ use Rattle.rv_decode.specs.declared.instructions.CsrName.TheVariants.{Vxsat, Vxr
 use Rattle.rv_decode.specs.declared.instructions.LoadKind.{LoadKind}
 use Rattle.rv_decode.specs.declared.instructions.Width.{Width}
 use Rattle.rv_decode.specs.Encode.{IsSigned}
-use Rattle.rv_decode.proofs.Meant.{signed_fits_word}
 use Rattle.region_mem.specs.declared.faults.Fault.{Fault}
 use Rattle.region_mem.specs.declared.faults.Fault.TheVariants.{JumpMisaligned}
 use Rattle.region_mem.specs.declared.faults.Right.TheVariants.{Read, Write}
 use Rattle.region_mem.specs.Areas.{number_at, with_number}
 use Rattle.region_mem.specs.Memory.{Memory, is_permitted, load_of, store_of}
 use Rattle.region_mem.specs.Laws.{AreBytes}
-use Rattle.region_mem.proofs.ByteLemmas.{numbers_fit}
+use Rattle.region_mem.specs.ByteLemmas.{numbers_fit}
 use Rattle.vreg_groups.specs.declared.vector_length.Vconfig.{Vconfig}
 use Rattle.scalar_core.specs.Arithmetic.{immediate_result, is_taken, register_result, shift_result, unsigned}
 use Rattle.scalar_core.specs.Csr.{csr_step, csr_value, csr_written, does_write, operand_of, with_csr, written}
 use Rattle.scalar_core.specs.Hart.{Hart, IsHart, advanced, at_pc, exit, next_pc, put, reg_of, with_reg}
 use Rattle.scalar_core.specs.Step.{address_of, beside, branch_step, branch_to, jal_step, jalr_step, jump_and_link, jump_to, load_from, load_step, loaded, offset_by, rv32im_step, size_of_load, size_of_store, store_from, store_step, without_bit_0}
-use Rattle.scalar_core.proofs.States.{at_pc-is_hart, csr_written-is_hart, with_reg-is_hart}
+use Rattle.scalar_core.specs.StateLemmas.{at_pc-is_hart, csr_written-is_hart, with_reg-is_hart}
 use Rattle.abs_domain.specs.declared.why.Why.{Why}
 use Rattle.abs_domain.specs.declared.zones.Zone.{Zone}
 use Rattle.abs_state.specs.declared.state.Way.{Way}
@@ -46,12 +46,12 @@ use Rattle.abs_state.specs.After.{next_word, jump_way, way_of}
 use Rattle.abs_state.specs.Held.{IsAt}
 use Rattle.abs_state.specs.StepLaws.{or_misaligned, StepIsHeld, ScalarStepsHold, CsrStepsHold}
 use Rattle.abs_domain.specs.Memories.{KeepsMemory}
-use Rattle.abs_domain.proofs.Operations.{constant_describes, csr_describes, immediate_describes, load_describes, register_describes, shift_describes}
-use Rattle.abs_domain.proofs.States.{result_holds, value_fits}
+use Rattle.abs_domain.specs.OperationLemmas.{constant_describes, csr_describes, immediate_describes, load_describes, register_describes, shift_describes}
+use Rattle.abs_domain.specs.StateLemmas.{result_holds, value_fits}
 use Rattle.abs_state.proofs.Growth.{ok_numbers, same_ok}
-use Rattle.abs_transfer.proofs.Addresses.{address_lies, register_holds}
-use Rattle.abs_transfer.proofs.Splits.{same_numbers}
-use Rattle.abs_domain.proofs.Memories.{inside_permitted, load_inside, nothing_changes, store_inside, store_keeps}
+use Rattle.abs_transfer.specs.AddressLemmas.{address_lies, register_holds}
+use Rattle.abs_transfer.specs.SplitLemmas.{same_numbers}
+use Rattle.abs_domain.specs.MemoryLemmas.{inside_permitted, load_inside, nothing_changes, store_inside, store_keeps}
 
 -- ---- harts
 
@@ -310,7 +310,7 @@ module _ (s : NumbersView) (v : ℕ → ℕ) (zones : List Zone) (h : Hart) (con
 
 -- an offset or immediate of twelve bits has 32
 short_fits : (z : ℤ) → IsSigned 2048 z → FitsSigned w32 z
-short_fits z h = signed_fits_word 2048 z (omega arith) (omega arith) h
+short_fits z h = omega (arith, ints)
 
 pub scalars_hold : ScalarStepsHold
 unfolding scalar_after way_of rv32im_step

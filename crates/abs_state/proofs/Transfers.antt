@@ -36,7 +36,7 @@ use Rattle.vector_mem.specs.Transfers.{accesses_of, data_at, is_masked, place_at
 use Rattle.scalar_core.specs.Hart.{Hart, reg_of}
 use Rattle.vector_core.specs.LoadsStores.{stride_of}
 use Rattle.vector_core.specs.Setup.{setup_of}
-use Rattle.vector_core.proofs.StoreLemmas.{list_kept}
+use Rattle.vector_core.specs.StoreLemmas.{list_kept}
 use Rattle.cert_note.specs.declared.values.VectorFact.{VectorFact}
 use Rattle.abs_transfer.specs.declared.accesses.Reach.{Reach}
 use Rattle.abs_domain.specs.declared.why.Why.{Why}
@@ -54,10 +54,10 @@ use Rattle.abs_transfer.specs.Accesses.{falling_reach, indexed_reach, is_whole, 
 use Rattle.abs_state.specs.Held.{IsKnown, IsTrueOf, vlenb_in}
 use Rattle.abs_domain.specs.Memories.{KeepsMemory}
 use Rattle.abs_state.specs.VectorLaws.{TransfersArePermitted, TransfersKeepMemory}
-use Rattle.abs_transfer.proofs.Addresses.{register_holds}
-use Rattle.abs_domain.proofs.Memories.{inside_fits, inside_permitted, load_inside, nothing_changes, store_inside, store_keeps}
-use Rattle.abs_domain.proofs.Operations.{known_is}
-use Rattle.abs_transfer.proofs.AccessLemmas.{LieWithin, falling_first, falling_lies, indexed_lies, rising_end, rising_lies, row_lies, unit_end}
+use Rattle.abs_transfer.specs.AddressLemmas.{register_holds}
+use Rattle.abs_domain.specs.MemoryLemmas.{inside_fits, inside_permitted, load_inside, nothing_changes, store_inside, store_keeps}
+use Rattle.abs_domain.specs.OperationLemmas.{known_is}
+use Rattle.abs_transfer.specs.AccessLemmas.{LieWithin, falling_first, falling_lies, indexed_lies, rising_end, rising_lies, row_lies, unit_end}
 use Rattle.abs_state.proofs.SourceLemmas.{element_is, source_lies, width_some}
 
 -- ---- stores

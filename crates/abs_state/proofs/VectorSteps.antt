@@ -9,7 +9,7 @@ use Rattle.std.proofs.lemmas.List.FromFn.{length-map-range_with_len}
 use Rattle.std.proofs.lemmas.Simd.{length-zip2}
 use Rattle.std.proofs.Math.Facts.{sfits_to_z}
 use Rattle.std.specs.Int.RustNames.{FitsSigned}
-use Rattle.vreg_groups.proofs.Writes.{number_at-lt}
+use Rattle.vreg_groups.specs.WriteLemmas.{number_at-lt}
 use Rattle.rv_decode.specs.Instructions.{bytes_of_width}
 use Rattle.vreg_groups.specs.Elements.{element_at}
 use Rattle.rv_decode.specs.declared.instructions.Width.{Width}
@@ -36,7 +36,7 @@ use Rattle.vector_mem.specs.Accesses.{first_refused, stored}
 use Rattle.vector_mem.specs.declared.plan.Access.{Access}
 use Rattle.vector_mem.specs.Transfers.{accesses_of, vector_load, vector_store}
 use Rattle.scalar_core.specs.Hart.{Hart, IsHart, advanced, next_pc, put, reg_of, with_reg}
-use Rattle.scalar_core.proofs.States.{advanced-is_hart, csrs-is_hart, put-is_hart}
+use Rattle.scalar_core.specs.StateLemmas.{advanced-is_hart, csrs-is_hart, put-is_hart}
 use Rattle.lane_masks.specs.Masks as lanes
 use Rattle.vector_core.specs.Arithmetic.{arith_of}
 use Rattle.vector_core.specs.KeepLaws.{is_computing}
@@ -54,8 +54,8 @@ use Rattle.abs_domain.specs.Described.{LiesIn}
 use Rattle.abs_domain.specs.Holds.{Holds, Follows}
 use Rattle.abs_state.specs.After.{mask_numbers, move_numbers, next_word, vector_numbers}
 use Rattle.abs_domain.specs.Memories.{KeepsMemory}
-use Rattle.abs_domain.proofs.Memories.{nothing_changes}
-use Rattle.abs_domain.proofs.States.{result_holds}
+use Rattle.abs_domain.specs.MemoryLemmas.{nothing_changes}
+use Rattle.abs_domain.specs.StateLemmas.{result_holds}
 use Rattle.abs_state.proofs.StepScalars.{moved, pc_stays, same_registers, stays}
 
 -- a step that goes on at the next word, and what is known there

@@ -16,7 +16,7 @@ use Rattle.vreg_groups.specs.declared.vector_length.Vconfig.{Vconfig}
 use Rattle.vreg_groups.specs.Legality.{are_operands_legal, is_destination_legal, is_legal}
 use Rattle.vreg_groups.specs.VectorLength.{vset_of}
 use Rattle.scalar_core.specs.Hart.{Hart, IsHart, next_pc, put, reg_of, with_reg}
-use Rattle.scalar_core.proofs.States.{put-is_hart}
+use Rattle.scalar_core.specs.StateLemmas.{put-is_hart}
 use Rattle.vector_core.specs.Configuration.{avl_of, request_of, vset_step}
 use Rattle.vector_core.specs.declared.configuration.Request.{Request}
 use Rattle.vector_core.specs.Machine.{Machine}
@@ -37,11 +37,11 @@ use Rattle.abs_state.specs.State.{AbstractView}
 use Rattle.abs_state.specs.After.{next_word, vset_after}
 use Rattle.abs_state.specs.Held.{Setting, Held, IsProper, IsTrueOf, AreTrueOf, vlenb_in}
 use Rattle.abs_state.specs.VectorLaws.{CutAreTrue, VsetsAreHeld}
-use Rattle.abs_transfer.proofs.Addresses.{register_holds}
-use Rattle.abs_transfer.proofs.Configurations.{AskedFits, IsConfigured, avl_asked, configured_held, vset_is}
-use Rattle.abs_domain.proofs.Memories.{nothing_changes}
+use Rattle.abs_transfer.specs.AddressLemmas.{register_holds}
+use Rattle.abs_transfer.specs.ConfigurationLemmas.{AskedFits, IsConfigured, avl_asked, configured_held, vset_is}
+use Rattle.abs_domain.specs.MemoryLemmas.{nothing_changes}
 use Rattle.abs_state.proofs.Followed.{follows_held, proper_kept}
-use Rattle.abs_domain.proofs.States.{result_holds}
+use Rattle.abs_domain.specs.StateLemmas.{result_holds}
 use Rattle.abs_state.proofs.StepScalars.{moved, pc_stays}
 
 -- ---- what is asked for

@@ -23,7 +23,7 @@ use Rattle.abs_state.specs.State.{AbstractView}
 use Rattle.abs_state.specs.Branches.{relation_of, related_ranges, EdgeView, plain_edge, change_to, one_change, changes_of, edge_with, edge_in, with_said, related_edge, branch_edge, edge_by, refined, table_on, value_on}
 use Rattle.abs_domain.specs.Numbers.{whole_atom}
 use Rattle.abs_state.specs.EdgeLaws.{EdgesKeep, is_fork, OneEdge, StraightEdges}
-use Rattle.abs_domain.proofs.States.{computed_lies, form_range_lies, whole_is}
+use Rattle.abs_domain.specs.StateLemmas.{computed_lies, form_range_lies, whole_is}
 use Rattle.abs_state.proofs.Refinements.{Stands, meet_is, related_is, relation_stands}
 
 -- ---- atoms with new ranges

@@ -3,9 +3,12 @@ pub mod Blocks
 pub mod Branches
 pub mod EdgeLaws
 pub mod Edges
+pub mod EntryLemmas
 pub mod Held
 pub mod StartLaws
 pub mod State
 pub mod StepLaws
 pub mod VectorLaws
 pub mod Words
+pub mod PaymentLemmas
+pub mod SubstitutionLemmas

@@ -31,4 +31,4 @@ pub use laws::{
     steps_are_held, steps_count, steps_go_on, straight_edges, transfers_are_permitted,
     transfers_keep_memory, untouched_are_true, vsets_are_held,
 };
-pub use state::{Abstract, MOST_WORDS, Way};
+pub use state::{Abstract, MOST_WORDS, Way, block_limit_in_numbers};

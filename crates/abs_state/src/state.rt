@@ -1,5 +1,6 @@
 //! What is known of a machine at an instruction of a kernel.
 ghost use Rattle.std.specs.Prelude.{◌≡◌};
+ghost use Rattle.abs_state.specs.declared.state.TheConstants.{MOST_WORDS};
 
 use abs_domain::{Numbers, Zone};
 use arrayvec::ArrayVec;
@@ -11,6 +12,11 @@ use std::marker::Model;
 
 /// How many instructions a block may have.
 pub const MOST_WORDS: u32 = 4096;
+
+/// Law: how many instructions a block may have, in numbers.
+pub fn block_limit_in_numbers()
+    ensures { MOST_WORDS ≡ 4096 }
+{}
 
 /// Where an instruction leads, as far as it is known.
 #[derive(Clone, Copy, PartialEq, Eq)]

@@ -3,7 +3,7 @@ use Rattle.std.proofs.Common.{arith, sym, ap, ◌∙◌, ◌≡◌, ◌+◌, ◌
 use Rattle.std.specs.Prelude.{slice_set}
 use Rattle.std.proofs.lemmas.Grind.{drop_more_same}
 use Rattle.std.proofs.lemmas.List.{drop-set-lt, get_or-drop}
-use Rattle.abs_domain.proofs.StartForms.{mapped_more}
+use Rattle.abs_domain.specs.StartFormLemmas.{mapped_more}
 
 same_place : {X : Type 0} (xs ys : List X) (n : ℕ) (d : X) → drop n xs ≡ drop n ys → get_or xs n d ≡ get_or ys n d
 same_place {X = X} xs ys n d e = sym (place xs) ∙ (ap (λ zs. get_or zs 0 d) e ∙ place ys)

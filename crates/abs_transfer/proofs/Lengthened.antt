@@ -12,7 +12,7 @@ use Rattle.abs_domain.specs.Values.{ValueView}
 use Rattle.abs_domain.specs.Numbers.{NumbersView, plain, value_at, with_effect, with_fresh, with_result, with_value}
 use Rattle.abs_domain.specs.Numbers.{whole_atom}
 use Rattle.abs_transfer.specs.Vset.{Configured, configured, has_vlmax, known_request, kept_or_zero, limited, limited_by, split_into, supported_request, unknown_request, with_length_in}
-use Rattle.abs_domain.proofs.AtomSplits.{split_count}
+use Rattle.abs_domain.specs.AtomSplitLemmas.{split_count}
 
 -- at most two atoms more
 abbrev Grows : NumbersView → NumbersView → Type 0

@@ -6,3 +6,7 @@ pub mod Legal
 pub mod Scalar
 pub mod Vset
 pub mod Words
+pub mod AccessLemmas
+pub mod AddressLemmas
+pub mod ConfigurationLemmas
+pub mod SplitLemmas

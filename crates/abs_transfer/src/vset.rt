@@ -232,7 +232,7 @@ fn set_supported<A: Allocator>(
 }
 
 /// Bits that are known: vl is 0 where they are no supported type's.
-#[tactic(auto, unfolding(crate::specs::Vset::known_request), using(crate::proofs::Configurations::type_fits))]
+#[tactic(auto, unfolding(crate::specs::Vset::known_request), using(crate::specs::ConfigurationLemmas::type_fits))]
 fn set_known<A: Allocator>(
     numbers: &mut Numbers<A>,
     vlenb: u32,

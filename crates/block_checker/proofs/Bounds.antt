@@ -8,15 +8,15 @@ use Rattle.region_mem.specs.declared.parameter.Param.{Param}
 use Rattle.region_mem.specs.declared.parameter.Param.TheVariants as parameter
 use Rattle.region_mem.specs.declared.arguments.Arg.TheVariants as argument
 use Rattle.region_mem.specs.Parameter.{Argument, is_wrong_kind, AreArguments}
-use Rattle.region_mem.proofs.Matching.{nothing_wrong}
+use Rattle.region_mem.specs.MatchingLemmas.{nothing_wrong}
 use Rattle.scalar_core.specs.declared.entry.EntryValue.{EntryValue}
 use Rattle.scalar_core.specs.declared.entry.EntryValue.TheVariants.{Number, Passed}
 use Rattle.scalar_core.specs.Entry.{entry_value, number_with}
 use Rattle.scalar_core.specs.Hart.{reg_of}
-use Rattle.scalar_core.proofs.EntryLemmas.{entry_place, reg_of-entry_hart}
+use Rattle.scalar_core.specs.EntryLemmas.{entry_place, reg_of-entry_hart}
 use Rattle.vector_core.specs.Start.{passed_at, passed_number, start_hart}
 use Rattle.abs_domain.specs.Starts.{passed_value, start_value, value_for}
-use Rattle.abs_state.proofs.EntryHart.{pair_at}
+use Rattle.abs_state.specs.EntryLemmas.{pair_at}
 use Rattle.block_checker.specs.Bound.{scalar_of, scalars_of, start_number}
 
 -- ---- what is passed

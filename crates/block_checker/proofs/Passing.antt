@@ -21,13 +21,14 @@ use Rattle.block_checker.specs.Passes.{both, block_at, entry_passes_to, entry_pa
 use Rattle.block_checker.specs.Accepted.{AcceptedView}
 use Rattle.abs_state.specs.Held.{budget_at}
 use Rattle.block_checker.specs.Bound.{start_number, bound_in, bound_of, scalars_of}
+use Rattle.block_checker.specs.BoundLaws.{BoundIsBudget}
 use Rattle.block_checker.specs.Sound.{IsWellBehaved, PassingRunsEnd, RunsEnd}
 use Rattle.block_checker.proofs.Finding.{both_first, both_second}
 use Rattle.block_checker.proofs.StepLaws.{Laws, budget_in}
 use Rattle.cert_note.specs.declared.values.Budget.{Budget}
-use Rattle.abs_domain.proofs.StartForms.{budget_below, second_below, found_is}
+use Rattle.abs_domain.specs.StartFormLemmas.{budget_below, second_below, found_is}
 use Rattle.block_checker.proofs.Runs.{passing-ends}
-use Rattle.abs_state.proofs.EntryHart.{start_pc}
+use Rattle.abs_state.specs.EntryLemmas.{start_pc}
 use Rattle.block_checker.proofs.Bounds.{start-is}
 
 -- ---- what a check that passes says
@@ -111,12 +112,19 @@ bound-is a args b is eight matching found =
     let second = start-is a.image.entry a.certificate.parameters args is.eight eight matching b.budget.second_register below.1 in
     ap (bound_in a.certificate.parameters (scalars_of args)) found ∙ budget-same b.budget (start_number a.certificate.parameters (scalars_of args)) (λ r. reg_of r (start_hart a.image.entry a.certificate.parameters args)) (sym first) (sym second)
 
-pub runs-end : LawsHold → (a : AcceptedView) → IsImage a.image → IsCertificate a.certificate
+pub runs-end : PassingRunsEnd → (a : AcceptedView) → IsImage a.image → IsCertificate a.certificate
     → checked a.image a.certificate a.vlen ≡ Ok tt → RunsEnd a
 unfolding start entry_passes
-runs-end laws a is_image is_certificate passes args agnostic eight matching bytes =
+runs-end passing a is_image is_certificate passes args agnostic eight matching bytes =
     let passed = has-passed a.image a.certificate a.vlen passes in
     let block = entry-block a.image a.certificate (block_at a.image.entry a.certificate.blocks) passed.entry in
-    let ends = passing-runs-end laws a.image a.certificate a.vlen args agnostic block.0 is_image is_certificate eight matching bytes passes block.1 in
+    let ends = passing a.image a.certificate a.vlen args agnostic block.0 is_image is_certificate eight matching bytes passes block.1 in
     let bound = bound-is a args block.0 is_certificate eight matching block.1 in
     subst (λ (n : ℕ). IsWellBehaved (vlenb_of a.vlen) n (start (vlenb_of a.vlen) agnostic a.image a.certificate.parameters args)) (sym bound) ends
+
+pub bound-is-budget : (a : AcceptedView) → IsCertificate a.certificate → checked a.image a.certificate a.vlen ≡ Ok tt → BoundIsBudget a
+unfolding start entry_passes
+bound-is-budget a is passes args agnostic eight matching =
+    let passed = has-passed a.image a.certificate a.vlen passes in
+    let block = entry-block a.image a.certificate (block_at a.image.entry a.certificate.blocks) passed.entry in
+    (block.0, block.1, bound-is a args block.0 is eight matching block.1)

@@ -7,7 +7,7 @@ use Rattle.scalar_core.specs.Hart.{exit}
 use Rattle.vector_core.specs.Machine.{Machine}
 use Rattle.vector_core.specs.MachineStep.{step}
 use Rattle.vector_core.specs.Run.{after}
-use Rattle.vector_core.proofs.RunLemmas.{after-plus}
+use Rattle.vector_core.specs.RunLemmas.{after-plus}
 use Rattle.cert_note.specs.declared.values.Block.{Block}
 use Rattle.cert_note.specs.Certificate.{CertificateView}
 use Rattle.abs_state.specs.declared.state.TheConstants.{MOST_WORDS}

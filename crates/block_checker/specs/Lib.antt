@@ -2,6 +2,7 @@ pub mod Refusals
 pub mod Passes
 pub mod Accepted
 pub mod Bound
+pub mod BoundLaws
 pub mod Explained
 pub mod Sound
 pub mod Walking

@@ -6,6 +6,7 @@ ghost use Rattle.block_checker.specs.Bound.{start_number as start_number_of};
 
 use crate::checks::{block_at, checked};
 use crate::errors::CheckError;
+use crate::laws::passing_runs_end;
 use abs_domain::start_value;
 use cert_note::{Budget, Certificate};
 use elf_image::Image;
@@ -117,6 +118,7 @@ fn entry_budget<A: Allocator>(image: &Image<A>, certificate: &Certificate<A>, vl
 impl<A: Allocator> Accepted<A> {
     ghost use Rattle.std.specs.Prelude.{◌≡◌};
     ghost use Rattle.block_checker.specs.Bound.{bound_of};
+    ghost use Rattle.block_checker.specs.BoundLaws.{BoundIsBudget};
     ghost use Rattle.block_checker.specs.Sound.{RunsEnd};
 
     /// The image.
@@ -152,7 +154,16 @@ impl<A: Allocator> Accepted<A> {
     pub fn runs_end(&self)
         ensures { RunsEnd self.now }
     {
+        passing_runs_end();
         let _segments = self.image.segments();
+        let _contents = self.certificate.contents();
+    }
+
+    /// A law, which does nothing when it runs: for the scalars of arguments that match the parameters, [`Accepted::bound`] is
+    /// the budget of the block at the image's entry, with its registers as they are at the start of a run.
+    pub fn bound_is_budget(&self)
+        ensures { BoundIsBudget self.now }
+    {
         let _contents = self.certificate.contents();
     }
 

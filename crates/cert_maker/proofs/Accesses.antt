@@ -9,7 +9,7 @@ use Rattle.linear_facts.specs.declared.ranges.Range.{Range}
 use Rattle.linear_facts.specs.declared.forms.Term.{Term}
 use Rattle.linear_facts.specs.Forms.{Linear, merged, scaled, sum_of, number_form, atom_form, within}
 use Rattle.linear_facts.specs.Sums.{range_of_form}
-use Rattle.linear_facts.proofs.Merging.{merged-nil, merged-less, merged-left}
+use Rattle.linear_facts.specs.MergingLemmas.{merged-nil, merged-less, merged-left}
 use Rattle.region_mem.specs.declared.faults.Right.{Right}
 use Rattle.region_mem.specs.declared.parameter.Param.{Param}
 use Rattle.region_mem.specs.declared.parameter.Param.TheVariants as parameter

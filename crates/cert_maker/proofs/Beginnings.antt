@@ -16,7 +16,7 @@ use Rattle.abs_domain.specs.Values.{computed_range, just}
 use Rattle.abs_domain.specs.Numbers.{NumbersView, table_of, table_with, value_at}
 use Rattle.abs_domain.specs.Orders.{with_orders}
 use Rattle.abs_domain.specs.Starts.{interval_of, form_or_atom, stated_range, stated_form, passed_range, start_atoms, numbers_by, start_numbers}
-use Rattle.abs_domain.proofs.StartNumbers.{form_by, range_by, atoms_many, atom_of_register, atom_of_passed, no_atom_split}
+use Rattle.abs_domain.specs.StartNumberLemmas.{form_by, range_by, atoms_many, atom_of_register, atom_of_passed, no_atom_split}
 use Rattle.cert_maker.specs.declared.loops.Loop.{Loop}
 use Rattle.cert_maker.specs.Certificates.{facts_by, stated_by}
 use Rattle.cert_maker.specs.Known.{known, is_pointer}

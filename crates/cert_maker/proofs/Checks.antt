@@ -8,6 +8,7 @@ use Rattle.rv_decode.specs.declared.instructions.Insn.{Insn}
 use Rattle.rv_decode.specs.declared.instructions.Insn.TheVariants.{Scalar, VSet}
 use Rattle.rv_decode.specs.declared.instructions.ScalarInsn.TheVariants.{Branch}
 use Rattle.rv_decode.specs.declared.instructions.VSet.TheVariants.{Vsetvli}
+use Rattle.rv_decode.specs.Encodings.{MeaningsFit}
 use Rattle.region_mem.specs.declared.parameter.Param.{Param}
 use Rattle.scalar_core.specs.Hart.{exit}
 use Rattle.scalar_core.specs.Step.{offset_by}
@@ -124,8 +125,8 @@ all_checked image vlen params blocks e f = rw (eq-eqb (vlenb_of vlen) (vlenb_of 
 
 -- ---- a loop that was read
 
-module _ (image : ImageView) (params : List Param) (vlen : Vlen) (through : Loop × ℕ) (is : IsImage image) (are : AreParameters params)
-    (read : IsRead image params through) where
+module _ (fit : MeaningsFit) (image : ImageView) (params : List Param) (vlen : Vlen) (through : Loop × ℕ) (is : IsImage image)
+    (are : AreParameters params) (read : IsRead image params through) where
   abbrev k : Round
   k = round_at image params through read (limit_of image params through read are vlen)
 
@@ -156,10 +157,10 @@ module _ (image : ImageView) (params : List Param) (vlen : Vlen) (through : Loop
       omega (arith, far)
 
   few : words ≤ 1025
-  few = (whole image params through read are is).0
+  few = (whole image params through read are fit is).0
 
   end_there : offset_by image.entry read.first_is.offset ≡ start + 4 * words
-  end_there = sym (end_is image params through read) ∙ (whole image params through read are is).1
+  end_there = sym (end_is image params through read) ∙ (whole image params through read are fit is).1
 
   next_there : next_word image.entry ≡ start
   next_there = (let small = low in omega (arith, small))
@@ -258,8 +259,8 @@ module _ (image : ImageView) (params : List Param) (vlen : Vlen) (through : Loop
     loop_goes : block_passes image (view_of vlen params three) loop_block_of ≡ Ok tt
     unfolding loop_block_of
     loop_goes =
-        loop_passes k (is_round image params through read are vlen some) vlen read.second_is.vector_type type_there refl three
-        read.fuel read.of second_at certified read.rest enough few none_found
+        loop_passes k (is_round image params through read are fit vlen some) vlen read.second_is.vector_type type_there refl three
+        fit read.fuel read.of second_at certified read.rest enough few none_found
 
     blocks_go : blocks_pass image (view_of vlen params three) three ≡ Ok tt
     unfolding three
@@ -306,10 +307,10 @@ module _ (image : ImageView) (params : List Param) (vlen : Vlen) (through : Loop
     pub none_pass : checked image (certificate_of image params vlen through.0 words) vlen ≡ Ok tt
     none_pass = pass two two_are first_of_two two_go
 
-pub certificates-pass : CertificatesPass
-certificates-pass image params vlen through is are e =
+pub certificates-pass : MeaningsFit → CertificatesPass
+certificates-pass fit image params vlen through is are e =
     let read = read_all image params through e in
     elim (cases_eq through.0.most 0) [
-      | inl none ↦ none_pass image params vlen through is are read none
-      | inr more ↦ some_pass image params vlen through is are read (omega (arith, more))
+      | inl none ↦ none_pass fit image params vlen through is are read none
+      | inr more ↦ some_pass fit image params vlen through is are read (omega (arith, more))
     ]

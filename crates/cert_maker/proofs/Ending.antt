@@ -6,7 +6,7 @@ use Rattle.std.proofs.lemmas.Bool.{cases_eq, ne_eqb, eq-eqb, or_right, or_left, 
 use Rattle.linear_facts.specs.declared.ranges.Range.{Range}
 use Rattle.linear_facts.specs.Forms.{number_form}
 use Rattle.linear_facts.specs.LoopForms.{left_form}
-use Rattle.linear_facts.proofs.LoopRanges.{round-paid}
+use Rattle.linear_facts.specs.LoopRangeLemmas.{round-paid}
 use Rattle.rv_decode.specs.declared.instructions.Condition.TheVariants.{Ne}
 use Rattle.rv_decode.specs.declared.instructions.Insn.TheVariants.{Scalar}
 use Rattle.rv_decode.specs.declared.instructions.ScalarInsn.TheVariants.{Branch}
@@ -31,7 +31,7 @@ use Rattle.cert_maker.proofs.Going.{count_other}
 use Rattle.cert_maker.proofs.Moves.{pointers-return}
 use Rattle.cert_maker.proofs.Shown.{Shows, block_shown, exit_shown, interval_shown, if_stated, edge_ok}
 use Rattle.cert_maker.proofs.Accesses.{span}
-use Rattle.abs_state.proofs.Payments.{form_there, form_past}
+use Rattle.abs_state.specs.PaymentLemmas.{form_there, form_past}
 
 pub le_self : (a : ℕ) → a ≤ a
 le_self a = omega arith

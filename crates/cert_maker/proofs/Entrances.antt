@@ -9,7 +9,7 @@ use Rattle.linear_facts.specs.declared.ranges.Atom.{Atom}
 use Rattle.linear_facts.specs.Forms.{Linear, atom_form, number_form}
 use Rattle.linear_facts.specs.Ranges.{range_at, split_at}
 use Rattle.linear_facts.specs.Sums.{range_of_form}
-use Rattle.linear_facts.proofs.LoopRanges.{atom-range, number-range}
+use Rattle.linear_facts.specs.LoopRangeLemmas.{atom-range, number-range}
 use Rattle.region_mem.specs.declared.parameter.Param.{Param}
 use Rattle.region_mem.specs.declared.parameter.Param.TheVariants as parameter
 use Rattle.scalar_core.specs.Entry.{entry_value}
@@ -18,7 +18,7 @@ use Rattle.cert_note.specs.declared.values.RegisterFact.{RegisterFact}
 use Rattle.abs_domain.specs.Values.{ValueView, computed_range, just, or_full}
 use Rattle.abs_domain.specs.Numbers.{NumbersView, table_of, table_with, value_at}
 use Rattle.abs_domain.specs.Starts.{interval_of, form_or_atom, stated_range, stated_form, start_atoms, numbers_by, start_numbers, passed_value, start_value, form_with, entry_form, entry_numbers}
-use Rattle.abs_domain.proofs.StartNumbers.{form_by, range_by, atom_of_passed, no_atom_split}
+use Rattle.abs_domain.specs.StartNumberLemmas.{form_by, range_by, atom_of_passed, no_atom_split}
 use Rattle.cert_maker.specs.declared.loops.Loop.{Loop}
 use Rattle.cert_maker.specs.Certificates.{base_of, stated_by, entry_count, entry_facts, entry_pointer}
 use Rattle.cert_maker.specs.Known.{Round, known, atom_of, is_pointer}

@@ -7,7 +7,7 @@ use Rattle.linear_facts.specs.declared.ranges.Range.{Range}
 use Rattle.linear_facts.specs.Forms.{Linear, atom_form, form_at, number_form, scaled, substituted, sum_of, with_replaced}
 use Rattle.linear_facts.specs.Ranges.{atom_at, range_at, split_at}
 use Rattle.linear_facts.specs.LoopForms.{pointer_form}
-use Rattle.linear_facts.proofs.LoopRanges.{same-paid}
+use Rattle.linear_facts.specs.LoopRangeLemmas.{same-paid}
 use Rattle.rv_decode.specs.declared.instructions.Condition.TheVariants.{Eq}
 use Rattle.rv_decode.specs.declared.instructions.Insn.TheVariants.{Scalar}
 use Rattle.rv_decode.specs.declared.instructions.ScalarInsn.TheVariants.{Branch}
@@ -31,9 +31,9 @@ use Rattle.cert_maker.proofs.Equalities.{entry_equality, scaled_atom, sum_parts}
 use Rattle.cert_maker.proofs.IsRounds.{IsEntered}
 use Rattle.cert_maker.proofs.Moves.{same_form}
 use Rattle.cert_maker.proofs.Shown.{Shows, block_shown, edge_ok, exit_shown, if_stated, interval_shown}
-use Rattle.linear_facts.proofs.Merging.{merged-left}
+use Rattle.linear_facts.specs.MergingLemmas.{merged-left}
 use Rattle.cert_maker.proofs.Accesses.{span}
-use Rattle.abs_state.proofs.Payments.{form_there, form_past}
+use Rattle.abs_state.specs.PaymentLemmas.{form_there, form_past}
 
 -- ---- the two edges of a branch where the count is 0
 

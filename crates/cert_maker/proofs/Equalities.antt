@@ -2,10 +2,10 @@
 use Rattle.std.proofs.Common.{◌≡◌, ℕ, ◌+◌, ◌-◌, ◌%◌, ◌^◌, ◌<◌, List, [], ◌∷◌, ◌++◌, refl, ap, ◌∙◌, arith}
 use Rattle.linear_facts.specs.declared.forms.Term.{Term}
 use Rattle.linear_facts.specs.Forms.{Linear, merged, term_or_none, scaled_terms, sum_of, scaled, number_form, atom_form, form_at, with_replaced, substituted}
-use Rattle.linear_facts.proofs.Merging.{merged-nil, merged-less, merged-greater, merged-same, merged-left}
+use Rattle.linear_facts.specs.MergingLemmas.{merged-nil, merged-less, merged-greater, merged-same, merged-left}
 use Rattle.linear_facts.specs.LoopForms.{term, IsSize, pointer_form, left_form}
 use Rattle.cert_maker.specs.Laws.{BackEquality}
-use Rattle.linear_facts.proofs.LoopRanges.{by_size}
+use Rattle.linear_facts.specs.LoopRangeLemmas.{by_size}
 
 -- the middle term goes between
 pub between : (n e v a b c : ℕ) → n < e → e < v

@@ -11,8 +11,8 @@ use Rattle.linear_facts.specs.declared.forms.Term.{Term}
 use Rattle.linear_facts.specs.Forms.{scaled, scaled_terms, sum_of, within, atom_form}
 use Rattle.linear_facts.specs.Sums.{range_of_form}
 use Rattle.linear_facts.specs.LoopForms.{term, IsLoop, moved_form, left_form}
-use Rattle.linear_facts.proofs.Merging.{merged-less, merged-left}
-use Rattle.linear_facts.proofs.LoopRanges.{moved-range, left-range, by_size}
+use Rattle.linear_facts.specs.MergingLemmas.{merged-less, merged-left}
+use Rattle.linear_facts.specs.LoopRangeLemmas.{moved-range, left-range, by_size}
 use Rattle.rv_decode.specs.declared.instructions.Insn.{Insn}
 use Rattle.rv_decode.specs.declared.instructions.Insn.TheVariants.{Scalar}
 use Rattle.rv_decode.specs.declared.instructions.RegisterOp.{RegisterOp}
@@ -29,7 +29,7 @@ use Rattle.abs_state.specs.State.{AbstractView}
 use Rattle.abs_transfer.specs.Scalar.{scalar_after}
 use Rattle.abs_state.specs.StepLaws.{jumps}
 use Rattle.abs_state.specs.After.{after_of, taken, way_of, next_word}
-use Rattle.abs_domain.proofs.States.{this_value, other_value}
+use Rattle.abs_domain.specs.StateLemmas.{this_value, other_value}
 use Rattle.cert_maker.specs.declared.loops.Reading.{Reading}
 use Rattle.cert_maker.specs.declared.loops.Reading.TheVariants.{Moves, Back}
 use Rattle.cert_maker.specs.Loops.{size_of, is_flagged, moved_by}

@@ -11,7 +11,7 @@ use Rattle.region_mem.specs.declared.layout.TheConstants.{BUFFERS}
 use Rattle.region_mem.specs.declared.parameter.Param.{Param}
 use Rattle.region_mem.specs.declared.parameter.Param.TheVariants as parameter
 use Rattle.region_mem.specs.Parameter.{address_of, is_buffer, is_valid, room_of}
-use Rattle.region_mem.proofs.Rooms.{sum_by_room}
+use Rattle.region_mem.specs.RoomLemmas.{sum_by_room}
 use Rattle.cert_note.specs.Certificate.{is_scalar}
 use Rattle.cert_maker.specs.declared.loops.Loop.{Loop}
 use Rattle.cert_maker.specs.declared.loops.Reading.TheVariants.{Works}

@@ -6,7 +6,7 @@ use Rattle.std.specs.List.{slice_get, AllByRecursion}
 use Rattle.std.proofs.lemmas.Bool.{leb-true}
 use Rattle.elf_image.specs.Image.{ImageView, IsImage}
 use Rattle.linear_facts.specs.LoopForms.{IsSize}
-use Rattle.rv_decode.specs.Encodings.{FieldsFit}
+use Rattle.rv_decode.specs.Encodings.{FieldsFit, MeaningsFit}
 use Rattle.rv_decode.specs.declared.instructions.Insn.{Insn}
 use Rattle.rv_decode.specs.declared.instructions.Width.{Width}
 use Rattle.rv_decode.specs.declared.instructions.Width.TheVariants.{W8, W16, W32}
@@ -31,7 +31,7 @@ use Rattle.cert_maker.proofs.Heads.{IsBranch, IsLength, branch_is, length_is}
 use Rattle.cert_maker.proofs.Readings.{followed, none_flagged, read_is, through_is}
 use Rattle.cert_maker.proofs.LoopWalks.{fits_at, same_alike}
 use Rattle.cert_maker.proofs.Rounds.{HasBuffer, Keeps, room_there, through_keeps, valid_at}
-use Rattle.vreg_groups.proofs.Sizes.{vlmax_small}
+use Rattle.vreg_groups.specs.SizeLemmas.{vlmax_small}
 use Rattle.cert_maker.proofs.Starts.{vlmax_positive}
 use Rattle.cert_maker.proofs.Throughs.{IsWhole, whole_is}
 
@@ -211,9 +211,9 @@ module _ (image : ImageView) (params : List Param) (through : Loop × ℕ) (read
       room = has_room;
     }
 
-    length_below : read.of.length < 32
-    length_below =
-        (subst (λ (i : Insn). FieldsFit i) read.second_is.is (fits_at (image.entry + 4) read.second image read.second_at)).0
+    length_below : MeaningsFit → read.of.length < 32
+    length_below fit =
+        (subst (λ (i : Insn). FieldsFit i) read.second_is.is (fits_at fit (image.entry + 4) read.second image read.second_at)).0
 
     apart_from : (place : ℕ) → place < 8 → is_pointer through.0 place ≡ true → place + 10 ≢ through.0.length
     apart_from place l e = λ f. (keeps.buffers place l e).apart (f ∙ keeps.alike.length)
@@ -221,15 +221,15 @@ module _ (image : ImageView) (params : List Param) (through : Loop × ℕ) (read
     abbrev pub limit_of : Vlen → ℕ
     limit_of vlen = vlmax_of (vlenb_of vlen) read.second_is.vector_type
 
-    pub is_round : (vlen : Vlen) → 1 ≤ through.0.most → IsRound (round_at (limit_of vlen))
-    is_round vlen some =
+    pub is_round : MeaningsFit → (vlen : Vlen) → 1 ≤ through.0.most → IsRound (round_at (limit_of vlen))
+    is_round fit vlen some =
         let first = entered (limit_of vlen) in
         record {
           count_low = first.count_low;
           count_high = first.count_high;
           count_is = first.count_is;
           length_low = subst (λ (r : ℕ). 2 ≤ r) (sym keeps.alike.length) (two_at read.of.length read.second_is.not_zero read.second_is.not_ra);
-          length_high = subst (λ (r : ℕ). r < 32) (sym keeps.alike.length) length_below;
+          length_high = subst (λ (r : ℕ). r < 32) (sym keeps.alike.length) (length_below fit);
           length_other = λ e. read.second_is.other (sym keeps.alike.length ∙ (e ∙ keeps.alike.count));
           size = first.size;
           some = some;
@@ -246,5 +246,5 @@ module _ (image : ImageView) (params : List Param) (through : Loop × ℕ) (read
         two_at : (r : ℕ) → r ≢ 0 → r ≢ 1 → 2 ≤ r
         two_at r x y = omega (arith, x, y)
 
-    pub whole : IsImage image → IsWhole (image.entry + 4) through.0 through.1
-    whole is = whole_is image params (image.entry + 4) read.fuel read.of through is read.rest
+    pub whole : MeaningsFit → IsImage image → IsWhole (image.entry + 4) through.0 through.1
+    whole fit is = whole_is fit image params (image.entry + 4) read.fuel read.of through is read.rest

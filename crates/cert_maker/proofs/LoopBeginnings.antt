@@ -4,7 +4,7 @@ use Rattle.std.specs.Option.{option_and_then}
 use Rattle.linear_facts.specs.Forms.{atom_form, number_form}
 use Rattle.linear_facts.specs.Ranges.{range_at}
 use Rattle.linear_facts.specs.LoopForms.{pointer_form}
-use Rattle.linear_facts.proofs.LoopRanges.{atom-range, pointer-range, by_size}
+use Rattle.linear_facts.specs.LoopRangeLemmas.{atom-range, pointer-range, by_size}
 use Rattle.scalar_core.specs.Hart.{exit}
 use Rattle.cert_note.specs.declared.values.RegisterFact.{RegisterFact}
 use Rattle.abs_domain.specs.Values.{just}

@@ -6,6 +6,7 @@ use Rattle.linear_facts.specs.Forms.{atom_form}
 use Rattle.linear_facts.specs.LoopForms.{IsLoop}
 use Rattle.rv_decode.specs.declared.instructions.Insn.TheVariants.{VSet}
 use Rattle.rv_decode.specs.declared.instructions.VSet.TheVariants.{Vsetvli}
+use Rattle.rv_decode.specs.Encodings.{MeaningsFit}
 use Rattle.vreg_groups.specs.VectorLength.{vlenb_of}
 use Rattle.vreg_groups.specs.VectorType.{vtype_of, vlmax_of}
 use Rattle.vreg_groups.specs.declared.vector_length.Vlen.{Vlen}
@@ -162,19 +163,19 @@ module _ (k : Round) (is : IsRound k) where
     abbrev more_blocks : Type 0
     more_blocks = (at : ℕ) → k.start < at → at < k.start + 4 * k.words → block_at at blocks ≡ None
 
-    walked : (fuel : ℕ) (of : Loop) → IsCertified certificate k → loop_from k.image k.params k.start fuel (k.start + 4) (Works of) ≡ Ok (k.loop, k.words)
+    walked : MeaningsFit → (fuel : ℕ) (of : Loop) → IsCertified certificate k → loop_from k.image k.params k.start fuel (k.start + 4) (Works of) ≡ Ok (k.loop, k.words)
         → k.words ≤ 1025 → more_blocks → walk k.image certificate 4095 (k.start + 4) set ≡ Ok tt
-    walked fuel of c read few none =
-        walks k.image certificate k.params k.start (Known k) (k.loop, k.words) (words-go_on k is) (rounds-end certificate k is c)
+    walked fit fuel of c read few none =
+        walks fit k.image certificate k.params k.start (Known k) (k.loop, k.words) (words-go_on k is) (rounds-end certificate k is c)
         (λ at r next insn loop f g. next_leads k.params k.start at r next insn loop f g)
         fuel 4095 (k.start + 4) (Works of) set (omega arith) read (known_there of) (omega (arith, few)) (λ at l h. none at (omega (arith, l)) h)
 
-    pub loop_passes : (fuel : ℕ) (of : Loop) → insn_at k.start k.image ≡ Some (VSet (Vsetvli k.loop.length n k.loop.vtype))
+    pub loop_passes : MeaningsFit → (fuel : ℕ) (of : Loop) → insn_at k.start k.image ≡ Some (VSet (Vsetvli k.loop.length n k.loop.vtype))
         → IsCertified certificate k → loop_from k.image k.params k.start fuel (k.start + 4) (Works of) ≡ Ok (k.loop, k.words)
         → 2 ≤ k.words → k.words ≤ 1025 → more_blocks → block_passes k.image certificate loop_block ≡ Ok tt
     unfolding block_passes walk jumps
-    loop_passes fuel of at c read some few none =
+    loop_passes fit fuel of at c read some few none =
         ap (λ x. then_on x (λ next. walk k.image certificate 4095 (k.start + 4) next))
         (word_is k.image certificate k.start (VSet (Vsetvli k.loop.length n k.loop.vtype)) begin set at (set_is k.start k.loop.length n k.loop.vtype begin)
         ∙ goes_on certificate k.start (VSet (Vsetvli k.loop.length n k.loop.vtype)) set refl (none (k.start + 4) (omega arith) (omega (arith, some))))
-        ∙ walked fuel of c read few none
+        ∙ walked fit fuel of c read few none

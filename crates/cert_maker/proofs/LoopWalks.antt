@@ -4,8 +4,7 @@ use Rattle.std.specs.Prelude.{Result, Ok}
 use Rattle.std.specs.Option.{option_and_then}
 use Rattle.elf_image.specs.Image.{ImageView, code_at}
 use Rattle.rv_decode.specs.Decode.{meaning_of}
-use Rattle.rv_decode.specs.Encodings.{FieldsFit}
-use Rattle.rv_decode.proofs.Meant.{meant}
+use Rattle.rv_decode.specs.Encodings.{FieldsFit, MeaningsFit}
 use Rattle.rv_decode.specs.declared.instructions.Insn.{Insn}
 use Rattle.region_mem.specs.declared.parameter.Param.{Param}
 use Rattle.cert_note.specs.Certificate.{CertificateView}
@@ -33,10 +32,10 @@ code_of pc insn image e = by_code (code_at pc image) refl e
     by_code (Some word) f g = (word, f, g)
 
 -- the fields of an instruction of code fit
-pub fits_at : (pc : ℕ) (insn : Insn) (image : ImageView) → insn_at pc image ≡ Some insn → FieldsFit insn
-fits_at pc insn image e =
+pub fits_at : MeaningsFit → (pc : ℕ) (insn : Insn) (image : ImageView) → insn_at pc image ≡ Some insn → FieldsFit insn
+fits_at fit pc insn image e =
     let is = code_of pc insn image e in
-    meant is.0 is.2
+    fit is.0 insn is.2
 
 pub word_is : (image : ImageView) (certificate : CertificateView) (pc : ℕ) (insn : Insn) (a b : AbstractView) → insn_at pc image ≡ Some insn
     → after_of pc insn a ≡ Ok b → word_passes image certificate pc a ≡ followed certificate pc insn (Ok b)
@@ -178,8 +177,8 @@ module _ (image : ImageView) (params : List Param) (start : ℕ) where
       by_insn None at f rest = cc
       by_insn (Some insn) at f rest = by_reading insn (next_of params start pc r insn) refl f rest
 
-module _ (image : ImageView) (certificate : CertificateView) (params : List Param) (start : ℕ) (Known : Reading → ℕ → AbstractView → Type 0)
-    (through : Loop × ℕ) (on : WordsGoOn params start through.0 Known) (end : WordsEnd certificate params start through.0 through.1 Known)
+module _ (fit : MeaningsFit) (image : ImageView) (certificate : CertificateView) (params : List Param) (start : ℕ)
+    (Known : Reading → ℕ → AbstractView → Type 0) (through : Loop × ℕ) (on : WordsGoOn params start through.0 Known) (end : WordsEnd certificate params start through.0 through.1 Known)
     (back : Leads image params start) where
   -- the walk goes with the reading, where it has words enough
   pub walks : (fuel more pc : ℕ) (r : Reading) (a : AbstractView) → start ≤ pc → loop_from image params start fuel pc r ≡ Ok through
@@ -203,7 +202,7 @@ module _ (image : ImageView) (certificate : CertificateView) (params : List Para
       goes : (next : Reading) (insn : Insn) → insn_at pc image ≡ Some insn → next_of params start pc r insn ≡ Some next → Rest → is_through next ≡ false
           → loop_from image params start fuel (pc + 4) next ≡ Ok through → Goal
       goes next insn at is rest going g =
-          let step = on pc r next insn a (fits_at pc insn image at) is going (leads image params start back (suc fuel) pc r through e) (leads image params start back fuel (pc + 4) next through g) known in
+          let step = on pc r next insn a (fits_at fit pc insn image at) is going (leads image params start back (suc fuel) pc r through e) (leads image params start back fuel (pc + 4) next through g) known in
           let far = inside image params start fuel (pc + 4) next through (omega (arith, l)) g in
           ap (λ x. then_on x (λ b. walk image certificate more (pc + 4) b))
           (word_is image certificate pc insn a step.0 at step.1 ∙ goes_on certificate pc insn step.0 step.2 (none (pc + 4) (omega arith) far))
@@ -219,7 +218,7 @@ module _ (image : ImageView) (certificate : CertificateView) (params : List Para
           → (loop, (pc - start) / 4 + 1) ≡ through → Goal
       ended loop insn at is same_loop =
           let loop_is : loop ≡ through.0 = ap (λ (x : Loop × ℕ). x.0) same_loop in
-          let step = end pc r insn a (fits_at pc insn image at) (subst (λ (l : Loop). next_of params start pc r insn ≡ Some (Through l)) loop_is is)
+          let step = end pc r insn a (fits_at fit pc insn image at) (subst (λ (l : Loop). next_of params start pc r insn ≡ Some (Through l)) loop_is is)
           (sym (ap (λ (x : Loop × ℕ). x.1) same_loop)) (leads image params start back (suc fuel) pc r through e) known in
           ap (λ x. then_on x (λ b. walk image certificate more (pc + 4) b))
           (word_is image certificate pc insn a step.0 at step.1 ∙ stops certificate pc insn step.0 step.2 step.3)

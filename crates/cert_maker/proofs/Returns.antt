@@ -26,7 +26,7 @@ use Rattle.abs_state.specs.After.{after_of, taken, way_of, jump_way}
 use Rattle.abs_state.specs.Branches.{EdgeView, refined, edge_by, plain_edge, value_on}
 use Rattle.abs_state.specs.Edges.{implied_by, implies_end, is_paid_for, pays, is_paid, own_total, next_total, least_of, most_of, no_budget}
 use Rattle.abs_state.specs.StepLaws.{jumps}
-use Rattle.abs_domain.proofs.StartNumbers.{range_by}
+use Rattle.abs_domain.specs.StartNumberLemmas.{range_by}
 use Rattle.block_checker.specs.Passes.{edges_pass, possible_passes, edge_passes, block_for, is_branch, is_branch_insn, then_on, walk, block_passes}
 use Rattle.cert_maker.specs.Loops.{insn_at, is_return}
 use Rattle.cert_maker.specs.Certificates.{facts_by, budget, block}

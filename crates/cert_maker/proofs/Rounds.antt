@@ -16,7 +16,7 @@ use Rattle.rv_decode.specs.declared.instructions.ScalarInsn.TheVariants.{Branch,
 use Rattle.rv_decode.specs.declared.instructions.ShiftOp.TheVariants.{Slli}
 use Rattle.rv_decode.specs.declared.instructions.VMem as mem
 use Rattle.rv_decode.specs.declared.instructions.Width.{Width}
-use Rattle.region_mem.proofs.Rooms.{sum_by_room}
+use Rattle.region_mem.specs.RoomLemmas.{sum_by_room}
 use Rattle.region_mem.specs.Parameter.{address_of, is_buffer, is_valid, room_of}
 use Rattle.region_mem.specs.declared.parameter.Mode.{Mode}
 use Rattle.region_mem.specs.declared.parameter.Param.{Param}

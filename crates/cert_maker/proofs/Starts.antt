@@ -17,7 +17,7 @@ use Rattle.abs_domain.specs.Values.{ValueView}
 use Rattle.abs_domain.specs.Numbers.{NumbersView, table_of, value_at, with_value, with_effect, with_result}
 use Rattle.abs_domain.specs.Numbers.{whole_atom}
 use Rattle.abs_transfer.specs.Vset.{limited, limited_by, split_into, with_length_in}
-use Rattle.abs_domain.proofs.States.{this_value, other_value}
+use Rattle.abs_domain.specs.StateLemmas.{this_value, other_value}
 use Rattle.linear_facts.specs.LoopForms.{IsLoop}
 use Rattle.cert_maker.specs.Laws.{AreSplit, IsCount, IsSet, LengthsAreSet}
 use Rattle.cert_maker.proofs.Lengths.{are_split}

@@ -4,7 +4,7 @@ use Rattle.std.proofs.lemmas.Int.{ints}
 use Rattle.std.specs.Prelude.{ℤ, pos, negsuc, Ok, ◌≤ℤ◌}
 use Rattle.std.proofs.lemmas.Bool.{and_parts, eqb-true}
 use Rattle.elf_image.specs.Image.{ImageView, IsImage}
-use Rattle.rv_decode.specs.Encodings.{FieldsFit}
+use Rattle.rv_decode.specs.Encodings.{FieldsFit, MeaningsFit}
 use Rattle.rv_decode.specs.declared.instructions.Condition.TheVariants.{Ne}
 use Rattle.rv_decode.specs.declared.instructions.Insn.{Insn}
 use Rattle.rv_decode.specs.declared.instructions.Insn.TheVariants.{Scalar}
@@ -72,11 +72,11 @@ next_word_is start pc at = (at.0 + 1, (let word = at.1 in omega (arith, word)))
 word_above : (start pc : ℕ) → IsWord start pc → start ≤ pc
 word_above start pc at = (let word = at.1 in omega (arith, word))
 
-pub whole_is : (image : ImageView) (params : List Param) (start fuel : ℕ) (of : Loop) (through : Loop × ℕ) → IsImage image
+pub whole_is : MeaningsFit → (image : ImageView) (params : List Param) (start fuel : ℕ) (of : Loop) (through : Loop × ℕ) → IsImage image
     → loop_from image params start fuel (start + 4) (Works of) ≡ Ok through → IsWhole start through.0 through.1
-whole_is image params start fuel of through is e =
+whole_is fit image params start fuel of through is e =
     ends image params start (λ r at. IsWord start at) (λ loop words. IsWhole start loop words)
     (λ at r next insn code read going word. next_word_is start at word)
     (λ at r loop insn code read word. whole_by start at loop word
-    (last_word params start at r insn loop (fits_at at insn image code) (word_above start at word) (insn_low image at insn is code) read))
+    (last_word params start at r insn loop (fits_at fit at insn image code) (word_above start at word) (insn_low image at insn is code) read))
     fuel (start + 4) (Works of) through (1, refl) e

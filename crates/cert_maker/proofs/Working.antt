@@ -44,7 +44,7 @@ use Rattle.abs_state.specs.StepLaws.{jumps}
 use Rattle.abs_state.specs.After.{after_of, taken, way_of, next_word, access_check, vector_numbers}
 use Rattle.abs_domain.specs.Zones.{may_write, zone_right, load_allowed, store_allowed}
 use Rattle.abs_transfer.specs.Accesses.{unit_reach, reach_at, reach_allowed, is_whole, transfer_check}
-use Rattle.abs_domain.proofs.States.{this_value, other_value}
+use Rattle.abs_domain.specs.StateLemmas.{this_value, other_value}
 use Rattle.cert_maker.specs.declared.loops.Loop.{Loop}
 use Rattle.cert_maker.specs.declared.loops.Reading.{Reading}
 use Rattle.cert_maker.specs.declared.loops.Reading.TheVariants.{Works, Moves, Back, Through}
@@ -59,7 +59,7 @@ use Rattle.cert_maker.proofs.Flags.{flag_at}
 use Rattle.cert_maker.proofs.Leading.{step_leads}
 use Rattle.cert_maker.proofs.Moves.{computed_within}
 use Rattle.cert_maker.proofs.Going.{GoesOn, test_of, within_on, atoms_stay, done_some, done_fits, one_done, moved_at, moved_low, moved_on}
-use Rattle.linear_facts.proofs.LoopRanges.{by_size}
+use Rattle.linear_facts.specs.LoopRangeLemmas.{by_size}
 
 least_end : (a base b size : ℕ) → b ≤ size → min a (base + b) ≤ base + size
 least_end a base b size l = omega (arith, l)

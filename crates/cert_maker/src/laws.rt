@@ -5,6 +5,8 @@ ghost use Rattle.cert_maker.specs.Laws.{BodyKeeps, ReachesEnd, FactsAre, SplitsA
 ghost use Rattle.cert_maker.specs.Laws.{LoopsLead, PointersMove, PointersReturn, LengthsAreSet};
 ghost use Rattle.cert_maker.specs.Laws.{ReturnsPass, LoopsGoOn, RoundsEnd, CertificatesPass};
 
+use rv_decode::laws::meanings_fit;
+
 /// Vector arithmetic that is legal at the vtype that is known leaves all that is known of numbers as it was.
 pub fn body_keeps()
     ensures { BodyKeeps }
@@ -68,4 +70,6 @@ pub fn rounds_end()
 /// What is made of a loop that was read passes the check, at the length of vector registers that it is made for.
 pub fn certificates_pass()
     ensures { CertificatesPass }
-{}
+{
+    meanings_fit();
+}

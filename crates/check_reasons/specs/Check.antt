@@ -1,5 +1,6 @@
 -- Why an image is refused with its certificate, and in which words it is told.
 use Rattle.std.specs.Prelude.{◌≡◌, ℕ, ◌++◌, List, [], codes, Option, Some, None, String, option_map, string_bytes}
+use Rattle.std.specs.Fmt.{decimal}
 use Rattle.std.specs.List.{slice_get}
 use Rattle.std.specs.Option.{option_and_then}
 use Rattle.std.specs.Str.Lossy.{utf8_lossy}
@@ -10,6 +11,7 @@ use Rattle.rv_listing.specs.Listing.{listing_text}
 use Rattle.vreg_groups.specs.declared.vector_length.Vlen.{Vlen}
 use Rattle.vreg_groups.specs.declared.vector_length.Vlen.TheVariants as vlen
 use Rattle.abs_domain.specs.Zones.{zones_of}
+use Rattle.abs_state.specs.declared.state.TheConstants.{MOST_WORDS}
 use Rattle.abs_transfer.specs.declared.accesses.Reach.{Reach}
 use Rattle.block_checker.specs.Explained.{before_in}
 use Rattle.block_checker.specs.declared.errors.CheckError.{CheckError}
@@ -137,7 +139,8 @@ rule (error.OrderNotProved pc) = codes "  wanted: the orders of the block entere
 rule (error.VectorFactNotProved pc) = codes "  wanted: the vector facts of the block entered\n"
 rule (error.BudgetNotProved pc) =
     codes "  wanted: a budget for these words and the block entered\n"
-rule (error.BlockTooLong pc) = codes "  wanted: at most 4096 words in a block\n"
+rule (error.BlockTooLong pc) =
+    codes "  wanted: at most " ++ (decimal MOST_WORDS ++ codes " words in a block\n")
 rule error.NoMemory = []
 
 abbrev pub bits_text : Vlen → List ℕ

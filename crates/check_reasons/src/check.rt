@@ -5,11 +5,11 @@ ghost use Rattle.std.specs.Option.{option_and_then};
 ghost use Rattle.block_checker.specs.Explained.{Explains, answer_of, before_in};
 ghost use Rattle.block_checker.specs.Passes.{checked as checked_of};
 ghost use Rattle.check_reasons.specs.Access.{reach_in as reach_in_of};
-ghost use Rattle.check_reasons.specs.Check.{IsAccess, IsEdgeWanted, IsListed, IsWanted, rule};
+ghost use Rattle.check_reasons.specs.Check.{IsAccess, IsEdgeWanted, IsListed, IsWanted};
 
 use crate::access::{Access, operand_of, reach_in};
 use crate::edge::{Edge, edge_at};
-use abs_state::{Reach, memory_zones};
+use abs_state::{MOST_WORDS, Reach, memory_zones};
 use block_checker::{CheckError, Explanation, Part, Stop, explain, state_before};
 use cert_note::Certificate;
 use elf_image::Image;
@@ -255,26 +255,39 @@ impl<A: Allocator> fmt::Display for ListingLine<'_, A> {
 }
 
 /// What is wanted, by the error alone.
-fn rule(error: CheckError) -> &'static str
-    ensures { result.now ≡ rule error }
-{
-    match error {
-        CheckError::WrongVlen => "",
-        CheckError::NoEntryBlock => "",
-        CheckError::NotCode(_) => "  wanted: a word in one segment that can be executed\n",
-        CheckError::IllegalWord(_) => "  wanted: an instruction that is legal there\n",
-        CheckError::VtypeUnknown(_) => "  wanted: a vector type that is known there\n",
-        CheckError::AccessNotProved(_) => "",
-        CheckError::ReadOnly(_) => "",
-        CheckError::TargetNotABlock(_) => "  wanted: a block where the word leads, or the exit\n",
-        CheckError::IntervalNotProved(_) => "  wanted: the intervals of the block entered\n",
-        CheckError::EqualityNotProved(_) => "  wanted: the equalities of the block entered\n",
-        CheckError::OrderNotProved(_) => "  wanted: the orders of the block entered\n",
-        CheckError::VectorFactNotProved(_) => "  wanted: the vector facts of the block entered\n",
-        CheckError::BudgetNotProved(_) =>
-            "  wanted: a budget for these words and the block entered\n",
-        CheckError::BlockTooLong(_) => "  wanted: at most 4096 words in a block\n",
-        CheckError::NoMemory => "",
+#[derive(Clone, Copy)]
+struct Rule(CheckError);
+
+impl fmt::Display for Rule {
+    ghost use Rattle.std.specs.Prelude.{Some};
+    ghost use Rattle.check_reasons.specs.Check.{rule};
+
+    ghost output = { λ told. Some (rule told.0) };
+
+    fn fmt<W: fmt::Write>(&self, f: &mut fmt::Formatter<W>) -> fmt::Result {
+        let error = self.0;
+        f.write_str(match error {
+            CheckError::WrongVlen => "",
+            CheckError::NoEntryBlock => "",
+            CheckError::NotCode(_) => "  wanted: a word in one segment that can be executed\n",
+            CheckError::IllegalWord(_) => "  wanted: an instruction that is legal there\n",
+            CheckError::VtypeUnknown(_) => "  wanted: a vector type that is known there\n",
+            CheckError::AccessNotProved(_) => "",
+            CheckError::ReadOnly(_) => "",
+            CheckError::TargetNotABlock(_) =>
+                "  wanted: a block where the word leads, or the exit\n",
+            CheckError::IntervalNotProved(_) => "  wanted: the intervals of the block entered\n",
+            CheckError::EqualityNotProved(_) => "  wanted: the equalities of the block entered\n",
+            CheckError::OrderNotProved(_) => "  wanted: the orders of the block entered\n",
+            CheckError::VectorFactNotProved(_) =>
+                "  wanted: the vector facts of the block entered\n",
+            CheckError::BudgetNotProved(_) =>
+                "  wanted: a budget for these words and the block entered\n",
+            CheckError::BlockTooLong(_) => {
+                return writeln!(f, "  wanted: at most {MOST_WORDS} words in a block");
+            }
+            CheckError::NoMemory => "",
+        })
     }
 }
 
@@ -332,7 +345,7 @@ impl<A: Allocator> fmt::Display for CheckReason<A> {
     fn fmt<W: fmt::Write>(&self, f: &mut fmt::Formatter<W>) -> fmt::Result {
         let stop = StopLines(&self.explanation.stop);
         let listing = ListingLine(&self.listing);
-        let rule = rule(self.explanation.error);
+        let rule = Rule(self.explanation.error);
         let wanted = &self.wanted;
         write!(f, "{stop}{listing}{rule}{wanted}")
     }

@@ -6,7 +6,7 @@ ghost use Rattle.check_reasons.specs.Edge.{entered_at as entered_at_of};
 ghost use Rattle.check_reasons.specs.Edge.{entered_of, left_of};
 
 use crate::unshown::{Unshown, unshown_in};
-use abs_state::Edge as Way;
+use abs_state::Edge as KnownEdge;
 use block_checker::{CheckError, Part, place_of, refused_edge, state_behind};
 use cert_note::{Budget, Certificate};
 use elf_image::Image;
@@ -70,7 +70,7 @@ fn entered_block<A: Allocator, C: Allocator>(
     certificate: &Certificate<C>,
     error: CheckError,
     own: Option<Budget>,
-    way: &Way<'_, A>,
+    way: &KnownEdge<'_, A>,
 ) -> Option<Entered>
     ensures { result ≡ entered_of certificate.now error own way.now }
 {
@@ -104,7 +104,7 @@ fn told<A: Allocator, C: Allocator>(
     certificate: &Certificate<C>,
     error: CheckError,
     part: Part,
-    way: &Way<'_, A>,
+    way: &KnownEdge<'_, A>,
 ) -> Edge
     ensures { result ≡ edge_told certificate.now error part way.now }
 {

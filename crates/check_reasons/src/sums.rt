@@ -9,8 +9,15 @@ use linear_facts::{Form, Term};
 use std::fmt;
 use std::marker::Model;
 
-/// A sum modulo 2^32. Its atoms are x1 to x31 and vl (32) where a block begins, the numbers that were passed (33 to 40, by
-/// place), and numbers that an instruction left of which no more is known.
+/// The number of vl, behind those of the registers.
+pub(crate) const VL: u8 = abs_domain::VL as u8;
+/// The first atom of what was passed, by place.
+const PASSED: u16 = 33;
+/// The first atom of what an instruction left.
+const FRESH: u16 = 41;
+
+/// A sum modulo 2^32. Its atoms are x1 to x31 and vl where a block begins, the numbers that were passed, by
+/// place, and numbers that an instruction left of which no more is known.
 #[derive(Drop)]
 pub struct Sum<const N: usize> {
     pub constant: u32,
@@ -52,7 +59,7 @@ pub(crate) fn sum_stated(equality: &Equality) -> Sum<8>
     }
 }
 
-/// A register, or vl (32).
+/// A register, or vl.
 #[derive(Clone, Copy)]
 pub(crate) struct Name(pub(crate) u8);
 
@@ -65,7 +72,7 @@ impl fmt::Display for Name {
     #[tactic(auto, unfolding(crate::specs::Sums::name_text))]
     fn fmt<W: fmt::Write>(&self, f: &mut fmt::Formatter<W>) -> fmt::Result {
         let number = self.0;
-        if number == 32 {
+        if number == VL {
             write!(f, "vl")
         } else {
             write!(f, "x{number}")
@@ -86,14 +93,14 @@ impl fmt::Display for Atom {
     #[tactic(auto, unfolding(crate::specs::Sums::atom_text))]
     fn fmt<W: fmt::Write>(&self, f: &mut fmt::Formatter<W>) -> fmt::Result {
         let atom = self.0;
-        if atom < 33 {
+        if atom < PASSED {
             let name = Name(atom as u8);
             write!(f, "{name}")
-        } else if atom < 41 {
-            let place = atom - 33;
+        } else if atom < FRESH {
+            let place = atom - PASSED;
             write!(f, "param {place}")
         } else {
-            let number = atom - 41;
+            let number = atom - FRESH;
             write!(f, "n{number}")
         }
     }

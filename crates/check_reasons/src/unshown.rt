@@ -14,7 +14,7 @@ ghost use Rattle.check_reasons.specs.Unshown.{unshown_order as unshown_order_of}
 ghost use Rattle.check_reasons.specs.Unshown.{unshown_vector as unshown_vector_of};
 
 use crate::access::Span;
-use crate::sums::{Name, Sum, sum_of, sum_stated};
+use crate::sums::{Name, Sum, VL, sum_of, sum_stated};
 use abs_state::{
     Edge, is_equality_shown, is_interval_shown, is_order_shown, is_vector_shown, least_left,
     most_asked, sum_on,
@@ -25,7 +25,7 @@ use linear_facts::Range;
 use std::alloc::Allocator;
 use std::fmt;
 
-/// A register, or vl (32), and what is known of it on a way out: with what the branch says.
+/// A register, or vl, and what is known of it on a way out: with what the branch says.
 #[derive(Drop)]
 pub struct Number {
     pub register: u8,
@@ -69,7 +69,7 @@ pub enum Unshown {
     },
 }
 
-/// A register, or vl (32), with what is known of it on the way.
+/// A register, or vl, with what is known of it on the way.
 #[tactic(auto, unfolding(crate::specs::Unshown::number_on))]
 fn number_on<A: Allocator>(way: &Edge<'_, A>, register: u8) -> Number
     ensures { result ≡ number_on_of way.now register }
@@ -208,7 +208,7 @@ fn unshown_vector<A: Allocator>(way: &Edge<'_, A>, facts: &[VectorFact]) -> Unsh
         Some(fact) => Unshown::Vector {
             wanted: *fact,
             known: group_at(fact.register, way.groups()),
-            vl: way.range_on(32),
+            vl: way.range_on(VL),
         },
     }
 }
@@ -404,7 +404,7 @@ impl fmt::Display for Unshown {
             }
             Unshown::Vector { wanted, known, vl } => {
                 let range = Span(*vl);
-                let vl = Name(32);
+                let vl = Name(VL);
                 let known = KnownGroup(*known);
                 let wanted = Vector(*wanted);
                 writeln!(f, "  known: {vl} in {range}")?;

@@ -1,4 +1,3 @@
-pub mod Bytes
 pub mod FaultLemmas
 pub mod HasImage
 pub mod Certificates

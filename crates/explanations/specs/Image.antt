@@ -5,8 +5,9 @@ use Rattle.std.specs.List.{slice_index}
 use Rattle.elf_image.specs.Words.{word_at}
 use Rattle.elf_image.specs.File.{HasTable, e_ehsize, e_entry, e_flags, e_machine, e_phentsize, e_phnum, e_phoff, e_type, e_version}
 use Rattle.elf_image.specs.Faults.{is_too_short}
-use Rattle.elf_image.specs.declared.faults.TheConstants.{EI_CLASS, EI_DATA, EI_VERSION, ELF_HEADER_SIZE, ELFCLASS32, ELFDATA2LSB, ET_EXEC}
+use Rattle.elf_image.specs.declared.faults.TheConstants.{EI_CLASS, EI_DATA, EI_VERSION, ELF_HEADER_SIZE, ELFCLASS32, ELFDATA2LSB, EM_RISCV, ET_EXEC, EV_CURRENT}
 use Rattle.elf_image.specs.declared.header.TheConstants.{E_TYPE, E_MACHINE, E_VERSION, E_ENTRY, E_PHOFF, E_FLAGS, E_EHSIZE, E_PHENTSIZE, E_PHNUM, MAX_PROGRAM_HEADERS, PROGRAM_HEADER_SIZE}
+use Rattle.elf_image.specs.declared.layout.TheConstants.{MAX_FILE_SIZE, MAX_MEMORY_SIZE, MAX_SEGMENTS}
 use Rattle.elf_image.specs.declared.error.ElfError.{ElfError}
 use Rattle.elf_image.specs.declared.error.ElfError.TheVariants as error
 use Rattle.explanations.specs.Address.{address_text}
@@ -149,24 +150,29 @@ flags_wanted value =
 -- what is wanted of a field that has this number, and the remedy where there is one
 abbrev pub wanted : ElfField → ℕ → List ℕ
 wanted field.Magic value = codes "  wanted: 0x464c457f, the bytes 7f, E, L, F\n"
-wanted field.Class value = codes "  wanted: 1, 32 bits\n  remedy: compile with --target=riscv32\n"
-wanted field.Order value = codes "  wanted: 1, little-endian\n"
-wanted field.IdentVersion value = codes "  wanted: 1\n"
-wanted field.Type value =
-    codes "  wanted: 2, an executable file\n  remedy: link with -static\n"
-wanted field.Machine value =
-    codes "  wanted: 243, RISC-V\n  remedy: compile with --target=riscv32\n"
-wanted field.Version value = codes "  wanted: 1\n"
+wanted field.Class value = codes "  wanted: " ++ (decimal ELFCLASS32
+    ++ codes ", 32 bits\n  remedy: compile with --target=riscv32\n")
+wanted field.Order value = codes "  wanted: " ++ (decimal ELFDATA2LSB ++ codes ", little-endian\n")
+wanted field.IdentVersion value = codes "  wanted: " ++ (decimal EV_CURRENT ++ codes "\n")
+wanted field.Type value = codes "  wanted: " ++ (decimal ET_EXEC
+    ++ codes ", an executable file\n  remedy: link with -static\n")
+wanted field.Machine value = codes "  wanted: " ++ (decimal EM_RISCV
+    ++ codes ", RISC-V\n  remedy: compile with --target=riscv32\n")
+wanted field.Version value = codes "  wanted: " ++ (decimal EV_CURRENT ++ codes "\n")
 wanted field.Entry value = codes "  wanted: a multiple of 4 in a segment that can be executed\n"
-wanted field.TableOffset value = codes "  wanted: the table of program headers within the file\n"
+wanted field.TableOffset value =
+    codes "  wanted: the table of program headers within the file\n"
 wanted field.Flags value = flags_wanted value
-wanted field.HeaderSize value = codes "  wanted: 52\n"
-wanted field.EntrySize value = codes "  wanted: 32\n"
-wanted field.EntryCount value = codes "  wanted: 1 to 64\n"
+wanted field.HeaderSize value = codes "  wanted: " ++ (decimal ELF_HEADER_SIZE ++ codes "\n")
+wanted field.EntrySize value = codes "  wanted: " ++ (decimal PROGRAM_HEADER_SIZE ++ codes "\n")
+wanted field.EntryCount value =
+    codes "  wanted: 1 to " ++ (decimal MAX_PROGRAM_HEADERS ++ codes "\n")
 
 abbrev pub large_wanted : List ℕ
-large_wanted =
-    codes "  wanted: at most 4194304, at most 16 segments, and at most 16777216 bytes of memory\n"
+large_wanted = codes "  wanted: at most " ++ (decimal MAX_FILE_SIZE
+    ++ (codes ", at most " ++ (decimal MAX_SEGMENTS
+    ++ (codes " segments, and at most " ++ (decimal MAX_MEMORY_SIZE
+    ++ codes " bytes of memory\n")))))
 
 abbrev pub field_place : ElfField → ℕ → List ℕ
 field_place f offset = codes "  " ++ (field_name f ++ (codes " at byte "
@@ -179,7 +185,8 @@ field_number value = decimal value ++ (codes " (" ++ (address_text value ++ code
 abbrev pub image_text : ImageReason → List ℕ
 image_text reason.Untold = []
 image_text (reason.Short size) = codes "  size of the file: "
-    ++ (decimal size ++ codes "\n  wanted: at least 52, an ELF header\n")
+    ++ (decimal size ++ (codes "\n  wanted: at least "
+    ++ (decimal ELF_HEADER_SIZE ++ codes ", an ELF header\n")))
 image_text (reason.Field f offset value) =
     field_place f offset ++ (field_number value ++ wanted f value)
 image_text (reason.Segment broken header) = header_text header ++ rule_text broken

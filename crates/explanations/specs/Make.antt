@@ -1,5 +1,5 @@
 -- Why no certificate is made of an image for a job, and in which words it is told.
-use Rattle.std.specs.Prelude.{◌≡◌, ℕ, ◌+◌, ◌++◌, ◌==◌, not, Bool, List, [], codes, length}
+use Rattle.std.specs.Prelude.{◌≡◌, ℕ, ◌+◌, ◌-◌, ◌++◌, ◌==◌, not, Bool, List, [], codes, length}
 use Rattle.std.specs.Prelude.{position, Option, Some, None, string_bytes, if◌then◌else◌}
 use Rattle.std.specs.Fmt.{decimal}
 use Rattle.std.specs.List.{slice_get}
@@ -7,6 +7,9 @@ use Rattle.std.specs.Str.Lossy.{utf8_lossy}
 use Rattle.elf_image.specs.Image.{ImageView, code_at}
 use Rattle.elf_image.specs.Faults.{is_too_short}
 use Rattle.elf_image.specs.File.{e_phnum}
+use Rattle.elf_image.specs.declared.header.TheConstants.{MAX_PROGRAM_HEADERS}
+use Rattle.elf_image.specs.declared.layout.TheConstants.{MAX_FILE_SIZE}
+use Rattle.region_mem.specs.declared.layout.TheConstants.{MAX_BUFFER_SIZE}
 use Rattle.elf_image.specs.declared.error.ElfError.{ElfError}
 use Rattle.elf_image.specs.declared.error.ElfError.TheVariants as error
 use Rattle.region_mem.specs.Parameter.{is_valid}
@@ -103,14 +106,15 @@ row_wanted row.Later =
     codes "  wanted: what goes on with these words: rows 3 to 8 of a plain loop (docs/MAKE.md)\n"
 
 abbrev pub room_wanted : List ℕ
-room_wanted =
-    codes "  wanted: at most 63, and at most 4194304 bytes with one more and the certificate\n"
+room_wanted = codes "  wanted: at most " ++ (decimal (MAX_PROGRAM_HEADERS - 1)
+    ++ (codes ", and at most " ++ (decimal MAX_FILE_SIZE
+    ++ codes " bytes with one more and the certificate\n")))
 
 abbrev pub high_line : ℕ → List ℕ
 high_line hi = codes "  wanted: at most its hi, " ++ (decimal hi ++ codes "\n")
 
 abbrev pub size_wanted : List ℕ
-size_wanted = codes "  wanted: at most 16777216\n"
+size_wanted = codes "  wanted: at most " ++ (decimal MAX_BUFFER_SIZE ++ codes "\n")
 
 abbrev pub bare_wanted : List ℕ
 bare_wanted = codes "  wanted: an image with no certificate\n"

@@ -2,15 +2,16 @@
 ghost use Rattle.std.specs.Prelude.{◌≡◌, ◌≤◌, length};
 ghost use Rattle.explanations.specs.Image.{Tells, TellsOverlap, TellsSegment, flags_wanted};
 ghost use Rattle.explanations.specs.Image.{ident_field, number_in, offset_of, table_field};
-ghost use Rattle.explanations.specs.Image.{told_field, type_field, wanted, large_wanted};
+ghost use Rattle.explanations.specs.Image.{told_field, type_field};
 
 use crate::address::Address;
 use crate::headers;
 use crate::headers::{Header, SegmentRule};
 use elf_image::{
     E_EHSIZE, E_ENTRY, E_FLAGS, E_MACHINE, E_PHENTSIZE, E_PHNUM, E_PHOFF, E_TYPE, E_VERSION,
-    EI_CLASS, EI_DATA, EI_VERSION, ELF_HEADER_SIZE, ELFCLASS32, ELFDATA2LSB, ET_EXEC, ElfError,
-    MAX_PROGRAM_HEADERS, PROGRAM_HEADER_SIZE, half_at, has_table, is_too_short, word_at,
+    EI_CLASS, EI_DATA, EI_VERSION, ELF_HEADER_SIZE, ELFCLASS32, ELFDATA2LSB, EM_RISCV, ET_EXEC,
+    EV_CURRENT, ElfError, MAX_FILE_SIZE, MAX_MEMORY_SIZE, MAX_PROGRAM_HEADERS, MAX_SEGMENTS,
+    PROGRAM_HEADER_SIZE, half_at, has_table, is_too_short, word_at,
 };
 use std::fmt;
 
@@ -268,31 +269,74 @@ fn flags_wanted(value: u32) -> &'static str
 }
 
 /// What is wanted of a field that has this number, and the remedy where there is one.
-fn wanted(field: ElfField, value: u32) -> &'static str
-    ensures { result.now ≡ wanted field value }
-{
-    match field {
-        ElfField::Magic => "  wanted: 0x464c457f, the bytes 7f, E, L, F\n",
-        ElfField::Class => "  wanted: 1, 32 bits\n  remedy: compile with --target=riscv32\n",
-        ElfField::Order => "  wanted: 1, little-endian\n",
-        ElfField::IdentVersion => "  wanted: 1\n",
-        ElfField::Type => "  wanted: 2, an executable file\n  remedy: link with -static\n",
-        ElfField::Machine => "  wanted: 243, RISC-V\n  remedy: compile with --target=riscv32\n",
-        ElfField::Version => "  wanted: 1\n",
-        ElfField::Entry => "  wanted: a multiple of 4 in a segment that can be executed\n",
-        ElfField::TableOffset => "  wanted: the table of program headers within the file\n",
-        ElfField::Flags => flags_wanted(value),
-        ElfField::HeaderSize => "  wanted: 52\n",
-        ElfField::EntrySize => "  wanted: 32\n",
-        ElfField::EntryCount => "  wanted: 1 to 64\n",
+#[derive(Clone, Copy)]
+struct Wanted {
+    field: ElfField,
+    value: u32,
+}
+
+impl fmt::Display for Wanted {
+    ghost use Rattle.std.specs.Prelude.{Some};
+    ghost use Rattle.explanations.specs.Image.{wanted};
+
+    ghost output = { λ w. Some (wanted w.field w.value) };
+
+    fn fmt<W: fmt::Write>(&self, f: &mut fmt::Formatter<W>) -> fmt::Result {
+        let Wanted { field, value } = *self;
+        match field {
+            ElfField::Magic => f.write_str("  wanted: 0x464c457f, the bytes 7f, E, L, F\n"),
+            ElfField::Class => {
+                write!(
+                    f,
+                    "  wanted: {ELFCLASS32}, 32 bits\n  remedy: compile with --target=riscv32\n"
+                )
+            }
+            ElfField::Order => writeln!(f, "  wanted: {ELFDATA2LSB}, little-endian"),
+            ElfField::IdentVersion => writeln!(f, "  wanted: {EV_CURRENT}"),
+            ElfField::Type => {
+                write!(
+                    f,
+                    "  wanted: {ET_EXEC}, an executable file\n  remedy: link with -static\n"
+                )
+            }
+            ElfField::Machine => {
+                write!(
+                    f,
+                    "  wanted: {EM_RISCV}, RISC-V\n  remedy: compile with --target=riscv32\n"
+                )
+            }
+            ElfField::Version => writeln!(f, "  wanted: {EV_CURRENT}"),
+            ElfField::Entry => {
+                f.write_str("  wanted: a multiple of 4 in a segment that can be executed\n")
+            }
+            ElfField::TableOffset => {
+                f.write_str("  wanted: the table of program headers within the file\n")
+            }
+            ElfField::Flags => f.write_str(flags_wanted(value)),
+            ElfField::HeaderSize => writeln!(f, "  wanted: {ELF_HEADER_SIZE}"),
+            ElfField::EntrySize => writeln!(f, "  wanted: {PROGRAM_HEADER_SIZE}"),
+            ElfField::EntryCount => writeln!(f, "  wanted: 1 to {MAX_PROGRAM_HEADERS}"),
+        }
     }
 }
 
 /// What is wanted of a file and its memory.
-fn large_wanted() -> &'static str
-    ensures { result.now ≡ large_wanted }
-{
-    "  wanted: at most 4194304, at most 16 segments, and at most 16777216 bytes of memory\n"
+#[derive(Clone, Copy)]
+struct LargeWanted;
+
+impl fmt::Display for LargeWanted {
+    ghost use Rattle.std.specs.Prelude.{Some};
+    ghost use Rattle.explanations.specs.Image.{large_wanted};
+
+    ghost output = { λ _wanted. Some large_wanted };
+
+    fn fmt<W: fmt::Write>(&self, f: &mut fmt::Formatter<W>) -> fmt::Result {
+        write!(
+            f,
+            "  wanted: at most {MAX_FILE_SIZE}, at most {MAX_SEGMENTS} segments, and at most \
+             {MAX_MEMORY_SIZE} bytes of memory\n"
+        )
+    }
 }
 
 /// Where a field stands.
@@ -343,7 +387,7 @@ impl fmt::Display for ImageReason {
             ImageReason::Short(size) => {
                 write!(
                     f,
-                    "  size of the file: {size}\n  wanted: at least 52, an ELF header\n"
+                    "  size of the file: {size}\n  wanted: at least {ELF_HEADER_SIZE}, an ELF header\n"
                 )
             }
             ImageReason::Field {
@@ -353,7 +397,7 @@ impl fmt::Display for ImageReason {
             } => {
                 let place = FieldPlace { field, offset };
                 let number = FieldNumber(value);
-                let wanted = wanted(field, value);
+                let wanted = Wanted { field, value };
                 write!(f, "{place}{number}{wanted}")
             }
             ImageReason::Segment { rule, header } => write!(f, "{header}{rule}"),
@@ -361,7 +405,7 @@ impl fmt::Display for ImageReason {
                 write!(f, "{first}{second}  wanted: no address of both\n")
             }
             ImageReason::Large(size) => {
-                let wanted = large_wanted();
+                let wanted = LargeWanted;
                 write!(f, "  size of the file: {size}\n{wanted}")
             }
             ImageReason::Certificates => writeln!(f, "  wanted: one note with a certificate"),

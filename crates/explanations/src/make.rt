@@ -2,11 +2,13 @@
 //! can't be, or why the file takes no certificate.
 ghost use Rattle.std.specs.Prelude.{◌≡◌, IfOk, position};
 ghost use Rattle.explanations.specs.Make.{IsWordReason, attach_reason, certificate_size};
-ghost use Rattle.explanations.specs.Make.{is_invalid, parameter_reason, room_wanted, row_of};
-ghost use Rattle.explanations.specs.Make.{bare_wanted, row_wanted, size_wanted};
+ghost use Rattle.explanations.specs.Make.{is_invalid, parameter_reason, row_of};
+ghost use Rattle.explanations.specs.Make.{bare_wanted, row_wanted};
 
 use crate::words::{WordLine, listed};
-use elf_image::{E_PHNUM, ElfError, Image, half_at, is_too_short};
+use elf_image::{
+    E_PHNUM, ElfError, Image, MAX_FILE_SIZE, MAX_PROGRAM_HEADERS, half_at, is_too_short,
+};
 use region_mem::{MAX_BUFFER_SIZE, Param};
 use std::alloc::{AllocError, Global};
 use std::fmt;
@@ -190,10 +192,23 @@ fn row_wanted(row: LoopRow) -> &'static str
 }
 
 /// What is wanted of a file that is to have a certificate.
-fn room_wanted() -> &'static str
-    ensures { result.now ≡ room_wanted }
-{
-    "  wanted: at most 63, and at most 4194304 bytes with one more and the certificate\n"
+#[derive(Clone, Copy)]
+struct RoomWanted;
+
+impl fmt::Display for RoomWanted {
+    ghost use Rattle.std.specs.Prelude.{Some};
+    ghost use Rattle.explanations.specs.Make.{room_wanted};
+
+    ghost output = { λ _wanted. Some room_wanted };
+
+    fn fmt<W: fmt::Write>(&self, f: &mut fmt::Formatter<W>) -> fmt::Result {
+        let most = MAX_PROGRAM_HEADERS - 1;
+        write!(
+            f,
+            "  wanted: at most {most}, and at most {MAX_FILE_SIZE} bytes with one more and the \
+             certificate\n"
+        )
+    }
 }
 
 /// What is wanted of a `lo`, as a line.
@@ -213,10 +228,18 @@ impl fmt::Display for HighLine {
 }
 
 /// What is wanted of the size of a buffer.
-fn size_wanted() -> &'static str
-    ensures { result.now ≡ size_wanted }
-{
-    "  wanted: at most 16777216\n"
+#[derive(Clone, Copy)]
+struct SizeWanted;
+
+impl fmt::Display for SizeWanted {
+    ghost use Rattle.std.specs.Prelude.{Some};
+    ghost use Rattle.explanations.specs.Make.{size_wanted};
+
+    ghost output = { λ _wanted. Some size_wanted };
+
+    fn fmt<W: fmt::Write>(&self, f: &mut fmt::Formatter<W>) -> fmt::Result {
+        writeln!(f, "  wanted: at most {MAX_BUFFER_SIZE}")
+    }
 }
 
 /// What is wanted of an image that is to have a certificate.
@@ -274,7 +297,7 @@ impl fmt::Display for MakeReason {
                 write!(f, "  lo of the param at place {place}: {lo}\n{wanted}")
             }
             MakeReason::LargeBuffer { place, size } => {
-                let wanted = size_wanted();
+                let wanted = SizeWanted;
                 write!(f, "  size of the param at place {place}: {size}\n{wanted}")
             }
             MakeReason::Certified(size) => {
@@ -287,7 +310,7 @@ impl fmt::Display for MakeReason {
                 certificate,
             } => {
                 let sizes = SizeLines(*size, *certificate);
-                let wanted = room_wanted();
+                let wanted = RoomWanted;
                 write!(f, "{sizes}  program headers: {headers}\n{wanted}")
             }
         }

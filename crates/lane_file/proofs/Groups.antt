@@ -20,7 +20,7 @@ use Rattle.vreg_groups.specs.VectorLength.{IsVlenb}
 use Rattle.vreg_groups.specs.declared.policies.Agnostic.{Agnostic}
 use Rattle.vreg_groups.specs.declared.policies.Agnostic.TheVariants.{Keep, Ones}
 use Rattle.vreg_groups.specs.declared.policies.Policy.{Policy}
-use Rattle.vreg_groups.proofs.Pointwise.{is_written}
+use Rattle.vreg_groups.specs.PointwiseLemmas.{is_written}
 use Rattle.lane_file.specs.declared.second.Second.{Second}
 use Rattle.lane_file.specs.declared.second.Second.TheVariants.{Group, Splat}
 use Rattle.lane_file.specs.InPlace.{Apart, HasRoom, IsDone, IsKept, IsSecondApart, IsSecondWithin, are_apart, is_active, is_second_apart, other_of, second_list, target}

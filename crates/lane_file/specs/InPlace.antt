@@ -1,6 +1,6 @@
 -- What an integer operation on operands of one width makes of the registers where they lie
 -- ("Vector Integer Arithmetic Instructions", "Mapping of Vector Elements to Vector Register State").
-use Rattle.std.specs.Prelude.{◌≡◌, ◌⊎◌, ⊤, ℕ, ◌+◌, ◌-◌, ◌*◌, ◌^◌, ◌<◌, ◌≤◌, ◌==◌, ◌&&◌, ◌||◌, Bool, true, not, nat_le, if◌then◌else◌, List, length, replicate, slice_index}
+use Rattle.std.specs.Prelude.{◌≡◌, ◌⊎◌, ⊤, ℕ, ◌+◌, ◌-◌, ◌*◌, ◌^◌, ◌<◌, ◌≤◌, ◌==◌, ◌&&◌, ◌||◌, Bool, true, false, not, nat_le, if◌then◌else◌, List, length, replicate, slice_index}
 use Rattle.std.specs.Int.{Width}
 use lib.Lanes.{zip2}
 use Rattle.byteorder.specs.Endian.{little_from}
@@ -86,6 +86,13 @@ other_of vlenb size number (Splat value) place file = number value
 -- element i is active
 abbrev pub is_active : ℕ → Bool → ℕ → List ℕ → Bool
 is_active vlenb masked i file = if masked then mask_bit vlenb 0 file i else true
+
+-- the flags of chunk m are set in the bytes of elements whose bit in v0 is set, and clear in others
+abbrev pub AreFlags : ℕ → ℕ → ℕ → List ℕ → List ℕ → Type 0
+AreFlags vlenb size m file flags =
+    (k i : ℕ) → k < 16 → i * size ≤ 16 * m + k → 16 * m + k < i * size + size
+    → (mask_bit vlenb 0 file i ≡ true → 0 < slice_index flags k)
+    × (mask_bit vlenb 0 file i ≡ false → slice_index flags k ≡ 0)
 
 -- what element i of the body becomes
 abbrev pub target : {A : Type 0} → ℕ → ℕ → Width → (A → ℕ) → IntOp → ℕ → ℕ → Second A → Bool

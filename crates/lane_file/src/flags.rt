@@ -1,7 +1,6 @@
 //! Flags of bytes: which of sixteen are written.
 ghost use Rattle.std.specs.Prelude.{◌≡◌, ℕ, ◌+◌, ◌*◌, ◌<◌, ◌≤◌, ◌⊎◌, Bool, true, false, slice_index};
-ghost use Rattle.vreg_groups.specs.Elements.{mask_bit};
-ghost use Rattle.lane_file.specs.InPlace.{is_active};
+ghost use Rattle.lane_file.specs.InPlace.{AreFlags, is_active};
 
 use lane_int::Lane;
 use rv_decode::Reg;
@@ -47,38 +46,64 @@ pub(crate) fn active_flags<E: Lane, const VLENB: usize>(
 /// The same of the bits of v0: an element has `size` bytes.
 #[inline(always)]
 fn mask_flags<const VLENB: usize>(registers: &VregFile<VLENB>, m: usize, size: usize) -> u8x16
-    requires vlenb { VLENB ≤ 64 }
     requires room { 16 * m + 16 ≤ 8 * VLENB }
-    requires size { 0 < size }
-    ensures set { (k i : ℕ) → k < 16 → i * size ≤ 16 * m + k → 16 * m + k < i * size + size
-        → mask_bit VLENB 0 registers.now i ≡ true → 0 < slice_index result k }
-    ensures clear { (k i : ℕ) → k < 16 → i * size ≤ 16 * m + k → 16 * m + k < i * size + size
-        → mask_bit VLENB 0 registers.now i ≡ false → slice_index result k ≡ 0 }
+    requires size { (size ≡ 1) ⊎ (size ≡ 2) ⊎ (size ≡ 4) }
+    ensures { AreFlags VLENB size m registers.now result }
 {
-    let mut flags = [0u8; 16];
-    for k in 0..16 {
-        if mask_bit(registers, element_at(16 * m + k, size)) {
-            flags[k] = 0xff;
-        }
+    if size == 1 {
+        byte_flags(registers, m)
+    } else if size == 2 {
+        half_flags(registers, m)
+    } else {
+        word_flags(registers, m)
     }
-    u8x16::from_array(flags)
 }
 
-/// The bit of an element in v0.
+/// Where elements are bytes, two bytes of v0 have the bits of a chunk.
 #[inline(always)]
-fn mask_bit<const VLENB: usize>(registers: &VregFile<VLENB>, i: usize) -> bool
-    requires { i < 8 * VLENB }
-    ensures { result ≡ mask_bit VLENB 0 registers.now i }
+fn byte_flags<const VLENB: usize>(registers: &VregFile<VLENB>, m: usize) -> u8x16
+    requires { 16 * m + 16 ≤ 8 * VLENB }
+    ensures { AreFlags VLENB 1 m registers.now result }
 {
-    registers.bit(Reg::new(0), i)
+    let a = mask_byte(registers, 2 * m);
+    let b = mask_byte(registers, 2 * m + 1);
+    let bytes = [a, a, a, a, a, a, a, a, b, b, b, b, b, b, b, b];
+    let bits = [1, 2, 4, 8, 16, 32, 64, 128, 1, 2, 4, 8, 16, 32, 64, 128];
+    u8x16::from_array(bytes) & u8x16::from_array(bits)
 }
 
-/// The element of `size` bytes in which a byte lies.
+/// Where elements have two bytes, one byte of v0 has them.
 #[inline(always)]
-fn element_at(place: usize, size: usize) -> usize
-    requires { 0 < size }
-    ensures is { (i : ℕ) → i * size ≤ place → place < i * size + size → result ≡ i }
-    ensures within { result ≤ place }
+fn half_flags<const VLENB: usize>(registers: &VregFile<VLENB>, m: usize) -> u8x16
+    requires { 16 * m + 16 ≤ 8 * VLENB }
+    ensures { AreFlags VLENB 2 m registers.now result }
 {
-    place / size
+    let bits = [1, 1, 2, 2, 4, 4, 8, 8, 16, 16, 32, 32, 64, 64, 128, 128];
+    u8x16::splat(mask_byte(registers, m)) & u8x16::from_array(bits)
+}
+
+/// Where elements have four bytes, half a byte of v0 has them.
+#[inline(always)]
+fn word_flags<const VLENB: usize>(registers: &VregFile<VLENB>, m: usize) -> u8x16
+    requires { 16 * m + 16 ≤ 8 * VLENB }
+    ensures { AreFlags VLENB 4 m registers.now result }
+{
+    let bytes = u8x16::splat(mask_byte(registers, m / 2));
+    if m % 2 == 0 {
+        bytes & u8x16::from_array([1, 1, 1, 1, 2, 2, 2, 2, 4, 4, 4, 4, 8, 8, 8, 8])
+    } else {
+        bytes
+            & u8x16::from_array([
+                16, 16, 16, 16, 32, 32, 32, 32, 64, 64, 64, 64, 128, 128, 128, 128,
+            ])
+    }
+}
+
+/// A byte of v0.
+#[inline(always)]
+fn mask_byte<const VLENB: usize>(registers: &VregFile<VLENB>, i: usize) -> u8
+    requires { i < VLENB }
+    ensures { result ≡ slice_index registers.now (0 * VLENB + i) }
+{
+    registers.byte(Reg::new(0), i)
 }

@@ -6,8 +6,8 @@ use Rattle.std.proofs.lemmas.Simd.{length-zip2, get_or-zip2}
 use Rattle.std.proofs.lemmas.List.Folds.{list_any-append}
 use Rattle.std.proofs.lemmas.List.{take_more, take_all, length-map, map-set}
 use Rattle.lane_fixed.specs.FixedPoint.{any_active}
-pub use Rattle.rv_decode.proofs.Overlay.{overlaid, overlaid_all, number_at}
-use Rattle.rv_decode.proofs.Overlay.{overlaid_more, get_or-overlaid}
+pub use Rattle.rv_decode.specs.OverlayLemmas.{overlaid, overlaid_all, number_at}
+use Rattle.rv_decode.specs.OverlayLemmas.{overlaid_more, get_or-overlaid}
 
 or_false : (b : Bool) → (b || false) ≡ b
 or_false true = refl

@@ -145,9 +145,9 @@ fn computed<T: Chunk>(op: Op, a: T, b: T) -> (T, T)
 }
 
 /// What `op` makes of sixteen elements of 8 bits: of vs2's, which are `values`, and of vs1's, the scalar's or the
-/// immediate's, which are `b`. No operation reads vd's old elements. The first chunk has the results, the second all ones in each lane that saturates and 0
-/// in the others ("Vector Single-Width Saturating Add and Subtract", "Vector Single-Width Averaging Add and Subtract",
-/// "Vector Single-Width Scaling Shift Instructions").
+/// immediate's, which are `b`. No operation reads vd's old elements. The first chunk has the results. The second has all
+/// ones in each lane that saturates, and 0 in the others ("Vector Single-Width Saturating Add and Subtract", "Vector
+/// Single-Width Averaging Add and Subtract", "Vector Single-Width Scaling Shift Instructions").
 #[inline(always)]
 pub fn chunk_u8(op: Op, values: u8x16, b: u8x16, _vd: u8x16) -> (u8x16, u8x16)
     ensures results { result.0 ≡ zip2 (lane_result op w8) values b }

@@ -1,14 +1,18 @@
 -- Chunks that are written one after the other.
-use Rattle.std.proofs.Common.{◌≡◌, ℕ, ◌+◌, ◌≤◌, true, List, [], ◌∷◌, zero, suc, length, take, drop, cond, refl, ap, ap₂, sym, ◌∙◌, arith}
+use Rattle.std.proofs.Common.{◌≡◌, ℕ, ◌+◌, ◌-◌, ◌^◌, ◌<◌, ◌≤◌, ◌==◌, Bool, true, false, not, get_or, inl, inr, lit<, w8, w16, w32, w64, List, [], ◌∷◌, zero, suc, length, take, drop, cond, refl, ap, ap₂, sym, ◌∙◌, arith}
 use lib.Lanes.{zip2, chunk, put_chunk}
-use Rattle.std.specs.Int.{Width}
-use Rattle.std.proofs.lemmas.Simd.{length-zip2, length-chunk}
+use Rattle.std.specs.Int.{Width, w128}
+use mir.Val.{bits}
+use Rattle.std.proofs.lemmas.Bool.Decides.{eqb_tells}
+use Rattle.rv_decode.specs.declared.instructions.CompareOp.{CompareOp}
+use Rattle.lane_int.specs.declared.operations.Op.TheVariants.{Compare}
+use Rattle.std.proofs.lemmas.Simd.{length-zip2, length-chunk, get_or-chunk}
 use Rattle.rv_decode.specs.declared.instructions.IntOp.{IntOp}
 use Rattle.rv_decode.specs.declared.instructions.IntOp.TheVariants.{Add, Sub, Rsub, Minu, Min, Maxu, Max, And, Or, Xor, Sll, Srl, Sra, Mul}
-use Rattle.lane_int.specs.Chunks.{chunk_op, has_chunk, lane_of}
-use Rattle.lane_int.specs.Integer.{element}
+use Rattle.lane_int.specs.Chunks.{all_ones, chunk_op, has_chunk, lane_of}
+use Rattle.lane_int.specs.Integer.{compares, element}
 use Rattle.lane_int.specs.Lists.{zip3}
-use Rattle.lane_int.proofs.Overlay.{length-zip3, overlaid}
+use Rattle.lane_int.proofs.Overlay.{get_or-zip3, length-zip3, overlaid}
 
 -- a chunk call's operation is the kernels'
 same_lane : (op : IntOp) (w : Width) (a b d : ℕ) → has_chunk op ≡ true → lane_of (chunk_op op) w a b d ≡ element op w a b
@@ -37,6 +41,32 @@ same_lanes op w (x ∷ xs) (y ∷ ys) (z ∷ zs) is p q = ap₂ (λ r rs. r ∷ 
 
 pub computed_lanes : (op : IntOp) (w : Width) (n at : ℕ) (xs ys : List ℕ) → has_chunk op ≡ true → at + n ≤ length xs → at + n ≤ length ys → zip3 (lane_of (chunk_op op) w) (chunk at n xs) (chunk at n ys) (chunk at n xs) ≡ zip2 (element op w) (chunk at n xs) (chunk at n ys)
 computed_lanes op w n at xs ys is p q = same_lanes op w (chunk at n xs) (chunk at n ys) (chunk at n xs) is (length-chunk at n ys q ∙ sym (length-chunk at n xs p)) refl
+
+-- a lane of a compare is 0 where it does not hold
+some_ones : (w : Width) → 0 < 2 ^ bits w - 1
+some_ones w8 = lit< tt
+some_ones w16 = lit< tt
+some_ones w32 = lit< tt
+some_ones w64 = lit< tt
+some_ones w128 = lit< tt
+
+holds_told : (w : Width) (holds : Bool) → not (all_ones w holds == 0) ≡ holds
+holds_told w false = refl
+holds_told w true = elim (eqb_tells (2 ^ bits w - 1) 0) [
+  | inl e ↦ absurd (omega (arith, e.1, some_ones w))
+  | inr e ↦ rw (e.0) refl
+]
+
+pub tested_lane : (w : Width) (op : CompareOp) (n at j d e : ℕ) (xs ys rs : List ℕ) (test : Bool) → rs ≡ zip3 (lane_of (Compare op) w) (chunk at n xs) (chunk at n ys) (chunk at n xs) → at + n ≤ length xs → at + n ≤ length ys → j < n → test ≡ not (get_or rs j 0 == 0)
+    → test ≡ compares op w (get_or xs (at + j) d) (get_or ys (at + j) e)
+unfolding lane_of
+tested_lane w op n at j d e xs ys rs test is p q lt is_test =
+    let us = chunk at n xs in
+    let vs = chunk at n ys in
+    let long_x : length us ≡ n = length-chunk at n xs p in
+    let long_y : length vs ≡ n = length-chunk at n ys q in
+    let lane : get_or rs j 0 ≡ all_ones w (compares op w (get_or us j d) (get_or vs j e)) = ap (λ l. get_or l j 0) is ∙ get_or-zip3 (lane_of (Compare op) w) us vs us j d e 0 0 (omega (arith, long_x, lt)) (omega (arith, long_y, lt)) (omega (arith, long_x, lt)) in
+    is_test ∙ ap (λ x. not (x == 0)) lane ∙ holds_told w (compares op w (get_or us j d) (get_or vs j e)) ∙ ap₂ (compares op w) (get_or-chunk at n xs j d lt) (get_or-chunk at n ys j e lt)
 
 -- lists that are taken apart by chunks
 zip2_nil : {A B C : Type 0} (f : A → B → C) (xs : List A) → zip2 f xs [] ≡ []

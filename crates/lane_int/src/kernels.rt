@@ -75,25 +75,33 @@ pub fn compare<T: Lane>(op: CompareOp, a: &[T], b: &[T], bits: &mut [bool])
     ensures { bits.new ≡ zip2 (T.test_of op) a.now b.now }
 {
     match op {
-        CompareOp::Eq => compare_each(CompareOp::Eq, a, b, bits),
-        CompareOp::Ne => compare_each(CompareOp::Ne, a, b, bits),
-        CompareOp::Ltu => compare_each(CompareOp::Ltu, a, b, bits),
-        CompareOp::Lt => compare_each(CompareOp::Lt, a, b, bits),
-        CompareOp::Leu => compare_each(CompareOp::Leu, a, b, bits),
-        CompareOp::Le => compare_each(CompareOp::Le, a, b, bits),
-        CompareOp::Gtu => compare_each(CompareOp::Gtu, a, b, bits),
-        CompareOp::Gt => compare_each(CompareOp::Gt, a, b, bits),
+        CompareOp::Eq => compare_chunks(CompareOp::Eq, a, b, bits),
+        CompareOp::Ne => compare_chunks(CompareOp::Ne, a, b, bits),
+        CompareOp::Ltu => compare_chunks(CompareOp::Ltu, a, b, bits),
+        CompareOp::Lt => compare_chunks(CompareOp::Lt, a, b, bits),
+        CompareOp::Leu => compare_chunks(CompareOp::Leu, a, b, bits),
+        CompareOp::Le => compare_chunks(CompareOp::Le, a, b, bits),
+        CompareOp::Gtu => compare_chunks(CompareOp::Gtu, a, b, bits),
+        CompareOp::Gt => compare_chunks(CompareOp::Gt, a, b, bits),
     }
 }
 
-/// The loop of `compare`.
+/// The loop over chunks, and that over the elements after the last of them.
 #[inline(always)]
-fn compare_each<T: Lane>(op: CompareOp, a: &[T], b: &[T], bits: &mut [bool])
+fn compare_chunks<T: Lane>(op: CompareOp, a: &[T], b: &[T], bits: &mut [bool])
     requires a_len { length a.now ≡ length bits.old }
     requires b_len { length b.now ≡ length bits.old }
     ensures { bits.new ≡ zip2 (T.test_of op) a.now b.now }
 {
-    for i in 0..bits.len() {
+    let mut at = 0;
+    while bits.len() - at >= T::count() {
+        let tests = T::test_chunk(op, a, b, at);
+        for k in 0..T::count() {
+            bits[at + k] = tests[k];
+        }
+        at += T::count();
+    }
+    for i in at..bits.len() {
         bits[i] = T::int_test(op, a[i], b[i]);
     }
 }

@@ -13,7 +13,7 @@ use std::simd::prelude::*;
 /// An element of one width: `u8`, `u16` or `u32`.
 pub trait Lane: Copy {
     ghost use Rattle.std.specs.Prelude.{ℕ, Bool, true, ◌≡◌, ◌≤◌, ◌+◌, length};
-    ghost use Rattle.std.specs.Prelude.{◌*◌, ◌<◌};
+    ghost use Rattle.std.specs.Prelude.{◌*◌, ◌<◌, false, slice_index_or};
     ghost use lib.Lanes.{chunk, put_chunk, zip2};
     ghost use Rattle.byteorder.specs.Endian.{little_from};
     ghost use Rattle.lane_int.specs.Chunks.{has_chunk};
@@ -75,6 +75,14 @@ pub trait Lane: Copy {
         ensures { values.new ≡ put_chunk at values.old
             (zip3 (added_of op) (chunk at count a.now) (chunk at count b.now)
             (chunk at count values.old)) };
+
+    /// Whether a chunk call finds `op` to hold of each of `a`'s elements from `at` on, which are vs2's, and of `b`'s: as many
+    /// bits as a chunk has elements.
+    fn test_chunk(op: CompareOp, a: &[Self], b: &[Self], at: usize) -> [bool; 16]
+        requires a_room { at + count ≤ length a.now }
+        requires b_room { at + count ≤ length b.now }
+        ensures { (j : ℕ) (d e : Self) → j < count → slice_index_or result j false
+            ≡ test_of op (slice_index_or a.now (at + j) d) (slice_index_or b.now (at + j) e) };
 
     /// How many bytes an element has.
     fn size() -> usize
@@ -143,6 +151,19 @@ macro_rules! by_added_chunk {
     }};
 }
 
+/// The body of `test_chunk`: a lane of what `$call` gives is 0 where `$op` does not hold.
+macro_rules! by_test_chunk {
+    ($call:ident, $lanes:ident, $count:literal, $op:ident, $a:ident, $b:ident, $at:ident) => {{
+        let lanes = $lanes::from_slice(&$a[$at..]);
+        let results = $call(Op::Compare($op), lanes, $lanes::from_slice(&$b[$at..]), lanes);
+        let mut tests = [false; 16];
+        for k in 0..$count {
+            tests[k] = results[k] != 0;
+        }
+        tests
+    }};
+}
+
 impl Lane for u8 {
     ghost use Rattle.std.specs.Prelude.{refl};
     ghost use Rattle.std.specs.Int.{w8};
@@ -187,6 +208,11 @@ impl Lane for u8 {
     #[inline(always)]
     fn added_chunk(op: MultiplyAddOp, a: &[u8], b: &[u8], values: &mut [u8], at: usize) {
         by_added_chunk!(chunk_u8, u8x16, op, a, b, values, at)
+    }
+
+    #[inline(always)]
+    fn test_chunk(op: CompareOp, a: &[u8], b: &[u8], at: usize) -> [bool; 16] {
+        by_test_chunk!(chunk_u8, u8x16, 16, op, a, b, at)
     }
 
     #[inline(always)]
@@ -287,6 +313,11 @@ impl Lane for u16 {
     }
 
     #[inline(always)]
+    fn test_chunk(op: CompareOp, a: &[u16], b: &[u16], at: usize) -> [bool; 16] {
+        by_test_chunk!(chunk_u16, u16x8, 8, op, a, b, at)
+    }
+
+    #[inline(always)]
     fn size() -> usize {
         2
     }
@@ -383,6 +414,11 @@ impl Lane for u32 {
     #[inline(always)]
     fn added_chunk(op: MultiplyAddOp, a: &[u32], b: &[u32], values: &mut [u32], at: usize) {
         by_added_chunk!(chunk_u32, u32x4, op, a, b, values, at)
+    }
+
+    #[inline(always)]
+    fn test_chunk(op: CompareOp, a: &[u32], b: &[u32], at: usize) -> [bool; 16] {
+        by_test_chunk!(chunk_u32, u32x4, 4, op, a, b, at)
     }
 
     #[inline(always)]

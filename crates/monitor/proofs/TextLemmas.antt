@@ -5,7 +5,7 @@ use Rattle.std.proofs.Math.Nat.{eq-or-lt_of_le}
 use Rattle.std.proofs.lemmas.List.{append-nil}
 use Rattle.hex.specs.Hex.{encode_lower, encode_with}
 use Rattle.rv_listing.specs.Sinks.{AppendsSome, IsCounted}
-use Rattle.rv_listing.proofs.SinkLemmas.{appends_both, told_part, told_then}
+use Rattle.rv_listing.specs.SinkLemmas.{appends_both, told_part, told_then}
 use Rattle.monitor.specs.Texts.{texts}
 
 -- the texts before one, that one, and those after it

@@ -5,13 +5,13 @@ use Rattle.std.proofs.lemmas.Grind.{common_steps}
 use Rattle.std.proofs.lemmas.List.Quantifiers.{position-Some}
 use Rattle.region_mem.specs.Words.{Right, Write}
 use Rattle.region_mem.specs.Areas.{Area, AreInOrder, ArePlaced, nothing, holds, spans, part_of, part_into, overlaid, overlaid_area, window_in}
-use Rattle.region_mem.proofs.AccessLemmas.{find_place, find_none, admits_spans, spans_from, spans_to}
-use Rattle.region_mem.proofs.SearchLemmas.{same_place}
+use Rattle.region_mem.specs.AccessLemmas.{find_place, find_none, admits_spans, spans_from, spans_to}
+use Rattle.region_mem.specs.SearchLemmas.{same_place}
 use Rattle.region_mem.proofs.WindowLaws.{place_in, area_in, window_below, area_admits}
 use Rattle.region_mem.proofs.WindowFills.{window_filled}
 use Rattle.region_mem.proofs.WindowLemmas.{window_at, window_nowhere, admits_holds}
 use Rattle.region_mem.proofs.WindowWrites.{window_admits}
-use Rattle.region_mem.proofs.ExtentLemmas.{order_of, inside_of}
+use Rattle.region_mem.specs.ExtentLemmas.{order_of, inside_of}
 use Rattle.std.proofs.Math.Seq.{map-set_same}
 use Rattle.std.proofs.lemmas.Option.{slice_get-get_or}
 use Rattle.region_mem.specs.Laws.{extent_of, LentWindowsAreWritten}

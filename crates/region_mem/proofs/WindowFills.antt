@@ -10,9 +10,9 @@ use Rattle.region_mem.specs.Words.{Right, Read, Write, Fetch}
 use Rattle.region_mem.specs.Areas.{Area, nothing, ArePlaced, spans, admits, has_right, bytes_of, part_into}
 use Rattle.region_mem.specs.Memory.{Memory, is_permitted, store_of, has_window, with_window}
 use Rattle.region_mem.specs.Laws.{extent_of, StoresFillWindows}
-use Rattle.region_mem.proofs.Parts.{parts_join, part_none, length_bytes}
-use Rattle.region_mem.proofs.ExtentLemmas.{order_of, inside_of}
-use Rattle.region_mem.proofs.AccessLemmas.{admits_spans, spans_from, spans_to, number_goes}
+use Rattle.region_mem.specs.PartLemmas.{parts_join, part_none, length_bytes}
+use Rattle.region_mem.specs.ExtentLemmas.{order_of, inside_of}
+use Rattle.region_mem.specs.AccessLemmas.{admits_spans, spans_from, spans_to, number_goes}
 use Rattle.region_mem.proofs.WindowWrites.{part_keeps, part_first}
 use Rattle.region_mem.proofs.WindowLaws.{place_in, window_below, area_admits, admits_part, open_in_area}
 

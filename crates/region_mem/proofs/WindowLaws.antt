@@ -11,9 +11,9 @@ use Rattle.region_mem.specs.Words.{Right, Read, Write}
 use Rattle.region_mem.specs.Areas.{Area, nothing, AreInOrder, AreInside, ArePlaced, holds, spans, admits, is_open_from, number_of, number_at, number_in, part_of, window_in}
 use Rattle.region_mem.specs.Memory.{Memory, is_permitted, load_of, window_of, has_window}
 use Rattle.region_mem.specs.Laws.{WindowsToRead, LoadsInWindows, WindowsToWrite, StoresInWindows}
-use Rattle.region_mem.proofs.Apart.{end_of}
-use Rattle.region_mem.proofs.SearchLemmas.{same_place}
-use Rattle.region_mem.proofs.AccessLemmas.{admits_spans, admits_right, spans_from, spans_to, holds_from, open_in_one, number_in_one}
+use Rattle.region_mem.specs.ApartLemmas.{end_of}
+use Rattle.region_mem.specs.SearchLemmas.{same_place}
+use Rattle.region_mem.specs.AccessLemmas.{admits_spans, admits_right, spans_from, spans_to, holds_from, open_in_one, number_in_one}
 
 -- where the area of a window stands
 abbrev pub place_in : Right → ℕ → ℕ → List Area → ℕ

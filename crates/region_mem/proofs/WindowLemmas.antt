@@ -8,8 +8,8 @@ use Rattle.std.proofs.lemmas.Option.{get_or_from_slice_get, slice_get_within, sl
 use Rattle.std.proofs.lemmas.Bool.{cases_lt}
 use Rattle.region_mem.specs.Words.{Right}
 use Rattle.region_mem.specs.Areas.{Area, nothing, AreInOrder, holds, admits, part_of, window_in}
-use Rattle.region_mem.proofs.SearchLemmas.{same_place}
-use Rattle.region_mem.proofs.AccessLemmas.{admits_spans, spans_from, spans_to, holds_from}
+use Rattle.region_mem.specs.SearchLemmas.{same_place}
+use Rattle.region_mem.specs.AccessLemmas.{admits_spans, spans_from, spans_to, holds_from}
 
 pub admits_holds : (right : Right) (address n : ℕ) (area : Area) → 0 < n → admits right address n area ≡ true → holds address area ≡ true
 admits_holds right address n area some h =

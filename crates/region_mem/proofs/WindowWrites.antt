@@ -5,8 +5,8 @@ use Rattle.std.proofs.lemmas.List.{length-append, length-take-le, length-drop}
 use Rattle.region_mem.specs.Words.{Right, Write}
 use Rattle.region_mem.specs.Areas.{Area, AreInOrder, holds, spans, admits, part_of, part_into, with_part, window_in}
 use Rattle.region_mem.specs.Laws.{extent_of}
-use Rattle.region_mem.proofs.Writes.{suc_first}
-use Rattle.region_mem.proofs.AccessLemmas.{find_place, admits_spans, spans_from, spans_to}
+use Rattle.region_mem.specs.WriteLemmas.{suc_first}
+use Rattle.region_mem.specs.AccessLemmas.{find_place, admits_spans, spans_from, spans_to}
 use Rattle.region_mem.proofs.WindowLemmas.{window_at}
 
 -- Where there is a window a search for its first address finds the area that has it.

@@ -27,7 +27,7 @@ fn count_up_to<A: Allocator>(regions: &[Region<A>], address: u64) -> usize
 
 /// The place of the region that holds the byte at an address.
 #[inline(always)]
-#[tactic(auto, using(crate::proofs::SearchLemmas::search_found, crate::proofs::SearchLemmas::search_none))]
+#[tactic(auto, using(crate::specs::SearchLemmas::search_found, crate::specs::SearchLemmas::search_none))]
 fn place_of<A: Allocator>(regions: &[Region<A>], address: u64) -> Option<usize>
     requires { AreInOrder 0 regions.now }
     ensures { result ≡ position (holds address) regions.now }
@@ -54,7 +54,7 @@ pub(crate) fn place_or_first<A: Allocator>(regions: &[Region<A>], address: u64) 
 
 /// The region that holds the byte at an address.
 #[inline(always)]
-#[tactic(auto, using(crate::proofs::AccessLemmas::find_place, crate::proofs::AccessLemmas::find_none))]
+#[tactic(auto, using(crate::specs::AccessLemmas::find_place, crate::specs::AccessLemmas::find_none))]
 fn region_of<A: Allocator>(regions: &[Region<A>], address: u64) -> Option<&Region<A>>
     requires { AreInOrder 0 regions.now }
     ensures { option_copied result ≡ find (holds address) regions.now }
@@ -66,7 +66,7 @@ fn region_of<A: Allocator>(regions: &[Region<A>], address: u64) -> Option<&Regio
 }
 
 /// The byte at an address, whatever the rights.
-#[tactic(auto, using(crate::proofs::AccessLemmas::find_holds), unfolding(crate::specs::Areas::byte_at))]
+#[tactic(auto, using(crate::specs::AccessLemmas::find_holds), unfolding(crate::specs::Areas::byte_at))]
 pub(crate) fn byte<A: Allocator>(regions: &[Region<A>], address: u64) -> Option<u8>
     requires { AreInOrder 0 regions.now }
     ensures { result ≡ byte_at address regions.now }
@@ -78,7 +78,7 @@ pub(crate) fn byte<A: Allocator>(regions: &[Region<A>], address: u64) -> Option<
 }
 
 /// Whether one region holds all of an access, with the right.
-#[tactic(auto, using(crate::proofs::AccessLemmas::open_in_one, crate::proofs::WindowLemmas::window_told, crate::proofs::WindowLemmas::window_nowhere))]
+#[tactic(auto, using(crate::specs::AccessLemmas::open_in_one, crate::proofs::WindowLemmas::window_told, crate::proofs::WindowLemmas::window_nowhere))]
 fn one_permits<A: Allocator>(regions: &[Region<A>], right: Right, address: u64, size: u64) -> bool
     requires order { AreInOrder 0 regions.now }
     requires fits { address + size < 2 ^ 64 }
@@ -109,7 +109,7 @@ pub(crate) fn permits<A: Allocator>(
 /// The number in the n bytes from an address on, the lowest first, where the region at this place has all of them, and
 /// the right; `None` where it has not, or there is none.
 #[inline(always)]
-#[tactic(auto, using(crate::proofs::AccessLemmas::found_there, crate::proofs::AccessLemmas::open_in_one, crate::proofs::AccessLemmas::number_in_one))]
+#[tactic(auto, using(crate::specs::AccessLemmas::found_there, crate::specs::AccessLemmas::open_in_one, crate::specs::AccessLemmas::number_in_one))]
 pub(crate) fn number_at<A: Allocator>(
     regions: &[Region<A>],
     place: usize,
@@ -132,7 +132,7 @@ pub(crate) fn number_at<A: Allocator>(
 
 /// The number in the n bytes from an address on, the lowest first, where all of them may be accessed.
 #[inline(always)]
-#[tactic(auto, using(crate::proofs::AccessLemmas::open_in_one, crate::proofs::AccessLemmas::number_in_one))]
+#[tactic(auto, using(crate::specs::AccessLemmas::open_in_one, crate::specs::AccessLemmas::number_in_one))]
 pub(crate) fn number<A: Allocator>(
     regions: &[Region<A>],
     right: Right,
@@ -175,7 +175,7 @@ fn number_by_bytes<A: Allocator>(
 /// Writes the n lowest bytes of a value from an address on, and tells whether each of them may be written. Where one
 /// may not, nothing is.
 #[inline(always)]
-#[tactic(auto, using(crate::proofs::AccessLemmas::open_at, crate::proofs::AccessLemmas::goes_at, crate::proofs::ExtentLemmas::number_order, crate::proofs::ExtentLemmas::number_inside, crate::proofs::AccessLemmas::admits_spans))]
+#[tactic(auto, using(crate::specs::AccessLemmas::open_at, crate::specs::AccessLemmas::goes_at, crate::specs::ExtentLemmas::number_order, crate::specs::ExtentLemmas::number_inside, crate::specs::AccessLemmas::admits_spans))]
 pub(crate) fn set_number<A: Allocator>(
     regions: &mut [Region<A>],
     address: u64,
@@ -202,7 +202,7 @@ pub(crate) fn set_number<A: Allocator>(
 }
 
 #[inline(never)]
-#[tactic(auto, using(crate::proofs::ExtentLemmas::number_order, crate::proofs::ExtentLemmas::number_inside))]
+#[tactic(auto, using(crate::specs::ExtentLemmas::number_order, crate::specs::ExtentLemmas::number_inside))]
 fn set_by_bytes<A: Allocator>(regions: &mut [Region<A>], address: u64, n: usize, value: u32) -> bool
     requires order { AreInOrder 0 regions.old }
     requires inside { AreInside regions.old }

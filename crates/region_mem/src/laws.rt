@@ -7,6 +7,7 @@ ghost use Rattle.region_mem.specs.Laws.{StartsCodeSafe, StoresKeepCode, StartsWi
 ghost use Rattle.region_mem.specs.Laws.{StoresKeepBytes, NumbersFit, LoadsFit, WindowsToRead};
 ghost use Rattle.region_mem.specs.Laws.{LoadsInWindows, WindowsToWrite, StoresInWindows};
 ghost use Rattle.region_mem.specs.Laws.{StoresFillWindows, LentWindowsAreWritten};
+ghost use Rattle.region_mem.specs.StartLaws.{StartsWithNothingElse};
 
 use crate::arguments::{Arg, Args, Bytes};
 use crate::memory::Regions;
@@ -20,6 +21,12 @@ pub fn starts_in_order()
 /// No region that a run starts with passes the last address.
 pub fn starts_inside()
     ensures { StartsInside }
+{}
+
+/// The regions that a run starts with are those of the image's segments, the stack and the buffers, each once. There is
+/// no other.
+pub fn starts_with_nothing_else()
+    ensures { StartsWithNothingElse }
 {}
 
 /// The arguments that a run starts with come back as they were, where nothing was stored.

@@ -23,8 +23,8 @@ pub use faults::{Fault, Right};
 pub use laws::{
     args_bring_bytes, fetches_nothing_above, gives_arguments_back, lent_windows_are_written,
     loads_fit, loads_in_windows, starts_code_safe, starts_in_order, starts_inside,
-    starts_with_bytes, starts_with_code, stores_in_windows, stores_keep_bytes, stores_keep_code,
-    stores_keep_extents, stores_keep_unwritable,
+    starts_with_bytes, starts_with_code, starts_with_nothing_else, stores_in_windows,
+    stores_keep_bytes, stores_keep_code, stores_keep_extents, stores_keep_unwritable,
 };
 pub use layout::{
     BUFFERS, BUFFERS_END, MAX_BUFFER_SIZE, PAGE_SIZE, STACK, STACK_END, STACK_SIZE,

@@ -170,7 +170,7 @@ impl Parameters {
     }
 
     /// The address of the buffer at a place, None where the place has no buffer.
-    #[tactic(auto, using(crate::proofs::Rooms::sum_by_room), unfolding(crate::specs::Parameter::address_of))]
+    #[tactic(auto, using(crate::specs::RoomLemmas::sum_by_room), unfolding(crate::specs::Parameter::address_of))]
     pub fn address(&self, place: usize) -> Option<u32>
         ensures value { result ≡ address_of place self.now }
         ensures low { IfSome result (λ address. address < BUFFERS_END) }
@@ -184,7 +184,7 @@ impl Parameters {
     }
 
     /// The buffers of arguments that match have at most 16 MiB.
-    #[tactic(auto, using(crate::proofs::Matching::sizes_of_matching))]
+    #[tactic(auto, using(crate::specs::MatchingLemmas::sizes_of_matching))]
     pub(crate) fn bound_sizes<A: Allocator>(&self, args: &Args<Bytes<A>>)
         requires { AreArguments self.now args.now.places }
         ensures { AllByRecursion (λ arg. size_of arg ≤ MAX_BUFFER_SIZE) args.now.places }

@@ -169,7 +169,7 @@ impl<A: Allocator> Region<A> {
 
     /// The same, where the region has all of them and the right.
     #[inline(always)]
-    #[tactic(auto, using(crate::proofs::AccessLemmas::admits_spans))]
+    #[tactic(auto, using(crate::specs::AccessLemmas::admits_spans))]
     pub(crate) fn number_for(&self, right: Right, address: u64, n: usize) -> Option<u32>
         requires low { address < 2 ^ 32 }
         requires size { IsAccessSize n }
@@ -195,7 +195,7 @@ impl<A: Allocator> Region<A> {
     }
 
     /// The n bytes from an address on, where the region has all of them and the right.
-    #[tactic(auto, using(crate::proofs::AccessLemmas::admits_spans))]
+    #[tactic(auto, using(crate::specs::AccessLemmas::admits_spans))]
     pub(crate) fn part_for(&self, right: Right, address: u64, n: usize) -> Option<&[u8]>
         requires low { address < 2 ^ 32 }
         requires fits { n < 2 ^ 63 }
@@ -234,7 +234,7 @@ impl<A: Allocator> Region<A> {
     }
 
     /// Writes the n lowest bytes of a value from an address on.
-    #[tactic(auto, using(crate::proofs::Parts::one_byte, crate::proofs::Parts::two_bytes, crate::proofs::Parts::four_bytes))]
+    #[tactic(auto, using(crate::specs::PartLemmas::one_byte, crate::specs::PartLemmas::two_bytes, crate::specs::PartLemmas::four_bytes))]
     pub(crate) fn set_number(&mut self, address: u64, n: usize, value: u32)
         requires low { address < 2 ^ 32 }
         requires size { IsAccessSize n }

@@ -49,7 +49,7 @@ fn byte<A: Allocator>(regions: &[Region<A>], address: u64) -> Option<u8>
     Some(region.byte(address))
 }
 
-#[tactic(auto, using(crate::proofs::Writes::with_byte_first, crate::proofs::Writes::with_byte_none, crate::proofs::Writes::holds_first))]
+#[tactic(auto, using(crate::specs::WriteLemmas::with_byte_first, crate::specs::WriteLemmas::with_byte_none, crate::specs::WriteLemmas::holds_first))]
 fn set_byte<A: Allocator>(regions: &mut [Region<A>], address: u64, byte: u8)
     ensures { regions.new ≡ with_byte address byte regions.old }
 {
@@ -107,7 +107,7 @@ fn set_bytes<A: Allocator>(regions: &mut [Region<A>], address: u64, bytes: &[u8]
 }
 
 /// Writes the n lowest bytes of a value from an address on.
-#[tactic(auto, using(crate::proofs::Parts::one_byte, crate::proofs::Parts::two_bytes, crate::proofs::Parts::four_bytes), unfolding(crate::specs::Areas::with_number))]
+#[tactic(auto, using(crate::specs::PartLemmas::one_byte, crate::specs::PartLemmas::two_bytes, crate::specs::PartLemmas::four_bytes), unfolding(crate::specs::Areas::with_number))]
 pub(crate) fn set_number<A: Allocator>(
     regions: &mut [Region<A>],
     address: u64,

@@ -12,5 +12,3 @@ pub mod ElementLaw
 pub mod VectorLaw
 pub mod AccessLaw
 pub mod MeaningLaw
-pub mod Meant
-pub mod Overlay

@@ -16,3 +16,4 @@ pub mod EncodeElements
 pub mod EncodeSystem
 pub mod EncodeVector
 pub mod Encodings
+pub mod OverlayLemmas

@@ -7,3 +7,4 @@ pub mod Arithmetic
 pub mod Vector
 pub mod Accesses
 pub mod Listing
+pub mod SinkLemmas

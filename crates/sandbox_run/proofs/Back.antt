@@ -13,13 +13,12 @@ use Rattle.region_mem.specs.declared.arguments.Arg.TheVariants as argument
 use Rattle.region_mem.specs.declared.faults.Right.TheVariants.{Write}
 use Rattle.region_mem.specs.declared.parameter.Param.{Param}
 use Rattle.region_mem.specs.declared.parameter.Param.TheVariants as parameter
-use Rattle.region_mem.proofs.Apart.{end_of, starts_in_order, at_middle}
-use Rattle.region_mem.proofs.SearchLemmas.{not_past}
-use Rattle.region_mem.proofs.StartCode.{closed_below}
-use Rattle.region_mem.proofs.StartLemmas.{buffers_of_start}
-use Rattle.region_mem.proofs.AccessLemmas.{holds_from}
-use Rattle.vector_core.proofs.KeptMemory.{runs_keep}
-use Rattle.vector_core.specs.Kept.{Keeps}
+use Rattle.region_mem.specs.ApartLemmas.{end_of, starts_in_order, at_middle}
+use Rattle.region_mem.specs.SearchLemmas.{not_past}
+use Rattle.region_mem.specs.StartCodeLemmas.{closed_below}
+use Rattle.region_mem.specs.StartLemmas.{buffers_of_start}
+use Rattle.region_mem.specs.AccessLemmas.{holds_from}
+use Rattle.vector_core.specs.Kept.{Keeps, RunsKeep}
 use Rattle.vector_core.specs.Start.{start}
 use Rattle.vreg_groups.specs.declared.policies.Agnostic.{Agnostic}
 use Rattle.sandbox_run.specs.Back.{ComesBack, HasShapeOf, RunsHandBack}
@@ -186,10 +185,10 @@ memory_at_start : (vlenb : ℕ) (agnostic : Agnostic) (image : ImageView) (param
 unfolding start
 memory_at_start vlenb agnostic image params args next keeps = keeps
 
-pub runs_hand_back : RunsHandBack
-runs_hand_back image params args is valid places eight matching vlenb k agnostic m leads =
+pub runs_hand_back : RunsKeep → RunsHandBack
+runs_hand_back keep image params args is valid places eight matching vlenb k agnostic m leads =
     starts_come_back image params args is valid places eight matching m.memory
-    (memory_at_start vlenb agnostic image params args m.memory (runs_keep vlenb (start vlenb agnostic image params args) m k leads))
+    (memory_at_start vlenb agnostic image params args m.memory (keep vlenb (start vlenb agnostic image params args) m k leads))
 
 -- ---- what comes back matches the parameters again
 

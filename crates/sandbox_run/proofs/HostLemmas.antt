@@ -1,5 +1,5 @@
 -- Laws of runs for those who run kernels.
-use Rattle.std.proofs.Common.{◌≡◌, ◌∙◌, ℕ, zero, suc, ◌+◌, ◌-◌, ◌≤◌, Bool, true, false, Result, Ok, Err, refl, sym, arith}
+use Rattle.std.proofs.Common.{◌≡◌, ◌∙◌, ℕ, zero, suc, ◌+◌, ◌-◌, ◌≤◌, Bool, true, false, Result, Ok, Err, refl, subst, sym, arith}
 use Rattle.std.specs.Prelude.{if◌then◌else◌}
 use Rattle.region_mem.specs.declared.faults.Fault.{Fault}
 use Rattle.region_mem.specs.Start.{start_areas, start_memory}
@@ -8,39 +8,67 @@ use Rattle.vector_core.specs.Machine.{Machine}
 use Rattle.vector_core.specs.MachineStep.{step}
 use Rattle.vector_core.specs.Run.{Ended, OutOfSteps, Stop, Trapped, IsOutcome, after, has_ended, outcome, outcome_from}
 use Rattle.vector_core.specs.Start.{start}
-use Rattle.vector_core.proofs.RunLemmas.{after-plus, outcome-is, after_step}
-use Rattle.sandbox_run.specs.HostLaws.{StepsAreUnique, MoreStepsChangeNothing, StartsAreAlike}
+use Rattle.vector_core.specs.RunLemmas.{after-plus, outcome-is, outcome_from-ended, after_step}
+use Rattle.sandbox_run.specs.HostLaws.{SaysOfMore, StepsAreUnique, MoreStepsChangeNothing, StartsAreAlike}
 use Rattle.sandbox_run.proofs.StopLemmas.{within_end}
-use Rattle.sandbox_run.proofs.SessionLemmas.{no_fault}
+use Rattle.sandbox_run.specs.SessionLemmas.{no_fault}
 
-more_from : (vlenb n max k j : ℕ) (m t : Machine) → n ≤ max → outcome_from vlenb n k m ≡ Ended j t → outcome_from vlenb max k m ≡ Ended j t
+-- As `SaysOfMore`, of the outcome `whole` of a run that goes on with `max` steps more after k.
+abbrev SaysFrom : ℕ → ℕ → Stop → Stop → Type 0
+SaysFrom vlenb all whole (Ended j t) = whole ≡ Ended j t
+SaysFrom vlenb all whole (Trapped fault j t) = whole ≡ Trapped fault j t
+SaysFrom vlenb all whole (OutOfSteps j t) = whole ≡ outcome_from vlenb (all - j) j t
+
+out_from : (vlenb max k : ℕ) (m : Machine) → outcome_from vlenb max k m ≡ outcome_from vlenb (k + max - k) k m
+out_from vlenb max k m = let same : k + max - k ≡ max = omega arith in rw same refl
+
+ended_from : (vlenb max k : ℕ) (m : Machine) → has_ended m ≡ true → outcome_from vlenb max k m ≡ Ended k m
+ended_from vlenb max k m e = outcome_from-ended vlenb max k m e
+
+more_from : (vlenb n max k : ℕ) (m : Machine) → n ≤ max
+    → SaysFrom vlenb (k + max) (outcome_from vlenb max k m) (outcome_from vlenb n k m)
 unfolding outcome_from
-more_from vlenb zero zero k j m t least e = e
-more_from vlenb zero (suc max) k j m t least e = by_end (has_ended m) e
+more_from vlenb zero max k m least = by_end (has_ended m) refl
   where
-    by_end : (b : Bool) → (if b then Ended k m else OutOfSteps k m) ≡ Ended j t
-        → (if b then Ended k m else after_step vlenb max k m (step vlenb m)) ≡ Ended j t
-    by_end true e = e
-    by_end false e = absurd (cc e)
-more_from vlenb (suc n) zero k j m t least e = absurd (omega (arith, least))
-more_from vlenb (suc n) (suc max) k j m t least e =
-    by_end (has_ended m) e (λ next. more_from vlenb n max (k + 1) j next t (omega (arith, least)))
+    by_end : (b : Bool) → has_ended m ≡ b
+        → SaysFrom vlenb (k + max) (outcome_from vlenb max k m) (if b then Ended k m else OutOfSteps k m)
+    by_end true e = ended_from vlenb max k m e
+    by_end false e = out_from vlenb max k m
+more_from vlenb (suc n) zero k m least = absurd (omega (arith, least))
+more_from vlenb (suc n) (suc max) k m least =
+    by_end (has_ended m) (λ next. more_from vlenb n max (k + 1) next (omega (arith, least)))
   where
-    by_step : (r : Result Machine Fault) → after_step vlenb n k m r ≡ Ended j t
-        → ((next : Machine) → outcome_from vlenb n (k + 1) next ≡ Ended j t → outcome_from vlenb max (k + 1) next ≡ Ended j t)
-        → after_step vlenb max k m r ≡ Ended j t
-    by_step (Ok next) e further = further next e
-    by_step (Err fault) e further = absurd (cc e)
+    by_step : (r : Result Machine Fault)
+        → ((next : Machine) → SaysFrom vlenb (k + 1 + max) (outcome_from vlenb max (k + 1) next) (outcome_from vlenb n (k + 1) next))
+        → SaysFrom vlenb (k + suc max) (after_step vlenb max k m r) (after_step vlenb n k m r)
+    by_step (Ok next) further =
+        let same : k + 1 + max ≡ k + suc max = omega arith in
+        subst (λ (all : ℕ). SaysFrom vlenb all (outcome_from vlenb max (k + 1) next) (outcome_from vlenb n (k + 1) next)) same (further next)
+    by_step (Err fault) further = refl
 
-    by_end : (b : Bool) → (if b then Ended k m else after_step vlenb n k m (step vlenb m)) ≡ Ended j t
-        → ((next : Machine) → outcome_from vlenb n (k + 1) next ≡ Ended j t → outcome_from vlenb max (k + 1) next ≡ Ended j t)
-        → (if b then Ended k m else after_step vlenb max k m (step vlenb m)) ≡ Ended j t
-    by_end true e further = e
-    by_end false e further = by_step (step vlenb m) e further
+    by_end : (b : Bool)
+        → ((next : Machine) → SaysFrom vlenb (k + 1 + max) (outcome_from vlenb max (k + 1) next) (outcome_from vlenb n (k + 1) next))
+        → SaysFrom vlenb (k + suc max) (if b then Ended k m else after_step vlenb max k m (step vlenb m))
+        (if b then Ended k m else after_step vlenb n k m (step vlenb m))
+    by_end true further = refl
+    by_end false further = by_step (step vlenb m) further
+
+says : (vlenb max : ℕ) (first : Machine) (stop : Stop) → SaysFrom vlenb max (outcome vlenb max first) stop → SaysOfMore vlenb max first stop
+says vlenb max first (Ended k t) s = s
+says vlenb max first (Trapped fault k t) s = s
+says vlenb max first (OutOfSteps k t) s = s
 
 pub more_steps_change_nothing : MoreStepsChangeNothing
 unfolding outcome
-more_steps_change_nothing vlenb n max k first t least e = more_from vlenb n max 0 k first t least e
+more_steps_change_nothing vlenb n max first least =
+    let all : 0 + max ≡ max = omega arith in
+    says vlenb max first (outcome_from vlenb n 0 first)
+    (subst (λ (steps : ℕ). SaysFrom vlenb steps (outcome_from vlenb max 0 first) (outcome_from vlenb n 0 first)) all
+    (more_from vlenb n max 0 first least))
+
+pub ended_with_more : (vlenb n max k : ℕ) (first t : Machine) → n ≤ max → outcome vlenb n first ≡ Ended k t → outcome vlenb max first ≡ Ended k t
+ended_with_more vlenb n max k first t least e =
+    subst (λ (stop : Stop). SaysOfMore vlenb max first stop) e (more_steps_change_nothing vlenb n max first least)
 
 pub steps_are_unique : StepsAreUnique
 steps_are_unique vlenb j k first t u (there, goes) ended (here, on) last =
@@ -82,3 +110,7 @@ by_outcome vlenb n first (Trapped fault k t) is (all, there, going, faults, goes
 
 pub ends : (vlenb n : ℕ) (first : Machine) → IsWellBehaved vlenb n first → Ends vlenb n first
 ends vlenb n first well = by_outcome vlenb n first (outcome vlenb n first) refl (outcome-is vlenb n first) well
+
+-- and it is so in no state before.
+pub ended_first : (vlenb n : ℕ) (first : Machine) (run : Ends vlenb n first) → IsOutcome vlenb n first (Ended run.steps run.state)
+ended_first vlenb n first run = subst (λ (stop : Stop). IsOutcome vlenb n first stop) run.is (outcome-is vlenb n first)

@@ -1,8 +1,9 @@
 pub mod Back
+pub mod PermittedLemmas
 pub mod OpenFaults
+pub mod GoingLemmas
 pub mod HostLemmas
 pub mod OpSteps
 pub mod Refusals
-pub mod SessionLemmas
 pub mod StartLemmas
 pub mod StopLemmas

@@ -2,25 +2,26 @@
 use Rattle.std.proofs.Common.{◌≡◌, ◌∙◌, ℕ, ◌+◌, ◌≤◌, inl, inr, true, false, List, length, Ok, refl, ap, arith, add-one, below_more}
 use Rattle.std.proofs.lemmas.Bool.{cases_lt}
 use Rattle.cert_note.specs.Certificate.{CertificateView, IsCertificate}
-use Rattle.cert_note.proofs.Whole.{valid_all}
+use Rattle.cert_note.specs.ParameterLemmas.{valid_all}
 use Rattle.elf_image.specs.Image.{ImageView, IsImage}
 use Rattle.region_mem.specs.Memory.{args_of}
 use Rattle.region_mem.specs.Parameter.{Argument, AreArguments}
 use Rattle.region_mem.specs.Start.{start_memory}
 use Rattle.region_mem.specs.declared.parameter.Param.{Param}
-use Rattle.region_mem.proofs.StartLemmas.{gives_arguments_back}
+use Rattle.region_mem.specs.StartLemmas.{gives_arguments_back}
 use Rattle.block_checker.specs.Sound.{IsWellBehaved}
 use Rattle.vreg_groups.specs.declared.policies.Agnostic.{Agnostic}
+use Rattle.vector_core.specs.Kept.{RunsKeep}
 use Rattle.vector_core.specs.Machine.{Machine}
 use Rattle.vector_core.specs.MachineStep.{step}
+use Rattle.vector_core.specs.Permitted.{RunsArePermitted}
 use Rattle.vector_core.specs.Run.{after, has_ended, GoesOnUntil}
 use Rattle.vector_core.specs.Start.{start}
-use Rattle.vector_core.proofs.KeptMemory.{permitted_in, runs_keep}
-use Rattle.vector_core.proofs.Permits.{runs_permitted}
 use Rattle.sandbox_run.specs.Session.{HandsBack, SessionView}
 use Rattle.sandbox_run.specs.Back.{ComesBack}
 use Rattle.sandbox_run.specs.Stops.{IsStop, StopsWell}
 use Rattle.sandbox_run.proofs.Back.{starts_come_back}
+use Rattle.sandbox_run.proofs.PermittedLemmas.{permitted_in}
 
 -- A run does not go on past its end.
 pub within_end : (vlenb : ℕ) (first : Machine) (steps k : ℕ) (last : Machine) → GoesOnUntil vlenb first steps → after vlenb first k ≡ Ok last
@@ -34,15 +35,15 @@ within_end vlenb first steps k last goes is ended =
       | inr above ↦ above
     ]
 
-pub stops_well : (vlenb n : ℕ) (first : Machine) (steps : ℕ) (m : Machine) → IsWellBehaved vlenb n first → IsStop vlenb first steps m
+pub stops_well : RunsArePermitted → RunsKeep → (vlenb n : ℕ) (first : Machine) (steps : ℕ) (m : Machine) → IsWellBehaved vlenb n first → IsStop vlenb first steps m
     → StopsWell vlenb n first steps m
-stops_well vlenb n first steps m (k, last, least, leads, ended) (is, goes) =
+stops_well permit keep vlenb n first steps m (k, last, least, leads, ended) (is, goes) =
     let before : steps ≤ k = within_end vlenb first steps k last goes leads ended in
     record {
       within = omega (arith, before, least);
       permitted = λ j below u there.
-          permitted_in vlenb first.memory u (runs_keep vlenb first u j there).extents (runs_permitted vlenb first m steps is j below u there);
-      keeps = runs_keep vlenb first m steps is;
+          permitted_in vlenb first.memory u (keep vlenb first u j there).extents (permit vlenb first m steps is j below u there);
+      keeps = keep vlenb first m steps is;
     }
 
 -- A run stops at its start,
@@ -84,6 +85,6 @@ module _ (vlenb : ℕ) (agnostic : Agnostic) (image : ImageView) (certificate : 
       )
 
 -- What a session was passed comes back from where it stands.
-pub comes_back_here : (vlenb : ℕ) (s : SessionView) → IsStop vlenb s.first s.steps s.machine → HandsBack s.parameters s.first.memory
+pub comes_back_here : RunsKeep → (vlenb : ℕ) (s : SessionView) → IsStop vlenb s.first s.steps s.machine → HandsBack s.parameters s.first.memory
     → ComesBack s.parameters (args_of s.first.memory) (args_of s.machine.memory)
-comes_back_here vlenb s (is, goes) (matching, back) = back s.machine.memory (runs_keep vlenb s.first s.machine s.steps is)
+comes_back_here keep vlenb s (is, goes) (matching, back) = back s.machine.memory (keep vlenb s.first s.machine s.steps is)

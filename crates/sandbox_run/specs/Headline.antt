@@ -1,10 +1,10 @@
 -- The theorem on accepted images.
 use Rattle.std.specs.Prelude.{ℕ, ◌≡◌, ◌<◌, ◌≤◌, true, List, length, Ok}
 use Rattle.vector_core.specs.Touches.{ReadsInside, WritesInside}
-use Rattle.sandbox_run.specs.Words.{AcceptedView, Agnostic, AllByRecursion, AreArguments, Argument, BringsBytes, IsPermittedIn, IsPermittedStep, Keeps, Machine, after, bound_of, has_ended, scalars_of, start, vlenb_of}
+use Rattle.sandbox_run.specs.Words.{AcceptedView, Agnostic, AllByRecursion, AreArguments, Argument, BringsBytes, GoesOnUntil, IsPermittedIn, IsPermittedStep, Keeps, Machine, after, bound_of, has_ended, scalars_of, start, vlenb_of}
 
--- After at most n steps without a fault the run from here has ended, and each byte that one of them
--- fetched, loaded or stored was permitted, also by the areas and rights of the start. A step
+-- After at most n steps without a fault the run from here has ended, and in no state before. Each
+-- byte that one of them fetched, loaded or stored was permitted, also by the areas and rights of the start. A step
 -- changes no byte but those that its list of accesses writes, and goes by no byte but those that it
 -- fetches and that the list reads. All the way memory keeps where its areas lie, their rights, what
 -- was passed, and each byte that may not be written.
@@ -14,6 +14,7 @@ pub record RunsWell (vlenb n : ℕ) (first : Machine) : Type 0 where
   pub within : steps ≤ n
   pub leads : after vlenb first steps ≡ Ok last
   pub ended : has_ended last ≡ true
+  pub goes_on : GoesOnUntil vlenb first steps
   pub permitted : (j : ℕ) → j < steps → (m : Machine) → after vlenb first j ≡ Ok m
       → IsPermittedStep vlenb m
   pub mapped : (j : ℕ) → j < steps → (m : Machine) → after vlenb first j ≡ Ok m

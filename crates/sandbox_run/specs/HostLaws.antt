@@ -1,15 +1,23 @@
 -- Laws of runs for those who run kernels.
-use Rattle.std.specs.Prelude.{ℕ, ◌≡◌, ◌≤◌, true, List, length}
+use Rattle.std.specs.Prelude.{ℕ, ◌≡◌, ◌≤◌, ◌-◌, true, List, length}
 use Rattle.sandbox_run.specs.Answer.{answer_of, final_of}
 use Rattle.sandbox_run.specs.Stops.{IsStop}
-use Rattle.sandbox_run.specs.Words.{AcceptedView, Agnostic, AllByRecursion, AreArguments, Argument, BringsBytes, Ended, ImageView, Machine, Param, bound_of, has_ended, outcome, scalars_of, start, vlenb_of}
+use Rattle.sandbox_run.specs.Words.{AcceptedView, Agnostic, AllByRecursion, AreArguments, Argument, BringsBytes, Ended, ImageView, Machine, OutOfSteps, Param, Stop, Trapped, bound_of, has_ended, outcome, outcome_from, scalars_of, start, vlenb_of}
 use Rattle.sandbox_run.specs.declared.outcome.Outcome.TheVariants as answer
 
--- A run that has ended with n steps allowed ends there with more.
+-- What the outcome of a run with some steps allowed says of its outcome with more, `max`: an end
+-- and a fault stay, and out of steps the run goes on from where it stands.
+abbrev pub SaysOfMore : ℕ → ℕ → Machine → Stop → Type 0
+SaysOfMore vlenb max first (Ended k t) = outcome vlenb max first ≡ Ended k t
+SaysOfMore vlenb max first (Trapped fault k t) = outcome vlenb max first ≡ Trapped fault k t
+SaysOfMore vlenb max first (OutOfSteps k t) =
+    outcome vlenb max first ≡ outcome_from vlenb (max - k) k t
+
+-- So it is of every run.
 abbrev pub MoreStepsChangeNothing : Type 0
 MoreStepsChangeNothing =
-    (vlenb n max k : ℕ) (first t : Machine) → n ≤ max → outcome vlenb n first ≡ Ended k t
-    → outcome vlenb max first ≡ Ended k t
+    (vlenb n max : ℕ) (first : Machine) → n ≤ max
+    → SaysOfMore vlenb max first (outcome vlenb n first)
 
 -- A run ends after one number of steps and in one state.
 abbrev pub StepsAreUnique : Type 0

@@ -9,6 +9,7 @@ pub mod Session
 pub mod Laws
 pub mod Memo
 pub mod Stops
+pub mod Whole
 pub mod Words
 pub use Rattle.region_mem.specs.Parameter
 pub use Rattle.region_mem.specs.Memory
@@ -16,3 +17,4 @@ pub use Rattle.vector_core.specs.Machine
 pub use Rattle.vector_core.specs.MachineStep
 pub use Rattle.vector_core.specs.Run
 pub use Rattle.vector_core.specs.Start
+pub mod SessionLemmas

@@ -5,10 +5,14 @@ ghost use Rattle.sandbox_run.specs.HostLaws.{MoreStepsChangeNothing, StartsAreAl
 ghost use Rattle.sandbox_run.specs.HostLaws.{StepsAreUnique, TriesAreRuns};
 ghost use Rattle.sandbox_run.specs.Laws.{ExitIsNoCode};
 ghost use Rattle.sandbox_run.specs.Stops.{AcceptedStops};
+ghost use Rattle.sandbox_run.specs.Whole.{SessionsAreRuns};
 
 use block_checker::Accepted;
 use region_mem::fetches_nothing_above;
 use std::alloc::Allocator;
+use vector_core::laws::{
+    runs_are_permitted, runs_keep_memory, steps_read_inside, steps_write_inside,
+};
 
 /// The theorem on accepted images. Run with any contents of buffers of the declared sizes and any
 /// scalars in the declared intervals, such an image meets no illegal instruction and no access
@@ -19,6 +23,10 @@ pub fn accepted_runs<A: Allocator>(accepted: &Accepted<A>)
     ensures { AcceptedRuns accepted.now }
 {
     accepted.runs_end();
+    runs_are_permitted();
+    runs_keep_memory();
+    steps_write_inside();
+    steps_read_inside();
 }
 
 /// Where a run ends there is no code: at its start and after any stores, no word is fetched from
@@ -33,7 +41,9 @@ pub fn exit_is_no_code()
 /// passed, buffers of their sizes, and those that are only read byte for byte.
 pub fn runs_hand_back()
     ensures { RunsHandBack }
-{}
+{
+    runs_keep_memory();
+}
 
 /// Wherever a run of an accepted image on matching arguments is stopped, no later than at its end,
 /// the steps done are at most the bound, each of them was permitted by the areas and rights of the
@@ -42,6 +52,21 @@ pub fn accepted_stops<A: Allocator>(accepted: &Accepted<A>)
     ensures { AcceptedStops accepted.now }
 {
     accepted.runs_end();
+    runs_are_permitted();
+    runs_keep_memory();
+}
+
+/// A run of an accepted image on matching arguments, from `open` to `close`: the state that it
+/// starts in, how many steps it does, the one state in which it has ended, and the arguments that
+/// come back there. Each session that is opened on them, once it has ended, stands there after as
+/// many steps, and `close` hands these arguments back.
+pub fn sessions_are_runs<A: Allocator>(accepted: &Accepted<A>)
+    ensures { SessionsAreRuns accepted.now }
+{
+    accepted.runs_end();
+    runs_keep_memory();
+    let _segments = accepted.image().segments();
+    let _contents = accepted.certificate().contents();
 }
 
 /// For an accepted image, arguments that match and at least as many steps as its bound, what
@@ -53,7 +78,8 @@ pub fn tries_are_runs<A: Allocator>(accepted: &Accepted<A>)
     accepted.runs_end();
 }
 
-/// A run that ends with so many steps allowed ends in the same way with any number above it.
+/// A run that ends or faults with so many steps allowed does the same with any number above it. One
+/// that is out of steps goes on from where it stands.
 pub fn more_steps_change_nothing()
     ensures { MoreStepsChangeNothing }
 {}

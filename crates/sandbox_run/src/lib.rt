@@ -6,6 +6,7 @@
 #![tactic(auto)]
 
 mod any_session;
+mod going_on;
 mod laws;
 mod machine;
 mod memo;
@@ -17,7 +18,7 @@ mod start;
 pub use any_session::AnySession;
 pub use laws::{
     accepted_runs, accepted_stops, exit_is_no_code, more_steps_change_nothing, runs_hand_back,
-    starts_are_alike, steps_are_unique, tries_are_runs,
+    sessions_are_runs, starts_are_alike, steps_are_unique, tries_are_runs,
 };
 pub use outcome::{Final, OpenError, Outcome, Registers};
 pub use run::{outcome_is_first, runs_go_on, try_run, try_run_in};

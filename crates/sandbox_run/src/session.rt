@@ -23,6 +23,7 @@ use rv_decode::Reg;
 use std::alloc::{Allocator, Global};
 use std::marker::Model;
 use std::snapshot::Snapshot;
+use vector_core::laws::runs_keep_memory;
 use vreg_groups::Agnostic;
 
 /// A run of an accepted image, between two steps. It ends without a fault, within a number of steps
@@ -274,6 +275,7 @@ impl<const VLENB: usize, A: Allocator> Session<VLENB, A> {
         ensures scalars { scalars_of result.places ≡ scalars_of (args_of self.first.memory) }
         ensures matching { AreArguments self.parameters result.places }
     {
+        runs_keep_memory();
         let Session { machine, .. } = self;
         let Machine { memory, .. } = machine;
         memory.into_args()

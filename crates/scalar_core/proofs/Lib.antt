@@ -1,4 +1,2 @@
 pub mod Division
-pub mod EntryLemmas
-pub mod States
 pub mod UpperHalf

@@ -6,3 +6,5 @@ pub mod Laws
 pub mod Ops
 pub mod Step
 pub mod Words
+pub mod EntryLemmas
+pub mod StateLemmas

@@ -17,7 +17,7 @@ use Rattle.vreg_groups.specs.Group.{mask_bytes_of, whole_of, written}
 use Rattle.vreg_groups.specs.Legality.{count_of, group_count, is_operand_legal, is_present_legal, whole_count}
 use Rattle.vreg_groups.specs.VectorType.{type_in}
 use Rattle.vreg_groups.specs.declared.policies.Policy.{Policy}
-use Rattle.vreg_groups.proofs.Sizes.{group_ends}
+use Rattle.vreg_groups.specs.SizeLemmas.{group_ends}
 use Rattle.vector_mem.specs.Transfers.{data_at}
 use Rattle.vector_core.specs.KeepLaws.{AreRegisters, IsOutside}
 use Rattle.vector_core.specs.Operands.{bits_written, results_written}

@@ -4,14 +4,15 @@ use Rattle.std.specs.Prelude.{if◌then◌else◌}
 use Rattle.std.specs.List.{flat_map, range_with_len}
 use Rattle.std.proofs.Math.Nat.{mul-le-mul_left, mul-div-le}
 use Rattle.std.proofs.lemmas.List.{get_or-append_right, get_or-drop, get_or-take, get_or_append_left, length-drop, length-take-le}
-use Rattle.elf_image.proofs.Bytes.{AreBytes, AreBytes-nil, AreBytes-cons, AreBytes-append, AreBytes-take, AreBytes-drop}
+use Rattle.elf_image.specs.Words.{AreBytes}
+use Rattle.elf_image.specs.ByteLemmas.{AreBytes-nil, AreBytes-cons, AreBytes-append, AreBytes-take, AreBytes-drop}
 use Rattle.vreg_groups.specs.Copies.{copied}
 use Rattle.vreg_groups.specs.Elements.{bytes_of}
 use Rattle.vreg_groups.specs.Group.{Span, written}
 use Rattle.vreg_groups.specs.NewElements.{mask_write_of, new_bytes, new_mask_byte, new_mask_bytes, replaced, write_of}
 use Rattle.vreg_groups.specs.declared.policies.Policy.{Policy}
-use Rattle.vreg_groups.proofs.Places.{bytes_of-suc, length-flat_map_range, length-new_bytes}
-use Rattle.vreg_groups.proofs.Writes.{length-new_mask_bytes, number_of_bits-lt}
+use Rattle.vreg_groups.specs.PlaceLemmas.{bytes_of-suc, length-flat_map_range, length-new_bytes}
+use Rattle.vreg_groups.specs.WriteLemmas.{length-new_mask_bytes, number_of_bits-lt}
 use Rattle.vector_core.specs.KeepLaws.{AreRegisters}
 
 -- ---- lists of bytes

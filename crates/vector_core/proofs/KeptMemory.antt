@@ -1,19 +1,15 @@
 -- What a run keeps of memory: only stores change memory.
-use Rattle.std.proofs.Common.{◌≡◌, ◌∙◌, ℕ, zero, suc, true, List, [], ◌∷◌, refl, sym, Option, Some, None, Result, Ok, Err}
+use Rattle.std.proofs.Common.{◌≡◌, ◌∙◌, ℕ, zero, suc, refl, Option, Some, None, Result, Ok, Err}
 use Rattle.rv_decode.specs.Decode.{meaning_of}
-use Rattle.region_mem.specs.declared.faults.Right.TheVariants.{Fetch, Write}
-use Rattle.region_mem.proofs.KeptCode.{open_kept, permitted_kept, stores_keep_unwritable}
-use Rattle.region_mem.specs.Memory.{fetch_of, is_permitted, store_of}
-use Rattle.region_mem.specs.Laws.{HasExtentsOf}
-use Rattle.region_mem.specs.declared.faults.Right.{Right}
-use Rattle.region_mem.proofs.ExtentLemmas.{stores_keep_extents}
-use Rattle.vector_mem.specs.declared.plan.Access.{Access}
+use Rattle.region_mem.specs.declared.faults.Right.TheVariants.{Write}
+use Rattle.region_mem.specs.KeptCodeLemmas.{open_kept, stores_keep_unwritable}
+use Rattle.region_mem.specs.Memory.{fetch_of, store_of}
+use Rattle.region_mem.specs.ExtentLemmas.{stores_keep_extents}
 use Rattle.vector_core.specs.Kept.{Keeps, StepsKeep, RunsKeep}
 use Rattle.vector_core.specs.Machine.{Machine}
 use Rattle.vector_core.specs.MachineStep.{decoded, fetched, step}
-use Rattle.vector_core.specs.Permitted.{ArePermitted, IsPermittedIn, IsPermittedStep}
 use Rattle.vector_core.specs.Run.{after, then_step}
-use Rattle.vector_core.proofs.StoreLemmas.{carried_kept, list_kept}
+use Rattle.vector_core.specs.StoreLemmas.{carried_kept, list_kept}
 use Rattle.vector_core.specs.Words.{Fault, Insn, Memory}
 
 same_extents : (m : Memory) → Keeps m m
@@ -58,23 +54,3 @@ runs_keep vlenb m t (suc k) e =
         → Keeps m.memory t.memory
     by_state (Ok w) is next before = kept_twice m.memory w.memory t.memory (before w is) (steps_keep vlenb w t next)
     by_state (Err fault) is next before = absurd (cc next)
-
--- ---- by the areas of the start
-
-permitted_alike : (right : Right) (address n : ℕ) (memory next : Memory) → HasExtentsOf next memory
-    → is_permitted right address n next ≡ true → is_permitted right address n memory ≡ true
-unfolding is_permitted
-permitted_alike right address n memory next same e = sym (permitted_kept right address n next.areas memory.areas same.0) ∙ e
-
-all_permitted : (memory next : Memory) (list : List Access) → HasExtentsOf next memory → ArePermitted next list → ArePermitted memory list
-all_permitted memory next [] same all = tt
-all_permitted memory next (a ∷ list) same all =
-    (permitted_alike a.right a.address a.size memory next same all.0, all_permitted memory next list same all.1)
-
--- what is permitted is so by the areas of any memory that has the same
-pub permitted_in : (vlenb : ℕ) (memory : Memory) (m : Machine) → HasExtentsOf m.memory memory → IsPermittedStep vlenb m
-    → IsPermittedIn memory vlenb m
-permitted_in vlenb memory m same (fetch, carried) = (
-  permitted_alike Fetch m.hart.pc 4 memory m.memory same fetch,
-  λ word insn is means. all_permitted memory m.memory _ same (carried word insn is means),
-)

@@ -11,7 +11,7 @@ use Rattle.vreg_groups.specs.declared.vector_type.Lmul.{Lmul}
 use Rattle.vreg_groups.specs.declared.vector_type.Lmul.TheVariants.{Quarter, Half, One, Two, Four, Eight}
 use Rattle.vreg_groups.specs.declared.vector_type.Vtype.{Vtype}
 use Rattle.vreg_groups.specs.declared.vector_length.Vconfig.{Vconfig}
-use Rattle.vreg_groups.proofs.Sizes.{bytes_fit, group_room, vlmax_small, body_small}
+use Rattle.vreg_groups.specs.SizeLemmas.{bytes_fit, group_room, vlmax_small, body_small}
 
 -- under a supported type vl is at most VLMAX, and under vill it is 0
 pub length_fits : (o : Option Vtype) (config : Vconfig) (vlenb : ℕ) → IsVlenb vlenb →

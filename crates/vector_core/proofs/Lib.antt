@@ -8,7 +8,7 @@ pub mod Lengths
 pub mod Moved
 pub mod Numbers
 pub mod Permits
-pub mod RunLemmas
 pub mod ReadsInside
-pub mod StoreLemmas
 pub mod WritesInside
+pub mod WrittenAlike
+pub mod WrittenBytes

@@ -172,11 +172,11 @@ abbrev IsPermittedAt : ℕ → Machine → ℕ → Type 0
 IsPermittedAt vlenb m j = (u : Machine) → after vlenb m j ≡ Ok u → IsPermittedStep vlenb u
 
 -- by induction on the steps, of which `after` takes the last one apart
-pub runs_permitted : RunsArePermitted
+pub runs_permitted : StepsArePermitted → RunsArePermitted
 unfolding after
-runs_permitted vlenb m t zero e j below = absurd (omega arith)
-runs_permitted vlenb m t (suc k) e j below =
-    by_state (after vlenb m k) refl e (λ w is. runs_permitted vlenb m w k is)
+runs_permitted permit vlenb m t zero e j below = absurd (omega arith)
+runs_permitted permit vlenb m t (suc k) e j below =
+    by_state (after vlenb m k) refl e (λ w is. runs_permitted permit vlenb m w k is)
   where
     by_state : (r : Result Machine Fault) → after vlenb m k ≡ r → then_step vlenb r ≡ Ok t
         → ((w : Machine) → after vlenb m k ≡ Ok w → (i : ℕ) → i < k → IsPermittedAt vlenb m i)
@@ -185,6 +185,6 @@ runs_permitted vlenb m t (suc k) e j below =
         let last : IsPermittedAt vlenb m k =
         λ u there.
         let same : w ≡ u = cc (is, there) in
-        steps_permitted vlenb u t (rw same at next) in
+        permit vlenb u t (rw same at next) in
         below_more (IsPermittedAt vlenb m) k (before w is) last j (omega arith)
     by_state (Err fault) is next before = absurd (cc)

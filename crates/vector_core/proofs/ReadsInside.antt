@@ -14,7 +14,7 @@ use Rattle.rv_decode.specs.declared.instructions.VMove.TheVariants as move
 use Rattle.rv_decode.specs.declared.instructions.VMove as move_type
 use Rattle.rv_decode.specs.declared.instructions.VMem as mem
 use Rattle.rv_decode.specs.declared.instructions.Width.{Width}
-use Rattle.region_mem.proofs.KeptCode.{permitted_kept}
+use Rattle.region_mem.specs.KeptCodeLemmas.{permitted_kept}
 use Rattle.region_mem.specs.Areas.{byte_at, number_at, number_of}
 use Rattle.region_mem.specs.Laws.{extent_of}
 use Rattle.region_mem.specs.Memory.{byte_of, fetch_of, is_permitted, load_of, store_of}
@@ -38,14 +38,14 @@ use Rattle.vector_core.specs.Permutations.{perm_step}
 use Rattle.vector_core.specs.Reductions.{reduce_step}
 use Rattle.vector_core.specs.Setup.{setup_of}
 use Rattle.vector_core.specs.Step.{arith_step, legal_step, vector_step}
-use Rattle.vector_core.specs.Touches.{IsReadAlike, StepsReadInside, without_memory}
+use Rattle.vector_core.specs.Touches.{IsAlike, IsReadAlike, without_memory}
 use Rattle.vector_core.specs.Vectors.{Vectors}
 use Rattle.vector_core.specs.Words.{Fault, Hart, Illegal, Insn, Memory, Setup, reg_of}
 
 -- ---- memory: p and q are two memories whose areas lie alike
 
 module _ (p q : Memory) (same : map extent_of p.areas ≡ map extent_of q.areas) where
-  permitted_alike : (right : Right) (address n : ℕ) → is_permitted right address n p ≡ is_permitted right address n q
+  pub permitted_alike : (right : Right) (address n : ℕ) → is_permitted right address n p ≡ is_permitted right address n q
   unfolding is_permitted
   permitted_alike right address n = permitted_kept right address n p.areas q.areas same
 
@@ -67,11 +67,11 @@ module _ (p q : Memory) (same : map extent_of p.areas ≡ map extent_of q.areas)
   unfolding load_of
   load_alike address n alike = rw (permitted_alike Read address n, number_alike address n alike) refl
 
-  fetch_alike : (pc : ℕ) → AreSame pc 4 → fetch_of pc p ≡ fetch_of pc q
+  pub fetch_alike : (pc : ℕ) → AreSame pc 4 → fetch_of pc p ≡ fetch_of pc q
   unfolding fetch_of
   fetch_alike pc alike = rw (permitted_alike Fetch pc 4, number_alike pc 4 alike) refl
 
-  refused_alike : (list : List Access) → first_refused list p ≡ first_refused list q
+  pub refused_alike : (list : List Access) → first_refused list p ≡ first_refused list q
   unfolding first_refused
   refused_alike [] = refl
   refused_alike (a ∷ list) = rw (permitted_alike a.right a.address a.size, refused_alike list) refl
@@ -240,7 +240,7 @@ module _ (h : Hart) (v : Vectors) (p q : Memory) (same : map extent_of p.areas �
   step_alike vlenb fetch reads =
       rw (fetch_alike p q same h.pc fetch) (fetched_alike vlenb (fetch_of h.pc q) reads)
 
-pub steps_read_inside : StepsReadInside
-steps_read_inside vlenb m other alike =
+pub steps_go_alike : (vlenb : ℕ) (m other : Machine) → IsAlike vlenb other m → without_memory (step vlenb other) ≡ without_memory (step vlenb m)
+steps_go_alike vlenb m other alike =
     let there : record { hart = m.hart; vectors = m.vectors; memory = other.memory } ≡ other = rw (alike.hart, alike.vectors) refl in
     rw (← there) (step_alike m.hart m.vectors other.memory m.memory alike.extents vlenb alike.fetched alike.read)

@@ -4,7 +4,7 @@ use Rattle.std.specs.Prelude.{unwrap_or}
 use Rattle.rv_decode.specs.declared.instructions.Insn.TheVariants.{Scalar, VMem}
 use Rattle.rv_decode.specs.declared.instructions.ScalarInsn.TheVariants.{Store}
 use Rattle.region_mem.specs.declared.faults.Right.TheVariants.{Write}
-use Rattle.region_mem.proofs.KeptCode.{number_kept, stored_is}
+use Rattle.region_mem.specs.KeptCodeLemmas.{number_kept, stored_is}
 use Rattle.region_mem.specs.Memory.{byte_of, store_of}
 use Rattle.vector_mem.specs.Accesses.{stored, with_stored}
 use Rattle.vector_mem.specs.Transfers.{accesses_of, right_of}
@@ -16,7 +16,7 @@ use Rattle.region_mem.specs.declared.faults.Right.{Right}
 use Rattle.vector_mem.specs.Accesses.{accesses, access_at}
 use Rattle.vector_core.specs.Machine.{Machine}
 use Rattle.vector_core.specs.MachineStep.{carry_out, step}
-use Rattle.vector_core.proofs.StoreLemmas.{AfterScalarStore, AfterVectorStores, carried_kept}
+use Rattle.vector_core.specs.StoreLemmas.{AfterScalarStore, AfterVectorStores, carried_kept}
 use Rattle.vector_core.specs.Words.{Insn, Memory}
 
 store_keeps_outside : (address n value x : ℕ) (memory stored : Memory) → store_of address n value memory ≡ Some stored

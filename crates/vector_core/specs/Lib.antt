@@ -32,3 +32,5 @@ pub use Rattle.region_mem.specs.Faults
 pub use Rattle.region_mem.specs.Memory
 pub use Rattle.scalar_core.specs.Hart
 pub use Rattle.vreg_groups.specs.VectorLength
+pub mod RunLemmas
+pub mod StoreLemmas

@@ -44,11 +44,25 @@ abbrev pub without_memory : Result Machine Fault → Result (Hart × Vectors) Fa
 without_memory (Ok t) = Ok (t.hart, t.vectors)
 without_memory (Err fault) = Err fault
 
--- The step of this machine goes the same way from each machine that is alike.
+-- The bytes that the access writes are the same in both memories.
+abbrev pub IsWrittenAlike : Memory → Memory → Access → Type 0
+IsWrittenAlike other memory a =
+    a.right ≡ Write → (x : ℕ) → a.address ≤ x → x < a.address + a.size
+    → byte_of x other ≡ byte_of x memory
+
+-- Where both machines have a next state, their steps write the same bytes.
+abbrev pub WritesAlike : ℕ → Machine → Machine → Type 0
+WritesAlike vlenb other m =
+    (word : ℕ) (insn : Insn) (t u : Machine) → step vlenb m ≡ Ok t → step vlenb other ≡ Ok u
+    → fetch_of m.hart.pc m.memory ≡ Some word → meaning_of word ≡ Some insn
+    → AllByRecursion (IsWrittenAlike u.memory t.memory) (accesses_of_insn vlenb insn m)
+
+-- The step of this machine goes the same way from each machine that is alike, and writes the same.
 abbrev pub ReadsInside : ℕ → Machine → Type 0
 ReadsInside vlenb m =
     (other : Machine) → IsAlike vlenb other m
-    → without_memory (step vlenb other) ≡ without_memory (step vlenb m)
+    → (without_memory (step vlenb other) ≡ without_memory (step vlenb m))
+    × WritesAlike vlenb other m
 
 -- So it is of every machine.
 abbrev pub StepsWriteInside : Type 0

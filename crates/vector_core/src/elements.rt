@@ -114,7 +114,7 @@ pub fn low_bits<E: VectorElement>(n: u32) -> E
 }
 
 /// The element 0.
-#[tactic(auto, using(vector_mem::proofs::Steps::zero_bits))]
+#[tactic(auto, using(vector_mem::specs::StepLemmas::zero_bits))]
 pub fn zero<E: VectorElement>() -> E
     ensures { E.Element.number result ≡ 0 }
 {

@@ -59,7 +59,7 @@ pub fn read_second<E: VectorElement, const VLENB: usize>(
 }
 
 /// Writes the element in the low bits of a number to each place.
-#[tactic(auto, using(vector_mem::proofs::Steps::splat_numbers))]
+#[tactic(auto, using(vector_mem::specs::StepLemmas::splat_numbers))]
 fn splat_low<E: VectorElement>(n: u32, out: &mut [E])
     ensures { map E.Element.number out.new ≡ replicate (length out.old)
         (low_bits (bytes_of_width E.sew) n) }

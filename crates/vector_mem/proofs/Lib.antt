@@ -3,4 +3,3 @@ pub mod Inside
 pub mod Plans
 pub mod Rooms
 pub mod Rows
-pub mod Steps

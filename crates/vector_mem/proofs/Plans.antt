@@ -9,7 +9,7 @@ use Rattle.region_mem.specs.declared.faults.Right.{Right}
 use Rattle.vector_mem.specs.declared.plan.Access.{Access}
 use Rattle.std.proofs.lemmas.List.{length-append, length-replicate}
 use Rattle.vreg_groups.specs.Elements.{active_of, mask_bits}
-use Rattle.vreg_groups.proofs.Places.{range_more}
+use Rattle.vreg_groups.specs.PlaceLemmas.{range_more}
 use Rattle.vector_mem.specs.Accesses.{IsAccessOf, access_at, accesses, accesses_from}
 use Rattle.vector_mem.specs.Transfers.{accesses_of, data_of, is_masked, place_at, right_of}
 use Rattle.vector_mem.specs.Words.{Setup, VMem}

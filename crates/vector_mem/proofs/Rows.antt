@@ -12,10 +12,10 @@ use Rattle.region_mem.specs.Laws.{LoadsInWindows, StoresFillWindows, StoresInWin
 use Rattle.region_mem.specs.Memory.{Memory, has_window, load_of, window_of, with_window}
 use Rattle.region_mem.specs.declared.faults.Right.{Right}
 use Rattle.region_mem.specs.declared.faults.Right.TheVariants.{Read, Write}
-use Rattle.region_mem.proofs.Parts.{number_of-cons}
+use Rattle.region_mem.specs.PartLemmas.{number_of-cons}
 use Rattle.vreg_groups.specs.Elements.{active_of, bytes_of, element_at, number_at, numbers_of}
-use Rattle.vreg_groups.proofs.Parts.{below_256, length-numbers_of}
-use Rattle.vreg_groups.proofs.Writes.{number_at-lt}
+use Rattle.vreg_groups.specs.PartLemmas.{below_256, length-numbers_of}
+use Rattle.vreg_groups.specs.WriteLemmas.{number_at-lt}
 use Rattle.vector_mem.specs.declared.plan.Access.{Access}
 use Rattle.vector_mem.specs.Accesses.{access_at, accesses, first_refused, in_a_row, is_refused, loaded, low_bits, stored, strided, with_loaded, with_stored}
 use Rattle.vector_mem.specs.Transfers.{accesses_of, data_at, data_of, is_in_a_row, is_masked, place_at, right_of}

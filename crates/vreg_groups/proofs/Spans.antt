@@ -8,7 +8,7 @@ use Rattle.vreg_groups.specs.NewElements.{bytes_written}
 use Rattle.vreg_groups.specs.VectorLength.{IsVlenb}
 use Rattle.vreg_groups.specs.Group.{Span, IsSize, body_of, written}
 use Rattle.vreg_groups.specs.declared.policies.Policy.{Policy}
-use Rattle.vreg_groups.proofs.Parts.{bytes_of-numbers_of, elements_of_bytes, written_bytes}
+use Rattle.vreg_groups.specs.PartLemmas.{bytes_of-numbers_of, elements_of_bytes, written_bytes}
 
 -- the numbers of the body's bytes
 pub body_numbers : (vlenb first count size vl : ℕ) (group : Span) (file part : List ℕ) →

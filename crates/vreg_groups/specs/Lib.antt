@@ -11,3 +11,9 @@ pub use Rattle.rv_decode.specs.Needs
 pub mod Copies
 pub mod Lends
 pub mod Chunks
+pub mod PlaceLemmas
+pub mod SizeLemmas
+pub mod WriteLemmas
+pub mod RoomLemmas
+pub mod PartLemmas
+pub mod PointwiseLemmas

@@ -212,7 +212,7 @@ fn is_operand_legal(vtype: Option<Vtype>, operand: &Operand) -> bool
 
 // EEW and EMUL are in range, and the group stands at a multiple of its size.
 #[inline(always)]
-#[tactic(auto, using(crate::proofs::Sizes::group_ends, crate::proofs::Sizes::group_small))]
+#[tactic(auto, using(crate::specs::SizeLemmas::group_ends, crate::specs::SizeLemmas::group_small))]
 fn is_group_legal(vtype: &Vtype, eew: Eew, first: usize) -> bool
     requires { first < 32 }
     ensures meaning { result ≡ is_group_legal vtype.now eew first }

@@ -64,7 +64,7 @@ impl Vtype {
     }
 
     /// The greatest vector length, VLMAX = LMUL * VLEN / SEW, where a vector register has `vlenb` bytes.
-    #[tactic(auto, unfolding(crate::specs::VectorType::vlmax_of), using(crate::proofs::Sizes::body_small))]
+    #[tactic(auto, unfolding(crate::specs::VectorType::vlmax_of), using(crate::specs::SizeLemmas::body_small))]
     pub fn vlmax(&self, vlenb: usize) -> u32
         requires { IsVlenb vlenb }
         ensures meaning { result ≡ vlmax_of vlenb self.now }

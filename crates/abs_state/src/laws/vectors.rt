@@ -6,7 +6,9 @@ ghost use Rattle.abs_state.specs.VectorLaws.{TransfersKeepMemory, UntouchedAreTr
 /// What is known after an instruction that sets vtype and vl is true of the machine that it leads to.
 pub fn vsets_are_held()
     ensures { VsetsAreHeld }
-{}
+{
+    cut_are_true();
+}
 
 /// An instruction that passes the test on legality is legal.
 pub fn checks_are_legal()

@@ -6,7 +6,7 @@ use lane_int::{Lane, compare, compute, multiply_add};
 use rv_decode::{CompareOp, IntOp, MultiplyAddOp};
 use std::process::Abort;
 
-const OPERATIONS: [IntOp; 21] = [
+pub(crate) const OPERATIONS: [IntOp; 21] = [
     IntOp::Add,
     IntOp::Sub,
     IntOp::Rsub,

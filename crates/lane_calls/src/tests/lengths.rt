@@ -33,3 +33,12 @@ pub(crate) fn halves(seed: u32) -> [u16; MOST] {
     }
     halves
 }
+
+pub(crate) fn bits(seed: u32) -> [bool; MOST] {
+    let numbers = numbers(seed);
+    let mut bits = [false; MOST];
+    for i in 0..MOST {
+        bits[i] = numbers[i] % 3 == 0;
+    }
+    bits
+}

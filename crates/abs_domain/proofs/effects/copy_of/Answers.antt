@@ -1,7 +1,7 @@
 -- The copy is there, since it has room.
 use Rattle.std.proofs.Common.{sym, ◌∙◌}
-use Rattle.linear_facts.proofs.FormLaws.{within-is}
-use Rattle.abs_domain.proofs.Rooms.{some_within}
+use Rattle.linear_facts.specs.FormLemmas.{within-is}
+use Rattle.abs_domain.specs.RoomLemmas.{some_within}
 use Rattle.abs_domain.proofs.effects.copy_of.Goals as goal
 
 pub unwrap-requires : goal.unwrap-requires

@@ -1,7 +1,7 @@
 -- The sum is there, since it has room.
 use Rattle.std.proofs.Common.{ap, sym, ◌∙◌}
 use Rattle.linear_facts.specs.Forms.{sum_of}
-use Rattle.linear_facts.proofs.FormLaws.{within-is}
+use Rattle.linear_facts.specs.FormLemmas.{within-is}
 use Rattle.abs_domain.specs.Effects.{offset_form}
 use Rattle.abs_domain.proofs.effects.offset_form.Goals as goal
 

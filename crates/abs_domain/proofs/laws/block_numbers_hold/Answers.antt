@@ -1,4 +1,4 @@
-use Rattle.abs_domain.proofs.OrderStarts.{block_numbers_hold}
+use Rattle.abs_domain.specs.OrderStartLemmas.{block_numbers_hold}
 use Rattle.abs_domain.proofs.laws.block_numbers_hold.Goals as goal
 
 pub returns : goal.returns

@@ -1,4 +1,4 @@
-use Rattle.abs_domain.proofs.Operations.{constant_describes}
+use Rattle.abs_domain.specs.OperationLemmas.{constant_describes}
 use Rattle.abs_domain.proofs.laws.constant_effects.Goals as goal
 
 pub returns : goal.returns

@@ -1,4 +1,4 @@
-use Rattle.abs_domain.proofs.Operations.{csr_describes}
+use Rattle.abs_domain.specs.OperationLemmas.{csr_describes}
 use Rattle.abs_domain.proofs.laws.csr_effects.Goals as goal
 
 pub returns : goal.returns

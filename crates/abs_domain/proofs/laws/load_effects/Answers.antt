@@ -1,4 +1,4 @@
-use Rattle.abs_domain.proofs.Operations.{load_describes}
+use Rattle.abs_domain.specs.OperationLemmas.{load_describes}
 use Rattle.abs_domain.proofs.laws.load_effects.Goals as goal
 
 pub returns : goal.returns

@@ -1,4 +1,4 @@
-use Rattle.abs_domain.proofs.Operations.{register_describes}
+use Rattle.abs_domain.specs.OperationLemmas.{register_describes}
 use Rattle.abs_domain.proofs.laws.register_effects.Goals as goal
 
 pub returns : goal.returns

@@ -1,4 +1,4 @@
-use Rattle.abs_domain.proofs.Operations.{shift_describes}
+use Rattle.abs_domain.specs.OperationLemmas.{shift_describes}
 use Rattle.abs_domain.proofs.laws.shift_effects.Goals as goal
 
 pub returns : goal.returns

@@ -1,4 +1,4 @@
-use Rattle.abs_domain.proofs.Memories.{stores_kept}
+use Rattle.abs_domain.specs.MemoryLemmas.{stores_kept}
 use Rattle.abs_domain.proofs.laws.stores_keep_zones.Goals as goal
 
 pub returns : goal.returns

@@ -1,4 +1,4 @@
-use Rattle.abs_domain.proofs.Memories.{inside_permitted}
+use Rattle.abs_domain.specs.MemoryLemmas.{inside_permitted}
 use Rattle.abs_domain.proofs.laws.zones_are_permitted.Goals as goal
 
 pub returns : goal.returns

@@ -1,4 +1,4 @@
-use Rattle.abs_domain.proofs.StartZones.{zones_are_there}
+use Rattle.abs_domain.specs.StartZoneLemmas.{zones_are_there}
 use Rattle.abs_domain.proofs.laws.zones_are_there.Goals as goal
 
 pub returns : goal.returns

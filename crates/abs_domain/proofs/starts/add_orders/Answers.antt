@@ -1,7 +1,7 @@
 -- Each order makes one atom more at most.
 use Rattle.std.proofs.Common.{arith, ◌∙◌, ◌+◌, sym, ap, drop}
 use Rattle.abs_domain.specs.Orders.{with_orders}
-use Rattle.abs_domain.proofs.OrderStarts.{order_at_place, orders_more, orders_done}
+use Rattle.abs_domain.specs.OrderStartLemmas.{order_at_place, orders_more, orders_done}
 use Rattle.abs_domain.proofs.starts.add_orders.Goals as goal
 
 pub add_order-requires-clause-greater : goal.add_order-requires-clause-greater

@@ -1,5 +1,5 @@
 use Rattle.abs_domain.specs.Starts.{entry_form}
-use Rattle.abs_domain.proofs.StartForms.{pushed_more}
+use Rattle.abs_domain.specs.StartFormLemmas.{pushed_more}
 use Rattle.abs_domain.proofs.starts.entry_forms.Goals as goal
 
 pub loop-number-preserved : goal.loop-number-preserved

@@ -1,6 +1,6 @@
 use Rattle.std.proofs.Common.{length, ap, ◌∙◌}
 use Rattle.abs_domain.specs.Numbers.{NumbersView}
-use Rattle.abs_domain.proofs.StartNumbers.{atoms_many}
+use Rattle.abs_domain.specs.StartNumberLemmas.{atoms_many}
 use Rattle.abs_domain.proofs.starts.entry_numbers.Goals as goal
 
 pub returns-clause-few : goal.returns-clause-few

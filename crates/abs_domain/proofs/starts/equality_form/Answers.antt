@@ -3,7 +3,7 @@ use Rattle.linear_facts.specs.Forms.{Linear, IsForm}
 use Rattle.linear_facts.specs.Laws.{AreBelow}
 use Rattle.cert_note.specs.declared.values.EqualityTerm.{EqualityTerm}
 use Rattle.abs_domain.specs.Starts.{form_term}
-use Rattle.abs_domain.proofs.StartForms.{terms_room, term_past, term_some}
+use Rattle.abs_domain.specs.StartFormLemmas.{terms_room, term_past, term_some}
 use Rattle.abs_domain.proofs.starts.equality_form.Goals as goal
 
 pub with_term-form-requires : goal.with_term-form-requires

@@ -1,7 +1,7 @@
 use Rattle.std.proofs.Common.{sym, ◌==◌}
 use Rattle.cert_note.specs.declared.values.RegisterFact.{RegisterFact}
 use Rattle.abs_domain.specs.Starts.{HasForm}
-use Rattle.abs_domain.proofs.StartForms.{found_has}
+use Rattle.abs_domain.specs.StartFormLemmas.{found_has}
 use Rattle.abs_domain.proofs.starts.fact_form.Goals as goal
 
 pub form_of_fact-requires : goal.form_of_fact-requires

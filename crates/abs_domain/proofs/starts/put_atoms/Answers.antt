@@ -2,7 +2,7 @@ use Rattle.std.proofs.Common.{arith, ap, sym, ◌∙◌, map}
 use Rattle.std.specs.List.{range_with_len, slice_get}
 use Rattle.abs_domain.specs.Numbers.{plain}
 use Rattle.abs_domain.specs.Starts.{stated_range, passed_range}
-use Rattle.abs_domain.proofs.StartForms.{pushed_more, pushed_behind}
+use Rattle.abs_domain.specs.StartFormLemmas.{pushed_more, pushed_behind}
 use Rattle.abs_domain.proofs.starts.put_atoms.Goals as goal
 
 pub loop-number-preserved : goal.loop-number-preserved

@@ -1,7 +1,7 @@
 use Rattle.std.proofs.Common.{arith, ◌∙◌}
 use Rattle.std.proofs.Math.ListN.{length-set}
 use Rattle.abs_domain.specs.Starts.{stated_form}
-use Rattle.abs_domain.proofs.StartForms.{written_more}
+use Rattle.abs_domain.specs.StartFormLemmas.{written_more}
 use Rattle.abs_domain.proofs.starts.put_forms.Goals as goal
 
 pub loop-number-preserved : goal.loop-number-preserved

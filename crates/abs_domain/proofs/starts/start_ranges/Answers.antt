@@ -3,7 +3,7 @@ use Rattle.std.proofs.Math.ListN.{length-set}
 use Rattle.linear_facts.specs.Sums.{range_of_form}
 use Rattle.abs_domain.specs.Values.{computed_range}
 use Rattle.abs_domain.specs.Starts.{stated_range, stated_form}
-use Rattle.abs_domain.proofs.StartForms.{written_more}
+use Rattle.abs_domain.specs.StartFormLemmas.{written_more}
 use Rattle.abs_domain.proofs.StartRanges.{form_there, range_there}
 use Rattle.abs_domain.proofs.starts.start_ranges.Goals as goal
 

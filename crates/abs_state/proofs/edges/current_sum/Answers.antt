@@ -1,9 +1,9 @@
 -- Each term adds the multiple of what stands in its atom's place.
 use Rattle.std.proofs.Common.{arith, ap, sym, ◌∙◌, length}
 use Rattle.linear_facts.specs.Forms.{Linear, sum_of, substituted}
-use Rattle.linear_facts.proofs.FormLaws.{length-sum_of, within-is}
-use Rattle.abs_domain.proofs.Rooms.{some_within}
-use Rattle.abs_state.proofs.Substitutions.{sums_more, sums_done}
+use Rattle.linear_facts.specs.FormLemmas.{length-sum_of, within-is}
+use Rattle.abs_domain.specs.RoomLemmas.{some_within}
+use Rattle.abs_state.specs.SubstitutionLemmas.{sums_more, sums_done}
 use Rattle.abs_state.proofs.edges.current_sum.Goals as goal
 
 pub unwrap-sum-requires : goal.unwrap-sum-requires

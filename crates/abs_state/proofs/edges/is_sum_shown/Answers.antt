@@ -1,7 +1,7 @@
 -- The two forms are compared.
 use Rattle.std.proofs.Common.{arith}
 use Rattle.abs_state.specs.Edges.{is_sum_shown}
-use Rattle.abs_state.proofs.Substitutions.{same_is}
+use Rattle.abs_state.specs.SubstitutionLemmas.{same_is}
 use Rattle.abs_state.proofs.edges.is_sum_shown.Goals as goal
 
 pub returns : goal.returns

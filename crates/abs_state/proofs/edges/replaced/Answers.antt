@@ -1,7 +1,7 @@
 -- The form that is read is the one in the atom's place.
 use Rattle.std.proofs.Common.{arith, ◌∙◌, ap, ℕ}
 use Rattle.linear_facts.specs.Forms.{atom_form}
-use Rattle.linear_facts.proofs.FormLaws.{read_at}
+use Rattle.linear_facts.specs.FormLemmas.{read_at}
 use Rattle.abs_state.proofs.edges.replaced.Goals as goal
 
 pub returns-in-Some-clause-product : goal.returns-in-Some-clause-product

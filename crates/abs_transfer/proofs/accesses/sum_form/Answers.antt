@@ -1,7 +1,7 @@
 -- The sum is there, since it has room.
 use Rattle.std.proofs.Common.{ap, sym, ◌∙◌}
 use Rattle.linear_facts.specs.Forms.{number_form, sum_of}
-use Rattle.linear_facts.proofs.FormLaws.{within-is}
+use Rattle.linear_facts.specs.FormLemmas.{within-is}
 use Rattle.abs_transfer.specs.Accesses.{sum_form}
 use Rattle.abs_transfer.proofs.accesses.sum_form.Goals as goal
 

@@ -1,4 +1,4 @@
-use Rattle.abs_transfer.proofs.Addresses.{address_lies}
+use Rattle.abs_transfer.specs.AddressLemmas.{address_lies}
 use Rattle.abs_transfer.proofs.laws.addresses_lie.Goals as goal
 
 pub returns : goal.returns

@@ -18,7 +18,7 @@ returns-clause-set g c = λ j k lt less yes.
           omega (
             arith,
             ap (λ l. get_or l (s * j + k) 0) w.result-is,
-            w.mask_flags.ensures.set (s * j + k) i (omega (arith, within, less)) (omega (arith, at, size)) (omega (arith, at, size, less, w.size.ensures)) (ap (λ b. is_active g.row.VLENB b i c.args.registers.now) (sym w.if-masked.true) ∙ yes),
+            (w.mask_flags.ensures (s * j + k) i (omega (arith, within, less)) (omega (arith, at, size)) (omega (arith, at, size, less, w.size.ensures))).0 (ap (λ b. is_active g.row.VLENB b i c.args.registers.now) (sym w.if-masked.true) ∙ yes),
           )
       | else-masked w ↦
           let e : get_or c.if-masked.result (s * j + k) 0 ≡ 255 = ap (λ l. get_or l (s * j + k) 0) w.result-is ∙ get_or-replicate 16 (s * j + k) 255 0 (omega (arith, within, less)) in
@@ -35,6 +35,6 @@ returns-clause-clear g c = λ j k lt less no.
       | then-masked w ↦
           let size : i * w.size.result ≡ i * s = ap (λ z. i * z) w.size.ensures in
           ap (λ l. get_or l (s * j + k) 0) w.result-is
-          ∙ w.mask_flags.ensures.clear (s * j + k) i (omega (arith, within, less)) (omega (arith, at, size)) (omega (arith, at, size, less, w.size.ensures)) (ap (λ b. is_active g.row.VLENB b i c.args.registers.now) (sym w.if-masked.true) ∙ no)
+          ∙ (w.mask_flags.ensures (s * j + k) i (omega (arith, within, less)) (omega (arith, at, size)) (omega (arith, at, size, less, w.size.ensures))).1 (ap (λ b. is_active g.row.VLENB b i c.args.registers.now) (sym w.if-masked.true) ∙ no)
       | else-masked w ↦ differ (is_active g.row.VLENB c.args.masked i c.args.registers.now) (ap (λ b. is_active g.row.VLENB b i c.args.registers.now) w.if-masked.false) no
     ]

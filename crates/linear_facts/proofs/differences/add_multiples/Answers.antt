@@ -3,8 +3,8 @@ use Rattle.std.proofs.Common.{arith, ◌∙◌, ◌+◌, ◌*◌, ◌^◌, List,
 use Rattle.linear_facts.specs.Words.{WholeTerm}
 use Rattle.linear_facts.specs.Sums.{AllAtMost, with_term}
 use Rattle.linear_facts.specs.Differences.{with_multiples}
-use Rattle.linear_facts.proofs.SumLaws.{at_most_at, at_most_more, at_most-with_term, length-with_term}
-use Rattle.linear_facts.proofs.DifferenceLaws.{multiples-more, multiples-done}
+use Rattle.linear_facts.specs.SumLemmas.{at_most_at, at_most_more, at_most-with_term, length-with_term}
+use Rattle.linear_facts.specs.DifferenceLemmas.{multiples-more, multiples-done}
 use Rattle.linear_facts.proofs.differences.add_multiples.Goals as goal
 
 pub multiple_term-requires-clause-plus : goal.multiple_term-requires-clause-plus

@@ -3,7 +3,7 @@ use Rattle.std.proofs.Common.{◌∙◌, ◌+◌, ◌^◌, List, map, subst, sym
 use Rattle.linear_facts.specs.Words.{WholeTerm}
 use Rattle.linear_facts.specs.Sums.{AllAtMost, signed_term}
 use Rattle.linear_facts.specs.Differences.{WholeSum}
-use Rattle.linear_facts.proofs.DifferenceLaws.{product-parts, terms_kept}
+use Rattle.linear_facts.specs.DifferenceLemmas.{product-parts, terms_kept}
 use Rattle.linear_facts.proofs.differences.add_product.Goals as goal
 
 pub returns-clause-sum : goal.returns-clause-sum

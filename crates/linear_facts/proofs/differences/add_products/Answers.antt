@@ -1,8 +1,8 @@
 -- Each product adds eight terms at most, and 2^67 to a coefficient.
 use Rattle.std.proofs.Common.{arith, ◌∙◌, ◌+◌, ◌*◌, ◌^◌, sym, ap, drop}
 use Rattle.linear_facts.specs.Differences.{with_product, with_products}
-use Rattle.linear_facts.proofs.SumLaws.{at_most_more}
-use Rattle.linear_facts.proofs.DifferenceLaws.{products-more, products-done, AreForms-more, AreForms-all}
+use Rattle.linear_facts.specs.SumLemmas.{at_most_more}
+use Rattle.linear_facts.specs.DifferenceLemmas.{products-more, products-done, AreForms-more, AreForms-all}
 use Rattle.linear_facts.proofs.differences.add_products.Goals as goal
 
 pub add_product-requires-clause-small : goal.add_product-requires-clause-small

@@ -1,6 +1,6 @@
 -- Four products leave the coefficients small.
 use Rattle.std.proofs.Common.{arith, ◌+◌, ◌^◌, ap, length}
-use Rattle.linear_facts.proofs.SumLaws.{at_most_more, none_small}
+use Rattle.linear_facts.specs.SumLemmas.{at_most_more, none_small}
 use Rattle.linear_facts.proofs.differences.difference.Goals as goal
 
 pub add_products-requires-2-clause-small : goal.add_products-requires-2-clause-small

@@ -4,7 +4,7 @@ use Rattle.linear_facts.specs.Words.{WholeTerm, Added, Taken}
 use Rattle.linear_facts.specs.Forms.{Linear}
 use Rattle.linear_facts.specs.Ranges.{AtomTable}
 use Rattle.linear_facts.specs.Differences.{WholeSum, with_product, with_products, difference_of, once}
-use Rattle.linear_facts.proofs.SumLaws.{at_most_more, none_small}
+use Rattle.linear_facts.specs.SumLemmas.{at_most_more, none_small}
 use Rattle.linear_facts.proofs.differences.difference_of_two.Goals as goal
 
 two_products : (table : AtomTable) (f g : Linear) (items : List WholeTerm) (a b : WholeSum) → items ≡ []

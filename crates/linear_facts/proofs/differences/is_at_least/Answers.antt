@@ -1,7 +1,7 @@
 -- A difference whose lower bound is at least 0 is not negative.
 use Rattle.std.proofs.Common.{◌∙◌, ap, sym}
 use Rattle.linear_facts.specs.Differences.{is_positive}
-use Rattle.linear_facts.proofs.DifferenceLaws.{difference-holds}
+use Rattle.linear_facts.specs.DifferenceLemmas.{difference-holds}
 use Rattle.linear_facts.proofs.differences.is_at_least.Goals as goal
 
 pub returns-clause-holds : goal.returns-clause-holds

@@ -5,7 +5,7 @@ use Rattle.linear_facts.specs.Words.{Interval}
 use Rattle.linear_facts.specs.Forms.{Linear}
 use Rattle.linear_facts.specs.Ranges.{AtomTable}
 use Rattle.linear_facts.specs.Differences.{WholeSum, have_ranges, difference_of, sum_interval, once, is_not_less_of}
-use Rattle.linear_facts.proofs.DifferenceLaws.{orders-hold}
+use Rattle.linear_facts.specs.DifferenceLemmas.{orders-hold}
 use Rattle.linear_facts.proofs.differences.is_not_less.Goals as goal
 
 shown_so : (table : AtomTable) (f g : Linear) (sum : WholeSum) (interval : Interval) → have_ranges table (once f) ≡ true → have_ranges table (once g) ≡ true

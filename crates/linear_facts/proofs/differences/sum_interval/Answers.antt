@@ -4,7 +4,7 @@ use Rattle.std.proofs.lemmas.Grind.{common_steps}
 use Rattle.linear_facts.specs.Words.{WholeTerm}
 use Rattle.linear_facts.specs.Sums.{AllAtMost}
 use Rattle.linear_facts.specs.Differences.{WholeSum, sum_interval}
-use Rattle.linear_facts.proofs.SumLaws.{at_most_more}
+use Rattle.linear_facts.specs.SumLemmas.{at_most_more}
 use Rattle.linear_facts.proofs.differences.sum_interval.Goals as goal
 
 pub interval_by_ends-own-requires-clause-small : goal.interval_by_ends-own-requires-clause-small

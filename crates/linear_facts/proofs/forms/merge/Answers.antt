@@ -1,6 +1,6 @@
 -- Each step moves the front of what is left over to what is merged.
 use Rattle.std.proofs.Common.{arith, inl, inr}
-use Rattle.linear_facts.proofs.Merging.{heads-less, heads-greater, heads-same, no_room, moved, no_room_first, no_room_second, all_merged, none_is_right}
+use Rattle.linear_facts.specs.MergingLemmas.{heads-less, heads-greater, heads-same, no_room, moved, no_room_first, no_room_second, all_merged, none_is_right}
 use Rattle.linear_facts.proofs.forms.merge.Goals as goal
 use Rattle.linear_facts.proofs.forms.merge.Goals.{then-heads-test+else-j-b, else-heads-test}
 

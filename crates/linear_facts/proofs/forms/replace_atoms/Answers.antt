@@ -1,7 +1,7 @@
 -- Each term adds the multiple of what stands in its atom's place.
 use Rattle.std.proofs.Common.{arith, ◌∙◌, ◌+◌, ap, sym, length, drop, Some}
 use Rattle.linear_facts.specs.Forms.{Linear, sum_of, with_replaced}
-use Rattle.linear_facts.proofs.FormLaws.{within-is, within-there, replaced-more, replaced-done, length-sum_of}
+use Rattle.linear_facts.specs.FormLemmas.{within-is, within-there, replaced-more, replaced-done, length-sum_of}
 use Rattle.linear_facts.proofs.forms.replace_atoms.Goals as goal
 
 pub returns-in_err-sum : goal.returns-in_err-sum

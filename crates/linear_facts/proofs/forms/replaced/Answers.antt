@@ -1,7 +1,7 @@
 -- The multiple is there, since a multiple has no more terms.
 use Rattle.std.proofs.Common.{arith, ◌∙◌, sym}
 use Rattle.linear_facts.specs.Forms.{atom_form}
-use Rattle.linear_facts.proofs.FormLaws.{read_at, within-is}
+use Rattle.linear_facts.specs.FormLemmas.{read_at, within-is}
 use Rattle.linear_facts.proofs.forms.replaced.Goals as goal
 
 pub returns-in-Some-clause-product : goal.returns-in-Some-clause-product

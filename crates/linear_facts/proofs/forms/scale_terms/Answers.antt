@@ -1,5 +1,5 @@
 -- Each step moves the multiple of the next term over to what is scaled.
-use Rattle.linear_facts.proofs.Merging.{scaled-more, no_room, moved, none_is_right, scaled-done}
+use Rattle.linear_facts.specs.MergingLemmas.{scaled-more, no_room, moved, none_is_right, scaled-done}
 use Rattle.linear_facts.proofs.forms.scale_terms.Goals as goal
 
 pub loop-term-preserved : goal.loop-term-preserved

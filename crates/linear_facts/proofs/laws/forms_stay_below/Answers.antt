@@ -1,4 +1,4 @@
-use Rattle.linear_facts.proofs.LocalityLemmas.{forms-stay}
+use Rattle.linear_facts.specs.LocalityLemmas.{forms-stay}
 use Rattle.linear_facts.proofs.laws.forms_stay_below.Goals as goal
 
 pub returns : goal.returns

@@ -1,4 +1,4 @@
-use Rattle.linear_facts.proofs.DifferenceLaws.{orders-hold}
+use Rattle.linear_facts.specs.DifferenceLemmas.{orders-hold}
 use Rattle.linear_facts.proofs.laws.orders_hold.Goals as goal
 
 pub returns : goal.returns

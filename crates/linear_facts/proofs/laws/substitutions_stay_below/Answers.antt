@@ -1,4 +1,4 @@
-use Rattle.linear_facts.proofs.LocalityLemmas.{substitutions-stay}
+use Rattle.linear_facts.specs.LocalityLemmas.{substitutions-stay}
 use Rattle.linear_facts.proofs.laws.substitutions_stay_below.Goals as goal
 
 pub returns : goal.returns

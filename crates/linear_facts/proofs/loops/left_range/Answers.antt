@@ -1,4 +1,4 @@
-use Rattle.linear_facts.proofs.LoopRanges.{left-range}
+use Rattle.linear_facts.specs.LoopRangeLemmas.{left-range}
 use Rattle.linear_facts.proofs.loops.left_range.Goals as goal
 
 pub returns : goal.returns

@@ -1,4 +1,4 @@
-use Rattle.linear_facts.proofs.LoopRanges.{number-range}
+use Rattle.linear_facts.specs.LoopRangeLemmas.{number-range}
 use Rattle.linear_facts.proofs.loops.number_range.Goals as goal
 
 pub returns : goal.returns

@@ -1,4 +1,4 @@
-use Rattle.linear_facts.proofs.LoopRanges.{pointer-range}
+use Rattle.linear_facts.specs.LoopRangeLemmas.{pointer-range}
 use Rattle.linear_facts.proofs.loops.pointer_range.Goals as goal
 
 pub returns : goal.returns

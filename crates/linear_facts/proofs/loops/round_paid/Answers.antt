@@ -1,4 +1,4 @@
-use Rattle.linear_facts.proofs.LoopRanges.{round-paid}
+use Rattle.linear_facts.specs.LoopRangeLemmas.{round-paid}
 use Rattle.linear_facts.proofs.loops.round_paid.Goals as goal
 
 pub returns : goal.returns

@@ -2,7 +2,7 @@
 use Rattle.std.proofs.Common.{arith, ◌+◌, ◌^◌, List, length, subst, sym, ap}
 use Rattle.linear_facts.specs.Words.{WholeTerm}
 use Rattle.linear_facts.specs.Sums.{AllAtMost}
-use Rattle.linear_facts.proofs.SumLaws.{at_most_more, at_most-with_term, length-with_term}
+use Rattle.linear_facts.specs.SumLemmas.{at_most_more, at_most-with_term, length-with_term}
 use Rattle.linear_facts.proofs.sums.add_parts.Goals as goal
 
 pub add_term-requires-clause-small : goal.add_term-requires-clause-small

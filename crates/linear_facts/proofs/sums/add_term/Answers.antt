@@ -1,7 +1,7 @@
 -- The term is added at its atom's place, or put last.
 use Rattle.std.proofs.Common.{arith, ◌∙◌, ◌==◌, ap, sym, position}
 use Rattle.linear_facts.specs.Words.{WholeTerm}
-use Rattle.linear_facts.proofs.SumLaws.{place_fits, set_there, with_term-new}
+use Rattle.linear_facts.specs.SumLemmas.{place_fits, set_there, with_term-new}
 use Rattle.linear_facts.proofs.sums.add_term.Goals as goal
 
 pub overflow_add-other : goal.overflow_add-other

@@ -1,7 +1,7 @@
 -- The end moves by the term's share.
 use Rattle.std.proofs.Common.{arith, ◌+◌, ◌-◌, ◌^◌, sym, ap}
 use Rattle.std.proofs.lemmas.Nat.{mul-le}
-use Rattle.linear_facts.proofs.SumLaws.{end_up, end_down}
+use Rattle.linear_facts.specs.SumLemmas.{end_up, end_down}
 use Rattle.linear_facts.proofs.sums.end_with_term.Goals as goal
 
 pub returns-then-term-clause-sum : goal.returns-then-term-clause-sum

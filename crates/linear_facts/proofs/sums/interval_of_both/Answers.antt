@@ -3,8 +3,8 @@ use Rattle.std.proofs.Common.{refl, arith, ◌≡◌, ◌∙◌, ℕ, ◌<◌, �
 use Rattle.linear_facts.specs.Words.{WholeTerm, Interval}
 use Rattle.linear_facts.specs.Sums.{AllAtMost, interval_of, met_or_own, with_split}
 use Rattle.linear_facts.specs.Ranges.{AtomTable}
-use Rattle.linear_facts.proofs.SumLaws.{at_most_more}
-use Rattle.linear_facts.proofs.RangeLaws.{form_interval-few, form_interval-many}
+use Rattle.linear_facts.specs.SumLemmas.{at_most_more}
+use Rattle.linear_facts.specs.RangeLemmas.{form_interval-few, form_interval-many}
 use Rattle.linear_facts.proofs.sums.interval_of_both.Goals as goal
 
 pub split_terms-split-requires-clause-small : goal.split_terms-split-requires-clause-small

@@ -1,6 +1,6 @@
 -- Where no atom is split, the terms that are split are the form's own.
 use Rattle.std.proofs.Common.{◌∙◌, sym}
-use Rattle.linear_facts.proofs.RangeLaws.{form_interval-unsplit}
+use Rattle.linear_facts.specs.RangeLemmas.{form_interval-unsplit}
 use Rattle.linear_facts.proofs.sums.interval_of_terms.Goals as goal
 
 pub returns-else-some_split-clause-interval : goal.returns-else-some_split-clause-interval

@@ -2,7 +2,7 @@
 use Rattle.std.proofs.Common.{arith, ◌∙◌, ap, sym, get_or, map}
 use Rattle.linear_facts.specs.Words.{Range, Lo, Hi, Added, Taken}
 use Rattle.linear_facts.specs.Sums.{signed_term, ends}
-use Rattle.linear_facts.proofs.SumLaws.{signed_shares-more, signed_shares-done, signed_atom, next_end, own-done}
+use Rattle.linear_facts.specs.SumLemmas.{signed_shares-more, signed_shares-done, signed_atom, next_end, own-done}
 use Rattle.linear_facts.proofs.sums.own_interval.Goals as goal
 
 pub loop-term-preserved : goal.loop-term-preserved

@@ -2,7 +2,7 @@
 use Rattle.std.proofs.Common.{◌^◌, List, subst, sym}
 use Rattle.linear_facts.specs.Words.{WholeTerm}
 use Rattle.linear_facts.specs.Sums.{AllAtMost}
-use Rattle.linear_facts.proofs.SumLaws.{signed_at_most, signed-done}
+use Rattle.linear_facts.specs.SumLemmas.{signed_at_most, signed-done}
 use Rattle.linear_facts.proofs.sums.signed_terms.Goals as goal
 
 pub returns-clause-small : goal.returns-clause-small

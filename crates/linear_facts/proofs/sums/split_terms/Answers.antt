@@ -3,7 +3,7 @@ use Rattle.std.proofs.Common.{arith, ◌∙◌, ◌+◌, ◌*◌, ◌^◌, List,
 use Rattle.linear_facts.specs.Words.{WholeTerm}
 use Rattle.linear_facts.specs.Ranges.{split_at}
 use Rattle.linear_facts.specs.Sums.{AllAtMost, with_split}
-use Rattle.linear_facts.proofs.SumLaws.{at_most_at, at_most_more, at_most-with_parts, length-with_parts, split-more, split-done}
+use Rattle.linear_facts.specs.SumLemmas.{at_most_at, at_most_more, at_most-with_parts, length-with_parts, split-more, split-done}
 use Rattle.linear_facts.proofs.sums.split_terms.Goals as goal
 
 pub add_parts-requires-clause-small : goal.add_parts-requires-clause-small

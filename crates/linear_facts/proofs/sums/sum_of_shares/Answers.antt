@@ -1,7 +1,7 @@
 -- Each term's share is at most its coefficient times 2^32.
 use Rattle.std.proofs.Common.{arith, ◌^◌}
 use Rattle.linear_facts.specs.Sums.{ends}
-use Rattle.linear_facts.proofs.SumLaws.{share_bound, next_share, shares-more, shares-done}
+use Rattle.linear_facts.specs.SumLemmas.{share_bound, next_share, shares-more, shares-done}
 use Rattle.linear_facts.proofs.sums.sum_of_shares.Goals as goal
 
 pub overflow_mul-sum : goal.overflow_mul-sum

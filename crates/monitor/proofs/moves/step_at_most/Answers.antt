@@ -1,5 +1,5 @@
 use Rattle.std.proofs.Common.{rules, IsSome, add-one}
-use Rattle.sandbox_run.proofs.SessionLemmas.{not_ended}
+use Rattle.sandbox_run.specs.SessionLemmas.{not_ended}
 use Rattle.monitor.proofs.MoveLemmas.{does_none, does_more}
 use Rattle.monitor.proofs.moves.step_at_most.Goals as goal
 

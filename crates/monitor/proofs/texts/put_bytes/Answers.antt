@@ -1,5 +1,5 @@
 use Rattle.std.proofs.Common.{◌∙◌, Err, add-one, refl}
-use Rattle.rv_listing.proofs.SinkLemmas.{appends_both, told_part, told_then}
+use Rattle.rv_listing.specs.SinkLemmas.{appends_both, told_part, told_then}
 use Rattle.monitor.proofs.TextLemmas.{bytes_none, bytes-next, bytes-rest}
 use Rattle.monitor.proofs.texts.put_bytes.Goals as goal
 

@@ -2,7 +2,7 @@ use Rattle.std.proofs.Common.{◌++◌, ◌/◌, ◌%◌, codes}
 use Rattle.std.specs.Fmt.{decimal}
 use Rattle.hex.specs.Hex.{encode_lower}
 use Rattle.monitor.specs.Texts.{vector_text}
-use Rattle.rv_listing.proofs.SinkLemmas.{told_part, told_then}
+use Rattle.rv_listing.specs.SinkLemmas.{told_part, told_then}
 use Rattle.monitor.proofs.TextLemmas.{digits_first}
 use Rattle.monitor.proofs.texts.put_vector_bytes.Goals as goal
 

@@ -2,7 +2,7 @@ use Rattle.std.proofs.Common.{◌++◌, codes}
 use Rattle.rv_listing.specs.Listing.{listing_text}
 use Rattle.rv_listing.specs.Pieces.{word_text}
 use Rattle.monitor.specs.Texts.{line_text}
-use Rattle.rv_listing.proofs.SinkLemmas.{told_part, told_then}
+use Rattle.rv_listing.specs.SinkLemmas.{told_part, told_then}
 use Rattle.monitor.proofs.TextLemmas.{words_first}
 use Rattle.monitor.proofs.texts.put_word_line.Goals as goal
 

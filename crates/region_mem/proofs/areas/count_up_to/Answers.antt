@@ -1,7 +1,7 @@
 -- Areas in order rise, so that the search meets its condition.
 use Rattle.std.proofs.Common.{rules, leb}
 use Rattle.std.proofs.lemmas.List.Sorted.{IsPartitionPoint-from_clause, IsPartitionedBy-leb}
-use Rattle.region_mem.proofs.SearchLemmas.{rise}
+use Rattle.region_mem.specs.SearchLemmas.{rise}
 use Rattle.region_mem.proofs.areas.count_up_to.Goals as goal
 
 pub returns-clause-split : goal.returns-clause-split

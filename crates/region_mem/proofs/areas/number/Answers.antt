@@ -1,5 +1,5 @@
 use Rattle.std.proofs.Common.{arith}
-use Rattle.region_mem.proofs.AccessLemmas.{number_in_one, open_in_one}
+use Rattle.region_mem.specs.AccessLemmas.{number_in_one, open_in_one}
 use Rattle.region_mem.proofs.areas.number.Goals as goal
 
 pub returns-in-Some-number_for : goal.returns-in-Some-number_for

@@ -1,5 +1,5 @@
 use Rattle.std.proofs.Common.{arith}
-use Rattle.region_mem.proofs.AccessLemmas.{found_there, number_in_one, open_in_one}
+use Rattle.region_mem.specs.AccessLemmas.{found_there, number_in_one, open_in_one}
 use Rattle.region_mem.proofs.areas.number_at.Goals as goal
 
 pub returns-then-place-regions-clause-open : goal.returns-then-place-regions-clause-open

@@ -1,6 +1,6 @@
 use Rattle.std.proofs.Common.{arith}
 use Rattle.region_mem.proofs.WindowLemmas.{window_told, window_nowhere}
-use Rattle.region_mem.proofs.AccessLemmas.{open_in_one}
+use Rattle.region_mem.specs.AccessLemmas.{open_in_one}
 use Rattle.region_mem.proofs.areas.one_permits.Goals as goal
 
 pub returns-in-Some-clause-found : goal.returns-in-Some-clause-found

@@ -1,5 +1,5 @@
 use Rattle.std.proofs.Common.{arith}
-use Rattle.region_mem.proofs.SearchLemmas.{search_none, search_nowhere, search_found}
+use Rattle.region_mem.specs.SearchLemmas.{search_none, search_nowhere, search_found}
 use Rattle.region_mem.proofs.areas.place_of.Goals as goal
 
 pub returns-then-count-eq0 : goal.returns-then-count-eq0

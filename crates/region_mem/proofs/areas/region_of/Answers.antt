@@ -1,7 +1,7 @@
 -- What `search` finds late, or not at all.
 use Rattle.std.proofs.Common.{arith}
 use Rattle.std.proofs.lemmas.Grind.{common_steps}
-use Rattle.region_mem.proofs.AccessLemmas.{find_place, find_none}
+use Rattle.region_mem.specs.AccessLemmas.{find_place, find_none}
 use Rattle.region_mem.proofs.areas.region_of.Goals as goal
 
 pub offset_bounds-regions-place : goal.offset_bounds-regions-place

@@ -1,5 +1,5 @@
 use Rattle.std.proofs.Common.{arith}
-use Rattle.region_mem.proofs.ExtentLemmas.{number_order, number_inside}
+use Rattle.region_mem.specs.ExtentLemmas.{number_order, number_inside}
 use Rattle.region_mem.proofs.areas.set_by_bytes.Goals as goal
 
 pub returns-then-not-permits-clause-value : goal.returns-then-not-permits-clause-value

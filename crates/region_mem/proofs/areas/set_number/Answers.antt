@@ -1,8 +1,8 @@
 -- What `search` finds late, or not at all.
 use Rattle.std.proofs.Common.{arith}
 use Rattle.std.proofs.lemmas.Grind.{common_steps}
-use Rattle.region_mem.proofs.AccessLemmas.{open_at, goes_at, admits_spans}
-use Rattle.region_mem.proofs.ExtentLemmas.{number_order, number_inside}
+use Rattle.region_mem.specs.AccessLemmas.{open_at, goes_at, admits_spans}
+use Rattle.region_mem.specs.ExtentLemmas.{number_order, number_inside}
 use Rattle.region_mem.proofs.areas.set_number.Goals as goal
 
 pub offset_bounds-regions-place : goal.offset_bounds-regions-place

@@ -1,4 +1,4 @@
-use Rattle.region_mem.proofs.StartLemmas.{gives_arguments_back}
+use Rattle.region_mem.specs.StartLemmas.{gives_arguments_back}
 use Rattle.region_mem.proofs.laws.gives_arguments_back.Goals as goal
 
 pub returns : goal.returns

@@ -1,4 +1,4 @@
-use Rattle.region_mem.proofs.ByteLemmas.{numbers_fit, loads_fit}
+use Rattle.region_mem.specs.ByteLemmas.{numbers_fit, loads_fit}
 use Rattle.region_mem.proofs.laws.loads_fit.Goals as goal
 
 pub returns-clause-numbers : goal.returns-clause-numbers

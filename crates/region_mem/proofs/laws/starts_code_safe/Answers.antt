@@ -1,4 +1,4 @@
-use Rattle.region_mem.proofs.StartCode.{starts_code_safe}
+use Rattle.region_mem.specs.StartCodeLemmas.{starts_code_safe}
 use Rattle.region_mem.proofs.laws.starts_code_safe.Goals as goal
 
 pub returns : goal.returns

@@ -1,4 +1,4 @@
-use Rattle.region_mem.proofs.StartCode.{starts_inside}
+use Rattle.region_mem.specs.StartCodeLemmas.{starts_inside}
 use Rattle.region_mem.proofs.laws.starts_inside.Goals as goal
 
 pub returns : goal.returns

@@ -1,4 +1,4 @@
-use Rattle.region_mem.proofs.StartCode.{starts_with_code}
+use Rattle.region_mem.specs.StartCodeLemmas.{starts_with_code}
 use Rattle.region_mem.proofs.laws.starts_with_code.Goals as goal
 
 pub returns : goal.returns

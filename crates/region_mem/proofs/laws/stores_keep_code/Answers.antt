@@ -1,4 +1,4 @@
-use Rattle.region_mem.proofs.KeptCode.{stores_keep_code}
+use Rattle.region_mem.specs.KeptCodeLemmas.{stores_keep_code}
 use Rattle.region_mem.proofs.laws.stores_keep_code.Goals as goal
 
 pub returns : goal.returns

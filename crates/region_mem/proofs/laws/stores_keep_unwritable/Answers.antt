@@ -1,4 +1,4 @@
-use Rattle.region_mem.proofs.KeptCode.{stores_keep_unwritable}
+use Rattle.region_mem.specs.KeptCodeLemmas.{stores_keep_unwritable}
 use Rattle.region_mem.proofs.laws.stores_keep_unwritable.Goals as goal
 
 pub returns : goal.returns

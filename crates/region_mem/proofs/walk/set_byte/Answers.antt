@@ -1,7 +1,7 @@
 -- What `search` finds late, or not at all.
 use Rattle.std.proofs.Common.{arith}
 use Rattle.std.proofs.lemmas.Grind.{common_steps}
-use Rattle.region_mem.proofs.Writes.{with_byte_first, with_byte_none, holds_first}
+use Rattle.region_mem.specs.WriteLemmas.{with_byte_first, with_byte_none, holds_first}
 use Rattle.region_mem.proofs.walk.set_byte.Goals as goal
 
 pub offset_bounds-regions-place : goal.offset_bounds-regions-place

@@ -1,5 +1,5 @@
 use Rattle.std.proofs.Common.{◌∙◌, sym}
-use Rattle.region_mem.proofs.Writes.{bytes_begin, bytes_more, bytes_end}
+use Rattle.region_mem.specs.WriteLemmas.{bytes_begin, bytes_more, bytes_end}
 use Rattle.region_mem.proofs.walk.set_bytes.Goals as goal
 
 pub loop-i-init : goal.loop-i-init

@@ -1,5 +1,5 @@
 use Rattle.rv_listing.specs.Fields.{fields_text}
-use Rattle.rv_listing.proofs.SinkLemmas.{told_err, told_then, told_part}
+use Rattle.rv_listing.specs.SinkLemmas.{told_err, told_then, told_part}
 use Rattle.rv_listing.proofs.TextLemmas.{head_text}
 use Rattle.rv_listing.proofs.fields.put_fields.Goals as goal
 

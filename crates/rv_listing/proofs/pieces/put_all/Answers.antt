@@ -1,5 +1,5 @@
 use Rattle.std.proofs.Common.{◌∙◌, Err, add-one, refl}
-use Rattle.rv_listing.proofs.SinkLemmas.{appends_both, told_err, told_part, told_then}
+use Rattle.rv_listing.specs.SinkLemmas.{appends_both, told_err, told_part, told_then}
 use Rattle.rv_listing.proofs.TextLemmas.{texts-next, texts-rest}
 use Rattle.rv_listing.specs.Pieces.{piece_text, pieces_text}
 use Rattle.rv_listing.proofs.pieces.put_all.Goals as goal

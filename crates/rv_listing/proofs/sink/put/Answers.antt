@@ -1,6 +1,6 @@
 use Rattle.std.proofs.Common.{◌<◌, length, ◌-◌, take, drop, refl, arith}
 use Rattle.std.proofs.lemmas.List.{length-drop}
-use Rattle.rv_listing.proofs.SinkLemmas.{appends_more, appends_some, counted_is, none_taken, none_more, same_count, rest_is}
+use Rattle.rv_listing.specs.SinkLemmas.{appends_more, appends_some, counted_is, none_taken, none_more, same_count, rest_is}
 use Rattle.rv_listing.specs.declared.sink.Failed.{Failed}
 use Rattle.rv_listing.proofs.sink.put.Goals as goal
 

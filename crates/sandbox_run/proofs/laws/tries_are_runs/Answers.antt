@@ -3,7 +3,7 @@ use Rattle.vreg_groups.specs.VectorLength.{vlenb_of}
 use Rattle.vector_core.specs.Start.{start}
 use Rattle.block_checker.specs.Bound.{bound_of, scalars_of}
 use Rattle.sandbox_run.specs.Answer.{answer_of}
-use Rattle.sandbox_run.proofs.HostLemmas.{ends, more_steps_change_nothing}
+use Rattle.sandbox_run.proofs.HostLemmas.{ended_with_more, ends}
 use Rattle.sandbox_run.proofs.laws.tries_are_runs.Goals as goal
 
 pub returns : goal.returns
@@ -16,5 +16,5 @@ returns g c args agnostic max eight matching bytes least =
       end.steps,
       end.state,
       end.is,
-      ap (answer_of vlenb) (more_steps_change_nothing vlenb bound max end.steps first end.state least end.is),
+      ap (answer_of vlenb) (ended_with_more vlenb bound max end.steps first end.state least end.is),
     )

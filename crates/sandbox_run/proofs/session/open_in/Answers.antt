@@ -7,7 +7,7 @@ use Rattle.cert_note.specs.Certificate.{IsCertificate}
 use Rattle.elf_image.specs.Image.{IsImage}
 use Rattle.sandbox_run.proofs.OpenFaults.{arguments_fault, bound_fault, length_fault_told, no_open_fault}
 use Rattle.sandbox_run.proofs.Refusals.{refused_by-err}
-use Rattle.sandbox_run.proofs.SessionLemmas.{opened-well}
+use Rattle.sandbox_run.specs.SessionLemmas.{opened-well}
 use Rattle.sandbox_run.proofs.StopLemmas.{hands_back, passed_back, stop_at_start}
 use Rattle.std.proofs.lemmas.Grind.{common_steps}
 use Rattle.sandbox_run.specs.Session.{open_fault}

@@ -1,5 +1,5 @@
 use Rattle.std.proofs.Common.{rules, arith}
-use Rattle.sandbox_run.proofs.SessionLemmas.{scalars-each}
+use Rattle.sandbox_run.specs.SessionLemmas.{scalars-each}
 use Rattle.std.proofs.lemmas.Grind.{common_steps}
 use Rattle.sandbox_run.proofs.session.scalars.Goals as goal
 

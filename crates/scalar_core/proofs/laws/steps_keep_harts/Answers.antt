@@ -1,5 +1,5 @@
--- By cases on the instruction, in `proofs/States.antt`.
-use Rattle.scalar_core.proofs.States.{scalar_step-is_hart}
+-- By cases on the instruction, in `specs/StateLemmas.antt`.
+use Rattle.scalar_core.specs.StateLemmas.{scalar_step-is_hart}
 use Rattle.scalar_core.proofs.laws.steps_keep_harts.Goals as goal
 
 pub returns : goal.returns

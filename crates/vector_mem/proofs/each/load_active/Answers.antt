@@ -8,7 +8,7 @@ use Rattle.region_mem.specs.declared.faults.Right.TheVariants.{Read}
 use Rattle.vector_mem.specs.declared.plan.Access.{Access}
 use Rattle.vector_mem.specs.Accesses.{access_at, accesses, accesses_from, first_refused, is_refused, loaded, with_loaded}
 use Rattle.vector_mem.proofs.Plans.{from_active, from_inactive, from_start}
-use Rattle.vector_mem.proofs.Steps.{granted_first, loaded_here, refused_first, splat_numbers, zero_bits}
+use Rattle.vector_mem.specs.StepLemmas.{granted_first, loaded_here, refused_first, splat_numbers, zero_bits}
 use Rattle.vector_mem.proofs.each.load_active.Goals.{then-active-i+in-Some, else-active-i}
 use Rattle.vector_mem.proofs.each.load_active.Goals as goal
 

@@ -8,7 +8,7 @@ use Rattle.region_mem.specs.declared.faults.Right.TheVariants.{Write}
 use Rattle.vector_mem.specs.declared.plan.Access.{Access}
 use Rattle.vector_mem.specs.Accesses.{access_at, accesses_from, first_refused, is_refused, stored, with_stored}
 use Rattle.vector_mem.proofs.Plans.{from_active, from_inactive, from_start}
-use Rattle.vector_mem.proofs.Steps.{passed_first, stored_here, tested_first}
+use Rattle.vector_mem.specs.StepLemmas.{passed_first, stored_here, tested_first}
 use Rattle.vector_mem.proofs.each.store_active.Goals.{then-active-i+else-not-permits, else-active-i, then-active-i-2, else-active-i-2}
 use Rattle.vector_mem.proofs.each.store_active.Goals as goal
 

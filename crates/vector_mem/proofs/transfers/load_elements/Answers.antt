@@ -7,7 +7,7 @@ use Rattle.region_mem.specs.Memory.{load_of}
 use Rattle.region_mem.specs.declared.faults.Right.TheVariants.{Read}
 use Rattle.vector_mem.specs.declared.plan.Access.{Access}
 use Rattle.vector_mem.specs.Accesses.{IsAccessOf, first_refused, loaded, with_loaded}
-use Rattle.vector_mem.proofs.Steps.{granted_here, loaded_here, refused_here, splat_numbers, zero_bits}
+use Rattle.vector_mem.specs.StepLemmas.{granted_here, loaded_here, refused_here, splat_numbers, zero_bits}
 use Rattle.vector_mem.proofs.transfers.load_elements.Goals as goal
 
 pub loop-access-init : goal.loop-access-init

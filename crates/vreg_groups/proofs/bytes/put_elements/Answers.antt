@@ -1,6 +1,6 @@
 use Rattle.std.proofs.Common.{arith, length}
-use Rattle.vreg_groups.proofs.Places.{begins_inside, replaced_none}
-use Rattle.vreg_groups.proofs.Parts.{put_more, puts_are}
+use Rattle.vreg_groups.specs.PlaceLemmas.{begins_inside, replaced_none}
+use Rattle.vreg_groups.specs.PartLemmas.{put_more, puts_are}
 use Rattle.vreg_groups.proofs.bytes.put_elements.Goals as goal
 
 pub loop-i-init : goal.loop-i-init

@@ -1,6 +1,6 @@
 use Rattle.std.proofs.Common.{◌≡◌, map}
 use Rattle.vreg_groups.specs.NewElements.{replaced}
-use Rattle.vreg_groups.proofs.Parts.{result_bytes}
+use Rattle.vreg_groups.specs.PartLemmas.{result_bytes}
 use Rattle.vreg_groups.proofs.bytes.put_elements.Given as goal
 
 -- the results so far, and what follows is as it was

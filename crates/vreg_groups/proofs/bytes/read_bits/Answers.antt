@@ -2,7 +2,7 @@ use Rattle.std.proofs.Common.{arith, length, false, ◌+◌, ◌*◌, refl}
 use Rattle.std.proofs.lemmas.List.{length-set}
 use Rattle.std.proofs.lemmas.List.FromFn.{fill_by_all}
 use Rattle.vreg_groups.specs.Elements.{bit_at}
-use Rattle.vreg_groups.proofs.Places.{bits_more}
+use Rattle.vreg_groups.specs.PlaceLemmas.{bits_more}
 use Rattle.vreg_groups.proofs.bytes.read_bits.Goals as goal
 
 pub loop-k-preserved : goal.loop-k-preserved

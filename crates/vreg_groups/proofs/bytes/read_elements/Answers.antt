@@ -2,7 +2,7 @@ use Rattle.std.proofs.Common.{arith, ℕ, ap, map, ◌∙◌}
 use Rattle.std.proofs.lemmas.Grind.{common_steps}
 use Rattle.std.specs.List.{range_with_len}
 use Rattle.vreg_groups.specs.Elements.{element_at}
-use Rattle.vreg_groups.proofs.Places.{read_all}
+use Rattle.vreg_groups.specs.PlaceLemmas.{read_all}
 use Rattle.vreg_groups.proofs.bytes.read_elements.Goals as goal
 
 pub returns : goal.returns

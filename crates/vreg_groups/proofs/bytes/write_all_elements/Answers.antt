@@ -1,6 +1,6 @@
 use Rattle.std.proofs.lemmas.Grind.{elements}
 use Rattle.std.proofs.Common.{arith, ap, ◌+◌, ◌-◌, ◌*◌}
-use Rattle.vreg_groups.proofs.Parts.{write_all_is}
+use Rattle.vreg_groups.specs.PartLemmas.{write_all_is}
 use Rattle.vreg_groups.proofs.bytes.write_all_elements.Goals as goal
 
 pub returns : goal.returns

@@ -1,5 +1,5 @@
 use Rattle.std.proofs.Common.{arith}
-use Rattle.vreg_groups.proofs.Places.{replaced_none, mask_written_more}
+use Rattle.vreg_groups.specs.PlaceLemmas.{replaced_none, mask_written_more}
 use Rattle.vreg_groups.proofs.bytes.write_bits.Goals as goal
 
 pub loop-j-init : goal.loop-j-init

@@ -1,8 +1,8 @@
 use Rattle.std.proofs.Common.{ap, sym, refl, ◌∙◌, ◌≡◌, length, map, arith}
 use Rattle.std.proofs.lemmas.List.{length-map}
 use Rattle.vreg_groups.specs.NewElements.{replaced, new_bytes, new_element}
-use Rattle.vreg_groups.proofs.Parts.{put_is}
-use Rattle.vreg_groups.proofs.Places.{begins_inside, replaced_none, written_more, new_element_in_body}
+use Rattle.vreg_groups.specs.PartLemmas.{put_is}
+use Rattle.vreg_groups.specs.PlaceLemmas.{begins_inside, replaced_none, written_more, new_element_in_body}
 use Rattle.vreg_groups.proofs.bytes.write_body.Goals as goal
 
 pub returns-then-are_all : goal.returns-then-are_all

@@ -1,5 +1,5 @@
 use Rattle.std.proofs.Common.{arith, ap, ◌+◌, ◌-◌, ◌*◌}
-use Rattle.vreg_groups.proofs.Parts.{write_is}
+use Rattle.vreg_groups.specs.PartLemmas.{write_is}
 use Rattle.std.proofs.lemmas.Bool.Decides.{nat_tests}
 use Rattle.vreg_groups.proofs.bytes.write_elements.Goals as goal
 

@@ -1,7 +1,7 @@
 use Rattle.std.proofs.Common.{◌*◌, ◌/◌, arith, length}
 use Rattle.vreg_groups.specs.NewElements.{write_of}
-use Rattle.vreg_groups.proofs.Writes.{element_after}
-use Rattle.vreg_groups.proofs.Rooms.{group_within, element_within}
+use Rattle.vreg_groups.specs.WriteLemmas.{element_after}
+use Rattle.vreg_groups.specs.RoomLemmas.{group_within, element_within}
 use Rattle.vreg_groups.proofs.laws.each_element_is_new.Goals as goal
 
 pub returns : goal.returns

@@ -1,8 +1,8 @@
 use Rattle.std.proofs.Common.{◌*◌, arith, length}
 use Rattle.vreg_groups.specs.Elements.{mask_bit}
 use Rattle.vreg_groups.specs.NewElements.{mask_write_of}
-use Rattle.vreg_groups.proofs.Writes.{mask_bit_after}
-use Rattle.vreg_groups.proofs.Rooms.{register_within}
+use Rattle.vreg_groups.specs.WriteLemmas.{mask_bit_after}
+use Rattle.vreg_groups.specs.RoomLemmas.{register_within}
 use Rattle.vreg_groups.proofs.laws.each_mask_bit_is_new.Goals as goal
 
 pub returns : goal.returns

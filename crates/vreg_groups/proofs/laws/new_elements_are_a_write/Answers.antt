@@ -1,5 +1,5 @@
 use Rattle.std.proofs.Common.{arith}
-use Rattle.vreg_groups.proofs.Pointwise.{is_written}
+use Rattle.vreg_groups.specs.PointwiseLemmas.{is_written}
 use Rattle.vreg_groups.proofs.laws.new_elements_are_a_write.Goals as goal
 
 pub returns : goal.returns

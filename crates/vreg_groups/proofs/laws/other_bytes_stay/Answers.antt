@@ -1,8 +1,8 @@
 use Rattle.std.proofs.Common.{◌*◌, ◌/◌, length}
 use Rattle.vreg_groups.specs.NewElements.{write_of, new_bytes}
-use Rattle.vreg_groups.proofs.Places.{length-new_bytes}
-use Rattle.vreg_groups.proofs.Writes.{get_or-replaced_outside}
-use Rattle.vreg_groups.proofs.Rooms.{group_within, group_outside}
+use Rattle.vreg_groups.specs.PlaceLemmas.{length-new_bytes}
+use Rattle.vreg_groups.specs.WriteLemmas.{get_or-replaced_outside}
+use Rattle.vreg_groups.specs.RoomLemmas.{group_within, group_outside}
 use Rattle.vreg_groups.proofs.laws.other_bytes_stay.Goals as goal
 
 pub returns : goal.returns

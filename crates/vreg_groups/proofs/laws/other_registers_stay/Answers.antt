@@ -1,7 +1,7 @@
 use Rattle.std.proofs.Common.{◌*◌, arith, length}
 use Rattle.vreg_groups.specs.NewElements.{mask_write_of, new_mask_bytes}
-use Rattle.vreg_groups.proofs.Writes.{get_or-replaced_outside, length-new_mask_bytes}
-use Rattle.vreg_groups.proofs.Rooms.{register_within, register_outside}
+use Rattle.vreg_groups.specs.WriteLemmas.{get_or-replaced_outside, length-new_mask_bytes}
+use Rattle.vreg_groups.specs.RoomLemmas.{register_within, register_outside}
 use Rattle.vreg_groups.proofs.laws.other_registers_stay.Goals as goal
 
 pub returns : goal.returns

@@ -2,7 +2,7 @@ use Rattle.std.proofs.Common.{ap, sym, ◌∙◌}
 use Rattle.std.specs.Prelude.{◌==◌}
 use Rattle.vreg_groups.specs.Legality.{registers_of, count_of}
 use Rattle.vreg_groups.proofs.Ranges.{zero_in_range}
-use Rattle.vreg_groups.proofs.Sizes.{count_of_positive}
+use Rattle.vreg_groups.specs.SizeLemmas.{count_of_positive}
 use Rattle.vreg_groups.proofs.legality.has_v0.Goals as goal
 
 -- the operand has register 0 where it begins there

@@ -1,5 +1,5 @@
 use Rattle.std.proofs.Common.{arith, length, ap}
-use Rattle.abs_domain.proofs.StartNumbers.{atoms_many}
+use Rattle.abs_domain.specs.StartNumberLemmas.{atoms_many}
 use Rattle.abs_domain.proofs.numbers.Numbers.start.Goals as goal
 
 pub add_orders-requires-clause-many : goal.add_orders-requires-clause-many

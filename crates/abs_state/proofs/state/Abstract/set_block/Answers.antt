@@ -1,7 +1,7 @@
 use Rattle.std.proofs.Common.{ap, ◌∙◌}
 use Rattle.cert_note.specs.Certificate.{CertificateView}
 use Rattle.abs_state.specs.Blocks.{at_block_of}
-use Rattle.abs_domain.proofs.StartForms.{block_usable, block_same}
+use Rattle.abs_domain.specs.StartFormLemmas.{block_usable, block_same}
 use Rattle.abs_state.proofs.state.Abstract.set_block.Goals as goal
 
 pub set-requires : goal.set-requires

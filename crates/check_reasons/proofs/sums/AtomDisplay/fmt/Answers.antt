@@ -3,6 +3,6 @@ use Rattle.std.proofs.lemmas.Grind.{elements}
 use Rattle.check_reasons.specs.Sums.{atom_text}
 use Rattle.check_reasons.proofs.sums.AtomDisplay.fmt.Goals as goal
 
-pub returns-then-atom-lt41-clause-writes : goal.returns-then-atom-lt41-clause-writes
+pub returns-then-atom-lt-FRESH-clause-writes : goal.returns-then-atom-lt-FRESH-clause-writes
 unfolding atom_text
-returns-then-atom-lt41-clause-writes g c = grind (arith, elements)
+returns-then-atom-lt-FRESH-clause-writes g c = grind (arith, elements)

@@ -2,7 +2,7 @@
 use Rattle.std.proofs.Common.{◌≡◌, ◌∙◌, ap, ℕ, List, Some}
 use Rattle.linear_facts.specs.Words.{Term}
 use Rattle.linear_facts.specs.Forms.{Linear, value, number_form, with_replaced, substituted, within}
-use Rattle.linear_facts.proofs.FormLaws.{if-within, value-substituted}
+use Rattle.linear_facts.specs.FormLemmas.{if-within, value-substituted}
 use Rattle.linear_facts.proofs.forms.Form+8.substitute.Goals as goal
 
 -- the sum of the replaced parts

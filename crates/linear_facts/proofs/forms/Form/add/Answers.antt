@@ -2,7 +2,7 @@
 use Rattle.std.proofs.Common.{arith, ◌∙◌, ap, subst, List, length, ◌<◌}
 use Rattle.linear_facts.specs.Words.{Term}
 use Rattle.linear_facts.specs.Forms.{value}
-use Rattle.linear_facts.proofs.FormLaws.{within-some, within-none, sum_of-parts, IsForm-parts, sum_of-over, length-merged, value-sum_of, merged_at}
+use Rattle.linear_facts.specs.FormLemmas.{within-some, within-none, sum_of-parts, IsForm-parts, sum_of-over, length-merged, value-sum_of, merged_at}
 use Rattle.linear_facts.proofs.forms.Form.add.Goals as goal
 
 pub returns-in_err-merge-clause-sum : goal.returns-in_err-merge-clause-sum

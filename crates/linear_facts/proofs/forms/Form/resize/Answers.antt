@@ -2,7 +2,7 @@
 use Rattle.std.proofs.Common.{◌≡◌, ◌∙◌, ap, subst, List, length, ◌++◌, ◌<◌, []}
 use Rattle.linear_facts.specs.Words.{Term}
 use Rattle.linear_facts.specs.Forms.{Linear}
-use Rattle.linear_facts.proofs.FormLaws.{within-some, within-none}
+use Rattle.linear_facts.specs.FormLemmas.{within-some, within-none}
 use Rattle.linear_facts.proofs.forms.Form.resize.Goals as goal
 
 -- what was appended to nothing

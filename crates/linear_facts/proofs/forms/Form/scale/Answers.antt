@@ -2,7 +2,7 @@
 use Rattle.std.proofs.Common.{arith, ◌∙◌, ap, subst, List, length, ◌<◌}
 use Rattle.linear_facts.specs.Words.{Term}
 use Rattle.linear_facts.specs.Forms.{value, scaled_terms}
-use Rattle.linear_facts.proofs.FormLaws.{within-some, within-none, scaled-parts, IsForm-scaled, scaled-over, value-scaled, length-scaled_terms}
+use Rattle.linear_facts.specs.FormLemmas.{within-some, within-none, scaled-parts, IsForm-scaled, scaled-over, value-scaled, length-scaled_terms}
 use Rattle.linear_facts.proofs.forms.Form.scale.Goals as goal
 
 pub returns-in_err-scale_terms-clause-product : goal.returns-in_err-scale_terms-clause-product

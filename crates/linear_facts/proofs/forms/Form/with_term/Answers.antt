@@ -3,7 +3,7 @@ use Rattle.std.proofs.Common.{◌≡◌, ℕ, ◌^◌, ◌<◌, ◌≤◌, List,
 use Rattle.linear_facts.specs.Words.{Term}
 use Rattle.linear_facts.specs.Forms.{Linear, RisesFrom, IsForm}
 use Rattle.linear_facts.specs.Laws.{AreBelow}
-use Rattle.linear_facts.proofs.LocalityLemmas.{rises-appended}
+use Rattle.linear_facts.specs.LocalityLemmas.{rises-appended}
 use Rattle.linear_facts.proofs.forms.Form.with_term.Goals as goal
 
 -- a form and one term more

@@ -4,7 +4,7 @@ use Rattle.linear_facts.specs.Words.{Term, Range, Interval}
 use Rattle.linear_facts.specs.Forms.{Linear, RisesFrom, value}
 use Rattle.linear_facts.specs.Ranges.{AtomTable, IsIn}
 use Rattle.linear_facts.specs.Sums.{form_interval, range_within, range_of_form}
-use Rattle.linear_facts.proofs.RangeLaws.{range_of_form-holds}
+use Rattle.linear_facts.specs.RangeLemmas.{range_of_form-holds}
 use Rattle.linear_facts.proofs.sums.Form+8.range_of.Goals as goal
 
 -- the range by the form's parts

@@ -1,4 +1,4 @@
-use Rattle.rv_listing.proofs.SinkLemmas.{told_part, told_then}
+use Rattle.rv_listing.specs.SinkLemmas.{told_part, told_then}
 use Rattle.monitor.proofs.views.View.put_bytes_line.Goals as goal
 
 pub returns-in-Ok : goal.returns-in-Ok

@@ -2,7 +2,7 @@ use Rattle.std.proofs.Common.{◌+◌, ◌++◌, codes}
 use Rattle.rv_listing.specs.Pieces.{word_text}
 use Rattle.monitor.specs.Texts.{byte_text, texts}
 use Rattle.monitor.specs.Views.{byte_at, memory_text}
-use Rattle.rv_listing.proofs.SinkLemmas.{told_part, told_then}
+use Rattle.rv_listing.specs.SinkLemmas.{told_part, told_then}
 use Rattle.monitor.proofs.TextLemmas.{address_first}
 use Rattle.monitor.proofs.views.View.put_memory.Goals as goal
 

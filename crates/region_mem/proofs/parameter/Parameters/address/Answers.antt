@@ -1,6 +1,6 @@
 -- What `search` finds late, or not at all.
 use Rattle.std.proofs.Common.{arith}
-use Rattle.region_mem.proofs.Rooms.{sum_by_room}
+use Rattle.region_mem.specs.RoomLemmas.{sum_by_room}
 use Rattle.region_mem.specs.Parameter.{address_of}
 use Rattle.region_mem.proofs.parameter.Parameters.address.Goals as goal
 

@@ -1,7 +1,7 @@
 use Rattle.std.proofs.Common.{◌≡◌, true, rules, ◌≤◌, length, arith}
 use Rattle.std.specs.List.{list_all}
 use Rattle.region_mem.specs.Parameter.{is_valid}
-use Rattle.region_mem.proofs.Matching.{sizes_of_matching}
+use Rattle.region_mem.specs.MatchingLemmas.{sizes_of_matching}
 use Rattle.region_mem.proofs.parameter.Parameters.bound_sizes.Goals as goal
 
 pub returns : goal.returns

@@ -17,7 +17,7 @@ returns-clause-back g c =
     let machine = ap (λ (m : Machine). args_of m.memory) c.machine.view_is in
     let places : c.into_args.result.places ≡ args_of s.machine.memory =
     c.into_args.ensures ∙ (machine ∙ ap (λ (v : SessionView). args_of v.machine.memory) c.self.view_is) in
-    rw places (comes_back_here g.row.VLENB s stop hands)
+    rw places (comes_back_here c.runs_keep_memory.ensures g.row.VLENB s stop hands)
 
 pub returns-clause-scalars : goal.returns-clause-scalars
 returns-clause-scalars g c = scalars_again c.args.self.parameters _ _ (returns-clause-back g c)

@@ -1,5 +1,5 @@
 use Rattle.std.proofs.Common.{◌+◌, ◌-◌, ◌≤◌, sym, arith}
-use Rattle.sandbox_run.proofs.SessionLemmas.{no_fault, step-well}
+use Rattle.sandbox_run.specs.SessionLemmas.{no_fault, step-well}
 use Rattle.sandbox_run.proofs.StopLemmas.{stop_after_step}
 use Rattle.std.proofs.lemmas.Grind.{common_steps}
 use Rattle.sandbox_run.proofs.session.Session.step.Goals as goal

@@ -1,6 +1,6 @@
 use Rattle.std.proofs.Common.{◌≤◌, ◌*◌, ℕ, arith, subst, sym, ◌∙◌}
 use Rattle.vreg_groups.specs.Legality.{count_of}
-use Rattle.vreg_groups.proofs.Sizes.{bytes_fit}
+use Rattle.vreg_groups.specs.SizeLemmas.{bytes_fit}
 use Rattle.vreg_groups.proofs.group.Group.new.Goals as goal
 
 -- an operand's registers exist, and what fits by bits fits by bytes

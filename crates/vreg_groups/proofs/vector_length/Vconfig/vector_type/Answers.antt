@@ -4,7 +4,7 @@ use Rattle.vreg_groups.specs.VectorType.{type_in, vlmax_of}
 use Rattle.vreg_groups.specs.VectorLength.{no_config, IsConfig, IsLength, IsVlenb}
 use Rattle.vreg_groups.specs.declared.vector_type.Vtype.{Vtype}
 use Rattle.vreg_groups.specs.declared.vector_length.Vconfig.{Vconfig}
-use Rattle.vreg_groups.proofs.Sizes.{vlmax_small, body_small}
+use Rattle.vreg_groups.specs.SizeLemmas.{vlmax_small, body_small}
 use Rattle.vreg_groups.proofs.vector_length.Vconfig.vector_type.Goals as goal
 
 -- under a supported type vl is at most VLMAX, and under vill it is 0

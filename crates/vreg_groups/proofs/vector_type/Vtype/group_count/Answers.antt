@@ -1,6 +1,6 @@
 use Rattle.std.proofs.Common.{ℕ, ◌≡◌, ◌*◌, ◌≤◌, arith, subst}
 use Rattle.vreg_groups.specs.Legality.{eew_bits, group_count}
-use Rattle.vreg_groups.proofs.Sizes.{group_room}
+use Rattle.vreg_groups.specs.SizeLemmas.{group_room}
 use Rattle.vreg_groups.proofs.vector_type.Vtype.group_count.Goals as goal
 
 -- the result is the number of registers that hold the elements

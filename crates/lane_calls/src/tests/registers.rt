@@ -1,0 +1,125 @@
+//! Integer operations where the registers lie: vd is v8, vs2 v16 and vs1 v24, each a group of eight.
+ghost use Rattle.std.specs.Prelude.{◌≡◌, ◌+◌, ◌*◌, ◌≤◌};
+ghost use Rattle.rv_decode.specs.Instructions.{bytes_of_width};
+ghost use Rattle.rv_decode.specs.declared.extents.Eew.TheVariants.{Same};
+ghost use Rattle.vreg_groups.specs.Group.{IsGroupInside};
+ghost use Rattle.vreg_groups.specs.Setup.{IsSetup};
+
+use crate::tests::integers::OPERATIONS;
+use crate::tests::lengths::{LENGTHS, MOST, bytes};
+use lane_file::{Second, int};
+use lane_int::{Lane, has_chunk};
+use rv_decode::{IntOp, Reg, Width};
+use std::process::Abort;
+use vreg_groups::{Agnostic, Element, Lmul, Setup, VregFile, Vtype};
+
+/// Elements of one width, of which a group has `$most` at VLEN 512.
+macro_rules! try_width {
+    ($rt:ident, $element:ident, $width:ident, $most:literal) => {
+        for k in 0..LENGTHS.len() {
+            for j in 0..OPERATIONS.len() {
+                let mut setup = Setup {
+                    vtype: Vtype {
+                        sew: Width::$width,
+                        lmul: Lmul::Eight,
+                        vta: true,
+                        vma: true,
+                    },
+                    vl: LENGTHS[k].min($most),
+                    agnostic: Agnostic::Keep,
+                };
+                try_group::<$element>(&$rt, &setup, OPERATIONS[j], false, &[0; MOST], $most);
+                try_group::<$element>(&$rt, &setup, OPERATIONS[j], true, &[0; MOST], $most);
+                setup.agnostic = Agnostic::Ones;
+                try_group::<$element>(&$rt, &setup, OPERATIONS[j], true, &[0; MOST], $most);
+            }
+        }
+    };
+}
+
+#[tactic(auto, unfolding(vreg_groups::specs::VectorType::vlmax_of, vreg_groups::specs::Legality::count_of, vreg_groups::specs::Legality::element_bits, vreg_groups::specs::Legality::group_count, vreg_groups::specs::Legality::emul_eighths))]
+#[test]
+fn groups_of_bytes_at_each_length(rt: HostRuntime) {
+    try_width!(rt, u8, W8, 512);
+}
+
+#[tactic(auto, unfolding(vreg_groups::specs::VectorType::vlmax_of, vreg_groups::specs::Legality::count_of, vreg_groups::specs::Legality::element_bits, vreg_groups::specs::Legality::group_count, vreg_groups::specs::Legality::emul_eighths))]
+#[test]
+fn groups_of_halves_at_each_length(rt: HostRuntime) {
+    try_width!(rt, u16, W16, 256);
+}
+
+#[tactic(auto, unfolding(vreg_groups::specs::VectorType::vlmax_of, vreg_groups::specs::Legality::count_of, vreg_groups::specs::Legality::element_bits, vreg_groups::specs::Legality::group_count, vreg_groups::specs::Legality::emul_eighths))]
+#[test]
+fn groups_of_words_at_each_length(rt: HostRuntime) {
+    try_width!(rt, u32, W32, 128);
+}
+
+/// Registers whose bytes differ.
+fn registers() -> VregFile<64> {
+    let mut registers = VregFile::<64>::new();
+    fill(&mut registers, Reg::new(0), 1);
+    fill(&mut registers, Reg::new(8), 2);
+    fill(&mut registers, Reg::new(16), 3);
+    fill(&mut registers, Reg::new(24), 4);
+    registers
+}
+
+fn fill(registers: &mut VregFile<64>, first: Reg, seed: u32)
+    requires { first + 8 ≤ 32 }
+{
+    let bytes = bytes(seed);
+    registers.set_register_bytes(first, &bytes[..]);
+}
+
+fn try_group<E: Lane + Element + PartialEq>(
+    rt: impl Abort + Copy,
+    setup: &Setup,
+    op: IntOp,
+    masked: bool,
+    blank: &[E; MOST],
+    most: usize,
+)
+    requires setup { IsSetup 64 setup.now }
+    requires size { E.Lane.size ≡ bytes_of_width setup.now.vtype.sew }
+    requires room { E.Element.SIZE * most ≤ 512 }
+    requires few { most ≤ 512 }
+    requires vd_inside { IsGroupInside setup.now.vtype 8 Same }
+    requires vs2_inside { IsGroupInside setup.now.vtype 16 Same }
+    requires vs1_inside { IsGroupInside setup.now.vtype 24 Same }
+{
+    let mut registers = registers();
+    let (vd, vs2, vs1) = (Reg::new(8), Reg::new(16), Reg::new(24));
+    let (mut a, mut b) = (*blank, *blank);
+    let (mut old, mut new) = (*blank, *blank);
+    let a = &mut a[..];
+    let b = &mut b[..];
+    let old = &mut old[..];
+    let new = &mut new[..];
+    registers.read_group(vs2, &mut a[..most]);
+    registers.read_group(vs1, &mut b[..most]);
+    registers.read_group(vd, &mut old[..most]);
+    let second = Second::<E>::Group(vs1);
+    let is_done = int(&mut registers, setup, op, vd, vs2, second, masked);
+    assert!(rt; is_done == has_chunk(op), "which operations are done");
+    let is_written = is_done && setup.vl != 0;
+    registers.read_group(vd, &mut new[..most]);
+    for i in 0..most {
+        let is_active = i < setup.vl && (!masked || registers.bit(Reg::new(0), i));
+        let expected = if is_active {
+            E::int_result(op, a[i], b[i])
+        } else {
+            left(old[i], setup.agnostic)
+        };
+        let expected = if is_written { expected } else { old[i] };
+        assert!(rt; new[i] == expected, "an element of a group");
+    }
+}
+
+/// What an element becomes that no result is written to.
+fn left<E: Element>(old: E, agnostic: Agnostic) -> E {
+    match agnostic {
+        Agnostic::Keep => old,
+        Agnostic::Ones => E::ones(),
+    }
+}
