@@ -1,4 +1,4 @@
-"""What the program has to answer, as the programs of `conformance/` say it: nothing here calls the program or reads `crates/`.
+"""What the program has to answer, as the programs of `vectors/` say it: nothing here calls the program or reads `crates/`.
 
 The words and statuses are those of docs/JOBS.md; checker.py judges images, opening.py arguments, runs.py carries runs out, monitor.py answers
 commands on them. What `make` has to answer is in made.py.

@@ -1,9 +1,9 @@
-"""What these runs take from `conformance/`: the second checker, maker and monitor in Python, the machine in Python, and what job files say."""
+"""What these runs take from `vectors/`: the second checker, maker and monitor in Python, the machine in Python, and what job files say."""
 import pathlib
 import sys
 
 ROOT = pathlib.Path(__file__).resolve().parent.parent.parent
-sys.path.insert(0, str(ROOT / 'conformance'))
+sys.path.insert(0, str(ROOT / 'vectors'))
 
 import certificates  # noqa: E402
 import checker  # noqa: E402

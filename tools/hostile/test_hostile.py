@@ -67,19 +67,22 @@ class Differences(unittest.TestCase):
         self.assertEqual(both.line(), 'some: 0 files, 1 seen, 2 answers compared, 1 differed')
 
 
+NOT_UTF8 = Answer(2, '', 'error: the words are not UTF-8\n')
+
+
 @unittest.skipUnless(program(), 'rvvbox is not built')
 class Words(unittest.TestCase):
-    """Words that are not UTF-8: status 2 and no text (docs/JOBS.md)."""
+    """Words that are not UTF-8: status 2 and one line (docs/JOBS.md)."""
 
     def test_words_that_are_not_utf8(self):
         with Folder(program()) as calls:
             for words in ([b'check', b'\xff.elf'], [b'\xc0\x80', b'job.toml'], [b'--help', b'\xed\xa0\x80'], [b'\xff', b'--version']):
                 with self.subTest(words=words):
-                    self.assertEqual(calls.call(*words), Answer(2))
+                    self.assertEqual(calls.call(*words), NOT_UTF8)
 
     def test_a_name_that_is_not_utf8(self):
         with Folder(b'rvvbox\xff') as calls:
-            self.assertEqual(calls.call('--version', executable=program()), Answer(2))
+            self.assertEqual(calls.call('--version', executable=program()), NOT_UTF8)
 
 
 @unittest.skipUnless(program(), 'rvvbox is not built')

@@ -8,16 +8,17 @@ use Rattle.clap.specs.Words.{fault_of, kind_of}
 use Rattle.clap.specs.declared.error.kind.ErrorKind.{ErrorKind}
 use Rattle.command_line.specs.Asked.{is_help, is_request, status_of_line}
 use Rattle.commands.specs.Ending.{Ends}
-use Rattle.command_line.specs.Program.{Does, IsAsAsked, explains, IsRefusal, IsStatusFor, Stops}
+use Rattle.command_line.specs.Program.{Does, IsAsAsked, IsRefusal, IsStatusFor, IsUntouched, Stops, explains}
 use Rattle.command_line.specs.Line.{IsFaultIn, IsFaultOf, IsLineOf, app}
 use Rattle.commands.specs.Files.{Files}
+use Rattle.commands.specs.Talks.{Exchange}
 use Rattle.command_line.specs.declared.line.asked.Line.{Line}
 use Rattle.command_line.specs.declared.line.asked.Line.TheVariants as ask
 use Rattle.clap.specs.Words.{Text}
 use Rattle.command_line.specs.declared.line.asked.LineError.{LineError}
 use Rattle.command_line.specs.declared.line.asked.LineError.TheVariants as line_error
 use Rattle.commands.specs.Texts.{stop_text}
-use Rattle.commands.specs.Written.{Gains, Written}
+use Rattle.commands.specs.Written.{Gains, Held}
 use Rattle.commands.specs.declared.stop.Ending.{Ending}
 use Rattle.commands.specs.declared.stop.Stop.TheVariants as stop
 use Rattle.commands.specs.declared.stop.Status.{Status}
@@ -67,21 +68,29 @@ faultless words (ask.Make paths explain) is = is.0.0
 pub fits_any : (words : List Text) (line : Line) (s : Status) → IsLineOf words line → IsStatusFor (fault_of app words) s
 fits_any words line s is = subst (λ (kinds : Kinds). IsStatusFor kinds s) (sym (faultless words line is)) tt
 
--- what a subcommand that the words name does, or a fault of theirs
-pub asked_for : (files : Files) (words : List Text) (line : Line) (old new : Option (List ℕ)) (was has : Option Written)
-    (told tells : Option (List ℕ)) (ending : Ending)
-    → IsLineOf words line → Ends (explains line) (Does files line old new was has) (Stops files (Gains was has) line) told tells ending
-    → IsAsAsked files words old new was has told tells ending
-asked_for files words line old new was has told tells ending is ends none = inr (line, is, ends)
+-- files that stay as they are
+pub untouched : (kinds : Kinds) (held : Option Held) → IsUntouched kinds held held
+untouched [] held = tt
+untouched (k ∷ ks) held = refl
 
-pub asked_nothing : (files : Files) (words : List Text) (error : LineError) (old new : Option (List ℕ)) (was has : Option Written)
+pub touched : (words : List Text) (line : Line) (was has : Option Held) → IsLineOf words line → IsUntouched (fault_of app words) was has
+touched words line was has is = subst (λ (kinds : Kinds). IsUntouched kinds was has) (sym (faultless words line is)) tt
+
+-- what a subcommand that the words name does, or a fault of theirs
+pub asked_for : (files : Files) (words : List Text) (line : Line) (e : Exchange) (was has : Option Held)
     (told tells : Option (List ℕ)) (ending : Ending)
-    → Gains was has [] → IsFaultOf words error → (is_request error ≡ false → ending.status ≡ status_of_line error)
+    → IsLineOf words line → Ends (explains line) (Does files line e was has) (Stops files e (Gains was has) line) told tells ending
+    → IsAsAsked files words e was has told tells ending
+asked_for files words line e was has told tells ending is ends none = inr (line, is, ends)
+
+pub asked_nothing : (files : Files) (words : List Text) (error : LineError) (e : Exchange) (was has : Option Held)
+    (told tells : Option (List ℕ)) (ending : Ending)
+    → has ≡ was → IsFaultOf words error → (is_request error ≡ false → ending.status ≡ status_of_line error)
     → (error ≡ line_error.NoMemory → OnOk ending.told (Appends told tells (stop_text stop.Memory)))
-    → IsAsAsked files words old new was has told tells ending
-asked_nothing files words (line_error.Usage error) old new was has told tells ending kept fits status memory none =
+    → IsAsAsked files words e was has told tells ending
+asked_nothing files words (line_error.Usage error) e was has told tells ending kept fits status memory none =
     absurd (subst (λ (kinds : Kinds). IsAmong (kind_of error) kinds) none fits)
-asked_nothing files words line_error.NoMemory old new was has told tells ending kept fits status memory none =
+asked_nothing files words line_error.NoMemory e was has told tells ending kept fits status memory none =
     inl (record {
       done = Err stop.Memory;
       comes = (refl, kept);

@@ -1,5 +1,5 @@
 -- What the words say of how the program ends, and of what it does.
-use Rattle.std.specs.Prelude.{◌≡◌, ◌⊎◌, Bool, ℕ, List, Option, not, true, false, []}
+use Rattle.std.specs.Prelude.{◌≡◌, ◌⊎◌, codes, Bool, ℕ, List, Option, not, true, false, []}
 use Rattle.std.specs.List.{list_any}
 use Rattle.std.specs.declared.io.ErrorKind.{ErrorKind as IoErrorKind}
 use Rattle.std.specs.declared.io.ErrorKind.TheVariants.{OutOfMemory}
@@ -11,8 +11,10 @@ use Rattle.commands.specs.Files.{Files, OfTable, StopsOfTable}
 use Rattle.commands.specs.Makes.{Makes, StopsMake}
 use Rattle.commands.specs.Mons.{Mons, StopsMon}
 use Rattle.commands.specs.Runs.{Runs, StopsRun}
+use Rattle.commands.specs.Talks.{Exchange}
 use Rattle.commands.specs.Tries.{StopsTry, Tries}
-use Rattle.commands.specs.Written.{Gains, Written}
+use Rattle.commands.specs.Texts.{stop_text}
+use Rattle.commands.specs.Written.{Gains, Held, Written}
 use Rattle.commands.specs.declared.stop.Ending.{Ending}
 use Rattle.commands.specs.declared.stop.Status.{Status}
 use Rattle.commands.specs.declared.stop.Stop.{Stop}
@@ -34,26 +36,30 @@ abbrev pub IsStatusFor : Kinds → Status → Type 0
 IsStatusFor [] s = Unit {0}
 IsStatusFor kinds s = IsRefusal kinds s
 
--- what a command line's subcommand does with its paths
-abbrev pub Does : Files → Line → Option (List ℕ) → Option (List ℕ) → Option Written → Option Written
-    → Status → Type 0
-Does files (Check image explain) old new was has = Checks files image.now old new was has
-Does files (Run job explain) old new was has =
-    OfTable files job.now (λ table. Runs files table old new was has)
-Does files (Try job explain) old new was has =
-    OfTable files job.now (λ table. Tries files table old new was has)
-Does files (Mon job explain) old new was has =
-    OfTable files job.now (λ table. Mons files table was has)
-Does files (Make paths explain) old new was has = OfTable files paths.job.now
-    (λ table. Makes files paths.image.now paths.out.now table old new was has)
+-- where `clap` finds a fault in the words, no file is read or written
+abbrev pub IsUntouched : Kinds → Option Held → Option Held → Type 0
+IsUntouched [] was has = Unit {0}
+IsUntouched kinds was has = has ≡ was
+
+-- what a command line's subcommand does with its paths: `e` is what is read and printed
+abbrev pub Does : Files → Line → Exchange → Option Held → Option Held → Status → Type 0
+Does files (Check image explain) e was has = Checks files image.now e.had e.has was has
+Does files (Run job explain) e was has =
+    OfTable files job.now (λ table. Runs files table e.had e.has was has)
+Does files (Try job explain) e was has =
+    OfTable files job.now (λ table. Tries files table e.had e.has was has)
+Does files (Mon job explain) e was has =
+    OfTable files job.now (λ table. Mons files table e was has)
+Does files (Make paths explain) e was has = OfTable files paths.job.now
+    (λ table. Makes files paths.image.now paths.out.now table e.had e.has was has)
 
 -- why it stops: `wrote xs` says that the files `xs` were written
-abbrev pub Stops : Files → (Written → Type 0) → Line → Stop → Type 0
-Stops files wrote (Check image explain) = StopsCheck files wrote image.now
-Stops files wrote (Run job explain) = StopsOfTable files wrote job.now (StopsRun files wrote)
-Stops files wrote (Try job explain) = StopsOfTable files wrote job.now (StopsTry files wrote)
-Stops files wrote (Mon job explain) = StopsOfTable files wrote job.now (StopsMon files wrote)
-Stops files wrote (Make paths explain) =
+abbrev pub Stops : Files → Exchange → (Written → Type 0) → Line → Stop → Type 0
+Stops files e wrote (Check image explain) = StopsCheck files wrote image.now
+Stops files e wrote (Run job explain) = StopsOfTable files wrote job.now (StopsRun files wrote)
+Stops files e wrote (Try job explain) = StopsOfTable files wrote job.now (StopsTry files wrote)
+Stops files e wrote (Mon job explain) = StopsOfTable files wrote job.now (StopsMon files e wrote)
+Stops files e wrote (Make paths explain) =
     StopsOfTable files wrote paths.job.now (StopsMake files wrote paths.image.now paths.out.now)
 
 -- whether it is to explain
@@ -65,17 +71,22 @@ explains (Mon job explain) = explain
 explains (Make paths explain) = explain
 
 -- words in which `clap` finds no fault end as the subcommand does that they name, or memory runs
--- out first. `old` and `new` are what standard output has before and after, `was` and `has` the
--- files that were written, and `told` and `tells` what standard error has before and after
-abbrev pub IsAsAsked : Files → List Text → Option (List ℕ) → Option (List ℕ) → Option Written
-    → Option Written → Option (List ℕ) → Option (List ℕ) → Ending → Type 0
-IsAsAsked files words old new was has told tells ending = fault_of app words ≡ []
-    → Ends false (λ s. ⊥) (λ reason. (reason ≡ stop.Memory) × Gains was has []) told tells ending
+-- out first. `e` is what is read and printed, `was` and `has` are the files before and after, and
+-- `told` and `tells` what standard error has
+abbrev pub IsAsAsked : Files → List Text → Exchange → Option Held → Option Held
+    → Option (List ℕ) → Option (List ℕ) → Ending → Type 0
+IsAsAsked files words e was has told tells ending = fault_of app words ≡ []
+    → Ends false (λ s. ⊥) (λ reason. (reason ≡ stop.Memory) × (has ≡ was)) told tells ending
     ⊎ ((line : Line) × IsLineOf words line
-    × Ends (explains line) (Does files line old new was has) (Stops files (Gains was has) line)
+    × Ends (explains line) (Does files line e was has) (Stops files e (Gains was has) line)
     told tells ending)
 
 -- words that the system does not give: memory ran out, or they are not UTF-8
 abbrev pub status_without_words : IoErrorKind → Status
 status_without_words OutOfMemory = status.Memory
 status_without_words _ = status.Usage
+
+-- and what is told of them, by the status
+abbrev pub text_without_words : Status → List ℕ
+text_without_words status.Memory = stop_text stop.Memory
+text_without_words _ = codes "error: the words are not UTF-8\n"

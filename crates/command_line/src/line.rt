@@ -16,6 +16,17 @@ use clap::{Arg, ArgAction, ArgMatches, Command};
 use commands::MakePaths;
 use std::alloc::{AllocError, Global};
 
+/// What the help says of statuses, and where more stands.
+const STATUSES: &str = "Statuses:
+  0  done
+  1  the image, its certificate or the arguments of its run were refused
+  2  the command line or the job was refused
+  3  a file or the input was not read, or a file or the output not written
+  4  memory ran out
+  5  the run met a fault or ran out of steps
+
+JOBS.md and MONITOR.md, in the folder docs of rvvbox, have job files and all that is printed.";
+
 /// What `mon --help` says of the lines of its input.
 const MON_COMMANDS: &str = "Commands, one a line; A is a hexadecimal number, N a decimal one:
   b A    sets a breakpoint at A, a multiple of 4
@@ -160,6 +171,7 @@ fn bare_command<'a>(alloc: Global) -> Command<'a>
     Command::new(alloc, "rvvbox")
         .about("A sandbox for RISC-V vector kernels")
         .version("0.1.0")
+        .after_help(STATUSES)
         .subcommand_required(true)
         .disable_help_subcommand(true)
 }

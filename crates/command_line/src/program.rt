@@ -1,11 +1,14 @@
 //! The program, over any files, reader and writers.
 ghost use Rattle.std.specs.IoError.{error_kind};
-ghost use Rattle.std.specs.Prelude.{◌≡◌, map};
+ghost use Rattle.std.specs.Io.KnownBytes.{Appends};
+ghost use Rattle.std.specs.Prelude.{◌≡◌, OnOk, map};
 ghost use Rattle.clap.specs.Words.{fault_of};
 ghost use Rattle.command_line.specs.Line.{app};
-ghost use Rattle.command_line.specs.Program.{Does, IsAsAsked, IsStatusFor, Stops, explains};
-ghost use Rattle.command_line.specs.Program.{status_without_words};
+ghost use Rattle.command_line.specs.Program.{Does, IsAsAsked, IsStatusFor, IsUntouched, Stops};
+ghost use Rattle.command_line.specs.Program.{explains, status_without_words, text_without_words};
 ghost use Rattle.commands.specs.Ending.{Ends};
+ghost use Rattle.commands.specs.Files.{files_of};
+ghost use Rattle.commands.specs.Talks.{exchange};
 ghost use Rattle.commands.specs.Written.{Gains};
 
 use crate::line::asked::Line;
@@ -30,9 +33,12 @@ pub fn perform<'a, S: Store, I: Read, O: Write, E: Write>(
     errors: &mut E,
 ) -> Ending
     ensures status { IsStatusFor (fault_of app (map (λ w. w.now) words.entry.now)) result.status }
-    ensures asked { IsAsAsked S.files (map (λ w. w.now) words.entry.now)
-        (O.contents output.old) (O.contents output.new)
-        (S.written store.old) (S.written store.new)
+    ensures untouched { IsUntouched (fault_of app (map (λ w. w.now) words.entry.now))
+        (S.held store.old) (S.held store.new) }
+    ensures asked { IsAsAsked (files_of (S.held store.old)) (map (λ w. w.now) words.entry.now)
+        (exchange (I.remaining input.old) (I.remaining input.new)
+        (O.contents output.old) (O.contents output.new))
+        (S.held store.old) (S.held store.new)
         (E.contents errors.old) (E.contents errors.new) result }
 {
     match line(alloc, words) {
@@ -51,9 +57,14 @@ fn carry_out<'a, S: Store, I: Read, O: Write, E: Write>(
     errors: &mut E,
 ) -> Ending
     ensures { Ends (explains asked.entry)
-        (Does S.files asked.entry (O.contents output.old) (O.contents output.new)
-        (S.written store.old) (S.written store.new))
-        (Stops S.files (Gains (S.written store.old) (S.written store.new)) asked.entry)
+        (Does (files_of (S.held store.old)) asked.entry
+        (exchange (I.remaining input.old) (I.remaining input.new)
+        (O.contents output.old) (O.contents output.new))
+        (S.held store.old) (S.held store.new))
+        (Stops (files_of (S.held store.old))
+        (exchange (I.remaining input.old) (I.remaining input.new)
+        (O.contents output.old) (O.contents output.new))
+        (Gains (S.held store.old) (S.held store.new)) asked.entry)
         (E.contents errors.old) (E.contents errors.new) result }
 {
     match asked {
@@ -65,15 +76,17 @@ fn carry_out<'a, S: Store, I: Read, O: Write, E: Write>(
     }
 }
 
-/// Ends the program where the system's words were not taken: memory ran out, which is told, or they are not UTF-8.
+/// Ends the program where the system's words were not taken, and tells why: memory ran out, or they are not UTF-8.
 pub fn end_without_words<E: Write>(error: io::Error, errors: &mut E) -> Ending
-    ensures { result.status ≡ status_without_words (error_kind error) }
+    ensures status { result.status ≡ status_without_words (error_kind error) }
+    ensures told { OnOk result.told (Appends (E.contents errors.old) (E.contents errors.new)
+        (text_without_words result.status)) }
 {
     match error.kind() {
         ErrorKind::OutOfMemory => Stop::Memory.tell(errors),
         _ => Ending {
             status: Status::Usage,
-            told: Ok(()),
+            told: errors.write_all("error: the words are not UTF-8\n".as_bytes()),
         },
     }
 }

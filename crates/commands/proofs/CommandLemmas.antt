@@ -2,6 +2,7 @@
 use Rattle.std.proofs.Common.{◌≡◌, ◌∙◌, ◌++◌, Bool, ℕ, List, [], Option, Some, None, option_map, Result, Ok, Err, IfOk, IfErr, OnOk, MatchResult, ap, sym, subst, inl, inr, refl}
 use Rattle.std.specs.Io.KnownBytes.{Appends}
 use Rattle.std.specs.Option.{ok_or}
+use Rattle.std.specs.Str.{IsUtf8}
 use Rattle.std.specs.Result.{IsErrAnd}
 use Rattle.std.proofs.lemmas.Result.{MatchResult-weaker}
 use Rattle.block_checker.specs.Accepted.{AcceptedView}
@@ -14,17 +15,16 @@ use Rattle.toml.specs.Data.{Members}
 use Rattle.toml.specs.Parse.{parse_document}
 use Rattle.commands.specs.Accepted.{IsOrWant}
 use Rattle.commands.specs.Ending.{Ends, status_after, status_of_end, stop_of_job, text_after}
-use Rattle.commands.specs.Files.{Files, IsImageAt, IsNoImageAt, IsNoTable, IsNoTableAt, IsTableAt, IsUnfinished, IsUnwritten, image_in, outs_of}
+use Rattle.commands.specs.Files.{ArePassed, Files, IsImageAt, IsNoImageAt, IsNoTable, IsNoTableAt, IsTableAt, IsUnfinished, IsUnpassed, IsUnwritten, files_of, image_in, outs_of}
 use Rattle.commands.specs.Starts.{IsStarted, IsUnstarted, StopsStarting}
 use Rattle.commands.specs.Steps.{IsUnasked}
 use Rattle.commands.specs.Trial.{OrMemory, StopsAtTrial, line_of}
 use Rattle.commands.specs.Words.{Argument, ImageView}
-use Rattle.commands.specs.Written.{Gains, Written}
+use Rattle.commands.specs.Written.{Gains, Held, Written}
 use Rattle.commands.specs.declared.stop.Ending.{Ending}
 use Rattle.commands.specs.declared.stop.Status.{Status}
 use Rattle.commands.specs.declared.stop.Stop.{Stop}
 use Rattle.commands.specs.declared.trial.Trial.{Trial}
-use Rattle.commands.proofs.WrittenLemmas.{gains_more}
 
 -- ---- how a subcommand ends
 
@@ -76,10 +76,10 @@ want_ok defined a (inr is) = cc
 -- ---- what is read
 
 -- a text of which the parser gives no table
-pub no_table : (bytes text : List ℕ) (error : JobError) → text ≡ bytes → IsTableFault text error → IsNoTable bytes (stop_of_job error)
-no_table bytes text job_error.NotToml same is = inr (subst (λ (t : List ℕ). parse_document t ≡ None) same is)
-no_table bytes text job_error.BadKey same is = absurd is
-no_table bytes text job_error.NoMemory same is = tt
+pub no_table : (bytes text : List ℕ) (error : JobError) → text ≡ bytes → IsUtf8 bytes → IsTableFault text error → IsNoTable bytes (stop_of_job error)
+no_table bytes text job_error.NotToml same utf8 is = inr (subst (λ (t : List ℕ). parse_document t ≡ None) same is)
+no_table bytes text job_error.BadKey same utf8 is = absurd is
+no_table bytes text job_error.NoMemory same utf8 is = utf8
 
 pub table_read : {T : Type 0} (view : T → Members) (files : Files) (path : Text) (had text : List ℕ) (result : Result T Stop)
     → text ≡ had → files.holds path had → MatchResult result (λ table. parse_document text ≡ Some (view table)) (IsNoTable text)
@@ -88,9 +88,9 @@ table_read view files path had text (Ok table) same there is = (text, subst (fil
 table_read view files path had text (Err reason) same there is = inr (text, subst (files.holds path) (sym same) there, is)
 
 pub image_read : (files : Files) (path : Text) (had file : List ℕ) (result : Result ImageView Stop)
-    → file ≡ had → files.holds path had → IsOrWant (image_in file) result → MatchResult result (IsImageAt files path) (IsNoImageAt files path)
+    → file ≡ had → files.holds path had → OrMemory (image_in file) result → MatchResult result (IsImageAt files path) (IsNoImageAt files path)
 image_read files path had file (Ok image) same there is =
-    (file, subst (files.holds path) (sym same) there, want_ok (image_in file) image is)
+    (file, subst (files.holds path) (sym same) there, or_ok (image_in file) image is)
 image_read files path had file (Err reason) same there is = inr (file, subst (files.holds path) (sym same) there, is)
 
 -- ---- a table that asks for no job
@@ -114,17 +114,21 @@ pub unasked_self : {J : Type 0} (o asked : Option J) (r : Result J JobError) (e 
     → o ≡ asked → r ≡ ok_or o job_error.BadKey → r ≡ Err e → IsUnasked asked (stop_of_job e)
 unasked_self o asked r e is or_else err = unasked (λ j. j) o asked r e (map_self o ∙ is) or_else err
 
--- ---- why it stops, where nothing was written before: what was written since is all that was written
+-- ---- what is known of a store, after what only read it
 
-pub unwritten_more : (files : Files) (some all : Written → Type 0) (params : List (RunParam Text)) (args : List Argument) (reason : Stop)
-    → ((xs : Written) → some xs → all xs) → IsUnwritten files some params args reason → IsUnwritten files all params args reason
-unwritten_more files some all params args reason more u =
-    record { place = u.place; path = u.path; bytes = u.bytes; out = u.out; before = more _ u.before; why = u.why }
+pub passed_after : (a b : Option Held) (given params : List (RunParam Text)) (args : List Argument) → b ≡ a → given ≡ params
+    → ArePassed (files_of b) given args → ArePassed (files_of a) params args
+passed_after a b given params args same is passed =
+    subst (λ (h : Option Held). ArePassed (files_of h) params args) same (subst (λ (ps : List (RunParam Text)). ArePassed (files_of b) ps args) is passed)
 
-pub unfinished_more : (files : Files) (some all : Written → Type 0) (params : List (RunParam Text)) (args : List Argument) (reason : Stop)
-    → ((xs : Written) → some xs → all xs) → IsUnfinished files some params args reason → IsUnfinished files all params args reason
-unfinished_more files some all params args reason more (inl u) = inl (unwritten_more files some all params args reason more u)
-unfinished_more files some all params args reason more (inr (is, wrote)) = inr (is, more _ wrote)
+pub unpassed_after : (a b : Option Held) (given params : List (RunParam Text)) (reason : Stop) → b ≡ a → given ≡ params
+    → IsUnpassed (files_of b) given reason → IsUnpassed (files_of a) params reason
+unpassed_after a b given params reason same is why =
+    subst (λ (h : Option Held). IsUnpassed (files_of h) params reason) same (subst (λ (ps : List (RunParam Text)). IsUnpassed (files_of b) ps reason) is why)
+
+pub unwritten_after : (a b c : Option Held) (params : List (RunParam Text)) (args : List Argument) (reason : Stop) → b ≡ a
+    → IsUnwritten (files_of b) (Gains b c) params args reason → IsUnwritten (files_of a) (Gains a c) params args reason
+unwritten_after a b c params args reason same why = subst (λ (h : Option Held). IsUnwritten (files_of h) (Gains h c) params args reason) same why
 
 -- ---- what `run` and `mon` begin with
 
@@ -149,19 +153,20 @@ stops_started files wrote later table job accepted args reason s is =
 -- ---- how `run` and `try` end
 
 -- a run that came to a trial is written and told, or why not: `given` is what the job passes, as the program has it
-pub finished : (files : Files) (old new : Option (List ℕ)) (first then has : Option Written) (given params : List (RunParam Text))
+pub finished : (old new : Option (List ℕ)) (first then has : Option Held) (given params : List (RunParam Text))
     (defined : Result Trial Stop) (trial : Trial) (result : Result Status Stop) (does : Status → Type 0) (stops : Stop → Type 0)
-    → given ≡ params → OrMemory defined (Ok trial) → Gains first then []
+    → given ≡ params → OrMemory defined (Ok trial) → then ≡ first
     → IfOk result (λ s. s ≡ status_of_end trial.end) → OnOk result (Appends old new (line_of trial))
-    → OnOk result (Gains then has (outs_of given trial.args.places)) → IfErr result (IsUnfinished files (Gains then has) given trial.args.places)
+    → OnOk result (Gains then has (outs_of given trial.args.places)) → IfErr result (IsUnfinished (files_of then) (Gains then has) given trial.args.places)
     → ((s : Status) → defined ≡ Ok trial → Gains first has (outs_of params trial.args.places) → Appends old new (line_of trial)
     → s ≡ status_of_end trial.end → does s)
-    → ((reason : Stop) → StopsAtTrial files (Gains first has) params defined reason → stops reason)
+    → ((reason : Stop) → StopsAtTrial (files_of first) (Gains first has) params defined reason → stops reason)
     → MatchResult result does stops
-finished files old new first then has given params defined trial (Ok s) does stops same comes none done told wrote un do_so stop_so =
-    let outs = subst (λ (ps : List (RunParam Text)). Gains first has (outs_of ps trial.args.places)) same (gains_more first then has [] _ none wrote) in
+finished old new first then has given params defined trial (Ok s) does stops same comes none done told wrote un do_so stop_so =
+    let outs = subst (λ (ps : List (RunParam Text)). Gains first has (outs_of ps trial.args.places)) same
+    (subst (λ (h : Option Held). Gains h has (outs_of given trial.args.places)) none wrote) in
     do_so s (or_ok defined trial comes) outs told done
-finished files old new first then has given params defined trial (Err reason) does stops same comes none done told wrote un do_so stop_so =
-    let all = unfinished_more files (Gains then has) (Gains first has) given trial.args.places reason (λ xs some. gains_more first then has [] xs none some) un in
-    let why = subst (λ (ps : List (RunParam Text)). IsUnfinished files (Gains first has) ps trial.args.places reason) same all in
+finished old new first then has given params defined trial (Err reason) does stops same comes none done told wrote un do_so stop_so =
+    let all = subst (λ (h : Option Held). IsUnfinished (files_of h) (Gains h has) given trial.args.places reason) none un in
+    let why = subst (λ (ps : List (RunParam Text)). IsUnfinished (files_of first) (Gains first has) ps trial.args.places reason) same all in
     stop_so reason (inr (trial, or_ok defined trial comes, why))

@@ -1,5 +1,6 @@
 pub mod AcceptedLemmas
 pub mod CommandLemmas
+pub mod Corollaries
 pub mod MonLemmas
+pub mod TalkLemmas
 pub mod TrialLemmas
-pub mod WrittenLemmas

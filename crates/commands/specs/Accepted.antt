@@ -1,5 +1,5 @@
 -- What comes of an image with a certificate: whether it is accepted.
-use Rattle.std.specs.Prelude.{◌≡◌, ◌⊎◌, ℕ, List, Option, Some, None, Result, Ok, Err, unwrap_or}
+use Rattle.std.specs.Prelude.{◌≡◌, ◌⊎◌, ℕ, List, Option, Some, None, Result, Ok, Err, IfErr, MatchResult, unwrap_or}
 use Rattle.cert_note.specs.Reading.{certificate_of}
 use Rattle.vreg_groups.specs.declared.vector_length.Vlen.{Vlen}
 use Rattle.commands.specs.Ending.{stop_of_certificate, stop_of_check}
@@ -45,3 +45,13 @@ accepted_of vlen image = if_certified vlen image (certificate_in image.certifica
 -- the answer is what is defined, or want of memory
 abbrev pub IsOrWant : {A : Type 0} → Result A Stop → Result A Stop → Type 0
 IsOrWant defined answer = (answer ≡ defined) ⊎ (answer ≡ Err stop.Memory)
+
+-- the same, but that an earlier step's reason to stop is the answer
+abbrev pub IsOrWantAfter : {A B : Type 0} → Result A Stop → Result B Stop → Result B Stop → Type 0
+IsOrWantAfter first defined answer =
+    IfErr first (λ reason. answer ≡ Err reason) × IsOrWant defined answer
+
+-- the answer is what is defined, but that memory may run out where no reason to stop is defined
+abbrev pub OrMemory : {A : Type 0} → Result A Stop → Result A Stop → Type 0
+OrMemory (Err reason) answer = answer ≡ Err reason
+OrMemory (Ok value) answer = MatchResult answer (λ a. a ≡ value) (λ reason. reason ≡ stop.Memory)

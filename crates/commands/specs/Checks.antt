@@ -3,9 +3,9 @@ use Rattle.std.specs.Prelude.{◌≡◌, ◌⊎◌, ◌++◌, codes, ℕ, List, 
 use Rattle.std.specs.Fmt.{decimal}
 use Rattle.std.specs.Io.KnownBytes.{Appends}
 use Rattle.cert_note.specs.declared.values.Budget.{Budget}
-use Rattle.commands.specs.Accepted.{IsOrWant, accepted_of}
+use Rattle.commands.specs.Accepted.{IsOrWantAfter, accepted_of, certificate_in}
 use Rattle.commands.specs.Files.{Files, IsImageAt, IsNoImageAt}
-use Rattle.commands.specs.Words.{AcceptedView, Gains, ImageView, Status, Stop, Text, Written, block_at}
+use Rattle.commands.specs.Words.{AcceptedView, Gains, Held, ImageView, Status, Stop, Text, Written, block_at}
 use Rattle.commands.specs.declared.stop.Status.TheVariants as status
 use Rattle.commands.specs.declared.stop.Stop.TheVariants as stop
 
@@ -30,7 +30,7 @@ bound_line budget =
 
 -- `check`: the image at a path is accepted, and its bound is printed; no file is written
 pub record Checks (files : Files) (path : Text) (old new : Option (List ℕ))
-    (was has : Option Written) (s : Status) : Type 0 where
+    (was has : Option Held) (s : Status) : Type 0 where
   pub image : ImageView
   pub there : IsImageAt files path image
   pub accepted : AcceptedView
@@ -46,7 +46,8 @@ pub record Checks (files : Files) (path : Text) (old new : Option (List ℕ))
 
 -- after the image was read: it is not accepted, or standard output takes no text
 abbrev pub StopsChecked : ImageView → Stop → Type 0
-StopsChecked image reason = IsOrWant (accepted_of None image) (Err reason)
+StopsChecked image reason =
+    IsOrWantAfter (certificate_in image.certificate) (accepted_of None image) (Err reason)
     ⊎ ((accepted : AcceptedView) × (accepted_of None image ≡ Ok accepted) × (reason ≡ stop.Output))
 
 -- `check`: no image is read at the path, or afterwards; no file is written

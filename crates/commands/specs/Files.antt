@@ -1,7 +1,7 @@
 -- The files of a job: what is read before its run, and what is written after it.
-use Rattle.std.specs.Prelude.{◌≡◌, ◌<◌, ◌⊎◌, ℕ, List, [], ◌∷◌, length, get_or, take, Option, Some, None, Result, Ok, Err}
+use Rattle.std.specs.Prelude.{if◌then◌else◌, ◌≡◌, ◌<◌, ◌⊎◌, Bool, false, true, ℕ, List, [], ◌∷◌, length, get_or, take, Option, Some, None, Result, Ok, Err}
 use Rattle.std.specs.List.{filter_map, zip}
-use Rattle.std.specs.Str.{IsUtf8}
+use Rattle.std.specs.Str.{IsUtf8, bytes_eq}
 use Rattle.elf_image.specs.Faults.{fault_of}
 use Rattle.elf_image.specs.File.{image_of}
 use Rattle.job_file.specs.declared.values.JobError.TheVariants.{NotToml}
@@ -9,11 +9,12 @@ use Rattle.job_file.specs.declared.values.RunParam.{RunParam}
 use Rattle.job_file.specs.declared.values.RunParam.TheVariants as given
 use Rattle.region_mem.specs.declared.arguments.Arg.TheVariants as argument
 use Rattle.toml.specs.Parse.{parse_document}
-use Rattle.commands.specs.Accepted.{IsOrWant}
+use Rattle.commands.specs.Accepted.{OrMemory}
 use Rattle.commands.specs.Ending.{IsOfFile, stop_of_image}
 use Rattle.commands.specs.Steps.{StopsAt}
-use Rattle.commands.specs.Words.{Argument, ElfError, Gains, ImageView, Members, Status, Stop, Text, Written}
+use Rattle.commands.specs.Words.{Argument, ElfError, Gains, Held, ImageView, Members, Status, Stop, Text, Written}
 use Rattle.commands.specs.declared.store.StoreError.{StoreError}
+use Rattle.commands.specs.declared.store.StoreError.TheVariants as store_error
 use Rattle.commands.specs.declared.stop.Stop.TheVariants as stop
 
 -- ---- what may come of the files at paths
@@ -25,12 +26,38 @@ pub record Files : Type 1 where
   pub unread : Text → StoreError → Type 0
   pub unwritten : Text → StoreError → Type 0
 
--- files of which nothing is known
-abbrev pub unknown_files : Files
-unknown_files = record {
+-- the bytes of the last file at a path, or else these
+unfoldable pub last_at : Text → Written → Option (List ℕ) → Option (List ℕ)
+last_at path [] found = found
+last_at path (file ∷ files) found =
+    last_at path files (if bytes_eq file.0 path then Some file.1 else found)
+
+-- one of these paths
+unfoldable pub is_among : Text → List Text → Bool
+is_among path [] = false
+is_among path (p ∷ paths) = if bytes_eq p path then true else is_among path paths
+
+-- what is read at a path
+abbrev pub bytes_at : Held → Text → Option (List ℕ)
+bytes_at held path = if is_among path held.unread then None else last_at path held.files None
+
+-- memory may run out at any file
+abbrev pub if_failed : StoreError → Type 0 → Type 0
+if_failed store_error.Failed fact = fact
+if_failed store_error.NoMemory fact = Unit {0}
+
+-- what is there is read, what is not or can't be read is not, and what can't be written is not;
+-- where it is not known what is held, anything may come
+abbrev pub files_of : Option Held → Files
+files_of None = record {
   holds = λ _ _. Unit {0};
   unread = λ _ _. Unit {0};
   unwritten = λ _ _. Unit {0};
+}
+files_of (Some held) = record {
+  holds = λ path bytes. bytes_at held path ≡ Some bytes;
+  unread = λ path error. if_failed error (bytes_at held path ≡ None);
+  unwritten = λ path error. if_failed error (is_among path held.unwritten ≡ true);
 }
 
 -- ---- what is read
@@ -48,7 +75,7 @@ ArePassed files params args =
     (length args ≡ 8) × ((k : ℕ) → k < 8
     → IsPassed files (get_or params k given.None) (get_or args k argument.None))
 
--- why what a job passes is not read: the file of a place is not
+-- why what a job passes is not read: the file of a place is not, and those before it are
 abbrev pub IsOfParam : Files → RunParam Text → Stop → Type 0
 IsOfParam files (given.Buffer file out) reason = IsOfFile files.unread file reason
 IsOfParam files other reason = ⊥
@@ -56,6 +83,7 @@ IsOfParam files other reason = ⊥
 abbrev pub IsUnpassed : Files → List (RunParam Text) → Stop → Type 0
 IsUnpassed files params reason =
     (place : ℕ) × IsOfParam files (get_or params place given.None) reason
+    × ((k : ℕ) → k < place → (arg : Argument) × IsPassed files (get_or params k given.None) arg)
 
 -- what there is where no fault is found, or the reason to stop
 abbrev pub unless_fault : {A : Type 0} → Option ElfError → A → Result A Stop
@@ -73,17 +101,17 @@ IsImageAt files path image = (bytes : List ℕ) × files.holds path bytes × (im
 -- why no image is read there: the file is not read, or has a fault
 abbrev pub IsNoImageAt : Files → Text → Stop → Type 0
 IsNoImageAt files path reason = IsOfFile files.unread path reason
-    ⊎ ((bytes : List ℕ) × files.holds path bytes × IsOrWant (image_in bytes) (Err reason))
+    ⊎ ((bytes : List ℕ) × files.holds path bytes × OrMemory (image_in bytes) (Err reason))
 
 -- the file at a path spells this table of a job
 abbrev pub IsTableAt : Files → Text → Members → Type 0
 IsTableAt files path table =
     (text : List ℕ) × files.holds path text × (parse_document text ≡ Some table)
 
--- why a text spells no table: it is not UTF-8, or not TOML; memory may run out
+-- why a text spells no table: it is not UTF-8, or not TOML; memory may run out where it is UTF-8
 abbrev pub IsNoTable : List ℕ → Stop → Type 0
 IsNoTable text (stop.Job NotToml) = (¬ (IsUtf8 text)) ⊎ (parse_document text ≡ None)
-IsNoTable text stop.Memory = Unit {0}
+IsNoTable text stop.Memory = IsUtf8 text
 IsNoTable text other = ⊥
 
 -- why no table is read at a path: the file is not read, or spells none
@@ -114,17 +142,17 @@ abbrev pub outs_of : List (RunParam Text) → List Argument → Written
 outs_of params args = filter_map out_file (zip params args)
 
 -- the file was written, or the reason to stop is of its path
-abbrev pub IsWritten : Files → Option Written → Option Written → Text × List ℕ
+abbrev pub IsWritten : Files → Option Held → Option Held → Text × List ℕ
     → Result (Unit {0}) Stop → Type 0
 IsWritten files old new file (Ok done) = Gains old new (file ∷ [])
 IsWritten files old new file (Err reason) =
-    Gains old new [] × IsOfFile files.unwritten file.0 reason
+    (new ≡ old) × IsOfFile files.unwritten file.0 reason
 
 -- the same of the out file of a place, where it has one
-abbrev pub IsOutWritten : Files → Option Written → Option Written → Option (Text × List ℕ)
+abbrev pub IsOutWritten : Files → Option Held → Option Held → Option (Text × List ℕ)
     → Result (Unit {0}) Stop → Type 0
 IsOutWritten files old new (Some file) result = IsWritten files old new file result
-IsOutWritten files old new None (Ok done) = Gains old new []
+IsOutWritten files old new None (Ok done) = new ≡ old
 IsOutWritten files old new None (Err reason) = ⊥
 
 -- the out files of the places before one were written, and its own was not
@@ -139,7 +167,7 @@ pub record IsUnwritten (files : Files) (wrote : Written → Type 0) (params : Li
   pub why : IsOfFile files.unwritten path reason
 
 -- all out files were written, by place, or those before the first that was not
-abbrev pub AreWritten : Files → Option Written → Option Written → List (RunParam Text)
+abbrev pub AreWritten : Files → Option Held → Option Held → List (RunParam Text)
     → List Argument → Result (Unit {0}) Stop → Type 0
 AreWritten files old new params args (Ok done) = Gains old new (outs_of params args)
 AreWritten files old new params args (Err reason) =

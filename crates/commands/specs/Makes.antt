@@ -20,7 +20,7 @@ use Rattle.commands.specs.Checks.{bound_line}
 use Rattle.commands.specs.Ending.{IsOfFile}
 use Rattle.commands.specs.Files.{Files, image_in, unless_fault}
 use Rattle.commands.specs.Steps.{StopsAt, StopsAtJob, StopsAtResult}
-use Rattle.commands.specs.Words.{AcceptedView, CertificateView, Gains, ImageView, Members, Status, Stop, Text, Written, block_at}
+use Rattle.commands.specs.Words.{AcceptedView, CertificateView, Gains, Held, ImageView, Members, Status, Stop, Text, Written, block_at}
 use Rattle.commands.specs.declared.stop.Status.TheVariants as status
 use Rattle.commands.specs.declared.stop.Stop.TheVariants as stop
 
@@ -66,10 +66,13 @@ accepted_in job bytes = do
   image ← image_in bytes
   accepted_of (Some job.vlen) image
 
--- the bytes of an answer, or its reason to stop, are what is defined, or it is want of memory
+-- an answer's bytes, or its reason to stop
+abbrev pub bytes_of : Result (Vec ℕ) Stop → Result (List ℕ) Stop
+bytes_of answer = result_map_both (λ bytes. bytes.items) (λ reason. reason) answer
+
+-- they are what is defined, or it is want of memory
 abbrev pub AnswersBytes : Result (List ℕ) Stop → Result (Vec ℕ) Stop → Type 0
-AnswersBytes defined answer =
-    IsOrWant defined (result_map_both (λ bytes. bytes.items) (λ reason. reason) answer)
+AnswersBytes defined answer = IsOrWant defined (bytes_of answer)
 
 -- ---- what is done: `old` and `new` are what standard output has before and after, and `was` and
 -- `has` the files that were written
@@ -78,7 +81,7 @@ AnswersBytes defined answer =
 -- with the certificate that is made is accepted when it is read back, and written, and its
 -- bound is printed
 pub record Makes (files : Files) (path out : Text) (table : Members) (old new : Option (List ℕ))
-    (was has : Option Written) (s : Status) : Type 0 where
+    (was has : Option Held) (s : Status) : Type 0 where
   pub job : MakeJob
   pub asked : make_job_in table ≡ Some job
   pub file : List ℕ
@@ -106,5 +109,6 @@ StopsMade files wrote out bytes reason = (IsOfFile files.unwritten out reason ×
 abbrev pub StopsMake : Files → (Written → Type 0) → Text → Text → Members → Stop → Type 0
 StopsMake files wrote path out table = StopsAtJob wrote (make_job_in table) (λ job.
     StopsAt wrote (IsOfFile files.unread path) (files.holds path) (λ file.
-    StopsAtResult wrote (made_of job file) (λ bytes.
-    StopsAtResult wrote (accepted_in job bytes) (λ accepted. StopsMade files wrote out bytes))))
+    StopsAtResult wrote (image_in file) (made_of job file) (λ bytes.
+    StopsAtResult wrote (image_in bytes) (accepted_in job bytes) (λ accepted.
+    StopsMade files wrote out bytes))))

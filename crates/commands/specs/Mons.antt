@@ -1,61 +1,47 @@
 -- What `mon` does.
-use Rattle.std.specs.Prelude.{◌≡◌, ◌⊎◌, ◌++◌, codes, ℕ, List, Option, Some, None, Result, Ok, Err}
+use Rattle.std.specs.Prelude.{◌≡◌, ◌⊎◌, codes, ℕ, List, Option, Some, None}
 use Rattle.job_file.specs.Needs.{RunJob}
-use Rattle.monitor.specs.Commands.{flow_of, text_of}
-use Rattle.monitor.specs.declared.commands.Command.{Command}
-use Rattle.monitor.specs.declared.commands.Flow.{Flow}
-use Rattle.monitor.specs.declared.commands.Flow.TheVariants as flow
-use Rattle.monitor.specs.declared.commands.MonError.{MonError}
 use Rattle.region_mem.specs.Memory.{args_of}
-use Rattle.sandbox_run.specs.Session.{SessionView, open_fault}
+use Rattle.sandbox_run.specs.Session.{IsOpened, SessionView, open_fault}
 use Rattle.sandbox_run.specs.Stops.{IsStop}
 use Rattle.commands.specs.Ending.{stop_of_open}
 use Rattle.commands.specs.Files.{Files, IsUnwritten, outs_of}
 use Rattle.commands.specs.Starts.{IsStarted, StopsStarting}
 use Rattle.commands.specs.Steps.{StopsAt}
-use Rattle.commands.specs.Texts.{monitor_error_name}
-use Rattle.commands.specs.Words.{AcceptedView, Agnostic, Argument, Gains, Machine, Members, OpenError, start, Status, Stop, Text, vlenb_of, Written}
+use Rattle.commands.specs.Talks.{AreTold, Exchange}
+use Rattle.commands.specs.Words.{AcceptedView, Agnostic, Argument, Gains, Held, Members, OpenError, start, Status, Stop, Text, vlenb_of, Written}
 use Rattle.commands.specs.declared.stop.Status.TheVariants as status
 use Rattle.commands.specs.declared.stop.Stop.TheVariants as stop
 
--- ---- a line and its answer
-
-abbrev pub error_line : MonError → List ℕ
-error_line error = codes "error: " ++ (monitor_error_name error ++ codes "\n")
-
--- what is printed of a line: what its command tells of the run as it then stands, or its error
-abbrev pub answer_of : ℕ → Result Command MonError → SessionView → List ℕ
-answer_of vlenb (Ok command) new = text_of vlenb command new
-answer_of vlenb (Err error) new = error_line error
-
--- whether lines go on after it
-abbrev pub flow_after : Result Command MonError → Flow
-flow_after (Ok command) = flow_of command
-flow_after (Err error) = flow.Go
-
 -- ---- a job's run, stopped
 
--- a run of an accepted image is opened, and these are the arguments as they stand at a stop of it
+-- a run of an accepted image is opened, the lines of the input are answered on it, and these are
+-- the arguments as they stand where it is left, at a stop of it
 pub record IsStopped (vlenb : ℕ) (agnostic : Agnostic) (max : ℕ) (a : AcceptedView)
-    (args kept : List Argument) : Type 0 where
+    (args : List Argument) (e : Exchange) (kept : List Argument) : Type 0 where
   pub opens : open_fault vlenb a args max ≡ None
-  pub steps : ℕ
-  pub last : Machine
-  pub stop : IsStop vlenb (start vlenb agnostic a.image a.certificate.parameters args) steps last
-  pub comes : kept ≡ args_of last.memory
+  pub opened : SessionView
+  pub begins : IsOpened vlenb agnostic a args max opened
+  pub left : SessionView
+  pub talks : AreTold vlenb e opened left
+  pub stop : IsStop vlenb (start vlenb agnostic a.image a.certificate.parameters args)
+      left.steps left.machine
+  pub comes : kept ≡ args_of left.machine.memory
 
--- ---- what is done: `was` and `has` are the files that were written before and after
+-- ---- what is done: `e` is what is read and printed, and `was` and `has` are the files before and
+-- after
 
--- `mon` on a job's table: the job's image is accepted, its run is left at a stop, and the out files
--- of all places were written with the buffers as they stand there
-pub record Mons (files : Files) (table : Members) (was has : Option Written) (s : Status)
+-- `mon` on a job's table: the job's image is accepted, the lines of the input are answered on its
+-- run, it is left at a stop, and the out files of all places were written with the buffers as they
+-- stand there
+pub record Mons (files : Files) (table : Members) (e : Exchange) (was has : Option Held) (s : Status)
     : Type 0 where
   pub job : RunJob Text
   pub accepted : AcceptedView
   pub args : List Argument
   pub started : IsStarted files table job accepted args
   pub kept : List Argument
-  pub stopped : IsStopped (vlenb_of job.vlen) job.agnostic job.max accepted args kept
+  pub stopped : IsStopped (vlenb_of job.vlen) job.agnostic job.max accepted args e kept
   pub wrote : Gains was has (outs_of job.params kept)
   pub done : s ≡ status.Done
 
@@ -79,13 +65,13 @@ StopsWatching vlenb max a args reason =
     IsUnopened (open_fault vlenb a args max) reason ⊎ IsUnanswered reason
 
 -- after it was started: no run is opened, a line is not answered, or an out file is not written
-abbrev pub StopsWatched : Files → (Written → Type 0) → RunJob Text → AcceptedView → List Argument
-    → Stop → Type 0
-StopsWatched files wrote job accepted args =
+abbrev pub StopsWatched : Files → Exchange → (Written → Type 0) → RunJob Text → AcceptedView
+    → List Argument → Stop → Type 0
+StopsWatched files e wrote job accepted args =
     StopsAt wrote (StopsWatching (vlenb_of job.vlen) job.max accepted args)
-    (IsStopped (vlenb_of job.vlen) job.agnostic job.max accepted args)
+    (IsStopped (vlenb_of job.vlen) job.agnostic job.max accepted args e)
     (IsUnwritten files wrote job.params)
 
 -- `mon` on a job's table: it is not started, or afterwards
-abbrev pub StopsMon : Files → (Written → Type 0) → Members → Stop → Type 0
-StopsMon files wrote = StopsStarting files wrote (StopsWatched files wrote)
+abbrev pub StopsMon : Files → Exchange → (Written → Type 0) → Members → Stop → Type 0
+StopsMon files e wrote = StopsStarting files wrote (StopsWatched files e wrote)

@@ -8,7 +8,7 @@ use Rattle.commands.specs.Ending.{status_of_end, stop_of_open}
 use Rattle.commands.specs.Files.{Files, outs_of}
 use Rattle.commands.specs.Starts.{IsStarted, StopsStarting}
 use Rattle.commands.specs.Trial.{StopsAtTrial, line_of, trial_from}
-use Rattle.commands.specs.Words.{AcceptedView, Agnostic, Argument, Gains, Members, OpenError, start, Status, Stop, Text, vlenb_of, Written}
+use Rattle.commands.specs.Words.{AcceptedView, Agnostic, Argument, Gains, Held, Members, OpenError, start, Status, Stop, Text, vlenb_of, Written}
 use Rattle.commands.specs.declared.trial.Trial.{Trial}
 
 -- ---- a job's run
@@ -35,7 +35,7 @@ run_of_job job a args = session_of (vlenb_of job.vlen) job.agnostic job.max a ar
 -- `run` on a job's table: the job's image is accepted, what comes of the job on it is printed, and
 -- the out files of all places were written with the buffers as the run left them
 pub record Runs (files : Files) (table : Members) (old new : Option (List ℕ))
-    (was has : Option Written) (s : Status) : Type 0 where
+    (was has : Option Held) (s : Status) : Type 0 where
   pub job : RunJob Text
   pub accepted : AcceptedView
   pub args : List Argument

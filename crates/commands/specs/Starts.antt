@@ -2,7 +2,7 @@
 use Rattle.std.specs.Prelude.{◌≡◌, List, Some, Ok}
 use Rattle.job_file.specs.Needs.{run_job_in}
 use Rattle.job_file.specs.Needs.{RunJob}
-use Rattle.commands.specs.Accepted.{accepted_of}
+use Rattle.commands.specs.Accepted.{accepted_of, certificate_in}
 use Rattle.commands.specs.Files.{ArePassed, Files, IsImageAt, IsNoImageAt, IsUnpassed}
 use Rattle.commands.specs.Steps.{StopsAt, StopsAtJob, StopsAtResult}
 use Rattle.commands.specs.Words.{AcceptedView, Argument, ImageView, Members, Stop, Text, Written}
@@ -22,7 +22,8 @@ abbrev pub StopsStarting : Files → (Written → Type 0)
     → (RunJob Text → AcceptedView → List Argument → Stop → Type 0) → Members → Stop → Type 0
 StopsStarting files wrote later table = StopsAtJob wrote (run_job_in table) (λ job.
     StopsAt wrote (IsNoImageAt files job.image) (IsImageAt files job.image) (λ image.
-    StopsAtResult wrote (accepted_of (Some job.vlen) image) (λ accepted.
+    StopsAtResult wrote (certificate_in image.certificate) (accepted_of (Some job.vlen) image)
+    (λ accepted.
     StopsAt wrote (IsUnpassed files job.params) (ArePassed files job.params)
     (later job accepted))))
 

@@ -1,5 +1,5 @@
 -- What comes of a run, and how it is told.
-use Rattle.std.specs.Prelude.{◌≡◌, ◌++◌, codes, ℕ, List, Result, Ok, Err, MatchResult}
+use Rattle.std.specs.Prelude.{◌≡◌, ◌++◌, codes, ℕ, List, Result, Ok, Err}
 use Rattle.std.specs.Fmt.{decimal}
 use Rattle.job_file.specs.declared.values.RunParam.{RunParam}
 use Rattle.region_mem.specs.Faults.{name_of, number_of}
@@ -8,10 +8,10 @@ use Rattle.sandbox_run.specs.declared.outcome.Outcome.{Outcome}
 use Rattle.sandbox_run.specs.declared.outcome.Outcome.TheVariants as stopped
 use Rattle.vector_core.specs.Run.{outcome}
 use Rattle.region_mem.specs.Digits.{digits_text}
+pub use Rattle.commands.specs.Accepted.{OrMemory}
 use Rattle.commands.specs.Files.{Files, IsUnfinished}
 use Rattle.commands.specs.Steps.{StopsAt}
 use Rattle.commands.specs.Words.{Machine, Stop, Text, Written}
-use Rattle.commands.specs.declared.stop.Stop.TheVariants as stop
 use Rattle.commands.specs.declared.trial.End.{End}
 use Rattle.commands.specs.declared.trial.End.TheVariants as end
 use Rattle.commands.specs.declared.trial.Trial.{Trial}
@@ -27,11 +27,6 @@ trial_at (stopped.OutOfSteps last) =
 -- what comes of a run from a state on, with at most `max` steps
 abbrev pub trial_from : ℕ → ℕ → Machine → Trial
 trial_from vlenb max m = trial_at (answer_of vlenb (outcome vlenb max m))
-
--- the answer is what is defined, but that memory may run out where no reason to stop is defined
-abbrev pub OrMemory : {A : Type 0} → Result A Stop → Result A Stop → Type 0
-OrMemory (Err reason) answer = answer ≡ Err reason
-OrMemory (Ok value) answer = MatchResult answer (λ a. a ≡ value) (λ reason. reason ≡ stop.Memory)
 
 -- why it stops, where this is what is defined of a run: it does not start, or its outcome is not
 -- written or told

@@ -19,7 +19,7 @@ use Rattle.commands.specs.Ending.{status_of_end}
 use Rattle.commands.specs.Files.{ArePassed, Files, IsImageAt, IsNoImageAt, IsUnpassed, outs_of}
 use Rattle.commands.specs.Steps.{StopsAt, StopsAtJob}
 use Rattle.commands.specs.Trial.{StopsAtTrial, line_of, trial_from}
-use Rattle.commands.specs.Words.{Agnostic, Argument, Gains, ImageView, Members, start, Status, Stop, Text, vlenb_of, Written}
+use Rattle.commands.specs.Words.{Agnostic, Argument, Gains, Held, ImageView, Members, start, Status, Stop, Text, vlenb_of, Written}
 use Rattle.commands.specs.declared.stop.Stop.TheVariants as stop
 use Rattle.commands.specs.declared.trial.Trial.{Trial}
 
@@ -80,7 +80,7 @@ passed_by (taken.Buffer mode file out) = given.Buffer file out
 -- `try` on a job's table: what comes of the job on its image is printed, and the out files of all
 -- places were written with the buffers as the run left them
 pub record Tries (files : Files) (table : Members) (old new : Option (List ℕ))
-    (was has : Option Written) (s : Status) : Type 0 where
+    (was has : Option Held) (s : Status) : Type 0 where
   pub job : TryJob Text
   pub asked : try_job_in table ≡ Some job
   pub image : ImageView

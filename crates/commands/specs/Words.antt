@@ -17,4 +17,4 @@ pub use Rattle.job_file.specs.declared.values.JobError.{JobError}
 pub use Rattle.toml.specs.Data.{Members}
 pub use Rattle.commands.specs.declared.stop.Status.{Status}
 pub use Rattle.commands.specs.declared.stop.Stop.{Stop}
-pub use Rattle.commands.specs.Written.{Gains, Written}
+pub use Rattle.commands.specs.Written.{Gains, Held, Written}

@@ -1,5 +1,5 @@
 //! What comes of an image with a certificate: whether it is accepted.
-ghost use Rattle.std.specs.Prelude.{IfOk};
+ghost use Rattle.std.specs.Prelude.{◌≡◌, Err, IfErr, IfOk};
 ghost use Rattle.block_checker.specs.Accepted.{Passes};
 ghost use Rattle.commands.specs.Accepted.{IsOrWant, accepted_of, certificate_in};
 ghost use Rattle.commands.specs.Trial.{OrMemory};
@@ -32,13 +32,15 @@ fn certificate_in<'a>(alloc: Global, image: &Image, why: &mut Why) -> Result<Cer
 /// An image with its certificate, where they pass the check at a length of vector registers: at `vlen`, or at the
 /// certificate's own where that is `None`.
 ///
-/// `NoCertificate` and the error of a certificate that can't be read come before the check's error.
+/// `NoCertificate` and the error of a certificate that can't be read come before the check's error, and before want of memory.
 pub fn accept<'a>(
     alloc: Global,
     image: Image,
     vlen: Option<Vlen>,
     why: &mut Why,
 ) -> Result<Accepted, Stop<'a>>
+    ensures certificate { IfErr (certificate_in image.certificate)
+        (λ reason. result ≡ Err reason) }
     ensures answer { IsOrWant (accepted_of vlen image) result }
     ensures passes { IfOk result Passes }
 {

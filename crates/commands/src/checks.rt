@@ -3,6 +3,7 @@ ghost use Rattle.std.specs.Io.KnownBytes.{Appends};
 ghost use Rattle.std.specs.Prelude.{◌≡◌, MatchResult, OnOk};
 ghost use Rattle.commands.specs.Checks.{Checks, StopsCheck, bound_line};
 ghost use Rattle.commands.specs.Ending.{Ends};
+ghost use Rattle.commands.specs.Files.{files_of};
 ghost use Rattle.commands.specs.Written.{Gains};
 
 use crate::accepted::accept;
@@ -29,9 +30,10 @@ pub fn check_image<S: Store, O: Write, E: Write>(
     errors: &mut E,
 ) -> Ending
     ensures { Ends explain
-        (Checks S.files path.now (O.contents output.old) (O.contents output.new)
-        (S.written store.old) (S.written store.new))
-        (StopsCheck S.files (Gains (S.written store.old) (S.written store.new)) path.now)
+        (Checks (files_of (S.held store.old)) path.now
+        (O.contents output.old) (O.contents output.new) (S.held store.old) (S.held store.new))
+        (StopsCheck (files_of (S.held store.old))
+        (Gains (S.held store.old) (S.held store.new)) path.now)
         (E.contents errors.old) (E.contents errors.new) result }
 {
     let mut why = Why::new(alloc, explain);
@@ -47,9 +49,10 @@ fn check_at<'a, S: Store, O: Write>(
     why: &mut Why,
 ) -> Result<Status, Stop<'a>>
     ensures { MatchResult result
-        (Checks S.files path.entry.now (O.contents output.old) (O.contents output.new)
-        (S.written store.old) (S.written store.new))
-        (StopsCheck S.files (Gains (S.written store.old) (S.written store.new)) path.entry.now) }
+        (Checks (files_of (S.held store.old)) path.entry.now
+        (O.contents output.old) (O.contents output.new) (S.held store.old) (S.held store.new))
+        (StopsCheck (files_of (S.held store.old))
+        (Gains (S.held store.old) (S.held store.new)) path.entry.now) }
 {
     let image = read_image(alloc, path, store, why)?;
     let budget = accept(alloc, image, None, why)?.budget();

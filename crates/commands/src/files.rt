@@ -1,15 +1,14 @@
 //! The files of a job: what is read before its run, and what is written after it.
-ghost use Rattle.std.specs.Prelude.{◌≡◌, [], MatchResult, Some, map, option_map, replicate};
+ghost use Rattle.std.specs.Prelude.{◌≡◌, MatchResult, Some, map, option_map, replicate};
 ghost use Rattle.job_file.specs.Needs.{run_param_lent};
 ghost use Rattle.toml.specs.Parse.{parse_document};
 ghost use Rattle.toml.specs.View.{table_view};
-ghost use Rattle.commands.specs.Accepted.{IsOrWant};
+ghost use Rattle.commands.specs.Accepted.{OrMemory};
 ghost use Rattle.commands.specs.Ending.{IsOfFile, stop_at_file};
 ghost use Rattle.commands.specs.Files.{ArePassed, AreWritten, IsImageAt, IsNoImageAt, IsNoTable};
 ghost use Rattle.commands.specs.Files.{IsNoTableAt, IsOfParam, IsOutWritten, IsPassed, IsTableAt};
-ghost use Rattle.commands.specs.Files.{IsUnpassed, IsWritten, image_in, out_file};
+ghost use Rattle.commands.specs.Files.{IsUnpassed, IsWritten, files_of, image_in, out_file};
 ghost use Rattle.commands.specs.Why.{Notes};
-ghost use Rattle.commands.specs.Written.{Gains};
 
 use crate::stop::Stop;
 use crate::store::{Store, StoreError};
@@ -46,9 +45,9 @@ pub fn read<'a, S: Store>(
     why: &mut Why,
 ) -> Result<Vec<u8>, Stop<'a>>
     ensures bytes { MatchResult result
-        (λ bytes. S.files.holds path.entry.now bytes.items)
-        (IsOfFile S.files.unread path.entry.now) }
-    ensures files { Gains (S.written store.old) (S.written store.new) [] }
+        (λ bytes. (files_of (S.held store.old)).holds path.entry.now bytes.items)
+        (IsOfFile (files_of (S.held store.old)).unread path.entry.now) }
+    ensures files { S.held store.new ≡ S.held store.old }
 {
     match store.read(alloc, path) {
         Ok(bytes) => Ok(bytes),
@@ -65,9 +64,9 @@ pub fn read_table<'a, S: Store>(
     why: &mut Why,
 ) -> Result<Table, Stop<'a>>
     ensures table { MatchResult result
-        (λ table. IsTableAt S.files path.entry.now (table_view table))
-        (IsNoTableAt S.files path.entry.now) }
-    ensures files { Gains (S.written store.old) (S.written store.new) [] }
+        (λ table. IsTableAt (files_of (S.held store.old)) path.entry.now (table_view table))
+        (IsNoTableAt (files_of (S.held store.old)) path.entry.now) }
+    ensures files { S.held store.new ≡ S.held store.old }
 {
     let bytes = read(alloc, path, store, why)?;
     note_job(alloc, bytes.as_slice(), command, why);
@@ -93,8 +92,9 @@ pub fn read_image<'a, S: Store>(
     why: &mut Why,
 ) -> Result<Image, Stop<'a>>
     ensures image { MatchResult result
-        (IsImageAt S.files path.entry.now) (IsNoImageAt S.files path.entry.now) }
-    ensures files { Gains (S.written store.old) (S.written store.new) [] }
+        (IsImageAt (files_of (S.held store.old)) path.entry.now)
+        (IsNoImageAt (files_of (S.held store.old)) path.entry.now) }
+    ensures files { S.held store.new ≡ S.held store.old }
 {
     let bytes = read(alloc, path, store, why)?;
     image_in(alloc, bytes.as_slice(), why)
@@ -102,7 +102,7 @@ pub fn read_image<'a, S: Store>(
 
 /// The image that a file spells.
 pub fn image_in<'a>(alloc: Global, file: &[u8], why: &mut Why) -> Result<Image, Stop<'a>>
-    ensures { IsOrWant (image_in file.now) result }
+    ensures { OrMemory (image_in file.now) result }
 {
     match elf_image::read(alloc, file) {
         Ok(image) => Ok(image),
@@ -121,9 +121,10 @@ pub fn read_args<'a, S: Store>(
     why: &mut Why,
 ) -> Result<Args, Stop<'a>>
     ensures passed { MatchResult result
-        (λ args. ArePassed S.files (map run_param_lent params.now) args.places)
-        (IsUnpassed S.files (map run_param_lent params.now)) }
-    ensures files { Gains (S.written store.old) (S.written store.new) [] }
+        (λ args.
+        ArePassed (files_of (S.held store.old)) (map run_param_lent params.now) args.places)
+        (IsUnpassed (files_of (S.held store.old)) (map run_param_lent params.now)) }
+    ensures files { S.held store.new ≡ S.held store.old }
 {
     let mut places = no_args();
     for place in 0..8 {
@@ -153,9 +154,10 @@ fn read_arg<'a, S: Store>(
     store: &mut S,
     why: &mut Why,
 ) -> Result<Arg, Stop<'a>>
-    ensures passed { MatchResult result (IsPassed S.files (run_param_lent param.now))
-        (IsOfParam S.files (run_param_lent param.now)) }
-    ensures files { Gains (S.written store.old) (S.written store.new) [] }
+    ensures passed { MatchResult result
+        (IsPassed (files_of (S.held store.old)) (run_param_lent param.now))
+        (IsOfParam (files_of (S.held store.old)) (run_param_lent param.now)) }
+    ensures files { S.held store.new ≡ S.held store.old }
 {
     match param {
         RunParam::None => Ok(Arg::None),
@@ -191,7 +193,7 @@ pub fn write<'a, S: Store>(
     store: &mut S,
     why: &mut Why,
 ) -> Result<(), Stop<'a>>
-    ensures { IsWritten S.files (S.written store.old) (S.written store.new)
+    ensures { IsWritten (files_of (S.held store.old)) (S.held store.old) (S.held store.new)
         (path.entry.now, bytes.now) result }
 {
     match store.write(path, bytes) {
@@ -207,7 +209,7 @@ fn write_out<'a, S: Store>(
     store: &mut S,
     why: &mut Why,
 ) -> Result<(), Stop<'a>>
-    ensures { IsOutWritten S.files (S.written store.old) (S.written store.new)
+    ensures { IsOutWritten (files_of (S.held store.old)) (S.held store.old) (S.held store.new)
         (out_file (run_param_lent param.now, arg.now)) result }
 {
     match out_file(param, arg) {
@@ -223,7 +225,7 @@ pub fn write_outs<'a, S: Store>(
     store: &mut S,
     why: &mut Why,
 ) -> Result<(), Stop<'a>>
-    ensures { AreWritten S.files (S.written store.old) (S.written store.new)
+    ensures { AreWritten (files_of (S.held store.old)) (S.held store.old) (S.held store.new)
         (map run_param_lent params.now) args.now result }
 {
     for place in 0..8 {

@@ -4,7 +4,7 @@
 //! others: `starts` (what those on a job begin with), `files` (what is read, and the out files),
 //! `accepted` (an image with its certificate), `lines` (the input of `mon`), `trial` (what comes of a
 //! run), `stop` (statuses and reasons to stop), `texts` (how those are told), `why` (what more is
-//! told of them) and `store` (where files are).
+//! told of them), `store` (where files are) and `memory` (files in memory).
 #![tactic(auto)]
 
 mod accepted;
@@ -12,6 +12,7 @@ mod checks;
 mod files;
 mod lines;
 mod makes;
+mod memory;
 mod mons;
 mod runs;
 mod starts;
@@ -24,8 +25,9 @@ mod why;
 
 pub use checks::check_image;
 pub use makes::{MakePaths, make_image};
+pub use memory::{Memory, check_memory, make_memory, run_memory, try_memory};
 pub use mons::{mon_job, mon_job_within};
 pub use runs::run_job;
 pub use stop::{Ending, Status, Stop};
-pub use store::{Disk, Store, StoreError, read_all};
+pub use store::{Disk, MOST_READS, Store, StoreError, read_all, reads_in_numbers};
 pub use tries::try_job;

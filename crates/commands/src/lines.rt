@@ -1,8 +1,10 @@
 //! Lines of the input, each answered before the next.
-ghost use Rattle.std.specs.Prelude.{◌≡◌, IfErr, IfOk, OnOk};
+ghost use Rattle.std.specs.Prelude.{◌≡◌, ◌++◌, ◌∷◌, [], ℕ, List, IfErr, IfOk, OnOk};
 ghost use Rattle.std.specs.Io.KnownBytes.{Appends};
 ghost use Rattle.monitor.specs.Commands.{order_of};
-ghost use Rattle.commands.specs.Mons.{IsUnanswered, answer_of, error_line, flow_after};
+ghost use Rattle.commands.specs.Mons.{IsUnanswered};
+ghost use Rattle.commands.specs.Talks.{GoesOver, IsAnswered, IsDone, IsLine, Talks, answer_of};
+ghost use Rattle.commands.specs.Talks.{error_line, flow_after, watch};
 ghost use Rattle.commands.specs.Why.{Notes};
 ghost use Rattle.commands.specs.declared.stop.Stop.TheVariants.{Memory};
 
@@ -44,6 +46,10 @@ fn carried<'a, const VLENB: usize>(
     ensures told { IfOk result (λ r.
         let order = order_of line.now monitor.old.breakpoints.items monitor.old.session.now in
         (r.0 ≡ flow_after order) × (r.1.items ≡ answer_of VLENB order monitor.new.session.now)) }
+    ensures done { IfOk result (λ r.
+        IsDone VLENB (order_of line.now monitor.old.breakpoints.items monitor.old.session.now)
+        (watch monitor.old.breakpoints.items monitor.old.session.now)
+        (watch monitor.new.breakpoints.items monitor.new.session.now)) }
     ensures memory { IfErr result (λ reason. reason ≡ Memory) }
 {
     let mut text = Over::new(Vec::new(alloc));
@@ -62,7 +68,27 @@ fn print<O: Write>(output: &mut O, text: &[u8]) -> io::Result<()>
     output.flush()
 }
 
-/// Answers a line, which is no command where it is not UTF-8, and tells whether lines go on.
+/// What a line comes to, which is no command where it is not UTF-8: whether lines go on, and what is told of it.
+fn answered<'a, const VLENB: usize>(
+    alloc: Global,
+    monitor: &mut Monitor<'_, VLENB>,
+    line: &[u8],
+) -> Result<(Flow, Vec<u8>), Stop<'a>>
+    ensures same_reference { monitor.new.session.ghost_name ≡ monitor.old.session.ghost_name }
+    ensures first { monitor.new.session.now.first ≡ monitor.old.session.now.first }
+    ensures answered { IfOk result (λ r. IsAnswered VLENB line.now
+        (watch monitor.old.breakpoints.items monitor.old.session.now)
+        (watch monitor.new.breakpoints.items monitor.new.session.now)
+        r.1.items r.0) }
+    ensures memory { IfErr result (λ reason. reason ≡ Memory) }
+{
+    match std::str::from_utf8(line) {
+        Ok(line) => carried(alloc, monitor, line),
+        Err(_) => Ok((Flow::Go, error_line(alloc, MonError::Unknown)?)),
+    }
+}
+
+/// Answers a line, and tells whether lines go on.
 fn answer<'a, const VLENB: usize, O: Write>(
     alloc: Global,
     monitor: &mut Monitor<'_, VLENB>,
@@ -71,16 +97,46 @@ fn answer<'a, const VLENB: usize, O: Write>(
 ) -> Result<Flow, Stop<'a>>
     ensures same_reference { monitor.new.session.ghost_name ≡ monitor.old.session.ghost_name }
     ensures first { monitor.new.session.now.first ≡ monitor.old.session.now.first }
+    ensures answered { IfOk result (λ f. (text : List ℕ)
+        × Appends (O.contents output.old) (O.contents output.new) text
+        × IsAnswered VLENB line.now
+        (watch monitor.old.breakpoints.items monitor.old.session.now)
+        (watch monitor.new.breakpoints.items monitor.new.session.now) text f) }
     ensures unanswered { IfErr result IsUnanswered }
 {
-    let (flow, text) = match std::str::from_utf8(line) {
-        Ok(line) => carried(alloc, monitor, line)?,
-        Err(_) => (Flow::Go, error_line(alloc, MonError::Unknown)?),
-    };
+    let (flow, text) = answered(alloc, monitor, line)?;
     match print(output, text.as_slice()) {
         Ok(()) => Ok(flow),
         Err(_) => Err(Stop::Output),
     }
+}
+
+/// Takes one more byte of a line, or its end, at which the line is answered.
+fn answer_byte<'a, const VLENB: usize, O: Write>(
+    alloc: Global,
+    monitor: &mut Monitor<'_, VLENB>,
+    line: &mut Vec<u8>,
+    byte: u8,
+    output: &mut O,
+) -> Result<Flow, Stop<'a>>
+    ensures same_reference { monitor.new.session.ghost_name ≡ monitor.old.session.ghost_name }
+    ensures first { monitor.new.session.now.first ≡ monitor.old.session.now.first }
+    ensures answered { IfOk result (λ f. IsLine line.old.items → GoesOver VLENB
+        (line.old.items ++ (byte ∷ [])) line.new.items
+        (O.contents output.old) (O.contents output.new)
+        (watch monitor.old.breakpoints.items monitor.old.session.now)
+        (watch monitor.new.breakpoints.items monitor.new.session.now) f) }
+    ensures unanswered { IfErr result IsUnanswered }
+{
+    if byte != b'\n' {
+        return match line.push(byte) {
+            Ok(()) => Ok(Flow::Go),
+            Err(_) => Err(Stop::Memory),
+        };
+    }
+    let flow = answer(alloc, monitor, line.as_slice(), output)?;
+    line.clear();
+    Ok(flow)
 }
 
 /// Answers each line that ends in these bytes, of which `line` holds the beginning of the first, and then that of the next.
@@ -93,16 +149,17 @@ fn answer_bytes<'a, const VLENB: usize, O: Write>(
 ) -> Result<Flow, Stop<'a>>
     ensures same_reference { monitor.new.session.ghost_name ≡ monitor.old.session.ghost_name }
     ensures first { monitor.new.session.now.first ≡ monitor.old.session.now.first }
+    ensures answered { IfOk result (λ f. IsLine line.old.items → GoesOver VLENB
+        (line.old.items ++ bytes.now) line.new.items
+        (O.contents output.old) (O.contents output.new)
+        (watch monitor.old.breakpoints.items monitor.old.session.now)
+        (watch monitor.new.breakpoints.items monitor.new.session.now) f) }
     ensures unanswered { IfErr result IsUnanswered }
 {
     for byte in bytes {
-        if *byte == b'\n' {
-            match answer(alloc, monitor, line.as_slice(), output)? {
-                Flow::Go => line.clear(),
-                Flow::Quit => return Ok(Flow::Quit),
-            }
-        } else if line.push(*byte).is_err() {
-            return Err(Stop::Memory);
+        match answer_byte(alloc, monitor, line, *byte, output)? {
+            Flow::Go => {}
+            Flow::Quit => return Ok(Flow::Quit),
         }
     }
     Ok(Flow::Go)
@@ -117,36 +174,35 @@ fn unread<'a>(error: io::Error, why: &mut Why) -> Stop<'a>
     stop_at(StoreError::from(error), Some(kind), "-", why)
 }
 
-/// The input, how often it is read at most, and where its lines are answered.
-#[derive(Drop)]
-pub struct Talk<'a, I, O> {
-    pub input: &'a mut I,
-    pub reads: u64,
-    pub output: &'a mut O,
-}
-
-/// Answers the lines of the input, up to the command `q` or the end. The last line needs no end.
+/// Answers the lines of the input, up to the command `q` or the end, in at most `reads` reads. The last line needs no end.
 /// Where the input fails, what the system says of it is noted.
 pub fn answer_lines<'a, const VLENB: usize, I: Read, O: Write>(
     alloc: Global,
     monitor: &mut Monitor<'_, VLENB>,
-    talk: &mut Talk<'_, I, O>,
+    input: &mut I,
+    output: &mut O,
+    reads: u64,
     why: &mut Why,
 ) -> Result<(), Stop<'a>>
     ensures same_reference { monitor.new.session.ghost_name ≡ monitor.old.session.ghost_name }
     ensures first { monitor.new.session.now.first ≡ monitor.old.session.now.first }
+    ensures answered { OnOk result (Talks VLENB
+        (I.remaining input.old) (I.remaining input.new)
+        (O.contents output.old) (O.contents output.new)
+        (watch monitor.old.breakpoints.items monitor.old.session.now)
+        (watch monitor.new.breakpoints.items monitor.new.session.now)) }
     ensures unanswered { IfErr result IsUnanswered }
 {
     let mut line = Vec::new(alloc);
     let mut chunk = [0u8; 4096];
-    for _ in 0..talk.reads {
-        match talk.input.read(&mut chunk) {
+    for _ in 0..reads {
+        match input.read(&mut chunk) {
             Ok(0) if line.is_empty() => return Ok(()),
             Ok(0) => {
-                answer(alloc, monitor, line.as_slice(), talk.output)?;
+                answer(alloc, monitor, line.as_slice(), output)?;
                 return Ok(());
             }
-            Ok(n) => match answer_bytes(alloc, monitor, &mut line, &chunk[..n], talk.output)? {
+            Ok(n) => match answer_bytes(alloc, monitor, &mut line, &chunk[..n], output)? {
                 Flow::Go => {}
                 Flow::Quit => return Ok(()),
             },

@@ -1,13 +1,13 @@
 //! `make`: an image with the certificate that is made of its loop.
-ghost use Rattle.std.specs.Prelude.{[], IfOk, MatchResult, Option};
+ghost use Rattle.std.specs.Prelude.{◌≡◌, Err, IfErr, IfOk, MatchResult};
 ghost use Rattle.block_checker.specs.Accepted.{Passes};
 ghost use Rattle.commands.specs.Accepted.{IsOrWant};
 ghost use Rattle.commands.specs.Ending.{Ends};
-ghost use Rattle.commands.specs.Files.{OfTable, StopsOfTable};
-ghost use Rattle.commands.specs.Makes.{AnswersBytes, Makes, StopsMake, accepted_in};
+ghost use Rattle.commands.specs.Files.{OfTable, StopsOfTable, files_of, image_in};
+ghost use Rattle.commands.specs.Makes.{AnswersBytes, Makes, StopsMake, accepted_in, bytes_of};
 ghost use Rattle.commands.specs.Makes.{certificate_for, made_of, with_certificate};
 ghost use Rattle.commands.specs.Trial.{OrMemory};
-ghost use Rattle.commands.specs.Written.{Gains, Written};
+ghost use Rattle.commands.specs.Written.{Gains};
 ghost use Rattle.toml.specs.View.{table_view};
 
 use crate::accepted::accept;
@@ -58,12 +58,13 @@ pub fn make_image<'a, S: Store, O: Write, E: Write>(
     errors: &mut E,
 ) -> Ending
     ensures { Ends explain
-        (OfTable S.files paths.entry.job.now (λ table.
-        Makes S.files paths.entry.image.now paths.entry.out.now table
+        (OfTable (files_of (S.held store.old)) paths.entry.job.now (λ table.
+        Makes (files_of (S.held store.old)) paths.entry.image.now paths.entry.out.now table
         (O.contents output.old) (O.contents output.new)
-        (S.written store.old) (S.written store.new)))
-        (StopsOfTable S.files (Gains (S.written store.old) (S.written store.new))
-        paths.entry.job.now (StopsMake S.files (Gains (S.written store.old) (S.written store.new))
+        (S.held store.old) (S.held store.new)))
+        (StopsOfTable (files_of (S.held store.old)) (Gains (S.held store.old) (S.held store.new))
+        paths.entry.job.now (StopsMake (files_of (S.held store.old))
+        (Gains (S.held store.old) (S.held store.new))
         paths.entry.image.now paths.entry.out.now))
         (E.contents errors.old) (E.contents errors.new) result }
 {
@@ -71,7 +72,7 @@ pub fn make_image<'a, S: Store, O: Write, E: Write>(
         make_table(alloc, table, paths, store, output, why))
 }
 
-/// `make` on a job's table. No file was written since those of `first`.
+/// `make` on a job's table.
 fn make_table<'a, S: Store, O: Write>(
     alloc: Global,
     table: &Table,
@@ -80,10 +81,11 @@ fn make_table<'a, S: Store, O: Write>(
     output: &mut O,
     why: &mut Why,
 ) -> Result<Status, Stop<'a>>
-    ensures { (first : Option Written) → Gains first (S.written store.old) [] → MatchResult result
-        (Makes S.files paths.entry.image.now paths.entry.out.now (table_view table.now)
-        (O.contents output.old) (O.contents output.new) first (S.written store.new))
-        (StopsMake S.files (Gains first (S.written store.new))
+    ensures { MatchResult result
+        (Makes (files_of (S.held store.old)) paths.entry.image.now paths.entry.out.now
+        (table_view table.now) (O.contents output.old) (O.contents output.new)
+        (S.held store.old) (S.held store.new))
+        (StopsMake (files_of (S.held store.old)) (Gains (S.held store.old) (S.held store.new))
         paths.entry.image.now paths.entry.out.now (table_view table.now)) }
 {
     let job = make_job_in(table).ok_or(JobError::BadKey)?;
@@ -142,7 +144,8 @@ fn with_certificate<'a>(
 
 /// A file with the certificate that is made of it for a job.
 fn made<'a>(alloc: Global, job: &MakeJob, file: &[u8], why: &mut Why) -> Result<Vec<u8>, Stop<'a>>
-    ensures { AnswersBytes (made_of job.now file.now) result }
+    ensures image { IfErr (image_in file.now) (λ reason. bytes_of result ≡ Err reason) }
+    ensures answer { AnswersBytes (made_of job.now file.now) result }
 {
     let image = image_in(alloc, file, why)?;
     let certificate = certificate_for(alloc, job, &image, why)?;
@@ -156,6 +159,7 @@ fn read_back<'a>(
     bytes: &[u8],
     why: &mut Why,
 ) -> Result<Accepted, Stop<'a>>
+    ensures image { IfErr (image_in bytes.now) (λ reason. result ≡ Err reason) }
     ensures answer { IsOrWant (accepted_in job.now bytes.now) result }
     ensures passes { IfOk result Passes }
 {

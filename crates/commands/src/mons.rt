@@ -1,14 +1,15 @@
 //! `mon`: commands on the run of an image that is accepted.
-ghost use Rattle.std.specs.Prelude.{◌≡◌, [], IfErr, IfOk, MatchResult, Option};
+ghost use Rattle.std.specs.Prelude.{◌≡◌, IfErr, MatchResult, OnOk};
 ghost use Rattle.toml.specs.View.{table_view};
 ghost use Rattle.vreg_groups.specs.VectorLength.{IsVlenb, vlenb_of};
 ghost use Rattle.commands.specs.Ending.{Ends};
-ghost use Rattle.commands.specs.Files.{OfTable, StopsOfTable};
+ghost use Rattle.commands.specs.Files.{OfTable, StopsOfTable, files_of};
 ghost use Rattle.commands.specs.Mons.{IsStopped, IsUnanswered, Mons, StopsMon, StopsWatching};
-ghost use Rattle.commands.specs.Written.{Gains, Written};
+ghost use Rattle.commands.specs.Talks.{AreTold, exchange};
+ghost use Rattle.commands.specs.Written.{Gains};
 
 use crate::files::write_outs;
-use crate::lines::{Talk, answer_lines};
+use crate::lines::answer_lines;
 use crate::starts::{Ready, Start, on_table, started};
 use crate::stop::{Ending, Status, Stop};
 use crate::store::{MOST_READS, Store};
@@ -41,10 +42,17 @@ pub fn mon_job<S: Store, I: Read, O: Write, E: Write>(
     errors: &mut E,
 ) -> Ending
     ensures { Ends explain
-        (OfTable S.files path.now (λ table.
-        Mons S.files table (S.written store.old) (S.written store.new)))
-        (StopsOfTable S.files (Gains (S.written store.old) (S.written store.new)) path.now
-        (StopsMon S.files (Gains (S.written store.old) (S.written store.new))))
+        (OfTable (files_of (S.held store.old)) path.now (λ table.
+        Mons (files_of (S.held store.old)) table
+        (exchange (I.remaining input.old) (I.remaining input.new)
+        (O.contents output.old) (O.contents output.new))
+        (S.held store.old) (S.held store.new)))
+        (StopsOfTable (files_of (S.held store.old))
+        (Gains (S.held store.old) (S.held store.new)) path.now
+        (StopsMon (files_of (S.held store.old))
+        (exchange (I.remaining input.old) (I.remaining input.new)
+        (O.contents output.old) (O.contents output.new))
+        (Gains (S.held store.old) (S.held store.new))))
         (E.contents errors.old) (E.contents errors.new) result }
 {
     mon_job_within(
@@ -65,35 +73,45 @@ pub fn mon_job_within<S: Store, I: Read, O: Write, E: Write>(
     reads: u64,
 ) -> Ending
     ensures { Ends explain
-        (OfTable S.files path.now (λ table.
-        Mons S.files table (S.written store.old) (S.written store.new)))
-        (StopsOfTable S.files (Gains (S.written store.old) (S.written store.new)) path.now
-        (StopsMon S.files (Gains (S.written store.old) (S.written store.new))))
+        (OfTable (files_of (S.held store.old)) path.now (λ table.
+        Mons (files_of (S.held store.old)) table
+        (exchange (I.remaining input.old) (I.remaining input.new)
+        (O.contents output.old) (O.contents output.new))
+        (S.held store.old) (S.held store.new)))
+        (StopsOfTable (files_of (S.held store.old))
+        (Gains (S.held store.old) (S.held store.new)) path.now
+        (StopsMon (files_of (S.held store.old))
+        (exchange (I.remaining input.old) (I.remaining input.new)
+        (O.contents output.old) (O.contents output.new))
+        (Gains (S.held store.old) (S.held store.new))))
         (E.contents errors.old) (E.contents errors.new) result }
 {
-    let mut talk = Talk {
-        input,
-        output,
-        reads,
-    };
     on_table!(alloc, path, Command::Mon, explain, store, errors; table, why =>
-        mon_table(alloc, table, store, &mut talk, why))
+        mon_table(alloc, table, store, input, output, reads, why))
 }
 
-/// `mon` on a job's table. No file was written since those of `first`.
+/// `mon` on a job's table.
 fn mon_table<'a, S: Store, I: Read, O: Write>(
     alloc: Global,
     table: &'a Table,
     store: &mut S,
-    talk: &mut Talk<'_, I, O>,
+    input: &mut I,
+    output: &mut O,
+    reads: u64,
     why: &mut Why,
 ) -> Result<Status, Stop<'a>>
-    ensures { (first : Option Written) → Gains first (S.written store.old) [] → MatchResult result
-        (Mons S.files (table_view table.entry.now) first (S.written store.new))
-        (StopsMon S.files (Gains first (S.written store.new)) (table_view table.entry.now)) }
+    ensures { MatchResult result
+        (Mons (files_of (S.held store.old)) (table_view table.entry.now)
+        (exchange (I.remaining input.old) (I.remaining input.new)
+        (O.contents output.old) (O.contents output.new))
+        (S.held store.old) (S.held store.new))
+        (StopsMon (files_of (S.held store.old))
+        (exchange (I.remaining input.old) (I.remaining input.new)
+        (O.contents output.old) (O.contents output.new))
+        (Gains (S.held store.old) (S.held store.new)) (table_view table.entry.now)) }
 {
     let Start { ready, args } = started(alloc, table, store, why)?;
-    let kept = mon_accepted(alloc, &ready, args, talk, why)?;
+    let kept = mon_accepted(alloc, &ready, args, input, output, reads, why)?;
     write_outs(&ready.job.params, &kept.places, store, why)?;
     Ok(Status::Done)
 }
@@ -104,19 +122,24 @@ fn mon_accepted<'a, I: Read, O: Write>(
     alloc: Global,
     ready: &Ready<'_>,
     args: Args,
-    talk: &mut Talk<'_, I, O>,
+    input: &mut I,
+    output: &mut O,
+    reads: u64,
     why: &mut Why,
 ) -> Result<Args, Stop<'a>>
     ensures { MatchResult result
         (λ kept. IsStopped (vlenb_of ready.now.job.vlen) ready.now.job.agnostic ready.now.job.max
-        ready.now.accepted args.places kept.places)
+        ready.now.accepted args.places
+        (exchange (I.remaining input.old) (I.remaining input.new)
+        (O.contents output.old) (O.contents output.new))
+        kept.places)
         (StopsWatching (vlenb_of ready.now.job.vlen) ready.now.job.max ready.now.accepted
         args.places) }
 {
     match ready.job.vlen {
-        Vlen::V128 => mon_session::<16, I, O>(alloc, ready, args, talk, why),
-        Vlen::V256 => mon_session::<32, I, O>(alloc, ready, args, talk, why),
-        Vlen::V512 => mon_session::<64, I, O>(alloc, ready, args, talk, why),
+        Vlen::V128 => mon_session::<16, I, O>(alloc, ready, args, input, output, reads, why),
+        Vlen::V256 => mon_session::<32, I, O>(alloc, ready, args, input, output, reads, why),
+        Vlen::V512 => mon_session::<64, I, O>(alloc, ready, args, input, output, reads, why),
     }
 }
 
@@ -124,33 +147,44 @@ fn mon_accepted<'a, I: Read, O: Write>(
 fn watch<'a, const VLENB: usize, I: Read, O: Write>(
     alloc: Global,
     session: &mut Session<VLENB>,
-    talk: &mut Talk<'_, I, O>,
+    input: &mut I,
+    output: &mut O,
+    reads: u64,
     why: &mut Why,
 ) -> Result<(), Stop<'a>>
     ensures first { session.new.first ≡ session.old.first }
+    ensures talks { OnOk result (AreTold VLENB
+        (exchange (I.remaining input.old) (I.remaining input.new)
+        (O.contents output.old) (O.contents output.new))
+        session.old session.new) }
     ensures unanswered { IfErr result IsUnanswered }
 {
     let mut monitor = Monitor::new(session);
-    answer_lines(alloc, &mut monitor, talk, why)
+    answer_lines(alloc, &mut monitor, input, output, reads, why)
 }
 
 fn mon_session<'a, const VLENB: usize, I: Read, O: Write>(
     alloc: Global,
     ready: &Ready<'_>,
     args: Args,
-    talk: &mut Talk<'_, I, O>,
+    input: &mut I,
+    output: &mut O,
+    reads: u64,
     why: &mut Why,
 ) -> Result<Args, Stop<'a>>
     requires { IsVlenb VLENB }
     ensures { MatchResult result
         (λ kept. IsStopped VLENB ready.now.job.agnostic ready.now.job.max ready.now.accepted
-        args.places kept.places)
+        args.places
+        (exchange (I.remaining input.old) (I.remaining input.new)
+        (O.contents output.old) (O.contents output.new))
+        kept.places)
         (StopsWatching VLENB ready.now.job.max ready.now.accepted args.places) }
 {
     let Ready { job, accepted } = ready;
     match Session::<VLENB>::open(alloc, accepted, args, job.agnostic, job.max) {
         Ok(mut session) => {
-            watch(alloc, &mut session, talk, why)?;
+            watch(alloc, &mut session, input, output, reads, why)?;
             session.stands();
             Ok(session.close())
         }

@@ -1,13 +1,13 @@
 //! `run`: a job on an image that is accepted.
-ghost use Rattle.std.specs.Prelude.{◌≡◌, [], IfOk, MatchResult, Option};
+ghost use Rattle.std.specs.Prelude.{◌≡◌, IfOk, MatchResult};
 ghost use Rattle.job_file.specs.Needs.{run_job_lent};
 ghost use Rattle.toml.specs.View.{table_view};
 ghost use Rattle.vreg_groups.specs.VectorLength.{IsVlenb};
 ghost use Rattle.commands.specs.Ending.{Ends};
-ghost use Rattle.commands.specs.Files.{OfTable, StopsOfTable};
+ghost use Rattle.commands.specs.Files.{OfTable, StopsOfTable, files_of};
 ghost use Rattle.commands.specs.Runs.{Runs, StopsRun, run_of_job, session_of};
 ghost use Rattle.commands.specs.Trial.{OrMemory};
-ghost use Rattle.commands.specs.Written.{Gains, Written};
+ghost use Rattle.commands.specs.Written.{Gains};
 ghost use Rattle.commands.specs.declared.trial.End.TheVariants.{Ended};
 
 use crate::starts::{Ready, Start, on_table, started};
@@ -40,18 +40,19 @@ pub fn run_job<S: Store, O: Write, E: Write>(
     errors: &mut E,
 ) -> Ending
     ensures { Ends explain
-        (OfTable S.files path.now (λ table.
-        Runs S.files table (O.contents output.old) (O.contents output.new)
-        (S.written store.old) (S.written store.new)))
-        (StopsOfTable S.files (Gains (S.written store.old) (S.written store.new)) path.now
-        (StopsRun S.files (Gains (S.written store.old) (S.written store.new))))
+        (OfTable (files_of (S.held store.old)) path.now (λ table.
+        Runs (files_of (S.held store.old)) table (O.contents output.old) (O.contents output.new)
+        (S.held store.old) (S.held store.new)))
+        (StopsOfTable (files_of (S.held store.old))
+        (Gains (S.held store.old) (S.held store.new)) path.now
+        (StopsRun (files_of (S.held store.old)) (Gains (S.held store.old) (S.held store.new))))
         (E.contents errors.old) (E.contents errors.new) result }
 {
     on_table!(alloc, path, Command::Run, explain, store, errors; table, why =>
         run_table(alloc, table, store, output, why))
 }
 
-/// `run` on a job's table. No file was written since those of `first`.
+/// `run` on a job's table.
 fn run_table<'a, S: Store, O: Write>(
     alloc: Global,
     table: &'a Table,
@@ -59,10 +60,11 @@ fn run_table<'a, S: Store, O: Write>(
     output: &mut O,
     why: &mut Why,
 ) -> Result<Status, Stop<'a>>
-    ensures { (first : Option Written) → Gains first (S.written store.old) [] → MatchResult result
-        (Runs S.files (table_view table.entry.now)
-        (O.contents output.old) (O.contents output.new) first (S.written store.new))
-        (StopsRun S.files (Gains first (S.written store.new)) (table_view table.entry.now)) }
+    ensures { MatchResult result
+        (Runs (files_of (S.held store.old)) (table_view table.entry.now)
+        (O.contents output.old) (O.contents output.new) (S.held store.old) (S.held store.new))
+        (StopsRun (files_of (S.held store.old)) (Gains (S.held store.old) (S.held store.new))
+        (table_view table.entry.now)) }
 {
     let Start { ready, args } = started(alloc, table, store, why)?;
     let trial = run_accepted(alloc, &ready, args, why)?;

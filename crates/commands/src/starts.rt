@@ -1,9 +1,9 @@
 //! What subcommands on a job begin with: its table, and, for `run` and `mon`, its image, accepted.
-ghost use Rattle.std.specs.Prelude.{[], MatchResult};
+ghost use Rattle.std.specs.Prelude.{◌≡◌, MatchResult};
 ghost use Rattle.job_file.specs.Needs.{run_job_lent};
 ghost use Rattle.toml.specs.View.{table_view};
 ghost use Rattle.commands.specs.Starts.{IsStarted, IsUnstarted};
-ghost use Rattle.commands.specs.Written.{Gains};
+ghost use Rattle.commands.specs.Files.{files_of};
 
 use crate::accepted::accept;
 use crate::files::{read_args, read_image};
@@ -60,10 +60,10 @@ pub fn started<'a, S: Store>(
     why: &mut Why,
 ) -> Result<Start<'a>, Stop<'a>>
     ensures start { MatchResult result
-        (λ start. IsStarted S.files (table_view table.entry.now) (run_job_lent start.ready.job)
-        start.ready.accepted start.args.places)
-        (IsUnstarted S.files (table_view table.entry.now)) }
-    ensures files { Gains (S.written store.old) (S.written store.new) [] }
+        (λ start. IsStarted (files_of (S.held store.old)) (table_view table.entry.now)
+        (run_job_lent start.ready.job) start.ready.accepted start.args.places)
+        (IsUnstarted (files_of (S.held store.old)) (table_view table.entry.now)) }
+    ensures files { S.held store.new ≡ S.held store.old }
 {
     let job = run_job_in(table).ok_or(JobError::BadKey)?;
     why.forget();

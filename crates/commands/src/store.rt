@@ -11,8 +11,13 @@ use std::io::{ErrorKind, Read, Write};
 use std::rt::Files;
 use std::{fmt, fs, io};
 
-/// How often a file is read from before it counts as one that never ends.
-pub(crate) const MOST_READS: u64 = 1 << 32;
+/// How often a file, or the input of `mon`, is read from before it counts as one that never ends.
+pub const MOST_READS: u64 = 1 << 32;
+
+/// Law: how often that is, in numbers.
+pub fn reads_in_numbers()
+    ensures { MOST_READS ≡ 0x1_0000_0000 }
+{}
 
 /// Why a file was not read or written.
 #[derive(Clone, Copy, Debug, PartialEq, Eq)]
@@ -55,16 +60,13 @@ impl From<io::Error> for StoreError {
 
 /// Files by their paths.
 pub trait Store {
-    ghost use Rattle.std.specs.Prelude.{◌≡◌, [], IfErr, MatchResult, OnOk, Option, None};
+    ghost use Rattle.std.specs.Prelude.{◌≡◌, IfErr, MatchResult, OnOk, Option, None};
     ghost use Rattle.std.specs.declared.io.ErrorKind.{ErrorKind};
-    ghost use Rattle.commands.specs.Files.{Files, unknown_files};
-    ghost use Rattle.commands.specs.Written.{Gains, GainsOnOk, Written};
+    ghost use Rattle.commands.specs.Files.{files_of};
+    ghost use Rattle.commands.specs.Written.{GainsOnOk, Held};
 
-    // which bytes the file at a path may be read as, and with which errors it may not be read or written
-    ghost files: { Files } = { unknown_files };
-
-    // the files that were written whole, in their order, where they are known
-    ghost written: { Self → Option Written } = { λ _. None };
+    // the files, where they are known
+    ghost held: { Self → Option Held } = { λ _. None };
 
     // what the system said of the last call, where that failed and the system said why
     ghost failure: { Self → Option ErrorKind } = { λ _. None };
@@ -72,15 +74,15 @@ pub trait Store {
     /// The bytes of the file at `path`.
     fn read(&mut self, alloc: Global, path: &str) -> Result<Vec<u8>, StoreError>
         ensures bytes { MatchResult result
-            (λ bytes. files.holds path.now bytes.items) (files.unread path.now) }
-        ensures kept { Gains (written self.old) (written self.new) [] }
+            (λ bytes. (files_of (held self.old)).holds path.now bytes.items)
+            ((files_of (held self.old)).unread path.now) }
+        ensures kept { held self.new ≡ held self.old }
         ensures done { OnOk result (failure self.new ≡ None) };
 
     /// Makes a file at `path` that has these bytes, in place of what was there.
     fn write(&mut self, path: &str, bytes: &[u8]) -> Result<(), StoreError>
-        ensures wrote { GainsOnOk (written self.old) (written self.new)
-            (path.now, bytes.now) result }
-        ensures error { IfErr result (files.unwritten path.now) }
+        ensures wrote { GainsOnOk (held self.old) (held self.new) (path.now, bytes.now) result }
+        ensures error { IfErr result ((files_of (held self.old)).unwritten path.now) }
         ensures done { OnOk result (failure self.new ≡ None) };
 
     /// What the system said of the last call, where that failed and the system said why.

@@ -3,7 +3,7 @@ ghost use Rattle.std.specs.Prelude.{◌≡◌, IfErr, IfOk, OnOk, map};
 ghost use Rattle.std.specs.Io.KnownBytes.{Appends};
 ghost use Rattle.job_file.specs.Needs.{run_param_lent};
 ghost use Rattle.commands.specs.Ending.{status_of_end};
-ghost use Rattle.commands.specs.Files.{IsUnfinished, outs_of};
+ghost use Rattle.commands.specs.Files.{IsUnfinished, files_of, outs_of};
 ghost use Rattle.commands.specs.Trial.{line_of};
 ghost use Rattle.commands.specs.Written.{Gains};
 
@@ -93,10 +93,10 @@ pub fn finish<'a, S: Store, O: Write>(
     ensures done { IfOk result (λ status. status ≡ status_of_end trial.now.end) }
     ensures told { OnOk result
         (Appends (O.contents output.old) (O.contents output.new) (line_of trial.now)) }
-    ensures wrote { OnOk result (Gains (S.written store.old) (S.written store.new)
+    ensures wrote { OnOk result (Gains (S.held store.old) (S.held store.new)
         (outs_of (map run_param_lent params.now) trial.now.args.places)) }
     ensures unfinished { IfErr result
-        (IsUnfinished S.files (Gains (S.written store.old) (S.written store.new))
+        (IsUnfinished (files_of (S.held store.old)) (Gains (S.held store.old) (S.held store.new))
         (map run_param_lent params.now) trial.now.args.places) }
 {
     write_outs(params, &trial.args.places, store, why)?;

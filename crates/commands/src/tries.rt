@@ -1,14 +1,14 @@
 //! `try`: a job on any image, with every test at each step.
-ghost use Rattle.std.specs.Prelude.{◌≡◌, [], MatchResult, Option, map};
+ghost use Rattle.std.specs.Prelude.{◌≡◌, MatchResult, map};
 ghost use Rattle.job_file.specs.Needs.{run_param_lent, try_job_lent, try_param_lent};
 ghost use Rattle.toml.specs.View.{table_view};
 ghost use Rattle.vreg_groups.specs.VectorLength.{IsVlenb};
 ghost use Rattle.commands.specs.Ending.{Ends};
-ghost use Rattle.commands.specs.Files.{OfTable, StopsOfTable};
+ghost use Rattle.commands.specs.Files.{OfTable, StopsOfTable, files_of};
 ghost use Rattle.commands.specs.Trial.{OrMemory};
 ghost use Rattle.commands.specs.Tries.{StopsTry, Tries, param_for, params_for, passed_by};
 ghost use Rattle.commands.specs.Tries.{passed_size, run_of, trial_of};
-ghost use Rattle.commands.specs.Written.{Gains, Written};
+ghost use Rattle.commands.specs.Written.{Gains};
 
 use crate::files::{read_args, read_image};
 use crate::starts::on_table;
@@ -42,18 +42,19 @@ pub fn try_job<S: Store, O: Write, E: Write>(
     errors: &mut E,
 ) -> Ending
     ensures { Ends explain
-        (OfTable S.files path.now (λ table.
-        Tries S.files table (O.contents output.old) (O.contents output.new)
-        (S.written store.old) (S.written store.new)))
-        (StopsOfTable S.files (Gains (S.written store.old) (S.written store.new)) path.now
-        (StopsTry S.files (Gains (S.written store.old) (S.written store.new))))
+        (OfTable (files_of (S.held store.old)) path.now (λ table.
+        Tries (files_of (S.held store.old)) table (O.contents output.old) (O.contents output.new)
+        (S.held store.old) (S.held store.new)))
+        (StopsOfTable (files_of (S.held store.old))
+        (Gains (S.held store.old) (S.held store.new)) path.now
+        (StopsTry (files_of (S.held store.old)) (Gains (S.held store.old) (S.held store.new))))
         (E.contents errors.old) (E.contents errors.new) result }
 {
     on_table!(alloc, path, Command::Try, explain, store, errors; table, why =>
         try_table(alloc, table, store, output, why))
 }
 
-/// `try` on a job's table. No file was written since those of `first`.
+/// `try` on a job's table.
 fn try_table<'a, S: Store, O: Write>(
     alloc: Global,
     table: &'a Table,
@@ -61,10 +62,11 @@ fn try_table<'a, S: Store, O: Write>(
     output: &mut O,
     why: &mut Why,
 ) -> Result<Status, Stop<'a>>
-    ensures { (first : Option Written) → Gains first (S.written store.old) [] → MatchResult result
-        (Tries S.files (table_view table.entry.now)
-        (O.contents output.old) (O.contents output.new) first (S.written store.new))
-        (StopsTry S.files (Gains first (S.written store.new)) (table_view table.entry.now)) }
+    ensures { MatchResult result
+        (Tries (files_of (S.held store.old)) (table_view table.entry.now)
+        (O.contents output.old) (O.contents output.new) (S.held store.old) (S.held store.new))
+        (StopsTry (files_of (S.held store.old)) (Gains (S.held store.old) (S.held store.new))
+        (table_view table.entry.now)) }
 {
     let job = try_job_in(table).ok_or(JobError::BadKey)?;
     why.forget();

@@ -1,6 +1,6 @@
 //! How a file is read to its end.
 use crate::tests::assertions::given;
-use commands::{StoreError, read_all};
+use commands::{MOST_READS, StoreError, read_all, reads_in_numbers};
 use std::alloc::Global;
 use std::io;
 use std::io::Read;
@@ -57,6 +57,12 @@ fn reads_to_the_end(rt: HostRuntime) {
     ] {
         assert!(rt; read_of(rt.alloc(), left) == answer);
     }
+}
+
+#[test]
+fn reads_so_often_at_most(rt: HostRuntime) {
+    reads_in_numbers();
+    assert!(rt; MOST_READS == 4_294_967_296);
 }
 
 #[test]

@@ -1,7 +1,4 @@
-//! Stores that say which failures their files have, and words that the system does not give.
-ghost use Rattle.std.specs.Prelude.{◌≡◌, codes};
-ghost use Rattle.commands.specs.declared.store.StoreError.TheVariants as store_error;
-
+//! A store without memory, and words that the system does not give.
 use crate::tests::performances::performed;
 use command_line::end_without_words;
 use commands::{Status, Store, StoreError};
@@ -9,42 +6,6 @@ use std::alloc::Global;
 use std::io;
 use std::io::ErrorKind;
 use std::process::Abort;
-
-/// At every path the same text, which is read unless memory runs out. None can be written.
-#[derive(Drop)]
-struct Same;
-
-impl Store for Same {
-    ghost files = { record {
-      holds = λ path bytes. bytes ≡ codes "max = 7";
-      unread = λ path error. error ≡ store_error.NoMemory;
-      unwritten = λ path error. error ≡ store_error.Failed;
-    } };
-
-    fn read(&mut self, alloc: Global, _path: &str) -> Result<Vec<u8>, StoreError> {
-        Ok(Vec::from_slice(alloc, "max = 7".as_bytes())?)
-    }
-
-    fn write(&mut self, _path: &str, _bytes: &[u8]) -> Result<(), StoreError> {
-        Err(StoreError::Failed)
-    }
-
-    fn last_failure(&self) -> Option<ErrorKind> {
-        None
-    }
-}
-
-#[test]
-fn reads_files_that_never_fail(rt: HostRuntime) {
-    for (words, status, text) in [
-        ("rvvbox check any", Status::Refused, "refused: TooShort\n"),
-        ("rvvbox try any", Status::Usage, "job: BadKey\n"),
-    ] {
-        let came = performed(rt, rt.alloc(), words, &mut Same, &mut b"".as_slice());
-        assert!(rt; came.status == status);
-        assert!(rt; came.errors.as_slice() == text.as_bytes());
-    }
-}
 
 /// Has no memory for any file, whatever the system says.
 #[derive(Drop)]
@@ -88,6 +49,12 @@ fn expect_end(rt: impl Abort + Copy, alloc: Global, kind: ErrorKind, status: Sta
 fn ends_without_words_of_the_system(rt: HostRuntime) {
     let alloc = rt.alloc();
     let (data, memory) = (ErrorKind::InvalidData, ErrorKind::OutOfMemory);
-    expect_end(rt, alloc, data, Status::Usage, "");
+    expect_end(
+        rt,
+        alloc,
+        data,
+        Status::Usage,
+        "error: the words are not UTF-8\n",
+    );
     expect_end(rt, alloc, memory, Status::Memory, "out of memory\n");
 }

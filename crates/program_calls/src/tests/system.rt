@@ -8,7 +8,7 @@ use std::fs;
 use std::process::Abort;
 
 /// ret, with a certificate that states a bound of one instruction.
-const IMAGE: &str = "\
+pub(crate) const IMAGE: &str = "\
 7f454c460101010000000000000000000200f30001000000000001003400000000000000000000003400200002000000\
 000000000100000074000000000001000000010004000000040000000500000004000000040000007800000000000000\
 000000009c0000009c000000040000000400000067800000070000008600000001000000525656424f58000001000100\
@@ -17,7 +17,7 @@ const IMAGE: &str = "\
 01000000000001000100000000000000000000010000000001f0fffffff0ffffffff0000";
 
 /// A job on it.
-const JOB: &str = "image = \"one.elf\"\nvlen = 128\nagnostic = \"keep\"\nmax = 1\n";
+pub(crate) const JOB: &str = "image = \"one.elf\"\nvlen = 128\nagnostic = \"keep\"\nmax = 1\n";
 
 /// Asserts what comes of words on an input of one line.
 fn expect<S: Store>(rt: impl Abort + Copy, alloc: Global, store: &mut S, words: &str, text: &str) {

@@ -1,15 +1,14 @@
-use Rattle.std.proofs.Common.{◌≡◌, [], ℕ, ◌<◌, length, get_or}
+use Rattle.std.proofs.Common.{◌≡◌, ℕ, ◌<◌, length, get_or}
 use Rattle.job_file.specs.Needs.{run_param_lent}
 use Rattle.job_file.specs.declared.values.RunParam.TheVariants as given
 use Rattle.region_mem.specs.declared.arguments.Arg.TheVariants as argument
-use Rattle.commands.specs.Files.{IsPassed}
-use Rattle.commands.specs.Written.{Gains}
+use Rattle.commands.specs.Files.{IsPassed, files_of}
 use Rattle.commands.proofs.files.read_args.Given as goal
 
 -- the places so far have what the job passes, and no file was written
 abbrev pub invariant-loop-place : goal.invariant-loop-place
 invariant-loop-place g l = record {
   eight : length l.places ≡ 8;
-  passed : (k : ℕ) → k < l.place → IsPassed g.S.Store.files (run_param_lent (get_or l.params k given.None)) (get_or l.places k argument.None);
-  kept : Gains (g.S.Store.written l.initial.store) (g.S.Store.written l.store) [];
+  passed : (k : ℕ) → k < l.place → IsPassed (files_of (g.S.Store.held l.initial.store)) (run_param_lent (get_or l.params k given.None)) (get_or l.places k argument.None);
+  kept : g.S.Store.held l.store ≡ g.S.Store.held l.initial.store;
 }

@@ -6,5 +6,5 @@ use Rattle.commands.proofs.files.write_outs.Given as goal
 
 -- the out files of the places so far were written
 abbrev pub invariant-loop-place : goal.invariant-loop-place
-invariant-loop-place g l = Gains (g.S.Store.written l.initial.store) (g.S.Store.written l.store)
+invariant-loop-place g l = Gains (g.S.Store.held l.initial.store) (g.S.Store.held l.store)
     (outs_of (take l.place (map run_param_lent l.params)) (take l.place l.args))

@@ -1,9 +1,14 @@
-use Rattle.std.proofs.Common.{◌≡◌}
+use Rattle.std.proofs.Common.{◌≡◌, ◌++◌, take}
+use Rattle.monitor.specs.declared.commands.Flow.TheVariants as flow
+use Rattle.commands.specs.Talks.{GoesOver, IsLine, watch}
 use Rattle.commands.proofs.lines.answer_bytes.Given as goal
 
--- the run is the one that was opened
+-- the run is the one that was opened, and all lines so far are answered
 abbrev pub invariant-loop-byte : goal.invariant-loop-byte
 invariant-loop-byte g l = record {
   same : l.monitor.session.ghost_name ≡ l.fn.monitor.session.ghost_name;
   first : l.monitor.session.now.first ≡ l.fn.monitor.session.now.first;
+  goes : IsLine l.initial.line.items → GoesOver g.row.VLENB (l.initial.line.items ++ take l.byte-index l.bytes) l.line.items
+      (g.O.Write.contents l.initial.output) (g.O.Write.contents l.output)
+      (watch l.initial.monitor.breakpoints.items l.initial.monitor.session.now) (watch l.monitor.breakpoints.items l.monitor.session.now) flow.Go;
 }

@@ -1,10 +1,21 @@
-use Rattle.std.proofs.Common.{inl, inr}
+use Rattle.std.proofs.Common.{inl, inr, MatchResult, Option, subst}
+use Rattle.toml.specs.View.{table_view}
+use Rattle.commands.specs.Files.{files_of}
+use Rattle.commands.specs.Mons.{Mons, StopsMon}
+use Rattle.commands.specs.Talks.{exchange}
+use Rattle.commands.specs.Written.{Gains, Held}
 use Rattle.commands.proofs.CommandLemmas.{ends_as, ends_by}
+use Rattle.commands.specs.WrittenLemmas.{nothing}
 use Rattle.commands.proofs.mons.mon_job_within.Goals as goal
 
 pub returns-in-Ok : goal.returns-in-Ok
 returns-in-Ok g c =
-    ends_by c.mon_table-done.result _ _ c.ended.ensures (c.mon_table-done.ensures (g.S.Store.written c.args.store.now) c.in-Ok.ensures.files) (λ s it. (_, c.in-Ok.ensures.table, it)) (λ reason it. inr (_, c.in-Ok.ensures.table, it))
+    let has = g.S.Store.held c.mon_table-done.new.store in
+    let e = (exchange (g.I.Read.remaining c.args.input.now) (g.I.Read.remaining c.mon_table-done.new.input) (g.O.Write.contents c.args.output.now) (g.O.Write.contents c.mon_table-done.new.output)) in
+    let came = subst (λ (h : Option Held). MatchResult c.mon_table-done.result
+    (Mons (files_of h) (table_view c.in-Ok.table) e h has) (StopsMon (files_of h) e (Gains h has) (table_view c.in-Ok.table)))
+    c.in-Ok.ensures.files c.mon_table-done.ensures in
+    ends_by c.mon_table-done.result _ _ c.ended.ensures came (λ s it. (_, c.in-Ok.ensures.table, it)) (λ reason it. inr (_, c.in-Ok.ensures.table, it))
 
 pub returns : goal.returns
-returns g c = ends_as _ c.ended-in-Err.ensures (inl (c.in-Err.ensures.table, c.in-Err.ensures.files))
+returns g c = ends_as _ c.ended-in-Err.ensures (inl (c.in-Err.ensures.table, nothing _ _ c.in-Err.ensures.files))

@@ -6,5 +6,5 @@ use Rattle.commands.proofs.mons.mon_session.Goals as goal
 pub returns-in_ok-watch-in-Ok : goal.returns-in_ok-watch-in-Ok
 returns-in_ok-watch-in-Ok g c =
     let fault = open_fault g.row.VLENB c.args.ready.now.accepted c.args.args.places c.args.ready.now.job.max in
-    stopped g.row.VLENB c.args.ready.now.job.agnostic c.args.ready.now.job.max c.args.ready.now.accepted c.args.args.places fault c.in-Ok.session c.watch.new.session c.close.result.places
-    refl c.in-Ok.ensures.refused c.in-Ok.ensures.opened.machine c.in-Ok.ensures.opened.first c.in_ok-watch-in-Ok.ensures.first c.stands.ensures.stop c.close.ensures.places
+    stopped g.row.VLENB c.args.ready.now.job.agnostic c.args.ready.now.job.max c.args.ready.now.accepted c.args.args.places fault _ c.in-Ok.session c.watch.new.session c.close.result.places
+    refl c.in-Ok.ensures.refused c.in-Ok.ensures.opened c.in_ok-watch-in-Ok.ensures.talks c.in_ok-watch-in-Ok.ensures.first c.stands.ensures.stop c.close.ensures.places

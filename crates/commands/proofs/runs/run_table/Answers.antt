@@ -1,25 +1,26 @@
-use Rattle.std.proofs.Common.{[], inl, refl}
+use Rattle.std.proofs.Common.{inl, refl}
 use Rattle.job_file.specs.Needs.{run_job_lent}
+use Rattle.commands.specs.Files.{files_of}
 use Rattle.commands.specs.Runs.{StopsRan, run_of_job}
 use Rattle.commands.specs.Written.{Gains}
 use Rattle.commands.proofs.CommandLemmas.{finished, handed_on, stops_started, unstarted}
-use Rattle.commands.proofs.WrittenLemmas.{gains_more}
+use Rattle.commands.specs.WrittenLemmas.{nothing}
 use Rattle.commands.proofs.runs.run_table.Goals as goal
 
 pub returns-in_err-ready : goal.returns-in_err-ready
-returns-in_err-ready g c first none =
-    handed_on _ _ _ _ c.from_residual.ensures.1 (unstarted g.S.Store.files (Gains first (g.S.Store.written c.started.new.store)) (StopsRan g.S.Store.files) _ _ c.in_err-ready.ensures.start (gains_more _ _ _ [] [] none c.in_err-ready.ensures.files))
+returns-in_err-ready g c =
+    handed_on _ _ _ _ c.from_residual.ensures.1 (unstarted (files_of (g.S.Store.held c.args.store.now)) (Gains (g.S.Store.held c.args.store.now) (g.S.Store.held c.started.new.store)) (StopsRan (files_of (g.S.Store.held c.args.store.now))) _ _ c.in_err-ready.ensures.start (nothing _ _ c.in_err-ready.ensures.files))
 
 pub returns-in_err-trial : goal.returns-in_err-trial
-returns-in_err-trial g c first none =
-    handed_on _ _ _ _ c.from_residual-in_err-trial.ensures.1 (stops_started g.S.Store.files (Gains first (g.S.Store.written c.started.new.store)) (StopsRan g.S.Store.files) _ _ _ _ _ c.in_ok-ready.ensures.start (inl (c.in_err-trial.ensures.answer, gains_more _ _ _ [] [] none c.in_ok-ready.ensures.files)))
+returns-in_err-trial g c =
+    handed_on _ _ _ _ c.from_residual-in_err-trial.ensures.1 (stops_started (files_of (g.S.Store.held c.args.store.now)) (Gains (g.S.Store.held c.args.store.now) (g.S.Store.held c.started.new.store)) (StopsRan (files_of (g.S.Store.held c.args.store.now))) _ _ _ _ _ c.in_ok-ready.ensures.start (inl (c.in_err-trial.ensures.answer, nothing _ _ c.in_ok-ready.ensures.files)))
 
 pub returns : goal.returns
-returns g c first none =
+returns g c =
     let job = run_job_lent c.in_ok-ready.field-0.ready.job in
-    let wrote = Gains first (g.S.Store.written c.finish.new.store) in
-    finished g.S.Store.files _ _ first _ _ _ job.params (run_of_job job c.in_ok-ready.field-0.ready.accepted c.in_ok-ready.field-0.args.places) c.in_ok-trial.trial c.finish.result _ _ refl c.in_ok-trial.ensures.answer
-    (gains_more _ _ _ [] [] none c.in_ok-ready.ensures.files) c.finish.ensures.done c.finish.ensures.told c.finish.ensures.wrote c.finish.ensures.unfinished
+    let wrote = Gains (g.S.Store.held c.args.store.now) (g.S.Store.held c.finish.new.store) in
+    finished _ _ (g.S.Store.held c.args.store.now) _ _ _ job.params (run_of_job job c.in_ok-ready.field-0.ready.accepted c.in_ok-ready.field-0.args.places) c.in_ok-trial.trial c.finish.result _ _ refl c.in_ok-trial.ensures.answer
+    c.in_ok-ready.ensures.files c.finish.ensures.done c.finish.ensures.told c.finish.ensures.wrote c.finish.ensures.unfinished
     (λ status comes outs told done. record {
       job = job;
       accepted = c.in_ok-ready.field-0.ready.accepted;
@@ -31,4 +32,4 @@ returns g c first none =
       told = told;
       done = done;
     })
-    (λ reason. stops_started g.S.Store.files wrote (StopsRan g.S.Store.files) _ _ _ _ _ c.in_ok-ready.ensures.start)
+    (λ reason. stops_started (files_of (g.S.Store.held c.args.store.now)) wrote (StopsRan (files_of (g.S.Store.held c.args.store.now))) _ _ _ _ _ c.in_ok-ready.ensures.start)

@@ -1,10 +1,21 @@
-use Rattle.std.proofs.Common.{inl, inr}
+use Rattle.std.proofs.Common.{inl, inr, MatchResult, Option, subst}
+use Rattle.toml.specs.View.{table_view}
+use Rattle.commands.specs.Files.{files_of}
+use Rattle.commands.specs.Tries.{StopsTry, Tries}
+use Rattle.commands.specs.Written.{Gains, Held}
 use Rattle.commands.proofs.CommandLemmas.{ends_as, ends_by}
+use Rattle.commands.specs.WrittenLemmas.{nothing}
 use Rattle.commands.proofs.tries.try_job.Goals as goal
 
 pub returns-in-Ok : goal.returns-in-Ok
 returns-in-Ok g c =
-    ends_by c.try_table-done.result _ _ c.ended.ensures (c.try_table-done.ensures (g.S.Store.written c.args.store.now) c.in-Ok.ensures.files) (λ s it. (_, c.in-Ok.ensures.table, it)) (λ reason it. inr (_, c.in-Ok.ensures.table, it))
+    let has = g.S.Store.held c.try_table-done.new.store in
+    let out = g.O.Write.contents in
+    let came = subst (λ (h : Option Held). MatchResult c.try_table-done.result
+    (Tries (files_of h) (table_view c.in-Ok.table) (out c.args.output.now) (out c.try_table-done.new.output) h has)
+    (StopsTry (files_of h) (Gains h has) (table_view c.in-Ok.table)))
+    c.in-Ok.ensures.files c.try_table-done.ensures in
+    ends_by c.try_table-done.result _ _ c.ended.ensures came (λ s it. (_, c.in-Ok.ensures.table, it)) (λ reason it. inr (_, c.in-Ok.ensures.table, it))
 
 pub returns : goal.returns
-returns g c = ends_as _ c.ended-in-Err.ensures (inl (c.in-Err.ensures.table, c.in-Err.ensures.files))
+returns g c = ends_as _ c.ended-in-Err.ensures (inl (c.in-Err.ensures.table, nothing _ _ c.in-Err.ensures.files))

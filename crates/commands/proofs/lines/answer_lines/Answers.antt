@@ -1,0 +1,39 @@
+use Rattle.std.proofs.Common.{rules, ◌∙◌, take, [], List, ℕ, refl, subst, sym}
+use Rattle.commands.specs.Talks.{GoesOver}
+use Rattle.commands.proofs.TalkLemmas.{at-end, consumes-kept, consumes-none, goes-begin, read-end, reads-on, talks-last, talks-quit}
+use Rattle.commands.proofs.lines.answer_lines.Goals as goal
+use Rattle.commands.proofs.lines.answer_lines.Goals.{in-Ok+in_ok-answer_bytes-in-Ok+in-Go, in-Err}
+
+pub loop-init : goal.loop-init
+loop-init g c = record { same = refl; first = refl; goes = ([], consumes-none _, rw c.new-line.ensures.items (goes-begin g.row.VLENB _ _)) }
+
+pub returns-in-Ok-eq0-2-clause-answered : goal.returns-in-Ok-eq0-2-clause-answered
+returns-in-Ok-eq0-2-clause-answered g c =
+    let goes = c.loop.invariant.goes in
+    talks-last g.row.VLENB _ _ _ (g.O.Write.contents c.loop.output) _ goes.0 c.loop.line.items _ _ _ c.in_ok-answer-in-Ok-eq0-2.field-0
+    (search (rules, read-end)) (search (rules, at-end)) (search rules) goes.2 (search rules)
+
+pub returns-in-Quit-clause-answered : goal.returns-in-Quit-clause-answered
+returns-in-Quit-clause-answered g c =
+    let goes = c.loop.invariant.goes in
+    talks-quit g.row.VLENB _ (g.I.Read.remaining c.loop.input) _ _ (g.O.Write.contents c.loop.output) _ goes.0 c.loop.line.items (take c.in-Ok.n c.read.new.buf) c.answer_bytes.new.line.items _ _ _ c.in_ok-answer_bytes-in-Ok.field-0 c.in-Quit.is
+    goes.1 goes.2 (c.in-Ok.ensures.bytes.0) (λ line. c.in_ok-answer_bytes-in-Ok.ensures.answered line)
+
+pub loop-preserved : goal.loop-preserved
+loop-preserved g c = elim c.match-read.branch [
+  | in-Ok+in_ok-answer_bytes-in-Ok+in-Go w ↦
+      let goes = c.loop.invariant.goes in
+      record {
+        same = rw w.monitor-is (w.in_ok-answer_bytes-in-Ok.ensures.same_reference ∙ c.loop.invariant.same);
+        first = rw w.monitor-is (w.in_ok-answer_bytes-in-Ok.ensures.first ∙ c.loop.invariant.first);
+        goes = rw (w.monitor-is, w.output-is, w.line-is) (reads-on g.row.VLENB _ (g.I.Read.remaining c.loop.input) _ goes.0 c.loop.line.items (take w.in-Ok.n c.read.new.buf) w.answer_bytes.new.line.items
+            _ (g.O.Write.contents c.loop.output) _ _ _ _ w.in_ok-answer_bytes-in-Ok.field-0 w.in-Go.is goes.1 goes.2 w.in-Ok.ensures.bytes.0 (λ line. w.in_ok-answer_bytes-in-Ok.ensures.answered line));
+      }
+  | in-Err w ↦
+      let goes = c.loop.invariant.goes in
+      record {
+        same = rw w.monitor-is c.loop.invariant.same;
+        first = rw w.monitor-is c.loop.invariant.first;
+        goes = rw (w.monitor-is, w.output-is, w.line-is) (goes.0, consumes-kept _ (g.I.Read.remaining c.loop.input) _ goes.0 goes.1 w.in-Err.ensures.bytes, goes.2);
+      }
+]
