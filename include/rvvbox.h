@@ -2,10 +2,10 @@
  *
  * Link librvvbox_c.a and the kit's liblibc_c.a, which calls the program's malloc, realloc and free. docs/EMBEDDING.md tells what a
  * caller owes. No call keeps a pointer to the caller's memory. Any number of threads may call at once, if no two of them pass the same
- * kernel, or memory that one of them writes.
+ * kernel, or memory that one of them writes. Where a length is 0, its pointer may be NULL. `refusal` may be NULL.
  *
  * The numbers of statuses, of rules and of kinds, once given, stay, and new ones come after them. Where the first part of the version is
- * the same, so are the structs and the calls; fields that are `reserved` are 0. */
+ * the same, so are the structs and the calls; fields that are `reserved` are 0. The library is for machines of 64 bits. */
 #ifndef RVVBOX_H
 #define RVVBOX_H
 
@@ -16,8 +16,16 @@
 extern "C" {
 #endif
 
+/* How the functions are declared that stand here whole. The library to install has them once more, for hosts without C's inline. */
+#ifndef RVVBOX_INLINE
+#define RVVBOX_INLINE static inline
+#endif
+
 #define RVVBOX_VERSION_MAJOR 2u
 #define RVVBOX_VERSION_MINOR 0u
+
+/* The places of a kernel's arguments, from 0 on: a0 to a7. */
+#define RVVBOX_PLACES 8
 
 /* What a call answers. */
 enum rvvbox_status {
@@ -25,9 +33,9 @@ enum rvvbox_status {
     RVVBOX_NO_MEMORY = 1,              /* malloc refused; nothing is kept, and nothing was changed */
     RVVBOX_BAD_VLEN = 2,               /* a length of registers that is not 128, 256 or 512 */
     RVVBOX_BAD_AGNOSTIC = 3,           /* a setting that is not 0 or 1 */
-    RVVBOX_BAD_COUNT = 4,              /* not eight places for each run */
-    RVVBOX_BAD_KIND = 5,               /* a place of no kind */
-    RVVBOX_BAD_RANGE = 6,              /* a place names bytes that the memory does not have */
+    RVVBOX_BAD_COUNT = 4,              /* not eight of what there is to be for each place */
+    RVVBOX_BAD_KIND = 5,               /* an argument of no kind */
+    RVVBOX_BAD_RANGE = 6,              /* bytes that are not there: at NULL, or beyond the end of memory */
     RVVBOX_TOO_LARGE = 7,              /* buffers beyond what a try allows */
     RVVBOX_IMAGE = 8,                  /* the bytes spell no image */
     RVVBOX_NO_CERTIFICATE = 9,         /* the image has no certificate */
@@ -40,7 +48,8 @@ enum rvvbox_status {
     RVVBOX_WRONG_VLEN = 16,            /* accepted for another length of registers */
     RVVBOX_TRAPPED = 17,               /* a tried run met a fault */
     RVVBOX_OUT_OF_STEPS = 18,          /* a tried run did `max` steps and has not ended */
-    RVVBOX_NOTHING_KEPT = 19           /* another call has the kernel now, which a caller may not do */
+    RVVBOX_NOTHING_KEPT = 19,          /* another call has the kernel now, which a caller may not do */
+    RVVBOX_OVERLAP = 20                /* an argument that is put back shares bytes with another */
 };
 
 /* The rule that an image breaks, of RVVBOX_IMAGE. */
@@ -95,34 +104,60 @@ enum rvvbox_check_rule {
     RVVBOX_CHECK_ORDER_NOT_PROVED = 15
 };
 
-/* Why an image is refused: the status, the rule's number, and the address of the word at which the check stopped. What there is not
- * is 0. */
+/* high * 2^64 + low steps. */
+struct rvvbox_bound {
+    uint64_t low;
+    uint64_t high;
+};
+
+/* Why a call is refused. What there is not is 0. */
 struct rvvbox_refusal {
-    uint32_t status;
-    uint32_t rule;
-    uint32_t address;
+    uint32_t status;                   /* the answer of the call */
+    uint32_t rule;                     /* of an image, a certificate or a check: the rule above */
+    uint32_t address;                  /* of RVVBOX_CHECK: the word at which it stopped */
+    uint32_t offset;                   /* of RVVBOX_CERTIFICATE: how many bytes of it were read, once a call tells it; 0 till then */
+    size_t place;                      /* of an argument: its place, from 0 on */
+    struct rvvbox_bound bound;         /* of RVVBOX_BOUND_TOO_LARGE: the most steps of the run */
+    uint64_t reserved;
 };
 
-/* How runs are done. */
-struct rvvbox_setting {
-    uint32_t vlen;                     /* bits of a vector register: 128, 256 or 512 */
-    uint32_t agnostic;                 /* agnostic elements: 0 keeps them, 1 fills them with ones */
-    uint64_t max;                      /* the most steps that a run may take */
-};
-
-/* What stands at one of the eight places of a run. */
+/* What stands at a place. */
 enum rvvbox_kind {
     RVVBOX_NONE = 0,
     RVVBOX_SCALAR = 1,                 /* the number `value` */
-    RVVBOX_BUFFER = 2,                 /* the `size` bytes from `from` on of the memory passed, put back after the run */
-    RVVBOX_READ = 3                    /* as RVVBOX_BUFFER, and never put back */
+    RVVBOX_BUFFER = 2,                 /* `size` bytes, put back after the run */
+    RVVBOX_READ = 3                    /* as RVVBOX_BUFFER, and never put back: other threads may read them too */
 };
 
-struct rvvbox_place {
+/* What a run is passed at a place. An argument of RVVBOX_BUFFER shares no byte with another. */
+struct rvvbox_argument {
     uint32_t kind;
     uint32_t value;
-    size_t from;
+    void *bytes;
     size_t size;
+};
+
+/* What a kernel takes at a place: a number from lo to hi, or a buffer of `size` bytes. */
+struct rvvbox_parameter {
+    uint32_t kind;
+    uint32_t lo;
+    uint32_t hi;
+    uint32_t size;
+};
+
+/* The numbers at the eight places. */
+struct rvvbox_scalars {
+    uint32_t a0, a1, a2, a3, a4, a5, a6, a7;
+};
+
+/* The most steps of a run: constant, and factor for each one in a register's value at its start, and the same of a second register. */
+struct rvvbox_budget {
+    uint32_t constant;
+    uint32_t factor;
+    uint32_t number;                   /* of the register: 10 is a0 */
+    uint32_t second_factor;
+    uint32_t second_number;
+    uint32_t reserved;
 };
 
 /* What came of one run. */
@@ -132,79 +167,12 @@ struct rvvbox_ran {
     uint64_t steps;
 };
 
-/* The numbers at the eight places. */
-struct rvvbox_scalars {
-    uint32_t a0, a1, a2, a3, a4, a5, a6, a7;
+/* How an image is tried. */
+struct rvvbox_setting {
+    uint32_t vlen;                     /* bits of a vector register: 128, 256 or 512 */
+    uint32_t agnostic;                 /* agnostic elements: 0 keeps them, 1 fills them with ones */
+    uint64_t max;                      /* the most steps that a run may take */
 };
-
-/* high * 2^64 + low steps. */
-struct rvvbox_bound {
-    uint64_t low;
-    uint64_t high;
-};
-
-/* The version of the library, major * 65536 + minor. A host can use one of the same RVVBOX_VERSION_MAJOR, and of the same
- * RVVBOX_VERSION_MINOR or a higher. */
-uint32_t rvvbox_version(void);
-
-/* Checks the image, and answers the status, which stands in `refusal` too. */
-uint32_t rvvbox_check(const uint8_t *image, size_t image_size, uint32_t vlen, struct rvvbox_refusal *refusal);
-
-/* Checks the image, and puts into `text` why it is refused: lines that begin with two spaces and end in a newline, or as much of them
- * as there is room for, with no zero byte behind. `*written` is how many bytes were put there, none where the image is accepted. Where
- * the answer is not RVVBOX_DONE, for want of memory or a length of registers that is none, both are as they were. */
-uint32_t rvvbox_explain(const uint8_t *image, size_t image_size, uint32_t vlen, uint8_t *text, size_t text_size,
-                        size_t *written);
-
-/* Checks the image, and tells the most steps of a run with these scalars. `bound` is set where the answer is RVVBOX_DONE. */
-uint32_t rvvbox_bound(const uint8_t *image, size_t image_size, uint32_t vlen, const struct rvvbox_scalars *scalars,
-                      struct rvvbox_bound *bound);
-
-/* Checks the image and runs it once. `places` are eight. Where the answer is RVVBOX_DONE the run has ended, within its bound and
- * `*steps` steps, and the buffers stand in memory as the kernel left them. Else memory and `*steps` are as they were. */
-uint32_t rvvbox_run(const uint8_t *image, size_t image_size, const struct rvvbox_setting *setting, uint8_t *memory,
-                    size_t memory_size, const struct rvvbox_place *places, size_t places_count, uint64_t *steps);
-
-/* Checks the image once, and runs it for each of `runs`, one run after another, each on the next eight places. What came of a run
- * stands in its `runs`; one that is refused changes nothing. The answer is RVVBOX_DONE where the image was accepted. */
-uint32_t rvvbox_run_many(const uint8_t *image, size_t image_size, const struct rvvbox_setting *setting, uint8_t *memory,
-                         size_t memory_size, const struct rvvbox_place *places, size_t places_count,
-                         struct rvvbox_ran *runs, size_t runs_count);
-
-/* A kernel: an accepted image, kept for many runs. The library makes each, and rvvbox_free lets it go. A kernel may go from thread to
- * thread, and each has one call at a time: a thread that runs while others do has one of its own, by rvvbox_share. */
-struct rvvbox_kernel;
-
-/* Checks the image, and puts a kernel of it into `*out` where the answer is RVVBOX_DONE. Else `*out` is as it was. `*out` is NULL, or a
- * kernel, which is then let go. The answer stands in `refusal` too. */
-uint32_t rvvbox_accept(const uint8_t *image, size_t image_size, uint32_t vlen, struct rvvbox_kernel **out,
-                       struct rvvbox_refusal *refusal);
-
-/* Puts one more kernel of the same image into `*out`, as rvvbox_accept does, and checks and copies nothing. */
-uint32_t rvvbox_share(struct rvvbox_kernel *kernel, struct rvvbox_kernel **out);
-
-/* Tells the most steps of a run of the kernel with these scalars. `bound` is set where the answer is RVVBOX_DONE. */
-uint32_t rvvbox_bound_of(struct rvvbox_kernel *kernel, const struct rvvbox_scalars *scalars, struct rvvbox_bound *bound);
-
-/* As rvvbox_run, of the kernel. `vlen` of the setting is the one that it was accepted for. */
-uint32_t rvvbox_run_accepted(struct rvvbox_kernel *kernel, const struct rvvbox_setting *setting, uint8_t *memory,
-                             size_t memory_size, const struct rvvbox_place *places, size_t places_count,
-                             uint64_t *steps);
-
-/* Lets go a kernel, or does nothing where it is NULL. */
-void rvvbox_free(struct rvvbox_kernel *kernel);
-
-/* What a kernel takes at one place, of the kinds above: a number from lo to hi, or a buffer of `size` bytes. */
-struct rvvbox_parameter {
-    uint32_t kind;
-    uint32_t lo;
-    uint32_t hi;
-    uint32_t size;
-};
-
-/* Checks the image, and tells what it takes at the eight places, where the answer is RVVBOX_DONE. `count` is 8. */
-uint32_t rvvbox_parameters(const uint8_t *image, size_t image_size, uint32_t vlen, struct rvvbox_parameter *parameters,
-                           size_t count);
 
 /* Where a tried run stopped: the fault of the next step (0 none, 1 an illegal word, 2 a fetch, 3 a load, 4 a store, 5 a jump to no
  * multiple of 4) with its word or address, pc, and the steps done. */
@@ -216,12 +184,259 @@ struct rvvbox_stopped {
     uint64_t steps;
 };
 
-/* Runs any image once, accepted or not, with every test at each step. `places` are eight, and buffers have at most 16 MiB. Where the
- * answer is RVVBOX_DONE, RVVBOX_TRAPPED or RVVBOX_OUT_OF_STEPS, `stopped` is set, and the buffers stand in memory as they were when
- * the run stopped. Else memory is as it was. */
-uint32_t rvvbox_try(const uint8_t *image, size_t image_size, const struct rvvbox_setting *setting, uint8_t *memory,
-                    size_t memory_size, const struct rvvbox_place *places, size_t places_count,
-                    struct rvvbox_stopped *stopped);
+/* A kernel: an accepted image, kept for many runs. The library makes each, and rvvbox_free lets it go. A kernel may go from thread to
+ * thread, and each has one call at a time: a thread that runs while others do has one of its own, by rvvbox_share. */
+struct rvvbox_kernel;
+
+/* ---- What the library has. */
+
+/* The version of the library, major * 65536 + minor. A host can use one of the same RVVBOX_VERSION_MAJOR, and of the same
+ * RVVBOX_VERSION_MINOR or a higher. */
+uint32_t rvvbox_version(void);
+
+/* Puts one more kernel of the same image into `*out`, as rvvbox_accept does, and checks and copies nothing. */
+uint32_t rvvbox_share(struct rvvbox_kernel *kernel, struct rvvbox_kernel **out);
+
+/* Lets go a kernel, or does nothing where it is NULL. */
+void rvvbox_free(struct rvvbox_kernel *kernel);
+
+/* The bits of a vector register that the kernel was accepted for, or 0 where another call has the kernel. */
+uint32_t rvvbox_vlen_of(struct rvvbox_kernel *kernel);
+
+/* Tells what the kernel takes at the eight places, where the answer is RVVBOX_DONE. `count` is 8. */
+uint32_t rvvbox_parameters_of(struct rvvbox_kernel *kernel, struct rvvbox_parameter *parameters, size_t count);
+
+/* Tells how many steps a run of the kernel takes at most, by its registers. `budget` is set where the answer is RVVBOX_DONE. */
+uint32_t rvvbox_budget_of(struct rvvbox_kernel *kernel, struct rvvbox_budget *budget);
+
+/* Tells the most steps of a run of the kernel with these scalars. `bound` is set where the answer is RVVBOX_DONE. */
+uint32_t rvvbox_bound_of(struct rvvbox_kernel *kernel, const struct rvvbox_scalars *scalars, struct rvvbox_bound *bound);
+
+/* ---- The same, of pointers that are never NULL, and of arguments taken apart: the functions below call these. */
+
+/* The kind and the number of an argument, and those of all eight. */
+struct rvvbox_form {
+    uint32_t kind;
+    uint32_t value;
+};
+
+struct rvvbox_forms {
+    struct rvvbox_form a0, a1, a2, a3, a4, a5, a6, a7;
+};
+
+/* Where an argument lies in memory, by number. */
+struct rvvbox_place {
+    uint32_t kind;
+    uint32_t value;
+    size_t from;
+    size_t size;
+};
+
+/* Bytes for each place: those that are read, and those that are put back. */
+#define RVVBOX_READS const uint8_t *r0, size_t r0_size, const uint8_t *r1, size_t r1_size, const uint8_t *r2, size_t r2_size, \
+    const uint8_t *r3, size_t r3_size, const uint8_t *r4, size_t r4_size, const uint8_t *r5, size_t r5_size, const uint8_t *r6, \
+    size_t r6_size, const uint8_t *r7, size_t r7_size
+#define RVVBOX_WRITES uint8_t *b0, size_t b0_size, uint8_t *b1, size_t b1_size, uint8_t *b2, size_t b2_size, uint8_t *b3, \
+    size_t b3_size, uint8_t *b4, size_t b4_size, uint8_t *b5, size_t b5_size, uint8_t *b6, size_t b6_size, uint8_t *b7, size_t b7_size
+
+uint32_t rvvbox_apart(const struct rvvbox_place *places, size_t count, struct rvvbox_refusal *refusal);
+uint32_t rvvbox_check_raw(const uint8_t *image, size_t image_size, uint32_t vlen, struct rvvbox_refusal *refusal);
+uint32_t rvvbox_accept_raw(const uint8_t *image, size_t image_size, uint32_t vlen, struct rvvbox_kernel **out,
+                           struct rvvbox_refusal *refusal);
+uint32_t rvvbox_explain_raw(const uint8_t *image, size_t image_size, uint32_t vlen, uint8_t *text, size_t text_size, size_t *needed);
+uint32_t rvvbox_run_raw(struct rvvbox_kernel *kernel, const struct rvvbox_forms *forms, uint32_t agnostic, uint64_t max, RVVBOX_READS,
+                        RVVBOX_WRITES, uint64_t *steps, struct rvvbox_refusal *refusal);
+uint32_t rvvbox_try_raw(const uint8_t *image, size_t image_size, const struct rvvbox_setting *setting, const struct rvvbox_forms *forms,
+                        RVVBOX_READS, RVVBOX_WRITES, struct rvvbox_stopped *stopped, struct rvvbox_refusal *refusal);
+
+/* ---- What a host calls, in terms of these. */
+
+/* A number, bytes that are put back, and bytes that are only read, as arguments. */
+RVVBOX_INLINE struct rvvbox_argument rvvbox_scalar(uint32_t value) {
+    struct rvvbox_argument made = {RVVBOX_SCALAR, 0, NULL, 0};
+    made.value = value;
+    return made;
+}
+
+RVVBOX_INLINE struct rvvbox_argument rvvbox_buffer(void *bytes, size_t size) {
+    struct rvvbox_argument made = {RVVBOX_BUFFER, 0, NULL, 0};
+    made.bytes = bytes;
+    made.size = size;
+    return made;
+}
+
+RVVBOX_INLINE struct rvvbox_argument rvvbox_read(const void *bytes, size_t size) {
+    struct rvvbox_argument made = {RVVBOX_READ, 0, NULL, 0};
+    made.bytes = (void *)(uintptr_t)bytes;
+    made.size = size;
+    return made;
+}
+
+/* A pointer, or where there is none that of a byte that is never used. */
+static inline uint8_t *rvvbox_or_none(const void *bytes) {
+    static uint8_t none;
+    return bytes ? (uint8_t *)(uintptr_t)bytes : &none;
+}
+
+static inline uint8_t *rvvbox_bytes_if(uint32_t kind, const struct rvvbox_argument *argument) {
+    return rvvbox_or_none(argument->kind == kind ? argument->bytes : NULL);
+}
+
+static inline size_t rvvbox_size_if(uint32_t kind, const struct rvvbox_argument *argument) {
+    return argument->kind == kind ? argument->size : 0;
+}
+
+#define RVVBOX_OF(kind, arguments, place) rvvbox_bytes_if(kind, &(arguments)[place]), rvvbox_size_if(kind, &(arguments)[place])
+#define RVVBOX_EIGHT(kind, arguments) RVVBOX_OF(kind, arguments, 0), RVVBOX_OF(kind, arguments, 1), RVVBOX_OF(kind, arguments, 2), \
+    RVVBOX_OF(kind, arguments, 3), RVVBOX_OF(kind, arguments, 4), RVVBOX_OF(kind, arguments, 5), RVVBOX_OF(kind, arguments, 6), \
+    RVVBOX_OF(kind, arguments, 7)
+
+static inline struct rvvbox_form rvvbox_form_of(const struct rvvbox_argument *argument) {
+    struct rvvbox_form form = {argument->kind, argument->value};
+    return form;
+}
+
+static inline struct rvvbox_forms rvvbox_forms_of(const struct rvvbox_argument *arguments) {
+    struct rvvbox_forms forms;
+    forms.a0 = rvvbox_form_of(&arguments[0]);
+    forms.a1 = rvvbox_form_of(&arguments[1]);
+    forms.a2 = rvvbox_form_of(&arguments[2]);
+    forms.a3 = rvvbox_form_of(&arguments[3]);
+    forms.a4 = rvvbox_form_of(&arguments[4]);
+    forms.a5 = rvvbox_form_of(&arguments[5]);
+    forms.a6 = rvvbox_form_of(&arguments[6]);
+    forms.a7 = rvvbox_form_of(&arguments[7]);
+    return forms;
+}
+
+/* Whether eight arguments name bytes that are there, and those that are put back lie apart from all others. */
+static inline uint32_t rvvbox_named(const struct rvvbox_argument *arguments, struct rvvbox_refusal *refusal) {
+    struct rvvbox_place places[RVVBOX_PLACES];
+    for (int place = 0; place < RVVBOX_PLACES; place++) {
+        places[place].kind = arguments[place].kind;
+        places[place].value = arguments[place].value;
+        places[place].from = (size_t)(uintptr_t)arguments[place].bytes;
+        places[place].size = arguments[place].size;
+    }
+    return rvvbox_apart(places, RVVBOX_PLACES, refusal);
+}
+
+/* Checks the image, and answers the status. `refusal` tells why it is refused. */
+RVVBOX_INLINE uint32_t rvvbox_check(const void *image, size_t image_size, uint32_t vlen, struct rvvbox_refusal *refusal) {
+    struct rvvbox_refusal untold;
+    return rvvbox_check_raw(rvvbox_or_none(image), image_size, vlen, refusal ? refusal : &untold);
+}
+
+/* Checks the image, and puts a kernel of it into `*out` where the answer is RVVBOX_DONE. Else `*out` is as it was. `*out` is NULL, or a
+ * kernel, which is then let go. */
+RVVBOX_INLINE uint32_t rvvbox_accept(const void *image, size_t image_size, uint32_t vlen, struct rvvbox_kernel **out,
+                                     struct rvvbox_refusal *refusal) {
+    struct rvvbox_refusal untold;
+    return rvvbox_accept_raw(rvvbox_or_none(image), image_size, vlen, out, refusal ? refusal : &untold);
+}
+
+/* Checks the image, and puts into `text` why it is refused: lines that begin with two spaces and end in a newline, or as much of them
+ * as there is room for, with no zero byte behind. `*needed` is how many bytes the whole text has, none where the image is accepted. Where
+ * the answer is not RVVBOX_DONE, for want of memory or a length of registers that is none, both are as they were. */
+RVVBOX_INLINE uint32_t rvvbox_explain(const void *image, size_t image_size, uint32_t vlen, char *text, size_t text_size,
+                                      size_t *needed) {
+    return rvvbox_explain_raw(rvvbox_or_none(image), image_size, vlen, rvvbox_or_none(text), text_size, needed);
+}
+
+/* Runs the kernel once on eight arguments, with agnostic elements kept (0) or filled with ones (1). Where the answer is RVVBOX_DONE the
+ * run has ended, within its bound, `max` and `*steps` steps, and each RVVBOX_BUFFER is as the kernel left it. Else all memory of the
+ * caller is as it was, but for `refusal`. */
+RVVBOX_INLINE uint32_t rvvbox_run(struct rvvbox_kernel *kernel, const struct rvvbox_argument *arguments, uint32_t agnostic, uint64_t max,
+                                  uint64_t *steps, struct rvvbox_refusal *refusal) {
+    struct rvvbox_refusal untold, *told = refusal ? refusal : &untold;
+    struct rvvbox_forms forms = rvvbox_forms_of(arguments);
+    uint32_t status = rvvbox_named(arguments, told);
+    return status ? status : rvvbox_run_raw(kernel, &forms, agnostic, max, RVVBOX_EIGHT(RVVBOX_READ, arguments),
+                                            RVVBOX_EIGHT(RVVBOX_BUFFER, arguments), steps, told);
+}
+
+/* Runs the kernel for each of `runs`, one run after another, each on the next eight arguments. What came of a run stands in its `runs`;
+ * one that is refused changes nothing else. The answer is the first that is not RVVBOX_DONE, which `refusal` tells, or RVVBOX_DONE. */
+RVVBOX_INLINE uint32_t rvvbox_run_many(struct rvvbox_kernel *kernel, const struct rvvbox_argument *arguments, uint32_t agnostic,
+                                       uint64_t max, struct rvvbox_ran *runs, size_t count, struct rvvbox_refusal *refusal) {
+    uint32_t first = RVVBOX_DONE;
+    for (size_t run = 0; run < count; run++) {
+        struct rvvbox_ran ran = {RVVBOX_DONE, 0, 0};
+        ran.status = rvvbox_run(kernel, arguments + RVVBOX_PLACES * run, agnostic, max, &ran.steps, first ? NULL : refusal);
+        if (!first) first = ran.status;
+        runs[run] = ran;
+    }
+    return first;
+}
+
+/* Runs any image once, accepted or not, with every test at each step. Buffers have at most 16 MiB. Where the answer is RVVBOX_DONE,
+ * RVVBOX_TRAPPED or RVVBOX_OUT_OF_STEPS, `stopped` is set, and each RVVBOX_BUFFER is as it was when the run stopped. Else all is as it
+ * was, but for `refusal`. */
+RVVBOX_INLINE uint32_t rvvbox_try(const void *image, size_t image_size, const struct rvvbox_setting *setting,
+                                  const struct rvvbox_argument *arguments, struct rvvbox_stopped *stopped,
+                                  struct rvvbox_refusal *refusal) {
+    struct rvvbox_refusal untold, *told = refusal ? refusal : &untold;
+    struct rvvbox_forms forms = rvvbox_forms_of(arguments);
+    uint32_t status = rvvbox_named(arguments, told);
+    return status ? status : rvvbox_try_raw(rvvbox_or_none(image), image_size, setting, &forms, RVVBOX_EIGHT(RVVBOX_READ, arguments),
+                                            RVVBOX_EIGHT(RVVBOX_BUFFER, arguments), stopped, told);
+}
+
+/* ---- Names, as they stand above without what is the same in all. */
+
+#define RVVBOX_NAMED(name) case RVVBOX_##name: return #name;
+#define RVVBOX_RULE(of, name) case RVVBOX_##of##_##name: return #name;
+
+/* `BAD_VLEN` of RVVBOX_BAD_VLEN, and `UNKNOWN` of what is no status. */
+RVVBOX_INLINE const char *rvvbox_status_name(uint32_t status) {
+    switch ((enum rvvbox_status)status) {
+        RVVBOX_NAMED(DONE) RVVBOX_NAMED(NO_MEMORY) RVVBOX_NAMED(BAD_VLEN) RVVBOX_NAMED(BAD_AGNOSTIC) RVVBOX_NAMED(BAD_COUNT)
+        RVVBOX_NAMED(BAD_KIND) RVVBOX_NAMED(BAD_RANGE) RVVBOX_NAMED(TOO_LARGE) RVVBOX_NAMED(IMAGE) RVVBOX_NAMED(NO_CERTIFICATE)
+        RVVBOX_NAMED(CERTIFICATE) RVVBOX_NAMED(CHECK) RVVBOX_NAMED(WRONG_KIND) RVVBOX_NAMED(SCALAR_OUT_OF_INTERVAL) RVVBOX_NAMED(WRONG_SIZE)
+        RVVBOX_NAMED(BOUND_TOO_LARGE) RVVBOX_NAMED(WRONG_VLEN) RVVBOX_NAMED(TRAPPED) RVVBOX_NAMED(OUT_OF_STEPS) RVVBOX_NAMED(NOTHING_KEPT)
+        RVVBOX_NAMED(OVERLAP)
+    }
+    return "UNKNOWN";
+}
+
+static inline const char *rvvbox_image_rule_name(uint32_t rule) {
+    switch ((enum rvvbox_image_rule)rule) {
+        RVVBOX_RULE(IMAGE, TOO_SHORT) RVVBOX_RULE(IMAGE, BAD_MAGIC) RVVBOX_RULE(IMAGE, BAD_CLASS) RVVBOX_RULE(IMAGE, BAD_TYPE)
+        RVVBOX_RULE(IMAGE, BAD_MACHINE) RVVBOX_RULE(IMAGE, BAD_FLAGS) RVVBOX_RULE(IMAGE, BAD_HEADER_TABLE) RVVBOX_RULE(IMAGE, NOT_STATIC)
+        RVVBOX_RULE(IMAGE, SEGMENT_OUT_OF_FILE) RVVBOX_RULE(IMAGE, SEGMENT_OUT_OF_PLACE) RVVBOX_RULE(IMAGE, SEGMENTS_OVERLAP)
+        RVVBOX_RULE(IMAGE, WRITE_AND_EXECUTE) RVVBOX_RULE(IMAGE, TOO_LARGE) RVVBOX_RULE(IMAGE, ENTRY_NOT_CODE)
+        RVVBOX_RULE(IMAGE, TWO_CERTIFICATES) RVVBOX_RULE(IMAGE, CERTIFICATE_THERE)
+    }
+    return "UNKNOWN";
+}
+
+static inline const char *rvvbox_certificate_rule_name(uint32_t rule) {
+    switch ((enum rvvbox_certificate_rule)rule) {
+        RVVBOX_RULE(CERTIFICATE, SHORT) RVVBOX_RULE(CERTIFICATE, VERSION) RVVBOX_RULE(CERTIFICATE, PARAMETER)
+        RVVBOX_RULE(CERTIFICATE, BLOCK_ORDER) RVVBOX_RULE(CERTIFICATE, FACT) RVVBOX_RULE(CERTIFICATE, EQUALITY)
+        RVVBOX_RULE(CERTIFICATE, BUDGET) RVVBOX_RULE(CERTIFICATE, TRAILING_BYTES) RVVBOX_RULE(CERTIFICATE, TOO_MANY)
+        RVVBOX_RULE(CERTIFICATE, ORDER)
+    }
+    return "UNKNOWN";
+}
+
+static inline const char *rvvbox_check_rule_name(uint32_t rule) {
+    switch ((enum rvvbox_check_rule)rule) {
+        RVVBOX_RULE(CHECK, WRONG_VLEN) RVVBOX_RULE(CHECK, NO_ENTRY_BLOCK) RVVBOX_RULE(CHECK, NOT_CODE) RVVBOX_RULE(CHECK, ILLEGAL_WORD)
+        RVVBOX_RULE(CHECK, VTYPE_UNKNOWN) RVVBOX_RULE(CHECK, ACCESS_NOT_PROVED) RVVBOX_RULE(CHECK, READ_ONLY)
+        RVVBOX_RULE(CHECK, TARGET_NOT_A_BLOCK) RVVBOX_RULE(CHECK, INTERVAL_NOT_PROVED) RVVBOX_RULE(CHECK, EQUALITY_NOT_PROVED)
+        RVVBOX_RULE(CHECK, VECTOR_FACT_NOT_PROVED) RVVBOX_RULE(CHECK, BUDGET_NOT_PROVED) RVVBOX_RULE(CHECK, BLOCK_TOO_LONG)
+        RVVBOX_RULE(CHECK, ORDER_NOT_PROVED)
+    }
+    return "UNKNOWN";
+}
+
+/* `TOO_SHORT` of RVVBOX_IMAGE and RVVBOX_IMAGE_TOO_SHORT, and `UNKNOWN` of what is no rule of the status. */
+RVVBOX_INLINE const char *rvvbox_rule_name(uint32_t status, uint32_t rule) {
+    if (status == RVVBOX_IMAGE) return rvvbox_image_rule_name(rule);
+    if (status == RVVBOX_CERTIFICATE) return rvvbox_certificate_rule_name(rule);
+    return status == RVVBOX_CHECK ? rvvbox_check_rule_name(rule) : "UNKNOWN";
+}
 
 #ifdef __cplusplus
 }

@@ -1,4 +1,4 @@
-/* Raises the first 1000 of 1024 words by one: the kernel of ../raise_words, checked, and run on this program's memory. */
+/* Raises the first 1000 of 1024 words by one: the kernel of ../raise_words, checked once, and run on this program's words. */
 #include "rvvbox.h"
 #include <stdio.h>
 
@@ -10,10 +10,12 @@ int main(void) {
     if (!in || fread(words, 1, sizeof words, in) != sizeof words) return 1;
     fclose(in);
     if (elf) fclose(elf);
-    struct rvvbox_setting setting = {.vlen = 128, .agnostic = 0, .max = 10000};
-    struct rvvbox_place places[8] = {{.kind = RVVBOX_BUFFER, .size = sizeof words}, {.kind = RVVBOX_SCALAR, .value = 1000}};
+    struct rvvbox_kernel *kernel = NULL;
+    struct rvvbox_refusal why;
+    struct rvvbox_argument arguments[RVVBOX_PLACES] = {rvvbox_buffer(words, sizeof words), rvvbox_scalar(1000)};
     uint64_t steps = 0;
-    uint32_t status = rvvbox_run(image, size, &setting, words, sizeof words, places, 8, &steps);
-    fprintf(stderr, "status %u: %llu steps\n", status, (unsigned long long)steps);
-    return status != RVVBOX_DONE || fwrite(words, 1, sizeof words, stdout) != sizeof words;
+    if (!rvvbox_accept(image, size, 128, &kernel, &why)) rvvbox_run(kernel, arguments, 0, 10000, &steps, &why);
+    fprintf(stderr, "%s: %llu steps\n", rvvbox_status_name(why.status), (unsigned long long)steps);
+    rvvbox_free(kernel);
+    return why.status != RVVBOX_DONE || fwrite(words, 1, sizeof words, stdout) != sizeof words;
 }

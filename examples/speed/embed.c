@@ -8,9 +8,8 @@
 enum { RUNS = 256 };
 static uint8_t image[4096], words[4096];
 static size_t size;
-static struct rvvbox_place places[8 * RUNS];
+static struct rvvbox_argument arguments[RVVBOX_PLACES * RUNS];
 static struct rvvbox_ran runs[RUNS];
-static struct rvvbox_setting setting = {.vlen = 128, .agnostic = 0, .max = 10000};
 
 static double now(void) {
     struct timespec t;
@@ -25,45 +24,62 @@ static void ended(uint32_t status) {
     }
 }
 
-static void many(uint32_t n, size_t count) {
-    memset(places, 0, sizeof places);
+static void put(uint32_t n, size_t count) {
+    memset(arguments, 0, sizeof arguments);
     for (size_t i = 0; i < count; i++) {
-        places[8 * i] = (struct rvvbox_place){.kind = RVVBOX_BUFFER, .size = sizeof words};
-        places[8 * i + 1] = (struct rvvbox_place){.kind = RVVBOX_SCALAR, .value = n};
+        arguments[RVVBOX_PLACES * i] = rvvbox_buffer(words, sizeof words);
+        arguments[RVVBOX_PLACES * i + 1] = rvvbox_scalar(n);
     }
-    ended(rvvbox_run_many(image, size, &setting, words, sizeof words, places, 8 * count, runs, count));
-    for (size_t i = 0; i < count; i++) ended(runs[i].status);
 }
 
-static void row(const char *name, uint32_t n, size_t count, int calls) {
-    many(n, count);
+static struct rvvbox_kernel *accepted(void) {
+    struct rvvbox_kernel *kernel = NULL;
+    ended(rvvbox_accept(image, size, 128, &kernel, NULL));
+    return kernel;
+}
+
+static void row(const char *name, uint32_t n, double from, double calls) {
+    printf("%s, n = %u: %.0f ns\n", name, n, (now() - from) / calls);
+}
+
+/* An image that is checked for one run */
+static void checked(uint32_t n, int calls) {
+    uint64_t steps;
+    put(n, 1);
     double from = now();
-    for (int i = 0; i < calls; i++) many(n, count);
-    printf("%s, n = %u: %.0f ns\n", name, n, (now() - from) / calls / (double)count);
+    for (int i = 0; i < calls; i++) {
+        struct rvvbox_kernel *kernel = accepted();
+        ended(rvvbox_run(kernel, arguments, 0, 10000, &steps, NULL));
+        rvvbox_free(kernel);
+    }
+    row("check and run", n, from, calls);
+}
+
+static void many(struct rvvbox_kernel *kernel, uint32_t n, int calls) {
+    put(n, RUNS);
+    double from = now();
+    for (int i = 0; i < calls; i++) ended(rvvbox_run_many(kernel, arguments, 0, 10000, runs, RUNS, NULL));
+    row("run, of 256 in a call", n, from, (double)calls * RUNS);
 }
 
 static void kept(struct rvvbox_kernel *kernel, uint32_t n, int calls) {
-    memset(places, 0, sizeof places);
-    places[0] = (struct rvvbox_place){.kind = RVVBOX_BUFFER, .size = sizeof words};
-    places[1] = (struct rvvbox_place){.kind = RVVBOX_SCALAR, .value = n};
     uint64_t steps;
+    put(n, 1);
     double from = now();
-    for (int i = 0; i < calls; i++) ended(rvvbox_run_accepted(kernel, &setting, words, sizeof words, places, 8, &steps));
-    printf("run of a kernel, n = %u: %.0f ns\n", n, (now() - from) / calls);
+    for (int i = 0; i < calls; i++) ended(rvvbox_run(kernel, arguments, 0, 10000, &steps, NULL));
+    row("run of a kernel", n, from, calls);
 }
 
 int main(void) {
     FILE *elf = fopen("../raise_words/raise_words.elf", "rb");
     size = elf ? fread(image, 1, sizeof image, elf) : 0;
-    struct rvvbox_refusal refusal;
     double from = now();
-    for (int i = 0; i < 1000; i++) ended(rvvbox_check(image, size, 128, &refusal));
+    for (int i = 0; i < 1000; i++) ended(rvvbox_check(image, size, 128, NULL));
     printf("check: %.0f ns\n", (now() - from) / 1000);
     static const uint32_t counts[] = {0, 16, 100, 1000};
-    for (size_t i = 0; i < 4; i++) row("check and run", counts[i], 1, 1000);
-    for (size_t i = 0; i < 4; i++) row("run, of 256 in a call", counts[i], RUNS, 20);
-    struct rvvbox_kernel *kernel = NULL;
-    ended(rvvbox_accept(image, size, 128, &kernel, &refusal));
+    struct rvvbox_kernel *kernel = accepted();
+    for (size_t i = 0; i < 4; i++) checked(counts[i], 1000);
+    for (size_t i = 0; i < 4; i++) many(kernel, counts[i], 20);
     for (size_t i = 0; i < 4; i++) kept(kernel, counts[i], 5000);
     rvvbox_free(kernel);
     return 0;

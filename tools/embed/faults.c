@@ -17,9 +17,11 @@ void *__wrap_realloc(void *block, size_t size) { return refuses() ? NULL : __rea
 
 static uint8_t image[4096], words[4096], before[4096], expected[4096];
 static size_t size;
-static struct rvvbox_setting setting = {.vlen = 128, .agnostic = 0, .max = 10000};
-static struct rvvbox_place places[16];
-static uint64_t steps;
+static struct rvvbox_kernel *kernel;
+static struct rvvbox_argument arguments[16];
+static uint32_t agnostic;
+static uint64_t max = 10000, steps;
+static struct rvvbox_refusal refusal;
 
 static size_t read_file(const char *name, uint8_t *bytes) {
     FILE *file = fopen(name, "rb");
@@ -29,171 +31,214 @@ static size_t read_file(const char *name, uint8_t *bytes) {
     return count;
 }
 
-static void put(struct rvvbox_place *eight) {
+static void put(struct rvvbox_argument *eight) {
     memset(eight, 0, 8 * sizeof *eight);
-    eight[0] = (struct rvvbox_place){.kind = RVVBOX_BUFFER, .size = sizeof words};
-    eight[1] = (struct rvvbox_place){.kind = RVVBOX_SCALAR, .value = 1000};
+    eight[0] = rvvbox_buffer(words, sizeof words);
+    eight[1] = rvvbox_scalar(1000);
 }
 
-static uint32_t run(size_t count) { return rvvbox_run(image, size, &setting, words, sizeof words, places, count, &steps); }
-
-/* What a call of the place answers, with words as they were, and then as the place was */
-static void refuses_place(struct rvvbox_place place, int at, uint32_t status) {
-    struct rvvbox_place kept = places[at];
-    places[at] = place;
+static uint32_t run(void) {
     steps = 7;
-    EXPECT(run(8) == status && steps == 7);
-    EXPECT(!memcmp(words, before, sizeof words));
-    places[at] = kept;
+    memset(&refusal, 0x55, sizeof refusal);
+    uint32_t status = rvvbox_run(kernel, arguments, agnostic, max, &steps, &refusal);
+    EXPECT(refusal.status == status && refusal.reserved == 0);
+    EXPECT(rvvbox_run(kernel, arguments, agnostic, 0, &steps, NULL) != RVVBOX_DONE);
+    return status;
+}
+
+/* A run is refused so, with all as it was */
+static void refuses_run(uint32_t status) {
+    EXPECT(run() == status && steps == 7 && !memcmp(words, before, sizeof words));
+    EXPECT(refusal.rule == 0 && refusal.address == 0 && refusal.offset == 0);
+}
+
+/* The same of this argument at this place, which is named; and then as it was */
+static void refuses_argument(struct rvvbox_argument argument, size_t place, uint32_t status) {
+    struct rvvbox_argument kept = arguments[place];
+    arguments[place] = argument;
+    refuses_run(status);
+    EXPECT(refusal.place == place && refusal.bound.low == 0 && refusal.bound.high == 0);
+    arguments[place] = kept;
+}
+
+static void wrong_images(void) {
+    EXPECT(rvvbox_version() == (RVVBOX_VERSION_MAJOR << 16 | RVVBOX_VERSION_MINOR));
+    EXPECT(rvvbox_check(image, size, 128, &refusal) == RVVBOX_DONE && refusal.status == RVVBOX_DONE);
+    EXPECT(rvvbox_check(image, size, 127, NULL) == RVVBOX_BAD_VLEN);
+    EXPECT(rvvbox_check(NULL, 0, 128, &refusal) == RVVBOX_IMAGE && refusal.rule == RVVBOX_IMAGE_TOO_SHORT);
+    EXPECT(rvvbox_check(image, size, 256, &refusal) == RVVBOX_CHECK && refusal.rule == RVVBOX_CHECK_WRONG_VLEN);
+    EXPECT(rvvbox_check(image, 51, 128, &refusal) == RVVBOX_IMAGE && refusal.rule == RVVBOX_IMAGE_TOO_SHORT);
+    EXPECT(!strcmp(rvvbox_status_name(refusal.status), "IMAGE") && !strcmp(rvvbox_rule_name(refusal.status, refusal.rule), "TOO_SHORT"));
+    EXPECT(!strcmp(rvvbox_status_name(99), "UNKNOWN") && !strcmp(rvvbox_rule_name(RVVBOX_DONE, 1), "UNKNOWN"));
 }
 
 static void wrong_arguments(void) {
-    struct rvvbox_refusal refusal;
-    struct rvvbox_scalars scalars = {.a1 = 1000};
-    struct rvvbox_bound bound;
-    EXPECT(rvvbox_version() == (RVVBOX_VERSION_MAJOR << 16 | RVVBOX_VERSION_MINOR));
-    EXPECT(rvvbox_check(image, size, 128, &refusal) == RVVBOX_DONE && refusal.status == RVVBOX_DONE);
-    EXPECT(rvvbox_check(image, size, 127, &refusal) == RVVBOX_BAD_VLEN);
-    EXPECT(rvvbox_check(image, size, 256, &refusal) == RVVBOX_CHECK && refusal.rule == RVVBOX_CHECK_WRONG_VLEN);
-    EXPECT(rvvbox_check(image, 51, 128, &refusal) == RVVBOX_IMAGE && refusal.rule == RVVBOX_IMAGE_TOO_SHORT);
-    EXPECT(rvvbox_bound(image, size, 128, &scalars, &bound) == RVVBOX_DONE && bound.low == 8002 && bound.high == 0);
-    refuses_place((struct rvvbox_place){.kind = 4}, 7, RVVBOX_BAD_KIND);
-    refuses_place((struct rvvbox_place){.kind = RVVBOX_SCALAR}, 0, RVVBOX_WRONG_KIND);
-    refuses_place((struct rvvbox_place){.kind = RVVBOX_SCALAR, .value = 1025}, 1, RVVBOX_SCALAR_OUT_OF_INTERVAL);
-    refuses_place((struct rvvbox_place){.kind = RVVBOX_BUFFER, .size = 4095}, 0, RVVBOX_WRONG_SIZE);
-    refuses_place((struct rvvbox_place){.kind = RVVBOX_BUFFER, .from = 1, .size = 4096}, 0, RVVBOX_BAD_RANGE);
-    refuses_place((struct rvvbox_place){.kind = RVVBOX_BUFFER, .from = SIZE_MAX, .size = 4096}, 0, RVVBOX_BAD_RANGE);
-    EXPECT(run(7) == RVVBOX_BAD_COUNT && run(0) == RVVBOX_BAD_COUNT && run(16) == RVVBOX_BAD_COUNT);
-    setting.agnostic = 2;
-    EXPECT(run(8) == RVVBOX_BAD_AGNOSTIC);
-    setting.agnostic = 0;
-    setting.max = 8001;
-    EXPECT(run(8) == RVVBOX_BOUND_TOO_LARGE);
-    setting.max = 10000;
-    EXPECT(!memcmp(words, before, sizeof words));
+    refuses_argument((struct rvvbox_argument){.kind = 4}, 7, RVVBOX_BAD_KIND);
+    refuses_argument(rvvbox_scalar(0), 0, RVVBOX_WRONG_KIND);
+    refuses_argument(rvvbox_scalar(1025), 1, RVVBOX_SCALAR_OUT_OF_INTERVAL);
+    refuses_argument(rvvbox_buffer(words, 4095), 0, RVVBOX_WRONG_SIZE);
+    refuses_argument(rvvbox_buffer(NULL, 0), 0, RVVBOX_WRONG_SIZE);
+    refuses_argument(rvvbox_buffer(NULL, 4096), 0, RVVBOX_BAD_RANGE);
+    refuses_argument(rvvbox_read((void *)(UINTPTR_MAX - 4094), 4096), 0, RVVBOX_BAD_RANGE);
+    agnostic = 2;
+    refuses_run(RVVBOX_BAD_AGNOSTIC);
+    agnostic = 0;
+    max = 8001;
+    refuses_run(RVVBOX_BOUND_TOO_LARGE);
+    EXPECT(refusal.bound.low == 8002 && refusal.bound.high == 0 && refusal.place == 0);
+    max = 10000;
 }
 
-/* The same kernel is told and tried; a place that is only read stays as it is, and what is stored there is a fault */
-static void told_and_tried(void) {
+/* Bytes that are put back lie apart from all others, before and behind them too; what is read may lie anywhere else */
+static void overlaps(void) {
+    arguments[3] = rvvbox_read(words + 4095, 1);
+    refuses_run(RVVBOX_OVERLAP);
+    EXPECT(refusal.place == 0);
+    arguments[3] = rvvbox_buffer(words + 4095, 1);
+    refuses_run(RVVBOX_OVERLAP);
+    arguments[3] = rvvbox_read(words + 100, 0);
+    arguments[4] = rvvbox_read(words + 4096, 1);
+    refuses_run(RVVBOX_WRONG_KIND);
+    EXPECT(refusal.place == 3);
+    arguments[3] = rvvbox_read(before, 8);
+    arguments[4] = rvvbox_read(before + 4, 8);
+    refuses_run(RVVBOX_WRONG_KIND);
+    arguments[3] = arguments[4] = rvvbox_scalar(0);
+    arguments[3].kind = arguments[4].kind = RVVBOX_NONE;
+}
+
+/* What a kernel tells of itself */
+static void told(void) {
     struct rvvbox_parameter parameters[8];
-    struct rvvbox_stopped stopped;
-    EXPECT(rvvbox_parameters(image, size, 128, parameters, 7) == RVVBOX_BAD_COUNT);
-    EXPECT(rvvbox_parameters(image, size, 128, parameters, 8) == RVVBOX_DONE);
+    struct rvvbox_budget budget;
+    struct rvvbox_bound bound;
+    struct rvvbox_scalars scalars = {.a1 = 1000};
+    EXPECT(rvvbox_vlen_of(kernel) == 128);
+    EXPECT(rvvbox_parameters_of(kernel, parameters, 7) == RVVBOX_BAD_COUNT);
+    EXPECT(rvvbox_parameters_of(kernel, parameters, 8) == RVVBOX_DONE);
     EXPECT(parameters[0].kind == RVVBOX_BUFFER && parameters[0].size == 4096);
     EXPECT(parameters[1].kind == RVVBOX_SCALAR && parameters[1].lo == 0 && parameters[1].hi == 1024 && parameters[2].kind == RVVBOX_NONE);
-    places[0].kind = RVVBOX_READ;
-    EXPECT(rvvbox_try(image, size, &setting, words, sizeof words, places, 8, &stopped) == RVVBOX_TRAPPED);
+    EXPECT(rvvbox_bound_of(kernel, &scalars, &bound) == RVVBOX_DONE && bound.low == 8002 && bound.high == 0);
+    EXPECT(rvvbox_budget_of(kernel, &budget) == RVVBOX_DONE && budget.constant + 1000ull * budget.factor == 8002 && budget.number == 11);
+}
+
+static uint32_t tries(uint64_t most, struct rvvbox_stopped *stopped) {
+    struct rvvbox_setting setting = {.vlen = 128, .agnostic = 0, .max = most};
+    uint32_t status = rvvbox_try(image, size, &setting, arguments, stopped, &refusal);
+    EXPECT(refusal.status == status);
+    return status;
+}
+
+/* The kernel is tried; a place that is only read stays as it is, and what is stored there is a fault */
+static void tried(void) {
+    struct rvvbox_stopped stopped;
+    struct rvvbox_setting setting = {.vlen = 64};
+    EXPECT(rvvbox_try(image, size, &setting, arguments, &stopped, NULL) == RVVBOX_BAD_VLEN);
+    arguments[0] = rvvbox_read(words, sizeof words);
+    EXPECT(tries(10000, &stopped) == RVVBOX_TRAPPED);
     EXPECT(stopped.fault == 4 && stopped.number == 0x40000000 && !memcmp(words, before, sizeof words));
-    put(places);
-    setting.max = 2001;
-    EXPECT(rvvbox_try(image, size, &setting, words, sizeof words, places, 8, &stopped) == RVVBOX_OUT_OF_STEPS && stopped.steps == 2001);
+    put(arguments);
+    EXPECT(tries(2001, &stopped) == RVVBOX_OUT_OF_STEPS && stopped.steps == 2001);
     memcpy(words, before, sizeof words);
-    setting.max = 2002;
-    EXPECT(rvvbox_try(image, size, &setting, words, sizeof words, places, 8, &stopped) == RVVBOX_DONE && stopped.steps == 2002);
+    EXPECT(tries(2002, &stopped) == RVVBOX_DONE && stopped.steps == 2002);
     EXPECT(!memcmp(words, expected, sizeof words));
     memcpy(words, before, sizeof words);
-    setting.max = 10000;
+}
+
+/* What is only read stays as it is, though the kernel writes to its copy */
+static void read_alone(void) {
+    arguments[0] = rvvbox_read(words, sizeof words);
+    EXPECT(rvvbox_run(kernel, arguments, 0, max, &steps, NULL) == RVVBOX_DONE && steps == 2002 && !memcmp(words, before, sizeof words));
+    put(arguments);
 }
 
 /* Two runs, of which the first is refused and the second is not */
 static void two_runs(void) {
     struct rvvbox_ran runs[2];
-    put(places + 8);
-    places[1].value = 1025;
-    EXPECT(rvvbox_run_many(image, size, &setting, words, sizeof words, places, 16, runs, 1) == RVVBOX_BAD_COUNT);
-    EXPECT(rvvbox_run_many(image, size, &setting, words, sizeof words, places, 16, runs, 2) == RVVBOX_DONE);
+    put(arguments + 8);
+    arguments[1].value = 1025;
+    EXPECT(rvvbox_run_many(kernel, arguments, 0, max, runs, 2, &refusal) == RVVBOX_SCALAR_OUT_OF_INTERVAL && refusal.place == 1);
     EXPECT(runs[0].status == RVVBOX_SCALAR_OUT_OF_INTERVAL && runs[1].status == RVVBOX_DONE && runs[1].steps == 2002);
     EXPECT(!memcmp(words, expected, sizeof words));
     memcpy(words, before, sizeof words);
-    put(places);
+    put(arguments);
 }
 
-/* What is told of a refusal, as much of it as there is room for; of what is accepted nothing, and where nothing can be told all stays */
+/* What is told of a refusal, as much of it as there is room for; and how much there is; of what is accepted nothing, and where nothing can be told all stays */
 static void explained(void) {
     static const char wanted[] =
         "  the certificate is for another vector length\n  stated: VLEN 128\n  wanted: VLEN 256\n";
     static const char shorter[] = "  the file is shorter than an ELF header\n  size of the file: 51\n";
-    uint8_t text[256], kept[256];
-    size_t written = 7, size_told = sizeof wanted - 1;
+    char text[256], kept[256];
+    size_t needed = 7, size_told = sizeof wanted - 1;
     memset(kept, '.', sizeof kept);
     memcpy(text, kept, sizeof text);
-    EXPECT(rvvbox_explain(image, size, 127, text, sizeof text, &written) == RVVBOX_BAD_VLEN && written == 7);
-    EXPECT(rvvbox_explain(image, size, 128, text, sizeof text, &written) == RVVBOX_DONE && written == 0);
+    EXPECT(rvvbox_explain(image, size, 127, text, sizeof text, &needed) == RVVBOX_BAD_VLEN && needed == 7);
+    EXPECT(rvvbox_explain(image, size, 128, text, sizeof text, &needed) == RVVBOX_DONE && needed == 0);
     EXPECT(!memcmp(text, kept, sizeof text));
-    EXPECT(rvvbox_explain(image, size, 256, text, 10, &written) == RVVBOX_DONE && written == 10);
+    EXPECT(rvvbox_explain(image, size, 256, NULL, 0, &needed) == RVVBOX_DONE && needed == size_told);
+    EXPECT(rvvbox_explain(image, size, 256, text, 10, &needed) == RVVBOX_DONE && needed == size_told);
     EXPECT(!memcmp(text, wanted, 10) && !memcmp(text + 10, kept, sizeof text - 10));
-    EXPECT(rvvbox_explain(image, size, 256, text, sizeof text, &written) == RVVBOX_DONE && written == size_told);
+    EXPECT(rvvbox_explain(image, size, 256, text, sizeof text, &needed) == RVVBOX_DONE && needed == size_told);
     EXPECT(!memcmp(text, wanted, size_told) && !memcmp(text + size_told, kept, sizeof text - size_told));
-    EXPECT(rvvbox_explain(image, 51, 128, text, sizeof text, &written) == RVVBOX_DONE && !memcmp(text, shorter, sizeof shorter - 1));
+    EXPECT(rvvbox_explain(image, 51, 128, text, sizeof text, &needed) == RVVBOX_DONE && !memcmp(text, shorter, sizeof shorter - 1));
     memcpy(text, kept, sizeof text);
     for (long given = 0;; given++) {
-        written = 7;
+        needed = 7;
         refused = given;
-        uint32_t status = rvvbox_explain(image, size, 256, text, sizeof text, &written);
+        uint32_t status = rvvbox_explain(image, size, 256, text, sizeof text, &needed);
         int was_refused = refused < 0;
         refused = -1;
         if (!was_refused) break;
-        EXPECT(status == RVVBOX_NO_MEMORY && written == 7 && !memcmp(text, kept, sizeof text));
+        EXPECT(status == RVVBOX_NO_MEMORY && needed == 7 && !memcmp(text, kept, sizeof text));
     }
-    EXPECT(written == size_told && !memcmp(text, wanted, size_told));
-}
-
-static uint32_t run_kept(struct rvvbox_kernel *kernel, size_t count) {
-    return rvvbox_run_accepted(kernel, &setting, words, sizeof words, places, count, &steps);
+    EXPECT(needed == size_told && !memcmp(text, wanted, size_told));
 }
 
 static uint32_t accept(uint32_t vlen, struct rvvbox_kernel **out) {
-    struct rvvbox_refusal refusal = {.status = 77};
+    refusal.status = 77;
     uint32_t status = rvvbox_accept(image, size, vlen, out, &refusal);
     EXPECT(refusal.status == status);
     return status;
 }
 
 /* The kernel runs, and leaves the words as they were expected */
-static void runs_well(struct rvvbox_kernel *kernel) {
-    EXPECT(run_kept(kernel, 8) == RVVBOX_DONE && steps == 2002 && !memcmp(words, expected, sizeof words));
+static void runs_well(struct rvvbox_kernel *one) {
+    EXPECT(rvvbox_run(one, arguments, 0, max, &steps, &refusal) == RVVBOX_DONE);
+    EXPECT(steps == 2002 && refusal.status == RVVBOX_DONE && !memcmp(words, expected, sizeof words));
     memcpy(words, before, sizeof words);
 }
 
 /* Lets go a kernel, for which no memory is asked for */
-static void let_go(struct rvvbox_kernel *kernel) {
+static void let_go(struct rvvbox_kernel *one) {
     refused = 0;
-    rvvbox_free(kernel);
+    rvvbox_free(one);
     EXPECT(refused == 0);
     refused = -1;
 }
 
-/* An image is accepted, told and run twice; what is refused leaves the place for the kernel as it is, and nothing is let go of NULL */
+/* An image is accepted and run twice; what is refused leaves the place for the kernel as it is, and nothing is let go of NULL */
 static void kept(void) {
-    struct rvvbox_kernel *kernel = NULL, *first;
-    struct rvvbox_refusal refusal;
-    struct rvvbox_scalars scalars = {.a1 = 1000};
-    struct rvvbox_bound bound;
+    struct rvvbox_kernel *one = NULL, *first;
     let_go(NULL);
-    EXPECT(rvvbox_accept(image, 51, 128, &kernel, &refusal) == RVVBOX_IMAGE && refusal.rule == RVVBOX_IMAGE_TOO_SHORT && !kernel);
-    EXPECT(accept(128, &kernel) == RVVBOX_DONE && kernel);
-    first = kernel;
-    EXPECT(accept(256, &kernel) == RVVBOX_CHECK && kernel == first);
-    EXPECT(rvvbox_bound_of(kernel, &scalars, &bound) == RVVBOX_DONE && bound.low == 8002 && bound.high == 0);
-    steps = 7;
-    EXPECT(run_kept(kernel, 7) == RVVBOX_BAD_COUNT && steps == 7);
-    setting.vlen = 256;
-    EXPECT(run_kept(kernel, 8) == RVVBOX_WRONG_VLEN && steps == 7 && !memcmp(words, before, sizeof words));
-    setting.vlen = 128;
-    runs_well(kernel);
-    runs_well(kernel);
-    EXPECT(accept(128, &kernel) == RVVBOX_DONE);
-    runs_well(kernel);
-    let_go(kernel);
+    EXPECT(rvvbox_accept(image, 51, 128, &one, &refusal) == RVVBOX_IMAGE && refusal.rule == RVVBOX_IMAGE_TOO_SHORT && !one);
+    EXPECT(accept(128, &one) == RVVBOX_DONE && one);
+    first = one;
+    EXPECT(accept(256, &one) == RVVBOX_CHECK && one == first);
+    runs_well(one);
+    runs_well(one);
+    EXPECT(accept(128, &one) == RVVBOX_DONE);
+    runs_well(one);
+    let_go(one);
 }
 
 /* Kernels of one image serve one by one, in whatever order they are let go, and the place of another is taken with its kernel let go */
 static void shared(void) {
-    struct rvvbox_kernel *kernel = NULL, *second = NULL, *third = NULL;
-    EXPECT(accept(128, &kernel) == RVVBOX_DONE && accept(128, &third) == RVVBOX_DONE);
-    EXPECT(rvvbox_share(kernel, &second) == RVVBOX_DONE && second && second != kernel);
+    struct rvvbox_kernel *one = NULL, *second = NULL, *third = NULL;
+    EXPECT(accept(128, &one) == RVVBOX_DONE && accept(128, &third) == RVVBOX_DONE);
+    EXPECT(rvvbox_share(one, &second) == RVVBOX_DONE && second && second != one);
     EXPECT(rvvbox_share(second, &third) == RVVBOX_DONE);
-    let_go(kernel);
+    let_go(one);
     runs_well(second);
     let_go(second);
     runs_well(third);
@@ -205,19 +250,19 @@ static void shared(void) {
 static void want_of_memory_of_kernels(void) {
     long given = 0, in_shares = 0, in_runs = 0;
     for (int was_refused = 1; was_refused; given++) {
-        struct rvvbox_kernel *kernel = NULL, *second = NULL;
+        struct rvvbox_kernel *one = NULL, *second = NULL;
         refused = given;
-        uint32_t accepted = accept(128, &kernel);
+        uint32_t accepted = accept(128, &one);
         if (accepted == RVVBOX_NO_MEMORY) {
-            EXPECT(!kernel && accept(128, &kernel) == RVVBOX_DONE);
+            EXPECT(!one && accept(128, &one) == RVVBOX_DONE);
         }
-        uint32_t taken = rvvbox_share(kernel, &second);
+        uint32_t taken = rvvbox_share(one, &second);
         if (taken == RVVBOX_NO_MEMORY) {
             in_shares++;
-            EXPECT(!second && rvvbox_share(kernel, &second) == RVVBOX_DONE);
+            EXPECT(!second && rvvbox_share(one, &second) == RVVBOX_DONE);
         }
         steps = 7;
-        uint32_t ran = run_kept(second, 8);
+        uint32_t ran = rvvbox_run(second, arguments, 0, max, &steps, &refusal);
         was_refused = refused < 0;
         refused = -1;
         if (ran == RVVBOX_NO_MEMORY) {
@@ -226,9 +271,9 @@ static void want_of_memory_of_kernels(void) {
         }
         EXPECT(was_refused == (accepted != RVVBOX_DONE || taken != RVVBOX_DONE || ran != RVVBOX_DONE));
         memcpy(words, before, sizeof words);
-        runs_well(kernel);
+        runs_well(one);
         runs_well(second);
-        let_go(kernel);
+        let_go(one);
         let_go(second);
     }
     EXPECT(in_shares > 1 && in_runs > 2 && given > in_shares + in_runs + 2);
@@ -236,20 +281,20 @@ static void want_of_memory_of_kernels(void) {
 
 /* Each allocation of an acceptance is refused once, while the place has a kernel: it keeps that one, which runs as before */
 static void want_of_memory_in_place(void) {
-    struct rvvbox_kernel *kernel = NULL;
-    EXPECT(accept(128, &kernel) == RVVBOX_DONE);
+    struct rvvbox_kernel *one = NULL;
+    EXPECT(accept(128, &one) == RVVBOX_DONE);
     for (long given = 0;; given++) {
-        struct rvvbox_kernel *first = kernel;
+        struct rvvbox_kernel *first = one;
         refused = given;
-        uint32_t accepted = accept(128, &kernel);
+        uint32_t accepted = accept(128, &one);
         int was_refused = refused < 0;
         refused = -1;
         if (!was_refused) break;
-        EXPECT(accepted == RVVBOX_NO_MEMORY && kernel == first);
-        runs_well(kernel);
+        EXPECT(accepted == RVVBOX_NO_MEMORY && one == first);
+        runs_well(one);
     }
-    runs_well(kernel);
-    let_go(kernel);
+    runs_well(one);
+    let_go(one);
 }
 
 /* Each allocation of a try is refused once: want of memory, and nothing changed. Then none is refused, and the run has ended */
@@ -257,7 +302,7 @@ static void want_of_memory_in_a_try(void) {
     struct rvvbox_stopped stopped;
     for (long given = 0;; given++) {
         refused = given;
-        uint32_t status = rvvbox_try(image, size, &setting, words, sizeof words, places, 8, &stopped);
+        uint32_t status = tries(max, &stopped);
         int was_refused = refused < 0;
         refused = -1;
         if (!was_refused) break;
@@ -267,31 +312,19 @@ static void want_of_memory_in_a_try(void) {
     memcpy(words, before, sizeof words);
 }
 
-/* Each allocation of a run is refused once: want of memory, and nothing changed. Then none is refused, and the run is done */
-static void want_of_memory(void) {
-    long given = 0;
-    for (;; given++) {
-        refused = given;
-        steps = 7;
-        uint32_t status = run(8);
-        int was_refused = refused < 0;
-        refused = -1;
-        if (!was_refused) break;
-        EXPECT(status == RVVBOX_NO_MEMORY && steps == 7);
-        EXPECT(!memcmp(words, before, sizeof words));
-    }
-    EXPECT(given > 5);
-    EXPECT(steps == 2002 && !memcmp(words, expected, sizeof words));
-}
-
 int main(void) {
     size = read_file("raise_words.elf", image);
     read_file("a.bin", before);
     read_file("expected.bin", expected);
     memcpy(words, before, sizeof words);
-    put(places);
+    put(arguments);
+    wrong_images();
+    EXPECT(accept(128, &kernel) == RVVBOX_DONE);
     wrong_arguments();
-    told_and_tried();
+    overlaps();
+    told();
+    tried();
+    read_alone();
     explained();
     two_runs();
     kept();
@@ -299,6 +332,6 @@ int main(void) {
     want_of_memory_of_kernels();
     want_of_memory_in_place();
     want_of_memory_in_a_try();
-    want_of_memory();
+    let_go(kernel);
     return 0;
 }

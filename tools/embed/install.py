@@ -2,8 +2,8 @@
 """`tools/embed/install.py PREFIX` puts the library below a folder: the header, an archive, a shared library and rvvbox.pc.
 
 `rt lib` in crates/rvvbox_c makes the archive that all of it is built from, where it is not there yet. The kit's C between it and malloc is
-put in, so that a host links nothing else. Both libraries define the header's functions, and no other name of theirs is seen. Needs gcc, ld,
-ar and objcopy.
+put in, so that a host links nothing else, and so are the functions that stand whole in the header, for hosts without C's inline. Both
+libraries define the header's functions, and no other name of theirs is seen. Needs gcc, ld, ar and objcopy.
 """
 import os
 import re
@@ -27,9 +27,14 @@ Libs: -L${libdir} -lrvvbox
 '''
 
 
+# the header's own functions, each outside of C's inline
+INLINE = '#define RVVBOX_INLINE\n#include "rvvbox.h"\n'
+
+
 def functions():
-    """The names that the header declares, each outside an inline function."""
-    return sorted(set(re.findall(r'^(?:uint32_t|void) (rvvbox_\w+)\(', HEADER.read_text(), re.M)))
+    """The names that the header declares, and of those that stand whole there the ones that a host calls."""
+    begin = r'^(?:RVVBOX_INLINE )?(?:uint32_t|void|const char|struct rvvbox_argument) \*?(rvvbox_\w+)\('
+    return sorted(set(re.findall(begin, HEADER.read_text(), re.M)))
 
 
 def version():
@@ -46,7 +51,10 @@ def merged(folder):
     library, kit = archives()
     whole, listed, made = folder / 'whole.o', folder / 'functions', folder / 'rvvbox.o'
     listed.write_text(''.join(name + '\n' for name in functions()))
-    run('ld', '-r', '-o', whole, '--whole-archive', library, '--no-whole-archive', kit)
+    source, inline = folder / 'inline.c', folder / 'inline.o'
+    source.write_text(INLINE)
+    run('gcc', '-std=c99', '-O2', '-fPIC', '-I', HEADER.parent, '-c', '-o', inline, source)
+    run('ld', '-r', '-o', whole, '--whole-archive', library, '--no-whole-archive', inline, kit)
     run('objcopy', '--keep-global-symbols=%s' % listed, whole, made)
     return made
 

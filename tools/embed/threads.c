@@ -11,7 +11,6 @@
 enum { THREADS = 8, ROUNDS = 6, SIZE = 4096 };
 static uint8_t image[SIZE], before[SIZE], expected[SIZE];
 static size_t size;
-static const struct rvvbox_setting setting = {.vlen = 128, .agnostic = 0, .max = 10000};
 
 static size_t read_file(const char *name, uint8_t *bytes) {
     FILE *file = fopen(name, "rb");
@@ -21,11 +20,13 @@ static size_t read_file(const char *name, uint8_t *bytes) {
     return count;
 }
 
+/* All threads read the same bytes at place 3 of those that are refused */
 static void runs(struct rvvbox_kernel *kernel, uint8_t *words, uint32_t n, uint32_t status) {
-    struct rvvbox_place places[8] = {{.kind = RVVBOX_BUFFER, .size = SIZE}, {.kind = RVVBOX_SCALAR, .value = n}};
+    struct rvvbox_argument arguments[RVVBOX_PLACES] = {rvvbox_buffer(words, SIZE), rvvbox_scalar(n)};
     uint64_t steps = 7;
     memcpy(words, before, SIZE);
-    EXPECT(rvvbox_run_accepted(kernel, &setting, words, SIZE, places, 8, &steps) == status);
+    if (status == RVVBOX_WRONG_KIND) arguments[3] = rvvbox_read(expected, SIZE);
+    EXPECT(rvvbox_run(kernel, arguments, 0, 10000, &steps, NULL) == status);
     EXPECT(steps == (status == RVVBOX_DONE ? 2002 : 7));
     EXPECT(!memcmp(words, status == RVVBOX_DONE ? expected : before, SIZE));
 }
@@ -42,6 +43,7 @@ static void *work(void *kernel) {
         EXPECT(rvvbox_share(kernel, &second) == RVVBOX_DONE);
         EXPECT(rvvbox_bound_of(second, &scalars, &bound) == RVVBOX_DONE && bound.low == 8002 && !bound.high);
         runs(second, words, 1025, RVVBOX_SCALAR_OUT_OF_INTERVAL);
+        runs(second, words, 1000, RVVBOX_WRONG_KIND);
         rvvbox_free(second);
     }
     free(words);

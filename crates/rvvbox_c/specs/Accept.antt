@@ -12,7 +12,7 @@ use Rattle.elf_image.specs.Image.{ImageView}
 use Rattle.elf_image.specs.declared.error.ElfError.{ElfError}
 use Rattle.vreg_groups.specs.declared.policies.Agnostic.{Agnostic, TheVariants.Keep, TheVariants.Ones}
 use Rattle.vreg_groups.specs.declared.vector_length.Vlen.{Vlen, TheVariants.V128, TheVariants.V256, TheVariants.V512}
-use Rattle.rvvbox_c.specs.Status.{code_of, plain, image_refusal, certificate_refusal, check_refusal}
+use Rattle.rvvbox_c.specs.Status.{plain, image_refusal, certificate_refusal, check_refusal}
 use Rattle.rvvbox_c.specs.declared.status.Refusal.{Refusal}
 use Rattle.rvvbox_c.specs.declared.status.Status.TheVariants as status
 
@@ -88,8 +88,3 @@ told (Err refusal) = refusal
 -- What is told is that of the answer that is defined, or want of memory.
 abbrev pub IsToldOrWant : {A : Type 0} → Result A Refusal → Refusal → Type 0
 IsToldOrWant defined refusal = (refusal ≡ told defined) ⊎ (refusal ≡ plain status.NoMemory)
-
--- The same of the status alone.
-abbrev pub IsStatusOrWant : {A : Type 0} → Result A Refusal → ℕ → Type 0
-IsStatusOrWant defined number =
-    (number ≡ (told defined).status) ⊎ (number ≡ code_of status.NoMemory)

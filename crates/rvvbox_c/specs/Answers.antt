@@ -1,18 +1,18 @@
--- What each call answers, by number: what is wrong before memory is asked for, and what is told
--- later.
-use Rattle.std.specs.Prelude.{ℕ, ◌≡◌, ◌⊎◌, ◌==◌, ◌*◌, Bool, true, false, List, length, Option, None, Some, Result, Ok, Err, if◌then◌else◌}
+-- What each call answers: what is wrong before memory is asked for, and what is told later.
+use Rattle.std.specs.Prelude.{ℕ, ◌≡◌, ◌⊎◌, true, List, Option, None, Some}
 use Rattle.std.specs.Option.{option_map, option_or}
 use Rattle.block_checker.specs.Accepted.{AcceptedView}
 use Rattle.elf_image.specs.Faults.{fault_of}
 use Rattle.region_mem.specs.Parameter.{parameters_of}
+use Rattle.sandbox_run.specs.Session.{open_fault}
 use Rattle.vreg_groups.specs.VectorLength.{vlenb_of}
-use Rattle.rvvbox_c.specs.Accept.{agnostic_at, answer_for, told, vlen_at}
-use Rattle.rvvbox_c.specs.Places.{places_fault}
-use Rattle.rvvbox_c.specs.Runs.{run_fault}
-use Rattle.rvvbox_c.specs.Status.{IsThisOrWant, answer_to, code_of, lacking, status_of_image}
-use Rattle.rvvbox_c.specs.Tries.{is_tried, params_of}
+use Rattle.rvvbox_c.specs.Accept.{agnostic_at, vlen_at}
+use Rattle.rvvbox_c.specs.Forms.{all_in, forms_of, place_of_no_kind}
+use Rattle.rvvbox_c.specs.Runs.{open_refusal}
+use Rattle.rvvbox_c.specs.Status.{IsThisOrWant, at_place, image_refusal, lacking, plain}
+use Rattle.rvvbox_c.specs.Tries.{is_tried, params_in}
 use Rattle.rvvbox_c.specs.declared.calls.Setting.{Setting}
-use Rattle.rvvbox_c.specs.declared.places.Place.{Place}
+use Rattle.rvvbox_c.specs.declared.forms.Forms.{Forms}
 use Rattle.rvvbox_c.specs.declared.status.Refusal.{Refusal}
 use Rattle.rvvbox_c.specs.declared.status.Status.{Status}
 use Rattle.rvvbox_c.specs.declared.status.Status.TheVariants as status
@@ -31,94 +31,60 @@ abbrev pub setting_fault : Setting → Option Status
 setting_fault setting =
     option_or (length_fault setting.vlen) (agnostic_fault setting.agnostic)
 
--- a count that is not the one that is wanted
-abbrev pub count_fault : Bool → Option Status
-count_fault true = None
-count_fault false = Some status.BadCount
+-- an argument of no kind
+abbrev pub kind_refusal : Forms → Option Refusal
+kind_refusal forms = option_map (at_place status.BadKind) (place_of_no_kind forms)
 
--- bytes that spell no image
-abbrev pub image_fault : List ℕ → Option Status
-image_fault file = option_map status_of_image (fault_of file)
+abbrev pub asked_refusal : ℕ → Forms → Option Refusal
+asked_refusal agnostic forms =
+    option_or (option_map plain (agnostic_fault agnostic)) (kind_refusal forms)
 
--- what is wrong with a setting and a count of places, the first of them
-abbrev pub set_fault : Setting → Bool → Option Status
-set_fault setting counted = option_or (setting_fault setting) (count_fault counted)
+-- ---- a run
 
--- and of a call that tells parameters, with a length of registers
-abbrev pub told_fault : ℕ → Bool → Option Status
-told_fault bits counted = option_or (length_fault bits) (count_fault counted)
+abbrev pub run_refusal :
+    ℕ → ℕ → Forms → List (List ℕ) → List (List ℕ) → AcceptedView → Option Refusal
+run_refusal agnostic max forms reads puts a =
+    option_or (asked_refusal agnostic forms) (option_map (open_refusal a forms)
+    (open_fault (vlenb_of a.vlen) a (all_in (forms_of forms) reads puts) max))
 
--- and with a file to be run on them
-abbrev pub call_fault : List ℕ → Setting → Bool → Option Status
-call_fault file setting counted = option_or (set_fault setting counted) (image_fault file)
+-- of what a kernel keeps
+abbrev pub kept_at_once : ℕ → Forms → Option AcceptedView → Option Refusal
+kept_at_once agnostic forms None = Some (plain status.NothingKept)
+kept_at_once agnostic forms (Some a) = asked_refusal agnostic forms
 
--- ---- a file that is checked
-
--- what it is answered with where nothing else is wrong with the call
-abbrev pub checked_answer : Option Status → ℕ → List ℕ → ℕ
-checked_answer (Some fault) bits file = code_of fault
-checked_answer None bits file = (told (answer_for bits file)).status
-
--- ---- a file that is run
-
-abbrev pub accepted_answer : ℕ → List Place → List ℕ → Result AcceptedView Refusal → ℕ
-accepted_answer max places memory (Err refusal) = refusal.status
-accepted_answer max places memory (Ok a) =
-    answer_to (run_fault (vlenb_of a.vlen) a max places memory)
-
-abbrev pub set_answer : Option Status → List ℕ → Setting → List Place → List ℕ → ℕ
-set_answer (Some fault) file setting places memory = code_of fault
-set_answer None file setting places memory =
-    accepted_answer setting.max places memory (answer_for setting.vlen file)
-
-abbrev pub run_answer : List ℕ → Setting → List Place → List ℕ → ℕ
-run_answer file setting places memory =
-    set_answer (set_fault setting (length places == 8)) file setting places memory
-
--- ---- a run of what a handle keeps
-
--- another length of registers than the one that it was accepted for, and a setting for agnostic
--- elements
-abbrev pub kept_setting_fault : Setting → AcceptedView → Option Status
-kept_setting_fault setting a =
-    if vlenb_of a.vlen * 8 == setting.vlen then agnostic_fault setting.agnostic
-    else Some status.WrongVlen
-
--- what is wrong with its run before memory is asked for
-abbrev pub kept_fault : Setting → List Place → List ℕ → Option AcceptedView → Option Status
-kept_fault setting places memory None = Some status.NothingKept
-kept_fault setting places memory (Some a) =
-    option_or (kept_setting_fault setting a) (places_fault memory places)
-
--- what is wrong with it, memory asked for or not
-abbrev pub kept_run_fault : Setting → List Place → List ℕ → Option AcceptedView → Option Status
-kept_run_fault setting places memory None = Some status.NothingKept
-kept_run_fault setting places memory (Some a) =
-    option_or (kept_setting_fault setting a)
-    (run_fault (vlenb_of a.vlen) a setting.max places memory)
+abbrev pub kept_refusal :
+    ℕ → ℕ → Forms → List (List ℕ) → List (List ℕ) → Option AcceptedView → Option Refusal
+kept_refusal agnostic max forms reads puts None = Some (plain status.NothingKept)
+kept_refusal agnostic max forms reads puts (Some a) =
+    run_refusal agnostic max forms reads puts a
 
 -- ---- a file that is tried
 
 -- buffers beyond what a try allows
-abbrev pub size_fault : List Place → Option Status
-size_fault places = lacking (parameters_of (params_of places)) status.TooLarge
+abbrev pub size_fault : Forms → List (List ℕ) → List (List ℕ) → Option Status
+size_fault forms reads puts =
+    lacking (parameters_of (params_in (forms_of forms) reads puts)) status.TooLarge
+
+-- what is wrong before the file is read
+abbrev pub asked_to_try : Setting → Forms → Option Refusal
+asked_to_try setting forms =
+    option_or (option_map plain (setting_fault setting)) (kind_refusal forms)
 
 -- what is wrong before memory is asked for
-abbrev pub tried_at_once : List ℕ → Setting → Bool → Option Status
-tried_at_once file setting counted =
-    option_or (count_fault counted) (option_or (setting_fault setting) (image_fault file))
+abbrev pub tried_at_once : List ℕ → Setting → Forms → Option Refusal
+tried_at_once file setting forms =
+    option_or (asked_to_try setting forms) (option_map image_refusal (fault_of file))
 
--- what is wrong with the places, for a file that spells an image
-abbrev pub tried_places_fault : List Place → List ℕ → Option Status
-tried_places_fault places memory = option_or (places_fault memory places) (size_fault places)
+abbrev pub try_refusal :
+    List ℕ → Setting → Forms → List (List ℕ) → List (List ℕ) → Option Refusal
+try_refusal file setting forms reads puts =
+    option_or (tried_at_once file setting forms)
+    (option_map plain (size_fault forms reads puts))
 
-abbrev pub try_fault : List ℕ → Setting → List Place → List ℕ → Option Status
-try_fault file setting places memory =
-    option_or (tried_at_once file setting (length places == 8))
-    (tried_places_fault places memory)
-
--- The number is that of what is wrong, of a try that was done where nothing is, or of want of
+-- The refusal is that of what is wrong, of a try that was done where nothing is, or of want of
 -- memory.
-abbrev pub IsTryAnswer : Option Status → ℕ → Type 0
-IsTryAnswer (Some fault) number = IsThisOrWant (code_of fault) number
-IsTryAnswer None number = (is_tried number ≡ true) ⊎ (number ≡ code_of status.NoMemory)
+abbrev pub IsTryAnswer : Option Refusal → Refusal → Type 0
+IsTryAnswer (Some told) refusal = IsThisOrWant told refusal
+IsTryAnswer None refusal =
+    ((s : Status) × (refusal ≡ plain s) × (is_tried refusal.status ≡ true))
+    ⊎ (refusal ≡ plain status.NoMemory)

@@ -74,12 +74,17 @@ IsTextIf vlen file text None = IsTextOfImage vlen (image_of file) text
 abbrev pub IsTextFor : Vlen → List ℕ → List ℕ → Type 0
 IsTextFor vlen file text = IsTextIf vlen file text (fault_of file)
 
+-- bytes with others over their start, as many of those as there is room for
+abbrev pub put_over : List ℕ → List ℕ → List ℕ
+put_over bytes old =
+    take (min (length bytes) (length old)) bytes ++ drop (min (length bytes) (length old)) old
+
 -- Such a text stands at the start of the host's, as much of it as there is room for; all behind it
--- stays.
-pub record HasExplained (bits : ℕ) (file old new : List ℕ) (written : ℕ) : Type 0 where
+-- stays, and its whole length is told.
+pub record HasExplained (bits : ℕ) (file old new : List ℕ) (needed : ℕ) : Type 0 where
   pub vlen : Vlen
   pub length_is : vlen_at bits ≡ Some vlen
   pub text : List ℕ
   pub told : IsTextFor vlen file text
-  pub many : written ≡ min (length text) (length old)
-  pub put : new ≡ take written text ++ drop written old
+  pub many : needed ≡ length text
+  pub put : new ≡ put_over text old

@@ -1,8 +1,9 @@
 pub mod Accept
 pub mod Answers
+pub mod Apart
 pub mod Explain
+pub mod Forms
 pub mod Holds
-pub mod Places
 pub mod Runs
 pub mod Scalars
 pub mod Slots

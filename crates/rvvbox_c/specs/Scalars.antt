@@ -1,6 +1,6 @@
 -- The numbers at the eight places, as a C caller passes them.
 use Rattle.std.specs.Prelude.{ℕ, List, [], ◌∷◌}
-use Rattle.rvvbox_c.specs.declared.calls.Scalars.{Scalars}
+use Rattle.rvvbox_c.specs.declared.facts.Scalars.{Scalars}
 
 -- by place, from a0 on
 abbrev pub by_place : Scalars → List ℕ

@@ -1,6 +1,6 @@
 -- The number of each status, which status and which refusal each error is, and how what is wrong is
 -- answered.
-use Rattle.std.specs.Prelude.{ℕ, ◌≡◌, ◌⊎◌, Option, None, Some, Result, Ok, Err, unwrap_or}
+use Rattle.std.specs.Prelude.{ℕ, ◌≡◌, ◌⊎◌, ◌%◌, ◌/◌, ◌^◌, Option, None, Some, Result, Ok, Err, unwrap_or}
 use Rattle.block_checker.specs.Refusals.{address_of}
 use Rattle.block_checker.specs.declared.errors.CheckError.{CheckError}
 use Rattle.block_checker.specs.declared.errors.CheckError.TheVariants as check
@@ -10,6 +10,7 @@ use Rattle.elf_image.specs.declared.error.ElfError.{ElfError}
 use Rattle.elf_image.specs.declared.error.ElfError.TheVariants as image
 use Rattle.sandbox_run.specs.declared.outcome.OpenError.{OpenError}
 use Rattle.sandbox_run.specs.declared.outcome.OpenError.TheVariants as open_error
+use Rattle.rvvbox_c.specs.declared.status.Bound.{Bound}
 use Rattle.rvvbox_c.specs.declared.status.Refusal.{Refusal}
 use Rattle.rvvbox_c.specs.declared.status.Status.{Status}
 use Rattle.rvvbox_c.specs.declared.status.Status.TheVariants as status
@@ -36,6 +37,7 @@ code_of status.WrongVlen = 16
 code_of status.Trapped = 17
 code_of status.OutOfSteps = 18
 code_of status.NothingKept = 19
+code_of status.Overlap = 20
 
 -- the status of a run that was not started
 abbrev pub status_of_open : OpenError → Status
@@ -113,28 +115,60 @@ check_rule check.NoMemory = 0
 
 -- ---- refusals
 
--- one that names no rule
+-- a number of steps, in two halves
+abbrev pub halves : ℕ → Bound
+halves n = record { low = n % 2 ^ 64; high = n / 2 ^ 64 }
+
+-- one by a rule, at a word
+abbrev pub by_rule : Status → ℕ → ℕ → Refusal
+by_rule s rule address = record {
+  status = code_of s;
+  rule = rule;
+  address = address;
+  offset = 0;
+  place = 0;
+  bound = record { low = 0; high = 0 };
+  reserved = 0;
+}
+
+-- one that names a status alone
 abbrev pub plain : Status → Refusal
-plain s = record { status = code_of s; rule = 0; address = 0 }
+plain s = by_rule s 0 0
+
+-- one of the argument at a place
+abbrev pub at_place : Status → ℕ → Refusal
+at_place s k = record {
+  status = code_of s;
+  rule = 0;
+  address = 0;
+  offset = 0;
+  place = k;
+  bound = record { low = 0; high = 0 };
+  reserved = 0;
+}
+
+-- one of a run that may take so many steps
+abbrev pub too_long : ℕ → Refusal
+too_long n = record {
+  status = code_of status.BoundTooLarge;
+  rule = 0;
+  address = 0;
+  offset = 0;
+  place = 0;
+  bound = halves n;
+  reserved = 0;
+}
 
 abbrev pub image_refusal : ElfError → Refusal
-image_refusal error =
-    record { status = code_of (status_of_image error); rule = image_rule error; address = 0 }
+image_refusal error = by_rule (status_of_image error) (image_rule error) 0
 
 abbrev pub certificate_refusal : CertError → Refusal
-certificate_refusal error = record {
-  status = code_of (status_of_certificate error);
-  rule = certificate_rule error;
-  address = 0;
-}
+certificate_refusal error = by_rule (status_of_certificate error) (certificate_rule error) 0
 
 -- with the address of the word at which the check stopped
 abbrev pub check_refusal : CheckError → Refusal
-check_refusal error = record {
-  status = code_of (status_of_check error);
-  rule = check_rule error;
-  address = unwrap_or (address_of error) 0;
-}
+check_refusal error =
+    by_rule (status_of_check error) (check_rule error) (unwrap_or (address_of error) 0)
 
 -- ---- what is wrong, and the answer
 
@@ -143,15 +177,19 @@ abbrev pub lacking : {A : Type 0} → Option A → Status → Option Status
 lacking (Some value) fault = None
 lacking None fault = Some fault
 
--- A result is this fault, or want of memory; there is one only where there is no fault.
-abbrev pub IsFaultOrWant : {A : Type 0} → Option Status → Result A Status → Type 0
-IsFaultOrWant fault (Ok done) = fault ≡ None
-IsFaultOrWant fault (Err told) = (fault ≡ Some told) ⊎ (told ≡ status.NoMemory)
+-- A result is refused so, or for want of memory; there is one only where nothing is refused.
+abbrev pub IsRefused : {A : Type 0} → Option Refusal → Result A Refusal → Type 0
+IsRefused refusal (Ok done) = refusal ≡ None
+IsRefused refusal (Err told) = (refusal ≡ Some told) ⊎ (told ≡ plain status.NoMemory)
 
--- the number of a fault, and 0 where there is none
-abbrev pub answer_to : Option Status → ℕ
-answer_to fault = code_of (unwrap_or fault status.Done)
+-- what is told: the refusal, or that all was done
+abbrev pub told_of : Option Refusal → Refusal
+told_of refusal = unwrap_or refusal (plain status.Done)
 
--- The number is this one, or that of want of memory.
-abbrev pub IsThisOrWant : ℕ → ℕ → Type 0
-IsThisOrWant this number = (number ≡ this) ⊎ (number ≡ code_of status.NoMemory)
+-- What is told is this, or want of memory.
+abbrev pub IsThisOrWant : Refusal → Refusal → Type 0
+IsThisOrWant this refusal = (refusal ≡ this) ⊎ (refusal ≡ plain status.NoMemory)
+
+-- The same of the status alone.
+abbrev pub IsStatusOrWant : Status → ℕ → Type 0
+IsStatusOrWant this number = (number ≡ code_of this) ⊎ (number ≡ code_of status.NoMemory)

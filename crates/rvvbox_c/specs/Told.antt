@@ -1,9 +1,11 @@
--- What is told of a kernel's parameters.
+-- What is told of a kernel: its parameters, and its budget.
 use Rattle.std.specs.Prelude.{ℕ, List, map}
 use Rattle.region_mem.specs.declared.parameter.Mode.{Mode, TheVariants.Read, TheVariants.ReadWrite}
 use Rattle.region_mem.specs.declared.parameter.Param.{Param}
 use Rattle.region_mem.specs.declared.parameter.Param.TheVariants as param
-use Rattle.rvvbox_c.specs.declared.calls.Parameter.{Parameter}
+use Rattle.cert_note.specs.declared.values.Budget.{Budget as Stated}
+use Rattle.rvvbox_c.specs.declared.facts.Budget.{Budget}
+use Rattle.rvvbox_c.specs.declared.facts.Parameter.{Parameter}
 
 -- the kind of a buffer's place
 abbrev pub kind_of : Mode → ℕ
@@ -19,3 +21,14 @@ parameter_of (param.Buffer mode size) =
 
 abbrev pub parameters_told : List Param → List Parameter
 parameters_told params = map parameter_of params
+
+-- a budget in numbers
+abbrev pub budget_of : Stated → Budget
+budget_of b = record {
+  constant = b.constant;
+  factor = b.factor;
+  number = b.register;
+  second_factor = b.second_factor;
+  second_number = b.second_register;
+  reserved = 0;
+}

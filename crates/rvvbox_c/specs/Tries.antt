@@ -1,5 +1,5 @@
--- A try of any image on the host's memory: which run it is, and what is told of it.
-use Rattle.std.specs.Prelude.{ℕ, ◌≡◌, ◌==◌, ◌||◌, Bool, List, map, None, Some, if◌then◌else◌}
+-- A try of any image on the host's own bytes: which run it is, and what is told of it.
+use Rattle.std.specs.Prelude.{ℕ, ◌≡◌, ◌==◌, ◌||◌, Bool, List, [], ◌∷◌, length, min, None, Some, if◌then◌else◌}
 use Rattle.elf_image.specs.Faults.{fault_of}
 use Rattle.elf_image.specs.File.{image_of}
 use Rattle.elf_image.specs.Image.{ImageView}
@@ -20,23 +20,33 @@ use Rattle.vreg_groups.specs.VectorLength.{vlenb_of}
 use Rattle.vreg_groups.specs.declared.policies.Agnostic.{Agnostic}
 use Rattle.vreg_groups.specs.declared.vector_length.Vlen.{Vlen}
 use Rattle.rvvbox_c.specs.Accept.{vlen_at, agnostic_at}
-use Rattle.rvvbox_c.specs.Runs.{all_put, arguments_of}
+use Rattle.rvvbox_c.specs.Forms.{all_in, all_left, forms_of}
 use Rattle.rvvbox_c.specs.Status.{code_of}
 use Rattle.rvvbox_c.specs.declared.calls.Setting.{Setting}
-use Rattle.rvvbox_c.specs.declared.places.Place.{Place}
+use Rattle.rvvbox_c.specs.declared.forms.Form.{Form}
+use Rattle.rvvbox_c.specs.declared.forms.Forms.{Forms}
 use Rattle.rvvbox_c.specs.declared.status.Status.TheVariants as status
 use Rattle.rvvbox_c.specs.declared.tries.Stopped.{Stopped}
 use Rattle.rvvbox_c.specs.declared.tries.Tried.{Tried}
 
--- what a try lets an image take at a place: a number of this one value, or as many bytes
-abbrev pub param_of : Place → Param
-param_of place =
-    if place.kind == 0 then param.None
-    else (if place.kind == 1 then param.Scalar place.value place.value
-    else param.Buffer (if place.kind == 3 then Read else ReadWrite) place.size)
+-- how many bytes there are, or 2^32 - 1 where there are more
+abbrev pub size_in : List ℕ → ℕ
+size_in bytes = min (length bytes) 0xFFFF_FFFF
 
-abbrev pub params_of : List Place → List Param
-params_of places = map param_of places
+-- what a try lets an image take at a place: a number of this one value, or as many bytes
+abbrev pub param_in : Form → List ℕ → List ℕ → Param
+param_in form read put =
+    if form.kind == 0 then param.None
+    else (if form.kind == 1 then param.Scalar form.value form.value
+    else (if form.kind == 3 then param.Buffer Read (size_in read)
+    else param.Buffer ReadWrite (size_in put)))
+
+abbrev pub params_in : List Form → List (List ℕ) → List (List ℕ) → List Param
+params_in [] reads puts = []
+params_in (form ∷ forms) [] puts = []
+params_in (form ∷ forms) (read ∷ reads) [] = []
+params_in (form ∷ forms) (read ∷ reads) (put ∷ puts) =
+    param_in form read put ∷ params_in forms reads puts
 
 -- ---- what is told
 
@@ -82,8 +92,8 @@ abbrev pub tried_from : ℕ → Agnostic → ℕ → ImageView → List Param �
 tried_from vlenb agnostic max image params args =
     tried_of (answer_of vlenb (outcome vlenb max (start vlenb agnostic image params args)))
 
--- It comes of the image that the file spells, at the setting, on what the places name of memory.
-pub record IsTry (file : List ℕ) (setting : Setting) (places : List Place) (memory : List ℕ)
+-- It comes of the image that the file spells, at the setting, on what the forms name.
+pub record IsTry (file : List ℕ) (setting : Setting) (forms : Forms) (reads puts : List (List ℕ))
     (tried : Tried) : Type 0 where
   pub faultless : fault_of file ≡ None
   pub vlen : Vlen
@@ -91,14 +101,14 @@ pub record IsTry (file : List ℕ) (setting : Setting) (places : List Place) (me
   pub agnostic : Agnostic
   pub numbered : agnostic_at setting.agnostic ≡ Some agnostic
   pub run : tried ≡ tried_from (vlenb_of vlen) agnostic setting.max (image_of file)
-      (params_of places) (arguments_of places memory)
+      (params_in (forms_of forms) reads puts) (all_in (forms_of forms) reads puts)
 
--- Such a try was done: its status and where it stopped are told, and memory has its last buffers
--- where they are put back.
-pub record HasTried (file : List ℕ) (setting : Setting) (places : List Place) (old new : List ℕ)
-    (number : ℕ) (stopped : Stopped) : Type 0 where
+-- Such a try was done: its status and where it stopped are told, and its last buffers stand at the
+-- places that are put back.
+pub record HasTried (file : List ℕ) (setting : Setting) (forms : Forms)
+    (reads old new : List (List ℕ)) (number : ℕ) (stopped : Stopped) : Type 0 where
   pub tried : Tried
-  pub try : IsTry file setting places old tried
+  pub try : IsTry file setting forms reads old tried
   pub status : number ≡ code_of tried.status
   pub told : stopped ≡ tried.stopped
-  pub put : new ≡ all_put tried.args.places places old
+  pub put : new ≡ all_left tried.args.places (forms_of forms) old

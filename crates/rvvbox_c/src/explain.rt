@@ -1,13 +1,11 @@
 //! Why a file is refused, in words that a host reads.
-ghost use Rattle.std.specs.Prelude.{◌≡◌, ◌++◌, IfErr, IfOk, IfSome, drop, length, min};
-ghost use Rattle.std.specs.Prelude.{string_bytes};
-ghost use Rattle.std.specs.Prelude.{take};
+ghost use Rattle.std.specs.Prelude.{◌≡◌, IfErr, IfOk, IfSome, string_bytes, unwrap_or};
 ghost use Rattle.rvvbox_c.specs.Answers.{length_fault};
 ghost use Rattle.rvvbox_c.specs.Explain.{HasExplained, IsTextFor, IsTextOfCheck, IsTextOfFault};
-ghost use Rattle.rvvbox_c.specs.Explain.{IsTextOfImage, IsTextOfReading};
+ghost use Rattle.rvvbox_c.specs.Explain.{IsTextOfImage, IsTextOfReading, put_over};
 ghost use Rattle.rvvbox_c.specs.Holds.{IsFailure};
-ghost use Rattle.rvvbox_c.specs.Status.{IsThisOrWant, answer_to, code_of};
-ghost use Rattle.rvvbox_c.specs.declared.status.Status.TheVariants.{NoMemory};
+ghost use Rattle.rvvbox_c.specs.Status.{IsStatusOrWant, code_of};
+ghost use Rattle.rvvbox_c.specs.declared.status.Status.TheVariants.{Done, NoMemory};
 
 use crate::accept::vlen_of;
 use crate::status::Status;
@@ -86,38 +84,37 @@ fn text_for(alloc: Global, file: &[u8], vlen: Vlen) -> Result<String, Status>
     }
 }
 
-/// Puts as much of the words as there is room for, and tells how many bytes.
-fn put(words: &[u8], text: &mut [u8]) -> usize
-    ensures many { result ≡ min (length words.now) (length text.old) }
-    ensures put { text.new ≡ take result words.now ++ drop result text.old }
+/// Puts bytes over the start of others, as many as there is room for.
+pub(crate) fn put_over(bytes: &[u8], out: &mut [u8])
+    ensures { out.new ≡ put_over bytes.now out.old }
 {
-    let many = words.len().min(text.len());
-    text[..many].copy_from_slice(&words[..many]);
-    many
+    let many = bytes.len().min(out.len());
+    out[..many].copy_from_slice(&bytes[..many]);
 }
 
-/// Checks as [`rvvbox_check`](crate::calls::rvvbox_check) does, and puts into `text` why the file
-/// is refused, in lines, or as much of it as there is room for; `written` is how many bytes were
-/// put there, none where the file is accepted.
+/// Checks as [`rvvbox_check_raw`](crate::calls::rvvbox_check_raw) does, and puts into `text` why the
+/// file is refused, in lines, or as much of it as there is room for; `needed` is how many bytes the
+/// whole text has, none where the file is accepted.
 #[unsafe(no_mangle)]
-pub extern "C" fn rvvbox_explain(
+pub extern "C" fn rvvbox_explain_raw(
     alloc: Global,
     file: &[u8],
     vlen: u32,
     text: &mut [u8],
-    written: &mut usize,
+    needed: &mut usize,
 ) -> u32
-    ensures told { result ≡ 0 → HasExplained vlen file.now text.old text.new written.new }
+    ensures told { result ≡ 0 → HasExplained vlen file.now text.old text.new needed.new }
     ensures at_once { IfSome (length_fault vlen) (λ fault. result ≡ code_of fault) }
-    ensures answer { IsThisOrWant (answer_to (length_fault vlen)) result }
-    ensures refused { IsFailure result → (text.new ≡ text.old) × (written.new ≡ written.old) }
+    ensures answer { IsStatusOrWant (unwrap_or (length_fault vlen) Done) result }
+    ensures refused { IsFailure result → (text.new ≡ text.old) × (needed.new ≡ needed.old) }
 {
     let Some(vlen) = vlen_of(vlen) else {
         return Status::BadVlen.code();
     };
     match text_for(alloc, file, vlen) {
         Ok(words) => {
-            *written = put(words.as_bytes(), text);
+            put_over(words.as_bytes(), text);
+            *needed = words.len();
             Status::Done.code()
         }
         Err(status) => status.code(),

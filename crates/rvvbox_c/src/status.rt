@@ -1,10 +1,11 @@
 //! What a call answers, as `include/rvvbox.h` numbers it.
-ghost use Rattle.std.specs.Prelude.{◌≡◌, ◌≢◌, false};
+ghost use Rattle.std.specs.Prelude.{◌≡◌, ◌≢◌, ◌*◌, ◌+◌, ◌^◌, false};
 ghost use Rattle.rvvbox_c.specs.Holds.{IsFailure};
-ghost use Rattle.rvvbox_c.specs.Status.{certificate_refusal};
+ghost use Rattle.rvvbox_c.specs.Status.{at_place, certificate_refusal, halves};
 ghost use Rattle.rvvbox_c.specs.Status.{certificate_rule as certificate_rule_of};
 ghost use Rattle.rvvbox_c.specs.Status.{check_refusal, check_rule as check_rule_of, code_of};
-ghost use Rattle.rvvbox_c.specs.Status.{image_refusal, image_rule as image_rule_of, plain};
+ghost use Rattle.rvvbox_c.specs.Status.{by_rule, image_refusal, image_rule as image_rule_of};
+ghost use Rattle.rvvbox_c.specs.Status.{plain, too_long};
 ghost use Rattle.rvvbox_c.specs.Status.{status_of_certificate, status_of_check, status_of_image};
 ghost use Rattle.rvvbox_c.specs.Status.{status_of_open};
 ghost use Rattle.rvvbox_c.specs.Tries.{is_tried};
@@ -27,11 +28,11 @@ pub enum Status {
     BadVlen,
     /// A setting for agnostic elements is not 0 or 1.
     BadAgnostic,
-    /// There are not eight places for each run.
+    /// There are not eight of what there is to be for each place.
     BadCount,
-    /// A place is of no kind.
+    /// An argument is of no kind.
     BadKind,
-    /// A place names bytes that the memory does not have.
+    /// An argument names bytes that are not there.
     BadRange,
     /// Buffers are larger than an image that is tried may be given.
     TooLarge,
@@ -57,8 +58,10 @@ pub enum Status {
     Trapped,
     /// A tried run did all the steps that it was allowed, and has not ended.
     OutOfSteps,
-    /// The handle keeps nothing.
+    /// The kernel or the session keeps nothing.
     NothingKept,
+    /// An argument that is put back shares bytes with another.
+    Overlap,
 }
 
 impl Status {
@@ -89,6 +92,7 @@ impl Status {
             Status::Trapped => 17,
             Status::OutOfSteps => 18,
             Status::NothingKept => 19,
+            Status::Overlap => 20,
         }
     }
 }
@@ -189,28 +193,95 @@ impl From<OpenError> for Status {
     }
 }
 
-/// Why an image is refused: the status, the number of the rule in its order in `include/rvvbox.h`,
-/// from 1 on, and the address of the word at which a check stopped. What there is not is 0.
+/// A number of steps, `high * 2^64 + low`.
+#[repr(C)]
+#[derive(Clone, Copy, PartialEq, Eq)]
+pub struct Bound {
+    pub low: u64,
+    pub high: u64,
+}
+
+impl Bound {
+    /// The two halves of a number.
+    pub(crate) fn of(steps: u128) -> Bound
+        ensures { result ≡ halves steps }
+    {
+        Bound {
+            low: (steps % (1 << 64)) as u64,
+            high: (steps / (1 << 64)) as u64,
+        }
+    }
+}
+
+/// Why a call is refused: the status, the number of the rule in its order in `include/rvvbox.h`,
+/// from 1 on, the address of the word at which a check stopped, how many bytes of a certificate were
+/// read, the place of an argument, and the most steps of a run that may take too many. What there is
+/// not is 0.
 #[repr(C)]
 #[derive(Clone, Copy, PartialEq, Eq)]
 pub struct Refusal {
     pub status: u32,
     pub rule: u32,
     pub address: u32,
+    pub offset: u32,
+    pub place: usize,
+    pub bound: Bound,
+    pub reserved: u64,
 }
 
 impl Refusal {
-    /// A refusal that names no rule.
+    /// A refusal that names a status alone.
     pub(crate) fn of(status: Status) -> Refusal
         ensures plain { result ≡ plain status }
         ensures done { status ≡ Done → result.status ≡ 0 }
         ensures failed { status ≢ Done → IsFailure result.status }
     {
+        Refusal::by(status, 0, 0)
+    }
+
+    /// A refusal by a rule, at a word.
+    fn by(status: Status, rule: u32, address: u32) -> Refusal
+        ensures told { result ≡ by_rule status rule address }
+    {
         Refusal {
             status: status.code(),
-            rule: 0,
-            address: 0,
+            rule,
+            address,
+            offset: 0,
+            place: 0,
+            bound: Bound { low: 0, high: 0 },
+            reserved: 0,
         }
+    }
+
+    /// A refusal of the argument at a place.
+    pub(crate) fn at(status: Status, place: usize) -> Refusal
+        ensures told { result ≡ at_place status place }
+        ensures failed { status ≢ Done → IsFailure result.status }
+    {
+        Refusal {
+            place,
+            ..Refusal::of(status)
+        }
+    }
+
+    /// A refusal of a run that may take so many steps.
+    pub(crate) fn too_long(steps: u128) -> Refusal
+        ensures told { result ≡ too_long steps }
+        ensures failed { IsFailure result.status }
+    {
+        Refusal {
+            bound: Bound::of(steps),
+            ..Refusal::of(Status::BoundTooLarge)
+        }
+    }
+}
+
+impl From<AllocError> for Refusal {
+    ghost from_gives = { λ _ refusal. (refusal ≡ plain NoMemory) × IsFailure refusal.status };
+
+    fn from(_error: AllocError) -> Refusal {
+        Refusal::of(Status::NoMemory)
     }
 }
 
@@ -286,11 +357,7 @@ impl From<ElfError> for Refusal {
         × IsFailure refusal.status };
 
     fn from(error: ElfError) -> Refusal {
-        Refusal {
-            status: Status::from(error).code(),
-            rule: image_rule(error),
-            address: 0,
-        }
+        Refusal::by(Status::from(error), image_rule(error), 0)
     }
 }
 
@@ -299,11 +366,7 @@ impl From<CertError> for Refusal {
         × IsFailure refusal.status };
 
     fn from(error: CertError) -> Refusal {
-        Refusal {
-            status: Status::from(error).code(),
-            rule: certificate_rule(error),
-            address: 0,
-        }
+        Refusal::by(Status::from(error), certificate_rule(error), 0)
     }
 }
 
@@ -312,10 +375,10 @@ impl From<CheckError> for Refusal {
         × IsFailure refusal.status };
 
     fn from(error: CheckError) -> Refusal {
-        Refusal {
-            status: Status::from(error).code(),
-            rule: check_rule(error),
-            address: error.address().unwrap_or(0),
-        }
+        Refusal::by(
+            Status::from(error),
+            check_rule(error),
+            error.address().unwrap_or(0),
+        )
     }
 }

@@ -1,14 +1,22 @@
--- What the places name is what they are taken as.
-use Rattle.std.proofs.Common.{◌≡◌, rules, sym, arith}
-use Rattle.std.proofs.lemmas.Grind.{common_steps}
-use Rattle.rvvbox_c.proofs.FaultLemmas.{args_match}
-use Rattle.rvvbox_c.specs.Tries.{params_of}
+-- The image is that of the file, and nothing is told before it is run.
+use Rattle.std.proofs.Common.{◌≡◌, None, sym}
+use Rattle.elf_image.specs.Faults.{fault_of}
+use Rattle.elf_image.specs.File.{image_of}
+use Rattle.rvvbox_c.specs.Forms.{eight}
+use Rattle.rvvbox_c.proofs.TryLemmas.{no_fault, none_before, try_of, where_none}
 use Rattle.rvvbox_c.proofs.tries.performed.Goals as goal
 
-pub try_image-requires : goal.try_image-requires
-try_image-requires c =
-    let taken : c.in_ok-parameters.parameters ≡ params_of c.args.places.now = search rules in
-    rw (taken, c.in_ok-args.ensures.named) (args_match c.args.memory.now c.args.places.now (sym c.in_default.ensures.fault))
+pub returns-clause-tried : goal.returns-clause-tried
+returns-clause-tried c =
+    let faultless : fault_of c.args.file.now ≡ None = no_fault _ c.in_ok-image.image c.in_ok-image.ensures.refused in
+    let is : c.in_ok-image.image ≡ image_of c.args.file.now =
+    where_none (c.in_ok-image.image ≡ image_of c.args.file.now) _ faultless c.in_ok-image.ensures.image in
+    try_of c.args.file.now c.args.setting.now c.args.forms.now
+    (eight c.args.r0.now c.args.r1.now c.args.r2.now c.args.r3.now c.args.r4.now c.args.r5.now c.args.r6.now c.args.r7.now)
+    (eight c.args.b0.now c.args.b1.now c.args.b2.now c.args.b3.now c.args.b4.now c.args.b5.now c.args.b6.now c.args.b7.now)
+    c.in_ok-vlen.vlen c.in_ok-vlen.agnostic _ _ faultless is c.in_ok-vlen.ensures.vlen c.in_ok-vlen.ensures.agnostic c.tried_on.ensures.tried
 
-pub returns-in_err-parameters-clause-fault : goal.returns-in_err-parameters-clause-fault
-returns-in_err-parameters-clause-fault c = grind (arith, common_steps)
+pub returns-clause-refused : goal.returns-clause-refused
+returns-clause-refused c =
+    none_before _ (fault_of c.args.file.now) _ _ (sym c.in_ok-vlen.ensures.refused)
+    (no_fault _ c.in_ok-image.image c.in_ok-image.ensures.refused) c.tried_on.ensures.refused

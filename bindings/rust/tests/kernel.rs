@@ -1,0 +1,55 @@
+//! Runs the kernel of examples/raise_words, on several threads too, and tells what is refused.
+use rvvbox::{version, Argument, Kernel, Scalars};
+use std::{fs, thread};
+
+fn bytes_of(name: &str) -> Vec<u8> {
+    fs::read(format!("{}/../../examples/raise_words/{name}", env!("CARGO_MANIFEST_DIR"))).unwrap()
+}
+
+fn crosses<T: Send + Sync>() {}
+
+#[test]
+fn runs() {
+    crosses::<Kernel>();
+    let mut kernel = Kernel::new(&bytes_of("raise_words.elf"), 128).unwrap();
+    assert_eq!((version().0, kernel.vlen(), kernel.parameters().unwrap()[1].hi), (2, 128, 1024));
+    assert_eq!(kernel.bound(&Scalars { a1: 1000, ..Scalars::default() }).unwrap(), 8002);
+    let mut words = bytes_of("a.bin");
+    assert_eq!(kernel.run(&mut [Argument::Buffer(&mut words), Argument::Scalar(1000)], 10_000).unwrap(), 2002);
+    assert_eq!(words, bytes_of("expected.bin"));
+}
+
+#[test]
+fn threads_run_kernels_of_their_own() {
+    let mut kernel = Kernel::new(&bytes_of("raise_words.elf"), 128).unwrap();
+    let threads: Vec<_> = (0..4)
+        .map(|_| kernel.share().unwrap())
+        .map(|mut own| {
+            thread::spawn(move || {
+                let mut words = bytes_of("a.bin");
+                own.run(&mut [Argument::Buffer(&mut words), Argument::Scalar(1000)], 10_000).unwrap();
+                words
+            })
+        })
+        .collect();
+    drop(kernel);
+    for thread in threads {
+        assert_eq!(thread.join().unwrap(), bytes_of("expected.bin"));
+    }
+}
+
+#[test]
+fn tells_what_is_refused() {
+    let image = bytes_of("raise_words.elf");
+    let error = Kernel::new(&image, 256).unwrap_err();
+    assert_eq!((error.name(), error.rule()), ("CHECK", Some("WRONG_VLEN")));
+    assert!(error.to_string().contains("wanted: VLEN 256"));
+    assert_eq!(Kernel::new(&[], 128).unwrap_err().rule(), Some("TOO_SHORT"));
+    let mut kernel = Kernel::new(&image, 128).unwrap();
+    let mut words = bytes_of("a.bin");
+    let error = kernel.run(&mut [Argument::Buffer(&mut words), Argument::Scalar(1025)], 10_000).unwrap_err();
+    assert_eq!((error.name(), error.refusal.place), ("SCALAR_OUT_OF_INTERVAL", 1));
+    let error = kernel.run(&mut [Argument::Read(&words), Argument::Scalar(1000)], 10).unwrap_err();
+    assert_eq!((error.name(), error.refusal.bound.low), ("BOUND_TOO_LARGE", 8002));
+    assert_eq!(words, bytes_of("a.bin"));
+}

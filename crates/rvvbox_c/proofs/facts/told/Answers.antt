@@ -1,0 +1,7 @@
+-- A buffer is told by its mode.
+use Rattle.std.proofs.Common.{arith}
+use Rattle.std.proofs.lemmas.Grind.{common_steps}
+use Rattle.rvvbox_c.proofs.facts.told.Goals as goal
+
+pub returns-in-Read : goal.returns-in-Read
+returns-in-Read c = grind (arith, common_steps)

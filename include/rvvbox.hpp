@@ -1,0 +1,137 @@
+// rvvbox for C++20: kernels and sessions that let themselves go, arguments of numbers and of what a span is made of, and exceptions. What
+// holds of rvvbox.h holds here: each kernel has one call at a time, and a thread that runs while others do has one of its own, by share().
+#ifndef RVVBOX_HPP
+#define RVVBOX_HPP
+
+#include "rvvbox.h"
+
+#include <array>
+#include <cstdint>
+#include <memory>
+#include <new>
+#include <span>
+#include <stdexcept>
+#include <string>
+#include <type_traits>
+#include <utility>
+
+namespace rvvbox {
+
+using places = std::array<rvvbox_argument, RVVBOX_PLACES>;
+
+/// Why a call is refused: what() names the status, and `why` and `explanation` have what else is known.
+class refused : public std::runtime_error {
+public:
+    explicit refused(const rvvbox_refusal &refusal, std::string text = {})
+        : std::runtime_error(std::string("rvvbox: ") + rvvbox_status_name(refusal.status)), why(refusal), explanation(std::move(text)) {}
+
+    rvvbox_refusal why;
+    std::string explanation;
+};
+
+/// Throws where a call is refused.
+inline void expect(const rvvbox_refusal &why) {
+    if (why.status == RVVBOX_NO_MEMORY) throw std::bad_alloc();
+    if (why.status != RVVBOX_DONE) throw refused(why);
+}
+
+/// The same of a call that answers a status alone.
+inline void expect(uint32_t status) {
+    rvvbox_refusal why{};
+    why.status = status;
+    expect(why);
+}
+
+/// A number, or the bytes of what a span is made of: they are put back where its elements are not const.
+template <class T> rvvbox_argument argument(T &&of) {
+    if constexpr (std::is_same_v<std::remove_cvref_t<T>, rvvbox_argument>) {
+        return of;
+    } else if constexpr (std::is_integral_v<std::remove_cvref_t<T>>) {
+        return rvvbox_scalar(static_cast<uint32_t>(of));
+    } else {
+        std::span span(of);
+        using element = typename decltype(span)::element_type;
+        static_assert(std::is_trivially_copyable_v<element>);
+        if constexpr (std::is_const_v<element>) return rvvbox_read(span.data(), span.size_bytes());
+        else return rvvbox_buffer(span.data(), span.size_bytes());
+    }
+}
+
+/// What stands at the places, from a0 on, and nothing at the others.
+template <class... T> places arguments(T &&...of) {
+    static_assert(sizeof...(T) <= RVVBOX_PLACES);
+    return places{argument(std::forward<T>(of))...};
+}
+
+/// Why an image is refused, in lines; nothing where it is accepted.
+inline std::string explain(std::span<const uint8_t> image, uint32_t vlen) {
+    std::string text;
+    size_t needed = 0;
+    expect(rvvbox_explain(image.data(), image.size(), vlen, nullptr, 0, &needed));
+    text.resize(needed);
+    expect(rvvbox_explain(image.data(), image.size(), vlen, text.data(), text.size(), &needed));
+    return text;
+}
+
+/// An accepted image.
+class kernel {
+public:
+    kernel(std::span<const uint8_t> image, uint32_t vlen) {
+        rvvbox_kernel *made = nullptr;
+        rvvbox_refusal why;
+        uint32_t status = rvvbox_accept(image.data(), image.size(), vlen, &made, &why);
+        held.reset(made);
+        if (status == RVVBOX_IMAGE || status == RVVBOX_NO_CERTIFICATE || status == RVVBOX_CERTIFICATE || status == RVVBOX_CHECK)
+            throw refused(why, explain(image, vlen));
+        expect(why);
+    }
+
+    /// One more of the same image, for another thread.
+    kernel share() {
+        rvvbox_kernel *made = nullptr;
+        uint32_t status = rvvbox_share(held.get(), &made);
+        kernel other(made);
+        expect(status);
+        return other;
+    }
+
+    uint32_t vlen() { return rvvbox_vlen_of(held.get()); }
+
+    std::array<rvvbox_parameter, RVVBOX_PLACES> parameters() {
+        std::array<rvvbox_parameter, RVVBOX_PLACES> told;
+        expect(rvvbox_parameters_of(held.get(), told.data(), told.size()));
+        return told;
+    }
+
+    rvvbox_bound bound(const rvvbox_scalars &scalars) {
+        rvvbox_bound told;
+        expect(rvvbox_bound_of(held.get(), &scalars, &told));
+        return told;
+    }
+
+    /// Runs once, in at most `max` steps, and answers how many.
+    template <class... T> uint64_t run(uint64_t max, T &&...of) { return run_on(arguments(std::forward<T>(of)...), max); }
+
+    uint64_t run_on(const places &eight, uint64_t max, bool ones = false) {
+        uint64_t steps = 0;
+        rvvbox_refusal why;
+        rvvbox_run(held.get(), eight.data(), ones, max, &steps, &why);
+        expect(why);
+        return steps;
+    }
+
+    rvvbox_kernel *get() const { return held.get(); }
+
+private:
+    struct letting_go {
+        void operator()(rvvbox_kernel *kernel) const { rvvbox_free(kernel); }
+    };
+
+    explicit kernel(rvvbox_kernel *made) : held(made) {}
+
+    std::unique_ptr<rvvbox_kernel, letting_go> held;
+};
+
+} // namespace rvvbox
+
+#endif

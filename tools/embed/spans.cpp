@@ -1,0 +1,41 @@
+// The C++ wrapper runs a kernel on a vector of its own, from two threads, and throws what is refused. Prints nothing and ends with 0.
+#include "rvvbox.hpp"
+#include <cstdio>
+#include <cstdlib>
+#include <fstream>
+#include <iterator>
+#include <thread>
+#include <vector>
+
+#define EXPECT(holds) do { if (!(holds)) { std::fprintf(stderr, "line %d: %s\n", __LINE__, #holds); std::exit(1); } } while (0)
+
+static std::vector<uint8_t> bytes_of(const char *name) {
+    std::ifstream file(name, std::ios::binary);
+    return {std::istreambuf_iterator<char>(file), {}};
+}
+
+int main() {
+    const auto image = bytes_of("raise_words.elf"), before = bytes_of("a.bin"), expected = bytes_of("expected.bin");
+    rvvbox::kernel kernel(image, 128);
+    EXPECT(kernel.vlen() == 128 && kernel.parameters()[1].hi == 1024 && kernel.bound({0, 1000, 0, 0, 0, 0, 0, 0}).low == 8002);
+    auto words = before, others = before;
+    std::thread thread([&others, shared = kernel.share()]() mutable { shared.run(10000, others, 1000); });
+    EXPECT(kernel.run(10000, words, 1000) == 2002 && words == expected);
+    thread.join();
+    EXPECT(others == expected);
+    EXPECT(kernel.run(10000, before, 1000) == 2002);
+    try {
+        kernel.run(10000, words, 1025);
+        EXPECT(false);
+    } catch (const rvvbox::refused &refused) {
+        EXPECT(refused.why.status == RVVBOX_SCALAR_OUT_OF_INTERVAL && refused.why.place == 1 && words == expected);
+    }
+    try {
+        rvvbox::kernel none(image, 256);
+        EXPECT(false);
+    } catch (const rvvbox::refused &refused) {
+        EXPECT(std::string(refused.what()) == "rvvbox: CHECK" && refused.explanation.find("wanted: VLEN 256") != std::string::npos);
+    }
+    rvvbox_bound bound{};
+    return static_cast<int>(bound.low);
+}
