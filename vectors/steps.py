@@ -462,7 +462,7 @@ def main():
     print({n: len(w) for n, w in wrong.items()}, file=sys.stderr)
     print(len(rows), hand, file=sys.stderr)
     version = subprocess.run(['qemu-riscv32', '--version'], capture_output=True, text=True).stdout.split()[2]
-    print('# One step each. Made by conformance/steps.py: results of qemu-riscv32 %s, which conformance/model.py shares; by hand where the script says so.' % version)
+    print('# One step each. Made by vectors/steps.py: results of qemu-riscv32 %s, which vectors/model.py shares; by hand where the script says so.' % version)
     print('# %d rows, %d of them by hand.' % (len(rows), sum(hand.values())))
     for why in sorted(w for w in hand if w):
         print('#   %d: %s' % (hand[why], why))

@@ -1,6 +1,6 @@
 """Makes jobs.txt: texts of job files, and what they say.
 
-    python3 conformance/jobs.py > crates/conformance/data/jobs.txt
+    python3 vectors/jobs.py > crates/conformance/data/jobs.txt
 
 A row is `TEXT = ANSWER`. TEXT is the job file in hexadecimal, `empty` where it has no byte. ANSWER is `NotToml`; `BadKey` where the table breaks a rule whatever it is
 read for; or `job IMAGE VLEN AGNOSTIC MAX P0 .. P7 TRY RUN`, each value `-` where its key is missing. A text is `t` and its bytes in hexadecimal. A parameter

@@ -1,7 +1,7 @@
 #!/usr/bin/env python3
 """Writes images.txt: ELF files, and what is wrong with each.
 
-    python3 conformance/images.py > crates/conformance/data/images.txt
+    python3 vectors/images.py > crates/conformance/data/images.txt
 
 The files and what is said of them are made from the ELF standard ("ELF Header", "Program Header", "Note Section"), the
 RISC-V ELF psABI (e_machine, e_flags) and the limits and places of docs/IMAGES.md alone; no program of this repository

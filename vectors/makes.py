@@ -1,7 +1,7 @@
 """Makes makes.txt: images and parameters, and the certificate that the maker makes for them, or the first word that does not fit.
 
-    python3 conformance/makes.py --drawn 150 1 > crates/conformance/data/makes.txt
-    python3 conformance/makes.py --tried 5000 2        # draws as many beside the table, and prints how many were made
+    python3 vectors/makes.py --drawn 150 1 > crates/conformance/data/makes.txt
+    python3 vectors/makes.py --tried 5000 2        # draws as many beside the table, and prints how many were made
 
 A row is `VLENB P0 .. P7 FILE = ANSWER`. A parameter is `-`, `sHHHHHHHH:HHHHHHHH` (a scalar with its ends), `rN` or `wN` (a buffer of N
 bytes to read, or to read and write). ANSWER is `made CERTIFICATE accepted C K R`, with the certificate's bytes and what its check then answers, or

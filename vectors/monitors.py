@@ -1,6 +1,6 @@
 """Makes monitors.txt: commands to the monitor of a run, and what each answers.
 
-    python3 conformance/monitors.py --drawn 250 1 > crates/conformance/data/monitors.txt
+    python3 vectors/monitors.py --drawn 250 1 > crates/conformance/data/monitors.txt
 
 A row is `VLENB SETTING MAX FILE A0 .. A7 = COMMAND ANSWER COMMAND ANSWER ..`: the run of an accepted image, as in sessions.txt, and commands in the
 order in which they are given. COMMAND is the command's text in hexadecimal, `-` where it is empty. ANSWER is the text in hexadecimal, `quit`, or the name

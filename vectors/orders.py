@@ -1,6 +1,6 @@
 """Makes orders.txt: images with certificates of version 2, and what the check of each answers: orders of two registers, and budgets of two.
 
-    python3 conformance/orders.py --drawn 600 1 > crates/conformance/data/orders.txt
+    python3 vectors/orders.py --drawn 600 1 > crates/conformance/data/orders.txt
 
 The answers of the rows before the drawn ones were written by hand, and checker.py has to say the same. Those of the drawn rows are checker.py's: the
 kernels of the rows by hand with a place or two changed, in the certificate, its bytes or the code, and small kernels with orders drawn at random.

@@ -1,6 +1,6 @@
 """Makes checks.txt: images with certificates, and what the check of each answers.
 
-    python3 conformance/checks.py --drawn 1100 1 > crates/conformance/data/checks.txt
+    python3 vectors/checks.py --drawn 1100 1 > crates/conformance/data/checks.txt
 
 The answers of the rows before the drawn ones were written by hand (hand_checks.py), and checker.py has to say the same. Those of the drawn rows are
 checker.py's: kernels with right certificates, of which up to two places were changed (drawn_checks.py). Without --drawn there are none.

@@ -88,8 +88,8 @@ def main():
         counts[legal] += 1
         out.append('%08x %08x %d' % (vtype, word, legal))
     version = subprocess.run(['qemu-riscv32', '--version'], capture_output=True, text=True).stdout.split()[2]
-    print('# Which vector words are legal at which vtype. Made by conformance/legality.py: qemu-riscv32 %s, at VLEN 128 and 256, which' % version)
-    print('# conformance/model.py shares. %d rows: %d legal, %d not; none by hand.' % (len(out), counts[1], counts[0]))
+    print('# Which vector words are legal at which vtype. Made by vectors/legality.py: qemu-riscv32 %s, at VLEN 128 and 256, which' % version)
+    print('# vectors/model.py shares. %d rows: %d legal, %d not; none by hand.' % (len(out), counts[1], counts[0]))
     print('\n'.join(out))
 
 

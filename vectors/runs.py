@@ -630,8 +630,8 @@ def main():
         print('%-40s %6d %s' % (run.name, mine[1], mine[0]), file=sys.stderr)
     version = subprocess.run(['qemu-riscv32', '--version'], capture_output=True, text=True).stdout.split()[2]
     clang = re.search(r'version (\S+)', subprocess.run(['clang-16', '--version'], capture_output=True, text=True).stdout).group(1)
-    print('# Whole runs. Made by conformance/runs.py: images by clang %s and ld.lld-16 or by the script; state and number of steps of qemu-riscv32 %s,' % (clang, version))
-    print('# which conformance/model.py shares. %d runs, %d of them by hand.' % (len(rows), len(rows) - checked))
+    print('# Whole runs. Made by vectors/runs.py: images by clang %s and ld.lld-16 or by the script; state and number of steps of qemu-riscv32 %s,' % (clang, version))
+    print('# which vectors/model.py shares. %d runs, %d of them by hand.' % (len(rows), len(rows) - checked))
     print('\n'.join(rows))
 
 

@@ -275,7 +275,7 @@ def main():
         rows.append('%08x %s' % (w, text))
         kind = ('illegal' if text == 'illegal' else 'with a meaning') + (', by hand' if by_hand else '')
         counts[kind] = counts.get(kind, 0) + 1
-    print('# What words mean. Made by conformance/words.py from llvm-mc-16 --disassemble (LLVM %s, -mattr=+m,+zve32x);'
+    print('# What words mean. Made by vectors/words.py from llvm-mc-16 --disassemble (LLVM %s, -mattr=+m,+zve32x);'
           % re.search(r'version (\S+)', subprocess.run(['llvm-mc-16', '--version'], capture_output=True, text=True).stdout).group(1))
     print('# by hand where the script says so. %d rows: %s.' % (len(rows), '; '.join('%s %d' % (k, counts[k]) for k in sorted(counts))))
     print('\n'.join(rows))

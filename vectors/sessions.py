@@ -204,7 +204,7 @@ def main():
         mine = opening.refusal(run.image, run.args, run.vlenb, run.most)
         assert mine == run.answer, '%s\n by hand %s\n model   %s' % (run.name, run.answer, mine)
     version = subprocess.run(['qemu-riscv32', '--version'], capture_output=True, text=True).stdout.split()[2]
-    print('# Runs of accepted images. Made by conformance/sessions.py: state and number of steps of qemu-riscv32 %s, which conformance/model.py shares.' % version)
+    print('# Runs of accepted images. Made by vectors/sessions.py: state and number of steps of qemu-riscv32 %s, which vectors/model.py shares.' % version)
     by_hand = sum('(by hand)' in row.split('\n')[0] for row in rows)
     print('# %d runs, %d of them by hand, and %d by hand that are refused.' % (len(rows), by_hand, len(refused)))
     print('\n'.join(rows + ['# %s (by hand)\n%s' % (run.name, run.row(run.answer)) for run in refused]))
