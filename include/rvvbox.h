@@ -2,7 +2,7 @@
  *
  * Link librvvbox_c.a and the kit's liblibc_c.a, which calls the program's malloc, realloc and free. docs/EMBEDDING.md tells what a
  * caller owes. No call keeps a pointer to the caller's memory. Any number of threads may call at once, if no two of them pass the same
- * kernel, or memory that one of them writes. Where a length is 0, its pointer may be NULL. `refusal` may be NULL.
+ * kernel or session, or memory that one of them writes. Where a length is 0, its pointer may be NULL. `refusal` may be NULL.
  *
  * The numbers of statuses, of rules and of kinds, once given, stay, and new ones come after them. Where the first part of the version is
  * the same, so are the structs and the calls; fields that are `reserved` are 0. The library is for machines of 64 bits. */
@@ -22,7 +22,7 @@ extern "C" {
 #endif
 
 #define RVVBOX_VERSION_MAJOR 2u
-#define RVVBOX_VERSION_MINOR 0u
+#define RVVBOX_VERSION_MINOR 1u
 
 /* The places of a kernel's arguments, from 0 on: a0 to a7. */
 #define RVVBOX_PLACES 8
@@ -35,7 +35,7 @@ enum rvvbox_status {
     RVVBOX_BAD_AGNOSTIC = 3,           /* a setting that is not 0 or 1 */
     RVVBOX_BAD_COUNT = 4,              /* not eight of what there is to be for each place */
     RVVBOX_BAD_KIND = 5,               /* an argument of no kind */
-    RVVBOX_BAD_RANGE = 6,              /* bytes that are not there: at NULL, or beyond the end of memory */
+    RVVBOX_BAD_RANGE = 6,              /* bytes that are not there: at NULL, beyond the end of memory, or in none of a session's */
     RVVBOX_TOO_LARGE = 7,              /* buffers beyond what a try allows */
     RVVBOX_IMAGE = 8,                  /* the bytes spell no image */
     RVVBOX_NO_CERTIFICATE = 9,         /* the image has no certificate */
@@ -48,7 +48,7 @@ enum rvvbox_status {
     RVVBOX_WRONG_VLEN = 16,            /* accepted for another length of registers */
     RVVBOX_TRAPPED = 17,               /* a tried run met a fault */
     RVVBOX_OUT_OF_STEPS = 18,          /* a tried run did `max` steps and has not ended */
-    RVVBOX_NOTHING_KEPT = 19,          /* another call has the kernel now, which a caller may not do */
+    RVVBOX_NOTHING_KEPT = 19,          /* the session is closed; or another call has it or the kernel now, which a caller may not do */
     RVVBOX_OVERLAP = 20                /* an argument that is put back shares bytes with another */
 };
 
@@ -188,6 +188,29 @@ struct rvvbox_stopped {
  * thread, and each has one call at a time: a thread that runs while others do has one of its own, by rvvbox_share. */
 struct rvvbox_kernel;
 
+/* How far a session is: whether its run has ended (1) or not (0), and the steps done since it was opened. */
+struct rvvbox_progress {
+    uint32_t ended;
+    uint32_t reserved;
+    uint64_t steps;
+};
+
+/* The registers of a session's run as they stand, whether it has ended (1) or not (0), and the steps done since it was opened. */
+struct rvvbox_registers {
+    uint32_t pc;
+    uint32_t vl;
+    uint32_t vtype;                    /* with vill at bit 31 */
+    uint32_t vxrm;
+    uint32_t vxsat;
+    uint32_t ended;
+    uint32_t x[32];
+    uint64_t steps;
+};
+
+/* A session: a run that stands still between two calls. rvvbox_open makes each, and rvvbox_drop lets it go. It has copies of what it was
+ * opened on, so kernel and arguments may go before it does. It may go from thread to thread, and has one call at a time. */
+struct rvvbox_session;
+
 /* ---- What the library has. */
 
 /* The version of the library, major * 65536 + minor. A host can use one of the same RVVBOX_VERSION_MAJOR, and of the same
@@ -211,6 +234,19 @@ uint32_t rvvbox_budget_of(struct rvvbox_kernel *kernel, struct rvvbox_budget *bu
 
 /* Tells the most steps of a run of the kernel with these scalars. `bound` is set where the answer is RVVBOX_DONE. */
 uint32_t rvvbox_bound_of(struct rvvbox_kernel *kernel, const struct rvvbox_scalars *scalars, struct rvvbox_bound *bound);
+
+/* Goes on with a session for at most `most` steps, and less only where the run ends; one that has ended stays as it is. `progress` is set
+ * where the answer is RVVBOX_DONE. No memory is asked for, and the bound of the run limits the steps of all calls. */
+uint32_t rvvbox_go_on(struct rvvbox_session *session, uint64_t most, struct rvvbox_progress *progress);
+
+/* Tells the registers of a session. `registers` is set where the answer is RVVBOX_DONE. */
+uint32_t rvvbox_registers_of(struct rvvbox_session *session, struct rvvbox_registers *registers);
+
+/* Tells the byte at an address of a session's memory, whatever the rights. `byte` is set where the answer is RVVBOX_DONE. */
+uint32_t rvvbox_byte_of(struct rvvbox_session *session, uint32_t address, uint8_t *byte);
+
+/* Lets go a session wherever its run stands, or does nothing where it is NULL. */
+void rvvbox_drop(struct rvvbox_session *session);
 
 /* ---- The same, of pointers that are never NULL, and of arguments taken apart: the functions below call these. */
 
@@ -244,8 +280,14 @@ uint32_t rvvbox_check_raw(const uint8_t *image, size_t image_size, uint32_t vlen
 uint32_t rvvbox_accept_raw(const uint8_t *image, size_t image_size, uint32_t vlen, struct rvvbox_kernel **out,
                            struct rvvbox_refusal *refusal);
 uint32_t rvvbox_explain_raw(const uint8_t *image, size_t image_size, uint32_t vlen, uint8_t *text, size_t text_size, size_t *needed);
+uint32_t rvvbox_attach_raw(const uint8_t *image, size_t image_size, const uint8_t *certificate, size_t certificate_size, uint8_t *out,
+                           size_t out_size, size_t *needed, struct rvvbox_refusal *refusal);
 uint32_t rvvbox_run_raw(struct rvvbox_kernel *kernel, const struct rvvbox_forms *forms, uint32_t agnostic, uint64_t max, RVVBOX_READS,
                         RVVBOX_WRITES, uint64_t *steps, struct rvvbox_refusal *refusal);
+uint32_t rvvbox_open_raw(struct rvvbox_kernel *kernel, const struct rvvbox_forms *forms, uint32_t agnostic, uint64_t max, RVVBOX_READS,
+                         struct rvvbox_session **out, struct rvvbox_refusal *refusal);
+uint32_t rvvbox_close_raw(struct rvvbox_session *session, const struct rvvbox_forms *forms, RVVBOX_WRITES,
+                          struct rvvbox_refusal *refusal);
 uint32_t rvvbox_try_raw(const uint8_t *image, size_t image_size, const struct rvvbox_setting *setting, const struct rvvbox_forms *forms,
                         RVVBOX_READS, RVVBOX_WRITES, struct rvvbox_stopped *stopped, struct rvvbox_refusal *refusal);
 
@@ -290,6 +332,13 @@ static inline size_t rvvbox_size_if(uint32_t kind, const struct rvvbox_argument 
 #define RVVBOX_EIGHT(kind, arguments) RVVBOX_OF(kind, arguments, 0), RVVBOX_OF(kind, arguments, 1), RVVBOX_OF(kind, arguments, 2), \
     RVVBOX_OF(kind, arguments, 3), RVVBOX_OF(kind, arguments, 4), RVVBOX_OF(kind, arguments, 5), RVVBOX_OF(kind, arguments, 6), \
     RVVBOX_OF(kind, arguments, 7)
+
+/* Bytes of either kind, at each place. */
+#define RVVBOX_EITHER(arguments, place) \
+    RVVBOX_OF((arguments)[place].kind == RVVBOX_READ ? RVVBOX_READ : RVVBOX_BUFFER, arguments, place)
+#define RVVBOX_ALL(arguments) RVVBOX_EITHER(arguments, 0), RVVBOX_EITHER(arguments, 1), RVVBOX_EITHER(arguments, 2), \
+    RVVBOX_EITHER(arguments, 3), RVVBOX_EITHER(arguments, 4), RVVBOX_EITHER(arguments, 5), RVVBOX_EITHER(arguments, 6), \
+    RVVBOX_EITHER(arguments, 7)
 
 static inline struct rvvbox_form rvvbox_form_of(const struct rvvbox_argument *argument) {
     struct rvvbox_form form = {argument->kind, argument->value};
@@ -343,6 +392,15 @@ RVVBOX_INLINE uint32_t rvvbox_explain(const void *image, size_t image_size, uint
     return rvvbox_explain_raw(rvvbox_or_none(image), image_size, vlen, rvvbox_or_none(text), text_size, needed);
 }
 
+/* Puts the image with a certificate's bytes in a note behind it into `out`, or as much of it as there is room for; `*needed` is how many
+ * bytes all of it has, at most 4 MiB. The certificate is not read. Where the answer is not RVVBOX_DONE both are as they were. */
+RVVBOX_INLINE uint32_t rvvbox_attach(const void *image, size_t image_size, const void *certificate, size_t certificate_size, void *out,
+                                     size_t out_size, size_t *needed, struct rvvbox_refusal *refusal) {
+    struct rvvbox_refusal untold;
+    return rvvbox_attach_raw(rvvbox_or_none(image), image_size, rvvbox_or_none(certificate), certificate_size, rvvbox_or_none(out), out_size,
+                             needed, refusal ? refusal : &untold);
+}
+
 /* Runs the kernel once on eight arguments, with agnostic elements kept (0) or filled with ones (1). Where the answer is RVVBOX_DONE the
  * run has ended, within its bound, `max` and `*steps` steps, and each RVVBOX_BUFFER is as the kernel left it. Else all memory of the
  * caller is as it was, but for `refusal`. */
@@ -367,6 +425,39 @@ RVVBOX_INLINE uint32_t rvvbox_run_many(struct rvvbox_kernel *kernel, const struc
         runs[run] = ran;
     }
     return first;
+}
+
+/* Opens a run of the kernel on eight arguments, as rvvbox_run would do it, and puts a session of it into `*out` where the answer is
+ * RVVBOX_DONE; no step is done yet. Else `*out` is as it was. `*out` is NULL, or a session, which is then let go. */
+RVVBOX_INLINE uint32_t rvvbox_open(struct rvvbox_kernel *kernel, const struct rvvbox_argument *arguments, uint32_t agnostic, uint64_t max,
+                                   struct rvvbox_session **out, struct rvvbox_refusal *refusal) {
+    struct rvvbox_refusal untold, *told = refusal ? refusal : &untold;
+    struct rvvbox_forms forms = rvvbox_forms_of(arguments);
+    uint32_t status = rvvbox_named(arguments, told);
+    return status ? status : rvvbox_open_raw(kernel, &forms, agnostic, max, RVVBOX_ALL(arguments), out, told);
+}
+
+/* Puts the bytes of `size` addresses of a session's memory into `bytes`, where the answer is RVVBOX_DONE. Else all is as it was. */
+RVVBOX_INLINE uint32_t rvvbox_peek(struct rvvbox_session *session, uint32_t address, void *bytes, size_t size) {
+    uint8_t byte, *to = (uint8_t *)bytes;
+    if (size > 0x100000000u - (uint64_t)address) return RVVBOX_BAD_RANGE;
+    for (size_t at = 0; at < size; at++) {
+        uint32_t status = rvvbox_byte_of(session, address + (uint32_t)at, &byte);
+        if (status) return status;
+    }
+    for (size_t at = 0; at < size; at++) rvvbox_byte_of(session, address + (uint32_t)at, to + at);
+    return RVVBOX_DONE;
+}
+
+/* Ends a session's run wherever it stands. Where the answer is RVVBOX_DONE, each RVVBOX_BUFFER is as the run has left it so far, and the
+ * session is closed: it is let go next. A buffer has the size that stood at its place in rvvbox_open, and one that is not to be put back
+ * may be left out. Else all is as it was, but for `refusal`. */
+RVVBOX_INLINE uint32_t rvvbox_close(struct rvvbox_session *session, const struct rvvbox_argument *arguments,
+                                    struct rvvbox_refusal *refusal) {
+    struct rvvbox_refusal untold, *told = refusal ? refusal : &untold;
+    struct rvvbox_forms forms = rvvbox_forms_of(arguments);
+    uint32_t status = rvvbox_named(arguments, told);
+    return status ? status : rvvbox_close_raw(session, &forms, RVVBOX_EIGHT(RVVBOX_BUFFER, arguments), told);
 }
 
 /* Runs any image once, accepted or not, with every test at each step. Buffers have at most 16 MiB. Where the answer is RVVBOX_DONE,

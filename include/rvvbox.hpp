@@ -73,6 +73,48 @@ inline std::string explain(std::span<const uint8_t> image, uint32_t vlen) {
     return text;
 }
 
+/// A run that stands still between two calls, on copies of what it was opened on. It is closed once.
+class session {
+public:
+    /// Goes on for at most so many steps, and tells how far the run is.
+    rvvbox_progress go_on(uint64_t most) {
+        rvvbox_progress told;
+        expect(rvvbox_go_on(held.get(), most, &told));
+        return told;
+    }
+
+    rvvbox_registers registers() {
+        rvvbox_registers told;
+        expect(rvvbox_registers_of(held.get(), &told));
+        return told;
+    }
+
+    /// Fills a span with the bytes of the run's memory from an address on.
+    void peek(uint32_t address, std::span<uint8_t> into) { expect(rvvbox_peek(held.get(), address, into.data(), into.size())); }
+
+    /// Ends the run wherever it stands, and puts its buffers back to these, as they stand.
+    template <class... T> void close(T &&...of) { close_on(arguments(std::forward<T>(of)...)); }
+
+    void close_on(const places &eight) {
+        rvvbox_refusal why;
+        rvvbox_close(held.get(), eight.data(), &why);
+        expect(why);
+    }
+
+    rvvbox_session *get() const { return held.get(); }
+
+private:
+    friend class kernel;
+
+    struct letting_go {
+        void operator()(rvvbox_session *session) const { rvvbox_drop(session); }
+    };
+
+    explicit session(rvvbox_session *made) : held(made) {}
+
+    std::unique_ptr<rvvbox_session, letting_go> held;
+};
+
 /// An accepted image.
 class kernel {
 public:
@@ -118,6 +160,18 @@ public:
         rvvbox_run(held.get(), eight.data(), ones, max, &steps, &why);
         expect(why);
         return steps;
+    }
+
+    /// Opens a run of at most `max` steps, which goes on by as many at a time as is asked.
+    template <class... T> session open(uint64_t max, T &&...of) { return open_on(arguments(std::forward<T>(of)...), max); }
+
+    session open_on(const places &eight, uint64_t max, bool ones = false) {
+        rvvbox_session *made = nullptr;
+        rvvbox_refusal why;
+        rvvbox_open(held.get(), eight.data(), ones, max, &made, &why);
+        session one(made);
+        expect(why);
+        return one;
     }
 
     rvvbox_kernel *get() const { return held.get(); }

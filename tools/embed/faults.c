@@ -195,6 +195,32 @@ static void explained(void) {
     EXPECT(needed == size_told && !memcmp(text, wanted, size_told));
 }
 
+/* Where the certificate of the image lies: behind the name of its note, whose padded length is 8 */
+static const uint8_t *certificate_in(size_t *length) {
+    size_t at = 0;
+    while (memcmp(image + at, "RVVBOX", 6)) at++;
+    *length = image[at - 8] + 256u * image[at - 7];
+    return image + at + 8;
+}
+
+/* The certificate of the image, attached to the image without one, gives that image, or as much of it as there is room for */
+static void attached(void) {
+    static uint8_t bare[4096], made[4096];
+    size_t bare_size = read_file("bare.elf", bare), needed = 7, length;
+    const uint8_t *certificate = certificate_in(&length);
+    memset(made, 7, sizeof made);
+    EXPECT(rvvbox_attach(image, size, certificate, length, made, 9, &needed, &refusal) == RVVBOX_IMAGE && needed == 7 && made[0] == 7);
+    EXPECT(refusal.rule == RVVBOX_IMAGE_CERTIFICATE_THERE);
+    EXPECT(rvvbox_attach(bare, 51, certificate, length, made, 9, &needed, NULL) == RVVBOX_IMAGE && needed == 7 && made[0] == 7);
+    refused = 0;
+    EXPECT(rvvbox_attach(bare, bare_size, certificate, length, made, 9, &needed, &refusal) == RVVBOX_NO_MEMORY && needed == 7);
+    EXPECT(refused == -1 && made[0] == 7);
+    EXPECT(rvvbox_attach(bare, bare_size, certificate, length, made, 9, &needed, &refusal) == RVVBOX_DONE && needed == size);
+    EXPECT(!memcmp(made, image, 9) && made[9] == 7 && refusal.status == RVVBOX_DONE);
+    EXPECT(rvvbox_attach(bare, bare_size, certificate, length, made, sizeof made, &needed, NULL) == RVVBOX_DONE && needed == size);
+    EXPECT(!memcmp(made, image, size) && made[size] == 7);
+}
+
 static uint32_t accept(uint32_t vlen, struct rvvbox_kernel **out) {
     refusal.status = 77;
     uint32_t status = rvvbox_accept(image, size, vlen, out, &refusal);
@@ -326,6 +352,7 @@ int main(void) {
     tried();
     read_alone();
     explained();
+    attached();
     two_runs();
     kept();
     shared();

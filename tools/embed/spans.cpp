@@ -1,4 +1,4 @@
-// The C++ wrapper runs a kernel on a vector of its own, from two threads, and throws what is refused. Prints nothing and ends with 0.
+// The C++ wrapper runs a kernel on a vector of its own, from two threads, opens sessions, and throws what is refused. Prints nothing and ends with 0.
 #include "rvvbox.hpp"
 #include <cstdio>
 #include <cstdlib>
@@ -24,6 +24,25 @@ int main() {
     thread.join();
     EXPECT(others == expected);
     EXPECT(kernel.run(10000, before, 1000) == 2002);
+    words = before;
+    auto session = kernel.open(10000, words, 1000);
+    EXPECT(!session.go_on(2001).ended && session.registers().x[0] == 0);
+    std::thread other([session = std::move(session), &words]() mutable {
+        EXPECT(session.go_on(1).ended && session.registers().steps == 2002);
+        std::vector<uint8_t> seen(words.size());
+        session.peek(0x40000000, seen);
+        EXPECT(words != seen);
+        session.close(words);
+        EXPECT(words == seen);
+    });
+    other.join();
+    EXPECT(words == expected);
+    try {
+        kernel.open(10000, words, 1025);
+        EXPECT(false);
+    } catch (const rvvbox::refused &refused) {
+        EXPECT(refused.why.status == RVVBOX_SCALAR_OUT_OF_INTERVAL && refused.why.place == 1);
+    }
     try {
         kernel.run(10000, words, 1025);
         EXPECT(false);

@@ -109,6 +109,12 @@ def c_of_rust(kind):
     return RUST_TYPES.get(kind) or 'struct rvvbox_' + kind.lower()
 
 
+def c_field(kind, name):
+    """A field of a struct of the Rust wrapper's declarations, as C."""
+    array = re.fullmatch(r'\[(.+); (\d+)\]', kind)
+    return '%s %s[%s];' % (c_of_rust(array.group(1)), name, array.group(2)) if array else '%s %s;' % (c_of_rust(kind), name)
+
+
 def rust_prototypes(text):
     """Each function that the Rust wrapper declares, as C."""
     for name, parameters, result in re.findall(r'pub fn (\w+)\((.*?)\)(?: -> ([^;]+))?;', text, re.S):
@@ -121,7 +127,7 @@ def rust_layouts(text):
     for name, body in re.findall(r'pub struct (\w+) \{(.*?)\n\}', text, re.S):
         parts = re.findall(r'pub (\w+): ([^\n]+),', body)
         if parts:
-            fields = ' '.join('%s %s;' % (c_of_rust(kind), field) for field, kind in parts)
+            fields = ' '.join(c_field(kind, field) for field, kind in parts)
             yield 'struct rust_%s { %s };' % (name, fields)
             yield '_Static_assert(sizeof(struct rust_%s) == sizeof(%s), "%s");' % (name, c_of_rust(name), name)
             for field, kind in parts:

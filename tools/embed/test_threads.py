@@ -1,4 +1,5 @@
-"""Eight threads run, share and let go kernels of one image at once: each run is done, no thread races another, and nothing is leaked."""
+"""Threads run, share and let go kernels of one image at once, and others go on with its sessions: no thread races another, and nothing is
+leaked."""
 import tempfile
 import unittest
 from pathlib import Path

@@ -1,4 +1,4 @@
-/* Threads with a kernel each of one image, which the first of them has checked. Prints nothing and ends with 0 where each run is done and
+/* Threads with a kernel or a session each of one image, which the first of them has checked. Prints nothing and ends with 0 where each run is done and
  * each refusal is the header's; else names the line. */
 #include "rvvbox.h"
 #include <pthread.h>
@@ -31,6 +31,30 @@ static void runs(struct rvvbox_kernel *kernel, uint8_t *words, uint32_t n, uint3
     EXPECT(!memcmp(words, status == RVVBOX_DONE ? expected : before, SIZE));
 }
 
+/* Goes on with the session that another thread has opened and begun, and lets it go */
+static void *goes_on(void *session) {
+    struct rvvbox_progress progress;
+    uint8_t *words = malloc(SIZE);
+    EXPECT(words);
+    struct rvvbox_argument arguments[RVVBOX_PLACES] = {rvvbox_buffer(words, SIZE)};
+    do EXPECT(rvvbox_go_on(session, 100, &progress) == RVVBOX_DONE);
+    while (!progress.ended);
+    EXPECT(progress.steps == 2002 && rvvbox_close(session, arguments, NULL) == RVVBOX_DONE && !memcmp(words, expected, SIZE));
+    free(words);
+    rvvbox_drop(session);
+    return NULL;
+}
+
+/* A session of the kernel that has done its first steps on this thread */
+static struct rvvbox_session *begun(struct rvvbox_kernel *kernel) {
+    struct rvvbox_argument arguments[RVVBOX_PLACES] = {rvvbox_read(before, SIZE), rvvbox_scalar(1000)};
+    struct rvvbox_session *session = NULL;
+    struct rvvbox_progress progress;
+    EXPECT(rvvbox_open(kernel, arguments, 0, 10000, &session, NULL) == RVVBOX_DONE);
+    EXPECT(rvvbox_go_on(session, 1, &progress) == RVVBOX_DONE && progress.steps == 1);
+    return session;
+}
+
 /* Runs the kernel that another thread has made, shares it further, and lets both go */
 static void *work(void *kernel) {
     static const struct rvvbox_scalars scalars = {.a1 = 1000};
@@ -58,13 +82,14 @@ int main(void) {
     struct rvvbox_kernel *kernel = NULL;
     struct rvvbox_refusal refusal;
     EXPECT(rvvbox_accept(image, size, 128, &kernel, &refusal) == RVVBOX_DONE);
-    pthread_t threads[THREADS];
+    pthread_t threads[2 * THREADS];
     for (int i = 0; i < THREADS; i++) {
         struct rvvbox_kernel *own = NULL;
         EXPECT(rvvbox_share(kernel, &own) == RVVBOX_DONE);
         EXPECT(!pthread_create(&threads[i], NULL, work, own));
+        EXPECT(!pthread_create(&threads[THREADS + i], NULL, goes_on, begun(kernel)));
     }
     rvvbox_free(kernel);
-    for (int i = 0; i < THREADS; i++) EXPECT(!pthread_join(threads[i], NULL));
+    for (int i = 0; i < 2 * THREADS; i++) EXPECT(!pthread_join(threads[i], NULL));
     return 0;
 }

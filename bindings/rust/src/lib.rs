@@ -1,7 +1,7 @@
 //! Certified RISC-V vector kernels on a program's own memory: a safe wrapper of `include/rvvbox.h`.
 mod sys;
 
-pub use sys::{Bound, Parameter, Refusal, Scalars};
+pub use sys::{Bound, Parameter, Progress, Refusal, Registers, Scalars};
 
 use std::ffi::CStr;
 use std::{error, fmt, ptr};
@@ -68,6 +68,16 @@ impl Argument<'_> {
         };
         sys::Argument { kind, value, bytes: bytes.cast(), size }
     }
+}
+
+/// At most eight arguments as C has them, and nothing at the other places.
+fn all_to_c(arguments: &mut [Argument<'_>]) -> [sys::Argument; PLACES] {
+    assert!(arguments.len() <= PLACES, "a kernel has eight places");
+    let mut eight = [Argument::None.to_c(); PLACES];
+    for (place, argument) in eight.iter_mut().zip(arguments) {
+        *place = argument.to_c();
+    }
+    eight
 }
 
 /// An accepted image. It may go from thread to thread; `share` makes one more for another thread.
@@ -138,15 +148,65 @@ impl Kernel {
 
     /// Runs once on at most eight arguments, in at most `max` steps, and answers how many.
     pub fn run(&mut self, arguments: &mut [Argument<'_>], max: u64) -> Result<u64, Error> {
-        assert!(arguments.len() <= PLACES, "a kernel has eight places");
-        let mut eight = [Argument::None.to_c(); PLACES];
-        for (place, argument) in eight.iter_mut().zip(arguments) {
-            *place = argument.to_c();
-        }
+        let eight = all_to_c(arguments);
         let (mut steps, mut refusal) = (0, Refusal::default());
         // The slices are borrowed over the call, and no two of them that are put back share a byte.
         let status = unsafe { sys::rvvbox_run(self.at, eight.as_ptr(), 0, max, &mut steps, &mut refusal) };
         if status == 0 { Ok(steps) } else { Err(Error::of(refusal)) }
+    }
+
+    /// Opens a run of at most `max` steps on copies of at most eight arguments. It goes on by as many steps at a time as is asked.
+    pub fn open(&mut self, arguments: &mut [Argument<'_>], max: u64) -> Result<Session, Error> {
+        let eight = all_to_c(arguments);
+        let (mut at, mut refusal) = (ptr::null_mut(), Refusal::default());
+        // As in `run`; the session keeps no pointer to them.
+        let status = unsafe { sys::rvvbox_open(self.at, eight.as_ptr(), 0, max, &mut at, &mut refusal) };
+        if status == 0 { Ok(Session { at }) } else { Err(Error::of(refusal)) }
+    }
+}
+
+/// A run that stands still between two calls. It may go from thread to thread.
+#[derive(Debug)]
+pub struct Session {
+    at: *mut sys::Session,
+}
+
+// As for a kernel.
+unsafe impl Send for Session {}
+unsafe impl Sync for Session {}
+
+impl Drop for Session {
+    fn drop(&mut self) {
+        unsafe { sys::rvvbox_drop(self.at) }
+    }
+}
+
+impl Session {
+    /// Goes on for at most so many steps, and tells how far the run is.
+    pub fn go_on(&mut self, most: u64) -> Result<Progress, Error> {
+        let mut told = Progress::default();
+        Error::answered(unsafe { sys::rvvbox_go_on(self.at, most, &mut told) })?;
+        Ok(told)
+    }
+
+    /// The registers as they stand.
+    pub fn registers(&mut self) -> Result<Registers, Error> {
+        let mut told = Registers::default();
+        Error::answered(unsafe { sys::rvvbox_registers_of(self.at, &mut told) })?;
+        Ok(told)
+    }
+
+    /// Fills bytes with those of the run's memory from an address on.
+    pub fn peek(&mut self, address: u32, bytes: &mut [u8]) -> Result<(), Error> {
+        Error::answered(unsafe { sys::rvvbox_peek(self.at, address, bytes.as_mut_ptr().cast(), bytes.len()) })
+    }
+
+    /// Ends the run wherever it stands, and puts its buffers back to these, as they stand. Where that is refused the session goes on.
+    pub fn close(self, arguments: &mut [Argument<'_>]) -> Result<(), (Error, Session)> {
+        let eight = all_to_c(arguments);
+        let mut refusal = Refusal::default();
+        let status = unsafe { sys::rvvbox_close(self.at, eight.as_ptr(), &mut refusal) };
+        if status == 0 { Ok(()) } else { Err((Error::of(refusal), self)) }
     }
 }
 

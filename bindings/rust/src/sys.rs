@@ -6,6 +6,12 @@ pub struct Kernel {
     nothing: [u8; 0],
 }
 
+/// The same of a session.
+#[repr(C)]
+pub struct Session {
+    nothing: [u8; 0],
+}
+
 #[repr(C)]
 #[derive(Clone, Copy, Debug, Default, PartialEq, Eq)]
 pub struct Bound {
@@ -56,6 +62,29 @@ pub struct Scalars {
     pub a7: u32,
 }
 
+/// How far a session is: whether its run has ended (1) or not (0), and the steps done since it was opened.
+#[repr(C)]
+#[derive(Clone, Copy, Debug, Default, PartialEq, Eq)]
+pub struct Progress {
+    pub ended: u32,
+    pub reserved: u32,
+    pub steps: u64,
+}
+
+/// The registers of a session's run as they stand.
+#[repr(C)]
+#[derive(Clone, Copy, Debug, Default, PartialEq, Eq)]
+pub struct Registers {
+    pub pc: u32,
+    pub vl: u32,
+    pub vtype: u32,
+    pub vxrm: u32,
+    pub vxsat: u32,
+    pub ended: u32,
+    pub x: [u32; 32],
+    pub steps: u64,
+}
+
 use std::ffi::{c_char, c_void};
 
 extern "C" {
@@ -68,6 +97,12 @@ extern "C" {
     pub fn rvvbox_parameters_of(kernel: *mut Kernel, parameters: *mut Parameter, count: usize) -> u32;
     pub fn rvvbox_bound_of(kernel: *mut Kernel, scalars: *const Scalars, bound: *mut Bound) -> u32;
     pub fn rvvbox_run(kernel: *mut Kernel, arguments: *const Argument, agnostic: u32, max: u64, steps: *mut u64, refusal: *mut Refusal) -> u32;
+    pub fn rvvbox_open(kernel: *mut Kernel, arguments: *const Argument, agnostic: u32, max: u64, out: *mut *mut Session, refusal: *mut Refusal) -> u32;
+    pub fn rvvbox_go_on(session: *mut Session, most: u64, progress: *mut Progress) -> u32;
+    pub fn rvvbox_registers_of(session: *mut Session, registers: *mut Registers) -> u32;
+    pub fn rvvbox_peek(session: *mut Session, address: u32, bytes: *mut c_void, size: usize) -> u32;
+    pub fn rvvbox_close(session: *mut Session, arguments: *const Argument, refusal: *mut Refusal) -> u32;
+    pub fn rvvbox_drop(session: *mut Session);
     pub fn rvvbox_status_name(status: u32) -> *const c_char;
     pub fn rvvbox_rule_name(status: u32, rule: u32) -> *const c_char;
 }

@@ -1,5 +1,5 @@
 //! Runs the kernel of examples/raise_words, on several threads too, and tells what is refused.
-use rvvbox::{version, Argument, Kernel, Scalars};
+use rvvbox::{version, Argument, Kernel, Scalars, Session};
 use std::{fs, thread};
 
 fn bytes_of(name: &str) -> Vec<u8> {
@@ -36,6 +36,32 @@ fn threads_run_kernels_of_their_own() {
     for thread in threads {
         assert_eq!(thread.join().unwrap(), bytes_of("expected.bin"));
     }
+}
+
+#[test]
+fn sessions_go_on() {
+    crosses::<Session>();
+    let mut kernel = Kernel::new(&bytes_of("raise_words.elf"), 128).unwrap();
+    let mut words = bytes_of("a.bin");
+    let mut session = kernel.open(&mut [Argument::Buffer(&mut words), Argument::Scalar(1000)], 10_000).unwrap();
+    drop(kernel);
+    assert_eq!((session.go_on(2001).unwrap().ended, words == bytes_of("a.bin")), (0, true));
+    let mut session = thread::spawn(move || {
+        let told = session.go_on(10).unwrap();
+        assert_eq!((told.ended, told.steps), (1, 2002));
+        session
+    })
+    .join()
+    .unwrap();
+    let at = session.registers().unwrap();
+    assert_eq!((at.pc, at.x[0], at.ended, at.steps), (at.x[1], 0, 1, 2002));
+    let mut seen = vec![0; words.len()];
+    session.peek(0x4000_0000, &mut seen).unwrap();
+    assert_eq!(session.peek(0x4000_0001, &mut seen).unwrap_err().name(), "BAD_RANGE");
+    let (error, session) = session.close(&mut [Argument::Buffer(&mut words[4..])]).unwrap_err();
+    assert_eq!((error.name(), error.refusal.place), ("WRONG_SIZE", 0));
+    session.close(&mut [Argument::Buffer(&mut words)]).unwrap();
+    assert_eq!((&words, &seen), (&bytes_of("expected.bin"), &words));
 }
 
 #[test]

@@ -4,8 +4,12 @@ pub mod Apart
 pub mod Explain
 pub mod Forms
 pub mod Holds
+pub mod Opened
+pub mod RunSlot
+pub mod Running
 pub mod Runs
 pub mod Scalars
+pub mod Sessions
 pub mod Slots
 pub mod Status
 pub mod Told

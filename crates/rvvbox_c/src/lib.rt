@@ -1,9 +1,10 @@
 //! What a host in C calls: to check an image, to run it on the host's own bytes, once or many times,
-//! and to try any image.
+//! or by so many steps at a time, and to try any image.
 #![tactic(auto)]
 
 mod accept;
 mod apart;
+mod attaching;
 mod calls;
 mod explain;
 mod facts;
@@ -11,12 +12,17 @@ mod forms;
 mod handles;
 mod kept;
 mod loose;
+mod opened;
+mod run_slot;
+mod running;
 mod runs;
+mod sessions;
 mod slot;
 mod status;
 mod tries;
 
 pub use apart::{Place, rvvbox_apart};
+pub use attaching::rvvbox_attach_raw;
 pub use calls::{Setting, rvvbox_check_raw, rvvbox_version};
 pub use explain::rvvbox_explain_raw;
 pub use facts::{
@@ -26,7 +32,14 @@ pub use facts::{
 pub use forms::{Form, Forms};
 pub use handles::{rvvbox_accept_raw, rvvbox_free, rvvbox_share};
 pub use kept::Kernel;
+pub use opened::{Progress, Registers};
+pub use run_slot::RunSlot;
+pub use running::Run;
 pub use runs::rvvbox_run_raw;
+pub use sessions::{
+    rvvbox_byte_of, rvvbox_close_raw, rvvbox_drop, rvvbox_go_on, rvvbox_open_raw,
+    rvvbox_registers_of,
+};
 pub use slot::Slot;
 pub use status::{Bound, Refusal};
 pub use tries::{Stopped, rvvbox_try_raw};
