@@ -5,6 +5,7 @@ commands on them. What `make` has to answer is in made.py.
 """
 import functools
 import tomllib
+from unicodedata import category
 
 from outside import certificates, checker, jobs, monitor, opening, runs
 from program import Answer
@@ -247,7 +248,8 @@ def of_text(data, word, files, script=b''):
 
 
 def lacking(path):
-    return Answer(3, '', 'file: %s\n' % path)
+    """What is told of a path. Control characters are told by their codes."""
+    return Answer(3, '', 'file: %s\n' % ''.join('\\u{%x}' % ord(c) if category(c) == 'Cc' else c for c in path))
 
 
 def of_job(image, job, word, script=b''):

@@ -35,7 +35,7 @@ COPY = runs.put_together([(0x10000, runs.words(0x00050283, 0x00558023, 0x0056002
 
 
 def file(path):
-    return Answer(3, '', 'file: %s\n' % path)
+    return expected.lacking(path)
 
 
 class Line:
@@ -371,11 +371,20 @@ def little_memory():
     resource.setrlimit(resource.RLIMIT_AS, (MEMORY, MEMORY))
 
 
+def without_end(line, name):
+    """What is answered where a file has no end. Memory is limited: a job file takes it all, and of others no more is read than is needed."""
+    if name.endswith('.toml'):
+        return OUT_OF_MEMORY
+    if name.endswith('.elf'):
+        return Answer(1, '', 'refused: BadMagic\n')
+    return Answer(2, '', 'job: BadKey\n') if line.words[0] == 'try' else Answer(1, '', 'refused: WrongSize\n')
+
+
 def endless(calls):
-    """A file without an end runs out of memory, which is limited here."""
+    """A file without an end."""
     for line in calls.lines:
         for name in line.reads:
-            calls.expect('%s has no end' % name, line, OUT_OF_MEMORY, line.none(), line.with_path(name, '/dev/zero'), preexec_fn=little_memory)
+            calls.expect('%s has no end' % name, line, without_end(line, name), line.none(), line.with_path(name, '/dev/zero'), preexec_fn=little_memory)
 
 
 # ---- Each call of the C library in turn ---------------------------------------------------------------------------------------------------

@@ -1,11 +1,12 @@
--- Each row of a parse has a value, for a command whose only flags are requests such as `--help`.
-use Rattle.std.proofs.Common.{◌≡◌, ℕ, zero, suc, Bool, true, false, cond, ◌&&◌, List, [], ◌∷◌, ◌++◌, length, drop, Option, Some, None, IsSome, is_some, refl}
+-- Each row of a parse has a value, for a command whose only flags are requests such as `--help`, or have no value.
+use Rattle.std.proofs.Common.{◌≡◌, ℕ, zero, suc, Bool, true, false, cond, not, ◌&&◌, List, [], ◌∷◌, ◌++◌, length, drop, Option, Some, None, IsSome, is_some, refl}
 use Rattle.std.specs.Prelude.{find, fold, slice_get, option_and_then, encode_utf8}
 use Rattle.std.specs.Str.{bytes_eq, chars}
 use Rattle.clap.specs.Lexer.{long_of, short_of}
-use Rattle.clap.specs.Walk.{Held, Names, Outcome, Row, Rule, Step, Text, Waiting, Walk, after_flag, after_step, arg_by_id, arg_by_index, arg_by_long, arg_by_short, at_row, bundle_met, bundle_step, default_rows, done, flag_met, has_row, idle, is_pending, takes_several, long_met, long_or_other, more_values, next, nothing_held, option, option_word, plain, plain_word, positional, positional_held, pushed, reacted, reading_by, refused, rows_after, settled, settled_rows, short_met, short_or_plain, subcommand, subcommand_met, subcommand_or_other, takes_values, to_positional, trailing, used, used_by_id, value, waits, walk, walk_from, walked, walked_from, with_default, with_values, without, word_met}
+use Rattle.clap.specs.Walk.{Held, Names, Outcome, Row, Rule, Step, Text, Waiting, Walk, after_flag, after_step, arg_by_id, arg_by_index, arg_by_long, arg_by_short, at_row, bundle_met, bundle_step, default_rows, done, flag_met, has_long, has_row, has_short, idle, is_pending, takes_several, long_met, long_or_other, more_values, next, nothing_held, option, option_word, plain, plain_word, positional, positional_held, pushed, reacted, reading_by, refused, rows_after, settled, settled_rows, short_met, short_or_plain, subcommand, subcommand_met, subcommand_or_other, takes_values, to_positional, trailing, used, used_by_id, value, values_or_missing, waits, walk, walk_from, walked, walked_from, with_default, with_values, without, word_met}
 use Rattle.clap.specs.declared.builder.value_parser.Reading.{Reading}
 use Rattle.clap.specs.declared.parser.matches.ValueSource.{ValueSource}
+use Rattle.clap.specs.declared.parser.matches.ValueSource.TheVariants.{CommandLine}
 
 -- there is a first text
 abbrev pub HasText : List Text → Type 0
@@ -91,6 +92,53 @@ IsRequest (Some a) = (takes_values a ≡ false) × ((rows : List Row) → Filled
 
 Good-pushed : (id word : Text) (h : Held) → Filled h.rows → Good (pushed id word h)
 Good-pushed id word h f = (f, HasText-last _ word)
+
+-- a use of the rule with some values leaves the rows filled
+abbrev pub Fills : Rule → Type 0
+Fills a = (values : List Text) (rows : List Row) → HasText values → Filled rows → Filled (used a values rows)
+
+abbrev pub AllFill : List Rule → Type 0
+AllFill [] = Unit {0}
+AllFill (a ∷ rest) = Fills a × AllFill rest
+
+found_fills : (test : Rule → Bool) (rules : List Rule) → AllFill rules → (values : List Text) (rows : List Row) → HasText values → Filled rows
+    → Filled (used_by_id (find test rules) values rows)
+found_fills test [] all values rows h f = f
+found_fills test (a ∷ rest) all values rows h f = go (test a) (found_fills test rest all.1 values rows h f)
+  where
+    go : (b : Bool) → Filled (used_by_id (find test rest) values rows) → Filled (used_by_id (cond b (Some a) (find test rest)) values rows)
+    go true later = all.0 values rows h f
+    go false later = later
+
+-- the rule is a request, unless it is a positional
+abbrev pub AllAsk : List Rule → Type 0
+AllAsk [] = Unit {0}
+AllAsk (a ∷ rest) = (is_some a.index ≡ false → IsRequest (Some a)) × AllAsk rest
+
+found_asks : (test : Rule → Bool) (rules : List Rule) → AllAsk rules → IsRequest (find (λ a. not (is_some a.index) && test a) rules)
+found_asks test [] all = tt
+found_asks test (a ∷ rest) all = go (is_some a.index) (test a) refl (found_asks test rest all.1)
+  where
+    go : (i t : Bool) → is_some a.index ≡ i → IsRequest (find (λ a. not (is_some a.index) && test a) rest)
+        → IsRequest (cond (not i && t) (Some a) (find (λ a. not (is_some a.index) && test a) rest))
+    go true t is later = later
+    go false true is later = all.0 is
+    go false false is later = later
+
+-- what fills: an argument that is set
+has_values : (a : Rule) (values : List Text) → HasText values → HasText (values_or_missing a values)
+has_values a [] h = absurd h
+has_values a (v ∷ vs) h = tt
+
+pub setting : (a : Rule) (values : List Text) (rows : List Row) → HasText values → Filled rows
+    → Filled (with_values a.id (reading_by a) CommandLine (values_or_missing a values) (without a.id rows))
+setting a values rows h f =
+    Filled-with_values a.id (reading_by a) CommandLine (values_or_missing a values) (without a.id rows) (has_values a values h) (Filled-without a.id rows f)
+
+-- a flag that is used without a value
+pub flagging : (a : Rule) (text : Text) (rows : List Row) → Filled rows
+    → Filled (with_values a.id (reading_by a) CommandLine (text ∷ []) (without a.id rows))
+flagging a text rows f = Filled-with_values a.id (reading_by a) CommandLine (text ∷ []) (without a.id rows) tt (Filled-without a.id rows f)
 
 module _ (c : List Rule)
     (use_fills : (id : Text) (values : List Text) (rows : List Row) → HasText values → Filled rows → Filled (used_by_id (arg_by_id c id) values rows))
@@ -200,7 +248,13 @@ module _ (c : List Rule)
   walk_good names (x ∷ xs) w g = walk_good names xs (walked c names w x) (walked_good names w x g)
 
   -- the rows after all the words
-  pub rows_filled : (names : Names) (words : List Text) → Filled (rows_after c names words)
+  rows_filled : (names : Names) (words : List Text) → Filled (rows_after c names words)
   rows_filled names words =
       let h = (walk c names nothing_held words).held in
       Filled-defaults c (settled c h).rows (settled_filled h (walk_good names words (walk_from nothing_held) (tt, tt)))
+
+-- the rows of a level whose rules fill, and whose flags have no value
+pub level_filled : (c : List Rule) → AllFill c → AllAsk c → (words : List Text) → Filled (rows_after c [] words)
+level_filled c fills asks words =
+    rows_filled c (λ id values rows. found_fills (λ a. bytes_eq a.id id) c fills values rows)
+    (λ name. found_asks (λ a. has_long a name) c asks) (λ x. found_asks (λ a. has_short a x) c asks) [] words

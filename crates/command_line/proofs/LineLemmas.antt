@@ -1,6 +1,6 @@
 -- What `clap` takes has a subcommand with its paths.
-use Rattle.std.proofs.Common.{◌≡◌, ◌∙◌, refl, ap, subst, sym, Bool, true, false, cond, not, ◌||◌, List, [], ◌∷◌, Option, Some, None, IsSome, ℕ, ◌==◌, is_some, option_and_then, option_map, codes}
-use Rattle.std.specs.Prelude.{find, unwrap_or, slice_get}
+use Rattle.std.proofs.Common.{◌≡◌, ◌∙◌, refl, ap, subst, sym, Bool, true, false, cond, not, ◌&&◌, ◌||◌, List, [], ◌∷◌, Option, Some, None, IsSome, ℕ, ◌==◌, is_some, option_and_then, option_map, codes}
+use Rattle.std.specs.Prelude.{find, fold, unwrap_or, slice_get}
 use Rattle.std.specs.Option.{option_map_or}
 use Rattle.std.specs.Str.{bytes_eq}
 use Rattle.std.proofs.lemmas.Slice.Eq.{bytes_eq-Decides}
@@ -8,17 +8,19 @@ use Rattle.clap.specs.Words.{App, Row, Rule, Shape, Text, fault_of, first_of, ne
 use Rattle.std.specs.Box.{box_value}
 use Rattle.clap.specs.Facts.{explicit_source}
 use Rattle.clap.specs.Kinds.{HasKind, Kinds, check_kinds, or_else}
-use Rattle.clap.specs.Faults.{check_fault, defaults_fault, entered_fault, level_fault, settle_fault, walk_fault}
+use Rattle.clap.specs.Faults.{check_fault, defaults_fault, entered_fault, level_fault, other_fault, settle_fault, step_fault, turn_fault, walk_fault, word_fault}
 use Rattle.clap.specs.Simple.{argument_words, built, entered, label_of, names_of, rows_at}
 use Rattle.clap.specs.Takes.{is_given}
-use Rattle.clap.specs.Walk.{Names, answers_to, arg_by_id, arg_by_long, arg_by_short, nothing_held, rows_after, settled, stop_after, used_by_id, walk, walk_from, without}
+use Rattle.clap.specs.Lexer.{long_of, short_of}
+use Rattle.clap.specs.Walk.{Held, Names, Outcome, Step, Waiting, Walk, after_flag, after_step, answers_to, arg_by_index, done, idle, long_or_other, next, nothing_held, option, plain, plain_word, positional, refused, rows_after, settled, short_or_plain, stop_after, subcommand, subcommand_met, subcommand_or_other, to_positional, trailing, value, waits, walk, walk_from, walked, walked_from, word_met}
 use Rattle.clap.proofs.OnLiterals.{clap_on_literals}
 use Rattle.clap.specs.declared.error.Error.{Error}
+use Rattle.clap.specs.declared.error.kind.ErrorKind.{ErrorKind}
 use Rattle.clap.specs.declared.parser.matches.ArgMatches.{ArgMatches}
 use Rattle.clap.specs.declared.parser.matches.ArgMatches.TheViews.{out-ArgMatches, out-SubCommand}
-use Rattle.command_line.specs.Line.{AreMakePathsOf, IsExplained, IsPathOf, app, bare_app, flag_of, make_paths_of, make_shape, path_of, path_shape, texts_of}
+use Rattle.command_line.specs.Line.{AreMakePathsOf, IsExplained, IsFlagged, IsPathOf, IsToldOf, app, bare_app, check_shape, flag_of, make_paths_of, make_shape, mon_shape, path_of, path_shape, run_shape, texts_of, told_shape, try_shape}
 use Rattle.commands.specs.declared.makes.MakePaths.{MakePaths}
-use Rattle.command_line.proofs.FilledRows.{Filled, Filled-with_values, Filled-without, HasText, IsRequest, found_value, rows_filled}
+use Rattle.command_line.proofs.FilledRows.{AllAsk, AllFill, found_value, flagging, level_filled, setting}
 
 -- the program's command is one whose matches and faults `clap` states
 pub app_is_plain : is_simple_and_free app ≡ true
@@ -81,94 +83,157 @@ level_parts s names words has_subcommand below none =
     let after_settle = (or_else_parts (settle_fault s.rules s.args_override_self end) _ after_below).1 in
     (none_below, (or_else_parts (defaults_fault (settled s.rules end).rows s.rules) _ after_settle).1)
 
--- what a word with dashes names: `--explain`, `--help` or nothing
-letter_named : (help : Option Rule) → IsRequest help → (is_help : Bool) → IsRequest (cond (is_help || false) help None)
-letter_named help asks true = asks
-letter_named help asks false = tt
+-- ---- a walk whose words have no fault asks for no help
 
-flag_named : (explain help : Option Rule) → IsRequest explain → IsRequest help
-    → (is_explain is_help : Bool) → IsRequest (cond (is_explain || false) explain (cond (is_help || false) help None))
-flag_named explain help explains asks true is_help = explains
-flag_named explain help explains asks false is_help = letter_named help asks is_help
+-- it does not stop at the subcommand `help`
+abbrev pub IsNoHelp : Option (Text × List Text) → Type 0
+IsNoHelp None = Unit {0}
+IsNoHelp (Some p) = bytes_eq p.0 (codes "help") ≡ false
 
--- the path is required
+abbrev IsNoHelpStep : Step → Type 0
+IsNoHelpStep (next waiting) = Unit {0}
+IsNoHelpStep (trailing position) = Unit {0}
+IsNoHelpStep (subcommand name) = bytes_eq name (codes "help") ≡ false
+IsNoHelpStep value = Unit {0}
+
+no_help : (k : ErrorKind) (ks : Kinds) (b d : Bool) → d ≡ false → cond (b && not d) (k ∷ ks) [] ≡ [] → b ≡ false
+no_help k ks false d enabled none = refl
+no_help k ks true true enabled none = cc
+no_help k ks true false enabled none = cc
+
+module _ (s : Shape) (names : Names) (enabled : s.disable_help_subcommand ≡ false) where
+  stopped_at : (word : Text) (w : Walk) (h : Held) (step : Step) → IsNoHelpStep step → IsNoHelp w.stopped → IsNoHelp (after_step s.rules word w h step).stopped
+  stopped_at word w h (next waiting) none is = is
+  stopped_at word w h (trailing position) none is = is
+  stopped_at word w h (subcommand name) none is = none
+  stopped_at word w h value none is = go (arg_by_index s.rules w.position)
+    where
+      go : (o : Option Rule) → IsNoHelp (to_positional s.rules o word w h).stopped
+      go None = is
+      go (Some a) = tt
+
+  plain_step : (waiting : Waiting) (word : Text) (h : Held) → IsNoHelpStep (plain_word s.rules waiting word h).1
+  plain_step idle word h = tt
+  plain_step (option id) word h = tt
+  plain_step positional word h = tt
+
+  flag_step : (waiting : Waiting) (word : Text) (h : Held) (o : Outcome) → IsNoHelpStep (after_flag s.rules waiting word h o).1
+  flag_step waiting word h done = tt
+  flag_step waiting word h (waits id) = tt
+  flag_step waiting word h plain = plain_step waiting word h
+  flag_step waiting word h refused = plain_step waiting word h
+
+  short_step : (waiting : Waiting) (word : Text) (o : Option Text) (h : Held) → IsNoHelpStep (short_or_plain s.rules waiting word o h).1
+  short_step waiting word None h = plain_step waiting word h
+  short_step waiting word (Some flags) h = flag_step waiting word _ _
+
+  long_step : (waiting : Waiting) (word : Text) (o : Option (Text × Option Text)) (h : Held) → IsNoHelpStep (long_or_other s.rules waiting word o h).1
+  long_step waiting word None h = short_step waiting word (short_of word) h
+  long_step waiting word (Some p) h = flag_step waiting word _ _
+
+  named_step : (o : Option Text) (waiting : Waiting) (position : ℕ) (word : Text) (h : Held) → other_fault s o word h ≡ []
+      → IsNoHelpStep (subcommand_or_other s.rules o waiting position word h).1
+  named_step (Some name) waiting position word h none = no_help _ _ (bytes_eq name (codes "help")) s.disable_help_subcommand enabled none
+  named_step None waiting position word h none = go (bytes_eq word (45 ∷ 45 ∷ []))
+    where
+      go : (b : Bool) → IsNoHelpStep (cond b (h, trailing position) (long_or_other s.rules waiting word (long_of word) h)).1
+      go true = tt
+      go false = long_step waiting word (long_of word) h
+
+  met_step : (is_trailing : Bool) (waiting : Waiting) (position : ℕ) (word : Text) (h : Held) → word_fault s names is_trailing waiting word h ≡ []
+      → IsNoHelpStep (word_met s.rules names is_trailing waiting position word h).1
+  met_step true waiting position word h none = tt
+  met_step false waiting position word h none = named_step (subcommand_met names waiting word) waiting position word h none
+
+  walked_on : (o : Option (Text × List Text)) (w : Walk) (word : Text) → IsNoHelp o → IsNoHelp w.stopped
+      → cond (is_some o) [] (or_else (word_fault s names w.is_trailing w.waiting word w.held) (step_fault s w.position (word_met s.rules names w.is_trailing w.waiting w.position word w.held).0 (word_met s.rules names w.is_trailing w.waiting w.position word w.held).1)) ≡ []
+      → IsNoHelp (walked_from s.rules names o w word).stopped
+  walked_on None w word known is none =
+      let met = word_met s.rules names w.is_trailing w.waiting w.position word w.held in
+      let named = (or_else_parts (word_fault s names w.is_trailing w.waiting word w.held) _ none).0 in
+      stopped_at word w met.0 met.1 (met_step w.is_trailing w.waiting w.position word w.held named) is
+  walked_on (Some p) w word known is none = known
+
+  walked_step : (w : Walk) (word : Text) → turn_fault s names w word ≡ [] → IsNoHelp w.stopped → IsNoHelp (walked s.rules names w word).stopped
+  unfolding walked
+  walked_step w word none is = walked_on w.stopped w word is is none
+
+  walk_asks_no_help : (words : List Text) (w : Walk) → walk_fault s names w words ≡ [] → IsNoHelp w.stopped → IsNoHelp (fold (walked s.rules names) w words).stopped
+  unfolding walk_fault
+  walk_asks_no_help [] w none is = is
+  walk_asks_no_help (word ∷ rest) w none is =
+      let (turn, later) = or_else_parts (turn_fault s names w word) (walk_fault s names (walked s.rules names w word) rest) none in
+      walk_asks_no_help rest (walked s.rules names w word) later (walked_step w word turn is)
+
+-- ---- a subcommand as `clap` builds it: its own arguments, then `--help` and `--version`
+
+abbrev built_of : Shape → Shape
+built_of s = unwrap_or (slice_get (built (with_subcommand bare_app s)).subs 0) bare_app.top
+
+abbrev rule_of_built : Shape → ℕ → Rule
+rule_of_built s place = unwrap_or (slice_get (built_of s).rules place) (new_rule [])
+
+-- a path that is required is given
 path_given : (b : Bool) → check_kinds false false ((not b) || false) ≡ [] → b ≡ true
 path_given true none = refl
 path_given false none = cc
 
+-- a level without a fault has the path that is required of it
+path_there : (s : Shape) (id : Text) → AllFill s.rules → AllAsk s.rules → ((rows : List Row) → check_fault s rows false ≡ [] → is_given id rows ≡ true)
+    → (words : List Text) → level_fault s [] nothing_held words false [] ≡ [] → IsSome (first_of id (rows_after s.rules [] words))
+path_there s id fills asks given words none =
+    let rows = rows_after s.rules [] words in
+    found_value _ rows (level_filled s.rules fills asks words) (row_found id rows (given rows (level_parts s [] words false [] none).1))
+
+-- one path, and `--explain`
 module _ (name id : Text) where
-  -- the subcommand as `clap` builds it: the path, `--explain`, then `--help`
-  abbrev built_path : Shape
-  built_path = unwrap_or (slice_get (built (with_subcommand bare_app (path_shape name id))).subs 0) bare_app.top
+  abbrev path_rule_at : ℕ → Rule
+  path_rule_at = rule_of_built (path_shape name id)
 
-  abbrev path_built_rule : Rule
-  path_built_rule = unwrap_or (slice_get built_path.rules 0) (new_rule [])
+  path_fills : AllFill (built_of (path_shape name id)).rules
+  path_fills =
+      (setting (path_rule_at 0), (setting (path_rule_at 1), (λ values rows h f. f, (λ values rows h f. f, tt))))
 
-  abbrev explain_flag : Rule
-  explain_flag = unwrap_or (slice_get built_path.rules 1) (new_rule [])
+  path_asks : AllAsk (built_of (path_shape name id)).rules
+  path_asks =
+      (λ none. cc, (λ none. (refl, λ rows f. flagging (path_rule_at 1) (codes "true") rows f), (λ none. (refl, λ rows f. f), (λ none. (refl, λ rows f. f), tt))))
 
-  abbrev help_flag : Rule
-  help_flag = unwrap_or (slice_get built_path.rules 2) (new_rule [])
+  one_path : (words : List Text) → level_fault (built_of (path_shape name id)) [] nothing_held words false [] ≡ []
+      → IsSome (first_of id (rows_after (built_of (path_shape name id)).rules [] words))
+  one_path = path_there (built_of (path_shape name id)) id path_fills path_asks (λ rows none. path_given (is_given id rows) none)
 
-  rule_fills : (x : Text) (values : List Text) (rows : List Row) → HasText values → Filled rows
-      → Filled (used_by_id (arg_by_id built_path.rules x) values rows)
-  rule_fills x values rows h f = go (bytes_eq id x) (bytes_eq (codes "explain") x) (bytes_eq (codes "help") x) values h
-    where
-      go : (a b c : Bool) (values : List Text) → HasText values
-          → Filled (used_by_id (cond a (Some path_built_rule) (cond b (Some explain_flag) (cond c (Some help_flag) None))) values rows)
-      go a b c [] h = absurd h
-      go true b c (v ∷ vs) h = Filled-with_values path_built_rule.id _ _ (v ∷ vs) (without path_built_rule.id rows) tt (Filled-without path_built_rule.id rows f)
-      go false true c (v ∷ vs) h = Filled-with_values explain_flag.id _ _ (v ∷ vs) (without explain_flag.id rows) tt (Filled-without explain_flag.id rows f)
-      go false false true (v ∷ vs) h = f
-      go false false false (v ∷ vs) h = f
+-- a job, `--explain` and `--registers`
+module _ (name : Text) where
+  abbrev told_rule_at : ℕ → Rule
+  told_rule_at = rule_of_built (told_shape name)
 
-  long_is_request : (x : Text) → IsRequest (arg_by_long built_path.rules x)
-  long_is_request x =
-      flag_named (slice_get built_path.rules 1) (slice_get built_path.rules 2)
-      (refl, λ rows f. Filled-with_values explain_flag.id _ _ (codes "true" ∷ []) (without explain_flag.id rows) tt (Filled-without explain_flag.id rows f))
-      (refl, λ rows f. f) (bytes_eq (codes "explain") x) (bytes_eq (codes "help") x)
+  told_fills : AllFill (built_of (told_shape name)).rules
+  told_fills =
+      (setting (told_rule_at 0), (setting (told_rule_at 1), (setting (told_rule_at 2), (λ values rows h f. f, (λ values rows h f. f, tt)))))
 
-  short_is_request : (x : ℕ) → IsRequest (arg_by_short built_path.rules x)
-  short_is_request x = letter_named (slice_get built_path.rules 2) (refl, λ rows f. f) (104 == x)
+  told_asks : AllAsk (built_of (told_shape name)).rules
+  told_asks =
+      (λ none. cc, (λ none. (refl, λ rows f. flagging (told_rule_at 1) (codes "true") rows f), (λ none. (refl, λ rows f. flagging (told_rule_at 2) (codes "true") rows f), (λ none. (refl, λ rows f. f), (λ none. (refl, λ rows f. f), tt)))))
 
-  path_there : (words : List Text) → level_fault built_path [] nothing_held words false [] ≡ [] → IsSome (first_of id (rows_after built_path.rules [] words))
-  path_there words none =
-      let rows = rows_after built_path.rules [] words in
-      let given = path_given (is_given id rows) (level_parts built_path [] words false [] none).1 in
-      found_value _ rows (rows_filled built_path.rules rule_fills long_is_request short_is_request [] words) (row_found id rows given)
+  told_path : (words : List Text) → level_fault (built_of (told_shape name)) [] nothing_held words false [] ≡ []
+      → IsSome (first_of (codes "job") (rows_after (built_of (told_shape name)).rules [] words))
+  told_path = path_there (built_of (told_shape name)) (codes "job") told_fills told_asks (λ rows none. path_given (is_given (codes "job") rows) none)
 
--- ---- the subcommand with three paths
+-- ---- the subcommand with three paths, and `--explain`
 
--- `make` as `clap` builds it: the paths, `--explain`, then `--help`
 abbrev make_built : Shape
-make_built = unwrap_or (slice_get (built (with_subcommand bare_app make_shape)).subs 0) bare_app.top
+make_built = built_of make_shape
 
 abbrev make_rule : ℕ → Rule
-make_rule place = unwrap_or (slice_get make_built.rules place) (new_rule [])
+make_rule = rule_of_built make_shape
 
-make_fills : (x : Text) (values : List Text) (rows : List Row) → HasText values → Filled rows
-    → Filled (used_by_id (arg_by_id make_built.rules x) values rows)
-make_fills x values rows h f =
-    go (bytes_eq (codes "image") x) (bytes_eq (codes "job") x) (bytes_eq (codes "out") x) (bytes_eq (codes "explain") x) (bytes_eq (codes "help") x) values h
-  where
-    go : (a b c d e : Bool) (values : List Text) → HasText values
-        → Filled (used_by_id (cond a (Some (make_rule 0)) (cond b (Some (make_rule 1)) (cond c (Some (make_rule 2)) (cond d (Some (make_rule 3)) (cond e (Some (make_rule 4)) None))))) values rows)
-    go a b c d e [] h = absurd h
-    go true b c d e (v ∷ vs) h = Filled-with_values (make_rule 0).id _ _ (v ∷ vs) (without (make_rule 0).id rows) tt (Filled-without (make_rule 0).id rows f)
-    go false true c d e (v ∷ vs) h = Filled-with_values (make_rule 1).id _ _ (v ∷ vs) (without (make_rule 1).id rows) tt (Filled-without (make_rule 1).id rows f)
-    go false false true d e (v ∷ vs) h = Filled-with_values (make_rule 2).id _ _ (v ∷ vs) (without (make_rule 2).id rows) tt (Filled-without (make_rule 2).id rows f)
-    go false false false true e (v ∷ vs) h = Filled-with_values (make_rule 3).id _ _ (v ∷ vs) (without (make_rule 3).id rows) tt (Filled-without (make_rule 3).id rows f)
-    go false false false false true (v ∷ vs) h = f
-    go false false false false false (v ∷ vs) h = f
+make_fills : AllFill make_built.rules
+make_fills =
+    (setting (make_rule 0), (setting (make_rule 1), (setting (make_rule 2), (setting (make_rule 3), (λ values rows h f. f, (λ values rows h f. f, tt))))))
 
-make_long_is_request : (x : Text) → IsRequest (arg_by_long make_built.rules x)
-make_long_is_request x =
-    flag_named (slice_get make_built.rules 3) (slice_get make_built.rules 4)
-    (refl, λ rows f. Filled-with_values (make_rule 3).id _ _ (codes "true" ∷ []) (without (make_rule 3).id rows) tt (Filled-without (make_rule 3).id rows f))
-    (refl, λ rows f. f) (bytes_eq (codes "explain") x) (bytes_eq (codes "help") x)
-
-make_short_is_request : (x : ℕ) → IsRequest (arg_by_short make_built.rules x)
-make_short_is_request x = letter_named (slice_get make_built.rules 4) (refl, λ rows f. f) (104 == x)
+make_asks : AllAsk make_built.rules
+make_asks =
+    (λ none. cc, (λ none. cc, (λ none. cc, (λ none. (refl, λ rows f. flagging (make_rule 3) (codes "true") rows f), (λ none. (refl, λ rows f. f), (λ none. (refl, λ rows f. f), tt))))))
 
 -- each path is required
 paths_given : (a b c : Bool) → check_kinds false false ((not a) || ((not b) || ((not c) || false))) ≡ []
@@ -191,7 +256,7 @@ paths_there words none =
     let rows = rows_after make_built.rules [] words in
     let asked = (level_parts make_built [] words false [] none).1 in
     let (image, job, out) = paths_given (is_given (codes "image") rows) (is_given (codes "job") rows) (is_given (codes "out") rows) asked in
-    let filled = rows_filled make_built.rules make_fills make_long_is_request make_short_is_request [] words in
+    let filled = level_filled make_built.rules make_fills make_asks words in
     three_there (first_of (codes "image") rows) (first_of (codes "job") rows) (first_of (codes "out") rows)
     (found_value _ rows filled (row_found (codes "image") rows image)) (found_value _ rows filled (row_found (codes "job") rows job))
     (found_value _ rows filled (row_found (codes "out") rows out))
@@ -207,39 +272,43 @@ HasPath entered =
 pub no_path : {A : Type 0} (o : Option A) → IsSome o → o ≡ None → ⊥
 no_path o some none = cc
 
-abbrev check_built : Shape
-check_built = built_path (codes "check") (codes "image")
+abbrev help_built : Shape
+help_built = unwrap_or (slice_get program.subs 5) bare_app.top
 
-abbrev run_built : Shape
-run_built = built_path (codes "run") (codes "job")
+-- the subcommand that a word names: it answers to `check`, to `run`, to `try`, to `mon`, to `make` or to `help`
+abbrev answering : Bool → Bool → Bool → Bool → Bool → Bool → Option Shape
+answering a b c d e f =
+    cond a (Some (built_of check_shape)) (cond b (Some (built_of run_shape)) (cond c (Some (built_of try_shape)) (cond d (Some (built_of mon_shape))
+    (cond e (Some make_built) (cond f (Some help_built) None)))))
 
-abbrev try_built : Shape
-try_built = built_path (codes "try") (codes "job")
+or_false : (b : Bool) → b || false ≡ true → b ≡ true
+or_false true is = refl
+or_false false is = is
 
-abbrev mon_built : Shape
-mon_built = built_path (codes "mon") (codes "job")
+-- another name is not answered to by `help`
+other_than_help : (name : Text) → bytes_eq name (codes "help") ≡ false → answers_to name (label_of help_built) ≡ true → ⊥
+other_than_help name other answers =
+    let same = (bytes_eq-Decides (codes "help") name).0 (or_false (bytes_eq (codes "help") name) answers) in
+    let is : bytes_eq name (codes "help") ≡ true = (bytes_eq-Decides name (codes "help")).1 (sym same) in
+    cc
 
--- the subcommand that a word names: it answers to `check`, to `run`, to `try`, to `mon` or to `make`
-abbrev answering : Bool → Bool → Bool → Bool → Bool → Option Shape
-answering a b c d e =
-    cond a (Some check_built) (cond b (Some run_built) (cond c (Some try_built) (cond d (Some mon_built) (cond e (Some make_built) None))))
-
-entered_path : (stop : Option (Text × List Text)) → is_some (entered program stop) ≡ true → entered_fault program stop ≡ []
+entered_path : (stop : Option (Text × List Text)) → IsNoHelp stop → is_some (entered program stop) ≡ true → entered_fault program stop ≡ []
     → HasPath (entered program stop)
-entered_path None some none = cc
-entered_path (Some p) some none =
-    go (answers_to p.0 (label_of check_built)) (answers_to p.0 (label_of run_built)) (answers_to p.0 (label_of try_built))
-    (answers_to p.0 (label_of mon_built)) (answers_to p.0 (label_of make_built)) some none
+entered_path None other some none = cc
+entered_path (Some p) other some none =
+    go (answers_to p.0 (label_of (built_of check_shape))) (answers_to p.0 (label_of (built_of run_shape))) (answers_to p.0 (label_of (built_of try_shape)))
+    (answers_to p.0 (label_of (built_of mon_shape))) (answers_to p.0 (label_of make_built)) (answers_to p.0 (label_of help_built)) (other_than_help p.0 other) some none
   where
-    go : (a b c d e : Bool) → is_some (option_map (λ s. rows_at s p.1) (answering a b c d e)) ≡ true
-        → option_map_or (λ s. level_fault s [] nothing_held p.1 false []) (answering a b c d e) [] ≡ []
-        → HasPath (option_map (λ s. rows_at s p.1) (answering a b c d e))
-    go true b c d e some none = λ no_image no_job no_try no_mon. absurd (no_path _ (path_there (codes "check") (codes "image") p.1 none) no_image)
-    go false true c d e some none = λ no_image no_job no_try no_mon. absurd (no_path _ (path_there (codes "run") (codes "job") p.1 none) no_job)
-    go false false true d e some none = λ no_image no_job no_try no_mon. absurd (no_path _ (path_there (codes "try") (codes "job") p.1 none) no_try)
-    go false false false true e some none = λ no_image no_job no_try no_mon. absurd (no_path _ (path_there (codes "mon") (codes "job") p.1 none) no_mon)
-    go false false false false true some none = λ no_image no_job no_try no_mon. paths_there p.1 none
-    go false false false false false some none = cc
+    go : (a b c d e f : Bool) → (f ≡ true → ⊥) → is_some (option_map (λ s. rows_at s p.1) (answering a b c d e f)) ≡ true
+        → option_map_or (λ s. level_fault s [] nothing_held p.1 false []) (answering a b c d e f) [] ≡ []
+        → HasPath (option_map (λ s. rows_at s p.1) (answering a b c d e f))
+    go true b c d e f help some none = λ no_image no_job no_try no_mon. absurd (no_path _ (one_path (codes "check") (codes "image") p.1 none) no_image)
+    go false true c d e f help some none = λ no_image no_job no_try no_mon. absurd (no_path _ (told_path (codes "run") p.1 none) no_job)
+    go false false true d e f help some none = λ no_image no_job no_try no_mon. absurd (no_path _ (told_path (codes "try") p.1 none) no_try)
+    go false false false true e f help some none = λ no_image no_job no_try no_mon. absurd (no_path _ (one_path (codes "mon") (codes "job") p.1 none) no_mon)
+    go false false false false true f help some none = λ no_image no_job no_try no_mon. paths_there p.1 none
+    go false false false false false true help some none = absurd (help refl)
+    go false false false false false false help some none = cc
 
 -- what `clap` takes names a subcommand and its paths
 pub path_named : (words : List Text) → fault_of app words ≡ [] → HasPath (subcommand_of app words)
@@ -250,7 +319,9 @@ path_named words none =
     let stop = stop_after top.rules names rest in
     let has = is_some (entered program stop) in
     let (below, asked) = level_parts top names rest has (entered_fault program stop) none in
-    entered_path stop (has_entered (rows_after top.rules names rest) has asked) below
+    let walks = (or_else_parts (walk_fault top names (walk_from nothing_held) rest) _ none).0 in
+    let other = walk_asks_no_help top names refl rest (walk_from nothing_held) walks tt in
+    entered_path stop other (has_entered (rows_after top.rules names rest) has asked) below
 
 -- ---- the program's command, in the words of a parse's clauses
 
@@ -274,10 +345,10 @@ is_path : (words : List Text) (name id path : Text) (entered : Option (Text × L
     → entered ≡ subcommand_of app words → Some path ≡ path_of name id entered → IsPathOf words name id path
 is_path words name id path entered none same at = (none, ap (path_of name id) (sym same) ∙ sym at)
 
--- whether it is to explain
-pub is_explained : (words : List Text) (name : Text) (explain : Bool) (entered : Option (Text × List Row))
-    → entered ≡ subcommand_of app words → explain ≡ flag_of name (codes "explain") entered → IsExplained words name explain
-is_explained words name explain entered same at = at ∙ ap (flag_of name (codes "explain")) same
+-- whether a flag is among its words
+pub is_flagged : (words : List Text) (name flag : Text) (asked : Bool) (entered : Option (Text × List Row))
+    → entered ≡ subcommand_of app words → asked ≡ flag_of name flag entered → IsFlagged words name flag asked
+is_flagged words name flag asked entered same at = at ∙ ap (flag_of name flag) same
 
 -- a line of one path, as matches of the program's command give it
 pub path_line : (a : App) (words : List Text) (X : Type 0) (name id path : Text) (explain : Bool) (entered : Option (Text × List Row)) → a ≡ app
@@ -286,7 +357,19 @@ pub path_line : (a : App) (words : List Text) (X : Type 0) (name id path : Text)
     → IsPathOf words name id path × IsExplained words name explain
 path_line a words X name id path explain entered is none matches at asked =
     let same = same_entered a words X entered is matches in
-    (is_path words name id path entered (no_fault a words is none) same at, is_explained words name explain entered same asked)
+    (is_path words name id path entered (no_fault a words is none) same at, is_flagged words name (codes "explain") explain entered same asked)
+
+-- the same of a subcommand that tells how a run ended
+pub told_line : (a : App) (words : List Text) (X : Type 0) (name path : Text) (explain registers : Bool) (entered : Option (Text × List Row)) → a ≡ app
+    → (is_simple_and_free a ≡ true → fault_of a words ≡ []) → (is_simple a ≡ true → X × (entered ≡ subcommand_of a words))
+    → Some path ≡ path_of name (codes "job") entered → explain ≡ flag_of name (codes "explain") entered
+    → registers ≡ flag_of name (codes "registers") entered → IsToldOf words name path explain registers
+told_line a words X name path explain registers entered is none matches at asked shows =
+    let same = same_entered a words X entered is matches in (
+      is_path words name (codes "job") path entered (no_fault a words is none) same at,
+      is_flagged words name (codes "explain") explain entered same asked,
+      is_flagged words name (codes "registers") registers entered same shows,
+    )
 
 -- a path that was not found
 pub no_path_of : (words : List Text) (name id : Text) (entered : Option (Text × List Row)) → entered ≡ subcommand_of app words

@@ -59,8 +59,8 @@ told_for (k ∷ ks) line_error.NoMemory s fits told answered = subst (λ (t : St
 -- words that ask for something have no fault
 faultless : (words : List Text) (line : Line) → IsLineOf words line → fault_of app words ≡ []
 faultless words (ask.Check image explain) is = is.0.0
-faultless words (ask.Run job explain) is = is.0.0
-faultless words (ask.Try job explain) is = is.0.0
+faultless words (ask.Run job explain registers) is = is.0.0
+faultless words (ask.Try job explain registers) is = is.0.0
 faultless words (ask.Mon job explain) is = is.0.0
 faultless words (ask.Make paths explain) is = is.0.0
 
@@ -97,5 +97,6 @@ asked_nothing files words line_error.NoMemory e was has told tells ending kept f
       status = status refl;
       more = [];
       unasked = λ off. refl;
+      silent = λ off. refl;
       told = rw (append-nil) (memory refl);
     })

@@ -13,37 +13,44 @@ use Rattle.command_line.specs.declared.line.asked.LineError.TheVariants.{Usage, 
 abbrev pub path_rule : Text → Rule
 path_rule id = record (new_rule id) { action = Some Set; required = true; value_names = 1 }
 
--- `--explain`, which has no value
+-- a flag, which has no value
+abbrev pub flag_rule : Text → Rule
+flag_rule id = record (new_rule id) { long = Some id; action = Some SetTrue }
+
+-- `--explain`
 abbrev pub explain_rule : Rule
-explain_rule = record (new_rule (codes "explain")) {
-  long = Some (codes "explain");
-  action = Some SetTrue;
-}
+explain_rule = flag_rule (codes "explain")
 
 -- a subcommand of this name, with one path and `--explain`
 abbrev pub path_shape : Text → Text → Shape
 path_shape name id = (with_rule (with_rule (new_app name) (path_rule id)) explain_rule).top
 
--- `rvvbox` with no subcommand yet
+-- a subcommand of this name that tells how a run ended: a job, `--explain` and `--registers`
+abbrev pub told_shape : Text → Shape
+told_shape name = (with_rule (with_rule (with_rule (new_app name) (path_rule (codes "job")))
+    explain_rule) (flag_rule (codes "registers"))).top
+
+-- `rvvbox` with no subcommand yet, whose version is that of its subcommands too
 abbrev pub bare_app : App
 bare_app = record {
   top = record (new_shape (codes "rvvbox")) {
     subcommand_required = true;
-    disable_help_subcommand = true;
+    propagate_version = true;
     has_version = true;
   };
   subs = [];
 }
 
--- `check IMAGE`, `run JOB`, `try JOB`, `mon JOB` and `make IMAGE JOB OUT`, each with `--explain`
+-- `check IMAGE`, `run JOB`, `try JOB`, `mon JOB` and `make IMAGE JOB OUT`, each with `--explain`,
+-- and `run` and `try` with `--registers`
 abbrev pub check_shape : Shape
 check_shape = path_shape (codes "check") (codes "image")
 
 abbrev pub run_shape : Shape
-run_shape = path_shape (codes "run") (codes "job")
+run_shape = told_shape (codes "run")
 
 abbrev pub try_shape : Shape
-try_shape = path_shape (codes "try") (codes "job")
+try_shape = told_shape (codes "try")
 
 abbrev pub mon_shape : Shape
 mon_shape = path_shape (codes "mon") (codes "job")
@@ -89,24 +96,34 @@ abbrev pub IsPathOf : List Text → Text → Text → Text → Type 0
 IsPathOf words name id path =
     (fault_of app words ≡ []) × (path_of name id (subcommand_of app words) ≡ Some path)
 
--- and whether `--explain` is among its words
+-- and whether a flag is among its words
+abbrev pub IsFlagged : List Text → Text → Text → Bool → Type 0
+IsFlagged words name flag asked = asked ≡ flag_of name flag (subcommand_of app words)
+
 abbrev pub IsExplained : List Text → Text → Bool → Type 0
-IsExplained words name explain = explain ≡ flag_of name (codes "explain") (subcommand_of app words)
+IsExplained words name explain = IsFlagged words name (codes "explain") explain
+
+-- the job of a subcommand that tells how a run ended, and whether it is to explain, and to show
+-- the registers
+abbrev pub IsToldOf : List Text → Text → Text → Bool → Bool → Type 0
+IsToldOf words name job explain registers =
+    IsPathOf words name (codes "job") job × IsExplained words name explain
+    × IsFlagged words name (codes "registers") registers
 
 -- the same of the paths of `make`
 abbrev pub AreMakePathsOf : List Text → MakePaths → Type 0
 AreMakePathsOf words paths =
     (fault_of app words ≡ []) × (make_paths_of (subcommand_of app words) ≡ Some (texts_of paths))
 
--- the subcommand, its paths and whether it is to explain
+-- the subcommand, its paths and its flags
 abbrev pub IsLineOf : List Text → Line → Type 0
 IsLineOf words (Check image explain) =
     IsPathOf words (codes "check") (codes "image") image.now
     × IsExplained words (codes "check") explain
-IsLineOf words (Run job explain) =
-    IsPathOf words (codes "run") (codes "job") job.now × IsExplained words (codes "run") explain
-IsLineOf words (Try job explain) =
-    IsPathOf words (codes "try") (codes "job") job.now × IsExplained words (codes "try") explain
+IsLineOf words (Run job explain registers) =
+    IsToldOf words (codes "run") job.now explain registers
+IsLineOf words (Try job explain registers) =
+    IsToldOf words (codes "try") job.now explain registers
 IsLineOf words (Mon job explain) =
     IsPathOf words (codes "mon") (codes "job") job.now × IsExplained words (codes "mon") explain
 IsLineOf words (Make paths explain) =

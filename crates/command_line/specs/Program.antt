@@ -44,10 +44,10 @@ IsUntouched kinds was has = has ≡ was
 -- what a command line's subcommand does with its paths: `e` is what is read and printed
 abbrev pub Does : Files → Line → Exchange → Option Held → Option Held → Status → Type 0
 Does files (Check image explain) e was has = Checks files image.now e.had e.has was has
-Does files (Run job explain) e was has =
-    OfTable files job.now (λ table. Runs files table e.had e.has was has)
-Does files (Try job explain) e was has =
-    OfTable files job.now (λ table. Tries files table e.had e.has was has)
+Does files (Run job explain registers) e was has =
+    OfTable files job.now (λ table. Runs files registers table e.had e.has was has)
+Does files (Try job explain registers) e was has =
+    OfTable files job.now (λ table. Tries files registers table e.had e.has was has)
 Does files (Mon job explain) e was has =
     OfTable files job.now (λ table. Mons files table e was has)
 Does files (Make paths explain) e was has = OfTable files paths.job.now
@@ -56,8 +56,10 @@ Does files (Make paths explain) e was has = OfTable files paths.job.now
 -- why it stops: `wrote xs` says that the files `xs` were written
 abbrev pub Stops : Files → Exchange → (Written → Type 0) → Line → Stop → Type 0
 Stops files e wrote (Check image explain) = StopsCheck files wrote image.now
-Stops files e wrote (Run job explain) = StopsOfTable files wrote job.now (StopsRun files wrote)
-Stops files e wrote (Try job explain) = StopsOfTable files wrote job.now (StopsTry files wrote)
+Stops files e wrote (Run job explain registers) =
+    StopsOfTable files wrote job.now (StopsRun files wrote)
+Stops files e wrote (Try job explain registers) =
+    StopsOfTable files wrote job.now (StopsTry files wrote)
 Stops files e wrote (Mon job explain) = StopsOfTable files wrote job.now (StopsMon files e wrote)
 Stops files e wrote (Make paths explain) =
     StopsOfTable files wrote paths.job.now (StopsMake files wrote paths.image.now paths.out.now)
@@ -65,8 +67,8 @@ Stops files e wrote (Make paths explain) =
 -- whether it is to explain
 abbrev pub explains : Line → Bool
 explains (Check image explain) = explain
-explains (Run job explain) = explain
-explains (Try job explain) = explain
+explains (Run job explain registers) = explain
+explains (Try job explain registers) = explain
 explains (Mon job explain) = explain
 explains (Make paths explain) = explain
 

@@ -3,10 +3,10 @@ ghost use Rattle.std.specs.Prelude.{◌≡◌, IfErr, IfOk, codes, false, map, o
 ghost use Rattle.clap.specs.Words.{app_of, rule_of, shape_of, subcommand_rows_of};
 ghost use Rattle.clap.specs.Words.{with_rule, with_subcommand};
 ghost use Rattle.clap.specs.declared.builder.command.Command.TheViews.{out-Command as fields_of};
-ghost use Rattle.command_line.specs.Line.{IsFaultOf, IsLineOf, app, explain_rule, flag_of};
+ghost use Rattle.command_line.specs.Line.{IsFaultOf, IsLineOf, app, flag_of, flag_rule};
 ghost use Rattle.command_line.specs.Line.{make_paths_of, path_of, path_rule, path_shape};
 ghost use Rattle.command_line.specs.Line.{bare_app, check_shape, make_shape, mon_shape};
-ghost use Rattle.command_line.specs.Line.{texts_of};
+ghost use Rattle.command_line.specs.Line.{texts_of, told_shape};
 
 pub mod asked;
 
@@ -40,6 +40,11 @@ const MON_COMMANDS: &str = "Commands, one a line; A is a hexadecimal number, N a
   l A N  lists N words from A on, 1 to 256
   q      writes the out files and ends, as the end of the input does";
 
+/// What the help says of `--explain` and of `--registers`.
+const EXPLAIN: &str = "Tells more of why it stops";
+
+const REGISTERS: &str = "Shows the registers that the run left, as mon does";
+
 /// A path that has to be there, under `id`, shown as `name`.
 fn path_argument<'a>(alloc: Global, id: &'a str, name: &'a str, help: &'a str) -> Arg<'a>
     ensures rule { rule_of result ≡ path_rule id.entry.now }
@@ -52,14 +57,14 @@ fn path_argument<'a>(alloc: Global, id: &'a str, name: &'a str, help: &'a str) -
         .action(ArgAction::Set)
 }
 
-/// `--explain`.
-fn explain_flag<'a>(alloc: Global) -> Arg<'a>
-    ensures rule { rule_of result ≡ explain_rule }
+/// A flag, under `id`, which is its name too.
+fn flag<'a>(alloc: Global, id: &'a str, help: &'a str) -> Arg<'a>
+    ensures rule { rule_of result ≡ flag_rule id.entry.now }
     ensures local { result.global ≡ false }
 {
-    Arg::new(alloc, "explain")
-        .long("explain")
-        .help("Tells more of why it stops")
+    Arg::new(alloc, id)
+        .long(id)
+        .help(help)
         .action(ArgAction::SetTrue)
 }
 
@@ -79,7 +84,7 @@ fn path_command<'a>(
     Command::new(alloc, name)
         .about(about)
         .arg(path)?
-        .arg(explain_flag(alloc))
+        .arg(flag(alloc, "explain", EXPLAIN))
 }
 
 /// `check IMAGE`.
@@ -97,7 +102,7 @@ fn check_command<'a>(alloc: Global) -> Result<Command<'a>, AllocError>
     )
 }
 
-/// The subcommand `name` on a job: `run JOB`, `try JOB` or `mon JOB`.
+/// The subcommand `name` on a job, without more flags: `mon JOB`.
 fn job_command<'a>(alloc: Global, name: &'a str, about: &'a str) -> Result<Command<'a>, AllocError>
     ensures shape { IfOk result (λ c. shape_of c ≡ path_shape name.entry.now (codes "job")) }
     ensures local { IfOk result (λ c. (fields_of c).has_globals ≡ false) }
@@ -132,13 +137,28 @@ fn with_path<'a>(
     command.arg(path)
 }
 
-/// `command` with `--explain`.
-fn with_explain<'a>(alloc: Global, command: Command<'a>) -> Result<Command<'a>, AllocError>
+/// `command` with a flag, under `id`.
+fn with_flag<'a>(
+    alloc: Global,
+    command: Command<'a>,
+    id: &'a str,
+    help: &'a str,
+) -> Result<Command<'a>, AllocError>
     requires { (fields_of command).has_globals ≡ false }
-    ensures app { IfOk result (λ c. app_of c ≡ with_rule (app_of command.entry) explain_rule) }
+    ensures app { IfOk result
+        (λ c. app_of c ≡ with_rule (app_of command.entry) (flag_rule id.entry.now)) }
     ensures local { IfOk result (λ c. (fields_of c).has_globals ≡ false) }
 {
-    command.arg(explain_flag(alloc))
+    command.arg(flag(alloc, id, help))
+}
+
+/// The subcommand `name` on a job, with `--registers`: `run JOB` or `try JOB`.
+fn told_command<'a>(alloc: Global, name: &'a str, about: &'a str) -> Result<Command<'a>, AllocError>
+    ensures shape { IfOk result (λ c. shape_of c ≡ told_shape name.entry.now) }
+    ensures local { IfOk result (λ c. (fields_of c).has_globals ≡ false) }
+{
+    let job = job_command(alloc, name, about)?;
+    with_flag(alloc, job, "registers", REGISTERS)
 }
 
 /// `make IMAGE JOB OUT`.
@@ -152,16 +172,17 @@ fn make_command<'a>(alloc: Global) -> Result<Command<'a>, AllocError>
     let image = with_path(alloc, bare, "image", "IMAGE", "The image file")?;
     let job = with_path(alloc, image, "job", "JOB", "The job file")?;
     let out = with_path(alloc, job, "out", "OUT", "The image file that is written")?;
-    with_explain(alloc, out)
+    with_flag(alloc, out, "explain", EXPLAIN)
 }
 
-/// `command` with one more subcommand.
+/// `command` with one more subcommand, whose version is told as the program's.
 fn with<'a>(command: Command<'a>, sub: Command<'a>) -> Result<Command<'a>, AllocError>
     requires { (fields_of sub).has_globals ≡ false }
     ensures { IfOk result
         (λ c. app_of c ≡ with_subcommand (app_of command.entry) (shape_of sub.entry)) }
 {
-    command.subcommand(sub)
+    let named = sub.display_name("rvvbox")?;
+    command.subcommand(named)
 }
 
 /// `rvvbox` with no subcommand yet.
@@ -173,7 +194,7 @@ fn bare_command<'a>(alloc: Global) -> Command<'a>
         .version("0.1.0")
         .after_help(STATUSES)
         .subcommand_required(true)
-        .disable_help_subcommand(true)
+        .propagate_version(true)
 }
 
 /// The program's command, with all its subcommands.
@@ -183,7 +204,7 @@ fn program<'a>(alloc: Global) -> Result<Command<'a>, AllocError>
     let checking = with(bare_command(alloc), check_command(alloc)?)?;
     let running = with(
         checking,
-        job_command(
+        told_command(
             alloc,
             "run",
             "Checks a job's image against its certificate, and runs it if it is accepted",
@@ -191,7 +212,7 @@ fn program<'a>(alloc: Global) -> Result<Command<'a>, AllocError>
     )?;
     let trying = with(
         running,
-        job_command(
+        told_command(
             alloc,
             "try",
             "Runs a job's image, accepted or not, with every test at each step",
@@ -210,11 +231,11 @@ fn path<'a>(matches: &ArgMatches<'a>, name: &str, id: &str) -> Option<&'a str>
     matches.subcommand_matches(name)?.get_str(id)
 }
 
-/// Whether the subcommand `name` is to explain.
-fn is_asked(matches: &ArgMatches<'_>, name: &str) -> bool
-    ensures { result ≡ flag_of name.now (codes "explain") (subcommand_rows_of matches.now) }
+/// Whether the subcommand `name` was used with a flag.
+fn is_asked(matches: &ArgMatches<'_>, name: &str, flag: &str) -> bool
+    ensures { result ≡ flag_of name.now flag.now (subcommand_rows_of matches.now) }
 {
-    match path(matches, name, "explain") {
+    match path(matches, name, flag) {
         Some(word) => word == "true",
         None => false,
     }
@@ -243,19 +264,29 @@ pub fn line<'a>(alloc: Global, words: &'a [&'a str]) -> Result<Line<'a>, LineErr
     match command.try_get_matches_from(words) {
         Ok(matches) => {
             if let Some(image) = path(&matches, "check", "image") {
-                let explain = is_asked(&matches, "check");
+                let explain = is_asked(&matches, "check", "explain");
                 Ok(Line::Check { image, explain })
             } else if let Some(job) = path(&matches, "run", "job") {
-                let explain = is_asked(&matches, "run");
-                Ok(Line::Run { job, explain })
+                let explain = is_asked(&matches, "run", "explain");
+                let registers = is_asked(&matches, "run", "registers");
+                Ok(Line::Run {
+                    job,
+                    explain,
+                    registers,
+                })
             } else if let Some(job) = path(&matches, "try", "job") {
-                let explain = is_asked(&matches, "try");
-                Ok(Line::Try { job, explain })
+                let explain = is_asked(&matches, "try", "explain");
+                let registers = is_asked(&matches, "try", "registers");
+                Ok(Line::Try {
+                    job,
+                    explain,
+                    registers,
+                })
             } else if let Some(job) = path(&matches, "mon", "job") {
-                let explain = is_asked(&matches, "mon");
+                let explain = is_asked(&matches, "mon", "explain");
                 Ok(Line::Mon { job, explain })
             } else if let Some(paths) = make_paths(&matches) {
-                let explain = is_asked(&matches, "make");
+                let explain = is_asked(&matches, "make", "explain");
                 Ok(Line::Make { paths, explain })
             } else {
                 unreachable!()

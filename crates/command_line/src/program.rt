@@ -69,8 +69,16 @@ fn carry_out<'a, S: Store, I: Read, O: Write, E: Write>(
 {
     match asked {
         Line::Check { image, explain } => check_image(alloc, image, explain, store, output, errors),
-        Line::Run { job, explain } => run_job(alloc, job, explain, store, output, errors),
-        Line::Try { job, explain } => try_job(alloc, job, explain, store, output, errors),
+        Line::Run {
+            job,
+            explain,
+            registers,
+        } => run_job(alloc, job, explain, registers, store, output, errors),
+        Line::Try {
+            job,
+            explain,
+            registers,
+        } => try_job(alloc, job, explain, registers, store, output, errors),
         Line::Mon { job, explain } => mon_job(alloc, job, explain, store, input, output, errors),
         Line::Make { paths, explain } => make_image(alloc, paths, explain, store, output, errors),
     }

@@ -1,9 +1,10 @@
 -- How a subcommand ends, from what was done and what was told.
-use Rattle.std.proofs.Common.{◌≡◌, ◌∙◌, ◌++◌, Bool, ℕ, List, [], Option, Some, None, option_map, Result, Ok, Err, IfOk, IfErr, OnOk, MatchResult, ap, sym, subst, inl, inr, refl}
+use Rattle.std.proofs.Common.{◌≡◌, ◌∙◌, ◌++◌, Bool, true, false, ℕ, List, [], Option, Some, None, option_map, Result, Ok, Err, IfOk, IfErr, OnOk, MatchResult, ap, sym, subst, inl, inr, refl}
 use Rattle.std.specs.Io.KnownBytes.{Appends}
 use Rattle.std.specs.Option.{ok_or}
 use Rattle.std.specs.Str.{IsUtf8}
 use Rattle.std.specs.Result.{IsErrAnd}
+use Rattle.std.proofs.lemmas.List.{append-nil}
 use Rattle.std.proofs.lemmas.Result.{MatchResult-weaker}
 use Rattle.block_checker.specs.Accepted.{AcceptedView}
 use Rattle.job_file.specs.Job.{IsTableFault, Text}
@@ -14,16 +15,17 @@ use Rattle.job_file.specs.declared.values.RunParam.{RunParam}
 use Rattle.toml.specs.Data.{Members}
 use Rattle.toml.specs.Parse.{parse_document}
 use Rattle.commands.specs.Accepted.{IsOrWant}
-use Rattle.commands.specs.Ending.{Ends, status_after, status_of_end, stop_of_job, text_after}
+use Rattle.commands.specs.Ending.{Ends, status_after, status_of_end, stop_of_job, tells_more, text_after}
 use Rattle.commands.specs.Files.{ArePassed, Files, IsImageAt, IsNoImageAt, IsNoTable, IsNoTableAt, IsTableAt, IsUnfinished, IsUnpassed, IsUnwritten, files_of, image_in, outs_of}
 use Rattle.commands.specs.Starts.{IsStarted, IsUnstarted, StopsStarting}
 use Rattle.commands.specs.Steps.{IsUnasked}
-use Rattle.commands.specs.Trial.{OrMemory, StopsAtTrial, line_of}
+use Rattle.commands.specs.Trial.{OrMemory, StopsAtTrial, line_of, shown_of, told_of}
 use Rattle.commands.specs.Words.{Argument, ImageView}
 use Rattle.commands.specs.Written.{Gains, Held, Written}
 use Rattle.commands.specs.declared.stop.Ending.{Ending}
 use Rattle.commands.specs.declared.stop.Status.{Status}
 use Rattle.commands.specs.declared.stop.Stop.{Stop}
+use Rattle.commands.specs.declared.stop.Stop.TheVariants as stop
 use Rattle.commands.specs.declared.trial.Trial.{Trial}
 
 -- ---- how a subcommand ends
@@ -38,6 +40,7 @@ ends_as {explains} {old} {new} {ending} {does} {stops} done e comes = record {
   status = e.status ∙ ap status_after (sym (same e.done e.comes));
   more = e.more;
   unasked = e.unasked;
+  silent = subst (λ (r : Result Status Stop). tells_more explains r ≡ false → e.more ≡ []) (sym (same e.done e.comes)) e.silent;
   told = subst (λ (r : Result Status Stop). OnOk ending.told (Appends old new (text_after r ++ e.more))) (sym (same e.done e.comes)) e.told;
 }
   where
@@ -51,6 +54,20 @@ pub ends_by : {explains : Bool} {old new : Option (List ℕ)} {ending : Ending} 
     → Ends explains (λ s. done ≡ Ok s) (λ reason. done ≡ Err reason) old new ending → MatchResult done did stopped
     → ((s : Status) → did s → does s) → ((reason : Stop) → stopped reason → stops reason) → Ends explains does stops old new ending
 ends_by done did stopped e comes so why = ends_as done e (MatchResult-weaker done comes so why)
+
+-- no more is told where it is not to explain
+pub no_more : (explains : Bool) (done : Result Status Stop) → explains ≡ false → tells_more explains done ≡ false
+no_more explains (Ok s) off = off
+no_more explains (Err (stop.Job error)) off = off
+no_more explains (Err (stop.File path)) off = off
+no_more explains (Err (stop.Image error)) off = off
+no_more explains (Err stop.NoCertificate) off = off
+no_more explains (Err (stop.Certificate error)) off = off
+no_more explains (Err (stop.Check error)) off = off
+no_more explains (Err (stop.Make error)) off = off
+no_more explains (Err (stop.Open error)) off = off
+no_more explains (Err stop.Memory) off = refl
+no_more explains (Err stop.Output) off = refl
 
 pub itself : {A : Type 0} (r : Result A Stop) → MatchResult r (λ a. r ≡ Ok a) (λ reason. r ≡ Err reason)
 itself (Ok a) = refl
@@ -152,21 +169,31 @@ stops_started files wrote later table job accepted args reason s is =
 
 -- ---- how `run` and `try` end
 
+-- the line with what is shown behind it
+told_as : (asked : Bool) (trial : Trial) (shown : List ℕ) → shown ≡ shown_of asked trial → line_of trial ++ shown ≡ told_of asked trial
+told_as false trial shown is = ap (λ (xs : List ℕ). line_of trial ++ xs) is ∙ append-nil (line_of trial)
+told_as true trial shown is = ap (λ (xs : List ℕ). line_of trial ++ xs) is
+
+-- memory runs out after a run came to a trial
+pub unshown : (defined : Result Trial Stop) (trial : Trial) (reason : Stop) → OrMemory defined (Ok trial) → reason ≡ stop.Memory → OrMemory defined (Err reason)
+unshown (Err told) trial reason comes is = cc
+unshown (Ok known) trial reason comes is = is
+
 -- a run that came to a trial is written and told, or why not: `given` is what the job passes, as the program has it
 pub finished : (old new : Option (List ℕ)) (first then has : Option Held) (given params : List (RunParam Text))
-    (defined : Result Trial Stop) (trial : Trial) (result : Result Status Stop) (does : Status → Type 0) (stops : Stop → Type 0)
-    → given ≡ params → OrMemory defined (Ok trial) → then ≡ first
-    → IfOk result (λ s. s ≡ status_of_end trial.end) → OnOk result (Appends old new (line_of trial))
+    (defined : Result Trial Stop) (trial : Trial) (asked : Bool) (shown : List ℕ) (result : Result Status Stop) (does : Status → Type 0) (stops : Stop → Type 0)
+    → given ≡ params → OrMemory defined (Ok trial) → then ≡ first → shown ≡ shown_of asked trial
+    → IfOk result (λ s. s ≡ status_of_end trial.end) → OnOk result (Appends old new (line_of trial ++ shown))
     → OnOk result (Gains then has (outs_of given trial.args.places)) → IfErr result (IsUnfinished (files_of then) (Gains then has) given trial.args.places)
-    → ((s : Status) → defined ≡ Ok trial → Gains first has (outs_of params trial.args.places) → Appends old new (line_of trial)
+    → ((s : Status) → defined ≡ Ok trial → Gains first has (outs_of params trial.args.places) → Appends old new (told_of asked trial)
     → s ≡ status_of_end trial.end → does s)
     → ((reason : Stop) → StopsAtTrial (files_of first) (Gains first has) params defined reason → stops reason)
     → MatchResult result does stops
-finished old new first then has given params defined trial (Ok s) does stops same comes none done told wrote un do_so stop_so =
+finished old new first then has given params defined trial asked shown (Ok s) does stops same comes none is done told wrote un do_so stop_so =
     let outs = subst (λ (ps : List (RunParam Text)). Gains first has (outs_of ps trial.args.places)) same
     (subst (λ (h : Option Held). Gains h has (outs_of given trial.args.places)) none wrote) in
-    do_so s (or_ok defined trial comes) outs told done
-finished old new first then has given params defined trial (Err reason) does stops same comes none done told wrote un do_so stop_so =
+    do_so s (or_ok defined trial comes) outs (subst (λ (text : List ℕ). Appends old new text) (told_as asked trial shown is) told) done
+finished old new first then has given params defined trial asked shown (Err reason) does stops same comes none is done told wrote un do_so stop_so =
     let all = subst (λ (h : Option Held). IsUnfinished (files_of h) (Gains h has) given trial.args.places reason) none un in
     let why = subst (λ (ps : List (RunParam Text)). IsUnfinished (files_of first) (Gains first has) ps trial.args.places reason) same all in
     stop_so reason (inr (trial, or_ok defined trial comes, why))

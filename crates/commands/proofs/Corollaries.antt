@@ -84,19 +84,19 @@ given_at was (given.Buffer file out) arg is = is
 are_given : (was : Held) (params : List (RunParam Text)) (args : List Argument) → ArePassed (files_of (Some was)) params args → AreGiven was params args
 are_given was params args (eight, passed) = λ k below. given_at was (get_or params k given.None) (get_or args k argument.None) (passed k below)
 
-abbrev DoesRun : Held → Held → Text → List ℕ → List ℕ → Status → Type 0
-DoesRun was has path old new = OfTable (files_of (Some was)) path (λ table. Runs (files_of (Some was)) table (Some old) (Some new) (Some was) (Some has))
+abbrev DoesRun : Bool → Held → Held → Text → List ℕ → List ℕ → Status → Type 0
+DoesRun registers was has path old new = OfTable (files_of (Some was)) path (λ table. Runs (files_of (Some was)) registers table (Some old) (Some new) (Some was) (Some has))
 
 abbrev StopsSo : Held → Held → Text → ((Written → Type 0) → Members → Stop → Type 0) → Stop → Type 0
 StopsSo was has path stops = StopsOfTable (files_of (Some was)) (Gains (Some was) (Some has)) path (stops (Gains (Some was) (Some has)))
 
-pub run_done : {explains : Bool} (was has : Held) (path : Text) (old new : List ℕ) (told tells : Option (List ℕ)) (ending : Ending)
-    → Ends explains (DoesRun was has path old new) (StopsSo was has path (StopsRun (files_of (Some was)))) told tells ending
-    → ending.status ≡ status.Done → IsRunOf was has path old new
-run_done was has path old new told tells ending e is = go e.done e.comes (sym e.status ∙ is)
+pub run_done : {explains : Bool} (registers : Bool) (was has : Held) (path : Text) (old new : List ℕ) (told tells : Option (List ℕ)) (ending : Ending)
+    → Ends explains (DoesRun registers was has path old new) (StopsSo was has path (StopsRun (files_of (Some was)))) told tells ending
+    → ending.status ≡ status.Done → IsRunOf registers was has path old new
+run_done registers was has path old new told tells ending e is = go e.done e.comes (sym e.status ∙ is)
   where
-    go : (done : Result Status Stop) → MatchResult done (DoesRun was has path old new) (StopsSo was has path (StopsRun (files_of (Some was))))
-        → status_after done ≡ status.Done → IsRunOf was has path old new
+    go : (done : Result Status Stop) → MatchResult done (DoesRun registers was has path old new) (StopsSo was has path (StopsRun (files_of (Some was))))
+        → status_after done ≡ status.Done → IsRunOf registers was has path old new
     go (Ok s) (table, spells, r) is = record {
       table = table;
       spells = spells;
@@ -115,16 +115,16 @@ run_done was has path old new told tells ending e is = go e.done e.comes (sym e.
     }
     go (Err reason) c is = absurd (undone reason is)
 
-abbrev DoesTry : Held → Held → Text → List ℕ → List ℕ → Status → Type 0
-DoesTry was has path old new = OfTable (files_of (Some was)) path (λ table. Tries (files_of (Some was)) table (Some old) (Some new) (Some was) (Some has))
+abbrev DoesTry : Bool → Held → Held → Text → List ℕ → List ℕ → Status → Type 0
+DoesTry registers was has path old new = OfTable (files_of (Some was)) path (λ table. Tries (files_of (Some was)) registers table (Some old) (Some new) (Some was) (Some has))
 
-pub try_done : {explains : Bool} (was has : Held) (path : Text) (old new : List ℕ) (told tells : Option (List ℕ)) (ending : Ending)
-    → Ends explains (DoesTry was has path old new) (StopsSo was has path (StopsTry (files_of (Some was)))) told tells ending
-    → (ending.status ≡ status.Done) ⊎ (ending.status ≡ status.Stopped) → IsTrialOf was has path old new ending.status
-try_done was has path old new told tells ending e is = go e.done e.comes e.status is
+pub try_done : {explains : Bool} (registers : Bool) (was has : Held) (path : Text) (old new : List ℕ) (told tells : Option (List ℕ)) (ending : Ending)
+    → Ends explains (DoesTry registers was has path old new) (StopsSo was has path (StopsTry (files_of (Some was)))) told tells ending
+    → (ending.status ≡ status.Done) ⊎ (ending.status ≡ status.Stopped) → IsTrialOf registers was has path old new ending.status
+try_done registers was has path old new told tells ending e is = go e.done e.comes e.status is
   where
-    go : (done : Result Status Stop) → MatchResult done (DoesTry was has path old new) (StopsSo was has path (StopsTry (files_of (Some was))))
-        → ending.status ≡ status_after done → (ending.status ≡ status.Done) ⊎ (ending.status ≡ status.Stopped) → IsTrialOf was has path old new ending.status
+    go : (done : Result Status Stop) → MatchResult done (DoesTry registers was has path old new) (StopsSo was has path (StopsTry (files_of (Some was))))
+        → ending.status ≡ status_after done → (ending.status ≡ status.Done) ⊎ (ending.status ≡ status.Stopped) → IsTrialOf registers was has path old new ending.status
     go (Ok s) (table, spells, r) same is = record {
       table = table;
       spells = spells;

@@ -1,5 +1,5 @@
 -- What subcommands come to over files that are known.
-use Rattle.std.specs.Prelude.{◌≡◌, ◌<◌, ◌++◌, ◌∷◌, [], ℕ, List, get_or, map, Option, Some, None, Ok, option_map}
+use Rattle.std.specs.Prelude.{◌≡◌, ◌<◌, ◌++◌, ◌∷◌, [], Bool, ℕ, List, get_or, map, Option, Some, None, Ok, option_map}
 use Rattle.block_checker.specs.Accepted.{AcceptedView}
 use Rattle.cert_note.specs.declared.values.Budget.{Budget}
 use Rattle.job_file.specs.Needs.{RunJob, TryJob, make_job_in, run_job_in, try_job_in}
@@ -15,7 +15,7 @@ use Rattle.commands.specs.Files.{bytes_at, image_in, outs_of}
 use Rattle.commands.specs.Makes.{accepted_in, made_of}
 use Rattle.commands.specs.Runs.{run_of_job}
 use Rattle.commands.specs.Tries.{passed_by, trial_of}
-use Rattle.commands.specs.Trial.{line_of}
+use Rattle.commands.specs.Trial.{told_of}
 use Rattle.commands.specs.Words.{Argument, Held, ImageView, Members, Status, Text, Written, block_at}
 use Rattle.commands.specs.declared.trial.Trial.{Trial}
 
@@ -56,9 +56,10 @@ AreGiven held params args =
 abbrev pub Adds : Held → Held → Written → Type 0
 Adds was has files = has ≡ record was { files = was.files ++ files }
 
--- the job's image is accepted, its run on the bytes of the job's files is printed, and the out
--- files, and no other, have the buffers as the run left them
-pub record IsRunOf (was has : Held) (path : Text) (old new : List ℕ) : Type 0 where
+-- the job's image is accepted, its run on the bytes of the job's files is printed, with the
+-- registers or without, and the out files, and no other, have the buffers as the run left them
+pub record IsRunOf (registers : Bool) (was has : Held) (path : Text) (old new : List ℕ)
+    : Type 0 where
   pub table : Members
   pub spells : IsTableOf was path table
   pub job : RunJob Text
@@ -71,11 +72,12 @@ pub record IsRunOf (was has : Held) (path : Text) (old new : List ℕ) : Type 0 
   pub passed : AreGiven was job.params args
   pub trial : Trial
   pub comes : run_of_job job accepted args ≡ Ok trial
-  pub printed : new ≡ old ++ line_of trial
+  pub printed : new ≡ old ++ told_of registers trial
   pub files : Adds was has (outs_of job.params trial.args.places)
 
 -- the same of any image, whose run ends by this status
-pub record IsTrialOf (was has : Held) (path : Text) (old new : List ℕ) (s : Status) : Type 0 where
+pub record IsTrialOf (registers : Bool) (was has : Held) (path : Text) (old new : List ℕ)
+    (s : Status) : Type 0 where
   pub table : Members
   pub spells : IsTableOf was path table
   pub job : TryJob Text
@@ -86,7 +88,7 @@ pub record IsTrialOf (was has : Held) (path : Text) (old new : List ℕ) (s : St
   pub passed : AreGiven was (map passed_by job.params) args
   pub trial : Trial
   pub comes : trial_of job image args ≡ Ok trial
-  pub printed : new ≡ old ++ line_of trial
+  pub printed : new ≡ old ++ told_of registers trial
   pub files : Adds was has (outs_of (map passed_by job.params) trial.args.places)
   pub status : s ≡ status_of_end trial.end
 

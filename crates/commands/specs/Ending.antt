@@ -104,6 +104,13 @@ abbrev pub text_after : Result Status Stop → List ℕ
 text_after (Ok s) = []
 text_after (Err reason) = stop_text reason
 
+-- whether more is told behind it: where that is asked for, unless memory ran out or standard output
+-- takes no text
+abbrev pub tells_more : Bool → Result Status Stop → Bool
+tells_more explains (Err stop.Memory) = false
+tells_more explains (Err stop.Output) = false
+tells_more explains other = explains
+
 -- a subcommand does what it does, or stops for one of its reasons: the status says which, and
 -- standard error has grown by the reason's line, and, where it is to explain, by some more behind
 -- it, where it took that. `old` and `new` are what it has before and after
@@ -114,4 +121,5 @@ pub record Ends (explains : Bool) (does : Status → Type 0) (stops : Stop → T
   pub status : ending.status ≡ status_after done
   pub more : List ℕ
   pub unasked : explains ≡ false → more ≡ []
+  pub silent : tells_more explains done ≡ false → more ≡ []
   pub told : OnOk ending.told (Appends old new (text_after done ++ more))

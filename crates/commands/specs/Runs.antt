@@ -1,5 +1,5 @@
 -- What `run` does.
-use Rattle.std.specs.Prelude.{◌≡◌, ℕ, List, Option, Some, None, Result, Ok, Err}
+use Rattle.std.specs.Prelude.{◌≡◌, Bool, ℕ, List, Option, Some, None, Result, Ok, Err}
 use Rattle.std.specs.Io.KnownBytes.{Appends}
 use Rattle.block_checker.specs.Bound.{bound_of, scalars_of}
 use Rattle.job_file.specs.Needs.{RunJob}
@@ -7,7 +7,7 @@ use Rattle.sandbox_run.specs.Session.{open_fault}
 use Rattle.commands.specs.Ending.{status_of_end, stop_of_open}
 use Rattle.commands.specs.Files.{Files, outs_of}
 use Rattle.commands.specs.Starts.{IsStarted, StopsStarting}
-use Rattle.commands.specs.Trial.{StopsAtTrial, line_of, trial_from}
+use Rattle.commands.specs.Trial.{StopsAtTrial, told_of, trial_from}
 use Rattle.commands.specs.Words.{AcceptedView, Agnostic, Argument, Gains, Held, Members, OpenError, start, Status, Stop, Text, vlenb_of, Written}
 use Rattle.commands.specs.declared.trial.Trial.{Trial}
 
@@ -32,9 +32,10 @@ run_of_job job a args = session_of (vlenb_of job.vlen) job.agnostic job.max a ar
 -- ---- what is done: `old` and `new` are what standard output has before and after, and `was` and
 -- `has` the files that were written
 
--- `run` on a job's table: the job's image is accepted, what comes of the job on it is printed, and
--- the out files of all places were written with the buffers as the run left them
-pub record Runs (files : Files) (table : Members) (old new : Option (List ℕ))
+-- `run` on a job's table: the job's image is accepted, what comes of the job on it is printed, with
+-- the registers or without, and the out files of all places were written with the buffers as the
+-- run left them
+pub record Runs (files : Files) (registers : Bool) (table : Members) (old new : Option (List ℕ))
     (was has : Option Held) (s : Status) : Type 0 where
   pub job : RunJob Text
   pub accepted : AcceptedView
@@ -43,7 +44,7 @@ pub record Runs (files : Files) (table : Members) (old new : Option (List ℕ))
   pub trial : Trial
   pub comes : run_of_job job accepted args ≡ Ok trial
   pub wrote : Gains was has (outs_of job.params trial.args.places)
-  pub told : Appends old new (line_of trial)
+  pub told : Appends old new (told_of registers trial)
   pub done : s ≡ status_of_end trial.end
 
 -- ---- why it stops: `wrote xs` says that the files `xs` were written

@@ -6,6 +6,7 @@ use Rattle.cert_maker.specs.declared.errors.MakeError.{MakeError}
 use Rattle.cert_note.specs.declared.refusals.CertError.TheVariants as certificate_error
 use Rattle.elf_image.specs.declared.error.ElfError.TheVariants as image_error
 use Rattle.job_file.specs.declared.values.JobError.TheVariants as job_error
+use Rattle.job_reasons.specs.Escaped.{escaped_text}
 use Rattle.monitor.specs.declared.commands.MonError.{MonError}
 use Rattle.monitor.specs.declared.commands.MonError.TheVariants as monitor_error
 use Rattle.sandbox_run.specs.declared.outcome.OpenError.TheVariants as open_error
@@ -84,7 +85,7 @@ refused_line name = codes "refused: " ++ (name ++ codes "\n")
 -- the line that tells a reason to stop; nothing is told where standard output took no text
 abbrev pub stop_text : Stop → List ℕ
 stop_text (stop.Job error) = codes "job: " ++ (job_error_name error ++ codes "\n")
-stop_text (stop.File path) = codes "file: " ++ (path.now ++ codes "\n")
+stop_text (stop.File path) = codes "file: " ++ (escaped_text path.now ++ codes "\n")
 stop_text (stop.Image error) = refused_line (image_error_name error)
 stop_text stop.NoCertificate = codes "refused: NoCertificate\n"
 stop_text (stop.Certificate error) = refused_line (certificate_error_name error)

@@ -1,11 +1,14 @@
 -- What comes of a run, and how it is told.
-use Rattle.std.specs.Prelude.{◌≡◌, ◌++◌, codes, ℕ, List, Result, Ok, Err}
+use Rattle.std.specs.Prelude.{◌≡◌, ◌++◌, [], codes, Bool, true, false, ℕ, List, Result, Ok, Err}
 use Rattle.std.specs.Fmt.{decimal}
 use Rattle.job_file.specs.declared.values.RunParam.{RunParam}
+use Rattle.monitor.specs.Texts.{csrs_text, registers_text}
 use Rattle.region_mem.specs.Faults.{name_of, number_of}
 use Rattle.sandbox_run.specs.Answer.{answer_of}
+use Rattle.sandbox_run.specs.declared.outcome.Final.{Final}
 use Rattle.sandbox_run.specs.declared.outcome.Outcome.{Outcome}
 use Rattle.sandbox_run.specs.declared.outcome.Outcome.TheVariants as stopped
+use Rattle.sandbox_run.specs.declared.outcome.Registers.{Registers}
 use Rattle.vector_core.specs.Run.{outcome}
 use Rattle.region_mem.specs.Digits.{digits_text}
 pub use Rattle.commands.specs.Accepted.{OrMemory}
@@ -16,13 +19,20 @@ use Rattle.commands.specs.declared.trial.End.{End}
 use Rattle.commands.specs.declared.trial.End.TheVariants as end
 use Rattle.commands.specs.declared.trial.Trial.{Trial}
 
--- how a run ended, after how many steps, and the arguments as they then stood
+-- how a run ended, after how many steps, and the arguments and the registers as they then stood
+abbrev pub trial_in : {vlenb : ℕ} → End → Final vlenb (List ℕ) → Trial
+trial_in {vlenb} how last = record {
+  end = how;
+  steps = last.steps;
+  args = last.args;
+  registers = last.registers;
+  vlenb = vlenb;
+}
+
 abbrev pub trial_at : {vlenb : ℕ} → Outcome vlenb (List ℕ) → Trial
-trial_at (stopped.Ended last) = record { end = end.Ended; steps = last.steps; args = last.args }
-trial_at (stopped.Trapped fault last) =
-    record { end = end.Trapped fault; steps = last.steps; args = last.args }
-trial_at (stopped.OutOfSteps last) =
-    record { end = end.OutOfSteps; steps = last.steps; args = last.args }
+trial_at (stopped.Ended last) = trial_in end.Ended last
+trial_at (stopped.Trapped fault last) = trial_in (end.Trapped fault) last
+trial_at (stopped.OutOfSteps last) = trial_in end.OutOfSteps last
 
 -- what comes of a run from a state on, with at most `max` steps
 abbrev pub trial_from : ℕ → ℕ → Machine → Trial
@@ -46,3 +56,17 @@ end_line end.OutOfSteps steps = codes "out of steps: " ++ (decimal steps ++ code
 -- the line that tells how a run ended
 abbrev pub line_of : Trial → List ℕ
 line_of trial = end_line trial.end trial.steps
+
+-- the monitor's lines of the integer registers, and of pc and the vector unit's state
+abbrev pub state_text : Registers → ℕ → List ℕ
+state_text registers vlenb = registers_text registers.x ++ csrs_text registers vlenb
+
+-- the registers that a run left, where they are asked for
+abbrev pub shown_of : Bool → Trial → List ℕ
+shown_of false trial = []
+shown_of true trial = state_text trial.registers trial.vlenb
+
+-- what is told of a run: its line, and the registers behind it where they are asked for
+abbrev pub told_of : Bool → Trial → List ℕ
+told_of false trial = line_of trial
+told_of true trial = line_of trial ++ shown_of true trial

@@ -1,5 +1,5 @@
 -- What `try` does.
-use Rattle.std.specs.Prelude.{◌≡◌, ◌-◌, ◌^◌, ℕ, min, List, length, map, Option, Some, None, Result, Ok, Err}
+use Rattle.std.specs.Prelude.{◌≡◌, ◌-◌, ◌^◌, Bool, ℕ, min, List, length, map, Option, Some, None, Result, Ok, Err}
 use Rattle.std.specs.Io.KnownBytes.{Appends}
 use Rattle.std.specs.List.{zip}
 use Rattle.job_file.specs.Needs.{try_job_in}
@@ -18,7 +18,7 @@ use Rattle.sandbox_run.specs.Errors.{open_error_of}
 use Rattle.commands.specs.Ending.{status_of_end}
 use Rattle.commands.specs.Files.{ArePassed, Files, IsImageAt, IsNoImageAt, IsUnpassed, outs_of}
 use Rattle.commands.specs.Steps.{StopsAt, StopsAtJob}
-use Rattle.commands.specs.Trial.{StopsAtTrial, line_of, trial_from}
+use Rattle.commands.specs.Trial.{StopsAtTrial, told_of, trial_from}
 use Rattle.commands.specs.Words.{Agnostic, Argument, Gains, Held, ImageView, Members, start, Status, Stop, Text, vlenb_of, Written}
 use Rattle.commands.specs.declared.stop.Stop.TheVariants as stop
 use Rattle.commands.specs.declared.trial.Trial.{Trial}
@@ -77,9 +77,9 @@ passed_by (taken.Buffer mode file out) = given.Buffer file out
 -- ---- what is done: `old` and `new` are what standard output has before and after, and `was` and
 -- `has` the files that were written
 
--- `try` on a job's table: what comes of the job on its image is printed, and the out files of all
--- places were written with the buffers as the run left them
-pub record Tries (files : Files) (table : Members) (old new : Option (List ℕ))
+-- `try` on a job's table: what comes of the job on its image is printed, with the registers or
+-- without, and the out files of all places were written with the buffers as the run left them
+pub record Tries (files : Files) (registers : Bool) (table : Members) (old new : Option (List ℕ))
     (was has : Option Held) (s : Status) : Type 0 where
   pub job : TryJob Text
   pub asked : try_job_in table ≡ Some job
@@ -90,7 +90,7 @@ pub record Tries (files : Files) (table : Members) (old new : Option (List ℕ))
   pub trial : Trial
   pub comes : trial_of job image args ≡ Ok trial
   pub wrote : Gains was has (outs_of (map passed_by job.params) trial.args.places)
-  pub told : Appends old new (line_of trial)
+  pub told : Appends old new (told_of registers trial)
   pub done : s ≡ status_of_end trial.end
 
 -- ---- why it stops: `wrote xs` says that the files `xs` were written

@@ -1,5 +1,6 @@
 //! The files of a job: what is read before its run, and what is written after it.
-ghost use Rattle.std.specs.Prelude.{◌≡◌, MatchResult, Some, map, option_map, replicate};
+ghost use Rattle.std.specs.Prelude.{◌≡◌, MatchResult, Some, length, map, option_map, replicate};
+ghost use Rattle.std.specs.Prelude.{true};
 ghost use Rattle.job_file.specs.Needs.{run_param_lent};
 ghost use Rattle.toml.specs.Parse.{parse_document};
 ghost use Rattle.toml.specs.View.{table_view};
@@ -13,10 +14,10 @@ ghost use Rattle.commands.specs.Why.{Notes};
 use crate::stop::Stop;
 use crate::store::{Store, StoreError};
 use crate::why::{FileReason, Why, note_image, note_job};
-use elf_image::Image;
+use elf_image::{ElfError, Image, MAX_FILE_SIZE};
 use job_file::{JobError, RunParam, parse};
 use job_reasons::Command;
-use region_mem::{Arg, Args, Bytes};
+use region_mem::{Arg, Args, Bytes, MAX_BUFFER_SIZE};
 use std::alloc::Global;
 use std::io::ErrorKind;
 use toml::Table;
@@ -37,10 +38,23 @@ pub fn stop_at<'a>(
     Stop::at_file(error, path)
 }
 
-/// The file at `path`.
-pub fn read<'a, S: Store>(
+/// How many bytes of a buffer's file are needed: one more than a buffer may have, by which it is refused.
+const MOST_OF_BUFFER: usize = MAX_BUFFER_SIZE as usize + 1;
+
+/// The same of an image file.
+const MOST_OF_IMAGE: usize = MAX_FILE_SIZE + 1;
+
+/// Law: how many these are, in numbers.
+pub fn needs_in_numbers()
+    ensures buffer { MOST_OF_BUFFER ≡ 0x100_0001 }
+    ensures image { MOST_OF_IMAGE ≡ 0x40_0001 }
+{}
+
+/// The file at `path`, of which the first `most` bytes are needed.
+fn read<'a, S: Store>(
     alloc: Global,
     path: &'a str,
+    most: usize,
     store: &mut S,
     why: &mut Why,
 ) -> Result<Vec<u8>, Stop<'a>>
@@ -49,7 +63,7 @@ pub fn read<'a, S: Store>(
         (IsOfFile (files_of (S.held store.old)).unread path.entry.now) }
     ensures files { S.held store.new ≡ S.held store.old }
 {
-    match store.read(alloc, path) {
+    match store.read(alloc, path, most) {
         Ok(bytes) => Ok(bytes),
         Err(error) => Err(stop_at(error, store.last_failure(), path, why)),
     }
@@ -68,7 +82,7 @@ pub fn read_table<'a, S: Store>(
         (IsNoTableAt (files_of (S.held store.old)) path.entry.now) }
     ensures files { S.held store.new ≡ S.held store.old }
 {
-    let bytes = read(alloc, path, store, why)?;
+    let bytes = read(alloc, path, usize::MAX, store, why)?;
     note_job(alloc, bytes.as_slice(), command, why);
     table_in(alloc, bytes.as_slice())
 }
@@ -84,6 +98,36 @@ fn table_in<'a>(alloc: Global, bytes: &[u8]) -> Result<Table, Stop<'a>>
     }
 }
 
+/// Whether what is told of the beginning of a file that is too large for an image may lie in the rest.
+fn lacks_rest(alloc: Global, file: &[u8]) -> bool
+    ensures { result ≡ true → length file.now ≡ MOST_OF_IMAGE }
+{
+    file.len() == MOST_OF_IMAGE
+        && matches!(
+            elf_image::read(alloc, file),
+            Err(ElfError::BadHeaderTable | ElfError::SegmentOutOfFile)
+        )
+}
+
+/// The image file at `path`. One that is too large is read whole only where its beginning does not show why it is refused.
+pub fn read_image_file<'a, S: Store>(
+    alloc: Global,
+    path: &'a str,
+    store: &mut S,
+    why: &mut Why,
+) -> Result<Vec<u8>, Stop<'a>>
+    ensures bytes { MatchResult result
+        (λ bytes. (files_of (S.held store.old)).holds path.entry.now bytes.items)
+        (IsOfFile (files_of (S.held store.old)).unread path.entry.now) }
+    ensures files { S.held store.new ≡ S.held store.old }
+{
+    let bytes = read(alloc, path, MOST_OF_IMAGE, store, why)?;
+    if lacks_rest(alloc, &bytes) {
+        return read(alloc, path, usize::MAX, store, why);
+    }
+    Ok(bytes)
+}
+
 /// The image at `path`.
 pub fn read_image<'a, S: Store>(
     alloc: Global,
@@ -96,7 +140,7 @@ pub fn read_image<'a, S: Store>(
         (IsNoImageAt (files_of (S.held store.old)) path.entry.now) }
     ensures files { S.held store.new ≡ S.held store.old }
 {
-    let bytes = read(alloc, path, store, why)?;
+    let bytes = read_image_file(alloc, path, store, why)?;
     image_in(alloc, bytes.as_slice(), why)
 }
 
@@ -163,7 +207,7 @@ fn read_arg<'a, S: Store>(
         RunParam::None => Ok(Arg::None),
         RunParam::Scalar(value) => Ok(Arg::Scalar(*value)),
         RunParam::Buffer { file, .. } => {
-            let bytes = read(alloc, *file, store, why)?;
+            let bytes = read(alloc, *file, MOST_OF_BUFFER, store, why)?;
             Ok(Arg::Buffer(Bytes::new(bytes)))
         }
     }

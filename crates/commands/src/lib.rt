@@ -3,7 +3,7 @@
 //! Each has a module: `checks`, `makes`, `mons`, `runs` and `tries`. What they share stands in the
 //! others: `starts` (what those on a job begin with), `files` (what is read, and the out files),
 //! `accepted` (an image with its certificate), `lines` (the input of `mon`), `trial` (what comes of a
-//! run), `stop` (statuses and reasons to stop), `texts` (how those are told), `why` (what more is
+//! run), `registers` (those that it left), `stop` (statuses and reasons to stop), `texts` (how those are told), `why` (what more is
 //! told of them), `store` (where files are) and `memory` (files in memory).
 #![tactic(auto)]
 
@@ -14,6 +14,7 @@ mod lines;
 mod makes;
 mod memory;
 mod mons;
+mod registers;
 mod runs;
 mod starts;
 mod stop;
@@ -24,10 +25,11 @@ mod tries;
 mod why;
 
 pub use checks::check_image;
+pub use files::needs_in_numbers;
 pub use makes::{MakePaths, make_image};
 pub use memory::{Memory, check_memory, make_memory, run_memory, try_memory};
 pub use mons::{mon_job, mon_job_within};
 pub use runs::run_job;
 pub use stop::{Ending, Status, Stop};
-pub use store::{Disk, MOST_READS, Store, StoreError, read_all, reads_in_numbers};
+pub use store::{Disk, MOST_READS, Store, StoreError, read_some, reads_in_numbers};
 pub use tries::try_job;

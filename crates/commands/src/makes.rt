@@ -12,7 +12,7 @@ ghost use Rattle.toml.specs.View.{table_view};
 
 use crate::accepted::accept;
 use crate::checks::print_bound;
-use crate::files::{image_in, read, write};
+use crate::files::{image_in, read_image_file, write};
 use crate::starts::on_table;
 use crate::stop::{Ending, Status, Stop};
 use crate::store::Store;
@@ -90,7 +90,7 @@ fn make_table<'a, S: Store, O: Write>(
 {
     let job = make_job_in(table).ok_or(JobError::BadKey)?;
     why.forget();
-    let file = read(alloc, paths.image, store, why)?;
+    let file = read_image_file(alloc, paths.image, store, why)?;
     let bytes = made(alloc, &job, file.as_slice(), why)?;
     let budget = read_back(alloc, &job, bytes.as_slice(), why)?.budget();
     write(paths.out, bytes.as_slice(), store, why)?;

@@ -127,7 +127,7 @@ impl Store for Memory {
 
     ghost held = { λ memory. Some (held_by memory) };
 
-    fn read(&mut self, alloc: Global, path: &str) -> Result<Vec<u8>, StoreError> {
+    fn read(&mut self, alloc: Global, path: &str, _most: usize) -> Result<Vec<u8>, StoreError> {
         self.failure = Some(ErrorKind::NotFound);
         if is_among(path, self.unread.as_slice()) {
             return Err(StoreError::Failed);
@@ -179,33 +179,35 @@ pub fn check_memory(
     check_image(alloc, path, false, memory, output, errors)
 }
 
-/// `run` over files in memory: what it prints, and which files there are afterwards.
+/// `run` over files in memory, with the `registers` or without: what it prints, and which files there are afterwards.
 pub fn run_memory(
     alloc: Global,
     path: &str,
+    registers: bool,
     memory: &mut Memory,
     output: &mut Vec<u8>,
     errors: &mut Vec<u8>,
 ) -> Ending
-    ensures { result.status ≡ status.Done → IsRunOf (held_by memory.old)
+    ensures { result.status ≡ status.Done → IsRunOf registers (held_by memory.old)
         (held_by memory.new) path.now output.old.items output.new.items }
 {
-    run_job(alloc, path, false, memory, output, errors)
+    run_job(alloc, path, false, registers, memory, output, errors)
 }
 
-/// `try` over files in memory: what it prints, and which files there are afterwards.
+/// `try` over files in memory, with the `registers` or without: what it prints, and which files there are afterwards.
 pub fn try_memory(
     alloc: Global,
     path: &str,
+    registers: bool,
     memory: &mut Memory,
     output: &mut Vec<u8>,
     errors: &mut Vec<u8>,
 ) -> Ending
     ensures { (result.status ≡ status.Done) ⊎ (result.status ≡ status.Stopped)
-        → IsTrialOf (held_by memory.old) (held_by memory.new) path.now
+        → IsTrialOf registers (held_by memory.old) (held_by memory.new) path.now
         output.old.items output.new.items result.status }
 {
-    try_job(alloc, path, false, memory, output, errors)
+    try_job(alloc, path, false, registers, memory, output, errors)
 }
 
 /// `make` over files in memory: what it prints, and which file it wrote.

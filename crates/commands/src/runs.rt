@@ -30,18 +30,21 @@ use vreg_groups::Vlen;
 /// image, the certificate, the check, the parameters' files by place, the start of the run, the run, the out files by
 /// place, the printed line.
 ///
-/// Where it is to `explain`, more of why it stops is told behind the reason's line.
+/// Where it is to `explain`, more of why it stops is told behind the reason's line. Where `registers` are asked for, those that
+/// the run left are printed behind its line, as `mon` shows them.
 pub fn run_job<S: Store, O: Write, E: Write>(
     alloc: Global,
     path: &str,
     explain: bool,
+    registers: bool,
     store: &mut S,
     output: &mut O,
     errors: &mut E,
 ) -> Ending
     ensures { Ends explain
         (OfTable (files_of (S.held store.old)) path.now (λ table.
-        Runs (files_of (S.held store.old)) table (O.contents output.old) (O.contents output.new)
+        Runs (files_of (S.held store.old)) registers table
+        (O.contents output.old) (O.contents output.new)
         (S.held store.old) (S.held store.new)))
         (StopsOfTable (files_of (S.held store.old))
         (Gains (S.held store.old) (S.held store.new)) path.now
@@ -49,26 +52,29 @@ pub fn run_job<S: Store, O: Write, E: Write>(
         (E.contents errors.old) (E.contents errors.new) result }
 {
     on_table!(alloc, path, Command::Run, explain, store, errors; table, why =>
-        run_table(alloc, table, store, output, why))
+        run_table(alloc, table, registers, store, output, why))
 }
 
 /// `run` on a job's table.
 fn run_table<'a, S: Store, O: Write>(
     alloc: Global,
     table: &'a Table,
+    registers: bool,
     store: &mut S,
     output: &mut O,
     why: &mut Why,
 ) -> Result<Status, Stop<'a>>
     ensures { MatchResult result
-        (Runs (files_of (S.held store.old)) (table_view table.entry.now)
+        (Runs (files_of (S.held store.old)) registers (table_view table.entry.now)
         (O.contents output.old) (O.contents output.new) (S.held store.old) (S.held store.new))
         (StopsRun (files_of (S.held store.old)) (Gains (S.held store.old) (S.held store.new))
         (table_view table.entry.now)) }
 {
     let Start { ready, args } = started(alloc, table, store, why)?;
     let trial = run_accepted(alloc, &ready, args, why)?;
-    finish(&ready.job.params, &trial, store, output, why)
+    let shown = trial.shown(alloc, registers)?;
+    let params = &ready.job.params;
+    finish(params, &trial, shown.as_slice(), store, output, why)
 }
 
 /// Runs a job on an accepted image and arguments, at the job's length of vector registers and setting.
@@ -108,7 +114,8 @@ fn run_session<'a, const VLENB: usize>(
     match Session::<VLENB>::open(alloc, accepted, args, job.agnostic, job.max) {
         Ok(mut session) => {
             let steps = session.run();
-            Ok(Trial::ended(steps, session.close()))
+            let registers = session.registers();
+            Ok(Trial::ended(steps, registers, VLENB, session.close()))
         }
         Err((error, args)) => {
             note_open(accepted, &args, job.max, error, why);

@@ -4,7 +4,7 @@ ghost use Rattle.std.specs.Prelude.{◌≡◌, ◌++◌, Err, Ok, OnOk};
 ghost use Rattle.commands.specs.Ending.{Ends, code_of, status_after, status_of, stop_at_file};
 ghost use Rattle.commands.specs.Ending.{stop_of_certificate, stop_of_check, stop_of_image};
 ghost use Rattle.commands.specs.Ending.{stop_of_job, stop_of_make, stop_of_open};
-ghost use Rattle.commands.specs.Ending.{text_after};
+ghost use Rattle.commands.specs.Ending.{tells_more, text_after};
 ghost use Rattle.commands.specs.Texts.{stop_text};
 ghost use Rattle.commands.specs.declared.stop.Stop.TheVariants.{Memory};
 
@@ -235,7 +235,7 @@ pub fn told<E: Write>(done: Result<Status, Stop<'_>>, more: &[u8], errors: &mut 
 }
 
 /// How a subcommand ends after what was done, or after the reason to stop, which is told, and then, where it is to `explain`,
-/// more of why.
+/// more of why. Where memory ran out, or standard output takes no text, no more is told.
 pub fn ended<E: Write>(
     done: Result<Status, Stop<'_>>,
     why: &Why,
@@ -245,7 +245,19 @@ pub fn ended<E: Write>(
     ensures { Ends explain (λ status. done.entry ≡ Ok status) (λ reason. done.entry ≡ Err reason)
         (E.contents errors.old) (E.contents errors.new) result }
 {
-    told(done, why.lines_if(explain), errors)
+    let more = tells_more(explain, &done);
+    told(done, why.lines_if(more), errors)
+}
+
+/// Whether more is told behind the reason's line: where it is to `explain`, unless memory ran out or standard output takes no
+/// text.
+fn tells_more(explain: bool, done: &Result<Status, Stop<'_>>) -> bool
+    ensures { result ≡ tells_more explain done.now }
+{
+    match done {
+        Err(Stop::Memory | Stop::Output) => false,
+        Ok(_) | Err(_) => explain,
+    }
 }
 
 /// Tells why, and then more.

@@ -1,6 +1,6 @@
 //! Where a job's files are read and written.
 ghost use Rattle.std.specs.Io.KnownBytes.{Consumes, IsAtEnd};
-ghost use Rattle.std.specs.Prelude.{◌≡◌, IfOk, None, OnOk};
+ghost use Rattle.std.specs.Prelude.{◌≡◌, ◌≤◌, ◌<◌, IfOk, None, OnOk, length};
 ghost use Rattle.std.specs.IoError.{error_kind};
 ghost use Rattle.commands.specs.Ending.{store_error_of};
 ghost use Rattle.commands.specs.declared.store.StoreError.TheVariants as store_error;
@@ -71,8 +71,9 @@ pub trait Store {
     // what the system said of the last call, where that failed and the system said why
     ghost failure: { Self → Option ErrorKind } = { λ _. None };
 
-    /// The bytes of the file at `path`.
-    fn read(&mut self, alloc: Global, path: &str) -> Result<Vec<u8>, StoreError>
+    /// The bytes of the file at `path`. Of those behind the first `most` of them none are needed, so a store that does not say
+    /// what it holds may leave them out.
+    fn read(&mut self, alloc: Global, path: &str, most: usize) -> Result<Vec<u8>, StoreError>
         ensures bytes { MatchResult result
             (λ bytes. (files_of (held self.old)).holds path.now bytes.items)
             ((files_of (held self.old)).unread path.now) }
@@ -125,8 +126,8 @@ impl<'a, R> Disk<'a, R> {
 impl<'a, R: Files> Store for Disk<'a, R> {
     ghost failure = { λ disk. disk.failure };
 
-    fn read(&mut self, alloc: Global, path: &str) -> Result<Vec<u8>, StoreError> {
-        let came = read_file(self.rt, alloc, path);
+    fn read(&mut self, alloc: Global, path: &str, most: usize) -> Result<Vec<u8>, StoreError> {
+        let came = read_file(self.rt, alloc, path, most);
         self.kept(came)
     }
 
@@ -140,37 +141,52 @@ impl<'a, R: Files> Store for Disk<'a, R> {
     }
 }
 
-/// The bytes of the file of the system at a path.
-fn read_file<R: Files>(rt: &R, alloc: Global, path: &str) -> io::Result<Vec<u8>> {
+/// The bytes of the file of the system at a path, at most so many.
+fn read_file<R: Files>(rt: &R, alloc: Global, path: &str, most: usize) -> io::Result<Vec<u8>>
+    ensures { IfOk result (λ bytes. length bytes.items ≤ most) }
+{
     let mut file = fs::open(rt, path)?;
-    read_to_end(alloc, &mut file, MOST_READS)
+    read_up_to(alloc, &mut file, MOST_READS, most)
 }
 
-/// Makes a file of the system at a path.
-fn write_file<R: Files>(rt: &R, path: &str, bytes: &[u8]) -> io::Result<()> {
-    let mut file = fs::create(rt, path)?;
-    file.write_all(bytes)
-}
-
-/// All bytes that the reader gives, in at most `reads` reads, of which the last one finds its end.
-pub fn read_all<R: Read>(alloc: Global, reader: &mut R, reads: u64) -> Result<Vec<u8>, StoreError>
+/// The first bytes that a reader gives, at most `most` of them, in at most `reads` reads. Where there are fewer, the last of
+/// these finds the end.
+pub fn read_some<R: Read>(
+    alloc: Global,
+    reader: &mut R,
+    reads: u64,
+    most: usize,
+) -> Result<Vec<u8>, StoreError>
     ensures bytes { IfOk result (λ bytes.
         Consumes (R.remaining reader.old) (R.remaining reader.new) bytes.items) }
-    ensures end { OnOk result (IsAtEnd (R.remaining reader.new)) }
+    ensures most { IfOk result (λ bytes. length bytes.items ≤ most) }
+    ensures end { IfOk result (λ bytes. length bytes.items < most
+        → IsAtEnd (R.remaining reader.new)) }
 {
-    Ok(read_to_end(alloc, reader, reads)?)
+    Ok(read_up_to(alloc, reader, reads, most)?)
 }
 
 /// The same, with what the system says where it fails.
-fn read_to_end<R: Read>(alloc: Global, reader: &mut R, reads: u64) -> io::Result<Vec<u8>>
+fn read_up_to<R: Read>(
+    alloc: Global,
+    reader: &mut R,
+    reads: u64,
+    most: usize,
+) -> io::Result<Vec<u8>>
     ensures bytes { IfOk result (λ bytes.
         Consumes (R.remaining reader.old) (R.remaining reader.new) bytes.items) }
-    ensures end { OnOk result (IsAtEnd (R.remaining reader.new)) }
+    ensures most { IfOk result (λ bytes. length bytes.items ≤ most) }
+    ensures end { IfOk result (λ bytes. length bytes.items < most
+        → IsAtEnd (R.remaining reader.new)) }
 {
     let mut bytes = Vec::new(alloc);
     let mut chunk = [0u8; 4096];
     for _ in 0..reads {
-        match reader.read(&mut chunk) {
+        let room = (most - bytes.len()).min(4096);
+        if room == 0 {
+            return Ok(bytes);
+        }
+        match reader.read(&mut chunk[..room]) {
             Ok(0) => return Ok(bytes),
             Ok(n) => bytes.extend_from_slice(&chunk[..n])?,
             Err(error) if error.kind() == ErrorKind::Interrupted => {}
@@ -178,4 +194,10 @@ fn read_to_end<R: Read>(alloc: Global, reader: &mut R, reads: u64) -> io::Result
         }
     }
     Err(io::Error::from(ErrorKind::FileTooLarge))
+}
+
+/// Makes a file of the system at a path.
+fn write_file<R: Files>(rt: &R, path: &str, bytes: &[u8]) -> io::Result<()> {
+    let mut file = fs::create(rt, path)?;
+    file.write_all(bytes)
 }

@@ -7,6 +7,7 @@ use crate::stop::Stop;
 use cert_note::CertError;
 use elf_image::ElfError;
 use job_file::JobError;
+use job_reasons::Escaped;
 use monitor::MonError;
 use region_mem::Digits;
 use sandbox_run::OpenError;
@@ -124,7 +125,10 @@ impl fmt::Display for Stop<'_> {
     fn fmt<W: fmt::Write>(&self, f: &mut fmt::Formatter<W>) -> fmt::Result {
         match self {
             Stop::Job(error) => writeln!(f, "job: {}", job_error_name(*error)),
-            Stop::File(path) => writeln!(f, "file: {path}"),
+            Stop::File(path) => {
+                let path = Escaped(*path);
+                writeln!(f, "file: {path}")
+            }
             Stop::Image(error) => writeln!(f, "refused: {}", image_error_name(*error)),
             Stop::NoCertificate => writeln!(f, "refused: NoCertificate"),
             Stop::Certificate(error) => writeln!(f, "refused: {}", certificate_error_name(*error)),

@@ -1,19 +1,23 @@
 //! What comes of a run: how it ended, how that is told, and which status the program has then.
-ghost use Rattle.std.specs.Prelude.{◌≡◌, IfErr, IfOk, OnOk, map};
+ghost use Rattle.std.specs.Prelude.{◌≡◌, ◌++◌, IfErr, IfOk, OnOk, map};
 ghost use Rattle.std.specs.Io.KnownBytes.{Appends};
 ghost use Rattle.job_file.specs.Needs.{run_param_lent};
 ghost use Rattle.commands.specs.Ending.{status_of_end};
 ghost use Rattle.commands.specs.Files.{IsUnfinished, files_of, outs_of};
-ghost use Rattle.commands.specs.Trial.{line_of};
+ghost use Rattle.commands.specs.Trial.{line_of, shown_of};
 ghost use Rattle.commands.specs.Written.{Gains};
+ghost use Rattle.commands.specs.declared.stop.Stop.TheVariants.{Memory};
 
 use crate::files::write_outs;
+use crate::registers::put_state;
 use crate::stop::{Status, Stop};
 use crate::store::Store;
 use crate::why::Why;
 use job_file::RunParam;
 use region_mem::{Args, Digits, Fault};
-use sandbox_run::Final;
+use rv_listing::Over;
+use sandbox_run::{Final, Registers};
+use std::alloc::Global;
 use std::io;
 use std::io::Write;
 
@@ -25,49 +29,101 @@ pub enum End {
     OutOfSteps,
 }
 
-/// What came of a run: how it ended, after how many steps, and the arguments as they then stood.
+/// What came of a run: how it ended, after how many steps, and the arguments and the registers as they then stood, of which
+/// a vector register has `vlenb` bytes.
 #[derive(Drop)]
 pub struct Trial {
     end: End,
     steps: u64,
     pub args: Args,
+    registers: Registers,
+    vlenb: usize,
 }
 
 /// The run that ended so, in its last state.
 pub fn trial_at<const VLENB: usize>(end: End, last: Final<VLENB>) -> Trial
-    ensures { result ≡ record { end = end; steps = last.entry.steps; args = last.entry.args } }
+    ensures { result ≡ record {
+      end = end;
+      steps = last.entry.steps;
+      args = last.entry.args;
+      registers = last.entry.registers;
+      vlenb = VLENB;
+    } }
 {
-    let Final { steps, args, .. } = last;
-    Trial { end, steps, args }
+    let Final {
+        steps,
+        registers,
+        args,
+        ..
+    } = last;
+    Trial {
+        end,
+        steps,
+        args,
+        registers,
+        vlenb: VLENB,
+    }
 }
 
 impl Trial {
     /// A run that ended.
-    pub fn ended(steps: u64, args: Args) -> Trial
-        ensures { result ≡ record { end = End.Ended; steps = steps; args = args } }
+    pub fn ended(steps: u64, registers: Registers, vlenb: usize, args: Args) -> Trial
+        ensures { result ≡ record {
+          end = End.Ended;
+          steps = steps;
+          args = args;
+          registers = registers;
+          vlenb = vlenb;
+        } }
     {
         Trial {
             end: End::Ended,
             steps,
             args,
+            registers,
+            vlenb,
         }
     }
 
-    /// Prints how the run ended.
-    pub fn print<O: Write>(&self, output: &mut O) -> io::Result<()>
+    /// The lines that show the registers as `mon` does, where they are `asked` for.
+    pub fn shown<'a>(&self, alloc: Global, asked: bool) -> Result<Vec<u8>, Stop<'a>>
+        ensures shown { IfOk result (λ text. text.items ≡ shown_of asked self.now) }
+        ensures memory { IfErr result (λ reason. reason ≡ Memory) }
+    {
+        if !asked {
+            return Ok(Vec::new(alloc));
+        }
+        let mut text = Over::new(Vec::new(alloc));
+        match put_state(&mut text, &self.registers, self.vlenb) {
+            Ok(()) => Ok(text.into_inner()),
+            Err(_) => Err(Stop::Memory),
+        }
+    }
+
+    /// Prints the line that tells how the run ended.
+    fn print_line<O: Write>(&self, output: &mut O) -> io::Result<()>
         ensures { OnOk result
             (Appends (O.contents output.old) (O.contents output.new) (line_of self.now)) }
     {
         let steps = self.steps;
         match self.end {
-            End::Ended => writeln!(output, "ended: {steps} steps")?,
+            End::Ended => writeln!(output, "ended: {steps} steps"),
             End::Trapped(fault) => {
                 let name = fault.name();
                 let at = Digits(u64::from(fault.number()));
-                writeln!(output, "trapped: {name} {at} after {steps} steps")?;
+                writeln!(output, "trapped: {name} {at} after {steps} steps")
             }
-            End::OutOfSteps => writeln!(output, "out of steps: {steps}")?,
+            End::OutOfSteps => writeln!(output, "out of steps: {steps}"),
         }
+    }
+
+    /// Prints how the run ended, and behind it these lines.
+    fn print<O: Write>(&self, shown: &[u8], output: &mut O) -> io::Result<()>
+        ensures { OnOk result (Appends (O.contents output.old) (O.contents output.new)
+            (line_of self.now ++ shown.now)) }
+    {
+        self.print_line(output)?;
+        output.write_all(shown)?;
         output.flush()
     }
 
@@ -82,17 +138,18 @@ impl Trial {
     }
 }
 
-/// Writes the out files of a run by place, and then prints how it ended.
+/// Writes the out files of a run by place, and then prints how it ended, and behind it these lines.
 pub fn finish<'a, S: Store, O: Write>(
     params: &[RunParam<&'a str>; 8],
     trial: &Trial,
+    shown: &[u8],
     store: &mut S,
     output: &mut O,
     why: &mut Why,
 ) -> Result<Status, Stop<'a>>
     ensures done { IfOk result (λ status. status ≡ status_of_end trial.now.end) }
-    ensures told { OnOk result
-        (Appends (O.contents output.old) (O.contents output.new) (line_of trial.now)) }
+    ensures told { OnOk result (Appends (O.contents output.old) (O.contents output.new)
+        (line_of trial.now ++ shown.now)) }
     ensures wrote { OnOk result (Gains (S.held store.old) (S.held store.new)
         (outs_of (map run_param_lent params.now) trial.now.args.places)) }
     ensures unfinished { IfErr result
@@ -100,7 +157,7 @@ pub fn finish<'a, S: Store, O: Write>(
         (map run_param_lent params.now) trial.now.args.places) }
 {
     write_outs(params, &trial.args.places, store, why)?;
-    match trial.print(output) {
+    match trial.print(shown, output) {
         Ok(()) => Ok(trial.status()),
         Err(_) => {
             why.forget();

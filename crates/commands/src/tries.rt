@@ -15,7 +15,7 @@ use crate::starts::on_table;
 use crate::stop::{Ending, Status, Stop};
 use crate::store::Store;
 use crate::trial::{End, Trial, finish, trial_at};
-use crate::why::{Missing, Why, note_argument, note_trap};
+use crate::why::{Missing, Why, note_argument, note_place};
 use elf_image::Image;
 use job_file::{JobError, RunParam, TryJob, TryParam, try_job_in};
 use job_reasons::Command;
@@ -32,18 +32,21 @@ use vreg_groups::Vlen;
 /// In this order, up to the first that is refused or fails, which is told: the job file, the job, the image file, the
 /// image, the parameters' files by place, the parameters, the run, the out files by place, the printed line.
 ///
-/// Where it is to `explain`, more of why it stops is told behind the reason's line.
+/// Where it is to `explain`, more of why it stops is told behind the reason's line. Where `registers` are asked for, those that
+/// the run left are printed behind its line, as `mon` shows them.
 pub fn try_job<S: Store, O: Write, E: Write>(
     alloc: Global,
     path: &str,
     explain: bool,
+    registers: bool,
     store: &mut S,
     output: &mut O,
     errors: &mut E,
 ) -> Ending
     ensures { Ends explain
         (OfTable (files_of (S.held store.old)) path.now (λ table.
-        Tries (files_of (S.held store.old)) table (O.contents output.old) (O.contents output.new)
+        Tries (files_of (S.held store.old)) registers table
+        (O.contents output.old) (O.contents output.new)
         (S.held store.old) (S.held store.new)))
         (StopsOfTable (files_of (S.held store.old))
         (Gains (S.held store.old) (S.held store.new)) path.now
@@ -51,19 +54,20 @@ pub fn try_job<S: Store, O: Write, E: Write>(
         (E.contents errors.old) (E.contents errors.new) result }
 {
     on_table!(alloc, path, Command::Try, explain, store, errors; table, why =>
-        try_table(alloc, table, store, output, why))
+        try_table(alloc, table, registers, store, output, why))
 }
 
 /// `try` on a job's table.
 fn try_table<'a, S: Store, O: Write>(
     alloc: Global,
     table: &'a Table,
+    registers: bool,
     store: &mut S,
     output: &mut O,
     why: &mut Why,
 ) -> Result<Status, Stop<'a>>
     ensures { MatchResult result
-        (Tries (files_of (S.held store.old)) (table_view table.entry.now)
+        (Tries (files_of (S.held store.old)) registers (table_view table.entry.now)
         (O.contents output.old) (O.contents output.new) (S.held store.old) (S.held store.new))
         (StopsTry (files_of (S.held store.old)) (Gains (S.held store.old) (S.held store.new))
         (table_view table.entry.now)) }
@@ -74,7 +78,8 @@ fn try_table<'a, S: Store, O: Write>(
     let passed = passed_params(&job.params);
     let args = read_args(alloc, &passed, store, why)?;
     let trial = run_tried(alloc, &job, &image, args, why)?;
-    finish(&passed, &trial, store, output, why)
+    let shown = trial.shown(alloc, registers)?;
+    finish(&passed, &trial, shown.as_slice(), store, output, why)
 }
 
 /// Runs a job on an image and on arguments, at the job's length of vector registers, setting and number of steps.
@@ -154,10 +159,13 @@ fn run<'a, const VLENB: usize>(
     match try_run::<VLENB>(alloc, image, parameters, args, job.agnostic, job.max) {
         Ok(Outcome::Ended(last)) => Ok(trial_at(End::Ended, last)),
         Ok(Outcome::Trapped(fault, last)) => {
-            note_trap(alloc, image, fault, last.registers.pc, why);
+            note_place(alloc, image, Some(fault), last.registers.pc, why);
             Ok(trial_at(End::Trapped(fault), last))
         }
-        Ok(Outcome::OutOfSteps(last)) => Ok(trial_at(End::OutOfSteps, last)),
+        Ok(Outcome::OutOfSteps(last)) => {
+            note_place(alloc, image, None, last.registers.pc, why);
+            Ok(trial_at(End::OutOfSteps, last))
+        }
         Err((error, args)) => {
             note_argument(parameters, &args, 0, job.max, error, why);
             Err(Stop::from(error))

@@ -1,6 +1,10 @@
 //! What more is told of why a subcommand stops, where that is asked for.
-ghost use Rattle.std.specs.Prelude.{◌≡◌, [], false};
-ghost use Rattle.commands.specs.Why.{Notes};
+ghost use Rattle.std.specs.Prelude.{◌≡◌, [], false, IfSome};
+ghost use Rattle.block_checker.specs.Bound.{bound_of, scalar_of, scalars_of};
+ghost use Rattle.elf_image.specs.Image.{code_at};
+ghost use Rattle.rv_listing.specs.Listing.{listing_text};
+ghost use Rattle.commands.specs.Why.{IsNoted, Notes, open_lines, place_lines, place_text};
+ghost use Rattle.commands.specs.Why.{stop_lines};
 
 use block_checker::{Accepted, CheckError};
 use cert_maker::MakeError;
@@ -10,7 +14,7 @@ use elf_image::{ElfError, Image};
 use explanations::{Refusal, attach_reason, certificate_reason, image_reason, word_reason};
 use job_reasons::{Command, job_reason};
 use open_reasons::open_reason;
-use region_mem::{Arg, Args, Fault, Parameters};
+use region_mem::{Arg, Args, Digits, Fault, Parameters};
 use rv_listing::{Over, put_listing};
 use sandbox_run::OpenError;
 use std::alloc::Global;
@@ -46,9 +50,10 @@ impl Why {
         self.asked
     }
 
-    /// Notes lines in place of those before.
+    /// Notes lines in place of those before, where memory suffices.
     pub fn note<T: fmt::Display>(&mut self, lines: &T)
-        ensures { Notes self.old self.new }
+        ensures notes { Notes self.old self.new }
+        ensures noted { IsNoted (T.output lines.now) self.old self.new }
     {
         if self.asked {
             if let Ok(text) = format!(in self.alloc; "{lines}") {
@@ -86,35 +91,71 @@ impl fmt::Display for FileReason {
     }
 }
 
-/// Where a run met a fault: its pc, and the listing of the word there.
-#[derive(Drop)]
-struct Trap<'a> {
+/// Where a run stopped: its pc, and the listing of the word there, where one can be fetched.
+#[derive(Clone, Copy)]
+struct Place<'a> {
     pc: u32,
-    listing: &'a str,
+    listing: Option<&'a str>,
 }
 
-impl fmt::Display for Trap<'_> {
+impl fmt::Display for Place<'_> {
+    ghost use Rattle.std.specs.Prelude.{Some};
+    ghost use Rattle.commands.specs.Why.{place_text};
+
+    ghost output = { λ place. Some (place_text place) };
+
     fn fmt<W: fmt::Write>(&self, f: &mut fmt::Formatter<W>) -> fmt::Result {
-        let Trap { pc, listing } = self;
-        writeln!(f, "  pc {pc:08x}: {listing}")
+        let pc = Digits(u64::from(self.pc));
+        match self.listing {
+            Some(listing) => writeln!(f, "  pc {pc}: {listing}"),
+            None => writeln!(f, "  pc {pc}: no code"),
+        }
     }
 }
 
-/// Notes which fault a run of an image met, and where.
-pub fn note_trap(alloc: Global, image: &Image, fault: Fault, pc: u32, why: &mut Why)
-    ensures { Notes why.old why.new }
+/// Notes where a run stopped, and the fault that it met there, if it did.
+fn note_reason(reason: &Place<'_>, fault: Option<Fault>, why: &mut Why)
+    ensures notes { Notes why.old why.new }
+    ensures noted { IsNoted (stop_lines fault (place_text reason.now)) why.old why.new }
 {
-    let mut listing = Over::new(Vec::new(alloc));
-    if let Some(word) = image.code_at(pc) {
-        let _put = put_listing(&mut listing, word, pc);
+    match fault {
+        Some(error) => why.note(&Refusal {
+            error,
+            reason: *reason,
+        }),
+        None => why.note(reason),
     }
-    let listing = listing.into_inner();
-    let listing = std::str::from_utf8(listing.as_slice()).unwrap_or("");
-    let reason = Trap { pc, listing };
-    why.note(&Refusal {
-        error: fault,
-        reason,
-    });
+}
+
+/// The listing of a word at an address, where memory suffices.
+fn listing(alloc: Global, word: u32, pc: u32) -> Option<Vec<u8>>
+    ensures { IfSome result (λ text. text.items ≡ listing_text pc word) }
+{
+    let mut text = Over::new(Vec::new(alloc));
+    match put_listing(&mut text, word, pc) {
+        Ok(()) => Some(text.into_inner()),
+        Err(_) => None,
+    }
+}
+
+/// Notes where a run of an image stopped, and the fault that it met there, if it did.
+pub fn note_place(alloc: Global, image: &Image, fault: Option<Fault>, pc: u32, why: &mut Why)
+    ensures notes { Notes why.old why.new }
+    ensures noted { IsNoted (place_lines image.now fault pc) why.old why.new }
+{
+    let Some(word) = image.code_at(pc) else {
+        let reason = Place { pc, listing: None };
+        return note_reason(&reason, fault, why);
+    };
+    if let Some(text) = listing(alloc, word, pc) {
+        if let Ok(text) = std::str::from_utf8(text.as_slice()) {
+            let reason = Place {
+                pc,
+                listing: Some(text),
+            };
+            note_reason(&reason, fault, why);
+        }
+    }
 }
 
 /// What is wanted and is not there.
@@ -218,12 +259,25 @@ pub fn note_misfit(alloc: Global, image: &Image, error: MakeError, why: &mut Why
     }
 }
 
-/// The number of a scalar argument.
-fn scalar_of(arg: &Arg) -> u32 {
+/// The number of a scalar argument, and 0 of any other.
+fn scalar_of(arg: &Arg) -> u32
+    ensures { result ≡ scalar_of arg.now }
+{
     match arg {
         Arg::None | Arg::Buffer(_) => 0,
         Arg::Scalar(number) => *number,
     }
+}
+
+/// The numbers of scalar arguments, by place.
+fn scalars(places: &[Arg; 8]) -> [u32; 8]
+    ensures { result ≡ scalars_of places.now }
+{
+    let mut made = [0; 8];
+    for place in 0..8 {
+        made[place] = scalar_of(&places[place]);
+    }
+    made
 }
 
 /// Notes why a run is not opened: of the arguments or of the bound. Nothing is told where memory ran out.
@@ -235,7 +289,9 @@ pub fn note_argument(
     error: OpenError,
     why: &mut Why,
 )
-    ensures { Notes why.old why.new }
+    ensures notes { Notes why.old why.new }
+    ensures noted { IsNoted (open_lines parameters.now args.now.places bound max error)
+        why.old why.new }
 {
     if why.is_asked() && error != OpenError::NoMemory {
         let reason = open_reason(parameters, args, bound, max, error);
@@ -245,14 +301,13 @@ pub fn note_argument(
 
 /// Notes why no run of an accepted image is opened.
 pub fn note_open(accepted: &Accepted, args: &Args, max: u64, error: OpenError, why: &mut Why)
-    ensures { Notes why.old why.new }
+    ensures notes { Notes why.old why.new }
+    ensures noted { IsNoted (open_lines accepted.now.certificate.parameters args.now.places
+        (bound_of accepted.now (scalars_of args.now.places)) max error)
+        why.old why.new }
 {
     if why.is_asked() {
-        let mut scalars = [0; 8];
-        for place in 0..8_usize {
-            scalars[place] = scalar_of(&args.places[place]);
-        }
-        let bound = accepted.bound(&scalars);
+        let bound = accepted.bound(&scalars(&args.places));
         note_argument(accepted.parameters(), args, bound, max, error, why);
     }
 }

@@ -19,6 +19,7 @@ use Rattle.job_file.specs.declared.keys.JobTable.TheVariants as table
 use Rattle.job_file.specs.declared.values.Job.{Job}
 use Rattle.job_file.specs.declared.values.JobParam.{JobParam}
 use Rattle.job_file.specs.declared.values.JobParam.TheVariants as param
+use Rattle.job_reasons.specs.Escaped.{escaped_text}
 use Rattle.job_reasons.specs.declared.job.Command.{Command}
 use Rattle.job_reasons.specs.declared.job.Command.TheVariants as command
 use Rattle.job_reasons.specs.declared.job.JobReason.{JobReason}
@@ -78,12 +79,25 @@ is_taken command.Mon ms = is_some (run_job_in ms)
 is_taken command.Try ms = is_some (try_job_in ms)
 is_taken command.Make ms = is_some (make_job_in ms)
 
--- a command lacks this key of a table
+-- the first key that a command lacks of the parameter at a place
+abbrev pub place_lacks : Command → List (JobParam Text) → ℕ → Option JobKey
+place_lacks c params place = param_lacks c (slice_index_or params place param.None)
+
+-- the parameters before a place lack none
+abbrev pub LackNone : Command → List (JobParam Text) → ℕ → Type 0
+LackNone c params end = (place : ℕ) → place < end → place_lacks c params place ≡ None
+
+-- of what a command lacks, this key of this table is the first
 abbrev pub IsLacked : Command → JobTable → JobKey → Option (Job Text) → Type 0
 IsLacked c t k None = ⊥
 IsLacked c table.Job k (Some j) = job_lacks c j ≡ Some k
-IsLacked c (table.Param place) k (Some j) =
-    (place < 8) × (param_lacks c (slice_index_or j.params place param.None) ≡ Some k)
+IsLacked c (table.Param place) k (Some j) = (place < 8) × (place_lacks c j.params place ≡ Some k)
+    × (job_lacks c j ≡ None) × LackNone c j.params place
+
+-- a job of which a command lacks no key
+abbrev pub LacksNone : Command → Option (Job Text) → Type 0
+LacksNone c None = ⊥
+LacksNone c (Some j) = (job_lacks c j ≡ None) × LackNone c j.params 8
 
 -- a breach with a text of its own
 abbrev pub breach_kept : JobBreach (String Global) → Breach
@@ -94,7 +108,7 @@ breach_kept breach.TooMany = breach.TooMany
 -- what is told of a table: nothing exactly where the command takes it
 abbrev pub IsTableReason : Command → Members → Option JobReason → Type 0
 IsTableReason c ms None = is_taken c ms ≡ true
-IsTableReason c ms (Some reason.Broken) = is_taken c ms ≡ false
+IsTableReason c ms (Some reason.Broken) = (is_taken c ms ≡ false) × LacksNone c (job_of ms)
 IsTableReason c ms (Some (reason.Missing t k d)) =
     (d ≡ c) × (is_taken c ms ≡ false) × IsLacked c t k (job_of ms)
 IsTableReason c ms (Some (reason.Breach b)) =
@@ -154,10 +168,10 @@ command_name command.Make = codes "make"
 abbrev pub needs_text : JobKey → Command → List ℕ
 needs_text k c = command_name c ++ (codes " needs " ++ key_name k)
 
--- a breach with a text of its own
+-- a breach with a text of its own, which is the user's
 abbrev pub kept_text : JobBreach (String Global) → List ℕ
 kept_text (breach.Wrong t k) = wrong_text t k
-kept_text (breach.Unknown t name) = unknown_text t (string_bytes name)
+kept_text (breach.Unknown t name) = unknown_text t (escaped_text (string_bytes name))
 kept_text breach.TooMany = too_many_text
 
 -- the lines of a reason

@@ -1,16 +1,16 @@
 //! Why a job is refused: where its text is no TOML, or which key the command lacks.
 ghost use Rattle.std.specs.Prelude.{◌≡◌, ◌<◌, ◌≤◌, ◌+◌, ◌^◌, IfOk, IfSome, Some};
-ghost use Rattle.std.specs.Prelude.{length, slice_index_or, take};
+ghost use Rattle.std.specs.Prelude.{IfNone, length, map, take};
 ghost use Rattle.job_file.specs.Job.{breach_lent, job_lent, param_lent};
-ghost use Rattle.job_file.specs.declared.values.JobParam.TheVariants as param_kind;
 ghost use Rattle.toml.specs.View.{table_view};
-ghost use Rattle.job_reasons.specs.Job.{IsJobReason, IsTableReason, breach_kept, is_taken};
-ghost use Rattle.job_reasons.specs.Job.{job_lacks, lacked_of, make_lacks, param_lacks, run_lacks};
-ghost use Rattle.job_reasons.specs.Job.{try_lacks};
+ghost use Rattle.job_reasons.specs.Job.{IsJobReason, IsTableReason, LackNone, breach_kept};
+ghost use Rattle.job_reasons.specs.Job.{is_taken, job_lacks, lacked_of, make_lacks, param_lacks};
+ghost use Rattle.job_reasons.specs.Job.{place_lacks, run_lacks, try_lacks};
 ghost use Rattle.job_reasons.specs.Job.{begins_character, column_behind, line_behind, lines_in};
 ghost use Rattle.job_reasons.specs.Job.{next_column as next_column_of};
 ghost use Rattle.job_reasons.specs.declared.job.JobReason.TheVariants as reason;
 
+use crate::escaped::Escaped;
 use job_file::{Job, JobBreach, JobKey, JobParam, JobTable, kept_job_in};
 use std::alloc::{AllocError, Global};
 use std::fmt;
@@ -123,8 +123,9 @@ fn param_lacks(command: Command, param: JobParam<&str>) -> Option<JobKey>
 /// The first parameter of which a command lacks a key, and that key.
 fn params_lack(command: Command, params: [JobParam<&str>; 8]) -> Option<(usize, JobKey)>
     ensures found { IfSome result (λ m. (m.0 < 8)
-        × (param_lacks command (param_lent (slice_index_or params.entry m.0 param_kind.None))
-        ≡ Some m.1)) }
+        × (place_lacks command (map param_lent params.entry) m.0 ≡ Some m.1)
+        × LackNone command (map param_lent params.entry) m.0) }
+    ensures none { IfNone result (LackNone command (map param_lent params.entry) 8) }
 {
     for place in 0..8 {
         if let Some(key) = param_lacks(command, params[place]) {
@@ -326,7 +327,6 @@ impl fmt::Display for JobReason {
 
     ghost output = { λ reason. Some (job_text reason) };
 
-    #[tactic(auto, using(crate::proofs::JobLemmas::breach_has_text))]
     fn fmt<W: fmt::Write>(&self, f: &mut fmt::Formatter<W>) -> fmt::Result {
         match self {
             JobReason::NotUtf8(byte) => writeln!(f, "  not UTF-8 from byte {byte} on"),
@@ -351,6 +351,12 @@ impl fmt::Display for JobReason {
                 let wanted = key.wanted();
                 write!(f, "  {command} needs {name}")?;
                 writeln!(f, " in {table}: {wanted}")
+            }
+            JobReason::Breach(JobBreach::Unknown { table, key }) => {
+                let table = *table;
+                let key = Escaped(key.as_str());
+                let breach = JobBreach::Unknown { table, key };
+                writeln!(f, "  {breach}")
             }
             JobReason::Breach(breach) => writeln!(f, "  {breach}"),
         }

@@ -58,7 +58,7 @@ impl Shelf {
 impl Store for Shelf {
     ghost failure = { λ shelf. shelf.last };
 
-    fn read(&mut self, alloc: Global, path: &str) -> Result<Vec<u8>, StoreError> {
+    fn read(&mut self, alloc: Global, path: &str, _most: usize) -> Result<Vec<u8>, StoreError> {
         self.log(": read ", path)?;
         self.last = Some(io::ErrorKind::NotFound);
         if self.fails(path) {

@@ -10,19 +10,37 @@ use commands::{Ending, MakePaths, Status, Stop};
 use std::alloc::AllocError;
 use std::io::Write;
 
-/// What a command line asks for: a subcommand with its paths, and whether more of why it stops is told.
+/// What a command line asks for: a subcommand with its paths, whether more of why it stops is told, and, of a run, whether the
+/// registers that it left are.
 #[derive(Drop)]
 pub enum Line<'a> {
     /// Checks the image at `image` against its certificate.
-    Check { image: &'a str, explain: bool },
+    Check {
+        image: &'a str,
+        explain: bool,
+    },
     /// Checks the image of the job at `job`, and runs it if it is accepted.
-    Run { job: &'a str, explain: bool },
+    Run {
+        job: &'a str,
+        explain: bool,
+        registers: bool,
+    },
     /// Runs the image of the job at `job`, accepted or not, with every test at each step.
-    Try { job: &'a str, explain: bool },
+    Try {
+        job: &'a str,
+        explain: bool,
+        registers: bool,
+    },
     /// Checks the image of the job at `job`, and answers commands on its run if it is accepted.
-    Mon { job: &'a str, explain: bool },
+    Mon {
+        job: &'a str,
+        explain: bool,
+    },
     /// Makes the certificate of an image for a job, and writes the image with it.
-    Make { paths: MakePaths<'a>, explain: bool },
+    Make {
+        paths: MakePaths<'a>,
+        explain: bool,
+    },
 }
 
 /// Why a command line asks for nothing that can be done.

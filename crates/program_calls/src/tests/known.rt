@@ -17,6 +17,19 @@ param = [{ kind = \"none\" }, { kind = \"none\" }, { kind = \"none\" }, { kind =
     { kind = \"buffer\", mode = \"r\", file = \"a7.bin\" }]
 ";
 
+/// What `try` tells of the run of one instruction, with the registers.
+const SHOWN: &str = "ended: 1 steps
+x00=00000000 x01=fffffff0 x02=30000000 x03=00000000
+x04=00000000 x05=00000000 x06=00000000 x07=00000000
+x08=00000000 x09=00000000 x10=00000000 x11=00000000
+x12=00000000 x13=00000000 x14=00000000 x15=00000000
+x16=00000000 x17=00000000 x18=00000000 x19=00000000
+x20=00000000 x21=00000000 x22=00000000 x23=00000000
+x24=00000000 x25=00000000 x26=00000000 x27=00000000
+x28=00000000 x29=00000000 x30=00000000 x31=00000000
+pc=fffffff0 vl=0 vtype=80000000 vxrm=0 vxsat=0 vlenb=16
+";
+
 /// An image, and a job on it.
 fn files(rt: impl Abort + Copy, alloc: Global) -> Memory {
     let mut memory = Memory::new(alloc);
@@ -46,10 +59,17 @@ fn checks_runs_and_tries_files_in_memory(rt: HostRuntime) {
         Status::Done,
         "accepted: bound 1 + 0 * x0\n",
     );
-    let ending = run_memory(alloc, "one.toml", &mut memory, &mut two, &mut errors);
+    let ending = run_memory(alloc, "one.toml", false, &mut memory, &mut two, &mut errors);
     expect(rt, ending, &two, Status::Done, "ended: 1 steps\n");
-    let ending = try_memory(alloc, "one.toml", &mut memory, &mut three, &mut errors);
-    expect(rt, ending, &three, Status::Done, "ended: 1 steps\n");
+    let ending = try_memory(
+        alloc,
+        "one.toml",
+        true,
+        &mut memory,
+        &mut three,
+        &mut errors,
+    );
+    expect(rt, ending, &three, Status::Done, SHOWN);
     assert!(rt; errors.is_empty());
 }
 
@@ -101,6 +121,16 @@ fn tells_the_first_place_whose_file_is_not_read(rt: HostRuntime) {
 }
 
 #[test]
+fn tells_control_characters_by_their_codes(rt: HostRuntime) {
+    let alloc = rt.alloc();
+    let mut memory = files(rt, alloc);
+    let job = "image = \"a\\n\\u001b\\u009b.elf\"\nvlen = 128\nagnostic = \"keep\"\nmax = 1\n";
+    given!(rt; memory.write("two.toml", job.as_bytes()));
+    let none = "file: a\\u{a}\\u{1b}\\u{9b}.elf\n";
+    refuses(rt, alloc, &mut memory, "rvvbox try two.toml", none);
+}
+
+#[test]
 fn writes_no_file_that_is_refused(rt: HostRuntime) {
     let mut memory = Memory::new(rt.alloc());
     given!(rt; memory.write("one", b"1".as_slice()));
@@ -108,6 +138,29 @@ fn writes_no_file_that_is_refused(rt: HostRuntime) {
     given!(rt; memory.refuse_writes("one"));
     assert!(rt; memory.write("one", b"3".as_slice()).is_err());
     assert!(rt; memory.get("one") == Some(b"2".as_slice()));
+}
+
+/// Asserts that two lines print the same, and that it is something.
+fn alike(rt: impl Abort + Copy, alloc: Global, one: &str, other: &str) {
+    let mut memory = Memory::new(alloc);
+    let came = performed(rt, alloc, one, &mut memory, &mut b"".as_slice());
+    let again = performed(rt, alloc, other, &mut memory, &mut b"".as_slice());
+    assert!(rt; came.status == Status::Done && again.status == Status::Done);
+    assert!(rt; came.output.as_slice() == again.output.as_slice() && !came.output.is_empty());
+}
+
+#[test]
+fn tells_help_of_a_subcommand_in_two_ways(rt: HostRuntime) {
+    let alloc = rt.alloc();
+    alike(rt, alloc, "rvvbox help", "rvvbox --help");
+    for (one, other) in [
+        ("rvvbox help check", "rvvbox check --help"),
+        ("rvvbox help run", "rvvbox run --help"),
+        ("rvvbox help mon", "rvvbox mon --help"),
+        ("rvvbox make --version", "rvvbox --version"),
+    ] {
+        alike(rt, alloc, one, other);
+    }
 }
 
 #[test]

@@ -1,6 +1,6 @@
-//! How a file is read to its end.
+//! How a file is read, to its end or to as many bytes as are needed.
 use crate::tests::assertions::given;
-use commands::{MOST_READS, StoreError, read_all, reads_in_numbers};
+use commands::{MOST_READS, StoreError, needs_in_numbers, read_some, reads_in_numbers};
 use std::alloc::Global;
 use std::io;
 use std::io::Read;
@@ -42,32 +42,35 @@ impl Read for Broken {
     }
 }
 
-/// How many bytes are read from a reader that gives so many, in at most eight reads, or why they are not.
-fn read_of(alloc: Global, left: u64) -> Result<usize, StoreError> {
-    Ok(read_all(alloc, &mut Drip { left }, 8)?.len())
+/// How many bytes are read from a reader that gives so many, in at most eight reads and as far as `most`, or why they are not.
+fn read_of(alloc: Global, left: u64, most: usize) -> Result<usize, StoreError> {
+    Ok(read_some(alloc, &mut Drip { left }, 8, most)?.len())
 }
 
 #[test]
 fn reads_to_the_end(rt: HostRuntime) {
-    for (left, answer) in [
-        (7, Ok(7)),
-        (0, Ok(0)),
-        (u64::MAX, Err(StoreError::Failed)),
-        (8, Err(StoreError::Failed)),
+    for (left, most, answer) in [
+        (7, usize::MAX, Ok(7)),
+        (0, 0, Ok(0)),
+        (u64::MAX, usize::MAX, Err(StoreError::Failed)),
+        (8, 9, Err(StoreError::Failed)),
+        (u64::MAX, 7, Ok(7)),
+        (u64::MAX, 0, Ok(0)),
     ] {
-        assert!(rt; read_of(rt.alloc(), left) == answer);
+        assert!(rt; read_of(rt.alloc(), left, most) == answer);
     }
 }
 
 #[test]
 fn reads_so_often_at_most(rt: HostRuntime) {
     reads_in_numbers();
+    needs_in_numbers();
     assert!(rt; MOST_READS == 4_294_967_296);
 }
 
 #[test]
 fn fails_as_the_reader_does(rt: HostRuntime) {
-    let broken = read_all(rt.alloc(), &mut Broken { reads: 0 }, 8).err();
+    let broken = read_some(rt.alloc(), &mut Broken { reads: 0 }, 8, 9).err();
     assert!(rt; broken == Some(StoreError::Failed));
 }
 

@@ -17,7 +17,7 @@ impl Store for Poor {
 
     ghost failure = { λ _. Some NotFound };
 
-    fn read(&mut self, _alloc: Global, _path: &str) -> Result<Vec<u8>, StoreError> {
+    fn read(&mut self, _alloc: Global, _path: &str, _most: usize) -> Result<Vec<u8>, StoreError> {
         Err(StoreError::NoMemory)
     }
 

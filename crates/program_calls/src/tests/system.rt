@@ -84,7 +84,7 @@ fn writes_and_reads<S: Store>(
     bytes: &[u8],
 ) {
     given!(rt; store.write(path, bytes));
-    let read = given!(rt; store.read(alloc, path));
+    let read = given!(rt; store.read(alloc, path, usize::MAX));
     assert!(rt; read.as_slice() == bytes);
 }
 
@@ -94,6 +94,8 @@ fn writes_and_reads_files_of_the_system(rt: HostRuntime) {
     let bytes = given!(rt; large(rt.alloc()));
     let mut disk = Disk::new(&rt);
     writes_and_reads(rt, rt.alloc(), &mut disk, path, &bytes);
+    let first = given!(rt; disk.read(rt.alloc(), path, 4_194_305));
+    assert!(rt; first.len() == 4_194_305 && bytes.as_slice().starts_with(first.as_slice()));
     writes_and_reads(rt, rt.alloc(), &mut disk, path, &[]);
     given!(rt; fs::remove_file(&rt, path));
 }

@@ -12,7 +12,7 @@ returns-in-Ok g c =
     let has = g.S.Store.held c.run_table-done.new.store in
     let out = g.O.Write.contents in
     let came = subst (λ (h : Option Held). MatchResult c.run_table-done.result
-    (Runs (files_of h) (table_view c.in-Ok.table) (out c.args.output.now) (out c.run_table-done.new.output) h has)
+    (Runs (files_of h) c.args.registers (table_view c.in-Ok.table) (out c.args.output.now) (out c.run_table-done.new.output) h has)
     (StopsRun (files_of h) (Gains h has) (table_view c.in-Ok.table)))
     c.in-Ok.ensures.files c.run_table-done.ensures in
     ends_by c.run_table-done.result _ _ c.ended.ensures came (λ s it. (_, c.in-Ok.ensures.table, it)) (λ reason it. inr (_, c.in-Ok.ensures.table, it))

@@ -2,7 +2,7 @@ use Rattle.std.proofs.Common.{rules, ◌≡◌, ◌∙◌, Some, inl, inr, map}
 use Rattle.job_file.specs.Needs.{try_job_in, try_job_lent}
 use Rattle.toml.specs.View.{table_view}
 use Rattle.commands.specs.Tries.{passed_by, trial_of}
-use Rattle.commands.proofs.CommandLemmas.{finished, handed_on, passed_after, unasked, unpassed_after}
+use Rattle.commands.proofs.CommandLemmas.{finished, handed_on, passed_after, unasked, unpassed_after, unshown}
 use Rattle.commands.specs.WrittenLemmas.{gains_none, nothing}
 use Rattle.commands.proofs.tries.try_table.Goals as goal
 
@@ -27,13 +27,21 @@ returns-in_err-trial g c =
     let passed = passed_after _ _ _ _ _ c.in_ok-image.ensures.files c.passed_params-passed.ensures c.in_ok-args.ensures.passed in
     handed_on _ _ _ _ c.from_residual-in_err-trial.ensures.1 (inr (try_job_lent c.in_ok-job.job, asked, inr (c.in_ok-image.image, c.in_ok-image.ensures.image, inr (c.in_ok-args.args.places, passed, inl (c.in_err-trial.ensures, nothing _ _ (c.in_ok-args.ensures.files ∙ c.in_ok-image.ensures.files))))))
 
+pub returns-in_err-shown : goal.returns-in_err-shown
+returns-in_err-shown g c =
+    let asked : try_job_in (table_view c.args.table.now) ≡ Some (try_job_lent c.in_ok-job.job) = search rules in
+    let passed = passed_after _ _ _ _ _ c.in_ok-image.ensures.files c.passed_params-passed.ensures c.in_ok-args.ensures.passed in
+    let comes = unshown _ _ _ c.in_ok-trial.ensures c.in_err-shown.ensures.memory in
+    handed_on _ _ _ _ c.from_residual-in_err-shown.ensures.1 (inr (try_job_lent c.in_ok-job.job, asked, inr (c.in_ok-image.image, c.in_ok-image.ensures.image, inr (c.in_ok-args.args.places, passed, inl (comes, nothing _ _ (c.in_ok-args.ensures.files ∙ c.in_ok-image.ensures.files))))))
+
 pub returns : goal.returns
 returns g c =
     let job = try_job_lent c.in_ok-job.job in
     let asked : try_job_in (table_view c.args.table.now) ≡ Some job = search rules in
     let passed = passed_after _ _ _ _ _ c.in_ok-image.ensures.files c.passed_params-passed.ensures c.in_ok-args.ensures.passed in
-    finished _ _ (g.S.Store.held c.args.store.now) _ _ _ (map passed_by job.params) (trial_of job c.in_ok-image.image c.in_ok-args.args.places) c.in_ok-trial.trial c.finish.result _ _
-    c.passed_params-passed.ensures c.in_ok-trial.ensures (c.in_ok-args.ensures.files ∙ c.in_ok-image.ensures.files)
+    let text : c.as_slice.result.now ≡ c.in_ok-shown.shown.items = search rules in
+    finished _ _ (g.S.Store.held c.args.store.now) _ _ _ (map passed_by job.params) (trial_of job c.in_ok-image.image c.in_ok-args.args.places) c.in_ok-trial.trial c.args.registers c.as_slice.result.now c.finish.result _ _
+    c.passed_params-passed.ensures c.in_ok-trial.ensures (c.in_ok-args.ensures.files ∙ c.in_ok-image.ensures.files) (text ∙ c.in_ok-shown.ensures.shown)
     c.finish.ensures.done c.finish.ensures.told c.finish.ensures.wrote c.finish.ensures.unfinished
     (λ status comes outs told done. record {
       job = job;

@@ -1,0 +1,7 @@
+-- The line, and then what is shown.
+use Rattle.std.proofs.Common.{arith}
+use Rattle.std.proofs.lemmas.Grind.{common_steps}
+use Rattle.commands.proofs.trial.Trial.print.Goals as goal
+
+pub returns : goal.returns
+returns g c = grind (arith, common_steps)
