@@ -1,5 +1,5 @@
 #!/bin/sh
-# Builds the images of this folder for 512 bits, as `certify cc` makes them: axpy_16 and axpy_2048 have buffers of so many words.
+# Builds the images of this folder for 512 bits, as `certify cc` makes them: axpy_16 and axpy_8192 have buffers of so many words.
 set -e
 cd "$(dirname "$0")"
 folder=$(mktemp -d)
@@ -23,7 +23,7 @@ made() {
     chmod -x "$image.elf"
 }
 
-for words in 16 2048; do
+for words in 16 8192; do
     made "axpy_$words" axpy "rw $((4 * words))" "r $((4 * words))" "r $((4 * words))" "n $words $words" "n 4294967295 3"
 done
 made fold fold "rw 64" "r 8192" "n 2048 2048"

@@ -9,6 +9,6 @@ CREATE AGGREGATE pl_fold(int4, int4) (SFUNC = pl_step, STYPE = int8, INITCOND = 
 CREATE FUNCTION pl_map(a int4[], b int4[], k int4) RETURNS int4[] LANGUAGE plpgsql IMMUTABLE STRICT PARALLEL SAFE AS $$
 DECLARE r int4[] := a; BEGIN FOR i IN 1..array_length(a, 1) LOOP r[i] := a[i] * k + b[i]; END LOOP; RETURN r; END $$;
 CREATE TABLE t AS SELECT ((x::int8 * 7919) % 100003)::int4 AS v FROM generate_series(1, 4000000) AS x;
-CREATE TABLE c AS SELECT array_agg(v) AS a, array_agg(3 * v) AS b FROM (SELECT v, (row_number() OVER ()) / 2048 AS g FROM t) AS q GROUP BY g;
+CREATE TABLE c AS SELECT array_agg(v) AS a, array_agg(3 * v) AS b FROM (SELECT v, (row_number() OVER ()) / 8192 AS g FROM t) AS q GROUP BY g;
 VACUUM ANALYZE t;
 VACUUM ANALYZE c;

@@ -1,10 +1,12 @@
 /* PostgreSQL: certified RISC-V vector kernels on bytea, int4[] and columns. README.md tells what each function does.
  *
  * A backend checks an image once, and keeps the kernel. The library calls nothing of PostgreSQL, so no error leaves it midway. Runs longer
- * than rvvbox.slice steps go by a session, where the library has sessions, and may be cancelled between two slices. */
+ * than rvvbox.slice steps go by a session and may be cancelled between two slices. A slice of the slowest
+ * steps takes some milliseconds. */
 #include "postgres.h"
 
 #include <limits.h>
+#include <stdlib.h>
 
 #include "catalog/pg_type.h"
 #include "fmgr.h"
@@ -21,14 +23,22 @@ PG_MODULE_MAGIC;
 void _PG_init(void);
 
 static int max_steps = 100000000;
-static int slice = 100000;
+static int slice = 4096;
+
+/* A run takes some 200 KB and lets them go. Where they lie at the end of the heap, glibc would give them back to the system each time, and a
+ * map took twice as long. Once a block of its own is let go, glibc keeps twice as much as that had. */
+static void keep_memory(void) {
+    void *volatile block = malloc(1 << 20);
+    free(block);
+}
 
 void _PG_init(void) {
     DefineCustomIntVariable("rvvbox.max_steps", "The most steps that one run of a kernel may take.", NULL, &max_steps, 100000000, 0, INT_MAX,
                             PGC_USERSET, 0, NULL, NULL, NULL);
-    DefineCustomIntVariable("rvvbox.slice", "How many steps a run takes between two looks at whether it is cancelled.", NULL, &slice, 100000,
+    DefineCustomIntVariable("rvvbox.slice", "How many steps a run takes between two looks at whether it is cancelled.", NULL, &slice, 4096,
                             1, INT_MAX, PGC_USERSET, 0, NULL, NULL, NULL);
     MarkGUCPrefixReserved("rvvbox");
+    keep_memory();
 }
 
 /* ---- Kernels. */
@@ -163,28 +173,25 @@ static void refused_run(const struct rvvbox_refusal *why, const Kernel *kernel, 
     }
 }
 
-/* (The Makefile defines HAS_SESSIONS where the header has them.) */
-#ifdef HAS_SESSIONS
-/* A run by slices. The session is let go on each way out. */
+/* A run by slices. The session is let go on each way out, and a run that is cancelled puts nothing back. */
 static uint32 run_by_slices(Kernel *kernel, const struct rvvbox_argument *arguments, struct rvvbox_refusal *why) {
     struct rvvbox_session *session = NULL;
-    struct rvvbox_progress progress = {0, 0, 0};
+    struct rvvbox_progress progress = {0};
     uint32 status = rvvbox_open(kernel->kernel, arguments, 0, (uint64)max_steps, &session, why);
     if (status) return status;
     PG_TRY();
     {
         while (!status && !progress.ended) {
-            status = rvvbox_go_on(session, (uint64)slice, &progress);
             CHECK_FOR_INTERRUPTS();
+            status = rvvbox_go_on(session, (uint64)slice, &progress);
         }
+        if (!status) status = rvvbox_close(session, arguments, why);
     }
-    PG_CATCH();
+    PG_FINALLY();
     {
-        rvvbox_close(session, NULL);
-        PG_RE_THROW();
+        rvvbox_drop(session);
     }
     PG_END_TRY();
-    rvvbox_close(session, status ? NULL : arguments);
     return status;
 }
 
@@ -197,16 +204,12 @@ static bool is_long(Kernel *kernel, const struct rvvbox_argument *arguments) {
     memcpy(&scalars, at, sizeof scalars);
     return !rvvbox_bound_of(kernel->kernel, &scalars, &bound) && (bound.high || bound.low > (uint64)slice);
 }
-#endif
 
 static void run(Kernel *kernel, const struct rvvbox_argument *arguments) {
     struct rvvbox_refusal why = {0};
     uint64_t steps = 0;
-#ifdef HAS_SESSIONS
     if (is_long(kernel, arguments)) why.status = run_by_slices(kernel, arguments, &why);
-    else
-#endif
-        why.status = rvvbox_run(kernel->kernel, arguments, 0, (uint64)max_steps, &steps, &why);
+    else why.status = rvvbox_run(kernel->kernel, arguments, 0, (uint64)max_steps, &steps, &why);
     if (why.status) refused_run(&why, kernel, arguments);
     CHECK_FOR_INTERRUPTS();
 }
@@ -330,6 +333,7 @@ typedef struct {
     struct rvvbox_argument arguments[RVVBOX_PLACES];
     int count_place, out_place;
     uint32 most;
+    int32 *rooms;                      /* for the buffers of a run that has fewer bytes than they take, or NULL till there is one */
 } Map;
 
 /* Fills the places: the written one, the columns that are read, and the numbers behind the count. */
@@ -353,31 +357,34 @@ static void map_places(Map *map, int columns, Numbers *numbers) {
                 errmsg("rvvbox: the kernel of a map writes a column, reads %d, and takes their count", columns));
 }
 
+/* Memory for all buffers of a run. */
+static int32 *map_rooms(const Kernel *kernel) {
+    Size size = 4;
+    for (int place = 0; place < RVVBOX_PLACES; place++) size += kernel->parameters[place].size + 4;
+    return palloc(size);
+}
+
 /* The arguments of the run of `many` elements from one on. Where they fill the parameters, no byte is copied. */
-static void map_run(Map *map, uint32 from, uint32 many, int32 *rooms) {
+static void map_run(Map *map, uint32 from, uint32 many) {
     int used = 0;
+    int32 *room = NULL;
     map->arguments[map->count_place].value = many;
     for (int place = 0; place < RVVBOX_PLACES; place++) {
         const struct rvvbox_parameter *wanted = &map->kernel->parameters[place];
         if (wanted->kind != RVVBOX_READ && place != map->out_place) continue;
         const int32 *at = (wanted->kind == RVVBOX_READ ? map->columns[used++] : map->out) + from;
         if ((Size)many * 4 != wanted->size) {
-            memset(rooms, 0, wanted->size);
-            at = memcpy(rooms, at, (Size)many * 4);
-            rooms += (wanted->size + 3) / 4;
+            if (!map->rooms) map->rooms = map_rooms(map->kernel);
+            if (!room) room = map->rooms;
+            memset(room, 0, wanted->size);
+            at = memcpy(room, at, (Size)many * 4);
+            room += (wanted->size + 3) / 4;
         }
         map->arguments[place] = rvvbox_read(at, wanted->size);
         map->arguments[place].kind = wanted->kind;
     }
     run(map->kernel, map->arguments);
     if (map->arguments[map->out_place].bytes != map->out + from) memcpy(map->out + from, map->arguments[map->out_place].bytes, (Size)many * 4);
-}
-
-/* Memory for the buffers of a run that has fewer bytes than they take. */
-static int32 *map_rooms(const Kernel *kernel) {
-    Size size = 4;
-    for (int place = 0; place < RVVBOX_PLACES; place++) size += kernel->parameters[place].size + 4;
-    return palloc(size);
 }
 
 static ArrayType *new_column(int count) {
@@ -406,10 +413,9 @@ Datum rvvbox_map_sql(PG_FUNCTION_ARGS) {
     }
     if (!count) PG_RETURN_ARRAYTYPE_P(construct_empty_array(INT4OID));
     ArrayType *made = new_column(count);
-    int32 *rooms = map_rooms(map.kernel);
     map.out = (int32 *)ARR_DATA_PTR(made);
     for (uint32 from = 0; from < (uint32)count; from += Min(map.most, (uint32)count - from))
-        map_run(&map, from, Min(map.most, (uint32)count - from), rooms);
+        map_run(&map, from, Min(map.most, (uint32)count - from));
     PG_RETURN_ARRAYTYPE_P(made);
 }
 

@@ -7,6 +7,8 @@ import os
 import pwd
 import re
 import shutil
+import socket
+import struct
 import subprocess
 import sys
 import tempfile
@@ -118,29 +120,67 @@ class Tests(unittest.TestCase):
         self.assertEqual(len(told), 1)
 
     def test_cancel(self):
-        """A long run ends soon after it is cancelled, where the library has sessions."""
-        script = f"SET rvvbox.max_steps = 2000000000; SELECT rvvbox_run({image('spin')}, '{{}}', ARRAY[100000000]);"
-        if not has_sessions():
-            self.skipTest('the library has no sessions')
-        told = psql("SET statement_timeout = '100ms';", '\\timing on', script)
-        self.assertIn('canceling statement', told)
-        self.assertLess(float(re.findall(r'Time: ([\d.]+) ms', told)[-1]), 1000)
-
-    def test_flat_memory(self):
-        """10^5 refused statements, in one session and one transaction each, with no more memory than 1,000."""
-        refused = (f"DO $$ DECLARE k bytea := {image('axpy_16')}; BEGIN FOR i IN 1..%d LOOP BEGIN PERFORM rvvbox_run(k, '{{}}', ARRAY[17, i]); "
-                   'EXCEPTION WHEN numeric_value_out_of_range THEN NULL; END; '
-                   "BEGIN PERFORM rvvbox_run('\\x', '{}', '{}'); EXCEPTION WHEN invalid_binary_representation THEN NULL; END; END LOOP; END $$;")
-        used = "SELECT pg_read_file('/proc/self/status') ~ 'x', substring(pg_read_file('/proc/self/status') FROM 'VmData:\\s+(\\d+)');"
-        told = psql(refused % 1000, used, refused % 50_000, used)
-        self.assertNotIn('ERROR', told)
-        first, last = (int(line.split('|')[1]) for line in told.splitlines())
+        """A run of seconds ends within 50 ms of its cancellation: of ten runs the best, on a busy machine. No session is left behind."""
+        spins = f"SELECT rvvbox_run({image('spin')}, '{{}}', ARRAY[100000000]);"
+        told = psql("SET rvvbox.max_steps = 2000000000; SET statement_timeout = '100ms';", '\\timing on', *[spins] * 10)
+        self.assertEqual(told.count('canceling statement due to statement timeout'), 10, told)
+        self.assertLess(min(map(float, re.findall(r'Time: ([\d.]+) ms', told))), 150)
+        spins = [f"PREPARE spins AS {spins}", "SET rvvbox.max_steps = 2000000000; SET statement_timeout = '2ms';", *['EXECUTE spins;'] * 20, USED,
+                 *['EXECUTE spins;'] * 200, USED]
+        first, last = used(psql(*spins))
         self.assertLess(last - first, 1000)
 
+    def test_flat_memory(self):
+        """10^5 refused statements need no more memory than 4,000. Each is sent by itself, and is a transaction."""
+        wire = Wire()
+        wire.send(f"PREPARE runs AS SELECT rvvbox_run({image('axpy_16')}, '{{}}', ARRAY[17, $1]);",
+                  f"PREPARE maps AS SELECT rvvbox_map({image('axpy_16')}, ARRAY[$1::int8], ARRAY[1], ARRAY[1, 2]);",
+                  "PREPARE bytes AS SELECT rvvbox_run(convert_to($1::text, 'UTF8'), '{}', '{}');",
+                  "PREPARE images AS SELECT rvvbox_run(pg_read_binary_file($1), '{}', '{}');")
+        four = 'EXECUTE runs(1);', 'EXECUTE maps(2);', "EXECUTE bytes('3');", f"EXECUTE images('{Servers.folder}/wrong.elf');"
+        used = []
+        for turns in (10, 250):
+            refused = sum(kind == b'E' for _ in range(turns) for kind, _ in wire.send(*four * 100))
+            self.assertEqual(refused, 400 * turns)
+            used += [int(re.search(rb'used.{4}(\d+)', body, re.S)[1]) for kind, body in wire.send(USED) if kind == b'D']
+        wire.socket.close()
+        self.assertLess(used[1] - used[0], 1000)
 
-def has_sessions():
-    """Whether the extension was linked with a library that has sessions."""
-    return 'rvvbox_open_raw' in subprocess.run(['nm', asked('--pkglibdir') / 'rvvbox.so'], capture_output=True, text=True).stdout
+
+class Wire:
+    """A connection by PostgreSQL's own protocol: statements are sent together, and answered one by one."""
+
+    def __init__(self):
+        self.socket = socket.socket(socket.AF_UNIX)
+        self.socket.connect(f'{Servers.folder}/.s.PGSQL.{PORTS[0]}')
+        self.file = self.socket.makefile('rb')
+        words = b''.join(word.encode() + b'\0' for word in ('user', ROLE, 'database', 'postgres', ''))
+        self.socket.sendall(struct.pack('!II', 8 + len(words), 3 << 16) + words)
+        self.answers(1)
+
+    def answers(self, count):
+        """The messages up to so many of those that a statement ends with, each of a type and a body."""
+        told = []
+        while count:
+            kind, size = struct.unpack('!cI', self.file.read(5))
+            told.append((kind, self.file.read(size - 4)))
+            count -= kind == b'Z'
+        return told
+
+    def send(self, *statements):
+        """Sends statements, each a query by itself, and tells all answers."""
+        texts = [statement.encode() + b'\0' for statement in statements]
+        self.socket.sendall(b''.join(struct.pack('!cI', b'Q', 4 + len(text)) + text for text in texts))
+        return self.answers(len(texts))
+
+
+# The memory of a server's process, in KB.
+USED = "SELECT 'used', substring(pg_read_file('/proc/self/status') FROM 'VmData:\\s+(\\d+)');"
+
+
+def used(told):
+    """What USED told each time."""
+    return [int(number) for number in re.findall(r'^used\|(\d+)$', told, re.M)]
 
 
 if __name__ == '__main__':

@@ -19,8 +19,6 @@ PROJECT = tomllib.loads((HERE / 'pyproject.toml').read_text())['project']
 NAME = f"{PROJECT['name']}-{PROJECT['version']}"
 TAG = f"cp{sysconfig.get_config_var('py_version_nodot')}"
 PLATFORM = sysconfig.get_platform().replace('-', '_').replace('.', '_')
-# What a header may lack, by a function of it.
-OPTIONAL = {'BUDGET': 'budget_of', 'TRY': 'try', 'SESSIONS': 'open', 'ATTACH': 'attach'}
 FLAGS = ['-std=gnu11', '-O2', '-Wall', '-Wextra', '-Werror', '-Wno-cast-function-type', '-fPIC', '-shared', '-fvisibility=hidden']
 
 
@@ -35,10 +33,8 @@ def prefix():
 def extension(to):
     """Compiles the extension."""
     cc = os.environ.get('CC', 'cc')
-    header = (prefix() / 'include' / 'rvvbox.h').read_text()
-    has = [f'-DHAS_{name}' for name, function in OPTIONAL.items() if f' rvvbox_{function}(' in header]
     includes = [f"-I{prefix() / 'include'}", f"-I{sysconfig.get_paths()['include']}"]
-    subprocess.run([cc, *FLAGS, *has, *includes, HERE / 'src' / 'rvvbox' / '_core.c', '-o', to, '-ldl'], check=True)
+    subprocess.run([cc, *FLAGS, *includes, HERE / 'src' / 'rvvbox' / '_core.c', '-o', to, '-ldl'], check=True)
 
 
 def files():

@@ -1,4 +1,4 @@
-/* What figures.py compares with: the kernel's work in plain C, and the library's call by itself. */
+/* What figures.py compares with: the kernel's work in plain C, and the library's calls by themselves. */
 #include "rvvbox.h"
 #include <stdlib.h>
 #include <time.h>
@@ -13,21 +13,26 @@ static double now(void) {
     return (double)at.tv_sec + 1e-9 * (double)at.tv_nsec;
 }
 
-/* Seconds of processor time of a run, the least of `tries` times `runs`, or below 0 where something is refused. */
-double call_time(const uint8_t *image, size_t size, uint32_t n, uint32_t tries, uint32_t runs) {
+/* Seconds of processor time of a pass over n words, a call for each `batch` of them, the least of `tries` times `passes`. Below 0 where
+ * something is refused. */
+double call_time(const uint8_t *image, size_t size, uint32_t n, uint32_t batch, uint32_t tries, uint32_t passes) {
     struct rvvbox_kernel *kernel = NULL;
     if (rvvbox_accept(image, size, 512, &kernel, NULL)) return -1;
     int32_t *words[3];
     for (int i = 0; i < 3; i++) words[i] = calloc(n, 4);
-    struct rvvbox_argument arguments[RVVBOX_PLACES] = {rvvbox_buffer(words[0], 4 * n), rvvbox_read(words[1], 4 * n),
-                                                       rvvbox_read(words[2], 4 * n), rvvbox_scalar(n), rvvbox_scalar(3)};
     uint64_t steps;
     double least = 1e9;
     for (uint32_t i = 0; i < tries; i++) {
         double began = now();
-        for (uint32_t j = 0; j < runs; j++)
-            if (rvvbox_run(kernel, arguments, 0, UINT64_MAX, &steps, NULL)) return -1;
-        double took = (now() - began) / runs;
+        for (uint32_t j = 0; j < passes; j++) {
+            for (uint32_t at = 0; at < n; at += batch) {
+                struct rvvbox_argument arguments[RVVBOX_PLACES] = {
+                    rvvbox_buffer(words[0] + at, 4 * batch), rvvbox_read(words[1] + at, 4 * batch), rvvbox_read(words[2] + at, 4 * batch),
+                    rvvbox_scalar(batch), rvvbox_scalar(3)};
+                if (rvvbox_run(kernel, arguments, 0, UINT64_MAX, &steps, NULL)) return -1;
+            }
+        }
+        double took = (now() - began) / passes;
         if (took < least) least = took;
     }
     for (int i = 0; i < 3; i++) free(words[i]);

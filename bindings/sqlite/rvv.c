@@ -1,7 +1,8 @@
 /* A SQLite extension: certified kernels over blobs and columns. README.md tells what each function does.
  *
  * A connection has its kernels by name. SQLite gives a connection one call at a time, and so each kernel has one. A blob that is read and
- * has all of its parameter's bytes is passed as it lies in SQLite's memory, and a written one becomes the result without a copy. */
+ * has all of its parameter's bytes is passed as it lies in SQLite's memory, and a written one becomes the result without a copy. A run
+ * of many steps goes by slices, and sqlite3_interrupt ends it between two of them. */
 #include <sqlite3ext.h>
 SQLITE_EXTENSION_INIT1
 #include "rvvbox.h"
@@ -9,6 +10,9 @@ SQLITE_EXTENSION_INIT1
 #include <string.h>
 
 typedef sqlite3_int64 int64;
+
+/* A status of the extension's own: the connection is interrupted. */
+enum { INTERRUPTED = 1000 };
 
 /* An accepted kernel. A name has one, and so has a fold that goes on. */
 typedef struct {
@@ -97,6 +101,7 @@ static void refused_run(sqlite3_context *context, const struct rvvbox_refusal *w
     int place = (int)why->place;
     switch (why->status) {
         case RVVBOX_NO_MEMORY: sqlite3_result_error_nomem(context); break;
+        case INTERRUPTED: sqlite3_result_error_code(context, SQLITE_INTERRUPT); break;
         case RVVBOX_WRONG_KIND: fail(context, "a%d is of another kind than the kernel takes", place); break;
         case RVVBOX_SCALAR_OUT_OF_INTERVAL:
             fail(context, "a%d is %u, and the kernel takes %u to %u", place, given->value, wanted->lo, wanted->hi);
@@ -249,11 +254,57 @@ static void answer(sqlite3_context *context, const Kernel *kernel, void **own, u
     sqlite3_result_int64(context, (int64)steps);
 }
 
+/* Steps between two looks at whether the connection is interrupted. A step takes some microseconds at most. */
+enum { SLICE = 4096 };
+
+/* Whether a run may take more steps than a slice has. */
+static int is_long(const Kernel *kernel, const struct rvvbox_argument *arguments) {
+    uint32_t at[RVVBOX_PLACES];
+    struct rvvbox_scalars scalars;
+    struct rvvbox_bound most = {0, 0};
+    for (int place = 0; place < RVVBOX_PLACES; place++) at[place] = arguments[place].value;
+    memcpy(&scalars, at, sizeof scalars);
+    return !rvvbox_bound_of(kernel->kernel, &scalars, &most) && (most.high || most.low > SLICE);
+}
+
+/* Whether the connection is interrupted: a statement of its own then ends so, in each version of SQLite. `looking` is NULL for want of
+ * memory, which the run's own result will tell if it lasts. */
+static int is_interrupted(sqlite3_stmt *looking) {
+    int interrupted = looking && sqlite3_step(looking) == SQLITE_INTERRUPT;
+    sqlite3_reset(looking);
+    return interrupted;
+}
+
+static uint32_t run_by_slices(sqlite3_context *context, const Kernel *kernel, const struct rvvbox_argument *arguments, uint64_t max,
+                              uint64_t *steps, struct rvvbox_refusal *why) {
+    struct rvvbox_session *session = NULL;
+    struct rvvbox_progress progress = {0};
+    sqlite3_stmt *looking = NULL;
+    uint32_t status = rvvbox_open(kernel->kernel, arguments, 0, max, &session, why);
+    if (status) return status;
+    sqlite3_prepare_v2(sqlite3_context_db_handle(context), "SELECT 1", -1, &looking, NULL);
+    while (!status && !progress.ended) status = is_interrupted(looking) ? INTERRUPTED : rvvbox_go_on(session, SLICE, &progress);
+    sqlite3_finalize(looking);
+    if (!status) status = rvvbox_close(session, arguments, why);
+    rvvbox_drop(session);
+    *steps = progress.steps;
+    return status;
+}
+
+/* Runs a kernel, and tells why if it does not: whether it did. */
+static int run(sqlite3_context *context, const Kernel *kernel, const struct rvvbox_argument *arguments, uint64_t *steps) {
+    struct rvvbox_refusal why = {0};
+    uint64_t max = ((Loaded *)sqlite3_user_data(context))->max_steps;
+    if (is_long(kernel, arguments)) why.status = run_by_slices(context, kernel, arguments, max, steps, &why);
+    else why.status = rvvbox_run(kernel->kernel, arguments, 0, max, steps, &why);
+    if (why.status) refused_run(context, &why, arguments, kernel, max);
+    return !why.status;
+}
+
 static void call(sqlite3_context *context, int count, sqlite3_value **given) {
     struct rvvbox_argument arguments[RVVBOX_PLACES] = {{0}};
     void *own[RVVBOX_PLACES] = {NULL};
-    struct rvvbox_refusal why = {0};
-    uint64_t steps = 0, max = ((Loaded *)sqlite3_user_data(context))->max_steps;
+    uint64_t steps = 0;
     if (count < 1 || count > 1 + RVVBOX_PLACES) {
         fail(context, "rvv_call takes a name and at most eight arguments");
         return;
@@ -262,11 +313,7 @@ static void call(sqlite3_context *context, int count, sqlite3_value **given) {
     int lent = kernel != NULL;
     for (int place = 0; lent && place < count - 1; place++)
         lent = lend(context, given[place + 1], &kernel->parameters[place], &arguments[place], &own[place]);
-    if (lent) {
-        why.status = rvvbox_run(kernel->kernel, arguments, 0, max, &steps, &why);
-        if (why.status) refused_run(context, &why, arguments, kernel, max);
-        else answer(context, kernel, own, steps);
-    }
+    if (lent && run(context, kernel, arguments, &steps)) answer(context, kernel, own, steps);
     for (int place = 0; place < RVVBOX_PLACES; place++) sqlite3_free(own[place]);
 }
 
@@ -326,16 +373,13 @@ typedef struct {
 static void fold_flush(sqlite3_context *context, Fold *fold) {
     const struct rvvbox_parameter *wanted = fold->kernel->parameters;
     struct rvvbox_argument arguments[RVVBOX_PLACES] = {{0}};
-    struct rvvbox_refusal why = {0};
-    uint64_t steps = 0, max = ((Loaded *)sqlite3_user_data(context))->max_steps;
+    uint64_t steps = 0;
     arguments[0] = rvvbox_buffer(fold->state, wanted[0].size);
     arguments[1] = rvvbox_read(fold->words, wanted[1].size);
     arguments[2] = rvvbox_scalar(fold->many);
     memset(fold->words + fold->many, 0, wanted[1].size - 4 * (size_t)fold->many);
     fold->many = 0;
-    why.status = rvvbox_run(fold->kernel->kernel, arguments, 0, max, &steps, &why);
-    fold->failed = why.status != RVVBOX_DONE;
-    if (fold->failed) refused_run(context, &why, arguments, fold->kernel, max);
+    fold->failed = !run(context, fold->kernel, arguments, &steps);
 }
 
 /* Begins a fold with the state of its first row. */

@@ -1,9 +1,11 @@
 """Tests of the SQLite extension, by Debian's program sqlite3: `make check`."""
 import os
 import shutil
+import signal
 import subprocess
 import sys
 import tempfile
+import time
 import unittest
 from pathlib import Path
 
@@ -36,6 +38,25 @@ class Sqlite(unittest.TestCase):
         if os.environ.get('WRITE'):
             EXPECTED.write_text(told)
         self.assertEqual(told, EXPECTED.read_text())
+
+    def interrupted(self):
+        """Seconds from sqlite3_interrupt, which the program calls for a signal, to the end of a run of seconds."""
+        script = (f".load {HERE / 'rvv'}\nSELECT rvv_load('spin', readfile('spin.elf')), rvv_max_steps(2000000000);\n"
+                  "SELECT rvv_call('spin', NULL, 100000000);\n")
+        with subprocess.Popen(['sqlite3', '-batch', ':memory:'], stdin=subprocess.PIPE, stdout=subprocess.PIPE, stderr=subprocess.PIPE,
+                              cwd=self.folder, text=True) as program:
+            program.stdin.write(script)
+            program.stdin.close()
+            self.assertEqual(program.stdout.readline(), '512|2000000000\n')
+            time.sleep(0.1)
+            began = time.monotonic()
+            program.send_signal(signal.SIGINT)
+            self.assertIn('interrupted', program.stderr.readline())
+            return time.monotonic() - began
+
+    def test_interrupt(self):
+        """Within 50 ms, of ten tries the best, on a busy machine."""
+        self.assertLess(min(self.interrupted() for _ in range(10)), 0.05)
 
     def most(self, rows):
         """The most memory, in KB, of so many calls that are done and so many that are refused."""

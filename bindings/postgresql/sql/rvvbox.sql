@@ -1,7 +1,7 @@
 -- What each function answers. servers.py runs this by pg_regress, and says in $RVV_KERNELS where the images are.
 \getenv kernels RVV_KERNELS
 CREATE EXTENSION rvvbox;
-INSERT INTO rvvbox_kernel SELECT name, pg_read_binary_file(:'kernels' || '/' || name || '.elf') FROM unnest(ARRAY['axpy_16', 'axpy_2048', 'fold', 'merge', 'spin']) AS name;
+INSERT INTO rvvbox_kernel SELECT name, pg_read_binary_file(:'kernels' || '/' || name || '.elf') FROM unnest(ARRAY['axpy_16', 'axpy_8192', 'fold', 'merge', 'spin']) AS name;
 SELECT name, rvvbox_explain(image) IS NULL AS accepted FROM rvvbox_kernel ORDER BY name;
 SELECT image AS axpy FROM rvvbox_kernel WHERE name = 'axpy_16' \gset
 SELECT image AS fold FROM rvvbox_kernel WHERE name = 'fold' \gset

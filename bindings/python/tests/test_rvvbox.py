@@ -5,6 +5,7 @@ import ctypes
 import mmap
 import os
 import pickle
+import re
 import resource
 import shutil
 import subprocess
@@ -44,22 +45,7 @@ def words(*first):
     return array.array('I', [*first, *[0] * (MOST - len(first))])
 
 
-def has(call):
-    """Whether the library has what a call needs."""
-    try:
-        call()
-    except NotImplementedError:
-        return False
-    except Exception:
-        pass
-    return True
-
-
 KERNEL = rvvbox.Kernel(WORDS)
-SESSIONS = has(lambda: KERNEL.session(words(), 1).close())
-TRIES = has(lambda: rvvbox.try_run(WORDS, words(), 1, vlen=128, max_steps=10))
-BUDGETS = has(lambda: KERNEL.budget)
-ATTACH = has(lambda: rvvbox.attach(b'', b''))
 
 
 class Refusals(unittest.TestCase):
@@ -112,6 +98,16 @@ class Refusals(unittest.TestCase):
         self.run_refused('BOUND_TOO_LARGE', words(), 1000, max_steps=8001, bound=8002)
         self.run_refused('BOUND_TOO_LARGE', words(), 1000, kernel=rvvbox.Kernel(WORDS, max_steps=100), bound=8002)
 
+    def test_each_status(self):
+        """Whatever the library answers is an exception with the answer's name, also what no call from here leads to."""
+        names = re.findall(r'^    RVVBOX_(\w+) = [1-9]\d*,?\s', (ROOT / 'include' / 'rvvbox.h').read_text().partition('enum rvvbox_image_rule')[0], re.M)
+        self.assertGreaterEqual(len(names), 20)
+        for name in names:
+            told = rvvbox._error(name, None, 0, 0, 0, 0, 0, 0, None, 0, None)
+            self.assertIsInstance(told, rvvbox.Error)
+            self.assertEqual(told.status, name)
+            self.assertTrue(str(told))
+
     def test_overlap(self):
         kernel = rvvbox.Kernel(image('translate'))
         room = bytearray(2048)
@@ -147,7 +143,6 @@ class Runs(unittest.TestCase):
         self.assertEqual(rvvbox.Kernel(EXAMPLES / 'raise_words' / 'raise_words-256.elf').vlen, 256)
         self.assertEqual(rvvbox.Kernel(memoryview(KERNEL.image), 128, agnostic='ones', max_steps=9).max_steps, 9)
 
-    @unittest.skipUnless(BUDGETS, 'the library has no rvvbox_budget_of')
     def test_budget(self):
         self.assertEqual(KERNEL.budget, (2, 8, 11, 0, 0))
 
@@ -301,23 +296,53 @@ class Numpy(unittest.TestCase):
         self.assertTrue((given == numpy.arange(1, 100_004)).all())
 
 
-@unittest.skipUnless(SESSIONS, 'the library has no sessions')
 class Sessions(unittest.TestCase):
     def test_steps(self):
         given, whole = words(1), words(1)
         steps = KERNEL.run(whole, 1000)
         with KERNEL.session(given, 1000) as session:
-            self.assertFalse(session.ended)
+            self.assertEqual((session.ended, session.steps, session.registers().x[10]), (False, 0, 0x40000000))
+            self.assertFalse(session.go_on(0))
             self.assertFalse(session.go_on(steps - 1))
             self.assertEqual(session.steps, steps - 1)
-            self.assertEqual(session.registers().x[10] >> 28, 4)
-            self.assertEqual(len(session.peek(0x40000000, 8)), 8)
-            self.assertTrue(session.go_on())
+            self.assertTrue(session.go_on(2))
             self.assertEqual((session.go_on(), session.steps), (True, steps))
             self.assertEqual(given, words(1))
         self.assertEqual(given, whole)
         self.assertRaises(ValueError, session.go_on)
         session.close()
+
+    def test_any_slices(self):
+        """However a run is cut, it ends after the same steps with the same bytes."""
+        whole = words(*range(100))
+        steps = KERNEL.run(whole, 60)
+        for most in (1, 3, steps - 1, steps):
+            given, calls = words(*range(100)), 1
+            with KERNEL.session(given, 60) as session:
+                while not session.go_on(most):
+                    calls += 1
+            self.assertEqual((given, session.steps, calls), (whole, steps, -(-steps // most)))
+
+    def test_what_stands(self):
+        """The kernel's steps, from 0x10000 on: beqz, vsetvli with e32, m1, ta, ma, vle32, vadd, vse32 and five more."""
+        with KERNEL.session(words(7), 1) as session:
+            at = session.registers()
+            self.assertEqual((at.pc, at.x[10], at.x[11], session.peek(0x40000000, 8)), (0x10000, 0x40000000, 1, bytes([7, *[0] * 7])))
+            session.go_on(2)
+            at = session.registers()
+            self.assertEqual((at.pc, at.vl, at.vtype, at.x[5], at.vxrm, at.vxsat), (0x10008, 1, 0xd0, 1, 0, 0))
+            session.go_on(3)
+            self.assertEqual((session.registers().pc, session.peek(0x40000000, 4)), (0x10014, bytes([8, 0, 0, 0])))
+            self.assertTrue(session.go_on(5))
+
+    def test_halfway(self):
+        """A run that is closed before its end leaves what it has written so far."""
+        given, whole = words(), words()
+        steps = KERNEL.run(whole, 1000)
+        session = KERNEL.session(given, 1000)
+        session.go_on(steps // 2)
+        session.close()
+        self.assertTrue(0 < sum(given) < sum(whole))
 
     def test_what_is_left(self):
         given = words(1)
@@ -327,9 +352,44 @@ class Sessions(unittest.TestCase):
                 raise KeyError
         self.assertEqual(given, words(1))
         session = KERNEL.session(given, 1000)
+        session.go_on()
         self.assertRaises(BufferError, given.append, 1)
         del session
         given.append(1)
+        self.assertEqual(given[0], 1)
+
+    def test_it_outlives_its_kernel(self):
+        kernel, given = rvvbox.Kernel(WORDS), words(1)
+        session = kernel.session(given, 1)
+        self.assertGreater(kernel.run(words(), 1000), 0)
+        del kernel
+        session.go_on()
+        session.close()
+        self.assertEqual(given, words(2))
+
+    def test_threads(self):
+        """A session goes on by turns of two threads, and sessions of one kernel side by side."""
+        failed = []
+
+        def work(number):
+            given = words(number)
+            with KERNEL.session(given, MOST) as session:
+                while not session.go_on(100):
+                    pass
+            if given != words(number + 1, *[1] * (MOST - 1)):
+                failed.append(number)
+        threads = [threading.Thread(target=work, args=(number,)) for number in range(8)]
+        for thread in threads:
+            thread.start()
+        for thread in threads:
+            thread.join()
+        self.assertEqual(failed, [])
+        session = KERNEL.session(words(), 1000)
+        thread = threading.Thread(target=session.go_on, args=(5,))
+        thread.start()
+        thread.join()
+        session.go_on(5)
+        self.assertEqual(session.steps, 10)
 
     def test_busy(self):
         """While one thread is in a session, another is told so."""
@@ -346,17 +406,32 @@ class Sessions(unittest.TestCase):
         session.close()
 
     def test_refused(self):
-        for status, arguments in (('SCALAR_OUT_OF_INTERVAL', (words(), 5000)), ('WRONG_SIZE', (bytearray(4), 1))):
+        for status, arguments in (('SCALAR_OUT_OF_INTERVAL', (words(), 5000)), ('WRONG_SIZE', (bytearray(4), 1)), ('WRONG_KIND', (7, 1))):
             with self.assertRaises(rvvbox.RunRefused) as raised:
                 KERNEL.session(*arguments)
             self.assertEqual(raised.exception.status, status)
-        with KERNEL.session(words(), 1) as session, self.assertRaises(rvvbox.RunRefused) as raised:
-            session.peek(0x40000000, SIZE + 1)
-        self.assertEqual(raised.exception.status, 'BAD_RANGE')
         self.assertRaises(rvvbox.RunRefused, KERNEL.session, words(), 1000, max_steps=5)
+        with KERNEL.session(words(), 1) as session:
+            for address, size in ((0x40000000, SIZE + 1), (0x3fffffff, 1), (0xffffffff, 2), (2**32, 1), (0, 2**40)):
+                with self.assertRaises(rvvbox.RunRefused) as raised:
+                    session.peek(address, size)
+                self.assertEqual((raised.exception.status, raised.exception.place), ('BAD_RANGE', None))
+            self.assertRaises(ValueError, session.peek, 0x40000000, -1)
+            self.assertRaises(OverflowError, session.go_on, -1)
+            self.assertEqual(session.peek(0x40000000, 0), b'')
+
+    def test_flat_memory(self):
+        def some(sessions):
+            given = words()
+            for number in range(sessions):
+                with KERNEL.session(given, 10) as session:
+                    session.go_on(number % 30)
+        some(200)
+        before = resource.getrusage(resource.RUSAGE_SELF).ru_maxrss
+        some(10_000)
+        self.assertLess(resource.getrusage(resource.RUSAGE_SELF).ru_maxrss - before, 2000)
 
 
-@unittest.skipUnless(TRIES, 'the library has no rvvbox_try')
 class Tries(unittest.TestCase):
     def test_each_end(self):
         bare, given = EXAMPLES / 'raise_words' / 'bare.elf', words(1)
@@ -380,7 +455,6 @@ class Tries(unittest.TestCase):
 
 
 class Attached(unittest.TestCase):
-    @unittest.skipUnless(ATTACH, 'the library has no rvvbox_attach')
     def test_attach(self):
         whole = image('raise_words')
         at = whole.index(b'RVVBOX\0') + 8

@@ -8,8 +8,8 @@ An argument is a number, a buffer or None. A number has 32 bits, from -2**31 to 
 whose bytes lie together: bytes, bytearray, memoryview, array, mmap, a numpy array. It has exactly the bytes that the kernel's parameter
 says. Where the kernel writes it, it has to be writable and shares no byte with another argument.
 
-What is refused raises an `Error`, and then no argument has changed. `NotImplementedError` names a function that the library lacks.
-Kernels may be used by any threads at once, and other threads go on during a run. No other thread may write an argument of a run.
+What is refused raises an `Error`, and then no argument has changed. Kernels may be used by any threads at once, and other
+threads go on during a run. No other thread may write an argument of a run.
 """
 from __future__ import annotations
 
@@ -153,7 +153,7 @@ def _told(status: str, place: int, given: int, bound: int, kernel: Kernel | None
     told = {
         'NO_MEMORY': 'malloc refused',
         'BAD_VLEN': 'vlen is 128, 256 or 512',
-        'BAD_RANGE': f'the {given} bytes of a{place} are not there',
+        'BAD_RANGE': f'the {given} bytes of a{place} are not there' if place < 8 else f'not all of these {given} bytes are there',
         'WRONG_KIND': f'a{place} is of another kind: the kernel takes {takes}',
         'SCALAR_OUT_OF_INTERVAL': f'a{place} is {given}: the kernel takes {takes}',
         'WRONG_SIZE': f'a{place} has {given} bytes: the kernel takes {takes}',
@@ -182,12 +182,12 @@ def _error(status, rule, address, offset, place, low, high, given, image, vlen, 
     if image is not None and _CLASSES.get(status) is Refused:
         try:
             explanation = _core.explain(image, vlen)
-        except (NotImplementedError, Error):
+        except Error:
             pass                       # (What is refused is told without it.)
     made = _CLASSES.get(status, RunRefused)(f'{text}\n{explanation}'.rstrip())
     made.status, made.rule, made.explanation = status, rule, explanation
     made.address, made.offset = address or None, offset or None
-    made.place = place if status in _PLACED else None
+    made.place = place if status in _PLACED and place < 8 else None
     made.bound = bound if status == 'BOUND_TOO_LARGE' else None
     return made
 
@@ -247,7 +247,11 @@ class Kernel(_core.Kernel):
         return self._map(columns, batch or 0, max_steps)
 
     def session(self, *arguments: Any, max_steps: int | None = None) -> Session:
-        """Begins a run that goes on by as many steps at a time as asked: a Session, on copies of the buffers."""
+        """Begins a run, on copies of the buffers, and does no step yet: `Session.go_on` does as many at a time as asked.
+
+        The arguments are those of `run`, and so is what is raised. The buffers stay lent until the session ends, so that none of them is
+        resized. The kernel may run and begin others meanwhile.
+        """
         return Session(self._session(*arguments, max_steps=max_steps))
 
     def __reduce__(self):
@@ -269,16 +273,17 @@ class Session:
                 ...                    # look at a clock, or leave
 
     At the end of `with`, each buffer that the kernel writes becomes what the run left of it. After an exception there all buffers stay as
-    they were. A call while another thread's call goes on raises Busy.
+    they were, and so they do where a session is let go without `close`. A session may go from thread to thread. A call while another
+    thread's call goes on raises Busy, and one after `close` ValueError.
 
-    Attributes: `ended`, whether the run has ended, and `steps`, those done.
+    Attributes: `ended`, whether the run has ended, and `steps`, those done so far.
     """
 
     def __init__(self, session: _core.Session):
         self._session, self.ended, self.steps = session, False, 0
 
     def go_on(self, most: int = ALL_STEPS) -> bool:
-        """Does at most so many steps, and answers whether the run has ended."""
+        """Does `most` steps, or fewer where the run ends, and answers whether it has ended. One that has ended stays as it is."""
         self.ended, self.steps = self._session.go_on(most)
         return self.ended
 
@@ -287,11 +292,14 @@ class Session:
         return Registers(*self._session.registers())
 
     def peek(self, address: int, size: int) -> bytes:
-        """The bytes of the run's memory from an address on. RunRefused where one of them is not there."""
+        """The bytes of the run's memory from an address on, as its buffers stand now. RunRefused where one of them is not there."""
         return self._session.peek(address, size)
 
     def close(self, put_back: bool = True) -> None:
-        """Ends the session wherever the run stands. With put_back, each written buffer becomes the run's as it stands."""
+        """Ends the session wherever the run stands. With put_back, each written buffer becomes what the run has left of it so far.
+
+        A session that is closed stays so.
+        """
         self._session.close(put_back)
 
     def __enter__(self) -> Session:
@@ -299,6 +307,9 @@ class Session:
 
     def __exit__(self, kind, *_) -> None:
         self.close(put_back=kind is None)
+
+    def __repr__(self):
+        return f'<rvvbox.Session, {"ended" if self.ended else "standing"} after {self.steps} steps>'
 
 
 def try_run(image: Image, *arguments: Any, vlen: int, max_steps: int, agnostic: str = 'keep') -> Stopped:
@@ -321,7 +332,7 @@ def attach(image: Image, certificate: bytes) -> bytes:
 
 
 def version() -> tuple[int, int]:
-    """The library's version of the interface, as (2, 0)."""
+    """The library's version of the interface, as (2, 1)."""
     return VERSION
 
 

@@ -1,7 +1,7 @@
 /* The part of the package that calls the library: kernels, runs and sessions on the memory of Python's objects.
  *
  * No byte is copied here but those of the last batch of a map. The interpreter's lock is let go while a kernel runs. The library is
- * loaded by `load`, and a function that it lacks is told by its name when it is called. */
+ * loaded by `load`. */
 #define PY_SSIZE_T_CLEAN
 #include <Python.h>
 #include <structmember.h>
@@ -15,31 +15,9 @@
 
 /* ---- The library. */
 
-/* Those that a header may lack: the build defines what this one has. */
-#ifdef HAS_BUDGET
-#define BUDGET(HAS) HAS(budget_of)
-#else
-#define BUDGET(HAS)
-#endif
-#ifdef HAS_TRY
-#define TRY(HAS) HAS(try)
-#else
-#define TRY(HAS)
-#endif
-#ifdef HAS_SESSIONS
-#define SESSIONS(HAS) HAS(open) HAS(go_on) HAS(registers_of) HAS(peek) HAS(close)
-#else
-#define SESSIONS(HAS)
-#endif
-#ifdef HAS_ATTACH
-#define ATTACH(HAS) HAS(attach)
-#else
-#define ATTACH(HAS)
-#endif
-
 /* Every function of the header that is called, by its name there. */
-#define FUNCTIONS(HAS) HAS(version) HAS(accept) HAS(explain) HAS(share) HAS(free) HAS(parameters_of) HAS(bound_of) HAS(run) HAS(apart) \
-    HAS(status_name) HAS(rule_name) BUDGET(HAS) TRY(HAS) SESSIONS(HAS) ATTACH(HAS)
+#define FUNCTIONS(HAS) HAS(version) HAS(accept) HAS(explain) HAS(attach) HAS(share) HAS(free) HAS(parameters_of) HAS(budget_of) \
+    HAS(bound_of) HAS(apart) HAS(run) HAS(try) HAS(open) HAS(go_on) HAS(registers_of) HAS(peek) HAS(close) HAS(drop) HAS(status_name) HAS(rule_name)
 
 #define POINTER(name) __typeof__(rvvbox_##name) *name;
 static struct {
@@ -48,15 +26,6 @@ static struct {
 
 /* What makes an exception of a refusal, and what the package's `whole` and `COUNT` are: `set_up` keeps them. */
 static PyObject *make_error, *whole_type, *count_mark;
-
-#define LACKS(name, failed) \
-    PyErr_SetString(PyExc_NotImplementedError, "the library has no rvvbox_" #name); \
-    return failed;
-
-#define NEEDS(name, failed) \
-    if (!lib.name) { \
-        LACKS(name, failed) \
-    }
 
 static PyObject *core_load(PyObject *module, PyObject *path) {
     (void)module;
@@ -67,11 +36,13 @@ static PyObject *core_load(PyObject *module, PyObject *path) {
     if (!opened) return PyErr_Format(PyExc_ImportError, "%s", dlerror());
 #define FIND(name) lib.name = (__typeof__(lib.name))(uintptr_t)dlsym(opened, "rvvbox_" #name);
     FUNCTIONS(FIND)
-    NEEDS(version, NULL)
-    uint32_t version = lib.version(), needed = RVVBOX_VERSION_MAJOR << 16 | RVVBOX_VERSION_MINOR;
+    uint32_t version = lib.version ? lib.version() : 0, needed = RVVBOX_VERSION_MAJOR << 16 | RVVBOX_VERSION_MINOR;
     if (version >> 16 != RVVBOX_VERSION_MAJOR || version < needed)
         return PyErr_Format(PyExc_ImportError, "the library has interface %u.%u, and the package needs %u.%u", version >> 16,
                             version & 0xffff, RVVBOX_VERSION_MAJOR, RVVBOX_VERSION_MINOR);
+#define IS_THERE(name) \
+    if (!lib.name) return PyErr_Format(PyExc_ImportError, "the library has no rvvbox_" #name);
+    FUNCTIONS(IS_THERE)
     return Py_BuildValue("II", version >> 16, version & 0xffff);
 }
 
@@ -89,8 +60,7 @@ static PyObject *core_set_up(PyObject *module, PyObject *args) {
  * those of a refused image, else NULL and 0; `kernel` is the kernel or NULL. */
 static PyObject *refuse(const struct rvvbox_refusal *why, uint64_t given, PyObject *image, uint32_t vlen, PyObject *kernel) {
     if (!make_error) return PyErr_Format(PyExc_RuntimeError, "status %u", why->status);
-    const char *status = lib.status_name ? lib.status_name(why->status) : "UNKNOWN";
-    const char *rule = lib.rule_name && why->rule ? lib.rule_name(why->status, why->rule) : NULL;
+    const char *status = lib.status_name(why->status), *rule = why->rule ? lib.rule_name(why->status, why->rule) : NULL;
     PyObject *error = PyObject_CallFunction(make_error, "szIInKKKOIO", status, rule, why->address, why->offset, (Py_ssize_t)why->place,
                                             why->bound.low, why->bound.high, given, image ? image : Py_None, vlen,
                                             kernel ? kernel : Py_None);
@@ -187,7 +157,6 @@ static bool is_made(const Kernel *self) {
 static struct rvvbox_kernel *taken(Kernel *self) {
     struct rvvbox_kernel *kernel = NULL;
     if (self->idle_count) return self->idle[--self->idle_count];
-    NEEDS(share, NULL)
     if (!is_made(self)) return NULL;
     uint32_t status = lib.share(self->root, &kernel);
     if (!status) return kernel;
@@ -237,9 +206,6 @@ static int kernel_init(Kernel *self, PyObject *args, PyObject *named) {
     uint32_t vlen, agnostic;
     unsigned long long max_steps;
     if (!PyArg_ParseTupleAndKeywords(args, named, "O!IIK", names, &PyBytes_Type, &image, &vlen, &agnostic, &max_steps)) return -1;
-    NEEDS(accept, -1)
-    NEEDS(parameters_of, -1)
-    NEEDS(free, -1)
     why.status = accepted(image, &vlen, &kernel, &why);
     if (self->root) {
         lib.free(kernel);
@@ -280,7 +246,6 @@ static PyObject *kernel_bound(Kernel *self, PyObject *const *args, Py_ssize_t co
     struct rvvbox_scalars scalars;
     struct rvvbox_bound bound = {0, 0};
     Py_ssize_t used = 0;
-    NEEDS(bound_of, NULL)
     if (!is_made(self)) return NULL;
     for (int place = 0; place < self->places; place++) {
         if (self->parameters[place].kind != RVVBOX_SCALAR) continue;
@@ -300,17 +265,11 @@ static PyObject *kernel_bound(Kernel *self, PyObject *const *args, Py_ssize_t co
 
 static PyObject *kernel_budget(Kernel *self, PyObject *unused) {
     (void)unused;
-#ifdef HAS_BUDGET
     struct rvvbox_budget budget;
-    NEEDS(budget_of, NULL)
     if (!is_made(self)) return NULL;
     uint32_t status = lib.budget_of(self->root, &budget);
     if (status) return refuse_status(status, (PyObject *)self);
     return Py_BuildValue("IIIII", budget.constant, budget.factor, budget.number, budget.second_factor, budget.second_number);
-#else
-    (void)self;
-    LACKS(budget_of, NULL)
-#endif
 }
 
 /* `max_steps` of a call's words, or the kernel's own. */
@@ -350,7 +309,6 @@ static PyObject *kernel_run(Kernel *self, PyObject *const *args, Py_ssize_t coun
     unsigned long long max;
     uint64_t steps = 0;
     uint32_t status;
-    NEEDS(run, NULL)
     if (!max_of(self, args, count, names, &max) || !lend_all(self, &lent, args, count)) return NULL;
     struct rvvbox_kernel *kernel = taken(self);
     if (!kernel) {
@@ -524,7 +482,6 @@ static PyObject *map_all(Kernel *self, struct rvvbox_kernel *kernel, const struc
 static bool lies_apart(Kernel *self, const struct map *map) {
     struct rvvbox_place places[RVVBOX_PLACES];
     struct rvvbox_refusal why = {0};
-    NEEDS(apart, false)
     for (int place = 0; place < RVVBOX_PLACES; place++) {
         const struct rvvbox_argument *it = &map->lent.at[place];
         places[place] = (struct rvvbox_place){it->kind, it->value, (size_t)(uintptr_t)it->bytes, it->size};
@@ -539,7 +496,6 @@ static PyObject *kernel_map(Kernel *self, PyObject *args) {
     PyObject *columns, *max_given;
     Py_ssize_t batch;
     unsigned long long max = self->max_steps;
-    NEEDS(run, NULL)
     if (!PyArg_ParseTuple(args, "O!nO", &PyTuple_Type, &columns, &batch, &max_given)) return NULL;
     if (max_given != Py_None && ((max = PyLong_AsUnsignedLongLong(max_given)), PyErr_Occurred())) return NULL;
     if (batch < 0) return PyErr_Format(PyExc_ValueError, "a batch of %zd elements", batch);
@@ -559,11 +515,10 @@ static PyObject *kernel_map(Kernel *self, PyObject *args) {
 
 /* ---- Sessions. */
 
-#ifdef HAS_SESSIONS
 typedef struct {
     PyObject_HEAD
-    struct rvvbox_session *session;
-    struct lent lent;
+    struct rvvbox_session *session;    /* NULL once it is let go */
+    struct lent lent;                  /* what the run was opened on: its buffers are lent until the session is let go */
     bool busy;                         /* a call has the session now, on some thread */
 } Session;
 
@@ -572,9 +527,6 @@ static PyTypeObject Session_type;
 static PyObject *kernel_session(Kernel *self, PyObject *const *args, Py_ssize_t count, PyObject *names) {
     struct rvvbox_refusal why = {0};
     unsigned long long max;
-    NEEDS(open, NULL)
-    NEEDS(go_on, NULL)
-    NEEDS(close, NULL)
     if (!max_of(self, args, count, names, &max)) return NULL;
     Session *made = PyObject_New(Session, &Session_type);
     if (!made) return NULL;
@@ -597,9 +549,15 @@ static PyObject *kernel_session(Kernel *self, PyObject *const *args, Py_ssize_t 
     return NULL;
 }
 
-static void session_dealloc(Session *self) {
-    if (self->session) lib.close(self->session, NULL);
+/* Lets go the session, and the buffers. */
+static void let_go(Session *self) {
+    if (self->session) lib.drop(self->session);
+    self->session = NULL;
     give_back(&self->lent);
+}
+
+static void session_dealloc(Session *self) {
+    let_go(self);
     PyObject_Free(self);
 }
 
@@ -612,7 +570,7 @@ static bool session_is_free(Session *self) {
 }
 
 static PyObject *session_go_on(Session *self, PyObject *most_given) {
-    struct rvvbox_progress progress = {0, 0, 0};
+    struct rvvbox_progress progress = {0};
     uint32_t status;
     unsigned long long most = PyLong_AsUnsignedLongLong(most_given);
     if (PyErr_Occurred() || !session_is_free(self)) return NULL;
@@ -621,14 +579,12 @@ static PyObject *session_go_on(Session *self, PyObject *most_given) {
     status = lib.go_on(self->session, most, &progress);
     Py_END_ALLOW_THREADS
     self->busy = false;
-    if (status) return refuse_status(status, NULL);
-    return Py_BuildValue("NK", PyBool_FromLong(progress.ended), progress.steps);
+    return status ? refuse_status(status, NULL) : Py_BuildValue("NK", PyBool_FromLong(progress.ended), progress.steps);
 }
 
 static PyObject *session_registers(Session *self, PyObject *unused) {
     (void)unused;
     struct rvvbox_registers at;
-    NEEDS(registers_of, NULL)
     if (!session_is_free(self)) return NULL;
     uint32_t status = lib.registers_of(self->session, &at);
     if (status) return refuse_status(status, NULL);
@@ -641,30 +597,33 @@ static PyObject *session_registers(Session *self, PyObject *unused) {
     return x ? Py_BuildValue("INIIII", at.pc, x, at.vl, at.vtype, at.vxrm, at.vxsat) : NULL;
 }
 
+/* An address from 0 to 2^32 - 1 and a size from 0 on. */
 static PyObject *session_peek(Session *self, PyObject *args) {
-    unsigned address;
+    struct rvvbox_refusal why = {.status = RVVBOX_BAD_RANGE, .place = RVVBOX_PLACES};      /* (No argument is at fault.) */
+    unsigned long long address;
     Py_ssize_t size;
-    NEEDS(peek, NULL)
-    if (!PyArg_ParseTuple(args, "In", &address, &size) || !session_is_free(self)) return NULL;
+    if (!PyArg_ParseTuple(args, "Kn", &address, &size) || !session_is_free(self)) return NULL;
+    if (size < 0) return PyErr_Format(PyExc_ValueError, "a size of %zd bytes", size);
+    why.address = (uint32_t)address;
+    if (address > UINT32_MAX || (uint64_t)size > UINT32_MAX + 1ull - address) return refuse(&why, (uint64_t)size, NULL, 0, NULL);
     PyObject *bytes = PyBytes_FromStringAndSize(NULL, size);
     if (!bytes) return NULL;
-    uint32_t status = lib.peek(self->session, address, PyBytes_AS_STRING(bytes), (size_t)size);
-    if (!status) return bytes;
+    why.status = lib.peek(self->session, (uint32_t)address, PyBytes_AS_STRING(bytes), (size_t)size);
+    if (!why.status) return bytes;
     Py_DECREF(bytes);
-    return refuse_status(status, NULL);
+    return refuse(&why, (uint64_t)size, NULL, 0, NULL);
 }
 
 /* Lets the session go. Where the argument is true, each writable buffer first becomes what the run left of it so far. */
 static PyObject *session_close(Session *self, PyObject *put) {
+    struct rvvbox_refusal why = {0};
     int puts = PyObject_IsTrue(put);
     if (puts < 0) return NULL;
     if (!self->session) Py_RETURN_NONE;
     if (!session_is_free(self)) return NULL;
-    uint32_t status = lib.close(self->session, puts ? self->lent.at : NULL);
-    if (status) return refuse_status(status, NULL);
-    self->session = NULL;
-    give_back(&self->lent);
-    Py_RETURN_NONE;
+    uint32_t status = puts ? lib.close(self->session, self->lent.at, &why) : RVVBOX_DONE;
+    let_go(self);
+    return status ? refuse(&why, given_at(self->lent.at, why.place), NULL, 0, NULL) : Py_NewRef(Py_None);
 }
 
 static PyMethodDef session_methods[] = {METHOD("go_on", session_go_on, METH_O, NULL),
@@ -681,12 +640,6 @@ static PyTypeObject Session_type = {
     .tp_methods = session_methods,
 };
 
-#else
-static PyObject *kernel_session(Kernel *self, PyObject *const *args, Py_ssize_t count, PyObject *names) {
-    (void)self, (void)args, (void)count, (void)names;
-    LACKS(open, NULL)
-}
-#endif
 
 /* ---- Calls without a kernel. */
 
@@ -694,7 +647,6 @@ static PyObject *core_explain(PyObject *module, PyObject *args) {
     (void)module;
     PyObject *image, *told = NULL;
     unsigned vlen;
-    NEEDS(explain, NULL)
     if (!PyArg_ParseTuple(args, "O!I", &PyBytes_Type, &image, &vlen)) return NULL;
     size_t room = 4096, needed = 0;
     while (!told) {
@@ -710,7 +662,6 @@ static PyObject *core_explain(PyObject *module, PyObject *args) {
     return told;
 }
 
-#ifdef HAS_TRY
 /* What an object is as an argument of an image without parameters: bytes that can be written are put back. */
 static bool lend_any(struct lent *lent, int place, PyObject *given) {
     if (given == Py_None) return true;
@@ -722,11 +673,9 @@ static bool lend_any(struct lent *lent, int place, PyObject *given) {
     lent->at[place].kind = RVVBOX_SCALAR;
     return number_of(given, place, &lent->at[place].value);
 }
-#endif
 
 static PyObject *core_try(PyObject *module, PyObject *args) {
     (void)module;
-#ifdef HAS_TRY
     PyObject *image, *given;
     struct rvvbox_setting setting;
     struct rvvbox_stopped stopped = {0};
@@ -734,7 +683,6 @@ static PyObject *core_try(PyObject *module, PyObject *args) {
     struct lent lent = {.viewed = 0};
     uint32_t status;
     unsigned long long max;
-    NEEDS(try, NULL)
     if (!PyArg_ParseTuple(args, "O!IIKO!", &PyBytes_Type, &image, &setting.vlen, &setting.agnostic, &max, &PyTuple_Type, &given))
         return NULL;
     setting.max = max;
@@ -751,19 +699,13 @@ static PyObject *core_try(PyObject *module, PyObject *args) {
     if (status != RVVBOX_DONE && status != RVVBOX_TRAPPED && status != RVVBOX_OUT_OF_STEPS)
         return refuse(&why, given_at(lent.at, why.place), status == RVVBOX_IMAGE ? image : NULL, setting.vlen, NULL);
     return Py_BuildValue("sIIIK", lib.status_name(status), stopped.fault, stopped.number, stopped.pc, stopped.steps);
-#else
-    (void)args;
-    LACKS(try, NULL)
-#endif
 }
 
 static PyObject *core_attach(PyObject *module, PyObject *args) {
     (void)module;
-#ifdef HAS_ATTACH
     PyObject *image, *certificate;
     struct rvvbox_refusal why = {0};
     size_t needed = 0;
-    NEEDS(attach, NULL)
     if (!PyArg_ParseTuple(args, "O!O!", &PyBytes_Type, &image, &PyBytes_Type, &certificate)) return NULL;
     size_t room = (size_t)PyBytes_GET_SIZE(image) + (size_t)PyBytes_GET_SIZE(certificate) + 256;
     for (;;) {
@@ -779,10 +721,6 @@ static PyObject *core_attach(PyObject *module, PyObject *args) {
         if (status) return refuse(&why, 0, NULL, 0, NULL);
         room = needed;
     }
-#else
-    (void)args;
-    LACKS(attach, NULL)
-#endif
 }
 
 /* ---- The module. */
@@ -835,8 +773,6 @@ static struct PyModuleDef definition = {PyModuleDef_HEAD_INIT, .m_name = "rvvbox
 PyMODINIT_FUNC PyInit__core(void) {
     PyObject *module = PyModule_Create(&definition);
     if (!module || PyModule_AddType(module, &Kernel_type)) return NULL;
-#ifdef HAS_SESSIONS
     if (PyType_Ready(&Session_type)) return NULL;
-#endif
     return module;
 }
