@@ -21,9 +21,14 @@ class Addresses:
             self.choices[misfit.key] = tuple(zones)
             return
         zone, = zones
+        if self.is_told_above(misfit.key, register):
+            return
         first, end = self.sure[misfit.key].get(register, (offset, offset + size))
+        before = dict(self.tests)
         if not self.give_end(misfit, register, zone) and not self.put_index_test(misfit, register, first, end, zone):
             self.put_test(misfit, register, first, end, zone)
+        if self.tests != before:
+            self.told_of.append((misfit.key, register))
 
     def put_index_test(self, misfit, register, first, end, zone):
         """A test of the number that is added to the zone's first address, where the address is such a sum: one comparison for both
@@ -41,7 +46,10 @@ class Addresses:
             test = Test(at, False, index, 0, zone[1] - end - number >> shift, False, True, zone[3])
             if self.tests.get((at, index)) == test:
                 return False
+            if (at, index) not in self.tests and self.is_told_above(at, index):
+                return True
             self.tests[at, index] = test
+            self.told_of.append((at, index))
             return True
         return False
 
@@ -78,24 +86,95 @@ class Addresses:
     def zones(self, key, register, is_store):
         right = certificates.WRITE if is_store else certificates.READ
         known = self.bases.at(key).get(register, bases.NOTHING)
-        found = [zone for zone in bases.zones_of(known, self.image, self.params) if zone[2] & right]
+        access = graph.access_of(self.code.nodes[key])
+        found = [zone for zone in self.bases.zones_of(known, access[1] if access else 0) if zone[2] & right]
         return found or [zone for zone in bases.all_zones(self.image, self.params) if zone[2] & right]
 
     def put_test(self, misfit, register, first, end, zone):
         known, key, is_entering = misfit.known.x[register].range, *self.place_of_test(misfit.key, register, first, end)
         if is_entering:
             first, end = self.sure[key][register]
+        first, end = self.of_object(key, register, first, end, zone)
         least, most = zone[0] - first & table.M32, zone[1] - end & table.M32
         needs_low, needs_high = known[0] < least, known[1] > most
         name = (key, register, 'entering') if is_entering else (key, register)
         older = self.tests.get(name)
-        if older is None and not is_entering and needs_low and needs_high and self.rises(misfit.key, register):
+        if older is None and not is_entering and needs_low and needs_high:
+            rises, falls = self.goes(misfit.key, register)
+            needs_low, needs_high = not rises, not falls
+        if older is None and not is_entering and needs_low and needs_high and self.put_base_test(misfit, register, first, zone):
             needs_low = False
+        if older is not None and older.low != older.high and self.put_end_before(misfit.key, register, zone, older.high):
+            return
         if older is not None:
             needs_low, needs_high = needs_low or older.low, needs_high or older.high
             if (needs_low, needs_high) == (older.low, older.high):
                 needs_low = needs_high = True
         self.tests[name] = Test(key, is_entering, register, least, most, needs_low, needs_high, zone[3])
+
+    def is_told_above(self, key, register):
+        """Whether this round tests an access by a register already where each way to a node comes from, and it is only moved by numbers
+        between: what that tells is waited for."""
+        for other, tested in self.told_of:
+            if tested == register and other != key and self.graph.dominates(other, key):
+                writers = [self.code.nodes[at] for at in self.graph.writers(self.graph.between(other, key), register)]
+                if all(node.i.name == 'addi' and node.f['rs1'] == register and not graph.is_moved(node, register) for node in writers):
+                    return True
+        return False
+
+    def put_base_test(self, misfit, register, first, zone):
+        """A test of the lower end before the loop around an access whose address is there a number that stays, and an index that rises from a
+        known one. Whether there was one."""
+        made = self.maker_of(misfit.key, register)
+        for loop in sorted(self.graph.inside[misfit.key], key=lambda loop: -loop.depth)[:1] if made and self.hoists else ():
+            node = self.code.nodes[made[0]]
+            for base, index in ((node.f['rs1'], node.f['rs2']), (node.f['rs2'], node.f['rs1'])):
+                low, high = misfit.known.x[index].range
+                name = loop.head, base, 'entering'
+                if not base or base == index or base in made[1] or index in made[1] or self.graph.writers(loop.nodes, base) or high >= 1 << 31:
+                    continue
+                if not self.graph.is_natural(loop) or name in self.tests or not self.begins_with(loop, misfit.key, index, low):
+                    continue
+                self.tests[name] = Test(loop.head, True, base, zone[0] - first - low & table.M32, table.M32, True, False, zone[3])
+                return True
+        return False
+
+    def begins_with(self, loop, key, index, low):
+        """Whether an access is sure to come in the first round of a loop, with an index that has its least number then."""
+        register, shift = index, 0
+        if not counters.is_on_each_way(self.graph, loop, [key]) or any(to not in loop.nodes for at in self.graph.between(loop.head, key) - {key}
+                                                                      if at in loop.nodes for to in self.graph.leads[at]):
+            return False
+        writers = self.graph.writers(loop.nodes, index)
+        if len(writers) == 1 and self.code.nodes[writers[0]].i.name == 'slli' and self.graph.dominates(writers[0], key):
+            register, shift = self.code.nodes[writers[0]].f['rs1'], self.code.nodes[writers[0]].f['imm']
+        guess = self.guess_at(loop.head, self.found)
+        at_head = guess and guess.x[register]
+        moves = counters.moves_of(self.graph, loop, register)
+        return bool(at_head and moves and all(map(counters.is_rise, moves)) and at_head[0] << shift == low and at_head[1] << shift < 1 << 31
+                    and counters.setters_of(self.graph, loop, writers[0] if shift else key, register) == {None})
+
+    def goes(self, key, register):
+        """Whether a register only rises in the innermost loop around a node, and whether it only falls."""
+        for loop in sorted(self.graph.inside[key], key=lambda loop: -loop.depth)[:1]:
+            if self.graph.writers(loop.nodes, register):
+                return counters.only_rises(self.graph, loop, register), counters.only_falls(self.graph, loop, register)
+        return False, False
+
+    def put_end_before(self, key, register, zone, is_low):
+        """A test of one end of a zone before the loop around an access by a pointer that goes away from it. Whether there was one."""
+        rises, falls = self.goes(key, register)
+        for loop in sorted(self.graph.inside[key], key=lambda loop: -loop.depth)[:1]:
+            span, name = self.sure[loop.head].get(register), (loop.head, register, 'entering')
+            if span and (rises if is_low else falls) and self.hoists and self.graph.is_natural(loop) and name not in self.tests:
+                self.tests[name] = Test(loop.head, True, register, zone[0] - span[0] & table.M32, zone[1] - span[1] & table.M32, is_low, not is_low, zone[3])
+                return True
+        return False
+
+    def of_object(self, key, register, first, end, zone):
+        """What a test speaks of: on the stack, where one object lies, of all accesses that may come by the register."""
+        span = self.any[key].get(register) if zone == bases.stack_zone() else None
+        return (min(first, span[0]), max(end, span[1])) if span else (first, end)
 
     def place_of_test(self, key, register, first, end):
         """Where a register is tested: before the access, or on the ways into the outermost loop that does not write it and from whose head
@@ -109,13 +188,6 @@ class Addresses:
                 break
             found = loop.head, True
         return found
-
-    def rises(self, key, register):
-        """Whether a register only rises in the loops around a node."""
-        for loop in self.graph.inside[key]:
-            if self.graph.writers(loop.nodes, register):
-                return counters.only_rises(self.graph, loop, register)
-        return False
 
     def test_words(self, test):
         label = self.failed('count' if test.zone == COUNT else 'address', test.key[1], test.zone)
@@ -156,20 +228,45 @@ class Addresses:
         return [Number(other, factor), word('mul', rd=t, rs1=length, rs2=other)]
 
     def choice_words(self, key, choice):
-        """An access of which several zones are possible: a copy for each."""
+        """An access of which several zones are possible: a copy for each, chosen by halves."""
         if isinstance(choice[0], Strip):
             return self.strip_choice_words(key, choice)
-        node = self.code.nodes[key]
-        register, first, size, _ = graph.access_of(node) or (node.f['rs1'], 0, self.sizes[key], None)
         label = self.failed('address', key[1], ' or '.join(dict.fromkeys(zone[3] for zone in choice)))
-        out = []
-        for k, zone in enumerate(choice):
-            low, high = zone[0] - first & table.M32, zone[1] - first - size & table.M32
-            other = ('other', key, k) if k + 1 < len(choice) else label
-            t = self.temporary([key], 1 << register)
-            out += [Number(t, low), Branch('bltu', register, t, other), Number(t, high), Branch('bltu', t, register, other),
-                    Word(node.word, key), Jump(ZERO, ('joined', key)), Label(('other', key, k))]
-        return out + [Label(('joined', key))]
+        return [*self.chosen_zone(key, sorted(choice), label, True), Label(('joined', key))]
+
+    def chosen_zone(self, key, zones, label, needs_low):
+        """The choice among zones in the order of their addresses, of which the last one's copy falls through to what is behind."""
+        register = self.accessed(key)[0]
+        if len(zones) > 1:
+            half = len(zones) // 2
+            lower = 'lower', key, zones[half]
+            return [*self.compared(key, register, self.ends_of(key, zones[half])[0], True, lower, 0),
+                    *self.chosen_zone(key, zones[half:], label, False), Jump(ZERO, ('joined', key)),
+                    Label(lower), *self.chosen_zone(key, zones[:half], label, needs_low)]
+        low, high = self.ends_of(key, zones[0])
+        first = self.compared(key, register, low, True, label, 0) if needs_low else []
+        return [*first, *self.compared(key, register, high, False, label, 0), Word(self.code.nodes[key].word, key)]
+
+    def accessed(self, key):
+        """(register, offset, size) of what an access with a choice touches."""
+        node = self.code.nodes[key]
+        return (graph.access_of(node) or (node.f['rs1'], 0, self.sizes[key], None))[:3]
+
+    def ends_of(self, key, zone):
+        """What the register of an access is at least and at most, where the access lies in a zone."""
+        _, first, size = self.accessed(key)
+        return zone[0] - first & table.M32, zone[1] - first - size & table.M32
+
+    def numbers_of_zones(self, key, zones, weight, needs_low=True):
+        """The numbers that a choice among zones compares with, each with its weight."""
+        half = len(zones) // 2
+        if half:
+            yield self.ends_of(key, zones[half])[0], weight
+            yield from self.numbers_of_zones(key, zones[half:], weight / 2, False)
+            yield from self.numbers_of_zones(key, zones[:half], weight / 2, needs_low)
+        else:
+            low, high = self.ends_of(key, zones[0])
+            yield from ((value, weight) for value in ([low, high] if needs_low else [high]))
 
     def cut(self, known, misfit):
         """Leaves of what is known behind an access what a test before it will tell of its address."""
@@ -180,8 +277,9 @@ class Addresses:
         register, first, end = span
         zones = self.zones(misfit.key, register, 'store' in node.i.shape)
         if len(zones) == 1:
-            first, end = self.sure[misfit.key].get(register, (first, end))
+            first, end = self.of_object(misfit.key, register, *self.sure[misfit.key].get(register, (first, end)), zones[0])
             number = known.x[register]
             low, high = max(number.range[0], zones[0][0] - first & table.M32), min(number.range[1], zones[0][1] - end & table.M32)
             if low <= high:
                 quick.cut(known, register, (low, high))
+

@@ -12,6 +12,7 @@ STRIPS = ('-mllvm', '-force-tail-folding-style=data-with-evl', '-mllvm', '-prefe
           '-mllvm', '-lower-interleaved-accesses=false', '-mllvm', '-enable-interleaved-mem-accesses=false')
 NO_FOLD = ('-mllvm', '-lsr-term-fold=false')
 RUNTIME = pathlib.Path(__file__).with_name('runtime.c')
+HEADERS = '-idirafter', str(RUNTIME.with_name('headers'))       # behind the compiler's own
 SECTIONS = ('-ffunction-sections', '-fdata-sections', '-Wl,--gc-sections')
 SPARE = ('-ffixed-x26', '-ffixed-x27')
 
@@ -51,7 +52,7 @@ def compiled(flag_set, sources, out, entry, more=()):
     """Compiles and links, with what freestanding C may call where the sources leave that undefined. What the compiler said where it
     failed, else None."""
     place = [] if entry == '_start' else [f'-Wl,-e,{entry}']
-    command = [*flag_set.command, *more, *place, *map(str, sources), '-o', str(out)]
+    command = [*flag_set.command, *HEADERS, *more, *place, *map(str, sources), '-o', str(out)]
     ran = subprocess.run(command, capture_output=True, text=True)
     if ran.returncode and re.search(r'undefined (symbol|reference)', ran.stderr):
         with_runtime = subprocess.run([*command, *SECTIONS, str(RUNTIME)], capture_output=True, text=True)

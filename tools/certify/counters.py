@@ -116,19 +116,26 @@ def mirror_counters(the_graph, loop, most):
 
 def setters_of(the_graph, loop, key, register):
     """The nodes of a loop that may have set a register last before a node, and None where it is as it was at the head."""
-    out, todo, seen = set(), [key], {key}
+    name = 'setters', loop.head, key, register
+    if name not in the_graph.known:
+        the_graph.known[name] = frozenset(setters_before(the_graph, loop, key, register))
+    return the_graph.known[name]
+
+
+def setters_before(the_graph, loop, key, register):
+    """The same, looked for."""
+    todo, seen = [key], {key}
     while todo:
         at = todo.pop()
         if at == loop.head:
-            out.add(None)
+            yield None
             continue
         for come in the_graph.comes[at]:
             if come in loop.nodes and the_graph.writers([come], register):
-                out.add(come)
+                yield come
             elif come in loop.nodes and come not in seen:
                 seen.add(come)
                 todo.append(come)
-    return out
 
 
 def last_setters(the_graph, loop, x):
@@ -142,12 +149,24 @@ def last_setters(the_graph, loop, x):
 def rise_by(the_graph, loop, setter, x, depth=0):
     """By how much a register is above x of the head at least, behind the node that sets it by sums with numbers alone; None where it is
     computed otherwise."""
+    name = 'rise', loop.head, setter, x, depth
+    if name not in the_graph.known:
+        the_graph.known[name] = rise_behind(the_graph, loop, setter, x, depth)
+    return the_graph.known[name]
+
+
+def rise_behind(the_graph, loop, setter, x, depth):
+    """The same, computed."""
     node = the_graph.nodes[setter]
     if node.i.name != 'addi' or node.loads or node.stores or depth > 4:
         return None
-    before = setters_of(the_graph, loop, setter, node.f['rs1'])
-    rises = [(0 if node.f['rs1'] == x else None) if it is None else rise_by(the_graph, loop, it, x, depth + 1) for it in before]
-    return None if None in rises or not rises else min(rises) + node.f['imm']
+    before, least = setters_of(the_graph, loop, setter, node.f['rs1']), None
+    for it in before:
+        rise = (0 if node.f['rs1'] == x else None) if it is None else rise_by(the_graph, loop, it, x, depth + 1)
+        if rise is None:
+            return None
+        least = rise if least is None else min(least, rise)
+    return None if least is None else least + node.f['imm']
 
 
 def rises_anew(the_graph, loop, x):
@@ -182,6 +201,12 @@ def only_rises(the_graph, loop, x):
     """Whether a register only rises in a loop, in place or computed anew."""
     moves = moves_of(the_graph, loop, x)
     return rises_anew(the_graph, loop, x) if moves is None else all(map(is_rise, moves))
+
+
+def only_falls(the_graph, loop, x):
+    """The same with falls."""
+    moves = moves_of(the_graph, loop, x)
+    return falls_anew(the_graph, loop, x) if moves is None else not any(map(is_rise, moves))
 
 
 def together(the_graph, loop, most, rising):

@@ -19,7 +19,7 @@ class Graph:
     """The graph of `program.Code`."""
 
     def __init__(self, code, vlenb=16):
-        self.code, self.nodes, self.leads = code, code.nodes, code.leads
+        self.code, self.nodes, self.leads, self.known = code, code.nodes, code.leads, {}     # (known: what `counters` asks for again)
         self.order = reversed_postorder(code.entry, code.leads)
         self.place = {key: k for k, key in enumerate(self.order)}
         self.comes = {key: [] for key in self.order}
@@ -89,6 +89,16 @@ class Graph:
     def depth(self, key):
         return len(self.inside[key])
 
+    def between(self, one, two):
+        """The nodes on the ways from a node to one that it dominates, the first one among them."""
+        found, todo = {one}, [two]
+        while todo:
+            for come in self.comes[todo.pop()]:
+                if come not in found:
+                    found.add(come)
+                    todo.append(come)
+        return found
+
     # ---- Registers that are still read -----------------------------------------------------------------------------------
 
     def live_at(self):
@@ -133,28 +143,29 @@ class Graph:
 
     # ---- Accesses that are sure to come --------------------------------------------------------------------------------------
 
-    def sure_accesses(self):
+    def sure_accesses(self, is_any=False):
         """node -> {register: (first, end)}: offsets from the register's number there between which accesses are sure to come. What lies
-        between the lowest and the highest on every way."""
+        between the lowest and the highest on every way. is_any: on some way, as far as that ends."""
         sure, todo = {}, list(self.order)
         for _ in range(8 * len(self.order)):
             if not todo:
                 return sure
             key = todo.pop()
             known = [without_loaded(self.nodes[to], sure[to]) for to in self.leads[key] if to in sure]
-            now = self.before_access(key, met(known) if known else {})
+            now = self.before_access(key, (joined if is_any else met)(known) if known else {}, not is_any)
             if sure.get(key) != now:
                 sure[key] = now
                 todo += self.comes[key]
         return {key: self.before_access(key, {}) for key in self.order}
 
-    def before_access(self, key, behind):
-        """What is sure before a node, from what is sure behind it."""
+    def before_access(self, key, behind, moves=True):
+        """What is sure before a node, from what is sure behind it. moves: whether accesses by a register that it computes from another one
+        count for that."""
         node = self.nodes[key]
         now = behind
         if used_and_set(node)[1] or node.stores:
             now = {register: span for register, span in behind.items() if not used_and_set(node)[1] >> register & 1}
-        if node.i.name == 'addi' and node.f['rs1'] not in (0, 2) and node.f['rd'] in behind and not node.stores:
+        if moves and node.i.name == 'addi' and node.f['rs1'] not in (0, 2) and node.f['rd'] in behind and not node.stores:
             first, end = behind[node.f['rd']]
             now = with_span(now, node.f['rs1'], first + node.f['imm'], end + node.f['imm'])
         span = self.span_of(key)
@@ -286,4 +297,14 @@ def met(ways):
                     out[register] = first, end
                     continue
             del out[register]
+    return out
+
+
+def joined(ways):
+    """What lies on any of the ways."""
+    out = {}
+    for way in ways:
+        for register, (first, end) in way.items():
+            own = out.get(register, (first, end))
+            out[register] = min(own[0], first), max(own[1], end)
     return out

@@ -59,6 +59,7 @@ class Maker(Registers, Pace, Addresses, Strips, Tables):
         self.rests = {}                         # (head, x) -> counter
         self.fuelled = set()                    # heads
         self.tests, self.choices, self.strips, self.sizes = {}, {}, {}, {}
+        self.told_of, self.found = [], None     # of this round: which accesses are tested, by which registers, and what it has found
         self.masks, self.indices, self.retyped = {}, {}, set()
         self.read_code()
 
@@ -70,7 +71,7 @@ class Maker(Registers, Pace, Addresses, Strips, Tables):
             evict.evicted(self.code, self.graph, self.bases, self.params, self.evicted)
             self.graph = graph.Graph(self.code, self.vlen // 8)
             self.bases = bases.Bases(self.code, self.graph, self.params)
-        self.sure, self.its_vectors = self.graph.sure_accesses(), None
+        self.sure, self.any, self.its_vectors = self.graph.sure_accesses(), self.graph.sure_accesses(True), None
         self.same_lengths = set(self.graph.same_lengths(self.vlen // 8))
         self.reloads = reloads.reloads(self.code, self.graph, self.params, self.bases)
         self.loop_of = {loop.head: loop for loop in self.graph.loops}
@@ -332,10 +333,10 @@ class Maker(Registers, Pace, Addresses, Strips, Tables):
 
     def mend(self, found, image):
         """Puts in more: counters that ask for no guard first, then guards, then other counters and fuel. Whether there was anything."""
-        before = self.signature()
+        before, self.told_of, self.found = self.signature(), [], found
         if self.widen_tables(found, image):
             return True
-        misfits = [misfit for misfit in self.misfits(found, image) if misfit.key in self.code.nodes]
+        misfits = sorted((misfit for misfit in self.misfits(found, image) if misfit.key in self.code.nodes), key=lambda it: self.graph.place[it.key])
         for misfit in misfits:
             if misfit.rule == 'TargetNotABlock':
                 self.lead(misfit, found, image)

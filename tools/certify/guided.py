@@ -12,12 +12,25 @@ class Guided(search.Finder):
     def __init__(self, image, params, vlen, plan, maker, shared=None):
         super().__init__(image, params, vlen, plan, shared, maker.watch)
         self.maker = maker
-        self.marks = sorted({*self.marks, *(end for test in maker.tests.values() for end in (test.least, test.most))})
+        self.marks = sorted({*self.marks, *(end for test in maker.tests.values() for end in (test.least, test.most)), *maker.ends_that_are_tested()})
 
     def settle_flow(self):
+        """Where all jumps lead is told by the words of guarded code, so that no fixpoint over all registers has to find it."""
+        if self.plan.cuts not in self.shared.flows:
+            words, targets = flow.blocks_of(self.image, self.starts)
+            ends = {start: some[-1] for start, some in words.items() if some}
+            if all(targets[start] or self.is_last(pc, i) for start, (pc, i, _) in ends.items()):
+                calls = {start: {pc + f['to']} for start, (pc, i, f) in ends.items() if i.shape == 'jal' and f['rd']}
+                self.words, self.targets = {start: words[start] for start in ends}, targets | calls
+                self.shared.flows[self.plan.cuts] = set(ends), self.words, self.targets, search.Uses(self.words), self.loops_around()
         super().settle_flow()
         for start in list(self.words):
             self.live[start] = self.live[start] | self.maker.kept_at(start)
+
+    def is_last(self, pc, i):
+        """Whether a run ends behind a word."""
+        node = self.maker.code.nodes.get(self.maker.node_at.get(pc) if self.maker.laid else ((), pc))
+        return i.shape == 'ecall' or node is not None and self.maker.code.is_exit(node)
 
     def sums_at(self, start, space):
         live = self.live[start]

@@ -16,7 +16,8 @@ LEAST_FUEL = 1024
 QUICK = 12                  # processor seconds up to which a second way is tried
 # Whether tests go before loops, whether inner loops have counters, and whether large functions have one copy where copies make much code.
 WAYS = (True, True, True), (False, True, True), (True, False, True), (True, True, False)
-FIND_AT_MOST = 8            # processor seconds for the search without guards
+FIND_AT_MOST = 4            # processor seconds for the search without guards
+ENOUGH = 1.08               # how many times the steps of the unguarded code are so few that no other way is tried
 NO_STATUS = 'without --status a run that a guard ended cannot be told from a whole one'
 
 # What was made: the image's bytes with its note, the certificate, and the maker, or None where nothing was put in.
@@ -54,7 +55,7 @@ def guarded(data, image, job, vlen, looking, fuel, status):
     ways, trouble, start, maker = [], None, time.process_time(), None
     for hoists, counts, shares in WAYS:
         first = ways[0][0] if ways else None
-        if first and (not can_measure(job) or time.process_time() - start > QUICK):
+        if first and (not can_measure(job) or time.process_time() - start > QUICK or is_cheap(data, ways[0], job, vlen)):
             break
         if first and not (counts and first.is_hoisted() or not counts and first.counts_within()):
             continue
@@ -88,6 +89,12 @@ def made_by(maker, job, vlen, fuel):
         except notes.Trouble as e:
             trouble = trouble or e
     raise trouble
+
+
+def is_cheap(data, way, job, vlen):
+    """Whether guards cost the job's own run next to nothing."""
+    plain = host.run(job.table, data, job.params, job.contents(), vlen).steps
+    return plain is not None and steps_of(way[0], way[1], job, vlen) <= ENOUGH * plain
 
 
 def steps_of(maker, out, job, vlen):

@@ -65,6 +65,13 @@ class Pace:
             out += self.times(head, k, rounds, counter.step, more) + [word('add', rd=k, rs1=k, rs2=register)]
             self.enter(head, out + self.compared(head, k, end.most, False, label, more, None, True))
 
+    def ends_that_are_tested(self):
+        """The numbers at which pointers are known to stand before loops and behind them."""
+        for counter in self.rests.values():
+            if counter.kind == counters.END:
+                end = counter.end
+                yield from (end.least, end.most, end.rounds, end.most - counter.step & table.M32, end.least + counter.step & table.M32)
+
     def give_end(self, misfit, register, zone):
         """A test of where a pointer will stand when the loop around an access ends, where each round of it has that access. Whether it was
         given."""
@@ -114,9 +121,10 @@ class Pace:
             self.edits.before[head] = [Branch('beq', f, ZERO, ends), word('addi', rd=f, rs1=f, imm=-1), *self.edits.before.get(head, [])]
 
     def paying_heads(self):
-        """The heads at which fuel is paid: not that of a loop of which each way round comes to another one that pays."""
+        """The heads at which fuel is paid: not that of a loop of which each way round comes to another one that pays. Those of inner loops
+        are settled first, since outer ones rely on them."""
         heads = set(self.fuelled)
-        for head in sorted(heads, key=lambda head: self.loop_of[head].depth):
+        for head in sorted(heads, key=lambda head: -self.loop_of[head].depth):
             loop, others = self.loop_of[head], heads - {head}
             if self.graph.is_natural(loop) and counters.is_on_each_way(self.graph, loop, others & loop.nodes):
                 heads.remove(head)
@@ -146,6 +154,9 @@ class Pace:
             loop, tried = self.loop_of[head], self.tried.setdefault(head, [])
             if head in self.fuelled or head in done or self.is_paid_around(loop):
                 return
+            if kinds == self.possible and self.bound_count(loop):
+                done.add(head)
+                return
             for counter in kinds(loop, found) if self.graph.is_natural(loop) and (self.counts or loop.depth == 1) else ():
                 name = counter.kind, counter.x, counter.end, counter.is_tested, counter.more
                 if name not in tried:
@@ -160,6 +171,20 @@ class Pace:
                 self.counters.pop(head, None)
                 self.fuelled.add(head)
                 done.add(head)
+
+    def bound_count(self, loop):
+        """A test, before a loop, of a count that falls by one to 0, where that alone ends the loop: then it needs no counter. Whether there
+        was one."""
+        if not self.graph.is_natural(loop) or not self.counts:
+            return False
+        for counter in counters.left_counters(self.graph, loop, {}):
+            name = loop.head, counter.x, 'entering'
+            falls_by_one = not counter.end and not counter.rises and counter.step == 1 and len(counter.moves) == 1
+            if falls_by_one and name not in self.tests and self.is_left_at_end(loop, counter):
+                self.tests[name] = Test(loop.head, True, counter.x, 1, self.most_rounds, True, True, COUNT)
+                self.counters.pop(loop.head, None)
+                return True
+        return False
 
     def bound_before(self, loop, found):
         """Tests pointers that rise in a loop before it as well, where each round is sure to test them, so that it is known how far they may
@@ -193,7 +218,15 @@ class Pace:
         yield from counters.mirror_counters(self.graph, loop, self.most_at(loop.head, found))
         for counter in counters.left_counters(self.graph, loop, self.numbers_at(loop, found)):
             yield counter
-            yield counter._replace(is_tested=True)
+            if self.is_left_at_end(loop, counter):
+                yield counter._replace(is_tested=True)
+
+    def is_left_at_end(self, loop, counter):
+        """Whether a loop that ends where x meets e is left in no other way, or x and e point into the same: else a run may be right that
+        leaves it before, and never would meet e."""
+        ways_out = {key for key in loop.nodes if not self.graph.leads[key] or any(to not in loop.nodes for to in self.graph.leads[key])}
+        stems = self.bases.at(loop.head)
+        return ways_out <= set(counter.exits) or bool(stems.get(counter.x)) and stems.get(counter.x) == stems.get(counter.end)
 
     def lessen(self, found):
         """Tests counts of loops before them where they may be great numbers, else gives such loops other counters. Whether there was one."""

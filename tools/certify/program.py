@@ -13,7 +13,7 @@ import notes
 from outside import certificates, model, table
 
 WORDS_AT_MOST = 1 << 16
-MOST_COPIED = 900           # nodes up to which each call has a copy of its function
+MOST_COPIED = 600           # nodes up to which each call has a copy of its function
 MOST_READ = 1 << 12         # nodes that are read before some functions have one copy
 LARGE = 24                  # words from which on a function is a large one
 LINKS = (1, 5)              # the registers that the calling convention leaves return addresses in

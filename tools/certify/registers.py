@@ -2,7 +2,7 @@
 import counters
 import graph
 import program
-from kinds import NEVER_GIVEN, ORDER, NoRegister
+from kinds import NEVER_GIVEN, ORDER, NoRegister, Strip
 from program import RA, SP, Number
 
 
@@ -73,6 +73,7 @@ class Registers:
         for head, counter in self.counting():
             if counter.registers and key in self.loop_of[head].nodes:
                 (last if counter.kind == counters.MIRROR else first).add(counter.registers[0])
+                first |= {counter.x} if counter.kind == counters.MIRROR else set()     # (what is known of it tells of its counter)
         return first, last
 
     def temporary(self, keys, more=0):
@@ -129,6 +130,9 @@ class Registers:
         for key, index in self.indices.items():
             for value in (index.most, *(2 * [index.first] if index.first is not None else [])):
                 yield key, False, value, words(value)
+        for key, choice in self.choices.items():
+            if not isinstance(choice[0], Strip):
+                yield from ((key, False, value, words(value) * weight) for value, weight in self.numbers_of_zones(key, sorted(choice), 1))
         for key, node in self.code.nodes.items():
             if node.pc in self.tables and node.i.shape == 'jalr':
                 yield from ((key, False, value, weight) for value, weight in self.numbers_of_choice(node, self.targets_of(key), 2))

@@ -54,6 +54,11 @@ class Cc(Case):
         self.assertEqual((ran.fault, ran.steps is None), (None, False))
         return [struct.unpack('<I', ran.buffers[place])[0] for place in (3, 4)]
 
+    def test_memory_functions_of_string_h(self):
+        source = '#include <string.h>\n' + PLACE.replace('    *at = i + MORE;', '    i += MORE;\n    memcpy(at, &i, sizeof i);')
+        status, out, err = self.cc(source=source)
+        self.assertEqual(status, 0, out + err)
+
     def test_the_last_line_is_that_of_check(self):
         status, out, err = self.cc('--map', self.folder / 'map')
         self.assertEqual(status, 0, out + err)

@@ -3,6 +3,8 @@ import struct
 import unittest
 import unittest.mock
 
+import counters
+import guard
 import notes
 import program
 import small
@@ -297,6 +299,36 @@ class Kinds(unittest.TestCase):
             next: addi a3, a3, -1; bnez a3, more; sw a2, 0(a1); ret'''
         made = self.guards(text, [reads(4), writes(4)], [[word(many), bytes(4)] for many in (0, 1, 7)], [[word(1 << 30), bytes(4)]], 'count')
         self.assertEqual(len(made.maker.fuelled), 0)
+
+    def test_a_count_that_falls_to_0_needs_no_counter(self):
+        """Its body comes before it is asked for, so that it may begin at 0."""
+        text = 'lw t0, 0(a0); at: addi a2, a2, 3; addi t0, t0, -1; bnez t0, at; sw a2, 0(a1); ret'
+        made = self.guards(text, [reads(4), writes(4)], [[word(many), bytes(4)] for many in (1, 7)], [[word(0), bytes(4)], [word(1 << 30), bytes(4)]], 'count')
+        self.assertEqual((made.maker.fuelled, made.maker.counters), (set(), {}))
+
+    def test_a_count_of_a_loop_that_is_left_by_another_way(self):
+        """It would miss its end, and a run is right all the same."""
+        text = 'lw t0, 0(a0); li t2, 9; at: beq t0, t2, end; mv t3, t0; addi t0, t0, -1; addi a2, a2, 3; bnez t3, at; end: sw a2, 0(a1); ret'
+        self.guards(text, [reads(4), writes(4)], [[word(many), bytes(4)] for many in (0, 5, 9, 12)], [])
+
+    def test_fuel_is_paid_round_each_loop(self):
+        """An inner loop pays for one around it only where each way round that one comes to it."""
+        text = ('more: addi t0, t0, 1; inner: lw t1, 0(a0); beqz t1, out; innermost: lw t2, 0(a0); bnez t2, innermost; lw t3, 0(a0); bnez t3, inner; '
+                'out: lw t4, 0(a0); bnez t4, more; ret')
+        data = small.image(text)
+        maker = guard.Maker(data, certificates.read_image(data), [reads(4)], 128)
+        maker.fuelled = set(maker.loop_of)
+        paying = maker.paying_heads()
+        self.assertLess(paying, maker.fuelled)
+        for loop in maker.graph.loops:
+            self.assertTrue(counters.is_on_each_way(maker.graph, loop, paying & loop.nodes), loop.head)
+
+    def test_one_test_of_a_register_for_accesses_behind_one_another(self):
+        """The second access stands behind a branch, and the pointer is moved before the third one."""
+        some = lambda offset: [word(offset), TAKEN_APART[:16], bytes(4)]
+        made = self.guards('lw t0, 0(a0); at: add t1, a1, t0; lbu t2, 0(t1); beqz t2, end; lbu t2, 0(t1); addi t1, t1, 4; beqz t2, end; lbu t3, -4(t1); end: sw t2, 0(a2); ret',
+                           [reads(4), reads(16), writes(4)], [some(0), some(15)], [some(16), some(-1)])
+        self.assertEqual(len(made.maker.tests), 1)
 
     def test_the_entrys_return_in_memory(self):
         made = self.guards(self.CALL.format('jal ra, f') + 'f: sw a0, 0(a1); ret', [scalar(0, 1000), writes(4)], [[12, bytes(4)]], [])
