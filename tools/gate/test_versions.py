@@ -11,9 +11,9 @@ ROOT = Path(__file__).resolve().parents[2]
 
 
 def found(pattern, *path):
-    """What the groups of the pattern are in a file, which has it once."""
+    """What the groups of the pattern are in a file, which has it once, or says the same each time."""
     matches = re.findall(pattern, ROOT.joinpath(*path).read_text(), re.M)
-    if len(matches) != 1:
+    if len(set(matches)) != 1:
         raise AssertionError(f'{Path(*path)}: {len(matches)} of {pattern}')
     return matches[0]
 
