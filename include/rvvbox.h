@@ -208,7 +208,8 @@ struct rvvbox_registers {
 };
 
 /* A session: a run that stands still between two calls. rvvbox_open makes each, and rvvbox_drop lets it go. It has copies of what it was
- * opened on, so kernel and arguments may go before it does. It may go from thread to thread, and has one call at a time. */
+ * opened on, so kernel and arguments may go before it does. It has one call at a time. That it may go from thread to thread is tested,
+ * and not proved. */
 struct rvvbox_session;
 
 /* ---- What the library has. */
