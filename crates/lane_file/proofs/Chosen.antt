@@ -1,8 +1,6 @@
 -- Bytes that are chosen by flags.
-use Rattle.std.proofs.Common.{◌≡◌, inl, inr, [], ◌∷◌, ◌==◌, if◌then◌else◌, ℕ, ◌+◌, ◌-◌, ◌*◌, ◌^◌, ◌<◌, Bool, true, false, List, zero, suc, length, get_or, refl, ap, sym, ◌∙◌, arith, pow-suc}
-use Rattle.std.proofs.lemmas.Bool.Decides.{eqb_tells}
+use Rattle.std.proofs.Common.{◌≡◌, if◌then◌else◌, ℕ, ◌+◌, ◌-◌, ◌*◌, ◌^◌, ◌<◌, Bool, true, false, List, zero, suc, get_or, refl, ap, sym, ◌∙◌, arith, pow-suc}
 use Rattle.byteorder.specs.Endian.{little_from}
-use Rattle.vreg_groups.specs.Chunks.{chosen}
 use Rattle.vreg_groups.specs.NewElements.{filled}
 use Rattle.vreg_groups.specs.declared.policies.Agnostic.{Agnostic}
 use Rattle.vreg_groups.specs.declared.policies.Agnostic.TheVariants.{Keep, Ones}

@@ -1,18 +1,15 @@
 -- The body and the tail of a group as a write of its results.
 use Rattle.std.proofs.Common.{◌≡◌, ◌⊎◌, ℕ, ◌+◌, ◌-◌, ◌*◌, ◌/◌, ◌^◌, ◌<◌, ◌≤◌, ◌==◌, ◌||◌, Bool, true, false, List, ◌++◌, suc, subst, append_assoc, length, take, drop, get_or, replicate, refl, ap, ap₂, sym, ◌∙◌, arith, inl, inr, zero-add, if◌then◌else◌}
-use Rattle.std.specs.Int.{Width}
 use Rattle.std.specs.Prelude.{nat_le}
 use Rattle.std.specs.List.{range_with_len}
-use lib.Lanes.{zip2}
 use Rattle.std.proofs.Math.Nat.{mul-le-mul_left}
 use Rattle.std.proofs.lemmas.Bool.{lt-ltb, cases_lt}
 use Rattle.std.proofs.lemmas.Bool.Decides.{eqb_tells, leb_tells}
 use Rattle.std.proofs.lemmas.List.{length-map, get_or-map, length-replicate, get_or-replicate, get_or-take, get_or-drop, get_or_past, get_or_append_left, get_or-append_right, length-take-le, length-append, length-drop}
 use Rattle.std.proofs.lemmas.List.FromFn.{length-range_with_len, get_or-range_with_len}
-use Rattle.std.proofs.lemmas.Simd.{get_or-zip2, length-zip2}
 use Rattle.byteorder.specs.Endian.{little_from}
-use Rattle.lane_int.specs.Integer.{element}
-use Rattle.rv_decode.specs.declared.instructions.IntOp.{IntOp}
+use Rattle.lane_int.specs.LaneLemmas.{get_or-zip3, length-zip3}
+use Rattle.lane_int.specs.Lists.{zip3}
 use Rattle.vreg_groups.specs.Elements.{active_of, bytes_from, element_at, elements_of, mask_bit, mask_bits, number_at}
 use Rattle.vreg_groups.specs.NewElements.{filled, new_element, overlaid, write_of}
 use Rattle.vreg_groups.specs.Group.{Span, written}
@@ -68,25 +65,25 @@ second_places_apart vlenb count d n (Splat value) is le = tt
 
 -- ---- lists of elements
 
-element_there : (vlenb size first n : ℕ) (file : List ℕ) (i e : ℕ) → i < n → get_or (elements_of vlenb size first n file) i e ≡ little_from (first * vlenb + size * i) size file
+pub element_there : (vlenb size first n : ℕ) (file : List ℕ) (i e : ℕ) → i < n → get_or (elements_of vlenb size first n file) i e ≡ little_from (first * vlenb + size * i) size file
 unfolding elements_of element_at number_at
 element_there vlenb size first n file i e lt =
     get_or-map (λ j. little_from (first * vlenb + size * j) size file) (range_with_len 0 n) i 0 e (omega (arith, lt, length-range_with_len 0 n))
     ∙ ap (λ j. little_from (first * vlenb + size * j) size file) (get_or-range_with_len 0 n i 0 lt ∙ zero-add i)
 
-length-elements : (vlenb size first n : ℕ) (file : List ℕ) → length (elements_of vlenb size first n file) ≡ n
+pub length-elements : (vlenb size first n : ℕ) (file : List ℕ) → length (elements_of vlenb size first n file) ≡ n
 unfolding elements_of
 length-elements vlenb size first n file = length-map (range_with_len 0 n) _ ∙ length-range_with_len 0 n
 
-second_there : {A : Type 0} (vlenb size n : ℕ) (number : A → ℕ) (b : Second A) (file : List ℕ) (i e : ℕ) → i < n → get_or (second_list vlenb size number n b file) i e ≡ other_of vlenb size number b (size * i) file
+pub second_there : {A : Type 0} (vlenb size n : ℕ) (number : A → ℕ) (b : Second A) (file : List ℕ) (i e : ℕ) → i < n → get_or (second_list vlenb size number n b file) i e ≡ other_of vlenb size number b (size * i) file
 second_there vlenb size n number (Group vs1) file i e lt = element_there vlenb size vs1 n file i e lt
 second_there vlenb size n number (Splat value) file i e lt = get_or-replicate n i (number value) e lt
 
-length-second : {A : Type 0} (vlenb size n : ℕ) (number : A → ℕ) (b : Second A) (file : List ℕ) → length (second_list vlenb size number n b file) ≡ n
+pub length-second : {A : Type 0} (vlenb size n : ℕ) (number : A → ℕ) (b : Second A) (file : List ℕ) → length (second_list vlenb size number n b file) ≡ n
 length-second vlenb size n number (Group vs1) file = length-elements vlenb size vs1 n file
 length-second vlenb size n number (Splat value) file = length-replicate n (number value)
 
-active_there : (vlenb n : ℕ) (masked : Bool) (file : List ℕ) (i : ℕ) → i < n → get_or (active_of vlenb masked n file) i false ≡ is_active vlenb masked i file
+pub active_there : (vlenb n : ℕ) (masked : Bool) (file : List ℕ) (i : ℕ) → i < n → get_or (active_of vlenb masked n file) i false ≡ is_active vlenb masked i file
 unfolding active_of mask_bits mask_bit
 active_there vlenb n true file i lt =
     get_or-map (λ j. mask_bit vlenb 0 file j) (range_with_len 0 n) i 0 false (omega (arith, lt, length-range_with_len 0 n))
@@ -162,23 +159,25 @@ in_tail policy ones results active i old le = elim (leb_tells (suc i) (length re
   | inr ge ↦ sym (rw (ge.0) refl)
 ]
 
-pub is_a_write : {A : Type 0} (vlenb size vl first a count : ℕ) (w : Width) (number : A → ℕ) (op : IntOp) (b : Second A) (masked : Bool) (policy : Policy) (old mid new : List ℕ) →
+pub is_a_write : {A : Type 0} (vlenb size vl first a count : ℕ) (number : A → ℕ) (f : ℕ → ℕ → ℕ → ℕ) (b : Second A) (masked : Bool) (policy : Policy) (old mid new : List ℕ) →
     IsVlenb vlenb → (size ≡ 1) ⊎ (size ≡ 2) ⊎ (size ≡ 4) → first + count ≤ 32 → size * vl ≤ count * vlenb → length old ≡ 32 * vlenb → ((k : ℕ) → get_or new k 0 < 256)
-    → IsDone size (first * vlenb) (target vlenb size w number op (first * vlenb) (a * vlenb) b masked policy.inactive old) (size * vl) mid
+    → IsDone size (first * vlenb) (target vlenb size number f (first * vlenb) (a * vlenb) b masked policy.inactive old) (size * vl) mid
     → IsKept (first * vlenb) (size * vl) old mid
     → new ≡ filled policy.tail (overlaid (first * vlenb + size * vl) (replicate (count * vlenb - size * vl) 255) mid) mid
     → new ≡ write_of vlenb size first count policy
-    (zip2 (element op w) (elements_of vlenb size a vl old) (second_list vlenb size number vl b old)) (active_of vlenb masked vl old) old
+    (zip3 f (elements_of vlenb size a vl old) (second_list vlenb size number vl b old) (elements_of vlenb size first vl old)) (active_of vlenb masked vl old) old
 unfolding element_at number_at
-is_a_write vlenb size vl first a count w number op b masked policy old mid new v s inside fits registers small done kept is =
+is_a_write vlenb size vl first a count number f b masked policy old mid new v s inside fits registers small done kept is =
     let d = first * vlenb in
     let xs = elements_of vlenb size a vl old in
     let ys = second_list vlenb size number vl b old in
-    let rs = zip2 (element op w) xs ys in
+    let ds = elements_of vlenb size first vl old in
+    let rs = zip3 f xs ys ds in
     let acts = active_of vlenb masked vl old in
     let long_x = length-elements vlenb size a vl old in
     let long_y = length-second vlenb size vl number b old in
-    let long : length rs ≡ length xs = length-zip2 (element op w) xs ys (long_x ∙ sym long_y) in
+    let long_d = length-elements vlenb size first vl old in
+    let long : length rs ≡ length xs = length-zip3 f xs ys ds (long_y ∙ sym long_x) (long_d ∙ sym long_x) in
     let all : d + count * vlenb ≤ 32 * vlenb = group_room vlenb first count (count * vlenb) inside (omega arith) in
     let room : d + size * vl + (count * vlenb - size * vl) ≤ length mid = omega (arith, all, kept.0, registers, fits) in
     let there : (k : ℕ) → k < d + size * vl → get_or new k 0 ≡ get_or mid k 0 = λ k lt. filled_other policy.tail (d + size * vl) (count * vlenb - size * vl) k mid new room is (inl lt) in
@@ -190,10 +189,11 @@ is_a_write vlenb size vl first a count w number op b masked policy old mid new v
           same_number size (d + size * i) (d + size * i) new mid (λ k p q less is_p is_q. there p (omega (arith, is_p, le, less)) ∙ ap (λ t. get_or mid t 0) (omega (arith, is_p, is_q))) in
           let was = little_from (d + size * i) size old in
           same ∙ done i (omega (arith, le))
-          ∙ in_body policy (256 ^ size - 1) rs acts i was (element op w (little_from (a * vlenb + size * i) size old) (other_of vlenb size number b (size * i) old)) (is_active vlenb masked i old)
+          ∙ in_body policy (256 ^ size - 1) rs acts i was (f (little_from (a * vlenb + size * i) size old) (other_of vlenb size number b (size * i) old) was) (is_active vlenb masked i old)
           (omega (arith, lt, long, long_x)) (active_there vlenb vl masked old i lt)
-          (get_or-zip2 (element op w) xs ys i 0 0 was (omega (arith, lt, long_x)) (omega (arith, lt, long_y))
-          ∙ ap₂ (element op w) (element_there vlenb size a vl old i 0 lt) (second_there vlenb size vl number b old i 0 lt))
+          (get_or-zip3 f xs ys ds i 0 0 0 was (omega (arith, lt, long_x)) (omega (arith, lt, long_y)) (omega (arith, lt, long_d))
+          ∙ ap₂ (λ x y. f x y (get_or ds i 0)) (element_there vlenb size a vl old i 0 lt) (second_there vlenb size vl number b old i 0 lt)
+          ∙ ap (f (little_from (a * vlenb + size * i) size old) (other_of vlenb size number b (size * i) old)) (element_there vlenb size first vl old i 0 lt))
       | inr ge ↦
           let le : size * vl ≤ size * i = mul-le-mul_left size ge in
           filled_number policy.tail size (d + size * i) old new (λ k less.
@@ -219,12 +219,12 @@ small_from first n part new e long is small k =
     ]
 
 -- the same from other names of the places
-pub moved_done : {A : Type 0} (vlenb size pd d pa a n m : ℕ) (w : Width) (number : A → ℕ) (op : IntOp) (b : Second A) (masked : Bool) (inactive : Agnostic) (old mid : List ℕ) → pd ≡ d → pa ≡ a → n ≡ m
-    → IsDone size pd (target vlenb size w number op pd pa b masked inactive old) n mid → IsDone size d (target vlenb size w number op d a b masked inactive old) m mid
-moved_done vlenb size pd d pa a n m w number op b masked inactive old mid is_d is_a is_n done =
-    subst (λ (z : ℕ). IsDone size z (target vlenb size w number op z a b masked inactive old) m mid) is_d
-    (subst (λ (z : ℕ). IsDone size pd (target vlenb size w number op pd z b masked inactive old) m mid) is_a
-    (subst (λ (z : ℕ). IsDone size pd (target vlenb size w number op pd pa b masked inactive old) z mid) is_n done))
+pub moved_done : {A : Type 0} (vlenb size pd d pa a n m : ℕ) (number : A → ℕ) (f : ℕ → ℕ → ℕ → ℕ) (b : Second A) (masked : Bool) (inactive : Agnostic) (old mid : List ℕ) → pd ≡ d → pa ≡ a → n ≡ m
+    → IsDone size pd (target vlenb size number f pd pa b masked inactive old) n mid → IsDone size d (target vlenb size number f d a b masked inactive old) m mid
+moved_done vlenb size pd d pa a n m number f b masked inactive old mid is_d is_a is_n done =
+    subst (λ (z : ℕ). IsDone size z (target vlenb size number f z a b masked inactive old) m mid) is_d
+    (subst (λ (z : ℕ). IsDone size pd (target vlenb size number f pd z b masked inactive old) m mid) is_a
+    (subst (λ (z : ℕ). IsDone size pd (target vlenb size number f pd pa b masked inactive old) z mid) is_n done))
 
 pub moved_kept : (pd d n m : ℕ) (old mid : List ℕ) → pd ≡ d → n ≡ m → IsKept pd n old mid → IsKept d m old mid
 moved_kept pd d n m old mid is_d is_n kept = subst (λ (z : ℕ). IsKept z m old mid) is_d (subst (λ (z : ℕ). IsKept pd z old mid) is_n kept)
@@ -234,10 +234,10 @@ moved_fill at e n m agnostic mid new is_at is_n is =
     subst (λ (z : ℕ). new ≡ filled agnostic (overlaid z (replicate m 255) mid) mid) is_at (subst (λ (z : ℕ). new ≡ filled agnostic (overlaid at (replicate z 255) mid) mid) is_n is)
 
 -- the group of an operand
-pub is_group_written : {A : Type 0} (vlenb size first a : ℕ) (group : Span) (w : Width) (number : A → ℕ) (op : IntOp) (b : Second A) (masked : Bool) (policy : Policy) (old new : List ℕ) → first ≡ group.first → size ≡ group.bytes
-    → new ≡ write_of vlenb size first group.count policy (zip2 (element op w) (elements_of vlenb size a group.vl old) (second_list vlenb size number group.vl b old)) (active_of vlenb masked group.vl old) old
-    → new ≡ written vlenb group policy (zip2 (element op w) (elements_of vlenb group.bytes a group.vl old) (second_list vlenb group.bytes number group.vl b old)) (active_of vlenb masked group.vl old) old
+pub is_group_written : {A : Type 0} (vlenb size first a : ℕ) (group : Span) (number : A → ℕ) (f : ℕ → ℕ → ℕ → ℕ) (b : Second A) (masked : Bool) (policy : Policy) (old new : List ℕ) → first ≡ group.first → size ≡ group.bytes
+    → new ≡ write_of vlenb size first group.count policy (zip3 f (elements_of vlenb size a group.vl old) (second_list vlenb size number group.vl b old) (elements_of vlenb size first group.vl old)) (active_of vlenb masked group.vl old) old
+    → new ≡ written vlenb group policy (zip3 f (elements_of vlenb group.bytes a group.vl old) (second_list vlenb group.bytes number group.vl b old) (elements_of vlenb group.bytes first group.vl old)) (active_of vlenb masked group.vl old) old
 unfolding written
-is_group_written vlenb size first a group w number op b masked policy old new is_first is_size is =
-    subst (λ (z : ℕ). new ≡ write_of vlenb z group.first group.count policy (zip2 (element op w) (elements_of vlenb z a group.vl old) (second_list vlenb z number group.vl b old)) (active_of vlenb masked group.vl old) old) is_size
-    (subst (λ (z : ℕ). new ≡ write_of vlenb size z group.count policy (zip2 (element op w) (elements_of vlenb size a group.vl old) (second_list vlenb size number group.vl b old)) (active_of vlenb masked group.vl old) old) is_first is)
+is_group_written vlenb size first a group number f b masked policy old new is_first is_size is =
+    subst (λ (z : ℕ). new ≡ write_of vlenb z group.first group.count policy (zip3 f (elements_of vlenb z a group.vl old) (second_list vlenb z number group.vl b old) (elements_of vlenb z first group.vl old)) (active_of vlenb masked group.vl old) old) is_size
+    (subst (λ (z : ℕ). new ≡ write_of vlenb size z group.count policy (zip3 f (elements_of vlenb size a group.vl old) (second_list vlenb size number group.vl b old) (elements_of vlenb size first group.vl old)) (active_of vlenb masked group.vl old) old) is_first is)

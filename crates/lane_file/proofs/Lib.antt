@@ -1,5 +1,7 @@
+mod Bytes
 mod Steps
 mod Chosen
 mod Groups
 mod Masks
 mod Calls
+mod AnyLemmas

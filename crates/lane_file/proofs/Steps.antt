@@ -1,13 +1,10 @@
 -- Operations in place, chunk after chunk.
 use Rattle.std.proofs.Common.{◌≡◌, inl, inr, ℕ, ◌+◌, ◌-◌, ◌*◌, ◌/◌, ◌%◌, ◌^◌, ◌<◌, ◌≤◌, Bool, true, false, List, zero, suc, length, get_or, refl, ap, ap₂, sym, ◌∙◌, arith, if◌then◌else◌}
-use Rattle.std.specs.Int.{Width}
 use lib.Lanes.{chunk, put_chunk}
 use Rattle.std.proofs.Math.Nat.{mul-le-mul_left}
 use Rattle.std.proofs.lemmas.Bool.{cases_lt}
 use Rattle.std.proofs.lemmas.Simd.{get_or-chunk, get_or-put_chunk_below, get_or-put_chunk_at, get_or-put_chunk_above, length-put_chunk}
 use Rattle.byteorder.specs.Endian.{little_from}
-use Rattle.lane_int.specs.Integer.{element}
-use Rattle.rv_decode.specs.declared.instructions.IntOp.{IntOp}
 use Rattle.vreg_groups.specs.Elements.{bit_at, bit_of, mask_bit}
 use Rattle.vreg_groups.specs.NewElements.{filled}
 use Rattle.vreg_groups.specs.declared.policies.Agnostic.{Agnostic}
@@ -148,10 +145,10 @@ active_still : (vlenb d n i : ℕ) (masked : Bool) (old now : List ℕ) → (mas
 active_still vlenb d n i true old now le lt kept = mask_still vlenb d n i old now (le refl) lt kept
 active_still vlenb d n i false old now le lt kept = refl
 
-pub target_still : {A : Type 0} (vlenb s c d a m n j : ℕ) (w : Width) (number : A → ℕ) (op : IntOp) (b : Second A) (masked : Bool) (inactive : Agnostic) (old now : List ℕ) → s * c ≡ 16 → j < c → 16 * m + s * j + s ≤ n → n ≤ 8 * vlenb
+pub target_still : {A : Type 0} (vlenb s c d a m n j : ℕ) (number : A → ℕ) (f : ℕ → ℕ → ℕ → ℕ) (b : Second A) (masked : Bool) (inactive : Agnostic) (old now : List ℕ) → s * c ≡ 16 → j < c → 16 * m + s * j + s ≤ n → n ≤ 8 * vlenb
     → Apart d a n → IsSecondApart vlenb d b n → (masked ≡ true → vlenb ≤ d) → IsKept d (16 * m) old now
-    → target vlenb s w number op d a b masked inactive now (c * m + j) ≡ target vlenb s w number op d a b masked inactive old (c * m + j)
-target_still vlenb s c d a m n j w number op b masked inactive old now sizes lt room bits apart_a apart_b stays kept =
+    → target vlenb s number f d a b masked inactive now (c * m + j) ≡ target vlenb s number f d a b masked inactive old (c * m + j)
+target_still vlenb s c d a m n j number f b masked inactive old now sizes lt room bits apart_a apart_b stays kept =
     let i = c * m + j in
     let at : s * i ≡ 16 * m + s * j = place_in s c m j sizes in
     let low : 16 * m ≤ s * i = omega (arith, at) in
@@ -161,8 +158,8 @@ target_still vlenb s c d a m n j w number op b masked inactive old now sizes lt 
     let x : little_from (a + s * i) s now ≡ little_from (a + s * i) s old = source_still s c d a m n i old now apart_a kept low high in
     let y : other_of vlenb s number b (s * i) now ≡ other_of vlenb s number b (s * i) old = other_still vlenb s d m n i number b old now apart_b kept low high in
     let v : little_from (d + s * i) s now ≡ little_from (d + s * i) s old = source_still s c d d m n i old now (inl refl) kept low high in
-    ap₂ (λ yes r. if yes then r else filled inactive (256 ^ s - 1) (little_from (d + s * i) s now)) act (ap₂ (element op w) x y)
-    ∙ ap (λ o. if is_active vlenb masked i old then element op w (little_from (a + s * i) s old) (other_of vlenb s number b (s * i) old) else filled inactive (256 ^ s - 1) o) v
+    ap₂ (λ yes r. if yes then r else filled inactive (256 ^ s - 1) (little_from (d + s * i) s now)) act (ap₂ (λ p q. f p q (little_from (d + s * i) s now)) x y)
+    ∙ ap (λ o. if is_active vlenb masked i old then f (little_from (a + s * i) s old) (other_of vlenb s number b (s * i) old) o else filled inactive (256 ^ s - 1) o) v
   where
     below : (s i n : ℕ) → 1 ≤ s → s * i + s ≤ n → i < n
     below zero i n le h = absurd (omega (arith, le))
@@ -172,16 +169,16 @@ pub kept_is : (d n : ℕ) (old mid new : List ℕ) → new ≡ mid → IsKept d 
 kept_is d n old mid new is kept = (ap length is ∙ kept.0, λ k outside. ap (λ l. get_or l k 0) is ∙ kept.1 k outside)
 
 -- the place up to which an operation is done, after one more chunk of which r bytes are of the body
-pub more_chunk : {A : Type 0} (vlenb s c d a m n r room : ℕ) (w : Width) (number : A → ℕ) (op : IntOp) (b : Second A) (masked : Bool) (inactive : Agnostic) (old now new : List ℕ) → s * c ≡ 16 → n ≡ 16 * m + r → r ≤ 16 → 16 * m + 16 ≤ room → room ≤ 8 * vlenb
+pub more_chunk : {A : Type 0} (vlenb s c d a m n r room : ℕ) (number : A → ℕ) (f : ℕ → ℕ → ℕ → ℕ) (b : Second A) (masked : Bool) (inactive : Agnostic) (old now new : List ℕ) → s * c ≡ 16 → n ≡ 16 * m + r → r ≤ 16 → 16 * m + 16 ≤ room → room ≤ 8 * vlenb
     → Apart d a room → IsSecondApart vlenb d b room → (masked ≡ true → vlenb ≤ d)
-    → IsDone s d (target vlenb s w number op d a b masked inactive old) (16 * m) now → IsKept d (16 * m) old now
-    → ((j : ℕ) → j < c → s * j + s ≤ r → little_from (d + 16 * m + s * j) s new ≡ target vlenb s w number op d a b masked inactive now (c * m + j))
+    → IsDone s d (target vlenb s number f d a b masked inactive old) (16 * m) now → IsKept d (16 * m) old now
+    → ((j : ℕ) → j < c → s * j + s ≤ r → little_from (d + 16 * m + s * j) s new ≡ target vlenb s number f d a b masked inactive now (c * m + j))
     → IsKept (d + 16 * m) r now new
-    → IsDone s d (target vlenb s w number op d a b masked inactive old) n new × IsKept d n old new
-more_chunk vlenb s c d a m n r room w number op b masked inactive old now new sizes is_n few inside_room bits apart_a apart_b stays done kept step kept_step = (
-  more_done s c d m n (target vlenb s w number op d a b masked inactive old) now new sizes (omega (arith, is_n)) (omega (arith, is_n, few)) done
+    → IsDone s d (target vlenb s number f d a b masked inactive old) n new × IsKept d n old new
+more_chunk vlenb s c d a m n r room number f b masked inactive old now new sizes is_n few inside_room bits apart_a apart_b stays done kept step kept_step = (
+  more_done s c d m n (target vlenb s number f d a b masked inactive old) now new sizes (omega (arith, is_n)) (omega (arith, is_n, few)) done
       (λ j lt within. step j lt (omega (arith, within, is_n))
-      ∙ target_still vlenb s c d a m room j w number op b masked inactive old now sizes lt (omega (arith, within, is_n, few, inside_room)) bits apart_a apart_b stays kept)
+      ∙ target_still vlenb s c d a m room j number f b masked inactive old now sizes lt (omega (arith, within, is_n, few, inside_room)) bits apart_a apart_b stays kept)
       (λ k lt. kept_step.1 k (inl lt)),
   more_kept d m n old now new (omega (arith, is_n)) kept (
     kept_step.0,

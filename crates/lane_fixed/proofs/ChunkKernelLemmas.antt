@@ -11,14 +11,7 @@ use Rattle.std.proofs.lemmas.Bool.Decides.{eqb_tells}
 use Rattle.std.proofs.lemmas.List.{map-id}
 use Rattle.std.proofs.lemmas.List.Folds.{list_any-append}
 use Rattle.std.proofs.lemmas.Simd.{length-zip2}
-use Rattle.std.specs.Ordering.{int_eq}
-use Rattle.lane_fixed.specs.FixedPoint.{any_active, clipped, dropped, element, exact, saturates, unclipped}
-use Rattle.lane_fixed.specs.Rounding.{low_bits}
-use Rattle.lane_fixed.specs.declared.operations.RoundingMode.{RoundingMode}
-use Rattle.lane_fixed.specs.declared.operations.RoundingMode.TheVariants.{Down}
-use Rattle.rv_decode.specs.declared.instructions.FixedOp.{FixedOp}
-use Rattle.rv_decode.specs.declared.instructions.FixedOp.TheVariants.{Saddu, Sadd, Ssubu, Ssub}
-use Rattle.lane_fixed.proofs.ChunkLemmas.{rounded_by_none}
+use Rattle.lane_fixed.specs.FixedPoint.{any_active}
 use Rattle.lane_fixed.specs.Chunks.{lane_flag, lane_saturates}
 use Rattle.lane_fixed.specs.declared.operations.Op.{Op}
 use Rattle.lane_fixed.proofs.KernelLemmas.{overlaid, any_before}
@@ -137,33 +130,3 @@ chunk_flags_say w op n at xs ys fs active {mask} so_far result is_flags is_mask 
     rw (map-id xs, map-id ys)
     (flags_say w op (chunk at n xs) (chunk at n ys) fs (map (λ f. f) fs) (take (at + n - at) (drop at active)) mask so_far result is_flags (map-id fs) is_mask is
     ∙ ap (λ k. so_far || any_active (lane_saturates op w) (chunk at n xs) (chunk at n ys) (take k (drop at active))) few)
-
--- the saturating operations round nothing off, so that they are the same in each mode
-abbrev pub rounds_nothing : FixedOp → Bool
-rounds_nothing Saddu = true
-rounds_nothing Sadd = true
-rounds_nothing Ssubu = true
-rounds_nothing Ssub = true
-rounds_nothing op = false
-
-drops_nothing : (op : FixedOp) (w : Width) (b : ℕ) → rounds_nothing op ≡ true → dropped op w b ≡ 0
-unfolding dropped
-drops_nothing Saddu w b is = refl
-drops_nothing Sadd w b is = refl
-drops_nothing Ssubu w b is = refl
-drops_nothing Ssub w b is = refl
-drops_nothing op w b is = absurd (omega (arith, ap {B = ℕ} (λ t. cond t 1 0) is))
-
-same_unclipped : (op : FixedOp) (mode : RoundingMode) (w : Width) (a b : ℕ) → rounds_nothing op ≡ true → unclipped op mode w a b ≡ unclipped op Down w a b
-unfolding unclipped
-same_unclipped op mode w a b is = rw (drops_nothing op w b is) (rounded_by_none mode (exact op w a b) ∙ sym (rounded_by_none Down (exact op w a b)))
-
-pub same_element : (op : FixedOp) (mode : RoundingMode) (w : Width) → rounds_nothing op ≡ true → element op mode w ≡ element op Down w
-unfolding element
-same_element op mode w is = λ i a b. low_bits (bits w) (clipped op w (same_unclipped op mode w a b is i))
-
-pub same_saturates : (op : FixedOp) (mode : RoundingMode) (w : Width) → rounds_nothing op ≡ true → saturates op mode w ≡ saturates op Down w
-unfolding saturates
-same_saturates op mode w is = λ i a b. not (int_eq (clipped op w (same_unclipped op mode w a b is i)) (same_unclipped op mode w a b is i))
-
-pub ruleset each_mode = (same_element, same_saturates)

@@ -8,18 +8,17 @@ use mir.Val.{bits, hbits}
 use Rattle.std.proofs.lemmas.Int.{int_rem_euclid_is, ints}
 use Rattle.std.proofs.Math.Nat.{mod-eq_of_lt}
 use Rattle.std.proofs.lemmas.Nat.{mod-mul-add, pow_pos, div-add-mod', mod_below}
-use Rattle.std.proofs.Math.Nat.{div-one, mod-one}
 use Rattle.lane_fixed.proofs.ChunkLaneLemmas.{by_ltb}
 use mathlib.Core.Bool.{cond}
 use mathlib.Core.Logic.{◌⊎◌, inl, inr}
 use Rattle.std.specs.Bool.{one_answer}
 use Rattle.std.proofs.lemmas.Bool.Decides.{Decides-eqb, Decides-int_eq}
-use Rattle.lane_fixed.specs.Rounding.{rounded, rounds_up, shifted, low_bits}
+use Rattle.lane_fixed.specs.ModeLemmas.{rounded_by_none}
+use Rattle.lane_fixed.specs.Rounding.{low_bits}
 use Rattle.lane_fixed.specs.FixedPoint.{element, saturates, clipped, unclipped, exact, dropped}
 use Rattle.lane_fixed.specs.Chunks.{lane_result, lane_flag}
 use Rattle.lane_fixed.specs.declared.operations.Op.TheVariants.{Saddu, Sadd, Ssubu, Ssub}
-use Rattle.lane_fixed.specs.declared.operations.RoundingMode.{RoundingMode}
-use Rattle.lane_fixed.specs.declared.operations.RoundingMode.TheVariants.{NearestUp, NearestEven, Down, Odd}
+use Rattle.lane_fixed.specs.declared.operations.RoundingMode.TheVariants.{Down}
 
 -- two halves
 pub twice : (w : Width) → 2 ^ bits w ≡ 2 * 2 ^ hbits w
@@ -33,28 +32,6 @@ twice w128 = refl
 pub low_of : (k : ℕ) (v : ℤ) (j m : ℕ) → v +ℤ pos (j * 2 ^ k) ≡ pos m → low_bits k v ≡ m % 2 ^ k
 unfolding low_bits
 low_of k v j m e = ap unsigned_abs (int_rem_euclid_is v (pos (2 ^ k)) (2 ^ k) j m (pow_pos k) refl e)
-
--- a number is rounded off by no bit
-up_by_none : (mode : RoundingMode) (q : ℤ) → rounds_up mode q 0 0 ≡ false
-unfolding rounds_up
-up_by_none NearestUp q = refl
-up_by_none NearestEven q = refl
-up_by_none Down q = refl
-up_by_none Odd q = refl
-
-shifted_by_none : (v : ℤ) → shifted 0 v ≡ v
-unfolding shifted
-shifted_by_none (pos a) = ap pos (div-one a)
-shifted_by_none (negsuc a) = ap negsuc (div-one a)
-
-low_by_none : (v : ℤ) → low_bits 0 v ≡ 0
-unfolding low_bits
-low_by_none (pos a) = mod-one a
-low_by_none (negsuc a) = omega (arith, mod-one a)
-
-pub rounded_by_none : (mode : RoundingMode) (v : ℤ) → rounded mode v 0 ≡ v
-unfolding rounded
-rounded_by_none mode v = rw (shifted_by_none v, low_by_none v, up_by_none mode v) (omega (arith, ints))
 
 -- which numbers have the same lowest bits
 one_less : (p q r m n a b : ℕ) → 0 < p → a * p + r ≡ m → b * p + r ≡ n → a < b → m + p ≤ n

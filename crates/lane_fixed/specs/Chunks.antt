@@ -1,5 +1,5 @@
 -- The operations of the chunk calls, as those of `FixedPoint`.
-use Rattle.std.specs.Prelude.{ℕ, ◌-◌, ◌^◌, ◌<◌, Bool, if◌then◌else◌}
+use Rattle.std.specs.Prelude.{ℕ, ◌-◌, ◌^◌, ◌<◌, Bool, Option, Some, None, if◌then◌else◌}
 use Rattle.std.specs.Int.{Width}
 use mir.Val.{bits}
 use Rattle.lane_fixed.specs.FixedPoint.{element, saturates}
@@ -48,3 +48,17 @@ lane_saturates op = saturates (operation op) (mode_of op)
 
 abbrev pub lane_flag : Op → Width → ℕ → ℕ → ℕ
 lane_flag op w a b = if lane_saturates op w a b then 2 ^ bits w - 1 else 0
+
+-- the chunk calls' operation that is the kernels'; vsmul has none
+abbrev pub chunk_op : FixedOp → RoundingMode → Option Op
+chunk_op fixed.Saddu mode = Some Saddu
+chunk_op fixed.Sadd mode = Some Sadd
+chunk_op fixed.Ssubu mode = Some Ssubu
+chunk_op fixed.Ssub mode = Some Ssub
+chunk_op fixed.Aaddu mode = Some (Aaddu mode)
+chunk_op fixed.Aadd mode = Some (Aadd mode)
+chunk_op fixed.Asubu mode = Some (Asubu mode)
+chunk_op fixed.Asub mode = Some (Asub mode)
+chunk_op fixed.Smul mode = None
+chunk_op fixed.Ssrl mode = Some (Ssrl mode)
+chunk_op fixed.Ssra mode = Some (Ssra mode)

@@ -1,3 +1,4 @@
 pub mod Chunks
 pub mod FixedPoint
 pub mod Rounding
+pub mod ModeLemmas

@@ -16,7 +16,7 @@ use rv_decode::{ClipOp, FixedOp};
 /// active element saturated ("Vector Single-Width Saturating Add and Subtract", "Vector Single-Width Averaging Add and
 /// Subtract", "Vector Single-Width Fractional Multiply with Rounding and Saturation", "Vector Single-Width Scaling Shift
 /// Instructions").
-#[tactic(auto, using(crate::proofs::ChunkKernelLemmas::each_mode))]
+#[tactic(auto, using(crate::specs::ModeLemmas::each_mode))]
 pub fn compute<T: FixedLane>(
     op: FixedOp,
     mode: RoundingMode,

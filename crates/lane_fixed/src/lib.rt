@@ -14,4 +14,4 @@ mod rounding;
 pub use chunks::{chunk_u8, chunk_u16, chunk_u32};
 pub use kernels::{clip, compute};
 pub use lane::FixedLane;
-pub use operations::{Op, RoundingMode};
+pub use operations::{Op, RoundingMode, chunk_op};

@@ -1,6 +1,11 @@
 //! The rounding modes, and the operations of the chunk calls, by the names of the instructions that use them. Those of the
 //! kernels are rv_decode's.
 
+ghost use Rattle.std.specs.Prelude.{◌≡◌};
+ghost use Rattle.lane_fixed.specs.Chunks.{chunk_op};
+
+use rv_decode::FixedOp;
+
 /// How the bits that a result has no room for are rounded off: the values of vxrm ("Vector Fixed-Point Rounding Mode
 /// Register vxrm").
 #[derive(Clone, Copy, PartialEq, Eq)]
@@ -38,4 +43,24 @@ pub enum Op {
     Ssrl(RoundingMode),
     /// vssra
     Ssra(RoundingMode),
+}
+
+/// The chunk calls' operation that is the kernels': None for vsmul ("Vector Fixed-Point Arithmetic Instructions").
+#[inline(always)]
+pub fn chunk_op(op: FixedOp, mode: RoundingMode) -> Option<Op>
+    ensures { result ≡ chunk_op op mode }
+{
+    match op {
+        FixedOp::Saddu => Some(Op::Saddu),
+        FixedOp::Sadd => Some(Op::Sadd),
+        FixedOp::Ssubu => Some(Op::Ssubu),
+        FixedOp::Ssub => Some(Op::Ssub),
+        FixedOp::Aaddu => Some(Op::Aaddu(mode)),
+        FixedOp::Aadd => Some(Op::Aadd(mode)),
+        FixedOp::Asubu => Some(Op::Asubu(mode)),
+        FixedOp::Asub => Some(Op::Asub(mode)),
+        FixedOp::Smul => None,
+        FixedOp::Ssrl => Some(Op::Ssrl(mode)),
+        FixedOp::Ssra => Some(Op::Ssra(mode)),
+    }
 }

@@ -12,6 +12,7 @@ use Rattle.lane_int.specs.Chunks.{chunk_op, has_chunk, lane_of}
 use Rattle.lane_int.specs.Integer.{element}
 use Rattle.lane_int.specs.Lists.{zip3}
 use Rattle.lane_int.proofs.ChunkKernelLemmas.{same_lanes}
+pub use Rattle.lane_int.specs.LaneLemmas.{byte_alone}
 
 -- the bytes from place i on as a number
 number_there : (i k : ℕ) (xs : List ℕ) → i + k ≤ length xs → number_l 256 (take k (drop i xs)) ≡ little_from i k xs
@@ -60,10 +61,3 @@ pub computed_bytes : (op : IntOp) (w : Width) (o : Op) (k n : ℕ) (ns ms xs ys 
 computed_bytes op w o k n ns ms xs ys rs bytes is same is_rs long_x long_y at_x at_y out j lt =
     let rs_is : rs ≡ zip2 (element op w) xs ys = is_rs ∙ ap (λ p. zip3 (lane_of p w) xs ys xs) same ∙ same_lanes op w xs ys xs is (long_y ∙ sym long_x) refl in
     out j lt ∙ ap (λ zs. get_or zs j 0) rs_is ∙ get_or-zip2 (element op w) xs ys j 0 0 0 (omega (arith, lt, long_x)) (omega (arith, lt, long_y)) ∙ ap₂ (element op w) (at_x j lt) (at_y j lt)
-
-pub byte_alone : (j : ℕ) (xs : List ℕ) → get_or xs j 0 ≡ little_from (1 * j) 1 xs
-byte_alone j xs =
-    let same : j ≡ 1 * j = omega arith in
-    let at : get_or xs j 0 ≡ get_or xs (1 * j) 0 = ap (λ i. get_or xs i 0) same in
-    let alone : get_or xs (1 * j) 0 ≡ get_or xs (1 * j) 0 + 256 * 0 = omega arith in
-    at ∙ alone

@@ -1,23 +1,11 @@
 -- Lists that kernels overwrite from the front with what they make of two or three others.
-use Rattle.std.proofs.Common.{◌≡◌, ℕ, ◌+◌, ◌<◌, List, [], ◌∷◌, zero, suc, length, get_or, set, refl, ap, sym, ◌∙◌, arith}
+use Rattle.std.proofs.Common.{◌≡◌, ℕ, ◌+◌, ◌<◌, List, [], ◌∷◌, length, get_or, set, ap, sym, ◌∙◌, arith}
 use lib.Lanes.{zip2}
 use Rattle.std.proofs.lemmas.List.{length-set}
 use Rattle.std.proofs.lemmas.Simd.{length-zip2, get_or-zip2}
 use Rattle.lane_int.specs.Lists.{zip3}
+pub use Rattle.lane_int.specs.LaneLemmas.{length-zip3, get_or-zip3}
 pub use Rattle.rv_decode.specs.OverlayLemmas.{overlaid, overlaid_more, get_or-overlaid, overlaid_all, zip2_more}
-
-pub length-zip3 : {A B C D : Type 0} (f : A → B → C → D) (xs : List A) (ys : List B) (zs : List C) → length ys ≡ length xs → length zs ≡ length xs → length (zip3 f xs ys zs) ≡ length xs
-length-zip3 f [] ys zs p q = refl
-length-zip3 f (x ∷ xs) [] zs p q = absurd (omega arith)
-length-zip3 f (x ∷ xs) (y ∷ ys) [] p q = absurd (omega arith)
-length-zip3 f (x ∷ xs) (y ∷ ys) (z ∷ zs) p q = ap suc (length-zip3 f xs ys zs (omega arith) (omega arith))
-
-pub get_or-zip3 : {A B C D : Type 0} (f : A → B → C → D) (xs : List A) (ys : List B) (zs : List C) (i : ℕ) (a : A) (b : B) (c : C) (e : D) → i < length xs → i < length ys → i < length zs → get_or (zip3 f xs ys zs) i e ≡ f (get_or xs i a) (get_or ys i b) (get_or zs i c)
-get_or-zip3 f [] ys zs i a b c e p q r = absurd (omega arith)
-get_or-zip3 f (x ∷ xs) [] zs i a b c e p q r = absurd (omega arith)
-get_or-zip3 f (x ∷ xs) (y ∷ ys) [] i a b c e p q r = absurd (omega arith)
-get_or-zip3 f (x ∷ xs) (y ∷ ys) (z ∷ zs) zero a b c e p q r = refl
-get_or-zip3 f (x ∷ xs) (y ∷ ys) (z ∷ zs) (suc i) a b c e p q r = get_or-zip3 f xs ys zs i a b c e (omega arith) (omega arith) (omega arith)
 
 -- over something else
 pub zip2_more_into : {A B C : Type 0} (f : A → B → C) (xs : List A) (ys : List B) (old now : List C) (i : ℕ) (x : A) (y : B) (z : C) → now ≡ overlaid i (zip2 f xs ys) old → i < length old → length xs ≡ length old → length ys ≡ length old → x ≡ get_or xs i x → y ≡ get_or ys i y → z ≡ f x y → set now i z ≡ overlaid (i + 1) (zip2 f xs ys) old

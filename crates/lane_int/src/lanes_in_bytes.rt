@@ -6,7 +6,7 @@ use std::simd::prelude::*;
 
 /// The halves in sixteen bytes.
 #[inline(always)]
-pub(crate) fn halves_in(bytes: u8x16) -> u16x8
+pub fn halves_in(bytes: u8x16) -> u16x8
     ensures lanes { (j : ℕ) → j < 8 → slice_index result j ≡ little_from (2 * j) 2 bytes }
     ensures count { length result ≡ 8 }
 {
@@ -15,7 +15,7 @@ pub(crate) fn halves_in(bytes: u8x16) -> u16x8
 
 /// The bytes of halves.
 #[inline(always)]
-pub(crate) fn bytes_of_halves(lanes: u16x8) -> u8x16
+pub fn bytes_of_halves(lanes: u16x8) -> u8x16
     ensures { (j : ℕ) → j < 8 → little_from (2 * j) 2 result ≡ slice_index lanes j }
 {
     lanes.to_le_bytes()
@@ -23,7 +23,7 @@ pub(crate) fn bytes_of_halves(lanes: u16x8) -> u8x16
 
 /// The words in sixteen bytes.
 #[inline(always)]
-pub(crate) fn words_in(bytes: u8x16) -> u32x4
+pub fn words_in(bytes: u8x16) -> u32x4
     ensures lanes { (j : ℕ) → j < 4 → slice_index result j ≡ little_from (4 * j) 4 bytes }
     ensures count { length result ≡ 4 }
 {
@@ -32,7 +32,7 @@ pub(crate) fn words_in(bytes: u8x16) -> u32x4
 
 /// The bytes of words.
 #[inline(always)]
-pub(crate) fn bytes_of_words(lanes: u32x4) -> u8x16
+pub fn bytes_of_words(lanes: u32x4) -> u8x16
     ensures { (j : ℕ) → j < 4 → little_from (4 * j) 4 result ≡ slice_index lanes j }
 {
     lanes.to_le_bytes()

@@ -9,7 +9,7 @@ ghost use Rattle.vector_core.specs.Setup.{IsReady};
 use crate::doubles::doubles;
 use crate::elements::{VectorElement, zero};
 use crate::fixed_point::fixed;
-use crate::in_place::int_in_place;
+use crate::in_place::{fixed_in_place, int_in_place, multiply_add_in_place};
 use crate::integer::{carry, carry_out, compare, int, multiply_add};
 use crate::moves::{copy, merge};
 use crate::rooms::{body_law, on_sew, with_room};
@@ -59,14 +59,23 @@ fn arith_elements<E: VectorElement, const MOST: usize, const VLENB: usize>(
                 return arith_same::<E, MOST, VLENB>(registers, scalar, setup, insn);
             }
         }
-        VArith::MultiplyAdd { .. }
-        | VArith::Carry { .. }
+        VArith::MultiplyAdd { .. } => {
+            if !multiply_add_in_place::<E, VLENB>(registers, scalar, setup, insn) {
+                return arith_same::<E, MOST, VLENB>(registers, scalar, setup, insn);
+            }
+        }
+        VArith::Carry { .. }
         | VArith::CarryOut { .. }
         | VArith::Merge { .. }
         | VArith::Copy { .. }
-        | VArith::Compare { .. }
-        | VArith::Fixed { .. } => {
+        | VArith::Compare { .. } => {
             return arith_same::<E, MOST, VLENB>(registers, scalar, setup, insn);
+        }
+        VArith::Fixed { .. } => {
+            return match fixed_in_place::<E, VLENB>(registers, scalar, setup, insn) {
+                Some(saturated) => saturated,
+                None => arith_same::<E, MOST, VLENB>(registers, scalar, setup, insn),
+            };
         }
     }
     false

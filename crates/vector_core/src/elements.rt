@@ -4,13 +4,14 @@ ghost use Rattle.std.specs.Prelude.{◌≡◌, length, map};
 ghost use Rattle.rv_decode.specs.Instructions.{bytes_of_width};
 ghost use Rattle.vector_mem.specs.Accesses.{low_bits};
 
+use lane_file::ByteLane;
 use lane_fixed::FixedLane;
 use lane_int::Lane;
 use lane_masks::FoldLane;
 use vreg_groups::Element;
 
 /// An element of a register group on which the lanes work.
-pub trait VectorElement: Element + Lane + FixedLane + FoldLane {
+pub trait VectorElement: Element + Lane + ByteLane + FixedLane + FoldLane {
     ghost use Rattle.std.specs.Prelude.{◌≡◌};
     ghost use Rattle.rv_decode.specs.declared.instructions.Width.{Width};
     ghost use Rattle.rv_decode.specs.Instructions.{bytes_of_width};

@@ -41,7 +41,7 @@ const COMPARES: [CompareOp; 8] = [
     CompareOp::Gt,
 ];
 
-const MULTIPLY_ADDS: [MultiplyAddOp; 4] = [
+pub(crate) const MULTIPLY_ADDS: [MultiplyAddOp; 4] = [
     MultiplyAddOp::Macc,
     MultiplyAddOp::Nmsac,
     MultiplyAddOp::Madd,

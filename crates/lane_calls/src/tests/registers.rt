@@ -1,15 +1,15 @@
-//! Integer operations where the registers lie: vd is v8, vs2 v16 and vs1 v24, each a group of eight.
+//! Operations where the registers lie: vd is v8, vs2 v16 and vs1 v24, each a group of eight.
 ghost use Rattle.std.specs.Prelude.{◌≡◌, ◌+◌, ◌*◌, ◌≤◌};
 ghost use Rattle.rv_decode.specs.Instructions.{bytes_of_width};
 ghost use Rattle.rv_decode.specs.declared.extents.Eew.TheVariants.{Same};
 ghost use Rattle.vreg_groups.specs.Group.{IsGroupInside};
 ghost use Rattle.vreg_groups.specs.Setup.{IsSetup};
 
-use crate::tests::integers::OPERATIONS;
+use crate::tests::integers::{MULTIPLY_ADDS, OPERATIONS};
 use crate::tests::lengths::{LENGTHS, MOST, bytes};
-use lane_file::{Second, int};
+use lane_file::{ByteLane, Second, int, multiply_add};
 use lane_int::{Lane, has_chunk};
-use rv_decode::{IntOp, Reg, Width};
+use rv_decode::{IntOp, MultiplyAddOp, Reg, Width};
 use std::process::Abort;
 use vreg_groups::{Agnostic, Element, Lmul, Setup, VregFile, Vtype};
 
@@ -17,22 +17,20 @@ use vreg_groups::{Agnostic, Element, Lmul, Setup, VregFile, Vtype};
 macro_rules! try_width {
     ($rt:ident, $element:ident, $width:ident, $most:literal) => {
         for k in 0..LENGTHS.len() {
-            for j in 0..OPERATIONS.len() {
-                let mut setup = Setup {
-                    vtype: Vtype {
-                        sew: Width::$width,
-                        lmul: Lmul::Eight,
-                        vta: true,
-                        vma: true,
-                    },
-                    vl: LENGTHS[k].min($most),
-                    agnostic: Agnostic::Keep,
-                };
-                try_group::<$element>(&$rt, &setup, OPERATIONS[j], false, &[0; MOST], $most);
-                try_group::<$element>(&$rt, &setup, OPERATIONS[j], true, &[0; MOST], $most);
-                setup.agnostic = Agnostic::Ones;
-                try_group::<$element>(&$rt, &setup, OPERATIONS[j], true, &[0; MOST], $most);
-            }
+            let mut setup = Setup {
+                vtype: Vtype {
+                    sew: Width::$width,
+                    lmul: Lmul::Eight,
+                    vta: true,
+                    vma: true,
+                },
+                vl: LENGTHS[k].min($most),
+                agnostic: Agnostic::Keep,
+            };
+            try_operations::<$element>(&$rt, &setup, false, &[0; MOST], $most);
+            try_operations::<$element>(&$rt, &setup, true, &[0; MOST], $most);
+            setup.agnostic = Agnostic::Ones;
+            try_operations::<$element>(&$rt, &setup, true, &[0; MOST], $most);
         }
     };
 }
@@ -72,10 +70,42 @@ fn fill(registers: &mut VregFile<64>, first: Reg, seed: u32)
     registers.set_register_bytes(first, &bytes[..]);
 }
 
-fn try_group<E: Lane + Element + PartialEq>(
+/// An operation that is tried.
+#[derive(Clone, Copy)]
+enum Tried {
+    Int(IntOp),
+    MultiplyAdd(MultiplyAddOp),
+}
+
+/// Each operation under one setup, masked or not.
+fn try_operations<E: ByteLane + Element + PartialEq>(
     rt: impl Abort + Copy,
     setup: &Setup,
-    op: IntOp,
+    masked: bool,
+    blank: &[E; MOST],
+    most: usize,
+)
+    requires setup { IsSetup 64 setup.now }
+    requires size { E.Lane.size ≡ bytes_of_width setup.now.vtype.sew }
+    requires room { E.Element.SIZE * most ≤ 512 }
+    requires few { most ≤ 512 }
+    requires vd_inside { IsGroupInside setup.now.vtype 8 Same }
+    requires vs2_inside { IsGroupInside setup.now.vtype 16 Same }
+    requires vs1_inside { IsGroupInside setup.now.vtype 24 Same }
+{
+    for j in 0..OPERATIONS.len() {
+        try_group::<E>(rt, setup, Tried::Int(OPERATIONS[j]), masked, blank, most);
+    }
+    for j in 0..MULTIPLY_ADDS.len() {
+        let op = Tried::MultiplyAdd(MULTIPLY_ADDS[j]);
+        try_group::<E>(rt, setup, op, masked, blank, most);
+    }
+}
+
+fn try_group<E: ByteLane + Element + PartialEq>(
+    rt: impl Abort + Copy,
+    setup: &Setup,
+    op: Tried,
     masked: bool,
     blank: &[E; MOST],
     most: usize,
@@ -99,20 +129,50 @@ fn try_group<E: Lane + Element + PartialEq>(
     registers.read_group(vs2, &mut a[..most]);
     registers.read_group(vs1, &mut b[..most]);
     registers.read_group(vd, &mut old[..most]);
-    let second = Second::<E>::Group(vs1);
-    let is_done = int(&mut registers, setup, op, vd, vs2, second, masked);
-    assert!(rt; is_done == has_chunk(op), "which operations are done");
+    let is_done = run::<E>(&mut registers, setup, op, masked);
+    assert!(rt; is_done == can_be_done(op), "which operations are done");
     let is_written = is_done && setup.vl != 0;
     registers.read_group(vd, &mut new[..most]);
     for i in 0..most {
         let is_active = i < setup.vl && (!masked || registers.bit(Reg::new(0), i));
         let expected = if is_active {
-            E::int_result(op, a[i], b[i])
+            result(op, a[i], b[i], old[i])
         } else {
             left(old[i], setup.agnostic)
         };
         let expected = if is_written { expected } else { old[i] };
         assert!(rt; new[i] == expected, "an element of a group");
+    }
+}
+
+/// The call: vd is v8, vs2 v16 and vs1 v24.
+fn run<E: ByteLane>(registers: &mut VregFile<64>, setup: &Setup, op: Tried, masked: bool) -> bool
+    requires setup { IsSetup 64 setup.now }
+    requires size { E.Lane.size ≡ bytes_of_width setup.now.vtype.sew }
+    requires vd_inside { IsGroupInside setup.now.vtype 8 Same }
+    requires vs2_inside { IsGroupInside setup.now.vtype 16 Same }
+    requires vs1_inside { IsGroupInside setup.now.vtype 24 Same }
+{
+    let (vd, vs2) = (Reg::new(8), Reg::new(16));
+    let second = Second::<E>::Group(Reg::new(24));
+    match op {
+        Tried::Int(op) => int(registers, setup, op, vd, vs2, second, masked),
+        Tried::MultiplyAdd(op) => multiply_add(registers, setup, op, vd, vs2, second, masked),
+    }
+}
+
+fn can_be_done(op: Tried) -> bool {
+    match op {
+        Tried::Int(op) => has_chunk(op),
+        Tried::MultiplyAdd(_) => true,
+    }
+}
+
+/// What the call on one element makes of it.
+fn result<E: Lane>(op: Tried, a: E, b: E, old: E) -> E {
+    match op {
+        Tried::Int(op) => E::int_result(op, a, b),
+        Tried::MultiplyAdd(op) => E::multiply_add(op, a, b, old),
     }
 }
 

@@ -1,9 +1,8 @@
 use Rattle.std.proofs.Common.{◌≡◌, ◌+◌, ◌*◌, ◌<◌, ◌≤◌, ap, ap₂, sym, ◌∙◌, arith, length, get_or}
 use Rattle.std.proofs.lemmas.Simd.{get_or-chunk}
 use Rattle.byteorder.specs.Endian.{little_from}
-use Rattle.lane_int.specs.Integer.{element}
 use Rattle.vreg_groups.specs.NewElements.{filled}
-use Rattle.lane_file.specs.InPlace.{is_active, other_of}
+use Rattle.lane_file.specs.InPlace.{answer, is_active, other_of}
 use Rattle.lane_file.proofs.Chosen.{chosen_element}
 use Rattle.lane_file.proofs.Steps.{byte_put, chunk_kept, fewer_kept, inside, lane_put, lane_read, place_in, same_number}
 use Rattle.lane_file.proofs.chunks.part.Goals as goal
@@ -25,18 +24,22 @@ returns-clause-done g c = λ j lt within.
     lane_read s n j (c.args.a + 16 * m) old c.sixteen-values.result g.E.Lane.sizes lt c.sixteen-values.ensures ∙ ap (λ z. little_from z s old) (omega (arith, at)) in
     let y : little_from (s * j) s c.other-others.result ≡ other_of g.row.VLENB s g.E.Lane.number c.args.b (s * i) old =
     c.other-others.ensures j lt ∙ ap (λ z. other_of g.row.VLENB s g.E.Lane.number c.args.b z old) (sym at) in
+    let f = answer c.args.op g.E.Lane.width in
+    let v : little_from (s * j) s c.sixteen-old.result ≡ little_from (c.args.d + s * i) s old =
+    lane_read s n j d old c.sixteen-old.result g.E.Lane.sizes lt c.sixteen-old.ensures ∙ ap (λ z. little_from z s old) (omega (arith, at)) in
     ap (λ z. little_from z s new) (omega (arith, at))
     ∙ chosen_element (is_active g.row.VLENB c.args.masked i old) c.args.inactive s (c.args.d + s * i) 0
-    (element c.args.op g.E.Lane.width (little_from (c.args.a + s * i) s old) (other_of g.row.VLENB s g.E.Lane.number c.args.b (s * i) old)) old lanes new
+    (f (little_from (c.args.a + s * i) s old) (other_of g.row.VLENB s g.E.Lane.number c.args.b (s * i) old) (little_from (c.args.d + s * i) s old)) old lanes new
     (λ yes.
     ap (λ z. little_from z s new) (omega (arith, at))
     ∙ lane_put s n j d old lanes new g.E.Lane.sizes lt room c.set_sixteen.ensures.count c.set_sixteen.ensures.meaning
-    ∙ same_number s (s * j) (s * j) lanes c.byte_chunk-results.result (λ k p q less is_p is_q.
+    ∙ same_number s (s * j) (s * j) lanes c.results-results.result (λ k p q less is_p is_q.
     ap (λ t. get_or lanes t 0) is_p
     ∙ c.written_lanes-lanes.ensures.active (s * j + k) (omega (arith, few, less)) (c.first_flags.ensures.set (s * j + k) (omega (arith, within, less))) (c.active_flags-flags.ensures.set j k lt less yes)
-    ∙ ap (λ t. get_or c.byte_chunk-results.result t 0) (sym is_q))
-    ∙ c.byte_chunk-results.ensures j lt
-    ∙ ap₂ (element c.args.op g.E.Lane.width) x y)
+    ∙ ap (λ t. get_or c.results-results.result t 0) (sym is_q))
+    ∙ c.results-results.ensures j lt
+    ∙ ap₂ (λ p q. f p q (little_from (s * j) s c.sixteen-old.result)) x y
+    ∙ ap (f (little_from (c.args.a + s * i) s old) (other_of g.row.VLENB s g.E.Lane.number c.args.b (s * i) old)) v)
     (λ no k less.
     let where_k : c.args.d + s * i + k ≡ d + (s * j + k) = omega (arith, at) in
     let low : s * j + k < 16 = omega (arith, few, less) in

@@ -1,6 +1,6 @@
 -- What `search` finds late, or not at all.
 use Rattle.std.proofs.Common.{arith}
-use Rattle.lane_fixed.proofs.ChunkKernelLemmas.{each_mode}
+use Rattle.lane_fixed.specs.ModeLemmas.{each_mode}
 use Rattle.lane_fixed.proofs.kernels.compute.Goals as goal
 
 pub returns-in-Saddu-clause-results : goal.returns-in-Saddu-clause-results
