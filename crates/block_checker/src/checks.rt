@@ -4,6 +4,7 @@ ghost use Rattle.std.specs.Prelude.{IsOk, Ok, Some};
 ghost use Rattle.std.specs.List.{slice_get};
 ghost use Rattle.std.specs.List.Sorted.{IsNonDecreasingBy};
 ghost use Rattle.cert_note.specs.declared.values.Block.{Block};
+ghost use Rattle.abs_state.specs.Blocks.{at_entry_of};
 ghost use Rattle.abs_state.specs.Branches.{refined};
 ghost use Rattle.abs_state.specs.StepLaws.{jumps};
 ghost use Rattle.block_checker.specs.Passes.{block_at as block_at_of, block_for as block_for_of};
@@ -14,7 +15,7 @@ ghost use Rattle.block_checker.specs.Passes.{edges_pass as edges_pass_of, follow
 ghost use Rattle.block_checker.specs.Passes.{word_passes as word_passes_of, walk as walk_of};
 ghost use Rattle.block_checker.specs.Passes.{block_passes as block_passes_of};
 ghost use Rattle.block_checker.specs.Passes.{blocks_pass as blocks_pass_of};
-ghost use Rattle.block_checker.specs.Passes.{entry_passes as entry_passes_of};
+ghost use Rattle.block_checker.specs.Passes.{both, entry_passes as entry_passes_of};
 ghost use Rattle.block_checker.specs.Passes.{checked as checked_of};
 ghost use Rattle.block_checker.specs.Accepted.{IsAnswer};
 ghost use Rattle.block_checker.specs.Walking.{IsCountBelow, is_exit, is_fork_exit, progress_of};
@@ -286,36 +287,38 @@ fn blocks_pass<A: Allocator, B: Allocator, C: Allocator>(
     Ok(())
 }
 
-/// Each block, in the order of the list, in room that is taken once.
-fn blocks_pass_in_room<A: Allocator + Copy, B: Allocator, C: Allocator>(
-    alloc: A,
-    image: &Image<B>,
-    certificate: &Certificate<C>,
-) -> Result<(), CheckError>
-    ensures { IsAnswer result (blocks_pass_of image.now certificate.now certificate.now.blocks) }
-{
-    let Ok(mut state) = Abstract::at_entry(alloc, certificate, image) else {
-        return Err(CheckError::NoMemory);
-    };
-    blocks_pass(image, certificate, &mut state)
-}
-
-/// The way from the start of a run into the block at the entry.
+/// The way from the start of a run into the block at the entry, with `state` as what is known at the start.
 #[tactic(auto, unfolding(crate::specs::Passes::entry_passes, crate::specs::Passes::entry_passes_to))]
-fn entry_passes<A: Allocator + Copy, B: Allocator, C: Allocator>(
-    alloc: A,
+fn entry_passes<A: Allocator, B: Allocator, C: Allocator>(
     image: &Image<B>,
     certificate: &Certificate<C>,
+    state: &Abstract<A>,
 ) -> Result<(), CheckError>
-    ensures { IsAnswer result (entry_passes_of image.now certificate.now) }
+    requires { state.now ≡ at_entry_of image.now certificate.now }
+    ensures { result ≡ entry_passes_of image.now certificate.now }
 {
     if block_at(certificate, image.entry()).is_none() {
         return Err(CheckError::NoEntryBlock);
     }
-    let Ok(state) = Abstract::at_entry(alloc, certificate, image) else {
+    possible_passes(certificate, image.entry(), state, false)
+}
+
+/// The entry, then each block, in room that is taken once.
+fn all_pass<A: Allocator + Copy, B: Allocator, C: Allocator>(
+    alloc: A,
+    image: &Image<B>,
+    certificate: &Certificate<C>,
+) -> Result<(), CheckError>
+    ensures { IsAnswer result (both (entry_passes_of image.now certificate.now)
+        (blocks_pass_of image.now certificate.now certificate.now.blocks)) }
+{
+    let Ok(mut state) = Abstract::at_entry(alloc, certificate, image) else {
         return Err(CheckError::NoMemory);
     };
-    possible_passes(certificate, image.entry(), &state, false)
+    if let Err(error) = entry_passes(image, certificate, &state) {
+        return Err(error);
+    }
+    blocks_pass(image, certificate, &mut state)
 }
 
 /// All of the check.
@@ -331,8 +334,5 @@ pub(crate) fn checked<A: Allocator + Copy, B: Allocator, C: Allocator>(
     if certificate.contents().vlen.bytes() != vlen.bytes() {
         return Err(CheckError::WrongVlen);
     }
-    if let Err(error) = entry_passes(alloc, image, certificate) {
-        return Err(error);
-    }
-    blocks_pass_in_room(alloc, image, certificate)
+    all_pass(alloc, image, certificate)
 }
