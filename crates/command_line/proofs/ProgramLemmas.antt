@@ -98,5 +98,6 @@ asked_nothing files words line_error.NoMemory e was has told tells ending kept f
       more = [];
       unasked = λ off. refl;
       silent = λ off. refl;
+      fits = inl refl;
       told = rw (append-nil) (memory refl);
     })

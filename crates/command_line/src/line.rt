@@ -1,6 +1,6 @@
 //! The command line.
 ghost use Rattle.std.specs.Prelude.{◌≡◌, IfErr, IfOk, codes, false, map, option_map};
-ghost use Rattle.clap.specs.Words.{app_of, rule_of, shape_of, subcommand_rows_of};
+ghost use Rattle.clap.specs.Words.{app_of, kind_of, rule_of, shape_of, subcommand_rows_of};
 ghost use Rattle.clap.specs.Words.{with_rule, with_subcommand};
 ghost use Rattle.clap.specs.declared.builder.command.Command.TheViews.{out-Command as fields_of};
 ghost use Rattle.command_line.specs.Line.{IsFaultOf, IsLineOf, app, flag_of, flag_rule};
@@ -13,7 +13,7 @@ pub mod asked;
 use asked::{Line, LineError};
 use clap::error::ErrorKind;
 use clap::{Arg, ArgAction, ArgMatches, Command};
-use commands::MakePaths;
+use commands::{Escaped, MakePaths};
 use std::alloc::{AllocError, Global};
 
 /// What the help says of statuses, and where more stands.
@@ -294,7 +294,51 @@ pub fn line<'a>(alloc: Global, words: &'a [&'a str]) -> Result<Line<'a>, LineErr
         }
         Err(error) => match error.kind() {
             ErrorKind::OutOfMemory => Err(LineError::NoMemory),
-            _ => Err(LineError::Usage(error)),
+            _ => Err(LineError::Usage(shown(alloc, words, error)?)),
         },
+    }
+}
+
+/// Whether a word has a control character.
+fn has_control(word: &str) -> bool {
+    word.chars().any(|c| c.is_control())
+}
+
+/// The words, in which control characters are told by their codes.
+fn escaped(alloc: Global, words: &[&str]) -> Result<Vec<String>, AllocError> {
+    let mut told = Vec::with_capacity(alloc, words.len())?;
+    for word in words {
+        let word = Escaped(*word);
+        told.push(format!(in alloc; "{word}")?)?;
+    }
+    Ok(told)
+}
+
+/// Why `clap` refuses words, if it does.
+fn refusal<'a>(alloc: Global, words: &'a [String]) -> Result<Option<clap::Error>, AllocError> {
+    let command = program(alloc)?;
+    match command.try_get_matches_from(words) {
+        Ok(_matches) => Ok(None),
+        Err(error) => Ok(Some(error)),
+    }
+}
+
+/// The same fault, as `clap` tells it of words in which control characters are told by their codes: its text repeats words.
+fn shown(alloc: Global, words: &[&str], error: clap::Error) -> Result<clap::Error, AllocError>
+    ensures { IfOk result (λ told. kind_of told ≡ kind_of error) }
+{
+    if !words.iter().any(|word| has_control(*word)) {
+        return Ok(error);
+    }
+    let texts = escaped(alloc, words)?;
+    match refusal(alloc, texts.as_slice())? {
+        Some(told) => {
+            if told.kind() == error.kind() {
+                Ok(told)
+            } else {
+                Ok(error)
+            }
+        }
+        None => Ok(error),
     }
 }

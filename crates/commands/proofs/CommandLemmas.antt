@@ -17,11 +17,13 @@ use Rattle.toml.specs.Parse.{parse_document}
 use Rattle.commands.specs.Accepted.{IsOrWant}
 use Rattle.commands.specs.Ending.{Ends, status_after, status_of_end, stop_of_job, tells_more, text_after}
 use Rattle.commands.specs.Files.{ArePassed, Files, IsImageAt, IsNoImageAt, IsNoTable, IsNoTableAt, IsTableAt, IsUnfinished, IsUnpassed, IsUnwritten, files_of, image_in, outs_of}
+use Rattle.commands.specs.More.{Fits, IsMore, more_if, more_text}
 use Rattle.commands.specs.Starts.{IsStarted, IsUnstarted, StopsStarting}
 use Rattle.commands.specs.Steps.{IsUnasked}
 use Rattle.commands.specs.Trial.{OrMemory, StopsAtTrial, line_of, shown_of, told_of}
 use Rattle.commands.specs.Words.{Argument, ImageView}
 use Rattle.commands.specs.Written.{Gains, Held, Written}
+use Rattle.commands.specs.declared.more.More.{More}
 use Rattle.commands.specs.declared.stop.Ending.{Ending}
 use Rattle.commands.specs.declared.stop.Status.{Status}
 use Rattle.commands.specs.declared.stop.Stop.{Stop}
@@ -41,6 +43,7 @@ ends_as {explains} {old} {new} {ending} {does} {stops} done e comes = record {
   more = e.more;
   unasked = e.unasked;
   silent = subst (λ (r : Result Status Stop). tells_more explains r ≡ false → e.more ≡ []) (sym (same e.done e.comes)) e.silent;
+  fits = subst (λ (r : Result Status Stop). IsMore r e.more) (sym (same e.done e.comes)) e.fits;
   told = subst (λ (r : Result Status Stop). OnOk ending.told (Appends old new (text_after r ++ e.more))) (sym (same e.done e.comes)) e.told;
 }
   where
@@ -54,6 +57,21 @@ pub ends_by : {explains : Bool} {old new : Option (List ℕ)} {ending : Ending} 
     → Ends explains (λ s. done ≡ Ok s) (λ reason. done ≡ Err reason) old new ending → MatchResult done did stopped
     → ((s : Status) → did s → does s) → ((reason : Stop) → stopped reason → stops reason) → Ends explains does stops old new ending
 ends_by done did stopped e comes so why = ends_as done e (MatchResult-weaker done comes so why)
+
+-- more that is told fits, and what is not told is nothing
+pub told_fits : (tells : Bool) (m : More) (done : Result Status Stop) → (tells ≡ true → Fits m done) → IsMore done (more_if tells m)
+told_fits true m done fits = inr (m, fits refl, refl)
+told_fits false m done fits = inl refl
+
+pub untold : (tells : Bool) (m : More) → tells ≡ false → more_if tells m ≡ []
+untold true m off = cc
+untold false m off = refl
+
+-- more that is to be told is whole
+pub told_whole : {E : Type 0} (old new : Option (List ℕ)) (line : List ℕ) (tells : Bool) (m : More) (told : Result (Unit {0}) E) → tells ≡ true
+    → OnOk told (Appends old new (line ++ more_if tells m)) → OnOk told (Appends old new (line ++ more_text m))
+told_whole old new line true m told on is = is
+told_whole old new line false m told on is = cc
 
 -- no more is told where it is not to explain
 pub no_more : (explains : Bool) (done : Result Status Stop) → explains ≡ false → tells_more explains done ≡ false

@@ -1,20 +1,16 @@
--- Parameters and arguments, place by place, and texts one after the other.
-use Rattle.std.proofs.Common.{◌≡◌, ◌+◌, ◌++◌, ℕ, suc, ◌<◌, List, [], ◌∷◌, Option, Some, None, length, map, get_or, refl, sym, add-one, arith}
-use Rattle.std.proofs.lemmas.List.{append-nil}
+-- Parameters and arguments, place by place.
+use Rattle.std.proofs.Common.{◌≡◌, ℕ, suc, ◌<◌, List, [], ◌∷◌, length, map, get_or, refl, arith}
 use Rattle.std.specs.Borrow.{Bor}
-use Rattle.std.specs.Io.KnownBytes.{Appends}
 use Rattle.job_file.specs.Job.{Text}
 use Rattle.job_file.specs.Needs.{run_param_lent, try_param_lent}
 use Rattle.job_file.specs.declared.values.RunParam.{RunParam}
 use Rattle.job_file.specs.declared.values.RunParam.TheVariants as given
 use Rattle.job_file.specs.declared.values.TryParam.{TryParam}
 use Rattle.job_file.specs.declared.values.TryParam.TheVariants as taken
-use Rattle.monitor.specs.Texts.{texts}
 use Rattle.region_mem.specs.Parameter.{Argument}
 use Rattle.region_mem.specs.declared.arguments.Arg.TheVariants as argument
 use Rattle.region_mem.specs.declared.parameter.Param.{Param}
 use Rattle.region_mem.specs.declared.parameter.Param.TheVariants as parameter
-use Rattle.rv_listing.specs.SinkLemmas.{appends_both}
 use Rattle.commands.specs.Tries.{param_for, params_for, passed_by}
 
 -- parameters that are made place by place are the job's
@@ -44,21 +40,3 @@ passed-each (p ∷ ps) (m ∷ ms) same at =
     rw (first, more) refl
 passed-each [] (m ∷ ms) same at = absurd (omega (arith, same))
 passed-each (p ∷ ps) [] same at = absurd (omega (arith, same))
-
--- ---- texts
-
--- nothing yet
-pub texts-none : (text : ℕ → List ℕ) (a : Option (List ℕ)) → Appends a a (texts text 0)
-unfolding texts
-texts-none text None = tt
-texts-none text (Some p) = sym (append-nil p)
-
--- one more
-pub texts-more : (text : ℕ → List ℕ) (i : ℕ) (a b c : Option (List ℕ)) → Appends a b (texts text i) → Appends b c (text i)
-    → Appends a c (texts text (i + 1))
-unfolding texts
-texts-more text i a b c first more = rw (add-one i) (appends_both a b c (texts text i) (text i) first more)
-
--- all
-pub texts-all : (text : ℕ → List ℕ) (i n : ℕ) (a b : Option (List ℕ)) → i ≡ n → Appends a b (texts text i) → Appends a b (texts text n)
-texts-all text i n a b same told = rw (← same) told

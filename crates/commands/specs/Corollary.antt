@@ -1,5 +1,5 @@
 -- What subcommands come to over files that are known.
-use Rattle.std.specs.Prelude.{◌≡◌, ◌<◌, ◌++◌, ◌∷◌, [], Bool, ℕ, List, get_or, map, Option, Some, None, Ok, option_map}
+use Rattle.std.specs.Prelude.{◌≡◌, ◌<◌, ◌++◌, ◌∷◌, [], Bool, ℕ, List, get_or, map, Some, None, Ok, option_map}
 use Rattle.block_checker.specs.Accepted.{AcceptedView}
 use Rattle.cert_note.specs.declared.values.Budget.{Budget}
 use Rattle.job_file.specs.Needs.{RunJob, TryJob, make_job_in, run_job_in, try_job_in}

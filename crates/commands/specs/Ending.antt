@@ -17,6 +17,7 @@ use Rattle.commands.specs.declared.store.StoreError.{StoreError}
 use Rattle.commands.specs.declared.store.StoreError.TheVariants as store_error
 use Rattle.commands.specs.declared.trial.End.{End}
 use Rattle.commands.specs.declared.trial.End.TheVariants as end
+use Rattle.commands.specs.More.{IsMore}
 use Rattle.commands.specs.Texts.{stop_text}
 use Rattle.commands.specs.declared.stop.Ending.{Ending}
 use Rattle.commands.specs.declared.stop.Status.TheVariants as status
@@ -112,8 +113,8 @@ tells_more explains (Err stop.Output) = false
 tells_more explains other = explains
 
 -- a subcommand does what it does, or stops for one of its reasons: the status says which, and
--- standard error has grown by the reason's line, and, where it is to explain, by some more behind
--- it, where it took that. `old` and `new` are what it has before and after
+-- standard error has grown by the reason's line, and, where it is to explain, by more of that
+-- reason behind it, where it took that. `old` and `new` are what it has before and after
 pub record Ends (explains : Bool) (does : Status → Type 0) (stops : Stop → Type 0)
     (old new : Option (List ℕ)) (ending : Ending) : Type 0 where
   pub done : Result Status Stop
@@ -122,4 +123,5 @@ pub record Ends (explains : Bool) (does : Status → Type 0) (stops : Stop → T
   pub more : List ℕ
   pub unasked : explains ≡ false → more ≡ []
   pub silent : tells_more explains done ≡ false → more ≡ []
+  pub fits : IsMore done more
   pub told : OnOk ending.told (Appends old new (text_after done ++ more))

@@ -6,6 +6,7 @@ pub mod Files
 pub mod Makes
 pub mod Memory
 pub mod Mons
+pub mod More
 pub mod Runs
 pub mod Starts
 pub mod Steps

@@ -4,8 +4,9 @@ ghost use Rattle.block_checker.specs.Accepted.{Passes};
 ghost use Rattle.commands.specs.Accepted.{IsOrWant, accepted_of, certificate_in};
 ghost use Rattle.commands.specs.Trial.{OrMemory};
 
+use crate::more::More;
 use crate::stop::Stop;
-use crate::why::{Missing, Why, note_certificate, note_check};
+use crate::why::{Why, note_certificate, note_check};
 use block_checker::{Accepted, check};
 use cert_note::Certificate;
 use elf_image::Image;
@@ -17,7 +18,7 @@ fn certificate_in<'a>(alloc: Global, image: &Image, why: &mut Why) -> Result<Cer
     ensures { OrMemory (certificate_in image.now.certificate) result }
 {
     let Some(bytes) = image.certificate() else {
-        why.note(&Missing::Certificate);
+        why.note(More::NoCertificate);
         return Err(Stop::NoCertificate);
     };
     match cert_note::read(alloc, bytes) {

@@ -13,7 +13,7 @@ ghost use Rattle.commands.specs.Why.{Notes};
 
 use crate::stop::Stop;
 use crate::store::{Store, StoreError};
-use crate::why::{FileReason, Why, note_image, note_job};
+use crate::why::{Why, note_file, note_image, note_job};
 use elf_image::{ElfError, Image, MAX_FILE_SIZE};
 use job_file::{JobError, RunParam, parse};
 use job_reasons::Command;
@@ -33,7 +33,7 @@ pub fn stop_at<'a>(
     ensures notes { Notes why.old why.new }
 {
     if let (StoreError::Failed, Some(kind)) = (error, says) {
-        why.note(&FileReason(kind));
+        note_file(kind, why);
     }
     Stop::at_file(error, path)
 }

@@ -3,8 +3,8 @@
 //! Each has a module: `checks`, `makes`, `mons`, `runs` and `tries`. What they share stands in the
 //! others: `starts` (what those on a job begin with), `files` (what is read, and the out files),
 //! `accepted` (an image with its certificate), `lines` (the input of `mon`), `trial` (what comes of a
-//! run), `registers` (those that it left), `stop` (statuses and reasons to stop), `texts` (how those are told), `why` (what more is
-//! told of them), `store` (where files are) and `memory` (files in memory).
+//! run), `registers` (those that it left), `stop` (statuses and reasons to stop), `texts` (how those are told), `more` (what more is
+//! told of them), `why` (what of that is noted), `store` (where files are) and `memory` (files in memory).
 #![tactic(auto)]
 
 mod accepted;
@@ -14,6 +14,7 @@ mod lines;
 mod makes;
 mod memory;
 mod mons;
+mod more;
 mod registers;
 mod runs;
 mod starts;
@@ -26,6 +27,7 @@ mod why;
 
 pub use checks::check_image;
 pub use files::needs_in_numbers;
+pub use job_reasons::Escaped;
 pub use makes::{MakePaths, make_image};
 pub use memory::{Memory, check_memory, make_memory, run_memory, try_memory};
 pub use mons::{mon_job, mon_job_within};

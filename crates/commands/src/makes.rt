@@ -13,6 +13,7 @@ ghost use Rattle.toml.specs.View.{table_view};
 use crate::accepted::accept;
 use crate::checks::print_bound;
 use crate::files::{image_in, read_image_file, write};
+use crate::more::More;
 use crate::starts::on_table;
 use crate::stop::{Ending, Status, Stop};
 use crate::store::Store;
@@ -110,7 +111,7 @@ fn certificate_for<'a>(
     ensures { OrMemory (certificate_for job.now image.now) result }
 {
     let Some(parameters) = Parameters::new(job.params) else {
-        why.note(&parameter_reason(&job.params));
+        why.note(More::Parameters(parameter_reason(&job.params)));
         return Err(Stop::Job(JobError::BadKey));
     };
     match make(alloc, image, &parameters, job.vlen) {

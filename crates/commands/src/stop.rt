@@ -1,13 +1,15 @@
 //! How the program ends.
 ghost use Rattle.std.specs.Io.KnownBytes.{Appends};
-ghost use Rattle.std.specs.Prelude.{◌≡◌, ◌++◌, Err, Ok, OnOk};
+ghost use Rattle.std.specs.Prelude.{◌≡◌, ◌++◌, Err, Ok, OnOk, false, true};
 ghost use Rattle.commands.specs.Ending.{Ends, code_of, status_after, status_of, stop_at_file};
 ghost use Rattle.commands.specs.Ending.{stop_of_certificate, stop_of_check, stop_of_image};
 ghost use Rattle.commands.specs.Ending.{stop_of_job, stop_of_make, stop_of_open};
 ghost use Rattle.commands.specs.Ending.{tells_more, text_after};
+ghost use Rattle.commands.specs.More.{Fits, more_if, more_text};
 ghost use Rattle.commands.specs.Texts.{stop_text};
 ghost use Rattle.commands.specs.declared.stop.Stop.TheVariants.{Memory};
 
+use crate::more::More;
 use crate::store::StoreError;
 use crate::why::Why;
 use block_checker::CheckError;
@@ -220,33 +222,51 @@ impl<'a> Stop<'a> {
     }
 }
 
-/// How the program ends after what was done, or after the reason to stop, which is told, and then `more`.
-pub fn told<E: Write>(done: Result<Status, Stop<'_>>, more: &[u8], errors: &mut E) -> Ending
+/// How the program ends after what was done, or after the reason to stop, which is told, and then `more`, where it `tells` that.
+pub fn told<E: Write>(
+    done: Result<Status, Stop<'_>>,
+    more: &More,
+    tells: bool,
+    errors: &mut E,
+) -> Ending
     ensures status { result.status ≡ status_after done.entry }
     ensures told { OnOk result.told
         (Appends (E.contents errors.old) (E.contents errors.new)
-        (text_after done.entry ++ more.now)) }
+        (text_after done.entry ++ more_if tells more.now)) }
 {
     let (status, told) = match done {
-        Ok(status) => (status, errors.write_all(more)),
-        Err(stop) => (stop.status(), tell_all(&stop, more, errors)),
+        Ok(status) => (status, tell_more(more, tells, errors)),
+        Err(stop) => (stop.status(), tell_all(&stop, more, tells, errors)),
     };
     Ending { status, told }
 }
 
 /// How a subcommand ends after what was done, or after the reason to stop, which is told, and then, where it is to `explain`,
-/// more of why. Where memory ran out, or standard output takes no text, no more is told.
+/// more of why: what was noted, where that fits. Where memory ran out, or standard output takes no text, no more is told.
 pub fn ended<E: Write>(
     done: Result<Status, Stop<'_>>,
     why: &Why,
     explain: bool,
     errors: &mut E,
 ) -> Ending
-    ensures { Ends explain (λ status. done.entry ≡ Ok status) (λ reason. done.entry ≡ Err reason)
+    ensures ends { Ends explain (λ status. done.entry ≡ Ok status)
+        (λ reason. done.entry ≡ Err reason)
         (E.contents errors.old) (E.contents errors.new) result }
+    ensures whole { tells_more explain done.entry ≡ true → Fits why.now.more done.entry
+        → OnOk result.told (Appends (E.contents errors.old) (E.contents errors.new)
+        (text_after done.entry ++ more_text why.now.more)) }
 {
-    let more = tells_more(explain, &done);
-    told(done, why.lines_if(more), errors)
+    let tells = is_told(explain, &done, &why.more);
+    told(done, &why.more, tells, errors)
+}
+
+/// Whether `more` is told behind the reason's line: where it is to `explain`, and `more` tells more of that very reason.
+fn is_told(explain: bool, done: &Result<Status, Stop<'_>>, more: &More) -> bool
+    ensures fits { result ≡ true → Fits more.now done.now }
+    ensures silent { tells_more explain done.now ≡ false → result ≡ false }
+    ensures whole { tells_more explain done.now ≡ true → Fits more.now done.now → result ≡ true }
+{
+    tells_more(explain, done) && more.fits(done)
 }
 
 /// Whether more is told behind the reason's line: where it is to `explain`, unless memory ran out or standard output takes no
@@ -260,11 +280,23 @@ fn tells_more(explain: bool, done: &Result<Status, Stop<'_>>) -> bool
     }
 }
 
-/// Tells why, and then more.
-fn tell_all<E: Write>(stop: &Stop<'_>, more: &[u8], errors: &mut E) -> io::Result<()>
+/// Tells more, where it is to be told.
+fn tell_more<E: Write>(more: &More, tells: bool, errors: &mut E) -> io::Result<()>
     ensures { OnOk result
-        (Appends (E.contents errors.old) (E.contents errors.new) (stop_text stop.now ++ more.now)) }
+        (Appends (E.contents errors.old) (E.contents errors.new) (more_if tells more.now)) }
+{
+    if tells {
+        write!(errors, "{more}")
+    } else {
+        errors.write_all("".as_bytes())
+    }
+}
+
+/// Tells why, and then more, where that is to be told.
+fn tell_all<E: Write>(stop: &Stop<'_>, more: &More, tells: bool, errors: &mut E) -> io::Result<()>
+    ensures { OnOk result (Appends (E.contents errors.old) (E.contents errors.new)
+        (stop_text stop.now ++ more_if tells more.now)) }
 {
     stop.print(errors)?;
-    errors.write_all(more)
+    tell_more(more, tells, errors)
 }

@@ -11,11 +11,12 @@ ghost use Rattle.commands.specs.Tries.{passed_size, run_of, trial_of};
 ghost use Rattle.commands.specs.Written.{Gains};
 
 use crate::files::{read_args, read_image};
+use crate::more::More;
 use crate::starts::on_table;
 use crate::stop::{Ending, Status, Stop};
 use crate::store::Store;
 use crate::trial::{End, Trial, finish, trial_at};
-use crate::why::{Missing, Why, note_argument, note_place};
+use crate::why::{Why, note_argument, note_place};
 use elf_image::Image;
 use job_file::{JobError, RunParam, TryJob, TryParam, try_job_in};
 use job_reasons::Command;
@@ -96,7 +97,7 @@ fn run_tried<'a>(
     ensures { OrMemory (trial_of (try_job_lent job.now) image.now args.places) result }
 {
     let Some(parameters) = Parameters::new(params_for(&job.params, &args.places)) else {
-        why.note(&Missing::SmallFile);
+        why.note(More::LargeFile);
         return Err(Stop::Job(JobError::BadKey));
     };
     match job.vlen {

@@ -1,11 +1,13 @@
-//! What more is told of why a subcommand stops, where that is asked for.
-ghost use Rattle.std.specs.Prelude.{◌≡◌, [], false, IfSome};
+//! What more is noted of why a subcommand stops, where that is asked for.
+ghost use Rattle.std.specs.Prelude.{◌≡◌, ◌≢◌, IfSome, string_bytes};
 ghost use Rattle.block_checker.specs.Bound.{bound_of, scalar_of, scalars_of};
-ghost use Rattle.elf_image.specs.Image.{code_at};
 ghost use Rattle.rv_listing.specs.Listing.{listing_text};
-ghost use Rattle.commands.specs.Why.{IsNoted, Notes, open_lines, place_lines, place_text};
-ghost use Rattle.commands.specs.Why.{stop_lines};
+ghost use Rattle.commands.specs.More.{more_text};
+ghost use Rattle.commands.specs.Why.{IsNoted, MustNote, Notes, open_lines, place_lines};
+ghost use Rattle.commands.specs.declared.more.More.TheVariants.{Nothing};
+ghost use Rattle.sandbox_run.specs.declared.outcome.OpenError.TheVariants.{NoMemory};
 
+use crate::more::{More, Place};
 use block_checker::{Accepted, CheckError};
 use cert_maker::MakeError;
 use cert_note::{CertError, Certificate};
@@ -14,126 +16,85 @@ use elf_image::{ElfError, Image};
 use explanations::{Refusal, attach_reason, certificate_reason, image_reason, word_reason};
 use job_reasons::{Command, job_reason};
 use open_reasons::open_reason;
-use region_mem::{Arg, Args, Digits, Fault, Parameters};
+use region_mem::{Arg, Args, Fault, Parameters};
 use rv_listing::{Over, put_listing};
 use sandbox_run::OpenError;
 use std::alloc::Global;
-use std::fmt;
 use std::io::ErrorKind;
 use vreg_groups::Vlen;
 
-/// Lines that tell more of why a subcommand stops: those that were noted last. There are none where they are not asked for,
-/// or where memory runs out.
+/// What more is told of why a subcommand stops: what was noted last. There is nothing where that is not asked for, or where
+/// memory runs out.
 #[derive(Drop)]
 pub struct Why {
     alloc: Global,
     asked: bool,
-    text: String,
+    pub more: More,
 }
 
 impl Why {
-    /// No lines yet.
+    /// Nothing yet.
     pub fn new(alloc: Global, asked: bool) -> Why
-        ensures { result.asked ≡ asked }
+        ensures asked { result.asked ≡ asked }
+        ensures nothing { result.more ≡ Nothing }
     {
         Why {
             alloc,
             asked,
-            text: String::new(alloc),
+            more: More::Nothing,
         }
     }
 
-    /// Whether lines are asked for.
+    /// Whether more is asked for.
     fn is_asked(&self) -> bool
         ensures { result ≡ self.now.asked }
     {
         self.asked
     }
 
-    /// Notes lines in place of those before, where memory suffices.
-    pub fn note<T: fmt::Display>(&mut self, lines: &T)
+    /// Notes this in place of what was noted before.
+    pub fn note(&mut self, more: More)
         ensures notes { Notes self.old self.new }
-        ensures noted { IsNoted (T.output lines.now) self.old self.new }
+        ensures noted { IsNoted (more_text more) self.old self.new }
+        ensures told { MustNote (more_text more) self.old self.new }
     {
         if self.asked {
-            if let Ok(text) = format!(in self.alloc; "{lines}") {
-                self.text = text;
-            }
+            self.more = more;
         }
     }
 
-    /// Forgets the lines, where nothing more is to be told.
+    /// Forgets what was noted, where nothing more is to be told.
     pub fn forget(&mut self)
-        ensures { self.new.asked ≡ self.old.asked }
+        ensures asked { self.new.asked ≡ self.old.asked }
+        ensures nothing { self.new.more ≡ Nothing }
     {
-        self.text.clear();
-    }
-
-    /// The lines, where they are `asked` for.
-    pub fn lines_if(&self, asked: bool) -> &[u8]
-        ensures { asked ≡ false → result.now ≡ [] }
-    {
-        if asked {
-            self.text.as_bytes()
-        } else {
-            "".as_bytes()
-        }
-    }
-}
-
-/// Why the system did not read or write a file.
-#[derive(Drop)]
-pub struct FileReason(pub ErrorKind);
-
-impl fmt::Display for FileReason {
-    fn fmt<W: fmt::Write>(&self, f: &mut fmt::Formatter<W>) -> fmt::Result {
-        writeln!(f, "  the system says: {}", self.0)
-    }
-}
-
-/// Where a run stopped: its pc, and the listing of the word there, where one can be fetched.
-#[derive(Clone, Copy)]
-struct Place<'a> {
-    pc: u32,
-    listing: Option<&'a str>,
-}
-
-impl fmt::Display for Place<'_> {
-    ghost use Rattle.std.specs.Prelude.{Some};
-    ghost use Rattle.commands.specs.Why.{place_text};
-
-    ghost output = { λ place. Some (place_text place) };
-
-    fn fmt<W: fmt::Write>(&self, f: &mut fmt::Formatter<W>) -> fmt::Result {
-        let pc = Digits(u64::from(self.pc));
-        match self.listing {
-            Some(listing) => writeln!(f, "  pc {pc}: {listing}"),
-            None => writeln!(f, "  pc {pc}: no code"),
-        }
-    }
-}
-
-/// Notes where a run stopped, and the fault that it met there, if it did.
-fn note_reason(reason: &Place<'_>, fault: Option<Fault>, why: &mut Why)
-    ensures notes { Notes why.old why.new }
-    ensures noted { IsNoted (stop_lines fault (place_text reason.now)) why.old why.new }
-{
-    match fault {
-        Some(error) => why.note(&Refusal {
-            error,
-            reason: *reason,
-        }),
-        None => why.note(reason),
+        self.more = More::Nothing;
     }
 }
 
 /// The listing of a word at an address, where memory suffices.
-fn listing(alloc: Global, word: u32, pc: u32) -> Option<Vec<u8>>
-    ensures { IfSome result (λ text. text.items ≡ listing_text pc word) }
+fn listing(alloc: Global, word: u32, pc: u32) -> Option<String>
+    ensures { IfSome result (λ text. string_bytes text ≡ listing_text pc word) }
 {
     let mut text = Over::new(Vec::new(alloc));
     match put_listing(&mut text, word, pc) {
-        Ok(()) => Some(text.into_inner()),
+        Ok(()) => {
+            let bytes = text.into_inner();
+            kept(alloc, bytes.as_slice())
+        }
+        Err(_) => None,
+    }
+}
+
+/// The text that bytes spell, where memory suffices.
+fn kept(alloc: Global, bytes: &[u8]) -> Option<String>
+    ensures { IfSome result (λ text. string_bytes text ≡ bytes.now) }
+{
+    match std::str::from_utf8(bytes) {
+        Ok(text) => match String::from_str(alloc, text) {
+            Ok(text) => Some(text),
+            Err(_) => None,
+        },
         Err(_) => None,
     }
 }
@@ -144,44 +105,25 @@ pub fn note_place(alloc: Global, image: &Image, fault: Option<Fault>, pc: u32, w
     ensures noted { IsNoted (place_lines image.now fault pc) why.old why.new }
 {
     let Some(word) = image.code_at(pc) else {
-        let reason = Place { pc, listing: None };
-        return note_reason(&reason, fault, why);
+        let place = Place { pc, listing: None };
+        return why.note(More::Place { fault, place });
     };
     if let Some(text) = listing(alloc, word, pc) {
-        if let Ok(text) = std::str::from_utf8(text.as_slice()) {
-            let reason = Place {
-                pc,
-                listing: Some(text),
-            };
-            note_reason(&reason, fault, why);
-        }
+        let place = Place {
+            pc,
+            listing: Some(text),
+        };
+        why.note(More::Place { fault, place });
     }
 }
 
-/// What is wanted and is not there.
-#[derive(Clone, Copy)]
-pub enum Missing {
-    /// A certificate in the image.
-    Certificate,
-    /// A buffer's file that is not too large.
-    SmallFile,
-}
-
-impl fmt::Display for Missing {
-    fn fmt<W: fmt::Write>(&self, f: &mut fmt::Formatter<W>) -> fmt::Result {
-        match self {
-            Missing::Certificate => {
-                writeln!(
-                    f,
-                    "  wanted: a certificate in a note of the image, as `make` writes it"
-                )
-            }
-            Missing::SmallFile => {
-                writeln!(
-                    f,
-                    "  wanted: for each buffer a file of at most 16777216 bytes"
-                )
-            }
+/// Notes what the system says of a file, where memory suffices.
+pub fn note_file(kind: ErrorKind, why: &mut Why)
+    ensures { Notes why.old why.new }
+{
+    if why.is_asked() {
+        if let Ok(line) = format!(in why.alloc; "  the system says: {kind}\n") {
+            why.note(More::File(line));
         }
     }
 }
@@ -192,7 +134,7 @@ pub fn note_image(file: &[u8], error: ElfError, why: &mut Why)
 {
     if why.is_asked() && error != ElfError::NoMemory {
         let reason = image_reason(file, error);
-        why.note(&Refusal { error, reason });
+        why.note(More::Image(Refusal { error, reason }));
     }
 }
 
@@ -202,7 +144,7 @@ pub fn note_attach(file: &[u8], image: &Image, size: usize, error: ElfError, why
 {
     if why.is_asked() && error != ElfError::NoMemory {
         let reason = attach_reason(file, image, size, error);
-        why.note(&Refusal { error, reason });
+        why.note(More::Attach(Refusal { error, reason }));
     }
 }
 
@@ -212,7 +154,7 @@ pub fn note_certificate(alloc: Global, bytes: &[u8], error: CertError, why: &mut
 {
     if why.is_asked() && error != CertError::NoMemory {
         if let Ok(reason) = certificate_reason(alloc, bytes, error) {
-            why.note(&Refusal { error, reason });
+            why.note(More::Certificate(Refusal { error, reason }));
         }
     }
 }
@@ -230,7 +172,7 @@ pub fn note_check(
 {
     if why.is_asked() {
         if let Ok(Some(reason)) = check_reason(alloc, image, certificate, vlen) {
-            why.note(&Refusal { error, reason });
+            why.note(More::Check(Refusal { error, reason }));
         }
     }
 }
@@ -241,7 +183,7 @@ pub fn note_job(alloc: Global, text: &[u8], command: Command, why: &mut Why)
 {
     if why.is_asked() {
         if let Ok(Some(reason)) = job_reason(alloc, text, command) {
-            why.note(&reason);
+            why.note(More::Job(reason));
         }
     }
 }
@@ -253,7 +195,7 @@ pub fn note_misfit(alloc: Global, image: &Image, error: MakeError, why: &mut Why
     if why.is_asked() {
         if let Some(pc) = error.address() {
             if let Ok(reason) = word_reason(alloc, image, pc) {
-                why.note(&Refusal { error, reason });
+                why.note(More::Make(Refusal { error, reason }));
             }
         }
     }
@@ -292,10 +234,12 @@ pub fn note_argument(
     ensures notes { Notes why.old why.new }
     ensures noted { IsNoted (open_lines parameters.now args.now.places bound max error)
         why.old why.new }
+    ensures told { error ≢ NoMemory
+        → MustNote (open_lines parameters.now args.now.places bound max error) why.old why.new }
 {
     if why.is_asked() && error != OpenError::NoMemory {
         let reason = open_reason(parameters, args, bound, max, error);
-        why.note(&Refusal { error, reason });
+        why.note(More::Open(Refusal { error, reason }));
     }
 }
 
@@ -303,6 +247,10 @@ pub fn note_argument(
 pub fn note_open(accepted: &Accepted, args: &Args, max: u64, error: OpenError, why: &mut Why)
     ensures notes { Notes why.old why.new }
     ensures noted { IsNoted (open_lines accepted.now.certificate.parameters args.now.places
+        (bound_of accepted.now (scalars_of args.now.places)) max error)
+        why.old why.new }
+    ensures told { error ≢ NoMemory
+        → MustNote (open_lines accepted.now.certificate.parameters args.now.places
         (bound_of accepted.now (scalars_of args.now.places)) max error)
         why.old why.new }
 {

@@ -14,4 +14,5 @@ pub use commands::{Command, Flow, MonError};
 pub use monitor::Monitor;
 pub use moves::{go_on, step_at_most};
 pub use rv_listing::{Failed, Over, Sink};
+pub use texts::{put_csrs, put_registers};
 pub use words::parse;

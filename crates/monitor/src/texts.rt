@@ -89,9 +89,9 @@ fn put_register<S: Sink>(out: &mut S, number: usize, value: u32) -> Result<(), F
     )
 }
 
-/// Tells the integer registers.
+/// Tells the integer registers, four in a line.
 #[tactic(auto, unfolding(crate::specs::Texts::registers_text))]
-pub(crate) fn put_registers<S: Sink>(out: &mut S, x: &[u32; 32]) -> Result<(), Failed>
+pub fn put_registers<S: Sink>(out: &mut S, x: &[u32; 32]) -> Result<(), Failed>
     ensures { Told result (S.contents out.old) (S.contents out.new)
         (S.failures out.old) (S.failures out.new) (registers_text x.now) }
 {
@@ -222,11 +222,7 @@ fn put_meaning_line<S: Sink>(out: &mut S, address: u32, word: u32) -> Result<(),
 
 /// Tells pc, and what the vector extension keeps beside its registers.
 #[tactic(auto, unfolding(crate::specs::Texts::csrs_text))]
-pub(crate) fn put_csrs<S: Sink>(
-    out: &mut S,
-    registers: &Registers,
-    vlenb: usize,
-) -> Result<(), Failed>
+pub fn put_csrs<S: Sink>(out: &mut S, registers: &Registers, vlenb: usize) -> Result<(), Failed>
     ensures { Told result (S.contents out.old) (S.contents out.new)
         (S.failures out.old) (S.failures out.new) (csrs_text registers.now vlenb) }
 {

@@ -1,6 +1,6 @@
 //! Subcommands on files in memory, of which all is known.
 use crate::tests::assertions::given;
-use crate::tests::performances::performed;
+use crate::tests::performances::{performed, performed_words};
 use crate::tests::system::{IMAGE, JOB};
 use commands::{
     Ending, MakePaths, Memory, Status, Store, check_memory, make_memory, run_memory, try_memory,
@@ -170,4 +170,39 @@ fn touches_no_file_where_the_words_are_refused(rt: HostRuntime) {
     let came = performed(rt, rt.alloc(), words, &mut memory, &mut b"".as_slice());
     assert!(rt; came.status == Status::Usage);
     assert!(rt; memory.get("one").is_none());
+}
+
+/// Asserts that words are refused, and that what is told of them shows a text, and no control character but ends of lines.
+fn shows(rt: impl Abort + Copy, alloc: Global, words: &[&str], shown: &str) {
+    let mut memory = Memory::new(alloc);
+    let came = performed_words(alloc, words, &mut memory, &mut b"".as_slice());
+    assert!(rt; came.status == Status::Usage);
+    let errors = given!(rt; str::from_utf8(came.errors.as_slice()));
+    assert!(rt; errors.contains(shown));
+    assert!(rt; !errors.chars().any(|c| c.is_control() && c != '\n'));
+}
+
+#[test]
+fn tells_control_characters_of_words_by_their_codes(rt: HostRuntime) {
+    let alloc = rt.alloc();
+    let flag = "--ex\u{9b}plain";
+    shows(
+        rt,
+        alloc,
+        &["rvvbox", "ch\u{1b}[2Jeck"],
+        "'ch\\u{1b}[2Jeck'",
+    );
+    shows(
+        rt,
+        alloc,
+        &["rvvbox", "check", "one", flag],
+        "'--ex\\u{9b}plain'",
+    );
+    shows(
+        rt,
+        alloc,
+        &["rvvbox", "check", "one", "t\nwo"],
+        "'t\\u{a}wo'",
+    );
+    shows(rt, alloc, &["rvvbox", "check", "one", "two"], "'two'");
 }

@@ -32,8 +32,18 @@ pub(crate) fn performed<S: Store, I: Read>(
     input: &mut I,
 ) -> Outcome {
     let words = words_of(rt, alloc, line);
+    performed_words(alloc, &words, store, input)
+}
+
+/// What comes of words over a store and an input.
+pub(crate) fn performed_words<'a, S: Store, I: Read>(
+    alloc: Global,
+    words: &'a [&'a str],
+    store: &mut S,
+    input: &mut I,
+) -> Outcome {
     let (mut output, mut errors) = (Vec::new(alloc), Vec::new(alloc));
-    let ending = perform(alloc, &words, store, input, &mut output, &mut errors);
+    let ending = perform(alloc, words, store, input, &mut output, &mut errors);
     Outcome {
         status: ending.status,
         output,

@@ -1,5 +1,4 @@
-use Rattle.std.proofs.Common.{rules, ◌∙◌, take, [], List, ℕ, refl, subst, sym}
-use Rattle.commands.specs.Talks.{GoesOver}
+use Rattle.std.proofs.Common.{rules, ◌∙◌, take, [], refl}
 use Rattle.commands.proofs.TalkLemmas.{at-end, consumes-kept, consumes-none, goes-begin, read-end, reads-on, talks-last, talks-quit}
 use Rattle.commands.proofs.lines.answer_lines.Goals as goal
 use Rattle.commands.proofs.lines.answer_lines.Goals.{in-Ok+in_ok-answer_bytes-in-Ok+in-Go, in-Err}

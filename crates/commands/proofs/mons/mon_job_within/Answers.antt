@@ -15,7 +15,7 @@ returns-in-Ok g c =
     let came = subst (λ (h : Option Held). MatchResult c.mon_table-done.result
     (Mons (files_of h) (table_view c.in-Ok.table) e h has) (StopsMon (files_of h) e (Gains h has) (table_view c.in-Ok.table)))
     c.in-Ok.ensures.files c.mon_table-done.ensures in
-    ends_by c.mon_table-done.result _ _ c.ended.ensures came (λ s it. (_, c.in-Ok.ensures.table, it)) (λ reason it. inr (_, c.in-Ok.ensures.table, it))
+    ends_by c.mon_table-done.result _ _ c.ended.ensures.ends came (λ s it. (_, c.in-Ok.ensures.table, it)) (λ reason it. inr (_, c.in-Ok.ensures.table, it))
 
 pub returns : goal.returns
-returns g c = ends_as _ c.ended-in-Err.ensures (inl (c.in-Err.ensures.table, nothing _ _ c.in-Err.ensures.files))
+returns g c = ends_as _ c.ended-in-Err.ensures.ends (inl (c.in-Err.ensures.table, nothing _ _ c.in-Err.ensures.files))

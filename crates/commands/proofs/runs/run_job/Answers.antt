@@ -15,7 +15,7 @@ returns-in-Ok g c =
     (Runs (files_of h) c.args.registers (table_view c.in-Ok.table) (out c.args.output.now) (out c.run_table-done.new.output) h has)
     (StopsRun (files_of h) (Gains h has) (table_view c.in-Ok.table)))
     c.in-Ok.ensures.files c.run_table-done.ensures in
-    ends_by c.run_table-done.result _ _ c.ended.ensures came (λ s it. (_, c.in-Ok.ensures.table, it)) (λ reason it. inr (_, c.in-Ok.ensures.table, it))
+    ends_by c.run_table-done.result _ _ c.ended.ensures.ends came (λ s it. (_, c.in-Ok.ensures.table, it)) (λ reason it. inr (_, c.in-Ok.ensures.table, it))
 
 pub returns : goal.returns
-returns g c = ends_as _ c.ended-in-Err.ensures (inl (c.in-Err.ensures.table, nothing _ _ c.in-Err.ensures.files))
+returns g c = ends_as _ c.ended-in-Err.ensures.ends (inl (c.in-Err.ensures.table, nothing _ _ c.in-Err.ensures.files))

@@ -1,15 +1,23 @@
-use Rattle.std.proofs.Common.{◌∙◌}
-use Rattle.commands.proofs.CommandLemmas.{itself, no_more}
+use Rattle.commands.specs.Ending.{text_after}
+use Rattle.commands.specs.More.{more_if}
+use Rattle.commands.proofs.CommandLemmas.{itself, no_more, told_fits, told_whole, untold}
 use Rattle.commands.proofs.stop.ended.Goals as goal
 
-pub returns : goal.returns
-returns g c =
+pub returns-clause-ends : goal.returns-clause-ends
+returns-clause-ends g c =
+    let tells = c.is_told-tells.result in
+    let m = c.args.why.now.more in
     record {
       done = c.args.done;
       comes = itself c.args.done;
       status = c.told.ensures.status;
-      more = c.lines_if.result.now;
-      unasked = λ off. c.lines_if.ensures (c.tells_more-more.ensures ∙ no_more c.args.explain c.args.done off);
-      silent = λ off. c.lines_if.ensures (c.tells_more-more.ensures ∙ off);
+      more = more_if tells m;
+      unasked = λ off. untold tells m (c.is_told-tells.ensures.silent (no_more c.args.explain c.args.done off));
+      silent = λ off. untold tells m (c.is_told-tells.ensures.silent off);
+      fits = told_fits tells m c.args.done c.is_told-tells.ensures.fits;
       told = c.told.ensures.told;
     }
+
+pub returns-clause-whole : goal.returns-clause-whole
+returns-clause-whole g c on fits =
+    told_whole _ _ (text_after c.args.done) c.is_told-tells.result c.args.why.now.more c.told.result.told (c.is_told-tells.ensures.whole on fits) c.told.ensures.told
