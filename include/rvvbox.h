@@ -49,7 +49,9 @@ enum rvvbox_status {
     RVVBOX_TRAPPED = 17,               /* a tried run met a fault */
     RVVBOX_OUT_OF_STEPS = 18,          /* a tried run did `max` steps and has not ended */
     RVVBOX_NOTHING_KEPT = 19,          /* the session is closed; or another call has it or the kernel now, which a caller may not do */
-    RVVBOX_OVERLAP = 20                /* an argument that is put back shares bytes with another */
+    RVVBOX_OVERLAP = 20,               /* an argument that is put back shares bytes with another */
+    RVVBOX_BAD_PARAMETER = 21,         /* a parameter whose lo is above its hi, or a buffer of more than 16 MiB */
+    RVVBOX_NOT_A_LOOP = 22             /* no certificate is made of the words from the entry on */
 };
 
 /* The rule that an image breaks, of RVVBOX_IMAGE. */
@@ -114,9 +116,9 @@ struct rvvbox_bound {
 struct rvvbox_refusal {
     uint32_t status;                   /* the answer of the call */
     uint32_t rule;                     /* of an image, a certificate or a check: the rule above */
-    uint32_t address;                  /* of RVVBOX_CHECK: the word at which it stopped */
+    uint32_t address;                  /* of RVVBOX_CHECK: the word at which it stopped; of RVVBOX_NOT_A_LOOP: the first that does not fit */
     uint32_t offset;                   /* of RVVBOX_CERTIFICATE: how many bytes of it were read, once a call tells it; 0 till then */
-    size_t place;                      /* of an argument: its place, from 0 on */
+    size_t place;                      /* of an argument or a parameter: its place, from 0 on */
     struct rvvbox_bound bound;         /* of RVVBOX_BOUND_TOO_LARGE: the most steps of the run */
     uint64_t reserved;
 };
@@ -208,8 +210,7 @@ struct rvvbox_registers {
 };
 
 /* A session: a run that stands still between two calls. rvvbox_open makes each, and rvvbox_drop lets it go. It has copies of what it was
- * opened on, so kernel and arguments may go before it does. It has one call at a time. That it may go from thread to thread is tested,
- * and not proved. */
+ * opened on, so kernel and arguments may go before it does. It may go from thread to thread, and has one call at a time. */
 struct rvvbox_session;
 
 /* ---- What the library has. */
@@ -269,6 +270,11 @@ struct rvvbox_place {
     size_t size;
 };
 
+/* What a kernel is to take at the places. */
+struct rvvbox_takes {
+    struct rvvbox_parameter a0, a1, a2, a3, a4, a5, a6, a7;
+};
+
 /* Bytes for each place: those that are read, and those that are put back. */
 #define RVVBOX_READS const uint8_t *r0, size_t r0_size, const uint8_t *r1, size_t r1_size, const uint8_t *r2, size_t r2_size, \
     const uint8_t *r3, size_t r3_size, const uint8_t *r4, size_t r4_size, const uint8_t *r5, size_t r5_size, const uint8_t *r6, \
@@ -283,6 +289,8 @@ uint32_t rvvbox_accept_raw(const uint8_t *image, size_t image_size, uint32_t vle
 uint32_t rvvbox_explain_raw(const uint8_t *image, size_t image_size, uint32_t vlen, uint8_t *text, size_t text_size, size_t *needed);
 uint32_t rvvbox_attach_raw(const uint8_t *image, size_t image_size, const uint8_t *certificate, size_t certificate_size, uint8_t *out,
                            size_t out_size, size_t *needed, struct rvvbox_refusal *refusal);
+uint32_t rvvbox_make_raw(const uint8_t *image, size_t image_size, uint32_t vlen, const struct rvvbox_takes *takes, uint8_t *out,
+                         size_t out_size, size_t *needed, struct rvvbox_refusal *refusal);
 uint32_t rvvbox_run_raw(struct rvvbox_kernel *kernel, const struct rvvbox_forms *forms, uint32_t agnostic, uint64_t max, RVVBOX_READS,
                         RVVBOX_WRITES, uint64_t *steps, struct rvvbox_refusal *refusal);
 uint32_t rvvbox_open_raw(struct rvvbox_kernel *kernel, const struct rvvbox_forms *forms, uint32_t agnostic, uint64_t max, RVVBOX_READS,
@@ -402,6 +410,25 @@ RVVBOX_INLINE uint32_t rvvbox_attach(const void *image, size_t image_size, const
                              needed, refusal ? refusal : &untold);
 }
 
+/* Makes the certificate of a plain loop at the image's entry (docs/MAKE.md), which takes these eight parameters, and puts the image with it
+ * into `out`, or as much of it as there is room for; `*needed` is how many bytes all of it has, at most 4 MiB. rvvbox_accept checks it.
+ * Where the answer is not RVVBOX_DONE both are as they were. */
+RVVBOX_INLINE uint32_t rvvbox_make(const void *image, size_t image_size, uint32_t vlen, const struct rvvbox_parameter *parameters,
+                                   void *out, size_t out_size, size_t *needed, struct rvvbox_refusal *refusal) {
+    struct rvvbox_refusal untold;
+    struct rvvbox_takes takes;
+    takes.a0 = parameters[0];
+    takes.a1 = parameters[1];
+    takes.a2 = parameters[2];
+    takes.a3 = parameters[3];
+    takes.a4 = parameters[4];
+    takes.a5 = parameters[5];
+    takes.a6 = parameters[6];
+    takes.a7 = parameters[7];
+    return rvvbox_make_raw(rvvbox_or_none(image), image_size, vlen, &takes, rvvbox_or_none(out), out_size, needed,
+                           refusal ? refusal : &untold);
+}
+
 /* Runs the kernel once on eight arguments, with agnostic elements kept (0) or filled with ones (1). Where the answer is RVVBOX_DONE the
  * run has ended, within its bound, `max` and `*steps` steps, and each RVVBOX_BUFFER is as the kernel left it. Else all memory of the
  * caller is as it was, but for `refusal`. */
@@ -486,7 +513,7 @@ RVVBOX_INLINE const char *rvvbox_status_name(uint32_t status) {
         RVVBOX_NAMED(BAD_KIND) RVVBOX_NAMED(BAD_RANGE) RVVBOX_NAMED(TOO_LARGE) RVVBOX_NAMED(IMAGE) RVVBOX_NAMED(NO_CERTIFICATE)
         RVVBOX_NAMED(CERTIFICATE) RVVBOX_NAMED(CHECK) RVVBOX_NAMED(WRONG_KIND) RVVBOX_NAMED(SCALAR_OUT_OF_INTERVAL) RVVBOX_NAMED(WRONG_SIZE)
         RVVBOX_NAMED(BOUND_TOO_LARGE) RVVBOX_NAMED(WRONG_VLEN) RVVBOX_NAMED(TRAPPED) RVVBOX_NAMED(OUT_OF_STEPS) RVVBOX_NAMED(NOTHING_KEPT)
-        RVVBOX_NAMED(OVERLAP)
+        RVVBOX_NAMED(OVERLAP) RVVBOX_NAMED(BAD_PARAMETER) RVVBOX_NAMED(NOT_A_LOOP)
     }
     return "UNKNOWN";
 }

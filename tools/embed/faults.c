@@ -195,6 +195,9 @@ static void explained(void) {
     EXPECT(needed == size_told && !memcmp(text, wanted, size_told));
 }
 
+static uint8_t bare[4096], made[4096];
+static size_t bare_size, needed;
+
 /* Where the certificate of the image lies: behind the name of its note, whose padded length is 8 */
 static const uint8_t *certificate_in(size_t *length) {
     size_t at = 0;
@@ -205,8 +208,9 @@ static const uint8_t *certificate_in(size_t *length) {
 
 /* The certificate of the image, attached to the image without one, gives that image, or as much of it as there is room for */
 static void attached(void) {
-    static uint8_t bare[4096], made[4096];
-    size_t bare_size = read_file("bare.elf", bare), needed = 7, length;
+    size_t length;
+    bare_size = read_file("bare.elf", bare);
+    needed = 7;
     const uint8_t *certificate = certificate_in(&length);
     memset(made, 7, sizeof made);
     EXPECT(rvvbox_attach(image, size, certificate, length, made, 9, &needed, &refusal) == RVVBOX_IMAGE && needed == 7 && made[0] == 7);
@@ -219,6 +223,53 @@ static void attached(void) {
     EXPECT(!memcmp(made, image, 9) && made[9] == 7 && refusal.status == RVVBOX_DONE);
     EXPECT(rvvbox_attach(bare, bare_size, certificate, length, made, sizeof made, &needed, NULL) == RVVBOX_DONE && needed == size);
     EXPECT(!memcmp(made, image, size) && made[size] == 7);
+}
+
+static struct rvvbox_parameter takes[8] = {{.kind = RVVBOX_BUFFER, .size = 4096}, {.kind = RVVBOX_SCALAR, .hi = 1024}};
+
+/* A certificate is made for so many bytes of a file, with room for `room` bytes */
+static uint32_t makes(const uint8_t *file, size_t file_size, uint32_t vlen, size_t room) {
+    memset(made, 7, sizeof made);
+    memset(&refusal, 0x55, sizeof refusal);
+    needed = 7;
+    uint32_t status = rvvbox_make(file, file_size, vlen, takes, room ? made : NULL, room, &needed, &refusal);
+    EXPECT(refusal.status == status && refusal.offset == 0 && refusal.bound.low == 0 && refusal.bound.high == 0 && refusal.reserved == 0);
+    EXPECT(made[room] == 7 && (status == RVVBOX_DONE ? needed == size : needed == 7 && made[0] == 7));
+    return status;
+}
+
+/* None is made where this parameter stands at a place */
+static void refuses_parameter(struct rvvbox_parameter parameter, uint32_t status, size_t place) {
+    struct rvvbox_parameter kept = takes[place];
+    takes[place] = parameter;
+    EXPECT(makes(bare, bare_size, 128, 4000) == status && refusal.rule == 0 && refusal.address == 0);
+    takes[place] = kept;
+}
+
+/* The certificate that is made of the image without one gives the image; what is refused, and memory too, leaves all as it was */
+static void made_of_its_loop(void) {
+    bare_size = read_file("bare.elf", bare);
+    EXPECT(makes(bare, bare_size, 127, 4000) == RVVBOX_BAD_VLEN && refusal.rule == 0 && refusal.address == 0 && refusal.place == 0);
+    refuses_parameter((struct rvvbox_parameter){.kind = 4}, RVVBOX_BAD_KIND, 7);
+    EXPECT(refusal.place == 7);
+    refuses_parameter((struct rvvbox_parameter){.kind = RVVBOX_SCALAR, .lo = 1025, .hi = 1024}, RVVBOX_BAD_PARAMETER, 1);
+    refuses_parameter((struct rvvbox_parameter){.kind = RVVBOX_READ, .size = (1u << 24) + 1}, RVVBOX_BAD_PARAMETER, 2);
+    EXPECT(makes(bare, 51, 128, 4000) == RVVBOX_IMAGE && refusal.rule == RVVBOX_IMAGE_TOO_SHORT && refusal.place == 0);
+    EXPECT(makes(image, size, 128, 4000) == RVVBOX_IMAGE && refusal.rule == RVVBOX_IMAGE_CERTIFICATE_THERE);
+    takes[0].size = 4095;
+    EXPECT(makes(bare, bare_size, 128, 4000) == RVVBOX_NOT_A_LOOP && refusal.address == 0x10008 && refusal.rule == 0);
+    takes[0].size = 4096;
+    for (long given = 0;; given++) {
+        refused = given;
+        uint32_t status = makes(bare, bare_size, 128, 4000);
+        int was_refused = refused < 0;
+        refused = -1;
+        if (!was_refused) break;
+        EXPECT(status == RVVBOX_NO_MEMORY);
+    }
+    EXPECT(!memcmp(made, image, size) && made[size] == 7);
+    EXPECT(makes(bare, bare_size, 128, 9) == RVVBOX_DONE && !memcmp(made, image, 9));
+    EXPECT(makes(bare, bare_size, 128, 0) == RVVBOX_DONE);
 }
 
 static uint32_t accept(uint32_t vlen, struct rvvbox_kernel **out) {
@@ -353,6 +404,7 @@ int main(void) {
     read_alone();
     explained();
     attached();
+    made_of_its_loop();
     two_runs();
     kept();
     shared();

@@ -171,7 +171,7 @@ pub struct Session {
     at: *mut sys::Session,
 }
 
-// As for a kernel.
+// So may the library's session, and it has one call at a time too.
 unsafe impl Send for Session {}
 unsafe impl Sync for Session {}
 

@@ -3,7 +3,7 @@ use denote.RattleType.{RattleType}
 use denote.Param.Send.{IsSend, IsSync, sendable}
 use Rattle.std.specs.contracts.alloc.Global as heap
 use Rattle.std.specs.contracts.impls.GlobalAllocator.TheImpl.{ghosts}
-use Rattle.std.proofs.Crossing.{crosses}
+use Rattle.std.proofs.Crossing.{Arc-send, crosses}
 use Rattle.arrayvec.specs.contracts.array_vec.ArrayVec as array_vec
 use Rattle.block_checker.specs.contracts.accepted.Accepted as accepted
 use Rattle.cert_note.specs.contracts.values.Block as block
@@ -17,6 +17,7 @@ use Rattle.cert_note.specs.contracts.values.VectorFact as vector
 use Rattle.elf_image.specs.contracts.image.Image as image
 use Rattle.elf_image.specs.contracts.segment.Segment as segment
 use Rattle.region_mem.specs.contracts.parameter.Parameters as parameters
+use Rattle.rvvbox_c.specs.Holds.{shared_row}
 use Rattle.vreg_groups.specs.contracts.vector_length.Vlen as vlen
 
 pub vec_send : (T N A : RattleType) → IsSend T → IsSend A → IsSend (array_vec.the_row T N A)
@@ -102,3 +103,6 @@ accepted_send = let a : IsSend (image.the_field heap.the_row ghosts).row = image
 
 pub accepted_sync : IsSync (accepted.the_row heap.the_row ghosts)
 accepted_sync = let a : IsSync (image.the_field heap.the_row ghosts).row = image_sync in let b : IsSync (certificate.the_field heap.the_row ghosts).row = certificate_sync in search sendable depth 20
+
+pub shared_send : IsSend shared_row
+shared_send = Arc-send (accepted.the_row heap.the_row ghosts) accepted_send accepted_sync

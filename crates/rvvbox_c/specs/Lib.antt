@@ -4,6 +4,7 @@ pub mod Apart
 pub mod Explain
 pub mod Forms
 pub mod Holds
+pub mod Makes
 pub mod Opened
 pub mod RunSlot
 pub mod Running

@@ -4,6 +4,8 @@ use Rattle.std.specs.Prelude.{ℕ, ◌≡◌, ◌⊎◌, ◌%◌, ◌/◌, ◌^�
 use Rattle.block_checker.specs.Refusals.{address_of}
 use Rattle.block_checker.specs.declared.errors.CheckError.{CheckError}
 use Rattle.block_checker.specs.declared.errors.CheckError.TheVariants as check
+use Rattle.cert_maker.specs.declared.errors.MakeError.{MakeError}
+use Rattle.cert_maker.specs.declared.errors.MakeError.TheVariants as make
 use Rattle.cert_note.specs.declared.refusals.CertError.{CertError}
 use Rattle.cert_note.specs.declared.refusals.CertError.TheVariants as certificate
 use Rattle.elf_image.specs.declared.error.ElfError.{ElfError}
@@ -38,6 +40,8 @@ code_of status.Trapped = 17
 code_of status.OutOfSteps = 18
 code_of status.NothingKept = 19
 code_of status.Overlap = 20
+code_of status.BadParameter = 21
+code_of status.NotALoop = 22
 
 -- the status of a run that was not started
 abbrev pub status_of_open : OpenError → Status
@@ -169,6 +173,11 @@ certificate_refusal error = by_rule (status_of_certificate error) (certificate_r
 abbrev pub check_refusal : CheckError → Refusal
 check_refusal error =
     by_rule (status_of_check error) (check_rule error) (unwrap_or (address_of error) 0)
+
+-- with the address of the first word that does not fit
+abbrev pub make_refusal : MakeError → Refusal
+make_refusal (make.NotALoopOfTheClass address) = by_rule status.NotALoop 0 address
+make_refusal make.NoMemory = plain status.NoMemory
 
 -- ---- what is wrong, and the answer
 

@@ -11,7 +11,7 @@ use crate::status::{Refusal, Status};
 use std::alloc::Global;
 
 /// The file with the certificate.
-fn attached(alloc: Global, file: &[u8], certificate: &[u8]) -> Result<Vec<u8>, Refusal>
+pub(crate) fn attached(alloc: Global, file: &[u8], certificate: &[u8]) -> Result<Vec<u8>, Refusal>
     ensures at_once { IfSome (attach_fault file.now certificate.now)
         (λ fault. IsErrAnd result (λ refusal. refusal ≡ image_refusal fault)) }
     ensures want { attach_fault file.now certificate.now ≡ None

@@ -12,6 +12,7 @@ mod forms;
 mod handles;
 mod kept;
 mod loose;
+mod makes;
 mod opened;
 mod run_slot;
 mod running;
@@ -32,6 +33,7 @@ pub use facts::{
 pub use forms::{Form, Forms};
 pub use handles::{rvvbox_accept_raw, rvvbox_free, rvvbox_share};
 pub use kept::Kernel;
+pub use makes::{Takes, rvvbox_make_raw};
 pub use opened::{Progress, Registers};
 pub use run_slot::RunSlot;
 pub use running::Run;

@@ -21,6 +21,8 @@ impl Model for RunSlot {
     ghost also_owns = { λ s. run_slot_owns s.at s.held };
 }
 
+unsafe impl Send for RunSlot {}
+
 impl RunSlot {
     /// Null.
     fn empty() -> RunSlot

@@ -22,6 +22,8 @@ impl Model for Run {
     ghost also_owns = { λ r. run_owns r.at r.kept };
 }
 
+unsafe impl Send for Run {}
+
 impl Run {
     /// A session that keeps nothing.
     fn empty() -> Run

@@ -5,13 +5,14 @@ ghost use Rattle.rvvbox_c.specs.Status.{at_place, certificate_refusal, halves};
 ghost use Rattle.rvvbox_c.specs.Status.{certificate_rule as certificate_rule_of};
 ghost use Rattle.rvvbox_c.specs.Status.{check_refusal, check_rule as check_rule_of, code_of};
 ghost use Rattle.rvvbox_c.specs.Status.{by_rule, image_refusal, image_rule as image_rule_of};
-ghost use Rattle.rvvbox_c.specs.Status.{plain, too_long};
+ghost use Rattle.rvvbox_c.specs.Status.{make_refusal, plain, too_long};
 ghost use Rattle.rvvbox_c.specs.Status.{status_of_certificate, status_of_check, status_of_image};
 ghost use Rattle.rvvbox_c.specs.Status.{status_of_open};
 ghost use Rattle.rvvbox_c.specs.Tries.{is_tried};
 ghost use Rattle.rvvbox_c.specs.declared.status.Status.TheVariants.{Done, NoMemory};
 
 use block_checker::CheckError;
+use cert_maker::MakeError;
 use cert_note::CertError;
 use elf_image::ElfError;
 use sandbox_run::OpenError;
@@ -62,6 +63,10 @@ pub enum Status {
     NothingKept,
     /// An argument that is put back shares bytes with another.
     Overlap,
+    /// A parameter has a `lo` above its `hi`, or a buffer of more than 16 MiB.
+    BadParameter,
+    /// The words from the entry on are no loop that a certificate is made of.
+    NotALoop,
 }
 
 impl Status {
@@ -93,6 +98,8 @@ impl Status {
             Status::OutOfSteps => 18,
             Status::NothingKept => 19,
             Status::Overlap => 20,
+            Status::BadParameter => 21,
+            Status::NotALoop => 22,
         }
     }
 }
@@ -367,6 +374,18 @@ impl From<CertError> for Refusal {
 
     fn from(error: CertError) -> Refusal {
         Refusal::by(Status::from(error), certificate_rule(error), 0)
+    }
+}
+
+impl From<MakeError> for Refusal {
+    ghost from_gives = { λ error refusal. (refusal ≡ make_refusal error)
+        × IsFailure refusal.status };
+
+    fn from(error: MakeError) -> Refusal {
+        match error {
+            MakeError::NotALoopOfTheClass(address) => Refusal::by(Status::NotALoop, 0, address),
+            MakeError::NoMemory => Refusal::of(Status::NoMemory),
+        }
     }
 }
 
