@@ -7,7 +7,7 @@ from kinds import COUNT, NoRegister, Strip, Test
 from outside import certificates, checker, table
 from program import SP, ZERO, Branch, Jump, Label, Number, Word, word
 
-VL = checker.VL
+VL, PASSED = checker.VL, checker.PASSED
 
 
 class Addresses:
@@ -46,11 +46,23 @@ class Addresses:
             test = Test(at, False, index, 0, zone[1] - end - number >> shift, False, True, zone[3])
             if self.tests.get((at, index)) == test:
                 return False
-            if (at, index) not in self.tests and self.is_told_above(at, index):
+            if (at, index) not in self.tests and (self.is_told_above(at, index) or self.limits_index(at, index, test.most)):
                 return True
             self.tests[at, index] = test
             self.told_of.append((at, index))
             return True
+        return False
+
+    def limits_index(self, key, index, most):
+        """Whether a limit of the loop around keeps an index low enough, which then is put in; but of an outermost loop where the bound can
+        speak of its end, as that was passed."""
+        for loop in sorted(self.graph.inside[key], key=lambda loop: -loop.depth)[:1]:
+            for limit in counters.limits(self.graph, loop):
+                ends = [x[limit.end] for x in self.ways_into(loop, self.found)]
+                is_passed = any(PASSED <= atom < PASSED + 8 for end in ends for atom in end.form.terms)
+                if (limit.x == index and counters.setters_of(self.graph, loop, key, index) == {None} and (loop.depth > 1 or not is_passed)
+                        and ends and max(end.range[1] for end in ends) <= most + 1):
+                    return self.give_limit(loop, self.found, index)
         return False
 
     def before_shift(self, key, index):

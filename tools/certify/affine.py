@@ -32,24 +32,37 @@ class Space:
     def free(self, places):
         """These places may have any number."""
         kept = ({place: number for place, number in d.items() if place not in places} for d in self.directions)
-        self.directions = reduced([d for d in kept if d], range(1, PLACES))[0] + [{place: 1} for place in places]
+        self.directions = [*reduced(kept).values(), *({place: 1} for place in places)]
         for place in places:
             self.point[place] = 0
 
     def joined(self, other):
         """The hull of both spaces."""
-        between = {place: a - b for place, (a, b) in enumerate(zip(self.point, other.point)) if a != b}
-        return Space(self.point, reduced(self.directions + other.directions + [between], range(1, PLACES))[0])
+        held = {min(d): d for d in self.directions}
+        for row in (self.between(other), *other.directions):
+            put(held, row)
+        return Space(self.point, list(held.values()))
+
+    def between(self, other):
+        """The way from one point to the other."""
+        return {place: a - b for place, (a, b) in enumerate(zip(self.point, other.point)) if a != b}
+
+    def holds(self, other):
+        """Whether the other space lies in this one."""
+        held = {min(d): d for d in self.directions}
+        return not any(rest_of(held, row) for row in (self.between(other), *other.directions))
 
     def sums(self, order):
         """Each place that is a sum of others with whole factors: place -> (constant, ((place, factor), ..)). Places that come first
         in `order` stay free where that can be."""
-        rows, pivots = reduced(self.directions, order)
-        out = {}
-        for place in range(1, VL + 1):
-            if place in pivots:
-                continue
-            terms = [(pivot, row[place], row[pivot]) for pivot, row in zip(pivots, rows) if place in row]
+        ranks, out = {place: k for k, place in enumerate(order)}, {}
+        held = reduced(self.directions, lambda place: ranks.get(place, PLACES))
+        terms_of = {place: [] for place in range(1, VL + 1) if place not in held}
+        for pivot, row in held.items():
+            for place, number in row.items():
+                if place in terms_of:
+                    terms_of[place].append((pivot, number, row[pivot]))
+        for place, terms in terms_of.items():
             if len(terms) <= checker.TERMS and all(number % unit == 0 for _, number, unit in terms):
                 whole = [(pivot, number // unit) for pivot, number, unit in terms]
                 constant = self.point[place] - sum(factor * self.point[pivot] for pivot, factor in whole)
@@ -75,19 +88,31 @@ def cleared(other, row, column):
     return {place: number // shared for place, number in out.items()} if shared > 1 else out
 
 
-def reduced(rows, order):
-    """The rows in reduced echelon form with the columns taken in this order, and the pivots' columns."""
-    rows, done, pivots = [row for row in rows if row], [], []
-    for column in order:
-        row = next((row for row in rows if column in row), None)
-        if row is None:
-            continue
-        rows = [now for now in (cleared(other, row, column) for other in rows if other is not row) if now]
-        done = [cleared(other, row, column) for other in done] + [row]
-        pivots.append(column)
-        if not rows:
-            break
-    return done, pivots
+def rest_of(held, row):
+    """What is left of a row without those that are held."""
+    for column in [column for column in row if column in held]:
+        row = cleared(row, held[column], column)
+    return row
+
+
+def put(held, row, rank=None):
+    """Adds a row to those that are held by their pivots: each has its pivot as its first place, which no other one has. rank: what the order
+    of places is by."""
+    row = rest_of(held, row)
+    if row:
+        pivot = min(row, key=rank)
+        for column, other in held.items():
+            if pivot in other:
+                held[column] = cleared(other, row, pivot)
+        held[pivot] = row
+
+
+def reduced(rows, rank=None):
+    """The rows in reduced echelon form, by their pivots."""
+    held = {}
+    for row in rows:
+        put(held, row, rank)
+    return held
 
 
 def at_entry(certificate):
@@ -138,14 +163,25 @@ class Effect:
 
     def on(self, space):
         """The space behind the block."""
-        moved = lambda d: {place: number for place, (_, terms) in self.of.items()
-                           if (number := sum(factor * d[atom] for atom, factor in terms.items() if atom in d))}
-        rows = [{place: n for place, n in d.items() if place not in self.of} | moved(d) for d in space.directions]
-        rows += [moved({atom: 1}) for atom in {a for _, terms in self.of.values() for a in terms if a >= PLACES}]
+        uses = {}
+        for place, (_, terms) in self.of.items():
+            for atom, factor in terms.items():
+                uses.setdefault(atom, []).append((place, factor))
+        rows = [moved(d, uses, self.of) for d in space.directions]
+        rows += [moved({atom: 1}, uses, self.of) for atom in uses if atom >= PLACES]
         point = list(space.point)
         for place, (constant, terms) in self.of.items():
             point[place] = model.signed(constant + sum(f * space.point[a] for a, f in terms.items() if a < PLACES), 32)
-        return Space(point, reduced(rows, range(1, PLACES))[0])
+        return Space(point, list(reduced(rows).values()))
+
+
+def moved(direction, uses, places):
+    """A direction behind a block that sets these places. uses: atom -> the places whose sums have it, with its factor."""
+    out = {place: number for place, number in direction.items() if place not in places and place < PLACES}
+    for atom, number in direction.items():
+        for place, factor in uses.get(atom, ()):
+            out[place] = out.get(place, 0) + factor * number
+    return {place: number for place, number in out.items() if number}
 
 
 def effect(words, space, vlenb):

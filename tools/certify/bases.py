@@ -5,6 +5,7 @@ address, NEAR what lies an unknown number above one that lui made, and IN somewh
 from; a load from what was stored where it reads, or stands there from the start; what any other instruction makes stems from nothing. A
 function's own slots are told apart from those of functions that use the same stack before or after it.
 """
+import heapq
 import struct
 
 import graph
@@ -27,9 +28,10 @@ class Bases:
         self.cells, self.strewn = {}, {}        # what is stored at addresses of the image, and somewhere in a buffer, segment or the stack
         self.passed = list(checker.buffers(params))
         self.segments = {s.first: s for s in self.image.segments}
-        self.pointers = {}
+        self.pointers, self.merges = {}, {}
         self.settle_frames()
         self.settle_kept()
+        self.written = {self.own_slot(node) for node in code.nodes.values() if node.i.name == 'sw'}     # (by their functions, maybe with plain numbers)
         start = {10 + place: frozenset([place]) for place, *_ in self.passed}
         start[2] = frozenset([(STACK, 0)])
         self.start = start
@@ -42,9 +44,9 @@ class Bases:
             is_changed = False
             behind = {}
             self.before = {order[0]: dict(self.start)}
-            todo, waiting = list(reversed(order)), set(order)
+            todo, waiting = list(range(len(order))), set(order)
             while todo:
-                key = todo.pop()
+                key = order[heapq.heappop(todo)]
                 waiting.discard(key)
                 known = self.before.get(key)
                 if known is None:
@@ -56,7 +58,7 @@ class Bases:
                 for to, part in self.ways_on(key, now):
                     if self.join(to, part) and to not in waiting:
                         waiting.add(to)
-                        todo.append(to)
+                        heapq.heappush(todo, self.graph.place[to])
             is_changed = self.store_slots()
 
     def ways_on(self, key, now):
@@ -143,7 +145,7 @@ class Bases:
             out = self.merged(out, self.initially(address))
         for part, place in known:
             out = self.merged(out, part.get(place, NOTHING))
-        if any(isinstance(o, tuple) and o[0] == STACK for o in origins) and not (own and out):
+        if any(isinstance(o, tuple) and o[0] == STACK for o in origins) and not (own and (out or own in self.written)):
             out = self.merged(out, self.strewn.get(STACK, NOTHING))
         for part in self.parts_of(origins, offset):
             for stems in self.all_of(part):
@@ -203,6 +205,12 @@ class Bases:
         """What is in one or the other: where one of a kind is not known, no others of it, so that merging ends."""
         if two <= one:
             return one
+        if (one, two) not in self.merges:
+            self.merges[one, two] = self.merge(one, two)
+        return self.merges[one, two]
+
+    def merge(self, one, two):
+        """The same, computed."""
         both = one | two
         if sum(isinstance(o, tuple) and o[0] in (AT, NEAR) for o in both) > MOST_AT:
             both = frozenset(it for o in both for it in self.somewhere(o))

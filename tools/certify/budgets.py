@@ -55,6 +55,8 @@ def fall(edge, register):
     """By how much a register falls at least from the block's start to the end of this way; below 0 where it may rise."""
     before, after = edge.start[register], edge.known.x[register]
     by_ends = before.range[0] - after.range[1]
+    if before.form is after.form and before.form.only_atom() is not None:
+        return max(by_ends, 0)
     by_forms = at_least(edge, 0, ((1, before.form), (-1, after.form)))
     return by_ends if by_forms is None else max(by_ends, by_forms)
 
@@ -127,20 +129,21 @@ class Budgets:
 
     def solve(self, blocks, edges, room=ROOM):
         """Budgets for these blocks, of which these ways count; all others to where they lead are known."""
-        leads = {}
+        leads, ways = {}, {}
         for edge in edges:
+            ways.setdefault(edge.source, []).append(edge)
             if edge.target in blocks:
                 leads.setdefault(edge.source, set()).add(edge.target)
         for part in flow.components(blocks, leads):
-            inner = [e for e in edges if e.source in part and e.target in part]
+            out_of = [e for block in part for e in ways.get(block, ())]
+            inner = [e for e in out_of if e.target in part]
             if inner:
-                self.loop(part, [e for e in edges if e.source in part], inner, room)
+                self.loop(part, out_of, inner, room)
                 continue
             block, = part
             out = NOTHING
-            for edge in edges:
-                if edge.source == block:
-                    out = out.most(over(edge, self.need(edge), room))
+            for edge in out_of:
+                out = out.most(over(edge, self.need(edge), room))
             if not out.is_written():
                 raise NoBudget(part, TOO_GREAT)
             self.of[block] = out
@@ -156,8 +159,9 @@ class Budgets:
         trouble = None
         for register in counters:
             falling = [e for e in inner if self.fall(e, register) > 0]
+            paid = set(map(id, falling))
             try:
-                self.solve(part, [e for e in edges if e not in falling], room - 1)
+                self.solve(part, [e for e in edges if id(e) not in paid], room - 1)
                 self.raised(part, edges, falling, register)
                 if not all(self.of[block].is_written() for block in part):
                     raise NoBudget(part, TOO_GREAT)

@@ -5,6 +5,8 @@
 `left`: a loop that ends where a register x meets a number e. The counter is e - x (or x - e where x falls), in steps of x; it moves
 with x, and the branches of x and e become branches of the counter and 0. `mirror`: a register that rises on each way round and is known
 to stay at or below some number; the counter is that number less the register. Neither changes what the kernel does.
+
+A limit is no counter: where a register that rises by one ends a loop as it meets a number, the branch asks whether it is below that number.
 """
 from collections import namedtuple
 
@@ -17,15 +19,21 @@ LEFT, MIRROR, REST, END = 'left', 'mirror', 'rest', 'end'
 LONGEST = 1024   # by how much a register is taken to rise at most where that is not known
 SLACK = 4
 ANEW = 0         # the sign of a move by what is not known: the register is computed anew
+# What a branch of a register that rises by one and its end becomes, where it is at most the end.
+LIMIT_BRANCHES = {'bne': 'bltu', 'beq': 'bgeu'}
+# Such a register and its end; exits: the branches; is_below: whether it has to be below the end where the loop begins, since it rises before it
+# is compared; is_tested: whether that is tested.
+Limit = namedtuple('Limit', 'x end exits is_below is_tested', defaults=(True,))
 # What a branch of an index and its end becomes as one of what is left and 0, where the index is at most the end.
 REST_BRANCHES = {'bltu': 'bne', 'blt': 'bne', 'bne': 'bne', 'bgeu': 'beq', 'bge': 'beq', 'beq': 'beq'}
 TRIES = 4        # how many registers of a loop are tried
+FAR_BACK = 16    # how many nodes before a loop may tell of its registers
 # One way that a register moves: the node, and by which number (None: by a register's) it rises.
 Move = namedtuple('Move', 'key by register sign')
 # kind; registers: the counter, and the one that keeps its start; x, and e or the number that x stays below; step: of which the counter counts one; rises:
 # whether x does; moves; exits: the branches; is_tested: whether the start is tested.
-# more: other registers that are taken from the number too.
-Counter = namedtuple('Counter', 'kind registers x end step rises moves exits is_tested more', defaults=((),))
+# more: other registers that are taken from the number too. keeps: whether there is a register for the start.
+Counter = namedtuple('Counter', 'kind registers x end step rises moves exits is_tested more keeps', defaults=((), True))
 
 
 def moves_of(the_graph, loop, x, numbers=()):
@@ -90,6 +98,40 @@ def left_counters(the_graph, loop, numbers):
         steps = {abs(m.by) if m.by is not None else None for m in moves}
         step = steps.pop() if len(steps) == 1 else None
         yield Counter(LEFT, (), x, end, step or 1, rises.pop(), tuple(moves), tuple(exits), False)
+
+
+def limits(the_graph, loop):
+    """The registers that rise by one in each round of a loop, and end it where they meet a number: each round asks for that once."""
+    for counter in left_counters(the_graph, loop, {}):
+        key, by = counter.moves[0].key, counter.moves[0].by
+        before = {frozenset(setters_of(the_graph, loop, at, counter.x)) for at in counter.exits}
+        ends = [the_graph.leads[at][the_graph.nodes[at].i.name == 'bne'] for at in counter.exits if len(the_graph.leads[at]) == 2]
+        if (counter.end and by == 1 and len(counter.moves) == 1 and the_graph.depth(key) == the_graph.depth(loop.head)
+                and len(ends) == len(counter.exits) and loop.nodes.isdisjoint(ends) and is_on_each_way(the_graph, loop, counter.exits) and before in ({frozenset([None])}, {frozenset([key])})):
+            yield Limit(counter.x, counter.end, counter.exits, before == {frozenset([key])})
+
+
+def is_told_before(the_graph, loop, limit):
+    """Whether a branch on the one way into a loop tells that its register is at most the end, or below it."""
+    x, key = limit.x, loop.head
+    for _ in range(FAR_BACK):
+        comes = [come for come in the_graph.comes[key] if key != loop.head or come not in loop.nodes]
+        if len(comes) != 1:
+            return False
+        (come,), node = comes, the_graph.nodes[comes[0]]
+        if node.i.name in ('bltu', 'bgeu') and the_graph.leads[come][0] != the_graph.leads[come][-1]:
+            is_less = (node.i.name == 'bltu') == (the_graph.leads[come][0] == key)         # (whether its first number is below its second)
+            pair = node.f['rs1'], node.f['rs2']
+            if pair == (x, limit.end) and is_less or pair == (limit.end, x) and not is_less and not limit.is_below:
+                return True
+        if node.loads or node.stores or node.calls != key[0] or the_graph.writers([come], limit.end):
+            return False
+        if the_graph.writers([come], x):
+            if node.i.name != 'addi' or node.f['imm'] or not node.f['rs1']:
+                return False
+            x = node.f['rs1']
+        key = come
+    return False
 
 
 def mirror_counters(the_graph, loop, most):
@@ -246,7 +288,7 @@ def anew_moves(the_graph, loop, x):
 
 def needs(counter):
     """How many registers a counter needs: its own, and one for what it started from or the number that it is taken from."""
-    return 2 if counter.kind == LEFT or any(move.sign == ANEW for move in counter.moves) else 1
+    return 2 if counter.kind == LEFT and counter.keeps or any(move.sign == ANEW for move in counter.moves) else 1
 
 
 def rest_counters(the_graph, loop):
@@ -316,7 +358,7 @@ def on_entering(counter, fail_division, fail_start, most):
     if counter.kind == REST:
         test = [Branch('bltu', counter.end, counter.x, fail_start[0])] if counter.exits else []
         return test + [word('sub', rd=r, rs1=counter.end, rs2=counter.x)]
-    kept = counter.registers[1]
+    kept = counter.registers[-1]
     ends = (counter.end, counter.x) if counter.rises else (counter.x, counter.end)
     out = [word('sub', rd=r, rs1=ends[0], rs2=ends[1])]
     step = counter.step
@@ -329,7 +371,7 @@ def on_entering(counter, fail_division, fail_start, most):
     if counter.is_tested:
         none, many = fail_start
         out += [Branch('beq', r, ZERO, none), Number(kept, most), Branch('bltu', kept, r, many)]
-    return out + [word('addi', rd=kept, rs1=r, imm=0)]
+    return out + ([word('addi', rd=kept, rs1=r, imm=0)] if counter.keeps else [])
 
 
 def on_move(counter, move):

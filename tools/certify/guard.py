@@ -21,13 +21,14 @@ from jumps import Tables
 from kinds import Misfit, NoRegister, Stuck, Told
 from outside import certificates, checker, table
 from pace import Pace
-from program import ZERO, Jump, Label, Number, word
+from program import ZERO, Branch, Jump, Label, Number, word
 from registers import Registers
 from strips import Strips
 
 MOST_ROUNDS = 24
 MOST_EVICTED = 6
 FUEL = 1 << 16
+MOST_SLIMMED, LEAST_SLIMMED = 1200, 2   # how many tests are tried to be left out: so many by the number of nodes, at least
 LEAST_ROUNDS = 1 << 12      # what a tested count may be at least
 PLANS = [search.Plan('lengths', False, 'none', False), search.Plan('lengths', False, 'none', True),
          search.Plan('counters', False, 'branches', True)]
@@ -57,6 +58,8 @@ class Maker(Registers, Pace, Addresses, Strips, Tables):
         """Reads the code, with nothing put into it."""
         self.counters, self.tried = {}, {}      # head -> counter; head -> the kinds that were tried
         self.rests = {}                         # (head, x) -> counter
+        self.limits = {}                        # (head, x) -> limit
+        self.marks = {param.b - 1 for param in self.params if param.kind == 'scalar' and param.b}      # numbers at which intervals may rest
         self.fuelled = set()                    # heads
         self.tests, self.choices, self.strips, self.sizes = {}, {}, {}, {}
         self.told_of, self.found = [], None     # of this round: which accesses are tested, by which registers, and what it has found
@@ -110,7 +113,7 @@ class Maker(Registers, Pace, Addresses, Strips, Tables):
         self.settle_everywhere(reserved)
         self.settle_counters()
         self.edits, self.told, self.strip_temporaries = program.Edits(), [], {}
-        self.constants, self.loop_constants = {}, {}
+        self.constants, self.loop_constants, self.test_of = {}, {}, {}
         if keeps_constants:
             self.choose_constants()
         self.put_loop_constants()
@@ -119,6 +122,7 @@ class Maker(Registers, Pace, Addresses, Strips, Tables):
         self.edits.instead.update((key, [Number(self.code.nodes[key].f['rd'], number)]) for key, number in self.reloads.items())
         self.put_tests()
         self.put_counters()
+        self.put_limits()
         self.put_ends_of_pointers()
         self.put_fuel()
         self.put_returns()
@@ -140,7 +144,7 @@ class Maker(Registers, Pace, Addresses, Strips, Tables):
         return any(self.loop_of[head].depth > 1 for head, _ in self.counting())
 
     def is_changed(self):
-        return bool(any(key[0] for key in self.code.nodes) or self.is_ending or self.evicted or self.tables or self.counters or self.rests
+        return bool(any(key[0] for key in self.code.nodes) or self.is_ending or self.evicted or self.tables or self.counters or self.rests or self.limits
                     or self.fuelled or self.tests or self.choices or self.strips or self.masks or self.indices or self.retyped or self.same_lengths or self.reloads)
 
     def failed(self, kind, pc, what):
@@ -203,8 +207,10 @@ class Maker(Registers, Pace, Addresses, Strips, Tables):
             self.status_address, self.measures_fuel, self.fuel = kept
 
     def put_tests(self):
-        for _, test in sorted(self.tests.items()):
+        for name, test in sorted(self.tests.items()):
+            self.marks |= {test.least, test.most}
             operations = self.test_words(test)
+            self.test_of.update((op.label, name) for op in operations if isinstance(op, Branch))
             if test.is_entering:
                 self.enter(test.key, operations)
             else:
@@ -228,8 +234,8 @@ class Maker(Registers, Pace, Addresses, Strips, Tables):
             data, image = self.build_or_evict()
             found = self.search(image, PLANS[0])
             if found.answer == 'accepted':
-                if not self.widen_tables(found, image):
-                    return self.slimmer() or (data, image, found)
+                if not self.widen_tables(found, image) and not self.test_limits(found):
+                    return self.slimmer(found) or (data, image, found)
                 continue
             if self.watch:
                 self.watch.tell(self.state(number, found, image))
@@ -241,18 +247,63 @@ class Maker(Registers, Pace, Addresses, Strips, Tables):
         data, image = self.build_or_evict()         # (what was put in last)
         return data, image, self.search_on(image, self.search(image, PLANS[0]))
 
-    def slimmer(self):
-        """The same without the counters of loops for which one around them pays, where that is accepted too; else None."""
-        kept = self.counters
-        paid = {head for head in kept if self.is_paid_around(self.loop_of[head])}
-        if not paid:
-            return None
-        self.counters = {head: counter for head, counter in kept.items() if head not in paid}
+    def slimmer(self, found):
+        """The same without what no certificate needs: counters of loops for which one around them pays, tests that never fail, as far as is
+        known or is found out, and what counters of inner loops started from. None where all is needed."""
+        best = None
+        paid, idle = {head for head in self.counters if self.is_paid_around(self.loop_of[head])}, self.idle_tests(found)
+        if paid:
+            best = self.without('counters', {head: counter for head, counter in self.counters.items() if head not in paid})
+        if idle:
+            best = self.without('tests', self.tests_without(idle)) or best
+        for one in self.doubtful_tests()[:max(LEAST_SLIMMED, MOST_SLIMMED // len(self.code.nodes))]:
+            best = self.without('tests', self.tests_without({one})) or best
+        return self.without_starts() or best
+
+    def without_starts(self):
+        """The same without what counters of inner loops started from: of all together, else of some."""
+        heads = [head for head, it in sorted(self.counters.items()) if it.kind == counters.LEFT and it.step == 1 and not it.is_tested and self.loop_of[head].depth > 1]
+        best = None
+        for some in [heads] * (len(heads) > 1) + [[head] for head in heads[:LEAST_SLIMMED]]:
+            fewer = {head: it._replace(keeps=it.keeps and head not in some) for head, it in self.counters.items()}
+            best = self.without('counters', fewer) or best
+            if best and some == heads:
+                break
+        return best
+
+    def doubtful_tests(self):
+        """The ends of tests on the ways into a loop of registers that are tested elsewhere too, and of those: such as one may tell of the
+        other. Those of inner loops come first."""
+        registers = [test.register for test in self.tests.values()]
+        ends = [(name, end) for name, test in self.tests.items() for end in ('low', 'high') if getattr(test, end)
+                and (test.is_entering or any(other.is_entering and other.register == test.register for other in self.tests.values()))
+                and registers.count(test.register) > 1]
+        return sorted(ends, key=lambda it: (self.tests[it[0]].is_entering - self.graph.depth(self.tests[it[0]].key), it[1], str(it[0])))
+
+    def idle_tests(self, found):
+        """The ends of tests at which none is known to fail, as (test, end)."""
+        ways, out = {(edge.pc, edge.target) for edge in found.finder.edge_list}, set()
+        for k, op in enumerate(self.laid.operations if self.laid else ()):
+            if isinstance(op, Branch) and op.label in self.test_of and k not in self.laid.long:
+                name = self.test_of[op.label]
+                if (self.laid.at[k], self.laid.places[op.label]) not in ways:
+                    out.add((name, 'low' if op.rs1 == self.tests[name].register else 'high'))
+        return out
+
+    def tests_without(self, ends):
+        """The tests without some of their ends."""
+        out = {name: test._replace(**{end: False for other, end in ends if other == name}) for name, test in self.tests.items()}
+        return {name: test for name, test in out.items() if test.low or test.high}
+
+    def without(self, name, fewer):
+        """What comes of fewer counters or tests; as it was, and None, where that is not accepted, or a limit relies on them."""
+        kept = getattr(self, name)
+        setattr(self, name, fewer)
         data, image = self.build()
         found = self.search(image, PLANS[0])
-        if found.answer == 'accepted':
+        if found.answer == 'accepted' and not self.unknown_limits(found):
             return data, image, found
-        self.counters = kept
+        setattr(self, name, kept)
         self.build()
         return None
 
@@ -293,6 +344,7 @@ class Maker(Registers, Pace, Addresses, Strips, Tables):
                 f'{len(self.tests) + len(self.choices) + len(self.strips)} tests; {self.why(found, image)}')
 
     def search(self, image, plan):
+        self.seen = image
         return Guided(image, self.params, self.vlen, plan, self).find()
 
     def misfits(self, found, image):
@@ -356,7 +408,7 @@ class Maker(Registers, Pace, Addresses, Strips, Tables):
 
     def signature(self):
         return (self.is_ending, self.fuel, str(sorted(self.tables.items())), str(sorted((h, c._replace(registers=())) for h, c in self.counting())),
-                str(sorted(self.fuelled)), str(sorted(self.tests.items())), str(sorted(self.choices.items())), str(sorted(self.strips.items())),
+                str(sorted(self.fuelled)), str(sorted(self.limits)), str(sorted(self.tests.items())), str(sorted(self.choices.items())), str(sorted(self.strips.items())),
                 str(sorted(self.masks.items())), str(sorted(self.indices.items())), str(sorted(self.retyped)))
 
     def why(self, found, image):

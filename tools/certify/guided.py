@@ -12,7 +12,7 @@ class Guided(search.Finder):
     def __init__(self, image, params, vlen, plan, maker, shared=None):
         super().__init__(image, params, vlen, plan, shared, maker.watch)
         self.maker = maker
-        self.marks = sorted({*self.marks, *(end for test in maker.tests.values() for end in (test.least, test.most)), *maker.ends_that_are_tested()})
+        self.marks = sorted({*self.marks, *maker.marks, *maker.ends_that_are_tested()})
 
     def settle_flow(self):
         """Where all jumps lead is told by the words of guarded code, so that no fixpoint over all registers has to find it."""

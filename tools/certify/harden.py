@@ -11,7 +11,7 @@ import search
 import trial
 from outside import certificates, checker
 
-FACTORS = 4, 2, 1           # how many times the rounds of the job's runs fuel is, where that is accepted
+FACTORS = 16, 4, 1          # how many times the rounds of the job's runs fuel is, where that is accepted
 LEAST_FUEL = 1024
 QUICK = 12                  # processor seconds up to which a second way is tried
 # Whether tests go before loops, whether inner loops have counters, and whether large functions have one copy where copies make much code.
@@ -82,6 +82,8 @@ def made_by(maker, job, vlen, fuel):
     if not maker.fuelled or fuel is not None:
         return out, new, found, None
     ways, trouble = list(fuel_of(maker, job, vlen)), None
+    if ways[0][0] <= maker.fuel:
+        return out, new, found, ways[0][1]
     maker.measures_later = False
     for maker.fuel, why in ways:
         try:
@@ -137,7 +139,7 @@ def found_alone(image, params, vlen, looking):
 
 def can_measure(job):
     """Whether runs of a job can tell how much fuel they take."""
-    return job.can_run() and host.program() is not None and len(job.params) <= 7
+    return job.can_run() and host.program() is not None and has_place(job.params)
 
 
 def fuel_of(maker, job, vlen):
@@ -148,10 +150,11 @@ def fuel_of(maker, job, vlen):
         return
     contents = job.contents()
     greatest = [param.b if param.kind == 'scalar' else content for param, content in zip(job.params, contents)]
-    most = max(used_fuel(maker, job, vlen, passed) or 0 for passed in (contents, greatest))
-    if not most:
+    used = [used_fuel(maker, job, vlen, passed) for passed in (contents, greatest)]
+    most = max((rounds for rounds in used if rounds is not None), default=None)
+    if most is None:
         yield guard.FUEL, 'since the job has no run that ends: --fuel N states another number'
-    for factor in FACTORS if most else ():
+    for factor in () if most is None else FACTORS if most else FACTORS[:1]:
         fuel = max(LEAST_FUEL, 1 << (factor * most - 1).bit_length())
         yield fuel, f'at least {factor} times the {most} that runs of the job take: --fuel N states another number'
 
@@ -168,14 +171,29 @@ def failed_guard(maker, job, vlen, contents):
 
 
 def told_by_run(maker, job, vlen, contents, measures_fuel):
-    """The number that a run leaves in a buffer of its own behind the job's. None where there is no place, or the run does not end."""
-    if len(job.params) > 7:
+    """The number that a run leaves in 4 bytes of its own behind the job's buffers. None where there is no place, or the run does not end."""
+    if not has_place(job.params):
         return None
-    params = [*job.params, certificates.Param('buffer', certificates.READ | certificates.WRITE, 4, 0)]
-    address = next(at for place, at, *_ in checker.buffers(params) if place == len(job.params))
-    ran = host.run(job.table, maker.told_at(address, measures_fuel), params, [*contents, bytes(4)], vlen)
-    left = ran.buffers.get(len(job.params))
-    return None if ran.steps is None or left is None else int.from_bytes(left, 'little')
+    params, contents, place = with_place(job.params, contents)
+    address = next(at + size - 4 for at_place, at, size, _ in checker.buffers(params) if at_place == place)
+    ran = host.run(job.table, maker.told_at(address, measures_fuel), params, contents, vlen)
+    left = ran.buffers.get(place)
+    return None if ran.steps is None or left is None else int.from_bytes(left[-4:], 'little')
+
+
+def has_place(params):
+    """Whether there is a place for what a run leaves."""
+    return len(params) < 8 or any(param.kind == 'buffer' for param in params)
+
+
+def with_place(params, contents):
+    """Parameters and contents with 4 bytes more, and the place of their buffer: one more, or where there are eight the last that is there."""
+    both = certificates.READ | certificates.WRITE
+    if len(params) < 8:
+        return [*params, certificates.Param('buffer', both, 4, 0)], [*contents, bytes(4)], len(params)
+    *_, (place, _, size, _) = checker.buffers(params)
+    longer = {place: params[place]._replace(mode=both, a=size + 4)}
+    return ([longer.get(k, param) for k, param in enumerate(params)], [it + bytes(4) if k == place else it for k, it in enumerate(contents)], place)
 
 
 # ---- What is told --------------------------------------------------------------------------------------------------------------

@@ -2,6 +2,7 @@
 import budgets
 import counters
 import flow
+from guided import Walked
 from kinds import COUNT, End, NoRegister, Test
 from outside import model, table
 from program import ZERO, Branch, word
@@ -115,20 +116,37 @@ class Pace:
         self.edits.entering[head] = nodes, older + operations
 
     def put_fuel(self):
-        for head in sorted(self.paying_heads()):
-            f = self.fuel_register
+        """Fuel is paid on the ways back to a loop's head, but at the head itself where loops around rely on it or a return leads to it."""
+        heads, relied = self.paying_heads()
+        for head in sorted(heads):
+            loop, f = self.loop_of[head], self.fuel_register
             ends = self.failed('fuel', head[1], 'the fuel is used up')
-            self.edits.before[head] = [Branch('beq', f, ZERO, ends), word('addi', rd=f, rs1=f, imm=-1), *self.edits.before.get(head, [])]
+            paid = [Branch('beq', f, ZERO, ends), word('addi', rd=f, rs1=f, imm=-1)]
+            if head in relied or any(self.code.is_return(self.code.nodes[latch]) for latch in loop.latches):
+                self.edits.before[head] = paid + self.edits.before.get(head, [])
+            elif self.is_paid_at_latches(loop):
+                for latch in loop.latches:
+                    self.edits.before[latch] = paid + self.edits.before.get(latch, [])
+            else:
+                self.edits.rounds[head] = loop.nodes, paid
+
+    def is_paid_at_latches(self, loop):
+        """Whether the nodes that lead back to a loop's head always do, or are not come to where it is left elsewhere: then no jump is needed past
+        what the way back takes."""
+        others = [key for key in loop.nodes - loop.latches if not self.graph.leads[key] or any(to not in loop.nodes for to in self.graph.leads[key])]
+        return bool(others) or all(len(self.graph.leads[latch]) == 1 for latch in loop.latches)
 
     def paying_heads(self):
-        """The heads at which fuel is paid: not that of a loop of which each way round comes to another one that pays. Those of inner loops
-        are settled first, since outer ones rely on them."""
-        heads = set(self.fuelled)
+        """The heads at which fuel is paid: not that of a loop of which each way round comes to another one that pays; and those of the others.
+        Those of inner loops are settled first, since outer ones rely on them."""
+        heads, relied = set(self.fuelled), set()
         for head in sorted(heads, key=lambda head: -self.loop_of[head].depth):
-            loop, others = self.loop_of[head], heads - {head}
-            if self.graph.is_natural(loop) and counters.is_on_each_way(self.graph, loop, others & loop.nodes):
+            loop, others = self.loop_of[head], (heads - {head}) & self.loop_of[head].nodes
+            is_enough = lambda some: counters.is_on_each_way(self.graph, loop, some)
+            if self.graph.is_natural(loop) and is_enough(others):
                 heads.remove(head)
-        return heads
+                relied |= next(({one} for one in sorted(others) if is_enough([one])), others)
+        return heads, relied
 
     def count(self, found, kinds):
         """Gives the loops on which no number falls a counter of these kinds, or fuel where all kinds were tried."""
@@ -164,13 +182,67 @@ class Pace:
                     self.counters[head] = counter
                     done.add(head)
                     return
-            if kinds == self.possible and self.bound_before(loop, found):
+            if kinds == self.possible and (self.give_limit(loop, found) or self.bound_before(loop, found)):
                 done.add(head)
                 return
             if kinds == self.possible:
                 self.counters.pop(head, None)
                 self.fuelled.add(head)
                 done.add(head)
+
+    def give_limit(self, loop, found, x=None):
+        """A limit of a loop, of one register where it is given, once, where it does not fail but where the loop would not end. Whether it was
+        given."""
+        for limit in counters.limits(self.graph, loop) if self.graph.is_natural(loop) else ():
+            name, most = (loop.head, limit.x), self.most_before(loop, limit.end, found)
+            if x not in (None, limit.x) or name in self.limits or most >= GREAT:
+                continue
+            is_known = self.is_low_before(loop, limit, found)
+            if is_known or self.is_left_at_end(loop, counters.Counter(counters.LEFT, (), limit.x, limit.end, 1, True, (), limit.exits, False)):
+                self.limits[name] = limit._replace(is_tested=not is_known)
+                self.marks.add(max(most - 1, 0))
+                if self.counters.get(loop.head, limit).exits == limit.exits:
+                    self.counters.pop(loop.head, None)
+                return True
+        return False
+
+    def ways_into(self, loop, found):
+        """What registers are on the ways into a loop; where nothing stands on these, those from outside."""
+        place, head = [self.laid.places[label, loop.head] for label in ('enter', 'at')] if self.laid else 2 * [loop.head[1]]
+        if place != head:
+            return [Walked(found, self.seen, self.vlen).known_at(place).x]
+        node_of = lambda pc: self.key_at.get(pc) if self.laid else ((), pc)
+        return [edge.known.x for edge in found.finder.edge_list if edge.target == head and node_of(edge.pc) not in loop.nodes]
+
+    def most_before(self, loop, register, found):
+        """What a register is at most on the ways into a loop."""
+        return max((x[register].range[1] for x in self.ways_into(loop, found)), default=table.M32)
+
+    def is_low_before(self, loop, limit, found):
+        """Whether a branch or intervals on the ways into a loop say that a register is at most its end, or below it."""
+        if counters.is_told_before(self.graph, loop, limit):
+            return True
+        ways = self.ways_into(loop, found)
+        return bool(ways) and all(x[limit.x].range[1] + limit.is_below <= x[limit.end].range[0] for x in ways)
+
+    def unknown_limits(self, found):
+        """The limits that are not tested, where what said that they hold has gone."""
+        return [name for name, limit in self.limits.items() if not limit.is_tested and not self.is_low_before(self.loop_of[name[0]], limit, found)]
+
+    def test_limits(self, found):
+        """Tests those. Whether there was one."""
+        unknown = self.unknown_limits(found)
+        self.limits.update((name, self.limits[name]._replace(is_tested=True)) for name in unknown)
+        return bool(unknown)
+
+    def put_limits(self):
+        for (head, x), limit in sorted(self.limits.items()):
+            if limit.is_tested:
+                label = self.failed('count', head[1], 'a count is above its end')
+                self.enter(head, [Branch('bgeu', x, limit.end, label) if limit.is_below else Branch('bltu', limit.end, x, label)])
+            for key in limit.exits:
+                name = counters.LIMIT_BRANCHES[self.graph.nodes[key].i.name]
+                self.edits.instead[key] = [Branch(name, x, limit.end, ('way', key, self.graph.leads[key][0]), key)]
 
     def bound_count(self, loop):
         """A test, before a loop, of a count that falls by one to 0, where that alone ends the loop: then it needs no counter. Whether there
@@ -211,15 +283,21 @@ class Pace:
 
     def simplest(self, loop, found):
         if loop.head not in self.counters:
-            yield from counters.left_counters(self.graph, loop, self.numbers_at(loop, found))
+            yield from self.left_counters(loop, found)
 
     def possible(self, loop, found):
         """Those that never fail first."""
         yield from counters.mirror_counters(self.graph, loop, self.most_at(loop.head, found))
-        for counter in counters.left_counters(self.graph, loop, self.numbers_at(loop, found)):
+        for counter in self.left_counters(loop, found):
             yield counter
             if self.is_left_at_end(loop, counter):
                 yield counter._replace(is_tested=True)
+
+    def left_counters(self, loop, found):
+        """Those that take the place of branches which are as they were."""
+        for counter in counters.left_counters(self.graph, loop, self.numbers_at(loop, found)):
+            if (loop.head, counter.x) not in self.limits:
+                yield counter
 
     def is_left_at_end(self, loop, counter):
         """Whether a loop that ends where x meets e is left in no other way, or x and e point into the same: else a run may be right that
@@ -275,9 +353,12 @@ class Pace:
                 if guess.x[r][0] == guess.x[r][1] and not self.graph.writers(loop.nodes, r)}
 
     def give_fuel(self, found):
-        """Fuel for the outer loops of what is nested too deep, else for all loops."""
+        """Fuel for the outermost loop of those that are nested too deep, else for all loops."""
+        inner = self.heads_of(found.trouble.loop)[:1] if found.trouble is not None else []
+        around = [loop for loop in self.graph.loops for head in inner if head in loop.nodes and head != loop.head and loop.head not in self.fuelled]
         outer = {loop.head for loop in self.graph.loops if any(other.nodes < loop.nodes for other in self.graph.loops)}
-        more = outer - self.fuelled or {loop.head for loop in self.graph.loops} - self.fuelled
+        more = {min(around, key=lambda loop: loop.depth).head} if around else outer - self.fuelled
+        more = more or {loop.head for loop in self.graph.loops} - self.fuelled
         self.fuelled |= more
         for head in more:
             if not any(name[0] == head for name in self.rests):

@@ -201,6 +201,7 @@ class Edits:
         self.before = {}        # node -> whenever the node is come to
         self.after = {}         # node -> behind the node, which is no branch or jump
         self.entering = {}      # head of a loop -> (the loop's nodes, operations on the ways in from outside)
+        self.rounds = {}        # head of a loop -> (the loop's nodes, operations on the ways back to it)
         self.instead = {}       # node -> in its place
         self.last = []          # behind all
 
@@ -244,14 +245,15 @@ def way_on(code, key):
 
 
 def enter_node(code, edits, key, falls_from, out, late):
-    """The labels before a node, and what is done on the ways into its loop."""
-    if key in edits.entering:
-        loop, operations = edits.entering[key]
-        if falls_from is not None and falls_from in loop:
-            late += [Label(('enter', key)), *operations, Jump(ZERO, ('at', key))]
-        else:
-            out += [Label(('enter', key)), *operations]
-    out.append(Label(('at', key)))
+    """The labels before a node, and what is done on the ways into its loop and back to its head."""
+    loop, back = edits.rounds.get(key, ((), []))
+    loop, operations = edits.entering.get(key, (loop, []))
+    enters = [Label(('enter', key)), *operations]
+    if falls_from is not None and falls_from in loop:
+        late += [*enters, Jump(ZERO, ('at', key))]
+    else:
+        out += [*enters, Jump(ZERO, ('at', key))] if back else enters
+    out += [Label(('round', key)), *back, Label(('at', key))]
 
 
 def own_words(code, node):
@@ -283,13 +285,15 @@ def returned(node, places, other, fails):
 
 
 def resolved(code, edits, operations):
-    """Each way by its label: through what is done before a loop where it comes from outside of it."""
+    """Each way by its label: through what is done before a loop where it comes from outside of it, or on the way back to its head."""
     def name(label):
         if label[0] != 'way':
             return label
         _, source, to = label
         if to not in code.nodes:
             return 'nowhere',
+        if to in edits.rounds and source in edits.rounds[to][0]:
+            return 'round', to
         if to in edits.entering and (source is None or source not in edits.entering[to][0]):
             return 'enter', to
         return 'at', to

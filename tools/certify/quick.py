@@ -89,7 +89,83 @@ def constant(known, number):
     return Value(form_of(number, {}), (number, number))
 
 
-checker.Form.plus, checker.Form.only_atom = plus, only_atom
+def times(form, factor):
+    """A multiple of a form."""
+    return form_of(form.constant * factor & M32, {atom: now for atom, c in form.terms.items() if (now := c * factor & M32)})
+
+
+def computed(known, form, lo, hi):
+    """A value of a form of which interval arithmetic gives these ends."""
+    is_word = 0 <= lo and hi <= M32
+    if len(form.terms) > TERMS:
+        return known.fresh((lo, hi) if is_word else FULL)
+    of_form = range_of(known, form)
+    if not is_word:
+        return Value(form, of_form or FULL)
+    return Value(form, of_form and checker.meet((lo, hi), of_form) or (lo, hi))
+
+
+# ---- Scalar instructions -----------------------------------------------------------------------------------------------------
+
+def offset_sum(s, register, offset):
+    """`checker.offset_sum`."""
+    form, (lo, hi) = s.x[register]
+    return computed(s, form_of(form.constant + offset & M32, form.terms), lo + offset, hi + offset)
+
+
+def addi(s, f):
+    return offset_sum(s, f['rs1'], f['imm'])
+
+
+def add(s, f):
+    (one, a), (two, b) = s.x[f['rs1']], s.x[f['rs2']]
+    return computed(s, plus(one, two), a[0] + b[0], a[1] + b[1])
+
+
+def sub(s, f):
+    (one, a), (two, b) = s.x[f['rs1']], s.x[f['rs2']]
+    return computed(s, plus(one, two, -1), a[0] - b[1], a[1] - b[0])
+
+
+def slli(s, f):
+    form, (lo, hi) = s.x[f['rs1']]
+    factor = 1 << f['imm']
+    return computed(s, times(form, factor), lo * factor, hi * factor)
+
+
+def srli(s, f):
+    lo, hi = s.x[f['rs1']].range
+    return fresh(s, (lo >> f['imm'], hi >> f['imm']))
+
+
+def andi(s, f):
+    return fresh(s, (0, min(s.x[f['rs1']].range[1], f['imm'] & M32)))
+
+
+def lui(s, f):
+    return constant(s, f['imm'])
+
+
+def anything(s, _):
+    return fresh(s, FULL)
+
+
+def is_less(s, _):
+    return fresh(s, (0, 1))
+
+
+RESULTS = {'addi': addi, 'add': add, 'sub': sub, 'slli': slli, 'srli': srli, 'andi': andi, 'lui': lui,
+           **dict.fromkeys(('xor', 'xori', 'or', 'ori', 'sra', 'srai'), anything), **dict.fromkeys(('slt', 'slti', 'sltu', 'sltiu'), is_less)}
+
+
+def scalar_result(s, i, f, pc, slow=checker.scalar_result):
+    """`checker.scalar_result`, by the instruction's name."""
+    result = RESULTS.get(i.name)
+    return slow(s, i, f, pc) if result is None else result(s, f)
+
+
+checker.Form.plus, checker.Form.times, checker.Form.only_atom = plus, times, only_atom
+checker.offset_sum, checker.scalar_result = offset_sum, scalar_result
 checker.Known.__deepcopy__ = copied     # the checker copies at each branch
 checker.Known.sum_interval, checker.Known.range_of = sum_interval, range_of
 checker.Known.fresh, checker.Known.constant = fresh, constant
@@ -99,6 +175,8 @@ model.decode, model.is_legal = lru_cache(1 << 16)(model.decode), lru_cache(1 << 
 # ---- The start of a block, and what a branch tells ---------------------------------------------------------------------------
 
 ATOMS = [form_of(0, {number: 1}) for number in range(33)]
+ANY_ATOMS = dict.fromkeys(range(1, 33), FULL)
+ANY = [constant(None, 0), *(Value(form, FULL) for form in ATOMS[1:])]       # what registers may be of which nothing is stated
 
 
 @lru_cache(1 << 16)
@@ -128,17 +206,15 @@ def is_equal(s, number, equal):
 def at_block(certificate, block, vlenb):
     """`checker.at_block`: the ranges of a start's forms are asked for only where an equality or a split may cut them."""
     s = checker.Known(vlenb)
-    s.atoms.update(checker.passed_atoms(certificate))
-    intervals, equal = dict.fromkeys(range(1, 33), FULL), []
-    for fact in block.facts:
-        intervals[fact.number] = fact.lo, fact.hi
-        if fact.equal is not None:
-            equal.append((fact.number, form_of_sum(fact.equal)))
-    sums = {number for number, _ in equal}
-    for number, interval in intervals.items():
-        if number not in sums:
-            s.atoms[number] = interval
-            s.x[number] = Value(ATOMS[number], interval)
+    s.atoms, s.x = {**checker.passed_atoms(certificate), **ANY_ATOMS}, list(ANY)
+    intervals, equal = ANY_ATOMS.copy(), []
+    for number, lo, hi, total in block.facts:
+        intervals[number] = interval = lo, hi
+        if total is not None:
+            equal.append((number, form_of_sum(total)))
+            del s.atoms[number]
+        elif interval != FULL:
+            s.atoms[number], s.x[number] = interval, Value(ATOMS[number], interval)
     for order in block.orders:
         checker.split(s, order, intervals[order.s], intervals[order.r])
     for number, form in equal + [(number, ATOMS[number]) for number in s.atoms if number in s.splits]:

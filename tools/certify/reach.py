@@ -195,7 +195,7 @@ class Kernel:
         """The buffers that a kernel may have written."""
         return {place: data for place, data in ran.buffers.items() if self.job.params[place].mode & certificates.WRITE}
 
-    def compared(self, plain, guarded):
+    def compared(self, plain, made):
         """What differs between runs on other inputs, or 'ok' with how many could be compared."""
         compared = 0
         for number in range(self.runs):
@@ -203,12 +203,20 @@ class Kernel:
             one = self.run(plain, contents, 'try', MOST_STEPS)
             if one.steps is None:
                 continue
-            two = self.run(guarded, contents, 'run')
+            two = self.run(made.data, contents, 'run')
             compared += 1
             if self.written(one) != self.written(two):
                 scalars = [it if isinstance(it, int) else '.' for it in contents]
-                return f'WRONG on other input {number} {scalars}: {one.steps} steps, guarded {two.steps}'
+                return f'WRONG on other input {number} {scalars}: {one.steps} steps, guarded {two.steps}{self.ended_by(made, contents)}'
         return f'ok, {compared} others'
+
+    def ended_by(self, made, contents):
+        """Which guard ended a run."""
+        number = made.maker and harden.failed_guard(made.maker, self.job, VLEN, contents)
+        if not number:
+            return ''
+        it = made.maker.told[number - 1]
+        return f', ended by guard {number}: {it.kind} at {it.pc:#x}, {it.what}'
 
     def guarded(self, flags, folder):
         """A row for one set of flags."""
@@ -228,8 +236,8 @@ class Kernel:
         if ran.steps is None:
             return self.row(flags, plain.steps, None, put, f'run: {one_line(ran.said)}')
         if self.written(ran) != self.written(plain):
-            return self.row(flags, plain.steps, ran.steps, put, 'WRONG on the first input')
-        return self.row(flags, plain.steps, ran.steps, put, self.compared(data, made.data))
+            return self.row(flags, plain.steps, ran.steps, put, f'WRONG on the first input{self.ended_by(made, self.job.passed)}')
+        return self.row(flags, plain.steps, ran.steps, put, self.compared(data, made))
 
     def by_cc(self):
         """A row for `certify cc`, which chooses the flags."""
@@ -239,7 +247,7 @@ class Kernel:
         if made is None:
             return self.row(None, None, None, '', 'nothing found')
         best, _ = made
-        return self.row(best.flags, best.plain.steps, best.steps, '; '.join(harden.summary(best.made, 0)), self.compared(best.data, best.made.data))
+        return self.row(best.flags, best.plain.steps, best.steps, '; '.join(harden.summary(best.made, 0)), self.compared(best.data, best.made))
 
     def row(self, flags, plain, steps, put, answer):
         return Row(self.name, flags.name if flags else 'cc', plain, steps, put, self.seconds, answer)

@@ -74,6 +74,7 @@ class Registers:
             if counter.registers and key in self.loop_of[head].nodes:
                 (last if counter.kind == counters.MIRROR else first).add(counter.registers[0])
                 first |= {counter.x} if counter.kind == counters.MIRROR else set()     # (what is known of it tells of its counter)
+        first |= {x for head, x in self.limits if key in self.loop_of[head].nodes}     # (its branch tells of it)
         return first, last
 
     def temporary(self, keys, more=0):

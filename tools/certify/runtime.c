@@ -44,6 +44,30 @@ PLAIN int memcmp(const void *one, const void *two, size_t n) {
     return 0;
 }
 
+PLAIN void *memchr(const void *in, int byte, size_t n) {
+    const unsigned char *p = in;
+    for (; n--; p++)
+        if (*p == (unsigned char)byte) return (void *)p;
+    return 0;
+}
+
+PLAIN int strcmp(const char *one, const char *two) {
+    while (*one && *one == *two) one++, two++;
+    return *(const unsigned char *)one - *(const unsigned char *)two;
+}
+
+PLAIN int strncmp(const char *one, const char *two, size_t n) {
+    for (; n--; one++, two++)
+        if (!*one || *one != *two) return *(const unsigned char *)one - *(const unsigned char *)two;
+    return 0;
+}
+
+PLAIN char *strchr(const char *s, int c) {
+    for (; *s != (char)c; s++)
+        if (!*s) return 0;
+    return (char *)s;
+}
+
 PLAIN size_t strlen(const char *s) {
     size_t n = 0;
     while (s[n]) n++;
@@ -166,3 +190,5 @@ PLAIN int __clzdi2(u64 x) { return x >> 32 ? __clzsi2(x >> 32) : 32 + __clzsi2(x
 PLAIN int __ffssi2(u32 x) { return x ? __ctzsi2(x) + 1 : 0; }
 
 PLAIN u32 __bswapsi2(u32 x) { return x << 24 | (x & 0xff00) << 8 | (x >> 8 & 0xff00) | x >> 24; }
+
+PLAIN u64 __bswapdi2(u64 x) { return (u64)__bswapsi2(x) << 32 | __bswapsi2(x >> 32); }

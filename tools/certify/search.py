@@ -4,6 +4,7 @@ Sums of registers come from `affine`; intervals, the vector type and facts on ve
 checker's own steps, with widening, and then taken back; orders are guessed and dropped where a way in does not show them;
 budgets come from `budgets`. Nothing here is trusted: what comes out is judged by a checker.
 """
+import heapq
 from collections import namedtuple
 
 import advice
@@ -223,7 +224,7 @@ class Finder:
 
     def spaces(self):
         """The affine hull at each block's start."""
-        key = frozenset(self.starts), frozenset((start, frozenset(to)) for start, to in self.targets.items())
+        key = self.plan.dead, frozenset(self.starts), frozenset((start, frozenset(to)) for start, to in self.targets.items())
         if key not in self.shared.spaces:
             self.shared.spaces[key] = self.hulls()
         return self.shared.spaces[key]
@@ -233,15 +234,18 @@ class Finder:
         spaces, todo, effects = {self.image.entry: affine.at_entry(self.frame)}, [self.image.entry], {}
         while todo:
             self.watch.check()
-            start = todo.pop()
+            start = heapq.heappop(todo)
             if start not in effects or not effects[start].is_fixed:
                 effects[start] = affine.effect(self.words[start], spaces[start], self.vlenb)
             space = effects[start].on(spaces[start])
             for target in self.targets.get(start, set()) & self.words.keys():
-                new = spaces[target].joined(space) if target in spaces else space
-                if target not in spaces or len(new.directions) > len(spaces[target].directions):
-                    spaces[target] = new
-                    todo.append(target)
+                if target in spaces and (not self.live[target] or spaces[target].holds(space)):
+                    continue
+                spaces[target] = spaces[target].joined(space) if target in spaces else space.copy()
+                if not self.live[target]:           # (as where guards fail: there are no sums of what is not read)
+                    spaces[target].free(range(1, 33))
+                if target not in todo:
+                    heapq.heappush(todo, target)
         return spaces
 
     def find_sums(self):

@@ -94,6 +94,13 @@ class Bases(unittest.TestCase):
                 found, nodes = read(keep + get + 'at: sw t1, 0(t0); ret', DATA)
                 self.assertEqual(found.at(nodes('at')[0])[5], frozenset([stem]))
 
+    def test_a_number_that_is_kept_on_the_stack_is_no_address(self):
+        """Though addresses are stored somewhere there, too."""
+        text = (KEEP + 'addi t2, sp, -32; add t2, t2, a2; sw a1, 0(t2); addi t1, zero, 48; sw t1, 8(sp); lui t0, 0x12; lw t1, 8(sp); add t0, t0, t1; at: sw t2, 0(t0); '
+                + BACK)
+        found, nodes = read(text, DATA)
+        self.assertEqual(found.zones_of(found.at(nodes('at')[0])[5]), [(*DATA[0][:1], 0x12040, small.READ_WRITE, 'the image')])
+
     def test_what_a_function_keeps_on_the_stack(self):
         """Behind a recursion a register that it saves is told apart by its calls."""
         text = (KEEP + 'mv s0, a0; mv a0, a1; jal ra, f; at: sw t1, 0(s0); ' + BACK + 'f: ' + KEEP + 'sw s0, 8(sp); mv s0, a0; beqz a2, done; addi a2, a2, -1; jal ra, f; '

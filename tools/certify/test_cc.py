@@ -54,10 +54,13 @@ class Cc(Case):
         self.assertEqual((ran.fault, ran.steps is None), (None, False))
         return [struct.unpack('<I', ran.buffers[place])[0] for place in (3, 4)]
 
-    def test_memory_functions_of_string_h(self):
-        source = '#include <string.h>\n' + PLACE.replace('    *at = i + MORE;', '    i += MORE;\n    memcpy(at, &i, sizeof i);')
+    def test_headers_of_the_library(self):
+        """Memory functions, and what else freestanding code includes."""
+        headers = ''.join(f'#include <{name}.h>\n' for name in ('assert', 'ctype', 'stdlib', 'string'))
+        source = headers + PLACE.replace('    *at = i + MORE;', '    i += MORE + !isdigit(48) + abs(0);\n    assert(i);\n    memcpy(at, &i, sizeof i);')
         status, out, err = self.cc(source=source)
         self.assertEqual(status, 0, out + err)
+        self.assertEqual(self.placed(self.image(), 40, 7)[0], 7)
 
     def test_the_last_line_is_that_of_check(self):
         status, out, err = self.cc('--map', self.folder / 'map')

@@ -5,6 +5,7 @@ import unittest.mock
 
 import counters
 import guard
+import kinds
 import notes
 import program
 import small
@@ -233,10 +234,33 @@ class Kinds(unittest.TestCase):
         rounds = lambda x: 0 if x == 1 else 1 + rounds(x // 2 if x % 2 == 0 else (3 * x + 1) // 2)
         for x in (1, 6, 128, 256, 7, 512, 27):
             ran, number = made.run([x, bytes(4)])
-            is_whole = rounds(x) < 9          # (its head is come to once more than it goes round)
+            is_whole = rounds(x) <= 9
             self.assertEqual((number == 0, ran.buffers[1]), (is_whole, word(rounds(x)) if is_whole else bytes(4)), x)
             if number:
                 self.assertEqual(made.told[number - 1].pc, small.label(text, 'at'))
+
+    def test_fuel_is_paid_on_the_way_back(self):
+        """A loop that does not go round takes none: before it stand the status and the fuel's number, and a jump where its last branch leaves it."""
+        for text, before in (('li t0, 0; at: lbu t1, 0(a0); addi t0, t0, 1; bnez t1, at; sw t0, 0(a1); ret', 5),
+                             ('li t0, 1; at: lbu t1, 0(a0); beqz t1, end; addi t0, t0, 1; j at; end: sw t0, 0(a1); ret', 4),
+                             ('li t0, 1; at: lbu t1, 0(a0); beqz t1, end; addi t0, t0, 1; blt x0, t0, at; end: sw t0, 0(a1); ret', 4)):
+            made, some = small.Guarded(small.image(text), [reads(1), writes(4)], fuel=9), [bytes(1), bytes(4)]
+            ran, number = made.run(some)
+            with self.subTest(text=text):
+                self.assertEqual((number, ran.buffers[1], ran.steps), (0, word(1), made.run_plain(some).steps + before))
+                self.assertEqual(made.run([b'x', bytes(4)])[1], 1)
+
+    def test_tests_that_never_fail_go(self):
+        """Each end by itself: here the upper one, of an index that was loaded, is needed."""
+        for cut, left in (('andi t0, t0, 7', {}), ('nop', {'high'})):
+            text = f'lbu t0, 0(a1); {cut}; add t0, a0, t0; at: lbu t1, 0(t0); sw t1, 0(a2); ret'
+            data = small.image(text)
+            maker = guard.Maker(data, certificates.read_image(data), [reads(8), reads(4), writes(4)], 128)
+            name = ((), small.label(text, 'at')), 5
+            maker.tests[name] = kinds.Test(name[0], False, 5, 0x40000000, 0x40000007, True, True, 'a0')
+            with self.subTest(cut=cut):
+                self.assertEqual(maker.run()[2].answer, 'accepted')
+                self.assertEqual({end for test in maker.tests.values() for end in ('low', 'high') if getattr(test, end)}, set(left))
 
     def test_a_pointer_is_tested_once_before_a_loop(self):
         some = lambda many: [TAKEN_APART, many, bytes(4)]
@@ -263,6 +287,51 @@ class Kinds(unittest.TestCase):
 
     def test_a_rising_index_needs_no_fuel(self):
         self.assertEqual(self.rising('bne t0, a1'), {'address'})
+
+    def limited(self, before, text, whole, early, kind):
+        """The limits and tests of a loop that adds the bytes of a buffer up to an index in t3, from one in t0."""
+        text = f"li t2, 0; lbu t0, 0(a1); lbu t3, 1(a1); {before}; {text}; end: sw t2, 0(a2); ret"
+        made = self.guards(text, [reads(256), reads(4), writes(4)], [[TAKEN_APART * 8, bytes(some) + bytes(2), bytes(4)] for some in whole],
+                           [[TAKEN_APART * 8, bytes(some) + bytes(2), bytes(4)] for some in early], kind)
+        self.assertEqual((len(made.maker.limits), made.maker.fuelled, made.maker.tests), (1, set(), {}))
+        return [limit.is_tested for limit in made.maker.limits.values()]
+
+    LATE = 'at: add t1, a0, t0; lbu t1, 0(t1); addi t0, t0, 1; add t2, t2, t1; bne t0, t3, at'
+    SOON = 'at: beq t0, t3, end; add t1, a0, t0; lbu t1, 0(t1); addi t0, t0, 1; add t2, t2, t1; j at'
+
+    def test_a_rising_index_is_kept_below_its_end(self):
+        """The branch of the loop does that, and one before it where none is there that tells of its start."""
+        self.assertEqual(self.limited('nop', self.LATE, [(0, 1), (3, 255)], [(3, 3), (4, 3)], 'count'), [True])
+        self.assertEqual(self.limited('nop', self.SOON, [(0, 0), (3, 255)], [(4, 3)], 'count'), [True])
+        self.assertEqual(self.limited('bgeu t0, t3, end', self.LATE, [(0, 1), (3, 3), (4, 3)], [], ''), [False])
+        self.assertEqual(self.limited('bltu t3, t0, end', self.SOON, [(0, 1), (3, 3), (4, 3)], [], ''), [False])
+        self.assertEqual(self.limited('mv t4, t0; bltu t4, t3, on; j end; on: mv t0, t4', self.LATE, [(0, 1), (3, 3), (4, 3)], [], ''), [False])
+        self.assertEqual(self.limited('beqz t3, end; li t0, 0', self.LATE, [(0, 0), (9, 255)], [], ''), [False])
+
+    def test_a_loop_that_is_left_in_another_way_has_no_limit(self):
+        """Its index may begin above its end, and a run is right all the same."""
+        text = ("li t2, 0; lbu t0, 0(a1); lbu t3, 1(a1); at: beq t0, t3, end; add t1, a0, t0; lbu t1, 0(t1); add t2, t2, t1; addi t0, t0, 1; bnez t1, at; "
+                'end: sw t2, 0(a2); ret')
+        some = lambda one, two: [bytes([1, 1, 0, 1]) * 64, bytes([one, two, 0, 0]), bytes(4)]
+        made = self.guards(text, [reads(256), reads(4), writes(4)], [some(0, 1), some(4, 1), some(250, 255)], [])
+        self.assertEqual(made.maker.limits, {})
+
+    def limits_of(self, text):
+        """Of the first loop of a kernel: which registers limit it, and whether a branch before it tells that they do not fail."""
+        data = small.image(text)
+        its_graph = guard.Maker(data, certificates.read_image(data), [reads(4), scalar(0, 9), scalar(0, 9)], 128).graph
+        return [(it.x, counters.is_told_before(its_graph, its_graph.loops[0], it)) for it in counters.limits(its_graph, its_graph.loops[0])]
+
+    def test_what_no_limit_is_of(self):
+        """A loop that goes on at its end, or that does not ask each time, or by more than one; a way in that a branch tells nothing of."""
+        for text, found in (('bgeu a1, a2, end; at: addi a1, a1, 1; bne a1, a2, at; end: ret', [(11, True)]),
+                            ('bgeu a1, a2, end; at: addi a1, a1, 1; beq a1, a2, at; end: ret', []),
+                            ('bgeu a1, a2, end; at: addi a1, a1, 2; bne a1, a2, at; end: ret', []),
+                            ('at: addi a1, a1, 1; lbu t0, 0(a0); beqz t0, at; bne a1, a2, at; ret', []),
+                            ('at: addi a1, a1, 1; lbu t0, 0(a0); beqz t0, on; addi a1, a1, 1; on: bne a1, a2, at; ret', []),
+                            ('bgeu a1, a2, end; more: lbu t0, 0(a0); at: addi a1, a1, 1; bne a1, a2, at; bnez t0, more; end: ret', [(11, False)])):
+            with self.subTest(text=text):
+                self.assertEqual(self.limits_of(text), found)
 
     def test_a_rising_index_below_its_end_needs_no_fuel(self):
         self.assertEqual(self.rising('bltu t0, a1'), {'address'})
@@ -318,7 +387,7 @@ class Kinds(unittest.TestCase):
         data = small.image(text)
         maker = guard.Maker(data, certificates.read_image(data), [reads(4)], 128)
         maker.fuelled = set(maker.loop_of)
-        paying = maker.paying_heads()
+        paying, relied = maker.paying_heads()
         self.assertLess(paying, maker.fuelled)
         for loop in maker.graph.loops:
             self.assertTrue(counters.is_on_each_way(maker.graph, loop, paying & loop.nodes), loop.head)

@@ -5,13 +5,16 @@ import re
 import struct
 import unittest
 from collections import namedtuple
+from unittest import mock
 
 import certify_main
 import graph
+import guard
+import harden
 import notes
 import program
 import small
-from outside import certificates, model
+from outside import certificates, checker, model
 from program import Branch, Jump, Label, Word, word
 from small import reads, scalar, writes
 from test_commands import EXAMPLES, Case
@@ -56,6 +59,25 @@ class Commands(Case):
         for offset, number in ((15, 0), (16, 1)):
             ran = small.run(image, params, [small.word(offset), bytes(16), bytes(4), b'what'])
             self.assertEqual(ran.buffers[3], small.word(number))
+
+    def test_where_a_run_leaves_a_number(self):
+        """In a buffer of its own, or where eight places are passed behind the last one."""
+        params, contents, place = harden.with_place([reads(4), writes(16)], [bytes(4), bytes(16)])
+        self.assertEqual((params[place], contents[place], place), (writes(4), bytes(4), 2))
+        eight = [reads(4), writes(16), reads(8), *5 * [scalar(0, 9)]]
+        params, contents, place = harden.with_place(eight, [bytes(4), bytes(16), b'r' * 8, *5 * [1]])
+        self.assertEqual((params[place], contents[place], place), (writes(12), b'r' * 8 + bytes(4), 2))
+        self.assertEqual([at for _, at, *_ in checker.buffers(params)], [at for _, at, *_ in checker.buffers(eight)])
+        self.assertFalse(harden.has_place(8 * [scalar(0, 9)]))
+
+    def test_fuel_that_was_accepted_stays_where_it_is_enough(self):
+        maker = mock.Mock(fuelled=True, fuel=guard.FUEL)
+        maker.run.return_value = b'', None, 'found'
+        for wanted, runs in ((guard.FUEL, 1), (2 * guard.FUEL, 2)):
+            maker.run.reset_mock()
+            with mock.patch.object(harden, 'fuel_of', lambda *_: [(wanted, 'why')]):
+                self.assertEqual(harden.made_by(maker, mock.Mock(can_run=lambda: False), 128, None), (b'', None, 'found', 'why'))
+            self.assertEqual((maker.run.call_count, maker.fuel), (runs, wanted))
 
     def test_without_a_status_it_is_told_that_an_early_end_cannot_be_told(self):
         status, _, err = self.guard(INDEX, [reads(4), reads(16), writes(4)])

@@ -82,6 +82,24 @@ class Quick(unittest.TestCase):
                 one, two = plain.refined(slow, i, f, taken), quick.refined(fast, i, f, taken)
                 self.assertEqual(two and shown(two), one and shown(one))
 
+    def test_scalar_instructions(self):
+        plain, rng = plain_checker(), random.Random(5)
+        rows = [i for rows in flow.model.TABLE.values() for _, _, i in rows if i.shape in ('imm', 'shift', 'reg', 'upper')]
+        frame = certificates.Certificate(128, [certificates.Param('scalar', 0, 0, 9)] * 8, [], 2)
+        for _ in range(2000):
+            facts = []
+            for number in (10, 11, 12, 13):
+                lo, hi = sorted(rng.sample((0, 1, 5, 31, 4096, (1 << 31) - 1, 1 << 31, checker.M32), 2))
+                equal = rng.choice((0, 8)), ((10, rng.choice((1, 4, checker.M32))), *((place, 1) for place in range(33, rng.randrange(34, 41))))
+                facts.append(certificates.RegisterFact(number, lo, hi, equal if number in (11, 13) and rng.random() < .6 else None))
+            orders = (certificates.OrderFact(12, 10),) * (rng.random() < .5)
+            s = plain.at_block(frame, certificates.Block(0, 0, 0, 0, None, tuple(facts), (), 0, 0, orders), 16)
+            fast, i = quick.copied(s), rng.choice(rows)
+            fields = {'rd': 10, 'rs1': rng.choice((0, 10, 11, 12)), 'rs2': rng.choice((0, 11, 13))}
+            word = i.encode(**{name: value for name, value in fields.items() if name in i.syntax}, **{'imm': rng.choice((0, 1, 4, 12))} if 'imm' in i.syntax else {})
+            _, f = flow.model.decode(word)
+            s.x[10], fast.x[10] = plain.scalar_result(s, i, f, 64), checker.scalar_result(fast, i, f, 64)
+            self.assertEqual(shown(fast), shown(s), i.name)
 
     def test_sums_on_the_way(self):
         plain, rng = plain_checker(), random.Random(3)
@@ -121,6 +139,7 @@ class Sums(unittest.TestCase):
         self.assertNotIn(11, space.sums([10, 12]))
         joined = space.joined(moved)
         self.assertEqual(len(joined.directions), 3)
+        self.assertEqual([one.holds(two) for one, two in ((space, moved), (joined, moved), (joined, space), (space, space))], [False, True, True, True])
         joined.free({10})
         self.assertEqual(sorted(map(sorted, joined.directions)), [[10], [11], [12]])
 
