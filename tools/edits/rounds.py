@@ -14,6 +14,8 @@ from pairs import FOLDER, edited, functions_changed
 ROOT = Path(__file__).resolve().parents[2]
 # How often a check is made again without the answers that were in error.
 MOST_AGAIN = 4
+# How many pairs share a check, since what a check needs in memory grows with the functions that it cannot prove.
+MOST_TOGETHER = 10
 
 
 class OutOfMinutes(Exception):
@@ -140,9 +142,12 @@ class Rounds:
                 self.try_alone(pair)
 
     def together(self, pairs):
-        """As many of the pairs as one check can tell apart, and their texts: no two change functions of one name in one file."""
+        """The pairs that share the next check, at most MOST_TOGETHER, and their texts: no two change functions of one name in
+        one file."""
         taken, names, texts = [], set(), {}
         for pair, functions in pairs:
+            if len(taken) == MOST_TOGETHER:
+                break
             own = {(it.file, it.name) for it in functions}
             done = None if own & names else edited(pair, texts, self.crate)
             if done:
