@@ -27,8 +27,7 @@ use Rattle.vreg_groups.specs.declared.setup.Setup.{Setup}
 use Rattle.vreg_groups.specs.declared.vector_type.Vtype.{Vtype}
 use Rattle.lane_file.specs.declared.second.Second.{Second}
 use Rattle.lane_file.specs.declared.second.Second.TheVariants.{Group, Splat}
-use Rattle.lane_file.specs.declared.operation.Operation.TheVariants.{Fixed, Int}
-use Rattle.lane_file.specs.InPlace.{IsSecondInside, IsSecondWithin, all_written, answer, fixed_saturated, fixed_written, int_written, second_list, second_of}
+use Rattle.lane_file.specs.InPlace.{IsSecondInside, IsSecondWithin, all_written, fixed_saturated, fixed_written, int_written, second_list, second_of}
 use Rattle.lane_file.proofs.Groups.{length-elements}
 
 no_way : {A : Type 0} → false ≡ true → A
@@ -107,7 +106,7 @@ two_of_three f (x ∷ xs) [] zs e = refl
 two_of_three f (x ∷ xs) (y ∷ ys) [] e = absurd (omega (arith, e))
 two_of_three f (x ∷ xs) (y ∷ ys) (z ∷ zs) e = ap (λ rs. f x y ∷ rs) (two_of_three f xs ys zs (omega (arith, e)))
 
-pub int_is : (vlenb vd vs2 : ℕ) (s : Setup) (w : LaneWidth) (op : IntOp) (ys : List ℕ) (masked : Bool) (old : List ℕ) → all_written vlenb s (answer (Int op) w) vd vs2 ys masked old ≡ int_written vlenb s w op vd vs2 ys masked old
+pub int_is : (vlenb vd vs2 : ℕ) (s : Setup) (w : LaneWidth) (op : IntOp) (ys : List ℕ) (masked : Bool) (old : List ℕ) → all_written vlenb s (λ a b d. element op w a b) vd vs2 ys masked old ≡ int_written vlenb s w op vd vs2 ys masked old
 unfolding all_written int_written body_of
 int_is vlenb vd vs2 s w op ys masked old =
     let at = group_at s vd Same in
@@ -116,7 +115,7 @@ int_is vlenb vd vs2 s w op ys masked old =
     ap (λ rs. if s.vl == 0 then old else written vlenb at (policy_of s.agnostic s.vtype) rs (active_of vlenb masked s.vl old) old)
     (two_of_three (element op w) xs ys ds (length-elements vlenb at.bytes vd s.vl old ∙ sym (length-elements vlenb at.bytes vs2 s.vl old)))
 
-pub fixed_is : (vlenb vd vs2 : ℕ) (s : Setup) (w : LaneWidth) (op : FixedOp) (mode : RoundingMode) (o : FixedChunk) (ys : List ℕ) (masked : Bool) (old : List ℕ) → chunk_op op mode ≡ Some o → all_written vlenb s (answer (Fixed o) w) vd vs2 ys masked old ≡ fixed_written vlenb s w op mode vd vs2 ys masked old
+pub fixed_is : (vlenb vd vs2 : ℕ) (s : Setup) (w : LaneWidth) (op : FixedOp) (mode : RoundingMode) (o : FixedChunk) (ys : List ℕ) (masked : Bool) (old : List ℕ) → chunk_op op mode ≡ Some o → all_written vlenb s (λ a b d. lane_result o w a b) vd vs2 ys masked old ≡ fixed_written vlenb s w op mode vd vs2 ys masked old
 unfolding all_written fixed_written body_of
 fixed_is vlenb vd vs2 s w op mode o ys masked old is =
     let at = group_at s vd Same in

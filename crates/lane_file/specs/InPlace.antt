@@ -4,7 +4,7 @@ use Rattle.std.specs.Prelude.{◌≡◌, ◌⊎◌, ⊤, ℕ, ◌+◌, ◌-◌, 
 use Rattle.std.specs.Int.{Width}
 use lib.Lanes.{zip2}
 use Rattle.byteorder.specs.Endian.{little_from}
-use Rattle.lane_fixed.specs.Chunks.{chunk_op, lane_result}
+use Rattle.lane_fixed.specs.Chunks.{chunk_op}
 use Rattle.lane_fixed.specs.FixedPoint.{any_active, element as fixed_element, saturates}
 use Rattle.lane_fixed.specs.declared.operations.Op.{Op}
 use Rattle.lane_fixed.specs.declared.operations.Op.TheVariants.{Saddu, Sadd, Ssubu, Ssub}
@@ -24,24 +24,8 @@ use Rattle.vreg_groups.specs.Setup.{group_at}
 use Rattle.vreg_groups.specs.declared.policies.Agnostic.{Agnostic}
 use Rattle.vreg_groups.specs.declared.setup.Setup.{Setup}
 use Rattle.vreg_groups.specs.declared.vector_type.Vtype.{Vtype}
-use Rattle.lane_file.specs.declared.operation.Operation.{Operation}
-use Rattle.lane_file.specs.declared.operation.Operation.TheVariants.{Fixed, Int, MultiplyAdd}
 use Rattle.lane_file.specs.declared.second.Second.{Second}
 use Rattle.lane_file.specs.declared.second.Second.TheVariants.{Group, Splat}
-
--- ---- what an operation answers
-
--- of an element of vs2, one of the second source, and the old one of vd
-abbrev pub answer : Operation → Width → ℕ → ℕ → ℕ → ℕ
-answer (Int op) w = λ a b d. element op w a b
-answer (MultiplyAdd op) w = multiply_added op w
-answer (Fixed op) w = λ a b d. lane_result op w a b
-
--- the operations that a chunk call has
-abbrev pub has_call : Operation → Bool
-has_call (Int op) = has_chunk op
-has_call (MultiplyAdd op) = true
-has_call (Fixed op) = true
 
 -- ---- what is written
 

@@ -5,7 +5,6 @@ ghost use Rattle.lane_int.specs.Integer.{multiply_added};
 ghost use Rattle.std.specs.Int.{w8, w16, w32};
 
 use crate::fixed_lanes::{fixed_bytes, fixed_halves, fixed_words};
-use crate::operation::Operation;
 use lane_fixed::Op as FixedChunk;
 use lane_int::{
     Lane, Op, bytes_of_halves, bytes_of_words, chunk_u8, chunk_u16, chunk_u32, halves_in, words_in,
@@ -15,73 +14,64 @@ use std::simd::prelude::*;
 
 /// An element that lies in the bytes of registers: `u8`, `u16` or `u32`.
 pub trait ByteLane: Lane {
-    ghost use Rattle.std.specs.Prelude.{◌≡◌, ℕ, ◌*◌, ◌<◌, true};
+    ghost use Rattle.std.specs.Prelude.{◌≡◌, ℕ, ◌*◌, ◌<◌};
     ghost use Rattle.byteorder.specs.Endian.{little_from};
-    ghost use Rattle.lane_fixed.specs.Chunks.{lane_flag};
-    ghost use Rattle.lane_file.specs.InPlace.{answer, has_call};
+    ghost use Rattle.lane_fixed.specs.Chunks.{lane_flag, lane_result};
+    ghost use Rattle.lane_int.specs.Integer.{multiply_added};
 
     /// What `op` makes of the elements of vs2, which are `values`, of those of the second source, and of vd's old ones.
-    fn results(op: Operation, values: u8x16, b: u8x16, old: u8x16) -> u8x16
-        requires call { has_call op ≡ true }
+    fn added(op: MultiplyAddOp, values: u8x16, b: u8x16, old: u8x16) -> u8x16
         ensures { (j : ℕ) → j < Self.Lane.count
-            → little_from (Self.Lane.size * j) Self.Lane.size result
-            ≡ answer op Self.Lane.width (little_from (Self.Lane.size * j) Self.Lane.size values)
+            → little_from (Self.Lane.size * j) Self.Lane.size result ≡ multiply_added op
+            Self.Lane.width (little_from (Self.Lane.size * j) Self.Lane.size values)
             (little_from (Self.Lane.size * j) Self.Lane.size b)
             (little_from (Self.Lane.size * j) Self.Lane.size old) };
 
-    /// All ones in the elements that saturate, and 0 in the others.
-    fn flags(op: FixedChunk, values: u8x16, b: u8x16) -> u8x16
-        ensures { (j : ℕ) → j < Self.Lane.count
-            → little_from (Self.Lane.size * j) Self.Lane.size result
+    /// What `op` makes of the elements of vs2 and of the second source, and all ones in those that saturate, 0 in the others.
+    fn fixed(op: FixedChunk, values: u8x16, b: u8x16) -> (u8x16, u8x16)
+        ensures results { (j : ℕ) → j < Self.Lane.count
+            → little_from (Self.Lane.size * j) Self.Lane.size result.0
+            ≡ lane_result op Self.Lane.width (little_from (Self.Lane.size * j) Self.Lane.size values)
+            (little_from (Self.Lane.size * j) Self.Lane.size b) }
+        ensures flags { (j : ℕ) → j < Self.Lane.count
+            → little_from (Self.Lane.size * j) Self.Lane.size result.1
             ≡ lane_flag op Self.Lane.width (little_from (Self.Lane.size * j) Self.Lane.size values)
             (little_from (Self.Lane.size * j) Self.Lane.size b) };
 }
 
 impl ByteLane for u8 {
     #[inline(always)]
-    fn results(op: Operation, values: u8x16, b: u8x16, old: u8x16) -> u8x16 {
-        match op {
-            Operation::Int(op) => <u8 as Lane>::byte_chunk(op, values, b),
-            Operation::MultiplyAdd(op) => added_bytes(op, values, b, old),
-            Operation::Fixed(op) => fixed_bytes(op, values, b).0,
-        }
+    fn added(op: MultiplyAddOp, values: u8x16, b: u8x16, old: u8x16) -> u8x16 {
+        added_bytes(op, values, b, old)
     }
 
     #[inline(always)]
-    fn flags(op: FixedChunk, values: u8x16, b: u8x16) -> u8x16 {
-        fixed_bytes(op, values, b).1
+    fn fixed(op: FixedChunk, values: u8x16, b: u8x16) -> (u8x16, u8x16) {
+        fixed_bytes(op, values, b)
     }
 }
 
 impl ByteLane for u16 {
     #[inline(always)]
-    fn results(op: Operation, values: u8x16, b: u8x16, old: u8x16) -> u8x16 {
-        match op {
-            Operation::Int(op) => <u16 as Lane>::byte_chunk(op, values, b),
-            Operation::MultiplyAdd(op) => added_halves(op, values, b, old),
-            Operation::Fixed(op) => fixed_halves(op, values, b).0,
-        }
+    fn added(op: MultiplyAddOp, values: u8x16, b: u8x16, old: u8x16) -> u8x16 {
+        added_halves(op, values, b, old)
     }
 
     #[inline(always)]
-    fn flags(op: FixedChunk, values: u8x16, b: u8x16) -> u8x16 {
-        fixed_halves(op, values, b).1
+    fn fixed(op: FixedChunk, values: u8x16, b: u8x16) -> (u8x16, u8x16) {
+        fixed_halves(op, values, b)
     }
 }
 
 impl ByteLane for u32 {
     #[inline(always)]
-    fn results(op: Operation, values: u8x16, b: u8x16, old: u8x16) -> u8x16 {
-        match op {
-            Operation::Int(op) => <u32 as Lane>::byte_chunk(op, values, b),
-            Operation::MultiplyAdd(op) => added_words(op, values, b, old),
-            Operation::Fixed(op) => fixed_words(op, values, b).0,
-        }
+    fn added(op: MultiplyAddOp, values: u8x16, b: u8x16, old: u8x16) -> u8x16 {
+        added_words(op, values, b, old)
     }
 
     #[inline(always)]
-    fn flags(op: FixedChunk, values: u8x16, b: u8x16) -> u8x16 {
-        fixed_words(op, values, b).1
+    fn fixed(op: FixedChunk, values: u8x16, b: u8x16) -> (u8x16, u8x16) {
+        fixed_words(op, values, b)
     }
 }
 

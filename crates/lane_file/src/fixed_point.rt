@@ -1,18 +1,17 @@
 //! Fixed-point operations on operands of one width.
 ghost use Rattle.std.specs.Prelude.{◌≡◌, IfSome, None, is_some, true};
-ghost use Rattle.lane_fixed.specs.Chunks.{lane_saturates};
+ghost use Rattle.lane_fixed.specs.Chunks.{lane_result, lane_saturates};
 ghost use Rattle.lane_fixed.specs.FixedPoint.{any_active};
 ghost use Rattle.rv_decode.specs.Instructions.{bytes_of_width};
 ghost use Rattle.rv_decode.specs.declared.extents.Eew.TheVariants.{Same};
 ghost use Rattle.vreg_groups.specs.Elements.{active_of};
 ghost use Rattle.vreg_groups.specs.Group.{IsGroupInside, body_of};
 ghost use Rattle.vreg_groups.specs.Setup.{IsSetup, group_at};
-ghost use Rattle.lane_file.specs.InPlace.{IsSecondInside, all_written, answer, fixed_saturated};
+ghost use Rattle.lane_file.specs.InPlace.{IsSecondInside, all_written, fixed_saturated};
 ghost use Rattle.lane_file.specs.InPlace.{fixed_written, is_fixed_done, is_free, second_of};
 
 use crate::apart::is_free;
 use crate::byte_lane::ByteLane;
-use crate::operation::Operation;
 use crate::saturation::any_saturated;
 use crate::second::Second;
 use crate::written::write_body;
@@ -74,7 +73,7 @@ fn write_fixed<E: ByteLane, const VLENB: usize>(
     requires b_inside { IsSecondInside setup.now.vtype b }
     requires free { is_free setup.now vd vs2 b masked ≡ true }
     ensures written { registers.new
-        ≡ all_written VLENB setup.now (answer (Operation.Fixed op) E.Lane.width) vd vs2
+        ≡ all_written VLENB setup.now (λ a b d. lane_result op E.Lane.width a b) vd vs2
         (second_of VLENB E.Lane.number setup.now b registers.old) masked registers.old }
     ensures saturated { result ≡ any_active (lane_saturates op E.Lane.width)
         (body_of VLENB (group_at setup.now vs2 Same) registers.old)
@@ -83,7 +82,6 @@ fn write_fixed<E: ByteLane, const VLENB: usize>(
 {
     let group = setup.group::<VLENB>(vs2, Eew::Same);
     let saturated = any_saturated(registers, &group, op, vs2, b, masked);
-    let operation = Operation::Fixed(op);
-    write_body(registers, setup, operation, vd, vs2, b, masked);
+    write_body(registers, setup, op, vd, vs2, b, masked);
     saturated
 }

@@ -9,7 +9,6 @@ ghost use Rattle.lane_file.specs.InPlace.{multiply_add_written, second_of};
 
 use crate::apart::is_free;
 use crate::byte_lane::ByteLane;
-use crate::operation::Operation;
 use crate::second::Second;
 use crate::written::write_body;
 use lane_int::has_chunk;
@@ -42,8 +41,7 @@ pub fn int<E: ByteLane, const VLENB: usize>(
     if !has_chunk(op) || !is_free::<E, VLENB>(setup, vd, vs2, b, masked) {
         return false;
     }
-    let operation = Operation::Int(op);
-    write_body(registers, setup, operation, vd, vs2, b, masked);
+    write_body(registers, setup, op, vd, vs2, b, masked);
     true
 }
 
@@ -73,7 +71,6 @@ pub fn multiply_add<E: ByteLane, const VLENB: usize>(
     if !is_free::<E, VLENB>(setup, vd, vs2, b, masked) {
         return false;
     }
-    let operation = Operation::MultiplyAdd(op);
-    write_body(registers, setup, operation, vd, vs2, b, masked);
+    write_body(registers, setup, op, vd, vs2, b, masked);
     true
 }

@@ -170,9 +170,9 @@ fn in_part<E: ByteLane, const VLENB: usize>(
     let values = registers.sixteen(a + 16 * m);
     let others = other(registers, b, 16 * m);
     let flags = active_flags::<E, VLENB>(registers, masked, m);
-    let saturated = E::flags(op, values, others);
+    let both = E::fixed(op, values, others);
     let none = u8x16::splat(0);
-    let lanes = written_lanes(flags, first_flags(n), saturated, none, Agnostic::Keep);
+    let lanes = written_lanes(flags, first_flags(n), both.1, none, Agnostic::Keep);
     is_set(lanes)
 }
 

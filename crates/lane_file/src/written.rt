@@ -6,22 +6,22 @@ ghost use Rattle.rv_decode.specs.declared.extents.Eew.TheVariants.{Same};
 ghost use Rattle.vreg_groups.specs.Elements.{active_of, elements_of};
 ghost use Rattle.vreg_groups.specs.Group.{IsGroupInside, IsSize, written};
 ghost use Rattle.vreg_groups.specs.Setup.{IsSetup};
-ghost use Rattle.lane_file.specs.InPlace.{IsSecondInside, IsSecondWithin, answer, are_apart};
-ghost use Rattle.lane_file.specs.InPlace.{all_written, has_call, is_free, is_second_apart};
+ghost use Rattle.lane_file.specs.InPlace.{IsSecondInside, IsSecondWithin, are_apart};
+ghost use Rattle.lane_file.specs.InPlace.{all_written, is_free, is_second_apart};
 ghost use Rattle.lane_file.specs.InPlace.{second_list, second_of};
 
 use crate::byte_lane::ByteLane;
 use crate::chunks::body;
-use crate::operation::Operation;
+use crate::known::KnownChunks;
 use crate::second::{Second, place_of};
 use rv_decode::{Eew, Reg};
 use vreg_groups::{Group, Policy, Setup, VregFile};
 
 /// Writes the results of the body, and the tail. Where vl is 0 nothing is written.
-pub(crate) fn write_body<E: ByteLane, const VLENB: usize>(
+pub(crate) fn write_body<E: ByteLane, K: KnownChunks<VLENB>, const VLENB: usize>(
     registers: &mut VregFile<VLENB>,
     setup: &Setup,
-    op: Operation,
+    op: K,
     vd: Reg,
     vs2: Reg,
     b: Second<E>,
@@ -32,9 +32,9 @@ pub(crate) fn write_body<E: ByteLane, const VLENB: usize>(
     requires vd_inside { IsGroupInside setup.now.vtype vd Same }
     requires vs2_inside { IsGroupInside setup.now.vtype vs2 Same }
     requires b_inside { IsSecondInside setup.now.vtype b }
-    requires call { has_call op ≡ true }
+    requires call { K.Kernel.has_call op ≡ true }
     requires free { is_free setup.now vd vs2 b masked ≡ true }
-    ensures { registers.new ≡ all_written VLENB setup.now (answer op E.Lane.width) vd vs2
+    ensures { registers.new ≡ all_written VLENB setup.now (K.Kernel.answer op E.Lane.width) vd vs2
         (second_of VLENB E.Lane.number setup.now b registers.old) masked registers.old }
 {
     let group = setup.group::<VLENB>(vd, Eew::Same);
@@ -44,17 +44,17 @@ pub(crate) fn write_body<E: ByteLane, const VLENB: usize>(
 }
 
 /// Writes the results, and the tail.
-fn write<E: ByteLane, const VLENB: usize>(
+fn write<E: ByteLane, K: KnownChunks<VLENB>, const VLENB: usize>(
     registers: &mut VregFile<VLENB>,
     group: &Group<VLENB>,
-    op: Operation,
+    op: K,
     vd: Reg,
     vs2: Reg,
     b: Second<E>,
     masked: bool,
     policy: Policy,
 )
-    requires call { has_call op ≡ true }
+    requires call { K.Kernel.has_call op ≡ true }
     requires first { vd ≡ group.now.first }
     requires size { E.Lane.size ≡ group.now.bytes }
     requires sizes { IsSize E.Lane.size }
@@ -64,7 +64,7 @@ fn write<E: ByteLane, const VLENB: usize>(
     requires b_apart { is_second_apart group.now.count vd b ≡ true }
     requires mask_stays { masked ≡ true → 0 < vd }
     ensures { registers.new ≡ written VLENB group.now policy
-        (zip3 (answer op E.Lane.width)
+        (zip3 (K.Kernel.answer op E.Lane.width)
         (elements_of VLENB group.now.bytes vs2 group.now.vl registers.old)
         (second_list VLENB group.now.bytes E.Lane.number group.now.vl b registers.old)
         (elements_of VLENB group.now.bytes vd group.now.vl registers.old))

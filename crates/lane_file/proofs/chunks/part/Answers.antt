@@ -2,7 +2,7 @@ use Rattle.std.proofs.Common.{◌≡◌, ◌+◌, ◌*◌, ◌<◌, ◌≤◌, a
 use Rattle.std.proofs.lemmas.Simd.{get_or-chunk}
 use Rattle.byteorder.specs.Endian.{little_from}
 use Rattle.vreg_groups.specs.NewElements.{filled}
-use Rattle.lane_file.specs.InPlace.{answer, is_active, other_of}
+use Rattle.lane_file.specs.InPlace.{is_active, other_of}
 use Rattle.lane_file.proofs.Chosen.{chosen_element}
 use Rattle.lane_file.proofs.Steps.{byte_put, chunk_kept, fewer_kept, inside, lane_put, lane_read, place_in, same_number}
 use Rattle.lane_file.proofs.chunks.part.Goals as goal
@@ -24,7 +24,7 @@ returns-clause-done g c = λ j lt within.
     lane_read s n j (c.args.a + 16 * m) old c.sixteen-values.result g.E.Lane.sizes lt c.sixteen-values.ensures ∙ ap (λ z. little_from z s old) (omega (arith, at)) in
     let y : little_from (s * j) s c.other-others.result ≡ other_of g.row.VLENB s g.E.Lane.number c.args.b (s * i) old =
     c.other-others.ensures j lt ∙ ap (λ z. other_of g.row.VLENB s g.E.Lane.number c.args.b z old) (sym at) in
-    let f = answer c.args.op g.E.Lane.width in
+    let f = g.K.Kernel.answer c.args.op g.E.Lane.width in
     let v : little_from (s * j) s c.sixteen-old.result ≡ little_from (c.args.d + s * i) s old =
     lane_read s n j d old c.sixteen-old.result g.E.Lane.sizes lt c.sixteen-old.ensures ∙ ap (λ z. little_from z s old) (omega (arith, at)) in
     ap (λ z. little_from z s new) (omega (arith, at))

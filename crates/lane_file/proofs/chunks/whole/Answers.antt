@@ -1,6 +1,6 @@
 use Rattle.std.proofs.Common.{◌≡◌, ◌+◌, ◌*◌, ◌≤◌, ap, ap₂, sym, ◌∙◌, arith, length}
 use Rattle.byteorder.specs.Endian.{little_from}
-use Rattle.lane_file.specs.InPlace.{answer, other_of}
+use Rattle.lane_file.specs.InPlace.{other_of}
 use Rattle.lane_file.proofs.Steps.{chunk_kept, lane_put, lane_read, place_in}
 use Rattle.lane_file.proofs.chunks.whole.Goals as goal
 
@@ -10,7 +10,7 @@ returns-clause-done g c = λ j lt.
     let n = g.E.Lane.count in
     let m = c.args.m in
     let old = c.args.registers.now in
-    let f = answer c.args.op g.E.Lane.width in
+    let f = g.K.Kernel.answer c.args.op g.E.Lane.width in
     let at : s * (n * m + j) ≡ 16 * m + s * j = place_in s n m j g.E.Lane.sizes in
     let room : c.args.d + 16 * m + 16 ≤ length old = omega (arith, c.set_sixteen.ensures.shape, c.requires.d_room) in
     lane_put s n j (c.args.d + 16 * m) old c.results-results.result c.set_sixteen.new.self g.E.Lane.sizes lt room c.set_sixteen.ensures.count c.set_sixteen.ensures.meaning

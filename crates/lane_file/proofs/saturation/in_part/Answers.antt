@@ -17,7 +17,7 @@ returns g c = λ k is.
     let m = c.args.m in
     let op = c.args.op in
     let file = c.args.registers.now in
-    let saturated = c.flags-saturated.result in
+    let saturated = c.fixed-both.result.1 in
     let lanes = c.written_lanes-lanes.result in
     let t = λ (j : ℕ). holds_at v s g.E.Lane.number (lane_saturates op w) c.args.a c.args.b c.args.masked file (n * m + j) in
     let x = λ (j : ℕ). little_from (c.args.a + s * (n * m + j)) s file in
@@ -26,7 +26,7 @@ returns g c = λ k is.
     let within : (j q : ℕ) → j < k → q < s → s * j + q < c.args.n = λ j q lt less. let e : s * (j + 1) ≤ s * k = mul-le-mul_left s (omega (arith, lt)) in omega (arith, e, is, less) in
     let flag : (j : ℕ) → j < k → little_from (s * j) s saturated ≡ lane_flag op w (x j) (y j) = λ j lt.
     let at : s * (n * m + j) ≡ 16 * m + s * j = place_in s n m j g.E.Lane.sizes in
-    c.flags-saturated.ensures j (early j lt)
+    c.fixed-both.ensures.flags j (early j lt)
     ∙ ap₂ (lane_flag op w)
     (lane_read s n j (c.args.a + 16 * m) file c.sixteen-values.result g.E.Lane.sizes (early j lt) c.sixteen-values.ensures ∙ ap (λ z. little_from z s file) (omega (arith, at)))
     (c.other-others.ensures j (early j lt) ∙ ap (λ z. other_of v s g.E.Lane.number c.args.b z file) (sym at)) in

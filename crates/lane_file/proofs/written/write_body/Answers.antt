@@ -3,7 +3,7 @@ use Rattle.std.proofs.lemmas.Bool.Decides.{eqb_tells}
 use Rattle.rv_decode.specs.declared.extents.Eew.TheVariants.{Same}
 use Rattle.vreg_groups.specs.Group.{IsSize, Span}
 use Rattle.vreg_groups.specs.Legality.{group_count}
-use Rattle.lane_file.specs.InPlace.{IsSecondWithin, answer, are_apart, is_second_apart, second_of}
+use Rattle.lane_file.specs.InPlace.{IsSecondWithin, are_apart, is_second_apart, second_of}
 use Rattle.lane_file.proofs.Calls.{all_is, all_told, bytes_is, group_within, mask_off, none_is, second_within, sizes_of}
 use Rattle.lane_file.proofs.written.write_body.Goals as goal
 
@@ -48,7 +48,7 @@ write-requires g c =
 pub returns-then-setup-ne0 : goal.returns-then-setup-ne0
 returns-then-setup-ne0 g c =
     let s = c.args.setup.now in
-    all_is g.row.VLENB c.args.vd c.args.vs2 s c.group-group.result c.policy.result g.E.Lane.number (answer c.args.op g.E.Lane.width) c.args.b c.args.masked c.args.registers.now c.write.new.registers
+    all_is g.row.VLENB c.args.vd c.args.vs2 s c.group-group.result c.policy.result g.E.Lane.number (g.K.Kernel.answer c.args.op g.E.Lane.width) c.args.b c.args.masked c.args.registers.now c.write.new.registers
     (elim (eqb_tells s.vl 0) [
       | inl e ↦ absurd (omega (arith, e.1, c.if-setup-ne0.true))
       | inr e ↦ e.0
@@ -58,7 +58,7 @@ returns-then-setup-ne0 g c =
 pub returns-else-setup-ne0 : goal.returns-else-setup-ne0
 returns-else-setup-ne0 g c =
     let s = c.args.setup.now in
-    none_is g.row.VLENB c.args.vd c.args.vs2 s (answer c.args.op g.E.Lane.width) (second_of g.row.VLENB g.E.Lane.number s c.args.b c.args.registers.now) c.args.masked c.args.registers.now
+    none_is g.row.VLENB c.args.vd c.args.vs2 s (g.K.Kernel.answer c.args.op g.E.Lane.width) (second_of g.row.VLENB g.E.Lane.number s c.args.b c.args.registers.now) c.args.masked c.args.registers.now
     (elim (eqb_tells s.vl 0) [
       | inl e ↦ e.0
       | inr e ↦ absurd (e.1 (omega (arith, c.if-setup-ne0.false)))
