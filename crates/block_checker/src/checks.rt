@@ -287,23 +287,8 @@ fn blocks_pass<A: Allocator, B: Allocator, C: Allocator>(
     Ok(())
 }
 
-/// The way from the start of a run into the block at the entry, with `state` as what is known at the start.
+/// The entry, then each block, in room that is taken once. That a block begins at the entry is looked for before.
 #[tactic(auto, unfolding(crate::specs::Passes::entry_passes, crate::specs::Passes::entry_passes_to))]
-fn entry_passes<A: Allocator, B: Allocator, C: Allocator>(
-    image: &Image<B>,
-    certificate: &Certificate<C>,
-    state: &Abstract<A>,
-) -> Result<(), CheckError>
-    requires { state.now ≡ at_entry_of image.now certificate.now }
-    ensures { result ≡ entry_passes_of image.now certificate.now }
-{
-    if block_at(certificate, image.entry()).is_none() {
-        return Err(CheckError::NoEntryBlock);
-    }
-    possible_passes(certificate, image.entry(), state, false)
-}
-
-/// The entry, then each block, in room that is taken once.
 fn all_pass<A: Allocator + Copy, B: Allocator, C: Allocator>(
     alloc: A,
     image: &Image<B>,
@@ -312,10 +297,13 @@ fn all_pass<A: Allocator + Copy, B: Allocator, C: Allocator>(
     ensures { IsAnswer result (both (entry_passes_of image.now certificate.now)
         (blocks_pass_of image.now certificate.now certificate.now.blocks)) }
 {
+    if block_at(certificate, image.entry()).is_none() {
+        return Err(CheckError::NoEntryBlock);
+    }
     let Ok(mut state) = Abstract::at_entry(alloc, certificate, image) else {
         return Err(CheckError::NoMemory);
     };
-    if let Err(error) = entry_passes(image, certificate, &state) {
+    if let Err(error) = possible_passes(certificate, image.entry(), &state, false) {
         return Err(error);
     }
     blocks_pass(image, certificate, &mut state)

@@ -280,19 +280,16 @@ fn expect_fault(
     }
 }
 
-/// The wrong length is told before any memory is asked for. That no block begins at the entry is
-/// told in the room of the check.
+/// Faults that are told before any memory is asked for.
 #[test]
 fn checking_no_block(rt: HostRuntime) {
     let alloc = rt.alloc();
     let heap = Refusing::new(alloc, 0);
     let kernel = parts_of(rt, alloc, SUM, Vlen::V128);
     let certificate = expect_fault(rt, &heap, kernel, Vlen::V256, CheckError::WrongVlen);
-    assert_same!(rt; heap.has_refused(), false);
     let file = moved_entry(rt, alloc);
     let elsewhere = given!(rt; elf_image::read(alloc, &file));
     let kernel = (elsewhere, certificate);
-    let enough = Refusing::new(alloc, MANY);
-    expect_fault(rt, &enough, kernel, Vlen::V128, CheckError::NoEntryBlock);
-    assert_same!(rt; enough.has_refused(), false);
+    expect_fault(rt, &heap, kernel, Vlen::V128, CheckError::NoEntryBlock);
+    assert_same!(rt; heap.has_refused(), false);
 }
