@@ -6,7 +6,7 @@ use lane_fixed::{FixedLane, RoundingMode, clip, compute};
 use rv_decode::{ClipOp, FixedOp};
 use std::process::Abort;
 
-const OPERATIONS: [FixedOp; 11] = [
+pub(crate) const FIXED_OPERATIONS: [FixedOp; 11] = [
     FixedOp::Saddu,
     FixedOp::Sadd,
     FixedOp::Ssubu,
@@ -22,7 +22,7 @@ const OPERATIONS: [FixedOp; 11] = [
 
 const CLIPS: [ClipOp; 2] = [ClipOp::Clipu, ClipOp::Clip];
 
-const MODES: [RoundingMode; 4] = [
+pub(crate) const MODES: [RoundingMode; 4] = [
     RoundingMode::NearestUp,
     RoundingMode::NearestEven,
     RoundingMode::Down,
@@ -55,10 +55,10 @@ fn try_operations<T: FixedLane + PartialEq>(rt: impl Abort + Copy, a: &[T; MOST]
     let (all, some) = ([true; MOST], bits(3));
     for k in 0..LENGTHS.len() {
         let n = LENGTHS[k].min(MOST);
-        for j in 0..OPERATIONS.len() {
+        for j in 0..FIXED_OPERATIONS.len() {
             for m in 0..MODES.len() {
-                try_operation(rt, OPERATIONS[j], MODES[m], a, b, &all, n);
-                try_operation(rt, OPERATIONS[j], MODES[m], a, b, &some, n);
+                try_operation(rt, FIXED_OPERATIONS[j], MODES[m], a, b, &all, n);
+                try_operation(rt, FIXED_OPERATIONS[j], MODES[m], a, b, &some, n);
             }
         }
     }

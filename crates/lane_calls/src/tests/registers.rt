@@ -1,15 +1,17 @@
 //! Operations where the registers lie: vd is v8, vs2 v16 and vs1 v24, each a group of eight.
-ghost use Rattle.std.specs.Prelude.{◌≡◌, ◌+◌, ◌*◌, ◌≤◌};
+ghost use Rattle.std.specs.Prelude.{◌≡◌, ◌+◌, ◌*◌, ◌≤◌, length};
 ghost use Rattle.rv_decode.specs.Instructions.{bytes_of_width};
 ghost use Rattle.rv_decode.specs.declared.extents.Eew.TheVariants.{Same};
 ghost use Rattle.vreg_groups.specs.Group.{IsGroupInside};
 ghost use Rattle.vreg_groups.specs.Setup.{IsSetup};
 
+use crate::tests::fixed_point::{FIXED_OPERATIONS, MODES};
 use crate::tests::integers::{MULTIPLY_ADDS, OPERATIONS};
 use crate::tests::lengths::{LENGTHS, MOST, bytes};
-use lane_file::{ByteLane, Second, int, multiply_add};
+use lane_file::{ByteLane, Second, fixed, int, multiply_add};
+use lane_fixed::{FixedLane, RoundingMode, compute};
 use lane_int::{Lane, has_chunk};
-use rv_decode::{IntOp, MultiplyAddOp, Reg, Width};
+use rv_decode::{FixedOp, IntOp, MultiplyAddOp, Reg, Width};
 use std::process::Abort;
 use vreg_groups::{Agnostic, Element, Lmul, Setup, VregFile, Vtype};
 
@@ -75,10 +77,11 @@ fn fill(registers: &mut VregFile<64>, first: Reg, seed: u32)
 enum Tried {
     Int(IntOp),
     MultiplyAdd(MultiplyAddOp),
+    Fixed(FixedOp, RoundingMode),
 }
 
 /// Each operation under one setup, masked or not.
-fn try_operations<E: ByteLane + Element + PartialEq>(
+fn try_operations<E: ByteLane + Element + FixedLane + PartialEq>(
     rt: impl Abort + Copy,
     setup: &Setup,
     masked: bool,
@@ -100,9 +103,15 @@ fn try_operations<E: ByteLane + Element + PartialEq>(
         let op = Tried::MultiplyAdd(MULTIPLY_ADDS[j]);
         try_group::<E>(rt, setup, op, masked, blank, most);
     }
+    for j in 0..FIXED_OPERATIONS.len() {
+        for m in 0..MODES.len() {
+            let op = Tried::Fixed(FIXED_OPERATIONS[j], MODES[m]);
+            try_group::<E>(rt, setup, op, masked, blank, most);
+        }
+    }
 }
 
-fn try_group<E: ByteLane + Element + PartialEq>(
+fn try_group<E: ByteLane + Element + FixedLane + PartialEq>(
     rt: impl Abort + Copy,
     setup: &Setup,
     op: Tried,
@@ -129,24 +138,38 @@ fn try_group<E: ByteLane + Element + PartialEq>(
     registers.read_group(vs2, &mut a[..most]);
     registers.read_group(vs1, &mut b[..most]);
     registers.read_group(vd, &mut old[..most]);
-    let is_done = run::<E>(&mut registers, setup, op, masked);
-    assert!(rt; is_done == can_be_done(op), "which operations are done");
-    let is_written = is_done && setup.vl != 0;
+    let answer = run::<E>(&mut registers, setup, op, masked);
+    assert!(rt;
+        answer.is_some() == can_be_done(op),
+        "which operations are done"
+    );
+    let is_written = answer.is_some() && setup.vl != 0;
     registers.read_group(vd, &mut new[..most]);
+    let mut is_any = false;
     for i in 0..most {
         let is_active = i < setup.vl && (!masked || registers.bit(Reg::new(0), i));
+        let saturates = compute_one(op, &mut a[i..i + 1], &b[i..i + 1], old[i]);
+        is_any = is_any || is_active && saturates;
         let expected = if is_active {
-            result(op, a[i], b[i], old[i])
+            a[i]
         } else {
             left(old[i], setup.agnostic)
         };
         let expected = if is_written { expected } else { old[i] };
         assert!(rt; new[i] == expected, "an element of a group");
     }
+    if let Some(saturated) = answer {
+        assert!(rt; saturated == is_any, "whether a group saturates");
+    }
 }
 
-/// The call: vd is v8, vs2 v16 and vs1 v24.
-fn run<E: ByteLane>(registers: &mut VregFile<64>, setup: &Setup, op: Tried, masked: bool) -> bool
+/// The call: vd is v8, vs2 v16 and vs1 v24. Whether it saturated; None where it was not done.
+fn run<E: ByteLane>(
+    registers: &mut VregFile<64>,
+    setup: &Setup,
+    op: Tried,
+    masked: bool,
+) -> Option<bool>
     requires setup { IsSetup 64 setup.now }
     requires size { E.Lane.size ≡ bytes_of_width setup.now.vtype.sew }
     requires vd_inside { IsGroupInside setup.now.vtype 8 Same }
@@ -155,24 +178,39 @@ fn run<E: ByteLane>(registers: &mut VregFile<64>, setup: &Setup, op: Tried, mask
 {
     let (vd, vs2) = (Reg::new(8), Reg::new(16));
     let second = Second::<E>::Group(Reg::new(24));
-    match op {
+    let is_done = match op {
         Tried::Int(op) => int(registers, setup, op, vd, vs2, second, masked),
         Tried::MultiplyAdd(op) => multiply_add(registers, setup, op, vd, vs2, second, masked),
-    }
+        Tried::Fixed(op, mode) => {
+            return fixed(registers, setup, op, mode, vd, vs2, second, masked);
+        }
+    };
+    is_done.then_some(false)
 }
 
 fn can_be_done(op: Tried) -> bool {
     match op {
         Tried::Int(op) => has_chunk(op),
         Tried::MultiplyAdd(_) => true,
+        Tried::Fixed(op, _) => !matches!(op, FixedOp::Smul),
     }
 }
 
-/// What the call on one element makes of it.
-fn result<E: Lane>(op: Tried, a: E, b: E, old: E) -> E {
+/// Writes over the element of `a` what the call on one element makes of it, and tells whether it saturates.
+fn compute_one<E: Lane + FixedLane>(op: Tried, a: &mut [E], b: &[E], old: E) -> bool
+    requires a_one { length a.old ≡ 1 }
+    requires b_one { length b.now ≡ 1 }
+{
     match op {
-        Tried::Int(op) => E::int_result(op, a, b),
-        Tried::MultiplyAdd(op) => E::multiply_add(op, a, b, old),
+        Tried::Int(op) => {
+            a[0] = E::int_result(op, a[0], b[0]);
+            false
+        }
+        Tried::MultiplyAdd(op) => {
+            a[0] = E::multiply_add(op, a[0], b[0], old);
+            false
+        }
+        Tried::Fixed(op, mode) => compute(op, mode, a, b, &[true]),
     }
 }
 
