@@ -14,6 +14,7 @@
 #include <string>
 #include <type_traits>
 #include <utility>
+#include <vector>
 
 namespace rvvbox {
 
@@ -61,6 +62,40 @@ template <class T> rvvbox_argument argument(T &&of) {
 template <class... T> places arguments(T &&...of) {
     static_assert(sizeof...(T) <= RVVBOX_PLACES);
     return places{argument(std::forward<T>(of))...};
+}
+
+/// What a kernel is to take at a place: a number from lo to hi, so many bytes that are put back, or so many that are only read.
+inline rvvbox_parameter scalar(uint32_t lo, uint32_t hi) { return {RVVBOX_SCALAR, lo, hi, 0}; }
+inline rvvbox_parameter buffer(uint32_t size) { return {RVVBOX_BUFFER, 0, 0, size}; }
+inline rvvbox_parameter read(uint32_t size) { return {RVVBOX_READ, 0, 0, size}; }
+
+using parameters = std::array<rvvbox_parameter, RVVBOX_PLACES>;
+
+/// All bytes that a call gives to who asks with room enough: it is asked for their number first.
+template <class Call> std::vector<uint8_t> all_of(Call call) {
+    std::vector<uint8_t> bytes;
+    size_t needed = 0;
+    do {
+        bytes.resize(needed);
+        rvvbox_refusal why;
+        call(bytes.data(), bytes.size(), &needed, &why);
+        expect(why);
+    } while (needed > bytes.size());
+    return bytes;
+}
+
+/// The image with a certificate's bytes in a note behind it. The certificate is not read.
+inline std::vector<uint8_t> attach(std::span<const uint8_t> image, std::span<const uint8_t> certificate) {
+    return all_of([=](uint8_t *out, size_t room, size_t *needed, rvvbox_refusal *why) {
+        rvvbox_attach(image.data(), image.size(), certificate.data(), certificate.size(), out, room, needed, why);
+    });
+}
+
+/// The image with the certificate of the plain loop at its entry, which takes these at its places: `make(image, 128, {buffer(4096)})`.
+inline std::vector<uint8_t> make(std::span<const uint8_t> image, uint32_t vlen, const parameters &eight) {
+    return all_of([=, &eight](uint8_t *out, size_t room, size_t *needed, rvvbox_refusal *why) {
+        rvvbox_make(image.data(), image.size(), vlen, eight.data(), out, room, needed, why);
+    });
 }
 
 /// Why an image is refused, in lines; nothing where it is accepted.

@@ -43,6 +43,8 @@ impl fmt::Display for Error {
         write!(f, "{}", self.name())?;
         if let Some(rule) = self.rule() {
             write!(f, ", {rule} at {:08x}", self.refusal.address)?;
+        } else if self.refusal.address > 0 {
+            write!(f, " at {:08x}", self.refusal.address)?;
         }
         if self.explanation.is_empty() { Ok(()) } else { write!(f, "\n{}", self.explanation) }
     }
@@ -106,6 +108,58 @@ fn explanation(image: &[u8], vlen: u32) -> String {
         }
     }
     String::from_utf8_lossy(&text).into_owned()
+}
+
+impl Parameter {
+    /// A number from `lo` to `hi`.
+    pub fn scalar(lo: u32, hi: u32) -> Parameter {
+        Parameter { kind: 1, lo, hi, size: 0 }
+    }
+
+    /// So many bytes, which are put back.
+    pub fn buffer(size: u32) -> Parameter {
+        Parameter { kind: 2, size, ..Parameter::default() }
+    }
+
+    /// So many bytes, which are only read.
+    pub fn read(size: u32) -> Parameter {
+        Parameter { kind: 3, size, ..Parameter::default() }
+    }
+}
+
+/// All bytes that a call gives to who asks with room enough: it is asked for their number first.
+fn all_of(call: impl Fn(&mut [u8], &mut usize, &mut Refusal) -> u32) -> Result<Vec<u8>, Error> {
+    let (mut bytes, mut needed) = (Vec::new(), 0);
+    loop {
+        bytes.resize(needed, 0);
+        let mut refusal = Refusal::default();
+        if call(&mut bytes, &mut needed, &mut refusal) != 0 {
+            return Err(Error::of(refusal));
+        }
+        if needed <= bytes.len() {
+            return Ok(bytes);
+        }
+    }
+}
+
+/// The image with a certificate's bytes in a note behind it. The certificate is not read.
+pub fn attach(image: &[u8], certificate: &[u8]) -> Result<Vec<u8>, Error> {
+    let (from, size) = (certificate.as_ptr().cast(), certificate.len());
+    // Each pointer is that of a slice or a value that lives over the call, with its own length.
+    all_of(|out, needed, refusal| unsafe {
+        sys::rvvbox_attach(image.as_ptr().cast(), image.len(), from, size, out.as_mut_ptr().cast(), out.len(), needed, refusal)
+    })
+}
+
+/// The image with the certificate of the plain loop at its entry, for vector registers of `vlen` bits. Its kernel takes at most eight parameters.
+pub fn make(image: &[u8], vlen: u32, parameters: &[Parameter]) -> Result<Vec<u8>, Error> {
+    assert!(parameters.len() <= PLACES, "a kernel has eight places");
+    let mut eight = [Parameter::default(); PLACES];
+    eight[..parameters.len()].copy_from_slice(parameters);
+    // As in `attach`, and there are eight parameters.
+    all_of(|out, needed, refusal| unsafe {
+        sys::rvvbox_make(image.as_ptr().cast(), image.len(), vlen, eight.as_ptr(), out.as_mut_ptr().cast(), out.len(), needed, refusal)
+    })
 }
 
 impl Kernel {

@@ -91,6 +91,10 @@ extern "C" {
     pub fn rvvbox_version() -> u32;
     pub fn rvvbox_accept(image: *const c_void, image_size: usize, vlen: u32, out: *mut *mut Kernel, refusal: *mut Refusal) -> u32;
     pub fn rvvbox_explain(image: *const c_void, image_size: usize, vlen: u32, text: *mut c_char, text_size: usize, needed: *mut usize) -> u32;
+    pub fn rvvbox_attach(image: *const c_void, image_size: usize, certificate: *const c_void, certificate_size: usize,
+        out: *mut c_void, out_size: usize, needed: *mut usize, refusal: *mut Refusal) -> u32;
+    pub fn rvvbox_make(image: *const c_void, image_size: usize, vlen: u32, parameters: *const Parameter,
+        out: *mut c_void, out_size: usize, needed: *mut usize, refusal: *mut Refusal) -> u32;
     pub fn rvvbox_share(kernel: *mut Kernel, out: *mut *mut Kernel) -> u32;
     pub fn rvvbox_free(kernel: *mut Kernel);
     pub fn rvvbox_vlen_of(kernel: *mut Kernel) -> u32;

@@ -1,5 +1,5 @@
-//! Runs the kernel of examples/raise_words, on several threads too, and tells what is refused.
-use rvvbox::{version, Argument, Kernel, Scalars, Session};
+//! Runs the kernel of examples/raise_words, on several threads too, makes its certificate, and tells what is refused.
+use rvvbox::{attach, make, version, Argument, Kernel, Parameter, Scalars, Session};
 use std::{fs, thread};
 
 fn bytes_of(name: &str) -> Vec<u8> {
@@ -62,6 +62,38 @@ fn sessions_go_on() {
     assert_eq!((error.name(), error.refusal.place), ("WRONG_SIZE", 0));
     session.close(&mut [Argument::Buffer(&mut words)]).unwrap();
     assert_eq!((&words, &seen), (&bytes_of("expected.bin"), &words));
+}
+
+/// The certificate of an image: behind the name of its note, whose padded length is 8.
+fn certificate_in(image: &[u8]) -> &[u8] {
+    let at = image.windows(6).position(|name| name == b"RVVBOX").unwrap();
+    &image[at + 8..][..usize::from(u16::from_le_bytes([image[at - 8], image[at - 7]]))]
+}
+
+#[test]
+fn makes_a_certificate() {
+    let (image, bare) = (bytes_of("raise_words.elf"), bytes_of("bare.elf"));
+    let made = make(&bare, 128, &[Parameter::buffer(4096), Parameter::scalar(0, 1024)]).unwrap();
+    assert!(made == image);
+    let mut kernel = Kernel::new(&made, 128).unwrap();
+    let mut words = bytes_of("a.bin");
+    assert_eq!(kernel.run(&mut [Argument::Buffer(&mut words), Argument::Scalar(1000)], 10_000).unwrap(), 2002);
+    assert_eq!(words, bytes_of("expected.bin"));
+    assert!(make(&bare, 128, &kernel.parameters().unwrap()).unwrap() == image);
+    let error = make(&bare, 128, &[Parameter::buffer(4095), Parameter::scalar(0, 1024)]).unwrap_err();
+    assert_eq!((error.to_string().as_str(), error.refusal.address), ("NOT_A_LOOP at 00010008", 0x10008));
+    let error = make(&bare, 128, &[Parameter::buffer(4096), Parameter::scalar(1025, 1024)]).unwrap_err();
+    assert_eq!((error.name(), error.refusal.place), ("BAD_PARAMETER", 1));
+}
+
+#[test]
+fn attaches_a_certificate() {
+    let (image, bare) = (bytes_of("raise_words.elf"), bytes_of("bare.elf"));
+    assert!(attach(&bare, certificate_in(&image)).unwrap() == image);
+    let error = attach(&image, certificate_in(&image)).unwrap_err();
+    assert_eq!((error.name(), error.rule()), ("IMAGE", Some("CERTIFICATE_THERE")));
+    let error = Kernel::new(&attach(&bare, &[]).unwrap(), 128).unwrap_err();
+    assert_eq!((error.name(), error.rule()), ("CERTIFICATE", Some("SHORT")));
 }
 
 #[test]
