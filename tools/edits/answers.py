@@ -19,7 +19,8 @@ UNREAD = re.compile(r"(?m)^(?:\./)?(?:src|specs)/\S+:\d+:\d+: error|\berror\[[\w
 
 def is_read(status, said):
     """Whether the check that ended with this status read the texts, and proved or refused them."""
-    return status == 0 or status == 1 and "\nlogic=not-proved" in said and not UNREAD.search(said)
+    is_told = "\nlogic=not-proved" in said or "\nonly=" in said
+    return status == 0 or status == 1 and is_told and not UNREAD.search(said)
 
 
 def goal_of(function, said):

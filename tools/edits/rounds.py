@@ -12,6 +12,9 @@ from answers import OPEN, any_goal, answers_in_error, goal_of, is_read, waits, w
 from pairs import FOLDER, edited, functions_changed
 
 ROOT = Path(__file__).resolve().parents[2]
+CHECK = ["rt", "check", "--jobs", "1"]
+# What a check says of a function.
+FUNCTION = re.compile(r"(?m)^fn ([^\s:]+(?:::[^\s:]+)*): ")
 # How often a check is made again without the answers that were in error.
 MOST_AGAIN = 4
 # How many pairs share a check, since what a check needs in memory grows with the functions that it cannot prove.
@@ -106,6 +109,11 @@ def run(words, folder):
     return ran.returncode, ran.stdout
 
 
+def changed(pairs):
+    """The functions that these pairs change."""
+    return [function for _, functions in pairs for function in sorted(functions)]
+
+
 class Rounds:
     """The checks of a crate's copy: what stands in the folder `seed` is what the crate's own check kept."""
 
@@ -114,18 +122,25 @@ class Rounds:
         self.kept, self.seed = self.crate / "out" / "incremental", room / "seed"
         self.goals, self.checks = {}, 1
         minutes.look()
-        self.status, self.said = run(["rt", "check", "--jobs", "1"], self.crate)
+        self.status, self.said = run(CHECK, self.crate)
         if self.kept.is_dir():
             link(self.kept, self.seed)
 
-    def check(self, texts):
-        """Checks the crate with these texts in place of its own, and gives what the check says where it read them."""
+    def only(self, functions):
+        """The words by which a check is of these functions alone; none where one of them was not told in the first check."""
+        told = [it for it in FUNCTION.findall(self.said) if "+" not in it]
+        paths = [[it for it in told if function.has_proof("/".join(it.split("::")[1:]))] for function in functions]
+        return [f"--only={it}" for of_one in paths for it in of_one] if all(paths) else []
+
+    def check(self, texts, functions=()):
+        """Checks the crate with these texts in place of its own, or these functions alone with what they call, and gives what
+        the check says where it read them."""
         self.minutes.look()
         own = {file: (self.crate / file).read_text() for file in texts}
         for file, text in texts.items():
             (self.crate / file).write_text(text)
         self.checks += 1
-        status, said = run(["rt", "check", "--jobs", "1"], self.crate)
+        status, said = run([*CHECK, *self.only(functions)], self.crate)
         for file, text in own.items():
             (self.crate / file).write_text(text)
         shutil.rmtree(self.kept, ignore_errors=True)
@@ -171,7 +186,7 @@ class Rounds:
     def round(self, pairs, texts):
         """Tries the pairs of one round, and gives those that wait for the proof of a function that another one broke.
         Where the texts cannot be read, each half of the round is tried."""
-        said = self.check(texts)
+        said = self.check(texts, changed(pairs))
         if said is None:
             half = len(pairs) // 2
             return set().union(*[self.round(*self.together(it)) for it in (pairs[:half], pairs[half:]) if half])
@@ -179,11 +194,11 @@ class Rounds:
         for again in range(MOST_AGAIN + 1):
             self.tell_goals(pairs, said)
             pairs = [it for it in pairs if it[0].name not in self.goals]
-            lines = answers_in_error([function for _, functions in pairs for function in functions], said)
+            lines = answers_in_error(changed(pairs), said)
             if not lines or again == MOST_AGAIN:
                 break
             self.take_out(lines, answers)
-            said = self.check({**self.together(pairs)[1], **answers}) or ""
+            said = self.check({**self.together(pairs)[1], **answers}, changed(pairs)) or ""
         return {pair.name for pair, functions in pairs if any(waits(it, said) for it in functions)}
 
     def tell_goals(self, pairs, said):

@@ -345,7 +345,7 @@ class OfRounds(WithCrate):
         made = object.__new__(rounds.Rounds)
         made.crate, made.goals, self.asked = self.crate, {}, []
         words = iter(said)
-        made.check = lambda texts: self.asked.append(texts) or next(words)
+        made.check = lambda texts, functions=(): self.asked.append(texts) or next(words)
         return made
 
     def bodies(self):
