@@ -117,7 +117,7 @@ struct rvvbox_refusal {
     uint32_t status;                   /* the answer of the call */
     uint32_t rule;                     /* of an image, a certificate or a check: the rule above */
     uint32_t address;                  /* of RVVBOX_CHECK: the word at which it stopped; of RVVBOX_NOT_A_LOOP: the first that does not fit */
-    uint32_t offset;                   /* of RVVBOX_CERTIFICATE: how many bytes of it were read, once a call tells it; 0 till then */
+    uint32_t offset;                   /* of RVVBOX_CERTIFICATE: how many bytes of it were read when they broke the rule */
     size_t place;                      /* of an argument or a parameter: its place, from 0 on */
     struct rvvbox_bound bound;         /* of RVVBOX_BOUND_TOO_LARGE: the most steps of the run */
     uint64_t reserved;

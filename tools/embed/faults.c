@@ -225,6 +225,45 @@ static void attached(void) {
     EXPECT(!memcmp(made, image, size) && made[size] == 7);
 }
 
+/* A check refuses these bytes as a certificate, by this rule and after so many of them; and so does an acceptance, or for want of memory */
+static void refuses_certificate(const uint8_t *certificate, size_t length, uint32_t rule, size_t offset) {
+    struct rvvbox_kernel *one = NULL;
+    EXPECT(rvvbox_attach(bare, bare_size, certificate, length, made, sizeof made, &needed, NULL) == RVVBOX_DONE);
+    memset(&refusal, 0x55, sizeof refusal);
+    EXPECT(rvvbox_check(made, needed, 128, &refusal) == RVVBOX_CERTIFICATE && refusal.status == RVVBOX_CERTIFICATE);
+    EXPECT(refusal.rule == rule && refusal.offset == offset && refusal.address == 0 && refusal.place == 0 && refusal.reserved == 0);
+    for (long given = 0;; given++) {
+        refused = given;
+        uint32_t status = rvvbox_accept(made, needed, 128, &one, &refusal);
+        int was_refused = refused < 0;
+        refused = -1;
+        EXPECT(!one && refusal.status == status);
+        if (status == RVVBOX_CERTIFICATE) EXPECT(refusal.rule == rule && refusal.offset == offset);
+        else EXPECT(was_refused && status == RVVBOX_NO_MEMORY && refusal.offset == 0);
+        if (!was_refused) break;
+    }
+}
+
+/* Of a certificate that is cut all bytes are read, and of one with a wrong field those up to the end of that */
+static void read_so_far(void) {
+    static const struct { size_t at; uint32_t rule, offset; } wrong[] = {
+        {0, RVVBOX_CERTIFICATE_VERSION, 2}, {1, RVVBOX_CERTIFICATE_VERSION, 2}, {2, RVVBOX_CERTIFICATE_VERSION, 3},
+        {3, RVVBOX_CERTIFICATE_VERSION, 4}, {4, RVVBOX_CERTIFICATE_PARAMETER, 5}, {101, RVVBOX_CERTIFICATE_TOO_MANY, 102}};
+    uint8_t bytes[1024];
+    size_t length;
+    const uint8_t *certificate = certificate_in(&length);
+    EXPECT(length < sizeof bytes);
+    for (size_t cut = 0; cut < length; cut++) refuses_certificate(certificate, cut, RVVBOX_CERTIFICATE_SHORT, cut);
+    for (size_t n = 0; n < sizeof wrong / sizeof *wrong; n++) {
+        memcpy(bytes, certificate, length);
+        bytes[wrong[n].at] = 9;
+        refuses_certificate(bytes, length, wrong[n].rule, wrong[n].offset);
+    }
+    memcpy(bytes, certificate, length);
+    bytes[length] = bytes[length + 1] = 0;
+    refuses_certificate(bytes, length + 2, RVVBOX_CERTIFICATE_TRAILING_BYTES, length + 1);
+}
+
 static struct rvvbox_parameter takes[8] = {{.kind = RVVBOX_BUFFER, .size = 4096}, {.kind = RVVBOX_SCALAR, .hi = 1024}};
 
 /* A certificate is made for so many bytes of a file, with room for `room` bytes */
@@ -404,6 +443,7 @@ int main(void) {
     read_alone();
     explained();
     attached();
+    read_so_far();
     made_of_its_loop();
     two_runs();
     kept();

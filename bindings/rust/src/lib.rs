@@ -42,7 +42,10 @@ impl fmt::Display for Error {
     fn fmt(&self, f: &mut fmt::Formatter<'_>) -> fmt::Result {
         write!(f, "{}", self.name())?;
         if let Some(rule) = self.rule() {
-            write!(f, ", {rule} at {:08x}", self.refusal.address)?;
+            write!(f, ", {rule}")?;
+        }
+        if self.refusal.offset > 0 {
+            write!(f, " behind byte {}", self.refusal.offset)?;
         } else if self.refusal.address > 0 {
             write!(f, " at {:08x}", self.refusal.address)?;
         }

@@ -92,8 +92,8 @@ fn attaches_a_certificate() {
     assert!(attach(&bare, certificate_in(&image)).unwrap() == image);
     let error = attach(&image, certificate_in(&image)).unwrap_err();
     assert_eq!((error.name(), error.rule()), ("IMAGE", Some("CERTIFICATE_THERE")));
-    let error = Kernel::new(&attach(&bare, &[]).unwrap(), 128).unwrap_err();
-    assert_eq!((error.name(), error.rule()), ("CERTIFICATE", Some("SHORT")));
+    let error = Kernel::new(&attach(&bare, &certificate_in(&image)[..99]).unwrap(), 128).unwrap_err();
+    assert!(error.to_string().starts_with("CERTIFICATE, SHORT behind byte 99\n"));
 }
 
 #[test]

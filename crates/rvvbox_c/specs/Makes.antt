@@ -1,5 +1,5 @@
 -- What a file with the certificate that is made of its loop is, or why there is none.
-use Rattle.std.specs.Prelude.{ℕ, ◌==◌, List, Option, None, Some, Result, Ok, Err, if◌then◌else◌}
+use Rattle.std.specs.Prelude.{ℕ, ◌≡◌, ◌⊎◌, ◌==◌, List, Option, None, Some, Result, Ok, Err, if◌then◌else◌}
 use Rattle.std.specs.Global.{Vec}
 use Rattle.std.specs.Option.{option_or}
 use Rattle.std.specs.Result.{result_map_both}
@@ -19,7 +19,7 @@ use Rattle.region_mem.specs.declared.parameter.Mode.TheVariants.{Read, ReadWrite
 use Rattle.region_mem.specs.declared.parameter.Param.{Param}
 use Rattle.region_mem.specs.declared.parameter.Param.TheVariants as param
 use Rattle.vreg_groups.specs.declared.vector_length.Vlen.{Vlen}
-use Rattle.rvvbox_c.specs.Accept.{IsOrWant, vlen_at}
+use Rattle.rvvbox_c.specs.Accept.{vlen_at}
 use Rattle.rvvbox_c.specs.Forms.{eight, place_of_no_kind}
 use Rattle.rvvbox_c.specs.Status.{at_place, image_refusal, make_refusal, plain}
 use Rattle.rvvbox_c.specs.declared.facts.Parameter.{Parameter}
@@ -124,6 +124,19 @@ refused_by (Err refusal) = Some refusal
 abbrev pub made_at_once : ℕ → Takes → List ℕ → Option Refusal
 made_at_once bits takes file = option_or (refused_by (length_in bits))
     (option_or (refused_by (taken_by takes)) (refused_by (image_in file)))
+
+-- the answer is what is defined, or want of memory
+abbrev pub IsOrWant : {A : Type 0} → Result A Refusal → Result A Refusal → Type 0
+IsOrWant defined answer = (answer ≡ defined) ⊎ (answer ≡ Err (plain status.NoMemory))
+
+-- what is told of an answer: the refusal, or that all was done
+abbrev pub told : {A : Type 0} → Result A Refusal → Refusal
+told (Ok done) = plain status.Done
+told (Err refusal) = refusal
+
+-- What is told is that of the answer that is defined, or want of memory.
+abbrev pub IsToldOrWant : {A : Type 0} → Result A Refusal → Refusal → Type 0
+IsToldOrWant defined refusal = (refusal ≡ told defined) ⊎ (refusal ≡ plain status.NoMemory)
 
 -- an answer's bytes, or its refusal
 abbrev pub bytes_of : Result (Vec ℕ) Refusal → Result (List ℕ) Refusal

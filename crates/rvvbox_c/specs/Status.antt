@@ -1,6 +1,6 @@
 -- The number of each status, which status and which refusal each error is, and how what is wrong is
 -- answered.
-use Rattle.std.specs.Prelude.{ℕ, ◌≡◌, ◌⊎◌, ◌%◌, ◌/◌, ◌^◌, Option, None, Some, Result, Ok, Err, unwrap_or}
+use Rattle.std.specs.Prelude.{ℕ, ◌≡◌, ◌⊎◌, ◌%◌, ◌/◌, ◌^◌, min, Option, None, Some, Result, Ok, Err, unwrap_or}
 use Rattle.block_checker.specs.Refusals.{address_of}
 use Rattle.block_checker.specs.declared.errors.CheckError.{CheckError}
 use Rattle.block_checker.specs.declared.errors.CheckError.TheVariants as check
@@ -166,8 +166,17 @@ too_long n = record {
 abbrev pub image_refusal : ElfError → Refusal
 image_refusal error = by_rule (status_of_image error) (image_rule error) 0
 
-abbrev pub certificate_refusal : CertError → Refusal
-certificate_refusal error = by_rule (status_of_certificate error) (certificate_rule error) 0
+-- of bytes that are no certificate, of which so many were read
+abbrev pub certificate_refusal : CertError → ℕ → Refusal
+certificate_refusal error read = record {
+  status = code_of (status_of_certificate error);
+  rule = certificate_rule error;
+  address = 0;
+  offset = min read 0xFFFF_FFFF;
+  place = 0;
+  bound = record { low = 0; high = 0 };
+  reserved = 0;
+}
 
 -- with the address of the word at which the check stopped
 abbrev pub check_refusal : CheckError → Refusal

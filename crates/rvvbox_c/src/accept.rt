@@ -1,10 +1,11 @@
 //! An image with its certificate, out of a file's bytes.
 ghost use Rattle.std.specs.Prelude.{◌≡◌, ◌*◌, IfErr, IfOk, IfSome, IsErrAnd};
-ghost use Rattle.rvvbox_c.specs.Accept.{IsOrWant, accepted_of, agnostic_at, vlen_at};
-ghost use Rattle.rvvbox_c.specs.Accept.{certificate_in as certificate_of};
+ghost use Rattle.rvvbox_c.specs.Accept.{IsRefusalOf, Tells, Unread, accepted_of, agnostic_at};
+ghost use Rattle.rvvbox_c.specs.Accept.{certificate_in as certificate_of, vlen_at};
 ghost use Rattle.block_checker.specs.Accepted.{Passes};
 ghost use Rattle.elf_image.specs.Faults.{fault_of};
 ghost use Rattle.elf_image.specs.File.{image_of};
+ghost use Rattle.explanations.specs.Certificate.{IsOfBytes, IsTold};
 ghost use Rattle.vreg_groups.specs.VectorLength.{vlenb_of};
 ghost use Rattle.rvvbox_c.specs.Holds.{IsFailure};
 ghost use Rattle.rvvbox_c.specs.Runs.{number_of};
@@ -12,9 +13,10 @@ ghost use Rattle.rvvbox_c.specs.Status.{image_refusal};
 
 use crate::status::{Refusal, Status};
 use block_checker::{Accepted, check};
-use cert_note::Certificate;
+use cert_note::{CertError, Certificate};
 use elf_image::Image;
-use std::alloc::Global;
+use explanations::certificate_reason;
+use std::alloc::{AllocError, Global};
 use vreg_groups::{Agnostic, Vlen};
 
 /// The length of vector registers of so many bits.
@@ -42,14 +44,32 @@ pub(crate) fn agnostic_of(number: u32) -> Option<Agnostic>
     }
 }
 
+/// Why bytes are no certificate, with how many of them are read when they tell the error.
+fn unread(alloc: Global, note: &[u8], error: CertError) -> Result<Refusal, AllocError>
+    requires error { IsOfBytes error }
+    requires told { IsTold note.now error }
+    ensures told { IfOk result (Tells (Unread note.now error)) }
+    ensures failed { IfOk result (λ refusal. IsFailure refusal.status) }
+{
+    match certificate_reason(alloc, note, error)?.place {
+        Some(read) => Ok(Refusal::unread(error, read)),
+        None => unreachable!(),
+    }
+}
+
 /// The certificate in an image's note.
 fn certificate_in(alloc: Global, image: &Image) -> Result<Certificate, Refusal>
-    ensures answer { IsOrWant (certificate_of image.now.certificate) result }
+    ensures found { IfOk result (λ c. certificate_of image.now.certificate ≡ Ok c) }
+    ensures refused { IfErr result (IsRefusalOf (certificate_of image.now.certificate)) }
     ensures failed { IfErr result (λ refusal. IsFailure refusal.status) }
 {
-    match image.certificate() {
-        Some(note) => Ok(cert_note::read(alloc, note)?),
-        None => Err(Refusal::of(Status::NoCertificate)),
+    let Some(note) = image.certificate() else {
+        return Err(Refusal::of(Status::NoCertificate));
+    };
+    match cert_note::read(alloc, note) {
+        Ok(certificate) => Ok(certificate),
+        Err(CertError::NoMemory) => Err(Refusal::of(Status::NoMemory)),
+        Err(error) => Err(unread(alloc, note, error)?),
     }
 }
 
@@ -57,7 +77,8 @@ fn certificate_in(alloc: Global, image: &Image) -> Result<Certificate, Refusal>
 pub fn accept(alloc: Global, file: &[u8], vlen: Vlen) -> Result<Accepted, Refusal>
     ensures at_once { IfSome (fault_of file.now)
         (λ fault. IsErrAnd result (λ refusal. refusal ≡ image_refusal fault)) }
-    ensures answer { IsOrWant (accepted_of vlen file.now) result }
+    ensures found { IfOk result (λ a. accepted_of vlen file.now ≡ Ok a) }
+    ensures refused { IfErr result (IsRefusalOf (accepted_of vlen file.now)) }
     ensures image { IfOk result (λ a. a.image ≡ image_of file.now) }
     ensures vlen { IfOk result (λ a. a.vlen ≡ vlen) }
     ensures passes { IfOk result Passes }

@@ -4,7 +4,7 @@ ghost use Rattle.std.specs.Prelude.{◌≡◌, ◌≢◌, ◌+◌, ◌*◌, ◌^
 ghost use Rattle.std.specs.Result.{result_err};
 ghost use Rattle.block_checker.specs.Accepted.{AcceptedView};
 ghost use Rattle.vreg_groups.specs.VectorLength.{vlenb_of};
-ghost use Rattle.rvvbox_c.specs.Accept.{IsToldOrWant, agnostic_at, answer_for, refused_at_once};
+ghost use Rattle.rvvbox_c.specs.Accept.{IsAnswer, agnostic_at, answer_for, refused_at_once};
 ghost use Rattle.rvvbox_c.specs.Accept.{vlen_at};
 ghost use Rattle.rvvbox_c.specs.Answers.{setting_fault};
 ghost use Rattle.rvvbox_c.specs.Holds.{IsKeptOf};
@@ -73,7 +73,7 @@ pub extern "C" fn rvvbox_check_raw(
 ) -> u32
     ensures status { result ≡ refusal.new.status }
     ensures at_once { IfSome (refused_at_once vlen file.now) (λ told. refusal.new ≡ told) }
-    ensures answer { IsToldOrWant (answer_for vlen file.now) refusal.new }
+    ensures answer { IsAnswer (answer_for vlen file.now) refusal.new }
     ensures accepted { result ≡ 0 → (a : AcceptedView) × IsKeptOf file.now vlen (Some a) }
 {
     *refusal = match vlen_of(vlen) {

@@ -1,6 +1,6 @@
 //! An image that is accepted once, and kept for many runs on any number of threads.
 ghost use Rattle.std.specs.Prelude.{◌≡◌, IfErr, IfOk, IfSome, IsErrAnd, IsSomeAnd, None};
-ghost use Rattle.rvvbox_c.specs.Accept.{IsToldOrWant, answer_for, refused_at_once};
+ghost use Rattle.rvvbox_c.specs.Accept.{IsAnswer, IsRefusalOf, answer_for, refused_at_once};
 ghost use Rattle.rvvbox_c.specs.Holds.{IsFailure, IsKeptOf};
 ghost use Rattle.rvvbox_c.specs.Slots.{image_kept};
 ghost use Rattle.rvvbox_c.specs.Status.{IsStatusOrWant, code_of};
@@ -19,7 +19,7 @@ fn kernel_of(alloc: Global, file: &[u8], bits: u32) -> Result<Box<Kernel>, Refus
     ensures failed { IfErr result (λ refusal. IsFailure refusal.status) }
     ensures at_once { IfSome (refused_at_once bits file.now)
         (λ told. IsErrAnd result (λ refusal. refusal ≡ told)) }
-    ensures told { IfErr result (IsToldOrWant (answer_for bits file.now)) }
+    ensures told { IfErr result (IsRefusalOf (answer_for bits file.now)) }
 {
     let vlen = vlen_of(bits).ok_or(Refusal::of(Status::BadVlen))?;
     let accepted = accept(alloc, file, vlen)?;
@@ -45,7 +45,7 @@ pub extern "C" fn rvvbox_accept_raw(
 ) -> u32
     ensures status { result ≡ refusal.new.status }
     ensures at_once { IfSome (refused_at_once vlen file.now) (λ told. refusal.new ≡ told) }
-    ensures answer { IsToldOrWant (answer_for vlen file.now) refusal.new }
+    ensures answer { IsAnswer (answer_for vlen file.now) refusal.new }
     ensures kept { result ≡ 0 → IsSomeAnd out.new.held
         (λ k. IsKeptOf file.now vlen (image_kept k.kept)) }
     ensures refused { IsFailure result → out.new.held ≡ out.old.held }

@@ -1,9 +1,9 @@
 //! An image with the certificate that is made of its loop.
 ghost use Rattle.std.specs.Prelude.{◌≡◌, IfErr, IfSome, IsErrAnd, IsOkAnd, length};
-ghost use Rattle.rvvbox_c.specs.Accept.{IsOrWant, IsToldOrWant};
 ghost use Rattle.rvvbox_c.specs.Explain.{put_over as over};
 ghost use Rattle.rvvbox_c.specs.Holds.{IsFailure};
-ghost use Rattle.rvvbox_c.specs.Makes.{AnswersBytes, certificate_for as certificate_of};
+ghost use Rattle.rvvbox_c.specs.Makes.{AnswersBytes, IsOrWant, IsToldOrWant};
+ghost use Rattle.rvvbox_c.specs.Makes.{certificate_for as certificate_of};
 ghost use Rattle.rvvbox_c.specs.Makes.{image_in as image_of, kind_at, kinds_of};
 ghost use Rattle.rvvbox_c.specs.Makes.{length_in as length_of, made_at_once, made_of};
 ghost use Rattle.rvvbox_c.specs.Makes.{param_of, params_of, refused_by, taken_by};

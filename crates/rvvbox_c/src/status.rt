@@ -272,6 +272,17 @@ impl Refusal {
         }
     }
 
+    /// A refusal of bytes that are no certificate, of which so many were read.
+    pub(crate) fn unread(error: CertError, read: usize) -> Refusal
+        ensures told { result ≡ certificate_refusal error read }
+        ensures failed { IsFailure result.status }
+    {
+        Refusal {
+            offset: read.min(u32::MAX as usize) as u32,
+            ..Refusal::by(Status::from(error), certificate_rule(error), 0)
+        }
+    }
+
     /// A refusal of a run that may take so many steps.
     pub(crate) fn too_long(steps: u128) -> Refusal
         ensures told { result ≡ too_long steps }
@@ -365,15 +376,6 @@ impl From<ElfError> for Refusal {
 
     fn from(error: ElfError) -> Refusal {
         Refusal::by(Status::from(error), image_rule(error), 0)
-    }
-}
-
-impl From<CertError> for Refusal {
-    ghost from_gives = { λ error refusal. (refusal ≡ certificate_refusal error)
-        × IsFailure refusal.status };
-
-    fn from(error: CertError) -> Refusal {
-        Refusal::by(Status::from(error), certificate_rule(error), 0)
     }
 }
 
