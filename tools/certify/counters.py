@@ -12,7 +12,7 @@ from collections import namedtuple
 
 import graph
 from outside import table
-from program import SP, ZERO, Branch, Number, word
+from program import SP, ZERO, Branch, Jump, Label, Number, word
 
 LEFT, MIRROR, REST, END = 'left', 'mirror', 'rest', 'end'
 
@@ -348,8 +348,9 @@ def step_of(the_graph, loop, register):
     return moves[0].by if the_graph.depth(moves[0].key) == the_graph.depth(loop.head) else None
 
 
-def on_entering(counter, fail_division, fail_start, most):
-    """What sets a counter on the way into its loop. fail_division, fail_start: labels. most: what a tested count is at most."""
+def on_entering(counter, fail_division, fail_start, most, late=None):
+    """What sets a counter on the way into its loop. fail_division, fail_start: labels. most: what a tested count is at most. late: two labels,
+    where the loop may be left before its end: a count that would miss the end is then the greatest one, and fails where the loop is left for it."""
     r = counter.registers[0]
     if counter.kind == MIRROR:
         number = counter.registers[-1]
@@ -361,16 +362,21 @@ def on_entering(counter, fail_division, fail_start, most):
     kept = counter.registers[-1]
     ends = (counter.end, counter.x) if counter.rises else (counter.x, counter.end)
     out = [word('sub', rd=r, rs1=ends[0], rs2=ends[1])]
-    step = counter.step
+    step, (misses, meets) = counter.step, late or (fail_division, None)
+    leaves = [Branch('bgeu', kept, r, meets)] if counter.is_tested else [Jump(ZERO, meets)]
     if step > 1 and step & step - 1 == 0 and step <= 2048:
-        out += [word('andi', rd=kept, rs1=r, imm=step - 1), Branch('bne', kept, ZERO, fail_division)]
-        out += [word('srli', rd=r, rs1=r, imm=step.bit_length() - 1)]
+        out += [word('andi', rd=kept, rs1=r, imm=step - 1), word('srli', rd=r, rs1=r, imm=step.bit_length() - 1)]
+        is_last = late and not counter.is_tested
+        out += [] if is_last else [Branch('bne', kept, ZERO, misses)]
+        leaves = [Branch('beq', kept, ZERO, meets)] if is_last else leaves
     elif step > 1:
-        out += [Number(kept, step), word('remu', rd=kept, rs1=r, rs2=kept), Branch('bne', kept, ZERO, fail_division)]
+        out += [Number(kept, step), word('remu', rd=kept, rs1=r, rs2=kept), Branch('bne', kept, ZERO, misses)]
         out += [Number(kept, step), word('divu', rd=r, rs1=r, rs2=kept)]
     if counter.is_tested:
-        none, many = fail_start
-        out += [Branch('beq', r, ZERO, none), Number(kept, most), Branch('bltu', kept, r, many)]
+        none, many = fail_start or late
+        out += [Branch('beq', r, ZERO, misses if late else none), Number(kept, most)] + ([] if late else [Branch('bltu', kept, r, many)])
+    if late:
+        out += [*leaves, Label(misses), Number(r, most), Label(meets)]
     return out + ([word('addi', rd=kept, rs1=r, imm=0)] if counter.keeps else [])
 
 
@@ -385,8 +391,13 @@ def on_move(counter, move):
     return [word('addi', rd=r, rs1=r, imm=-abs(move.by) // counter.step)]
 
 
-def in_place(counter, the_graph, key):
-    """What stands in the place of a branch that ends a loop."""
+def in_place(counter, the_graph, key, fails=None):
+    """What stands in the place of a branch that ends a loop. fails: where to go, if given, where the counter is 0 and the end is not met."""
     node = the_graph.nodes[key]
-    name = REST_BRANCHES[node.i.name] if counter.kind == REST else node.i.name
-    return [Branch(name, counter.registers[0], ZERO, ('way', key, the_graph.leads[key][0]), key)]
+    name, to = REST_BRANCHES[node.i.name] if counter.kind == REST else node.i.name, ('way', key, the_graph.leads[key][0])
+    if fails is None:
+        return [Branch(name, counter.registers[0], ZERO, to, key)]
+    if name == 'bne':
+        return [Branch(name, counter.registers[0], ZERO, to, key), Branch('bne', counter.x, counter.end, fails)]
+    goes_on = 'goes on', key
+    return [Branch('bne', counter.registers[0], ZERO, goes_on, key), Branch('beq', counter.x, counter.end, to), Jump(ZERO, fails), Label(goes_on)]

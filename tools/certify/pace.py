@@ -36,18 +36,21 @@ class Pace:
             if counter.kind == counters.END:
                 continue
             pc = head[1]
-            division, start = None, ()
-            if counter.kind == counters.LEFT and counter.step > 1:
+            division, start, late, fails = None, (), None, None
+            if counter.kind == counters.LEFT and (counter.step > 1 or counter.is_tested) and not self.is_only_way_out(self.loop_of[head], counter.exits):
+                fails = self.failed('division' if counter.step > 1 else 'count', pc, 'a count does not meet its end')
+                late = ('misses', head), ('meets', head)
+            elif counter.kind == counters.LEFT and counter.step > 1:
                 division = self.failed('division', pc, 'a count is no multiple of its step')
             if counter.kind == counters.REST and counter.exits:
                 start = self.failed('count', pc, 'a count is above its end'),
-            if counter.is_tested:
+            if counter.is_tested and not late:
                 start = self.failed('count', pc, 'a count is 0'), self.failed('count', pc, f'a count is above {self.most_rounds}')
-            self.enter(head, counters.on_entering(counter, division, start, self.most_rounds))
+            self.enter(head, counters.on_entering(counter, division, start, self.most_rounds, late))
             for move in counter.moves:
                 self.edits.after.setdefault(move.key, []).extend(counters.on_move(counter, move))
             for key in counter.exits:
-                self.edits.instead[key] = counters.in_place(counter, self.graph, key)
+                self.edits.instead[key] = counters.in_place(counter, self.graph, key, fails)
 
     def put_ends_of_pointers(self):
         """Tests of where pointers will stand at the end of a loop, on the ways into it."""
@@ -302,9 +305,13 @@ class Pace:
     def is_left_at_end(self, loop, counter):
         """Whether a loop that ends where x meets e is left in no other way, or x and e point into the same: else a run may be right that
         leaves it before, and never would meet e."""
-        ways_out = {key for key in loop.nodes if not self.graph.leads[key] or any(to not in loop.nodes for to in self.graph.leads[key])}
         stems = self.bases.at(loop.head)
-        return ways_out <= set(counter.exits) or bool(stems.get(counter.x)) and stems.get(counter.x) == stems.get(counter.end)
+        return self.is_only_way_out(loop, counter.exits) or bool(stems.get(counter.x)) and stems.get(counter.x) == stems.get(counter.end)
+
+    def is_only_way_out(self, loop, exits):
+        """Whether a loop is left at these branches alone."""
+        ways_out = {key for key in loop.nodes if not self.graph.leads[key] or any(to not in loop.nodes for to in self.graph.leads[key])}
+        return ways_out <= set(exits)
 
     def lessen(self, found):
         """Tests counts of loops before them where they may be great numbers, else gives such loops other counters. Whether there was one."""

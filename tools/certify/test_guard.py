@@ -274,6 +274,18 @@ class Kinds(unittest.TestCase):
             with self.subTest(step=step):
                 self.guards(text, [scalar(1, 1000), writes(4)], [[12, bytes(4)], [step, bytes(4)]], [[step + 1, bytes(4)]], 'division')
 
+    def test_a_count_that_misses_its_end_where_the_loop_is_left_before(self):
+        """A run is whole where data end it, and fails where the counter is used up: at the branch that leads on or at the one that leaves."""
+        some = lambda stop, many: [TAKEN_APART[:stop] + bytes(32 - stop), many, bytes(4)]
+        for step, whole, ends in ((2, 32, 'at: loop: beq t0, t1, end; {0}; j loop'), (4, 32, 'at: loop: {0}; bne t0, t1, loop'), (3, 30, 'at: loop: {0}; bne t0, t1, loop')):
+            body = f'lbu t3, 0(t0); beqz t3, end; add t2, t2, t3; addi t0, t0, {step}'
+            text = f'mv t0, a0; add t1, a0, a1; li t2, 0; {ends.format(body)}; end: sw t2, 0(a2); ret'
+            with self.subTest(step=step):
+                made = self.guards(text, [reads(32), scalar(1, 1000), writes(4)], [some(20, whole), some(20, 31), some(0, 7), some(32, step), some(9, 1000)], [])
+                self.assertFalse(made.maker.fuelled)
+                self.assertEqual(made.run(some(32, 31))[0].fault, None)
+                self.assertNotEqual(made.run(some(32, 31))[1], 0)
+
     def test_a_count_of_0(self):
         self.guards('li t0, 0; at: addi t0, t0, 1; bne t0, a0, at; sw t0, 0(a1); ret', [scalar(0, 900), writes(4)],
                     [[1, bytes(4)], [900, bytes(4)]], [[0, bytes(4)]], 'count')
