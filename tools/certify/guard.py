@@ -307,6 +307,17 @@ class Maker(Registers, Pace, Addresses, Strips, Tables):
         self.build()
         return None
 
+    def with_fuel(self, fuel):
+        """The same with other fuel and nothing else; as it was, and None, where that is not accepted."""
+        kept, self.fuel = self.fuel, fuel
+        data, image = self.build()
+        found = self.search(image, PLANS[0])
+        if found.answer == 'accepted' and not self.unknown_limits(found):
+            return data, image, found
+        self.fuel = kept
+        self.build()
+        return None
+
     def build_or_evict(self):
         """The same as `build`; where too few registers are spare, anew with more of them kept on the stack."""
         while True:

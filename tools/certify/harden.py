@@ -11,8 +11,8 @@ import search
 import trial
 from outside import certificates, checker
 
-FACTORS = 16, 4, 1          # how many times the rounds of the job's runs fuel is, where that is accepted
-LEAST_FUEL = 1024
+# How many times the rounds of the job's runs fuel is, where that is accepted, and how much it is at least.
+FACTORS = (64, 1 << 16), (16, 1 << 12), (4, 1 << 10), (1, 1 << 10)
 QUICK = 12                  # processor seconds up to which a second way is tried
 # Whether tests go before loops, whether inner loops have counters, and whether large functions have one copy where copies make much code.
 WAYS = (True, True, True), (False, True, True), (True, False, True), (True, True, False)
@@ -82,10 +82,12 @@ def made_by(maker, job, vlen, fuel):
     if not maker.fuelled or fuel is not None:
         return out, new, found, None
     ways, trouble = list(fuel_of(maker, job, vlen)), None
-    if ways[0][0] <= maker.fuel:
-        return out, new, found, ways[0][1]
+    for fuel, why in ways[:2]:
+        made_of = (out, new, found) if fuel <= maker.fuel else maker.with_fuel(fuel)
+        if made_of:
+            return *made_of, why
     maker.measures_later = False
-    for maker.fuel, why in ways:
+    for maker.fuel, why in ways[1:] or ways:
         try:
             return *maker.run(), why
         except notes.Trouble as e:
@@ -154,8 +156,8 @@ def fuel_of(maker, job, vlen):
     most = max((rounds for rounds in used if rounds is not None), default=None)
     if most is None:
         yield guard.FUEL, 'since the job has no run that ends: --fuel N states another number'
-    for factor in () if most is None else FACTORS if most else FACTORS[:1]:
-        fuel = max(LEAST_FUEL, 1 << (factor * most - 1).bit_length())
+    for factor, least in () if most is None else FACTORS:
+        fuel = max(least, 1 << (factor * most - 1).bit_length())
         yield fuel, f'at least {factor} times the {most} that runs of the job take: --fuel N states another number'
 
 

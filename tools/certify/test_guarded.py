@@ -71,13 +71,31 @@ class Commands(Case):
         self.assertFalse(harden.has_place(8 * [scalar(0, 9)]))
 
     def test_fuel_that_was_accepted_stays_where_it_is_enough(self):
-        maker = mock.Mock(fuelled=True, fuel=guard.FUEL)
-        maker.run.return_value = b'', None, 'found'
-        for wanted, runs in ((guard.FUEL, 1), (2 * guard.FUEL, 2)):
-            maker.run.reset_mock()
+        """Where it is not, more is tried with nothing else put in, and then anew."""
+        as_it_was, more = (b'', None, 'found'), (b'more', None, 'other')
+        for wanted, alone, runs, came in ((guard.FUEL, None, 1, as_it_was), (2 * guard.FUEL, None, 2, as_it_was), (2 * guard.FUEL, more, 1, more)):
+            maker = mock.Mock(fuelled=True, fuel=guard.FUEL)
+            maker.run.return_value, maker.with_fuel.return_value = as_it_was, alone
             with mock.patch.object(harden, 'fuel_of', lambda *_: [(wanted, 'why')]):
-                self.assertEqual(harden.made_by(maker, mock.Mock(can_run=lambda: False), 128, None), (b'', None, 'found', 'why'))
-            self.assertEqual((maker.run.call_count, maker.fuel), (runs, wanted))
+                self.assertEqual(harden.made_by(maker, mock.Mock(can_run=lambda: False), 128, None), (*came, 'why'))
+            self.assertEqual(maker.run.call_count, runs)
+
+    def test_fuel_is_many_times_what_runs_take(self):
+        for rounds, fuel in ((0, [1 << 16, 1 << 12, 1 << 10, 1 << 10]), (1500, [1 << 17, 1 << 15, 1 << 13, 1 << 11]), (None, [guard.FUEL])):
+            with mock.patch.multiple(harden, can_measure=lambda _: True, used_fuel=lambda *_: rounds):
+                job = mock.Mock(params=[], contents=lambda: [])
+                self.assertEqual([number for number, _ in harden.fuel_of(None, job, 128)], fuel)
+
+    def test_other_fuel_is_taken_where_it_is_accepted(self):
+        data = small.image('at: lbu t1, 0(a0); bnez t1, at; ret')
+        maker = guard.Maker(data, certificates.read_image(data), [reads(4)], 128, fuel=9)
+        made = maker.run()
+        with mock.patch.object(maker, 'search', return_value=mock.Mock(answer='no')):
+            self.assertIsNone(maker.with_fuel(20))
+        self.assertEqual((maker.fuel, maker.build()[0]), (9, made[0]))
+        more = maker.with_fuel(20)
+        self.assertEqual((maker.fuel, more[2].answer), (20, 'accepted'))
+        self.assertNotEqual(more[0], made[0])
 
     def test_without_a_status_it_is_told_that_an_early_end_cannot_be_told(self):
         status, _, err = self.guard(INDEX, [reads(4), reads(16), writes(4)])
