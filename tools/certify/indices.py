@@ -1,5 +1,5 @@
 """Guards of vector accesses by indices, or by a stride that is not known: an index above what the buffer has ends the run, and all are cut to
-it, so that a checker knows them. Where the base is not one known number, indices from the buffer's first byte take its place."""
+it, so that a checker knows them. Where the base is not one known number in the buffer, indices from the buffer's first byte take its place."""
 from collections import namedtuple
 
 import kinds
@@ -14,6 +14,7 @@ Index = namedtuple('Index', 'zone first most width registers vtype other data')
 def of(node, known, register, zone):
     """The guard of an access, by what is known before it."""
     base, vtype = checker.known(known.x[register].range), known.vtype
+    base = base if base is not None and zone[0] <= base < zone[1] else None
     is_wide = base is None or 'strided' in node.i.shape
     width, count = 32, (table.lmul4_of(vtype) * 32 // table.sew_of(vtype) + 3) // 4
     if not is_wide:

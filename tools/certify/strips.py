@@ -8,7 +8,7 @@ import indices
 import program
 import vectors
 from kinds import Strip, Stuck
-from outside import checker, model, table
+from outside import certificates, checker, model, table
 from program import SP, ZERO, Branch, Jump, Label, Number, Word, word
 
 VL = checker.VL
@@ -38,12 +38,19 @@ class Strips:
             low, high = known.x[register].range[0] < zone[0], known.vl[1] + 7 >> 3
             self.masks[misfit.key] = zone, low or self.masks.get(misfit.key, (0, False))[1], high
         elif how == 'indexed' or how == 'strided' and checker.known(known.x[node.f['rs2']].range) is None:
+            if how == 'indexed' and not self.bases.zones_of(self.bases.at(misfit.key).get(register, bases.NOTHING)):
+                zones = self.zones_of_indices(misfit.key, node) or zones
             if len(zones) > 1:
                 raise Stuck(f'which buffer the indices at {node.pc:#x} mean is not known')
-            self.indices[misfit.key] = indices.of(node, known, register, zone)
+            self.indices[misfit.key] = indices.of(node, known, register, zones[0])
         else:
             stride = model.signed(checker.known(known.x[node.f['rs2']].range), 32) if how == 'strided' else node.i.width // 8
             self.put_strip(misfit, node, zones, stride)
+
+    def zones_of_indices(self, key, node):
+        """The zones that an access means whose indices are addresses, as compilers make them, with a small number as the base."""
+        right = certificates.WRITE if node.i.shape.startswith('vstore') else certificates.READ
+        return [zone for zone in self.bases.zones_of(self.vectors().stems_of_indices(key, self.bases)) if zone[2] & right]
 
     def put_strip(self, misfit, node, zones, stride):
         """A test of a strip by vl, one for each buffer that is possible."""

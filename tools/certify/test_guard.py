@@ -190,6 +190,17 @@ class Kinds(unittest.TestCase):
             self.guards(f'lw t0, 0(a0); add t0, t0, a2; {widen}; at: vluxei{width}.v v10, (t0), v8; vsetivli x0, 4, e8, m1, ta, ma; vse8.v v10, (a3); ret',
                         [reads(4), reads(4), reads(15 + width // 8), writes(4)], [some(0, 5), some(11, 4), some(-1, 2)], [some(12, 2), some(-2, 4), some(0, 100)], 'index')
 
+    def test_indices_that_are_addresses(self):
+        """Compilers put a pointer into the indices and a small number into the base; here the pointer is kept in memory for a while."""
+        kept = 'addi sp, sp, -16; vs1r.v v8, (sp); vmv.v.i v8, 0; vl1re8.v v8, (sp); addi sp, sp, 16'
+        some = lambda *offsets: [bytes(offsets), TAKEN_APART[:20], bytes(4)]
+        for base, made in (('li t0, 2', f'vzext.vf4 v9, v10; vmv.v.x v8, a1; {kept}; vadd.vv v9, v9, v8'), ('mv t0, x0', 'vzext.vf4 v8, v10; vadd.vx v9, v8, a1; vadd.vi v9, v9, 2')):
+            text = f'''{base}; vsetivli x0, 4, e8, mf4, ta, ma; vle8.v v10, (a0); vsetvli x0, x0, e32, m1, ta, ma; {made}; vsetvli x0, x0, e8, mf4, ta, ma
+                at: vluxei32.v v8, (t0), v9; vse8.v v8, (a2); ret'''
+            with self.subTest(base=base):
+                made = self.guards(text, [reads(4), reads(20), writes(4)], [some(0, 17, 3, 9)], [some(0, 1, 2, 18), some(255, 1, 2, 3)], 'index')
+                self.assertEqual([told.what for told in made.told], ['a1'])
+
     def test_indices_where_no_vector_register_is_spare(self):
         """All vector registers are needed before and behind the access."""
         fill = '; '.join(f'addi t2, a2, {8 * n}; vle8.v v{n}, (t2)' for n in range(32))

@@ -1,8 +1,12 @@
-"""Which vector registers are still read at a node, and which are free there."""
+"""Which vector registers are still read at a node, which are free there, and what the addresses in them stem from."""
 from outside import model, table
 
 WHOLE = {'vload', 'vload_strided', 'vload_indexed', 'vload_whole', 'int', 'mv', 'ext', 'narrow', 'widen', 'mvr', 'cmp', 'iota', 'fixed', 'gather'}
 TAIL_AGNOSTIC = 0x40
+# By stem what makes an address out of others, and what also does out of the number in rs1.
+MOVING = {'vadd', 'vsub', 'vrsub', 'vor', 'vmv', 'vmv.s', 'vmv1r', 'vmv2r', 'vmv4r', 'vmv8r', 'vzext', 'vsext', 'vmerge', 'vwaddu', 'vwadd', 'vmacc', 'vmadd',
+          'vnmsac', 'vnmsub', 'vslide1down', 'vslide1up', 'vslidedown', 'vslideup', 'vrgather'}
+TAKING = {'vadd', 'vrsub', 'vor', 'vmv', 'vmv.s', 'vmerge', 'vwaddu', 'vwadd', 'vslide1down', 'vslide1up'}
 
 
 class Vectors:
@@ -66,3 +70,54 @@ class Vectors:
                 dest, sources = model.operands(node.i, node.f, vtype)
                 busy |= frozenset().union(*(operand.registers for operand in [*filter(None, [dest]), *sources]))
         return set(range(32)) - busy - {0}
+
+    # ---- What addresses in them stem from -----------------------------------------------------------------------------------
+
+    def stems_of_indices(self, key, bases):
+        """What the indices of an access stem from, over all ways: the numbers of registers that were put into them. What was kept in memory by
+        whole registers may be what any such store kept."""
+        nodes, out, seen, todo = self.graph.nodes, frozenset(), set(), list(self.setters_before(key, self.registers_of(key)))
+        while todo:
+            at = todo.pop()
+            node = nodes[at]
+            if at in seen:
+                continue
+            seen.add(at)
+            if node.i.shape == 'vload_whole':
+                kept = [other for other in self.uses if nodes[other].i.shape == 'vstore_whole']
+                todo += [setter for other in kept for setter in self.setters_before(other, self.uses[other][0])]
+            elif getattr(node.i, 'stem', None) in MOVING and not node.i.shape.startswith(('vload', 'vstore')):
+                if node.i.stem in TAKING and 'rs1' in node.f:
+                    out |= bases.at(at).get(node.f['rs1'], frozenset())
+                todo += self.setters_before(at, self.uses[at][0] - {0})
+        return bases.loose(out)
+
+    def registers_of(self, key):
+        """The vector registers of an access's indices."""
+        node, out = self.graph.nodes[key], set()
+        for vtype in {self.types.get(key)} - {None} or self.all_types:
+            if model.is_legal(vtype, node.word):
+                out.update(*(operand.registers for operand in model.operands(node.i, node.f, vtype)[1] if operand.role == 'vs2'))
+        return frozenset(out)
+
+    def setters_before(self, key, registers):
+        """The nodes that may have set one of these registers last before a node."""
+        nodes, seen, todo = self.graph.nodes, {(key, registers)}, [(key, registers)]
+        while todo:
+            at, wanted = todo.pop()
+            for come in self.graph.comes[at]:
+                left = wanted
+                if come in self.uses and wanted & self.may_set(nodes[come]):
+                    yield come
+                    left = wanted - self.uses[come][1]
+                if left and (come, left) not in seen:
+                    seen.add((come, left))
+                    todo.append((come, left))
+
+    def may_set(self, node):
+        """The vector registers of which a node may set some elements."""
+        out = set()
+        for vtype in {self.types.get(node.key)} - {None} or self.all_types:
+            dest = model.operands(node.i, node.f, vtype)[0] if model.is_legal(vtype, node.word) else None
+            out.update(dest.registers if dest else ())
+        return out
