@@ -180,10 +180,19 @@ class Budgets:
                 if self.fall(e, register) <= 0:
                     leads.setdefault(e.source, set()).add(e.target)
             return any(len(p) > 1 or set(p) & leads.get(next(iter(p)), set()) for p in flow.components(part, leads))
-        falls = {r: [self.fall(e, r) for e in inner] for r in range(1, 32)}
-        good = [r for r in falls if min(falls[r]) >= 0 and max(falls[r]) > 0]
+        good = [r for r in range(1, 32) if self.is_falling(r, inner)]
         width = lambda r: max(e.start[r].range[1] for e in inner)
         return sorted(good, key=lambda r: (loops_left(r), width(r), r))
+
+    def is_falling(self, register, inner):
+        """Whether a register falls on one of these ways and rises on none."""
+        most = 0
+        for edge in inner:
+            by = self.fall(edge, register)
+            if by < 0:
+                return False
+            most = max(most, by)
+        return most > 0
 
     def raised(self, part, edges, falling, register):
         """Adds the multiple of the register that pays for the ways on which it falls, and takes away what is too much. What comes behind

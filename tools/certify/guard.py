@@ -148,10 +148,11 @@ class Maker(Registers, Pace, Addresses, Strips, Tables):
                     or self.fuelled or self.tests or self.choices or self.strips or self.masks or self.indices or self.retyped or self.same_lengths or self.reloads)
 
     def failed(self, kind, pc, what):
-        """The label of a guard that may fail, with a number of its own."""
+        """The label of a guard that may fail, with a number of its own, which only a status asks for."""
         self.told.append(Told(kind, pc, what))
         number = len(self.told)
-        self.edits.last += [Label(('fails', number)), Number(self.number_register, number), Jump(ZERO, ('end',))]
+        if self.status_address is not None:
+            self.edits.last += [Label(('fails', number)), Number(self.number_register, number), Jump(ZERO, ('end',))]
         return 'fails', number
 
     def put_first(self):
@@ -175,7 +176,8 @@ class Maker(Registers, Pace, Addresses, Strips, Tables):
                 self.edits.instead[key] = [Jump(ZERO, ('end',))]
             elif self.is_ending and self.code.is_exit(node) and node.i.shape == 'jalr':
                 self.edits.instead[key] = [word('ecall')]
-        self.edits.last = [*self.edits.last, Label(('end',)), *self.last_words(), word('ecall')]
+        all_fail = [Label(('fails', number)) for number in range(1, len(self.told) + 1)] if self.status_address is None else []
+        self.edits.last = [*self.edits.last, *all_fail, Label(('end',)), *self.last_words(), word('ecall')]
 
     def put_returns(self):
         """Returns that lead to one of several places, as in a function that calls itself."""
@@ -232,7 +234,7 @@ class Maker(Registers, Pace, Addresses, Strips, Tables):
         for number in range(MOST_ROUNDS):
             self.round = number
             data, image = self.build_or_evict()
-            found = self.search(image, PLANS[0])
+            found = self.search(image, PLANS[0], True)
             if found.answer == 'accepted':
                 if not self.widen_tables(found, image) and not self.test_limits(found):
                     return self.slimmer(found) or (data, image, found)
@@ -354,16 +356,20 @@ class Maker(Registers, Pace, Addresses, Strips, Tables):
         return (f'round {number}: {len(self.counters)} counters, {len(self.fuelled)} loops with fuel, '
                 f'{len(self.tests) + len(self.choices) + len(self.strips)} tests; {self.why(found, image)}')
 
-    def search(self, image, plan):
+    def search(self, image, plan, is_draft=False):
         self.seen = image
-        return Guided(image, self.params, self.vlen, plan, self).find()
+        return Guided(image, self.params, self.vlen, plan, self, is_draft).find()
 
     def misfits(self, found, image):
         """All words of all blocks that are refused for something but budgets, each walked over."""
-        if self.known_misfits is None or self.known_misfits[0] is not found:
-            walk = checker.Walk(image, found.certificate)
+        return self.refused(found.finder, found.certificate, image)
+
+    def refused(self, finder, certificate, image):
+        """The same, once for each search."""
+        if self.known_misfits is None or self.known_misfits[0] is not finder:
+            walk = checker.Walk(image, certificate)
             zones = walk.zones
-            self.known_misfits = found, [it for block in found.certificate.blocks for it in self.misfits_of(block, walk, zones)]
+            self.known_misfits = finder, [it for block in certificate.blocks for it in self.misfits_of(block, walk, zones)]
         return self.known_misfits[1]
 
     def misfits_of(self, block, walk, zones):
@@ -412,6 +418,7 @@ class Maker(Registers, Pace, Addresses, Strips, Tables):
                     self.give_type(misfit)
         if self.signature() == before and not self.lead_anywhere():
             self.count(found, self.possible)
+        found = found.finder.whole(found) if self.signature() == before else found
         if self.signature() == before and (found.trouble is not None or found.answer.startswith('BudgetNotProved')):
             if not self.lessen(found):
                 self.give_fuel(found)

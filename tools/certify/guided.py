@@ -1,17 +1,20 @@
 """The search over code that something was put into, and what is known before its words."""
+import budgets
 import flow
 import search
 from outside import certificates, checker
 
 VL = checker.VL
+DRAFT = 'a draft'       # the answer where words are refused whatever budgets there are
 
 
 class Guided(search.Finder):
     """A search over code with counters: these stay free in sums, and what they started from is kept."""
 
-    def __init__(self, image, params, vlen, plan, maker, shared=None):
-        super().__init__(image, params, vlen, plan, shared, maker.watch)
-        self.maker = maker
+    def __init__(self, image, params, vlen, plan, maker, is_draft=False):
+        """is_draft: whether no budgets are asked for where words are refused for something else."""
+        super().__init__(image, params, vlen, plan, None, maker.watch)
+        self.maker, self.is_draft = maker, is_draft
         self.marks = sorted({*self.marks, *maker.marks, *maker.ends_that_are_tested()})
 
     def settle_flow(self):
@@ -53,6 +56,22 @@ class Guided(search.Finder):
                 terms = sorted({end: 1, rounds: -step & checker.M32}.items())
                 sums[pointer] = away & checker.M32, tuple(terms)
         return sums
+
+    def judgement(self):
+        if self.is_draft:
+            self.edge_list = self.all_edges()
+            self.budgets = budgets.Budgets(self.edge_list, self.watch)
+            certificate = self.certificate()
+            if self.maker.refused(self, certificate, self.image):
+                return self.edge_list, self.budgets, certificate, DRAFT, None
+        return super().judgement()
+
+    def whole(self, found):
+        """What was found, with budgets where it is a draft."""
+        if found.answer == DRAFT:
+            *_, certificate, answer, trouble = super().judgement()
+            found = found._replace(certificate=certificate, answer=answer, trouble=trouble)
+        return found
 
     def guess_orders(self):
         """Besides the plan's orders: what is left for strips is no less than the strip that was taken, where a branch stands between."""

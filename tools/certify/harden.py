@@ -17,6 +17,7 @@ QUICK = 12                  # processor seconds up to which a second way is trie
 # Whether tests go before loops, whether inner loops have counters, and whether large functions have one copy where copies make much code.
 WAYS = (True, True, True), (False, True, True), (True, False, True), (True, True, False)
 FIND_AT_MOST = 4            # processor seconds for the search without guards
+SELDOM = 8                  # which time it is asked how many of them have passed
 ENOUGH = 1.08               # how many times the steps of the unguarded code are so few that no other way is tried
 NO_STATUS = 'without --status a run that a guard ended cannot be told from a whole one'
 
@@ -28,7 +29,7 @@ class Within(search.Watch):
     """A part of a search that may take so many processor seconds."""
 
     def __init__(self, whole, seconds):
-        self.whole, self.end = whole, time.process_time() + seconds
+        self.whole, self.end, self.asked = whole, time.process_time() + seconds, 0
 
     def tell(self, text):
         self.whole.tell(text)
@@ -36,7 +37,8 @@ class Within(search.Watch):
 
     def check(self):
         self.whole.check()
-        if time.process_time() > self.end:
+        self.asked += 1
+        if self.asked % SELDOM == 0 and time.process_time() > self.end:
             raise search.OutOfTime('the search without guards')
 
 

@@ -157,7 +157,7 @@ class Pace:
         leads = {}
         for e in edges:
             leads.setdefault(e.source, set()).add(e.target)
-        solver, nodes, done = budgets.Budgets(edges), set(found.finder.guesses), set()
+        solver, nodes, done = found.finder.budgets, set(found.finder.guesses), set()
         for part in flow.loops(nodes, {n: to & nodes for n, to in leads.items()}):
             inner = [e for e in edges if e.source in part and e.target in part]
             if not solver.counters(part, inner):

@@ -185,6 +185,12 @@ def form_of_sum(equal):
     return checker.Form(*equal)
 
 
+@lru_cache(1 << 16)
+def stated_number(equal):
+    """A stated sum as a value, where it is a number alone."""
+    return constant(None, equal[0])
+
+
 def is_equal(s, number, equal):
     """`checker.is_equal`: whether a stated sum, with what registers are now, is a register's form."""
     constant, terms = equal
@@ -211,7 +217,10 @@ def at_block(certificate, block, vlenb):
     for number, lo, hi, total in block.facts:
         intervals[number] = interval = lo, hi
         if total is not None:
-            equal.append((number, form_of_sum(total)))
+            if total[1] or not lo <= total[0] & M32 <= hi:
+                equal.append((number, form_of_sum(total)))
+            else:
+                s.x[number] = stated_number(total)
             del s.atoms[number]
         elif interval != FULL:
             s.atoms[number], s.x[number] = interval, Value(ATOMS[number], interval)

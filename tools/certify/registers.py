@@ -16,15 +16,16 @@ class Registers:
 
     def settle_everywhere(self, reserved=0):
         """Chooses the registers that nothing else may use. reserved: how many are left for what tests need for a moment; where that is not
-        0, the number of a guard that failed has none."""
+        0, or nothing asks for it, the number of a guard that failed has none."""
         free = [r for r in (3, 4, *reversed(ORDER)) if not self.touched >> r & 1 and not self.is_passed(r) and (r != 1 or self.is_ending)]
         free = list(dict.fromkeys(free))
         if self.fuelled and len(free) <= reserved:
             raise NoRegister('too few registers are spare for fuel: compile with -ffixed-x26 -ffixed-x27')
         self.reserved, free = free[:reserved], free[reserved:]
-        self.is_number_kept = not reserved and len(free) > bool(self.fuelled)
-        self.number_register = free.pop(0) if self.is_number_kept else 31
+        self.is_number_kept = self.status is not None and not reserved and len(free) > bool(self.fuelled)
+        number = free.pop(0) if self.is_number_kept else None
         self.fuel_register = free.pop(0) if self.fuelled else None
+        self.number_register = number or (30 if self.fuel_register == 31 else 31)
         self.spare = self.reserved + free
 
     def is_passed(self, register):

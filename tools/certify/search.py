@@ -50,10 +50,14 @@ class Guess:
         self.x = [value.range if n in wanted else FULL for n, value in enumerate(known.x)]
         self.vtype, self.vectors = known.vtype, list(known.facts)
         self.sums, self.orders, self.wanted, self.visits, self.edges = sums, orders, wanted, 0, None
+        self.counted = None, None       # how many sums there are, which only go, and their number below
 
-    def key(self):
-        """What the guess states, for look-ups: equal keys of one block state the same."""
-        return tuple(self.x), self.vtype, tuple(self.vectors), tuple(self.sums.items()), self.orders, self.wanted
+    def key(self, numbers):
+        """What the guess states, for look-ups: equal keys of one block state the same. numbers: of sums that were met before, as a number is
+        looked up faster."""
+        if self.counted[0] != len(self.sums):
+            self.counted = len(self.sums), numbers.setdefault(tuple(self.sums.items()), len(numbers))
+        return tuple(self.x), self.vtype, tuple(self.vectors), self.counted[1], self.orders, self.wanted
 
 
 class Shared:
@@ -61,7 +65,7 @@ class Shared:
 
     def __init__(self, image, frame):
         self.image, self.frame = image, frame
-        self.explorers, self.flows, self.spaces, self.settled, self.judgements = {}, {}, {}, {}, {}
+        self.explorers, self.flows, self.spaces, self.settled, self.judgements, self.numbers = {}, {}, {}, {}, {}, {}
 
     def explorer(self, starts):
         """The explorer of blocks that begin here."""
@@ -88,7 +92,7 @@ class Finder:
         self.starts = flow.starts_of(image, [image.entry])
         if plan.cuts:
             self.starts |= flow.cuts_of(image, self.starts)
-        self.guesses, self.sums, self.orders = {}, {}, {}
+        self.guesses, self.sums, self.orders, self.shown = {}, {}, {}, {}
         self.marks, self.explorer = marks_of(image, params), self.shared.explorer(self.starts)
         self.at_entry = checker.at_entry(self.frame, self.vlenb)
 
@@ -113,7 +117,7 @@ class Finder:
         guess = self.guesses[start]
         if guess.edges is None:
             self.watch.check()
-            key = start, guess.key()
+            key = start, guess.key(self.shared.numbers)
             guess.edges = self.explorer.known.get(key)
             if guess.edges is None:
                 guess.edges = self.explorer.known[key] = self.explorer.edges(self.block(start))
@@ -250,6 +254,7 @@ class Finder:
 
     def find_sums(self):
         """Guesses the sums of each block."""
+        self.shown = {}
         self.sums = {start: {} for start in self.words}
         self.sums.update((start, self.sums_at(start, space.copy())) for start, space in self.spaces().items())
 
@@ -277,10 +282,11 @@ class Finder:
             self.orders[start] = tuple(orders[greater] for greater in sorted(orders))
 
     def drop_what_fails(self):
-        """Drops the sums and orders that a way in does not show. Whether all stood."""
-        is_all = True
+        """Drops the sums and orders that a way in does not show. Whether all stood. Each way is asked once, since sums and orders only go."""
+        is_all, asked = True, [e for e in self.all_edges() if e.target in self.guesses and id(e) not in self.shown]
         ways = [(checker.at_entry(self.frame, self.vlenb), self.image.entry, ())]
-        ways += [(e.known, e.target, e.told) for e in self.all_edges() if e.target in self.guesses]
+        ways += [(e.known, e.target, e.told) for e in asked]
+        self.shown.update((id(e), e) for e in asked)
         for known, target, told in ways:
             for number, equal in list(self.sums.setdefault(target, {}).items()):
                 if not quick.is_equal(known, number, equal):

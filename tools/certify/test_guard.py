@@ -5,6 +5,7 @@ import unittest.mock
 
 import counters
 import guard
+import guided
 import kinds
 import notes
 import program
@@ -272,6 +273,20 @@ class Kinds(unittest.TestCase):
             with self.subTest(cut=cut):
                 self.assertEqual(maker.run()[2].answer, 'accepted')
                 self.assertEqual({end for test in maker.tests.values() for end in ('low', 'high') if getattr(test, end)}, set(left))
+
+    def test_a_draft_asks_for_no_budgets(self):
+        """Where an access is refused they would not help; what they are is told later, if nothing else can be put in."""
+        for offset, answer in ((0, 'accepted'), (1, 'AccessNotProved')):
+            data = small.image(f'lw t0, {offset}(a0); ret')
+            image = certificates.read_image(data)
+            maker = guard.Maker(data, image, [reads(4)], 128)
+            maker.is_ending = True
+            data, image = maker.build()
+            found = maker.search(image, guard.PLANS[0], True)
+            whole = found.finder.whole(found)
+            with self.subTest(offset=offset):
+                self.assertEqual((found.answer == guided.DRAFT, whole.answer.split()[0]), (answer != 'accepted', answer))
+                self.assertEqual(maker.misfits(whole, image), maker.misfits(found, image))
 
     def test_a_pointer_is_tested_once_before_a_loop(self):
         some = lambda many: [TAKEN_APART, many, bytes(4)]

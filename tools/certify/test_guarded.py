@@ -70,6 +70,25 @@ class Commands(Case):
         self.assertEqual([at for _, at, *_ in checker.buffers(params)], [at for _, at, *_ in checker.buffers(eight)])
         self.assertFalse(harden.has_place(8 * [scalar(0, 9)]))
 
+    def test_without_a_status_guards_that_fail_have_one_end(self):
+        """Nothing asks for their numbers then but a run of another image, which keeps what it counts where the registers are."""
+        text, data = f'{INDEX[:-3]}loop: lbu t2, 0(a2); bnez t2, loop; ret', []
+        for status in (None, 3):
+            image = small.image(text)
+            maker = guard.Maker(image, certificates.read_image(image), [reads(4), reads(16), writes(4), small.STATUS], 128, 9, status)
+            maker.run()
+            data.append(maker)
+            self.assertEqual(len(maker.told), 2)
+        without, kept = data
+        self.assertEqual((without.is_number_kept, kept.is_number_kept), (False, True))
+        self.assertEqual(len({without.laid.places['fails', number] for number in (1, 2)} | {without.laid.places['end',]}), 1)
+        address = next(at for place, at, *_ in checker.buffers(without.params) if place == 3)
+        for maker in data:
+            for offset, number in ((16, 1), (15, 2), (3, 0)):
+                told = certificates.read_image(maker.told_at(address))
+                ran = small.run(told, maker.params, [small.word(offset), bytes(15) + b'x', bytes(4), b'what'])
+                self.assertEqual(ran.buffers[3], small.word(number), offset)
+
     def test_fuel_that_was_accepted_stays_where_it_is_enough(self):
         """Where it is not, more is tried with nothing else put in, and then anew."""
         as_it_was, more = (b'', None, 'found'), (b'more', None, 'other')
