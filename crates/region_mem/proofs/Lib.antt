@@ -7,4 +7,5 @@ pub mod WindowWrites
 pub mod WindowLaws
 pub mod WindowFills
 pub mod LendLemmas
+pub mod StackOut
 pub mod DigitsLemmas

@@ -20,3 +20,4 @@ pub mod ExtentLemmas
 pub mod KeptCodeLemmas
 pub mod StartCodeLemmas
 pub mod ByteLemmas
+pub mod StackLemmas

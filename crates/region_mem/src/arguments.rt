@@ -1,6 +1,6 @@
 //! The caller's eight arguments.
 ghost use Rattle.std.specs.Prelude.{◌≡◌, All, ◌+◌, ◌<◌, ◌≤◌, ◌++◌, length, take, drop, slice_set};
-ghost use Rattle.std.specs.Prelude.{◌==◌};
+ghost use Rattle.std.specs.Prelude.{◌==◌, ◌-◌, replicate};
 ghost use Rattle.std.specs.Borrow.{sem};
 
 use std::alloc::{Allocator, Global};
@@ -77,6 +77,14 @@ impl<A: Allocator> Bytes<A> {
         ensures { self.new ≡ slice_set self.old index byte }
     {
         self.items[index] = byte;
+    }
+
+    /// Clears the bytes from an index on.
+    pub(crate) fn clear_from(&mut self, at: usize)
+        requires { at ≤ length self.old }
+        ensures { self.new ≡ take at self.old ++ replicate (length self.old - at) 0 }
+    {
+        self.items[at..].fill(0);
     }
 
     /// The n bytes from an index on, to be written.

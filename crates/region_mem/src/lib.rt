@@ -14,6 +14,7 @@ mod layout;
 mod memory;
 mod parameter;
 mod region;
+mod stack;
 mod start;
 mod walk;
 
@@ -32,3 +33,4 @@ pub use layout::{
 };
 pub use memory::Regions;
 pub use parameter::{ArgError, Mode, Param, Parameters};
+pub use stack::Stack;

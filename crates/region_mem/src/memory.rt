@@ -8,6 +8,7 @@ use crate::faults::Right;
 use crate::laws::lent_windows_are_written;
 use crate::parameter::Parameters;
 use crate::region::Region;
+use crate::stack::Stack;
 use crate::{areas, start};
 use elf_image::Image;
 use std::alloc::{AllocError, Allocator, Global};
@@ -46,7 +47,6 @@ impl<A: Allocator> Regions<A> {
     /// The memory that a run of the image starts with: its segments, the stack and the buffers of the arguments, which
     /// are moved in. `alloc` gives the memory of the segments and the stack. Where it is refused the arguments come back
     /// as they were.
-    #[tactic(auto, unfolding(crate::specs::Start::start_memory, crate::specs::Start::start_areas))]
     pub fn new<B: Allocator>(
         alloc: A,
         image: &Image<B>,
@@ -60,7 +60,33 @@ impl<A: Allocator> Regions<A> {
             regions ≡ start_memory image.now parameters.now args.places) }
         ensures back { IfErr result (λ e. e.1 ≡ args) }
     {
-        match start::fixed_regions(alloc, image) {
+        let stack = match Stack::new(alloc) {
+            Ok(stack) => stack,
+            Err(error) => return Err((error, args)),
+        };
+        match Regions::on(alloc, image, parameters, args, stack) {
+            Ok(regions) => Ok(regions),
+            Err((error, args, _stack)) => Err((error, args)),
+        }
+    }
+
+    /// The same on a stack that is there already. Where memory is refused it comes back too.
+    #[tactic(auto, unfolding(crate::specs::Start::start_memory, crate::specs::Start::start_areas))]
+    pub fn on<B: Allocator>(
+        alloc: A,
+        image: &Image<B>,
+        parameters: &Parameters,
+        args: Args<Bytes<A>>,
+        stack: Stack<A>,
+    ) -> Result<Regions<A>, (AllocError, Args<Bytes<A>>, Stack<A>)>
+    where
+        A: Copy,
+        requires { AreArguments parameters.now args.places }
+        ensures start { IfOk result (λ regions.
+            regions ≡ start_memory image.now parameters.now args.places) }
+        ensures back { IfErr result (λ e. e.1 ≡ args) }
+    {
+        match start::fixed_regions(alloc, image, stack) {
             Ok(mut regions) => {
                 parameters.bound_sizes(&args);
                 parameters.start_in_place(image, &args);
@@ -72,7 +98,7 @@ impl<A: Allocator> Regions<A> {
                     recent: 0,
                 })
             }
-            Err(error) => Err((error, args)),
+            Err((error, stack)) => Err((error, args, stack)),
         }
     }
 
@@ -94,6 +120,20 @@ impl<A: Allocator> Regions<A> {
             recent: _,
         } = self;
         start::args_with(passed, regions.into_iter())
+    }
+
+    /// The same, and the stack for the next run, cleared as far as it was written.
+    #[tactic(auto, unfolding(crate::specs::Memory::args_of))]
+    pub fn into_parts(self) -> (Args<Bytes<A>>, Option<Stack<A>>)
+        ensures { result.0.places ≡ args_of self }
+    {
+        let Regions {
+            mut regions,
+            passed,
+            recent: _,
+        } = self;
+        let stack = start::take_stack(&mut regions);
+        (start::args_with(passed, regions.into_iter()), stack)
     }
 
     /// The byte at an address, whatever the rights; None where no region holds it.

@@ -5,7 +5,8 @@ ghost use Rattle.std.specs.Borrow.{sem};
 
 use crate::arguments::Bytes;
 use crate::faults::Right;
-use crate::layout::{BUFFERS, BUFFERS_END};
+use crate::layout::{BUFFERS, BUFFERS_END, STACK, STACK_SIZE};
+use crate::stack::Stack;
 use std::alloc::{Allocator, Global};
 use std::marker::Model;
 
@@ -17,11 +18,14 @@ pub struct Region<A: Allocator = Global> {
     read: bool,
     write: bool,
     fetch: bool,
+    // Of a stack, how many of the first bytes no write has come to. Contracts do not see it.
+    untouched: usize,
 }
 
 impl<A: Allocator> Model for Region<A> {
-    ghost use Rattle.std.specs.Prelude.{◌+◌, ◌≤◌, ◌^◌, length};
+    ghost use Rattle.std.specs.Prelude.{◌≡◌, ◌+◌, ◌≤◌, ◌^◌, length, take};
     ghost use Rattle.region_mem.specs.Areas.{Area};
+    ghost use Rattle.region_mem.specs.Start.{zeros};
 
     ghost Value = { Area };
 
@@ -34,10 +38,22 @@ impl<A: Allocator> Model for Region<A> {
           fetch = r.fetch;
         } };
 
-    ghost invariant = { λ r. r.first + length r.bytes ≤ 2 ^ 32 };
+    // What no write has come to is 0 still.
+    ghost invariant = { λ r. (r.first + length r.bytes ≤ 2 ^ 32)
+        × (take r.untouched r.bytes ≡ zeros r.untouched) };
+}
+
+/// How many of the first bytes no write has come to, after one from an index on.
+#[inline(always)]
+fn left(untouched: usize, at: usize) -> usize
+    ensures below { result ≤ untouched }
+    ensures before { result ≤ at }
+{
+    untouched.min(at)
 }
 
 impl<A: Allocator> Region<A> {
+    ghost use Rattle.region_mem.specs.Start.{stack_area};
     ghost use Rattle.region_mem.specs.Areas.{Area, holds, has_right, spans, admits, part_of};
     ghost use Rattle.region_mem.specs.Areas.{part_into, number_in, bytes_of};
     ghost use Rattle.region_mem.specs.Memory.{is_buffer_area, IsAccessSize};
@@ -65,6 +81,42 @@ impl<A: Allocator> Region<A> {
             read,
             write,
             fetch,
+            untouched: 0,
+        }
+    }
+
+    /// The region of a run's stack.
+    #[tactic(auto, unfolding(crate::specs::Start::stack_area))]
+    pub(crate) fn of_stack(stack: Stack<A>) -> Region<A>
+        ensures { result ≡ stack_area }
+    {
+        let bytes = stack.into_bytes();
+        let untouched = bytes.len();
+        Region {
+            first: u64::from(STACK),
+            bytes,
+            read: true,
+            write: true,
+            fetch: false, // A stack holds no code.
+            untouched,
+        }
+    }
+
+    /// A stack for the next run, where this region is one's: what was written is cleared.
+    pub(crate) fn into_stack(self) -> Option<Stack<A>> {
+        let Region {
+            first: _,
+            mut bytes,
+            read: _,
+            write: _,
+            fetch: _,
+            untouched,
+        } = self;
+        if bytes.len() == STACK_SIZE as usize {
+            bytes.clear_from(untouched);
+            Some(Stack::of(bytes))
+        } else {
+            None
         }
     }
 
@@ -83,6 +135,7 @@ impl<A: Allocator> Region<A> {
             read: _,
             write: _,
             fetch: _,
+            untouched: _,
         } = self;
         bytes
     }
@@ -129,7 +182,9 @@ impl<A: Allocator> Region<A> {
         ensures { self.new
             ≡ record self.old { bytes = slice_set self.old.bytes (address - self.old.first) byte } }
     {
-        self.bytes.set((address - self.first) as usize, byte);
+        let at = (address - self.first) as usize;
+        self.untouched = left(self.untouched, at);
+        self.bytes.set(at, byte);
     }
 
     /// Whether the n bytes from an address on are all the region's, which has the right.
@@ -220,6 +275,7 @@ impl<A: Allocator> Region<A> {
         ensures len { length result.now ≡ n }
     {
         let at = (address - self.first) as usize;
+        self.untouched = left(self.untouched, at);
         self.bytes.part_mut(at, n)
     }
 
@@ -230,7 +286,9 @@ impl<A: Allocator> Region<A> {
         requires inside { IsTrue (spans address (length bytes.now) self.old) }
         ensures { self.new ≡ part_into address bytes.now self.old }
     {
-        self.bytes.set_part((address - self.first) as usize, bytes);
+        let at = (address - self.first) as usize;
+        self.untouched = left(self.untouched, at);
+        self.bytes.set_part(at, bytes);
     }
 
     /// Writes the n lowest bytes of a value from an address on.

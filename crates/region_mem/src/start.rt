@@ -1,6 +1,6 @@
 //! The regions that a run starts with.
 ghost use Rattle.std.specs.Prelude.{◌≡◌, ◌+◌, ◌<◌, ◌≤◌, ◌^◌, [], ◌∷◌, IfOk, length, map, vec_len};
-ghost use Rattle.std.specs.Prelude.{vec_capacity, nat_lt, position};
+ghost use Rattle.std.specs.Prelude.{vec_capacity, nat_lt, position, ◌==◌};
 ghost use Rattle.std.specs.List.{position_or_len};
 ghost use Rattle.elf_image.specs.Image.{SegmentView, ImageView, IsSegment};
 ghost use Rattle.std.specs.List.{AllByRecursion};
@@ -15,9 +15,10 @@ ghost use Rattle.region_mem.specs.Start.{passed_of};
 ghost use Rattle.region_mem.specs.Parameter.{size_of};
 
 use crate::arguments::{Arg, Args, Bytes, Passed};
-use crate::layout::{MAX_BUFFER_SIZE, STACK, STACK_SIZE};
+use crate::layout::{MAX_BUFFER_SIZE, STACK};
 use crate::parameter::{Mode, Param, Parameters};
 use crate::region::Region;
+use crate::stack::Stack;
 use elf_image::{Image, Segment};
 use std::alloc::{AllocError, Allocator};
 use std::vec::IntoIter;
@@ -73,35 +74,23 @@ fn segment_region<A: Allocator, B: Allocator>(
     ))
 }
 
-#[tactic(auto, unfolding(crate::specs::Start::zeros))]
-fn zeros<A: Allocator>(alloc: A, n: usize) -> Result<Bytes<A>, AllocError>
-    ensures bytes { IfOk result (λ bytes. bytes ≡ zeros n) }
-    ensures len { IfOk result (λ bytes. length bytes ≡ n) }
-{
-    let bytes = vec![in alloc; 0u8; n]?;
-    Ok(Bytes::new(bytes))
-}
-
-#[tactic(auto, unfolding(crate::specs::Start::stack_area))]
-fn stack_region<A: Allocator>(alloc: A) -> Result<Region<A>, AllocError>
-    ensures { IfOk result (λ region. region ≡ stack_area) }
-{
-    let bytes = zeros(alloc, STACK_SIZE as usize)?;
-    Ok(Region::new(u64::from(STACK), bytes, true, true, false))
-}
-
-/// The segments' regions and the stack's, with room for eight buffers more.
+/// The segments' regions and the stack's, with room for eight buffers more; or want of memory, and the stack.
 pub(crate) fn fixed_regions<A: Allocator + Copy, B: Allocator>(
     alloc: A,
     image: &Image<B>,
-) -> Result<Vec<Region<A>, A>, AllocError>
+    stack: Stack<A>,
+) -> Result<Vec<Region<A>, A>, (AllocError, Stack<A>)>
     ensures items { IfOk result (λ v.
         v.items ≡ insert_area stack_area (insert_areas (map segment_area image.now.segments) [])) }
     ensures room { IfOk result (λ v. vec_len v + 8 ≤ vec_capacity v) }
 {
-    let mut regions = segment_regions(alloc, image.segments())?;
-    insert(&mut regions, stack_region(alloc)?);
-    Ok(regions)
+    match segment_regions(alloc, image.segments()) {
+        Ok(mut regions) => {
+            insert(&mut regions, Region::of_stack(stack));
+            Ok(regions)
+        }
+        Err(error) => Err((error, stack)),
+    }
 }
 
 #[tactic(auto, using(crate::proofs::Order::insert_areas_more, crate::proofs::Order::insert_areas_all))]
@@ -215,6 +204,23 @@ pub(crate) fn passed<A: Allocator>(args: &Args<Bytes<A>>) -> [Passed; 8]
         passed_of(g),
         passed_of(h),
     ]
+}
+
+/// Where the stack's region is.
+fn stack_place<A: Allocator>(regions: &[Region<A>]) -> Option<usize>
+    ensures { result ≡ position (λ area. area.first == STACK) regions.now }
+{
+    regions
+        .iter()
+        .position(|region| region.first() == u64::from(STACK))
+}
+
+/// Takes the stack out, where it is there.
+pub(crate) fn take_stack<A: Allocator>(regions: &mut Vec<Region<A>, A>) -> Option<Stack<A>>
+    ensures { filter is_buffer_area regions.new.items ≡ filter is_buffer_area regions.old.items }
+{
+    let place = stack_place(regions.as_slice())?;
+    regions.remove(place).into_stack()
 }
 
 /// The next of the regions that is a buffer's.
