@@ -9,6 +9,7 @@ mod monitoring;
 mod readme;
 mod runs;
 mod sessions;
+mod spares;
 mod states;
 mod want_of_memory;
 mod want_of_memory_in_checks;

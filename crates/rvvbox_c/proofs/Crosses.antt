@@ -17,7 +17,7 @@ use Rattle.cert_note.specs.contracts.values.VectorFact as vector
 use Rattle.elf_image.specs.contracts.image.Image as image
 use Rattle.elf_image.specs.contracts.segment.Segment as segment
 use Rattle.region_mem.specs.contracts.parameter.Parameters as parameters
-use Rattle.rvvbox_c.specs.Holds.{shared_row}
+use Rattle.rvvbox_c.specs.Shared.{shared_row}
 use Rattle.vreg_groups.specs.contracts.vector_length.Vlen as vlen
 
 pub vec_send : (T N A : RattleType) → IsSend T → IsSend A → IsSend (array_vec.the_row T N A)

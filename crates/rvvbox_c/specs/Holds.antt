@@ -4,30 +4,28 @@ use base.Fml.{Fml, feq}
 use denote.RattleType.{RattleType}
 use Rattle.std.specs.Box.Ownership.{box_owns}
 use Rattle.std.specs.Ptr.{Ptr, null_ptr}
-use Rattle.std.specs.contracts.alloc.Global as heap
-use Rattle.std.specs.contracts.sync.Arc as arc
 use Rattle.std.specs.contracts.impls.GlobalAllocator.TheImpl.{ghosts}
 use Rattle.std.specs.declared.alloc.Global.{Global}
 use Rattle.block_checker.specs.Accepted.{AcceptedView, Passes}
-use Rattle.block_checker.specs.contracts.accepted.Accepted as accepted
 use Rattle.elf_image.specs.File.{image_of}
 use Rattle.vreg_groups.specs.VectorLength.{vlenb_of}
 use Rattle.rvvbox_c.specs.Accept.{answer_for}
+use Rattle.rvvbox_c.specs.contracts.held.Held as held
 
--- an accepted image that is shared, as a type
-abbrev pub shared_row : RattleType
-shared_row = arc.the_row (accepted.the_row heap.the_row ghosts) heap.the_row ghosts
+-- what a kernel holds, as a type
+abbrev pub held_row : RattleType
+held_row = held.the_row
 
-abbrev pub SharedView : Type 0
-SharedView = shared_row.Denot
+abbrev pub HeldView : Type 0
+HeldView = held_row.Denot
 
 abbrev pub global : Global
 global = record { memory = record { seal = tt } }
 
 -- nothing at null, and a box of what is kept
-abbrev pub kernel_owns : Ptr → Option SharedView → Fml
+abbrev pub kernel_owns : Ptr → Option HeldView → Fml
 kernel_owns p None = feq Ptr p null_ptr
-kernel_owns p (Some a) = box_owns (ghosts.dealloc_token global) shared_row p a
+kernel_owns p (Some a) = box_owns (ghosts.dealloc_token global) held_row p a
 
 -- The image that the file spells, with the certificate in its note, which passed the check for
 -- vector registers of so many bits.

@@ -11,6 +11,7 @@ pub mod Running
 pub mod Runs
 pub mod Scalars
 pub mod Sessions
+pub mod Shared
 pub mod Slots
 pub mod Status
 pub mod Told

@@ -9,7 +9,7 @@ use Rattle.std.specs.Ptr.{Ptr, null_ptr}
 use Rattle.std.specs.contracts.impls.GlobalAllocator.TheImpl.{ghosts}
 use Rattle.block_checker.specs.Accepted.{AcceptedView}
 use Rattle.rvvbox_c.specs.contracts.kept.Kernel as kernel
-use Rattle.rvvbox_c.specs.Holds.{SharedView, global}
+use Rattle.rvvbox_c.specs.Holds.{HeldView, global}
 
 -- a kernel, as a type
 abbrev pub kernel_row : RattleType
@@ -19,8 +19,8 @@ abbrev pub KernelView : Type 0
 KernelView = kernel_row.Denot
 
 -- the image that a kernel keeps, if it keeps one
-abbrev pub image_kept : Option SharedView → Option AcceptedView
-image_kept shared = option_map arc_value shared
+abbrev pub image_kept : Option HeldView → Option AcceptedView
+image_kept held = option_map arc_value held
 
 -- nothing at null, and a box of a kernel
 abbrev pub slot_owns : Ptr → Option KernelView → Fml

@@ -121,7 +121,7 @@ pub extern "C" fn rvvbox_vlen_of(alloc: Global, kernel: &mut Kernel) -> u32
     match kernel.take(alloc) {
         None => 0,
         Some(held) => {
-            let owner: &Arc<Accepted> = &held;
+            let owner: &Arc<Accepted> = held.accepted();
             let accepted: &Accepted = owner;
             let bits = accepted.vlen().bytes() as u32 * 8;
             kernel.keep(alloc, held);
@@ -153,7 +153,7 @@ pub extern "C" fn rvvbox_parameters_of(
     match kernel.take(alloc) {
         None => Status::NothingKept.code(),
         Some(held) => {
-            let owner: &Arc<Accepted> = &held;
+            let owner: &Arc<Accepted> = held.accepted();
             let accepted: &Accepted = owner;
             parameters.copy_from_slice(&all_told(accepted.parameters().to_array()));
             kernel.keep(alloc, held);
@@ -192,7 +192,7 @@ pub extern "C" fn rvvbox_budget_of(alloc: Global, kernel: &mut Kernel, budget: &
     match kernel.take(alloc) {
         None => Status::NothingKept.code(),
         Some(held) => {
-            let owner: &Arc<Accepted> = &held;
+            let owner: &Arc<Accepted> = held.accepted();
             let accepted: &Accepted = owner;
             *budget = budget_of(accepted);
             kernel.keep(alloc, held);
@@ -220,7 +220,7 @@ pub extern "C" fn rvvbox_bound_of(
     match kernel.take(alloc) {
         None => Status::NothingKept.code(),
         Some(held) => {
-            let owner: &Arc<Accepted> = &held;
+            let owner: &Arc<Accepted> = held.accepted();
             let accepted: &Accepted = owner;
             *bound = Bound::of(most_of(accepted, scalars));
             kernel.keep(alloc, held);

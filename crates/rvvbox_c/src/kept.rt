@@ -2,8 +2,9 @@
 ghost use Rattle.std.specs.Prelude.{◌≡◌, IfErr, IfOk, Option, None, Some};
 ghost use Rattle.std.specs.Arc.{arc_value};
 ghost use Rattle.std.specs.Option.{option_map};
-ghost use Rattle.rvvbox_c.specs.Holds.{SharedView, kernel_owns};
+ghost use Rattle.rvvbox_c.specs.Holds.{HeldView, kernel_owns};
 
+use crate::held::Held;
 use crate::loose::Loose;
 use block_checker::Accepted;
 use std::alloc::{AllocError, Global};
@@ -17,7 +18,7 @@ use std::{mem, ptr};
 #[derive(Drop)]
 pub struct Kernel {
     at: *mut u8,
-    pub ghost kept: { Option SharedView },
+    pub ghost kept: { Option HeldView },
 }
 
 impl Model for Kernel {
@@ -36,16 +37,16 @@ impl Kernel {
         }
     }
 
-    /// A kernel that keeps an accepted image.
-    fn of(accepted: Loose<Arc<Accepted>, Global>) -> Kernel
-        ensures { result.kept ≡ Some accepted.value }
+    /// A kernel that keeps what is held.
+    fn of(held: Loose<Held, Global>) -> Kernel
+        ensures { result.kept ≡ Some held.value }
     {
-        let Loose { at, alloc: _alloc } = accepted;
+        let Loose { at, alloc: _alloc } = held;
         Kernel { at: at as *mut u8 }
     }
 
     /// What is kept, if anything is.
-    fn into_loose(self, alloc: Global) -> Option<Loose<Arc<Accepted>, Global>>
+    fn into_loose(self, alloc: Global) -> Option<Loose<Held, Global>>
         ensures { option_map (λ l. l.value) result ≡ self.kept }
     {
         let Kernel { at } = self;
@@ -53,7 +54,7 @@ impl Kernel {
             None
         } else {
             Some(Loose {
-                at: at as *mut Arc<Accepted>,
+                at: at as *mut Held,
                 alloc,
             })
         }
@@ -63,18 +64,18 @@ impl Kernel {
     pub(crate) fn made(alloc: Global, accepted: Arc<Accepted>) -> Result<Box<Kernel>, AllocError>
         ensures { IfOk result (λ b. b.value.kept ≡ Some accepted) }
     {
-        let Ok(accepted) = Box::new(alloc, accepted) else {
+        let Ok(held) = Box::new(alloc, Held::of(accepted)) else {
             return Err(AllocError);
         };
         let Ok(mut kernel) = Box::new(alloc, Kernel::empty()) else {
             return Err(AllocError);
         };
-        kernel.keep(alloc, accepted);
+        kernel.keep(alloc, held);
         Ok(kernel)
     }
 
     /// Takes out what is kept.
-    pub(crate) fn take(&mut self, alloc: Global) -> Option<Box<Arc<Accepted>>>
+    pub(crate) fn take(&mut self, alloc: Global) -> Option<Box<Held>>
         ensures taken { option_map (λ b. b.value) result ≡ self.old.kept }
         ensures empty { self.new.kept ≡ None }
     {
@@ -82,11 +83,11 @@ impl Kernel {
         held.into_loose(alloc).map(Loose::into_box)
     }
 
-    /// Keeps an accepted image, and lets go what was kept.
-    pub(crate) fn keep(&mut self, alloc: Global, accepted: Box<Arc<Accepted>>)
-        ensures { self.new.kept ≡ Some accepted.value }
+    /// Keeps what is held, and lets go what was kept.
+    pub(crate) fn keep(&mut self, alloc: Global, held: Box<Held>)
+        ensures { self.new.kept ≡ Some held.value }
     {
-        let before = mem::replace(self, Kernel::of(Loose::of(accepted)));
+        let before = mem::replace(self, Kernel::of(Loose::of(held)));
         if let Some(loose) = before.into_loose(alloc) {
             drop(loose.into_box());
         }
@@ -94,10 +95,9 @@ impl Kernel {
 }
 
 /// One more kernel of the same image.
-pub(crate) fn another(alloc: Global, held: &Box<Arc<Accepted>>) -> Result<Box<Kernel>, AllocError>
+pub(crate) fn another(alloc: Global, held: &Box<Held>) -> Result<Box<Kernel>, AllocError>
     ensures { IfOk result (λ b. option_map arc_value b.value.kept
         ≡ Some (arc_value held.now.value)) }
 {
-    let owner: &Arc<Accepted> = held;
-    Kernel::made(alloc, Arc::try_clone(owner)?)
+    Kernel::made(alloc, Arc::try_clone(held.accepted())?)
 }

@@ -10,6 +10,7 @@ mod explain;
 mod facts;
 mod forms;
 mod handles;
+mod held;
 mod kept;
 mod loose;
 mod makes;
@@ -32,6 +33,7 @@ pub use facts::{
 };
 pub use forms::{Form, Forms};
 pub use handles::{rvvbox_accept_raw, rvvbox_free, rvvbox_share};
+pub use held::Held;
 pub use kept::Kernel;
 pub use makes::{Takes, rvvbox_make_raw};
 pub use opened::{Progress, Registers};

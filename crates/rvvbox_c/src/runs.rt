@@ -19,7 +19,7 @@ use crate::kept::Kernel;
 use crate::status::{Refusal, Status};
 use block_checker::Accepted;
 use region_mem::Args;
-use sandbox_run::{OpenError, Session};
+use sandbox_run::{OpenError, Session, Spare};
 use std::alloc::Global;
 use std::sync::Arc;
 use vreg_groups::{Agnostic, Vlen};
@@ -47,6 +47,7 @@ fn run_at<const VLENB: usize>(
     args: Args,
     agnostic: Agnostic,
     max: u64,
+    spare: &mut Option<Spare>,
 ) -> Result<(u64, Args), Refusal>
     requires { IsVlenb VLENB }
     ensures ran { IfOk result (λ r.
@@ -56,10 +57,10 @@ fn run_at<const VLENB: usize>(
         (open_fault VLENB accepted.now args.places max)) result }
     ensures failed { IfErr result (λ refusal. IsFailure refusal.status) }
 {
-    match Session::<VLENB>::open(alloc, accepted, args, agnostic, max) {
+    match Session::<VLENB>::open_with(alloc, accepted, args, agnostic, max, spare) {
         Ok(mut session) => {
             let steps = session.run();
-            Ok((steps, session.close()))
+            Ok((steps, session.close_into(spare)))
         }
         Err((error, _args)) => Err(not_opened(accepted, forms, error)),
     }
@@ -73,6 +74,7 @@ fn ran(
     args: Args,
     agnostic: Agnostic,
     max: u64,
+    spare: &mut Option<Spare>,
 ) -> Result<(u64, Args), Refusal>
     ensures ran { IfOk result (λ r. Gives (vlenb_of accepted.now.vlen) agnostic accepted.now
         args.places r.0 r.1.places) }
@@ -82,9 +84,9 @@ fn ran(
     ensures failed { IfErr result (λ refusal. IsFailure refusal.status) }
 {
     match accepted.vlen() {
-        Vlen::V128 => run_at::<16>(alloc, accepted, forms, args, agnostic, max),
-        Vlen::V256 => run_at::<32>(alloc, accepted, forms, args, agnostic, max),
-        Vlen::V512 => run_at::<64>(alloc, accepted, forms, args, agnostic, max),
+        Vlen::V128 => run_at::<16>(alloc, accepted, forms, args, agnostic, max, spare),
+        Vlen::V256 => run_at::<32>(alloc, accepted, forms, args, agnostic, max, spare),
+        Vlen::V512 => run_at::<64>(alloc, accepted, forms, args, agnostic, max, spare),
     }
 }
 
@@ -110,6 +112,7 @@ fn run_one(
     forms: &Forms,
     agnostic: u32,
     max: u64,
+    spare: &mut Option<Spare>,
     r0: &[u8],
     r1: &[u8],
     r2: &[u8],
@@ -152,7 +155,7 @@ fn run_one(
         alloc, forms, r0, r1, r2, r3, r4, r5, r6, r7, &*b0, &*b1, &*b2, &*b3, &*b4, &*b5, &*b6,
         &*b7,
     )?;
-    let (steps, args) = ran(alloc, accepted, forms, args, agnostic, max)?;
+    let (steps, args) = ran(alloc, accepted, forms, args, agnostic, max, spare)?;
     put_all(&args.places, forms, b0, b1, b2, b3, b4, b5, b6, b7);
     Ok(steps)
 }
@@ -206,13 +209,15 @@ fn run_kept(
 {
     match kernel.take(alloc) {
         None => Err(Refusal::of(Status::NothingKept)),
-        Some(held) => {
-            let owner: &Arc<Accepted> = &held;
+        Some(mut held) => {
+            let mut spare = held.take_spare();
+            let owner: &Arc<Accepted> = held.accepted();
             let accepted: &Accepted = owner;
             let ran = run_one(
-                alloc, accepted, forms, agnostic, max, r0, r1, r2, r3, r4, r5, r6, r7, b0, b1, b2,
-                b3, b4, b5, b6, b7,
+                alloc, accepted, forms, agnostic, max, &mut spare, r0, r1, r2, r3, r4, r5, r6, r7,
+                b0, b1, b2, b3, b4, b5, b6, b7,
             );
+            held.hold_spare(spare);
             kernel.keep(alloc, held);
             ran
         }

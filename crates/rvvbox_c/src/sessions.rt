@@ -137,7 +137,7 @@ fn run_of_kept(
     match kernel.take(alloc) {
         None => Err(Refusal::of(Status::NothingKept)),
         Some(held) => {
-            let owner: &Arc<Accepted> = &held;
+            let owner: &Arc<Accepted> = held.accepted();
             let accepted: &Accepted = owner;
             let made = run_of(
                 alloc, accepted, forms, agnostic, max, r0, r1, r2, r3, r4, r5, r6, r7,

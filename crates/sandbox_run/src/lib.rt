@@ -13,6 +13,7 @@ mod memo;
 mod outcome;
 mod run;
 mod session;
+mod spare;
 mod start;
 
 pub use any_session::AnySession;
@@ -22,4 +23,5 @@ pub use laws::{
 };
 pub use outcome::{Final, OpenError, Outcome, Registers};
 pub use run::{outcome_is_first, runs_go_on, try_run, try_run_in};
-pub use session::{Session, open_in};
+pub use session::{Session, open_in, open_in_with};
+pub use spare::Spare;

@@ -16,7 +16,8 @@ ghost use Rattle.sandbox_run.specs.Stops.{IsStop};
 
 use crate::machine::Machine;
 use crate::outcome::{OpenError, Registers};
-use crate::start::start;
+use crate::spare::Spare;
+use crate::start::start_with;
 use block_checker::Accepted;
 use region_mem::{Arg, Args, Bytes, Parameters, args_bring_bytes};
 use rv_decode::Reg;
@@ -114,17 +115,62 @@ impl<const VLENB: usize> Session<VLENB> {
     {
         open_in(alloc, accepted, args, agnostic, max)
     }
+
+    /// The same on what `spare` holds, which a run left in [`Session::close_into`]. Where it holds
+    /// nothing, memory is asked for. Where no run is opened it stays as it was.
+    ///
+    /// # Errors
+    /// Those of [`Session::open`].
+    pub fn open_with(
+        alloc: Global,
+        accepted: &Accepted,
+        args: Args,
+        agnostic: Agnostic,
+        max: u64,
+        spare: &mut Option<Spare>,
+    ) -> Result<Session<VLENB>, (OpenError, Args)>
+        requires { IsVlenb VLENB }
+        ensures opened { IfOk result (IsOpened VLENB agnostic accepted.now args.places max) }
+        ensures refused { IfSome (open_fault VLENB accepted.now args.places max)
+            (λ error. IsErrAnd result (λ e. e.0 ≡ error)) }
+        ensures memory { open_fault VLENB accepted.now args.places max ≡ None
+            → IfErr result (λ e. e.0 ≡ OpenError.NoMemory) }
+        ensures back { IfErr result (λ e. e.1 ≡ args) }
+    {
+        open_in_with(alloc, accepted, args, agnostic, max, spare)
+    }
 }
 
 /// As [`Session::open`], with the run's memory and the buffers of the arguments from any allocator,
 /// whose values are small enough for the state of a run, which holds some, to fit in memory.
-#[tactic(auto, unfolding(crate::specs::Session::open_fault))]
 pub fn open_in<const VLENB: usize, A: Allocator + Copy, B: Allocator>(
     alloc: A,
     accepted: &Accepted<B>,
     args: Args<Bytes<A>>,
     agnostic: Agnostic,
     max: u64,
+) -> Result<Session<VLENB, A>, (OpenError, Args<Bytes<A>>)>
+    requires length { IsVlenb VLENB }
+    requires fits { StateFitsInMemory VLENB.row A.row A.Allocator }
+    ensures opened { IfOk result (IsOpened VLENB agnostic accepted.now args.places max) }
+    ensures refused { IfSome (open_fault VLENB accepted.now args.places max)
+        (λ error. IsErrAnd result (λ e. e.0 ≡ error)) }
+    ensures memory { open_fault VLENB accepted.now args.places max ≡ None
+        → IfErr result (λ e. e.0 ≡ OpenError.NoMemory) }
+    ensures back { IfErr result (λ e. e.1 ≡ args) }
+{
+    open_in_with(alloc, accepted, args, agnostic, max, &mut None)
+}
+
+/// As [`Session::open_with`], from any allocator, as [`open_in`].
+#[tactic(auto, unfolding(crate::specs::Session::open_fault))]
+pub fn open_in_with<const VLENB: usize, A: Allocator + Copy, B: Allocator>(
+    alloc: A,
+    accepted: &Accepted<B>,
+    args: Args<Bytes<A>>,
+    agnostic: Agnostic,
+    max: u64,
+    spare: &mut Option<Spare<A>>,
 ) -> Result<Session<VLENB, A>, (OpenError, Args<Bytes<A>>)>
     requires length { IsVlenb VLENB }
     requires fits { StateFitsInMemory VLENB.row A.row A.Allocator }
@@ -150,7 +196,7 @@ pub fn open_in<const VLENB: usize, A: Allocator + Copy, B: Allocator>(
     args_bring_bytes(&args);
     let _segments = accepted.image().segments();
     let _contents = accepted.certificate().contents();
-    match start::<VLENB, A, B>(alloc, accepted.image(), parameters, args, agnostic) {
+    match start_with::<VLENB, A, B>(alloc, accepted.image(), parameters, args, agnostic, spare) {
         Ok(machine) => Ok(Session {
             first: Snapshot::of(&machine),
             parameters: Snapshot::of(parameters),
@@ -279,5 +325,23 @@ impl<const VLENB: usize, A: Allocator> Session<VLENB, A> {
         let Session { machine, .. } = self;
         let Machine { memory, .. } = machine;
         memory.into_args()
+    }
+
+    /// The same. What the run leaves for the next one goes into `spare`.
+    pub fn close_into(self, spare: &mut Option<Spare<A>>) -> Args<Bytes<A>>
+        ensures places { result.places ≡ args_of self.machine.memory }
+        ensures back { ComesBack self.parameters (args_of self.first.memory) result.places }
+        ensures scalars { scalars_of result.places ≡ scalars_of (args_of self.first.memory) }
+        ensures matching { AreArguments self.parameters result.places }
+    {
+        runs_keep_memory();
+        let Session { machine, .. } = self;
+        let Machine { memory, memo, .. } = machine;
+        let (args, stack) = memory.into_parts();
+        *spare = match stack {
+            Some(stack) => Some(Spare { stack, memo }),
+            None => None,
+        };
+        args
     }
 }

@@ -8,7 +8,7 @@ ghost use Rattle.vector_core.specs.Start.{start as start_of, start_hart as start
 ghost use Rattle.vreg_groups.specs.VectorLength.{IsVlenb};
 
 use crate::machine::Machine;
-use crate::memo::Memo;
+use crate::spare::Spare;
 use elf_image::Image;
 use region_mem::{Arg, Args, Bytes, Parameters, Regions};
 use rv_decode::Reg;
@@ -60,8 +60,54 @@ fn start_hart<A: Allocator>(entry: u32, parameters: &Parameters, places: &[Arg<B
     hart
 }
 
-/// The machine at the start, or want of memory, with the arguments as they came.
+/// What `spare` holds, or a stack and words in memory of their own.
+fn take_or_make<A: Allocator + Copy>(
+    alloc: A,
+    spare: &mut Option<Spare<A>>,
+) -> Result<Spare<A>, AllocError> {
+    match spare.take() {
+        Some(spare) => Ok(spare),
+        None => Spare::new(alloc),
+    }
+}
+
+/// The machine at the start, on what `spare` holds; or want of memory, with the arguments as they
+/// came, and `spare` as it was.
 #[tactic(auto, unfolding(vector_core::specs::Start::start))]
+pub(crate) fn start_with<const VLENB: usize, A: Allocator + Copy, B: Allocator>(
+    alloc: A,
+    image: &Image<B>,
+    parameters: &Parameters,
+    args: Args<Bytes<A>>,
+    agnostic: Agnostic,
+    spare: &mut Option<Spare<A>>,
+) -> Result<Machine<VLENB, A>, (AllocError, Args<Bytes<A>>)>
+    requires length { IsVlenb VLENB }
+    requires matching { AreArguments parameters.now args.places }
+    ensures start { IfOk result
+        (λ m. m ≡ start_of VLENB agnostic image.now parameters.now args.places) }
+    ensures back { IfErr result (λ e. e.1 ≡ args) }
+{
+    let hart = start_hart(image.entry(), parameters, &args.places);
+    let Spare { stack, memo } = match take_or_make(alloc, spare) {
+        Ok(taken) => taken,
+        Err(error) => return Err((error, args)),
+    };
+    match Regions::on(alloc, image, parameters, args, stack) {
+        Ok(memory) => Ok(Machine {
+            hart,
+            vectors: VectorState::new(agnostic),
+            memory,
+            memo,
+        }),
+        Err((error, args, stack)) => {
+            *spare = Some(Spare { stack, memo });
+            Err((error, args))
+        }
+    }
+}
+
+/// The same on memory of its own.
 pub(crate) fn start<const VLENB: usize, A: Allocator + Copy, B: Allocator>(
     alloc: A,
     image: &Image<B>,
@@ -75,16 +121,5 @@ pub(crate) fn start<const VLENB: usize, A: Allocator + Copy, B: Allocator>(
         (λ m. m ≡ start_of VLENB agnostic image.now parameters.now args.places) }
     ensures back { IfErr result (λ e. e.1 ≡ args) }
 {
-    let hart = start_hart(image.entry(), parameters, &args.places);
-    let memo = match Memo::new(alloc) {
-        Ok(memo) => memo,
-        Err(error) => return Err((error, args)),
-    };
-    let memory = Regions::new(alloc, image, parameters, args)?;
-    Ok(Machine {
-        hart,
-        vectors: VectorState::new(agnostic),
-        memory,
-        memo,
-    })
+    start_with(alloc, image, parameters, args, agnostic, &mut None)
 }

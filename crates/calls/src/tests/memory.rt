@@ -2,7 +2,8 @@
 use crate::tests::assertions::{assert_same, found, given};
 use elf_image::Image;
 use region_mem::{
-    Arg, ArgError, Args, Bytes, Fault, Mode, Param, Parameters, Regions, Right, args_bring_bytes,
+    Arg, ArgError, Args, Bytes, Fault, Mode, Param, Parameters, Regions, Right, Stack,
+    args_bring_bytes,
 };
 use std::alloc::Global;
 use std::process::Abort;
@@ -67,8 +68,8 @@ fn expect_args(rt: impl Abort + Copy, args: &Args, third: &[u8]) {
     }
 }
 
-/// The memory of a run. Where memory is refused the arguments have come back as they were.
-fn regions(rt: impl Abort + Copy, alloc: Global) -> Regions {
+/// The memory of a run, on this stack. Where memory is refused the arguments have come back as they were.
+fn regions_on(rt: impl Abort + Copy, alloc: Global, stack: Stack) -> Regions {
     let image: Image = given!(rt; elf_image::read(alloc, &FILE));
     let parameters = found!(rt; parameters());
     assert_same!(rt; parameters.address(2), Some(0x4000_2000));
@@ -76,13 +77,24 @@ fn regions(rt: impl Abort + Copy, alloc: Global) -> Regions {
     if parameters.matches(&args).is_err() {
         panic!(rt; "no match");
     }
-    match Regions::new(alloc, &image, &parameters, args) {
+    match Regions::on(alloc, &image, &parameters, args, stack) {
         Ok(regions) => regions,
-        Err((_, args)) => {
+        Err((_, args, _)) => {
             expect_args(rt, &args, &[0x31, 0x32, 0x33]);
             panic!(rt; "no memory")
         }
     }
+}
+
+/// The memory of a run, on a stack of its own.
+fn regions(rt: impl Abort + Copy, alloc: Global) -> Regions {
+    regions_on(rt, alloc, given!(rt; Stack::new(alloc)))
+}
+
+/// Asserts that each byte of the stack is 0.
+fn expect_clear_stack(rt: impl Abort + Copy, regions: &Regions) {
+    let stack = found!(rt; regions.window(0x2fff_0000, 0x1_0000));
+    assert_same!(rt; stack.iter().all(|byte| *byte == 0), true);
 }
 
 fn expect_numbers(rt: impl Abort + Copy, regions: &Regions) {
@@ -111,6 +123,33 @@ fn runs_memory(rt: HostRuntime) {
     assert_same!(rt; regions.store(0x4000_0000, 1, 0), false);
     assert_same!(rt; regions.store(0x4000_2002, 2, 0), false);
     expect_args(rt, &regions.into_args(), &[0x31, 0x77, 0x42]);
+}
+
+/// Writes to the stack, the last of them below the others.
+fn write_stack(rt: impl Abort + Copy, regions: &mut Regions) {
+    assert_same!(rt; regions.store(0x2fff_fffc, 4, 0xffff_ffff), true);
+    assert!(rt; regions.has_window(0x2fff_9000, 3));
+    regions.set_window(0x2fff_9000, &[1, 2, 3]);
+    assert_same!(rt; regions.store(0x2fff_8001, 2, 0xffff), true);
+    assert_same!(rt; regions.store(0x2fff_9004, 1, 0xff), true);
+}
+
+/// The second run meets a stack of zeros, and so does the third, where the second wrote its first byte.
+#[test]
+fn uses_a_stack_again(rt: HostRuntime) {
+    let alloc = rt.alloc();
+    let mut first = regions(rt, alloc);
+    write_stack(rt, &mut first);
+    let (args, stack) = first.into_parts();
+    expect_args(rt, &args, &[0x31, 0x32, 0x33]);
+    let mut second = regions_on(rt, alloc, found!(rt; stack));
+    expect_clear_stack(rt, &second);
+    expect_numbers(rt, &second);
+    assert_same!(rt; second.store(0x2fff_0000, 1, 1), true);
+    let (_, stack) = second.into_parts();
+    let third = regions_on(rt, alloc, found!(rt; stack));
+    expect_clear_stack(rt, &third);
+    expect_args(rt, &third.into_args(), &[0x31, 0x32, 0x33]);
 }
 
 #[test]

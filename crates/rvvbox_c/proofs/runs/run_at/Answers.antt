@@ -11,7 +11,7 @@ returns-in-Ok-clause-ran g c = record {
       c.run-steps.result c.run-steps.new.self.machine c.run-steps.new.self.bound refl c.in-Ok.ensures.opened.matching c.in-Ok.ensures.opened.machine
       c.in-Ok.ensures.opened.steps c.in-Ok.ensures.opened.bound c.run-steps.ensures.first c.run-steps.ensures.bound
       (subst (λ (n : ℕ). n ≤ c.run-steps.new.self.bound) (sym c.run-steps.ensures.steps) c.run-steps.ensures.within);
-  is = c.close.ensures.places;
+  is = c.close_into.ensures.places;
 }
 
 pub returns-in-Err-clause-refused : goal.returns-in-Err-clause-refused

@@ -1,4 +1,4 @@
--- A kernel may go to another thread: it owns a box of an `Arc` of an accepted image, or nothing.
+-- A kernel may go to another thread: it owns a box of what it holds, or nothing.
 use Rattle.std.proofs.Common.{Option}
 use base.Shift.{Keyless}
 use denote.RawPtr.{Ptr}
@@ -6,14 +6,14 @@ use denote.Struct.Struct.{exits_of}
 use denote.Struct.Owning.{shape, fields, to}
 use denote.Param.Send.{IsSend, AllSend, owning_send, struct_send}
 use Rattle.std.specs.declared.option.Option.TheVariants.{None, Some}
-use Rattle.rvvbox_c.specs.Holds.{SharedView, shared_row, kernel_owns}
-use Rattle.rvvbox_c.proofs.Crosses.{shared_send}
+use Rattle.rvvbox_c.specs.Holds.{HeldView, held_row, kernel_owns}
+use Rattle.rvvbox_c.proofs.HeldCrosses.{held_send}
 use Rattle.rvvbox_c.proofs.PointerCrosses.{boxed, quiet, pointer_send}
 use Rattle.rvvbox_c.specs.contracts.kept.Kernel.{the_row, the_type}
 
-owned : (p : Ptr) (x : Option SharedView) → Keyless (kernel_owns p x)
+owned : (p : Ptr) (x : Option HeldView) → Keyless (kernel_owns p x)
 owned p None = tt
-owned p (Some a) = boxed shared_row shared_send p a
+owned p (Some a) = boxed held_row held_send p a
 
 pub send : IsSend the_row
 send = let all : AllSend (fields the_type) = (pointer_send, tt) in owning_send the_type all (λ d. owned d.at d.kept)

@@ -11,7 +11,7 @@ use Rattle.sandbox_run.specs.SessionLemmas.{opened-well}
 use Rattle.sandbox_run.proofs.StopLemmas.{hands_back, passed_back, stop_at_start}
 use Rattle.std.proofs.lemmas.Grind.{common_steps}
 use Rattle.sandbox_run.specs.Session.{open_fault}
-use Rattle.sandbox_run.proofs.session.open_in.Goals as goal
+use Rattle.sandbox_run.proofs.session.open_in_with.Goals as goal
 
 pub returns-in-Err-clause-refused : goal.returns-in-Err-clause-refused
 returns-in-Err-clause-refused g c =
@@ -87,8 +87,8 @@ returns-in-Ok-clause-refused g c =
     let length-is : vlenb_of c.args.accepted.now.vlen ≡ g.row.VLENB = sym (ap vlenb_of c.vlen.ensures) ∙ (sym c.bytes.ensures.meaning ∙ c.if-bytes.false) in
     rw (no_open_fault g.row.VLENB c.args.accepted.now c.args.args.places c.args.max matching within length-is) tt
 
-pub returns-in-Err-start-clause-refused : goal.returns-in-Err-start-clause-refused
-returns-in-Err-start-clause-refused g c =
+pub returns-in-Err-start_with-clause-refused : goal.returns-in-Err-start_with-clause-refused
+returns-in-Err-start_with-clause-refused g c =
     let matching : AreArguments c.args.accepted.now.certificate.parameters c.args.args.places = rw (← c.parameters-parameters.ensures) c.in_default.ensures.matching in
     let bound-is : c.bound-bound.result ≡ bound_of c.args.accepted.now (scalars_of c.args.args.places) = cc (c.bound-bound.ensures, c.scalars.ensures.made) in
     let within : bound_of c.args.accepted.now (scalars_of c.args.args.places) ≤ c.args.max = omega (arith, bound-is, c.from-2.ensures, c.if-bound-from.false) in
