@@ -281,7 +281,7 @@ static uint32_t makes(const uint8_t *file, size_t file_size, uint32_t vlen, size
 static void refuses_parameter(struct rvvbox_parameter parameter, uint32_t status, size_t place) {
     struct rvvbox_parameter kept = takes[place];
     takes[place] = parameter;
-    EXPECT(makes(bare, bare_size, 128, 4000) == status && refusal.rule == 0 && refusal.address == 0);
+    EXPECT(makes(bare, bare_size, 128, 4000) == status && refusal.place == place && refusal.rule == 0 && refusal.address == 0);
     takes[place] = kept;
 }
 
@@ -290,7 +290,6 @@ static void made_of_its_loop(void) {
     bare_size = read_file("bare.elf", bare);
     EXPECT(makes(bare, bare_size, 127, 4000) == RVVBOX_BAD_VLEN && refusal.rule == 0 && refusal.address == 0 && refusal.place == 0);
     refuses_parameter((struct rvvbox_parameter){.kind = 4}, RVVBOX_BAD_KIND, 7);
-    EXPECT(refusal.place == 7);
     refuses_parameter((struct rvvbox_parameter){.kind = RVVBOX_SCALAR, .lo = 1025, .hi = 1024}, RVVBOX_BAD_PARAMETER, 1);
     refuses_parameter((struct rvvbox_parameter){.kind = RVVBOX_READ, .size = (1u << 24) + 1}, RVVBOX_BAD_PARAMETER, 2);
     EXPECT(makes(bare, 51, 128, 4000) == RVVBOX_IMAGE && refusal.rule == RVVBOX_IMAGE_TOO_SHORT && refusal.place == 0);

@@ -44,7 +44,7 @@ static void makes(const std::vector<uint8_t> &image, const std::vector<uint8_t> 
         rvvbox::make(bare, 128, {rvvbox::buffer(4096), rvvbox::scalar(1025, 1024)});
         EXPECT(false);
     } catch (const rvvbox::refused &refused) {
-        EXPECT(refused.why.status == RVVBOX_BAD_PARAMETER && refused.why.place == 0);
+        EXPECT(refused.why.status == RVVBOX_BAD_PARAMETER && refused.why.place == 1);
     }
     try {
         rvvbox::attach(image, certificate_in(image));

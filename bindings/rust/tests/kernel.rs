@@ -83,7 +83,7 @@ fn makes_a_certificate() {
     let error = make(&bare, 128, &[Parameter::buffer(4095), Parameter::scalar(0, 1024)]).unwrap_err();
     assert_eq!((error.to_string().as_str(), error.refusal.address), ("NOT_A_LOOP at 00010008", 0x10008));
     let error = make(&bare, 128, &[Parameter::buffer(4096), Parameter::scalar(1025, 1024)]).unwrap_err();
-    assert_eq!((error.name(), error.refusal.place), ("BAD_PARAMETER", 0));
+    assert_eq!((error.name(), error.refusal.place), ("BAD_PARAMETER", 1));
 }
 
 #[test]

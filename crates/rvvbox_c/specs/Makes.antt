@@ -14,6 +14,9 @@ use Rattle.elf_image.specs.Faults.{fault_of}
 use Rattle.elf_image.specs.File.{image_of}
 use Rattle.elf_image.specs.Image.{ImageView}
 use Rattle.elf_image.specs.declared.error.ElfError.{ElfError}
+use Rattle.explanations.specs.Make.{parameter_reason}
+use Rattle.explanations.specs.declared.make.MakeReason.{MakeReason}
+use Rattle.explanations.specs.declared.make.MakeReason.TheVariants as reason
 use Rattle.region_mem.specs.Parameter.{parameters_of}
 use Rattle.region_mem.specs.declared.parameter.Mode.TheVariants.{Read, ReadWrite}
 use Rattle.region_mem.specs.declared.parameter.Param.{Param}
@@ -68,9 +71,18 @@ kinds_of t = record {
   a7 = kind_at t.a7;
 }
 
+-- at the place of the first that there can't be
+abbrev pub at_told : MakeReason → Refusal
+at_told (reason.Empty place lo hi) = at_place status.BadParameter place
+at_told (reason.LargeBuffer place size) = at_place status.BadParameter place
+at_told other = plain status.BadParameter
+
+abbrev pub no_such : List Param → Refusal
+no_such params = at_told (parameter_reason params)
+
 abbrev pub if_of_kinds : Takes → Option ℕ → Result (List Param) Refusal
 if_of_kinds takes (Some place) = Err (at_place status.BadKind place)
-if_of_kinds takes None = or_else (parameters_of (params_of takes)) (plain status.BadParameter)
+if_of_kinds takes None = or_else (parameters_of (params_of takes)) (no_such (params_of takes))
 
 -- by place, each of a kind and valid
 abbrev pub taken_by : Takes → Result (List Param) Refusal

@@ -6,7 +6,7 @@ ghost use Rattle.rvvbox_c.specs.Makes.{AnswersBytes, IsOrWant, IsToldOrWant};
 ghost use Rattle.rvvbox_c.specs.Makes.{certificate_for as certificate_of};
 ghost use Rattle.rvvbox_c.specs.Makes.{image_in as image_of, kind_at, kinds_of};
 ghost use Rattle.rvvbox_c.specs.Makes.{length_in as length_of, made_at_once, made_of};
-ghost use Rattle.rvvbox_c.specs.Makes.{param_of, params_of, refused_by, taken_by};
+ghost use Rattle.rvvbox_c.specs.Makes.{no_such, param_of, params_of, refused_by, taken_by};
 ghost use Rattle.rvvbox_c.specs.Makes.{with_certificate as file_with};
 
 use crate::accept::vlen_of;
@@ -18,6 +18,7 @@ use crate::status::{Refusal, Status};
 use cert_maker::make;
 use cert_note::Certificate;
 use elf_image::Image;
+use explanations::{MakeReason, parameter_reason};
 use region_mem::{Mode, Param, Parameters};
 use std::alloc::Global;
 use vreg_groups::Vlen;
@@ -67,6 +68,22 @@ fn kind(parameter: Parameter) -> Form
     }
 }
 
+/// Why there are no such parameters: the first that there can't be.
+fn no_such(params: &[Param; 8]) -> Refusal
+    ensures told { result ≡ no_such params.now }
+    ensures failed { IsFailure result.status }
+{
+    match parameter_reason(params) {
+        MakeReason::Empty { place, .. } => Refusal::at(Status::BadParameter, place),
+        MakeReason::LargeBuffer { place, .. } => Refusal::at(Status::BadParameter, place),
+        MakeReason::Untold
+        | MakeReason::NoWord { .. }
+        | MakeReason::Word { .. }
+        | MakeReason::Certified(_)
+        | MakeReason::LargeFile { .. } => Refusal::of(Status::BadParameter),
+    }
+}
+
 impl Takes {
     /// The kinds alone.
     fn kinds(&self) -> Forms
@@ -109,7 +126,7 @@ impl Takes {
             return Err(Refusal::at(Status::BadKind, place));
         }
         match Parameters::new(self.params()) {
-            None => Err(Refusal::of(Status::BadParameter)),
+            None => Err(no_such(&self.params())),
             Some(parameters) => Ok(parameters),
         }
     }
