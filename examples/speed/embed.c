@@ -5,11 +5,17 @@
 #include <string.h>
 #include <time.h>
 
-enum { RUNS = 256 };
+enum { RUNS = 256, LARGE = 1 << 20 };
 static uint8_t image[4096], words[4096];
 static size_t size;
 static struct rvvbox_argument arguments[RVVBOX_PLACES * RUNS];
 static struct rvvbox_ran runs[RUNS];
+
+static void read_image(const char *path) {
+    FILE *elf = fopen(path, "rb");
+    size = elf ? fread(image, 1, sizeof image, elf) : 0;
+    if (elf) fclose(elf);
+}
 
 static double now(void) {
     struct timespec t;
@@ -70,9 +76,40 @@ static void kept(struct rvvbox_kernel *kernel, uint32_t n, int calls) {
     row("run of a kernel", n, from, calls);
 }
 
+/* The same kernel with a certificate for a buffer of 1 MiB */
+static struct rvvbox_kernel *accepted_large(void) {
+    struct rvvbox_parameter takes[RVVBOX_PLACES] = {{.kind = RVVBOX_BUFFER, .size = LARGE}, {.kind = RVVBOX_SCALAR, .hi = LARGE / 4}};
+    struct rvvbox_kernel *kernel = NULL;
+    uint8_t made[sizeof image];
+    size_t needed;
+    read_image("../raise_words/bare.elf");
+    ended(rvvbox_make(image, size, 128, takes, made, sizeof made, &needed, NULL));
+    ended(rvvbox_accept(made, needed, 128, &kernel, NULL));
+    return kernel;
+}
+
+/* A run of 1 MiB that does nothing, and a copy of as much there and back, through memory that is asked for */
+static void copied(int calls) {
+    static uint8_t bytes[LARGE];
+    struct rvvbox_argument large[RVVBOX_PLACES] = {rvvbox_buffer(bytes, LARGE), rvvbox_scalar(0)};
+    struct rvvbox_kernel *kernel = accepted_large();
+    uint64_t steps;
+    double from = now();
+    for (int i = 0; i < calls; i++) ended(rvvbox_run(kernel, large, 0, 10000, &steps, NULL));
+    row("run of a kernel, 1 MiB", 0, from, calls);
+    from = now();
+    for (int i = 0; i < calls; i++) {
+        uint8_t *volatile copy = malloc(LARGE);
+        memcpy(copy, bytes, LARGE);
+        memcpy(bytes, copy, LARGE);
+        free(copy);
+    }
+    row("two copies, 1 MiB", 0, from, calls);
+    rvvbox_free(kernel);
+}
+
 int main(void) {
-    FILE *elf = fopen("../raise_words/raise_words.elf", "rb");
-    size = elf ? fread(image, 1, sizeof image, elf) : 0;
+    read_image("../raise_words/raise_words.elf");
     double from = now();
     for (int i = 0; i < 1000; i++) ended(rvvbox_check(image, size, 128, NULL));
     printf("check: %.0f ns\n", (now() - from) / 1000);
@@ -82,5 +119,6 @@ int main(void) {
     for (size_t i = 0; i < 4; i++) many(kernel, counts[i], 20);
     for (size_t i = 0; i < 4; i++) kept(kernel, counts[i], 5000);
     rvvbox_free(kernel);
+    copied(200);
     return 0;
 }
