@@ -1,20 +1,20 @@
 """Figures of one run: `python3 bindings/postgresql/figures.py [--write]`, where the extension is installed.
 
 4,000,000 rows or elements in one session: the processor time of its backend, beside plain C and PL/pgSQL. Then by the clock, by number of
-workers and over two servers of half the rows each, which a busy machine blurs. What is compared takes turns. Each is the least of five.
+workers and over two servers of half the rows each, which a busy machine blurs. What is compared takes turns. Each is the least of nine.
 With --write they go into README.md.
 """
 import re
 import subprocess
 import sys
 
-from servers import HERE, PORTS, ROLE, Servers, asked, fold, image, psql
+from servers import HERE, PORTS, ROLE, Servers, asked, fold, folded_parts, image, psql
 
 sys.path.insert(0, str(HERE.parent))
 
 import readme  # noqa: E402
 
-ROWS, TURNS = 4_000_000, 5
+ROWS, TURNS = 4_000_000, 9
 ALONE = 'SET max_parallel_workers_per_gather = 0;'
 EAGER = 'SET parallel_setup_cost = 0; SET parallel_tuple_cost = 0; SET min_parallel_table_scan_size = 0;'
 # Nanoseconds that the backend has been on a processor.
@@ -69,7 +69,7 @@ def by_processor():
 def by_clock():
     asked_for = {f"with {workers} worker{'s' * (workers > 1)}" if workers else 'by one process':
                  (f'{EAGER} SET max_parallel_workers_per_gather = {workers};', f'SELECT {fold()} FROM t;') for workers in (0, 1, 2, 3)}
-    asked_for['on two servers'] = (ALONE + ' SET enable_partitionwise_aggregate = on;', f'SELECT shard, {fold()} FROM parts GROUP BY shard;')
+    asked_for['on two servers'] = (ALONE, f'{folded_parts()};')
     return rows('`rvvbox_fold`', least_waited(asked_for))
 
 

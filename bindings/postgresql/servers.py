@@ -81,6 +81,11 @@ def fold():
     return f"rvvbox_fold({image('fold')}, {image('merge')}, {STATE}, v)"
 
 
+def folded_parts():
+    """The state of each server's part. Both servers work at once, and neither has to look for the rows of a shard."""
+    return ' UNION ALL '.join(f'SELECT {shard} AS shard, {fold()} AS state FROM parts_{name}' for shard, name in enumerate(('zero', 'one')))
+
+
 class Tests(unittest.TestCase):
     maxDiff = None
 
@@ -102,16 +107,21 @@ class Tests(unittest.TestCase):
             return
         self.assertEqual(ran.returncode, 0, (Servers.folder / 'regression.diffs').read_text() if ran.returncode else '')
 
-    def test_two_servers(self):
+    def merges_to_one(self, states):
         """Each server folds its own rows, and the merged state is that of one server with all rows."""
-        by_shard = f'SELECT shard, {fold()} AS state FROM parts GROUP BY shard'
-        told = psql('SET enable_partitionwise_aggregate = on;', f'EXPLAIN (VERBOSE, COSTS OFF) {by_shard};')
-        self.assertEqual(told.count('Relations: Aggregate on'), 2, told)
-        merged = (f"WITH s AS MATERIALIZED ({by_shard}) SELECT substr(rvvbox_run({image('merge')}, ARRAY[a.state, b.state], '{{}}'), 1, 8) "
+        told = psql('SET enable_partitionwise_aggregate = on;', f'EXPLAIN (VERBOSE, COSTS OFF) {states};')
+        self.assertEqual((told.count('Async Foreign Scan'), told.count('Relations: Aggregate on')), (2, 2), told)
+        merged = (f"WITH s AS MATERIALIZED ({states}) SELECT substr(rvvbox_run({image('merge')}, ARRAY[a.state, b.state], '{{}}'), 1, 8) "
                   'FROM s AS a, s AS b WHERE a.shard = 0 AND b.shard = 1;')
         one = psql('CREATE TEMP TABLE whole AS SELECT * FROM parts;', f'SELECT substr({fold()}, 1, 8) FROM whole;')
         self.assertEqual(psql('SET enable_partitionwise_aggregate = on;', merged), one)
         self.assertTrue(one.startswith('\\x'), one)
+
+    def test_two_servers_by_part(self):
+        self.merges_to_one(folded_parts())
+
+    def test_two_servers_by_shard(self):
+        self.merges_to_one(f'SELECT shard, {fold()} AS state FROM parts GROUP BY shard')
 
     def test_parallel(self):
         """Any number of workers leaves the bytes that one process does."""
