@@ -31,8 +31,10 @@ class Space:
 
     def free(self, places):
         """These places may have any number."""
-        kept = ({place: number for place, number in d.items() if place not in places} for d in self.directions)
-        self.directions = [*reduced(kept).values(), *({place: 1} for place in places)]
+        if not all(d.keys().isdisjoint(places) for d in self.directions):
+            kept = ({place: number for place, number in d.items() if place not in places} for d in self.directions)
+            self.directions = list(reduced(kept).values())
+        self.directions = [*self.directions, *({place: 1} for place in places)]
         for place in places:
             self.point[place] = 0
 
@@ -161,23 +163,24 @@ class Effect:
         self.of[place] = 0, {self.new: 1}
         self.new += 1
 
-    def on(self, space):
-        """The space behind the block."""
-        uses = {}
+    def on(self, space, live):
+        """The space behind the block. live: the places of which something is asked there; all others stand at 0."""
+        uses, left = {}, live - self.of.keys()
         for place, (_, terms) in self.of.items():
-            for atom, factor in terms.items():
+            for atom, factor in terms.items() if place in live else ():
                 uses.setdefault(atom, []).append((place, factor))
-        rows = [moved(d, uses, self.of) for d in space.directions]
-        rows += [moved({atom: 1}, uses, self.of) for atom in uses if atom >= PLACES]
-        point = list(space.point)
-        for place, (constant, terms) in self.of.items():
+        rows = [moved(d, uses, left) for d in space.directions]
+        rows += [moved({atom: 1}, uses, left) for atom in uses if atom >= PLACES]
+        point = [number if place in left else 0 for place, number in enumerate(space.point)]
+        for place in live & self.of.keys():
+            constant, terms = self.of[place]
             point[place] = model.signed(constant + sum(f * space.point[a] for a, f in terms.items() if a < PLACES), 32)
-        return Space(point, list(reduced(rows).values()))
+        return Space(point, list(reduced(filter(None, rows)).values()))
 
 
-def moved(direction, uses, places):
-    """A direction behind a block that sets these places. uses: atom -> the places whose sums have it, with its factor."""
-    out = {place: number for place, number in direction.items() if place not in places and place < PLACES}
+def moved(direction, uses, left):
+    """A direction behind a block that leaves these places as they were. uses: atom -> the places whose sums have it, with its factor."""
+    out = {place: number for place, number in direction.items() if place in left}
     for atom, number in direction.items():
         for place, factor in uses.get(atom, ()):
             out[place] = out.get(place, 0) + factor * number

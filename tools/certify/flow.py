@@ -93,17 +93,60 @@ def blocks_of(image, more=()):
     return blocks, targets
 
 
+def content_of(image, start, starts):
+    """What a block does wherever it lies: its words, but for how far the last one leads, and its address, where one tells of that. And the
+    addresses that its ways have to do with: where the last word leads, what is behind it, and its own."""
+    words = words_of(image, start, starts)
+    if not words:
+        return start, (start,)
+    pc, i, f = words[-1]
+    data = certificates.code_segment(image.segments, start)
+    plain, last = (data.data[at - data.first:to - data.first] for at, to in ((start, pc), (pc, pc + 4)))
+    leads = i.shape in ('branch', 'jal')
+    is_told = any(i.name == 'auipc' or i.shape == 'jalr' or i.shape == 'jal' and f['rd'] for _, i, f in words)
+    return ((plain, (i.name, f.get('rs1'), f.get('rs2')) if leads else last, pc * is_told),
+            (*([pc + f['to']] if leads else []), pc + 4, pc))
+
+
+class Walks:
+    """The ways out of blocks as they were walked, for other images of the same parameters: two blocks with the same words of which the same
+    is stated have the same ways, wherever they lie. Kept are those that the last image asked for, and this one."""
+
+    def __init__(self):
+        self.older, self.now = {}, {}
+
+    def turn(self):
+        """Another image comes."""
+        self.older, self.now = self.now, {}
+
+    def kept(self, key):
+        """What was kept of a block, or None."""
+        if key not in self.now and key in self.older:
+            self.now[key] = self.older[key]
+        return self.now.get(key)
+
+
 class Explorer(checker.Walk):
     """The checker's walk without its refusals: the ways out of a block, whatever is accessed on them."""
 
-    def __init__(self, image, certificate):
+    def __init__(self, image, certificate, walks=None):
         super().__init__(image, certificate)
         self.zones, self.walked, self.legal, self.known = EVERYWHERE, {}, {}, {}
+        self.walks, self.contents = walks or Walks(), {}
 
     def edges(self, block):
         """The ways out of a block as far as it can be followed."""
         if block not in self.walked:
-            self.walked[block] = self.ways_out(block)
+            if block.start not in self.contents:
+                self.contents[block.start] = content_of(self.image, block.start, self.blocks)
+            words, places = self.contents[block.start]
+            key = words, block._replace(start=0)
+            ways = self.walks.kept(key)
+            if ways is None:
+                self.walked[block] = self.ways_out(block)
+                self.walks.now[key] = [(places.index(edge.target) if edge.target in places else None, edge) for edge in self.walked[block]]
+            else:
+                self.walked[block] = [Edge(block.start, edge.target if at is None else places[at], *edge[2:-1], places[-1]) for at, edge in ways]
         return self.walked[block]
 
     def fetched(self, s, pc):

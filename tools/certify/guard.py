@@ -51,7 +51,7 @@ class Maker(Registers, Pace, Addresses, Strips, Tables):
         self.measures_fuel = False              # whether it is what is left of the fuel that goes there
         self.tables, self.pointers, self.is_ending = {}, set(), False       # (pointers: the jumps by tables whose addresses were not told)
         self.evicted = 0                        # how many registers are kept on the stack
-        self.told, self.known_misfits = [], None
+        self.told, self.known_misfits, self.walks = [], None, flow.Walks()
         self.begin_anew()
 
     def begin_anew(self):

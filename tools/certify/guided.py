@@ -13,7 +13,8 @@ class Guided(search.Finder):
 
     def __init__(self, image, params, vlen, plan, maker, is_draft=False):
         """is_draft: whether no budgets are asked for where words are refused for something else."""
-        super().__init__(image, params, vlen, plan, None, maker.watch)
+        maker.walks.turn()
+        super().__init__(image, params, vlen, plan, None, maker.watch, maker.walks)
         self.maker, self.is_draft = maker, is_draft
         self.marks = sorted({*self.marks, *maker.marks, *maker.ends_that_are_tested()})
 
@@ -38,10 +39,9 @@ class Guided(search.Finder):
     def sums_at(self, start, space):
         live = self.live[start]
         space.free(set(range(1, 33)) - live)
-        moved = [n for loop, wrote in self.loops if start in loop for n in wrote]
         first, last = self.maker.ranks_at(start)
         ends = list(self.maker.strip_registers.get(start, ()))
-        rank = lambda n: (n not in live, n in last, n not in first, *self.uses.rank(self.plan, n, moved.count(n)))
+        rank = lambda n: (n not in live, n in last, n not in first, *self.rank_at(start, n))
         before = [*ends, VL] if ends else []        # (a strip's base is its end less a multiple of vl)
         after = sorted(set(range(1, 33)) - set(before), key=rank)
         sums = space.sums(before + list(range(search.PASSED, search.PASSED + 8)) + after)

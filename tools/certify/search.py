@@ -5,7 +5,7 @@ checker's own steps, with widening, and then taken back; orders are guessed and 
 budgets come from `budgets`. Nothing here is trusted: what comes out is judged by a checker.
 """
 import heapq
-from collections import namedtuple
+from collections import Counter, namedtuple
 
 import advice
 import affine
@@ -15,7 +15,7 @@ import quick
 from outside import certificates, checker, model
 
 FULL, VL, PASSED = certificates.FULL, checker.VL, checker.PASSED
-BEFORE_WIDENING, ROUNDS_BACK, MOST_ROUNDS = 4, 4, 400
+BEFORE_WIDENING, MOST_MARKS, ROUNDS_BACK, MOST_ROUNDS = 4, 6, 4, 400
 
 # One way to search: which registers are to stay free in sums, whether registers that are not read any more count, which orders,
 # and whether blocks begin at branches and computed lengths as well.
@@ -50,7 +50,14 @@ class Guess:
         self.x = [value.range if n in wanted else FULL for n, value in enumerate(known.x)]
         self.vtype, self.vectors = known.vtype, list(known.facts)
         self.sums, self.orders, self.wanted, self.visits, self.edges = sums, orders, wanted, 0, None
+        self.bounded = [n for n in wanted if self.x[n] != FULL]
+        self.times = {}                 # register -> how often its interval was made wider than it had to be
         self.counted = None, None       # how many sums there are, which only go, and their number below
+
+    def widened(self, n):
+        """How often a register's interval has been made wider than it had to be, with this time."""
+        self.times[n] = self.times.get(n, 0) + 1
+        return self.times[n]
 
     def key(self, numbers):
         """What the guess states, for look-ups: equal keys of one block state the same. numbers: of sums that were met before, as a number is
@@ -63,15 +70,15 @@ class Guess:
 class Shared:
     """What the searches of one image share: walks, and what was settled of equal guesses."""
 
-    def __init__(self, image, frame):
-        self.image, self.frame = image, frame
+    def __init__(self, image, frame, walks=None):
+        self.image, self.frame, self.walks = image, frame, walks
         self.explorers, self.flows, self.spaces, self.settled, self.judgements, self.numbers = {}, {}, {}, {}, {}, {}
 
     def explorer(self, starts):
         """The explorer of blocks that begin here."""
         key = frozenset(starts)
         if key not in self.explorers:
-            self.explorers[key] = flow.Explorer(self.image, self.frame)
+            self.explorers[key] = flow.Explorer(self.image, self.frame, self.walks)
             self.explorers[key].blocks = dict.fromkeys(key)
         return self.explorers[key]
 
@@ -82,13 +89,13 @@ def hull(a, b):
 
 
 class Finder:
-    """One search by one plan. shared: what other searches of this image have found; watch: who looks on."""
+    """One search by one plan. shared: what other searches of this image have found; watch: who looks on; walks: those of other images."""
 
-    def __init__(self, image, params, vlen, plan, shared=None, watch=None):
+    def __init__(self, image, params, vlen, plan, shared=None, watch=None, walks=None):
         self.image, self.plan, self.vlenb = image, plan, vlen // 8
         params = list(params) + [certificates.Param('none')] * (8 - len(params))
         self.frame = certificates.Certificate(vlen, params, [], 1)
-        self.shared, self.watch = shared or Shared(image, self.frame), watch or Watch()
+        self.shared, self.watch = shared or Shared(image, self.frame, walks), watch or Watch()
         self.starts = flow.starts_of(image, [image.entry])
         if plan.cuts:
             self.starts |= flow.cuts_of(image, self.starts)
@@ -128,19 +135,20 @@ class Finder:
         self.explorer = self.shared.explorer(self.starts)
         self.guesses = {}
         self.enter(self.at_entry, self.image.entry)
-        todo, rounds = {self.image.entry}, 0
+        todo, waiting, rounds = [self.image.entry], {self.image.entry}, 0
         while todo and rounds < MOST_ROUNDS * len(self.starts):
             rounds += 1
-            start = min(todo)
-            todo.remove(start)
+            start = heapq.heappop(todo)
+            waiting.discard(start)
             for edge in self.edges(start):
                 if edge.target in (None, model.EXIT):
                     continue
                 if edge.target not in self.starts:
                     self.starts.add(edge.target)
                     return False
-                if self.enter(edge.known, edge.target):
-                    todo.add(edge.target)
+                if self.enter(edge.known, edge.target) and edge.target not in waiting:
+                    waiting.add(edge.target)
+                    heapq.heappush(todo, edge.target)
         seen = {}
         for _ in range(ROUNDS_BACK):
             if not self.take_back(seen):
@@ -157,10 +165,12 @@ class Finder:
         guess.visits += 1
         is_wide = guess.visits > BEFORE_WIDENING
         is_changed = False
-        for n in guess.wanted:
+        for n in guess.bounded:
             old, new = guess.x[n], s.x[n].range
             if new[0] < old[0] or new[1] > old[1]:
-                guess.x[n], is_changed = self.widened(old, hull(old, new), is_wide), True
+                guess.x[n], is_changed = self.widened(old, hull(old, new), is_wide and guess.widened(n)), True
+        if is_changed:
+            guess.bounded = [n for n in guess.bounded if guess.x[n] != FULL]
         vtype = guess.vtype if guess.vtype == s.vtype else None
         vectors = [fact for fact in (met_fact(s, fact, is_wide) for fact in guess.vectors) if fact]
         if is_changed or (vtype, vectors) != (guess.vtype, guess.vectors):
@@ -168,10 +178,13 @@ class Finder:
             return True
         return False
 
-    def widened(self, old, new, is_wide):
-        """A wider interval, to the next marks where it has been made wider often."""
-        if not is_wide:
+    def widened(self, old, new, times):
+        """A wider interval: to the next marks where it has been made wider often, and to all numbers where that did not end it. times: how often
+        it was made so."""
+        if not times:
             return new
+        if times > MOST_MARKS:
+            return old[0] if new[0] == old[0] else 0, old[1] if new[1] == old[1] else checker.M32
         lo = new[0] if new[0] == old[0] else max(mark for mark in self.marks if mark <= new[0])
         hi = new[1] if new[1] == old[1] else min(mark for mark in self.marks if mark >= new[1])
         return lo, hi
@@ -208,7 +221,7 @@ class Finder:
             self.settle_blocks()
             self.shared.flows[self.plan.cuts] = self.starts, self.words, self.targets, Uses(self.words), self.loops_around()
         starts, self.words, self.targets, self.uses, self.loops = self.shared.flows[self.plan.cuts]
-        self.starts = set(starts)
+        self.starts, self.moved = set(starts), {}
         self.live = EveryRegister(flow.live_at(self.words, self.targets))
         if self.plan.dead:
             self.live = EveryRegister((start, set(range(1, 33))) for start in self.live)
@@ -241,13 +254,12 @@ class Finder:
             start = heapq.heappop(todo)
             if start not in effects or not effects[start].is_fixed:
                 effects[start] = affine.effect(self.words[start], spaces[start], self.vlenb)
-            space = effects[start].on(spaces[start])
-            for target in self.targets.get(start, set()) & self.words.keys():
+            targets = self.targets.get(start, set()) & self.words.keys()
+            space = effects[start].on(spaces[start], {*range(PASSED, affine.PLACES)}.union(*(self.live[target] for target in targets)))
+            for target in targets:
                 if target in spaces and (not self.live[target] or spaces[target].holds(space)):
                     continue
                 spaces[target] = spaces[target].joined(space) if target in spaces else space.copy()
-                if not self.live[target]:           # (as where guards fail: there are no sums of what is not read)
-                    spaces[target].free(range(1, 33))
                 if target not in todo:
                     heapq.heappush(todo, target)
         return spaces
@@ -262,9 +274,14 @@ class Finder:
         """The sums at a block's start, with those registers free that the plan names."""
         live = self.live[start]
         space.free(set(range(1, 33)) - live)
-        moved = [n for loop, wrote in self.loops if start in loop for n in wrote]
-        rank = lambda n: (n not in live, *self.uses.rank(self.plan, n, moved.count(n)))
+        rank = lambda n: (n not in live, *self.rank_at(start, n))
         return space.sums(list(range(PASSED, PASSED + 8)) + sorted(range(1, 33), key=rank))
+
+    def rank_at(self, start, n):
+        """How soon a register is to stay free in sums at a block's start."""
+        if start not in self.moved:
+            self.moved[start] = Counter(n for loop, wrote in self.loops if start in loop for n in wrote)
+        return self.uses.rank(self.plan, n, self.moved[start][n])
 
     def guess_orders(self):
         """For each block the orders that may hold: of a register at most one in which it is the greater."""

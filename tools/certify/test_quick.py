@@ -112,6 +112,48 @@ class Quick(unittest.TestCase):
             self.assertEqual(quick.is_equal(s, 13, equal), plain.is_equal(s, certificates.RegisterFact(13, 0, 9, equal)))
 
 
+def moved(image, by):
+    """The same image with its code elsewhere."""
+    segments = [s._replace(first=s.first + by, end=s.end + by) if s.rights & certificates.EXECUTE else s for s in image.segments]
+    return image._replace(segments=segments, entry=image.entry + by)
+
+
+class Walked(unittest.TestCase):
+    """What searches of several images share."""
+
+    def test_ways_that_are_kept_are_those_that_are_walked(self):
+        for name, by in (('sum_bytes', 64), ('raise_words', 4096), ('translate', 12), ('fill_rows', 8)):
+            image = certificates.read_image((EXAMPLES / name / f'{name}.elf').read_bytes())
+            certificate, walks = certificates.read_certificate(image.certificate), flow.Walks()
+            blocks = [block._replace(start=block.start + by) for block in certificate.blocks]
+            explorers = [flow.Explorer(*it) for it in ((image, certificate, walks), (moved(image, by), certificate, walks), (moved(image, by), certificate))]
+            for explorer, some in zip(explorers, (certificate.blocks, blocks, blocks)):
+                explorer.blocks = {block.start: block for block in some}
+            for one, two in zip(certificate.blocks, blocks):
+                explorers[0].edges(one)
+                walks.turn()
+                kept, anew = (explorer.edges(two) for explorer in explorers[1:])
+                self.assertEqual([it._replace(known=shown(it.known), start=None) for it in kept], [it._replace(known=shown(it.known), start=None) for it in anew])
+                self.assertTrue(all(any(one.known is other.known for _, other in next(iter(walks.now.values()))) for one in kept))
+
+    def test_a_block_that_tells_of_its_address_is_another_one_elsewhere(self):
+        image = certificates.read_image((EXAMPLES / 'sum_bytes/sum_bytes.elf').read_bytes())
+        code = next(s for s in image.segments if s.rights & certificates.EXECUTE)
+        for word, is_same in ((0x00000517, False), (0x008000ef, False), (0x0080006f, True), (0x00008067, False), (0x00000073, True)):
+            data = word.to_bytes(4, 'little') * 4
+            one = image._replace(segments=[code._replace(data=data, end=code.first + 16)])
+            contents = [flow.content_of(it, it.segments[0].first, {it.segments[0].first + 4})[0] for it in (one, moved(one, 8))]
+            self.assertEqual(contents[0] == contents[1], is_same, hex(word))
+
+    def test_an_interval_that_is_widened_often_has_all_numbers(self):
+        image = certificates.read_image((EXAMPLES / 'sum_bytes/sum_bytes.elf').read_bytes())
+        finder = search.Finder(image, certificates.read_certificate(image.certificate).params, 128, search.PLANS[0])
+        finder.marks = [0, 10, 20, 30, checker.M32]
+        self.assertEqual([finder.widened((5, 7), (5, 12), times) for times in (False, 1, search.MOST_MARKS, search.MOST_MARKS + 1)],
+                         [(5, 12), (5, 20), (5, 20), (5, checker.M32)])
+        self.assertEqual(finder.widened((15, 17), (12, 17), search.MOST_MARKS + 1), (0, 17))
+
+
 class Graphs(unittest.TestCase):
     """Strongly connected parts and loops."""
 
@@ -142,6 +184,19 @@ class Sums(unittest.TestCase):
         self.assertEqual([one.holds(two) for one, two in ((space, moved), (joined, moved), (joined, space), (space, space))], [False, True, True, True])
         joined.free({10})
         self.assertEqual(sorted(map(sorted, joined.directions)), [[10], [11], [12]])
+
+    def test_what_is_not_asked_for_plays_no_part(self):
+        rng = random.Random(11)
+        decoded = [flow.model.decode(word) for word in (0x00a58633, 0x40b60533, 0x00259693, 0x00450513, 0x0005a583, 0xfff60613)]     # add, sub, slli, addi, lw, addi
+        for _ in range(200):
+            rows = ({place: rng.choice((1, 2, -1)) for place in rng.sample((10, 11, 12, 13, 33), 2)} for _ in range(3))
+            space = affine.Space([rng.randrange(9) for _ in range(affine.PLACES)], list(affine.reduced(rows).values()))
+            now = affine.effect([(4 * k, *rng.choice(decoded)) for k in range(4)], space, 16)
+            live = {*rng.sample((10, 11, 12, 13), 2), *range(affine.PASSED, affine.PLACES)}
+            whole, part = now.on(space, set(range(1, affine.PLACES))), now.on(space, live)
+            for it in (whole, part):
+                it.free(set(range(1, 33)) - live)
+            self.assertTrue(whole.holds(part) and part.holds(whole))
 
     def test_a_search_shares_what_is_settled(self):
         image = certificates.read_image((EXAMPLES / 'sum_bytes/sum_bytes.elf').read_bytes())
