@@ -2,6 +2,7 @@
 import bases
 import counters
 import graph
+import program
 import quick
 from kinds import COUNT, NoRegister, Strip, Test
 from outside import certificates, checker, table
@@ -217,7 +218,8 @@ class Addresses:
         out = []
         for value, is_tested, is_least in ((test.least, test.low, True), (test.most, test.high, False)):
             if is_tested:
-                out += self.compared(test.key, test.register, value, is_least, label, 0, given.get(value), test.is_entering)
+                words = self.compared(test.key, test.register, value, is_least, label, 0, given.get(value), test.is_entering)
+                out += [program.counted_on(out[0], words[0]), *words[1:]] if out else words
         return out
 
     def compared(self, key, register, value, is_least, label, more, given=None, is_outside=False):

@@ -54,6 +54,14 @@ def number_words(rd, value):
     return words
 
 
+def counted_on(one, two):
+    """What comes to the same as `two` where `one` was done before: a number that lies near the one in the same register takes one word."""
+    if not (isinstance(one, Number) and isinstance(two, Number)) or one.rd != two.rd or len(number_words(two.rd, two.value)) == 1:
+        return two
+    away = two.value - one.value
+    return word('addi', rd=two.rd, rs1=one.rd, imm=away) if -1 << 11 <= away < 1 << 11 else two
+
+
 class Code:
     """The instructions that can be reached from the entry, and where each leads."""
 

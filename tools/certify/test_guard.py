@@ -64,6 +64,16 @@ class Kinds(unittest.TestCase):
         some = lambda offset: [TAKEN_APART[:12] + word(offset - 1) + bytes(range(100, 212)), 7]
         self.guards(text + 'sw a1, 0(a0); ret', [writes(128), scalar(0, 100)], [some(0), some(127)], [some(-1), some(128)])
 
+    def test_the_second_number_is_made_of_the_first(self):
+        """Where one register is free at the access alone, and the ends lie near to each other."""
+        each = lambda line: '; '.join(line.format(n, 4 * n) for n in range(3, 31) if n not in (10, 11)) + '; '
+        for size, count in ((256, 1), (1 << 13, 2)):
+            text = each('lw x{}, {}(a0)') + 'add x3, x3, a0; at: lbu x31, 1(x3); sub x3, x3, a0; ' + each('sw x{}, {}(a0)') + 'sw x31, 0(a0); ret'
+            some = lambda offset: [TAKEN_APART[:12] + word(offset - 1) + bytes(range(100, 212)) + bytes(size - 128), 7]
+            made = self.guards(text, [writes(size), scalar(0, 100)], [some(0), some(size - 1)], [some(-1), some(size)])
+            (test,), operations = made.maker.tests.values(), made.maker.laid.operations
+            self.assertEqual(sum(op[1] in (test.least, test.most) for op in operations if isinstance(op, program.Number)), count)
+
     def test_choice_among_buffers(self):
         some = lambda which, offset: [TAKEN_APART[:8], TAKEN_APART[:12], which, offset, bytes(4)]
         made = self.guards('mv t0, a0; beqz a2, on; mv t0, a1; on: add t0, t0, a3; at: lbu t1, 0(t0); sw t1, 0(a4); ret',
