@@ -6,6 +6,7 @@ lie below all frames of the kernel; where the stack pointer stands is known befo
 import itertools
 
 import graph
+import jumps
 from kinds import NoRegister
 from outside import model, table
 from program import INS, SP, STACK_TOP, Number, word
@@ -13,7 +14,6 @@ from program import INS, SP, STACK_TOP, Number, word
 AWAY = 64               # how far below the frames the places lie
 REACH = 1 << 11         # how far an offset reaches
 PRICE = 3               # how much more a register costs that addresses or ends of loops are computed from
-BEFORE_JUMP = 9         # how many words before a jump through a table may compute its address
 MORE = 4                # how many dearer registers are tried
 KEPT = (0, 1, 2, 10, 11)        # x0, the return address, the stack pointer, and what a run may leave
 
@@ -47,11 +47,18 @@ class Evictor:
             if node.i.shape in ('jal', 'jalr'):
                 kept |= {node.f.get('rd'), node.f.get('rs1')}
             if node.i.shape == 'jalr' and not self.code.is_return(node):
-                for back in range(1, BEFORE_JUMP):
-                    before = nodes.get((node.calls, node.pc - 4 * back))
-                    kept |= {before.f.get(name) for name in ('rd', 'rs1', 'rs2')} if before else set()
+                kept |= self.computing(node)
         used = self.graph.touched(self.graph.order)
         return [r for r in range(3, 32) if r not in kept and used >> r & 1]
+
+    def computing(self, jump):
+        """The registers that the address of a jump through a table is computed from in the words before it."""
+        found = {jump.f['rs1']}
+        for back in range(1, jumps.BACK + 1):
+            before = self.code.nodes.get((jump.calls, jump.pc - 4 * back))
+            if before and before.f.get('rd') in found:
+                found |= {before.f.get('rs1'), before.f.get('rs2')}
+        return found
 
     def price(self, register):
         """What it costs to keep a register on the stack."""

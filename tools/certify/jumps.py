@@ -10,6 +10,7 @@ from program import ZERO, Address, Branch, Jump, Label, Number
 
 ENTRIES = 1024      # the most of a table
 POINTED = 32        # the most places that a jump by a pointer may lead to
+BACK = 24           # how many words before a jump may compute its address
 
 
 def targets(image, walk, pc):
@@ -17,7 +18,7 @@ def targets(image, walk, pc):
     kernel as it came. walk: the code that pc stands in, with what is known before each word."""
     _, f = walk.decoded(pc)
     register, added = f['rs1'], f['imm']
-    for at in range(pc - 4, pc - 36, -4):
+    for at in range(pc - 4, pc - 4 * BACK - 4, -4):
         decoded = walk.decoded(at)
         if decoded is None or decoded[0].shape in ('branch', 'jal', 'jalr'):
             return ()

@@ -12,7 +12,7 @@ from program import SP, STACK_TOP
 
 
 def reloads(code, its_graph, params, bases):
-    """node -> the number that its load gives, of those that one word makes."""
+    """node -> the number that its load gives, of those that one word makes, and of addresses of the image."""
     start = {SP: STACK_TOP, **{10 + place: address for place, address, *_ in checker.buffers(params)}}
     stores = [key for key in its_graph.order if 'store' in code.nodes[key].i.shape]
     is_told = any(tells_of_stack(key, code.nodes[key], bases) for key in its_graph.order)
@@ -30,7 +30,11 @@ def reloads(code, its_graph, params, bases):
                     waiting.add(to)
                     todo.append(to)
     found = ((key, loaded(code.nodes[key], state)) for key, state in known.items())
-    return {key: number for key, number in found if number is not None and len(program.number_words(1, number)) == 1}
+    return {key: number for key, number in found if number is not None and (len(program.number_words(1, number)) == 1 or is_in_image(code, number))}
+
+
+def is_in_image(code, number):
+    return any(segment.first <= number < segment.end for segment in code.image.segments)
 
 
 def is_stack(stems):

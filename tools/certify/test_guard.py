@@ -493,6 +493,15 @@ class Kinds(unittest.TestCase):
         table = struct.pack('<3I', *[small.label(text, name) for name in ('one', 'two', 'three')])
         self.guards(text, [scalar(0, 100), writes(4)], [[case, bytes(4)] for case in (0, 1, 2, 3, 100)], [], data=[(0x20000, table, small.READ)])
 
+    def test_jump_table_whose_address_is_on_the_stack(self):
+        """And which is asked for far before the jump."""
+        each = lambda line: '; '.join(line.format(n, 4 * n) for n in range(12, 32)) + '; '
+        begin = 'li t0, 3; bgeu a0, t0, none; lui t1, 0x20; addi t1, t1, 4; sw t1, -8(sp); ' + each('lw x{}, {}(a1)')
+        text = f'''{begin} slli t0, a0, 2; lw t1, -8(sp); add t0, t0, t1; lw t0, 0(t0); {9 * 'addi t1, t1, 1; '} jalr x0, 0(t0); one: addi x12, x12, 11; j end
+            two: addi x13, x13, 22; j end; three: addi x14, x14, 33; end: {each('sw x{}, {}(a1)')} none: ret'''
+        table = struct.pack('<4I', 0, *[small.label(text, name) for name in ('one', 'two', 'three')])
+        made = self.guards(text, [scalar(0, 100), writes(128)], [[case, TAKEN_APART * 4] for case in (0, 1, 2, 3, 100)], [], data=[(0x20000, table, small.READ)])
+        self.assertFalse(made.maker.pointers)
 
     def test_calls_by_pointers(self):
         """A pointer to a function leads to one whose address the image names, whatever holds it."""

@@ -30,6 +30,11 @@ class Reloads(unittest.TestCase):
             with self.subTest(between=between):
                 self.assertEqual(found(FIRST + between + LAST), 7)
 
+    def test_an_address_of_the_image(self):
+        """It is put in though it takes two words; another number of two words is not."""
+        self.assertEqual(found(FIRST.replace('li t0, 7', 'auipc t0, 0') + LAST), small.CODE + 4)
+        self.assertIsNone(found(FIRST.replace('li t0, 7', 'auipc t0, 1') + LAST))
+
     def test_a_large_frame(self):
         self.assertEqual(found(FIRST.replace('addi sp, sp, -32', 'lui t1, 0xfffff; addi t1, t1, -16; add sp, sp, t1') + LAST), 7)
 
@@ -47,6 +52,12 @@ class Reloads(unittest.TestCase):
             with self.subTest(evicted=evicted):
                 self.assertIsNone(found(text, evicted))
         self.assertEqual(found(text.replace('sw s0, 12', 'sw s0, 8'), 2), 7)
+
+    def test_registers_of_which_a_jumps_address_is_computed_stay(self):
+        text = 'lui t1, 0x20; slli t0, a0, 2; add t0, t0, t1; lw t0, 0(t0); addi t2, t2, 1; addi a2, a2, 1; jalr x0, 0(t0)'
+        code = program.Code(certificates.read_image(small.image(text)))
+        its = graph.Graph(code)
+        self.assertEqual(evict.Evictor(code, its, bases.Bases(code, its, PARAMS), set()).candidates(), [7, 12])
 
 
 if __name__ == '__main__':
