@@ -9,6 +9,7 @@ import flow
 from outside import checker, model
 
 ROOM = 2
+LIFTS = 4           # how often a loop's constants may grow, by the number of its ways
 NOTHING_FALLS = 'no register falls on any way round this loop and rises on none'
 TOO_DEEP = 'more than two loops stand within one another'
 TOO_GREAT = 'its numbers are above 2^32'
@@ -194,16 +195,40 @@ class Budgets:
             most = max(most, by)
         return most > 0
 
+    def factor(self, falling, register):
+        """The multiple of a register that pays for the ways on which it falls."""
+        return max(1, *(-(spare(edge, self.of[edge.source], self.of[edge.target]) // self.fall(edge, register)) for edge in falling))
+
+    def lift(self, inner, paid):
+        """Leaves to the ways within a loop that a multiple pays for no more than that, as {id of a way: it}: all else stands in the constants, so
+        that what comes behind the loop is not paid for in each round. As it was, where that does not settle."""
+        comes, older, left = {}, dict(self.of), LIFTS * len(inner)
+        for edge in inner:
+            comes.setdefault(edge.target, []).append(edge)
+        todo = [edge for edge in inner if id(edge) in paid]
+        while todo:
+            edge = todo.pop()
+            short = -spare(edge, self.of[edge.source], self.of[edge.target]) - paid.get(id(edge), 0)
+            if short > 0:
+                self.of[edge.source] = self.of[edge.source].more(short)
+                todo += comes.get(edge.source, ())
+                left -= 1
+            if left < 0:
+                self.of = older
+                return
+
     def raised(self, part, edges, falling, register):
         """Adds the multiple of the register that pays for the ways on which it falls, and takes away what is too much. What comes behind
         the loop may ask for a multiple of it, which then stands in all blocks."""
         most = max(self.of[block].factors.get(register, 0) for block in part)
         for block in part:
             self.of[block] = self.of[block].more(0, register, most - self.of[block].factors.get(register, 0))
-        factor = 1
-        for edge in falling:
-            short = -spare(edge, self.of[edge.source], self.of[edge.target])
-            factor = max(factor, -(-short // self.fall(edge, register)))
+        factor = self.factor(falling, register)
+        inner = [edge for edge in edges if edge.target in part]
+        words = sum(edge.words for edge in inner)
+        if factor > words:
+            self.lift(inner, {id(edge): words * self.fall(edge, register) for edge in falling})
+            factor = self.factor(falling, register)
         for block in part:
             self.of[block] = self.of[block].more(0, register, factor)
         less = min(self.of[block].constant for block in part)

@@ -7,6 +7,7 @@ import affine
 import flow
 import quick
 import search
+import small
 from outside import ROOT, certificates, checker
 
 EXAMPLES = ROOT / 'examples'
@@ -197,6 +198,18 @@ class Sums(unittest.TestCase):
             for it in (whole, part):
                 it.free(set(range(1, 33)) - live)
             self.assertTrue(whole.holds(part) and part.holds(whole))
+
+    def test_what_comes_behind_a_loop_is_paid_once(self):
+        """However a loop is left: at its head alone, or out of its midst as well."""
+        rest = 'li t0, 900; rest: addi t0, t0, -1; bnez t0, rest; ret'
+        for loop in ('loop: beqz a0, done; addi a0, a0, -1; j loop; done:',
+                     'loop: beqz a0, done; lw t1, 0(a1); beqz t1, on; addi t1, t1, 1; j done; on: addi a0, a0, -1; j loop; done:'):
+            with self.subTest(loop=loop):
+                found = search.find(certificates.read_image(small.image(f'{loop} {rest}')), [small.scalar(1, 1000), small.reads(4)], 128)
+                first = found.certificate.blocks[0]
+                self.assertEqual((found.answer, first.r), ('accepted', 10))
+                self.assertLess(first.k, 20)
+                self.assertLess(first.c, 2000)
 
     def test_a_search_shares_what_is_settled(self):
         image = certificates.read_image((EXAMPLES / 'sum_bytes/sum_bytes.elf').read_bytes())
