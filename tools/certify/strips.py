@@ -60,8 +60,9 @@ class Strips:
             is_empty = known.vl[0] == 0 or bool(older and older[0].is_empty)
             self.choices[misfit.key] = tuple(Strip(misfit.key, it, True, True, is_empty, None, stride) for it in zones)
             return
-        if self.give_rest(misfit):
+        if self.give_rest(misfit) or known.vl[0] and self.is_strip_above(misfit.key, node, stride):
             return
+        self.told_of.append((misfit.key, (register, node.i.width, stride)))
         most = greatest_length(checker.known(known.x[register].range), zone, node.i.width // 8, stride)
         if most is not None:
             self.strips[misfit.key] = Strip(misfit.key, zone, False, False, False, None, stride, most)
@@ -73,6 +74,18 @@ class Strips:
             low = False             # (a pointer that rises is known to be above its start once its end is known)
         self.strips[misfit.key] = Strip(misfit.key, zone, low or bool(older and older.low), high or bool(older and older.high),
                                         known.vl[0] == 0 or bool(older and older.is_empty), lengths[0] if lengths else None, stride)
+
+    def is_strip_above(self, key, node, stride):
+        """Whether this round tests the same strip, which has elements, in one straight line above an access, with no other test between: what
+        that tells is waited for."""
+        strip, tested = (node.f['rs1'], node.i.width, stride), {name[0] for name in self.tests}
+        while len(self.graph.comes[key]) == 1 and len(self.graph.leads[self.graph.comes[key][0]]) == 1:
+            key, = self.graph.comes[key]
+            if (key, strip) in self.told_of:
+                return True
+            if graph.used_and_set(self.code.nodes[key])[1] & (1 << strip[0] | 1 << VL) or key in tested or key in self.strips or key in self.choices:
+                return False
+        return False
 
     def strip_numbers(self, strip):
         """What a strip's base is at least and at most, None where that need not be tested, and what its end is compared with."""

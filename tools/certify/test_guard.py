@@ -90,6 +90,14 @@ class Kinds(unittest.TestCase):
         some = lambda many: [bytes(48), many]
         self.guards(self.STRIPS, [writes(48), scalar(0, 64)], [some(0), some(1), some(32), some(48)], [some(49), some(64)], 'strip')
 
+    def test_a_strip_that_is_loaded_and_stored_is_tested_once(self):
+        some = lambda many: [TAKEN_APART[:20], many]
+        for between, count in (('vadd.vi v8, v8, 1', 1), ('vadd.vi v8, v8, 1; addi a0, a0, 0', 2), ('lw t0, 0(a0); vadd.vx v8, v8, t0', 2)):
+            with self.subTest(between=between):
+                made = self.guards(f'vsetvli t1, a1, e8, m1, ta, ma; lbu t2, 3(a0); add a0, a0, t2; at: vle8.v v8, (a0); {between}; vse8.v v8, (a0); ret',
+                                   [writes(20), scalar(1, 40)], [some(1), some(16)], [], 'strip')
+                self.assertEqual(len(made.maker.strips), count)
+
     def test_what_was_put_in_last_is_searched(self):
         """However few rounds there are: a search sees all that was put in."""
         for rounds, is_enough in ((4, False), (5, True)):
