@@ -10,6 +10,7 @@ from program import ZERO, Branch, word
 UNKNOWN = (1 << 32) - (1 << 12)     # how great a number may be of which nothing is known
 LITTLE = 1 << 12, 1 << 10       # fuel of which a run tells later whether it is enough
 GREAT = 1 << 24         # rounds that no loop is taken to have
+LONGEST = 1 << 38       # steps of half an hour
 
 
 class Pace:
@@ -335,14 +336,33 @@ class Pace:
                 del self.counters[head]
                 is_changed = True
                 continue
-            tried = self.tried.setdefault(head, [])
-            for other in self.possible(self.loop_of[head], found):
-                name = other.kind, other.x, other.end, other.is_tested, other.more
-                if name not in tried:
-                    tried.append(name)
-                    self.counters[head], is_changed = other, True
-                    break
+            is_changed = self.give_other(head, self.possible(self.loop_of[head], found)) or is_changed
         return is_changed
+
+    def give_other(self, head, others):
+        """The first of these counters that was not tried for a loop, in place of its own. Whether there was one."""
+        tried = self.tried.setdefault(head, [])
+        for other in others:
+            name = other.kind, other.x, other.end, other.is_tested, other.more
+            if name not in tried:
+                tried.append(name)
+                self.counters[head] = other
+                return True
+        return False
+
+    def is_too_long(self, found):
+        """Whether the bound is above what any run would be allowed, even where the scalars are least."""
+        budget, x = found.finder.budgets.of[found.finder.image.entry], found.finder.at_entry.x
+        return budget.constant + sum(k * x[r].range[0] for r, k in budget.factors.items()) > LONGEST
+
+    def shorten(self, found):
+        """Other counters, or fuel, for the loops whose own may be great numbers. Whether there were some."""
+        great = [head for head, counter in self.counters.items() if self.most_at(head, found).get(counter.registers[0], 0) >= GREAT]
+        for head in great:
+            if not self.give_other(head, (it for it in self.possible(self.loop_of[head], found) if it.kind == counters.LEFT)):
+                del self.counters[head]
+                self.fuelled.add(head)
+        return bool(great)
 
     def guess_at(self, head, found):
         return found.finder.guesses.get(self.laid.places.get(('at', head)) if self.laid else head[1])

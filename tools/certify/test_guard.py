@@ -491,6 +491,15 @@ class Kinds(unittest.TestCase):
         some = lambda offset: [small.word(offset) + TAKEN_APART[:16], bytes(4), bytes(4)]
         self.guards(text, [reads(20), writes(4), writes(4)], [some(0), some(19)], [some(20)])
 
+    def test_a_loop_that_would_make_the_bound_too_great(self):
+        """A count out of memory may be so great that no run would be allowed: such a loop has fuel."""
+        text = '''li t2, 100; lw t1, 0(a0); srli t1, t1, 1; outer: li t0, 0; beqz t1, next; at: addi t0, t0, 1; bltu t0, t1, at; next: addi t2, t2, -1
+            bnez t2, outer; sw t0, 0(a1); ret'''
+        some = lambda many: [small.word(2 * many), bytes(4)]
+        made = self.guards(text, [reads(4), writes(4)], [some(0), some(1), some(20)], [some(1 << 30)], 'fuel', 1 << 12)
+        first = next(block for block in made.certificate.blocks if block.start == made.image.entry)
+        self.assertLess(first.c + first.k * 0x40000000 * bool(first.r), 1 << 32)
+
     def test_a_loop_that_is_come_into_in_its_midst(self):
         text = 'li t0, 0; li t2, 0; beqz a2, mid; at: addi t2, t2, 5; mid: addi t0, t0, 1; addi t2, t2, 1; bne t0, a0, at; sw t2, 0(a1); ret'
         self.guards(text, [scalar(1, 100), writes(4), scalar(0, 1)], [[many, bytes(4), way] for many in (1, 9, 100) for way in (0, 1)], [])
