@@ -15,7 +15,7 @@ import quick
 from outside import certificates, checker, model
 
 FULL, VL, PASSED = certificates.FULL, checker.VL, checker.PASSED
-BEFORE_WIDENING, MOST_MARKS, ROUNDS_BACK, MOST_ROUNDS = 4, 6, 4, 400
+BEFORE_WIDENING, MOST_MARKS, ROUNDS_BACK, MOST_ROUNDS = 4, 8, 4, 400
 
 # One way to search: which registers are to stay free in sums, whether registers that are not read any more count, which orders,
 # and whether blocks begin at branches and computed lengths as well.
