@@ -92,8 +92,7 @@ impl Known {
         }
     }
 
-    /// A word, decoded. It stands apart, since it is met far less often than a word that is known.
-    #[inline(never)]
+    /// A word, decoded.
     fn of(word: u32) -> Known
         ensures { result ≡ word }
     {
@@ -102,6 +101,15 @@ impl Known {
         let config = Vconfig::none();
         let judged = judge_any(&config, &insn);
         Known::new(word, op, insn, config.vtype, judged)
+    }
+
+    /// Another word. It stands apart, since a step would clear the locals of this at each word that is
+    /// known.
+    #[inline(never)]
+    fn relearn(&mut self, word: u32)
+        ensures { self.new ≡ word }
+    {
+        *self = Known::of(word);
     }
 
     /// The word 0, which has this meaning.
@@ -211,7 +219,7 @@ impl<A: Allocator> Memo<A> {
     {
         let known = &mut self.known[room(pc)];
         if !known.is(word) {
-            *known = Known::of(word);
+            known.relearn(word);
         }
         if let Some(op) = known.op() {
             return step_op(hart, op, memory);
