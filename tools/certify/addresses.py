@@ -155,8 +155,7 @@ class Addresses:
     def begins_with(self, loop, key, index, low):
         """Whether an access is sure to come in the first round of a loop, with an index that has its least number then."""
         register, shift = index, 0
-        if not counters.is_on_each_way(self.graph, loop, [key]) or any(to not in loop.nodes for at in self.graph.between(loop.head, key) - {key}
-                                                                      if at in loop.nodes for to in self.graph.leads[at]):
+        if not self.is_in_first_round(loop, key):
             return False
         writers = self.graph.writers(loop.nodes, index)
         if len(writers) == 1 and self.code.nodes[writers[0]].i.name == 'slli' and self.graph.dominates(writers[0], key):
@@ -166,6 +165,15 @@ class Addresses:
         moves = counters.moves_of(self.graph, loop, register)
         return bool(at_head and moves and all(map(counters.is_rise, moves)) and at_head[0] << shift == low and at_head[1] << shift < 1 << 31
                     and counters.setters_of(self.graph, loop, writers[0] if shift else key, register) == {None})
+
+    def is_in_first_round(self, loop, key):
+        """Whether a node is sure to be come to in the first round of a loop."""
+        return counters.is_on_each_way(self.graph, loop, [key]) and all(to in loop.nodes for at in self.graph.between(loop.head, key) - {key}
+                                                                       if at in loop.nodes for to in self.graph.leads[at])
+
+    def comes_first(self, loop, key, register):
+        """The same, with a register as it is at the loop's head."""
+        return self.is_in_first_round(loop, key) and counters.setters_of(self.graph, loop, key, register) == {None}
 
     def goes(self, key, register):
         """Whether a register only rises in the innermost loop around a node, and whether it only falls."""

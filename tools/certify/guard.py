@@ -64,6 +64,7 @@ class Maker(Registers, Pace, Addresses, Strips, Tables):
         self.tests, self.choices, self.strips, self.sizes = {}, {}, {}, {}
         self.told_of, self.found = [], None     # of this round: which accesses are tested, by which registers, and what it has found
         self.masks, self.indices, self.retyped = {}, {}, set()
+        self.begun = {}                         # node of a strip -> the test of its base before the loop
         self.read_code()
 
     def read_code(self):
@@ -75,7 +76,7 @@ class Maker(Registers, Pace, Addresses, Strips, Tables):
             self.graph = graph.Graph(self.code, self.vlen // 8)
             self.bases = bases.Bases(self.code, self.graph, self.params)
         self.sure, self.any, self.its_vectors = self.graph.sure_accesses(), self.graph.sure_accesses(True), None
-        self.same_lengths = set(self.graph.same_lengths(self.vlen // 8))
+        self.same_lengths = dict(self.graph.same_lengths(self.vlen // 8))
         self.reloads = reloads.reloads(self.code, self.graph, self.params, self.bases)
         self.loop_of = {loop.head: loop for loop in self.graph.loops}
         self.touched = self.graph.touched(self.graph.order)
@@ -88,6 +89,9 @@ class Maker(Registers, Pace, Addresses, Strips, Tables):
         if code.entry not in code.nodes:
             raise Stuck(f'IllegalWord at {self.image.entry:#x}: {advice.ILLEGAL}')
         self.graph = graph.Graph(code, self.vlen // 8)
+        if self.graph.alike:
+            code.retype(self.graph.alike)
+            self.graph = graph.Graph(code, self.vlen // 8)
         self.bases = bases.Bases(code, self.graph, self.params)
         code.reads_links = self.bases.reads_links()
 
@@ -145,7 +149,8 @@ class Maker(Registers, Pace, Addresses, Strips, Tables):
 
     def is_changed(self):
         return bool(any(key[0] for key in self.code.nodes) or self.is_ending or self.evicted or self.tables or self.counters or self.rests or self.limits
-                    or self.fuelled or self.tests or self.choices or self.strips or self.masks or self.indices or self.retyped or self.same_lengths or self.reloads)
+                    or self.fuelled or self.tests or self.choices or self.strips or self.masks or self.indices or self.retyped or self.same_lengths or self.graph.entering or self.graph.early
+                    or self.reloads)
 
     def failed(self, kind, pc, what):
         """The label of a guard that may fail, with a number of its own, which only a status asks for."""

@@ -100,6 +100,13 @@ class Code:
         self.nodes[key] = Node(key, key[1], key[0], *decoded, here)
         return True
 
+    def retype(self, types):
+        """Gives nodes that set a vector type other ones."""
+        for key, vtype in types.items():
+            node = self.nodes[key]
+            f = {**node.f, 'imm': vtype}
+            self.nodes[key] = node._replace(f=f, word=node.i.encode(**f))
+
     def ways(self, node):
         """The nodes to which an instruction leads, of a branch the one where it is taken first."""
         after = node.calls, node.pc + 4

@@ -3,11 +3,12 @@ import functools
 import operator
 
 import bases
+import counters
 import graph
 import indices
 import program
 import vectors
-from kinds import Strip, Stuck
+from kinds import Strip, Stuck, Test
 from outside import certificates, checker, model, table
 from program import SP, ZERO, Branch, Jump, Label, Number, Word, word
 
@@ -70,10 +71,30 @@ class Strips:
         lengths = [r for r in range(1, 32) if known.x[r].form == known.x[VL].form and known.x[VL].form.terms]
         range_, older = known.x[register].range, self.strips.get(misfit.key)
         low, high = range_[0] < zone[0], range_[1] > zone[1]
-        if older is None and low and high and stride >= 0:
+        if self.begin_strip(misfit, zone, stride, low, high):
+            low = high = False
+            older = older and older._replace(low=False, high=False)
+        elif older is None and low and high and stride >= 0:
             low = False             # (a pointer that rises is known to be above its start once its end is known)
         self.strips[misfit.key] = Strip(misfit.key, zone, low or bool(older and older.low), high or bool(older and older.high),
                                         known.vl[0] == 0 or bool(older and older.is_empty), lengths[0] if lengths else None, stride)
+
+    def begin_strip(self, misfit, zone, stride, low, high):
+        """Tests of a strip's base before the loop around it, once, where it only rises there and the first round is sure to have that strip: what
+        is told of each strip's end keeps the base in its zone then. Whether they were put in; where they were of no use they go."""
+        key, size = misfit.key, self.code.nodes[misfit.key].i.width // 8
+        register = self.code.nodes[key].f['rs1']
+        if key in self.begun:
+            self.tests.pop(self.begun[key], None)
+            return False
+        for loop in sorted(filter(self.graph.is_natural, self.graph.inside[key]), key=lambda loop: -loop.depth)[:1]:
+            name = loop.head, register, 'entering'
+            if (self.hoists and stride > 0 and misfit.known.vl[0] and (low or high) and name not in self.tests and self.comes_first(loop, key, register)
+                    and (not self.graph.writers(loop.nodes, register) or counters.only_rises(self.graph, loop, register))):
+                self.tests[name] = Test(loop.head, True, register, zone[0], zone[1] - size & table.M32, low, high, zone[3])
+                self.begun[key] = name
+                return True
+        return False
 
     def is_strip_above(self, key, node, stride):
         """Whether this round tests the same strip, which has elements, in one straight line above an access, with no other test between: what
@@ -186,15 +207,7 @@ class Strips:
 
     def give_type(self, misfit):
         """Sets the vector type anew where it is not the same on each way: where an instruction changes it and keeps vl, else before the access."""
-        keeping, todo, seen = set(), [misfit.key], {misfit.key}
-        while todo:
-            key = todo.pop()
-            for come in self.graph.comes[key]:
-                if self.code.nodes[come].i.shape == 'vset':
-                    keeping.add(come)
-                elif come not in seen:
-                    seen.add(come)
-                    todo.append(come)
+        keeping = self.graph.type_setters(misfit.key)
         setting = self.graph.settings[misfit.key]
         if all(graph.is_keep(self.code.nodes[key]) for key in keeping):
             self.retyped |= keeping
@@ -203,8 +216,14 @@ class Strips:
 
     def put_types(self):
         """The settings of the vector type with vl as it is."""
-        for key in self.same_lengths - self.retyped:
-            self.edits.instead[key] = [word('vsetvli', rd=0, rs1=0, imm=self.code.nodes[key].f['imm'])._replace(key=key)]
+        for head, vtype in self.graph.entering.items():
+            self.enter(head, [word('vsetvli', rd=0, rs1=0, imm=vtype)])
+        for key, vtype in self.graph.early.items():
+            self.edits.after.setdefault(key, []).append(word('vsetvli', rd=0, rs1=0, imm=vtype))
+        for key in self.same_lengths.keys() - self.retyped:
+            f = self.code.nodes[key].f          # (where the type before is not known, only a length that is asked for makes it known)
+            register = 0 if self.same_lengths[key] else f['rs1']
+            self.edits.instead[key] = [word('vsetvli', rd=register, rs1=register, imm=f['imm'])._replace(key=key)]
         for key in sorted(self.retyped):
             node, setting = self.code.nodes[key], self.graph.settings[key]
             is_own = graph.is_keep(node)

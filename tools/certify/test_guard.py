@@ -90,6 +90,21 @@ class Kinds(unittest.TestCase):
         some = lambda many: [bytes(48), many]
         self.guards(self.STRIPS, [writes(48), scalar(0, 64)], [some(0), some(1), some(32), some(48)], [some(49), some(64)], 'strip')
 
+    def test_the_base_of_strips_is_tested_before_their_loop(self):
+        """Within the loop only the end of each strip is, as far as the base is not set anew there."""
+        params, some = [writes(48), scalar(0, 64), reads(4)], lambda offset, many: [bytes(range(48)), many, word(offset)]
+        text = '''lw t0, 0(a2); add t2, a0, t0; beqz a1, end; {}: vsetvli t1, a1, e8, m1, ta, ma; {}vle8.v v8, (t2); vadd.vi v8, v8, 1; vse8.v v8, (t2)
+            sub a1, a1, t1; add t2, t2, t1; bnez a1, {}; end: ret'''
+        whole = [some(0, 48), some(47, 1), some(30, 17), some(100, 0), some(-1, 0)]
+        for head, at, early, kind in (('at', '', [some(48, 1), some(-1, 40), some(1 << 31, 3)], 'address'), ('loop', 'at: ', [some(47, 2), some(1, 48)], 'strip')):
+            made = self.guards(text.format(head, at, head), params, whole, early, kind)
+            self.assertEqual([(strip.low, strip.high) for strip in made.maker.strips.values()], [(False, False)])
+            self.assertEqual([test.is_entering for test in made.maker.tests.values()], [True])
+        made = self.guards(text.format('loop', 'at: ', 'loop').replace('sub a1', 'lw t0, 0(a2); add t2, a0, t0; sub a1'), params, [some(3, 14), some(0, 20)],
+                           [some(32, 20), some(33, 16)], 'strip')
+        self.assertEqual([(strip.low, strip.high) for strip in made.maker.strips.values()], [(True, True)])
+        self.assertEqual(made.maker.tests, {})
+
     def test_a_strip_that_is_loaded_and_stored_is_tested_once(self):
         some = lambda many: [TAKEN_APART[:20], many]
         for between, count in (('vadd.vi v8, v8, 1', 1), ('vadd.vi v8, v8, 1; addi a0, a0, 0', 2), ('lw t0, 0(a0); vadd.vx v8, v8, t0', 2)):
@@ -418,6 +433,22 @@ class Kinds(unittest.TestCase):
             with self.subTest(text=text):
                 made = self.guards(text, params, [[TAKEN_APART * 2, many] for many in (0, 1, 16)], [])
                 self.assertEqual(made.told, [])
+
+    def test_a_vector_type_that_is_not_the_same_on_each_way_of_a_loop(self):
+        """It is one type where only what is left to the machine differs. Else it is set before the loop, as soon as nothing asks for the older one;
+        or, where ways meet outside of loops, by a length that is asked for."""
+        params = [writes(64), scalar(0, 64), scalar(0, 1)]
+        text = '''beqz a1, end; loop: vsetvli t0, a1, e8, m1, ta, mu; vle8.v v8, (a0); {}; vsetvli x0, t0, e8, m1, ta, mu; vadd.vi v8, v8, 1
+            vse8.v v8, (a0); sub a1, a1, t0; add a0, a0, t0; bnez a1, loop; end: ret'''
+        inner = 'li t1, 2; more: vsetvli x0, t0, {}; vmv.v.i v12, 0; addi t1, t1, -1; bnez t1, more'
+        ways = (('e8, m1, ta, ma', inner, (0, 0), 0), ('e16, m2, ta, ma', inner, (1, 0), 0), ('e16, m2, ta, ma', f'beqz a2, on; nop; on: {inner}', (0, 1), 0),
+                ('e16, m2, ta, ma', 'beqz a2, on; vsetvli x0, t0, {}; vmv.v.i v12, 0; on: nop', (0, 0), 2))
+        for vtype, between, count, tests in ways:
+            with self.subTest(vtype=vtype, between=between):
+                made = self.guards(text.format(between.format(vtype)), params, [[TAKEN_APART * 2, many, is_on] for many in (0, 1, 17, 64) for is_on in (0, 1)], [])
+                its_graph, names = made.maker.graph, [op for op in made.maker.laid.operations if isinstance(op, program.Word)]
+                self.assertEqual((len(made.told), (len(its_graph.early), len(its_graph.entering))), (tests, count))
+                self.assertFalse(any(op.key is None and checker.model.decode(op.word)[0].name == 'vsetvli' and op.word >> 15 & 31 for op in names))
 
     def test_a_count_out_of_memory_is_tested_before_its_loop(self):
         text = '''li a3, 100; more: lw t0, 0(a0); beqz t0, next; at: addi t0, t0, -1; addi a2, a2, 3; bnez t0, at
