@@ -356,13 +356,16 @@ class Pace:
         return budget.constant + sum(k * x[r].range[0] for r, k in budget.factors.items()) > LONGEST
 
     def shorten(self, found):
-        """Other counters, or fuel, for the loops whose own may be great numbers. Whether there were some."""
+        """Other counters, or fuel, for the loops whose own may be great numbers; where there are none, fuel for those that have neither. Whether
+        there were some."""
         great = [head for head, counter in self.counters.items() if self.most_at(head, found).get(counter.registers[0], 0) >= GREAT]
         for head in great:
             if not self.give_other(head, (it for it in self.possible(self.loop_of[head], found) if it.kind == counters.LEFT)):
                 del self.counters[head]
                 self.fuelled.add(head)
-        return bool(great)
+        more = set() if great else self.loop_of.keys() - self.fuelled - self.counters.keys()
+        self.fuelled |= more
+        return bool(great or more)
 
     def guess_at(self, head, found):
         return found.finder.guesses.get(self.laid.places.get(('at', head)) if self.laid else head[1])

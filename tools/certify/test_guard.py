@@ -531,6 +531,15 @@ class Kinds(unittest.TestCase):
         first = next(block for block in made.certificate.blocks if block.start == made.image.entry)
         self.assertLess(first.c + first.k * 0x40000000 * bool(first.r), 1 << 32)
 
+    def test_a_loop_whose_own_number_would_make_the_bound_too_great(self):
+        """The same of a number that falls in the kernel's own code, with no counter."""
+        text = '''li t2, 1000; lw t1, 0(a0); add t3, a1, t1; sb x0, 0(t3); lw t1, 4(a0); srli t1, t1, 3; outer: mv t0, t1; at: bgeu a2, t0, next; addi t0, t0, -1; j at; next: addi t2, t2, -1
+            bnez t2, outer; sw t0, 0(a1); ret'''
+        some = lambda many: [bytes(4) + small.word(8 * many), bytes(4), 2]
+        made = self.guards(text, [reads(8), writes(4), scalar(1, 5)], [some(0), some(3)], [some(1 << 28)], 'fuel', 3500)
+        first = next(block for block in made.certificate.blocks if block.start == made.image.entry)
+        self.assertLess(first.c + first.k * 0x40000000 * bool(first.r), 1 << 32)
+
     def test_a_loop_that_is_come_into_in_its_midst(self):
         text = 'li t0, 0; li t2, 0; beqz a2, mid; at: addi t2, t2, 5; mid: addi t0, t0, 1; addi t2, t2, 1; bne t0, a0, at; sw t2, 0(a1); ret'
         self.guards(text, [scalar(1, 100), writes(4), scalar(0, 1)], [[many, bytes(4), way] for many in (1, 9, 100) for way in (0, 1)], [])
