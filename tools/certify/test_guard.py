@@ -540,6 +540,14 @@ class Kinds(unittest.TestCase):
         first = next(block for block in made.certificate.blocks if block.start == made.image.entry)
         self.assertLess(first.c + first.k * 0x40000000 * bool(first.r), 1 << 32)
 
+    def test_what_comes_behind_a_loop_with_fuel_is_no_part_of_its_rounds(self):
+        """A multiple of a register that the loop leaves alone stands in each of its blocks, on the ways back too."""
+        text = 'lw t1, 0(a0); li t2, 0; at: srli t1, t1, 1; addi t2, t2, 1; bnez t1, at; loop: addi t2, t2, 3; addi a1, a1, -1; bnez a1, loop; sw t2, 0(a2); ret'
+        some = lambda number, many: [word(number), many, bytes(4)]
+        made = self.guards(text, [reads(4), scalar(1, 1000), writes(4)], [some(0, 1), some(5, 1000), some(1 << 31, 7)], [], 'fuel', 100)
+        first = next(block for block in made.certificate.blocks if block.start == made.image.entry)
+        self.assertLess(first.c + 1000 * first.k, 100 * 6 + 1000 * 4)
+
     def test_a_loop_that_is_come_into_in_its_midst(self):
         text = 'li t0, 0; li t2, 0; beqz a2, mid; at: addi t2, t2, 5; mid: addi t0, t0, 1; addi t2, t2, 1; bne t0, a0, at; sw t2, 0(a1); ret'
         self.guards(text, [scalar(1, 100), writes(4), scalar(0, 1)], [[many, bytes(4), way] for many in (1, 9, 100) for way in (0, 1)], [])
