@@ -120,19 +120,23 @@ class Pace:
         self.edits.entering[head] = nodes, older + operations
 
     def put_fuel(self):
-        """Fuel is paid on the ways back to a loop's head, but at the head itself where loops around rely on it or a return leads to it."""
+        """Fuel is paid on the ways back to a loop's head, but at the head itself where loops around rely on it or a return leads to it; before
+        one node it is paid once, for all loops that go through it."""
         heads, relied = self.paying_heads()
+        paying = set()
         for head in sorted(heads):
             loop, f = self.loop_of[head], self.fuel_register
+            is_at_head = head in relied or any(self.code.is_return(self.code.nodes[latch]) for latch in loop.latches)
+            before = {head} if is_at_head else loop.latches if self.is_paid_at_latches(loop) else ()
+            if before and paying.issuperset(before):
+                continue
             ends = self.failed('fuel', head[1], 'the fuel is used up')
             paid = [Branch('beq', f, ZERO, ends), word('addi', rd=f, rs1=f, imm=-1)]
-            if head in relied or any(self.code.is_return(self.code.nodes[latch]) for latch in loop.latches):
-                self.edits.before[head] = paid + self.edits.before.get(head, [])
-            elif self.is_paid_at_latches(loop):
-                for latch in loop.latches:
-                    self.edits.before[latch] = paid + self.edits.before.get(latch, [])
-            else:
+            for key in before - paying if before else ():
+                self.edits.before[key] = paid + self.edits.before.get(key, [])
+            if not before:
                 self.edits.rounds[head] = loop.nodes, paid
+            paying |= set(before)
 
     def is_paid_at_latches(self, loop):
         """Whether the nodes that lead back to a loop's head always do, or are not come to where it is left elsewhere: then no jump is needed past

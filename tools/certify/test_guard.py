@@ -4,10 +4,12 @@ import unittest
 import unittest.mock
 
 import counters
+import graph
 import guard
 import guided
 import kinds
 import notes
+import pace
 import program
 import small
 from outside import certificates, checker
@@ -294,6 +296,16 @@ class Kinds(unittest.TestCase):
             with self.subTest(text=text):
                 self.assertEqual((number, ran.buffers[1], ran.steps), (0, word(1), made.run_plain(some).steps + before))
                 self.assertEqual(made.run([b'x', bytes(4)])[1], 1)
+
+    def test_fuel_is_paid_once_before_a_node(self):
+        """Where loops go back by the same call, as those around a function of one copy."""
+        maker, edits = unittest.mock.Mock(fuel_register=3, code=unittest.mock.Mock(nodes={'x': 1, 'y': 2})), program.Edits()
+        maker.loop_of = {((), k): graph.Loop(((), k), frozenset(), frozenset(latches), 1) for k, latches in enumerate(('x', 'x', 'xy'))}
+        maker.paying_heads.return_value, maker.edits = (set(maker.loop_of), set()), edits
+        maker.code.is_return.return_value, maker.is_paid_at_latches.return_value = False, True
+        pace.Pace.put_fuel(maker)
+        self.assertEqual({key: len(operations) for key, operations in edits.before.items()}, {'x': 2, 'y': 2})
+        self.assertEqual([call.args[0] for call in maker.failed.call_args_list], ['fuel', 'fuel'])
 
     def test_tests_that_never_fail_go(self):
         """Each end by itself: here the upper one, of an index that was loaded, is needed."""
