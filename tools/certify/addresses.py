@@ -233,13 +233,13 @@ class Addresses:
     def compared(self, key, register, value, is_least, label, more, given=None, is_outside=False):
         """A branch to a label where a register is below a number, or above it. given: the register for the number, if it is chosen.
         is_outside: whether it stands on the ways into the loop of a head."""
-        out, other = [], self.held(key, value, is_outside)
-        if other is None and given is not None:
-            other = given
-            out.append(Number(other, value))
+        out, other, is_next = [], self.held(key, value, is_outside), False
         if other is None:
-            other = self.temporary([key], more | 1 << register)
-            out.append(Number(other, value))
+            is_next = not is_least and value < table.M32 and len(program.number_words(1, value + 1)) < len(program.number_words(1, value))
+            other = given if given is not None else self.temporary([key], more | 1 << register)
+            out.append(Number(other, value + is_next))
+        if is_next:             # (the number above takes fewer words, as the end of whole pages does)
+            return out + [Branch('bgeu', register, other, label)]
         return out + [Branch('bltu', *((register, other) if is_least else (other, register)), label)]
 
     def times(self, key, t, length, factor, more, given=None):

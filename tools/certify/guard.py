@@ -294,7 +294,7 @@ class Maker(Registers, Pace, Addresses, Strips, Tables):
             if isinstance(op, Branch) and op.label in self.test_of and k not in self.laid.long:
                 name = self.test_of[op.label]
                 if (self.laid.at[k], self.laid.places[op.label]) not in ways:
-                    out.add((name, 'low' if op.rs1 == self.tests[name].register else 'high'))
+                    out.add((name, 'low' if op.name == 'bltu' and op.rs1 == self.tests[name].register else 'high'))
         return out
 
     def tests_without(self, ends):

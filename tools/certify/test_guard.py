@@ -76,6 +76,14 @@ class Kinds(unittest.TestCase):
             (test,), operations = made.maker.tests.values(), made.maker.laid.operations
             self.assertEqual(sum(op[1] in (test.least, test.most) for op in operations if isinstance(op, program.Number)), count)
 
+    def test_the_end_of_whole_pages_takes_one_word(self):
+        each = lambda line: '; '.join(line.format(n, 4 * n) for n in range(3, 31) if n not in (10, 11)) + '; '
+        text = each('lw x{}, {}(a0)') + 'at: add x3, x3, a0; lbu x31, 0(x3); sub x3, x3, a0; ' + each('sw x{}, {}(a0)') + 'sw x31, 0(a0); ret'
+        for size, name in ((4096, 'bgeu'), (4000, 'bltu')):
+            some = lambda offset: [TAKEN_APART[:12] + word(offset) + bytes(size - 16), 7]
+            made = self.guards(text, [writes(size), scalar(0, 100)], [some(0), some(size - 1)], [some(-1), some(size)])
+            self.assertEqual([op.name for op in made.maker.laid.operations if isinstance(op, program.Branch)], [name])
+
     def test_choice_among_buffers(self):
         some = lambda which, offset: [TAKEN_APART[:8], TAKEN_APART[:12], which, offset, bytes(4)]
         made = self.guards('mv t0, a0; beqz a2, on; mv t0, a1; on: add t0, t0, a3; at: lbu t1, 0(t0); sw t1, 0(a4); ret',
