@@ -20,7 +20,7 @@ from guided import Guided
 from jumps import Tables
 from kinds import Misfit, NoRegister, Stuck, Told
 from outside import certificates, checker, table
-from pace import Pace
+from pace import Pace, is_too_long
 from program import ZERO, Branch, Jump, Label, Number, word
 from registers import Registers
 from strips import Strips
@@ -241,7 +241,7 @@ class Maker(Registers, Pace, Addresses, Strips, Tables):
             data, image = self.build_or_evict()
             found = self.search(image, PLANS[0], True)
             if found.answer == 'accepted':
-                if not self.widen_tables(found, image) and not self.test_limits(found) and not (self.is_too_long(found) and self.shorten(found)):
+                if not self.widen_tables(found, image) and not self.test_limits(found) and not (is_too_long(found) and self.shorten(found)):
                     return self.slimmer(found) or (data, image, found)
                 continue
             if self.watch:
@@ -319,7 +319,7 @@ class Maker(Registers, Pace, Addresses, Strips, Tables):
         kept, self.fuel = self.fuel, fuel
         data, image = self.build()
         found = self.search(image, PLANS[0])
-        if found.answer == 'accepted' and not self.unknown_limits(found) and not self.is_too_long(found):
+        if found.answer == 'accepted' and not self.unknown_limits(found) and not is_too_long(found):
             return data, image, found
         self.fuel = kept
         self.build()

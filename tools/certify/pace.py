@@ -354,11 +354,6 @@ class Pace:
                 return True
         return False
 
-    def is_too_long(self, found):
-        """Whether the bound is above what any run would be allowed, even where the scalars are least."""
-        budget, x = found.finder.budgets.of[found.finder.image.entry], found.finder.at_entry.x
-        return budget.constant + sum(k * x[r].range[0] for r, k in budget.factors.items()) > LONGEST
-
     def shorten(self, found):
         """Other counters, or fuel, for the loops whose own may be great numbers; where there are none, fuel for those that have neither. Whether
         there were some."""
@@ -397,3 +392,9 @@ class Pace:
         for head in more:
             if not any(name[0] == head for name in self.rests):
                 self.counters.pop(head, None)
+
+
+def is_too_long(found):
+    """Whether a bound is above what any run would be allowed, even where the scalars are least."""
+    budget, x = found.finder.budgets.of[found.finder.image.entry], found.finder.at_entry.x
+    return budget.constant + sum(k * x[r].range[0] for r, k in budget.factors.items()) > LONGEST
