@@ -76,6 +76,18 @@ class Kinds(unittest.TestCase):
             (test,), operations = made.maker.tests.values(), made.maker.laid.operations
             self.assertEqual(sum(op[1] in (test.least, test.most) for op in operations if isinstance(op, program.Number)), count)
 
+    def test_a_row_is_tested_before_the_loop_that_goes_along_it(self):
+        """Of an index that is made of one that rises, in another register or in place, only the upper end is tested within the loop then."""
+        some = lambda offset, many: [bytes(range(64)), word(offset), many, bytes(4)]
+        text = '''lw t0, 0(a1); add t0, a0, t0; li t1, 0; mv t2, a2; {}: srli t3, t1, 4; {}; {}lbu t4, 0(t6); add t5, t5, t4
+            addi t1, t1, 8; addi t2, t2, -1; bnez t2, {}; sw t5, 0(a3); ret'''
+        for index in ('add t6, t0, t3', 'mv t6, t3; add t6, t0, t6', 'addi t6, t3, 0; add t6, t6, t0'):
+            for head, at, early in (('at', '', [some(-1, 1), some(-3, 128), some(64, 1), some(1 << 31, 2)]), ('loop', 'at: ', [some(0, 129), some(63, 3)])):
+                with self.subTest(index=index, head=head):
+                    made = self.guards(text.format(head, index, at, head), [reads(64), reads(4), scalar(1, 200), writes(4)],
+                                       [some(0, 128), some(63, 1), some(63, 2), some(60, 8)], early)
+                    self.assertEqual(sorted((test.is_entering, test.low, test.high) for test in made.maker.tests.values()), [(False, False, True), (True, True, True)])
+
     def test_the_end_of_whole_pages_takes_one_word(self):
         each = lambda line: '; '.join(line.format(n, 4 * n) for n in range(3, 31) if n not in (10, 11)) + '; '
         text = each('lw x{}, {}(a0)') + 'at: add x3, x3, a0; lbu x31, 0(x3); sub x3, x3, a0; ' + each('sw x{}, {}(a0)') + 'sw x31, 0(a0); ret'
@@ -553,12 +565,14 @@ class Kinds(unittest.TestCase):
 
     def test_a_loop_whose_own_number_would_make_the_bound_too_great(self):
         """The same of a number that falls in the kernel's own code, with no counter."""
-        text = '''li t2, 1000; lw t1, 0(a0); add t3, a1, t1; sb x0, 0(t3); lw t1, 4(a0); srli t1, t1, 3; outer: mv t0, t1; at: bgeu a2, t0, next; addi t0, t0, -1; j at; next: addi t2, t2, -1
+        text = '''li t2, 1000; {}lw t1, 4(a0); srli t1, t1, 3; outer: mv t0, t1; at: bgeu a2, t0, next; addi t0, t0, -1; j at; next: addi t2, t2, -1
             bnez t2, outer; sw t0, 0(a1); ret'''
         some = lambda many: [bytes(4) + small.word(8 * many), bytes(4), 2]
-        made = self.guards(text, [reads(8), writes(4), scalar(1, 5)], [some(0), some(3)], [some(1 << 28)], 'fuel', 3500)
-        first = next(block for block in made.certificate.blocks if block.start == made.image.entry)
-        self.assertLess(first.c + first.k * 0x40000000 * bool(first.r), 1 << 32)
+        for access in ('lw t1, 0(a0); add t3, a1, t1; sb x0, 0(t3); ', ''):     # (the second one has a certificate without guards)
+            made = self.guards(text.format(access), [reads(8), writes(4), scalar(1, 5)], [some(0), some(3)], [], 'fuel', 3500)
+            self.assertEqual(made.told[made.run(some(1 << 28))[1] - 1].kind, 'fuel')
+            first = next(block for block in made.certificate.blocks if block.start == made.image.entry)
+            self.assertLess(first.c + first.k * 0x40000000 * bool(first.r), 1 << 32)
 
     def test_what_comes_behind_a_loop_with_fuel_is_no_part_of_its_rounds(self):
         """A multiple of a register that the loop leaves alone stands in each of its blocks, on the ways back too."""
