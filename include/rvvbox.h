@@ -22,7 +22,7 @@ extern "C" {
 #endif
 
 #define RVVBOX_VERSION_MAJOR 2u
-#define RVVBOX_VERSION_MINOR 1u
+#define RVVBOX_VERSION_MINOR 2u
 
 /* The places of a kernel's arguments, from 0 on: a0 to a7. */
 #define RVVBOX_PLACES 8
@@ -295,6 +295,8 @@ uint32_t rvvbox_run_raw(struct rvvbox_kernel *kernel, const struct rvvbox_forms 
                         RVVBOX_WRITES, uint64_t *steps, struct rvvbox_refusal *refusal);
 uint32_t rvvbox_open_raw(struct rvvbox_kernel *kernel, const struct rvvbox_forms *forms, uint32_t agnostic, uint64_t max, RVVBOX_READS,
                          struct rvvbox_session **out, struct rvvbox_refusal *refusal);
+uint32_t rvvbox_open_again_raw(struct rvvbox_kernel *kernel, const struct rvvbox_forms *forms, uint32_t agnostic, uint64_t max,
+                               RVVBOX_READS, struct rvvbox_session *session, struct rvvbox_refusal *refusal);
 uint32_t rvvbox_close_raw(struct rvvbox_session *session, const struct rvvbox_forms *forms, RVVBOX_WRITES,
                           struct rvvbox_refusal *refusal);
 uint32_t rvvbox_try_raw(const uint8_t *image, size_t image_size, const struct rvvbox_setting *setting, const struct rvvbox_forms *forms,
@@ -456,13 +458,16 @@ RVVBOX_INLINE uint32_t rvvbox_run_many(struct rvvbox_kernel *kernel, const struc
 }
 
 /* Opens a run of the kernel on eight arguments, as rvvbox_run would do it, and puts a session of it into `*out` where the answer is
- * RVVBOX_DONE; no step is done yet. Else `*out` is as it was. `*out` is NULL, or a session, which is then let go. */
+ * RVVBOX_DONE; no step is done yet. Else `*out` is as it was. `*out` is NULL, or a session of any kernel, which then has the new run in
+ * place of its own. Where it was closed, its stack and the words that it knows are used again. */
 RVVBOX_INLINE uint32_t rvvbox_open(struct rvvbox_kernel *kernel, const struct rvvbox_argument *arguments, uint32_t agnostic, uint64_t max,
                                    struct rvvbox_session **out, struct rvvbox_refusal *refusal) {
     struct rvvbox_refusal untold, *told = refusal ? refusal : &untold;
     struct rvvbox_forms forms = rvvbox_forms_of(arguments);
     uint32_t status = rvvbox_named(arguments, told);
-    return status ? status : rvvbox_open_raw(kernel, &forms, agnostic, max, RVVBOX_ALL(arguments), out, told);
+    if (status) return status;
+    if (*out) return rvvbox_open_again_raw(kernel, &forms, agnostic, max, RVVBOX_ALL(arguments), *out, told);
+    return rvvbox_open_raw(kernel, &forms, agnostic, max, RVVBOX_ALL(arguments), out, told);
 }
 
 /* Puts the bytes of `size` addresses of a session's memory into `bytes`, where the answer is RVVBOX_DONE. Else all is as it was. */
@@ -478,8 +483,8 @@ RVVBOX_INLINE uint32_t rvvbox_peek(struct rvvbox_session *session, uint32_t addr
 }
 
 /* Ends a session's run wherever it stands. Where the answer is RVVBOX_DONE, each RVVBOX_BUFFER is as the run has left it so far, and the
- * session is closed: it is let go next. A buffer has the size that stood at its place in rvvbox_open, and one that is not to be put back
- * may be left out. Else all is as it was, but for `refusal`. */
+ * session is closed: it is let go next, or given to rvvbox_open for another run. A buffer has the size that stood at its place in
+ * rvvbox_open, and one that is not to be put back may be left out. Else all is as it was, but for `refusal`. */
 RVVBOX_INLINE uint32_t rvvbox_close(struct rvvbox_session *session, const struct rvvbox_argument *arguments,
                                     struct rvvbox_refusal *refusal) {
     struct rvvbox_refusal untold, *told = refusal ? refusal : &untold;

@@ -108,7 +108,7 @@ inline std::string explain(std::span<const uint8_t> image, uint32_t vlen) {
     return text;
 }
 
-/// A run that stands still between two calls, on copies of what it was opened on. It is closed once.
+/// A run that stands still between two calls, on copies of what it was opened on. It is closed once, and may be opened again then.
 class session {
 public:
     /// Goes on for at most so many steps, and tells how far the run is.
@@ -207,6 +207,19 @@ public:
         session one(made);
         expect(why);
         return one;
+    }
+
+    /// The same in a session that there is, in place of its own run. Where that was closed its stack is used again.
+    template <class... T> void open_again(session &in, uint64_t max, T &&...of) {
+        open_again_on(in, arguments(std::forward<T>(of)...), max);
+    }
+
+    void open_again_on(session &in, const places &eight, uint64_t max, bool ones = false) {
+        rvvbox_session *made = in.held.release();
+        rvvbox_refusal why;
+        rvvbox_open(held.get(), eight.data(), ones, max, &made, &why);
+        in.held.reset(made);
+        expect(why);
     }
 
     rvvbox_kernel *get() const { return held.get(); }

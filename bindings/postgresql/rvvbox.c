@@ -47,6 +47,7 @@ void _PG_init(void) {
 typedef struct Kernel {
     struct Kernel *next;
     struct rvvbox_kernel *kernel;
+    struct rvvbox_session *session;     /* NULL, or closed: the next run by slices has it */
     struct rvvbox_parameter parameters[RVVBOX_PLACES];
     uint32 vlen;
     Size size;
@@ -58,7 +59,10 @@ enum { KEPT = 64 };
 static Kernel *kept;
 static int kept_count;
 
-static void kernel_gone(void *kernel) { rvvbox_free(((Kernel *)kernel)->kernel); }
+static void kernel_gone(void *kernel) {
+    rvvbox_drop(((Kernel *)kernel)->session);
+    rvvbox_free(((Kernel *)kernel)->kernel);
+}
 
 /* Accepts for the length of registers that the image was made for. */
 static uint32 accepted(const void *image, Size size, uint32 *vlen, struct rvvbox_kernel **out, struct rvvbox_refusal *why) {
@@ -173,12 +177,13 @@ static void refused_run(const struct rvvbox_refusal *why, const Kernel *kernel, 
     }
 }
 
-/* A run by slices. The session is let go on each way out, and a run that is cancelled puts nothing back. */
+/* A run by slices, in the session that the one before left. A run that is cancelled puts nothing back, and its session is let go. */
 static uint32 run_by_slices(Kernel *kernel, const struct rvvbox_argument *arguments, struct rvvbox_refusal *why) {
-    struct rvvbox_session *session = NULL;
     struct rvvbox_progress progress = {0};
-    uint32 status = rvvbox_open(kernel->kernel, arguments, 0, (uint64)max_steps, &session, why);
+    uint32 status = rvvbox_open(kernel->kernel, arguments, 0, (uint64)max_steps, &kernel->session, why);
+    struct rvvbox_session *session = kernel->session;
     if (status) return status;
+    kernel->session = NULL;
     PG_TRY();
     {
         while (!status && !progress.ended) {
@@ -186,10 +191,11 @@ static uint32 run_by_slices(Kernel *kernel, const struct rvvbox_argument *argume
             status = rvvbox_go_on(session, (uint64)slice, &progress);
         }
         if (!status) status = rvvbox_close(session, arguments, why);
+        if (!status) kernel->session = session;
     }
     PG_FINALLY();
     {
-        rvvbox_drop(session);
+        if (!kernel->session) rvvbox_drop(session);
     }
     PG_END_TRY();
     return status;

@@ -17,6 +17,7 @@ enum { INTERRUPTED = 1000 };
 /* An accepted kernel. A name has one, and so has a fold that goes on. */
 typedef struct {
     struct rvvbox_kernel *kernel;
+    struct rvvbox_session *session;    /* NULL, or closed: the next run by slices has it */
     struct rvvbox_parameter parameters[RVVBOX_PLACES];
     unsigned holders;
 } Kernel;
@@ -36,6 +37,7 @@ typedef struct {
 
 static void let_go(Kernel *kernel) {
     if (!kernel || --kernel->holders) return;
+    rvvbox_drop(kernel->session);
     rvvbox_free(kernel->kernel);
     sqlite3_free(kernel);
 }
@@ -275,24 +277,27 @@ static int is_interrupted(sqlite3_stmt *looking) {
     return interrupted;
 }
 
-static uint32_t run_by_slices(sqlite3_context *context, const Kernel *kernel, const struct rvvbox_argument *arguments, uint64_t max,
+static uint32_t run_by_slices(sqlite3_context *context, Kernel *kernel, const struct rvvbox_argument *arguments, uint64_t max,
                               uint64_t *steps, struct rvvbox_refusal *why) {
-    struct rvvbox_session *session = NULL;
     struct rvvbox_progress progress = {0};
     sqlite3_stmt *looking = NULL;
-    uint32_t status = rvvbox_open(kernel->kernel, arguments, 0, max, &session, why);
+    uint32_t status = rvvbox_open(kernel->kernel, arguments, 0, max, &kernel->session, why);
+    struct rvvbox_session *session = kernel->session;
     if (status) return status;
     sqlite3_prepare_v2(sqlite3_context_db_handle(context), "SELECT 1", -1, &looking, NULL);
     while (!status && !progress.ended) status = is_interrupted(looking) ? INTERRUPTED : rvvbox_go_on(session, SLICE, &progress);
     sqlite3_finalize(looking);
     if (!status) status = rvvbox_close(session, arguments, why);
-    rvvbox_drop(session);
+    if (status) {
+        rvvbox_drop(session);
+        kernel->session = NULL;
+    }
     *steps = progress.steps;
     return status;
 }
 
 /* Runs a kernel, and tells why if it does not: whether it did. */
-static int run(sqlite3_context *context, const Kernel *kernel, const struct rvvbox_argument *arguments, uint64_t *steps) {
+static int run(sqlite3_context *context, Kernel *kernel, const struct rvvbox_argument *arguments, uint64_t *steps) {
     struct rvvbox_refusal why = {0};
     uint64_t max = ((Loaded *)sqlite3_user_data(context))->max_steps;
     if (is_long(kernel, arguments)) why.status = run_by_slices(context, kernel, arguments, max, steps, &why);

@@ -76,6 +76,21 @@ static void kept(struct rvvbox_kernel *kernel, uint32_t n, int calls) {
     row("run of a kernel", n, from, calls);
 }
 
+/* A session for all runs, which is closed and opened again, and goes on once */
+static void sessions(struct rvvbox_kernel *kernel, uint32_t n, int calls) {
+    struct rvvbox_session *session = NULL;
+    struct rvvbox_progress progress;
+    put(n, 1);
+    double from = now();
+    for (int i = 0; i < calls; i++) {
+        ended(rvvbox_open(kernel, arguments, 0, 10000, &session, NULL));
+        ended(rvvbox_go_on(session, 10000, &progress));
+        ended(rvvbox_close(session, arguments, NULL));
+    }
+    row("session", n, from, calls);
+    rvvbox_drop(session);
+}
+
 /* The same kernel with a certificate for a buffer of 1 MiB */
 static struct rvvbox_kernel *accepted_large(void) {
     struct rvvbox_parameter takes[RVVBOX_PLACES] = {{.kind = RVVBOX_BUFFER, .size = LARGE}, {.kind = RVVBOX_SCALAR, .hi = LARGE / 4}};
@@ -118,6 +133,7 @@ int main(void) {
     for (size_t i = 0; i < 4; i++) checked(counts[i], 1000);
     for (size_t i = 0; i < 4; i++) many(kernel, counts[i], 20);
     for (size_t i = 0; i < 4; i++) kept(kernel, counts[i], 5000);
+    for (size_t i = 0; i < 4; i++) sessions(kernel, counts[i], 5000);
     rvvbox_free(kernel);
     copied(200);
     return 0;

@@ -10,10 +10,14 @@
 void *__real_malloc(size_t size);
 void *__real_realloc(void *block, size_t size);
 static long refused = -1;                       /* how many allocations are given before one is refused, or -1 */
+static size_t largest;                          /* the most bytes that were asked for at once */
 
-static int refuses(void) { return refused >= 0 && refused-- == 0; }
-void *__wrap_malloc(size_t size) { return refuses() ? NULL : __real_malloc(size); }
-void *__wrap_realloc(void *block, size_t size) { return refuses() ? NULL : __real_realloc(block, size); }
+static int refuses(size_t size) {
+    if (size > largest) largest = size;
+    return refused >= 0 && refused-- == 0;
+}
+void *__wrap_malloc(size_t size) { return refuses(size) ? NULL : __real_malloc(size); }
+void *__wrap_realloc(void *block, size_t size) { return refuses(size) ? NULL : __real_realloc(block, size); }
 
 enum { SIZE = 4096, BUFFER = 0x40000000, STEPS = 2002 };
 static uint8_t image[SIZE], words[SIZE], before[SIZE], expected[SIZE], room[SIZE];
@@ -246,6 +250,27 @@ static void wrong_order(void) {
     rvvbox_drop(NULL);
 }
 
+/* A session that is closed is opened again: it stays where it is, no second stack is asked for, and the run leaves what another leaves.
+ * One that is refused leaves the session closed */
+static void again(void) {
+    enum { STACK = 65536 };
+    put();
+    largest = 0;
+    struct rvvbox_session *session = opened(), *first = session;
+    EXPECT(largest >= STACK && goes_on(session, 10000, STEPS));
+    EXPECT(rvvbox_close(session, arguments, NULL) == RVVBOX_DONE && !memcmp(words, expected, SIZE));
+    for (int run = 0; run < 3; run++) {
+        put();
+        largest = 0;
+        EXPECT(rvvbox_open(kernel, arguments, 0, STEPS - 1, &session, &refusal) == RVVBOX_BOUND_TOO_LARGE && session == first);
+        EXPECT(rvvbox_close(session, arguments, NULL) == RVVBOX_NOTHING_KEPT && !memcmp(words, before, SIZE));
+        EXPECT(rvvbox_open(kernel, arguments, 0, 10000, &session, &refusal) == RVVBOX_DONE && session == first && largest < STACK);
+        EXPECT(!goes_on(session, 1001, 1001) && goes_on(session, 10000, STEPS));
+        EXPECT(rvvbox_close(session, arguments, NULL) == RVVBOX_DONE && !memcmp(words, expected, SIZE));
+    }
+    rvvbox_drop(session);
+}
+
 /* The kernel, the image and the arguments may go before the session does */
 static void alone(void) {
     struct rvvbox_kernel *own = NULL;
@@ -295,6 +320,7 @@ int main(void) {
     put_elsewhere();
     wrong_peeks();
     wrong_order();
+    again();
     alone();
     want_of_memory(NULL);
     put();

@@ -77,6 +77,19 @@ int main() {
     });
     other.join();
     EXPECT(words == expected);
+    words = before;
+    auto again = kernel.open(10000, words, 1000);
+    again.close(words);
+    EXPECT(words == before);
+    kernel.open_again(again, 10000, words, 1000);
+    try {
+        kernel.open_again(again, 10000, words, 1025);
+        EXPECT(false);
+    } catch (const rvvbox::refused &refused) {
+        EXPECT(refused.why.status == RVVBOX_SCALAR_OUT_OF_INTERVAL && again.go_on(10000).steps == 2002);
+    }
+    again.close(words);
+    EXPECT(words == expected);
     try {
         kernel.open(10000, words, 1025);
         EXPECT(false);

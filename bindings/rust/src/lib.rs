@@ -220,6 +220,15 @@ impl Kernel {
         let status = unsafe { sys::rvvbox_open(self.at, eight.as_ptr(), 0, max, &mut at, &mut refusal) };
         if status == 0 { Ok(Session { at }) } else { Err(Error::of(refusal)) }
     }
+
+    /// Opens a run in a session that there is, in place of its own. Where that was put back its stack is used again.
+    pub fn open_again(&mut self, session: &mut Session, arguments: &mut [Argument<'_>], max: u64) -> Result<(), Error> {
+        let eight = all_to_c(arguments);
+        let mut refusal = Refusal::default();
+        // As in `open`. The session is never null, so it stays where it is.
+        let status = unsafe { sys::rvvbox_open(self.at, eight.as_ptr(), 0, max, &mut session.at, &mut refusal) };
+        if status == 0 { Ok(()) } else { Err(Error::of(refusal)) }
+    }
 }
 
 /// A run that stands still between two calls. It may go from thread to thread.
@@ -258,12 +267,21 @@ impl Session {
         Error::answered(unsafe { sys::rvvbox_peek(self.at, address, bytes.as_mut_ptr().cast(), bytes.len()) })
     }
 
-    /// Ends the run wherever it stands, and puts its buffers back to these, as they stand. Where that is refused the session goes on.
-    pub fn close(self, arguments: &mut [Argument<'_>]) -> Result<(), (Error, Session)> {
+    /// Ends the run wherever it stands, and puts its buffers back to these, as they stand. Where that is refused the run goes on. The
+    /// session has no run then, until [`Kernel::open_again`].
+    pub fn put_back(&mut self, arguments: &mut [Argument<'_>]) -> Result<(), Error> {
         let eight = all_to_c(arguments);
         let mut refusal = Refusal::default();
         let status = unsafe { sys::rvvbox_close(self.at, eight.as_ptr(), &mut refusal) };
-        if status == 0 { Ok(()) } else { Err((Error::of(refusal), self)) }
+        if status == 0 { Ok(()) } else { Err(Error::of(refusal)) }
+    }
+
+    /// The same, and lets the session go. Where that is refused it comes back.
+    pub fn close(mut self, arguments: &mut [Argument<'_>]) -> Result<(), (Error, Session)> {
+        match self.put_back(arguments) {
+            Ok(()) => Ok(()),
+            Err(error) => Err((error, self)),
+        }
     }
 }
 

@@ -64,6 +64,22 @@ fn sessions_go_on() {
     assert_eq!((&words, &seen), (&bytes_of("expected.bin"), &words));
 }
 
+#[test]
+fn sessions_are_opened_again() {
+    let mut kernel = Kernel::new(&bytes_of("raise_words.elf"), 128).unwrap();
+    let mut words = bytes_of("a.bin");
+    let mut session = kernel.open(&mut [Argument::Buffer(&mut words), Argument::Scalar(1000)], 10_000).unwrap();
+    for most in [0, 10_000] {
+        session.go_on(most).unwrap();
+        session.put_back(&mut [Argument::Buffer(&mut words)]).unwrap();
+        assert_eq!(session.go_on(1).unwrap_err().name(), "NOTHING_KEPT");
+        assert!(words == bytes_of(if most == 0 { "a.bin" } else { "expected.bin" }));
+        let refused = kernel.open_again(&mut session, &mut [Argument::Buffer(&mut words), Argument::Scalar(1025)], 10_000);
+        assert_eq!((refused.unwrap_err().refusal.place, session.go_on(1).unwrap_err().name()), (1, "NOTHING_KEPT"));
+        kernel.open_again(&mut session, &mut [Argument::Buffer(&mut words), Argument::Scalar(1000)], 10_000).unwrap();
+    }
+}
+
 /// The certificate of an image: behind the name of its note, whose padded length is 8.
 fn certificate_in(image: &[u8]) -> &[u8] {
     let at = image.windows(6).position(|name| name == b"RVVBOX").unwrap();

@@ -26,7 +26,7 @@ use Rattle.std.specs.declared.option.Option.TheVariants.{None, Some}
 use Rattle.std.specs.contracts.impls.GlobalAllocator.TheImpl.{ghosts}
 use Rattle.std.proofs.GlobalToken.{dealloc_token-Testable}
 use Rattle.rvvbox_c.specs.Holds.{global}
-use Rattle.rvvbox_c.specs.Running.{OpenView, open_row, run_owns}
+use Rattle.rvvbox_c.specs.Running.{StandingView, standing_row, run_owns}
 use Rattle.rvvbox_c.specs.contracts.running.Run as run
 use Rattle.rvvbox_c.proofs.Values.{alone, ptr_good}
 
@@ -36,15 +36,15 @@ Hd = run.the_row
 pub alone_good : (p : Ptr) → Good (layout Hd) (alone p)
 alone_good p = (and_tt (has_ty ty_ptr (ptr_val p)) (ptr_good p).0, ((ptr_good p).1, tt))
 
-abbrev pub boxed : Ptr → OpenView → Fml
-boxed p a = box_owns (ghosts.dealloc_token global) open_row p a
+abbrev pub boxed : Ptr → StandingView → Fml
+boxed p a = box_owns (ghosts.dealloc_token global) standing_row p a
 
 module _ {M : Type 1} {𝓤 : Ura M} (𝓛 : Logic 𝓤) where
-  pub tested : (p : Ptr) (a : OpenView) → ent 𝓤 (sem 𝓛 (boxed p a)) (guard 𝓤 (Testable p) (sem 𝓛 (boxed p a)))
-  tested p a = fact_use 𝓤 (Testable p) (via 𝓤 _ (snd∗ 𝓤 (sem 𝓛 (lies_at open_row full_share p a)) (sem 𝓛 (ghosts.dealloc_token global (bare (lone open_row.mir)) p))) (dealloc_token-Testable 𝓛 global (bare (lone open_row.mir)) p)) (guard_i 𝓤 (Testable p) (sem 𝓛 (boxed p a)))
+  pub tested : (p : Ptr) (a : StandingView) → ent 𝓤 (sem 𝓛 (boxed p a)) (guard 𝓤 (Testable p) (sem 𝓛 (boxed p a)))
+  tested p a = fact_use 𝓤 (Testable p) (via 𝓤 _ (snd∗ 𝓤 (sem 𝓛 (lies_at standing_row full_share p a)) (sem 𝓛 (ghosts.dealloc_token global (bare (lone standing_row.mir)) p))) (dealloc_token-Testable 𝓛 global (bare (lone standing_row.mir)) p)) (guard_i 𝓤 (Testable p) (sem 𝓛 (boxed p a)))
 
 module _ {M : Type 1} {𝓤 : Ura M} {𝓛 : Logic 𝓤} {K : Type 0} {Γ : List (Item 𝓤)} {G : Goal 𝓤 𝓛.H} where
-  pub run_made : K → (p : Ptr) (x : Option OpenView) → Step K 𝓛 (‵ (Hd.own_val (record { at = p; kept = x }) (alone p ∷ [])) ∷ Γ) G (‵ (run_owns p x) ∷ Γ) G
+  pub run_made : K → (p : Ptr) (x : Option StandingView) → Step K 𝓛 (‵ (Hd.own_val (record { at = p; kept = x }) (alone p ∷ [])) ∷ Γ) G (‵ (run_owns p x) ∷ Γ) G
   run_made t p x = step (λ s.
       nothing t $ feq_i t (List Val) (ptr_val p ∷ []) (ptr_val p ∷ []) refl $ fjoin t $ feq_i t (List Val) (alone p ∷ []) (alone p ∷ []) refl $ fjoin t $
       fpack t (Valss (RawPtr ∷ [])) (within (shape run.the_type) (p, tt) (alone p ∷ [])) (ptr_val p ∷ [], tt) $ fjoin t $ s)
@@ -53,8 +53,8 @@ module _ {M : Type 1} {𝓤 : Ura M} {𝓛 : Logic 𝓤} {K : Type 0} {Γ : List
   run_taken t d vs k =
       fsplit t $ fpick t (λ vss. fsplit t $ feq_l t (λ ev. fsplit t $ feq_l t (λ ep. drop t $ k (subst (λ (ps : List Val). vs ≡ vstruct (of_list (ps ++ [])) ∷ []) ep ev))))
 
-  pub either_run : K → (p : Ptr) (x : Option OpenView) → (p ≡ null_ptr → x ≡ None → Seq K 𝓛 Γ G)
-      → ((b o : ℕ) (a : OpenView) → p ≡ block_ptr b o → x ≡ Some a → Testable (block_ptr b o) → Seq K 𝓛 (‵ (boxed (block_ptr b o) a) ∷ Γ) G) → Seq K 𝓛 (‵ (run_owns p x) ∷ Γ) G
+  pub either_run : K → (p : Ptr) (x : Option StandingView) → (p ≡ null_ptr → x ≡ None → Seq K 𝓛 Γ G)
+      → ((b o : ℕ) (a : StandingView) → p ≡ block_ptr b o → x ≡ Some a → Testable (block_ptr b o) → Seq K 𝓛 (‵ (boxed (block_ptr b o) a) ∷ Γ) G) → Seq K 𝓛 (‵ (run_owns p x) ∷ Γ) G
   either_run t p None none one = feq_l t (λ e. none e refl)
-  either_run t p (Some a) none one = in_a_block t p (λ q. boxed q a) (fst∗ 𝓤 (never 𝓤) (sem 𝓛 (ghosts.dealloc_token global (bare (lone open_row.mir)) null_ptr))) (λ b o e.
+  either_run t p (Some a) none one = in_a_block t p (λ q. boxed q a) (fst∗ 𝓤 (never 𝓤) (sem 𝓛 (ghosts.dealloc_token global (bare (lone standing_row.mir)) null_ptr))) (λ b o e.
       use1 𝓛 (given (Testable (block_ptr b o)) (‵ (boxed (block_ptr b o) a))) (tested 𝓛 (block_ptr b o) a) $ learn t (λ u. one b o a e refl u))

@@ -6,13 +6,14 @@ pub mod Forms
 pub mod Holds
 pub mod Makes
 pub mod Opened
+pub mod Opening
 pub mod RunSlot
 pub mod Running
 pub mod Runs
 pub mod Scalars
-pub mod Sessions
 pub mod Shared
 pub mod Slots
+pub mod Standing
 pub mod Status
 pub mod Told
 pub mod Tries

@@ -1,9 +1,9 @@
 -- A run that was opened: what is told of it, and which bytes it may be put back to.
-use Rattle.std.specs.Prelude.{ℕ, ◌≡◌, ◌==◌, Bool, nat_lt, List, length, Option, None, Some, if◌then◌else◌}
+use Rattle.std.specs.Prelude.{ℕ, ◌≡◌, ◌==◌, ◌≤◌, ◌+◌, Bool, false, nat_lt, List, length, Option, None, Some, if◌then◌else◌}
 use Rattle.std.specs.Option.{option_map, option_or}
 use Rattle.sandbox_run.specs.AnySession.{run_in, vlenb_in}
 use Rattle.sandbox_run.specs.Session.{SessionView}
-use Rattle.vector_core.specs.Run.{Ended, OutOfSteps, Stop, has_ended}
+use Rattle.vector_core.specs.Run.{Ended, OutOfSteps, Stop, has_ended, outcome_from}
 use Rattle.rvvbox_c.specs.Status.{at_place}
 use Rattle.rvvbox_c.specs.declared.forms.Form.{Form}
 use Rattle.rvvbox_c.specs.declared.forms.Forms.{Forms}
@@ -49,6 +49,19 @@ IsSameRun old new =
     × ((run_in new.session).first ≡ (run_in old.session).first)
     × ((run_in new.session).parameters ≡ (run_in old.session).parameters)
     × (new.sizes ≡ old.sizes)
+
+-- A run has gone on for at most these steps, and this tells how far it is.
+abbrev pub HasGoneOn : ℕ → Open → Open → Progress → Type 0
+HasGoneOn most old new told =
+    (told ≡ progress_of (run_in new.session))
+    × (outcome_from (vlenb_in old.session) most (run_in old.session).steps
+    (run_in old.session).machine
+    ≡ stop_of (has_ended (run_in new.session).machine) (run_in new.session))
+    × ((run_in new.session).steps ≤ (run_in old.session).steps + most)
+    × (has_ended (run_in new.session).machine ≡ false
+    → (run_in new.session).steps ≡ (run_in old.session).steps + most)
+    × ((run_in new.session).steps ≤ (run_in new.session).bound)
+    × IsSameRun old new
 
 -- ---- the bytes of the host
 

@@ -52,7 +52,7 @@ impl Setting {
 pub const VERSION_MAJOR: u32 = 2;
 
 /// The second part: a library of a higher one has all that those before it had.
-pub const VERSION_MINOR: u32 = 1;
+pub const VERSION_MINOR: u32 = 2;
 
 /// The version of these calls, the first part above the lower 16 bits.
 #[unsafe(no_mangle)]

@@ -15,11 +15,13 @@ mod kept;
 mod loose;
 mod makes;
 mod opened;
+mod opening;
 mod run_slot;
 mod running;
 mod runs;
 mod sessions;
 mod slot;
+mod standing;
 mod status;
 mod tries;
 
@@ -37,14 +39,15 @@ pub use held::Held;
 pub use kept::Kernel;
 pub use makes::{Takes, rvvbox_make_raw};
 pub use opened::{Progress, Registers};
+pub use opening::{rvvbox_open_again_raw, rvvbox_open_raw};
 pub use run_slot::RunSlot;
 pub use running::Run;
 pub use runs::rvvbox_run_raw;
 pub use sessions::{
-    rvvbox_byte_of, rvvbox_close_raw, rvvbox_drop, rvvbox_go_on, rvvbox_open_raw,
-    rvvbox_registers_of,
+    rvvbox_byte_of, rvvbox_close_raw, rvvbox_drop, rvvbox_go_on, rvvbox_registers_of,
 };
 pub use slot::Slot;
+pub use standing::Standing;
 pub use status::{Bound, Refusal};
 pub use tries::{Stopped, rvvbox_try_raw};
 

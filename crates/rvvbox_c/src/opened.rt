@@ -1,10 +1,9 @@
 //! A run that was opened, between two steps.
-ghost use Rattle.std.specs.Prelude.{◌≡◌, ◌≤◌, ◌+◌, IfSome, false};
-ghost use Rattle.sandbox_run.specs.AnySession.{run_in, vlenb_in};
-ghost use Rattle.vector_core.specs.Run.{has_ended, outcome_from};
+ghost use Rattle.std.specs.Prelude.{◌≡◌, IfSome};
+ghost use Rattle.sandbox_run.specs.AnySession.{run_in};
 ghost use Rattle.rvvbox_c.specs.Holds.{IsFailure};
-ghost use Rattle.rvvbox_c.specs.Opened.{IsSameRun, back_at as back_at_place, back_refusal, bit_of};
-ghost use Rattle.rvvbox_c.specs.Opened.{named_in, progress_of, registers_told, sizes_in, stop_of};
+ghost use Rattle.rvvbox_c.specs.Opened.{HasGoneOn, back_at as back_at_place, back_refusal, bit_of};
+ghost use Rattle.rvvbox_c.specs.Opened.{named_in, registers_told, sizes_in};
 
 use crate::forms::{Form, Forms};
 use crate::status::{Refusal, Status};
@@ -155,15 +154,7 @@ impl Open {
     /// Goes on for at most `most` steps, and tells how far the run is. A run that has ended stays as
     /// it is.
     pub(crate) fn go_on(&mut self, most: u64) -> Progress
-        ensures told { result ≡ progress_of (run_in self.new.session) }
-        ensures outcome { outcome_from (vlenb_in self.old.session) most
-            (run_in self.old.session).steps (run_in self.old.session).machine
-            ≡ stop_of (has_ended (run_in self.new.session).machine) (run_in self.new.session) }
-        ensures most { (run_in self.new.session).steps ≤ (run_in self.old.session).steps + most }
-        ensures all { has_ended (run_in self.new.session).machine ≡ false
-            → (run_in self.new.session).steps ≡ (run_in self.old.session).steps + most }
-        ensures within { (run_in self.new.session).steps ≤ (run_in self.new.session).bound }
-        ensures same { IsSameRun self.old self.new }
+        ensures { HasGoneOn most self.old self.new result }
     {
         let ended = self.session.run_at_most(most);
         Progress {

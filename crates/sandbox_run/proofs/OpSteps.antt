@@ -4,14 +4,14 @@ use Rattle.rv_decode.specs.declared.instructions.Insn.TheVariants.{Scalar}
 use Rattle.rv_decode.specs.declared.instructions.ScalarInsn.{ScalarInsn}
 use Rattle.rv_decode.specs.Decode.{meaning_of}
 use Rattle.region_mem.specs.Faults.{Steps}
-use Rattle.region_mem.specs.Memory.{Memory, fetch_of}
+use Rattle.region_mem.specs.Memory.{Memory}
 use Rattle.region_mem.specs.declared.faults.Fault.{Fault}
 use Rattle.scalar_core.specs.Hart.{Hart}
 use Rattle.scalar_core.specs.Ops.{insn_of}
 use Rattle.scalar_core.specs.Step.{rv32im_step, scalar_step}
 use Rattle.scalar_core.specs.declared.op.Op.{Op}
 use Rattle.vector_core.specs.Machine.{Machine}
-use Rattle.vector_core.specs.MachineStep.{carry_out, decoded, fetched, step, with_scalar}
+use Rattle.vector_core.specs.MachineStep.{carry_out, decoded, with_scalar}
 
 module _ (vlenb word : ℕ) (m : Machine) (h : Hart) (memory : Memory) (insn : ScalarInsn) where
   carried : (answer : Result (Unit {0}) Fault)
@@ -22,22 +22,18 @@ module _ (vlenb word : ℕ) (m : Machine) (h : Hart) (memory : Memory) (insn : S
   carried (Err fault) (fails, kept) =
       (ap (with_scalar m) fails, ap (λ (p : Hart × Memory). record m { hart = p.0; memory = p.1 }) kept)
 
--- The whole step, from the fetch on.
-pub op_steps : (vlenb pc word known : ℕ) (m : Machine) (left : Memory) (h : Hart) (memory : Memory) (o : Option Op) (op : Op)
-    (answer : Result (Unit {0}) Fault) → pc ≡ m.hart.pc → Some word ≡ fetch_of pc m.memory → left ≡ m.memory → known ≡ word
+-- The step of a word, from what it means on.
+pub op_steps : (vlenb word known : ℕ) (m : Machine) (h : Hart) (memory : Memory) (o : Option Op) (op : Op)
+    (answer : Result (Unit {0}) Fault) → known ≡ word
     → IfSome o (λ op. meaning_of known ≡ Some (Scalar (insn_of op))) → o ≡ Some op
-    → Steps (rv32im_step (insn_of op) m.hart left) (m.hart, left) (h, memory) answer
-    → Steps (step vlenb m) m (record m { hart = h; memory = memory }) answer
-unfolding step
-op_steps vlenb pc word known m left h memory o op answer at found kept is means there_is done =
+    → Steps (rv32im_step (insn_of op) m.hart m.memory) (m.hart, m.memory) (h, memory) answer
+    → Steps (decoded vlenb word m (meaning_of word)) m (record m { hart = h; memory = memory }) answer
+op_steps vlenb word known m h memory o op answer is means there_is done =
     let insn : ScalarInsn = insn_of op in
-    let there : fetch_of m.hart.pc m.memory ≡ Some word = ap (λ (p : ℕ). fetch_of p m.memory) (sym at) ∙ sym found in
     let known_means : meaning_of known ≡ Some (Scalar insn) =
     subst (λ (x : Option Op). IfSome x (λ op. meaning_of known ≡ Some (Scalar (insn_of op)))) there_is means in
     let meaning : meaning_of word ≡ Some (Scalar insn) = ap meaning_of (sym is) ∙ known_means in
-    let first : step vlenb m ≡ carry_out vlenb word m (Scalar insn) = ap (fetched vlenb m) there ∙ ap (decoded vlenb word m) meaning in
-    let from_left : Steps (rv32im_step insn m.hart m.memory) (m.hart, m.memory) (h, memory) answer =
-    subst (λ (x : Memory). Steps (rv32im_step insn m.hart x) (m.hart, x) (h, memory) answer) kept done in
     let by_class : Steps (carry_out vlenb word m (Scalar insn)) m (record m { hart = h; memory = memory }) answer =
-    carried vlenb word m h memory insn answer from_left in
-    subst (λ (d : Result Machine Fault). Steps d m (record m { hart = h; memory = memory }) answer) (sym first) by_class
+    carried vlenb word m h memory insn answer done in
+    subst (λ (d : Result Machine Fault). Steps d m (record m { hart = h; memory = memory }) answer)
+    (sym (ap (decoded vlenb word m) meaning)) by_class

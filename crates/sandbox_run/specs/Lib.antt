@@ -7,7 +7,6 @@ pub mod HostLaws
 pub mod Rooms
 pub mod Session
 pub mod Laws
-pub mod Memo
 pub mod Stops
 pub mod Whole
 pub mod Words

@@ -16,6 +16,7 @@ ghost use Rattle.sandbox_run.specs.Stops.{IsStop};
 
 use crate::outcome::{OpenError, Registers};
 use crate::session::Session;
+use crate::spare::Spare;
 use block_checker::Accepted;
 use region_mem::Args;
 use rv_decode::Reg;
@@ -70,19 +71,50 @@ impl AnySession {
             → IfErr result (λ e. e.0 ≡ OpenError.NoMemory) }
         ensures back { IfErr result (λ e. e.1 ≡ args) }
     {
+        AnySession::open_with(alloc, accepted, args, agnostic, max, &mut None)
+    }
+
+    /// The same on what `spare` holds, as [`Session::open_with`].
+    ///
+    /// # Errors
+    /// Those of [`AnySession::open`].
+    pub fn open_with(
+        alloc: Global,
+        accepted: &Accepted,
+        args: Args,
+        agnostic: Agnostic,
+        max: u64,
+        spare: &mut Option<Spare>,
+    ) -> Result<AnySession, (OpenError, Args)>
+        ensures vlenb { IfOk result (λ s. vlenb_in s ≡ vlenb_of accepted.now.vlen) }
+        ensures opened { IfOk result (λ s. IsOpened (vlenb_of accepted.now.vlen) agnostic
+            accepted.now args.places max (run_in s)) }
+        ensures refused { IfSome
+            (open_fault (vlenb_of accepted.now.vlen) accepted.now args.places max)
+            (λ error. IsErrAnd result (λ e. e.0 ≡ error)) }
+        ensures memory { open_fault (vlenb_of accepted.now.vlen) accepted.now args.places max ≡ None
+            → IfErr result (λ e. e.0 ≡ OpenError.NoMemory) }
+        ensures back { IfErr result (λ e. e.1 ≡ args) }
+    {
         match accepted.vlen() {
-            Vlen::V128 => match Session::<16>::open(alloc, accepted, args, agnostic, max) {
-                Ok(session) => Ok(AnySession::V128(session)),
-                Err(refused) => Err(refused),
-            },
-            Vlen::V256 => match Session::<32>::open(alloc, accepted, args, agnostic, max) {
-                Ok(session) => Ok(AnySession::V256(session)),
-                Err(refused) => Err(refused),
-            },
-            Vlen::V512 => match Session::<64>::open(alloc, accepted, args, agnostic, max) {
-                Ok(session) => Ok(AnySession::V512(session)),
-                Err(refused) => Err(refused),
-            },
+            Vlen::V128 => {
+                match Session::<16>::open_with(alloc, accepted, args, agnostic, max, spare) {
+                    Ok(session) => Ok(AnySession::V128(session)),
+                    Err(refused) => Err(refused),
+                }
+            }
+            Vlen::V256 => {
+                match Session::<32>::open_with(alloc, accepted, args, agnostic, max, spare) {
+                    Ok(session) => Ok(AnySession::V256(session)),
+                    Err(refused) => Err(refused),
+                }
+            }
+            Vlen::V512 => {
+                match Session::<64>::open_with(alloc, accepted, args, agnostic, max, spare) {
+                    Ok(session) => Ok(AnySession::V512(session)),
+                    Err(refused) => Err(refused),
+                }
+            }
         }
     }
 
@@ -207,5 +239,17 @@ impl AnySession {
         ensures matching { AreArguments (run_in self).parameters result.places }
     {
         on_run!(self, session, session.close())
+    }
+
+    /// The same. What the run leaves for the next one goes into `spare`.
+    pub fn close_into(self, spare: &mut Option<Spare>) -> Args
+        ensures places { result.places ≡ args_of (run_in self).machine.memory }
+        ensures back { ComesBack (run_in self).parameters (args_of (run_in self).first.memory)
+            result.places }
+        ensures scalars { scalars_of result.places
+            ≡ scalars_of (args_of (run_in self).first.memory) }
+        ensures matching { AreArguments (run_in self).parameters result.places }
+    {
+        on_run!(self, session, session.close_into(spare))
     }
 }

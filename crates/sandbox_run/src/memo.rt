@@ -1,20 +1,22 @@
-//! Words that a run met before, and what they mean.
+//! Words that a run met before, what they mean, and how they are carried out.
 //!
 //! Nothing is decoded ahead. A step fetches its word with the test of rights, and then looks up what
 //! that very word means. Legality is judged again where vtype is no longer the same.
 
-ghost use Rattle.std.specs.Prelude.{◌≡◌, ◌==◌, ◌<◌, slice_index, IfSome, Some};
+ghost use Rattle.std.specs.Prelude.{◌≡◌, ◌==◌, ◌<◌, IfSome, Some};
+ghost use Rattle.region_mem.specs.Faults.{Steps};
 ghost use Rattle.rv_decode.specs.Decode.{meaning_of};
 ghost use Rattle.rv_decode.specs.declared.instructions.Insn.TheVariants.{Scalar as ScalarOf};
 ghost use Rattle.scalar_core.specs.Ops.{insn_of};
+ghost use Rattle.vector_core.specs.MachineStep.{decoded};
 ghost use Rattle.vector_core.specs.Step.{IsJudged};
-ghost use Rattle.sandbox_run.specs.Memo.{room_of};
 
-use rv_decode::{Insn, decode};
-use scalar_core::Op;
+use region_mem::{Fault, Regions};
+use rv_decode::{Insn, decode, vector_arithmetic};
+use scalar_core::{Op, Scalar, step_op, step_scalar};
 use std::alloc::{AllocError, Allocator, Global};
 use std::marker::Model;
-use vector_core::judge;
+use vector_core::{VectorState, judge, step_known};
 use vreg_groups::{Vconfig, Vtype};
 
 /// How many words are remembered at once.
@@ -90,8 +92,7 @@ impl Known {
         }
     }
 
-    /// A word, decoded. It stands apart, since it is met far less often than a word that is known.
-    #[inline(never)]
+    /// A word, decoded.
     fn of(word: u32) -> Known
         ensures { result ≡ word }
     {
@@ -100,6 +101,15 @@ impl Known {
         let config = Vconfig::none();
         let judged = judge_any(&config, &insn);
         Known::new(word, op, insn, config.vtype, judged)
+    }
+
+    /// Another word. It stands apart, since a step would clear the locals of this at each word that is
+    /// known.
+    #[inline(never)]
+    fn relearn(&mut self, word: u32)
+        ensures { self.new ≡ word }
+    {
+        *self = Known::of(word);
     }
 
     /// The word 0, which has this meaning.
@@ -114,6 +124,7 @@ impl Known {
     }
 
     /// Whether this is the word.
+    #[inline(always)]
     fn is(&self, word: u32) -> bool
         ensures { result ≡ (self.now == word) }
     {
@@ -121,6 +132,7 @@ impl Known {
     }
 
     /// The flat form of what it means, where there is one.
+    #[inline(always)]
     fn op(&self) -> &Option<Op>
         ensures { IfSome result.now (λ op. meaning_of self.now ≡ Some (ScalarOf (insn_of op))) }
     {
@@ -128,13 +140,15 @@ impl Known {
     }
 
     /// What it means.
-    fn insn(&self) -> Option<Insn>
-        ensures { result ≡ meaning_of self.now }
+    #[inline(always)]
+    fn insn(&self) -> &Option<Insn>
+        ensures { result.now ≡ meaning_of self.now }
     {
-        self.insn
+        &self.insn
     }
 
     /// What legality says of the instruction under vtype as it stands.
+    #[inline(always)]
     fn judged(&mut self, config: &Vconfig) -> Option<Vtype>
         ensures judged { IfSome (meaning_of self.old)
             (λ insn. IsJudged config.now.vtype insn result) }
@@ -167,11 +181,10 @@ impl<A: Allocator> Model for Memo<A> {
     ghost invariant = { λ m. length m.known.items ≡ ROOMS };
 }
 
-/// The room of the word at an address.
+/// The room of the word at an address: words that follow each other have rooms that do.
 #[inline(always)]
 fn room(pc: u32) -> usize
-    ensures value { result ≡ room_of pc }
-    ensures bound { result < ROOMS }
+    ensures { result < ROOMS }
 {
     (pc / 4) as usize % ROOMS
 }
@@ -187,39 +200,63 @@ impl<A: Allocator> Memo<A> {
         Ok(Memo { known })
     }
 
-    /// Remembers the word at an address, in place of the one that its room had.
+    /// Carries out the word at an address, and remembers what it means in place of the word that its
+    /// room had.
     #[inline(always)]
-    pub(crate) fn learn(&mut self, pc: u32, word: u32)
-        ensures { slice_index self.new (room_of pc) ≡ word }
+    pub(crate) fn carry_out<const VLENB: usize>(
+        &mut self,
+        hart: &mut Scalar,
+        vectors: &mut VectorState<VLENB>,
+        memory: &mut Regions<A>,
+        pc: u32,
+        word: u32,
+    ) -> Result<(), Fault>
+        ensures { Steps (decoded VLENB word
+            (record { hart = hart.old; vectors = vectors.old; memory = memory.old })
+            (meaning_of word))
+            (record { hart = hart.old; vectors = vectors.old; memory = memory.old })
+            (record { hart = hart.new; vectors = vectors.new; memory = memory.new }) result }
     {
-        let room = room(pc);
-        if !self.known[room].is(word) {
-            self.known[room] = Known::of(word);
+        let known = &mut self.known[room(pc)];
+        if !known.is(word) {
+            known.relearn(word);
         }
+        if let Some(op) = known.op() {
+            return step_op(hart, op, memory);
+        }
+        carry_out(hart, vectors, memory, known, word)
     }
+}
 
-    /// The flat form of what the word means that is remembered for an address, where there is one.
-    #[inline(always)]
-    pub(crate) fn op(&self, pc: u32) -> &Option<Op>
-        ensures { IfSome result.now
-            (λ op. meaning_of (slice_index self.now (room_of pc)) ≡ Some (ScalarOf (insn_of op))) }
-    {
-        self.known[room(pc)].op()
-    }
-
-    /// What that word means.
-    pub(crate) fn insn(&self, pc: u32) -> Option<Insn>
-        ensures { result ≡ meaning_of (slice_index self.now (room_of pc)) }
-    {
-        self.known[room(pc)].insn()
-    }
-
-    /// What legality says of that word's instruction under vtype as it stands.
-    pub(crate) fn judged(&mut self, pc: u32, config: &Vconfig) -> Option<Vtype>
-        ensures judged { IfSome (meaning_of (slice_index self.old (room_of pc)))
-            (λ insn. IsJudged config.now.vtype insn result) }
-        ensures kept { slice_index self.new (room_of pc) ≡ slice_index self.old (room_of pc) }
-    {
-        self.known[room(pc)].judged(config)
+/// Carries out a word that has no flat form, by the class of what it means. It stands apart, so that
+/// the words that have one take none of its room.
+#[inline(never)]
+#[tactic(auto, unfolding(vector_core::specs::MachineStep::carry_out))]
+fn carry_out<const VLENB: usize, A: Allocator>(
+    hart: &mut Scalar,
+    vectors: &mut VectorState<VLENB>,
+    memory: &mut Regions<A>,
+    known: &mut Known,
+    word: u32,
+) -> Result<(), Fault>
+    requires { known.old ≡ word }
+    ensures { Steps (decoded VLENB word
+        (record { hart = hart.old; vectors = vectors.old; memory = memory.old }) (meaning_of word))
+        (record { hart = hart.old; vectors = vectors.old; memory = memory.old })
+        (record { hart = hart.new; vectors = vectors.new; memory = memory.new }) result }
+{
+    let config = vectors.config();
+    let judged = known.judged(&config);
+    match known.insn() {
+        None => Err(Fault::Illegal(word)),
+        Some(insn) => match insn {
+            Insn::Scalar(_) | Insn::Csr(_) => {
+                vectors.state_law();
+                step_scalar(hart, *insn, memory, &config, VLENB)
+            }
+            Insn::VSet(_) | Insn::VMem(_) | vector_arithmetic!() => {
+                step_known(vectors, hart, word, insn, judged, memory)
+            }
+        },
     }
 }

@@ -117,7 +117,7 @@ impl<const VLENB: usize> Session<VLENB> {
     }
 
     /// The same on what `spare` holds, which a run left in [`Session::close_into`]. Where it holds
-    /// nothing, memory is asked for. Where no run is opened it stays as it was.
+    /// nothing, memory is asked for. Where no run is opened, what it held is there again.
     ///
     /// # Errors
     /// Those of [`Session::open`].

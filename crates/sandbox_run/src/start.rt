@@ -72,7 +72,7 @@ fn take_or_make<A: Allocator + Copy>(
 }
 
 /// The machine at the start, on what `spare` holds; or want of memory, with the arguments as they
-/// came, and `spare` as it was.
+/// came. What `spare` held is then there again.
 #[tactic(auto, unfolding(vector_core::specs::Start::start))]
 pub(crate) fn start_with<const VLENB: usize, A: Allocator + Copy, B: Allocator>(
     alloc: A,

@@ -332,7 +332,7 @@ def attach(image: Image, certificate: bytes) -> bytes:
 
 
 def version() -> tuple[int, int]:
-    """The library's version of the interface, as (2, 1)."""
+    """The library's version of the interface, as (2, 2)."""
     return VERSION
 
 

@@ -14,7 +14,7 @@ use denote.Triple.Walked.{Stays, walk_of}
 use Rattle.std.specs.declared.option.Option.{Option}
 use Rattle.std.specs.declared.option.Option.TheVariants.{None}
 use Rattle.std.proofs.raw_atomic.Walks.{proved_at, leaves}
-use Rattle.rvvbox_c.specs.Running.{OpenView}
+use Rattle.rvvbox_c.specs.Running.{StandingView}
 use Rattle.rvvbox_c.proofs.Values.{alone}
 use Rattle.rvvbox_c.proofs.RunValues.{alone_good, run_made}
 use Rattle.rvvbox_c.specs.contracts.running.Run.empty.{ended, clauses}
@@ -26,7 +26,7 @@ pub empty_spec : {M : Type 1} → statement M
 empty_spec 𝓤 𝓛 𝓜 𝓡 wired =
     let H = 𝓛.H in let 𝓣 = tables 𝓤 H 𝓜 𝓡 𝓡.env in let En = ended in let c = clauses 𝓛 𝓜.mem 𝓡.returns in let fn = code.function in let hs : Stays En.signature.params En.kept = tt in
     proved_at 𝓛 En hs c 𝓜 𝓡 tt #self fn (code.unfolded 𝓤 H 𝓜 𝓡 wired) (λ z are.
-    let Post : Val → SProp 𝓤 = (walk_of 𝓛 En hs c).post z in let none : Option OpenView = None in
+    let Post : Val → SProp 𝓤 = (walk_of 𝓛 En hs c).post z in let none : Option StandingView = None in
     qed 𝓛 ((‵ ftrue ⊛ ‵ ftrue) ∷ raw ((c z.0.0 z.0.3).requires z.1) ∷ []) ∵ split ! $
     enter ! 𝓣.C 𝓣.Λ fn [] Post $ alloc_all ! (λ l. pass_all ! refl tt $ sets ! (agg ! (and_then ! (lit ! tt) (no_more !))) refl (alone_good null_ptr) $
     feq_i ! Ptr null_ptr null_ptr refl $ run_made ! null_ptr none $

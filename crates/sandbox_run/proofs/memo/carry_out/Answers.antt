@@ -1,7 +1,7 @@
 use Rattle.std.proofs.Common.{arith}
 use Rattle.std.proofs.lemmas.Grind.{common_steps}
 use Rattle.vector_core.specs.MachineStep.{carry_out}
-use Rattle.sandbox_run.proofs.machine.carry_out.Goals as goal
+use Rattle.sandbox_run.proofs.memo.carry_out.Goals as goal
 
 pub returns-in-Scalar : goal.returns-in-Scalar
 unfolding carry_out
