@@ -257,10 +257,11 @@ class Maker(Registers, Pace, Addresses, Strips, Tables):
     def slimmer(self, found):
         """The same without what no certificate needs: counters of loops for which one around them pays, tests that never fail, as far as is
         known or is found out, and what counters of inner loops started from. None where all is needed."""
-        best = None
+        best = self.with_bases(found)
+        found = best[2] if best else found
         paid, idle = {head for head in self.counters if self.is_paid_around(self.loop_of[head])}, self.idle_tests(found)
         if paid:
-            best = self.without('counters', {head: counter for head, counter in self.counters.items() if head not in paid})
+            best = self.without('counters', {head: counter for head, counter in self.counters.items() if head not in paid}) or best
         if idle:
             best = self.without('tests', self.tests_without(idle)) or best
         for one in self.doubtful_tests()[:max(LEAST_SLIMMED, MOST_SLIMMED // len(self.code.nodes))]:
@@ -302,15 +303,28 @@ class Maker(Registers, Pace, Addresses, Strips, Tables):
         out = {name: test._replace(**{end: False for other, end in ends if other == name}) for name, test in self.tests.items()}
         return {name: test for name, test in out.items() if test.low or test.high}
 
+    def with_bases(self, found):
+        """The same with tests of strips' bases before their loops, where it has become known that strips have elements; None where that is not
+        accepted."""
+        before = self.with_bases_before(found) if self.strips else None
+        return before and self.changed({'strips': before[0], 'tests': before[1]})
+
     def without(self, name, fewer):
         """What comes of fewer counters or tests; as it was, and None, where that is not accepted, or a limit relies on them."""
-        kept = getattr(self, name)
-        setattr(self, name, fewer)
-        data, image = self.build()
-        found = self.search(image, PLANS[0])
-        if found.answer == 'accepted' and not self.unknown_limits(found):
+        return self.changed({name: fewer})
+
+    def changed(self, others):
+        """What comes of other counters, tests or strips; as it was, and None, where that is not accepted, or a limit relies on them."""
+        kept, found = {name: getattr(self, name) for name in others}, None
+        vars(self).update(others)
+        try:
+            data, image = self.build()
+            found = self.search(image, PLANS[0])
+        except NoRegister:
+            pass
+        if found and found.answer == 'accepted' and not self.unknown_limits(found):
             return data, image, found
-        setattr(self, name, kept)
+        vars(self).update(kept)
         self.build()
         return None
 

@@ -8,6 +8,7 @@ import graph
 import indices
 import program
 import vectors
+from guided import Walked
 from kinds import Strip, Stuck, Test
 from outside import certificates, checker, model, table
 from program import SP, ZERO, Branch, Jump, Label, Number, Word, word
@@ -70,31 +71,55 @@ class Strips:
             return
         lengths = [r for r in range(1, 32) if known.x[r].form == known.x[VL].form and known.x[VL].form.terms]
         range_, older = known.x[register].range, self.strips.get(misfit.key)
-        low, high = range_[0] < zone[0], range_[1] > zone[1]
+        low, high = range_[0] < zone[0], range_[1] > zone[1] if stride < 0 else range_[1] + stride * known.vl[1] > table.M32
         if self.begin_strip(misfit, zone, stride, low, high):
             low = high = False
             older = older and older._replace(low=False, high=False)
         elif older is None and low and high and stride >= 0:
             low = False             # (a pointer that rises is known to be above its start once its end is known)
+        elif older is not None and (low or older.low, high or older.high) == (older.low, older.high):
+            low = high = True       # (what was asked for was not enough)
         self.strips[misfit.key] = Strip(misfit.key, zone, low or bool(older and older.low), high or bool(older and older.high),
                                         known.vl[0] == 0 or bool(older and older.is_empty), lengths[0] if lengths else None, stride)
 
     def begin_strip(self, misfit, zone, stride, low, high):
         """Tests of a strip's base before the loop around it, once, where it only rises there and the first round is sure to have that strip: what
         is told of each strip's end keeps the base in its zone then. Whether they were put in; where they were of no use they go."""
-        key, size = misfit.key, self.code.nodes[misfit.key].i.width // 8
-        register = self.code.nodes[key].f['rs1']
+        key = misfit.key
         if key in self.begun:
             self.tests.pop(self.begun[key], None)
             return False
+        name = self.base_before(key, stride) if misfit.known.vl[0] and (low or high) else None
+        if name is None or name in self.tests:
+            return False
+        self.tests[name] = self.base_test(name, key, zone, low, high)
+        self.begun[key] = name
+        return True
+
+    def base_before(self, key, stride):
+        """The name of a test of a strip's base before the loop around it, where that is as good as one of its first round; else None."""
+        register = self.code.nodes[key].f['rs1']
         for loop in sorted(filter(self.graph.is_natural, self.graph.inside[key]), key=lambda loop: -loop.depth)[:1]:
-            name = loop.head, register, 'entering'
-            if (self.hoists and stride > 0 and misfit.known.vl[0] and (low or high) and name not in self.tests and self.comes_first(loop, key, register)
+            if (self.hoists and stride > 0 and self.comes_first(loop, key, register)
                     and (not self.graph.writers(loop.nodes, register) or counters.only_rises(self.graph, loop, register))):
-                self.tests[name] = Test(loop.head, True, register, zone[0], zone[1] - size & table.M32, low, high, zone[3])
-                self.begun[key] = name
-                return True
-        return False
+                return loop.head, register, 'entering'
+        return None
+
+    def base_test(self, name, key, zone, low, high):
+        return Test(name[0], True, name[1], zone[0], zone[1] - self.code.nodes[key].i.width // 8 & table.M32, low, high, zone[3])
+
+    def with_bases_before(self, found):
+        """The strips without tests of their bases, as far as they have elements, and the tests of those before their loops; None where that would
+        be the same as it is."""
+        walked, places = Walked(found, self.seen, self.vlen), {key: at for at, key in self.node_at.items()}
+        strips, tests = dict(self.strips), dict(self.tests)
+        for key, strip in self.strips.items():
+            if strip.most is None and strip.stride > 0 and (strip.low or strip.high) and key in places and walked.known_at(places[key]).vl[0]:
+                strips[key] = strip._replace(low=False, high=False, is_empty=False)
+                name = self.base_before(key, strip.stride)
+                if name and name not in tests:
+                    tests[name] = self.base_test(name, key, strip.zone, True, True)
+        return None if strips == self.strips else (strips, tests)
 
     def is_strip_above(self, key, node, stride):
         """Whether this round tests the same strip, which has elements, in one straight line above an access, with no other test between: what

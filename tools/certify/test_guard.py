@@ -127,6 +127,17 @@ class Kinds(unittest.TestCase):
         self.assertEqual([(strip.low, strip.high) for strip in made.maker.strips.values()], [(True, True)])
         self.assertEqual(made.maker.tests, {})
 
+    def test_bases_of_strips_go_once_it_is_known_that_strips_have_elements(self):
+        """Those beside the tested one as well, which lie at known distances from it."""
+        text = '''li t0, 3; bltu a1, t0, end; addi a4, a1, -2; li t6, 1; rows: mul t0, t6, a1; add t0, a0, t0; mv t3, a4; at: vsetvli t4, t3, e8, m2, ta, ma
+            vle8.v v8, (t0); addi t5, t0, 2; vle8.v v10, (t5); vadd.vv v8, v8, v10; vse8.v v8, (t0); add t0, t0, t4; sub t3, t3, t4; bnez t3, at
+            addi t6, t6, 1; bne t6, a2, rows; end: ret'''
+        some = lambda width, height: [bytes(range(128)), width, height]
+        made = self.guards(text, [writes(128), scalar(0, 32), scalar(2, 8)], [some(2, 2), some(16, 8), some(32, 4), some(3, 8)], [some(32, 5)])
+        self.assertEqual({strip[2:5] for strip in map(tuple, made.maker.strips.values())}, {(False, False, False)})
+        ran, number = made.run(some(20, 7))
+        self.assertEqual((ran.fault, made.told[number - 1].kind), (None, 'strip'))
+
     def test_a_strip_that_is_loaded_and_stored_is_tested_once(self):
         some = lambda many: [TAKEN_APART[:20], many]
         for between, count in (('vadd.vi v8, v8, 1', 1), ('vadd.vi v8, v8, 1; addi a0, a0, 0', 2), ('lw t0, 0(a0); vadd.vx v8, v8, t0', 2)):
