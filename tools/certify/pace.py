@@ -11,6 +11,7 @@ UNKNOWN = (1 << 32) - (1 << 12)     # how great a number may be of which nothing
 LITTLE = 1 << 12, 1 << 10       # fuel of which a run tells later whether it is enough
 GREAT = 1 << 24         # rounds that no loop is taken to have
 LONGEST = 1 << 38       # steps of half an hour
+PATIENCE = 8            # rounds in which loops around one get fuel one after another, as in recursions there are many of them
 
 
 class Pace:
@@ -382,11 +383,12 @@ class Pace:
                 if guess.x[r][0] == guess.x[r][1] and not self.graph.writers(loop.nodes, r)}
 
     def give_fuel(self, found):
-        """Fuel for the outermost loop of those that are nested too deep, else for all loops."""
+        """Fuel for the outermost loop of those that are nested too deep, after many rounds for each of them, else for all loops."""
         inner = self.heads_of(found.trouble.loop)[:1] if found.trouble is not None else []
         around = [loop for loop in self.graph.loops for head in inner if head in loop.nodes and head != loop.head and loop.head not in self.fuelled]
         outer = {loop.head for loop in self.graph.loops if any(other.nodes < loop.nodes for other in self.graph.loops)}
-        more = {min(around, key=lambda loop: loop.depth).head} if around else outer - self.fuelled
+        first = around if self.round >= PATIENCE else sorted(around, key=lambda loop: loop.depth)[:1]
+        more = {loop.head for loop in first} if around else outer - self.fuelled
         more = more or {loop.head for loop in self.graph.loops} - self.fuelled
         self.fuelled |= more
         for head in more:

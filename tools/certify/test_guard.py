@@ -338,6 +338,14 @@ class Kinds(unittest.TestCase):
         self.assertEqual({key: len(operations) for key, operations in edits.before.items()}, {'x': 2, 'y': 2})
         self.assertEqual([call.args[0] for call in maker.failed.call_args_list], ['fuel', 'fuel'])
 
+    def test_loops_around_one_get_fuel_together_after_many_rounds(self):
+        loops = [graph.Loop(((), k), frozenset(((), at) for at in range(k, 4)), frozenset(), k) for k in (3, 2, 1)]
+        for number, heads in ((0, {((), 1)}), (pace.PATIENCE, {((), 1), ((), 2)})):
+            maker = unittest.mock.Mock(round=number, fuelled=set(), rests={}, counters={((), 2): 'its counter'}, **{'heads_of.return_value': [((), 3)]})
+            maker.graph.loops = loops
+            pace.Pace.give_fuel(maker, unittest.mock.Mock())
+            self.assertEqual((maker.fuelled, len(maker.counters)), (heads, number == 0))
+
     def test_tests_that_never_fail_go(self):
         """Each end by itself: here the upper one, of an index that was loaded, is needed."""
         for cut, left in (('andi t0, t0, 7', {}), ('nop', {'high'})):
