@@ -23,6 +23,7 @@ class Graph:
 
     def __init__(self, code, vlenb=16):
         self.code, self.nodes, self.leads, self.known = code, code.nodes, code.leads, {}     # (known: what `counters` asks for again)
+        self.vlenb = vlenb
         self.order = reversed_postorder(code.entry, code.leads)
         self.place = {key: k for k, key in enumerate(self.order)}
         self.comes = {key: [] for key in self.order}

@@ -11,6 +11,7 @@ import kinds
 import notes
 import pace
 import program
+import search
 import small
 from outside import certificates, checker
 from small import reads, scalar, word, writes
@@ -536,6 +537,23 @@ class Kinds(unittest.TestCase):
         made = self.guards('lw t0, 0(a0); at: add t1, a1, t0; lbu t2, 0(t1); beqz t2, end; lbu t2, 0(t1); addi t1, t1, 4; beqz t2, end; lbu t3, -4(t1); end: sw t2, 0(a2); ret',
                            [reads(4), reads(16), writes(4)], [some(0), some(15)], [some(16), some(-1)])
         self.assertEqual(len(made.maker.tests), 1)
+
+    def test_an_address_that_is_kept_below_a_frame_of_vector_registers(self):
+        """The frame is as large as VLEN says."""
+        some = lambda offset: [TAKEN_APART[:16], word(offset), bytes(4)]
+        for move in ('slli t0, t0, 1; ', ''):
+            text = f'''addi sp, sp, -16; csrrs t0, 0xc22, x0; {move}sub sp, sp, t0; sw a0, 4(sp); sw a1, 0(sp); lw t1, 0(a1); lw t2, 4(sp); add t2, t2, t1; at: lbu t3, 0(t2)
+                csrrs t0, 0xc22, x0; {move}add sp, sp, t0; addi sp, sp, 16; sw t3, 0(a2); ret'''
+            made = self.guards(text, [reads(16), reads(4), writes(4)], [some(0), some(15)], [some(-1), some(16)])
+            self.assertEqual([told.what for told in made.told], ['a0'])
+
+    def test_what_is_known_of_a_word_that_no_block_comes_to(self):
+        text = 'beqz a0, end; at: addi a0, a0, -1; end: ret'
+        image = certificates.read_image(small.image(text))
+        found = search.find(image, [scalar(0, 9)], 128)
+        alone = found._replace(certificate=found.certificate._replace(blocks=found.certificate.blocks[:1]))
+        self.assertIsNotNone(guided.Walked(alone, image, 128).known_at(small.CODE))
+        self.assertIsNone(guided.Walked(alone, image, 128).known_at(small.label(text, 'at')))
 
     def test_the_entrys_return_in_memory(self):
         made = self.guards(self.CALL.format('jal ra, f') + 'f: sw a0, 0(a1); ret', [scalar(0, 1000), writes(4)], [[12, bytes(4)]], [])
