@@ -147,7 +147,8 @@ class Addresses:
                 name = loop.head, base, 'entering'
                 if not base or base == index or base in made[1] or index in made[1] - {register} or self.graph.writers(loop.nodes, base):
                     continue
-                low, high = (self.known_before(made[0]) if index == register else misfit.known).x[index].range
+                known = self.known_before(made[0]) if index == register else misfit.known
+                low, high = known.x[index].range if known else checker.FULL
                 if high >= 1 << 31:
                     continue
                 if not self.graph.is_natural(loop) or name in self.tests or not self.begins_with(loop, made[0] if index == register else misfit.key, index, low):

@@ -219,7 +219,8 @@ class Pace:
         """What registers are on the ways into a loop; where nothing stands on these, those from outside."""
         place, head = [self.laid.places[label, loop.head] for label in ('enter', 'at')] if self.laid else 2 * [loop.head[1]]
         if place != head:
-            return [Walked(found, self.seen, self.vlen).known_at(place).x]
+            known = Walked(found, self.seen, self.vlen).known_at(place)
+            return [known.x] if known else []
         node_of = lambda pc: self.key_at.get(pc) if self.laid else ((), pc)
         return [edge.known.x for edge in found.finder.edge_list if edge.target == head and node_of(edge.pc) not in loop.nodes]
 

@@ -114,7 +114,8 @@ class Strips:
         walked, places = Walked(found, self.seen, self.vlen), {key: at for at, key in self.node_at.items()}
         strips, tests = dict(self.strips), dict(self.tests)
         for key, strip in self.strips.items():
-            if strip.most is None and strip.stride > 0 and (strip.low or strip.high) and key in places and walked.known_at(places[key]).vl[0]:
+            known = walked.known_at(places[key]) if strip.most is None and strip.stride > 0 and (strip.low or strip.high) and key in places else None
+            if known and known.vl[0]:
                 strips[key] = strip._replace(low=False, high=False, is_empty=False)
                 name = self.base_before(key, strip.stride)
                 if name and name not in tests:
