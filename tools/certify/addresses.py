@@ -4,11 +4,13 @@ import counters
 import graph
 import program
 import quick
+from guided import Walked
 from kinds import COUNT, NoRegister, Strip, Test
 from outside import certificates, checker, table
 from program import SP, ZERO, Branch, Jump, Label, Number, Word, word
 
 VL, PASSED = checker.VL, checker.PASSED
+MOST_STEPS = 4          # how many shifts and sums may make an index of one that rises
 
 
 class Addresses:
@@ -115,7 +117,7 @@ class Addresses:
         if older is None and not is_entering and needs_low and needs_high:
             rises, falls = self.goes(misfit.key, register)
             needs_low, needs_high = not rises, not falls
-        if older is None and not is_entering and needs_low and needs_high and self.put_base_test(misfit, register, first, zone):
+        if older is None and not is_entering and needs_low and needs_high and self.put_base_test(misfit, register, first, end, zone):
             needs_low = False
         if older is not None and older.low != older.high and self.put_end_before(misfit.key, register, zone, older.high):
             return
@@ -135,37 +137,64 @@ class Addresses:
                     return True
         return False
 
-    def put_base_test(self, misfit, register, first, zone):
-        """A test of the lower end before the loop around an access whose address is there a number that stays, and an index that rises from a
-        known one. Whether there was one."""
+    def put_base_test(self, misfit, register, first, end, zone):
+        """A test before the loop around an access whose address is there a number that stays, and an index that rises from a known one: of the
+        lower end, and of the upper one where sums with the index could pass 2^32. Whether there was one."""
         made = self.maker_of(misfit.key, register)
         for loop in sorted(self.graph.inside[misfit.key], key=lambda loop: -loop.depth)[:1] if made and self.hoists else ():
             node = self.code.nodes[made[0]]
             for base, index in ((node.f['rs1'], node.f['rs2']), (node.f['rs2'], node.f['rs1'])):
-                low, high = misfit.known.x[index].range
                 name = loop.head, base, 'entering'
-                if not base or base == index or base in made[1] or index in made[1] or self.graph.writers(loop.nodes, base) or high >= 1 << 31:
+                if not base or base == index or base in made[1] or index in made[1] - {register} or self.graph.writers(loop.nodes, base):
                     continue
-                if not self.graph.is_natural(loop) or name in self.tests or not self.begins_with(loop, misfit.key, index, low):
+                known = self.known_before(made[0]) if index == register else misfit.known
+                low, high = known.x[index].range if known else checker.FULL
+                if high >= 1 << 31:
                     continue
-                self.tests[name] = Test(loop.head, True, base, zone[0] - first - low & table.M32, table.M32, True, False, zone[3])
+                if not self.graph.is_natural(loop) or name in self.tests or not self.begins_with(loop, made[0] if index == register else misfit.key, index, low):
+                    continue
+                may_wrap = misfit.known.x[base].range[1] + high > table.M32
+                self.tests[name] = Test(loop.head, True, base, zone[0] - first - low & table.M32, (zone[1] - end - low if may_wrap else -1) & table.M32, True, may_wrap, zone[3])
                 return True
         return False
 
+    def known_before(self, key):
+        """What is known before a node."""
+        place = next(at for at, it in self.node_at.items() if it == key) if self.laid else key[1]
+        return Walked(self.found, self.seen, self.vlen).known_at(place)
+
     def begins_with(self, loop, key, index, low):
         """Whether an access is sure to come in the first round of a loop, with an index that has its least number then."""
-        register, shift = index, 0
-        if not counters.is_on_each_way(self.graph, loop, [key]) or any(to not in loop.nodes for at in self.graph.between(loop.head, key) - {key}
-                                                                      if at in loop.nodes for to in self.graph.leads[at]):
+        register, at, steps = index, key, []
+        if not self.is_in_first_round(loop, key):
             return False
-        writers = self.graph.writers(loop.nodes, index)
-        if len(writers) == 1 and self.code.nodes[writers[0]].i.name == 'slli' and self.graph.dominates(writers[0], key):
-            register, shift = self.code.nodes[writers[0]].f['rs1'], self.code.nodes[writers[0]].f['imm']
-        guess = self.guess_at(loop.head, self.found)
-        at_head = guess and guess.x[register]
-        moves = counters.moves_of(self.graph, loop, register)
-        return bool(at_head and moves and all(map(counters.is_rise, moves)) and at_head[0] << shift == low and at_head[1] << shift < 1 << 31
-                    and counters.setters_of(self.graph, loop, writers[0] if shift else key, register) == {None})
+        while (setters := counters.setters_of(self.graph, loop, at, register)) != {None}:
+            if len(setters) != 1 or len(steps) == MOST_STEPS:
+                return False
+            at, = setters
+            node = self.code.nodes[at]
+            if node.i.name not in ('slli', 'srli', 'addi') or not node.f['rs1'] or node.loads or node.stores:
+                return False
+            register = node.f['rs1']
+            steps.append((node.i.name, node.f['imm']))
+        guess, moves = self.guess_at(loop.head, self.found), counters.moves_of(self.graph, loop, register)
+        if not guess or not moves or not all(map(counters.is_rise, moves)):
+            return False
+        ends = guess.x[register]
+        for name, by in reversed(steps):
+            ends = [end << by if name == 'slli' else end >> by if name == 'srli' else end + by for end in ends]
+            if not 0 <= ends[0] <= ends[1] < 1 << 31:
+                return False
+        return ends[0] == low and ends[1] < 1 << 31
+
+    def is_in_first_round(self, loop, key):
+        """Whether a node is sure to be come to in the first round of a loop."""
+        return counters.is_on_each_way(self.graph, loop, [key]) and all(to in loop.nodes for at in self.graph.between(loop.head, key) - {key}
+                                                                       if at in loop.nodes for to in self.graph.leads[at])
+
+    def comes_first(self, loop, key, register):
+        """The same, with a register as it is at the loop's head."""
+        return self.is_in_first_round(loop, key) and counters.setters_of(self.graph, loop, key, register) == {None}
 
     def goes(self, key, register):
         """Whether a register only rises in the innermost loop around a node, and whether it only falls."""
@@ -225,13 +254,13 @@ class Addresses:
     def compared(self, key, register, value, is_least, label, more, given=None, is_outside=False):
         """A branch to a label where a register is below a number, or above it. given: the register for the number, if it is chosen.
         is_outside: whether it stands on the ways into the loop of a head."""
-        out, other = [], self.held(key, value, is_outside)
-        if other is None and given is not None:
-            other = given
-            out.append(Number(other, value))
+        out, other, is_next = [], self.held(key, value, is_outside), False
         if other is None:
-            other = self.temporary([key], more | 1 << register)
-            out.append(Number(other, value))
+            is_next = not is_least and value < table.M32 and len(program.number_words(1, value + 1)) < len(program.number_words(1, value))
+            other = given if given is not None else self.temporary([key], more | 1 << register)
+            out.append(Number(other, value + is_next))
+        if is_next:             # (the number above takes fewer words, as the end of whole pages does)
+            return out + [Branch('bgeu', register, other, label)]
         return out + [Branch('bltu', *((register, other) if is_least else (other, register)), label)]
 
     def times(self, key, t, length, factor, more, given=None):

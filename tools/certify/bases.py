@@ -300,7 +300,7 @@ class Bases:
         if self.code.is_return(node):
             return []
         if graph.used_and_set(node)[1] >> 2 & 1:
-            by = node.f['imm'] if node.i.name == 'addi' else self.added(node) if node.i.name == 'add' else None
+            by = node.f['imm'] if node.i.name == 'addi' else self.added(node)
             now = now + by if None not in (now, by) and node.f['rs1'] == 2 else None
         return [(to, now) for to in leads]
 
@@ -345,9 +345,20 @@ class Bases:
         return [(to, now) for to in leads]
 
     def added(self, node):
-        """The known number that an add adds, as a signed one; None where there is none."""
+        """The known number that an add adds, or a sub takes away, as a signed one; None where there is none."""
+        if node.i.name not in ('add', 'sub'):
+            return None
         number = self.code.constant(node.f['rs2'], node)
-        return None if number is None else model.signed(number, 32)
+        number = self.of_vlenb(node.f['rs2'], node) if number is None else number
+        return None if number is None else model.signed(number, 32) * (1 if node.i.name == 'add' else -1)
+
+    def of_vlenb(self, register, node):
+        """vlenb, maybe shifted, which is put into a register right before a node, as for a frame of vector registers."""
+        shift, before = 0, self.code.nodes.get((node.calls, node.pc - 4))
+        if before and before.i.name == 'slli' and before.f['rd'] == before.f['rs1'] == register:
+            shift, before = before.f['imm'], self.code.nodes.get((node.calls, node.pc - 8))
+        is_it = before and before.f.get('csr') == 0xc22 and before.f.get('rd') == register and before.i.name == 'csrrs'
+        return self.graph.vlenb << shift if is_it else None
 
     def own_slot(self, node):
         """The slot of its function's own frame that a load or store by the stack pointer means, else None."""
@@ -386,8 +397,8 @@ class Bases:
             return frozenset(self.image_address(f['imm'] + (node.pc if i.name == 'auipc' else 0) & table.M32))
         if i.name == 'addi':
             return self.moved(one, f['imm']) if f['rs1'] else NOTHING
-        if i.name == 'add' and is_stack(one) and self.added(node) is not None:
-            return self.moved(one, self.added(node))    # (a frame that is larger than an addi reaches)
+        if i.name in ('add', 'sub') and is_stack(one) and self.added(node) is not None:
+            return self.moved(one, self.added(node))    # (a frame that is larger than an addi reaches, or one of vector registers)
         if i.name in ('add', 'or'):
             return self.summed(one, two)
         if i.name == 'sub':

@@ -164,11 +164,7 @@ class Budgets:
             try:
                 self.solve(part, [e for e in edges if id(e) not in paid], room - 1)
                 self.raised(part, edges, falling, register)
-                if not all(self.of[block].is_written() for block in part):
-                    raise NoBudget(part, TOO_GREAT)
-                if all(spare(edge, self.of[edge.source], self.need(edge)) >= 0 for edge in edges):
-                    return
-                raise NoBudget(part, NOT_SHOWN)
+                return
             except NoBudget as e:
                 trouble = trouble or e
         raise trouble
@@ -218,11 +214,36 @@ class Budgets:
                 return
 
     def raised(self, part, edges, falling, register):
-        """Adds the multiple of the register that pays for the ways on which it falls, and takes away what is too much. What comes behind
-        the loop may ask for a multiple of it, which then stands in all blocks."""
+        """Adds the multiple of the register that pays for the ways on which it falls. Where what comes behind the loop asks for a multiple of
+        another register, that stands in all blocks, if it can: else the ways back would pay for it anew."""
+        others = {r for block in part for r in self.of[block].factors if r != register}
+        older = {block: self.of[block] for block in part}
+        for other in others if len(others) == 1 else ():
+            self.spread(part, other)
+            self.raise_by(part, edges, falling, register)
+            if self.trouble(part, edges) is None:
+                return
+            self.of.update(older)
+        self.raise_by(part, edges, falling, register)
+        if why := self.trouble(part, edges):
+            raise NoBudget(part, why)
+
+    def trouble(self, part, edges):
+        """Why the budgets of a loop do not do, or None."""
+        if not all(self.of[block].is_written() for block in part):
+            return TOO_GREAT
+        return None if all(spare(edge, self.of[edge.source], self.need(edge)) >= 0 for edge in edges) else NOT_SHOWN
+
+    def spread(self, part, register):
+        """Gives all blocks the greatest multiple of a register that one of them has."""
         most = max(self.of[block].factors.get(register, 0) for block in part)
         for block in part:
             self.of[block] = self.of[block].more(0, register, most - self.of[block].factors.get(register, 0))
+
+    def raise_by(self, part, edges, falling, register):
+        """Adds the multiple of the register, and takes away what is too much. What comes behind the loop may ask for a multiple of it, which
+        then stands in all blocks."""
+        self.spread(part, register)
         factor = self.factor(falling, register)
         inner = [edge for edge in edges if edge.target in part]
         words = sum(edge.words for edge in inner)

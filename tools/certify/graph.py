@@ -1,5 +1,7 @@
 """What the graph of a kernel's instructions tells: which dominate which, the loops, which registers are still read, and which accesses
 are sure to come."""
+import functools
+import operator
 from collections import namedtuple
 
 import flow
@@ -8,6 +10,7 @@ from outside import model, table
 VL = flow.VL
 FARTHEST = 1 << 12      # how far accesses lie from a register that are tested with it
 ALL = (1 << 33) - 1
+LIKE = 0x3f             # the bits of a vector type that say which elements there are
 
 # head: its first node. nodes: all of it. latches: the nodes from which it goes back to its head. depth: how many loops it stands in, itself too.
 Loop = namedtuple('Loop', 'head nodes latches depth')
@@ -20,6 +23,7 @@ class Graph:
 
     def __init__(self, code, vlenb=16):
         self.code, self.nodes, self.leads, self.known = code, code.nodes, code.leads, {}     # (known: what `counters` asks for again)
+        self.vlenb = vlenb
         self.order = reversed_postorder(code.entry, code.leads)
         self.place = {key: k for k, key in enumerate(self.order)}
         self.comes = {key: [] for key in self.order}
@@ -30,7 +34,10 @@ class Graph:
         self.loops = self.natural_loops()
         self.inside = {key: [loop for loop in self.loops if key in loop.nodes] for key in self.order}
         self.live = self.live_at()
+        self.entering, self.early = {}, {}      # head of a loop, or a node before it -> the vector type that is set on the ways into it, or behind it
         self.settings = self.vectors_before(vlenb)
+        self.alike = self.alike_types()
+        self.set_types_early(vlenb)
         self.lengths = {key: it.length for key, it in self.settings.items()}
         self.types = {key: min(it.types) for key, it in self.settings.items() if len(it.types) == 1 and None not in it.types}
 
@@ -185,25 +192,106 @@ class Graph:
     # ---- Lengths of vectors ------------------------------------------------------------------------------------------------------
 
     def same_lengths(self, vlenb):
-        """The nodes that ask for vl as it is, by a register that holds it, and get no other."""
+        """The nodes that ask for vl as it is, by a register that holds it, and get no other, with whether the vector type before is known."""
         for key, before in self.settings.items():
             node = self.nodes[key]
             if node.i.shape == 'vset' and node.f.get('rs1') in before.holders and node.f['rd'] in (0, node.f['rs1']) and before.types:
                 if 'imm' in node.f and before.most == table.vlmax_of(node.f['imm'], vlenb) and not node.loads:
-                    yield key
+                    yield key, key in self.types
 
     def vectors_before(self, vlenb):
         """node -> what the words alone say of vl and the vector type there."""
         known, todo = {self.order[0]: Setting(None, frozenset(), None, frozenset())}, [self.order[0]]
+        loops = {loop.head: loop for loop in self.loops if loop.head in self.entering}
         while todo:
             key = todo.pop()
-            now = setting_behind(self.nodes[key], known[key], vlenb)
+            behind = setting_behind(self.nodes[key], known[key], vlenb)
+            if key in self.early:
+                behind = behind._replace(types=frozenset([self.early[key]]))
             for to in self.leads[key]:
+                is_entering = to in loops and key not in loops[to].nodes
+                now = behind._replace(types=frozenset([self.entering[to]])) if is_entering else behind
                 both = now if to not in known else met_settings(known[to], now)
                 if known.get(to) != both:
                     known[to] = both
                     todo.append(to)
         return known
+
+    def set_types_early(self, vlenb):
+        """The vector types that are to be set before loops, which leave vl as it is: where a loop sets another type before anything in it asks
+        for one, so that it has one type on the ways into it and another one on the ways back."""
+        for loop in self.loops:
+            before = self.settings[loop.head]
+            if len(before.types) != 2 or None in before.types or before.most is None or not self.is_natural(loop) or not self.sets_type_first(loop):
+                continue
+            ways = [{it for come in self.comes[loop.head] if (come in loop.nodes) == is_back
+                     for it in setting_behind(self.nodes[come], self.settings[come], vlenb).types} for is_back in (False, True)]
+            if len(ways[0]) == len(ways[1]) == 1:
+                last = self.last_of_type(loop)
+                (self.entering if last is None else self.early)[loop.head if last is None else last], = ways[1]
+                self.settings = self.vectors_before(vlenb)
+
+    def last_of_type(self, loop):
+        """The node on the one way into a loop behind which nothing asks for a vector type on any way before one is set; None where there is none."""
+        key = loop.head
+        while not (needs_type(self.nodes[key]) or self.nodes[key].i.shape == 'vset') or key == loop.head:
+            comes = [come for come in self.comes[key] if key != loop.head or come not in loop.nodes]
+            if len(comes) != 1 or key in self.early or self.nodes[key].loads or self.nodes[key].stores:
+                return None
+            key, = comes
+        todo, seen = list(self.leads[key]), set()
+        while todo:
+            at = todo.pop()
+            if at not in seen and self.nodes[at].i.shape != 'vset':
+                if needs_type(self.nodes[at]):
+                    return None
+                todo += self.leads[at]
+            seen.add(at)
+        return key
+
+    def sets_type_first(self, loop):
+        """Whether a vector type is set in a loop before the loop is left and before anything asks for the type, but for a setting that keeps vl."""
+        todo, seen, asks = [loop.head], {loop.head}, False
+        while todo:
+            key = todo.pop()
+            node = self.nodes[key]
+            if node.i.shape == 'vset':
+                asks = asks or is_keep(node) or node.f.get('rs1') in self.settings[key].holders
+                continue
+            if key not in loop.nodes or not self.leads[key] or needs_type(node):
+                return False
+            todo += [to for to in self.leads[key] if to not in seen]
+            seen |= set(self.leads[key])
+        return asks
+
+    def alike_types(self):
+        """node -> the vector type that it is to set: where types that differ from way to way in nothing but what elements become that are left
+        to the machine, the one type that keeps these elements wherever one of them does."""
+        groups, out = [], {}
+        for key, before in self.settings.items():
+            node = self.nodes[key]
+            asks = needs_type(node) or is_keep(node) or node.i.shape == 'vset' and node.f.get('rs1') in before.holders
+            if asks and len(before.types) > 1 and None not in before.types and len({vtype & LIKE for vtype in before.types}) == 1:
+                groups.append(self.type_setters(key))
+        while True:
+            older = dict(out)
+            for group in groups:
+                vtype = functools.reduce(operator.and_, (out.get(key, self.nodes[key].f['imm']) for key in group))
+                out.update(dict.fromkeys(group, vtype))
+            if out == older:
+                return {key: vtype for key, vtype in out.items() if vtype != self.nodes[key].f['imm']}
+
+    def type_setters(self, key):
+        """The nodes by which the vector type is set that a node finds."""
+        found, todo, seen = set(), [key], {key}
+        while todo:
+            for come in self.comes[todo.pop()]:
+                if self.nodes[come].i.shape == 'vset':
+                    found.add(come)
+                elif come not in seen:
+                    seen.add(come)
+                    todo.append(come)
+        return found
 
 
 def met_settings(one, two):
@@ -231,6 +319,11 @@ def setting_behind(node, before, vlenb):
     if (is_keep(node) or f['rs1'] in before.holders) and before.most == most:
         return Setting(before.length, frozenset([vtype]), most, before.holders | holders)
     return Setting(None, frozenset([vtype]), most, frozenset(holders))
+
+
+def needs_type(node):
+    """Whether a vector instruction means other elements by other vector types."""
+    return node.i.is_vector and node.i.shape not in ('vset', 'vload_whole', 'vstore_whole', 'mvr')
 
 
 def is_keep(node):

@@ -20,7 +20,7 @@ from guided import Guided
 from jumps import Tables
 from kinds import Misfit, NoRegister, Stuck, Told
 from outside import certificates, checker, table
-from pace import Pace
+from pace import Pace, is_too_long
 from program import ZERO, Branch, Jump, Label, Number, word
 from registers import Registers
 from strips import Strips
@@ -64,6 +64,7 @@ class Maker(Registers, Pace, Addresses, Strips, Tables):
         self.tests, self.choices, self.strips, self.sizes = {}, {}, {}, {}
         self.told_of, self.found = [], None     # of this round: which accesses are tested, by which registers, and what it has found
         self.masks, self.indices, self.retyped = {}, {}, set()
+        self.begun = {}                         # node of a strip -> the test of its base before the loop
         self.read_code()
 
     def read_code(self):
@@ -75,7 +76,7 @@ class Maker(Registers, Pace, Addresses, Strips, Tables):
             self.graph = graph.Graph(self.code, self.vlen // 8)
             self.bases = bases.Bases(self.code, self.graph, self.params)
         self.sure, self.any, self.its_vectors = self.graph.sure_accesses(), self.graph.sure_accesses(True), None
-        self.same_lengths = set(self.graph.same_lengths(self.vlen // 8))
+        self.same_lengths = dict(self.graph.same_lengths(self.vlen // 8))
         self.reloads = reloads.reloads(self.code, self.graph, self.params, self.bases)
         self.loop_of = {loop.head: loop for loop in self.graph.loops}
         self.touched = self.graph.touched(self.graph.order)
@@ -88,6 +89,9 @@ class Maker(Registers, Pace, Addresses, Strips, Tables):
         if code.entry not in code.nodes:
             raise Stuck(f'IllegalWord at {self.image.entry:#x}: {advice.ILLEGAL}')
         self.graph = graph.Graph(code, self.vlen // 8)
+        if self.graph.alike:
+            code.retype(self.graph.alike)
+            self.graph = graph.Graph(code, self.vlen // 8)
         self.bases = bases.Bases(code, self.graph, self.params)
         code.reads_links = self.bases.reads_links()
 
@@ -145,7 +149,8 @@ class Maker(Registers, Pace, Addresses, Strips, Tables):
 
     def is_changed(self):
         return bool(any(key[0] for key in self.code.nodes) or self.is_ending or self.evicted or self.tables or self.counters or self.rests or self.limits
-                    or self.fuelled or self.tests or self.choices or self.strips or self.masks or self.indices or self.retyped or self.same_lengths or self.reloads)
+                    or self.fuelled or self.tests or self.choices or self.strips or self.masks or self.indices or self.retyped or self.same_lengths or self.graph.entering or self.graph.early
+                    or self.reloads)
 
     def failed(self, kind, pc, what):
         """The label of a guard that may fail, with a number of its own, which only a status asks for."""
@@ -236,7 +241,7 @@ class Maker(Registers, Pace, Addresses, Strips, Tables):
             data, image = self.build_or_evict()
             found = self.search(image, PLANS[0], True)
             if found.answer == 'accepted':
-                if not self.widen_tables(found, image) and not self.test_limits(found) and not (self.is_too_long(found) and self.shorten(found)):
+                if not self.widen_tables(found, image) and not self.test_limits(found) and not (is_too_long(found) and self.shorten(found)):
                     return self.slimmer(found) or (data, image, found)
                 continue
             if self.watch:
@@ -252,10 +257,11 @@ class Maker(Registers, Pace, Addresses, Strips, Tables):
     def slimmer(self, found):
         """The same without what no certificate needs: counters of loops for which one around them pays, tests that never fail, as far as is
         known or is found out, and what counters of inner loops started from. None where all is needed."""
-        best = None
+        best = self.with_bases(found)
+        found = best[2] if best else found
         paid, idle = {head for head in self.counters if self.is_paid_around(self.loop_of[head])}, self.idle_tests(found)
         if paid:
-            best = self.without('counters', {head: counter for head, counter in self.counters.items() if head not in paid})
+            best = self.without('counters', {head: counter for head, counter in self.counters.items() if head not in paid}) or best
         if idle:
             best = self.without('tests', self.tests_without(idle)) or best
         for one in self.doubtful_tests()[:max(LEAST_SLIMMED, MOST_SLIMMED // len(self.code.nodes))]:
@@ -289,7 +295,7 @@ class Maker(Registers, Pace, Addresses, Strips, Tables):
             if isinstance(op, Branch) and op.label in self.test_of and k not in self.laid.long:
                 name = self.test_of[op.label]
                 if (self.laid.at[k], self.laid.places[op.label]) not in ways:
-                    out.add((name, 'low' if op.rs1 == self.tests[name].register else 'high'))
+                    out.add((name, 'low' if op.name == 'bltu' and op.rs1 == self.tests[name].register else 'high'))
         return out
 
     def tests_without(self, ends):
@@ -297,15 +303,28 @@ class Maker(Registers, Pace, Addresses, Strips, Tables):
         out = {name: test._replace(**{end: False for other, end in ends if other == name}) for name, test in self.tests.items()}
         return {name: test for name, test in out.items() if test.low or test.high}
 
+    def with_bases(self, found):
+        """The same with tests of strips' bases before their loops, where it has become known that strips have elements; None where that is not
+        accepted."""
+        before = self.with_bases_before(found) if self.strips else None
+        return before and self.changed({'strips': before[0], 'tests': before[1]})
+
     def without(self, name, fewer):
         """What comes of fewer counters or tests; as it was, and None, where that is not accepted, or a limit relies on them."""
-        kept = getattr(self, name)
-        setattr(self, name, fewer)
-        data, image = self.build()
-        found = self.search(image, PLANS[0])
-        if found.answer == 'accepted' and not self.unknown_limits(found):
+        return self.changed({name: fewer})
+
+    def changed(self, others):
+        """What comes of other counters, tests or strips; as it was, and None, where that is not accepted, or a limit relies on them."""
+        kept, found = {name: getattr(self, name) for name in others}, None
+        vars(self).update(others)
+        try:
+            data, image = self.build()
+            found = self.search(image, PLANS[0])
+        except NoRegister:
+            pass
+        if found and found.answer == 'accepted' and not self.unknown_limits(found):
             return data, image, found
-        setattr(self, name, kept)
+        vars(self).update(kept)
         self.build()
         return None
 
@@ -314,7 +333,7 @@ class Maker(Registers, Pace, Addresses, Strips, Tables):
         kept, self.fuel = self.fuel, fuel
         data, image = self.build()
         found = self.search(image, PLANS[0])
-        if found.answer == 'accepted' and not self.unknown_limits(found) and not self.is_too_long(found):
+        if found.answer == 'accepted' and not self.unknown_limits(found) and not is_too_long(found):
             return data, image, found
         self.fuel = kept
         self.build()

@@ -95,13 +95,16 @@ class Walked:
         return flow.decoded_at(self.image, pc)
 
     def known_at(self, pc):
-        """What is known before a word."""
+        """What is known before a word; None where no block comes to it."""
         walk = checker.Walk(self.image, self.certificate)
         walk.zones = flow.EVERYWHERE
         block = max((b for b in self.certificate.blocks if b.start <= pc), key=lambda b: b.start)
         s, at = checker.at_block(self.certificate, block, self.vlenb), block.start
         while at < pc:
-            walk.act(s, *walk.fetched(s, at), at)
+            i, f = walk.fetched(s, at)
+            if i.shape in ('branch', 'jal', 'jalr', 'ecall'):
+                return None
+            walk.act(s, i, f, at)
             at += 4
         return s
 

@@ -7,6 +7,7 @@ import guard
 import host
 import lines
 import notes
+import pace
 import search
 import trial
 from outside import certificates, checker
@@ -43,12 +44,18 @@ class Within(search.Watch):
 
 
 def made(data, image, job, vlen, looking, fuel=None, status=None):
-    """An image with a certificate for a length: its own bytes where the search finds one, else with guards. Raises notes.Trouble."""
+    """An image with a certificate for a length: its own bytes where the search finds one, else with guards; with guards too where the bound
+    is above what a run would be allowed, if that helps. Raises notes.Trouble."""
     check_status(job.params, status)
     found = found_alone(image, job.params, vlen, looking)
-    if found is not None:
-        return Made(notes.with_note(data, certificates.certificate_bytes(found.certificate)), image, found.certificate, None)
-    return guarded(data, image, job, vlen, looking, fuel, status)
+    if found is None:
+        return guarded(data, image, job, vlen, looking, fuel, status)
+    if pace.is_too_long(found):
+        try:
+            return guarded(data, image, job, vlen, looking, fuel, status)
+        except notes.Trouble:
+            pass
+    return Made(notes.with_note(data, certificates.certificate_bytes(found.certificate)), image, found.certificate, None)
 
 
 def guarded(data, image, job, vlen, looking, fuel, status):

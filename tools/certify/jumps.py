@@ -25,11 +25,11 @@ def targets(image, walk, pc):
         i, f = decoded
         if f.get('rd') != register:
             continue
-        if i.name == 'lw':
-            return entries(image, walk.known_at(at), f, added)
-        if i.name != 'add':
+        s = walk.known_at(at) if i.name in ('lw', 'add') else None
+        if s is None:
             return ()
-        s = walk.known_at(at)
+        if i.name == 'lw':
+            return entries(image, s, f, added)
         one, two = (checker.known(s.x[f[name]].range) for name in ('rs1', 'rs2'))
         if (one is None) == (two is None):
             return ()

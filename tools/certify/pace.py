@@ -11,6 +11,7 @@ UNKNOWN = (1 << 32) - (1 << 12)     # how great a number may be of which nothing
 LITTLE = 1 << 12, 1 << 10       # fuel of which a run tells later whether it is enough
 GREAT = 1 << 24         # rounds that no loop is taken to have
 LONGEST = 1 << 38       # steps of half an hour
+PATIENCE = 8            # rounds in which loops around one get fuel one after another, as in recursions there are many of them
 
 
 class Pace:
@@ -120,19 +121,23 @@ class Pace:
         self.edits.entering[head] = nodes, older + operations
 
     def put_fuel(self):
-        """Fuel is paid on the ways back to a loop's head, but at the head itself where loops around rely on it or a return leads to it."""
+        """Fuel is paid on the ways back to a loop's head, but at the head itself where loops around rely on it or a return leads to it; before
+        one node it is paid once, for all loops that go through it."""
         heads, relied = self.paying_heads()
+        paying = set()
         for head in sorted(heads):
             loop, f = self.loop_of[head], self.fuel_register
+            is_at_head = head in relied or any(self.code.is_return(self.code.nodes[latch]) for latch in loop.latches)
+            before = {head} if is_at_head else loop.latches if self.is_paid_at_latches(loop) else ()
+            if before and paying.issuperset(before):
+                continue
             ends = self.failed('fuel', head[1], 'the fuel is used up')
             paid = [Branch('beq', f, ZERO, ends), word('addi', rd=f, rs1=f, imm=-1)]
-            if head in relied or any(self.code.is_return(self.code.nodes[latch]) for latch in loop.latches):
-                self.edits.before[head] = paid + self.edits.before.get(head, [])
-            elif self.is_paid_at_latches(loop):
-                for latch in loop.latches:
-                    self.edits.before[latch] = paid + self.edits.before.get(latch, [])
-            else:
+            for key in before - paying if before else ():
+                self.edits.before[key] = paid + self.edits.before.get(key, [])
+            if not before:
                 self.edits.rounds[head] = loop.nodes, paid
+            paying |= set(before)
 
     def is_paid_at_latches(self, loop):
         """Whether the nodes that lead back to a loop's head always do, or are not come to where it is left elsewhere: then no jump is needed past
@@ -214,7 +219,8 @@ class Pace:
         """What registers are on the ways into a loop; where nothing stands on these, those from outside."""
         place, head = [self.laid.places[label, loop.head] for label in ('enter', 'at')] if self.laid else 2 * [loop.head[1]]
         if place != head:
-            return [Walked(found, self.seen, self.vlen).known_at(place).x]
+            known = Walked(found, self.seen, self.vlen).known_at(place)
+            return [known.x] if known else []
         node_of = lambda pc: self.key_at.get(pc) if self.laid else ((), pc)
         return [edge.known.x for edge in found.finder.edge_list if edge.target == head and node_of(edge.pc) not in loop.nodes]
 
@@ -350,19 +356,17 @@ class Pace:
                 return True
         return False
 
-    def is_too_long(self, found):
-        """Whether the bound is above what any run would be allowed, even where the scalars are least."""
-        budget, x = found.finder.budgets.of[found.finder.image.entry], found.finder.at_entry.x
-        return budget.constant + sum(k * x[r].range[0] for r, k in budget.factors.items()) > LONGEST
-
     def shorten(self, found):
-        """Other counters, or fuel, for the loops whose own may be great numbers. Whether there were some."""
+        """Other counters, or fuel, for the loops whose own may be great numbers; where there are none, fuel for those that have neither. Whether
+        there were some."""
         great = [head for head, counter in self.counters.items() if self.most_at(head, found).get(counter.registers[0], 0) >= GREAT]
         for head in great:
             if not self.give_other(head, (it for it in self.possible(self.loop_of[head], found) if it.kind == counters.LEFT)):
                 del self.counters[head]
                 self.fuelled.add(head)
-        return bool(great)
+        more = set() if great else self.loop_of.keys() - self.fuelled - self.counters.keys()
+        self.fuelled |= more
+        return bool(great or more)
 
     def guess_at(self, head, found):
         return found.finder.guesses.get(self.laid.places.get(('at', head)) if self.laid else head[1])
@@ -380,13 +384,20 @@ class Pace:
                 if guess.x[r][0] == guess.x[r][1] and not self.graph.writers(loop.nodes, r)}
 
     def give_fuel(self, found):
-        """Fuel for the outermost loop of those that are nested too deep, else for all loops."""
+        """Fuel for the outermost loop of those that are nested too deep, after many rounds for each of them, else for all loops."""
         inner = self.heads_of(found.trouble.loop)[:1] if found.trouble is not None else []
         around = [loop for loop in self.graph.loops for head in inner if head in loop.nodes and head != loop.head and loop.head not in self.fuelled]
         outer = {loop.head for loop in self.graph.loops if any(other.nodes < loop.nodes for other in self.graph.loops)}
-        more = {min(around, key=lambda loop: loop.depth).head} if around else outer - self.fuelled
+        first = around if self.round >= PATIENCE else sorted(around, key=lambda loop: loop.depth)[:1]
+        more = {loop.head for loop in first} if around else outer - self.fuelled
         more = more or {loop.head for loop in self.graph.loops} - self.fuelled
         self.fuelled |= more
         for head in more:
             if not any(name[0] == head for name in self.rests):
                 self.counters.pop(head, None)
+
+
+def is_too_long(found):
+    """Whether a bound is above what any run would be allowed, even where the scalars are least."""
+    budget, x = found.finder.budgets.of[found.finder.image.entry], found.finder.at_entry.x
+    return budget.constant + sum(k * x[r].range[0] for r, k in budget.factors.items()) > LONGEST

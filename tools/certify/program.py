@@ -24,7 +24,7 @@ STACK_TOP = 0x30000000      # where the stack ends, and the stack pointer begins
 
 INS = {i.name: i for rows in model.TABLE.values() for _, _, i in rows}
 OPPOSITE = {'beq': 'bne', 'bne': 'beq', 'blt': 'bge', 'bge': 'blt', 'bltu': 'bgeu', 'bgeu': 'bltu'}
-NEAR, FAR = 1 << 12, 1 << 20
+SMALL, NEAR, FAR = 1 << 11, 1 << 12, 1 << 20
 
 # An instruction: its address, the return addresses of the calls around it (each with its link register), and what its word means. loads,
 # stores: (register, the kernel's register that it holds here) where that is kept on the stack, right before it and right behind it.
@@ -37,6 +37,7 @@ Branch = namedtuple('Branch', 'name rs1 rs2 label key', defaults=(None,))
 Jump = namedtuple('Jump', 'rd label key', defaults=(None,))
 Number = namedtuple('Number', 'rd value')           # one word or two
 Address = namedtuple('Address', 'rd label')         # always two
+Away = namedtuple('Away', 'rd label base')          # the address of a label, where the register holds that of another one: one word or two
 
 
 def word(name, **fields):
@@ -99,6 +100,13 @@ class Code:
         here, = struct.unpack_from('<I', segment.data, key[1] - segment.first)
         self.nodes[key] = Node(key, key[1], key[0], *decoded, here)
         return True
+
+    def retype(self, types):
+        """Gives nodes that set a vector type other ones."""
+        for key, vtype in types.items():
+            node = self.nodes[key]
+            f = {**node.f, 'imm': vtype}
+            self.nodes[key] = node._replace(f=f, word=node.i.encode(**f))
 
     def ways(self, node):
         """The nodes to which an instruction leads, of a branch the one where it is taken first."""
@@ -285,10 +293,11 @@ def own_words(code, node):
 
 def returned(node, places, other, fails):
     """A return to one of several places: to the one whose address the link register holds, else to a label. other: a spare register."""
-    out = []
+    out, before = [], None
     for back in places:
         way = 'way', (back[0], back[1] - 4), back           # (the address that the call before it left in the link register)
-        out += [Address(other, way), Branch('beq', node.f['rs1'], other, way)]
+        out += [Address(other, way) if before is None else Away(other, way, before), Branch('beq', node.f['rs1'], other, way)]
+        before = way
     return [*out[:-1], out[-1]._replace(key=node.key), Jump(ZERO, fails)]
 
 
@@ -306,6 +315,7 @@ def resolved(code, edits, operations):
             return 'enter', to
         return 'at', to
     out = [op._replace(label=name(op.label)) if hasattr(op, 'label') else op for op in operations]
+    out = [op._replace(base=name(op.base)) if isinstance(op, Away) else op for op in out]
     if any(getattr(op, 'label', None) == ('nowhere',) for op in out):
         out += [Label(('nowhere',)), Word(0)]
     return out
@@ -347,7 +357,7 @@ class Laid:
         return 8 if k in self.long else 4
 
     def grown(self):
-        """Lays all out, and makes long the branches that don't reach their labels. Whether there was one."""
+        """Lays all out, and makes long the branches that don't reach their labels, and the numbers of one word that don't. Whether there was one."""
         at, self.places, self.at = self.first, {}, []
         for k, op in enumerate(self.operations):
             self.at.append(at)
@@ -356,8 +366,13 @@ class Laid:
             at += self.size(k, op)
         more = {k for k, op in enumerate(self.operations) if isinstance(op, Branch) and k not in self.long
                 and not -NEAR <= self.places[op.label] - self.at[k] < NEAR}
+        more |= {k for k, op in enumerate(self.operations) if isinstance(op, Away) and k not in self.long and not -SMALL <= self.away(op) < SMALL}
         self.long |= more
         return bool(more)
+
+    def away(self, op):
+        """How far a label lies behind the one whose address is known."""
+        return self.places[op.label] - self.places[op.base]
 
     def encoded(self):
         words = []
@@ -373,7 +388,9 @@ class Laid:
         if isinstance(op, Number):
             return number_words(op.rd, op.value)
         to = self.places[op.label]
-        if isinstance(op, Address):
+        if isinstance(op, Away) and k not in self.long:
+            return [INS['addi'].encode(rd=op.rd, rs1=op.rd, imm=self.away(op))]
+        if isinstance(op, (Address, Away)):
             low = model.signed(to, 12)
             return [INS['lui'].encode(rd=op.rd, imm=to - low & table.M32), INS['addi'].encode(rd=op.rd, rs1=op.rd, imm=low)]
         away = to - self.at[k]

@@ -3,11 +3,13 @@ import functools
 import operator
 
 import bases
+import counters
 import graph
 import indices
 import program
 import vectors
-from kinds import Strip, Stuck
+from guided import Walked
+from kinds import Strip, Stuck, Test
 from outside import certificates, checker, model, table
 from program import SP, ZERO, Branch, Jump, Label, Number, Word, word
 
@@ -69,11 +71,56 @@ class Strips:
             return
         lengths = [r for r in range(1, 32) if known.x[r].form == known.x[VL].form and known.x[VL].form.terms]
         range_, older = known.x[register].range, self.strips.get(misfit.key)
-        low, high = range_[0] < zone[0], range_[1] > zone[1]
-        if older is None and low and high and stride >= 0:
+        low, high = range_[0] < zone[0], range_[1] > zone[1] if stride < 0 else range_[1] + stride * known.vl[1] > table.M32
+        if self.begin_strip(misfit, zone, stride, low, high):
+            low = high = False
+            older = older and older._replace(low=False, high=False)
+        elif older is None and low and high and stride >= 0:
             low = False             # (a pointer that rises is known to be above its start once its end is known)
+        elif older is not None and (low or older.low, high or older.high) == (older.low, older.high):
+            low = high = True       # (what was asked for was not enough)
         self.strips[misfit.key] = Strip(misfit.key, zone, low or bool(older and older.low), high or bool(older and older.high),
                                         known.vl[0] == 0 or bool(older and older.is_empty), lengths[0] if lengths else None, stride)
+
+    def begin_strip(self, misfit, zone, stride, low, high):
+        """Tests of a strip's base before the loop around it, once, where it only rises there and the first round is sure to have that strip: what
+        is told of each strip's end keeps the base in its zone then. Whether they were put in; where they were of no use they go."""
+        key = misfit.key
+        if key in self.begun:
+            self.tests.pop(self.begun[key], None)
+            return False
+        name = self.base_before(key, stride) if misfit.known.vl[0] and (low or high) else None
+        if name is None or name in self.tests:
+            return False
+        self.tests[name] = self.base_test(name, key, zone, low, high)
+        self.begun[key] = name
+        return True
+
+    def base_before(self, key, stride):
+        """The name of a test of a strip's base before the loop around it, where that is as good as one of its first round; else None."""
+        register = self.code.nodes[key].f['rs1']
+        for loop in sorted(filter(self.graph.is_natural, self.graph.inside[key]), key=lambda loop: -loop.depth)[:1]:
+            if (self.hoists and stride > 0 and self.comes_first(loop, key, register)
+                    and (not self.graph.writers(loop.nodes, register) or counters.only_rises(self.graph, loop, register))):
+                return loop.head, register, 'entering'
+        return None
+
+    def base_test(self, name, key, zone, low, high):
+        return Test(name[0], True, name[1], zone[0], zone[1] - self.code.nodes[key].i.width // 8 & table.M32, low, high, zone[3])
+
+    def with_bases_before(self, found):
+        """The strips without tests of their bases, as far as they have elements, and the tests of those before their loops; None where that would
+        be the same as it is."""
+        walked, places = Walked(found, self.seen, self.vlen), {key: at for at, key in self.node_at.items()}
+        strips, tests = dict(self.strips), dict(self.tests)
+        for key, strip in self.strips.items():
+            known = walked.known_at(places[key]) if strip.most is None and strip.stride > 0 and (strip.low or strip.high) and key in places else None
+            if known and known.vl[0]:
+                strips[key] = strip._replace(low=False, high=False, is_empty=False)
+                name = self.base_before(key, strip.stride)
+                if name and name not in tests:
+                    tests[name] = self.base_test(name, key, strip.zone, True, True)
+        return None if strips == self.strips else (strips, tests)
 
     def is_strip_above(self, key, node, stride):
         """Whether this round tests the same strip, which has elements, in one straight line above an access, with no other test between: what
@@ -186,15 +233,7 @@ class Strips:
 
     def give_type(self, misfit):
         """Sets the vector type anew where it is not the same on each way: where an instruction changes it and keeps vl, else before the access."""
-        keeping, todo, seen = set(), [misfit.key], {misfit.key}
-        while todo:
-            key = todo.pop()
-            for come in self.graph.comes[key]:
-                if self.code.nodes[come].i.shape == 'vset':
-                    keeping.add(come)
-                elif come not in seen:
-                    seen.add(come)
-                    todo.append(come)
+        keeping = self.graph.type_setters(misfit.key)
         setting = self.graph.settings[misfit.key]
         if all(graph.is_keep(self.code.nodes[key]) for key in keeping):
             self.retyped |= keeping
@@ -203,8 +242,14 @@ class Strips:
 
     def put_types(self):
         """The settings of the vector type with vl as it is."""
-        for key in self.same_lengths - self.retyped:
-            self.edits.instead[key] = [word('vsetvli', rd=0, rs1=0, imm=self.code.nodes[key].f['imm'])._replace(key=key)]
+        for head, vtype in self.graph.entering.items():
+            self.enter(head, [word('vsetvli', rd=0, rs1=0, imm=vtype)])
+        for key, vtype in self.graph.early.items():
+            self.edits.after.setdefault(key, []).append(word('vsetvli', rd=0, rs1=0, imm=vtype))
+        for key in self.same_lengths.keys() - self.retyped:
+            f = self.code.nodes[key].f          # (where the type before is not known, only a length that is asked for makes it known)
+            register = 0 if self.same_lengths[key] else f['rs1']
+            self.edits.instead[key] = [word('vsetvli', rd=register, rs1=register, imm=f['imm'])._replace(key=key)]
         for key in sorted(self.retyped):
             node, setting = self.code.nodes[key], self.graph.settings[key]
             is_own = graph.is_keep(node)

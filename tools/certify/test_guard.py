@@ -4,11 +4,14 @@ import unittest
 import unittest.mock
 
 import counters
+import graph
 import guard
 import guided
 import kinds
 import notes
+import pace
 import program
+import search
 import small
 from outside import certificates, checker
 from small import reads, scalar, word, writes
@@ -74,6 +77,26 @@ class Kinds(unittest.TestCase):
             (test,), operations = made.maker.tests.values(), made.maker.laid.operations
             self.assertEqual(sum(op[1] in (test.least, test.most) for op in operations if isinstance(op, program.Number)), count)
 
+    def test_a_row_is_tested_before_the_loop_that_goes_along_it(self):
+        """Of an index that is made of one that rises, in another register or in place, only the upper end is tested within the loop then."""
+        some = lambda offset, many: [bytes(range(64)), word(offset), many, bytes(4)]
+        text = '''lw t0, 0(a1); add t0, a0, t0; li t1, 0; mv t2, a2; {}: srli t3, t1, 4; {}; {}lbu t4, 0(t6); add t5, t5, t4
+            addi t1, t1, 8; addi t2, t2, -1; bnez t2, {}; sw t5, 0(a3); ret'''
+        for index in ('add t6, t0, t3', 'mv t6, t3; add t6, t0, t6', 'addi t6, t3, 0; add t6, t6, t0'):
+            for head, at, early in (('at', '', [some(-1, 1), some(-3, 128), some(64, 1), some(1 << 31, 2)]), ('loop', 'at: ', [some(0, 129), some(63, 3)])):
+                with self.subTest(index=index, head=head):
+                    made = self.guards(text.format(head, index, at, head), [reads(64), reads(4), scalar(1, 200), writes(4)],
+                                       [some(0, 128), some(63, 1), some(63, 2), some(60, 8)], early)
+                    self.assertEqual(sorted((test.is_entering, test.low, test.high) for test in made.maker.tests.values()), [(False, False, True), (True, True, True)])
+
+    def test_the_end_of_whole_pages_takes_one_word(self):
+        each = lambda line: '; '.join(line.format(n, 4 * n) for n in range(3, 31) if n not in (10, 11)) + '; '
+        text = each('lw x{}, {}(a0)') + 'at: add x3, x3, a0; lbu x31, 0(x3); sub x3, x3, a0; ' + each('sw x{}, {}(a0)') + 'sw x31, 0(a0); ret'
+        for size, name in ((4096, 'bgeu'), (4000, 'bltu')):
+            some = lambda offset: [TAKEN_APART[:12] + word(offset) + bytes(size - 16), 7]
+            made = self.guards(text, [writes(size), scalar(0, 100)], [some(0), some(size - 1)], [some(-1), some(size)])
+            self.assertEqual([op.name for op in made.maker.laid.operations if isinstance(op, program.Branch)], [name])
+
     def test_choice_among_buffers(self):
         some = lambda which, offset: [TAKEN_APART[:8], TAKEN_APART[:12], which, offset, bytes(4)]
         made = self.guards('mv t0, a0; beqz a2, on; mv t0, a1; on: add t0, t0, a3; at: lbu t1, 0(t0); sw t1, 0(a4); ret',
@@ -89,6 +112,32 @@ class Kinds(unittest.TestCase):
     def test_unit_stride_strips(self):
         some = lambda many: [bytes(48), many]
         self.guards(self.STRIPS, [writes(48), scalar(0, 64)], [some(0), some(1), some(32), some(48)], [some(49), some(64)], 'strip')
+
+    def test_the_base_of_strips_is_tested_before_their_loop(self):
+        """Within the loop only the end of each strip is, as far as the base is not set anew there."""
+        params, some = [writes(48), scalar(0, 64), reads(4)], lambda offset, many: [bytes(range(48)), many, word(offset)]
+        text = '''lw t0, 0(a2); add t2, a0, t0; beqz a1, end; {}: vsetvli t1, a1, e8, m1, ta, ma; {}vle8.v v8, (t2); vadd.vi v8, v8, 1; vse8.v v8, (t2)
+            sub a1, a1, t1; add t2, t2, t1; bnez a1, {}; end: ret'''
+        whole = [some(0, 48), some(47, 1), some(30, 17), some(100, 0), some(-1, 0)]
+        for head, at, early, kind in (('at', '', [some(48, 1), some(-1, 40), some(1 << 31, 3)], 'address'), ('loop', 'at: ', [some(47, 2), some(1, 48)], 'strip')):
+            made = self.guards(text.format(head, at, head), params, whole, early, kind)
+            self.assertEqual([(strip.low, strip.high) for strip in made.maker.strips.values()], [(False, False)])
+            self.assertEqual([test.is_entering for test in made.maker.tests.values()], [True])
+        made = self.guards(text.format('loop', 'at: ', 'loop').replace('sub a1', 'lw t0, 0(a2); add t2, a0, t0; sub a1'), params, [some(3, 14), some(0, 20)],
+                           [some(32, 20), some(33, 16)], 'strip')
+        self.assertEqual([(strip.low, strip.high) for strip in made.maker.strips.values()], [(True, True)])
+        self.assertEqual(made.maker.tests, {})
+
+    def test_bases_of_strips_go_once_it_is_known_that_strips_have_elements(self):
+        """Those beside the tested one as well, which lie at known distances from it."""
+        text = '''li t0, 3; bltu a1, t0, end; addi a4, a1, -2; li t6, 1; rows: mul t0, t6, a1; add t0, a0, t0; mv t3, a4; at: vsetvli t4, t3, e8, m2, ta, ma
+            vle8.v v8, (t0); addi t5, t0, 2; vle8.v v10, (t5); vadd.vv v8, v8, v10; vse8.v v8, (t0); add t0, t0, t4; sub t3, t3, t4; bnez t3, at
+            addi t6, t6, 1; bne t6, a2, rows; end: ret'''
+        some = lambda width, height: [bytes(range(128)), width, height]
+        made = self.guards(text, [writes(128), scalar(0, 32), scalar(2, 8)], [some(2, 2), some(16, 8), some(32, 4), some(3, 8)], [some(32, 5)])
+        self.assertEqual({strip[2:5] for strip in map(tuple, made.maker.strips.values())}, {(False, False, False)})
+        ran, number = made.run(some(20, 7))
+        self.assertEqual((ran.fault, made.told[number - 1].kind), (None, 'strip'))
 
     def test_a_strip_that_is_loaded_and_stored_is_tested_once(self):
         some = lambda many: [TAKEN_APART[:20], many]
@@ -280,6 +329,24 @@ class Kinds(unittest.TestCase):
                 self.assertEqual((number, ran.buffers[1], ran.steps), (0, word(1), made.run_plain(some).steps + before))
                 self.assertEqual(made.run([b'x', bytes(4)])[1], 1)
 
+    def test_fuel_is_paid_once_before_a_node(self):
+        """Where loops go back by the same call, as those around a function of one copy."""
+        maker, edits = unittest.mock.Mock(fuel_register=3, code=unittest.mock.Mock(nodes={'x': 1, 'y': 2})), program.Edits()
+        maker.loop_of = {((), k): graph.Loop(((), k), frozenset(), frozenset(latches), 1) for k, latches in enumerate(('x', 'x', 'xy'))}
+        maker.paying_heads.return_value, maker.edits = (set(maker.loop_of), set()), edits
+        maker.code.is_return.return_value, maker.is_paid_at_latches.return_value = False, True
+        pace.Pace.put_fuel(maker)
+        self.assertEqual({key: len(operations) for key, operations in edits.before.items()}, {'x': 2, 'y': 2})
+        self.assertEqual([call.args[0] for call in maker.failed.call_args_list], ['fuel', 'fuel'])
+
+    def test_loops_around_one_get_fuel_together_after_many_rounds(self):
+        loops = [graph.Loop(((), k), frozenset(((), at) for at in range(k, 4)), frozenset(), k) for k in (3, 2, 1)]
+        for number, heads in ((0, {((), 1)}), (pace.PATIENCE, {((), 1), ((), 2)})):
+            maker = unittest.mock.Mock(round=number, fuelled=set(), rests={}, counters={((), 2): 'its counter'}, **{'heads_of.return_value': [((), 3)]})
+            maker.graph.loops = loops
+            pace.Pace.give_fuel(maker, unittest.mock.Mock())
+            self.assertEqual((maker.fuelled, len(maker.counters)), (heads, number == 0))
+
     def test_tests_that_never_fail_go(self):
         """Each end by itself: here the upper one, of an index that was loaded, is needed."""
         for cut, left in (('andi t0, t0, 7', {}), ('nop', {'high'})):
@@ -419,6 +486,22 @@ class Kinds(unittest.TestCase):
                 made = self.guards(text, params, [[TAKEN_APART * 2, many] for many in (0, 1, 16)], [])
                 self.assertEqual(made.told, [])
 
+    def test_a_vector_type_that_is_not_the_same_on_each_way_of_a_loop(self):
+        """It is one type where only what is left to the machine differs. Else it is set before the loop, as soon as nothing asks for the older one;
+        or, where ways meet outside of loops, by a length that is asked for."""
+        params = [writes(64), scalar(0, 64), scalar(0, 1)]
+        text = '''beqz a1, end; loop: vsetvli t0, a1, e8, m1, ta, mu; vle8.v v8, (a0); {}; vsetvli x0, t0, e8, m1, ta, mu; vadd.vi v8, v8, 1
+            vse8.v v8, (a0); sub a1, a1, t0; add a0, a0, t0; bnez a1, loop; end: ret'''
+        inner = 'li t1, 2; more: vsetvli x0, t0, {}; vmv.v.i v12, 0; addi t1, t1, -1; bnez t1, more'
+        ways = (('e8, m1, ta, ma', inner, (0, 0), 0), ('e16, m2, ta, ma', inner, (1, 0), 0), ('e16, m2, ta, ma', f'beqz a2, on; nop; on: {inner}', (0, 1), 0),
+                ('e16, m2, ta, ma', 'beqz a2, on; vsetvli x0, t0, {}; vmv.v.i v12, 0; on: nop', (0, 0), 2))
+        for vtype, between, count, tests in ways:
+            with self.subTest(vtype=vtype, between=between):
+                made = self.guards(text.format(between.format(vtype)), params, [[TAKEN_APART * 2, many, is_on] for many in (0, 1, 17, 64) for is_on in (0, 1)], [])
+                its_graph, names = made.maker.graph, [op for op in made.maker.laid.operations if isinstance(op, program.Word)]
+                self.assertEqual((len(made.told), (len(its_graph.early), len(its_graph.entering))), (tests, count))
+                self.assertFalse(any(op.key is None and checker.model.decode(op.word)[0].name == 'vsetvli' and op.word >> 15 & 31 for op in names))
+
     def test_a_count_out_of_memory_is_tested_before_its_loop(self):
         text = '''li a3, 100; more: lw t0, 0(a0); beqz t0, next; at: addi t0, t0, -1; addi a2, a2, 3; bnez t0, at
             next: addi a3, a3, -1; bnez a3, more; sw a2, 0(a1); ret'''
@@ -454,6 +537,23 @@ class Kinds(unittest.TestCase):
         made = self.guards('lw t0, 0(a0); at: add t1, a1, t0; lbu t2, 0(t1); beqz t2, end; lbu t2, 0(t1); addi t1, t1, 4; beqz t2, end; lbu t3, -4(t1); end: sw t2, 0(a2); ret',
                            [reads(4), reads(16), writes(4)], [some(0), some(15)], [some(16), some(-1)])
         self.assertEqual(len(made.maker.tests), 1)
+
+    def test_an_address_that_is_kept_below_a_frame_of_vector_registers(self):
+        """The frame is as large as VLEN says."""
+        some = lambda offset: [TAKEN_APART[:16], word(offset), bytes(4)]
+        for move in ('slli t0, t0, 1; ', ''):
+            text = f'''addi sp, sp, -16; csrrs t0, 0xc22, x0; {move}sub sp, sp, t0; sw a0, 4(sp); sw a1, 0(sp); lw t1, 0(a1); lw t2, 4(sp); add t2, t2, t1; at: lbu t3, 0(t2)
+                csrrs t0, 0xc22, x0; {move}add sp, sp, t0; addi sp, sp, 16; sw t3, 0(a2); ret'''
+            made = self.guards(text, [reads(16), reads(4), writes(4)], [some(0), some(15)], [some(-1), some(16)])
+            self.assertEqual([told.what for told in made.told], ['a0'])
+
+    def test_what_is_known_of_a_word_that_no_block_comes_to(self):
+        text = 'beqz a0, end; at: addi a0, a0, -1; end: ret'
+        image = certificates.read_image(small.image(text))
+        found = search.find(image, [scalar(0, 9)], 128)
+        alone = found._replace(certificate=found.certificate._replace(blocks=found.certificate.blocks[:1]))
+        self.assertIsNotNone(guided.Walked(alone, image, 128).known_at(small.CODE))
+        self.assertIsNone(guided.Walked(alone, image, 128).known_at(small.label(text, 'at')))
 
     def test_the_entrys_return_in_memory(self):
         made = self.guards(self.CALL.format('jal ra, f') + 'f: sw a0, 0(a1); ret', [scalar(0, 1000), writes(4)], [[12, bytes(4)]], [])
@@ -499,6 +599,25 @@ class Kinds(unittest.TestCase):
         made = self.guards(text, [reads(4), writes(4)], [some(0), some(1), some(20)], [some(1 << 30)], 'fuel', 1 << 12)
         first = next(block for block in made.certificate.blocks if block.start == made.image.entry)
         self.assertLess(first.c + first.k * 0x40000000 * bool(first.r), 1 << 32)
+
+    def test_a_loop_whose_own_number_would_make_the_bound_too_great(self):
+        """The same of a number that falls in the kernel's own code, with no counter."""
+        text = '''li t2, 1000; {}lw t1, 4(a0); srli t1, t1, 3; outer: mv t0, t1; at: bgeu a2, t0, next; addi t0, t0, -1; j at; next: addi t2, t2, -1
+            bnez t2, outer; sw t0, 0(a1); ret'''
+        some = lambda many: [bytes(4) + small.word(8 * many), bytes(4), 2]
+        for access in ('lw t1, 0(a0); add t3, a1, t1; sb x0, 0(t3); ', ''):     # (the second one has a certificate without guards)
+            made = self.guards(text.format(access), [reads(8), writes(4), scalar(1, 5)], [some(0), some(3)], [], 'fuel', 3500)
+            self.assertEqual(made.told[made.run(some(1 << 28))[1] - 1].kind, 'fuel')
+            first = next(block for block in made.certificate.blocks if block.start == made.image.entry)
+            self.assertLess(first.c + first.k * 0x40000000 * bool(first.r), 1 << 32)
+
+    def test_what_comes_behind_a_loop_with_fuel_is_no_part_of_its_rounds(self):
+        """A multiple of a register that the loop leaves alone stands in each of its blocks, on the ways back too."""
+        text = 'lw t1, 0(a0); li t2, 0; at: srli t1, t1, 1; addi t2, t2, 1; bnez t1, at; loop: addi t2, t2, 3; addi a1, a1, -1; bnez a1, loop; sw t2, 0(a2); ret'
+        some = lambda number, many: [word(number), many, bytes(4)]
+        made = self.guards(text, [reads(4), scalar(1, 1000), writes(4)], [some(0, 1), some(5, 1000), some(1 << 31, 7)], [], 'fuel', 100)
+        first = next(block for block in made.certificate.blocks if block.start == made.image.entry)
+        self.assertLess(first.c + 1000 * first.k, 100 * 6 + 1000 * 4)
 
     def test_a_loop_that_is_come_into_in_its_midst(self):
         text = 'li t0, 0; li t2, 0; beqz a2, mid; at: addi t2, t2, 5; mid: addi t0, t0, 1; addi t2, t2, 1; bne t0, a0, at; sw t2, 0(a1); ret'

@@ -15,7 +15,7 @@ import notes
 import program
 import small
 from outside import certificates, checker, model
-from program import Branch, Jump, Label, Word, word
+from program import Address, Away, Branch, Jump, Label, Word, word
 from small import reads, scalar, writes
 from test_commands import EXAMPLES, Case
 
@@ -267,6 +267,16 @@ class Layout(unittest.TestCase):
         i, f = model.decode(laid.words[(at - laid.first) // 4 + 1])
         self.assertEqual(i.name, 'jal')
         return at + 4 + f['to'] & 0xffffffff
+
+    def test_an_address_is_counted_on_from_one_that_is_near(self):
+        for many in (0, 1, 511, 512, 513, 5000):
+            for labels in (('base', 'on'), ('on', 'base')):
+                operations = [Address(5, ('base',)), Away(5, ('on',), ('base',)), Label((labels[0],)), *[Word(0x13)] * many, Label((labels[1],)), Word(0x13)]
+                laid, number = program.Laid(operations, 0x11000), 0
+                for here in laid.words[:(laid.at[2] - laid.first) // 4]:
+                    i, f = model.decode(here)
+                    number = f['imm'] if i.name == 'lui' else number + f['imm'] & 0xffffffff
+                self.assertEqual((number, laid.at[2] - laid.at[1]), (laid.places['on',], 4 if many <= 511 + (labels[0] == 'on') else 8))
 
     def test_a_jump_that_does_not_reach_is_told(self):
         far = [Jump(0, ('on',)), *[Word(0x13)] * (1 << 18), Label(('on',)), Word(0x13)]
