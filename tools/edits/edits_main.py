@@ -1,15 +1,14 @@
 """Tries every pair of the must-fail edits by itself, and keeps the table of docs/EDITS.md, which says what all of it means.
 
     tools/each-edit [--write] CRATE|CRATE/PAIR..
-    tools/each-edit [--write] [--minutes N] [--recorded] --changed
+    tools/each-edit [--write] [--minutes N] --changed
 
 The first form tries the pairs that it names. It prints the goal that each leaves open; with --write it writes the goals
 into the table, with the sums of what they were tried on.
 
 The second form is the gate's. It tries the pairs whose sums differ from the table's, and those with no row. It begins no
 check after N processor minutes; without --minutes, half a minute for each of these pairs. It says where a pair has no row,
-or a row no pair, and where the table is to be written anew. With --recorded it tries pairs with a row alone, and what has
-no row, or was not come to, is told and passes.
+or a row no pair, and where the table is to be written anew. Pairs that it did not come to count as not tried.
 
 Both work on a copy of the repository, and begin with what `rt check` has kept. With RT_JOBS=N, N crates are tried side by
 side. Status: 0 where each pair is refused; 1 where one is not, or was not tried, or where the second form finds a row or a
@@ -46,13 +45,12 @@ def wanted(words, pairs):
     return chosen
 
 
-def differing(pairs, own_sums, table, only_recorded=False):
-    """The pairs whose sums differ from the table's and, unless only what is recorded counts, those that have no row, by crate."""
+def differing(pairs, own_sums, table):
+    """The pairs whose sums differ from the table's, and those that have no row, by crate."""
     chosen = {}
     for name, of_crate in pairs.items():
         rows = table.get(name, {})
-        known = [it for it in of_crate if it.name in rows] if only_recorded else of_crate
-        found = [it for it in known if it.name not in rows or rows[it.name].sum != own_sums[name][it.name]]
+        found = [it for it in of_crate if it.name not in rows or rows[it.name].sum != own_sums[name][it.name]]
         if found:
             chosen[name] = found
     return chosen
@@ -113,7 +111,6 @@ def options(words):
     parser.add_argument("--write", action="store_true")
     parser.add_argument("--changed", action="store_true")
     parser.add_argument("--minutes", type=float)
-    parser.add_argument("--recorded", action="store_true")
     parser.add_argument("names", nargs="*")
     call = parser.parse_args(words)
     if call.changed == bool(call.names) or call.minutes is not None and not call.changed:
@@ -140,23 +137,21 @@ def perform(call):
     pairs = {name: found for name in crates if (found := read_pairs(ROOT / "crates" / name))}
     own_sums = {name: sums(ROOT / "crates" / name, of_crate) for name, of_crate in pairs.items()}
     table = read_table(DOCUMENT.read_text())
-    chosen = differing(pairs, own_sums, table, call.recorded) if call.changed else wanted(call.names, pairs)
+    chosen = differing(pairs, own_sums, table) if call.changed else wanted(call.names, pairs)
     minutes = Minutes(allowed(call, chosen))
-    refused = missed = 0
+    refused = 0
     for name, tried in try_all(chosen, crates, minutes):
         tell(name, tried, not call.changed and not call.write)
         refused += len(tried.goals)
-        missed += len(tried.missed)
         if call.write:
             write(pairs, own_sums, [name], tried)
     is_recorded = True
     if call.changed:
         if call.write:
             write(pairs, own_sums, pairs)
-        is_recorded = tell_record(pairs, chosen, call.write, not call.recorded)
+        is_recorded = tell_record(pairs, chosen, call.write)
         print(f"each-edit: {count(chosen)} of {count(pairs)} pairs tried anew, {refused} refused, in {minutes.taken():.0f} processor minutes")
-    is_done = missed == 0 if call.recorded else refused == count(chosen)
-    return 0 if is_done and is_recorded else 1
+    return 0 if refused == count(chosen) and is_recorded else 1
 
 
 def count(pairs):
@@ -169,15 +164,15 @@ def allowed(call, chosen):
     return MINUTES_A_PAIR * count(chosen) if call.changed and call.minutes is None else call.minutes
 
 
-def tell_record(pairs, chosen, is_written, wants_rows):
-    """Prints what the table lacks, and gives whether each row has a pair and, where that is wanted, each pair a row."""
+def tell_record(pairs, chosen, is_written):
+    """Prints what the table lacks, and gives whether each row has a pair and each pair a row."""
     table = read_table(DOCUMENT.read_text())
     lacking, lost = list(without_row(pairs, table)), list(without_pair(pairs, table))
     for line in lacking + lost:
         print(line)
     if lacking or lost or chosen and not is_written:
         print("the table is to be written anew: tools/each-edit --write --changed")
-    return not lost and not (wants_rows and lacking)
+    return not lost and not lacking
 
 
 if __name__ == "__main__":

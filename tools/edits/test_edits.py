@@ -198,7 +198,6 @@ class Table(WithCrate):
         table["low"]["adds_two"] = Row("src/lib.rt: next: returns", "0" * 12)
         self.assertEqual(edits_main.differing(of, own, table), {"low": of["low"][:1]})
         self.assertEqual(edits_main.differing(of, own, {}), of)
-        self.assertEqual(edits_main.differing(of, own, {}, True), {})
 
     def test_rows_and_pairs_without_the_other_are_told(self):
         of = {"low": pairs.read_pairs(self.crate)}
