@@ -244,7 +244,13 @@ def of_text(data, word, files, script=b''):
                 return lacking(param['file']), {}
             job.args[place] = AREA[param.get('mode', 'rw')], files[param['file']]
     answer, left = of_job(image, job, word, script)
-    return answer, {param['out']: left[place] for place, param in enumerate(params) if left and 'out' in param}
+    written = {}
+    for place, param in enumerate(params):
+        if left and param.get('out') == '':
+            return lacking('')._replace(output=answer.output if word == 'mon' else ''), written
+        if left and 'out' in param:
+            written[param['out']] = left[place]
+    return answer, written
 
 
 def lacking(path):

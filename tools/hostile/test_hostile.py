@@ -35,6 +35,19 @@ class Expected(unittest.TestCase):
         self.assertEqual(answer, Answer(0, told))
         self.assertEqual(left, {'raised.bin': files['expected.bin']})
 
+    def test_an_out_path_that_is_empty(self):
+        """No file can be made there, so what the run left is lost; what `mon` answered before stands."""
+        files = {path.name: path.read_bytes() for path in (ROOT / 'examples/raise_if').iterdir()}
+        files['job.toml'] = files['job.toml'].replace(b'"raised.bin"', b'""')
+        for word, script, told in (('run', b'', ''), ('try', b'', ''), ('mon', b's 506\nq\n', 'ended step 506\n')):
+            with self.subTest(word=word):
+                wanted = Answer(3, told, 'file: \n')
+                self.assertEqual(expected.of_text(files['job.toml'], word, files, script), (wanted, {}))
+                if program():
+                    with Folder(program()) as calls:
+                        calls.hold(files)
+                        self.assertEqual(calls.call(word, 'job.toml', script=script), wanted)
+
     def test_make(self):
         files = {path.name: path.read_bytes() for path in (ROOT / 'examples/raise_words').iterdir()}
         for job, wanted in (('job.toml', 'raise_words.elf'), ('job-256.toml', 'raise_words-256.elf')):
