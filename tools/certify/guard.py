@@ -191,8 +191,8 @@ class Maker(Registers, Pace, Addresses, Strips, Tables):
                 if self.code.reads_links:
                     raise Stuck(f'the return at {node.pc:#x} has several places, and the code reads where calls return to')
                 label = self.failed('choice', key[1], 'a return to no place of a call')
-                places = sorted(self.code.leads[key], key=lambda back: -self.graph.depth(back))
-                self.edits.instead[key] = program.returned(node, places, self.temporary([key], 1 << node.f['rs1']), label)
+                weights = {back: 8 ** self.graph.depth(back) for back in self.code.leads[key]}
+                self.edits.instead[key] = program.returned(node, weights, self.temporary([key], 1 << node.f['rs1']), label)
 
     def last_words(self):
         """What is done where a guard failed: its number goes to the status."""

@@ -225,7 +225,7 @@ class Edits:
 def layout(code, edits):
     """All operations in the order in which they stand: an instruction falls through to the one that it leads to."""
     out, late = [*code.first, *edits.first], []
-    order = sorted(code.nodes, key=lambda key: (key[0] != (), key[0], key[1]))
+    order = sorted(code.nodes, key=standing)
     out.append(Jump(ZERO, ('way', None, code.entry)))
     before = None
     for key in order:
@@ -242,6 +242,11 @@ def layout(code, edits):
         out += way_on(code, before)
     out += late + edits.last
     return without_idle(resolved(code, edits, out))
+
+
+def standing(key):
+    """By what nodes are ordered."""
+    return key[0] != (), *key
 
 
 def falls_to(code, key):
@@ -291,14 +296,29 @@ def own_words(code, node):
     return [Word(node.word, key)]
 
 
-def returned(node, places, other, fails):
-    """A return to one of several places: to the one whose address the link register holds, else to a label. other: a spare register."""
-    out, before = [], None
-    for back in places:
-        way = 'way', (back[0], back[1] - 4), back           # (the address that the call before it left in the link register)
-        out += [Address(other, way) if before is None else Away(other, way, before), Branch('beq', node.f['rs1'], other, way)]
-        before = way
-    return [*out[:-1], out[-1]._replace(key=node.key), Jump(ZERO, fails)]
+def returned(node, weights, other, fails):
+    """A return to one of several places: to the one whose address the link register holds, else to a label. The places are chosen by
+    halves, where one that weighs more than half of them comes first. weights: place -> how often it may be meant. other: a spare register."""
+    out = one_of(node, sorted(weights, key=standing), weights, other, fails)
+    last = max(k for k, op in enumerate(out) if isinstance(op, Branch))
+    return [*out[:last], out[last]._replace(key=node.key), *out[last + 1:], Jump(ZERO, fails)]
+
+
+def one_of(node, places, weights, other, fails, before=None):
+    """A branch to each of these places in the order in which they stand. before: the label whose address the spare register holds."""
+    half, total, at = sum(weights[back] for back in places) / 2, 0, 0
+    while total + weights[places[at]] < half:
+        total += weights[places[at]]
+        at += 1
+    back, below, above = places[at], places[:at], places[at + 1:]
+    way = 'way', (back[0], back[1] - 4), back           # (the address that the call before it left in the link register)
+    out = [Address(other, way) if before is None else Away(other, way, before), Branch('beq', node.f['rs1'], other, way)]
+    if not below or not above:
+        rest = below or above
+        return out + (one_of(node, rest, weights, other, fails, way) if rest else [])
+    lower = 'below', node.key, back
+    out += [Branch('bltu', node.f['rs1'], other, lower), *one_of(node, above, weights, other, fails, way)]
+    return out + [Jump(ZERO, fails), Label(lower), *one_of(node, below, weights, other, fails, way)]
 
 
 def resolved(code, edits, operations):
