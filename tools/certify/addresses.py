@@ -277,18 +277,26 @@ class Addresses:
         label = self.failed('address', key[1], ' or '.join(dict.fromkeys(zone[3] for zone in choice)))
         return [*self.chosen_zone(key, sorted(choice), label, True), Label(('joined', key))]
 
-    def chosen_zone(self, key, zones, label, needs_low):
-        """The choice among zones in the order of their addresses, of which the last one's copy falls through to what is behind."""
+    def chosen_zone(self, key, zones, label, needs_low, last=None):
+        """The choice among zones in the order of their addresses, of which the last one's copy falls through to what is behind. last: the
+        number that was compared with before, which the next one is counted on from."""
         register = self.accessed(key)[0]
         if len(zones) > 1:
             half = len(zones) // 2
             lower = 'lower', key, zones[half]
-            return [*self.compared(key, register, self.ends_of(key, zones[half])[0], True, lower, 0),
-                    *self.chosen_zone(key, zones[half:], label, False), Jump(ZERO, ('joined', key)),
-                    Label(lower), *self.chosen_zone(key, zones[:half], label, needs_low)]
+            words, last = self.compared_on(last, key, register, self.ends_of(key, zones[half])[0], True, lower)
+            return [*words, *self.chosen_zone(key, zones[half:], label, False, last), Jump(ZERO, ('joined', key)),
+                    Label(lower), *self.chosen_zone(key, zones[:half], label, needs_low, last)]
         low, high = self.ends_of(key, zones[0])
-        first = self.compared(key, register, low, True, label, 0) if needs_low else []
-        return [*first, *self.compared(key, register, high, False, label, 0), Word(self.code.nodes[key].word, key)]
+        first, last = self.compared_on(last, key, register, low, True, label) if needs_low else ([], last)
+        return [*first, *self.compared_on(last, key, register, high, False, label)[0], Word(self.code.nodes[key].word, key)]
+
+    def compared_on(self, last, key, register, value, is_least, label):
+        """The same as `compared` behind another comparison before a node, whose number may still stand in its register, and the number."""
+        words = self.compared(key, register, value, is_least, label, 0)
+        if not isinstance(words[0], Number):
+            return words, last
+        return [program.counted_on(last, words[0]), *words[1:]], words[0]
 
     def accessed(self, key):
         """(register, offset, size) of what an access with a choice touches."""

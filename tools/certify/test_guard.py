@@ -186,6 +186,14 @@ class Kinds(unittest.TestCase):
                                    [some(0, 0), some(0, most(8)), some(1, most(13)), some(1, 0)], [some(0, most(8) + 1), some(1, most(13) + 1)], 'strip')
                 self.assertEqual([told.what for told in made.told], ['a0 or a1'])
 
+    def test_choice_among_buffers_of_vectors_of_a_known_length(self):
+        """One comparison tells the end, as of a scalar access, and the next number is counted on from the one before."""
+        some = lambda which, offset: [TAKEN_APART[:8], TAKEN_APART[:13], which, offset, bytes(16)]
+        made = self.guards('vsetivli x0, 4, e8, m1, ta, ma; mv t0, a0; beqz a2, on; mv t0, a1; on: add t0, t0, a3; at: vle8.v v8, (t0); vse8.v v8, (a4); ret',
+                           [reads(8), reads(13), scalar(0, 1), scalar(0, 20), writes(16)],
+                           [some(0, 0), some(0, 4), some(1, 0), some(1, 9)], [some(0, 5), some(1, 10)])
+        self.assertLess(made.run(some(0, 4))[0].steps, made.run_plain(some(0, 4)).steps + 13)
+
     def test_choice_among_buffers_of_whole_registers_and_masks(self):
         for access, size in (('vl1re8.v v8, (t0); vs1r.v v8, (a4)', 16), ('vlm.v v8, (t0); vsm.v v8, (a4)', 2)):
             some = lambda which, offset: [TAKEN_APART[:20], TAKEN_APART[:24], which, offset, bytes(16)]
@@ -199,7 +207,7 @@ class Kinds(unittest.TestCase):
         params = [reads(8), reads(12), writes(16)]
         first, second = [address for _, address, *_ in checker.buffers(params)][:2]
         some = lambda address: [word(address) + bytes(range(4)), TAKEN_APART[:12], bytes(16)]
-        for kind, access, size in (('address', 'lw t1, 0(t0); sw t1, 0(a2)', 4), ('strip', 'vle8.v v8, (t0); vse8.v v8, (a2)', 3)):
+        for kind, access, size in (('address', 'lw t1, 0(t0); sw t1, 0(a2)', 4), ('address', 'vle8.v v8, (t0); vse8.v v8, (a2)', 3)):
             with self.subTest(access=access):
                 self.guards(f'vsetivli x0, 3, e8, m1, ta, ma; lw t0, 0(a0); at: {access}; ret', params,
                             [some(first), some(first + 8 - size), some(second), some(second + 12 - size)],
