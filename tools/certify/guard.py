@@ -63,7 +63,7 @@ class Maker(Registers, Pace, Addresses, Strips, Tables):
         self.fuelled = set()                    # heads
         self.tests, self.choices, self.strips, self.sizes = {}, {}, {}, {}
         self.told_of, self.found = [], None     # of this round: which accesses are tested, by which registers, and what it has found
-        self.masks, self.indices, self.retyped = {}, {}, set()
+        self.masks, self.indices, self.retyped, self.runs = {}, {}, set(), {}
         self.begun = {}                         # node of a strip -> the test of its base before the loop
         self.read_code()
 
@@ -118,6 +118,7 @@ class Maker(Registers, Pace, Addresses, Strips, Tables):
         self.settle_counters()
         self.edits, self.told, self.strip_temporaries = program.Edits(), [], {}
         self.constants, self.loop_constants, self.test_of = {}, {}, {}
+        self.edits.copied = self.settle_runs()
         if keeps_constants:
             self.choose_constants()
         self.put_loop_constants()
@@ -227,7 +228,8 @@ class Maker(Registers, Pace, Addresses, Strips, Tables):
             if strip.is_empty:
                 self.edits.after[key] = [Label(('past', key)), *self.edits.after.get(key, [])]
         for key, choice in sorted(self.choices.items()):
-            self.edits.instead[key] = self.choice_words(key, choice)
+            if key not in self.edits.copied:
+                self.edits.instead[key] = self.choice_words(key, choice)
         for key, mask in sorted(self.masks.items()):
             self.edits.instead[key] = self.mask_words(key, *mask)
         for key, index in sorted(self.indices.items()):
@@ -290,13 +292,13 @@ class Maker(Registers, Pace, Addresses, Strips, Tables):
 
     def idle_tests(self, found):
         """The ends of tests at which none is known to fail, as (test, end)."""
-        ways, out = {(edge.pc, edge.target) for edge in found.finder.edge_list}, set()
+        ways, out, busy = {(edge.pc, edge.target) for edge in found.finder.edge_list}, set(), set()
         for k, op in enumerate(self.laid.operations if self.laid else ()):
             if isinstance(op, Branch) and op.label in self.test_of and k not in self.laid.long:
                 name = self.test_of[op.label]
-                if (self.laid.at[k], self.laid.places[op.label]) not in ways:
-                    out.add((name, 'low' if op.name == 'bltu' and op.rs1 == self.tests[name].register else 'high'))
-        return out
+                end = name, 'low' if op.name == 'bltu' and op.rs1 == self.tests[name].register else 'high'
+                (busy if (self.laid.at[k], self.laid.places[op.label]) in ways else out).add(end)
+        return out - busy       # (where there are copies, those of which all are idle)
 
     def tests_without(self, ends):
         """The tests without some of their ends."""

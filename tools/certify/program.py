@@ -37,6 +37,7 @@ Branch = namedtuple('Branch', 'name rs1 rs2 label key', defaults=(None,))
 Jump = namedtuple('Jump', 'rd label key', defaults=(None,))
 Number = namedtuple('Number', 'rd value')           # one word or two
 Address = namedtuple('Address', 'rd label')         # always two
+Run = namedtuple('Run', 'keys')                     # a copy of nodes that follow one another, with all that is put between them
 Away = namedtuple('Away', 'rd label base')          # the address of a label, where the register holds that of another one: one word or two
 
 
@@ -219,6 +220,7 @@ class Edits:
         self.entering = {}      # head of a loop -> (the loop's nodes, operations on the ways in from outside)
         self.rounds = {}        # head of a loop -> (the loop's nodes, operations on the ways back to it)
         self.instead = {}       # node -> in its place
+        self.copied = set()     # nodes that stand in copies, in the place of one before them
         self.last = []          # behind all
 
 
@@ -234,14 +236,32 @@ def layout(code, edits):
         if before is not None and not falls:
             out += way_on(code, before)
         enter_node(code, edits, key, before if falls else None, out, late)
-        out += code.before.get(key, []) + edits.before.get(key, [])
-        out += edits.instead[key] if key in edits.instead else own_words(code, node)
-        out += edits.after.get(key, []) + code.behind.get(key, [])
+        if key not in edits.copied:
+            out += node_words(code, edits, key)
         before = key
     if before is not None:
         out += way_on(code, before)
     out += late + edits.last
     return without_idle(resolved(code, edits, out))
+
+
+def node_words(code, edits, key):
+    """A node with what is put before it, in its place and behind it; where its place has copies of more nodes, what is behind it stands in
+    these."""
+    out = code.before.get(key, []) + edits.before.get(key, [])
+    instead = edits.instead[key] if key in edits.instead else own_words(code, code.nodes[key])
+    if not any(isinstance(op, Run) for op in instead):
+        return out + instead + edits.after.get(key, []) + code.behind.get(key, [])
+    for op in instead:
+        out += run_words(code, edits, op.keys) if isinstance(op, Run) else [op]
+    return out
+
+
+def run_words(code, edits, keys):
+    """A copy of nodes that follow one another."""
+    first, *others = keys
+    out = [*own_words(code, code.nodes[first]), *edits.after.get(first, []), *code.behind.get(first, [])]
+    return out + [op for key in others for op in node_words(code, edits, key)]
 
 
 def standing(key):

@@ -133,7 +133,7 @@ class Registers:
             for value in (index.most, *(2 * [index.first] if index.first is not None else [])):
                 yield key, False, value, words(value)
         for key, choice in self.choices.items():
-            if not isinstance(choice[0], Strip):
+            if not isinstance(choice[0], Strip) and key not in self.edits.copied:
                 yield from ((key, False, value, words(value) * weight) for value, weight in self.numbers_of_zones(key, sorted(choice), 1))
         for key, node in self.code.nodes.items():
             if node.pc in self.tables and node.i.shape == 'jalr':

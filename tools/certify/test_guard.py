@@ -174,6 +174,21 @@ class Kinds(unittest.TestCase):
                 self.guards(f'li t0, {stride}; vsetvli t1, a2, e8, m1, ta, ma; add t2, a0, a1; at: vlse8.v v8, (t2), t0; vse8.v v8, (a3); ret',
                             [reads(16), scalar(0, 20), scalar(0, 16), writes(16)], map(some, whole), map(some, early), 'strip')
 
+    def test_one_choice_for_several_accesses(self):
+        """Accesses by one number in one straight line have one choice, and what stands between them has a copy for each buffer; so has what is
+        put in there."""
+        some = lambda which, offset, other=0: [TAKEN_APART[:8], TAKEN_APART[:13], which, offset, word(other) + TAKEN_APART[:8], other]
+        text = """mv t0, a0; beqz a2, on; mv t0, a1; on: add t0, t0, a3; at: lbu t1, 0(t0); lbu t2, 3(t0); add t1, t1, t2; {}lbu t2, 1(t0); add t1, t1, t2
+            sb t1, 2(t0); lbu t0, 2(t0); add t1, t1, t0; sw t1, 0(a4); ret"""
+        params = [writes(8), writes(13), scalar(0, 1), scalar(0, 20), writes(12), scalar(0, 20)]
+        whole, early = [some(0, 0), some(0, 4), some(1, 0), some(1, 9)], [some(0, 5), some(1, 10)]
+        made = self.guards(text.format(''), params, whole, early)
+        self.assertLess(made.run(some(0, 4))[0].steps, made.run_plain(some(0, 4)).steps + 13)
+        made = self.guards(text.format('add t4, a4, a5; lbu t3, 0(t4); add t1, t1, t3; '), params, [*whole, some(1, 9, 11), some(0, 2, 3)], early)
+        for which in (0, 1):
+            ran, number = made.run(some(which, 4, 12))
+            self.assertEqual((ran.fault, made.told[number - 1].what), (None, 'a4'))
+
     def test_choice_among_buffers_of_vectors(self):
         """Each buffer has a copy of the access."""
         strip = 'vsetvli t1, a3, e8, m1, ta, ma; at: {}; vse8.v v8, (a4)'
