@@ -37,10 +37,11 @@ PLANS = [search.Plan('lengths', False, 'none', False), search.Plan('lengths', Fa
 class Maker(Registers, Pace, Addresses, Strips, Tables):
     """An image on the way to one with a certificate."""
 
-    def __init__(self, data, image, params, vlen, fuel=FUEL, status=None, watch=None, hoists=True, counts=True, shares=True):
+    def __init__(self, data, image, params, vlen, fuel=FUEL, status=None, watch=None, hoists=True, counts=True, shares=True,
+                 evicted=0):
         """fuel: how many rounds all loops with fuel may take. status: the place of a buffer of 4 bytes that gets a guard's number. hoists:
         whether pointers are tested before loops where that can be. counts: whether loops within others have counters before fuel. shares:
-        whether large functions have one copy where copies make much code."""
+        whether large functions have one copy where copies make much code. evicted: how many registers of the kernel go to the stack from the start."""
         self.hoists, self.counts, self.shares, self.may_spill = hoists, counts, shares, False
         self.most_rounds = max(LEAST_ROUNDS, 2 << sum(param.a for param in params if param.kind == 'buffer').bit_length())
         self.data, self.image, self.params, self.vlen = data, image, params, vlen
@@ -50,7 +51,7 @@ class Maker(Registers, Pace, Addresses, Strips, Tables):
         self.status_address = None if status is None else self.address_of(status)
         self.measures_fuel = False              # whether it is what is left of the fuel that goes there
         self.tables, self.pointers, self.is_ending = {}, set(), False       # (pointers: the jumps by tables whose addresses were not told)
-        self.evicted = 0                        # how many registers are kept on the stack
+        self.evicted = evicted                  # how many registers are kept on the stack
         self.told, self.known_misfits, self.walks = [], None, flow.Walks()
         self.begin_anew()
 

@@ -5,6 +5,8 @@ import program
 from kinds import NEVER_GIVEN, ORDER, NoRegister, Strip
 from program import RA, SP, Number
 
+LEAST, WORTH = 10, 50       # what part of a kernel's instructions all numbers have to be that are to have registers, and one of them
+
 
 class Registers:
     """What a maker knows of registers."""
@@ -138,6 +140,15 @@ class Registers:
         for key, node in self.code.nodes.items():
             if node.pc in self.tables and node.i.shape == 'jalr':
                 yield from ((key, False, value, weight) for value, weight in self.numbers_of_choice(node, self.targets_of(key), 2))
+
+    def wanted(self):
+        """How many numbers would stand in registers if more of them were free; 0 where that would save little."""
+        missing = {}
+        for key, is_entering, value, weight in self.compared_numbers() if self.laid else ():
+            if self.held(key, value, is_entering) is None:
+                missing[value] = missing.get(value, 0) + weight * 8 ** (self.graph.depth(key) - is_entering)
+        whole = sum(8 ** self.graph.depth(key) for key in self.graph.order)
+        return sum(weight * WORTH > whole for weight in missing.values()) if sum(missing.values()) * LEAST > whole else 0
 
     def choose_constants(self):
         """Numbers that are compared with stay in registers: in spare ones throughout, those of the innermost loops first, and in such as are

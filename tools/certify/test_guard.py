@@ -13,6 +13,7 @@ import pace
 import program
 import search
 import small
+import watch
 from outside import certificates, checker
 from small import reads, scalar, word, writes
 
@@ -188,6 +189,23 @@ class Kinds(unittest.TestCase):
         for which in (0, 1):
             ran, number = made.run(some(which, 4, 12))
             self.assertEqual((ran.fault, made.told[number - 1].what), (None, 'a4'))
+
+    def test_numbers_that_guards_compare_with_get_registers_of_the_kernel(self):
+        """Where the numbers of a choice in a loop have no registers, some of the kernel's go to the stack for them."""
+        each = lambda line: '; '.join(line.format(n, 4 * n) for n in (3, 4, 8, 9, *range(14, 32)))
+        text = """loop: mv t0, a0; andi t2, a2, 1; beqz t2, on; mv t0, a1; on: add t0, t0, a2; lbu t1, 0(t0); add x14, x14, t1; addi a2, a2, -1; bnez a2, loop"""
+        full, params = f"{each('lw x{}, {}(a1)')}; {text}; {each('sw x{}, {}(a1)')}; ret", [reads(128), writes(128), scalar(1, 200)]
+        image, steps = certificates.read_image(small.image(full)), []
+        for evicted in (0, 2):
+            maker = guard.Maker(small.image(full), image, params, 128, 1000, None, watch.Progress(), evicted=evicted)
+            _, new, found = maker.run()
+            self.assertEqual(found.answer, 'accepted')
+            self.assertTrue(evicted or maker.wanted())
+            contents = [bytes(range(128)), bytes(range(128, 256)), 100]
+            ran, plain = small.run(new, params, contents), small.run(image, params, contents)
+            self.assertEqual((ran.fault, ran.buffers), (None, plain.buffers))
+            steps.append(ran.steps)
+        self.assertLess(steps[1], steps[0] - 50)
 
     def test_choice_among_buffers_of_vectors(self):
         """Each buffer has a copy of the access."""
