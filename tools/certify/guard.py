@@ -168,7 +168,7 @@ class Maker(Registers, Pace, Addresses, Strips, Tables):
         if self.status_address is not None:
             first = [Number(self.number_register, self.status_address), word('sw', rs1=self.number_register, rs2=0, imm=0),
                      Number(self.number_register, 0)]
-        first += [Number(r, value) for value, r in sorted(self.constants.items())]
+        first += [program.given(r, value) for r, value in sorted((r, value) for value, r in self.constants.items())]
         if self.fuelled:
             first.append(Number(self.fuel_register, self.fuel))
         self.edits.first = first
@@ -193,8 +193,12 @@ class Maker(Registers, Pace, Addresses, Strips, Tables):
                 if self.code.reads_links:
                     raise Stuck(f'the return at {node.pc:#x} has several places, and the code reads where calls return to')
                 label = self.failed('choice', key[1], 'a return to no place of a call')
-                weights = {back: 8 ** self.graph.depth(back) for back in self.code.leads[key]}
-                self.edits.instead[key] = program.returned(node, weights, self.temporary([key], 1 << node.f['rs1']), label)
+                other, held = self.temporary([key], 1 << node.f['rs1']), lambda way: self.held(key, way)
+                self.edits.instead[key] = program.returned(node, self.weights_of(key), other, label, held)
+
+    def weights_of(self, key):
+        """How often a return may lead to each of its places."""
+        return {back: 8 ** self.graph.depth(back) for back in self.code.leads[key]}
 
     def last_words(self):
         """What is done where a guard failed: its number goes to the status."""

@@ -316,29 +316,57 @@ def own_words(code, node):
     return [Word(node.word, key)]
 
 
-def returned(node, weights, other, fails):
-    """A return to one of several places: to the one whose address the link register holds, else to a label. The places are chosen by
-    halves, where one that weighs more than half of them comes first. weights: place -> how often it may be meant. other: a spare register."""
-    out = one_of(node, sorted(weights, key=standing), weights, other, fails)
+def returned(node, weights, other, fails, held):
+    """A return to one of several places: to the one whose address the link register holds, else to a label. weights: place -> how often it
+    may be meant. other: a spare register. held: what tells of the address of a way in which register it stands, if it does."""
+    out = one_of(node, sorted(weights, key=standing), weights, other, fails, held)
     last = max(k for k, op in enumerate(out) if isinstance(op, Branch))
     return [*out[:last], out[last]._replace(key=node.key), *out[last + 1:], Jump(ZERO, fails)]
 
 
-def one_of(node, places, weights, other, fails, before=None):
-    """A branch to each of these places in the order in which they stand. before: the label whose address the spare register holds."""
+def one_of(node, places, weights, other, fails, held, before=None):
+    """A branch to each of these places in the order in which they stand. before: the way whose address the spare register holds."""
+    at = middle(places, weights)
+    back, below, above = places[at], places[:at], places[at + 1:]
+    way, register, out = way_back(back), held(way_back(back)), []
+    if register is None:
+        out.append(Address(other, way) if before is None else Away(other, way, before))
+        register, before = other, way
+    out.append(Branch('beq', node.f['rs1'], register, way))
+    rest = [some and one_of(node, some, weights, other, fails, held, before) for some in (above, below)]
+    if not below or not above:
+        return out + rest[0] + rest[1]
+    lower = 'below', node.key, back
+    return [*out, Branch('bltu', node.f['rs1'], register, lower), *rest[0], Jump(ZERO, fails), Label(lower), *rest[1]]
+
+
+def middle(places, weights):
+    """Which of some places is compared with first: the one in their midst, by their weights."""
     half, total, at = sum(weights[back] for back in places) / 2, 0, 0
     while total + weights[places[at]] < half:
         total += weights[places[at]]
         at += 1
-    back, below, above = places[at], places[:at], places[at + 1:]
-    way = 'way', (back[0], back[1] - 4), back           # (the address that the call before it left in the link register)
-    out = [Address(other, way) if before is None else Away(other, way, before), Branch('beq', node.f['rs1'], other, way)]
-    if not below or not above:
-        rest = below or above
-        return out + (one_of(node, rest, weights, other, fails, way) if rest else [])
-    lower = 'below', node.key, back
-    out += [Branch('bltu', node.f['rs1'], other, lower), *one_of(node, above, weights, other, fails, way)]
-    return out + [Jump(ZERO, fails), Label(lower), *one_of(node, below, weights, other, fails, way)]
+    return at
+
+
+def way_back(back):
+    """The way to where a call returns to, whose address it left in the link register."""
+    return 'way', (back[0], back[1] - 4), back
+
+
+def ways_compared(places, weights):
+    """(way, weight) of all that a return compares with, of what it all weighs 1."""
+    todo, whole = [places], sum(weights.values())
+    while todo:
+        some = todo.pop()
+        at = middle(some, weights)
+        yield way_back(some[at]), sum(weights[back] for back in some) / whole
+        todo += [part for part in (some[:at], some[at + 1:]) if part]
+
+
+def given(rd, value):
+    """What puts a number into a register, or the address of a way."""
+    return Address(rd, value) if isinstance(value, tuple) else Number(rd, value)
 
 
 def resolved(code, edits, operations):

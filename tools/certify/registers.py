@@ -122,7 +122,8 @@ class Registers:
             return found
 
     def compared_numbers(self):
-        """(node, whether on the ways into its loop, number, weight) of all that is compared with."""
+        """(node, whether on the ways into its loop, number, weight) of all that is compared with; in the place of a number the way whose address
+        it is."""
         words = lambda value: len(program.number_words(1, value))
         for test in self.tests.values():
             for value, is_tested in ((test.least, test.low), (test.most, test.high)):
@@ -140,6 +141,10 @@ class Registers:
         for key, node in self.code.nodes.items():
             if node.pc in self.tables and node.i.shape == 'jalr':
                 yield from ((key, False, value, weight) for value, weight in self.numbers_of_choice(node, self.targets_of(key), 2))
+            elif node.calls and self.code.is_return(node) and len(self.code.leads[key]) > 1:
+                weights = self.weights_of(key)
+                for way, weight in program.ways_compared(sorted(weights, key=program.standing), weights):
+                    yield key, False, way, weight * (2 if weight == 1 else 1)
 
     def wanted(self):
         """How many numbers would stand in registers if more of them were free; 0 where that would save little."""
@@ -181,4 +186,4 @@ class Registers:
 
     def put_loop_constants(self):
         for head, held in self.loop_constants.items():
-            self.enter(head, [Number(r, value) for value, r in sorted(held.items())])
+            self.enter(head, [program.given(r, value) for r, value in sorted((r, value) for value, r in held.items())])
