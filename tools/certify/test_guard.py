@@ -670,6 +670,18 @@ class Kinds(unittest.TestCase):
         table = struct.pack('<3I', *[small.label(text, name) for name in ('one', 'two', 'three')])
         self.guards(text, [scalar(0, 100), writes(4)], [[case, bytes(4)] for case in (0, 1, 2, 3, 100)], [], data=[(0x20000, table, small.READ)])
 
+    def test_each_target_of_a_jump_table_is_counted_on_from_the_one_before(self):
+        """Where no register is left for their addresses."""
+        each = lambda line: '; '.join(line.format(n, 4 * n) for n in (3, 4, 7, 8, 9, *range(12, 32)))
+        cases = ''.join(f'c{n}: addi t2, t2, {n + 1}; j end; ' for n in range(8))
+        text = f"""li t0, 7; bltu t0, a0, none; {each('lw x{}, {}(a1)')}; slli t0, a0, 2; lui t1, 0x20; add t0, t0, t1; lw t0, 0(t0); jalr x0, 0(t0);
+            {cases} end: {each('sw x{}, {}(a1)')}; none: ret"""
+        table = struct.pack('<8I', *[small.label(text, f'c{n}') for n in range(8)])
+        made = self.guards(text, [scalar(0, 9), writes(128)], [[case, TAKEN_APART * 4] for case in range(10)], [], data=[(0x20000, table, small.READ)])
+        for case in range(8):
+            ran, plain = made.run([case, TAKEN_APART * 4])[0], made.run_plain([case, TAKEN_APART * 4])
+            self.assertLessEqual(ran.steps - plain.steps, 2 + 2 * 3 + 2)
+
     def test_jump_table_whose_address_is_on_the_stack(self):
         """And which is asked for far before the jump."""
         each = lambda line: '; '.join(line.format(n, 4 * n) for n in range(12, 32)) + '; '
