@@ -7,9 +7,10 @@ import quick
 from guided import Walked
 from kinds import COUNT, NoRegister, Strip, Test
 from outside import certificates, checker, table
-from program import SP, ZERO, Branch, Jump, Label, Number, Word, word
+from program import SP, ZERO, Branch, Jump, Label, Number, Run, Word, word
 
 VL, PASSED = checker.VL, checker.PASSED
+MOST_BETWEEN = 48       # how many nodes copies may have between accesses for which a buffer is chosen once
 MOST_STEPS = 4          # how many shifts and sums may make an index of one that rises
 
 
@@ -277,23 +278,72 @@ class Addresses:
         label = self.failed('address', key[1], ' or '.join(dict.fromkeys(zone[3] for zone in choice)))
         return [*self.chosen_zone(key, sorted(choice), label, True), Label(('joined', key))]
 
-    def chosen_zone(self, key, zones, label, needs_low):
-        """The choice among zones in the order of their addresses, of which the last one's copy falls through to what is behind."""
+    def chosen_zone(self, key, zones, label, needs_low, last=None):
+        """The choice among zones in the order of their addresses, of which the last one's copy falls through to what is behind. last: the
+        number that was compared with before, which the next one is counted on from."""
         register = self.accessed(key)[0]
         if len(zones) > 1:
             half = len(zones) // 2
             lower = 'lower', key, zones[half]
-            return [*self.compared(key, register, self.ends_of(key, zones[half])[0], True, lower, 0),
-                    *self.chosen_zone(key, zones[half:], label, False), Jump(ZERO, ('joined', key)),
-                    Label(lower), *self.chosen_zone(key, zones[:half], label, needs_low)]
+            words, last = self.compared_on(last, key, register, self.ends_of(key, zones[half])[0], True, lower)
+            return [*words, *self.chosen_zone(key, zones[half:], label, False, last), Jump(ZERO, ('joined', key)),
+                    Label(lower), *self.chosen_zone(key, zones[:half], label, needs_low, last)]
         low, high = self.ends_of(key, zones[0])
-        first = self.compared(key, register, low, True, label, 0) if needs_low else []
-        return [*first, *self.compared(key, register, high, False, label, 0), Word(self.code.nodes[key].word, key)]
+        first, last = self.compared_on(last, key, register, low, True, label) if needs_low else ([], last)
+        own = Run(self.runs[key][0]) if key in self.runs else Word(self.code.nodes[key].word, key)
+        return [*first, *self.compared_on(last, key, register, high, False, label)[0], own]
+
+    def compared_on(self, last, key, register, value, is_least, label):
+        """The same as `compared` behind another comparison before a node, whose number may still stand in its register, and the number."""
+        words = self.compared(key, register, value, is_least, label, 0)
+        if not isinstance(words[0], Number):
+            return words, last
+        return [program.counted_on(last, words[0]), *words[1:]], words[0]
 
     def accessed(self, key):
-        """(register, offset, size) of what an access with a choice touches."""
+        """(register, offset, size) of what an access with a choice touches, or of all accesses that it is made for."""
+        if key in self.runs:
+            return self.runs[key][1]
         node = self.code.nodes[key]
         return (graph.access_of(node) or (node.f['rs1'], 0, self.sizes[key], None))[:3]
+
+    def settle_runs(self):
+        """The choices that are made once for several accesses: the first one's node -> (the nodes that each copy has, what they touch)."""
+        self.runs, copied = {}, set()
+        for key in sorted(self.choices, key=lambda key: self.graph.place[key]):
+            if key not in copied and not isinstance(self.choices[key][0], Strip):
+                keys, touched = self.run_from(key)
+                if len(keys) > 1:
+                    self.runs[key] = keys, touched
+                    copied |= set(keys[1:])
+        return copied
+
+    def run_from(self, key):
+        """The nodes from a choice to the last access that has the same one by the same number, in one straight line, and (register, offset, size)
+        of what all of these accesses touch."""
+        register, first, size = self.accessed(key)
+        keys, between, end = [key], [], first + size
+        while not self.graph.writers([key], register):
+            leads = self.graph.leads[key]
+            if len(leads) != 1 or len(self.graph.comes[leads[0]]) != 1 or leads[0][1] != key[1] + 4:
+                break
+            key, = leads
+            between.append(key)
+            if key in self.choices:
+                other, offset, size = self.accessed(key)
+                if self.choices[key] != self.choices[keys[0]] or other != register or self.code.nodes[key].loads:
+                    break
+                first, end = min(first, offset), max(end, offset + size)
+                keys, between = keys + between, []
+            elif not self.is_plain(key) or len(between) * len(self.choices[keys[0]]) > MOST_BETWEEN:
+                break
+        return tuple(keys), (register, first, end - first)
+
+    def is_plain(self, key):
+        """Whether a node may have copies, with all that is put in for it."""
+        node = self.code.nodes[key]
+        return (node.i.shape not in ('branch', 'jal', 'jalr', 'ecall') and key not in self.strips and key not in self.masks
+                and key not in self.indices and key not in self.retyped)
 
     def ends_of(self, key, zone):
         """What the register of an access is at least and at most, where the access lies in a zone."""

@@ -37,10 +37,11 @@ PLANS = [search.Plan('lengths', False, 'none', False), search.Plan('lengths', Fa
 class Maker(Registers, Pace, Addresses, Strips, Tables):
     """An image on the way to one with a certificate."""
 
-    def __init__(self, data, image, params, vlen, fuel=FUEL, status=None, watch=None, hoists=True, counts=True, shares=True):
+    def __init__(self, data, image, params, vlen, fuel=FUEL, status=None, watch=None, hoists=True, counts=True, shares=True,
+                 evicted=0):
         """fuel: how many rounds all loops with fuel may take. status: the place of a buffer of 4 bytes that gets a guard's number. hoists:
         whether pointers are tested before loops where that can be. counts: whether loops within others have counters before fuel. shares:
-        whether large functions have one copy where copies make much code."""
+        whether large functions have one copy where copies make much code. evicted: how many registers of the kernel go to the stack from the start."""
         self.hoists, self.counts, self.shares, self.may_spill = hoists, counts, shares, False
         self.most_rounds = max(LEAST_ROUNDS, 2 << sum(param.a for param in params if param.kind == 'buffer').bit_length())
         self.data, self.image, self.params, self.vlen = data, image, params, vlen
@@ -50,7 +51,7 @@ class Maker(Registers, Pace, Addresses, Strips, Tables):
         self.status_address = None if status is None else self.address_of(status)
         self.measures_fuel = False              # whether it is what is left of the fuel that goes there
         self.tables, self.pointers, self.is_ending = {}, set(), False       # (pointers: the jumps by tables whose addresses were not told)
-        self.evicted = 0                        # how many registers are kept on the stack
+        self.evicted = evicted                  # how many registers are kept on the stack
         self.told, self.known_misfits, self.walks = [], None, flow.Walks()
         self.begin_anew()
 
@@ -63,7 +64,7 @@ class Maker(Registers, Pace, Addresses, Strips, Tables):
         self.fuelled = set()                    # heads
         self.tests, self.choices, self.strips, self.sizes = {}, {}, {}, {}
         self.told_of, self.found = [], None     # of this round: which accesses are tested, by which registers, and what it has found
-        self.masks, self.indices, self.retyped = {}, {}, set()
+        self.masks, self.indices, self.retyped, self.runs = {}, {}, set(), {}
         self.begun = {}                         # node of a strip -> the test of its base before the loop
         self.read_code()
 
@@ -118,6 +119,7 @@ class Maker(Registers, Pace, Addresses, Strips, Tables):
         self.settle_counters()
         self.edits, self.told, self.strip_temporaries = program.Edits(), [], {}
         self.constants, self.loop_constants, self.test_of = {}, {}, {}
+        self.edits.copied = self.settle_runs()
         if keeps_constants:
             self.choose_constants()
         self.put_loop_constants()
@@ -166,7 +168,7 @@ class Maker(Registers, Pace, Addresses, Strips, Tables):
         if self.status_address is not None:
             first = [Number(self.number_register, self.status_address), word('sw', rs1=self.number_register, rs2=0, imm=0),
                      Number(self.number_register, 0)]
-        first += [Number(r, value) for value, r in sorted(self.constants.items())]
+        first += [program.given(r, value) for r, value in sorted((r, value) for value, r in self.constants.items())]
         if self.fuelled:
             first.append(Number(self.fuel_register, self.fuel))
         self.edits.first = first
@@ -191,8 +193,12 @@ class Maker(Registers, Pace, Addresses, Strips, Tables):
                 if self.code.reads_links:
                     raise Stuck(f'the return at {node.pc:#x} has several places, and the code reads where calls return to')
                 label = self.failed('choice', key[1], 'a return to no place of a call')
-                places = sorted(self.code.leads[key], key=lambda back: -self.graph.depth(back))
-                self.edits.instead[key] = program.returned(node, places, self.temporary([key], 1 << node.f['rs1']), label)
+                other, held = self.temporary([key], 1 << node.f['rs1']), lambda way: self.held(key, way)
+                self.edits.instead[key] = program.returned(node, self.weights_of(key), other, label, held)
+
+    def weights_of(self, key):
+        """How often a return may lead to each of its places."""
+        return {back: 8 ** self.graph.depth(back) for back in self.code.leads[key]}
 
     def last_words(self):
         """What is done where a guard failed: its number goes to the status."""
@@ -227,7 +233,8 @@ class Maker(Registers, Pace, Addresses, Strips, Tables):
             if strip.is_empty:
                 self.edits.after[key] = [Label(('past', key)), *self.edits.after.get(key, [])]
         for key, choice in sorted(self.choices.items()):
-            self.edits.instead[key] = self.choice_words(key, choice)
+            if key not in self.edits.copied:
+                self.edits.instead[key] = self.choice_words(key, choice)
         for key, mask in sorted(self.masks.items()):
             self.edits.instead[key] = self.mask_words(key, *mask)
         for key, index in sorted(self.indices.items()):
@@ -290,13 +297,13 @@ class Maker(Registers, Pace, Addresses, Strips, Tables):
 
     def idle_tests(self, found):
         """The ends of tests at which none is known to fail, as (test, end)."""
-        ways, out = {(edge.pc, edge.target) for edge in found.finder.edge_list}, set()
+        ways, out, busy = {(edge.pc, edge.target) for edge in found.finder.edge_list}, set(), set()
         for k, op in enumerate(self.laid.operations if self.laid else ()):
             if isinstance(op, Branch) and op.label in self.test_of and k not in self.laid.long:
                 name = self.test_of[op.label]
-                if (self.laid.at[k], self.laid.places[op.label]) not in ways:
-                    out.add((name, 'low' if op.name == 'bltu' and op.rs1 == self.tests[name].register else 'high'))
-        return out
+                end = name, 'low' if op.name == 'bltu' and op.rs1 == self.tests[name].register else 'high'
+                (busy if (self.laid.at[k], self.laid.places[op.label]) in ways else out).add(end)
+        return out - busy       # (where there are copies, those of which all are idle)
 
     def tests_without(self, ends):
         """The tests without some of their ends."""

@@ -14,7 +14,8 @@ from outside import certificates, checker
 
 # How many times the rounds of the job's runs fuel is, where that is accepted, and how much it is at least.
 FACTORS = (64, 1 << 16), (16, 1 << 12), (4, 1 << 10), (1, 1 << 10)
-QUICK = 12                  # processor seconds up to which a second way is tried
+QUICK, LONGER = 12, 20      # processor seconds up to which a second way is tried, and one with more registers
+LEAST_EVICTED = 2
 # Whether tests go before loops, whether inner loops have counters, and whether large functions have one copy where copies make much code.
 WAYS = (True, True, True), (False, True, True), (True, False, True), (True, True, False)
 FIND_AT_MOST = 4            # processor seconds for the search without guards
@@ -77,11 +78,29 @@ def guarded(data, image, job, vlen, looking, fuel, status):
             trouble = trouble or e
     if not ways:
         raise trouble
-    maker, out, new, found, why = min(ways, key=lambda way: steps_of(way[0], way[1], job, vlen)) if len(ways) > 1 else ways[0]
+    best = min(ways, key=lambda way: steps_of(way[0], way[1], job, vlen)) if len(ways) > 1 else ways[0]
+    if can_measure(job) and time.process_time() - start <= LONGER:
+        best = with_more_registers(best, data, image, job, vlen, looking, fuel, status)
+    maker, out, new, found, why = best
     if why:
         print(f'fuel: {maker.fuel} rounds, {why}', file=sys.stderr)
     tell_of_own_run(maker, job, vlen)
     return Made(notes.with_note(out, certificates.certificate_bytes(found.certificate)), new, found.certificate, maker)
+
+
+def with_more_registers(way, data, image, job, vlen, looking, fuel, status):
+    """A way, or the same with registers of the kernel on the stack where the numbers that guards compare with have too few, if that takes fewer
+    steps."""
+    maker, count = way[0], way[0].wanted()
+    if not count or is_cheap(data, way, job, vlen):
+        return way
+    try:
+        evicted = min(maker.evicted + max(count, LEAST_EVICTED), guard.MOST_EVICTED)
+        maker = guard.Maker(data, image, job.params, vlen, fuel or guard.FUEL, status, looking, maker.hoists, maker.counts, maker.shares, evicted)
+        other = maker, *made_by(maker, job, vlen, fuel)
+    except notes.Trouble:
+        return way
+    return min(way, other, key=lambda way: steps_of(way[0], way[1], job, vlen))
 
 
 def made_by(maker, job, vlen, fuel):

@@ -140,15 +140,16 @@ class Tables:
         elif node.pc in self.pointers:
             yield targets[0] - node.f['imm'] & table.M32, weight
 
-    def chosen(self, key, node, targets, label):
-        """A choice among targets, by halves. label: where a jump to none of them leads, if there may be one."""
+    def chosen(self, key, node, targets, label, last=None):
+        """A choice among targets, by halves. label: where a jump to none of them leads, if there may be one. last: the number that was compared
+        with before."""
         if len(targets) == 1:
             to = next(way for way in self.code.leads[key] if way[1] == targets[0])
             return [*self.compared_target(key, node, targets[0], label), *self.gone_to(key, node, to)]
         half = len(targets) // 2
         lower = 'lower', key, targets[half]
-        return [*self.compared(key, node.f['rs1'], targets[half] - node.f['imm'] & table.M32, True, lower, 0),
-                *self.chosen(key, node, targets[half:], label), Label(lower), *self.chosen(key, node, targets[:half], label)]
+        words, last = self.compared_on(last, key, node.f['rs1'], targets[half] - node.f['imm'] & table.M32, True, lower)
+        return [*words, *self.chosen(key, node, targets[half:], label, last), Label(lower), *self.chosen(key, node, targets[:half], label, last)]
 
     def compared_target(self, key, node, target, label):
         """A test that a jump leads to a target, where it may not."""

@@ -37,6 +37,7 @@ Branch = namedtuple('Branch', 'name rs1 rs2 label key', defaults=(None,))
 Jump = namedtuple('Jump', 'rd label key', defaults=(None,))
 Number = namedtuple('Number', 'rd value')           # one word or two
 Address = namedtuple('Address', 'rd label')         # always two
+Run = namedtuple('Run', 'keys')                     # a copy of nodes that follow one another, with all that is put between them
 Away = namedtuple('Away', 'rd label base')          # the address of a label, where the register holds that of another one: one word or two
 
 
@@ -219,13 +220,14 @@ class Edits:
         self.entering = {}      # head of a loop -> (the loop's nodes, operations on the ways in from outside)
         self.rounds = {}        # head of a loop -> (the loop's nodes, operations on the ways back to it)
         self.instead = {}       # node -> in its place
+        self.copied = set()     # nodes that stand in copies, in the place of one before them
         self.last = []          # behind all
 
 
 def layout(code, edits):
     """All operations in the order in which they stand: an instruction falls through to the one that it leads to."""
     out, late = [*code.first, *edits.first], []
-    order = sorted(code.nodes, key=lambda key: (key[0] != (), key[0], key[1]))
+    order = sorted(code.nodes, key=standing)
     out.append(Jump(ZERO, ('way', None, code.entry)))
     before = None
     for key in order:
@@ -234,14 +236,37 @@ def layout(code, edits):
         if before is not None and not falls:
             out += way_on(code, before)
         enter_node(code, edits, key, before if falls else None, out, late)
-        out += code.before.get(key, []) + edits.before.get(key, [])
-        out += edits.instead[key] if key in edits.instead else own_words(code, node)
-        out += edits.after.get(key, []) + code.behind.get(key, [])
+        if key not in edits.copied:
+            out += node_words(code, edits, key)
         before = key
     if before is not None:
         out += way_on(code, before)
     out += late + edits.last
     return without_idle(resolved(code, edits, out))
+
+
+def node_words(code, edits, key):
+    """A node with what is put before it, in its place and behind it; where its place has copies of more nodes, what is behind it stands in
+    these."""
+    out = code.before.get(key, []) + edits.before.get(key, [])
+    instead = edits.instead[key] if key in edits.instead else own_words(code, code.nodes[key])
+    if not any(isinstance(op, Run) for op in instead):
+        return out + instead + edits.after.get(key, []) + code.behind.get(key, [])
+    for op in instead:
+        out += run_words(code, edits, op.keys) if isinstance(op, Run) else [op]
+    return out
+
+
+def run_words(code, edits, keys):
+    """A copy of nodes that follow one another."""
+    first, *others = keys
+    out = [*own_words(code, code.nodes[first]), *edits.after.get(first, []), *code.behind.get(first, [])]
+    return out + [op for key in others for op in node_words(code, edits, key)]
+
+
+def standing(key):
+    """By what nodes are ordered."""
+    return key[0] != (), *key
 
 
 def falls_to(code, key):
@@ -291,14 +316,57 @@ def own_words(code, node):
     return [Word(node.word, key)]
 
 
-def returned(node, places, other, fails):
-    """A return to one of several places: to the one whose address the link register holds, else to a label. other: a spare register."""
-    out, before = [], None
-    for back in places:
-        way = 'way', (back[0], back[1] - 4), back           # (the address that the call before it left in the link register)
-        out += [Address(other, way) if before is None else Away(other, way, before), Branch('beq', node.f['rs1'], other, way)]
-        before = way
-    return [*out[:-1], out[-1]._replace(key=node.key), Jump(ZERO, fails)]
+def returned(node, weights, other, fails, held):
+    """A return to one of several places: to the one whose address the link register holds, else to a label. weights: place -> how often it
+    may be meant. other: a spare register. held: what tells of the address of a way in which register it stands, if it does."""
+    out = one_of(node, sorted(weights, key=standing), weights, other, fails, held)
+    last = max(k for k, op in enumerate(out) if isinstance(op, Branch))
+    return [*out[:last], out[last]._replace(key=node.key), *out[last + 1:], Jump(ZERO, fails)]
+
+
+def one_of(node, places, weights, other, fails, held, before=None):
+    """A branch to each of these places in the order in which they stand. before: the way whose address the spare register holds."""
+    at = middle(places, weights)
+    back, below, above = places[at], places[:at], places[at + 1:]
+    way, register, out = way_back(back), held(way_back(back)), []
+    if register is None:
+        out.append(Address(other, way) if before is None else Away(other, way, before))
+        register, before = other, way
+    out.append(Branch('beq', node.f['rs1'], register, way))
+    rest = [some and one_of(node, some, weights, other, fails, held, before) for some in (above, below)]
+    if not below or not above:
+        return out + rest[0] + rest[1]
+    lower = 'below', node.key, back
+    return [*out, Branch('bltu', node.f['rs1'], register, lower), *rest[0], Jump(ZERO, fails), Label(lower), *rest[1]]
+
+
+def middle(places, weights):
+    """Which of some places is compared with first: the one in their midst, by their weights."""
+    half, total, at = sum(weights[back] for back in places) / 2, 0, 0
+    while total + weights[places[at]] < half:
+        total += weights[places[at]]
+        at += 1
+    return at
+
+
+def way_back(back):
+    """The way to where a call returns to, whose address it left in the link register."""
+    return 'way', (back[0], back[1] - 4), back
+
+
+def ways_compared(places, weights):
+    """(way, weight) of all that a return compares with, of what it all weighs 1."""
+    todo, whole = [places], sum(weights.values())
+    while todo:
+        some = todo.pop()
+        at = middle(some, weights)
+        yield way_back(some[at]), sum(weights[back] for back in some) / whole
+        todo += [part for part in (some[:at], some[at + 1:]) if part]
+
+
+def given(rd, value):
+    """What puts a number into a register, or the address of a way."""
+    return Address(rd, value) if isinstance(value, tuple) else Number(rd, value)
 
 
 def resolved(code, edits, operations):

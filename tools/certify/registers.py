@@ -5,6 +5,8 @@ import program
 from kinds import NEVER_GIVEN, ORDER, NoRegister, Strip
 from program import RA, SP, Number
 
+LEAST, WORTH = 10, 50       # what part of a kernel's instructions all numbers have to be that are to have registers, and one of them
+
 
 class Registers:
     """What a maker knows of registers."""
@@ -120,7 +122,8 @@ class Registers:
             return found
 
     def compared_numbers(self):
-        """(node, whether on the ways into its loop, number, weight) of all that is compared with."""
+        """(node, whether on the ways into its loop, number, weight) of all that is compared with; in the place of a number the way whose address
+        it is."""
         words = lambda value: len(program.number_words(1, value))
         for test in self.tests.values():
             for value, is_tested in ((test.least, test.low), (test.most, test.high)):
@@ -133,11 +136,24 @@ class Registers:
             for value in (index.most, *(2 * [index.first] if index.first is not None else [])):
                 yield key, False, value, words(value)
         for key, choice in self.choices.items():
-            if not isinstance(choice[0], Strip):
+            if not isinstance(choice[0], Strip) and key not in self.edits.copied:
                 yield from ((key, False, value, words(value) * weight) for value, weight in self.numbers_of_zones(key, sorted(choice), 1))
         for key, node in self.code.nodes.items():
             if node.pc in self.tables and node.i.shape == 'jalr':
                 yield from ((key, False, value, weight) for value, weight in self.numbers_of_choice(node, self.targets_of(key), 2))
+            elif node.calls and self.code.is_return(node) and len(self.code.leads[key]) > 1:
+                weights = self.weights_of(key)
+                for way, weight in program.ways_compared(sorted(weights, key=program.standing), weights):
+                    yield key, False, way, weight * (2 if weight == 1 else 1)
+
+    def wanted(self):
+        """How many numbers would stand in registers if more of them were free; 0 where that would save little."""
+        missing = {}
+        for key, is_entering, value, weight in self.compared_numbers() if self.laid else ():
+            if self.held(key, value, is_entering) is None:
+                missing[value] = missing.get(value, 0) + weight * 8 ** (self.graph.depth(key) - is_entering)
+        whole = sum(8 ** self.graph.depth(key) for key in self.graph.order)
+        return sum(weight * WORTH > whole for weight in missing.values()) if sum(missing.values()) * LEAST > whole else 0
 
     def choose_constants(self):
         """Numbers that are compared with stay in registers: in spare ones throughout, those of the innermost loops first, and in such as are
@@ -170,4 +186,4 @@ class Registers:
 
     def put_loop_constants(self):
         for head, held in self.loop_constants.items():
-            self.enter(head, [Number(r, value) for value, r in sorted(held.items())])
+            self.enter(head, [program.given(r, value) for r, value in sorted((r, value) for value, r in held.items())])

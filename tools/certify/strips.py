@@ -31,6 +31,10 @@ class Strips:
         if length and how == 'unit' and len(zones) == 1 and base is None:
             self.put_test(misfit, register, *self.sure[misfit.key].get(register, (0, length * node.i.width // 8)), zone)
             return
+        if length and how == 'unit' and base is None and not self.is_chosen_by_vl(misfit.key):
+            self.sizes[misfit.key] = length * node.i.width // 8
+            self.choices[misfit.key] = tuple(zones)
+            return
         if how in ('whole', 'mask') and len(zones) > 1:
             self.sizes[misfit.key] = node.i.regs * self.vlen // 8 if how == 'whole' else known.vl[1] + 7 >> 3
             self.choices[misfit.key] = tuple(zones)
@@ -49,6 +53,10 @@ class Strips:
             stride = model.signed(checker.known(known.x[node.f['rs2']].range), 32) if how == 'strided' else node.i.width // 8
             self.put_strip(misfit, node, zones, stride)
 
+    def is_chosen_by_vl(self, key):
+        """Whether buffers are chosen already before a vector access by where it ends."""
+        return isinstance(self.choices.get(key, (None,))[0], Strip)
+
     def zones_of_indices(self, key, node):
         """The zones that an access means whose indices are addresses, as compilers make them, with a small number as the base."""
         right = certificates.WRITE if node.i.shape.startswith('vstore') else certificates.READ
@@ -58,7 +66,7 @@ class Strips:
         """A test of a strip by vl, one for each buffer that is possible."""
         known, register, zone = misfit.known, node.f['rs1'], zones[0]
         if len(zones) > 1:
-            older = self.choices.get(misfit.key)
+            older = self.choices.get(misfit.key) if self.is_chosen_by_vl(misfit.key) else None
             is_empty = known.vl[0] == 0 or bool(older and older[0].is_empty)
             self.choices[misfit.key] = tuple(Strip(misfit.key, it, True, True, is_empty, None, stride) for it in zones)
             return

@@ -13,6 +13,7 @@ import pace
 import program
 import search
 import small
+import watch
 from outside import certificates, checker
 from small import reads, scalar, word, writes
 
@@ -174,6 +175,38 @@ class Kinds(unittest.TestCase):
                 self.guards(f'li t0, {stride}; vsetvli t1, a2, e8, m1, ta, ma; add t2, a0, a1; at: vlse8.v v8, (t2), t0; vse8.v v8, (a3); ret',
                             [reads(16), scalar(0, 20), scalar(0, 16), writes(16)], map(some, whole), map(some, early), 'strip')
 
+    def test_one_choice_for_several_accesses(self):
+        """Accesses by one number in one straight line have one choice, and what stands between them has a copy for each buffer; so has what is
+        put in there."""
+        some = lambda which, offset, other=0: [TAKEN_APART[:8], TAKEN_APART[:13], which, offset, word(other) + TAKEN_APART[:8], other]
+        text = """mv t0, a0; beqz a2, on; mv t0, a1; on: add t0, t0, a3; at: lbu t1, 0(t0); lbu t2, 3(t0); add t1, t1, t2; {}lbu t2, 1(t0); add t1, t1, t2
+            sb t1, 2(t0); lbu t0, 2(t0); add t1, t1, t0; sw t1, 0(a4); ret"""
+        params = [writes(8), writes(13), scalar(0, 1), scalar(0, 20), writes(12), scalar(0, 20)]
+        whole, early = [some(0, 0), some(0, 4), some(1, 0), some(1, 9)], [some(0, 5), some(1, 10)]
+        made = self.guards(text.format(''), params, whole, early)
+        self.assertLess(made.run(some(0, 4))[0].steps, made.run_plain(some(0, 4)).steps + 13)
+        made = self.guards(text.format('add t4, a4, a5; lbu t3, 0(t4); add t1, t1, t3; '), params, [*whole, some(1, 9, 11), some(0, 2, 3)], early)
+        for which in (0, 1):
+            ran, number = made.run(some(which, 4, 12))
+            self.assertEqual((ran.fault, made.told[number - 1].what), (None, 'a4'))
+
+    def test_numbers_that_guards_compare_with_get_registers_of_the_kernel(self):
+        """Where the numbers of a choice in a loop have no registers, some of the kernel's go to the stack for them."""
+        each = lambda line: '; '.join(line.format(n, 4 * n) for n in (3, 4, 8, 9, *range(14, 32)))
+        text = """loop: mv t0, a0; andi t2, a2, 1; beqz t2, on; mv t0, a1; on: add t0, t0, a2; lbu t1, 0(t0); add x14, x14, t1; addi a2, a2, -1; bnez a2, loop"""
+        full, params = f"{each('lw x{}, {}(a1)')}; {text}; {each('sw x{}, {}(a1)')}; ret", [reads(128), writes(128), scalar(1, 200)]
+        image, steps = certificates.read_image(small.image(full)), []
+        for evicted in (0, 2):
+            maker = guard.Maker(small.image(full), image, params, 128, 1000, None, watch.Progress(), evicted=evicted)
+            _, new, found = maker.run()
+            self.assertEqual(found.answer, 'accepted')
+            self.assertTrue(evicted or maker.wanted())
+            contents = [bytes(range(128)), bytes(range(128, 256)), 100]
+            ran, plain = small.run(new, params, contents), small.run(image, params, contents)
+            self.assertEqual((ran.fault, ran.buffers), (None, plain.buffers))
+            steps.append(ran.steps)
+        self.assertLess(steps[1], steps[0] - 50)
+
     def test_choice_among_buffers_of_vectors(self):
         """Each buffer has a copy of the access."""
         strip = 'vsetvli t1, a3, e8, m1, ta, ma; at: {}; vse8.v v8, (a4)'
@@ -185,6 +218,14 @@ class Kinds(unittest.TestCase):
                 made = self.guards(f'li t3, {stride}; {ends}; on: {strip.format(access)}; ret', [reads(8), reads(13), scalar(0, 1), scalar(0, 16), writes(16)],
                                    [some(0, 0), some(0, most(8)), some(1, most(13)), some(1, 0)], [some(0, most(8) + 1), some(1, most(13) + 1)], 'strip')
                 self.assertEqual([told.what for told in made.told], ['a0 or a1'])
+
+    def test_choice_among_buffers_of_vectors_of_a_known_length(self):
+        """One comparison tells the end, as of a scalar access, and the next number is counted on from the one before."""
+        some = lambda which, offset: [TAKEN_APART[:8], TAKEN_APART[:13], which, offset, bytes(16)]
+        made = self.guards('vsetivli x0, 4, e8, m1, ta, ma; mv t0, a0; beqz a2, on; mv t0, a1; on: add t0, t0, a3; at: vle8.v v8, (t0); vse8.v v8, (a4); ret',
+                           [reads(8), reads(13), scalar(0, 1), scalar(0, 20), writes(16)],
+                           [some(0, 0), some(0, 4), some(1, 0), some(1, 9)], [some(0, 5), some(1, 10)])
+        self.assertLess(made.run(some(0, 4))[0].steps, made.run_plain(some(0, 4)).steps + 13)
 
     def test_choice_among_buffers_of_whole_registers_and_masks(self):
         for access, size in (('vl1re8.v v8, (t0); vs1r.v v8, (a4)', 16), ('vlm.v v8, (t0); vsm.v v8, (a4)', 2)):
@@ -199,7 +240,7 @@ class Kinds(unittest.TestCase):
         params = [reads(8), reads(12), writes(16)]
         first, second = [address for _, address, *_ in checker.buffers(params)][:2]
         some = lambda address: [word(address) + bytes(range(4)), TAKEN_APART[:12], bytes(16)]
-        for kind, access, size in (('address', 'lw t1, 0(t0); sw t1, 0(a2)', 4), ('strip', 'vle8.v v8, (t0); vse8.v v8, (a2)', 3)):
+        for kind, access, size in (('address', 'lw t1, 0(t0); sw t1, 0(a2)', 4), ('address', 'vle8.v v8, (t0); vse8.v v8, (a2)', 3)):
             with self.subTest(access=access):
                 self.guards(f'vsetivli x0, 3, e8, m1, ta, ma; lw t0, 0(a0); at: {access}; ret', params,
                             [some(first), some(first + 8 - size), some(second), some(second + 12 - size)],
@@ -629,6 +670,18 @@ class Kinds(unittest.TestCase):
         table = struct.pack('<3I', *[small.label(text, name) for name in ('one', 'two', 'three')])
         self.guards(text, [scalar(0, 100), writes(4)], [[case, bytes(4)] for case in (0, 1, 2, 3, 100)], [], data=[(0x20000, table, small.READ)])
 
+    def test_each_target_of_a_jump_table_is_counted_on_from_the_one_before(self):
+        """Where no register is left for their addresses."""
+        each = lambda line: '; '.join(line.format(n, 4 * n) for n in (3, 4, 7, 8, 9, *range(12, 32)))
+        cases = ''.join(f'c{n}: addi t2, t2, {n + 1}; j end; ' for n in range(8))
+        text = f"""li t0, 7; bltu t0, a0, none; {each('lw x{}, {}(a1)')}; slli t0, a0, 2; lui t1, 0x20; add t0, t0, t1; lw t0, 0(t0); jalr x0, 0(t0);
+            {cases} end: {each('sw x{}, {}(a1)')}; none: ret"""
+        table = struct.pack('<8I', *[small.label(text, f'c{n}') for n in range(8)])
+        made = self.guards(text, [scalar(0, 9), writes(128)], [[case, TAKEN_APART * 4] for case in range(10)], [], data=[(0x20000, table, small.READ)])
+        for case in range(8):
+            ran, plain = made.run([case, TAKEN_APART * 4])[0], made.run_plain([case, TAKEN_APART * 4])
+            self.assertLessEqual(ran.steps - plain.steps, 2 + 2 * 3 + 2)
+
     def test_jump_table_whose_address_is_on_the_stack(self):
         """And which is asked for far before the jump."""
         each = lambda line: '; '.join(line.format(n, 4 * n) for n in range(12, 32)) + '; '
@@ -663,6 +716,14 @@ class Kinds(unittest.TestCase):
                 with self.subTest(name):
                     getattr(self, f'test_{name}')()
 
+
+    def test_returns_to_many_places(self):
+        """Where a function of one copy returns to is chosen by halves, and some of the addresses stay in registers."""
+        text = self.CALL.format(60 * 'addi a0, a0, 1; jal ra, f; ') + 'f: lw t0, 0(a1); add t0, t0, a0; sw t0, 0(a1); ret'
+        with unittest.mock.patch('program.MOST_COPIED', 0), unittest.mock.patch('program.LARGE', 1):
+            made = self.guards(text, [scalar(0, 9), writes(4)], [[1, bytes(4)], [9, bytes(4)]], [])
+        ran, _ = made.run([1, bytes(4)])
+        self.assertLess(ran.steps, 60 * 20)
 
     def test_a_recursion_with_many_calls(self):
         """The chains of calls are cut before there are too many: ten calls of itself would be ten factorial of them."""
