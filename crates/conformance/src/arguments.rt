@@ -19,18 +19,7 @@ impl Given {
     pub(crate) fn none() -> Given {
         Given {
             params: [Param::None; 8],
-            args: Args {
-                places: [
-                    Arg::None,
-                    Arg::None,
-                    Arg::None,
-                    Arg::None,
-                    Arg::None,
-                    Arg::None,
-                    Arg::None,
-                    Arg::None,
-                ],
-            },
+            args: Args::none(),
         }
     }
 

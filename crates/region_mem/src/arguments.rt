@@ -122,6 +122,25 @@ pub struct Args<B = Bytes> {
     pub places: [Arg<B>; 8],
 }
 
+impl<B> Args<B> {
+    /// No argument at any place, into which those that there are can be put.
+    pub fn none() -> Args<B>
+        ensures { result.places ≡ replicate 8 Arg.None }
+    {
+        let places = [
+            Arg::None,
+            Arg::None,
+            Arg::None,
+            Arg::None,
+            Arg::None,
+            Arg::None,
+            Arg::None,
+            Arg::None,
+        ];
+        Args { places }
+    }
+}
+
 /// What a place was passed, without a buffer's bytes.
 #[derive(Clone, Copy, PartialEq, Eq)]
 pub enum Passed {

@@ -88,8 +88,8 @@ impl<A: Allocator> Regions<A> {
     {
         match start::fixed_regions(alloc, image, stack) {
             Ok(mut regions) => {
-                parameters.bound_sizes(&args);
-                parameters.start_in_place(image, &args);
+                parameters.sizes_are_bounded(&args);
+                parameters.start_is_placed(image, &args);
                 let passed = start::passed(&args);
                 start::put_all(&mut regions, parameters, args);
                 Ok(Regions {
@@ -117,7 +117,7 @@ impl<A: Allocator> Regions<A> {
         let Regions {
             regions,
             passed,
-            recent: _,
+            ..
         } = self;
         start::args_with(passed, regions.into_iter())
     }
@@ -130,7 +130,7 @@ impl<A: Allocator> Regions<A> {
         let Regions {
             mut regions,
             passed,
-            recent: _,
+            ..
         } = self;
         let stack = start::take_stack(&mut regions);
         (start::args_with(passed, regions.into_iter()), stack)

@@ -43,7 +43,7 @@ impl Param {
         match self {
             Param::None => true,
             Param::Scalar { lo, hi } => lo <= hi,
-            Param::Buffer { mode: _, size } => size <= MAX_BUFFER_SIZE,
+            Param::Buffer { size, .. } => size <= MAX_BUFFER_SIZE,
         }
     }
 
@@ -52,8 +52,8 @@ impl Param {
         ensures { result ≡ is_buffer self }
     {
         match self {
-            Param::Buffer { mode: _, size: _ } => true,
-            Param::None | Param::Scalar { lo: _, hi: _ } => false,
+            Param::Buffer { .. } => true,
+            Param::None | Param::Scalar { .. } => false,
         }
     }
 
@@ -62,9 +62,8 @@ impl Param {
         ensures { result ≡ room_of self }
     {
         match self {
-            Param::None => 0,
-            Param::Scalar { lo: _, hi: _ } => 0,
-            Param::Buffer { mode: _, size } => {
+            Param::None | Param::Scalar { .. } => 0,
+            Param::Buffer { size, .. } => {
                 let page = u64::from(PAGE_SIZE);
                 (u64::from(size) + page - 1) / page * page + page
             }
@@ -185,7 +184,7 @@ impl Parameters {
 
     /// The buffers of arguments that match have at most 16 MiB.
     #[tactic(auto, using(crate::specs::MatchingLemmas::sizes_of_matching))]
-    pub(crate) fn bound_sizes<A: Allocator>(&self, args: &Args<Bytes<A>>)
+    pub(crate) fn sizes_are_bounded<A: Allocator>(&self, args: &Args<Bytes<A>>)
         requires { AreArguments self.now args.now.places }
         ensures { AllByRecursion (λ arg. size_of arg ≤ MAX_BUFFER_SIZE) args.now.places }
     {
@@ -194,7 +193,7 @@ impl Parameters {
     }
 
     /// The regions that a run starts with stand in order, and none passes the last address.
-    pub(crate) fn start_in_place<A: Allocator, B: Allocator>(
+    pub(crate) fn start_is_placed<A: Allocator, B: Allocator>(
         &self,
         image: &Image<B>,
         args: &Args<Bytes<A>>,
@@ -260,8 +259,8 @@ fn is_wrong_kind<A: Allocator>(param: &Param, arg: &Arg<Bytes<A>>) -> bool
 {
     match (param, arg) {
         (Param::None, Arg::None) => false,
-        (Param::Scalar { lo: _, hi: _ }, Arg::Scalar(_)) => false,
-        (Param::Buffer { mode: _, size: _ }, Arg::Buffer(_)) => false,
+        (Param::Scalar { .. }, Arg::Scalar(_)) => false,
+        (Param::Buffer { .. }, Arg::Buffer(_)) => false,
         _ => true,
     }
 }
@@ -281,7 +280,7 @@ fn is_wrong_size<A: Allocator>(param: &Param, arg: &Arg<Bytes<A>>) -> bool
     ensures { result ≡ is_wrong_size (param.now, arg.now) }
 {
     match (param, arg) {
-        (Param::Buffer { mode: _, size }, Arg::Buffer(bytes)) => bytes.len() != *size as usize,
+        (Param::Buffer { size, .. }, Arg::Buffer(bytes)) => bytes.len() != *size as usize,
         _ => false,
     }
 }

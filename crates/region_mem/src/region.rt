@@ -105,12 +105,9 @@ impl<A: Allocator> Region<A> {
     /// A stack for the next run, where this region is one's: what was written is cleared.
     pub(crate) fn into_stack(self) -> Option<Stack<A>> {
         let Region {
-            first: _,
             mut bytes,
-            read: _,
-            write: _,
-            fetch: _,
             untouched,
+            ..
         } = self;
         if bytes.len() == STACK_SIZE as usize {
             bytes.clear_from(untouched);
@@ -129,14 +126,7 @@ impl<A: Allocator> Region<A> {
     pub(crate) fn into_bytes(self) -> Bytes<A>
         ensures { result ≡ self.bytes }
     {
-        let Region {
-            first: _,
-            bytes,
-            read: _,
-            write: _,
-            fetch: _,
-            untouched: _,
-        } = self;
+        let Region { bytes, .. } = self;
         bytes
     }
 

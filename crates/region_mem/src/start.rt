@@ -115,11 +115,11 @@ fn is_writable(param: Param) -> bool
     ensures { result ≡ is_writable param }
 {
     match param {
-        Param::Buffer { mode, size: _ } => match mode {
+        Param::Buffer { mode, .. } => match mode {
             Mode::Read => false,
             Mode::ReadWrite => true,
         },
-        Param::None | Param::Scalar { lo: _, hi: _ } => false,
+        Param::None | Param::Scalar { .. } => false,
     }
 }
 

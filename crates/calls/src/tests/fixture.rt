@@ -2,7 +2,7 @@
 
 use crate::tests::assertions::{found, given};
 use elf_image::read;
-use region_mem::{Arg, Args, Param, Parameters, Regions};
+use region_mem::{Args, Param, Parameters, Regions};
 use std::alloc::Global;
 use std::process::Abort;
 
@@ -47,18 +47,7 @@ pub(crate) fn memory(rt: impl Abort + Copy, alloc: Global) -> Regions {
     let file = file_of(rt, alloc, elf_header(0x1000, 52, 2), &BEHIND);
     let image = given!(rt; read(alloc, &file));
     let parameters = found!(rt; Parameters::new([Param::None; 8]));
-    let args = Args {
-        places: [
-            Arg::None,
-            Arg::None,
-            Arg::None,
-            Arg::None,
-            Arg::None,
-            Arg::None,
-            Arg::None,
-            Arg::None,
-        ],
-    };
+    let args = Args::none();
     if parameters.matches(&args).is_err() {
         panic!(rt; "no match");
     }

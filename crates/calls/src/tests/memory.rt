@@ -43,18 +43,11 @@ fn bytes(rt: impl Abort + Copy, alloc: Global, items: &[u8]) -> Arg {
 fn args(rt: impl Abort + Copy, alloc: Global, scalar: u32) -> Args {
     let read = bytes(rt, alloc, &[0x21, 0x22]);
     let written = bytes(rt, alloc, &[0x31, 0x32, 0x33]);
-    Args {
-        places: [
-            read,
-            Arg::Scalar(scalar),
-            written,
-            Arg::None,
-            Arg::None,
-            Arg::None,
-            Arg::None,
-            Arg::None,
-        ],
-    }
+    let mut args = Args::none();
+    args.places[0] = read;
+    args.places[1] = Arg::Scalar(scalar);
+    args.places[2] = written;
+    args
 }
 
 fn expect_args(rt: impl Abort + Copy, args: &Args, third: &[u8]) {

@@ -25,19 +25,9 @@ fn raised(alloc: Global, file: &[u8], words: &[u8], many: u32) -> Result<(u64, A
     let image = elf_image::read(alloc, file)?;
     let certificate = cert_note::read(alloc, image.certificate().ok_or("no certificate")?)?;
     let accepted = check(alloc, image, certificate, Vlen::V128).map_err(|(error, ..)| error)?;
-    let buffer = Arg::Buffer(Bytes::new(Vec::from_slice(alloc, words)?));
-    let args = Args {
-        places: [
-            buffer,
-            Arg::Scalar(many),
-            Arg::None,
-            Arg::None,
-            Arg::None,
-            Arg::None,
-            Arg::None,
-            Arg::None,
-        ],
-    };
+    let mut args = Args::none();
+    args.places[0] = Arg::Buffer(Bytes::new(Vec::from_slice(alloc, words)?));
+    args.places[1] = Arg::Scalar(many);
     let opened = AnySession::open(alloc, &accepted, args, Agnostic::Keep, 1000);
     let mut session = opened.map_err(|(error, _)| error)?;
     let steps = session.run();

@@ -2,7 +2,7 @@ use Rattle.std.proofs.Common.{◌≡◌, true, rules, length}
 use Rattle.std.specs.List.{list_all}
 use Rattle.region_mem.specs.Parameter.{is_valid}
 use Rattle.region_mem.specs.ExtentLemmas.{start_placed}
-use Rattle.region_mem.proofs.parameter.Parameters.start_in_place.Goals as goal
+use Rattle.region_mem.proofs.parameter.Parameters.start_is_placed.Goals as goal
 
 pub returns : goal.returns
 returns g c =

@@ -2,7 +2,7 @@ use Rattle.std.proofs.Common.{◌≡◌, true, rules, ◌≤◌, length, arith}
 use Rattle.std.specs.List.{list_all}
 use Rattle.region_mem.specs.Parameter.{is_valid}
 use Rattle.region_mem.specs.MatchingLemmas.{sizes_of_matching}
-use Rattle.region_mem.proofs.parameter.Parameters.bound_sizes.Goals as goal
+use Rattle.region_mem.proofs.parameter.Parameters.sizes_are_bounded.Goals as goal
 
 pub returns : goal.returns
 returns g c =
