@@ -13,10 +13,13 @@ ROW = re.compile(r"(?m)^\| `(\w+)` \| `(.+)` \| `([0-9a-f]+)` \|$")
 OF_TESTS = re.compile(r"#\[cfg\(test\)\]\s*(?:pub(?:\([^)]*\))?\s+)?mod\s+(\w+)\s*;")
 # The derives of a type. `Debug` prints, and no clause speaks of it.
 DERIVES = re.compile(r"#\[derive\(([^)]*)\)\]\s*")
-# What is taken from a crate counts in a sum, and not the module there that has it.
-IMPORT = re.compile(r"(?m)^((?:\w+ )*use Rattle\.\w+)\.[\w.]*(\.\{.*)$")
+# An import of definitions or lemmas: its words, and what it names of one module or of some. Its names count in a sum, and not the crate and
+# the module that have them.
+IMPORT = re.compile(r"(?m)^[ \t]*((?:\w+ )*use) Rattle\.(?:[^\s;{]*\.\{([^}]*)\}|([^\s;{]+(?: as \w+)?));?$")
+# The last word of a path, with the type before it where the word is that of any type's variants.
+NAME = re.compile(r"(?:\w+\.)?TheVariants\b.*|[^.]+$")
 # The same in an attribute of code, and a list of a crate's modules.
-USING = re.compile(r"\b(?:proofs|specs)::(?:\w+::)*")
+USING = re.compile(r"\b\w+::(?:proofs|specs)::(?:\w+::)*")
 MODULE = re.compile(r"(?m)^(?:pub )?mod \w+$")
 DIGITS = 12
 
@@ -46,14 +49,18 @@ def without_debug(text):
     return DERIVES.sub(lambda it: f"#[derive({kept(it)})]\n" if kept(it) else "", text)
 
 
+def imported(text):
+    """What the imports of definitions and lemmas in a text name, each name behind the words of its import."""
+    found = ((it[1], name.strip()) for it in IMPORT.finditer(text) for name in (it[2] or it[3]).split(","))
+    return sorted({f"{words} {NAME.search(name)[0]}" for words, name in found if name})
+
+
 def meant(path, text):
-    """What counts of a file: its lines without comments, `Debug` and the modules of imports, which come first and in order. The path counts
-    for code alone, as definitions and proofs may move."""
+    """What counts of a file: the names that it imports, then its lines, without comments and `Debug`. The path counts for code alone, as
+    definitions and proofs may move."""
     is_code = path.endswith(".rt")
-    said = MODULE.sub("", USING.sub("", IMPORT.sub(r"\1\2", without_debug(without_comments(text, not is_code)))))
-    lines = [it for it in said.splitlines() if it]
-    is_import = lambda it: "use Rattle." in it
-    return "\n".join([path] * is_code + sorted(filter(is_import, lines)) + [it for it in lines if not is_import(it)])
+    said = MODULE.sub("", USING.sub("", without_debug(without_comments(text, not is_code))))
+    return "\n".join([path] * is_code + imported(said) + [it for it in IMPORT.sub("", said).splitlines() if it])
 
 
 def sums(crate, pairs):

@@ -143,7 +143,15 @@ class Sums(WithCrate):
         self.put("proofs/More.antt", user.format("specs"))
         self.assertEqual(self.sums(), before)
         self.put("proofs/More.antt", user.format("specs").replace("Rattle.low", "Rattle.lower"))
+        self.assertEqual(self.sums(), before)
+        self.put("proofs/More.antt", user.format("specs").replace("{b}", "{b as c}"))
         self.assertNotEqual(self.sums(), before)
+
+    def test_an_import_counts_by_its_names(self):
+        before = record.imported("use Rattle.a.specs.{B.c, D.e}\nuse Rattle.a.specs.F.TheVariants as f")
+        self.assertEqual(before, ["use F.TheVariants as f", "use c", "use e"])
+        self.assertEqual(record.imported("use Rattle.b.specs.D.{e}\nuse Rattle.a.specs.{B.c}\n  use Rattle.b.specs.F.TheVariants as f;"), before)
+        self.assertEqual(record.imported("use Rattle.a.specs.G.TheVariants as f"), ["use G.TheVariants as f"])
 
     def test_the_text_of_a_pair_counts_for_it_alone(self):
         before = self.sums()
