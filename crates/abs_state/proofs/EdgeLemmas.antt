@@ -8,7 +8,7 @@ use Rattle.std.proofs.lemmas.Bool.Decides.{nat_tests}
 use Rattle.linear_facts.specs.Forms.{value, substituted}
 use Rattle.scalar_core.specs.Arithmetic.{is_taken}
 use Rattle.scalar_core.specs.Hart.{reg_of, exit}
-use Rattle.vector_core.specs.Machine.{Machine}
+use Rattle.machine.specs.Machine.{Machine}
 use Rattle.region_mem.specs.declared.parameter.Param.{Param}
 use Rattle.vreg_groups.specs.declared.vector_length.Vlen.{Vlen}
 use Rattle.vreg_groups.specs.Elements.{element_at}

@@ -17,7 +17,7 @@ use Rattle.region_mem.specs.MatchingLemmas.{NonePasses, map_none, none_passes, n
 use Rattle.region_mem.specs.RoomLemmas.{sum_by_room}
 use Rattle.scalar_core.specs.Hart.{IsHart}
 use Rattle.scalar_core.specs.EntryLemmas.{entry_hart-is_hart, entry_number-same, reg_of-entry_hart}
-use Rattle.vector_core.specs.Start.{passed_at, passed_number, start_hart}
+use Rattle.machine.specs.Start.{passed_at, passed_number, start_hart}
 use Rattle.cert_note.specs.Certificate.{FitsWords, IsParameter}
 use Rattle.abs_domain.specs.BlockLaws.{ArePassed, IsEntry, IsPassed}
 use Rattle.abs_state.specs.EntryLemmas.{pair_at}

@@ -3,7 +3,7 @@ use Rattle.std.proofs.Common.{◌+◌, ◌∙◌, ℕ, List, Option, arith, refl
 use Rattle.vreg_groups.specs.VectorLength.{IsConfig}
 use Rattle.scalar_core.specs.Hart.{IsHart}
 use Rattle.vector_core.specs.KeepLaws.{AreRegisters}
-use Rattle.vector_core.specs.Machine.{Machine}
+use Rattle.machine.specs.Machine.{Machine}
 use Rattle.cert_note.specs.declared.values.VectorFact.{VectorFact}
 use Rattle.abs_domain.specs.Holds.{Follows}
 use Rattle.abs_domain.specs.Memories.{KeepsMemory}

@@ -44,7 +44,7 @@ use Rattle.lane_int.specs.Resizing.{cut_to, extended_to}
 use Rattle.lane_masks.specs.Masks as lanes
 use Rattle.vector_core.specs.Arithmetic.{arith_of}
 use Rattle.vector_core.specs.Integer.{int_of, lane_width}
-use Rattle.vector_core.specs.Machine.{Machine}
+use Rattle.machine.specs.Machine.{Machine}
 use Rattle.vector_core.specs.Masks.{index_of, iota_of, mask_step, set_and_active}
 use Rattle.vector_core.specs.Moves.{copy_of}
 use Rattle.vector_core.specs.Narrowing.{narrow_of}

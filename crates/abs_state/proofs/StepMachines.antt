@@ -19,8 +19,8 @@ use Rattle.vreg_groups.specs.VectorLength.{IsVlenb, IsConfig, no_config}
 use Rattle.scalar_core.specs.Csr.{csr_step}
 use Rattle.scalar_core.specs.Hart.{Hart}
 use Rattle.scalar_core.specs.Step.{rv32im_step, scalar_step}
-use Rattle.vector_core.specs.Machine.{Machine}
-use Rattle.vector_core.specs.MachineStep.{carry_out, unless_misaligned, with_scalar}
+use Rattle.machine.specs.Machine.{Machine}
+use Rattle.machine.specs.MachineStep.{carry_out, unless_misaligned, with_scalar}
 use Rattle.abs_domain.specs.declared.why.Why.{Why}
 use Rattle.abs_domain.specs.declared.zones.Zone.{Zone}
 use Rattle.abs_state.specs.declared.state.Way.{Way}

@@ -2,7 +2,7 @@
 use Rattle.std.proofs.Common.{refl, subst}
 use Rattle.rv_decode.specs.Encodings.{MeaningsFit}
 use Rattle.rv_decode.specs.declared.instructions.Insn.TheVariants.{Scalar, Csr, VSet, VArith, VMask, VPerm, VReduce, VMem, VMove}
-use Rattle.vector_core.specs.MachineStep.{carry_out}
+use Rattle.machine.specs.MachineStep.{carry_out}
 use Rattle.abs_state.specs.State.{AbstractView}
 use Rattle.abs_state.specs.After.{after_of, vset_after}
 use Rattle.abs_state.specs.Held.{vlenb_in}

@@ -36,7 +36,7 @@ use Rattle.vector_mem.specs.Transfers.{accesses_of, data_at, is_masked, place_at
 use Rattle.scalar_core.specs.Hart.{Hart, reg_of}
 use Rattle.vector_core.specs.LoadsStores.{stride_of}
 use Rattle.vector_core.specs.Setup.{setup_of}
-use Rattle.vector_core.specs.StoreLemmas.{list_kept}
+use Rattle.machine.specs.StoreLemmas.{list_kept}
 use Rattle.cert_note.specs.declared.values.VectorFact.{VectorFact}
 use Rattle.abs_transfer.specs.declared.accesses.Reach.{Reach}
 use Rattle.abs_domain.specs.declared.why.Why.{Why}

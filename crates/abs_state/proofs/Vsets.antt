@@ -19,8 +19,8 @@ use Rattle.scalar_core.specs.Hart.{Hart, IsHart, next_pc, put, reg_of, with_reg}
 use Rattle.scalar_core.specs.StateLemmas.{put-is_hart}
 use Rattle.vector_core.specs.Configuration.{avl_of, request_of, vset_step}
 use Rattle.vector_core.specs.declared.configuration.Request.{Request}
-use Rattle.vector_core.specs.Machine.{Machine}
-use Rattle.vector_core.specs.MachineStep.{carry_out, unless_misaligned}
+use Rattle.machine.specs.Machine.{Machine}
+use Rattle.machine.specs.MachineStep.{carry_out, unless_misaligned}
 use Rattle.vector_core.specs.Step.{legal_step, vector_step}
 use Rattle.vector_core.specs.Vectors.{Vectors}
 use Rattle.abs_transfer.specs.declared.vset.Asked.TheVariants.{Keep, Greatest, Register}

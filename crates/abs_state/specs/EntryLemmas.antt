@@ -7,7 +7,7 @@ use Rattle.region_mem.specs.declared.parameter.Param.TheVariants as parameter
 use Rattle.region_mem.specs.MatchingLemmas.{NonePasses}
 use Rattle.region_mem.specs.Parameter.{Argument}
 use Rattle.scalar_core.specs.EntryLemmas.{entry_hart-pc}
-use Rattle.vector_core.specs.Start.{passed_at, start_hart}
+use Rattle.machine.specs.Start.{passed_at, start_hart}
 
 pub start_pc : (entry : ℕ) (params : List Param) (args : List Argument) → (start_hart entry params args).pc ≡ entry
 unfolding start_hart

@@ -5,7 +5,7 @@ use Rattle.abs_state.specs.Words.{IsImage, Machine, Block, IsCertificate}
 use Rattle.region_mem.specs.Laws.{BringsBytes}
 use Rattle.region_mem.specs.Parameter.{Argument, AreArguments}
 use Rattle.vreg_groups.specs.declared.policies.Agnostic.{Agnostic}
-use Rattle.vector_core.specs.Start.{passed_at, start}
+use Rattle.machine.specs.Start.{passed_at, start}
 use Rattle.abs_domain.specs.BlockLaws.{ArePassed}
 use Rattle.abs_state.specs.Blocks.{at_block_of, at_entry_of}
 use Rattle.abs_state.specs.Held.{Setting, Held, Fits, budget_of, vlenb_in}

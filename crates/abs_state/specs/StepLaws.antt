@@ -8,7 +8,7 @@ use Rattle.region_mem.specs.declared.faults.Fault.{Fault}
 use Rattle.region_mem.specs.declared.faults.Fault.TheVariants.{JumpMisaligned}
 use Rattle.scalar_core.specs.Csr.{csr_step}
 use Rattle.scalar_core.specs.Step.{rv32im_step}
-use Rattle.vector_core.specs.MachineStep.{unless_misaligned}
+use Rattle.machine.specs.MachineStep.{unless_misaligned}
 use Rattle.abs_state.specs.declared.state.Way.{Way}
 use Rattle.abs_state.specs.declared.state.Way.TheVariants.{To}
 use Rattle.abs_domain.specs.declared.zones.Zone.{Zone}

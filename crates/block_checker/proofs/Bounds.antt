@@ -14,7 +14,7 @@ use Rattle.scalar_core.specs.declared.entry.EntryValue.TheVariants.{Number, Pass
 use Rattle.scalar_core.specs.Entry.{entry_value, number_with}
 use Rattle.scalar_core.specs.Hart.{reg_of}
 use Rattle.scalar_core.specs.EntryLemmas.{entry_place, reg_of-entry_hart}
-use Rattle.vector_core.specs.Start.{passed_at, passed_number, start_hart}
+use Rattle.machine.specs.Start.{passed_at, passed_number, start_hart}
 use Rattle.abs_domain.specs.Starts.{passed_value, start_value, value_for}
 use Rattle.abs_state.specs.EntryLemmas.{pair_at}
 use Rattle.block_checker.specs.Bound.{scalar_of, scalars_of, start_number}

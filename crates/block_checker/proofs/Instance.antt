@@ -17,7 +17,7 @@ use Rattle.region_mem.specs.Parameter.{Argument}
 use Rattle.vreg_groups.specs.declared.vector_length.Vlen.{Vlen}
 use Rattle.cert_note.specs.declared.values.Version.{Version}
 use Rattle.scalar_core.specs.Hart.{exit}
-use Rattle.vector_core.specs.Machine.{Machine}
+use Rattle.machine.specs.Machine.{Machine}
 use Rattle.cert_note.specs.declared.values.Budget.{Budget}
 use Rattle.cert_note.specs.declared.values.Block.{Block}
 use Rattle.cert_note.specs.Certificate.{CertificateView, IsCertificate, IsBlock, AllFrom, after_block}
@@ -38,7 +38,7 @@ use Rattle.abs_domain.specs.BlockLaws.{ArePassed}
 use Rattle.abs_state.specs.StartLaws.{ArePassedBy, BlocksAreHeld, EntriesAreHeld, IsSetting}
 use Rattle.block_checker.specs.Passes.{block_at, is_branch, is_branch_insn}
 use Rattle.vreg_groups.specs.VectorLength.{vlenb_of}
-use Rattle.vector_core.specs.Start.{passed_at, passed_number, start as start_of}
+use Rattle.machine.specs.Start.{passed_at, passed_number, start as start_of}
 use Rattle.block_checker.specs.Sound.{PassingRunsEnd}
 use Rattle.block_checker.proofs.Finding.{block-begins}
 use Rattle.block_checker.proofs.StepLaws.{Laws, budget_in}

@@ -10,8 +10,8 @@ use Rattle.vreg_groups.specs.declared.policies.Agnostic.{Agnostic}
 use Rattle.vreg_groups.specs.declared.vector_length.Vlen.{Vlen}
 use Rattle.vreg_groups.specs.VectorLength.{vlenb_of}
 use Rattle.scalar_core.specs.Hart.{reg_of}
-use Rattle.vector_core.specs.Machine.{Machine}
-use Rattle.vector_core.specs.Start.{start, start_hart}
+use Rattle.machine.specs.Machine.{Machine}
+use Rattle.machine.specs.Start.{start, start_hart}
 use Rattle.cert_note.specs.declared.values.Block.{Block}
 use Rattle.cert_note.specs.Certificate.{CertificateView, IsCertificate, IsBlock, after_block}
 use Rattle.abs_state.specs.State.{AbstractView}

@@ -7,8 +7,8 @@ use Rattle.rv_decode.specs.Decode.{meaning_of}
 use Rattle.elf_image.specs.Image.{ImageView, code_at}
 use Rattle.region_mem.specs.Memory.{fetch_of}
 use Rattle.scalar_core.specs.Hart.{exit, reg_of}
-use Rattle.vector_core.specs.Machine.{Machine}
-use Rattle.vector_core.specs.MachineStep.{carry_out, unless_misaligned}
+use Rattle.machine.specs.Machine.{Machine}
+use Rattle.machine.specs.MachineStep.{carry_out, unless_misaligned}
 use Rattle.cert_note.specs.declared.values.Block.{Block}
 use Rattle.cert_note.specs.Certificate.{CertificateView}
 use Rattle.abs_state.specs.State.{AbstractView}

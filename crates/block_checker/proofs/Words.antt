@@ -8,9 +8,9 @@ use Rattle.rv_decode.specs.Decode.{meaning_of}
 use Rattle.region_mem.specs.declared.faults.Fault.{Fault}
 use Rattle.region_mem.specs.Memory.{fetch_of}
 use Rattle.scalar_core.specs.Hart.{exit}
-use Rattle.vector_core.specs.Machine.{Machine}
-use Rattle.vector_core.specs.MachineStep.{step, carry_out, unless_misaligned}
-use Rattle.vector_core.specs.Run.{has_ended}
+use Rattle.machine.specs.Machine.{Machine}
+use Rattle.machine.specs.MachineStep.{step, carry_out, unless_misaligned}
+use Rattle.machine.specs.Run.{has_ended}
 use Rattle.cert_note.specs.declared.values.Block.{Block}
 use Rattle.cert_note.specs.Certificate.{CertificateView}
 use Rattle.abs_domain.specs.declared.why.Why.{Why}

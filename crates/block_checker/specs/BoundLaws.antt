@@ -4,7 +4,7 @@ use Rattle.block_checker.specs.Words.{Argument, Block, vlenb_of}
 use Rattle.region_mem.specs.Parameter.{AreArguments}
 use Rattle.vreg_groups.specs.declared.policies.Agnostic.{Agnostic}
 use Rattle.scalar_core.specs.Hart.{reg_of}
-use Rattle.vector_core.specs.Start.{start}
+use Rattle.machine.specs.Start.{start}
 use Rattle.block_checker.specs.Passes.{block_at}
 use Rattle.block_checker.specs.Accepted.{AcceptedView}
 use Rattle.abs_state.specs.Held.{budget_at}

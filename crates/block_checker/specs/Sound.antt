@@ -7,9 +7,9 @@ use Rattle.region_mem.specs.Laws.{BringsBytes}
 use Rattle.region_mem.specs.Parameter.{AreArguments}
 use Rattle.vreg_groups.specs.declared.policies.Agnostic.{Agnostic}
 use Rattle.scalar_core.specs.Hart.{reg_of}
-use Rattle.vector_core.specs.Machine.{Machine}
-use Rattle.vector_core.specs.Run.{after, has_ended}
-use Rattle.vector_core.specs.Start.{start}
+use Rattle.machine.specs.Machine.{Machine}
+use Rattle.machine.specs.Run.{after, has_ended}
+use Rattle.machine.specs.Start.{start}
 use Rattle.cert_note.specs.Certificate.{IsCertificate}
 use Rattle.block_checker.specs.Passes.{block_at, checked}
 use Rattle.block_checker.specs.Accepted.{AcceptedView}

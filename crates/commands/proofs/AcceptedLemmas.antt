@@ -5,13 +5,13 @@ use Rattle.block_checker.specs.Bound.{bound_of, scalars_of}
 use Rattle.region_mem.specs.Memory.{args_of}
 use Rattle.region_mem.specs.Parameter.{Argument}
 use Rattle.region_mem.specs.declared.arguments.Args.{Args}
-use Rattle.sandbox_run.specs.Answer.{registers_of}
+use Rattle.machine.specs.Registers.{registers_of}
 use Rattle.sandbox_run.specs.Session.{SessionView}
 use Rattle.sandbox_run.specs.declared.outcome.OpenError.{OpenError}
-use Rattle.sandbox_run.specs.declared.outcome.Registers.{Registers}
-use Rattle.vector_core.specs.Machine.{Machine}
-use Rattle.vector_core.specs.Run.{Ended, outcome, outcome_from}
-use Rattle.vector_core.specs.Start.{start}
+use Rattle.machine.specs.declared.registers.Registers.{Registers}
+use Rattle.machine.specs.Machine.{Machine}
+use Rattle.machine.specs.Run.{Ended, outcome, outcome_from}
+use Rattle.machine.specs.Start.{start}
 use Rattle.vreg_groups.specs.declared.policies.Agnostic.{Agnostic}
 use Rattle.commands.specs.Runs.{if_opened}
 use Rattle.commands.specs.Trial.{OrMemory}

@@ -6,7 +6,7 @@ use Rattle.region_mem.specs.Parameter.{Argument}
 use Rattle.sandbox_run.specs.Session.{IsOpened, SessionView, open_fault}
 use Rattle.sandbox_run.specs.Stops.{IsStop}
 use Rattle.sandbox_run.specs.declared.outcome.OpenError.{OpenError}
-use Rattle.vector_core.specs.Machine.{Machine}
+use Rattle.machine.specs.Machine.{Machine}
 use Rattle.vreg_groups.specs.declared.policies.Agnostic.{Agnostic}
 use Rattle.commands.specs.Mons.{IsStopped}
 use Rattle.commands.specs.Talks.{AreTold, Exchange}

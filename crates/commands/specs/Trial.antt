@@ -8,8 +8,8 @@ use Rattle.sandbox_run.specs.Answer.{answer_of}
 use Rattle.sandbox_run.specs.declared.outcome.Final.{Final}
 use Rattle.sandbox_run.specs.declared.outcome.Outcome.{Outcome}
 use Rattle.sandbox_run.specs.declared.outcome.Outcome.TheVariants as stopped
-use Rattle.sandbox_run.specs.declared.outcome.Registers.{Registers}
-use Rattle.vector_core.specs.Run.{outcome}
+use Rattle.machine.specs.declared.registers.Registers.{Registers}
+use Rattle.machine.specs.Run.{outcome}
 use Rattle.region_mem.specs.Digits.{digits_text}
 pub use Rattle.commands.specs.Accepted.{OrMemory}
 use Rattle.commands.specs.Files.{Files, IsUnfinished}

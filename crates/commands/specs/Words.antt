@@ -6,8 +6,8 @@ pub use Rattle.vreg_groups.specs.declared.policies.Agnostic.{Agnostic}
 pub use Rattle.region_mem.specs.Parameter.{Argument}
 pub use Rattle.cert_note.specs.Certificate.{CertificateView}
 pub use Rattle.cert_note.specs.declared.refusals.CertError.{CertError}
-pub use Rattle.vector_core.specs.Machine.{Machine}
-pub use Rattle.vector_core.specs.Start.{start}
+pub use Rattle.machine.specs.Machine.{Machine}
+pub use Rattle.machine.specs.Start.{start}
 pub use Rattle.sandbox_run.specs.declared.outcome.OpenError.{OpenError}
 pub use Rattle.block_checker.specs.Accepted.{AcceptedView}
 pub use Rattle.block_checker.specs.Passes.{Checked, block_at, checked}

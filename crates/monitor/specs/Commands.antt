@@ -3,8 +3,8 @@ use Rattle.std.specs.Prelude.{◌≡◌, ℕ, ◌*◌, List, [], codes, Option, 
 use Rattle.std.specs.Io.KnownBytes.{Appends}
 use Rattle.rv_listing.specs.Sinks.{AppendsSome, IsCounted}
 use Rattle.vreg_groups.specs.Elements.{bytes_from}
-use Rattle.vector_core.specs.Run.{has_ended}
-use Rattle.sandbox_run.specs.Answer.{registers_of}
+use Rattle.machine.specs.Run.{has_ended}
+use Rattle.machine.specs.Registers.{registers_of}
 use Rattle.sandbox_run.specs.Session.{SessionView}
 use Rattle.monitor.specs.Breakpoints.{delete_fault, set_fault, with_breakpoint, without_breakpoint}
 use Rattle.monitor.specs.Moves.{GoesOn, Steps}

@@ -2,8 +2,8 @@
 use Rattle.std.specs.Prelude.{◌≡◌, ◌+◌, ◌<◌, ◌≤◌, ℕ, Bool, true, false, ◌||◌, ◌==◌, List, Ok}
 use Rattle.std.specs.List.{list_any}
 use Rattle.sandbox_run.specs.Session.{SessionView}
-use Rattle.vector_core.specs.Machine.{Machine}
-use Rattle.vector_core.specs.Run.{after, has_ended, GoesOnUntil}
+use Rattle.machine.specs.Machine.{Machine}
+use Rattle.machine.specs.Run.{after, has_ended, GoesOnUntil}
 
 -- so many steps, and nothing else: they are counted, and the run is the one that was opened
 pub record Does (vlenb j : ℕ) (old new : SessionView) : Type 0 where

@@ -4,7 +4,7 @@ use Rattle.std.specs.Fmt.{decimal}
 use Rattle.hex.specs.Hex.{encode_lower}
 use Rattle.rv_listing.specs.Listing.{listing_text}
 use Rattle.rv_listing.specs.Pieces.{word_text}
-use Rattle.sandbox_run.specs.declared.outcome.Registers.{Registers}
+use Rattle.machine.specs.declared.registers.Registers.{Registers}
 
 -- the first n of a row of texts, one after the other
 unfoldable pub texts : (ℕ → List ℕ) → ℕ → List ℕ

@@ -5,7 +5,7 @@ use Rattle.std.specs.contracts.alloc.Global as heap
 use Rattle.std.specs.contracts.impls.GlobalAllocator.TheImpl.{ghosts}
 use Rattle.std.proofs.Crossing.{crosses}
 use Rattle.region_mem.specs.contracts.stack.Stack as stack
-use Rattle.sandbox_run.specs.contracts.spare.Spare as spare
+use Rattle.machine.specs.contracts.spare.Spare as spare
 use Rattle.rvvbox_c.proofs.Crosses.{shared_send}
 use Rattle.rvvbox_c.proofs.RunCrosses.{memo_send, open_send}
 use Rattle.rvvbox_c.specs.Holds.{held_row}

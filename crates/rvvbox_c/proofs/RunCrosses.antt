@@ -10,9 +10,9 @@ use Rattle.region_mem.specs.contracts.region.Region as region
 use Rattle.rvvbox_c.proofs.WordCrosses.{◌&◌, bool_send, i32_send, insn_send, reg_send, width_send}
 use Rattle.rvvbox_c.specs.contracts.opened.Open as opened
 use Rattle.sandbox_run.specs.contracts.any_session.AnySession as any
-use Rattle.sandbox_run.specs.contracts.machine.Machine as machine
-use Rattle.sandbox_run.specs.contracts.memo.Known as known
-use Rattle.sandbox_run.specs.contracts.memo.Memo as memo
+use Rattle.machine.specs.contracts.machine.Machine as machine
+use Rattle.machine.specs.contracts.memo.Known as known
+use Rattle.machine.specs.contracts.memo.Memo as memo
 use Rattle.sandbox_run.specs.contracts.session.Session as session
 use Rattle.scalar_core.specs.contracts.hart.Scalar as scalar
 use Rattle.scalar_core.specs.contracts.op.Op as op

@@ -2,9 +2,9 @@
 use Rattle.std.proofs.Common.{◌≡◌, ◌≤◌, ◌-◌, ℕ, List, subst, arith}
 use Rattle.region_mem.specs.Parameter.{Argument, AreArguments}
 use Rattle.vreg_groups.specs.declared.policies.Agnostic.{Agnostic}
-use Rattle.vector_core.specs.Machine.{Machine}
-use Rattle.vector_core.specs.Run.{Ended, outcome, outcome_from}
-use Rattle.vector_core.specs.Start.{start}
+use Rattle.machine.specs.Machine.{Machine}
+use Rattle.machine.specs.Run.{Ended, outcome, outcome_from}
+use Rattle.machine.specs.Start.{start}
 use Rattle.block_checker.specs.Accepted.{AcceptedView}
 use Rattle.block_checker.specs.Bound.{bound_of, scalars_of}
 use Rattle.sandbox_run.specs.Session.{SessionView}

@@ -3,7 +3,7 @@ use Rattle.std.specs.Prelude.{ℕ, ◌≡◌, ◌==◌, ◌≤◌, ◌+◌, Bool
 use Rattle.std.specs.Option.{option_map, option_or}
 use Rattle.sandbox_run.specs.AnySession.{run_in, vlenb_in}
 use Rattle.sandbox_run.specs.Session.{SessionView}
-use Rattle.vector_core.specs.Run.{Ended, OutOfSteps, Stop, has_ended, outcome_from}
+use Rattle.machine.specs.Run.{Ended, OutOfSteps, Stop, has_ended, outcome_from}
 use Rattle.rvvbox_c.specs.Status.{at_place}
 use Rattle.rvvbox_c.specs.declared.forms.Form.{Form}
 use Rattle.rvvbox_c.specs.declared.forms.Forms.{Forms}

@@ -4,9 +4,9 @@ use Rattle.region_mem.specs.Memory.{args_of}
 use Rattle.region_mem.specs.Parameter.{Argument, AreArguments}
 use Rattle.vreg_groups.specs.declared.policies.Agnostic.{Agnostic, TheVariants.Keep, TheVariants.Ones}
 use Rattle.vreg_groups.specs.VectorLength.{vlenb_of}
-use Rattle.vector_core.specs.Machine.{Machine}
-use Rattle.vector_core.specs.Start.{start}
-use Rattle.vector_core.specs.Run.{outcome, Ended}
+use Rattle.machine.specs.Machine.{Machine}
+use Rattle.machine.specs.Start.{start}
+use Rattle.machine.specs.Run.{outcome, Ended}
 use Rattle.block_checker.specs.Accepted.{AcceptedView}
 use Rattle.block_checker.specs.Bound.{bound_of, scalars_of}
 use Rattle.sandbox_run.specs.declared.outcome.OpenError.{OpenError}

@@ -14,8 +14,8 @@ use Rattle.sandbox_run.specs.Answer.{answer_of}
 use Rattle.sandbox_run.specs.declared.outcome.Final.{Final}
 use Rattle.sandbox_run.specs.declared.outcome.Outcome.{Outcome}
 use Rattle.sandbox_run.specs.declared.outcome.Outcome.TheVariants as outcomes
-use Rattle.vector_core.specs.Run.{outcome}
-use Rattle.vector_core.specs.Start.{start}
+use Rattle.machine.specs.Run.{outcome}
+use Rattle.machine.specs.Start.{start}
 use Rattle.vreg_groups.specs.VectorLength.{vlenb_of}
 use Rattle.vreg_groups.specs.declared.policies.Agnostic.{Agnostic}
 use Rattle.vreg_groups.specs.declared.vector_length.Vlen.{Vlen}

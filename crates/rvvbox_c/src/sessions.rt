@@ -9,7 +9,7 @@ ghost use Rattle.rvvbox_c.specs.Running.{run_kept};
 ghost use Rattle.rvvbox_c.specs.Status.{code_of, plain, told_of};
 ghost use Rattle.rvvbox_c.specs.declared.status.Status.TheVariants.{BadRange, NothingKept};
 ghost use Rattle.sandbox_run.specs.AnySession.{run_in, vlenb_in};
-ghost use Rattle.vector_core.specs.Run.{has_ended, outcome_from};
+ghost use Rattle.machine.specs.Run.{has_ended, outcome_from};
 
 use crate::forms::{Forms, put_all};
 use crate::opened::{Progress, Registers};

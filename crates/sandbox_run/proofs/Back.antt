@@ -18,8 +18,8 @@ use Rattle.region_mem.specs.SearchLemmas.{not_past}
 use Rattle.region_mem.specs.StartCodeLemmas.{closed_below}
 use Rattle.region_mem.specs.StartLemmas.{buffers_of_start}
 use Rattle.region_mem.specs.AccessLemmas.{holds_from}
-use Rattle.vector_core.specs.Kept.{Keeps, RunsKeep}
-use Rattle.vector_core.specs.Start.{start}
+use Rattle.machine.specs.Kept.{Keeps, RunsKeep}
+use Rattle.machine.specs.Start.{start}
 use Rattle.vreg_groups.specs.declared.policies.Agnostic.{Agnostic}
 use Rattle.sandbox_run.specs.Back.{ComesBack, HasShapeOf, RunsHandBack}
 use Rattle.sandbox_run.specs.Words.{Argument, scalars_of}

@@ -1,9 +1,9 @@
 -- Runs that go on for at most so many steps.
 use Rattle.std.proofs.Common.{◌≡◌, ℕ, zero, suc, ◌+◌, ◌-◌, ◌<◌, Bool, true, false, if◌then◌else◌, Ok, refl, sym, arith}
-use Rattle.vector_core.specs.Machine.{Machine}
-use Rattle.vector_core.specs.MachineStep.{step}
-use Rattle.vector_core.specs.Run.{has_ended, outcome_from, Ended, OutOfSteps}
-use Rattle.vector_core.specs.RunLemmas.{outcome_from-ended}
+use Rattle.machine.specs.Machine.{Machine}
+use Rattle.machine.specs.MachineStep.{step}
+use Rattle.machine.specs.Run.{has_ended, outcome_from, Ended, OutOfSteps}
+use Rattle.machine.specs.RunLemmas.{outcome_from-ended}
 
 -- a run that goes on has one step less to go
 pub outcome_from-step : (vlenb left k : ℕ) (m t : Machine) → 0 < left → has_ended m ≡ false → step vlenb m ≡ Ok t

@@ -4,11 +4,11 @@ use Rattle.std.specs.Prelude.{if◌then◌else◌}
 use Rattle.region_mem.specs.declared.faults.Fault.{Fault}
 use Rattle.region_mem.specs.Start.{start_areas, start_memory}
 use Rattle.block_checker.specs.Sound.{IsWellBehaved}
-use Rattle.vector_core.specs.Machine.{Machine}
-use Rattle.vector_core.specs.MachineStep.{step}
-use Rattle.vector_core.specs.Run.{Ended, OutOfSteps, Stop, Trapped, IsOutcome, after, has_ended, outcome, outcome_from}
-use Rattle.vector_core.specs.Start.{start}
-use Rattle.vector_core.specs.RunLemmas.{after-plus, outcome-is, outcome_from-ended, after_step}
+use Rattle.machine.specs.Machine.{Machine}
+use Rattle.machine.specs.MachineStep.{step}
+use Rattle.machine.specs.Run.{Ended, OutOfSteps, Stop, Trapped, IsOutcome, after, has_ended, outcome, outcome_from}
+use Rattle.machine.specs.Start.{start}
+use Rattle.machine.specs.RunLemmas.{after-plus, outcome-is, outcome_from-ended, after_step}
 use Rattle.sandbox_run.specs.HostLaws.{SaysOfMore, StepsAreUnique, MoreStepsChangeNothing, StartsAreAlike}
 use Rattle.sandbox_run.proofs.StopLemmas.{within_end}
 use Rattle.sandbox_run.specs.SessionLemmas.{no_fault}

@@ -3,7 +3,5 @@ pub mod PermittedLemmas
 pub mod OpenFaults
 pub mod GoingLemmas
 pub mod HostLemmas
-pub mod OpSteps
 pub mod Refusals
-pub mod StartLemmas
 pub mod StopLemmas

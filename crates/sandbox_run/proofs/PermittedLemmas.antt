@@ -5,8 +5,8 @@ use Rattle.region_mem.specs.Laws.{HasExtentsOf}
 use Rattle.region_mem.specs.Memory.{Memory, is_permitted}
 use Rattle.region_mem.specs.declared.faults.Right.{Right}
 use Rattle.region_mem.specs.declared.faults.Right.TheVariants.{Fetch}
-use Rattle.vector_core.specs.Machine.{Machine}
-use Rattle.vector_core.specs.Permitted.{ArePermitted, IsPermittedIn, IsPermittedStep}
+use Rattle.machine.specs.Machine.{Machine}
+use Rattle.machine.specs.Permitted.{ArePermitted, IsPermittedIn, IsPermittedStep}
 use Rattle.vector_mem.specs.declared.plan.Access.{Access}
 
 permitted_alike : (right : Right) (address n : ℕ) (memory next : Memory) → HasExtentsOf next memory

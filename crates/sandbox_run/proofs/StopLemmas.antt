@@ -11,12 +11,12 @@ use Rattle.region_mem.specs.declared.parameter.Param.{Param}
 use Rattle.region_mem.specs.StartLemmas.{gives_arguments_back}
 use Rattle.block_checker.specs.Sound.{IsWellBehaved}
 use Rattle.vreg_groups.specs.declared.policies.Agnostic.{Agnostic}
-use Rattle.vector_core.specs.Kept.{RunsKeep}
-use Rattle.vector_core.specs.Machine.{Machine}
-use Rattle.vector_core.specs.MachineStep.{step}
-use Rattle.vector_core.specs.Permitted.{RunsArePermitted}
-use Rattle.vector_core.specs.Run.{after, has_ended, GoesOnUntil}
-use Rattle.vector_core.specs.Start.{start}
+use Rattle.machine.specs.Kept.{RunsKeep}
+use Rattle.machine.specs.Machine.{Machine}
+use Rattle.machine.specs.MachineStep.{step}
+use Rattle.machine.specs.Permitted.{RunsArePermitted}
+use Rattle.machine.specs.Run.{after, has_ended, GoesOnUntil}
+use Rattle.machine.specs.Start.{start}
 use Rattle.sandbox_run.specs.Session.{HandsBack, SessionView}
 use Rattle.sandbox_run.specs.Back.{ComesBack}
 use Rattle.sandbox_run.specs.Stops.{IsStop, StopsWell}

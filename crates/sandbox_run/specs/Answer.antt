@@ -1,19 +1,9 @@
 -- What a run answers.
 use Rattle.std.specs.Prelude.{ℕ, List}
+use Rattle.machine.specs.Registers.{registers_of}
 use Rattle.sandbox_run.specs.Words.{args_of, Machine, Stop, Ended, Trapped, OutOfSteps}
-use Rattle.sandbox_run.specs.declared.outcome.{Registers.Registers, Final.Final, Outcome.Outcome}
+use Rattle.sandbox_run.specs.declared.outcome.{Final.Final, Outcome.Outcome}
 use Rattle.sandbox_run.specs.declared.outcome.Outcome.TheVariants as outcome
-
--- the registers of a machine
-abbrev pub registers_of : Machine → Registers
-registers_of m = record {
-  pc = m.hart.pc;
-  x = m.hart.x;
-  vl = m.vectors.config.vl;
-  vtype = m.vectors.config.vtype;
-  vxrm = m.hart.vxrm;
-  vxsat = m.hart.vxsat;
-}
 
 -- a machine in which so many steps were done, as a run hands it out
 abbrev pub final_of : (vlenb : ℕ) → ℕ → Machine → Final vlenb (List ℕ)

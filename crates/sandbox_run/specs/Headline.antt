@@ -1,6 +1,6 @@
 -- The theorem on accepted images.
 use Rattle.std.specs.Prelude.{ℕ, ◌≡◌, ◌<◌, ◌≤◌, true, List, length, Ok}
-use Rattle.vector_core.specs.Touches.{ReadsInside, WritesInside}
+use Rattle.machine.specs.Touches.{ReadsInside, WritesInside}
 use Rattle.sandbox_run.specs.Words.{AcceptedView, Agnostic, AllByRecursion, AreArguments, Argument, BringsBytes, GoesOnUntil, IsPermittedIn, IsPermittedStep, Keeps, Machine, after, bound_of, has_ended, scalars_of, start, vlenb_of}
 
 -- After at most n steps without a fault the run from here has ended, and in no state before. Each

@@ -4,7 +4,6 @@ pub mod Back
 pub mod Errors
 pub mod Headline
 pub mod HostLaws
-pub mod Rooms
 pub mod Session
 pub mod Laws
 pub mod Stops
@@ -12,8 +11,10 @@ pub mod Whole
 pub mod Words
 pub use Rattle.region_mem.specs.Parameter
 pub use Rattle.region_mem.specs.Memory
-pub use Rattle.vector_core.specs.Machine
-pub use Rattle.vector_core.specs.MachineStep
-pub use Rattle.vector_core.specs.Run
-pub use Rattle.vector_core.specs.Start
+pub use Rattle.machine.specs.Machine
+pub use Rattle.machine.specs.MachineStep
+pub use Rattle.machine.specs.Registers
+pub use Rattle.machine.specs.Rooms
+pub use Rattle.machine.specs.Run
+pub use Rattle.machine.specs.Start
 pub mod SessionLemmas

@@ -8,10 +8,10 @@ use Rattle.region_mem.specs.declared.faults.Fault.{Fault}
 use Rattle.block_checker.specs.Accepted.{AcceptedView}
 use Rattle.block_checker.specs.Bound.{bound_of, scalar_of, scalars_of}
 use Rattle.block_checker.specs.Sound.{IsWellBehaved, RunsEnd}
-use Rattle.vector_core.specs.Machine.{Machine}
-use Rattle.vector_core.specs.MachineStep.{step}
-use Rattle.vector_core.specs.Run.{has_ended, then_step, after}
-use Rattle.vector_core.specs.Start.{start}
+use Rattle.machine.specs.Machine.{Machine}
+use Rattle.machine.specs.MachineStep.{step}
+use Rattle.machine.specs.Run.{has_ended, then_step, after}
+use Rattle.machine.specs.Start.{start}
 use Rattle.vreg_groups.specs.VectorLength.{vlenb_of}
 use Rattle.vreg_groups.specs.declared.policies.Agnostic.{Agnostic}
 

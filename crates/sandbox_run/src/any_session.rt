@@ -4,20 +4,20 @@ ghost use Rattle.std.specs.Prelude.{IfErr, IfOk, IfSome, IsErrAnd, IsNone, IsSom
 ghost use Rattle.block_checker.specs.Bound.{scalars_of};
 ghost use Rattle.region_mem.specs.Memory.{args_of, byte_of, fetch_of};
 ghost use Rattle.region_mem.specs.Parameter.{AreArguments};
-ghost use Rattle.vector_core.specs.MachineStep.{step as step_of};
-ghost use Rattle.vector_core.specs.Run.{Ended, after, has_ended, outcome_from};
+ghost use Rattle.machine.specs.MachineStep.{step as step_of};
+ghost use Rattle.machine.specs.Run.{Ended, after, has_ended, outcome_from};
 ghost use Rattle.vreg_groups.specs.Elements.{bytes_from};
 ghost use Rattle.vreg_groups.specs.VectorLength.{vlenb_of};
-ghost use Rattle.sandbox_run.specs.Answer.{registers_of};
+ghost use Rattle.machine.specs.Registers.{registers_of};
 ghost use Rattle.sandbox_run.specs.AnySession.{run_in, vlenb_in};
 ghost use Rattle.sandbox_run.specs.Back.{ComesBack};
 ghost use Rattle.sandbox_run.specs.Session.{IsOpened, open_fault};
 ghost use Rattle.sandbox_run.specs.Stops.{IsStop};
 
-use crate::outcome::{OpenError, Registers};
+use crate::outcome::OpenError;
 use crate::session::Session;
-use crate::spare::Spare;
 use block_checker::Accepted;
+use machine::{Registers, Spare};
 use region_mem::Args;
 use rv_decode::Reg;
 use std::alloc::Global;

@@ -1,7 +1,7 @@
 //! Runs of accepted images that go on for so many steps at a time.
 ghost use Rattle.std.specs.Prelude.{◌≡◌, ◌≤◌, ◌+◌, ◌-◌, Ok, false, if◌then◌else◌};
 ghost use Rattle.sandbox_run.specs.AnySession.{run_in, vlenb_in};
-ghost use Rattle.vector_core.specs.Run.{Ended, OutOfSteps, after, has_ended, outcome_from};
+ghost use Rattle.machine.specs.Run.{Ended, OutOfSteps, after, has_ended, outcome_from};
 
 use crate::any_session::AnySession;
 use crate::session::Session;

@@ -8,11 +8,9 @@ ghost use Rattle.sandbox_run.specs.Stops.{AcceptedStops};
 ghost use Rattle.sandbox_run.specs.Whole.{SessionsAreRuns};
 
 use block_checker::Accepted;
+use machine::laws::{runs_are_permitted, runs_keep_memory, steps_read_inside, steps_write_inside};
 use region_mem::fetches_nothing_above;
 use std::alloc::Allocator;
-use vector_core::laws::{
-    runs_are_permitted, runs_keep_memory, steps_read_inside, steps_write_inside,
-};
 
 /// The theorem on accepted images. Run with any contents of buffers of the declared sizes and any
 /// scalars in the declared intervals, such an image meets no illegal instruction and no access

@@ -3,27 +3,11 @@
 ghost use Rattle.std.specs.Prelude.{◌≡◌};
 ghost use Rattle.sandbox_run.specs.Errors.{open_error_of};
 
+use machine::Registers;
 use region_mem::{ArgError, Args, Bytes, Fault};
 use std::error::Error;
 use std::fmt;
 use vreg_groups::VregFile;
-
-/// The registers at the end of a run.
-#[derive(Clone, Copy, PartialEq, Eq)]
-pub struct Registers {
-    /// The program counter.
-    pub pc: u32,
-    /// x0 to x31.
-    pub x: [u32; 32],
-    /// The vector length.
-    pub vl: u32,
-    /// The vector type, with vill at bit 31.
-    pub vtype: u32,
-    /// The rounding mode of fixed-point instructions.
-    pub vxrm: u32,
-    /// The saturation flag.
-    pub vxsat: u32,
-}
 
 /// The last state of a run.
 #[derive(Drop)]

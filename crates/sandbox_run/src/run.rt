@@ -4,15 +4,14 @@ ghost use Rattle.std.specs.Prelude.{◌≡◌, ◌⊎◌, None, IfOk, IfErr, IfS
 ghost use Rattle.region_mem.specs.Parameter.{AreArguments, argument_error};
 ghost use Rattle.sandbox_run.specs.Answer.{answer_of, final_of};
 ghost use Rattle.sandbox_run.specs.Errors.{open_error_of};
-ghost use Rattle.vector_core.specs.Run.{outcome, OutcomeIsFirst, RunsGoOn};
-ghost use Rattle.vector_core.specs.Start.{start as start_of};
-ghost use Rattle.sandbox_run.specs.Rooms.{StateFitsInMemory};
+ghost use Rattle.machine.specs.Run.{outcome, OutcomeIsFirst, RunsGoOn};
+ghost use Rattle.machine.specs.Start.{start as start_of};
+ghost use Rattle.machine.specs.Rooms.{StateFitsInMemory};
 ghost use Rattle.vreg_groups.specs.VectorLength.{IsVlenb};
 
-use crate::machine::Machine;
 use crate::outcome::{Final, OpenError, Outcome};
-use crate::start::start;
 use elf_image::Image;
+use machine::{Machine, start};
 use region_mem::{Args, Bytes, Parameters};
 use std::alloc::{Allocator, Global};
 use vreg_groups::Agnostic;
@@ -80,7 +79,7 @@ pub fn try_run_in<const VLENB: usize, A: Allocator + Copy, B: Allocator>(
 }
 
 /// The run from a state on, with at most `max` steps.
-#[tactic(auto, unfolding(vector_core::specs::Run::outcome))]
+#[tactic(auto, unfolding(machine::specs::Run::outcome))]
 fn run<const VLENB: usize, A: Allocator>(
     mut machine: Machine<VLENB, A>,
     max: u64,

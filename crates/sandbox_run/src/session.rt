@@ -4,27 +4,25 @@ ghost use Rattle.std.specs.Prelude.{IfErr, IfOk, IfSome, IsErrAnd, IsNone, IsSom
 ghost use Rattle.block_checker.specs.Bound.{scalar_of, scalars_of};
 ghost use Rattle.region_mem.specs.Memory.{args_of, byte_of, fetch_of};
 ghost use Rattle.region_mem.specs.Parameter.{AreArguments};
-ghost use Rattle.vector_core.specs.MachineStep.{step as step_of};
-ghost use Rattle.vector_core.specs.Run.{Ended, after, has_ended, outcome_from};
+ghost use Rattle.machine.specs.MachineStep.{step as step_of};
+ghost use Rattle.machine.specs.Run.{Ended, after, has_ended, outcome_from};
 ghost use Rattle.vreg_groups.specs.Elements.{bytes_from};
 ghost use Rattle.vreg_groups.specs.VectorLength.{IsVlenb};
-ghost use Rattle.sandbox_run.specs.Answer.{registers_of};
+ghost use Rattle.machine.specs.Registers.{registers_of};
 ghost use Rattle.sandbox_run.specs.Back.{ComesBack};
-ghost use Rattle.sandbox_run.specs.Rooms.{StateFitsInMemory};
+ghost use Rattle.machine.specs.Rooms.{StateFitsInMemory};
 ghost use Rattle.sandbox_run.specs.Session.{IsOpened, open_fault};
 ghost use Rattle.sandbox_run.specs.Stops.{IsStop};
 
-use crate::machine::Machine;
-use crate::outcome::{OpenError, Registers};
-use crate::spare::Spare;
-use crate::start::start_with;
+use crate::outcome::OpenError;
 use block_checker::Accepted;
+use machine::laws::runs_keep_memory;
+use machine::{Machine, Registers, Spare, start_with};
 use region_mem::{Arg, Args, Bytes, Parameters, args_bring_bytes};
 use rv_decode::Reg;
 use std::alloc::{Allocator, Global};
 use std::marker::Model;
 use std::snapshot::Snapshot;
-use vector_core::laws::runs_keep_memory;
 use vreg_groups::Agnostic;
 
 /// A run of an accepted image, between two steps. It ends without a fault, within a number of steps
@@ -336,12 +334,8 @@ impl<const VLENB: usize, A: Allocator> Session<VLENB, A> {
     {
         runs_keep_memory();
         let Session { machine, .. } = self;
-        let Machine { memory, memo, .. } = machine;
-        let (args, stack) = memory.into_parts();
-        *spare = match stack {
-            Some(stack) => Some(Spare { stack, memo }),
-            None => None,
-        };
+        let (args, left) = machine.into_spare();
+        *spare = left;
         args
     }
 }

@@ -2,13 +2,7 @@ pub mod Destinations
 pub mod Extensions
 pub mod Inside
 pub mod Kept
-pub mod KeptMemory
 pub mod KeptSteps
 pub mod Lengths
 pub mod Moved
 pub mod Numbers
-pub mod Permits
-pub mod ReadsInside
-pub mod WritesInside
-pub mod WrittenAlike
-pub mod WrittenBytes

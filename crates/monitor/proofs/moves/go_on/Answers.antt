@@ -1,6 +1,6 @@
 use Rattle.std.proofs.Common.{rules, ◌≡◌, ◌-◌, suc, false, IsNone, IsSome, arith}
 use Rattle.sandbox_run.specs.SessionLemmas.{not_ended}
-use Rattle.vector_core.specs.Run.{has_ended}
+use Rattle.machine.specs.Run.{has_ended}
 use Rattle.monitor.proofs.MoveLemmas.{goes_nowhere, goes_past, does_one, does_more, no_stop_more}
 use Rattle.std.proofs.lemmas.Grind.{common_steps}
 use Rattle.monitor.proofs.moves.go_on.Goals as goal

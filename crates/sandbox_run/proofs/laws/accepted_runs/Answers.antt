@@ -1,5 +1,5 @@
 use Rattle.vreg_groups.specs.VectorLength.{vlenb_of}
-use Rattle.vector_core.specs.Start.{start}
+use Rattle.machine.specs.Start.{start}
 use Rattle.block_checker.specs.Bound.{bound_of, scalars_of}
 use Rattle.sandbox_run.proofs.HostLemmas.{ended_first, ends}
 use Rattle.sandbox_run.proofs.PermittedLemmas.{permitted_in}

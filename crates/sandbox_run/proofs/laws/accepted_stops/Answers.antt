@@ -1,5 +1,5 @@
 use Rattle.vreg_groups.specs.VectorLength.{vlenb_of}
-use Rattle.vector_core.specs.Start.{start}
+use Rattle.machine.specs.Start.{start}
 use Rattle.block_checker.specs.Bound.{bound_of, scalars_of}
 use Rattle.sandbox_run.proofs.StopLemmas.{stops_well}
 use Rattle.sandbox_run.proofs.laws.accepted_stops.Goals as goal

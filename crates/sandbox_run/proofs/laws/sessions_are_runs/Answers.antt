@@ -3,8 +3,8 @@ use Rattle.cert_note.specs.Certificate.{IsCertificate}
 use Rattle.cert_note.specs.ParameterLemmas.{valid_all}
 use Rattle.elf_image.specs.Image.{IsImage}
 use Rattle.vreg_groups.specs.VectorLength.{vlenb_of}
-use Rattle.vector_core.specs.Machine.{Machine}
-use Rattle.vector_core.specs.Start.{start}
+use Rattle.machine.specs.Machine.{Machine}
+use Rattle.machine.specs.Start.{start}
 use Rattle.block_checker.specs.Bound.{bound_of, scalars_of}
 use Rattle.sandbox_run.specs.Stops.{IsStop}
 use Rattle.sandbox_run.proofs.Back.{matches_again, runs_hand_back}

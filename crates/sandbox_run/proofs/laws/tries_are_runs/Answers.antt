@@ -1,6 +1,6 @@
 use Rattle.std.proofs.Common.{ap}
 use Rattle.vreg_groups.specs.VectorLength.{vlenb_of}
-use Rattle.vector_core.specs.Start.{start}
+use Rattle.machine.specs.Start.{start}
 use Rattle.block_checker.specs.Bound.{bound_of, scalars_of}
 use Rattle.sandbox_run.specs.Answer.{answer_of}
 use Rattle.sandbox_run.proofs.HostLemmas.{ended_with_more, ends}

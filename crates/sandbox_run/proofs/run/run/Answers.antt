@@ -1,8 +1,8 @@
 use Rattle.std.proofs.Common.{◌≡◌, ◌-◌, arith, rules, sym, ap, ◌∙◌}
-use Rattle.vector_core.specs.Run.{outcome, outcome_from}
+use Rattle.machine.specs.Run.{outcome, outcome_from}
 use Rattle.sandbox_run.specs.declared.outcome.Outcome.TheVariants.{Ended, Trapped, OutOfSteps}
 use Rattle.sandbox_run.specs.Answer.{answer_of, final_of}
-use Rattle.vector_core.specs.RunLemmas.{outcome_from-next, outcome_from-trap, outcome_from-ended, outcome_from-out}
+use Rattle.machine.specs.RunLemmas.{outcome_from-next, outcome_from-trap, outcome_from-ended, outcome_from-out}
 use Rattle.std.proofs.lemmas.Grind.{common_steps}
 use Rattle.sandbox_run.proofs.run.run.Goals as goal
 

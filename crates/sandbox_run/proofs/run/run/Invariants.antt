@@ -1,5 +1,5 @@
 use Rattle.std.proofs.Common.{◌≡◌, ◌≤◌, ◌-◌}
-use Rattle.vector_core.specs.Run.{outcome, outcome_from}
+use Rattle.machine.specs.Run.{outcome, outcome_from}
 use Rattle.sandbox_run.proofs.run.run.Given as goal
 
 abbrev pub invariant-stepping : goal.invariant-stepping

@@ -1,7 +1,7 @@
 use Rattle.std.proofs.Common.{◌≡◌, ◌<◌, ◌≤◌, ◌∙◌, Some, refl, sym, ap, arith}
 use Rattle.region_mem.specs.Parameter.{AreArguments, argument_error}
 use Rattle.block_checker.specs.Bound.{bound_of, scalars_of}
-use Rattle.vector_core.specs.Start.{start}
+use Rattle.machine.specs.Start.{start}
 use Rattle.vreg_groups.specs.VectorLength.{vlenb_of}
 use Rattle.cert_note.specs.Certificate.{IsCertificate}
 use Rattle.elf_image.specs.Image.{IsImage}

@@ -1,6 +1,6 @@
 use Rattle.std.proofs.Common.{◌≡◌, ◌∙◌, ap, arith, subst}
 use Rattle.region_mem.specs.Memory.{args_of}
-use Rattle.vector_core.specs.Machine.{Machine}
+use Rattle.machine.specs.Machine.{Machine}
 use Rattle.sandbox_run.specs.Session.{HandsBack, SessionView}
 use Rattle.sandbox_run.specs.Stops.{IsStop}
 use Rattle.sandbox_run.proofs.Back.{matches_again, scalars_again}

@@ -1,6 +1,5 @@
 use Rattle.std.proofs.Common.{◌≡◌, ◌∙◌, ap, arith, subst}
 use Rattle.region_mem.specs.Memory.{args_of}
-use Rattle.vector_core.specs.Machine.{Machine}
 use Rattle.sandbox_run.specs.Session.{HandsBack, SessionView}
 use Rattle.sandbox_run.specs.Stops.{IsStop}
 use Rattle.sandbox_run.proofs.Back.{matches_again, scalars_again}
@@ -14,9 +13,8 @@ returns-clause-back g c =
     let s = c.args.self in
     let stop : IsStop g.row.VLENB s.first s.steps s.machine = subst (λ (v : SessionView). IsStop g.row.VLENB v.first v.steps v.machine) c.self.view_is c.self.invariant.2 in
     let hands : HandsBack s.parameters s.first.memory = subst (λ (v : SessionView). HandsBack v.parameters v.first.memory) c.self.view_is c.self.invariant.3 in
-    let machine = ap (λ (m : Machine). args_of m.memory) c.machine.view_is in
-    let places : c.into_parts-args.result.0.places ≡ args_of s.machine.memory =
-    c.into_parts-args.ensures ∙ (machine ∙ ap (λ (v : SessionView). args_of v.machine.memory) c.self.view_is) in
+    let places : c.into_spare-args.result.0.places ≡ args_of s.machine.memory =
+    c.into_spare-args.ensures ∙ ap (λ (v : SessionView). args_of v.machine.memory) c.self.view_is in
     rw places (comes_back_here c.runs_keep_memory.ensures g.row.VLENB s stop hands)
 
 pub returns-clause-scalars : goal.returns-clause-scalars

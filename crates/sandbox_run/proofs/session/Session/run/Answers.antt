@@ -1,8 +1,8 @@
 use Rattle.std.proofs.Common.{◌≡◌, ◌+◌, ◌-◌, ◌<◌, ◌∙◌, IsNone, IsSome, true, ap, refl, sym, rules, arith}
 use Rattle.sandbox_run.specs.Session.{SessionView}
 use Rattle.sandbox_run.specs.SessionLemmas.{after_none, after_more, not_ended}
-use Rattle.vector_core.specs.Run.{has_ended}
-use Rattle.vector_core.specs.RunLemmas.{outcome_from-next, outcome_from-ended}
+use Rattle.machine.specs.Run.{has_ended}
+use Rattle.machine.specs.RunLemmas.{outcome_from-next, outcome_from-ended}
 use Rattle.std.proofs.lemmas.Grind.{common_steps}
 use Rattle.sandbox_run.proofs.session.Session.run.Goals as goal
 

@@ -1,7 +1,7 @@
 use Rattle.std.proofs.Common.{◌≡◌, ◌+◌, ◌<◌, ◌∙◌, true, IsNone, IsSome, refl, sym, rules, arith}
 use Rattle.sandbox_run.specs.SessionLemmas.{after_none, after_more, not_ended}
 use Rattle.sandbox_run.proofs.GoingLemmas.{outcome_from-step, outcome_from-stops}
-use Rattle.vector_core.specs.Run.{has_ended}
+use Rattle.machine.specs.Run.{has_ended}
 use Rattle.sandbox_run.proofs.session.Session.run_at_most.Goals as goal
 use Rattle.sandbox_run.proofs.session.Session.run_at_most.Goals.{else-stepping-test, then-stepping-test+then-is_none}
 

@@ -1,5 +1,5 @@
 use Rattle.std.proofs.Common.{◌≡◌, ◌≤◌, ◌+◌, ◌-◌, Ok}
-use Rattle.vector_core.specs.Run.{after, outcome_from}
+use Rattle.machine.specs.Run.{after, outcome_from}
 use Rattle.sandbox_run.proofs.session.Session.run_at_most.Given as goal
 
 -- the steps so far led here and were not more than asked for, what it was opened with is as it was, and the outcome from here is that from the start

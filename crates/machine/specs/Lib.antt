@@ -1,0 +1,14 @@
+pub mod Kept
+pub mod Machine
+pub mod MachineStep
+pub mod Permitted
+pub mod Registers
+pub mod Rooms
+pub mod Run
+pub mod Start
+pub mod Touches
+pub use Rattle.region_mem.specs.Memory
+pub use Rattle.scalar_core.specs.Hart
+pub use Rattle.vector_core.specs.Vectors
+pub mod RunLemmas
+pub mod StoreLemmas

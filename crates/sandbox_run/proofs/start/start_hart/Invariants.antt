@@ -1,7 +1,0 @@
--- The registers so far.
-use Rattle.vector_core.specs.Start.{passed_at}
-use Rattle.sandbox_run.proofs.StartLemmas.{IsBegun}
-use Rattle.sandbox_run.proofs.start.start_hart.Given as goal
-
-abbrev pub invariant-loop-register : goal.invariant-loop-register
-invariant-loop-register g l = IsBegun l.entry (passed_at l.parameters l.places) l.register l.hart

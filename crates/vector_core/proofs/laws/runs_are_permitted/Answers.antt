@@ -1,5 +1,0 @@
-use Rattle.vector_core.proofs.Permits.{runs_permitted}
-use Rattle.vector_core.proofs.laws.runs_are_permitted.Goals as goal
-
-pub returns : goal.returns
-returns c = runs_permitted c.steps_are_permitted.ensures

@@ -1,5 +1,0 @@
-use Rattle.vector_core.proofs.WrittenAlike.{steps_read_inside}
-use Rattle.vector_core.proofs.laws.steps_read_inside.Goals as goal
-
-pub returns : goal.returns
-returns c = steps_read_inside c.stores_keep_extents.ensures

@@ -1,5 +1,0 @@
-use Rattle.vector_core.proofs.WritesInside.{steps_write_inside}
-use Rattle.vector_core.proofs.laws.steps_write_inside.Goals as goal
-
-pub returns : goal.returns
-returns c = steps_write_inside
