@@ -18,9 +18,9 @@ use Rattle.vreg_groups.specs.VectorType.{vtype_of, vlmax_of}
 use Rattle.vreg_groups.specs.VectorLength.{IsVlenb, IsConfig, no_config, vlenb_of}
 use Rattle.vreg_groups.specs.SizeLemmas.{vlmax_small}
 use Rattle.scalar_core.specs.Hart.{Hart, IsHart, reg_of}
+use Rattle.vector_core.specs.Vectors.{Vectors, new_vectors}
 use Rattle.machine.specs.Machine.{Machine}
 use Rattle.machine.specs.Start.{start, start_hart}
-use Rattle.vector_core.specs.Vectors.{Vectors, new_vectors}
 use Rattle.cert_note.specs.declared.values.RegisterFact.{RegisterFact}
 use Rattle.cert_note.specs.declared.values.Block.{Block}
 use Rattle.cert_note.specs.declared.values.OrderFact.{OrderFact}

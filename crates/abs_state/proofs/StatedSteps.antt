@@ -44,7 +44,6 @@ use Rattle.lane_int.specs.Resizing.{cut_to, extended_to}
 use Rattle.lane_masks.specs.Masks as lanes
 use Rattle.vector_core.specs.Arithmetic.{arith_of}
 use Rattle.vector_core.specs.Integer.{int_of, lane_width}
-use Rattle.machine.specs.Machine.{Machine}
 use Rattle.vector_core.specs.Masks.{index_of, iota_of, mask_step, set_and_active}
 use Rattle.vector_core.specs.Moves.{copy_of}
 use Rattle.vector_core.specs.Narrowing.{narrow_of}
@@ -54,6 +53,7 @@ use Rattle.vector_core.specs.Setup.{setup_of}
 use Rattle.vector_core.specs.Step.{arith_step, legal_step, vector_step}
 use Rattle.vector_core.specs.Vectors.{Stepped, Vectors}
 use Rattle.vector_core.specs.Widening.{double_width, extend_of, fraction_width}
+use Rattle.machine.specs.Machine.{Machine}
 use Rattle.cert_note.specs.declared.values.VectorFact.{VectorFact}
 use Rattle.abs_transfer.specs.Facts.{arith_range, fact_if, int_range, known_type, mask_range, narrow_range, place_range, second_range, source_range, stated_at, stated_by, stated_range, unless_masked}
 use Rattle.abs_state.specs.Held.{AreTrueOf, Held, IsTrueOf, Setting, VtypeHolds, vlenb_in}

@@ -16,10 +16,10 @@ use Rattle.vreg_groups.specs.VectorType.{vtype_of}
 use Rattle.vreg_groups.specs.Legality.{count_of, is_legal}
 use Rattle.scalar_core.specs.Hart.{Hart}
 use Rattle.vector_core.specs.KeepLaws.{IsOutside, KeepsVectors, StepsKeepVectors, is_computing}
-use Rattle.machine.specs.Machine.{Machine}
-use Rattle.machine.specs.MachineStep.{unless_misaligned, with_vector}
 use Rattle.vector_core.specs.Step.{vector_step}
 use Rattle.vector_core.specs.Vectors.{Stepped, Vectors}
+use Rattle.machine.specs.Machine.{Machine}
+use Rattle.machine.specs.MachineStep.{unless_misaligned, with_vector}
 use Rattle.abs_domain.specs.declared.why.Why.{Why}
 use Rattle.abs_state.specs.declared.state.Way.TheVariants.{To}
 use Rattle.abs_domain.specs.Holds.{Follows}

@@ -19,10 +19,10 @@ use Rattle.scalar_core.specs.Hart.{Hart, IsHart, next_pc, put, reg_of, with_reg}
 use Rattle.scalar_core.specs.StateLemmas.{put-is_hart}
 use Rattle.vector_core.specs.Configuration.{avl_of, request_of, vset_step}
 use Rattle.vector_core.specs.declared.configuration.Request.{Request}
-use Rattle.machine.specs.Machine.{Machine}
-use Rattle.machine.specs.MachineStep.{carry_out, unless_misaligned}
 use Rattle.vector_core.specs.Step.{legal_step, vector_step}
 use Rattle.vector_core.specs.Vectors.{Vectors}
+use Rattle.machine.specs.Machine.{Machine}
+use Rattle.machine.specs.MachineStep.{carry_out, unless_misaligned}
 use Rattle.abs_transfer.specs.declared.vset.Asked.TheVariants.{Keep, Greatest, Register}
 use Rattle.abs_transfer.specs.declared.vset.Wanted.{Wanted}
 use Rattle.abs_state.specs.declared.state.Way.TheVariants.{To}

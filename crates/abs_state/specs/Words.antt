@@ -28,6 +28,6 @@ pub use Rattle.cert_note.specs.declared.values.RegisterFact.{RegisterFact}
 pub use Rattle.cert_note.specs.declared.values.VectorFact.{VectorFact}
 pub use Rattle.scalar_core.specs.Arithmetic.{unsigned}
 pub use Rattle.scalar_core.specs.Hart.{Hart, exit, IsHart, reg_of}
+pub use Rattle.vector_core.specs.Vectors.{Vectors}
 pub use Rattle.machine.specs.Machine.{Machine}
 pub use Rattle.machine.specs.MachineStep.{carry_out}
-pub use Rattle.vector_core.specs.Vectors.{Vectors}

@@ -5,12 +5,12 @@ use Rattle.region_mem.specs.declared.faults.Right.TheVariants.{Write}
 use Rattle.region_mem.specs.KeptCodeLemmas.{open_kept, stores_keep_unwritable}
 use Rattle.region_mem.specs.Memory.{fetch_of, store_of}
 use Rattle.region_mem.specs.ExtentLemmas.{stores_keep_extents}
+use Rattle.vector_core.specs.Words.{Fault, Insn, Memory}
 use Rattle.machine.specs.Kept.{Keeps, StepsKeep, RunsKeep}
 use Rattle.machine.specs.Machine.{Machine}
 use Rattle.machine.specs.MachineStep.{decoded, fetched, step}
 use Rattle.machine.specs.Run.{after, then_step}
 use Rattle.machine.specs.StoreLemmas.{carried_kept, list_kept}
-use Rattle.vector_core.specs.Words.{Fault, Insn, Memory}
 
 same_extents : (m : Memory) → Keeps m m
 same_extents m = record { extents = (refl, refl); unwritable = λ x is. refl }

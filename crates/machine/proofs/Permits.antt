@@ -19,14 +19,14 @@ use Rattle.vector_mem.specs.Accesses.{first_refused, is_refused}
 use Rattle.vector_mem.specs.Transfers.{accesses_of, unless_refused, vector_load, vector_store}
 use Rattle.vector_mem.specs.declared.plan.Access.{Access}
 use Rattle.vector_core.specs.LoadsStores.{direction_step, loaded_step, memory_step, stored_step, stride_of}
-use Rattle.machine.specs.Machine.{Machine}
-use Rattle.machine.specs.MachineStep.{carry_out, fetched, step, with_scalar, with_vector}
-use Rattle.machine.specs.Permitted.{ArePermitted, IsPermittedStep, RunsArePermitted, StepsArePermitted, accesses_of_insn, accesses_of_scalar}
-use Rattle.machine.specs.Run.{after, then_step}
 use Rattle.vector_core.specs.Setup.{setup_of}
 use Rattle.vector_core.specs.Step.{legal_step, vector_step}
 use Rattle.vector_core.specs.Vectors.{Vectors}
 use Rattle.vector_core.specs.Words.{Fault, Hart, Illegal, Insn, Memory, Setup, reg_of}
+use Rattle.machine.specs.Machine.{Machine}
+use Rattle.machine.specs.MachineStep.{carry_out, fetched, step, with_scalar, with_vector}
+use Rattle.machine.specs.Permitted.{ArePermitted, IsPermittedStep, RunsArePermitted, StepsArePermitted, accesses_of_insn, accesses_of_scalar}
+use Rattle.machine.specs.Run.{after, then_step}
 
 -- ---- lists of accesses
 

@@ -29,18 +29,18 @@ use Rattle.vector_mem.specs.declared.plan.Access.{Access}
 use Rattle.machine.proofs.WritesInside.{rights}
 use Rattle.vector_core.specs.Configuration.{vset_step}
 use Rattle.vector_core.specs.LoadsStores.{direction_step, loaded_step, memory_step, stored_step, stride_of}
-use Rattle.machine.specs.Machine.{Machine}
-use Rattle.machine.specs.MachineStep.{carry_out, decoded, fetched, step, with_scalar, with_vector}
 use Rattle.vector_core.specs.Masks.{mask_step}
 use Rattle.vector_core.specs.Moves.{move_step}
-use Rattle.machine.specs.Permitted.{accesses_of_insn, accesses_of_scalar}
 use Rattle.vector_core.specs.Permutations.{perm_step}
 use Rattle.vector_core.specs.Reductions.{reduce_step}
 use Rattle.vector_core.specs.Setup.{setup_of}
 use Rattle.vector_core.specs.Step.{arith_step, legal_step, vector_step}
-use Rattle.machine.specs.Touches.{IsAlike, IsReadAlike, without_memory}
 use Rattle.vector_core.specs.Vectors.{Vectors}
 use Rattle.vector_core.specs.Words.{Fault, Hart, Illegal, Insn, Memory, Setup, reg_of}
+use Rattle.machine.specs.Machine.{Machine}
+use Rattle.machine.specs.MachineStep.{carry_out, decoded, fetched, step, with_scalar, with_vector}
+use Rattle.machine.specs.Permitted.{accesses_of_insn, accesses_of_scalar}
+use Rattle.machine.specs.Touches.{IsAlike, IsReadAlike, without_memory}
 
 -- ---- memory: p and q are two memories whose areas lie alike
 

@@ -9,15 +9,15 @@ use Rattle.region_mem.specs.Memory.{byte_of, store_of}
 use Rattle.vector_mem.specs.Accesses.{stored, with_stored}
 use Rattle.vector_mem.specs.Transfers.{accesses_of, right_of}
 use Rattle.vector_mem.specs.declared.plan.Access.{Access}
-use Rattle.machine.specs.Touches.{IsNotWritten, StepsWriteInside}
-use Rattle.machine.specs.Permitted.{accesses_of_insn, accesses_of_scalar}
 use Rattle.std.specs.List.{AllByRecursion}
 use Rattle.region_mem.specs.declared.faults.Right.{Right}
 use Rattle.vector_mem.specs.Accesses.{accesses, access_at}
+use Rattle.vector_core.specs.Words.{Insn, Memory}
+use Rattle.machine.specs.Touches.{IsNotWritten, StepsWriteInside}
+use Rattle.machine.specs.Permitted.{accesses_of_insn, accesses_of_scalar}
 use Rattle.machine.specs.Machine.{Machine}
 use Rattle.machine.specs.MachineStep.{carry_out, step}
 use Rattle.machine.specs.StoreLemmas.{AfterScalarStore, AfterVectorStores, carried_kept}
-use Rattle.vector_core.specs.Words.{Insn, Memory}
 
 store_keeps_outside : (address n value x : ℕ) (memory stored : Memory) → store_of address n value memory ≡ Some stored
     → (x < address) ⊎ (address + n ≤ x) → byte_of x stored ≡ byte_of x memory

@@ -23,14 +23,14 @@ use Rattle.vector_mem.specs.declared.plan.Access.{Access}
 use Rattle.machine.proofs.ReadsInside.{fetch_alike, refused_alike, steps_go_alike}
 use Rattle.machine.proofs.WritesInside.{rights}
 use Rattle.vector_core.specs.LoadsStores.{direction_step, memory_step, stored_step, stride_of}
+use Rattle.vector_core.specs.Setup.{setup_of}
+use Rattle.vector_core.specs.Step.{legal_step, vector_step}
+use Rattle.vector_core.specs.Vectors.{Vectors}
+use Rattle.vector_core.specs.Words.{Fault, Hart, Illegal, Insn, Memory, Setup, reg_of}
 use Rattle.machine.specs.Machine.{Machine}
 use Rattle.machine.specs.MachineStep.{carry_out, step, with_scalar, with_vector}
 use Rattle.machine.specs.Permitted.{accesses_of_insn, accesses_of_scalar}
-use Rattle.vector_core.specs.Setup.{setup_of}
-use Rattle.vector_core.specs.Step.{legal_step, vector_step}
 use Rattle.machine.specs.Touches.{IsWrittenAlike, StepsReadInside}
-use Rattle.vector_core.specs.Vectors.{Vectors}
-use Rattle.vector_core.specs.Words.{Fault, Hart, Illegal, Insn, Memory, Setup, reg_of}
 
 -- ---- a list of stores
 

@@ -7,8 +7,11 @@ pub mod Rooms
 pub mod Run
 pub mod Start
 pub mod Touches
+pub use Rattle.region_mem.specs.Faults
 pub use Rattle.region_mem.specs.Memory
+pub use Rattle.region_mem.specs.Parameter
 pub use Rattle.scalar_core.specs.Hart
 pub use Rattle.vector_core.specs.Vectors
+pub use Rattle.vreg_groups.specs.VectorLength
 pub mod RunLemmas
 pub mod StoreLemmas

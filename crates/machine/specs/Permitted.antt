@@ -15,9 +15,8 @@ use Rattle.scalar_core.specs.Step.{address_of, size_of_load, size_of_store}
 use Rattle.vreg_groups.specs.VectorType.{type_in, vtype_of}
 use Rattle.vector_mem.specs.{Transfers.accesses_of, declared.plan.Access.Access}
 use Rattle.vector_core.specs.Words.{ScalarInsn, Read, Write, Hart, Insn, Memory, Right, reg_of}
-use Rattle.vector_core.specs.LoadsStores.{stride_of}
+use Rattle.vector_core.specs.{LoadsStores.stride_of, Setup.setup_of}
 use Rattle.machine.specs.{Machine.Machine, MachineStep.step, Run.after}
-use Rattle.vector_core.specs.{Setup.setup_of}
 
 -- the one access of a scalar load or store
 abbrev pub one : Right → ℕ → ℕ → List Access

@@ -22,8 +22,6 @@ use Rattle.vector_mem.specs.Transfers.{accesses_of, unless_refused, vector_store
 use Rattle.vector_mem.specs.declared.plan.Access.{Access}
 use Rattle.vector_core.specs.Configuration.{vset_step}
 use Rattle.vector_core.specs.LoadsStores.{direction_step, loaded_step, memory_step, stored_step, stride_of}
-use Rattle.machine.specs.Machine.{Machine}
-use Rattle.machine.specs.MachineStep.{carry_out, with_scalar, with_vector}
 use Rattle.vector_core.specs.Masks.{mask_step}
 use Rattle.vector_core.specs.Moves.{move_step}
 use Rattle.vector_core.specs.Permutations.{perm_step}
@@ -32,6 +30,8 @@ use Rattle.vector_core.specs.Setup.{setup_of}
 use Rattle.vector_core.specs.Step.{arith_step, legal_step, vector_step}
 use Rattle.vector_core.specs.Vectors.{Vectors}
 use Rattle.vector_core.specs.Words.{Fault, Hart, Illegal, Insn, Memory, Setup, reg_of}
+use Rattle.machine.specs.Machine.{Machine}
+use Rattle.machine.specs.MachineStep.{carry_out, with_scalar, with_vector}
 
 -- It holds of what the store of a scalar instruction leaves.
 abbrev pub AfterScalarStore : (Memory → Type 0) → Machine → Insn → Type 0

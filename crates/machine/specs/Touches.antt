@@ -6,8 +6,8 @@ use Rattle.rv_decode.specs.Decode.{meaning_of}
 use Rattle.region_mem.specs.{Laws.extent_of, Memory.byte_of, Memory.fetch_of}
 use Rattle.vector_mem.specs.declared.plan.Access.{Access}
 use Rattle.vector_core.specs.Words.{Fault, Read, Write, Hart, Insn, Memory}
+use Rattle.vector_core.specs.Vectors.{Vectors}
 use Rattle.machine.specs.{Machine.Machine, MachineStep.step, Permitted.accesses_of_insn}
-use Rattle.vector_core.specs.{Vectors.Vectors}
 
 -- The access does not write the byte at x.
 abbrev pub IsNotWritten : ℕ → Access → Type 0

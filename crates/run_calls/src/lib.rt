@@ -1,5 +1,5 @@
-//! How certificates, the check and runs are used: tests of the public calls of `cert_note`,
-//! `block_checker` and `sandbox_run`, and of calls that are refused memory.
+//! How certificates, the check and runs are used: tests of the public calls of `machine`,
+//! `cert_note`, `block_checker` and `sandbox_run`, and of calls that are refused memory.
 #![tactic(auto)]
 
 #[cfg(test)]

@@ -5,6 +5,7 @@ mod certificates;
 mod checks;
 mod explained;
 mod kernels;
+mod machines;
 mod monitoring;
 mod readme;
 mod runs;

@@ -10,14 +10,14 @@ use Rattle.region_mem.specs.contracts.region.Region as region
 use Rattle.rvvbox_c.proofs.WordCrosses.{◌&◌, bool_send, i32_send, insn_send, reg_send, width_send}
 use Rattle.rvvbox_c.specs.contracts.opened.Open as opened
 use Rattle.sandbox_run.specs.contracts.any_session.AnySession as any
-use Rattle.machine.specs.contracts.machine.Machine as machine
-use Rattle.machine.specs.contracts.memo.Known as known
-use Rattle.machine.specs.contracts.memo.Memo as memo
 use Rattle.sandbox_run.specs.contracts.session.Session as session
 use Rattle.scalar_core.specs.contracts.hart.Scalar as scalar
 use Rattle.scalar_core.specs.contracts.op.Op as op
 use Rattle.scalar_core.specs.contracts.op.OpKind as op_kind
 use Rattle.vector_core.specs.contracts.state.VectorState as vectors
+use Rattle.machine.specs.contracts.machine.Machine as machine
+use Rattle.machine.specs.contracts.memo.Known as known
+use Rattle.machine.specs.contracts.memo.Memo as memo
 use Rattle.vreg_groups.specs.contracts.registers.VregFile as file
 use Rattle.vreg_groups.specs.contracts.vector_type.Lmul as lmul
 use Rattle.vreg_groups.specs.contracts.vector_type.Vtype as vtype

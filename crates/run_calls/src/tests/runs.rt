@@ -21,7 +21,7 @@ fn buffer(rt: impl Abort + Copy, alloc: Global, bytes: &[u8]) -> Arg {
     Arg::Buffer(Bytes::new(given!(rt; Vec::from_slice(alloc, bytes))))
 }
 
-fn is_buffer(arg: &Arg, bytes: &[u8]) -> bool {
+pub(crate) fn is_buffer(arg: &Arg, bytes: &[u8]) -> bool {
     match arg {
         Arg::Buffer(buffer) => buffer.as_slice() == bytes,
         Arg::None => bytes.is_empty(),
@@ -30,7 +30,13 @@ fn is_buffer(arg: &Arg, bytes: &[u8]) -> bool {
 }
 
 /// Two buffers, and a number.
-fn args(rt: impl Abort + Copy, alloc: Global, first: &[u8], second: &[u8], number: u32) -> Args {
+pub(crate) fn args(
+    rt: impl Abort + Copy,
+    alloc: Global,
+    first: &[u8],
+    second: &[u8],
+    number: u32,
+) -> Args {
     Args {
         places: [
             buffer(rt, alloc, first),
@@ -46,7 +52,7 @@ fn args(rt: impl Abort + Copy, alloc: Global, first: &[u8], second: &[u8], numbe
 }
 
 /// Two buffers of three bytes and the number of bytes.
-fn byte_parameters() -> Option<Parameters> {
+pub(crate) fn byte_parameters() -> Option<Parameters> {
     let buffer = |mode| Param::Buffer { mode, size: 3 };
     let none = Param::None;
     Parameters::new([
