@@ -78,6 +78,7 @@ impl<const VLENB: usize, A: Allocator> Machine<VLENB, A> {
             word,
         )
     }
+
     /// Takes the arguments out: buffers as they stand, scalars as they were passed. The stack and
     /// the words that were met are left for another run.
     pub fn into_spare(self) -> (Args<Bytes<A>>, Option<Spare<A>>)
