@@ -9,9 +9,9 @@ mod machine;
 mod memo;
 mod registers;
 mod spare;
-mod start;
+mod starts;
 
 pub use machine::Machine;
 pub use registers::Registers;
 pub use spare::Spare;
-pub use start::{start, start_with};
+pub use starts::{start, start_with};

@@ -1,7 +1,7 @@
 -- What `search` finds late, or not at all.
 use Rattle.std.proofs.Common.{arith}
 use Rattle.std.proofs.lemmas.Grind.{common_steps}
-use Rattle.machine.proofs.start.start_number.Goals as goal
+use Rattle.machine.proofs.starts.start_number.Goals as goal
 
 pub offset_bounds-places-place : goal.offset_bounds-places-place
 offset_bounds-places-place g c = grind (arith, common_steps)

@@ -2,7 +2,7 @@ use Rattle.std.proofs.Common.{◌≡◌, ℕ, ◌+◌, arith, sym, ap, ◌∙◌
 use Rattle.scalar_core.specs.Hart.{Hart, with_reg}
 use Rattle.machine.specs.Start.{passed_at, start_hart}
 use Rattle.machine.proofs.StartLemmas.{IsBegun, begun_all, begun_first, begun_more}
-use Rattle.machine.proofs.start.start_hart.Goals as goal
+use Rattle.machine.proofs.starts.start_hart.Goals as goal
 
 pub loop-register-init : goal.loop-register-init
 loop-register-init g c =
