@@ -1,8 +1,9 @@
 //! Why files, certificates and images are refused: those of the kernel that sums bytes, with a byte changed.
 use crate::tests::assertions::{assert_shows, found, given};
-use cert_note::{CertError, Vlen};
-use check_reasons::{CheckReason, check_reason};
-use elf_image::ElfError;
+use block_checker::check_kept;
+use cert_note::{CertError, Certificate, Vlen};
+use check_reasons::{CheckReason, check_reason, reason_of};
+use elf_image::{ElfError, Image};
 use explanations::{certificate_reason, image_reason};
 use hex::decode;
 use sample_kernels::SUM;
@@ -46,19 +47,37 @@ fn tells_a_place_in_a_certificate(rt: HostRuntime) {
     assert_shows(rt, rt.alloc(), reason, expected);
 }
 
-/// What is told of the kernel's file with a byte changed.
-fn told(rt: impl Abort + Copy, alloc: Global, place: usize, byte: u8) -> Option<CheckReason> {
+/// The image and the certificate of the kernel's file with a byte changed.
+fn parts(rt: impl Abort + Copy, alloc: Global, place: usize, byte: u8) -> (Image, Certificate) {
     let file = changed(rt, alloc, FILE, place, byte);
     let image = given!(rt; elf_image::read(alloc, &file));
     let bytes = given!(rt; decode(alloc, SUM.certificate));
-    let certificate = given!(rt; cert_note::read(alloc, &bytes));
+    (image, given!(rt; cert_note::read(alloc, &bytes)))
+}
+
+/// What is told of it.
+fn told(rt: impl Abort + Copy, alloc: Global, place: usize, byte: u8) -> Option<CheckReason> {
+    let (image, certificate) = parts(rt, alloc, place, byte);
     given!(rt; check_reason(alloc, &image, &certificate, Vlen::V128))
+}
+
+/// The same, by what its check kept.
+fn told_of_kept(
+    rt: impl Abort + Copy,
+    alloc: Global,
+    place: usize,
+    byte: u8,
+) -> Option<CheckReason> {
+    let (image, certificate) = parts(rt, alloc, place, byte);
+    match check_kept(alloc, image, certificate, Vlen::V128) {
+        Ok(_) => None,
+        Err(refused) => Some(given!(rt; reason_of(alloc, &refused, Vlen::V128))),
+    }
 }
 
 /// lbu t0,4(a0): the last bytes lie behind the buffer. lbu t0,0(a0), as it is: nothing is told of what passes.
 #[test]
 fn tells_a_word_of_an_image(rt: HostRuntime) {
-    let reason = found!(rt; told(rt, rt.alloc(), 90, 0x45));
     let expected = "  stopped in the block at 0x00010004
   at 0x00010004: 0x00454283
   that is lbu rd=5 rs1=10 imm=4
@@ -71,6 +90,9 @@ fn tells_a_word_of_an_image(rt: HostRuntime) {
     from 0x2fff0000 and below 0x30000000: read and write
     from 0x40000000 and below 0x40000400: read
 ";
+    let reason = found!(rt; told(rt, rt.alloc(), 90, 0x45));
+    assert_shows(rt, rt.alloc(), reason, expected);
+    let reason = found!(rt; told_of_kept(rt, rt.alloc(), 90, 0x45));
     assert_shows(rt, rt.alloc(), reason, expected);
     assert!(rt; told(rt, rt.alloc(), 90, 0x05).is_none());
 }
