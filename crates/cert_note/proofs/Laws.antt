@@ -13,7 +13,7 @@ use Rattle.vreg_groups.specs.VectorType.{vtype_of}
 use Rattle.std.specs.Prelude.{is_some}
 use Rattle.elf_image.specs.Words.{half, word}
 use Rattle.cert_note.specs.Spelling.{spelled_term, spelled_equality, spelled_fact, spelled_vector, spelled_order, spelled_budget, spelled_vtype, counts, spelled_block}
-use Rattle.cert_note.specs.Reading.{byte_at, number_at, zero_at, zeros_at, term_at, terms_at, sum_at, none_at, some_at, equality_at, fact_at, facts_at, group_at, vector_at, vectors_at, single_at, double_at, budget_at, known_vtype, vtype_at, few_at, order_count_at, counts_at, order_at, orders_at, block_at}
+use Rattle.cert_note.specs.Reading.{byte_at, number_at, zero_at, zeros_at, term_at, terms_at, sum_at, none_at, some_at, equality_at, fact_at, facts_at, group_at, vector_at, vectors_at, single_at, double_at, budget_at, is_vtype, vtype_at, few_at, order_count_at, counts_at, order_at, orders_at, block_at}
 use Rattle.elf_image.specs.Words.{AreBytes}
 use Rattle.cert_note.proofs.Numbers.{bind_ok, expected, found, ok_is, Takes, Takes-then, byte_takes, byte_again, half_takes, half_again, word_takes, word_again, zero_takes, zeros_takes, zeros_again, many_takes, many_again}
 
@@ -302,19 +302,12 @@ there x = Some x
 pub some_is : {A : Type 0} (x y : A) → there x ≡ there y → x ≡ y
 some_is x y e = cc
 
-known_is : (known bits : ℕ) (v : Option ℕ) → leb known 1 ≡ true → known_vtype known bits ≡ Some v → (known ∷ bits ∷ [] ≡ spelled_vtype v) × IsVtype v
-unfolding known_vtype spelled_vtype
-known_is zero bits v le e =
-    elim (chosen (eqb bits 0) (Some None) None (Some v) e) [
-      | inl h ↦ subst (λ (w : Option ℕ). (0 ∷ bits ∷ [] ≡ spelled_vtype w) × IsVtype w) (some_is None v h.1) (ap (λ (n : ℕ). 0 ∷ n ∷ []) (eqb-true bits 0 h.0), tt)
-      | inr h ↦ absurd (let f = h.1 in cc)
-    ]
-known_is (suc zero) bits v le e =
-    elim (chosen (is_some (vtype_of bits)) (Some (Some bits)) None (Some v) e) [
-      | inl h ↦ subst (λ (w : Option ℕ). (1 ∷ bits ∷ [] ≡ spelled_vtype w) × IsVtype w) (some_is (Some bits) v h.1) (refl, h.0)
-      | inr h ↦ absurd (let f = h.1 in cc)
-    ]
-known_is (suc (suc known)) bits v le e = absurd (grind (arith, nat_tests, le))
+known_is : (known bits : ℕ) → leb known 1 ≡ true → is_vtype known bits ≡ true →
+    (known ∷ bits ∷ [] ≡ spelled_vtype (cond (eqb known 1) (Some bits) None)) × IsVtype (cond (eqb known 1) (Some bits) None)
+unfolding is_vtype spelled_vtype
+known_is zero bits le is = (ap (λ (n : ℕ). 0 ∷ n ∷ []) (eqb-true bits 0 is), tt)
+known_is (suc zero) bits le is = (refl, is)
+known_is (suc (suc known)) bits le is = absurd (grind (arith, nat_tests, le))
 
 pub vtype_takes : (bytes : List ℕ) (x : Option ℕ) (rest : List ℕ) → AreBytes bytes → vtype_at bytes ≡ Ok (x, rest) → Takes bytes (spelled_vtype x) rest × IsVtype x
 unfolding vtype_at
@@ -322,16 +315,16 @@ vtype_takes bytes x rest fits e =
     let a = bind_ok (byte_at bytes) _ (x, rest) e in
     let p = expected (leb a.0.0 1) _ _ (x, rest) a.2 in
     let b = bind_ok (byte_at a.0.1) _ (x, rest) p.1 in
-    let c = found (known_vtype a.0.0 b.0.0) _ _ (x, rest) b.2 in
-    let k = known_is a.0.0 b.0.0 c.0 p.0 c.1 in
+    let q = expected (is_vtype a.0.0 b.0.0) _ _ (x, rest) b.2 in
+    let k = known_is a.0.0 b.0.0 p.0 q.0 in
     let t0 = byte_takes bytes a.0.0 a.0.1 fits a.1 in
     let t1 = byte_takes a.0.1 b.0.0 b.0.1 t0.0.rest_fits b.1 in
     let e1 = Takes-then bytes (a.0.0 ∷ []) a.0.1 (b.0.0 ∷ []) b.0.1 t0.0 t1.0 in
-    subst (λ (y : Option ℕ × List ℕ). Takes bytes (spelled_vtype y.0) y.1 × IsVtype y.0) (ok_is (c.0, b.0.1) (x, rest) c.2)
+    subst (λ (y : Option ℕ × List ℕ). Takes bytes (spelled_vtype y.0) y.1 × IsVtype y.0) (ok_is (cond (eqb a.0.0 1) (Some b.0.0) None, b.0.1) (x, rest) q.1)
     (subst (λ (t : List ℕ). Takes bytes t b.0.1) k.0 e1, k.1)
 
 pub vtype_again : (x : Option ℕ) (rest : List ℕ) → IsVtype x → vtype_at (spelled_vtype x ++ rest) ≡ Ok (x, rest)
-unfolding vtype_at spelled_vtype byte_at known_vtype
+unfolding vtype_at spelled_vtype byte_at is_vtype
 vtype_again None rest is = refl
 vtype_again (Some vtype) rest is = rw is refl
 

@@ -9,8 +9,8 @@ mod refusals;
 mod values;
 mod writing;
 
-pub use reading::{certificates_are_spellings, one_spelling, read};
-pub use refusals::CertError;
+pub use reading::{certificates_are_spellings, one_spelling, read, read_kept};
+pub use refusals::{CertError, CertRefusal};
 pub use values::{
     Block, Budget, Certificate, Contents, Equality, EqualityTerm, OrderFact, RegisterFact,
     VectorFact, Version,

@@ -2,6 +2,7 @@
 use arrayvec::ArrayVec;
 use region_mem::Parameters;
 use std::alloc::{Allocator, Global};
+use std::fmt;
 use std::marker::Model;
 use vreg_groups::Vlen;
 
@@ -87,6 +88,28 @@ pub struct Budget {
     pub second_register: u8,
 }
 
+impl fmt::Display for Budget {
+    ghost use Rattle.std.specs.Prelude.{Some};
+    ghost use Rattle.cert_note.specs.Values.{budget_text};
+
+    ghost output = { λ budget. Some (budget_text budget) };
+
+    fn fmt<W: fmt::Write>(&self, f: &mut fmt::Formatter<W>) -> fmt::Result {
+        let Budget {
+            constant,
+            factor,
+            register,
+            second_factor,
+            second_register,
+        } = *self;
+        write!(f, "{constant} + {factor} * x{register}")?;
+        if second_factor == 0 {
+            return Ok(());
+        }
+        write!(f, " + {second_factor} * x{second_register}")
+    }
+}
+
 /// The value of one register, or of vl, is at most that of another where a block begins, both unsigned.
 #[derive(Clone, Copy, Default, PartialEq, Eq)]
 pub struct OrderFact {
@@ -146,6 +169,15 @@ pub struct FactGroup {
     pub register: u8,
     pub width: u8,
     pub registers: u8,
+}
+
+/// What stands before the blocks of a certificate.
+#[derive(Drop)]
+pub struct Front {
+    pub version: Version,
+    pub vlen: Vlen,
+    pub parameters: Parameters,
+    pub count: u16,
 }
 
 /// A certificate: contents that meet all conditions on certificates, which the fields of [`Contents`] and of its parts

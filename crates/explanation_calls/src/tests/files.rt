@@ -1,9 +1,9 @@
 //! Why files, certificates and images are refused: those of the kernel that sums bytes, with a byte changed.
 use crate::tests::assertions::{assert_shows, found, given};
-use cert_note::{CertError, Vlen};
+use cert_note::{Budget, CertError, Vlen};
 use check_reasons::{CheckReason, check_reason};
 use elf_image::ElfError;
-use explanations::{certificate_reason, image_reason};
+use explanations::{certificate_reason, image_reason, refusal_reason};
 use hex::decode;
 use sample_kernels::SUM;
 use std::alloc::Global;
@@ -34,16 +34,49 @@ fn tells_a_field_of_a_file(rt: HostRuntime) {
     assert_shows(rt, rt.alloc(), reason, expected);
 }
 
-/// The start of the second block is below that of the first.
+/// What is told where the start of the second block is below that of the first.
+const ORDER: &str = "  reading stopped behind byte 171 of 261
+  in block 1, counted from 0
+  wanted: a multiple of 4 above the start of the block before
+";
+
 #[test]
 fn tells_a_place_in_a_certificate(rt: HostRuntime) {
     let bytes = changed(rt, rt.alloc(), SUM.certificate, 169, 0);
     let reason = given!(rt; certificate_reason(rt.alloc(), &bytes, CertError::BlockOrder));
-    let expected = "  reading stopped behind byte 171 of 261
-  in block 1, counted from 0
-  wanted: a multiple of 4 above the start of the block before
+    assert_shows(rt, rt.alloc(), reason, ORDER);
+}
+
+/// The bytes are read once.
+#[test]
+fn keeps_a_place_in_a_certificate(rt: HostRuntime) {
+    let bytes = changed(rt, rt.alloc(), SUM.certificate, 169, 0);
+    let refusal = found!(rt; cert_note::read_kept(rt.alloc(), &bytes).err());
+    assert_shows(rt, rt.alloc(), refusal_reason(&bytes, refusal), ORDER);
+}
+
+/// A byte behind the blocks lies in none of them.
+#[test]
+fn keeps_a_place_behind_a_certificate(rt: HostRuntime) {
+    let mut bytes = given!(rt; decode(rt.alloc(), SUM.certificate));
+    given!(rt; bytes.push(0));
+    let refusal = found!(rt; cert_note::read_kept(rt.alloc(), &bytes).err());
+    let expected = "  reading stopped behind byte 262 of 262
+  wanted: no bytes behind the last block
 ";
-    assert_shows(rt, rt.alloc(), reason, expected);
+    assert_shows(rt, rt.alloc(), refusal_reason(&bytes, refusal), expected);
+}
+
+#[test]
+fn tells_a_budget(rt: HostRuntime) {
+    let budget = Budget {
+        constant: 1,
+        factor: 2,
+        register: 10,
+        second_factor: 3,
+        second_register: 11,
+    };
+    assert_shows(rt, rt.alloc(), budget, "1 + 2 * x10 + 3 * x11");
 }
 
 /// What is told of the kernel's file with a byte changed.
