@@ -1,5 +1,5 @@
 -- What words lead to: the status of a fault, or what their subcommand does.
-use Rattle.std.proofs.Common.{◌≡◌, ◌⊎◌, ℕ, List, Option, Err, OnOk, Bool, true, false, not, ◌||◌, [], ◌∷◌, refl, sym, subst, inl, inr}
+use Rattle.std.proofs.Common.{◌≡◌, ◌⊎◌, ℕ, List, Option, Err, OnOk, Bool, true, false, not, ◌||◌, [], ◌∷◌, ◌++◌, refl, sym, subst, inl, inr}
 use Rattle.std.proofs.lemmas.List.{append-nil}
 use Rattle.std.specs.Io.KnownBytes.{Appends}
 use Rattle.std.specs.List.{list_any}
@@ -19,6 +19,7 @@ use Rattle.command_line.specs.declared.line.asked.LineError.{LineError}
 use Rattle.command_line.specs.declared.line.asked.LineError.TheVariants as line_error
 use Rattle.commands.specs.Texts.{stop_text}
 use Rattle.commands.specs.Written.{Gains, Held}
+use Rattle.commands.specs.declared.halt.Halt.TheVariants as halt
 use Rattle.commands.specs.declared.stop.Ending.{Ending}
 use Rattle.commands.specs.declared.stop.Stop.TheVariants as stop
 use Rattle.commands.specs.declared.stop.Status.{Status}
@@ -91,13 +92,5 @@ pub asked_nothing : (files : Files) (words : List Text) (error : LineError) (e :
 asked_nothing files words (line_error.Usage error) e was has told tells ending kept fits status memory none =
     absurd (subst (λ (kinds : Kinds). IsAmong (kind_of error) kinds) none fits)
 asked_nothing files words line_error.NoMemory e was has told tells ending kept fits status memory none =
-    inl (record {
-      done = Err stop.Memory;
-      comes = (refl, kept);
-      status = status refl;
-      more = [];
-      unasked = λ off. refl;
-      silent = λ off. refl;
-      fits = inl refl;
-      told = rw (append-nil) (memory refl);
-    })
+    let line : OnOk ending.told (Appends told tells (stop_text stop.Memory ++ [])) = rw (append-nil) (memory refl) in
+    inl (record { came = Err halt.Memory; comes = (refl, kept); status = status refl; told = line })

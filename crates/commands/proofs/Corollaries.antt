@@ -8,7 +8,7 @@ use Rattle.region_mem.specs.declared.arguments.Arg.TheVariants as argument
 use Rattle.commands.specs.Words.{Argument, Members}
 use Rattle.commands.specs.Checks.{Checks, StopsCheck}
 use Rattle.commands.specs.Corollary.{AreGiven, IsBoundOf, IsGiven, IsMadeOf, IsRunOf, IsTrialOf}
-use Rattle.commands.specs.Ending.{Ends, status_after, status_of}
+use Rattle.commands.specs.Ending.{Ends, plain, status_after, status_of}
 use Rattle.commands.specs.Files.{ArePassed, IsPassed, OfTable, StopsOfTable, bytes_at, files_of}
 use Rattle.commands.specs.Makes.{Makes, StopsMake}
 use Rattle.commands.specs.Runs.{Runs, StopsRun}
@@ -58,7 +58,7 @@ pub check_done : {explains : Bool} (was has : Held) (path : Text) (old new : Lis
     (StopsCheck (files_of (Some was)) (Gains (Some was) (Some has)) path) told tells ending
     → ending.status ≡ status.Done
     → (file : List ℕ) × (bytes_at was path ≡ Some file) × (line : List ℕ) × IsBoundOf file line × (new ≡ old ++ line)
-check_done was has path old new told tells ending e is = go e.done e.comes (sym e.status ∙ is)
+check_done was has path old new told tells ending e is = go (plain e.came) e.comes (sym e.status ∙ is)
   where
     go : (done : Result Status Stop) → MatchResult done (Checks (files_of (Some was)) path (Some old) (Some new) (Some was) (Some has))
         (StopsCheck (files_of (Some was)) (Gains (Some was) (Some has)) path) → status_after done ≡ status.Done
@@ -69,7 +69,7 @@ check_done was has path old new told tells ending e is = go e.done e.comes (sym 
 pub check_kept : {explains : Bool} (was has : Held) (path : Text) (old new : List ℕ) (told tells : Option (List ℕ)) (ending : Ending)
     → Ends explains (Checks (files_of (Some was)) path (Some old) (Some new) (Some was) (Some has))
     (StopsCheck (files_of (Some was)) (Gains (Some was) (Some has)) path) told tells ending → has ≡ was
-check_kept was has path old new told tells ending e = go e.done e.comes
+check_kept was has path old new told tells ending e = go (plain e.came) e.comes
   where
     go : (done : Result Status Stop) → MatchResult done (Checks (files_of (Some was)) path (Some old) (Some new) (Some was) (Some has))
         (StopsCheck (files_of (Some was)) (Gains (Some was) (Some has)) path) → has ≡ was
@@ -93,7 +93,7 @@ StopsSo was has path stops = StopsOfTable (files_of (Some was)) (Gains (Some was
 pub run_done : {explains : Bool} (registers : Bool) (was has : Held) (path : Text) (old new : List ℕ) (told tells : Option (List ℕ)) (ending : Ending)
     → Ends explains (DoesRun registers was has path old new) (StopsSo was has path (StopsRun (files_of (Some was)))) told tells ending
     → ending.status ≡ status.Done → IsRunOf registers was has path old new
-run_done registers was has path old new told tells ending e is = go e.done e.comes (sym e.status ∙ is)
+run_done registers was has path old new told tells ending e is = go (plain e.came) e.comes (sym e.status ∙ is)
   where
     go : (done : Result Status Stop) → MatchResult done (DoesRun registers was has path old new) (StopsSo was has path (StopsRun (files_of (Some was))))
         → status_after done ≡ status.Done → IsRunOf registers was has path old new
@@ -121,7 +121,7 @@ DoesTry registers was has path old new = OfTable (files_of (Some was)) path (λ 
 pub try_done : {explains : Bool} (registers : Bool) (was has : Held) (path : Text) (old new : List ℕ) (told tells : Option (List ℕ)) (ending : Ending)
     → Ends explains (DoesTry registers was has path old new) (StopsSo was has path (StopsTry (files_of (Some was)))) told tells ending
     → (ending.status ≡ status.Done) ⊎ (ending.status ≡ status.Stopped) → IsTrialOf registers was has path old new ending.status
-try_done registers was has path old new told tells ending e is = go e.done e.comes e.status is
+try_done registers was has path old new told tells ending e is = go (plain e.came) e.comes e.status is
   where
     go : (done : Result Status Stop) → MatchResult done (DoesTry registers was has path old new) (StopsSo was has path (StopsTry (files_of (Some was))))
         → ending.status ≡ status_after done → (ending.status ≡ status.Done) ⊎ (ending.status ≡ status.Stopped) → IsTrialOf registers was has path old new ending.status
@@ -150,7 +150,7 @@ DoesMake was has path job_path out old new =
 pub make_done : {explains : Bool} (was has : Held) (path job_path out : Text) (old new : List ℕ) (told tells : Option (List ℕ)) (ending : Ending)
     → Ends explains (DoesMake was has path job_path out old new) (StopsSo was has job_path (λ wrote. StopsMake (files_of (Some was)) wrote path out)) told tells ending
     → ending.status ≡ status.Done → IsMadeOf was has path job_path out old new
-make_done was has path job_path out old new told tells ending e is = go e.done e.comes (sym e.status ∙ is)
+make_done was has path job_path out old new told tells ending e is = go (plain e.came) e.comes (sym e.status ∙ is)
   where
     go : (done : Result Status Stop)
         → MatchResult done (DoesMake was has path job_path out old new) (StopsSo was has job_path (λ wrote. StopsMake (files_of (Some was)) wrote path out))

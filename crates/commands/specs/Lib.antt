@@ -1,12 +1,13 @@
 pub mod Accepted
 pub mod Checks
 pub mod Corollary
+pub mod Did
 pub mod Ending
 pub mod Files
+pub mod Halt
 pub mod Makes
 pub mod Memory
 pub mod Mons
-pub mod More
 pub mod Runs
 pub mod Starts
 pub mod Steps

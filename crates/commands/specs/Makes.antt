@@ -19,8 +19,9 @@ use Rattle.commands.specs.Accepted.{IsOrWant, accepted_of}
 use Rattle.commands.specs.Checks.{bound_line}
 use Rattle.commands.specs.Ending.{IsOfFile}
 use Rattle.commands.specs.Files.{Files, image_in, unless_fault}
+use Rattle.commands.specs.Halt.{stop_of}
 use Rattle.commands.specs.Steps.{StopsAt, StopsAtJob, StopsAtResult}
-use Rattle.commands.specs.Words.{AcceptedView, CertificateView, Gains, Held, ImageView, Members, Status, Stop, Text, Written, block_at}
+use Rattle.commands.specs.Words.{AcceptedView, CertificateView, Gains, Halt, Held, ImageView, Members, Status, Stop, Text, Written, block_at}
 use Rattle.commands.specs.declared.stop.Status.TheVariants as status
 use Rattle.commands.specs.declared.stop.Stop.TheVariants as stop
 
@@ -67,11 +68,11 @@ accepted_in job bytes = do
   accepted_of (Some job.vlen) image
 
 -- an answer's bytes, or its reason to stop
-abbrev pub bytes_of : Result (Vec ℕ) Stop → Result (List ℕ) Stop
-bytes_of answer = result_map_both (λ bytes. bytes.items) (λ reason. reason) answer
+abbrev pub bytes_of : Result (Vec ℕ) Halt → Result (List ℕ) Stop
+bytes_of answer = result_map_both (λ bytes. bytes.items) stop_of answer
 
 -- they are what is defined, or it is want of memory
-abbrev pub AnswersBytes : Result (List ℕ) Stop → Result (Vec ℕ) Stop → Type 0
+abbrev pub AnswersBytes : Result (List ℕ) Stop → Result (Vec ℕ) Halt → Type 0
 AnswersBytes defined answer = IsOrWant defined (bytes_of answer)
 
 -- ---- what is done: `old` and `new` are what standard output has before and after, and `was` and

@@ -2,15 +2,16 @@
 ghost use Rattle.std.specs.Io.KnownBytes.{Appends};
 ghost use Rattle.std.specs.Prelude.{◌≡◌, MatchResult, OnOk};
 ghost use Rattle.commands.specs.Checks.{Checks, StopsCheck, bound_line};
-ghost use Rattle.commands.specs.Ending.{Ends};
+ghost use Rattle.commands.specs.Ending.{Ends, plain};
 ghost use Rattle.commands.specs.Files.{files_of};
 ghost use Rattle.commands.specs.Written.{Gains};
 
 use crate::accepted::accept;
+use crate::did::Did;
 use crate::files::read_image;
-use crate::stop::{Ending, Status, Stop, ended};
+use crate::halt::Halt;
+use crate::stop::{Ending, ended};
 use crate::store::Store;
-use crate::why::Why;
 use cert_note::Budget;
 use std::alloc::Global;
 use std::io;
@@ -36,9 +37,8 @@ pub fn check_image<S: Store, O: Write, E: Write>(
         (Gains (S.held store.old) (S.held store.new)) path.now)
         (E.contents errors.old) (E.contents errors.new) result }
 {
-    let mut why = Why::new(alloc, explain);
-    let done = check_at(alloc, path, store, output, &mut why);
-    ended(done, &why, explain, errors)
+    let done = check_at(alloc, path, store, output);
+    ended(done, explain, errors)
 }
 
 fn check_at<'a, S: Store, O: Write>(
@@ -46,19 +46,18 @@ fn check_at<'a, S: Store, O: Write>(
     path: &'a str,
     store: &mut S,
     output: &mut O,
-    why: &mut Why,
-) -> Result<Status, Stop<'a>>
-    ensures { MatchResult result
+) -> Result<Did, Halt<'a>>
+    ensures { MatchResult (plain result)
         (Checks (files_of (S.held store.old)) path.entry.now
         (O.contents output.old) (O.contents output.new) (S.held store.old) (S.held store.new))
         (StopsCheck (files_of (S.held store.old))
         (Gains (S.held store.old) (S.held store.new)) path.entry.now) }
 {
-    let image = read_image(alloc, path, store, why)?;
-    let budget = accept(alloc, image, None, why)?.budget();
+    let image = read_image(alloc, path, store)?;
+    let budget = accept(alloc, image, None)?.budget();
     match print_bound(budget, output) {
-        Ok(()) => Ok(Status::Done),
-        Err(_) => Err(Stop::Output),
+        Ok(()) => Ok(Did::Done),
+        Err(_) => Err(Halt::Output),
     }
 }
 

@@ -3,18 +3,19 @@
 //! Each has a module: `checks`, `makes`, `mons`, `runs` and `tries`. What they share stands in the
 //! others: `starts` (what those on a job begin with), `files` (what is read, and the out files),
 //! `accepted` (an image with its certificate), `lines` (the input of `mon`), `trial` (what comes of a
-//! run), `registers` (those that it left), `stop` (statuses and reasons to stop), `texts` (how those are told), `more` (what more is
-//! told of them), `why` (what of that is noted), `store` (where files are) and `memory` (files in memory).
+//! run), `registers` (those that it left), `did` (what was done), `stop` (statuses and reasons to stop), `texts` (how those are
+//! told), `halt` (what more is told of them), `why` (of what they are), `store` (where files are) and `memory` (files in memory).
 #![tactic(auto)]
 
 mod accepted;
 mod checks;
+mod did;
 mod files;
+mod halt;
 mod lines;
 mod makes;
 mod memory;
 mod mons;
-mod more;
 mod registers;
 mod runs;
 mod starts;

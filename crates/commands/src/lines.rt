@@ -2,17 +2,16 @@
 ghost use Rattle.std.specs.Prelude.{◌≡◌, ◌++◌, ◌∷◌, [], ℕ, List, IfErr, IfOk, OnOk};
 ghost use Rattle.std.specs.Io.KnownBytes.{Appends};
 ghost use Rattle.monitor.specs.Commands.{order_of};
+ghost use Rattle.commands.specs.Halt.{stop_of};
 ghost use Rattle.commands.specs.Mons.{IsUnanswered};
 ghost use Rattle.commands.specs.Talks.{GoesOver, IsAnswered, IsDone, IsLine, Talks, answer_of};
 ghost use Rattle.commands.specs.Talks.{error_line, flow_after, watch};
-ghost use Rattle.commands.specs.Why.{Notes};
 ghost use Rattle.commands.specs.declared.stop.Stop.TheVariants.{Memory};
 
-use crate::files::stop_at;
-use crate::stop::Stop;
+use crate::halt::Halt;
 use crate::store::StoreError;
 use crate::texts::monitor_error_name;
-use crate::why::Why;
+use crate::why::stop_at;
 use monitor::{Flow, MonError, Monitor, Over};
 use rv_listing::{Piece, put_all};
 use std::alloc::Global;
@@ -20,9 +19,9 @@ use std::io;
 use std::io::{ErrorKind, Read, Write};
 
 /// The line that tells the error of a command.
-fn error_line<'a>(alloc: Global, error: MonError) -> Result<Vec<u8>, Stop<'a>>
+fn error_line<'a>(alloc: Global, error: MonError) -> Result<Vec<u8>, Halt<'a>>
     ensures text { IfOk result (λ text. text.items ≡ error_line error) }
-    ensures memory { IfErr result (λ reason. reason ≡ Memory) }
+    ensures memory { IfErr result (λ halt. stop_of halt ≡ Memory) }
 {
     let mut text = Over::new(Vec::new(alloc));
     let name = Piece::Text(monitor_error_name(error));
@@ -31,7 +30,7 @@ fn error_line<'a>(alloc: Global, error: MonError) -> Result<Vec<u8>, Stop<'a>>
         &[Piece::Text("error: "), name, Piece::Text("\n")],
     ) {
         Ok(()) => Ok(text.into_inner()),
-        Err(_) => Err(Stop::Memory),
+        Err(_) => Err(Halt::Memory),
     }
 }
 
@@ -40,7 +39,7 @@ fn carried<'a, const VLENB: usize>(
     alloc: Global,
     monitor: &mut Monitor<'_, VLENB>,
     line: &str,
-) -> Result<(Flow, Vec<u8>), Stop<'a>>
+) -> Result<(Flow, Vec<u8>), Halt<'a>>
     ensures same_reference { monitor.new.session.ghost_name ≡ monitor.old.session.ghost_name }
     ensures first { monitor.new.session.now.first ≡ monitor.old.session.now.first }
     ensures told { IfOk result (λ r.
@@ -50,12 +49,12 @@ fn carried<'a, const VLENB: usize>(
         IsDone VLENB (order_of line.now monitor.old.breakpoints.items monitor.old.session.now)
         (watch monitor.old.breakpoints.items monitor.old.session.now)
         (watch monitor.new.breakpoints.items monitor.new.session.now)) }
-    ensures memory { IfErr result (λ reason. reason ≡ Memory) }
+    ensures memory { IfErr result (λ halt. stop_of halt ≡ Memory) }
 {
     let mut text = Over::new(Vec::new(alloc));
     match monitor.command(line, &mut text) {
         Ok(flow) => Ok((flow, text.into_inner())),
-        Err(MonError::Write) => Err(Stop::Memory),
+        Err(MonError::Write) => Err(Halt::Memory),
         Err(error) => Ok((Flow::Go, error_line(alloc, error)?)),
     }
 }
@@ -73,14 +72,14 @@ fn answered<'a, const VLENB: usize>(
     alloc: Global,
     monitor: &mut Monitor<'_, VLENB>,
     line: &[u8],
-) -> Result<(Flow, Vec<u8>), Stop<'a>>
+) -> Result<(Flow, Vec<u8>), Halt<'a>>
     ensures same_reference { monitor.new.session.ghost_name ≡ monitor.old.session.ghost_name }
     ensures first { monitor.new.session.now.first ≡ monitor.old.session.now.first }
     ensures answered { IfOk result (λ r. IsAnswered VLENB line.now
         (watch monitor.old.breakpoints.items monitor.old.session.now)
         (watch monitor.new.breakpoints.items monitor.new.session.now)
         r.1.items r.0) }
-    ensures memory { IfErr result (λ reason. reason ≡ Memory) }
+    ensures memory { IfErr result (λ halt. stop_of halt ≡ Memory) }
 {
     match std::str::from_utf8(line) {
         Ok(line) => carried(alloc, monitor, line),
@@ -94,7 +93,7 @@ fn answer<'a, const VLENB: usize, O: Write>(
     monitor: &mut Monitor<'_, VLENB>,
     line: &[u8],
     output: &mut O,
-) -> Result<Flow, Stop<'a>>
+) -> Result<Flow, Halt<'a>>
     ensures same_reference { monitor.new.session.ghost_name ≡ monitor.old.session.ghost_name }
     ensures first { monitor.new.session.now.first ≡ monitor.old.session.now.first }
     ensures answered { IfOk result (λ f. (text : List ℕ)
@@ -102,12 +101,12 @@ fn answer<'a, const VLENB: usize, O: Write>(
         × IsAnswered VLENB line.now
         (watch monitor.old.breakpoints.items monitor.old.session.now)
         (watch monitor.new.breakpoints.items monitor.new.session.now) text f) }
-    ensures unanswered { IfErr result IsUnanswered }
+    ensures unanswered { IfErr result (λ halt. IsUnanswered (stop_of halt)) }
 {
     let (flow, text) = answered(alloc, monitor, line)?;
     match print(output, text.as_slice()) {
         Ok(()) => Ok(flow),
-        Err(_) => Err(Stop::Output),
+        Err(_) => Err(Halt::Output),
     }
 }
 
@@ -118,7 +117,7 @@ fn answer_byte<'a, const VLENB: usize, O: Write>(
     line: &mut Vec<u8>,
     byte: u8,
     output: &mut O,
-) -> Result<Flow, Stop<'a>>
+) -> Result<Flow, Halt<'a>>
     ensures same_reference { monitor.new.session.ghost_name ≡ monitor.old.session.ghost_name }
     ensures first { monitor.new.session.now.first ≡ monitor.old.session.now.first }
     ensures answered { IfOk result (λ f. IsLine line.old.items → GoesOver VLENB
@@ -126,12 +125,12 @@ fn answer_byte<'a, const VLENB: usize, O: Write>(
         (O.contents output.old) (O.contents output.new)
         (watch monitor.old.breakpoints.items monitor.old.session.now)
         (watch monitor.new.breakpoints.items monitor.new.session.now) f) }
-    ensures unanswered { IfErr result IsUnanswered }
+    ensures unanswered { IfErr result (λ halt. IsUnanswered (stop_of halt)) }
 {
     if byte != b'\n' {
         return match line.push(byte) {
             Ok(()) => Ok(Flow::Go),
-            Err(_) => Err(Stop::Memory),
+            Err(_) => Err(Halt::Memory),
         };
     }
     let flow = answer(alloc, monitor, line.as_slice(), output)?;
@@ -146,7 +145,7 @@ fn answer_bytes<'a, const VLENB: usize, O: Write>(
     line: &mut Vec<u8>,
     bytes: &[u8],
     output: &mut O,
-) -> Result<Flow, Stop<'a>>
+) -> Result<Flow, Halt<'a>>
     ensures same_reference { monitor.new.session.ghost_name ≡ monitor.old.session.ghost_name }
     ensures first { monitor.new.session.now.first ≡ monitor.old.session.now.first }
     ensures answered { IfOk result (λ f. IsLine line.old.items → GoesOver VLENB
@@ -154,7 +153,7 @@ fn answer_bytes<'a, const VLENB: usize, O: Write>(
         (O.contents output.old) (O.contents output.new)
         (watch monitor.old.breakpoints.items monitor.old.session.now)
         (watch monitor.new.breakpoints.items monitor.new.session.now) f) }
-    ensures unanswered { IfErr result IsUnanswered }
+    ensures unanswered { IfErr result (λ halt. IsUnanswered (stop_of halt)) }
 {
     for byte in bytes {
         match answer_byte(alloc, monitor, line, *byte, output)? {
@@ -165,25 +164,23 @@ fn answer_bytes<'a, const VLENB: usize, O: Write>(
     Ok(Flow::Go)
 }
 
-/// Why no line is read where the input fails, of which the system's reason is noted unless memory ran out.
-fn unread<'a>(error: io::Error, why: &mut Why) -> Stop<'a>
-    ensures unanswered { IsUnanswered result }
-    ensures notes { Notes why.old why.new }
+/// Why no line is read where the input fails, with what the system says of it, unless memory ran out.
+fn unread<'a>(alloc: Global, error: io::Error) -> Halt<'a>
+    ensures { IsUnanswered (stop_of result) }
 {
     let kind = error.kind();
-    stop_at(StoreError::from(error), Some(kind), "-", why)
+    stop_at(alloc, StoreError::from(error), Some(kind), "-")
 }
 
 /// Answers the lines of the input, up to the command `q` or the end, in at most `reads` reads. The last line needs no end.
-/// Where the input fails, what the system says of it is noted.
+/// Where the input fails, what the system says of it is told. Of too many reads it says nothing.
 pub fn answer_lines<'a, const VLENB: usize, I: Read, O: Write>(
     alloc: Global,
     monitor: &mut Monitor<'_, VLENB>,
     input: &mut I,
     output: &mut O,
     reads: u64,
-    why: &mut Why,
-) -> Result<(), Stop<'a>>
+) -> Result<(), Halt<'a>>
     ensures same_reference { monitor.new.session.ghost_name ≡ monitor.old.session.ghost_name }
     ensures first { monitor.new.session.now.first ≡ monitor.old.session.now.first }
     ensures answered { OnOk result (Talks VLENB
@@ -191,7 +188,7 @@ pub fn answer_lines<'a, const VLENB: usize, I: Read, O: Write>(
         (O.contents output.old) (O.contents output.new)
         (watch monitor.old.breakpoints.items monitor.old.session.now)
         (watch monitor.new.breakpoints.items monitor.new.session.now)) }
-    ensures unanswered { IfErr result IsUnanswered }
+    ensures unanswered { IfErr result (λ halt. IsUnanswered (stop_of halt)) }
 {
     let mut line = Vec::new(alloc);
     let mut chunk = [0u8; 4096];
@@ -207,8 +204,8 @@ pub fn answer_lines<'a, const VLENB: usize, I: Read, O: Write>(
                 Flow::Quit => return Ok(()),
             },
             Err(error) if error.kind() == ErrorKind::Interrupted => {}
-            Err(error) => return Err(unread(error, why)),
+            Err(error) => return Err(unread(alloc, error)),
         }
     }
-    Err(unread(io::Error::from(ErrorKind::FileTooLarge), why))
+    Err(Halt::File("-", None))
 }

@@ -2,18 +2,21 @@
 ghost use Rattle.std.specs.Prelude.{◌≡◌, IfErr, MatchResult, OnOk};
 ghost use Rattle.toml.specs.View.{table_view};
 ghost use Rattle.vreg_groups.specs.VectorLength.{IsVlenb, vlenb_of};
-ghost use Rattle.commands.specs.Ending.{Ends};
+ghost use Rattle.commands.specs.Ending.{Ends, plain};
 ghost use Rattle.commands.specs.Files.{OfTable, StopsOfTable, files_of};
+ghost use Rattle.commands.specs.Halt.{bare, stop_of};
 ghost use Rattle.commands.specs.Mons.{IsStopped, IsUnanswered, Mons, StopsMon, StopsWatching};
 ghost use Rattle.commands.specs.Talks.{AreTold, exchange};
 ghost use Rattle.commands.specs.Written.{Gains};
 
+use crate::did::Did;
 use crate::files::write_outs;
+use crate::halt::Halt;
 use crate::lines::answer_lines;
 use crate::starts::{Ready, Start, on_table, started};
-use crate::stop::{Ending, Status, Stop};
+use crate::stop::Ending;
 use crate::store::{MOST_READS, Store};
-use crate::why::{Why, note_open};
+use crate::why::not_opened;
 use job_reasons::Command;
 use monitor::Monitor;
 use region_mem::Args;
@@ -86,21 +89,21 @@ pub fn mon_job_within<S: Store, I: Read, O: Write, E: Write>(
         (Gains (S.held store.old) (S.held store.new))))
         (E.contents errors.old) (E.contents errors.new) result }
 {
-    on_table!(alloc, path, Command::Mon, explain, store, errors; table, why =>
-        mon_table(alloc, table, store, input, output, reads, why))
+    on_table!(alloc, path, Command::Mon, explain, store, errors; table, text =>
+        mon_table(alloc, table, text, store, input, output, reads))
 }
 
 /// `mon` on a job's table.
 fn mon_table<'a, S: Store, I: Read, O: Write>(
     alloc: Global,
     table: &'a Table,
+    text: &[u8],
     store: &mut S,
     input: &mut I,
     output: &mut O,
     reads: u64,
-    why: &mut Why,
-) -> Result<Status, Stop<'a>>
-    ensures { MatchResult result
+) -> Result<Did, Halt<'a>>
+    ensures { MatchResult (plain result)
         (Mons (files_of (S.held store.old)) (table_view table.entry.now)
         (exchange (I.remaining input.old) (I.remaining input.new)
         (O.contents output.old) (O.contents output.new))
@@ -110,10 +113,10 @@ fn mon_table<'a, S: Store, I: Read, O: Write>(
         (O.contents output.old) (O.contents output.new))
         (Gains (S.held store.old) (S.held store.new)) (table_view table.entry.now)) }
 {
-    let Start { ready, args } = started(alloc, table, store, why)?;
-    let kept = mon_accepted(alloc, &ready, args, input, output, reads, why)?;
-    write_outs(&ready.job.params, &kept.places, store, why)?;
-    Ok(Status::Done)
+    let Start { ready, args } = started(alloc, table, text, Command::Mon, store)?;
+    let kept = mon_accepted(alloc, &ready, args, input, output, reads)?;
+    write_outs(alloc, &ready.job.params, &kept.places, store)?;
+    Ok(Did::Done)
 }
 
 /// Answers lines on the run of a job, at its length of vector registers and setting. The arguments come out as they stand
@@ -125,9 +128,8 @@ fn mon_accepted<'a, I: Read, O: Write>(
     input: &mut I,
     output: &mut O,
     reads: u64,
-    why: &mut Why,
-) -> Result<Args, Stop<'a>>
-    ensures { MatchResult result
+) -> Result<Args, Halt<'a>>
+    ensures { MatchResult (bare result)
         (λ kept. IsStopped (vlenb_of ready.now.job.vlen) ready.now.job.agnostic ready.now.job.max
         ready.now.accepted args.places
         (exchange (I.remaining input.old) (I.remaining input.new)
@@ -137,9 +139,9 @@ fn mon_accepted<'a, I: Read, O: Write>(
         args.places) }
 {
     match ready.job.vlen {
-        Vlen::V128 => mon_session::<16, I, O>(alloc, ready, args, input, output, reads, why),
-        Vlen::V256 => mon_session::<32, I, O>(alloc, ready, args, input, output, reads, why),
-        Vlen::V512 => mon_session::<64, I, O>(alloc, ready, args, input, output, reads, why),
+        Vlen::V128 => mon_session::<16, I, O>(alloc, ready, args, input, output, reads),
+        Vlen::V256 => mon_session::<32, I, O>(alloc, ready, args, input, output, reads),
+        Vlen::V512 => mon_session::<64, I, O>(alloc, ready, args, input, output, reads),
     }
 }
 
@@ -150,17 +152,16 @@ fn watch<'a, const VLENB: usize, I: Read, O: Write>(
     input: &mut I,
     output: &mut O,
     reads: u64,
-    why: &mut Why,
-) -> Result<(), Stop<'a>>
+) -> Result<(), Halt<'a>>
     ensures first { session.new.first ≡ session.old.first }
     ensures talks { OnOk result (AreTold VLENB
         (exchange (I.remaining input.old) (I.remaining input.new)
         (O.contents output.old) (O.contents output.new))
         session.old session.new) }
-    ensures unanswered { IfErr result IsUnanswered }
+    ensures unanswered { IfErr result (λ halt. IsUnanswered (stop_of halt)) }
 {
     let mut monitor = Monitor::new(session);
-    answer_lines(alloc, &mut monitor, input, output, reads, why)
+    answer_lines(alloc, &mut monitor, input, output, reads)
 }
 
 fn mon_session<'a, const VLENB: usize, I: Read, O: Write>(
@@ -170,10 +171,9 @@ fn mon_session<'a, const VLENB: usize, I: Read, O: Write>(
     input: &mut I,
     output: &mut O,
     reads: u64,
-    why: &mut Why,
-) -> Result<Args, Stop<'a>>
+) -> Result<Args, Halt<'a>>
     requires { IsVlenb VLENB }
-    ensures { MatchResult result
+    ensures { MatchResult (bare result)
         (λ kept. IsStopped VLENB ready.now.job.agnostic ready.now.job.max ready.now.accepted
         args.places
         (exchange (I.remaining input.old) (I.remaining input.new)
@@ -184,13 +184,10 @@ fn mon_session<'a, const VLENB: usize, I: Read, O: Write>(
     let Ready { job, accepted } = ready;
     match Session::<VLENB>::open(alloc, accepted, args, job.agnostic, job.max) {
         Ok(mut session) => {
-            watch(alloc, &mut session, input, output, reads, why)?;
+            watch(alloc, &mut session, input, output, reads)?;
             session.stands();
             Ok(session.close())
         }
-        Err((error, args)) => {
-            note_open(accepted, &args, job.max, error, why);
-            Err(Stop::from(error))
-        }
+        Err((error, args)) => Err(not_opened(accepted, &args, job.max, error)),
     }
 }

@@ -1,24 +1,19 @@
 //! How the program ends.
 ghost use Rattle.std.specs.Io.KnownBytes.{Appends};
-ghost use Rattle.std.specs.Prelude.{◌≡◌, ◌++◌, Err, Ok, OnOk, false, true};
-ghost use Rattle.commands.specs.Ending.{Ends, code_of, status_after, status_of, stop_at_file};
-ghost use Rattle.commands.specs.Ending.{stop_of_certificate, stop_of_check, stop_of_image};
-ghost use Rattle.commands.specs.Ending.{stop_of_job, stop_of_make, stop_of_open};
-ghost use Rattle.commands.specs.Ending.{tells_more, text_after};
-ghost use Rattle.commands.specs.More.{Fits, more_if, more_text};
+ghost use Rattle.std.specs.Prelude.{◌≡◌, ◌++◌, Err, Ok, OnOk};
+ghost use Rattle.commands.specs.Ending.{code_of, more_if, plain, status_after, status_of};
+ghost use Rattle.commands.specs.Ending.{text_after};
+ghost use Rattle.commands.specs.Halt.{stop_of};
 ghost use Rattle.commands.specs.Texts.{stop_text};
-ghost use Rattle.commands.specs.declared.stop.Stop.TheVariants.{Memory};
 
-use crate::more::More;
-use crate::store::StoreError;
-use crate::why::Why;
+use crate::did::Did;
+use crate::halt::Halt;
 use block_checker::CheckError;
 use cert_maker::MakeError;
 use cert_note::CertError;
 use elf_image::ElfError;
 use job_file::JobError;
 use sandbox_run::OpenError;
-use std::alloc::AllocError;
 use std::io;
 use std::io::Write;
 
@@ -129,174 +124,54 @@ impl Stop<'_> {
     }
 }
 
-impl From<AllocError> for Stop<'_> {
-    ghost from_gives = { λ _ stop. stop ≡ Memory };
-
-    fn from(_error: AllocError) -> Self {
-        Stop::Memory
-    }
-}
-
-impl From<JobError> for Stop<'_> {
-    ghost from_gives = { λ error stop. stop ≡ stop_of_job error };
-
-    fn from(error: JobError) -> Self {
-        match error {
-            JobError::NoMemory => Stop::Memory,
-            JobError::NotToml | JobError::BadKey => Stop::Job(error),
-        }
-    }
-}
-
-impl From<ElfError> for Stop<'_> {
-    ghost from_gives = { λ error stop. stop ≡ stop_of_image error };
-
-    fn from(error: ElfError) -> Self {
-        if let ElfError::NoMemory = error {
-            Stop::Memory
-        } else {
-            Stop::Image(error)
-        }
-    }
-}
-
-impl From<CertError> for Stop<'_> {
-    ghost from_gives = { λ error stop. stop ≡ stop_of_certificate error };
-
-    fn from(error: CertError) -> Self {
-        if let CertError::NoMemory = error {
-            Stop::Memory
-        } else {
-            Stop::Certificate(error)
-        }
-    }
-}
-
-impl From<CheckError> for Stop<'_> {
-    ghost from_gives = { λ error stop. stop ≡ stop_of_check error };
-
-    fn from(error: CheckError) -> Self {
-        if let CheckError::NoMemory = error {
-            Stop::Memory
-        } else {
-            Stop::Check(error)
-        }
-    }
-}
-
-impl From<MakeError> for Stop<'_> {
-    ghost from_gives = { λ error stop. stop ≡ stop_of_make error };
-
-    fn from(error: MakeError) -> Self {
-        match error {
-            MakeError::NoMemory => Stop::Memory,
-            MakeError::NotALoopOfTheClass(_) => Stop::Make(error),
-        }
-    }
-}
-
-impl From<OpenError> for Stop<'_> {
-    ghost from_gives = { λ error stop. stop ≡ stop_of_open error };
-
-    fn from(error: OpenError) -> Self {
-        match error {
-            OpenError::NoMemory => Stop::Memory,
-            OpenError::WrongKind(_)
-            | OpenError::ScalarOutOfInterval(_)
-            | OpenError::WrongSize(_)
-            | OpenError::BoundTooLarge
-            | OpenError::WrongVlen => Stop::Open(error),
-        }
-    }
-}
-
-impl<'a> Stop<'a> {
-    /// The file at `path` was not read or written.
-    pub fn at_file(error: StoreError, path: &'a str) -> Stop<'a>
-        ensures { result ≡ stop_at_file error path.entry }
-    {
-        match error {
-            StoreError::Failed => Stop::File(path),
-            StoreError::NoMemory => Stop::Memory,
-        }
-    }
-}
-
-/// How the program ends after what was done, or after the reason to stop, which is told, and then `more`, where it `tells` that.
-pub fn told<E: Write>(
-    done: Result<Status, Stop<'_>>,
-    more: &More,
-    tells: bool,
-    errors: &mut E,
-) -> Ending
-    ensures status { result.status ≡ status_after done.entry }
+/// How a subcommand ends after what it did, or after the reason to stop, which is told, and then, where it is to `explain`, what
+/// more is told of it.
+pub fn ended<E: Write>(done: Result<Did, Halt<'_>>, explain: bool, errors: &mut E) -> Ending
+    ensures status { result.status ≡ status_after (plain done.entry) }
     ensures told { OnOk result.told
         (Appends (E.contents errors.old) (E.contents errors.new)
-        (text_after done.entry ++ more_if tells more.now)) }
+        (text_after (plain done.entry) ++ more_if explain done.entry)) }
 {
     let (status, told) = match done {
-        Ok(status) => (status, tell_more(more, tells, errors)),
-        Err(stop) => (stop.status(), tell_all(&stop, more, tells, errors)),
+        Ok(did) => (did.status(), tell_did(&did, explain, errors)),
+        Err(halt) => {
+            let stop = halt.stop();
+            (stop.status(), tell_all(&halt, explain, errors))
+        }
     };
     Ending { status, told }
 }
 
-/// How a subcommand ends after what was done, or after the reason to stop, which is told, and then, where it is to `explain`,
-/// more of why: what was noted, where that fits. Where memory ran out, or standard output takes no text, no more is told.
-pub fn ended<E: Write>(
-    done: Result<Status, Stop<'_>>,
-    why: &Why,
-    explain: bool,
-    errors: &mut E,
-) -> Ending
-    ensures ends { Ends explain (λ status. done.entry ≡ Ok status)
-        (λ reason. done.entry ≡ Err reason)
-        (E.contents errors.old) (E.contents errors.new) result }
-    ensures whole { tells_more explain done.entry ≡ true → Fits why.now.more done.entry
-        → OnOk result.told (Appends (E.contents errors.old) (E.contents errors.new)
-        (text_after done.entry ++ more_text why.now.more)) }
+/// Tells more of what was done, where it is to explain.
+fn tell_did<E: Write>(did: &Did, explain: bool, errors: &mut E) -> io::Result<()>
+    ensures { OnOk result (Appends (E.contents errors.old) (E.contents errors.new)
+        (more_if explain (Ok did.now))) }
 {
-    let tells = is_told(explain, &done, &why.more);
-    told(done, &why.more, tells, errors)
-}
-
-/// Whether `more` is told behind the reason's line: where it is to `explain`, and `more` tells more of that very reason.
-fn is_told(explain: bool, done: &Result<Status, Stop<'_>>, more: &More) -> bool
-    ensures fits { result ≡ true → Fits more.now done.now }
-    ensures silent { tells_more explain done.now ≡ false → result ≡ false }
-    ensures whole { tells_more explain done.now ≡ true → Fits more.now done.now → result ≡ true }
-{
-    tells_more(explain, done) && more.fits(done)
-}
-
-/// Whether more is told behind the reason's line: where it is to `explain`, unless memory ran out or standard output takes no
-/// text.
-fn tells_more(explain: bool, done: &Result<Status, Stop<'_>>) -> bool
-    ensures { result ≡ tells_more explain done.now }
-{
-    match done {
-        Err(Stop::Memory | Stop::Output) => false,
-        Ok(_) | Err(_) => explain,
-    }
-}
-
-/// Tells more, where it is to be told.
-fn tell_more<E: Write>(more: &More, tells: bool, errors: &mut E) -> io::Result<()>
-    ensures { OnOk result
-        (Appends (E.contents errors.old) (E.contents errors.new) (more_if tells more.now)) }
-{
-    if tells {
-        write!(errors, "{more}")
+    if explain {
+        write!(errors, "{did}")
     } else {
         errors.write_all("".as_bytes())
     }
 }
 
-/// Tells why, and then more, where that is to be told.
-fn tell_all<E: Write>(stop: &Stop<'_>, more: &More, tells: bool, errors: &mut E) -> io::Result<()>
+/// Tells more of why a subcommand stops, where it is to explain.
+fn tell_more<E: Write>(halt: &Halt<'_>, explain: bool, errors: &mut E) -> io::Result<()>
     ensures { OnOk result (Appends (E.contents errors.old) (E.contents errors.new)
-        (stop_text stop.now ++ more_if tells more.now)) }
+        (more_if explain (Err halt.now))) }
 {
+    if explain {
+        write!(errors, "{halt}")
+    } else {
+        errors.write_all("".as_bytes())
+    }
+}
+
+/// Tells why, and then more, where it is to explain.
+fn tell_all<E: Write>(halt: &Halt<'_>, explain: bool, errors: &mut E) -> io::Result<()>
+    ensures { OnOk result (Appends (E.contents errors.old) (E.contents errors.new)
+        (stop_text (stop_of halt.now) ++ more_if explain (Err halt.now))) }
+{
+    let stop = halt.stop();
     stop.print(errors)?;
-    tell_more(more, tells, errors)
+    tell_more(halt, explain, errors)
 }

@@ -3,7 +3,8 @@ use crate::tests::assertions::given;
 use crate::tests::performances::{performed, performed_words};
 use crate::tests::system::{IMAGE, JOB};
 use commands::{
-    Ending, MakePaths, Memory, Status, Store, check_memory, make_memory, run_memory, try_memory,
+    Ending, MakePaths, Memory, Status, Store, check_memory, make_memory, mon_job_within,
+    run_memory, try_memory,
 };
 use hex::decode;
 use std::alloc::Global;
@@ -118,6 +119,27 @@ fn tells_the_first_place_whose_file_is_not_read(rt: HostRuntime) {
         "rvvbox try one.toml",
         "file: one.toml\n",
     );
+}
+
+#[test]
+fn tells_no_more_of_an_input_that_is_read_too_often(rt: HostRuntime) {
+    let alloc = rt.alloc();
+    let mut memory = files(rt, alloc);
+    let (mut output, mut errors) = (Vec::new(alloc), Vec::new(alloc));
+    let mut input = b"c\n".as_slice();
+    let (out, err) = (&mut output, &mut errors);
+    let ending = mon_job_within(
+        alloc,
+        "one.toml",
+        true,
+        &mut memory,
+        &mut input,
+        out,
+        err,
+        1,
+    );
+    assert!(rt; ending.status == Status::File);
+    assert!(rt; errors.as_slice() == b"file: -\n".as_slice());
 }
 
 #[test]

@@ -4,4 +4,4 @@ use Rattle.std.proofs.lemmas.Grind.{common_steps}
 use Rattle.commands.proofs.stop.tell_all.Goals as goal
 
 pub returns : goal.returns
-returns g c = grind (arith, common_steps)
+returns g c = rw (← c.stop-stop.ensures) (grind (arith, common_steps))
